@@ -1,0 +1,143 @@
+//! What both directions share: the machine, entering a term (12, 13), and may-yield.
+
+use crate::limits::HEIGHT;
+use crate::program::{Program, Term};
+use crate::refusal::{Number, Refusal};
+use crate::value::{Heap, Kind, NodeId, UNIT};
+
+/// The value of a variable that a backward run has not met yet.
+pub(crate) const UNMET: NodeId = NodeId::MAX;
+
+/// Said by a run that stopped; the refusal itself waits in the machine, so that the usual answer stays small.
+pub(crate) struct Stopped;
+
+pub(crate) type Run<T> = Result<T, Stopped>;
+
+/// The variables of one called body: variable n stands in the stack at `base + n`.
+#[derive(Clone, Copy)]
+pub(crate) struct Frame {
+    pub base: u32,
+    pub ancillae: u32,
+}
+
+pub(crate) struct Machine<'a> {
+    pub program: &'a Program,
+    pub heap: &'a mut Heap,
+    pub stack: Vec<NodeId>,
+    fuel: u32,
+    refusal: Refusal,
+}
+
+/// A value and the steps that it took.
+pub struct Outcome {
+    pub value: NodeId,
+    pub steps: u32,
+}
+
+/// Runs a function of a checked program forward on arguments of its parameters' types.
+pub fn run_forward(
+    program: &Program,
+    function: usize,
+    fuel: u16,
+    heap: &mut Heap,
+    ancillae: &[NodeId],
+    value: NodeId,
+) -> Result<Outcome, Refusal> {
+    let mut machine = Machine::new(program, heap, fuel, ancillae, value);
+    let frame = Frame { base: 0, ancillae: ancillae.len() as u32 };
+    let run = machine.forward(program.functions[function].body, frame, 1);
+    machine.outcome(fuel, run)
+}
+
+/// Runs a function of a checked program backward from a value of its result type.
+pub fn run_backward(
+    program: &Program,
+    function: usize,
+    fuel: u16,
+    heap: &mut Heap,
+    ancillae: &[NodeId],
+    value: NodeId,
+) -> Result<Outcome, Refusal> {
+    let mut machine = Machine::new(program, heap, fuel, ancillae, UNMET);
+    let frame = Frame { base: 0, ancillae: ancillae.len() as u32 };
+    let run = machine.backward(program.functions[function].body, value, frame, 1);
+    let run = run.map(|()| machine.leave());
+    machine.outcome(fuel, run)
+}
+
+impl<'a> Machine<'a> {
+    fn new(
+        program: &'a Program,
+        heap: &'a mut Heap,
+        fuel: u16,
+        ancillae: &[NodeId],
+        dynamic: NodeId,
+    ) -> Self {
+        let mut stack = ancillae.to_vec();
+        stack.push(dynamic);
+        Machine { program, heap, stack, fuel: fuel as u32, refusal: Number::Fuel.plain() }
+    }
+
+    fn outcome(&self, fuel: u16, run: Run<NodeId>) -> Result<Outcome, Refusal> {
+        match run {
+            Ok(value) => Ok(Outcome { value, steps: fuel as u32 - self.fuel }),
+            Err(Stopped) => Err(self.refusal),
+        }
+    }
+
+    /// Section 4: at a term, 12 is tested first, then 13.
+    #[inline]
+    pub fn enter(&mut self, entry: u16, height: u32) -> Run<()> {
+        if self.fuel == 0 {
+            return Err(self.stop(Number::Fuel, entry));
+        }
+        self.fuel -= 1;
+        if height > HEIGHT {
+            return Err(self.stop(Number::Height, entry));
+        }
+        Ok(())
+    }
+
+    #[cold]
+    pub fn stop(&mut self, number: Number, entry: u16) -> Stopped {
+        self.refusal = number.at(entry as u32);
+        Stopped
+    }
+
+    #[inline]
+    pub fn slot(&mut self, frame: Frame, variable: u8) -> &mut NodeId {
+        &mut self.stack[frame.base as usize + variable as usize]
+    }
+
+    /// Takes the newest variable off the stack; a unit variable never met is unit (section 2).
+    pub fn leave(&mut self) -> NodeId {
+        match self.stack.pop() {
+            Some(UNMET) | None => UNIT,
+            Some(value) => value,
+        }
+    }
+
+    /// May-yield (section 3). It takes no step and no height.
+    pub fn may_yield(&self, entry: u16, value: NodeId, frame: Frame) -> bool {
+        let node = self.heap.node(value);
+        match self.program.terms[entry as usize] {
+            Term::Variable(x) if (x as u32) < frame.ancillae => {
+                self.heap.equal(self.stack[frame.base as usize + x as usize], value)
+            }
+            Term::Variable(_) | Term::Call(..) | Term::Unroll(..) => true,
+            Term::Unit => node.kind == Kind::Unit,
+            Term::Inl(_, part) => node.kind == Kind::Inl && self.may_yield(part, node.first, frame),
+            Term::Inr(_, part) => node.kind == Kind::Inr && self.may_yield(part, node.first, frame),
+            Term::Roll(_, part) => node.kind == Kind::Roll && self.may_yield(part, node.first, frame),
+            Term::Pair(left, right) => {
+                node.kind == Kind::Pair
+                    && self.may_yield(left, node.first, frame)
+                    && self.may_yield(right, node.second, frame)
+            }
+            Term::Let(_, body) | Term::LetPair(_, body) => self.may_yield(body, value, frame),
+            Term::Case(_, left, right) => {
+                self.may_yield(left, value, frame) || self.may_yield(right, value, frame)
+            }
+        }
+    }
+}

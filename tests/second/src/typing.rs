@@ -1,0 +1,250 @@
+//! Typing (6 to 8): Fig. 3 and 4 as section 3 reads them, functions in order, terms in written order.
+//!
+//! A test that needs no typed part is made on entering the term; a test that needs parts 1 to k is made right after
+//! part k.
+
+use crate::entries::read_entries;
+use crate::limits::VARIABLES;
+use crate::program::{Function, Program, Term};
+use crate::refusal::{Number, Refusal};
+use crate::types::{Shape, TypeId, Types};
+
+/// A program that the check accepts, with what the calls need of its types.
+pub struct Checked {
+    pub program: Program,
+    pub types: Types,
+    pub signatures: Vec<Signature>,
+}
+
+#[derive(Clone)]
+pub struct Signature {
+    pub parameters: Vec<TypeId>,
+    pub result: TypeId,
+}
+
+impl Signature {
+    pub fn dynamic(&self) -> TypeId {
+        *self.parameters.last().expect("a function has a parameter")
+    }
+
+    pub fn ancillae(&self) -> &[TypeId] {
+        &self.parameters[..self.parameters.len() - 1]
+    }
+}
+
+/// Field reading, entries and typing, in section 4's order.
+pub fn check(bytes: &[u8]) -> Result<Checked, Refusal> {
+    let program = Program::read(bytes)?;
+    let mut types = Types::default();
+    let trees = read_entries(&program, &mut types)?;
+    let signatures: Vec<Signature> = program.functions.iter().map(|f| signature(f, &trees)).collect();
+    let unit = types.intern(Shape::Unit);
+    let scope = Vec::with_capacity(VARIABLES);
+    let mut typing =
+        Typing { program: &program, types: &mut types, trees: &trees, signatures: &signatures, unit, scope };
+    for (function, signature) in program.functions.iter().zip(&signatures) {
+        typing.function(function, signature)?;
+    }
+    Ok(Checked { program, types, signatures })
+}
+
+fn signature(function: &Function, trees: &[TypeId]) -> Signature {
+    let tree = |&ty: &u16| trees[ty as usize];
+    Signature { parameters: function.parameters.iter().map(tree).collect(), result: tree(&function.result) }
+}
+
+#[derive(Clone, Copy)]
+struct Binding {
+    ty: TypeId,
+    dynamic: bool,
+}
+
+/// The dynamic variables that a term uses, bit n for variable n.
+type Uses = u32;
+
+type Typed = Result<(TypeId, Uses), Refusal>;
+
+struct Typing<'a> {
+    program: &'a Program,
+    types: &'a mut Types,
+    trees: &'a [TypeId],
+    signatures: &'a [Signature],
+    unit: TypeId,
+    scope: Vec<Binding>,
+}
+
+impl Typing<'_> {
+    fn function(&mut self, function: &Function, signature: &Signature) -> Result<(), Refusal> {
+        let dynamic = signature.ancillae().len();
+        self.scope.clear();
+        for (number, &ty) in signature.parameters.iter().enumerate() {
+            self.scope.push(Binding { ty, dynamic: number == dynamic });
+        }
+        let (ty, uses) = self.term(function.body, 0)?;
+        require(ty == signature.result, Number::Mismatch, function.offset)?;
+        require(self.may_leave(dynamic, uses), Number::Use, function.offset)
+    }
+
+    /// `barrier` is the number of variables in scope at the innermost ancilla argument around the term (0 if there is
+    /// none): below it, dynamic variables are barred.
+    fn term(&mut self, entry: u16, barrier: usize) -> Typed {
+        let offset = self.program.term_offsets[entry as usize];
+        match self.program.terms[entry as usize] {
+            Term::Variable(variable) => self.variable(variable, barrier, offset),
+            Term::Unit => Ok((self.unit, 0)),
+            Term::Inl(named, part) => {
+                let (left, _) = self.sum(self.tree(named)).ok_or(Number::Mismatch.at(offset))?;
+                self.constructed(part, left, self.tree(named), barrier, offset)
+            }
+            Term::Inr(named, part) => {
+                let (_, right) = self.sum(self.tree(named)).ok_or(Number::Mismatch.at(offset))?;
+                self.constructed(part, right, self.tree(named), barrier, offset)
+            }
+            Term::Pair(left, right) => self.pair(left, right, barrier, offset),
+            Term::Let(bound, body) => self.let_one(bound, body, barrier, offset),
+            Term::LetPair(bound, body) => self.let_pair(bound, body, barrier, offset),
+            Term::Case(scrutinee, left, right) => self.case(scrutinee, [left, right], barrier, offset),
+            Term::Call(function, arguments) => {
+                let terms = self.program.arguments(arguments);
+                self.call(function, terms, barrier, offset)
+            }
+            Term::Roll(named, part) => {
+                let recursive = self.tree(named);
+                let unfolded = self.types.unfold(recursive).ok_or(Number::Mismatch.at(offset))?;
+                self.constructed(part, unfolded, recursive, barrier, offset)
+            }
+            Term::Unroll(named, part) => {
+                let recursive = self.tree(named);
+                let unfolded = self.types.unfold(recursive).ok_or(Number::Mismatch.at(offset))?;
+                require(self.types.within_limit(unfolded), Number::Mismatch, offset)?;
+                self.constructed(part, recursive, unfolded, barrier, offset)
+            }
+        }
+    }
+
+    fn variable(&mut self, variable: u8, barrier: usize, offset: u32) -> Typed {
+        let number = variable as usize;
+        let binding = *self.scope.get(number).ok_or(Number::Scope.at(offset))?;
+        require(!binding.dynamic || number >= barrier, Number::Use, offset)?;
+        Ok((binding.ty, if binding.dynamic { 1 << number } else { 0 }))
+    }
+
+    /// A term of one part whose type must be `expected`, and then has type `result`.
+    fn constructed(
+        &mut self,
+        part: u16,
+        expected: TypeId,
+        result: TypeId,
+        barrier: usize,
+        offset: u32,
+    ) -> Typed {
+        let (ty, uses) = self.term(part, barrier)?;
+        require(ty == expected, Number::Mismatch, offset)?;
+        Ok((result, uses))
+    }
+
+    fn pair(&mut self, left: u16, right: u16, barrier: usize, offset: u32) -> Typed {
+        let (first, first_uses) = self.term(left, barrier)?;
+        let (second, second_uses) = self.term(right, barrier)?;
+        let product = self.types.intern(Shape::Product(first, second));
+        require(self.types.within_limit(product), Number::Mismatch, offset)?;
+        Ok((product, first_uses | second_uses))
+    }
+
+    fn let_one(&mut self, bound: u16, body: u16, barrier: usize, offset: u32) -> Typed {
+        self.room_for(1, offset)?;
+        let (ty, bound_uses) = self.term(bound, barrier)?;
+        let (result, body_uses, left) = self.binder(&[ty], body, barrier)?;
+        require(left, Number::Use, offset)?;
+        Ok((result, bound_uses | body_uses))
+    }
+
+    fn let_pair(&mut self, bound: u16, body: u16, barrier: usize, offset: u32) -> Typed {
+        self.room_for(2, offset)?;
+        let (ty, bound_uses) = self.term(bound, barrier)?;
+        let Shape::Product(first, second) = self.types.shape(ty) else {
+            return Err(Number::Mismatch.at(offset));
+        };
+        let (result, body_uses, left) = self.binder(&[first, second], body, barrier)?;
+        require(left, Number::Use, offset)?;
+        Ok((result, bound_uses | body_uses))
+    }
+
+    /// T-SUM as section 3 reads it: the branches' own uses are compared, whatever the scrutinee uses.
+    fn case(&mut self, scrutinee: u16, branches: [u16; 2], barrier: usize, offset: u32) -> Typed {
+        self.room_for(1, offset)?;
+        let (ty, scrutinee_uses) = self.term(scrutinee, barrier)?;
+        let (left, right) = self.sum(ty).ok_or(Number::Mismatch.at(offset))?;
+        let (left_type, left_uses, left_used) = self.binder(&[left], branches[0], barrier)?;
+        require(left_used, Number::Use, offset)?;
+        let (right_type, right_uses, right_used) = self.binder(&[right], branches[1], barrier)?;
+        require(left_type == right_type, Number::Mismatch, offset)?;
+        let agree = self.without_units(left_uses) == self.without_units(right_uses);
+        require(right_used && agree, Number::Use, offset)?;
+        Ok((left_type, scrutinee_uses | left_uses | right_uses))
+    }
+
+    fn call(&mut self, function: u16, terms: &[u16], barrier: usize, offset: u32) -> Typed {
+        let signature = &self.signatures[function as usize];
+        let ancillae = signature.ancillae().len();
+        require(terms.len() == ancillae + 1, Number::Mismatch, offset)?;
+        let mut dynamic_uses = 0;
+        for (position, (&term, &parameter)) in terms.iter().zip(&signature.parameters).enumerate() {
+            let inner_barrier = if position < ancillae { self.scope.len() } else { barrier };
+            let (ty, uses) = self.term(term, inner_barrier)?;
+            require(ty == parameter, Number::Mismatch, offset)?;
+            // An ancilla argument names no dynamic variable from outside, so only the last argument uses any.
+            dynamic_uses = uses;
+        }
+        Ok((signature.result, dynamic_uses))
+    }
+
+    /// Types a body with new dynamic variables. Answers its type, its uses of older variables, and whether each new
+    /// variable may be left as it is.
+    fn binder(
+        &mut self,
+        bound: &[TypeId],
+        body: u16,
+        barrier: usize,
+    ) -> Result<(TypeId, Uses, bool), Refusal> {
+        let outer = self.scope.len();
+        self.scope.extend(bound.iter().map(|&ty| Binding { ty, dynamic: true }));
+        let (ty, uses) = self.term(body, barrier)?;
+        let left = (outer..self.scope.len()).all(|variable| self.may_leave(variable, uses));
+        self.scope.truncate(outer);
+        Ok((ty, uses & !(Uses::MAX << outer), left))
+    }
+
+    /// T-UNIT-ELM, narrowed: a dynamic variable is used, or its type is exactly unit.
+    fn may_leave(&self, variable: usize, uses: Uses) -> bool {
+        uses & (1 << variable) != 0 || self.scope[variable].ty == self.unit
+    }
+
+    fn without_units(&self, uses: Uses) -> Uses {
+        let units = self.scope.iter().enumerate().filter(|(_, binding)| binding.ty == self.unit);
+        units.fold(uses, |uses, (variable, _)| uses & !(1 << variable))
+    }
+
+    fn room_for(&self, variables: usize, offset: u32) -> Result<(), Refusal> {
+        require(self.scope.len() + variables <= VARIABLES, Number::Scope, offset)
+    }
+
+    fn sum(&self, ty: TypeId) -> Option<(TypeId, TypeId)> {
+        match self.types.shape(ty) {
+            Shape::Sum(left, right) => Some((left, right)),
+            _ => None,
+        }
+    }
+
+    fn tree(&self, named: u16) -> TypeId {
+        self.trees[named as usize]
+    }
+}
+
+fn require(kept: bool, number: Number, offset: u32) -> Result<(), Refusal> {
+    if kept {
+        Ok(())
+    } else {
+        Err(number.at(offset))
+    }
+}
