@@ -73,6 +73,12 @@ leb-sound m n e = leb→le m n (rw e tt)
 ----------------------------------------------------------------
 -- Uses
 
+-- Booleans that are true together are equal
+pub bool-ext : (b b′ : Bool) → (b ≡ true → b′ ≡ true) → (b′ ≡ true → b ≡ true) → b ≡ b′
+bool-ext true b′ s s′ = sym (s refl)
+bool-ext false true s s′ = s′ refl
+bool-ext false false s s′ = refl
+
 beq-refl : (b : Bool) → Bool·beq b b ≡ true
 beq-refl true = refl
 beq-refl false = refl

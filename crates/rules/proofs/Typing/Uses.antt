@@ -15,6 +15,7 @@ use package.Rattle.rules.specs.Typing.{Binding, static, dynamic, Context
 use package.Rattle.rules.specs.Check.{names}
 use package.Rattle.rules.proofs.Basics.{given, some-inj, or-left, or-right, or-elim, eqb-yes, eqb-sound, eqb-differs}
 use package.Rattle.rules.proofs.Scope.{look-lt, look-newest}
+use package.Rattle.rules.proofs.Typing.Tests.{bool-ext}
 use package.Rattle.rules.proofs.Typing.Contexts.{look-cases, look-old}
 
 -- `U` is what is used where the variables of `N` are named
@@ -30,7 +31,7 @@ pub record Uses (Δ : Context) (U N : Vars) : Type 0 where
 dynamic-inj : {c d : Ty} → dynamic c ≡ dynamic d → c ≡ d
 dynamic-inj p = cc
 
-static≢dynamic : {c d : Ty} → static c ≡ dynamic d → ⊥
+pub static≢dynamic : {c d : Ty} → static c ≡ dynamic d → ⊥
 static≢dynamic p = let z : _≡_ {A = ℕ} 0 1 = cc in omega arith
 
 -- what is named here is named there
@@ -72,13 +73,8 @@ module _ {Δ : Context} where
 
   -- branches with one set name the same dynamic variables that are not unit
   pub uses-agree : {U N N′ : Vars} → Uses Δ U N → Uses Δ U N′ → (i : ℕ) (c : Ty) → look Δ i ≡ some (dynamic c) → isUnit c ≡ false → N i ≡ N′ i
-  uses-agree {U} {N} {N′} h h′ i c p u = both-true (N i) (N′ i) (across h h′) (across h′ h)
+  uses-agree {U} {N} {N′} h h′ i c p u = bool-ext (N i) (N′ i) (across h h′) (across h′ h)
     where
-      both-true : (n n′ : Bool) → (n ≡ true → n′ ≡ true) → (n′ ≡ true → n ≡ true) → n ≡ n′
-      both-true true n′ s s′ = sym (s refl)
-      both-true false true s s′ = s′ refl
-      both-true false false s s′ = refl
-
       across : {M M′ : Vars} → Uses Δ U M → Uses Δ U M′ → M i ≡ true → M′ i ≡ true
       across h h′ x = or-elim _ _ (λ y. absurd (false≢true (sym u ∙ y))) (λ y. y) (spent-at h′ i c p (h .named i c p x))
 
