@@ -1,20 +1,20 @@
 -- Typing as a function accepts what the rules type, terms and whole programs.
 use Prim.Native.Nat.{ℕ, zero, suc, _+_}
 use native.Mathlib.Omega.{arith}
-use mathlib.Core.Path.{_≡_, refl, ap, subst, _∙_}
-use mathlib.Core.Bool.{Bool, true, _&&_, _||_}
+use mathlib.Core.Path.{_≡_, refl, ap, _∙_}
+use mathlib.Core.Bool.{Bool, true, _&&_}
 use mathlib.Core.Option.{Option, some}
 use mathlib.Core.List.{List, [], _∷_}
 use lib.ListN.{length}
 use lib.Dec.{eqb}
-use package.Rattle.rules.specs.Ty.{Ty, isUnit}
+use package.Rattle.rules.specs.Ty.{Ty}
 use package.Rattle.rules.specs.Term.{Term, count, Fun, Program, nth}
-use package.Rattle.rules.specs.Typing.{Context, Vars, ∅, only, _∪_, Subject, _∶_, arguments, Types, t-var1, t-var2, t-unit, t-unit-elm, t-inl, t-inr, t-prod, t-let1, t-let2, t-sum, t-app1, t-app2, t-app2-end, t-roll, t-unroll, Declares, WellTyped, dynamic}
-use package.Rattle.rules.specs.Check.{Site, term, Checked, good, _>>=_, _>>_, need, asSum, asProd, asMu, asFun, visible, names, spent, infer, inferArguments, checkFun, checkFuns, check}
+use package.Rattle.rules.specs.Typing.{Context, Vars, only, _∪_, Subject, _∶_, arguments, Types, t-var1, t-var2, t-unit, t-unit-elm, t-inl, t-inr, t-prod, t-let1, t-let2, t-sum, t-app1, t-app2, t-app2-end, t-roll, t-unroll, WellTyped, dynamic}
+use package.Rattle.rules.specs.Check.{Site, term, Checked, good, _>>=_, _>>_, need, asSum, asProd, asMu, asFun, visible, spent, infer, inferArguments, checkFun, checkFuns, check}
 use package.Rattle.rules.proofs.Basics.{given, eqb-yes}
 use package.Rattle.rules.proofs.Typing.Tests.{sameTy-refl, leb-yes, sameUse-yes}
-use package.Rattle.rules.proofs.Typing.Uses.{uses, uses-agree, uses-newest, uses-outer, second-free}
-use package.Rattle.rules.proofs.Typing.Functions.{length-parameters, body-typed}
+use package.Rattle.rules.proofs.Typing.Uses.{uses, uses-agree, uses-newest, uses-outer, uses-first}
+use package.Rattle.rules.proofs.Typing.Functions.{Declared, body-typed, parameter-spent}
 
 ----------------------------------------------------------------
 -- Answers
@@ -25,7 +25,7 @@ module _ {B : Type 0} where
   unfolding _>>=_
   go-on k p q = ap (λ x. x >>= k) p ∙ q
 
-  -- arguments that are typed, then the rest
+  -- a test that holds or arguments that are typed, then the rest
   go-past : {x : Checked (Unit {0})} {m y : Checked B} → x ≡ good tt → m ≡ y → (x >> m) ≡ y
   unfolding _>>_
   go-past {m = m} p q = ap (λ x. x >> m) p ∙ q
@@ -63,7 +63,7 @@ module _ (variables most : ℕ) (P : Program) where
       (go-past (met 8 _ (uses-newest U′ (uses variables most P d′))) refl)))
   infers (t-let2 {Δ = Δ} U′ r d d′ z z′) = given (uses variables most P d′) λ u.
       go-past (met 7 _ (leb-yes (2 + length Δ) variables (omega (arith, r)))) (go-on _ (infers d) (go-on _ (infers d′)
-      (go-past (met 8 _ (and-yes (uses-newest U′ (uses-outer (U′ ∪ only (length Δ)) u (second-free Δ U′ z′))) (uses-newest (U′ ∪ only (length Δ)) u))) refl)))
+      (go-past (met 8 _ (and-yes (uses-newest U′ (uses-first U′ u z′)) (uses-newest (U′ ∪ only (length Δ)) u))) refl)))
   infers (t-sum {Δ = Δ} {b = b} {b′ = b′} {τ = τ} U′ r d d₁ d₂ z) = given (uses variables most P d₁) λ u₁. given (uses variables most P d₂) λ u₂.
       go-past (met 7 _ (leb-yes (1 + length Δ) variables (omega (arith, r)))) (go-on _ (infers d) (go-on _ (infers d₁)
       (go-past (met 8 _ (uses-newest U′ u₁)) (go-on _ (infers d₂) (go-past (met 6 _ (sameTy-refl τ))
@@ -82,17 +82,11 @@ module _ (variables most : ℕ) (P : Program) where
   ----------------------------------------------------------------
   -- Functions and programs
 
-  -- functions that the rules type
-  abbrev Declared : List Fun → Type 0
-  Declared hs = (g : ℕ) (h : Fun) → nth hs g ≡ some h → Declares variables most P [] (h .ancillae) (h .dynamic) (h .result) (h .body)
-
-  fun-complete : (g : ℕ) (h : Fun) → Declares variables most P [] (h .ancillae) (h .dynamic) (h .result) (h .body) → checkFun variables most P g h ≡ good tt
+  fun-complete : (g : ℕ) (h : Fun) → Declared variables most P h → checkFun variables most P g h ≡ good tt
   unfolding checkFun spent
-  fun-complete g h w = given (body-typed variables most P w) λ d.
-      go-on _ (infers d) (go-past (met 6 _ (sameTy-refl (h .result)))
-      (met 8 _ (subst (λ n. (isUnit (h .dynamic) || names n (h .body)) ≡ true) (length-parameters variables most P (h .ancillae)) (uses-newest ∅ (uses variables most P d)))))
+  fun-complete g h w = go-on _ (infers (body-typed variables most P w)) (go-past (met 6 _ (sameTy-refl (h .result))) (met 8 _ (parameter-spent variables most P h w)))
 
-  funs-complete : (g : ℕ) (hs : List Fun) → Declared hs → checkFuns variables most P g hs ≡ good tt
+  funs-complete : (g : ℕ) (hs : List Fun) → ((j : ℕ) (h : Fun) → nth hs j ≡ some h → Declared variables most P h) → checkFuns variables most P g hs ≡ good tt
   unfolding checkFuns nth
   funs-complete g [] w = refl
   funs-complete g (h ∷ hs) w = go-past (fun-complete g h (w zero h refl)) (funs-complete (suc g) hs λ j h′ p. w (suc j) h′ p)

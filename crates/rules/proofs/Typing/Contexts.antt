@@ -1,10 +1,11 @@
 -- Contexts: what a variable is bound to, what becomes of a binding inside an ancilla argument, and the types of all variables.
 use Prim.Native.Nat.{ℕ}
+use native.Mathlib.Omega.{arith}
 use mathlib.Core.Path.{_≡_, refl, sym, ap, _∙_}
 use mathlib.Core.Bool.{Bool, true, false, cond}
 use mathlib.Core.Option.{some}
 use mathlib.Core.List.{List, [], _∷_, map}
-use mathlib.Core.Logic.{_⊎_, inl as left, inr as right}
+use mathlib.Core.Logic.{_⊎_, inl as left, inr as right, ⊎-elim}
 use lib.ListN.{length, length-map}
 use lib.Dec.{eqb}
 use package.Rattle.rules.specs.Ty.{Ty}
@@ -37,24 +38,28 @@ module _ {A B : Type 0} (f : A → B) where
   pub look-map : (ρ : List A) (i : ℕ) {x : A} → look ρ i ≡ some x → look (map f ρ) i ≡ some (f x)
   unfolding look
   look-map [] i p = absurd (none≢some p)
-  look-map (v ∷ ρ) i {x} p = go (look-cases ρ v i p) (λ q. look-map ρ i q)
-    where
-      go : ((i ≡ length ρ) × (v ≡ x)) ⊎ (look ρ i ≡ some x) → (look ρ i ≡ some x → look (map f ρ) i ≡ some (f x)) → look (map f (v ∷ ρ)) i ≡ some (f x)
-      go (left (e, y)) s = ap (look (map f (v ∷ ρ))) (e ∙ sym (length-map ρ f)) ∙ look-newest (f v) (map f ρ) ∙ ap (λ x. some (f x)) y
-      go (right q) s = look-old (map f ρ) (f v) i (s q)
+  look-map (v ∷ ρ) i p = ⊎-elim
+      (λ (e, y). ap (look (map f (v ∷ ρ))) (e ∙ sym (length-map ρ f)) ∙ look-newest (f v) (map f ρ) ∙ ap (λ x. some (f x)) y)
+      (λ q. look-old (map f ρ) (f v) i (look-map ρ i q)) (look-cases ρ v i p)
 
   pub look-unmap : (ρ : List A) (i : ℕ) {y : B} → look (map f ρ) i ≡ some y → (x : A) × (look ρ i ≡ some x) × (f x ≡ y)
   unfolding look
   look-unmap [] i p = absurd (none≢some p)
-  look-unmap (v ∷ ρ) i {y} p = go (look-cases (map f ρ) (f v) i p) (λ q. look-unmap ρ i q)
-    where
-      go : ((i ≡ length (map f ρ)) × (f v ≡ y)) ⊎ (look (map f ρ) i ≡ some y) → (look (map f ρ) i ≡ some y → (x : A) × (look ρ i ≡ some x) × (f x ≡ y))
-          → (x : A) × (look (v ∷ ρ) i ≡ some x) × (f x ≡ y)
-      go (left (e, q)) s = (v, ap (look (v ∷ ρ)) (e ∙ length-map ρ f) ∙ look-newest v ρ, q)
-      go (right q) s = given (s q) λ (x, r, e). (x, look-old ρ v i r, e)
+  look-unmap (v ∷ ρ) i p = ⊎-elim
+      (λ (e, q). (v, ap (look (v ∷ ρ)) (e ∙ length-map ρ f) ∙ look-newest v ρ, q))
+      (λ q. given (look-unmap ρ i q) λ (x, r, e). (x, look-old ρ v i r, e)) (look-cases (map f ρ) (f v) i p)
 
 ----------------------------------------------------------------
 -- Contexts
+
+pub dynamic-inj : {c d : Ty} → dynamic c ≡ dynamic d → c ≡ d
+dynamic-inj p = cc
+
+pub static≢dynamic : {c d : Ty} → static c ≡ dynamic d → ⊥
+static≢dynamic p = let z : _≡_ {A = ℕ} 0 1 = cc in omega arith
+
+pub barred≢dynamic : {c d : Ty} → barred c ≡ dynamic d → ⊥
+barred≢dynamic p = let z : _≡_ {A = ℕ} 0 1 = cc in omega arith
 
 abbrev pub typeOf : Binding → Ty
 typeOf (static c) = c

@@ -4,13 +4,15 @@ use native.Mathlib.Omega.{arith}
 use mathlib.Core.Path.{_≡_, refl, subst, _∙_}
 use mathlib.Core.Option.{some}
 use mathlib.Core.List.{List, [], _∷_}
-use mathlib.Core.Logic.{_⊎_, inl as left, inr as right}
+use mathlib.Core.Logic.{⊎-elim}
 use lib.ListN.{length}
 use package.Rattle.rules.specs.Ty.{Ty}
-use package.Rattle.rules.specs.Term.{Term, Program, look, scope}
-use package.Rattle.rules.specs.Typing.{Binding, static, dynamic, barred, Context, only, _∶_, Types, Declares, t-fun1, t-fun2}
+use package.Rattle.rules.specs.Term.{Term, Fun, Program, look, scope}
+use package.Rattle.rules.specs.Typing.{Binding, static, dynamic, barred, Context, ∅, only, _∶_, Types, Declares, t-fun1, t-fun2}
 use package.Rattle.rules.specs.Check.{statics}
 use package.Rattle.rules.proofs.Basics.{none≢some}
+use package.Rattle.rules.proofs.Directed.{Spent}
+use package.Rattle.rules.proofs.Typing.Uses.{uses, uses-newest}
 use package.Rattle.rules.proofs.Typing.Contexts.{look-cases, types}
 
 -- the binding is an ancilla parameter's
@@ -40,11 +42,7 @@ module _ (variables most : ℕ) (P : Program) where
       → (i : ℕ) (x : Binding) → look (statics variables most P cs Δ) i ≡ some x → IsStatic x
   unfolding statics
   look-statics [] Δ h = h
-  look-statics (c ∷ cs) Δ h = look-statics cs (static c ∷ Δ) λ i x p. newest i x (look-cases Δ (static c) i p)
-    where
-      newest : (i : ℕ) (x : Binding) → ((i ≡ length Δ) × (static c ≡ x)) ⊎ (look Δ i ≡ some x) → IsStatic x
-      newest i x (left (e, y)) = subst IsStatic y tt
-      newest i x (right p) = h i x p
+  look-statics (c ∷ cs) Δ h = look-statics cs (static c ∷ Δ) λ i x p. ⊎-elim (λ (e, y). subst IsStatic y tt) (h i x) (look-cases Δ (static c) i p)
 
   pub look-parameters : (cs : List Ty) (i : ℕ) (x : Binding) → look (statics variables most P cs []) i ≡ some x → IsStatic x
   unfolding look
@@ -53,6 +51,11 @@ module _ (variables most : ℕ) (P : Program) where
   ----------------------------------------------------------------
   -- Declarations
 
+  -- the rules type the function
+  abbrev pub Declared : Fun → Type 0
+  Declared h = Declares variables most P [] (h .ancillae) (h .dynamic) (h .result) (h .body)
+
+  -- a declaration's body is typed under all parameters, and the other way round
   pub body-typed : {Δ : Context} {cs : List Ty} {τ τ′ : Ty} {b : Term} → Declares variables most P Δ cs τ τ′ b
       → Types variables most P (dynamic τ ∷ statics variables most P cs Δ) (only (length (statics variables most P cs Δ))) (b ∶ τ′)
   unfolding statics
@@ -65,3 +68,7 @@ module _ (variables most : ℕ) (P : Program) where
   unfolding statics
   declared Δ [] d = t-fun2 d
   declared Δ (c ∷ cs) d = t-fun1 (declared (static c ∷ Δ) cs d)
+
+  -- a body uses the dynamic parameter, or need not
+  pub parameter-spent : (h : Fun) → Declared h → Spent (length (h .ancillae)) (h .dynamic) (h .body)
+  parameter-spent h w = subst (λ n. Spent n (h .dynamic) (h .body)) (length-parameters (h .ancillae)) (uses-newest ∅ (uses variables most P (body-typed w)))

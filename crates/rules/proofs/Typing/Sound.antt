@@ -2,22 +2,26 @@
 use Prim.Native.Nat.{ℕ, zero, suc, _+_, _≤_}
 use native.Mathlib.Omega.{arith}
 use mathlib.Core.Path.{_≡_, sym, ap, subst, _∙_}
-use mathlib.Core.Bool.{true, false, _||_, false≢true}
+use mathlib.Core.Bool.{true, false, false≢true}
 use mathlib.Core.Option.{some}
 use mathlib.Core.List.{List, [], _∷_}
 use lib.ListN.{length}
 use package.Rattle.rules.specs.Ty.{Ty, prod, sum, mu, unfoldTy, nodes, isUnit}
 use package.Rattle.rules.specs.Term.{Term, Terms, var, tunit, tinl, tinr, tpair, tlet, tletp, tcase, tcall, troll, tunroll, end, more, Fun, Program, nth, look}
-use package.Rattle.rules.specs.Typing.{Binding, static, dynamic, barred, Context, barOne, bar, Vars, ∅, only, _∪_, _∶_, arguments, Types, t-var1, t-var2, t-unit, t-inl, t-inr, t-prod, t-let1, t-let2, t-sum, t-app1, t-app2, t-app2-end, t-roll, t-unroll, Declares, WellTyped}
+use package.Rattle.rules.specs.Typing.{Binding, static, dynamic, barred, Context, barOne, bar, Vars, ∅, only, _∪_, _∶_, arguments, Types, t-var1, t-var2, t-unit, t-inl, t-inr, t-prod, t-let1, t-let2, t-sum, t-app1, t-app2, t-app2-end, t-roll, t-unroll, WellTyped}
 use package.Rattle.rules.specs.Check.{term, function, good, names, spent, sameUse, infer, inferArguments, statics, checkFun, checkFuns, check}
 use package.Rattle.rules.proofs.Basics.{given, none≢some, some-inj, and-both, or-left, or-right, or-same, eqb-sound}
-use package.Rattle.rules.proofs.Typing.Contexts.{look-bar}
+use package.Rattle.rules.proofs.Directed.{Spent}
+use package.Rattle.rules.proofs.Typing.Contexts.{static≢dynamic, barred≢dynamic, look-bar}
 use package.Rattle.rules.proofs.Typing.Tests.{sameTy-eq, leb-sound, AgreeIn, sameUse-sound}
-use package.Rattle.rules.proofs.Typing.Uses.{static≢dynamic}
-use package.Rattle.rules.proofs.Typing.Functions.{length-parameters, look-parameters, declared}
-use package.Rattle.rules.proofs.Typing.Weaken.{weaken, same-set, up-trans, up-union, up-bound}
-use package.Rattle.rules.proofs.Typing.Named.{dynamicsOf, namesOf, used, used-in, used-out, used-free, used-both, used-branch, used-none, used-newest}
+use package.Rattle.rules.proofs.Typing.Uses.{namesOf}
+use package.Rattle.rules.proofs.Typing.Functions.{Declared, length-parameters, look-parameters, declared}
+use package.Rattle.rules.proofs.Typing.Weaken.{weaken, same-set}
+use package.Rattle.rules.proofs.Typing.Named.{dynamicsOf, used, used-in, used-out, used-free, used-both, used-branch, used-none, used-newest, used-under}
 use package.Rattle.rules.proofs.Typing.Pass.{Pass, pass, fail, passed, pass-map, pass-bind, pass-need, pass-then, pass-test, pass-sum, pass-prod, pass-mu, pass-fun, pass-visible}
+
+----------------------------------------------------------------
+-- Inside an ancilla argument
 
 -- no variable is dynamic
 abbrev NoDynamic : Context → Type 0
@@ -28,9 +32,9 @@ unfolding barOne
 bar-no-dynamic Δ i c p = given (look-bar Δ i p) λ (x, q, e). go x e
   where
     go : (x : Binding) → barOne x ≡ dynamic c → ⊥
-    go (static d) e = let z : _≡_ {A = ℕ} 0 1 = cc in omega arith
-    go (dynamic d) e = let z : _≡_ {A = ℕ} 0 1 = cc in omega arith
-    go (barred d) e = let z : _≡_ {A = ℕ} 0 1 = cc in omega arith
+    go (static d) e = static≢dynamic e
+    go (dynamic d) e = barred≢dynamic e
+    go (barred d) e = barred≢dynamic e
 
 module _ (variables most : ℕ) (P : Program) where
   -- the term is typed with the dynamic variables that it names
@@ -50,34 +54,33 @@ module _ (variables most : ℕ) (P : Program) where
         λ j x. given (used-out Δ (only i) j x) λ (d, q, y). y) (t-var2 p)
 
     let-typable : (k : ℕ) {e b : Term} {c τ : Ty} → suc (length Δ) ≤ variables → Typable Δ e c → Typable (dynamic c ∷ Δ) b τ
-        → (isUnit c || names (length Δ) b) ≡ true → Typable Δ (tlet k e b) τ
+        → Spent (length Δ) c b → Typable Δ (tlet k e b) τ
     let-typable k {e} {b} {c} r d d′ s = weaken variables most P (used-both Δ (namesOf e) (namesOf b)) (t-let1 (used Δ b) r d
         (weaken variables most P (used-newest Δ (namesOf b) c s) d′) (used-free Δ (namesOf b) (length Δ) (omega arith)))
 
     letp-typable : (k : ℕ) {e b : Term} {c c′ τ : Ty} → suc (suc (length Δ)) ≤ variables → Typable Δ e (prod c c′) → Typable (dynamic c′ ∷ dynamic c ∷ Δ) b τ
-        → (isUnit c || names (length Δ) b) ≡ true → (isUnit c′ || names (suc (length Δ)) b) ≡ true → Typable Δ (tletp k e b) τ
+        → Spent (length Δ) c b → Spent (suc (length Δ)) c′ b → Typable Δ (tletp k e b) τ
     letp-typable k {e} {b} {c} {c′} r d d′ s s′ = weaken variables most P (used-both Δ (namesOf e) (namesOf b)) (t-let2 (used Δ b) r d
-        (weaken variables most P (up-trans (used-newest (dynamic c ∷ Δ) (namesOf b) c′ s′)
-          (up-union (only (suc (length Δ))) (up-bound (dynamic c′) (used-newest Δ (namesOf b) c s)))) d′)
+        (weaken variables most P (used-under (dynamic c ∷ Δ) (namesOf b) c′ s′ (used-newest Δ (namesOf b) c s)) d′)
         (used-free Δ (namesOf b) (length Δ) (omega arith)) (used-free Δ (namesOf b) (suc (length Δ)) (omega arith)))
-
-    -- a branch's body, with the variables of both branches
-    branch-typable : {b : Term} {c τ : Ty} (M : Vars) → ((i : ℕ) → names i b ≡ true → M i ≡ true)
-        → ((i : ℕ) (d : Ty) → look Δ i ≡ some (dynamic d) → isUnit d ≡ false → M i ≡ true → names i b ≡ true)
-        → (isUnit c || names (length Δ) b) ≡ true → Typable (dynamic c ∷ Δ) b τ
-        → Types variables most P (dynamic c ∷ Δ) (dynamicsOf Δ M ∪ only (length Δ)) (b ∶ τ)
-    branch-typable {b} {c} M more-names same-names s d = weaken variables most P (up-trans (used-newest Δ (namesOf b) c s)
-        (up-union (only (length Δ)) (up-bound (dynamic c) (used-branch Δ (namesOf b) M more-names same-names)))) d
 
     case-typable : (k : ℕ) {e b b′ : Term} {c c′ τ : Ty} → suc (length Δ) ≤ variables → Typable Δ e (sum c c′)
         → Typable (dynamic c ∷ Δ) b τ → Typable (dynamic c′ ∷ Δ) b′ τ
-        → (isUnit c || names (length Δ) b) ≡ true → (isUnit c′ || names (length Δ) b′) ≡ true → AgreeIn Δ b b′ → Typable Δ (tcase k e b b′) τ
-    case-typable k {e} {b} {b′} r d d₁ d₂ s₁ s₂ same = weaken variables most P (used-both Δ (namesOf e) (namesOf b ∪ namesOf b′))
-        (t-sum (dynamicsOf Δ (namesOf b ∪ namesOf b′)) r d
-          (branch-typable {b = b} (namesOf b ∪ namesOf b′) (λ i. or-left (names i b′)) (λ i c p u. or-same (names i b) (names i b′) (same i c p u)) s₁ d₁)
-          (branch-typable {b = b′} (namesOf b ∪ namesOf b′) (λ i. or-right (names i b))
-            (λ i c p u x. sym (same i c p u) ∙ or-same (names i b) (names i b′) (same i c p u) x) s₂ d₂)
-          (used-free Δ (namesOf b ∪ namesOf b′) (length Δ) (omega arith)))
+        → Spent (length Δ) c b → Spent (length Δ) c′ b′ → AgreeIn Δ b b′ → Typable Δ (tcase k e b b′) τ
+    case-typable k {e} {b} {b′} {c} {c′} r d d₁ d₂ s₁ s₂ same = weaken variables most P (used-both Δ (namesOf e) both) (t-sum (dynamicsOf Δ both) r d
+        (weaken variables most P (used-under Δ (namesOf b) c s₁ (used-branch Δ (namesOf b) both (λ i. or-left (names i b′)) in-left)) d₁)
+        (weaken variables most P (used-under Δ (namesOf b′) c′ s₂ (used-branch Δ (namesOf b′) both (λ i. or-right (names i b)) in-right)) d₂)
+        (used-free Δ both (length Δ) (omega arith)))
+      where
+        both : Vars
+        both = namesOf b ∪ namesOf b′
+
+        -- what either branch names, and is not unit, each names
+        in-left : (i : ℕ) (a : Ty) → look Δ i ≡ some (dynamic a) → isUnit a ≡ false → both i ≡ true → names i b ≡ true
+        in-left i a p u = or-same (names i b) (names i b′) (same i a p u)
+
+        in-right : (i : ℕ) (a : Ty) → look Δ i ≡ some (dynamic a) → isUnit a ≡ false → both i ≡ true → names i b′ ≡ true
+        in-right i a p u x = sym (same i a p u) ∙ in-left i a p u x
 
   ----------------------------------------------------------------
   -- Terms
@@ -104,7 +107,7 @@ module _ (variables most : ℕ) (P : Program) where
         pass-bind _ (term-sound (dynamic d ∷ Δ) b′) λ τ′ T₂. pass-test _ 6 (term k) _ λ y. pass-test _ 8 (term k) _ λ s.
         given (and-both _ (sameUse Δ b b′) s) λ (s₂, same).
         pass (case-typable k (omega (arith, leb-sound (1 + length Δ) variables r)) (subst (Typable Δ e) (sym x) T)
-          T₁ (subst (Typable (dynamic d ∷ Δ) b′) (sym (sameTy-eq τ τ′ y)) T₂) s₁ s₂ (sameUse-sound Δ b b′ same))
+        T₁ (subst (Typable (dynamic d ∷ Δ) b′) (sym (sameTy-eq τ τ′ y)) T₂) s₁ s₂ (sameUse-sound Δ b b′ same))
     term-sound Δ (tcall k g ts e) = pass-fun (term k) (nth P g) _ λ h x. pass-test _ 6 (term k) _ λ n.
         pass-then _ (arguments-sound k (bar Δ) (bar-no-dynamic Δ) ts (h .ancillae)) λ Ts. pass-bind _ (term-sound Δ e) λ d T.
         pass-test _ 6 (term k) _ λ y. pass (t-app1 x Ts (subst (Typable Δ e) (sameTy-eq d (h .dynamic) y) T))
@@ -123,40 +126,38 @@ module _ (variables most : ℕ) (P : Program) where
         pass-map (λ u Ts. t-app2 (weaken variables most P (used-none Δ (namesOf t) s) (subst (Typable Δ t) (sameTy-eq d c y) T)) Ts) (arguments-sound k Δ s ts cs)
 
   pub infer-sound : {Δ : Context} {t : Term} {τ : Ty} → infer variables most P Δ t ≡ good τ → Types variables most P Δ (used Δ t) (t ∶ τ)
-  infer-sound {Δ} {t} e = passed (Typable Δ t) (term-sound Δ t) e
+  infer-sound {Δ} {t} = passed (Typable Δ t) (term-sound Δ t)
 
   ----------------------------------------------------------------
   -- Functions and programs
 
-  abbrev Declared : Fun → Type 0
-  Declared h = Declares variables most P [] (h .ancillae) (h .dynamic) (h .result) (h .body)
-
   -- a body that uses the dynamic parameter, or need not
   body-declared : (h : Fun) → Typable (dynamic (h .dynamic) ∷ statics variables most P (h .ancillae) []) (h .body) (h .result)
-      → (isUnit (h .dynamic) || names (length (h .ancillae)) (h .body)) ≡ true → Declared h
-  body-declared h T s = declared variables most P [] (h .ancillae) (weaken variables most P (up-trans (used-newest Σ (namesOf (h .body)) (h .dynamic) s′)
-      (up-union (only (length Σ)) (up-bound (dynamic (h .dynamic)) (used-none Σ (namesOf (h .body)) λ i c p. look-parameters variables most P (h .ancillae) i (dynamic c) p)))) T)
+      → Spent (length (h .ancillae)) (h .dynamic) (h .body) → Declared variables most P h
+  body-declared h T s = declared variables most P [] (h .ancillae) (weaken variables most P
+      (used-under Σ (namesOf (h .body)) (h .dynamic) s′ (used-none Σ (namesOf (h .body)) λ i c p. look-parameters variables most P (h .ancillae) i (dynamic c) p)) T)
     where
       Σ : Context
       Σ = statics variables most P (h .ancillae) []
 
-      s′ : (isUnit (h .dynamic) || names (length Σ) (h .body)) ≡ true
-      s′ = subst (λ n. (isUnit (h .dynamic) || names n (h .body)) ≡ true) (sym (length-parameters variables most P (h .ancillae))) s
+      s′ : Spent (length Σ) (h .dynamic) (h .body)
+      s′ = subst (λ n. Spent n (h .dynamic) (h .body)) (sym (length-parameters variables most P (h .ancillae))) s
 
-  fun-sound : (g : ℕ) (h : Fun) → Pass (λ u. Declared h) (checkFun variables most P g h)
+  fun-sound : (g : ℕ) (h : Fun) → Pass (λ u. Declared variables most P h) (checkFun variables most P g h)
   unfolding checkFun spent
   fun-sound g h = pass-bind _ (term-sound _ (h .body)) λ τ T. pass-test _ 6 (function g) _ λ y. pass-need _ 8 (function g) λ s.
       body-declared h (subst (Typable _ (h .body)) (sameTy-eq τ (h .result) y) T) s
 
-  funs-sound : (g : ℕ) (hs : List Fun) → Pass (λ u. (j : ℕ) (h : Fun) → nth hs j ≡ some h → Declared h) (checkFuns variables most P g hs)
+  funs-sound : (g : ℕ) (hs : List Fun) → Pass (λ u. (j : ℕ) (h : Fun) → nth hs j ≡ some h → Declared variables most P h) (checkFuns variables most P g hs)
   unfolding checkFuns nth
   funs-sound g [] = pass λ j h p. absurd (none≢some p)
   funs-sound g (h ∷ hs) = pass-then _ (fun-sound g h) λ d. pass-map (λ u rest. both d rest) (funs-sound (suc g) hs)
     where
-      both : Declared h → ((j : ℕ) (h : Fun) → nth hs j ≡ some h → Declared h) → (j : ℕ) (h′ : Fun) → nth (h ∷ hs) j ≡ some h′ → Declared h′
-      both d rest zero h′ p = subst Declared (some-inj p) d
+      both : Declared variables most P h → ((j : ℕ) (h : Fun) → nth hs j ≡ some h → Declared variables most P h)
+          → (j : ℕ) (h′ : Fun) → nth (h ∷ hs) j ≡ some h′ → Declared variables most P h′
+      both d rest zero h′ p = subst (Declared variables most P) (some-inj p) d
       both d rest (suc j) h′ p = rest j h′ p
 
   pub check-sound : check variables most P ≡ good tt → WellTyped variables most P
   unfolding check
-  check-sound e = passed (λ u. WellTyped variables most P) (funs-sound 0 P) e
+  check-sound = passed (λ u. WellTyped variables most P) (funs-sound 0 P)

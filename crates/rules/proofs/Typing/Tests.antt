@@ -4,7 +4,7 @@ use mathlib.Core.Path.{_≡_, refl, sym, ap, ap₂, subst}
 use mathlib.Core.Bool.{Bool, true, false, not, _||_, Bool·beq, false≢true}
 use mathlib.Core.Option.{some}
 use mathlib.Core.List.{[], _∷_}
-use mathlib.Core.Logic.{_⊎_, inl as left, inr as right}
+use mathlib.Core.Logic.{⊎-elim}
 use lib.ListN.{length}
 use lib.Dec.{leb, leb→le, le→leb}
 use package.Rattle.rules.specs.Ty.{Ty, one, prod, sum, mu, tyvar, isUnit, sameTy}
@@ -111,12 +111,8 @@ pub sameUse-sound : (Δ : Context) (b b′ : Term) → sameUse Δ b b′ ≡ tru
 unfolding sameUse mustUse look
 sameUse-sound [] b b′ h i c p u = absurd (none≢some p)
 sameUse-sound (x ∷ Δ) b b′ h i c p u = given (and-both _ (sameUse Δ b b′) h) λ (now, then).
-    go now (look-cases Δ x i p) (λ q. sameUse-sound Δ b b′ then i c q u)
+    ⊎-elim (λ (e, y). subst (λ i. names i b ≡ names i b′) (sym e) (newest x y now)) (λ q. sameUse-sound Δ b b′ then i c q u) (look-cases Δ x i p)
   where
-    newest : (y : Binding) → y ≡ dynamic c → (not (mustUse y) || Bool·beq (names (length Δ) b) (names (length Δ) b′)) ≡ true → names (length Δ) b ≡ names (length Δ) b′
+    newest : (y : Binding) → y ≡ dynamic c → (not (mustUse y) || Bool·beq (names (length Δ) b) (names (length Δ) b′)) ≡ true
+        → names (length Δ) b ≡ names (length Δ) b′
     newest y e now = beq-eq _ _ (rw (e, u) at now)
-
-    go : (not (mustUse x) || Bool·beq (names (length Δ) b) (names (length Δ) b′)) ≡ true
-        → ((i ≡ length Δ) × (x ≡ dynamic c)) ⊎ (look Δ i ≡ some (dynamic c)) → (look Δ i ≡ some (dynamic c) → names i b ≡ names i b′) → names i b ≡ names i b′
-    go now (left (e, y)) s = subst (λ i. names i b ≡ names i b′) (sym e) (newest x y now)
-    go now (right q) s = s q

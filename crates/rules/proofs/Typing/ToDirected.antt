@@ -5,20 +5,20 @@ use mathlib.Core.Path.{_≡_, refl, sym, ap, subst, _∙_}
 use mathlib.Core.Bool.{Bool, true, false, _||_, false≢true}
 use mathlib.Core.Option.{some}
 use mathlib.Core.List.{List, [], _∷_}
-use mathlib.Core.Logic.{_⊎_, inl as left, inr as right}
+use mathlib.Core.Logic.{⊎-elim}
 use lib.ListN.{length, length-map}
 use lib.Dec.{ltb, leb}
 use package.Rattle.rules.specs.Ty.{Ty, isUnit}
 use package.Rattle.rules.specs.Term.{Term, Terms, var, tunit, tinl, tinr, tpair, tlet, tletp, tcase, tcall, troll, tunroll, end, more, Fun, Program, look}
-use package.Rattle.rules.specs.Typing.{Binding, static, dynamic, barred, Context, barOne, bar, Vars, ∅, only, _∪_, Subject, _∶_, arguments, Types, t-var1, t-var2, t-unit, t-unit-elm, t-inl, t-inr, t-prod, t-let1, t-let2, t-sum, t-app1, t-app2, t-app2-end, t-roll, t-unroll, Declares, WellTyped}
+use package.Rattle.rules.specs.Typing.{Binding, static, dynamic, barred, Context, barOne, bar, Vars, only, _∪_, Subject, _∶_, arguments, Types, t-var1, t-var2, t-unit, t-unit-elm, t-inl, t-inr, t-prod, t-let1, t-let2, t-sum, t-app1, t-app2, t-app2-end, t-roll, t-unroll, WellTyped}
 use package.Rattle.rules.specs.Check.{names, statics}
 use package.Rattle.rules.proofs.Basics.{given, or-left, or-right, or-elim, eqb-sound}
 use package.Rattle.rules.proofs.Scope.{look-lt}
 use package.Rattle.rules.proofs.Directed.{Within, WithinAll, inside, Spent, SameUse, Typed, TypedAll, TypedFun, TypedProgram}
 use package.Rattle.rules.proofs.Typing.Contexts.{look-cases, look-map, look-unmap, typeOf, types, length-bar, look-bar, types-bar}
 use package.Rattle.rules.proofs.Typing.Tests.{leb-yes, leb-sound}
-use package.Rattle.rules.proofs.Typing.Uses.{Uses, uses, uses-agree, uses-newest, uses-outer, second-free}
-use package.Rattle.rules.proofs.Typing.Functions.{IsStatic, length-parameters, types-statics, look-parameters, body-typed}
+use package.Rattle.rules.proofs.Typing.Uses.{namesOf, Uses, uses, uses-agree, uses-newest, uses-outer, uses-first}
+use package.Rattle.rules.proofs.Typing.Functions.{IsStatic, Declared, length-parameters, types-statics, look-parameters, body-typed, parameter-spent}
 
 ----------------------------------------------------------------
 -- Terms within a set of variables
@@ -79,22 +79,20 @@ record Stands (q lo : ℕ) (Δ : Context) : Type 0 where
   each : (i : ℕ) (x : Binding) → look Δ i ≡ some x → At q lo i x
 
 stands-bound : {q lo : ℕ} {Δ : Context} (c : Ty) → Stands q lo Δ → Stands q lo (dynamic c ∷ Δ)
-stands-bound {q} {lo} {Δ} c s = record
-    { below = s .below
-    ; fits = omega (arith, s .fits)
-    ; each = λ i x p. go i x (look-cases Δ (dynamic c) i p) }
-  where
-    go : (i : ℕ) (x : Binding) → ((i ≡ length Δ) × (dynamic c ≡ x)) ⊎ (look Δ i ≡ some x) → At q lo i x
-    go i x (left (e, y)) = subst (At q lo i) y (subst (λ i. lo ≤ i) (sym e) (s .fits))
-    go i x (right p) = s .each i x p
+stands-bound {q} {lo} {Δ} c s = record {
+  below = s .below;
+  fits = omega (arith, s .fits);
+  each = λ i x p. ⊎-elim (λ (e, y). subst (At q lo i) y (subst (λ i. lo ≤ i) (sym e) (s .fits))) (s .each i x) (look-cases Δ (dynamic c) i p);
+}
 
 -- inside an ancilla argument
 stands-bar : {q lo : ℕ} {Δ : Context} → Stands q lo Δ → Stands q (length Δ) (bar Δ)
 unfolding barOne
-stands-bar {q} {lo} {Δ} s = record
-    { below = omega (arith, s .below, s .fits)
-    ; fits = omega (arith, length-bar Δ)
-    ; each = λ i y p. given (look-bar Δ i p) λ (x, r, e). subst (At q (length Δ) i) e (go i x r (s .each i x r)) }
+stands-bar {q} {lo} {Δ} s = record {
+  below = omega (arith, s .below, s .fits);
+  fits = omega (arith, length-bar Δ);
+  each = λ i y p. given (look-bar Δ i p) λ (x, r, e). subst (At q (length Δ) i) e (go i x r (s .each i x r));
+}
   where
     go : (i : ℕ) (x : Binding) → look Δ i ≡ some x → At q lo i x → At q (length Δ) i (barOne x)
     go i (static c) r a = a
@@ -113,7 +111,7 @@ not-inside q lo i l m = or-elim (ltb i q) (leb lo i) (λ x. omega (arith, leb-so
 ----------------------------------------------------------------
 -- Terms
 
-same-use : {q lo : ℕ} {Δ : Context} {U : Vars} (b b′ : Term) → Stands q lo Δ → Uses Δ U (λ i. names i b) → Uses Δ U (λ i. names i b′)
+same-use : {q lo : ℕ} {Δ : Context} {U : Vars} (b b′ : Term) → Stands q lo Δ → Uses Δ U (namesOf b) → Uses Δ U (namesOf b′)
     → Within (inside q lo) b → Within (inside q lo) b′ → SameUse q (types Δ) b b′
 same-use {q} {lo} {Δ} b b′ s u u′ w w′ i c p n l = given (look-unmap typeOf Δ i p) λ (x, r, e). go x r (s .each i x r) (ap isUnit e ∙ n)
   where
@@ -123,7 +121,7 @@ same-use {q} {lo} {Δ} b b′ s u u′ w w′ i c p n l = given (look-unmap type
     go (barred d) r a n = given (not-inside q lo i (a .0) (a .1)) λ out. within-unnamed (inside q lo) i b w out ∙ sym (within-unnamed (inside q lo) i b′ w′ out)
 
 -- the newest variable is spent
-spends : (Δ : Context) (U : Vars) (c : Ty) (b : Term) → Uses (dynamic c ∷ Δ) (U ∪ only (length Δ)) (λ i. names i b) → Spent (length (types Δ)) c b
+spends : (Δ : Context) (U : Vars) (c : Ty) (b : Term) → Uses (dynamic c ∷ Δ) (U ∪ only (length Δ)) (namesOf b) → Spent (length (types Δ)) c b
 spends Δ U c b u = subst (λ n. Spent n c b) (sym (length-map Δ typeOf)) (uses-newest U u)
 
 module _ (variables most : ℕ) (P : Program) where
@@ -144,14 +142,15 @@ module _ (variables most : ℕ) (P : Program) where
       ((τ′, T, T′, spends Δ U′ τ′ b (uses variables most P d′)), (w, w′))
   directs (t-let2 {Δ = Δ} {b = b} {τ′ = τ′} {τ″ = τ″} U′ r d d′ z z′) q lo s = given (directs d q lo s) λ (T, w).
       given (directs d′ q lo (stands-bound τ″ (stands-bound τ′ s))) λ (T′, w′). given (uses variables most P d′) λ u.
-      ((τ′, τ″, T, T′, spends Δ U′ τ′ b (uses-outer (U′ ∪ only (length Δ)) u (second-free Δ U′ z′)), spends (dynamic τ′ ∷ Δ) (U′ ∪ only (length Δ)) τ″ b u), (w, w′))
+      ((τ′, τ″, T, T′, spends Δ U′ τ′ b (uses-first U′ u z′), spends (dynamic τ′ ∷ Δ) (U′ ∪ only (length Δ)) τ″ b u), (w, w′))
   directs (t-sum {Δ = Δ} {b = b} {b′ = b′} {τ′ = τ′} {τ″ = τ″} U′ r d d₁ d₂ z) q lo s = given (directs d q lo s) λ (T, w).
       given (directs d₁ q lo (stands-bound τ′ s)) λ (T₁, w₁). given (directs d₂ q lo (stands-bound τ″ s)) λ (T₂, w₂).
       given (uses variables most P d₁) λ u₁. given (uses variables most P d₂) λ u₂.
       ((τ′, τ″, T, T₁, T₂, spends Δ U′ τ′ b u₁, spends Δ U′ τ″ b′ u₂, same-use b b′ s (uses-outer U′ u₁ z) (uses-outer U′ u₂ z) w₁ w₂), (w, w₁, w₂))
-  directs (t-app1 {Δ = Δ} {ts = ts} {h = h} g a d) q lo s = given (directs a q (length Δ) (stands-bar s)) λ (Ts, ws). given (directs d q lo s) λ (T, w).
-      ((h, g, subst (λ Γ. TypedAll P q Γ ts (h .ancillae)) (types-bar Δ) Ts, T, refl, subst (λ n. WithinAll (inside q n) ts) (sym (length-map Δ typeOf)) ws),
-        (within-all-more (inside q (length Δ)) (inside q lo) (inside-more q lo (length Δ) (s .fits)) ts ws, w))
+  directs (t-app1 {Δ = Δ} {ts = ts} {h = h} g a d) q lo s = given (directs a q (length Δ) (stands-bar s)) λ (Ts, ws). given (directs d q lo s) λ (T, w). (
+    (h, g, subst (λ Γ. TypedAll P q Γ ts (h .ancillae)) (types-bar Δ) Ts, T, refl, subst (λ n. WithinAll (inside q n) ts) (sym (length-map Δ typeOf)) ws),
+    (within-all-more (inside q (length Δ)) (inside q lo) (inside-more q lo (length Δ) (s .fits)) ts ws, w),
+  )
   directs (t-app2 {τ = τ} {τs = τs} d a) q lo s = given (directs d q lo s) λ (T, w). given (directs a q lo s) λ (Ts, ws). ((τ, τs, refl, T, Ts), (w, ws))
   directs t-app2-end q lo s = (refl, tt)
   directs (t-roll {τ = τ} d) q lo s = given (directs d q lo s) λ (T, w). ((τ, refl, refl, T), w)
@@ -161,21 +160,23 @@ module _ (variables most : ℕ) (P : Program) where
   -- Functions and programs
 
   stands-parameters : (cs : List Ty) → Stands (length cs) (length cs) (statics variables most P cs [])
-  stands-parameters cs = record
-      { below = omega arith
-      ; fits = omega (arith, length-parameters variables most P cs)
-      ; each = λ i x p. go i x (look-parameters variables most P cs i x p) (look-lt (statics variables most P cs []) i p) }
+  stands-parameters cs = record {
+    below = omega arith;
+    fits = omega (arith, length-parameters variables most P cs);
+    each = λ i x p. go i x (look-parameters variables most P cs i x p) (look-lt (statics variables most P cs []) i p);
+  }
     where
       go : (i : ℕ) (x : Binding) → IsStatic x → i < length (statics variables most P cs []) → At (length cs) (length cs) i x
       go i (static c) y l = omega (arith, length-parameters variables most P cs)
       go i (dynamic c) y l = absurd y
       go i (barred c) y l = absurd y
 
-  directed-fun : (h : Fun) → Declares variables most P [] (h .ancillae) (h .dynamic) (h .result) (h .body) → TypedFun P h
-  directed-fun h w = given (body-typed variables most P w) λ d.
-      (subst (λ Γ. Typed P q (h .dynamic ∷ Γ) (h .body) (h .result)) (types-statics variables most P (h .ancillae) [])
-          (directs d q q (stands-bound (h .dynamic) (stands-parameters (h .ancillae))) .0),
-        subst (λ n. Spent n (h .dynamic) (h .body)) (length-parameters variables most P (h .ancillae)) (uses-newest ∅ (uses variables most P d)))
+  directed-fun : (h : Fun) → Declared variables most P h → TypedFun P h
+  directed-fun h w = (
+    subst (λ Γ. Typed P q (h .dynamic ∷ Γ) (h .body) (h .result)) (types-statics variables most P (h .ancillae) [])
+        (directs (body-typed variables most P w) q q (stands-bound (h .dynamic) (stands-parameters (h .ancillae))) .0),
+    parameter-spent variables most P h w,
+  )
     where
       q : ℕ
       q = length (h .ancillae)

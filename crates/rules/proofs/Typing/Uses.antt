@@ -6,17 +6,21 @@ use mathlib.Core.Path.{_≡_, refl, sym, ap, subst, _∙_}
 use mathlib.Core.Bool.{Bool, true, false, _||_, false≢true}
 use mathlib.Core.Option.{some}
 use mathlib.Core.List.{_∷_}
-use mathlib.Core.Logic.{_⊎_, inl as left, inr as right}
+use mathlib.Core.Logic.{⊎-elim}
 use lib.ListN.{length}
 use lib.Dec.{eqb}
 use package.Rattle.rules.specs.Ty.{Ty, one, isUnit}
-use package.Rattle.rules.specs.Term.{Program, look}
-use package.Rattle.rules.specs.Typing.{Binding, static, dynamic, Context, Vars, ∅, only, _∪_, Subject, _∶_, arguments, Types, t-var1, t-var2, t-unit, t-unit-elm, t-inl, t-inr, t-prod, t-let1, t-let2, t-sum, t-app1, t-app2, t-app2-end, t-roll, t-unroll}
+use package.Rattle.rules.specs.Term.{Term, Program, look}
+use package.Rattle.rules.specs.Typing.{Binding, dynamic, Context, Vars, ∅, only, _∪_, Subject, _∶_, arguments, Types, t-var1, t-var2, t-unit, t-unit-elm, t-inl, t-inr, t-prod, t-let1, t-let2, t-sum, t-app1, t-app2, t-app2-end, t-roll, t-unroll}
 use package.Rattle.rules.specs.Check.{names}
 use package.Rattle.rules.proofs.Basics.{given, some-inj, or-left, or-right, or-elim, eqb-yes, eqb-sound, eqb-differs}
 use package.Rattle.rules.proofs.Scope.{look-lt, look-newest}
 use package.Rattle.rules.proofs.Typing.Tests.{bool-ext}
-use package.Rattle.rules.proofs.Typing.Contexts.{look-cases, look-old}
+use package.Rattle.rules.proofs.Typing.Contexts.{dynamic-inj, static≢dynamic, look-cases, look-old}
+
+-- the variables that a term names
+abbrev pub namesOf : Term → Vars
+namesOf t = λ i. names i t
 
 -- `U` is what is used where the variables of `N` are named
 pub record Uses (Δ : Context) (U N : Vars) : Type 0 where
@@ -27,12 +31,6 @@ pub record Uses (Δ : Context) (U N : Vars) : Type 0 where
 
 ----------------------------------------------------------------
 -- Laws of uses
-
-dynamic-inj : {c d : Ty} → dynamic c ≡ dynamic d → c ≡ d
-dynamic-inj p = cc
-
-pub static≢dynamic : {c d : Ty} → static c ≡ dynamic d → ⊥
-static≢dynamic p = let z : _≡_ {A = ℕ} 0 1 = cc in omega arith
 
 -- what is named here is named there
 or-map : (u : Bool) {n n′ : Bool} → (n ≡ true → n′ ≡ true) → (u || n) ≡ true → (u || n′) ≡ true
@@ -49,23 +47,26 @@ module _ {Δ : Context} where
 
   -- T-UNIT-ELM
   uses-unit : {U N : Vars} (i : ℕ) → look Δ i ≡ some (dynamic one) → Uses Δ U N → Uses Δ (U ∪ only i) N
-  uses-unit {U} i p h = record
-      { named = λ j c q x. or-left (eqb j i) (h .named j c q x)
-      ; spent = λ j x. or-elim (U j) (eqb j i) (h .spent j) (λ e. (one, ap (look Δ) (eqb-sound j i e) ∙ p, refl)) x }
+  uses-unit {U} i p h = record {
+    named = λ j c q x. or-left (eqb j i) (h .named j c q x);
+    spent = λ j x. or-elim (U j) (eqb j i) (h .spent j) (λ e. (one, ap (look Δ) (eqb-sound j i e) ∙ p, refl)) x;
+  }
 
   -- parts that split the variables by union
   uses-both : {U U′ N N′ : Vars} → Uses Δ U N → Uses Δ U′ N′ → Uses Δ (U ∪ U′) (N ∪ N′)
-  uses-both {U} {U′} {N} {N′} h h′ = record
-      { named = λ i c p. or-elim (N i) (N′ i) (λ x. or-left (U′ i) (h .named i c p x)) (λ x. or-right (U i) (h′ .named i c p x))
-      ; spent = λ i. or-elim (U i) (U′ i)
-          (λ x. given (h .spent i x) λ (c, p, s). (c, p, or-map (isUnit c) (or-left (N′ i)) s))
-          (λ x. given (h′ .spent i x) λ (c, p, s). (c, p, or-map (isUnit c) (or-right (N i)) s)) }
+  uses-both {U} {U′} {N} {N′} h h′ = record {
+    named = λ i c p. or-elim (N i) (N′ i) (λ x. or-left (U′ i) (h .named i c p x)) (λ x. or-right (U i) (h′ .named i c p x));
+    spent = λ i. or-elim (U i) (U′ i)
+        (λ x. given (h .spent i x) λ (c, p, s). (c, p, or-map (isUnit c) (or-left (N′ i)) s))
+        (λ x. given (h′ .spent i x) λ (c, p, s). (c, p, or-map (isUnit c) (or-right (N i)) s));
+  }
 
   -- branches with one set
   uses-branches : {U N N′ : Vars} → Uses Δ U N → Uses Δ U N′ → Uses Δ U (N ∪ N′)
-  uses-branches {U} {N} {N′} h h′ = record
-      { named = λ i c p. or-elim (N i) (N′ i) (h .named i c p) (h′ .named i c p)
-      ; spent = λ i x. given (h .spent i x) λ (c, p, s). (c, p, or-map (isUnit c) (or-left (N′ i)) s) }
+  uses-branches {U} {N} {N′} h h′ = record {
+    named = λ i c p. or-elim (N i) (N′ i) (h .named i c p) (h′ .named i c p);
+    spent = λ i x. given (h .spent i x) λ (c, p, s). (c, p, or-map (isUnit c) (or-left (N′ i)) s);
+  }
 
   -- a variable of type `c` that is used is named, or `c` is unit
   spent-at : {U N : Vars} → Uses Δ U N → (i : ℕ) (c : Ty) → look Δ i ≡ some (dynamic c) → U i ≡ true → (isUnit c || N i) ≡ true
@@ -85,28 +86,27 @@ module _ {Δ : Context} where
 
   -- what such a body uses of the variables bound before
   pub uses-outer : (U : Vars) {N : Vars} {c : Ty} → Uses (dynamic c ∷ Δ) (U ∪ only (length Δ)) N → U (length Δ) ≡ false → Uses Δ U N
-  uses-outer U {N} {c} h z = record
-      { named = λ i d p x. or-elim (U i) (eqb i (length Δ)) (λ y. y) (λ e. absurd (outside i p (eqb-sound i (length Δ) e)))
-          (h .named i d (look-old Δ (dynamic c) i p) x)
-      ; spent = λ i x. given (h .spent i (or-left (eqb i (length Δ)) x)) λ (d, p, s). (d, before i x (look-cases Δ (dynamic c) i p), s) }
+  uses-outer U {N} {c} h z = record {
+    named = λ i d p x. or-elim (U i) (eqb i (length Δ)) (λ y. y) (λ e. absurd (outside i p (eqb-sound i (length Δ) e)))
+        (h .named i d (look-old Δ (dynamic c) i p) x);
+    spent = λ i x. given (h .spent i (or-left (eqb i (length Δ)) x)) λ (d, p, s).
+        (d, ⊎-elim (λ (e, y). absurd (false≢true (sym z ∙ ap U (sym e) ∙ x))) (λ q. q) (look-cases Δ (dynamic c) i p), s);
+  }
     where
       outside : (i : ℕ) {x : Binding} → look Δ i ≡ some x → i ≡ length Δ → ⊥
       outside i p e = omega (arith, look-lt Δ i p)
 
-      before : (i : ℕ) {x : Binding} → U i ≡ true → ((i ≡ length Δ) × (dynamic c ≡ x)) ⊎ (look Δ i ≡ some x) → look Δ i ≡ some x
-      before i x (left (e, y)) = absurd (false≢true (sym z ∙ ap U (sym e) ∙ x))
-      before i x (right p) = p
+-- under two new variables: what a body uses of all but the second
+pub uses-first : {Δ : Context} (U : Vars) {N : Vars} {c c′ : Ty} → Uses (dynamic c′ ∷ dynamic c ∷ Δ) (U ∪ only (length Δ) ∪ only (suc (length Δ))) N
+    → U (suc (length Δ)) ≡ false → Uses (dynamic c ∷ Δ) (U ∪ only (length Δ)) N
+uses-first {Δ} U h z = uses-outer (U ∪ only (length Δ)) h (rw (z, eqb-differs (suc (length Δ)) (length Δ) λ e. omega arith))
 
 ----------------------------------------------------------------
 -- Derivations
 
--- of two variables bound at once, the second is not among what was there before the second
-pub second-free : (Δ : Context) (U : Vars) → U (suc (length Δ)) ≡ false → (U ∪ only (length Δ)) (suc (length Δ)) ≡ false
-second-free Δ U z = rw (z, eqb-differs (suc (length Δ)) (length Δ) λ e. omega arith)
-
 module _ (variables most : ℕ) (P : Program) where
   abbrev UsesOf : Context → Vars → Subject → Type 0
-  UsesOf Δ U (t ∶ τ) = Uses Δ U (λ i. names i t)
+  UsesOf Δ U (t ∶ τ) = Uses Δ U (namesOf t)
   UsesOf Δ U (arguments ts τs) = Unit {0}
 
   pub uses : {Δ : Context} {U : Vars} {s : Subject} → Types variables most P Δ U s → UsesOf Δ U s
@@ -118,7 +118,7 @@ module _ (variables most : ℕ) (P : Program) where
   uses (t-inr d) = uses d
   uses (t-prod d d′ s) = uses-both (uses d) (uses d′)
   uses (t-let1 U′ r d d′ z) = uses-both (uses d) (uses-outer U′ (uses d′) z)
-  uses (t-let2 {Δ = Δ} U′ r d d′ z z′) = uses-both (uses d) (uses-outer U′ (uses-outer (U′ ∪ only (length Δ)) (uses d′) (second-free Δ U′ z′)) z)
+  uses (t-let2 U′ r d d′ z z′) = uses-both (uses d) (uses-outer U′ (uses-first U′ (uses d′) z′) z)
   uses (t-sum U′ r d d₁ d₂ z) = uses-both (uses d) (uses-branches (uses-outer U′ (uses d₁) z) (uses-outer U′ (uses d₂) z))
   uses (t-app1 g a d) = uses d
   uses (t-app2 d a) = tt
