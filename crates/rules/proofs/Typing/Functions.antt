@@ -21,33 +21,33 @@ IsStatic (static c) = Unit {0}
 IsStatic (dynamic c) = ⊥
 IsStatic (barred c) = ⊥
 
+----------------------------------------------------------------
+-- The context of the ancilla parameters
+
+length-statics : (cs : List Ty) (Δ : Context) → length (statics cs Δ) ≡ length cs + length Δ
+unfolding statics
+length-statics [] Δ = omega arith
+length-statics (c ∷ cs) Δ = length-statics cs (static c ∷ Δ) ∙ omega arith
+
+pub length-parameters : (cs : List Ty) → length (statics cs []) ≡ length cs
+length-parameters cs = length-statics cs [] ∙ omega arith
+
+pub types-statics : (cs : List Ty) (Δ : Context) → types (statics cs Δ) ≡ scope cs (types Δ)
+unfolding statics scope
+types-statics [] Δ = refl
+types-statics (c ∷ cs) Δ = types-statics cs (static c ∷ Δ)
+
+look-statics : (cs : List Ty) (Δ : Context) → ((i : ℕ) (x : Binding) → look Δ i ≡ some x → IsStatic x)
+    → (i : ℕ) (x : Binding) → look (statics cs Δ) i ≡ some x → IsStatic x
+unfolding statics
+look-statics [] Δ h = h
+look-statics (c ∷ cs) Δ h = look-statics cs (static c ∷ Δ) λ i x p. ⊎-elim (λ (e, y). subst IsStatic y tt) (h i x) (look-cases Δ (static c) i p)
+
+pub look-parameters : (cs : List Ty) (i : ℕ) (x : Binding) → look (statics cs []) i ≡ some x → IsStatic x
+unfolding look
+look-parameters cs = look-statics cs [] λ i x p. absurd (none≢some p)
+
 module _ (variables most : ℕ) (P : Program) where
-  ----------------------------------------------------------------
-  -- The context of the ancilla parameters
-
-  length-statics : (cs : List Ty) (Δ : Context) → length (statics variables most P cs Δ) ≡ length cs + length Δ
-  unfolding statics
-  length-statics [] Δ = omega arith
-  length-statics (c ∷ cs) Δ = length-statics cs (static c ∷ Δ) ∙ omega arith
-
-  pub length-parameters : (cs : List Ty) → length (statics variables most P cs []) ≡ length cs
-  length-parameters cs = length-statics cs [] ∙ omega arith
-
-  pub types-statics : (cs : List Ty) (Δ : Context) → types (statics variables most P cs Δ) ≡ scope cs (types Δ)
-  unfolding statics scope
-  types-statics [] Δ = refl
-  types-statics (c ∷ cs) Δ = types-statics cs (static c ∷ Δ)
-
-  look-statics : (cs : List Ty) (Δ : Context) → ((i : ℕ) (x : Binding) → look Δ i ≡ some x → IsStatic x)
-      → (i : ℕ) (x : Binding) → look (statics variables most P cs Δ) i ≡ some x → IsStatic x
-  unfolding statics
-  look-statics [] Δ h = h
-  look-statics (c ∷ cs) Δ h = look-statics cs (static c ∷ Δ) λ i x p. ⊎-elim (λ (e, y). subst IsStatic y tt) (h i x) (look-cases Δ (static c) i p)
-
-  pub look-parameters : (cs : List Ty) (i : ℕ) (x : Binding) → look (statics variables most P cs []) i ≡ some x → IsStatic x
-  unfolding look
-  look-parameters cs = look-statics cs [] λ i x p. absurd (none≢some p)
-
   ----------------------------------------------------------------
   -- Declarations
 
@@ -57,13 +57,13 @@ module _ (variables most : ℕ) (P : Program) where
 
   -- a declaration's body is typed under all parameters, and the other way round
   pub body-typed : {Δ : Context} {cs : List Ty} {τ τ′ : Ty} {b : Term} → Declares variables most P Δ cs τ τ′ b
-      → Types variables most P (dynamic τ ∷ statics variables most P cs Δ) (only (length (statics variables most P cs Δ))) (b ∶ τ′)
+      → Types variables most P (dynamic τ ∷ statics cs Δ) (only (length (statics cs Δ))) (b ∶ τ′)
   unfolding statics
   body-typed (t-fun1 d) = body-typed d
   body-typed (t-fun2 d) = d
 
   pub declared : (Δ : Context) (cs : List Ty) {τ τ′ : Ty} {b : Term}
-      → Types variables most P (dynamic τ ∷ statics variables most P cs Δ) (only (length (statics variables most P cs Δ))) (b ∶ τ′)
+      → Types variables most P (dynamic τ ∷ statics cs Δ) (only (length (statics cs Δ))) (b ∶ τ′)
       → Declares variables most P Δ cs τ τ′ b
   unfolding statics
   declared Δ [] d = t-fun2 d

@@ -132,16 +132,16 @@ module _ (variables most : ℕ) (P : Program) where
   -- Functions and programs
 
   -- a body that uses the dynamic parameter, or need not
-  body-declared : (h : Fun) → Typable (dynamic (h .dynamic) ∷ statics variables most P (h .ancillae) []) (h .body) (h .result)
+  body-declared : (h : Fun) → Typable (dynamic (h .dynamic) ∷ statics (h .ancillae) []) (h .body) (h .result)
       → Spent (length (h .ancillae)) (h .dynamic) (h .body) → Declared variables most P h
   body-declared h T s = declared variables most P [] (h .ancillae) (weaken variables most P
-      (used-under Σ (namesOf (h .body)) (h .dynamic) s′ (used-none Σ (namesOf (h .body)) λ i c p. look-parameters variables most P (h .ancillae) i (dynamic c) p)) T)
+      (used-under Σ (namesOf (h .body)) (h .dynamic) s′ (used-none Σ (namesOf (h .body)) λ i c p. look-parameters (h .ancillae) i (dynamic c) p)) T)
     where
       Σ : Context
-      Σ = statics variables most P (h .ancillae) []
+      Σ = statics (h .ancillae) []
 
       s′ : Spent (length Σ) (h .dynamic) (h .body)
-      s′ = subst (λ n. Spent n (h .dynamic) (h .body)) (sym (length-parameters variables most P (h .ancillae))) s
+      s′ = subst (λ n. Spent n (h .dynamic) (h .body)) (sym (length-parameters (h .ancillae))) s
 
   fun-sound : (g : ℕ) (h : Fun) → Pass (λ u. Declared variables most P h) (checkFun variables most P g h)
   unfolding checkFun spent

@@ -159,21 +159,21 @@ module _ (variables most : ℕ) (P : Program) where
   ----------------------------------------------------------------
   -- Functions and programs
 
-  stands-parameters : (cs : List Ty) → Stands (length cs) (length cs) (statics variables most P cs [])
+  stands-parameters : (cs : List Ty) → Stands (length cs) (length cs) (statics cs [])
   stands-parameters cs = record {
     below = omega arith;
-    fits = omega (arith, length-parameters variables most P cs);
-    each = λ i x p. go i x (look-parameters variables most P cs i x p) (look-lt (statics variables most P cs []) i p);
+    fits = omega (arith, length-parameters cs);
+    each = λ i x p. go i x (look-parameters cs i x p) (look-lt (statics cs []) i p);
   }
     where
-      go : (i : ℕ) (x : Binding) → IsStatic x → i < length (statics variables most P cs []) → At (length cs) (length cs) i x
-      go i (static c) y l = omega (arith, length-parameters variables most P cs)
+      go : (i : ℕ) (x : Binding) → IsStatic x → i < length (statics cs []) → At (length cs) (length cs) i x
+      go i (static c) y l = omega (arith, length-parameters cs)
       go i (dynamic c) y l = absurd y
       go i (barred c) y l = absurd y
 
   directed-fun : (h : Fun) → Declared variables most P h → TypedFun P h
   directed-fun h w = (
-    subst (λ Γ. Typed P q (h .dynamic ∷ Γ) (h .body) (h .result)) (types-statics variables most P (h .ancillae) [])
+    subst (λ Γ. Typed P q (h .dynamic ∷ Γ) (h .body) (h .result)) (types-statics (h .ancillae) [])
         (directs (body-typed variables most P w) q q (stands-bound (h .dynamic) (stands-parameters (h .ancillae))) .0),
     parameter-spent variables most P h w,
   )

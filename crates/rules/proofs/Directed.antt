@@ -1,0 +1,104 @@
+-- Typing by recursion on the term: what each term's rule asks of its parts, with the numbers of ancilla parameters `q` and the
+-- types `Γ` of all variables. The run theorems use this form; that it follows from the rules of Fig. 3 and 4 is in Typing.
+use Prim.Native.Nat.{ℕ, suc, _≤_}
+use mathlib.Core.Path.{_≡_, refl}
+use mathlib.Core.Bool.{Bool, true, false, _||_}
+use mathlib.Core.Option.{some}
+use mathlib.Core.List.{List, [], _∷_}
+use lib.ListN.{length}
+use lib.Dec.{ltb, leb}
+use package.Rattle.rules.specs.Ty.{Ty, one, prod, sum, mu, unfoldTy, isUnit}
+use package.Rattle.rules.specs.Term.{Term, Terms, var, tunit, tinl, tinr, tpair, tlet, tletp, tcase, tcall, troll, tunroll, end, more, Fun, Program, nth, look, scope}
+use package.Rattle.rules.specs.Check.{names}
+
+----------------------------------------------------------------
+-- Which variables a term names, ancilla arguments included
+
+-- every variable that the term names is one that `A` allows
+abbrev mutual
+  pub Within : (ℕ → Bool) → Term → Type 0
+  Within A (var k i) = A i ≡ true
+  Within A (tunit k) = Unit {0}
+  Within A (tinl k c e) = Within A e
+  Within A (tinr k c e) = Within A e
+  Within A (tpair k e e′) = Within A e × Within A e′
+  Within A (tlet k e b) = Within A e × Within A b
+  Within A (tletp k e b) = Within A e × Within A b
+  Within A (tcase k e b b′) = Within A e × Within A b × Within A b′
+  Within A (tcall k g ts e) = WithinAll A ts × Within A e
+  Within A (troll k t e) = Within A e
+  Within A (tunroll k t e) = Within A e
+
+  pub WithinAll : (ℕ → Bool) → Terms → Type 0
+  WithinAll A end = Unit {0}
+  WithinAll A (more t ts) = Within A t × WithinAll A ts
+
+-- all variables are allowed
+abbrev pub any : ℕ → Bool
+any i = true
+
+mutual
+  pub within-any : (t : Term) → Within any t
+  within-any (var k i) = refl
+  within-any (tunit k) = tt
+  within-any (tinl k c e) = within-any e
+  within-any (tinr k c e) = within-any e
+  within-any (tpair k e e′) = (within-any e, within-any e′)
+  within-any (tlet k e b) = (within-any e, within-any b)
+  within-any (tletp k e b) = (within-any e, within-any b)
+  within-any (tcase k e b b′) = (within-any e, within-any b, within-any b′)
+  within-any (tcall k g ts e) = (within-any-all ts, within-any e)
+  within-any (troll k t e) = within-any e
+  within-any (tunroll k t e) = within-any e
+
+  pub within-any-all : (ts : Terms) → WithinAll any ts
+  within-any-all end = tt
+  within-any-all (more t ts) = (within-any t, within-any-all ts)
+
+-- what an ancilla argument may name, with `q` ancilla parameters and `n` variables in scope around it: an ancilla parameter, or
+-- a variable bound inside
+abbrev pub inside : ℕ → ℕ → ℕ → Bool
+inside q n i = ltb i q || leb n i
+
+----------------------------------------------------------------
+-- Uses
+
+-- the variable numbered `i`, of type `c`, is used by `b`, or may go unused
+abbrev pub Spent : ℕ → Ty → Term → Type 0
+Spent i c b = (isUnit c || names i b) ≡ true
+
+-- both branches use the same dynamic variables that are not unit
+abbrev pub SameUse : ℕ → List Ty → Term → Term → Type 0
+SameUse q Γ b b′ = (i : ℕ) (c : Ty) → look Γ i ≡ some c → isUnit c ≡ false → q ≤ i → names i b ≡ names i b′
+
+----------------------------------------------------------------
+-- Terms, functions, programs
+
+module _ (P : Program) where
+  abbrev mutual
+    pub Typed : ℕ → List Ty → Term → Ty → Type 0
+    Typed q Γ (var k i) τ = look Γ i ≡ some τ
+    Typed q Γ (tunit k) τ = one ≡ τ
+    Typed q Γ (tinl k c e) τ = (a : Ty) × (b : Ty) × (sum a b ≡ c) × (c ≡ τ) × Typed q Γ e a
+    Typed q Γ (tinr k c e) τ = (a : Ty) × (b : Ty) × (sum a b ≡ c) × (c ≡ τ) × Typed q Γ e b
+    Typed q Γ (tpair k e e′) τ = (a : Ty) × (b : Ty) × (prod a b ≡ τ) × Typed q Γ e a × Typed q Γ e′ b
+    Typed q Γ (tlet k e b) τ = (a : Ty) × Typed q Γ e a × Typed q (a ∷ Γ) b τ × Spent (length Γ) a b
+    Typed q Γ (tletp k e b) τ = (a : Ty) × (a′ : Ty) × Typed q Γ e (prod a a′) × Typed q (a′ ∷ a ∷ Γ) b τ
+        × Spent (length Γ) a b × Spent (suc (length Γ)) a′ b
+    Typed q Γ (tcase k e b b′) τ = (a : Ty) × (a′ : Ty) × Typed q Γ e (sum a a′) × Typed q (a ∷ Γ) b τ × Typed q (a′ ∷ Γ) b′ τ
+        × Spent (length Γ) a b × Spent (length Γ) a′ b′ × SameUse q Γ b b′
+    Typed q Γ (tcall k g ts e) τ = (h : Fun) × (nth P g ≡ some h) × TypedAll q Γ ts (h .ancillae) × Typed q Γ e (h .dynamic)
+        × (h .result ≡ τ) × WithinAll (inside q (length Γ)) ts
+    Typed q Γ (troll k c e) τ = (a : Ty) × (mu a ≡ c) × (c ≡ τ) × Typed q Γ e (unfoldTy a)
+    Typed q Γ (tunroll k c e) τ = (a : Ty) × (mu a ≡ c) × (unfoldTy a ≡ τ) × Typed q Γ e c
+
+    pub TypedAll : ℕ → List Ty → Terms → List Ty → Type 0
+    TypedAll q Γ end cs = [] ≡ cs
+    TypedAll q Γ (more t ts) cs = (c : Ty) × (cs′ : List Ty) × (c ∷ cs′ ≡ cs) × Typed q Γ t c × TypedAll q Γ ts cs′
+
+  abbrev pub TypedFun : Fun → Type 0
+  TypedFun h = Typed (length (h .ancillae)) (h .dynamic ∷ scope (h .ancillae) []) (h .body) (h .result)
+      × Spent (length (h .ancillae)) (h .dynamic) (h .body)
+
+  abbrev pub TypedProgram : Type 0
+  TypedProgram = (g : ℕ) (h : Fun) → nth P g ≡ some h → TypedFun h

@@ -1,0 +1,165 @@
+-- Which variables a state knows: it knows no fewer after a run, and after a typed term ran back it knows what the term uses.
+use Prim.Native.Nat.{ℕ, suc, _≤_, _<_}
+use native.Mathlib.Omega.{arith}
+use native.Mathlib.Decide.{decLt}
+use mathlib.Core.Path.{_≡_, refl, sym, ap, _∙_}
+use mathlib.Core.Bool.{Bool, true, false, cond, _||_, false≢true}
+use mathlib.Core.Option.{Option, none, some}
+use mathlib.Core.List.{List, [], _∷_, map}
+use mathlib.Core.Logic.{_⊎_, inl as left, inr as right}
+use lib.ListN.{length}
+use lib.Dec.{eqb, eqb→eq, ltb, leb, leb→le, ltb→lt}
+use package.Rattle.rules.specs.Val.{Val, unit, inl, inr, pair, roll}
+use package.Rattle.rules.specs.Ty.{Ty, one, prod, sum, mu, tyvar, isUnit, HasTy}
+use package.Rattle.rules.specs.Term.{Term, look}
+use package.Rattle.rules.specs.Check.{names}
+use package.Rattle.rules.specs.Machine.{State, known}
+use package.Rattle.rules.proofs.Basics.{given, none≢some, or-cases, or-same, eqb-yes, eqb-no}
+use package.Rattle.rules.proofs.Directed.{inside, Spent, SameUse}
+use package.Rattle.rules.proofs.Scope.{look-lt, look-skip, look-newest, look-none}
+use package.Rattle.rules.proofs.State.{Agree, agree-full, agree-length, known-look, Enough}
+
+abbrev pub Knows : State → ℕ → Type 0
+Knows σ i = (v : Val) × (known σ i ≡ some v)
+
+pub known-lt : (σ : State) (i : ℕ) → Knows σ i → i < length σ
+unfolding known
+known-lt [] i (v, p) = absurd (none≢some p)
+known-lt (m ∷ σ) i (v, p) = go (eqb i (length σ)) refl p (λ q. known-lt σ i (v, q))
+  where
+    go : (b : Bool) → eqb i (length σ) ≡ b → cond b m (known σ i) ≡ some v → (known σ i ≡ some v → i < length σ) → i < suc (length σ)
+    go true e q s = let z : i ≡ length σ = eqb→eq i (length σ) (rw e tt) in omega arith
+    go false e q s = let z : i < length σ = s q in omega arith
+
+pub known-skip : (m : Option Val) (σ : State) (i : ℕ) → i < length σ → known (m ∷ σ) i ≡ known σ i
+unfolding known
+known-skip m σ i h = rw (eqb-no i (length σ) h)
+
+pub known-new : (m : Option Val) (σ : State) → known (m ∷ σ) (length σ) ≡ m
+unfolding known
+known-new m σ = rw (eqb-yes (length σ))
+
+pub knows-push : (m : Option Val) (σ : State) (i : ℕ) → Knows σ i → Knows (m ∷ σ) i
+knows-push m σ i h = (h .0, known-skip m σ i (known-lt σ i h) ∙ h .1)
+
+pub knows-pop : (m : Option Val) (σ : State) (i : ℕ) → i < length σ → Knows (m ∷ σ) i → Knows σ i
+knows-pop m σ i l h = (h .0, sym (known-skip m σ i l) ∙ h .1)
+
+-- what is known before is known after
+abbrev pub Mono : State → State → Type 0
+Mono σ σ′ = (i : ℕ) → Knows σ i → Knows σ′ i
+
+-- the term's dynamic variables that are not unit are known
+abbrev pub Bound : ℕ → List Ty → Term → State → Type 0
+Bound q Γ t σ = (i : ℕ) (c : Ty) → look Γ i ≡ some c → isUnit c ≡ false → q ≤ i → names i t ≡ true → Knows σ i
+
+-- the state after a term ran back
+abbrev pub After : ℕ → List Ty → Term → List Val → State → State → Type 0
+After q Γ t ρ σ σ′ = Agree σ′ ρ × Mono σ σ′ × Bound q Γ t σ′
+
+pub mono-pop : (m m′ : Option Val) (σ σ′ : State) → length σ ≡ length σ′ → Mono (m ∷ σ) (m′ ∷ σ′) → Mono σ σ′
+mono-pop m m′ σ σ′ l h i k = let z : i < length σ = known-lt σ i k in knows-pop m′ σ′ i (omega arith) (h i (knows-push m σ i k))
+
+pub bound-pop : (q : ℕ) (Γ : List Ty) (t : Term) (c : Ty) (m : Option Val) (σ : State) → length Γ ≡ length σ → Bound q (c ∷ Γ) t (m ∷ σ) → Bound q Γ t σ
+bound-pop q Γ t c m σ l h i d p u ql s =
+    let z : i < length Γ = look-lt Γ i p in
+    knows-pop m σ i (omega arith) (h i d (look-skip Γ c i z ∙ p) u ql s)
+
+pub unit-val : (w : Val) (c : Ty) → isUnit c ≡ true → HasTy w c → unit ≡ w
+unit-val w (prod a b) u h = absurd (false≢true u)
+unit-val w (sum a b) u h = absurd (false≢true u)
+unit-val w (mu a) u h = absurd (false≢true u)
+unit-val w (tyvar n) u h = absurd (false≢true u)
+unit-val w one u h = go w h
+  where
+    go : (w : Val) → HasTy w one → unit ≡ w
+    go unit h = refl
+    go (inl v) h = absurd h
+    go (inr v) h = absurd h
+    go (pair v v′) h = absurd h
+    go (roll v) h = absurd h
+
+-- a bound variable's value is known after its scope has run, or is unit
+pub determined : (q : ℕ) (Γ : List Ty) (c : Ty) (w : Val) (b : Term) (σ : State) → q ≤ length Γ → HasTy w c → Spent (length Γ) c b → Bound q (c ∷ Γ) b σ
+    → Knows σ (length Γ) ⊎ (unit ≡ w)
+determined q Γ c w b σ ql h s k = go (isUnit c) refl s
+  where
+    go : (u : Bool) → isUnit c ≡ u → (u || names (length Γ) b) ≡ true → Knows σ (length Γ) ⊎ (unit ≡ w)
+    go true e s = right (unit-val w c e h)
+    go false e s = left (k (length Γ) c (look-newest c Γ) e ql s)
+
+known-none : (σ : State) (i : ℕ) → length σ ≤ i → known σ i ≡ none
+known-none σ i l = go (known σ i) refl
+  where
+    go : (o : Option Val) → known σ i ≡ o → known σ i ≡ none
+    go none e = e
+    go (some v) e = absurd (let z : i < length σ = known-lt σ i (v, e) in omega arith)
+
+pub knows-cases : (m : Option Val) (σ : State) (i : ℕ) → Knows (m ∷ σ) i → ((i ≡ length σ) × ((v : Val) × (m ≡ some v))) ⊎ Knows σ i
+unfolding known
+knows-cases m σ i (v, p) = go (eqb i (length σ)) refl p
+  where
+    go : (b : Bool) → eqb i (length σ) ≡ b → cond b m (known σ i) ≡ some v → ((i ≡ length σ) × ((v : Val) × (m ≡ some v))) ⊎ Knows σ i
+    go true e q = left (eqb→eq i (length σ) (rw e tt), (v, q))
+    go false e q = right (v, q)
+
+pub knows-new : (v : Val) (σ : State) (i : ℕ) → i ≡ length σ → Knows (some v ∷ σ) i
+knows-new v σ i e = (v, ap (λ i. known (some v ∷ σ) i) e ∙ known-new (some v) σ)
+
+pub mono-set : (m : Option Val) (v : Val) (σ : State) → Mono (m ∷ σ) (some v ∷ σ)
+mono-set m v σ i k = go (knows-cases m σ i k)
+  where
+    go : ((i ≡ length σ) × ((v : Val) × (m ≡ some v))) ⊎ Knows σ i → Knows (some v ∷ σ) i
+    go (left (e, x)) = knows-new v σ i e
+    go (right h) = knows-push (some v) σ i h
+
+pub mono-push : (m : Option Val) (σ σ′ : State) → length σ ≡ length σ′ → Mono σ σ′ → Mono (m ∷ σ) (m ∷ σ′)
+mono-push m σ σ′ l h i k = go (knows-cases m σ i k)
+  where
+    go : ((i ≡ length σ) × ((v : Val) × (m ≡ some v))) ⊎ Knows σ i → Knows (m ∷ σ′) i
+    go (left (e, (v, x))) = (v, ap (λ i. known (m ∷ σ′) i) (e ∙ l) ∙ known-new m σ′ ∙ x)
+    go (right h′) = knows-push m σ′ i (h i h′)
+
+-- an ancilla argument meets nothing that is not known
+pub enough-inside : (q n : ℕ) (σ : State) (ρ : List Val) → Agree σ ρ → length ρ ≡ n → ((i : ℕ) → i < q → Knows σ i) → Enough (inside q n) σ ρ
+enough-inside q n σ ρ h l k = (agree-length σ ρ h, λ i s. go i (or-cases (ltb i q) (leb n i) s))
+  where
+    go : (i : ℕ) → (ltb i q ≡ true) ⊎ (leb n i ≡ true) → known σ i ≡ look ρ i
+    go i (left s) = given (k i (ltb→lt i q (rw s tt))) λ (v, e). e ∙ sym (known-look σ ρ i h e)
+    go i (right s) =
+        let z : n ≤ i = leb→le n i (rw s tt) in
+        let y : length σ ≡ length ρ = agree-length σ ρ h in
+        known-none σ i (omega arith) ∙ sym (look-none ρ i (omega arith))
+
+pub knows-full : (ρ : List Val) (i : ℕ) → i < length ρ → Knows (map some ρ) i
+knows-full [] i h = absurd (omega arith)
+knows-full (v ∷ ρ) i h = go (decLt i (length ρ)) (λ l. knows-full ρ i l)
+  where
+    go : Dec (i < length ρ) → (i < length ρ → Knows (map some ρ) i) → Knows (some v ∷ map some ρ) i
+    go (yes l) s = knows-push (some v) (map some ρ) i (s l)
+    go (no l) s = let z : length (map some ρ) ≡ length ρ = agree-length (map some ρ) ρ (agree-full ρ) in knows-new v (map some ρ) i (omega arith)
+
+pub bound-both : (q : ℕ) (Γ : List Ty) (e b : Term) (σ σ′ : State) → Mono σ σ′ → Bound q Γ e σ → Bound q Γ b σ′
+    → (i : ℕ) (c : Ty) → look Γ i ≡ some c → isUnit c ≡ false → q ≤ i → (names i e || names i b) ≡ true → Knows σ′ i
+bound-both q Γ e b σ σ′ mo h h′ i c p u ql s = go (or-cases (names i e) (names i b) s)
+  where
+    go : (names i e ≡ true) ⊎ (names i b ≡ true) → Knows σ′ i
+    go (left x) = mo i (h i c p u ql x)
+    go (right x) = h′ i c p u ql x
+
+pub bound-let : (q : ℕ) (Γ : List Ty) (e b : Term) (σ σ′ : State) → Mono σ σ′ → Bound q Γ e σ′ → Bound q Γ b σ
+    → (i : ℕ) (c : Ty) → look Γ i ≡ some c → isUnit c ≡ false → q ≤ i → (names i e || names i b) ≡ true → Knows σ′ i
+bound-let q Γ e b σ σ′ mo h h′ i c p u ql s = go (or-cases (names i e) (names i b) s)
+  where
+    go : (names i e ≡ true) ⊎ (names i b ≡ true) → Knows σ′ i
+    go (left x) = h i c p u ql x
+    go (right x) = mo i (h′ i c p u ql x)
+
+-- a branch binds what either branch names
+pub bound-left : (q : ℕ) (Γ : List Ty) (b b′ : Term) (σ : State) → SameUse q Γ b b′ → Bound q Γ b σ
+    → (i : ℕ) (c : Ty) → look Γ i ≡ some c → isUnit c ≡ false → q ≤ i → (names i b || names i b′) ≡ true → Knows σ i
+bound-left q Γ b b′ σ su h i c p u ql s = h i c p u ql (or-same (names i b) (names i b′) (su i c p u ql) s)
+
+pub bound-right : (q : ℕ) (Γ : List Ty) (b b′ : Term) (σ : State) → SameUse q Γ b b′ → Bound q Γ b′ σ
+    → (i : ℕ) (c : Ty) → look Γ i ≡ some c → isUnit c ≡ false → q ≤ i → (names i b || names i b′) ≡ true → Knows σ i
+bound-right q Γ b b′ σ su h i c p u ql s = h i c p u ql (sym (su i c p u ql) ∙ or-same (names i b) (names i b′) (su i c p u ql) s)

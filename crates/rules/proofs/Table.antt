@@ -1,0 +1,44 @@
+-- The table of section 6's cases, by computation.
+use mathlib.Core.Path.{refl}
+use package.Rattle.rules.specs.Limits.{maxVariables, maxNodes, maxValueBytes, fits, maxHeight}
+use package.Rattle.rules.specs.Val.{size, same}
+use package.Rattle.rules.specs.Ty.{plug, unfoldTy, nodes, sameTy}
+use package.Rattle.rules.specs.Term.{entry, count, nth, look, scope}
+use package.Rattle.rules.specs.Yield.{mayBe, mayYield}
+use package.Rattle.rules.specs.Typing.{barOne, bar}
+use package.Rattle.rules.specs.Check.{_>>=_, _>>_, need, asSum, asProd, asMu, asFun, visible, spent, mustUse, sameUse, room, small, infer, inferArguments, statics, checkFun, checkFuns, check}
+use package.Rattle.rules.specs.Run.{after, enter, test}
+use package.Rattle.rules.specs.Machine.{onSum, onPair, onRoll, onUnit, onSome, known, bindOr, meet, leave, each, made, forwardStep, forward, backwardStep, backward, runForward, runBackward}
+use package.Rattle.rules.specs.Cases.{num, Table}
+
+pub table : Table
+unfolding check checkFuns checkFun statics infer inferArguments sameTy nodes need asSum asProd asMu asFun visible room small spent mustUse sameUse bar barOne _>>_ _>>=_ count unfoldTy plug fits maxValueBytes maxHeight maxVariables maxNodes num runForward runBackward forward backward scope mayYield mayBe size same after enter test look entry nth onSome known each bindOr meet leave made forwardStep backwardStep onSum onPair onRoll onUnit
+table = record {
+  typed = refl;
+  p1 = refl;
+  p2 = refl;
+  p2-fuel = refl;
+  p3 = refl;
+  p4 = refl;
+  p5 = refl;
+  p5-height = refl;
+  p5-lower = refl;
+  p6 = refl;
+  p7 = refl;
+  p7-bytes = refl;
+  p8 = refl;
+  p9 = refl;
+  p9-equal = refl;
+  p10-typed = refl;
+  p10-inl = refl;
+  p10-inr = refl;
+  p11 = refl;
+  p11-case = refl;
+  p11-inr = refl;
+  p12-typed = refl;
+  p12-left = refl;
+  p12-right = refl;
+  left-typed = refl;
+  left-inl = refl;
+  left-inr = refl;
+}

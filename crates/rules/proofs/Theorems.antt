@@ -1,0 +1,202 @@
+-- The claims of specs/Claims, each proved under its name from the laws of the other files.
+-- where fuel, room and size are not short, a good run answers
+use Prim.Native.Nat.{ℕ, _+_, _≤_}
+use native.Mathlib.Omega.{arith}
+use mathlib.Core.Path.{_≡_, refl, sym, ap, subst, _∙_}
+use mathlib.Core.Bool.{Bool, _||_, false≢true}
+use mathlib.Core.Option.{none, some}
+use mathlib.Core.List.{List, [], _∷_, map}
+use mathlib.Core.Logic.{_⊎_, inl as left, inr as right}
+use lib.ListN.{length}
+use package.Rattle.rules.specs.Val.{Val}
+use package.Rattle.rules.specs.Ty.{HasTy, HasTys}
+use package.Rattle.rules.specs.Term.{Fun, Program, scope}
+use package.Rattle.rules.specs.Typing.{dynamic}
+use package.Rattle.rules.specs.Run.{Res, ok, stop, Run, give}
+use package.Rattle.rules.specs.Machine.{backward, runForward, runBackward}
+use package.Rattle.rules.specs.Claims.{CheckIffTyped, InferIffTypes, TypeUnique, Carries, Wider, ForwardIffRules, NoValue, Steady, MoreNeverChanges, StepsAreTheRules, BackwardThenForward, OfTyped, BackwardIffForward, Injective, NoInput, NeverStuck, KeepsTypes}
+use package.Rattle.rules.proofs.Backward.Outcome.{back-outcome}
+use package.Rattle.rules.proofs.Backward.Pop.{ready-call, call-pop}
+use package.Rattle.rules.proofs.Backward.Safe.{body-safe, backward-safe}
+use package.Rattle.rules.proofs.Backward.Sound.{back-sound}
+use package.Rattle.rules.proofs.Basics.{given, or-left, or-right}
+use package.Rattle.rules.proofs.Directed.{any, within-any, TypedFun, TypedProgram}
+use package.Rattle.rules.proofs.Fine.{Fine, fine, fine-not-stuck, fine-answer}
+use package.Rattle.rules.proofs.Forward.Outcome.{outcome}
+use package.Rattle.rules.proofs.Forward.Safe.{forward-safe}
+use package.Rattle.rules.proofs.Forward.Sound.{Yields, sound}
+use package.Rattle.rules.proofs.Monotone.{Grows, answer-grows, refusal-grows, forward-grows, run-back-grows}
+use package.Rattle.rules.proofs.Outcome.{fuel-short, room-short, size-short, Good, yields, short, good-last}
+use package.Rattle.rules.proofs.Preserve.{scope-ty}
+use package.Rattle.rules.proofs.Run.{unbind, ok-value, ok-fuel}
+use package.Rattle.rules.proofs.State.{agree-full, full-agree, fill, agree-fill, full, leave-inv}
+use package.Rattle.rules.proofs.StateTy.{state-full, has-full}
+use package.Rattle.rules.proofs.Typing.Named.{used}
+use package.Rattle.rules.proofs.Typing.Complete.{infer-complete, check-complete}
+use package.Rattle.rules.proofs.Typing.Sound.{infer-sound, check-sound}
+use package.Rattle.rules.proofs.Typing.ToDirected.{directed}
+use package.Rattle.rules.proofs.Typing.Unique.{types-unique}
+
+enough : {X : Type 0} {Q : X → Type 0} (fits fits′ : Val → Bool) (f n r r′ : ℕ) (x : Res X) → Wider fits′ fits → r′ ≤ r → n ≤ f
+    → Good fits fits′ Q f n r r′ x → (y : X) × (g : ℕ) × (x ≡ ok y g) × (f ≡ n + g) × Q y
+enough fits fits′ f n r r′ x w l e (yields {x = y} {g = g} q e′) = (y, g, refl, e′, q)
+enough fits fits′ f n r r′ x w l e (short (fuel-short y z)) = absurd (omega arith)
+enough fits fits′ f n r r′ x w l e (short (room-short y z)) = absurd (omega arith)
+enough fits fits′ f n r r′ x w l e (short (size-short u y z o)) = absurd (false≢true (sym o ∙ w u z))
+
+-- what a good run that answers says
+answered : {X : Type 0} {Q : X → Type 0} {fits fits′ : Val → Bool} {f n r r′ g : ℕ} {y : X} → Good fits fits′ Q f n r r′ (ok y g) → (f ≡ n + g) × Q y
+answered (yields q e) = (e, q)
+
+same-limits : (fits : Val → Bool) → Wider fits fits
+same-limits fits v p = p
+
+-- a good run is not refused with 15 or 16
+not-refused : {X : Type 0} {Q : X → Type 0} {fits fits′ : Val → Bool} {f n r r′ c k : ℕ} → 15 ≤ c → Good fits fits′ Q f n r r′ (stop c k) → ⊥
+not-refused l (short (fuel-short x y)) = omega arith
+not-refused l (short (room-short x y)) = omega arith
+not-refused l (short (size-short u x y z)) = omega arith
+
+----------------------------------------------------------------
+-- Typing
+
+pub check-iff-typed : (variables most : ℕ) (P : Program) → CheckIffTyped variables most P
+check-iff-typed variables most P = (check-sound variables most P, check-complete variables most P)
+
+pub infer-iff-types : (variables most : ℕ) (P : Program) → InferIffTypes variables most P
+infer-iff-types variables most P Δ t τ = (λ e. (used Δ t, infer-sound variables most P e), λ (U, d). infer-complete variables most P d)
+
+pub type-unique : (variables most : ℕ) (P : Program) → TypeUnique variables most P
+type-unique variables most P Δ U U′ t τ τ′ d d′ = types-unique variables most P d d′
+
+----------------------------------------------------------------
+-- Runs
+
+module _ (P : Program) where
+  -- a run forward is good wherever the rules carry the input to a value
+  forward-good : (fits fits′ : Val → Bool) (r r′ : ℕ) (h : Fun) (vs : List Val) (v w : Val) (n : ℕ) → Carries fits′ P r′ h vs v w n → (f : ℕ)
+      → Good fits fits′ (λ u. w ≡ u) f n r r′ (runForward fits P r h vs v f)
+  unfolding runForward
+  forward-good fits fits′ r r′ h vs v w n d f =
+      outcome fits fits′ P r r′ (scope vs []) (v ∷ scope vs []) (h .body) w n d any _ (full any (v ∷ scope vs [])) (within-any (h .body)) f
+
+  pub forward-iff-rules : ForwardIffRules P
+  unfolding runForward
+  forward-iff-rules fits r h vs v w f g = (
+    λ p. sound fits P r (scope vs []) _ (v ∷ scope vs []) (agree-full (v ∷ scope vs [])) (h .body) f w g p,
+    λ (n, d, e). back n d e,
+  )
+    where
+      back : (n : ℕ) → Carries fits P r h vs v w n → f ≡ n + g → runForward fits P r h vs v f ≡ ok w g
+      back n d e = given (enough fits fits f n r r _ (same-limits fits) (omega arith) (omega arith) (forward-good fits fits r r h vs v w n d f)) λ (u, g′, x, y, z).
+          x ∙ ap (λ u. ok u g′) (sym z) ∙ ap (ok w) (let q : g′ ≡ g = omega arith in q)
+
+  pub no-value : NoValue P
+  no-value fits fits′ r r′ h vs v w f k n p d =
+      not-refused (omega arith) (subst (λ x. Good fits fits′ (λ u. w ≡ u) f n r r′ x) p (forward-good fits fits′ r r′ h vs v w n d f))
+
+  steady : {run : (Val → Bool) → ℕ → Run Val}
+      → ((fits fits′ : Val → Bool) (r r′ f d : ℕ) → Wider fits fits′ → r ≤ r′ → Grows d (run fits r f) (run fits′ r′ (f + d))) → Steady P run
+  steady s fits fits′ r r′ f d wd l = (
+    λ w g p. answer-grows d (s fits fits′ r r′ f d wd l) p,
+    λ c k e p. refusal-grows d (s fits fits′ r r′ f d wd l) p (least c e),
+  )
+    where
+      least : (c : ℕ) → (c ≡ 15) ⊎ (c ≡ 16) → 15 ≤ c
+      least c (left e) = omega arith
+      least c (right e) = omega arith
+
+  pub more-never-changes : MoreNeverChanges P
+  unfolding runForward runBackward
+  more-never-changes h vs v = (
+    steady λ fits fits′ r r′ f d wd l. forward-grows fits fits′ wd P d r r′ l (scope vs []) (some v ∷ map some (scope vs [])) (h .body) f,
+    steady λ fits fits′ r r′ f d wd l. run-back-grows fits fits′ wd P d r r′ l h vs v f,
+  )
+
+  pub steps-are-the-rules : StepsAreTheRules P
+  steps-are-the-rules fits fits′ r r′ h vs v w w′ f f′ g g′ p p′ =
+      given (forward-iff-rules fits r h vs v w f g .0 p) λ (n, d, e).
+      given (answered (subst (λ x. Good fits′ fits (λ u. w ≡ u) f′ n r′ r x) p′ (forward-good fits′ fits r′ r h vs v w n d f′))) λ (e′, q).
+      (q, omega arith)
+
+  pub backward-then-forward : BackwardThenForward P
+  unfolding runForward runBackward
+  backward-then-forward fits r h vs v w f g p =
+      given (unbind _ _ p) λ (σ, f₁, p₁, q).
+      given (leave-inv σ _ q) λ (m, σ₂, u, x, fit, z).
+      given (back-sound fits P r (scope vs []) (none ∷ map some (scope vs [])) (h .body) w f (m ∷ σ₂) f₁ (p₁ ∙ ap (λ σ. ok σ f₁) x) (u ∷ fill σ₂) (fit, agree-fill σ₂)) λ (y, ag).
+      given (full-agree (scope vs []) (fill σ₂) (ag .1)) λ e.
+      subst (λ v. runForward fits P r h vs v f ≡ ok w g) (ok-value z)
+      (forward-iff-rules fits r h vs u w f g .1
+      (subst (λ g. Yields fits P r (scope vs []) (u ∷ scope vs []) (h .body) w f g) (ok-fuel z)
+      (subst (λ ρ. Yields fits P r (scope vs []) (u ∷ ρ) (h .body) w f f₁) (sym e) y)))
+
+----------------------------------------------------------------
+-- Runs of typed programs
+
+-- a run backward is good wherever the rules carry a typed input to the value
+back-good : (fits fits′ : Val → Bool) (P : Program) → TypedProgram P → (h : Fun) → TypedFun P h → (vs : List Val) → HasTys vs (h .ancillae) → (v w : Val)
+    → HasTy v (h .dynamic) → (r r′ n : ℕ) → Carries fits′ P r′ h vs v w n → (f : ℕ) → Good fits fits′ (λ u. v ≡ u) f n r r′ (runBackward fits P r h vs w f)
+unfolding runBackward
+back-good fits fits′ P W h T vs hs v w hv r r′ n d f =
+    good-last fits fits′ _
+    (back-outcome fits fits′ P W r r′ (scope vs []) (v ∷ scope vs []) (h .body) w n d (length (h .ancillae)) (h .dynamic ∷ scope (h .ancillae) []) (h .result) (T .0)
+    (none ∷ map some (scope vs [])) (ready-call vs (h .ancillae) v (h .dynamic) hs hv) f) λ σ₁ g A.
+    call-pop fits fits′ (λ u. give u) vs (h .ancillae) (h .dynamic) v (h .body) σ₁ hs hv (T .1) A (yields {g = g} refl (omega arith))
+
+-- a run forward is fine on a typed input
+forward-fine : (fits : Val → Bool) (P : Program) → TypedProgram P → (h : Fun) → TypedFun P h → (vs : List Val) → HasTys vs (h .ancillae) → (r f : ℕ) (v : Val)
+    → HasTy v (h .dynamic) → Fine (λ w. HasTy w (h .result)) (runForward fits P r h vs v f)
+unfolding runForward
+forward-fine fits P W h T vs hs r f v hv =
+    forward-safe fits P W r (scope vs []) (some v ∷ map some (scope vs [])) (h .body) _ _ (h .result) (T .0) any (within-any (h .body))
+    (hv, state-full (scope vs []) _ (scope-ty vs (h .ancillae) [] [] hs tt)) (has-full any (v ∷ scope vs [])) f
+
+-- a run backward is fine on a typed value
+backward-fine : (fits : Val → Bool) (P : Program) → TypedProgram P → (h : Fun) → TypedFun P h → (vs : List Val) → HasTys vs (h .ancillae) → (r f : ℕ) (w : Val)
+    → HasTy w (h .result) → Fine (λ v. HasTy v (h .dynamic)) (runBackward fits P r h vs w f)
+unfolding runBackward
+backward-fine fits P W h T vs hs r f w hw =
+    body-safe fits P W (backward fits P r) (backward-safe fits P W r) h T vs hs (λ v. give v) w hw (λ v g hv. fine hv) f
+
+module _ (variables most : ℕ) (P : Program) where
+  -- a claim of functions that are typed by recursion on the term holds of functions that the rules type
+  of-typed : {C : Fun → List Val → Type 0}
+      → (TypedProgram P → (h : Fun) → TypedFun P h → (vs : List Val) → HasTys vs (h .ancillae) → C h vs) → OfTyped variables most P C
+  of-typed s W j h p vs hs = given (directed variables most P W) λ D. s D h (D j h p) vs hs
+
+  pub keeps-types : KeepsTypes variables most P
+  keeps-types = of-typed λ D h T vs hs fits r f g v w. (
+    λ hv p. fine-answer (forward-fine fits P D h T vs hs r f v hv) p,
+    λ hw p. fine-answer (backward-fine fits P D h T vs hs r f w hw) p,
+  )
+
+  pub never-stuck : NeverStuck variables most P
+  never-stuck = of-typed λ D h T vs hs fits r f v. (
+    λ hv. fine-not-stuck (forward-fine fits P D h T vs hs r f v hv),
+    λ hv. fine-not-stuck (backward-fine fits P D h T vs hs r f v hv),
+  )
+
+  pub backward-iff-forward : BackwardIffForward variables most P
+  backward-iff-forward = of-typed λ D h T vs hs fits r v w f g hw. (
+    λ p. (fine-answer (backward-fine fits P D h T vs hs r f w hw) p, backward-then-forward P fits r h vs v w f g p),
+    λ (hv, p). again D h T vs hs fits r v w f g hv p,
+  )
+    where
+      again : TypedProgram P → (h : Fun) → TypedFun P h → (vs : List Val) → HasTys vs (h .ancillae) → (fits : Val → Bool) (r : ℕ) (v w : Val) (f g : ℕ)
+          → HasTy v (h .dynamic) → runForward fits P r h vs v f ≡ ok w g → runBackward fits P r h vs w f ≡ ok v g
+      again D h T vs hs fits r v w f g hv p =
+          given (forward-iff-rules P fits r h vs v w f g .0 p) λ (n, d, e).
+          given (enough fits fits f n r r _ (same-limits fits) (omega arith) (omega arith) (back-good fits fits P D h T vs hs v w hv r r n d f)) λ (u, g′, x, y, z).
+          x ∙ ap (λ u. ok u g′) (sym z) ∙ ap (ok v) (let q : g′ ≡ g = omega arith in q)
+
+  pub injective : Injective variables most P
+  injective = of-typed λ D h T vs hs fits fits′ r r′ v v′ w n n′ hv hv′ d d′.
+      let e : Val → Bool = λ u. fits u || fits′ u in
+      given (enough e fits (n + n′) n (r + r′) r _ (λ u p. or-left (fits′ u) p) (omega arith) (omega arith) (back-good e fits P D h T vs hs v w hv (r + r′) r n d (n + n′))) λ (u, g, x, y, z).
+      given (enough e fits′ (n + n′) n′ (r + r′) r′ _ (λ u p. or-right (fits u) p) (omega arith) (omega arith) (back-good e fits′ P D h T vs hs v′ w hv′ (r + r′) r′ n′ d′ (n + n′))) λ (u′, g′, x′, y′, z′).
+      z ∙ ok-value (sym x ∙ x′) ∙ sym z′
+
+  pub no-input : NoInput variables most P
+  no-input = of-typed λ D h T vs hs fits fits′ r r′ v w f k n hv p d.
+      not-refused (omega arith) (subst (λ x. Good fits fits′ (λ u. v ≡ u) f n r r′ x) p (back-good fits fits′ P D h T vs hs v w hv r r′ n d f))

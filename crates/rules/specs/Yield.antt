@@ -1,0 +1,45 @@
+-- May-yield (section 3): whether a term may yield a value, judged by the term's form alone. The source's PLVal, with section 3's
+-- reading of variables: an ancilla parameter yields its own value, every other variable anything.
+use Prim.Native.Nat.{ℕ}
+use mathlib.Core.Bool.{Bool, true, false, _&&_, _||_}
+use mathlib.Core.Option.{Option, none, some}
+use mathlib.Core.List.{List}
+use package.Rattle.rules.specs.Val.{Val, unit, inl, inr, pair, roll, same}
+use package.Rattle.rules.specs.Term.{Term, var, tunit, tinl, tinr, tpair, tlet, tletp, tcase, tcall, troll, tunroll, look}
+
+-- May what is known, if anything, be the value?
+unfoldable pub mayBe : Option Val → Val → Bool
+mayBe none v = true
+mayBe (some w) v = same w v
+
+-- `a` is the scope of the ancilla parameters' values. A constructor form by its parts, let by its body, case by either branch,
+-- call and unroll anything.
+unfoldable pub mayYield : List Val → Term → Val → Bool
+unfolding mayBe
+mayYield a (var k i) v = mayBe (look a i) v
+mayYield a (tunit k) v = same unit v
+mayYield a (tinl k c e) unit = false
+mayYield a (tinl k c e) (inl v) = mayYield a e v
+mayYield a (tinl k c e) (inr v) = false
+mayYield a (tinl k c e) (pair v w) = false
+mayYield a (tinl k c e) (roll v) = false
+mayYield a (tinr k c e) unit = false
+mayYield a (tinr k c e) (inl v) = false
+mayYield a (tinr k c e) (inr v) = mayYield a e v
+mayYield a (tinr k c e) (pair v w) = false
+mayYield a (tinr k c e) (roll v) = false
+mayYield a (tpair k e e′) unit = false
+mayYield a (tpair k e e′) (inl v) = false
+mayYield a (tpair k e e′) (inr v) = false
+mayYield a (tpair k e e′) (pair v w) = mayYield a e v && mayYield a e′ w
+mayYield a (tpair k e e′) (roll v) = false
+mayYield a (tlet k e b) v = mayYield a b v
+mayYield a (tletp k e b) v = mayYield a b v
+mayYield a (tcase k e b b′) v = mayYield a b v || mayYield a b′ v
+mayYield a (tcall k g ts e) v = true
+mayYield a (troll k c e) unit = false
+mayYield a (troll k c e) (inl v) = false
+mayYield a (troll k c e) (inr v) = false
+mayYield a (troll k c e) (pair v w) = false
+mayYield a (troll k c e) (roll v) = mayYield a e v
+mayYield a (tunroll k c e) v = true
