@@ -40,14 +40,20 @@ impl Journal {
         form.then(|| Journal { held: held.to_vec(), conversions })
     }
 
+    /// Bytes of the fields, without the zeros behind them.
+    pub fn length(&self) -> usize {
+        let conversions = self.conversions.iter().map(|c| HEADER + CONVERSION_HEAD + c.ancillae.len());
+        HEADER + self.held.len() + conversions.sum::<usize>()
+    }
+
     /// The fields, with zeros to the buffer's length; none if they do not fit.
     pub fn write(&self, length: usize) -> Option<Vec<u8>> {
+        if self.length() > length {
+            return None;
+        }
         let mut bytes = field(HELD_TAG, &self.held);
         for conversion in &self.conversions {
             bytes.extend(field(CONVERSION_TAG, &conversion.body()));
-        }
-        if bytes.len() > length {
-            return None;
         }
         bytes.resize(length, 0);
         Some(bytes)

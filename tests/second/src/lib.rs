@@ -1,15 +1,23 @@
 //! A second evaluator for CoreFun, written from document 01 alone, to which the engine is held.
 
+pub mod assemble;
 mod backward;
+pub mod bench;
+pub mod book;
 pub mod calls;
+pub mod draft;
 mod entries;
 mod forward;
 pub mod journal;
 pub mod limits;
 pub mod lines;
+pub mod make;
 pub mod program;
 pub mod refusal;
+pub mod rng;
 pub mod run;
+pub mod samples;
+pub mod tally;
 pub mod types;
 pub mod typing;
 pub mod value;

@@ -1,17 +1,33 @@
 //! Command line of the second evaluator.
 
-use second::calls::answer;
-use second::lines::{read_call, write_answer};
+use second::bench::bench;
+use second::calls::{answer, Call};
+use second::lines::{read_call, write_answer, write_call};
+use second::make::{lists::book_list, Maker};
+use second::rng::Rng;
+use second::tally::Tally;
 use std::io::{self, BufRead, BufWriter, Write};
 use std::process::ExitCode;
 
-const USAGE: &str = "usage: second answer < CALLS";
+const USAGE: &str = "\
+usage: second answer < CALLS       one answer a line
+       second make SEED COUNT      COUNT random calls
+       second book SEED COUNT      COUNT lists of calls, a line each: CALL = the plain book's ANSWER
+       second tally < CALLS        how often each answer is met, by call and kind of place
+       second bench                time per step, per term and per journal call";
 
 fn main() -> ExitCode {
     let words: Vec<String> = std::env::args().skip(1).collect();
     let words: Vec<&str> = words.iter().map(String::as_str).collect();
     let done = match words[..] {
         ["answer"] => answer_lines(),
+        ["make", seed, count] => number(seed).and_then(|seed| make(seed, number(count)?)),
+        ["book", seed, count] => number(seed).and_then(|seed| book(seed, number(count)?)),
+        ["tally"] => tally(),
+        ["bench"] => {
+            bench();
+            Ok(())
+        }
         _ => Err(USAGE.to_string()),
     };
     match done {
@@ -23,12 +39,73 @@ fn main() -> ExitCode {
     }
 }
 
+fn number(word: &str) -> Result<u64, String> {
+    word.parse().map_err(|_| format!("not a number: {word:?}\n{USAGE}"))
+}
+
 fn answer_lines() -> Result<(), String> {
-    let mut output = BufWriter::new(io::stdout().lock());
+    let mut output = Output::new();
+    for_each_call(|call| output.line(&write_answer(&answer(call))))?;
+    output.finish()
+}
+
+fn make(seed: u64, count: u64) -> Result<(), String> {
+    let mut output = Output::new();
+    for call in Maker::new(seed).take(count as usize) {
+        output.line(&write_call(&call))?;
+    }
+    output.finish()
+}
+
+fn book(seed: u64, count: u64) -> Result<(), String> {
+    let mut output = Output::new();
+    let mut rng = Rng::new(seed);
+    for _ in 0..count {
+        for (call, answer) in book_list(&mut rng) {
+            output.line(&format!("{} = {}", write_call(&call), write_answer(&answer)))?;
+        }
+    }
+    output.finish()
+}
+
+fn tally() -> Result<(), String> {
+    let mut tally = Tally::default();
+    for_each_call(|call| {
+        tally.add(call, &answer(call));
+        Ok(())
+    })?;
+    let mut output = Output::new();
+    for line in tally.lines() {
+        output.line(&line)?;
+    }
+    output.finish()
+}
+
+fn for_each_call(mut work: impl FnMut(&Call) -> Result<(), String>) -> Result<(), String> {
     for (number, line) in io::stdin().lock().lines().enumerate() {
         let line = line.map_err(|error| format!("standard input: {error}"))?;
         let call = read_call(&line).map_err(|error| format!("line {}: {error}", number + 1))?;
-        writeln!(output, "{}", write_answer(&answer(&call))).map_err(|error| format!("standard output: {error}"))?;
+        work(&call)?;
     }
-    output.flush().map_err(|error| format!("standard output: {error}"))
+    Ok(())
+}
+
+struct Output(BufWriter<io::StdoutLock<'static>>);
+
+impl Output {
+    fn new() -> Output {
+        Output(BufWriter::new(io::stdout().lock()))
+    }
+
+    fn line(&mut self, line: &str) -> Result<(), String> {
+        writeln!(self.0, "{line}").map_err(said)
+    }
+
+    fn finish(mut self) -> Result<(), String> {
+        self.0.flush().map_err(said)
+    }
+}
+
+fn said(error: io::Error) -> String {
+    format!("standard output: {error}")
 }

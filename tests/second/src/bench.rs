@@ -1,0 +1,116 @@
+//! Time per step, per term and per journal call.
+
+use crate::calls::{answer, arguments, Answer, Call, ConvertCall, Direction};
+use crate::draft::{boolean, let_one, pair, product, variable, Draft, Function};
+use crate::limits::{self, FUEL};
+use crate::run::{run_backward, run_forward};
+use crate::samples::{library, list_bytes, nat_bytes};
+use crate::typing::check;
+use crate::value::Heap;
+use std::hint::black_box;
+use std::time::Instant;
+
+const PLUS: u16 = 0;
+const MAP: u16 = 3;
+const REVERSE: u16 = 5;
+
+pub fn bench() {
+    let program = library().bytes();
+    let bits = |count: usize| list_bytes(&(0..count).map(|n| vec![1 + (n % 3 / 2) as u8, 0]).collect::<Vec<_>>());
+    bench_run("plus 0 of 255", &program, PLUS, &nat_bytes(0), &nat_bytes(255));
+    bench_run("reverse of a list of 92", &program, REVERSE, &[], &bits(92));
+    bench_run("map over a list of 125", &program, MAP, &[], &bits(125));
+    bench_check();
+    bench_journal(&program);
+}
+
+fn bench_run(name: &str, program: &[u8], function: u16, ancillae: &[u8], value: &[u8]) {
+    let forward = measure_run(program, function, ancillae, value, Direction::Forward);
+    let backward = measure_run(program, function, ancillae, &forward.result, Direction::Backward);
+    println!(
+        "{name}: {} steps, forward {:.1} ns a step, backward {:.1} ns a step",
+        forward.steps, forward.nanoseconds, backward.nanoseconds
+    );
+}
+
+struct Measured {
+    result: Vec<u8>,
+    steps: u32,
+    nanoseconds: f64,
+}
+
+/// Only the run itself is timed, not the check of the program.
+fn measure_run(program: &[u8], function: u16, ancillae: &[u8], value: &[u8], direction: Direction) -> Measured {
+    let mut checked = check(program).expect("the library is well-typed");
+    let mut measured = Measured { result: Vec::new(), steps: 0, nanoseconds: f64::MAX };
+    let run = match direction {
+        Direction::Forward => run_forward,
+        Direction::Backward => run_backward,
+    };
+    for _ in 0..200 {
+        let mut heap = Heap::default();
+        let (ancillae, value) =
+            arguments(&mut checked, direction, function, ancillae, value, &mut heap).expect("typed arguments");
+        let start = Instant::now();
+        let outcome = run(&checked.program, function as usize, FUEL, &mut heap, &ancillae, value);
+        let elapsed = start.elapsed().as_nanos() as f64;
+        let outcome = outcome.expect("the run is within its limits");
+        measured.nanoseconds = measured.nanoseconds.min(elapsed / outcome.steps as f64);
+        measured.steps = outcome.steps;
+        measured.result = heap.store(outcome.value);
+    }
+    measured
+}
+
+/// Functions of nested lets and pairs until the program is near 1,024 terms.
+fn bench_check() {
+    let ty = product(&boolean(), &boolean());
+    let nested = |depth: usize| {
+        (1..depth).rev().fold(pair(variable(depth - 1), variable(depth - 1)), |body, bound| {
+            let_one(variable(bound - 1), body)
+        })
+    };
+    let function = || Function { parameters: vec![ty.clone()], result: product(&ty, &ty), body: nested(17) };
+    let terms = function().body.count();
+    let draft = Draft { functions: (0..limits::TERMS / terms).map(|_| function()).collect() };
+    let count = terms * draft.functions.len();
+    let program = draft.bytes();
+    let best = best_of(500, || black_box(check(black_box(&program))).is_ok());
+    println!("check of {count} terms, {} bytes: {:.1} ns a term", program.len(), best / count as f64);
+}
+
+fn bench_journal(program: &[u8]) {
+    let opened = Call::Open {
+        workspace: limits::workspace(0),
+        program: program.to_vec(),
+        record: nat_bytes(100),
+        journal: vec![0; 2048],
+    };
+    let Answer::Opened { journal } = answer(&opened) else { panic!("the journal opens") };
+    let convert = Call::Convert(ConvertCall {
+        workspace: limits::workspace(FUEL),
+        fuel: FUEL,
+        function: PLUS,
+        program: program.to_vec(),
+        ancillae: nat_bytes(2),
+        journal,
+    });
+    let Answer::Held { journal, steps, .. } = answer(&convert) else { panic!("the record converts") };
+    let rollback =
+        Call::Rollback { workspace: limits::workspace(FUEL), fuel: FUEL, program: program.to_vec(), journal };
+    for (name, call) in [("convert", convert), ("rollback", rollback)] {
+        let best = best_of(500, || matches!(black_box(answer(black_box(&call))), Answer::Held { .. }));
+        println!("{name} of {steps} steps, program of {} bytes checked: {:.1} us", program.len(), best / 1000.0);
+    }
+}
+
+/// The shortest of several timings, in nanoseconds.
+fn best_of(times: usize, mut work: impl FnMut() -> bool) -> f64 {
+    let mut best = f64::MAX;
+    for _ in 0..times {
+        let start = Instant::now();
+        assert!(work(), "the measured work is accepted");
+        best = best.min(start.elapsed().as_nanos() as f64);
+    }
+    best
+}

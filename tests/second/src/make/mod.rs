@@ -1,0 +1,142 @@
+//! Random calls, deterministic for a seed.
+
+mod choices;
+mod corners;
+mod damage;
+mod edges;
+mod isos;
+mod journals;
+pub mod lists;
+mod runs;
+mod story;
+mod terms;
+mod types;
+pub mod values;
+
+use crate::calls::{answer, Call, ConvertCall, RunCall};
+use crate::draft::Draft;
+use crate::limits;
+use crate::rng::Rng;
+use std::collections::VecDeque;
+use story::Story;
+
+/// An endless row of calls.
+pub struct Maker {
+    rng: Rng,
+    ready: VecDeque<Call>,
+}
+
+impl Maker {
+    pub fn new(seed: u64) -> Maker {
+        Maker { rng: Rng::new(seed), ready: VecDeque::new() }
+    }
+
+    fn fill(&mut self) {
+        let rng = &mut self.rng;
+        match rng.below(100) {
+            0..=4 => {
+                let program = sound_program(rng).shuffled(rng);
+                self.check(program);
+            }
+            5..=22 => {
+                let program = sound_program(rng).shuffled(rng);
+                let program = damage::damaged(rng, &program);
+                self.check(program);
+            }
+            23..=42 => {
+                let rate = *rng.pick(&[15, 40, 80]);
+                let program = terms::random_program(rng, rate).shuffled(rng);
+                self.check(program);
+            }
+            43..=50 => {
+                let program = edges::edge_program(rng);
+                self.check(program);
+            }
+            51..=78 => self.runs(),
+            79..=84 => {
+                let draft = corners::sized_program(rng);
+                let program = draft.shuffled(rng);
+                self.ready.push_back(runs::long_run_call(rng, &draft, &program));
+            }
+            _ => self.story(),
+        }
+    }
+
+    fn check(&mut self, program: Vec<u8>) {
+        let workspace = choices::workspace(&mut self.rng, 0);
+        self.ready.push_back(Call::Check { workspace, program });
+    }
+
+    /// Some runs of one program, and now and then one on a damaged program.
+    fn runs(&mut self) {
+        let rng = &mut self.rng;
+        let draft = sound_program(rng);
+        let program = draft.shuffled(rng);
+        for _ in 0..rng.between(1, 3) {
+            let call = runs::run_call(rng, &draft, &program);
+            self.ready.push_back(if rng.chance(3) { with_damaged_program(rng, call) } else { call });
+        }
+    }
+
+    /// The calls of a story, some of them on a damaged journal as well.
+    fn story(&mut self) {
+        let rng = &mut self.rng;
+        let draft = match rng.below(10) {
+            0 | 1 => corners::shortening_program(rng),
+            2 => corners::sized_program(rng),
+            _ => sound_program(rng),
+        };
+        let (mut story, open) = Story::begin(rng, draft);
+        self.ready.push_back(open);
+        for _ in 0..rng.between(1, 8) {
+            let converts = rng.between(40, 80);
+            let call = story.next_call(rng, converts);
+            story.turn(&call, &answer(&call));
+            if rng.chance(35) {
+                self.ready.push_back(journals::with_damaged_journal(rng, &story.draft, &call));
+            } else if rng.chance(4) {
+                self.ready.push_back(with_damaged_program(rng, call));
+            } else {
+                self.ready.push_back(call);
+            }
+        }
+    }
+}
+
+impl Iterator for Maker {
+    type Item = Call;
+
+    fn next(&mut self) -> Option<Call> {
+        while self.ready.is_empty() {
+            self.fill();
+        }
+        self.ready.pop_front()
+    }
+}
+
+/// A well-typed program of any family.
+pub fn sound_program(rng: &mut Rng) -> Draft {
+    match rng.below(10) {
+        0..=2 => terms::random_program(rng, 0),
+        3..=5 => isos::reversible_program(rng),
+        6 => isos::list_program(rng),
+        _ => corners::corner_program(rng),
+    }
+}
+
+fn with_damaged_program(rng: &mut Rng, call: Call) -> Call {
+    let mut damaged = |program: &[u8]| damage::damaged(rng, program);
+    match call {
+        Call::Check { workspace, program } => Call::Check { workspace, program: damaged(&program) },
+        Call::Run(call) => {
+            Call::Run(RunCall { program: damaged(&call.program), workspace: limits::workspace(call.fuel), ..call })
+        }
+        Call::Open { workspace, program, record, journal } => {
+            Call::Open { workspace, program: damaged(&program), record, journal }
+        }
+        Call::Convert(call) => Call::Convert(ConvertCall { program: damaged(&call.program), ..call }),
+        Call::Rollback { workspace, fuel, program, journal } => {
+            Call::Rollback { workspace, fuel, program: damaged(&program), journal }
+        }
+    }
+}

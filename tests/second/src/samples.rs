@@ -1,0 +1,114 @@
+//! Programs that tests and measurements name: section 6's functions and some common list functions.
+
+use crate::draft::*;
+
+/// Bytes of Nat n (section 6).
+pub fn nat_bytes(n: usize) -> Vec<u8> {
+    let mut bytes = [4, 2].repeat(n);
+    bytes.extend([4, 1, 0]);
+    bytes
+}
+
+/// Bytes of a list, its elements' bytes given.
+pub fn list_bytes(elements: &[Vec<u8>]) -> Vec<u8> {
+    let mut bytes = Vec::new();
+    for element in elements {
+        bytes.extend([4, 2, 3]);
+        bytes.extend_from_slice(element);
+    }
+    bytes.extend([4, 1, 0]);
+    bytes
+}
+
+/// n + 1 for a Nat term.
+pub fn successor(term: Term) -> Term {
+    roll(&nat(), inr(&unfold(&nat()), term))
+}
+
+/// Section 6: ancilla a and dynamic n; case unroll n of inl u gives a; inr m gives roll inr (plus a m).
+pub fn plus(itself: usize) -> Function {
+    let recursion = successor(call(itself, vec![variable(0), variable(2)]));
+    Function {
+        parameters: vec![nat(), nat()],
+        result: nat(),
+        body: case(unroll(&nat(), variable(1)), variable(0), recursion),
+    }
+}
+
+/// Section 6: n gives (n, n).
+pub fn dup(ty: &Type) -> Function {
+    Function {
+        parameters: vec![ty.clone()],
+        result: product(ty, ty),
+        body: pair(variable(0), variable(0)),
+    }
+}
+
+/// 1+1 with its injections exchanged.
+pub fn not() -> Function {
+    let exchanged = case(variable(0), inr(&boolean(), variable(1)), inl(&boolean(), variable(1)));
+    Function { parameters: vec![boolean()], result: boolean(), body: exchanged }
+}
+
+pub fn nil(element: &Type) -> Term {
+    let ty = list(element);
+    roll(&ty, inl(&unfold(&ty), Term::Unit))
+}
+
+pub fn cons(element: &Type, head: Term, tail: Term) -> Term {
+    let ty = list(element);
+    roll(&ty, inr(&unfold(&ty), pair(head, tail)))
+}
+
+/// Case of a list variable; `empty` binds one variable, `full` the pair and then its two parts.
+fn match_list(element: &Type, scrutinee: usize, in_scope: usize, empty: Term, full: Term) -> Term {
+    let scrutinee = unroll(&list(element), variable(scrutinee));
+    case(scrutinee, empty, let_pair(variable(in_scope), full))
+}
+
+/// A function of one element, applied to each element of a list.
+pub fn map(itself: usize, element: &Type, function: usize) -> Function {
+    let head = call(function, vec![variable(2)]);
+    let full = cons(element, head, call(itself, vec![variable(3)]));
+    Function {
+        parameters: vec![list(element)],
+        result: list(element),
+        body: match_list(element, 0, 1, nil(element), full),
+    }
+}
+
+/// (element, list) gives the list with the element behind it.
+pub fn snoc(itself: usize, element: &Type) -> Function {
+    let empty = cons(element, variable(1), nil(element));
+    let full = cons(element, variable(4), call(itself, vec![pair(variable(1), variable(5))]));
+    Function {
+        parameters: vec![product(element, &list(element))],
+        result: list(element),
+        body: let_pair(variable(0), match_list(element, 2, 3, empty, full)),
+    }
+}
+
+/// List reverse by `snoc`: quadratic in steps.
+pub fn reverse(itself: usize, element: &Type, snoc: usize) -> Function {
+    let full = call(snoc, vec![pair(variable(2), call(itself, vec![variable(3)]))]);
+    Function {
+        parameters: vec![list(element)],
+        result: list(element),
+        body: match_list(element, 0, 1, nil(element), full),
+    }
+}
+
+/// Functions 0 plus, 1 dup of Nat, 2 not, 3 map not, 4 snoc, 5 reverse, over lists of 1+1.
+pub fn library() -> Draft {
+    let element = boolean();
+    Draft {
+        functions: vec![
+            plus(0),
+            dup(&nat()),
+            not(),
+            map(3, &element, 2),
+            snoc(4, &element),
+            reverse(5, &element, 4),
+        ],
+    }
+}
