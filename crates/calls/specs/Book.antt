@@ -1,0 +1,199 @@
+-- The plain book (section 5): what demand 3 is measured by. It is fed the arguments of each open, convert and rollback call, of the
+-- workspace and the journal's buffer the length alone, and nothing that the engine stores or answers.
+use Prim.Native.Nat.{ℕ, _+_, _-_, _≤_, _<_}
+use mathlib.Core.Path.{_≡_}
+use mathlib.Core.Bool.{Bool, true, false}
+use mathlib.Core.Option.{Option, none, some}
+use mathlib.Core.List.{List, [], _∷_, _++_}
+use lib.ListN.{length, take, drop, replicate}
+use package.Rattle.rules.specs.Limits.{fits, maxHeight, maxFuel}
+use package.Rattle.rules.specs.Val.{Val, unit, size}
+use package.Rattle.rules.specs.Term.{Program, nth}
+use package.Rattle.rules.specs.Machine.{runForward}
+use package.Rattle.calls.specs.Answer.{Answer, accepted, refused}
+use package.Rattle.calls.specs.Values.{value, ancillae}
+use package.Rattle.calls.specs.Runs.{Ran, ran}
+use package.Rattle.calls.specs.Journal.{Entry, Journal, fields, writeOut, readJournal}
+use package.Rattle.calls.specs.Conversions.{Turned, openCall, convertCall, rollbackCall}
+
+----------------------------------------------------------------
+-- Calls that write a journal, and what they answer
+
+-- with workspace length, fuel where the call has it, function, the given bytes, and last the length of the journal's buffer
+pub data Call : Type 0 where
+  opens : ℕ → List ℕ → ℕ → Call
+  converts : ℕ → ℕ → ℕ → List ℕ → ℕ → Call
+  rollsBack : ℕ → ℕ → ℕ → Call
+
+-- the length of the journal's buffer
+unfoldable pub buffer : Call → ℕ
+buffer (opens ws v n) = n
+buffer (converts ws fuel fn anc n) = n
+buffer (rollsBack ws fuel n) = n
+
+-- open answers that it accepts; convert and rollback the new held value's length and the steps; a refusal its number and place
+pub data Told : Type 0 where
+  isOpen : Told
+  holds : ℕ → ℕ → Told
+  refuses : ℕ → ℕ → Told
+
+----------------------------------------------------------------
+-- The book
+
+-- a conversion that stands: a function and its ancilla values
+pub record Row : Type 0 where
+  pub function : ℕ
+  pub ancillae : List Val
+
+-- a first record, and the rows, oldest first
+pub record Book : Type 0 where
+  pub first : Val
+  pub rows : List Row
+
+-- A row run forward by the rules. (A row of a book ran when it was added; for any other the value stays.)
+unfoldable pub carry : Program → Row → Val → Ran
+unfolding ran
+carry P row v = elim (nth P (row .function)) [
+  | none ↦ record { value = v; steps = 0 }
+  | some h ↦ elim (ran maxFuel (runForward fits P maxHeight h (row .ancillae) v maxFuel)) [ accepted r ↦ r | refused n k ↦ record { value = v; steps = 0 } ]
+]
+
+-- a record run forward through rows, oldest first
+unfoldable pub through : Program → List Row → Val → Val
+unfolding carry
+through P [] v = v
+through P (row ∷ rows) v = through P rows (carry P row v .value)
+
+-- the entries of rows, each with the steps that the rules count there
+unfoldable pub entriesOf : Program → List Row → Val → List Entry
+unfolding carry
+entriesOf P [] v = []
+entriesOf P (row ∷ rows) v =
+    record { function = row .function; steps = carry P row v .steps; ancillae = row .ancillae } ∷ entriesOf P rows (carry P row v .value)
+
+-- what the book writes out: the held record, an entry for each row
+unfoldable pub journalOf : Program → Book → Journal
+unfolding through entriesOf
+journalOf P b = record { held = through P (b .rows) (b .first); entries = entriesOf P (b .rows) (b .first) }
+
+-- the rows without the newest, and the newest
+pub record Struck : Type 0 where
+  pub older : List Row
+  pub row : Row
+
+unfoldable pub onto : Row → Option Struck → Option Struck
+onto r none = some (record { older = []; row = r })
+onto r (some s) = some (record { older = r ∷ s .older; row = s .row })
+
+unfoldable pub strike : List Row → Option Struck
+unfolding onto
+strike [] = none
+strike (r ∷ rs) = onto r (strike rs)
+
+----------------------------------------------------------------
+-- A call, fed to the book
+
+-- the refusal of section 4 for the call on a journal's bytes, if it is refused (open reads none)
+unfoldable pub refusalOf : {A : Type 0} → Answer A → Option Told
+refusalOf (accepted a) = none
+refusalOf (refused n p) = some (refuses n p)
+
+unfoldable pub refusal : List ℕ → Call → List ℕ → Option Told
+unfolding refusalOf
+refusal program (opens ws v n) journal = refusalOf (openCall ws program v n)
+refusal program (converts ws fuel fn anc n) journal = refusalOf (convertCall ws fuel fn program anc journal)
+refusal program (rollsBack ws fuel n) journal = refusalOf (rollbackCall ws fuel program journal)
+
+-- the book after a call, and the answer
+pub record Turn : Type 0 where
+  pub book : Book
+  pub told : Told
+
+-- what stands for bytes that section 4 refuses
+unfoldable pub orUnit : Option Val → Val
+orUnit none = unit
+orUnit (some v) = v
+
+unfoldable pub orNone : Option (List Val) → List Val
+orNone none = []
+orNone (some vs) = vs
+
+unfoldable pub orEmpty : Option Struck → Struck
+orEmpty none = record { older = []; row = record { function = 0; ancillae = [] } }
+orEmpty (some s) = s
+
+-- the book after a call that section 4 does not refuse: open sets the first record and strikes all rows, convert adds a row,
+-- rollback strikes the newest. A rollback's steps are the struck row's.
+unfoldable pub enters : Program → Call → Book → Turn
+unfolding through carry orUnit orNone orEmpty strike
+enters P (opens ws v n) b = record { book = record { first = orUnit (value v); rows = [] }; told = isOpen }
+enters P (converts ws fuel fn anc n) b =
+    let r : Row = record { function = fn; ancillae = orNone (ancillae anc) } in
+    record {
+      book = record { first = b .first; rows = b .rows ++ (r ∷ []) };
+      told = holds (size (carry P r (through P (b .rows) (b .first)) .value)) (carry P r (through P (b .rows) (b .first)) .steps);
+    }
+enters P (rollsBack ws fuel n) b =
+    let s = orEmpty (strike (b .rows)) in
+    record {
+      book = record { first = b .first; rows = s .older };
+      told = holds (size (through P (s .older) (b .first))) (carry P (s .row) (through P (s .older) (b .first)) .steps);
+    }
+
+-- A call that section 4 refuses on the bytes that the book writes out changes nothing.
+unfoldable pub bookTurn : List ℕ → Program → Call → Book → Turn
+unfolding refusal enters
+bookTurn program P c b = elim (refusal program c (writeOut (buffer c) (journalOf P b))) [ some t ↦ record { book = b; told = t } | none ↦ enters P c b ]
+
+-- a list of calls, in order: the book after it, and the answers
+pub record BookRun : Type 0 where
+  pub book : Book
+  pub answers : List Told
+
+unfoldable pub bookRun : List ℕ → Program → List Call → Book → BookRun
+unfolding bookTurn
+bookRun program P [] b = record { book = b; answers = [] }
+bookRun program P (c ∷ cs) b =
+    let t = bookTurn program P c b in
+    let r = bookRun program P cs (t .book) in
+    record { book = r .book; answers = t .told ∷ r .answers }
+
+----------------------------------------------------------------
+-- The same calls on bytes, as section 4 has them
+
+-- a buffer of `n` bytes with the journal's bytes: zeros added behind, or bytes left off there
+unfoldable pub resized : ℕ → List ℕ → List ℕ
+resized n xs = take n xs ++ replicate (n - length xs) 0
+
+-- the journal after a call, and the answer
+pub record Left : Type 0 where
+  pub journal : List ℕ
+  pub told : Told
+
+unfoldable pub afterTurned : List ℕ → Answer Turned → Left
+afterTurned journal (accepted t) = record { journal = t .journal; told = holds (t .held) (t .steps) }
+afterTurned journal (refused n p) = record { journal = journal; told = refuses n p }
+
+unfoldable pub afterOpen : List ℕ → Answer (List ℕ) → Left
+afterOpen journal (accepted xs) = record { journal = xs; told = isOpen }
+afterOpen journal (refused n p) = record { journal = journal; told = refuses n p }
+
+-- the call on a buffer that holds `journal`
+unfoldable pub call : List ℕ → Call → List ℕ → Left
+unfolding afterTurned afterOpen
+call program (opens ws v n) journal = afterOpen journal (openCall ws program v n)
+call program (converts ws fuel fn anc n) journal = afterTurned journal (convertCall ws fuel fn program anc journal)
+call program (rollsBack ws fuel n) journal = afterTurned journal (rollbackCall ws fuel program journal)
+
+pub record CallRun : Type 0 where
+  pub journal : List ℕ
+  pub answers : List Told
+
+-- Each call gets the journal's bytes as the last one left them, in its own buffer.
+unfoldable pub callRun : List ℕ → List Call → List ℕ → CallRun
+unfolding call resized
+callRun program [] journal = record { journal = journal; answers = [] }
+callRun program (c ∷ cs) journal =
+    let l = call program c (resized (buffer c) journal) in
+    let r = callRun program cs (l .journal) in
+    record { journal = r .journal; answers = l .told ∷ r .answers }

@@ -1,0 +1,138 @@
+-- Section 6's cases on bytes, gathered in one proposition (P1 to P5 and P9 to P13), and P6 to P8 beside it.
+use Prim.Native.Nat.{ℕ, zero, suc}
+use mathlib.Core.Path.{_≡_}
+use mathlib.Core.List.{List, [], _∷_, _++_}
+use lib.ListN.{length, take, replicate}
+use package.Rattle.octets.specs.Numbers.{bytes16}
+use package.Rattle.rules.specs.Val.{Val, unit, inl, inr, pair, encode}
+use package.Rattle.rules.specs.Cases.{num}
+use package.Rattle.calls.specs.Answer.{Answer, accepted, refused}
+use package.Rattle.calls.specs.Runs.{Ran, checkCall, forwardCall, backwardCall}
+use package.Rattle.calls.specs.Journal.{field}
+use package.Rattle.calls.specs.Conversions.{Turned, openCall, convertCall, rollbackCall}
+
+----------------------------------------------------------------
+-- Fields, written out
+
+-- a body of a kind byte and references
+unfoldable pub refs : List ℕ → List ℕ
+refs [] = []
+refs (i ∷ is) = bytes16 i ++ refs is
+
+unfoldable pub typeField : ℕ → List ℕ → List ℕ
+unfolding field refs
+typeField kind is = field 1 (kind ∷ refs is)
+
+unfoldable pub termField : ℕ → List ℕ → List ℕ
+unfolding field refs
+termField kind is = field 2 (kind ∷ refs is)
+
+unfoldable pub varField : ℕ → List ℕ
+unfolding field
+varField i = field 2 (0 ∷ i ∷ [])
+
+-- result type, parameter types, body
+unfoldable pub functionField : ℕ → List ℕ → ℕ → List ℕ
+unfolding field refs
+functionField result parameters body = field 3 (bytes16 result ++ (length parameters ∷ refs (parameters ++ (body ∷ []))))
+
+----------------------------------------------------------------
+-- Programs
+
+-- types 0 unit, 1 variable 0, 2 sum(0,1), 3 recursive(2) = Nat, 4 sum(0,3)
+unfoldable pub natTypes : List ℕ
+unfolding typeField field
+natTypes = typeField 0 [] ++ field 1 (4 ∷ 0 ∷ []) ++ typeField 2 (0 ∷ 1 ∷ []) ++ typeField 3 (2 ∷ []) ++ typeField 2 (0 ∷ 3 ∷ [])
+
+-- and 5 product(3,3), the result of dup; terms 0 to 8 are plus, 9 to 11 dup
+unfoldable pub numbers : List ℕ
+unfolding natTypes typeField termField varField functionField
+numbers = natTypes ++ typeField 1 (3 ∷ 3 ∷ [])
+    ++ varField 1 ++ termField 10 (3 ∷ 0 ∷ []) ++ varField 0
+    ++ varField 0 ++ varField 2 ++ termField 8 (0 ∷ 3 ∷ 4 ∷ []) ++ termField 3 (4 ∷ 5 ∷ []) ++ termField 9 (3 ∷ 6 ∷ [])
+    ++ termField 7 (1 ∷ 2 ∷ 7 ∷ [])
+    ++ varField 0 ++ varField 0 ++ termField 4 (9 ∷ 10 ∷ [])
+    ++ functionField 3 (3 ∷ 3 ∷ []) 8 ++ functionField 5 (3 ∷ []) 11
+
+-- types 0 unit, 1 sum(0,0)
+unfoldable pub bitTypes : List ℕ
+unfolding typeField
+bitTypes = typeField 0 [] ++ typeField 2 (0 ∷ 0 ∷ [])
+
+-- P10: case gives inl unit in both branches
+unfoldable pub collapse : List ℕ
+unfolding bitTypes varField termField functionField
+collapse = bitTypes
+    ++ varField 0 ++ termField 1 [] ++ termField 2 (1 ∷ 1 ∷ []) ++ termField 1 [] ++ termField 2 (1 ∷ 3 ∷ []) ++ termField 7 (0 ∷ 2 ∷ 4 ∷ [])
+    ++ functionField 1 (1 ∷ []) 5
+
+-- P11: a function from 1 + 1 that gives unit alone
+unfoldable pub drop : List ℕ
+unfolding bitTypes termField functionField
+drop = bitTypes ++ termField 1 [] ++ functionField 0 (1 ∷ []) 0
+
+-- P12: pair (s,q) of 1 + 1: left gives q, right gives q flipped; type 2 is product(1,1)
+unfoldable pub flip : List ℕ
+unfolding bitTypes typeField varField termField functionField
+flip = bitTypes ++ typeField 1 (1 ∷ 1 ∷ [])
+    ++ varField 0 ++ varField 1 ++ varField 2 ++ varField 2
+    ++ termField 1 [] ++ termField 3 (1 ∷ 4 ∷ []) ++ termField 1 [] ++ termField 2 (1 ∷ 6 ∷ []) ++ termField 7 (3 ∷ 5 ∷ 7 ∷ [])
+    ++ termField 7 (1 ∷ 2 ∷ 8 ∷ []) ++ termField 6 (0 ∷ 9 ∷ [])
+    ++ functionField 1 (2 ∷ []) 10
+
+----------------------------------------------------------------
+-- The table
+
+-- a workspace that suffices for any fuel, and an output that is long enough
+abbrev pub ample : ℕ
+ample = 2200000
+
+-- plus, dup: forward and backward, with fuel, the ancilla's number if there is one, and the value
+abbrev pub plusOf : ℕ → ℕ → ℕ → Answer Ran
+plusOf fuel a n = forwardCall ample 1024 fuel 0 numbers (encode (num a)) (encode (num n))
+
+abbrev pub plusBack : ℕ → ℕ → ℕ → Answer Ran
+plusBack fuel a n = backwardCall ample 1024 fuel 0 numbers (encode (num a)) (encode (num n))
+
+abbrev pub dupBack : ℕ → ℕ → ℕ → Answer Ran
+dupBack fuel n m = backwardCall ample 1024 fuel 1 numbers [] (encode (pair (num n) (num m)))
+
+abbrev pub value : Val → ℕ → Answer Ran
+value v n = accepted (record { value = v; steps = n })
+
+-- P13's journals, in a buffer of 40 bytes
+abbrev pub opened : List ℕ
+opened = 0x21 ∷ 0x00 ∷ 0x09 ∷ (encode (num 3) ++ replicate 28 0)
+
+abbrev pub converted : List ℕ
+converted = 0x21 ∷ 0x00 ∷ 0x0D ∷ (encode (num 5) ++ 0x22 ∷ 0x00 ∷ 0x0D ∷ 0x00 ∷ 0x00 ∷ 0x00 ∷ 0x00 ∷ 0x00 ∷ 0x1C ∷ (encode (num 2) ++ replicate 8 0))
+
+abbrev pub held : ℕ → ℕ → List ℕ → Answer Turned
+held n steps journal = accepted (record { held = n; steps = steps; journal = journal })
+
+pub record Table : Type 0 where
+  pub checked : checkCall ample numbers ≡ accepted tt
+  pub p1 : plusOf 65535 2 0 ≡ value (num 2) 4
+  pub p2 : plusOf 28 2 3 ≡ value (num 5) 28
+  pub p2-fuel : plusOf 27 2 3 ≡ refused 12 2
+  pub p3 : plusBack 28 2 5 ≡ value (num 3) 28
+  pub p4 : plusBack 65535 2 1 ≡ refused 16 6
+  pub p5 : plusOf 2044 0 255 ≡ value (num 255) 2044
+  pub p9 : dupBack 3 3 4 ≡ refused 16 10
+  pub p9-equal : dupBack 3 3 3 ≡ value (num 3) 3
+  pub p10-inl : forwardCall ample 1024 4 0 collapse [] (encode (inl unit)) ≡ value (inl unit) 4
+  pub p10-inr : forwardCall ample 1024 4 0 collapse [] (encode (inr unit)) ≡ refused 15 5
+  -- placed at the function's field, the last
+  pub p11 : checkCall ample drop ≡ refused 8 16
+  pub p12-left : forwardCall ample 1024 65535 0 flip [] (encode (pair (inl unit) (inr unit))) ≡ value (inr unit) 5
+  pub p12-right : forwardCall ample 1024 65535 0 flip [] (encode (pair (inr unit) (inr unit))) ≡ refused 15 9
+  pub p13-open : openCall ample numbers (encode (num 3)) 40 ≡ accepted opened
+  pub p13-convert : convertCall ample 65535 0 numbers (encode (num 2)) opened ≡ held 13 28 converted
+  pub p13-rollback : rollbackCall ample 65535 numbers converted ≡ held 9 28 opened
+
+-- P6 to P8
+pub record Limits : Type 0 where
+  pub p6 : plusOf 65535 0 256 ≡ refused 13 3
+  pub p7 : forwardCall ample 1024 65535 1 numbers [] (encode (num 254)) ≡ value (pair (num 254) (num 254)) 3
+  pub p7-short : forwardCall ample 1022 65535 1 numbers [] (encode (num 254)) ≡ refused 17 0
+  pub p8 : forwardCall ample 1024 65535 1 numbers [] (encode (num 255)) ≡ refused 14 11

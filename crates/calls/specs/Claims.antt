@@ -1,0 +1,175 @@
+-- What is claimed of the calls on bytes, as propositions; proofs/Theorems has a proof of each under the same name.
+use Prim.Native.Nat.{ℕ, _+_, _-_, _≤_, _<_}
+use mathlib.Core.Path.{_≡_}
+use mathlib.Core.Bool.{Bool}
+use mathlib.Core.Option.{Option, none, some}
+use mathlib.Core.List.{List, [], _∷_, _++_}
+use mathlib.Core.Logic.{_↔_}
+use lib.ListN.{length, replicate}
+use package.Rattle.rules.specs.Limits.{fits, maxHeight, maxVariables, maxNodes, maxFuel}
+use package.Rattle.rules.specs.Val.{Val, size, encode}
+use package.Rattle.rules.specs.Ty.{Ty, HasTy, HasTys}
+use package.Rattle.rules.specs.Term.{Fun, Program, nth}
+use package.Rattle.rules.specs.Typing.{WellTyped}
+use package.Rattle.rules.specs.Run.{ok}
+use package.Rattle.rules.specs.Machine.{runForward, runBackward}
+use package.Rattle.rules.specs.Claims.{Carries, Wider, OfTyped}
+use package.Rattle.calls.specs.Answer.{Answer, accepted, refused}
+use package.Rattle.calls.specs.Fields.{Layout, layout}
+use package.Rattle.calls.specs.Entries.{entriesAt, programOf}
+use package.Rattle.calls.specs.Named.{testEntries}
+use package.Rattle.calls.specs.Load.{load}
+use package.Rattle.calls.specs.Values.{value, ancillae}
+use package.Rattle.calls.specs.Runs.{Ran, workspaceFor, checkCall, forwardCall, backwardCall}
+use package.Rattle.calls.specs.Journal.{Entry, Journal, fields, writeOut, readJournal}
+use package.Rattle.calls.specs.Conversions.{Turned, openCall, convertCall, rollbackCall}
+use package.Rattle.calls.specs.Book.{Call, opens, converts, rollsBack, buffer, Told, isOpen, holds, refuses, Row, Book, journalOf, bookRun, call, callRun, resized}
+
+----------------------------------------------------------------
+-- Check
+
+-- the bytes are a program `P`, well-formed by section 1
+pub record WellFormed (program : List ℕ) (P : Program) : Type 0 where
+  pub places : Layout
+  pub fields : layout program ≡ accepted places
+  pub entries : testEntries places (entriesAt program places) ≡ accepted tt
+  pub trees : programOf (entriesAt program places) ≡ P
+
+-- Check accepts exactly the programs that are well-formed by section 1 and typed by the rules, given its workspace.
+abbrev pub CheckIffTyped : Type 0
+CheckIffTyped = (ws : ℕ) (program : List ℕ)
+    → (checkCall ws program ≡ accepted tt) ↔ ((workspaceFor 0 ≤ ws) × ((P : Program) × WellFormed program P × WellTyped maxVariables maxNodes P))
+
+----------------------------------------------------------------
+-- Forward and backward
+
+-- A call with these arguments reaches its run: function `h` of program `P`, ancillae `vs`, and a value `v` of the type that `side` gives.
+pub record Admitted (ws fuel fn : ℕ) (program anc bytes : List ℕ) (side : Fun → Ty) (P : Program) (h : Fun) (vs : List Val) (v : Val) : Type 0 where
+  pub enough : workspaceFor fuel ≤ ws
+  pub formed : WellFormed program P
+  pub typed : WellTyped maxVariables maxNodes P
+  pub function : nth P fn ≡ some h
+  pub ancillae-read : ancillae anc ≡ some vs
+  pub value-read : value bytes ≡ some v
+  pub ancillae-typed : HasTys vs (h .ancillae)
+  pub value-typed : HasTy v (side h)
+
+abbrev pub answer : Val → ℕ → Answer Ran
+answer v n = accepted (record { value = v; steps = n })
+
+-- Forward answers `w` in `n` steps exactly if the call is admitted and the rules carry the input to `w` in `n` steps, within the fuel
+-- and the limits, and the output is long enough.
+abbrev pub ForwardIffRules : Type 0
+ForwardIffRules = (ws out fuel fn : ℕ) (program anc bytes : List ℕ) (w : Val) (n : ℕ)
+    → (forwardCall ws out fuel fn program anc bytes ≡ answer w n)
+    ↔ ((P : Program) × (h : Fun) × (vs : List Val) × (v : Val) × Admitted ws fuel fn program anc bytes (λ h. h .dynamic) P h vs v
+    × Carries fits P maxHeight h vs v w n × (n ≤ fuel) × (size w ≤ out))
+
+-- Demand 2: backward gives an input in `n` steps if and only if forward carries that input to the given value in `n` steps, with the
+-- same fuel and limits, the outputs being long enough.
+abbrev pub BackwardIffForward : Type 0
+BackwardIffForward = (ws out out′ fuel fn : ℕ) (program anc : List ℕ) (v w : Val) (n : ℕ) → size v ≤ out → size w ≤ out′
+    → (backwardCall ws out fuel fn program anc (encode w) ≡ answer v n) ↔ (forwardCall ws out′ fuel fn program anc (encode v) ≡ answer w n)
+
+-- Refusal 16: the call was admitted, and no input exists at any fuel, height or size.
+abbrev pub NoInput : Type 0
+NoInput = (ws out fuel fn : ℕ) (program anc bytes : List ℕ) (k : ℕ) → backwardCall ws out fuel fn program anc bytes ≡ refused 16 k
+    → (P : Program) × (h : Fun) × (vs : List Val) × (w : Val) × Admitted ws fuel fn program anc bytes (λ h. h .result) P h vs w
+    × ((fits′ : Val → Bool) (r n : ℕ) (v : Val) → HasTy v (h .dynamic) → Carries fits′ P r h vs v w n → ⊥)
+
+-- Demand 1: no call stops on a value of wrong shape (which would be the number 0).
+abbrev pub NeverStuck : Type 0
+NeverStuck = (ws out fuel fn : ℕ) (program anc bytes : List ℕ) (k : ℕ)
+    → ¬ (forwardCall ws out fuel fn program anc bytes ≡ refused 0 k)
+    × ¬ (backwardCall ws out fuel fn program anc bytes ≡ refused 0 k)
+    × ¬ (convertCall ws fuel fn program anc bytes ≡ refused 0 k)
+    × ¬ (rollbackCall ws fuel program bytes ≡ refused 0 k)
+
+-- A conversion that was accepted under narrower limits goes back under wider ones, in as many steps, given fuel for them.
+abbrev pub OldConversionsReturn : Type 0
+OldConversionsReturn = (variables most : ℕ) (P : Program) → OfTyped variables most P λ h vs.
+    (narrow wide : Val → Bool) (r r′ f g n : ℕ) (v w : Val) → Wider narrow wide → r ≤ r′ → HasTy v (h .dynamic)
+    → Carries narrow P r h vs v w n → f ≡ n + g → runBackward wide P r′ h vs w f ≡ ok v g
+
+----------------------------------------------------------------
+-- Demand 3
+
+-- fuel is 0 to 65,535 and a function number two bytes, by their types
+abbrev pub Sized : Call → Type 0
+Sized (opens ws v n) = Unit {0}
+Sized (converts ws fuel fn anc n) = (fuel ≤ maxFuel) × (fn < 65536)
+Sized (rollsBack ws fuel n) = fuel ≤ maxFuel
+
+-- the end of the journal's last field
+unfoldable pub lastField : List ℕ → ℕ
+lastField journal = elim (readJournal journal) [ none ↦ length journal | some J ↦ length (fields J) ]
+
+-- Premises: each call gets the journal as the last one left it, and a buffer that becomes shorter loses only zeros behind the last field.
+abbrev pub Premises : List ℕ → List Call → List ℕ → Type 0
+Premises program [] journal = Unit {0}
+Premises program (c ∷ cs) journal = Sized c × (lastField journal ≤ buffer c) × Premises program cs (call program c (resized (buffer c) journal) .journal)
+
+-- The rules carry record `v` through rows, oldest first, to `w`, and count the steps that the entries say.
+pub data CarriedThrough (P : Program) : List Row → List Entry → Val → Val → Type 0 where
+  no-rows : {v : Val} → CarriedThrough P [] [] v v
+  one-row : {row : Row} {rows : List Row} {es : List Entry} {h : Fun} {v u w : Val} {n : ℕ}
+      → nth P (row .function) ≡ some h → Carries fits P maxHeight h (row .ancillae) v u n → CarriedThrough P rows es u w
+      → CarriedThrough P (row ∷ rows) (record { function = row .function; steps = n; ancillae = row .ancillae } ∷ es) v w
+
+-- the book as the open before the list leaves it
+abbrev pub begun : Val → Book
+begun first = record { first = first; rows = [] }
+
+-- After a list of calls: every answer, the journal's bytes and the held record are the book's.
+module _ (program : List ℕ) (P : Program) (first : Val) (journal : List ℕ) (cs : List Call) where
+  pub record AsTheBook : Type 0 where
+    pub answers : callRun program cs journal .answers ≡ bookRun program P cs (begun first) .answers
+    pub bytes : callRun program cs journal .journal
+        ≡ writeOut (length (callRun program cs journal .journal)) (journalOf P (bookRun program P cs (begun first) .book))
+    pub held : readJournal (callRun program cs journal .journal) ≡ some (journalOf P (bookRun program P cs (begun first) .book))
+    pub carried : CarriedThrough P (bookRun program P cs (begun first) .book .rows) (journalOf P (bookRun program P cs (begun first) .book) .entries)
+        (bookRun program P cs (begun first) .book .first) (journalOf P (bookRun program P cs (begun first) .book) .held)
+
+-- For every list of calls, refused ones included, from a journal just left by an open that is accepted.
+abbrev pub Demand3 : Type 0
+Demand3 = (program : List ℕ) (P : Program) (ws n : ℕ) (bytes journal : List ℕ) (first : Val) → load program ≡ accepted P → value bytes ≡ some first
+    → openCall ws program bytes n ≡ accepted journal → (cs : List Call) → Premises program cs journal → AsTheBook program P first journal cs
+
+----------------------------------------------------------------
+-- Demand 3: the rollback that is never refused
+
+-- what a standing conversion met: the journal in its call's buffer; and its steps
+pub record Met : Type 0 where
+  pub journal : List ℕ
+  pub steps : ℕ
+
+-- The conversions that stand after a call on `journal` was answered, newest first: an open strikes all, a rollback the newest.
+unfoldable pub remember : Call → List ℕ → Told → List Met → List Met
+remember (opens ws v n) journal isOpen ms = []
+remember (opens ws v n) journal (holds l s) ms = ms
+remember (opens ws v n) journal (refuses c p) ms = ms
+remember (converts ws fuel fn anc n) journal isOpen ms = ms
+remember (converts ws fuel fn anc n) journal (holds l s) ms = record { journal = journal; steps = s } ∷ ms
+remember (converts ws fuel fn anc n) journal (refuses c p) ms = ms
+remember (rollsBack ws fuel n) journal isOpen ms = ms
+remember (rollsBack ws fuel n) journal (holds l s) [] = []
+remember (rollsBack ws fuel n) journal (holds l s) (m ∷ ms) = ms
+remember (rollsBack ws fuel n) journal (refuses c p) ms = ms
+
+unfoldable pub standing : List ℕ → List Call → List ℕ → List Met → List Met
+unfolding remember
+standing program [] journal ms = ms
+standing program (c ∷ cs) journal ms =
+    let before = resized (buffer c) journal in
+    let l = call program c before in
+    standing program cs (l .journal) (remember c before (l .told) ms)
+
+-- The newest standing conversion rolls back, whatever calls came between, if the buffer is no shorter than it had, the fuel no less than
+-- its steps, and the workspace suffices: the journal that it met, byte by byte, with zeros behind, in as many steps.
+abbrev pub NewestRollsBack : Type 0
+NewestRollsBack = (program : List ℕ) (ws n : ℕ) (bytes journal : List ℕ) → openCall ws program bytes n ≡ accepted journal
+    → (cs : List Call) → Premises program cs journal → (m : Met) (ms : List Met) → standing program cs journal [] ≡ m ∷ ms
+    → (ws′ fuel n′ : ℕ) → workspaceFor fuel ≤ ws′ → m .steps ≤ fuel → length (m .journal) ≤ n′
+    → (J : Journal) × (readJournal (m .journal) ≡ some J)
+    × (rollbackCall ws′ fuel program (resized n′ (callRun program cs journal .journal))
+    ≡ accepted (record { held = size (J .held); steps = m .steps; journal = m .journal ++ replicate (n′ - length (m .journal)) 0 }))

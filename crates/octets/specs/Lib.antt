@@ -1,0 +1,2 @@
+-- Numbers in bytes, the high byte first (section 1).
+pub mod Numbers
