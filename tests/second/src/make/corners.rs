@@ -7,9 +7,9 @@ use crate::samples::{dup, plus, successor};
 
 /// Programs whose values are longer than what they come from, one way or the other.
 pub fn sized_program(rng: &mut Rng) -> Draft {
-    let functions = match rng.below(4) {
+    let functions = match rng.below(5) {
         0 | 1 => vec![wrapping(rng), wrapping(rng)],
-        2 => shrinking(rng),
+        2 | 3 => shrinking(rng),
         _ => choosing(rng),
     };
     Draft { functions }
@@ -71,19 +71,36 @@ fn wrapping(rng: &mut Rng) -> Function {
     one(&parameter, &ty, term)
 }
 
+/// A term with the value of variable 0, the only one in scope: one of several kinds, so that each is given what is
+/// too long. Function `same` must be the identity on the type.
+fn around(rng: &mut Rng, ty: &Type, same: usize) -> Term {
+    match (&**ty, rng.below(6)) {
+        (_, 0) => let_one(variable(0), variable(1)),
+        (_, 1) => call(same, vec![variable(0)]),
+        (TypeTree::Product(..), 2 | 3) => let_pair(variable(0), pair(variable(1), variable(2))),
+        (TypeTree::Sum(..), 2) => case(variable(0), inl(ty, variable(1)), inr(ty, variable(1))),
+        (TypeTree::Recursive(_), 2 | 3) => roll(ty, unroll(ty, variable(0))),
+        _ => variable(0),
+    }
+}
+
 /// The value is shorter than the argument: backward, 14 on entering the part that is given more.
 fn shrinking(rng: &mut Rng) -> Vec<Function> {
-    let ty = if rng.chance(60) { nat() } else { random_type(rng) };
+    let ty = if rng.chance(80) { nat() } else { random_type(rng) };
     let beside = product(&unit_type(), &ty);
     let wrapped = recursive(&ty);
     let twice = product(&ty, &ty);
+    // The pair is bound where variable 0 alone is in scope, so that its parts are variables 1 and 2.
     let both = let_pair(call(3, vec![variable(0)]), pair(variable(2), variable(1)));
     vec![
-        one(&beside, &ty, let_pair(variable(0), variable(2))),
-        one(&wrapped, &ty, unroll(&wrapped, variable(0))),
-        one(&nat(), &unfold(&nat()), let_one(unroll(&nat(), variable(0)), variable(1))),
+        one(&beside, &ty, let_pair(around(rng, &beside, 5), variable(2))),
+        one(&wrapped, &ty, unroll(&wrapped, around(rng, &wrapped, 6))),
+        one(&nat(), &unfold(&nat()), let_one(unroll(&nat(), around(rng, &nat(), 7)), variable(1))),
         dup(&ty),
         one(&ty, &twice, both),
+        one(&beside, &beside, variable(0)),
+        one(&wrapped, &wrapped, variable(0)),
+        one(&nat(), &nat(), variable(0)),
     ]
 }
 
@@ -93,12 +110,20 @@ fn choosing(rng: &mut Rng) -> Vec<Function> {
     let (first, last) = (sum(&ty, &unit_type()), sum(&unit_type(), &ty));
     let constant = smallest_term(&ty);
     let under_case = case(variable(0), case(variable(1), variable(2), constant.clone()), constant.clone());
+    let by_lets = case(variable(0), let_one(constant.clone(), variable(2)), let_one(variable(1), variable(2)));
     vec![
-        one(&first, &ty, case(variable(0), variable(1), constant.clone())),
-        one(&last, &ty, case(variable(0), constant.clone(), variable(1))),
+        one(&first, &ty, case(around(rng, &first, 4), variable(1), constant.clone())),
+        one(&last, &ty, case(around(rng, &last, 5), constant, variable(1))),
         one(&sum(&first, &unit_type()), &ty, under_case),
-        one(&last, &ty, case(variable(0), let_one(constant, variable(2)), let_one(variable(1), variable(2)))),
+        one(&last, &ty, by_lets),
+        one(&first, &first, variable(0)),
+        one(&last, &last, variable(0)),
     ]
+}
+
+/// A program of `ancilla_terms`.
+pub fn ancilla_program(rng: &mut Rng) -> Draft {
+    Draft { functions: ancilla_terms(rng) }
 }
 
 /// Ancilla arguments with calls, lets and cases inside, which may meet 12 to 15 in a backward run too.

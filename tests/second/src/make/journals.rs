@@ -1,7 +1,7 @@
 //! Journals that are malformed, or whose entries do not fit the program.
 
-use super::runs::{ancilla_bytes, argument};
-use super::values::{near_miss, typed_near_miss};
+use super::runs::ancilla_bytes;
+use super::values::{long_value, near_miss, typed_near_miss};
 use crate::calls::{Call, ConvertCall};
 use crate::draft::Draft;
 use crate::journal::{Conversion, Journal};
@@ -36,9 +36,9 @@ fn retold(rng: &mut Rng, draft: &Draft, mut journal: Journal, length: usize) -> 
     let functions = &draft.functions;
     if let Some(newest) = journal.conversions.last_mut() {
         if let Some(function) = functions.get(newest.function as usize) {
-            match rng.below(4) {
-                0 => newest.ancillae = ancilla_bytes(rng, &function.parameters[..function.parameters.len() - 1]),
-                1 => journal.held = argument(rng, &function.result),
+            match rng.below(5) {
+                0 | 1 => newest.ancillae = ancilla_bytes(rng, &function.parameters[..function.parameters.len() - 1]),
+                2 => journal.held = long_value(rng, &function.result),
                 _ => journal.held = typed_near_miss(rng, &function.result, &journal.held),
             }
         }

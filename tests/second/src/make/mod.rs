@@ -56,7 +56,8 @@ impl Maker {
             79..=84 => {
                 let draft = corners::sized_program(rng);
                 let program = draft.shuffled(rng);
-                self.ready.push_back(runs::long_run_call(rng, &draft, &program));
+                let calls = (0..4).map(|_| runs::long_run_call(rng, &draft, &program));
+                self.ready.extend(calls);
             }
             _ => self.story(),
         }
@@ -83,7 +84,8 @@ impl Maker {
         let rng = &mut self.rng;
         let draft = match rng.below(10) {
             0 | 1 => corners::shortening_program(rng),
-            2 => corners::sized_program(rng),
+            2 | 3 => corners::sized_program(rng),
+            4 => corners::ancilla_program(rng),
             _ => sound_program(rng),
         };
         let (mut story, open) = Story::begin(rng, draft);

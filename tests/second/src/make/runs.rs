@@ -49,6 +49,7 @@ pub fn long_run_call(rng: &mut Rng, draft: &Draft, program: &[u8]) -> Call {
     call.value = long_value(rng, ty);
     call.fuel = if rng.chance(80) { FUEL } else { call.fuel };
     call.workspace = limits::workspace(call.fuel);
+    call.output = if rng.chance(90) { VALUE_BYTES } else { call.output };
     Call::Run(call)
 }
 

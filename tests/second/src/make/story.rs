@@ -2,7 +2,7 @@
 
 use super::choices;
 use super::runs::{ancilla_bytes, argument};
-use super::values::{malformed, near_miss, typical_value};
+use super::values::{long_value, malformed, near_miss, typical_value};
 use crate::calls::{answer, Answer, Call, ConvertCall};
 use crate::draft::Draft;
 use crate::journal::Journal;
@@ -49,10 +49,10 @@ impl Story {
     fn record(&self, rng: &mut Rng) -> Vec<u8> {
         let number = self.favourite.unwrap_or_else(|| rng.below(self.draft.functions.len()));
         let ty = self.draft.functions[number].parameters.last().expect("a function has a parameter");
-        if rng.chance(10) {
-            argument(rng, ty)
-        } else {
-            typical_value(rng, ty)
+        match rng.below(8) {
+            0 => argument(rng, ty),
+            1 => long_value(rng, ty),
+            _ => typical_value(rng, ty),
         }
     }
 
