@@ -1,6 +1,10 @@
 -- Laws of the calls and the book, by subject. A reader who wants only what is claimed reads specs/Claims and proofs/Theorems.
 -- laws of answers
 pub mod Answer
+-- values are read from the bytes that they are written as, and from no others
+pub mod Values
+-- the test whether a value is of a type holds exactly if it is
+pub mod Types
 -- definitions that cases compute with
 pub mod Compute
 -- section 6's cases, by computation
