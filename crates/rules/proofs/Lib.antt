@@ -23,6 +23,8 @@ pub mod Preserve
 pub mod Outcome
 -- runs that are not stuck
 pub mod Fine
+-- the numbers of refusals, and that what forward answers fits
+pub mod Numbers
 -- states whose values have the variables' types
 pub mod StateTy
 -- forward: sound, complete, never stuck
