@@ -3,7 +3,7 @@
 use crate::calls::{answer, arguments, Answer, Call, ConvertCall, Direction};
 use crate::draft::{boolean, let_one, pair, product, variable, Draft, Function};
 use crate::limits::{self, FUEL};
-use crate::run::{run_backward, run_forward};
+use crate::run::{run, Start};
 use crate::samples::{library, list_bytes, nat_bytes};
 use crate::typing::check;
 use crate::value::Heap;
@@ -43,17 +43,14 @@ struct Measured {
 fn measure_run(program: &[u8], function: u16, ancillae: &[u8], value: &[u8], direction: Direction) -> Measured {
     let mut checked = check(program).expect("the library is well-typed");
     let mut measured = Measured { result: Vec::new(), steps: 0, nanoseconds: f64::MAX };
-    let run = match direction {
-        Direction::Forward => run_forward,
-        Direction::Backward => run_backward,
-    };
     for _ in 0..200 {
         let mut heap = Heap::default();
         let (ancillae, value) =
             arguments(&mut checked, direction, function, ancillae, value, &mut heap).expect("typed arguments");
-        let start = Instant::now();
-        let outcome = run(&checked.program, function as usize, FUEL, &mut heap, &ancillae, value);
-        let elapsed = start.elapsed().as_nanos() as f64;
+        let start = Start { program: &checked.program, function, ancillae: &ancillae, value };
+        let clock = Instant::now();
+        let outcome = run(&start, direction, FUEL, &mut heap);
+        let elapsed = clock.elapsed().as_nanos() as f64;
         let outcome = outcome.expect("the run is within its limits");
         measured.nanoseconds = measured.nanoseconds.min(elapsed / outcome.steps as f64);
         measured.steps = outcome.steps;
@@ -66,9 +63,9 @@ fn measure_run(program: &[u8], function: u16, ancillae: &[u8], value: &[u8], dir
 fn bench_check() {
     let ty = product(&boolean(), &boolean());
     let nested = |depth: usize| {
-        (1..depth).rev().fold(pair(variable(depth - 1), variable(depth - 1)), |body, bound| {
-            let_one(variable(bound - 1), body)
-        })
+        (1..depth)
+            .rev()
+            .fold(pair(variable(depth - 1), variable(depth - 1)), |body, bound| let_one(variable(bound - 1), body))
     };
     let function = || Function { parameters: vec![ty.clone()], result: product(&ty, &ty), body: nested(17) };
     let terms = function().body.count();

@@ -86,14 +86,7 @@ impl Book {
         let mut book = self.clone();
         let newest = book.rows.pop().ok_or(Number::NothingStanding.plain())?;
         let standing = self.written(&mut checked);
-        carry(
-            &mut checked,
-            Direction::Backward,
-            newest.function,
-            given.fuel,
-            &newest.ancillae,
-            &standing.held,
-        )?;
+        carry(&mut checked, Direction::Backward, newest.function, given.fuel, &newest.ancillae, &standing.held)?;
         let steps = standing.conversions.last().map_or(0, |newest| newest.steps);
         let journal = book.written(&mut checked);
         self.turn_to(book, journal, steps, given.buffer)

@@ -3,15 +3,10 @@
 use crate::journal::{Conversion, Journal};
 use crate::limits::{self, ANCILLA_BYTES, CONVERSIONS};
 use crate::refusal::{Number, Refusal};
-use crate::run::{run_backward, run_forward};
+pub use crate::run::Direction;
+use crate::run::{self, Start};
 use crate::typing::{check, Checked};
 use crate::value::{one_value, whole_values, Heap, NodeId};
-
-#[derive(Clone, Copy, PartialEq, Eq, Debug)]
-pub enum Direction {
-    Forward,
-    Backward,
-}
 
 #[derive(Clone, PartialEq, Eq, Debug)]
 pub struct RunCall {
@@ -57,13 +52,9 @@ pub fn answer(call: &Call) -> Answer {
     let answer = match call {
         Call::Check { workspace, program } => admit(*workspace, 0, program).map(|_| Answer::Accepted),
         Call::Run(call) => run(call),
-        Call::Open { workspace, program, record, journal } => {
-            open(*workspace, program, record, journal.len())
-        }
+        Call::Open { workspace, program, record, journal } => open(*workspace, program, record, journal.len()),
         Call::Convert(call) => convert(call),
-        Call::Rollback { workspace, fuel, program, journal } => {
-            rollback(*workspace, *fuel, program, journal)
-        }
+        Call::Rollback { workspace, fuel, program, journal } => rollback(*workspace, *fuel, program, journal),
     };
     answer.unwrap_or_else(Answer::Refused)
 }
@@ -78,7 +69,8 @@ pub fn admit(workspace: usize, fuel: u16, program: &[u8]) -> Result<Checked, Ref
 
 fn run(call: &RunCall) -> Result<Answer, Refusal> {
     let mut checked = admit(call.workspace, call.fuel, &call.program)?;
-    let (value, steps) = carry(&mut checked, call.direction, call.function, call.fuel, &call.ancillae, &call.value)?;
+    let (value, steps) =
+        carry(&mut checked, call.direction, call.function, call.fuel, &call.ancillae, &call.value)?;
     if value.len() > call.output {
         return Err(Number::Output.plain());
     }
@@ -101,8 +93,7 @@ fn convert(call: &ConvertCall) -> Result<Answer, Refusal> {
     if conversions.len() == CONVERSIONS {
         return Err(Number::JournalFull.plain());
     }
-    let (held, steps) =
-        carry(&mut checked, Direction::Forward, call.function, call.fuel, &call.ancillae, &held)?;
+    let (held, steps) = carry(&mut checked, Direction::Forward, call.function, call.fuel, &call.ancillae, &held)?;
     conversions.push(Conversion { function: call.function, steps, ancillae: call.ancillae.clone() });
     leave(Journal { held, conversions }, steps, call.journal.len())
 }
@@ -112,8 +103,7 @@ fn rollback(workspace: usize, fuel: u16, program: &[u8], journal: &[u8]) -> Resu
     let length = journal.len();
     let Journal { held, mut conversions } = Journal::read(journal).ok_or(Number::Journal.plain())?;
     let newest = conversions.pop().ok_or(Number::NothingStanding.plain())?;
-    let (held, steps) =
-        carry(&mut checked, Direction::Backward, newest.function, fuel, &newest.ancillae, &held)?;
+    let (held, steps) = carry(&mut checked, Direction::Backward, newest.function, fuel, &newest.ancillae, &held)?;
     if steps != newest.steps {
         return Err(Number::Journal.plain());
     }
@@ -137,11 +127,8 @@ pub fn carry(
 ) -> Result<(Vec<u8>, u32), Refusal> {
     let mut heap = Heap::default();
     let (ancillae, value) = arguments(checked, direction, function, ancillae, value, &mut heap)?;
-    let run = match direction {
-        Direction::Forward => run_forward,
-        Direction::Backward => run_backward,
-    };
-    let outcome = run(&checked.program, function as usize, fuel, &mut heap, &ancillae, value)?;
+    let start = Start { program: &checked.program, function, ancillae: &ancillae, value };
+    let outcome = run::run(&start, direction, fuel, &mut heap)?;
     Ok((heap.store(outcome.value), outcome.steps))
 }
 

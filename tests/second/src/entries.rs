@@ -23,9 +23,8 @@ pub fn read_entries(program: &Program, types: &mut Types) -> Result<Vec<TypeId>,
     }
     for function in &program.functions {
         let named: Vec<u16> = [&[function.result], &function.parameters[..]].concat();
-        let references = exist(&named, trees.len())
-            && (function.body as usize) < used.len()
-            && take(&mut used, function.body);
+        let references =
+            exist(&named, trees.len()) && (function.body as usize) < used.len() && take(&mut used, function.body);
         judge(references, &named, &trees, types, function.offset)?;
     }
     match used.iter().position(|&used| !used) {
@@ -60,13 +59,7 @@ fn take(used: &mut [bool], term: u16) -> bool {
 }
 
 /// All of one entry's 4 come before its 5.
-fn judge(
-    references: bool,
-    named: &[u16],
-    trees: &[TypeId],
-    types: &Types,
-    offset: u32,
-) -> Result<(), Refusal> {
+fn judge(references: bool, named: &[u16], trees: &[TypeId], types: &Types, offset: u32) -> Result<(), Refusal> {
     if !references {
         return Err(Number::Reference.at(offset));
     }

@@ -48,14 +48,7 @@ impl Machine<'_> {
         }
     }
 
-    fn forward_wrapped(
-        &mut self,
-        entry: u16,
-        kind: Kind,
-        part: u16,
-        frame: Frame,
-        height: u32,
-    ) -> Run<NodeId> {
+    fn forward_wrapped(&mut self, entry: u16, kind: Kind, part: u16, frame: Frame, height: u32) -> Run<NodeId> {
         let part = self.forward(part, frame, height + 1)?;
         let value = self.heap.wrap(kind, part);
         self.made(entry, value)
@@ -92,13 +85,7 @@ impl Machine<'_> {
         Ok(value)
     }
 
-    fn forward_call(
-        &mut self,
-        function: u16,
-        arguments: Arguments,
-        frame: Frame,
-        height: u32,
-    ) -> Run<NodeId> {
+    fn forward_call(&mut self, function: u16, arguments: Arguments, frame: Frame, height: u32) -> Run<NodeId> {
         let program = self.program;
         let terms = program.arguments(arguments);
         let values = self.forward_all(terms, frame, height)?;

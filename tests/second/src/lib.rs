@@ -5,6 +5,7 @@ mod backward;
 pub mod bench;
 pub mod book;
 pub mod calls;
+pub mod cases;
 pub mod draft;
 mod entries;
 mod forward;

@@ -2,6 +2,7 @@
 
 use second::bench::bench;
 use second::calls::{answer, Call};
+use second::cases::cases;
 use second::lines::{read_call, write_answer, write_call};
 use second::make::{lists::book_list, Maker};
 use second::rng::Rng;
@@ -11,6 +12,7 @@ use std::process::ExitCode;
 
 const USAGE: &str = "\
 usage: second answer < CALLS       one answer a line
+       second cases                section 6's cases as calls
        second make SEED COUNT      COUNT random calls
        second book SEED COUNT      COUNT lists of calls, a line each: CALL = the plain book's ANSWER
        second tally < CALLS        how often each answer is met, by call and kind of place
@@ -21,6 +23,7 @@ fn main() -> ExitCode {
     let words: Vec<&str> = words.iter().map(String::as_str).collect();
     let done = match words[..] {
         ["answer"] => answer_lines(),
+        ["cases"] => write_calls(cases()),
         ["make", seed, count] => number(seed).and_then(|seed| make(seed, number(count)?)),
         ["book", seed, count] => number(seed).and_then(|seed| book(seed, number(count)?)),
         ["tally"] => tally(),
@@ -50,8 +53,12 @@ fn answer_lines() -> Result<(), String> {
 }
 
 fn make(seed: u64, count: u64) -> Result<(), String> {
+    write_calls(Maker::new(seed).take(count as usize))
+}
+
+fn write_calls(calls: impl IntoIterator<Item = Call>) -> Result<(), String> {
     let mut output = Output::new();
-    for call in Maker::new(seed).take(count as usize) {
+    for call in calls {
         output.line(&write_call(&call))?;
     }
     output.finish()

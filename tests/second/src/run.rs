@@ -34,57 +34,44 @@ pub struct Outcome {
     pub steps: u32,
 }
 
-/// Runs a function of a checked program forward on arguments of its parameters' types.
-pub fn run_forward(
-    program: &Program,
-    function: usize,
-    fuel: u16,
-    heap: &mut Heap,
-    ancillae: &[NodeId],
-    value: NodeId,
-) -> Result<Outcome, Refusal> {
-    let mut machine = Machine::new(program, heap, fuel, ancillae, value);
-    let frame = Frame { base: 0, ancillae: ancillae.len() as u32 };
-    let run = machine.forward(program.functions[function].body, frame, 1);
-    machine.outcome(fuel, run)
+#[derive(Clone, Copy, PartialEq, Eq, Debug)]
+pub enum Direction {
+    Forward,
+    Backward,
 }
 
-/// Runs a function of a checked program backward from a value of its result type.
-pub fn run_backward(
-    program: &Program,
-    function: usize,
-    fuel: u16,
-    heap: &mut Heap,
-    ancillae: &[NodeId],
-    value: NodeId,
-) -> Result<Outcome, Refusal> {
-    let mut machine = Machine::new(program, heap, fuel, ancillae, UNMET);
-    let frame = Frame { base: 0, ancillae: ancillae.len() as u32 };
-    let run = machine.backward(program.functions[function].body, value, frame, 1);
-    let run = run.map(|()| machine.leave());
-    machine.outcome(fuel, run)
+/// A function of a checked program, with arguments of its types: the value of the dynamic parameter, or backward
+/// that of the result.
+pub struct Start<'a> {
+    pub program: &'a Program,
+    pub function: u16,
+    pub ancillae: &'a [NodeId],
+    pub value: NodeId,
 }
 
-impl<'a> Machine<'a> {
-    fn new(
-        program: &'a Program,
-        heap: &'a mut Heap,
-        fuel: u16,
-        ancillae: &[NodeId],
-        dynamic: NodeId,
-    ) -> Self {
-        let mut stack = ancillae.to_vec();
-        stack.push(dynamic);
-        Machine { program, heap, stack, fuel: fuel as u32, refusal: Number::Fuel.plain() }
-    }
-
-    fn outcome(&self, fuel: u16, run: Run<NodeId>) -> Result<Outcome, Refusal> {
-        match run {
-            Ok(value) => Ok(Outcome { value, steps: fuel as u32 - self.fuel }),
-            Err(Stopped) => Err(self.refusal),
+pub fn run(start: &Start, direction: Direction, fuel: u16, heap: &mut Heap) -> Result<Outcome, Refusal> {
+    let body = start.program.functions[start.function as usize].body;
+    let frame = Frame { base: 0, ancillae: start.ancillae.len() as u32 };
+    let stack = start.ancillae.to_vec();
+    let refusal = Number::Fuel.plain();
+    let mut machine = Machine { program: start.program, heap, stack, fuel: fuel as u32, refusal };
+    let run = match direction {
+        Direction::Forward => {
+            machine.stack.push(start.value);
+            machine.forward(body, frame, 1)
         }
+        Direction::Backward => {
+            machine.stack.push(UNMET);
+            machine.backward(body, start.value, frame, 1).map(|()| machine.leave())
+        }
+    };
+    match run {
+        Ok(value) => Ok(Outcome { value, steps: fuel as u32 - machine.fuel }),
+        Err(Stopped) => Err(machine.refusal),
     }
+}
 
+impl Machine<'_> {
     /// Section 4: at a term, 12 is tested first, then 13.
     #[inline]
     pub fn enter(&mut self, entry: u16, height: u32) -> Run<()> {

@@ -37,10 +37,27 @@ pub fn plus(itself: usize) -> Function {
 
 /// Section 6: n gives (n, n).
 pub fn dup(ty: &Type) -> Function {
+    Function { parameters: vec![ty.clone()], result: product(ty, ty), body: pair(variable(0), variable(0)) }
+}
+
+/// Section 6, P10: inl unit in both branches.
+pub fn same_in_both_branches() -> Function {
+    let given = inl(&boolean(), Term::Unit);
+    Function { parameters: vec![boolean()], result: boolean(), body: case(variable(0), given.clone(), given) }
+}
+
+/// Section 6, P11: unit alone, and the sum is not used.
+pub fn unused_sum() -> Function {
+    Function { parameters: vec![boolean()], result: unit_type(), body: Term::Unit }
+}
+
+/// Section 6, P12: of a pair (s, q) the left branch gives q, the right one q flipped.
+pub fn flipped_by_part() -> Function {
+    let flipped = case(variable(2), inr(&boolean(), variable(4)), inl(&boolean(), variable(4)));
     Function {
-        parameters: vec![ty.clone()],
-        result: product(ty, ty),
-        body: pair(variable(0), variable(0)),
+        parameters: vec![product(&boolean(), &boolean())],
+        result: boolean(),
+        body: let_pair(variable(0), case(variable(1), variable(2), flipped)),
     }
 }
 

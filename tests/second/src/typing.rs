@@ -130,14 +130,7 @@ impl Typing<'_> {
     }
 
     /// A term of one part whose type must be `expected`, and then has type `result`.
-    fn constructed(
-        &mut self,
-        part: u16,
-        expected: TypeId,
-        result: TypeId,
-        barrier: usize,
-        offset: u32,
-    ) -> Typed {
+    fn constructed(&mut self, part: u16, expected: TypeId, result: TypeId, barrier: usize, offset: u32) -> Typed {
         let (ty, uses) = self.term(part, barrier)?;
         require(ty == expected, Number::Mismatch, offset)?;
         Ok((result, uses))
@@ -201,12 +194,7 @@ impl Typing<'_> {
 
     /// Types a body with new dynamic variables. Answers its type, its uses of older variables, and whether each new
     /// variable may be left as it is.
-    fn binder(
-        &mut self,
-        bound: &[TypeId],
-        body: u16,
-        barrier: usize,
-    ) -> Result<(TypeId, Uses, bool), Refusal> {
+    fn binder(&mut self, bound: &[TypeId], body: u16, barrier: usize) -> Result<(TypeId, Uses, bool), Refusal> {
         let outer = self.scope.len();
         self.scope.extend(bound.iter().map(|&ty| Binding { ty, dynamic: true }));
         let (ty, uses) = self.term(body, barrier)?;

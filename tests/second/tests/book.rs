@@ -1,4 +1,5 @@
-//! Demand 3: journals on bytes answer as the plain book does, and a rollback with enough of everything is never refused.
+//! Demand 3: journals on bytes answer as the plain book does, and a rollback with enough of everything is never
+//! refused.
 
 use second::calls::{answer, Answer, Call, ConvertCall};
 use second::limits;

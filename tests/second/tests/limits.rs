@@ -158,8 +158,19 @@ fn type_nodes_1024_of_an_unfolding() {
     let over = |bulk: &Type| recursive(&product(&bound(0), bulk));
     let unrolling = |ty: &Type, result: &Type| program_of(vec![one(ty, result, unroll(ty, variable(0)))]);
     // m is 2 + 510.
-    let bulk = product(&doubled(7), &recursive(&product(&doubled(6), &product(&doubled(5), &product(&doubled(4),
-        &product(&doubled(3), &product(&doubled(2), &product(&doubled(1), &unit_type()))))))));
+    let bulk = product(
+        &doubled(7),
+        &recursive(&product(
+            &doubled(6),
+            &product(
+                &doubled(5),
+                &product(
+                    &doubled(4),
+                    &product(&doubled(3), &product(&doubled(2), &product(&doubled(1), &unit_type()))),
+                ),
+            ),
+        )),
+    );
     assert_eq!(count(&bulk), 510);
     let exact = over(&bulk);
     assert_eq!(count(&unfold(&exact)), 1024);

@@ -3,7 +3,7 @@
 use super::types::{random_type, smallest_term};
 use crate::draft::*;
 use crate::rng::Rng;
-use crate::samples::{dup, plus, successor};
+use crate::samples::{dup, flipped_by_part, plus, same_in_both_branches, successor};
 
 /// Programs whose values are longer than what they come from, one way or the other.
 pub fn sized_program(rng: &mut Rng) -> Draft {
@@ -174,11 +174,7 @@ fn collapsing(shown_beside: usize) -> Function {
 
 fn times(itself: usize, plus: usize) -> Function {
     let recursion = call(itself, vec![variable(0), variable(2)]);
-    let body = case(
-        unroll(&nat(), variable(1)),
-        smallest_term(&nat()),
-        call(plus, vec![variable(0), recursion]),
-    );
+    let body = case(unroll(&nat(), variable(1)), smallest_term(&nat()), call(plus, vec![variable(0), recursion]));
     Function { parameters: vec![nat(), nat()], result: nat(), body }
 }
 
@@ -193,19 +189,6 @@ fn parity() -> Vec<Function> {
         one(&nat(), &nat(), body)
     };
     vec![side(1), side(0)]
-}
-
-/// Section 6, P10.
-fn same_in_both_branches() -> Function {
-    let left = inl(&boolean(), variable(1));
-    one(&boolean(), &boolean(), case(variable(0), left, inl(&boolean(), Term::Unit)))
-}
-
-/// Section 6, P12.
-fn flipped_by_part() -> Function {
-    let parameter = product(&boolean(), &boolean());
-    let flipped = case(variable(2), inr(&boolean(), variable(4)), inl(&boolean(), variable(4)));
-    one(&parameter, &boolean(), let_pair(variable(0), case(variable(1), variable(2), flipped)))
 }
 
 /// A long record of units to a single one: a rollback may need more bytes than it frees.

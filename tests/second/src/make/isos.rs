@@ -9,8 +9,16 @@ use crate::samples;
 /// How the value of one variable is rebuilt.
 enum Plan {
     Same,
-    Product { swapped: bool, left: Box<Plan>, right: Box<Plan> },
-    Sum { swapped: bool, left: Box<Plan>, right: Box<Plan> },
+    Product {
+        swapped: bool,
+        left: Box<Plan>,
+        right: Box<Plan>,
+    },
+    Sum {
+        swapped: bool,
+        left: Box<Plan>,
+        right: Box<Plan>,
+    },
     /// The unit part of a product is left out; it comes back since a unit variable never met is unit.
     WithoutUnit(Box<Plan>),
     /// (x, x).
@@ -19,7 +27,10 @@ enum Plan {
     BesideAncilla(usize),
     BesideConstant(Type),
     /// Under an injection into a sum with another type.
-    Injected { left: bool, other: Type },
+    Injected {
+        left: bool,
+        other: Type,
+    },
     /// By a function that maps over the type, or this very function at its recursive position.
     Mapped(usize),
     Recur(usize),
@@ -149,11 +160,19 @@ impl IsoWriter<'_> {
         match (plan, &**ty) {
             (Plan::Product { swapped, left, right }, TypeTree::Product(a, b)) => {
                 let (a, b) = (self.result(left, a), self.result(right, b));
-                if *swapped { product(&b, &a) } else { product(&a, &b) }
+                if *swapped {
+                    product(&b, &a)
+                } else {
+                    product(&a, &b)
+                }
             }
             (Plan::Sum { swapped, left, right }, TypeTree::Sum(a, b)) => {
                 let (a, b) = (self.result(left, a), self.result(right, b));
-                if *swapped { sum(&b, &a) } else { sum(&a, &b) }
+                if *swapped {
+                    sum(&b, &a)
+                } else {
+                    sum(&a, &b)
+                }
             }
             (Plan::WithoutUnit(plan), TypeTree::Product(_, right)) => self.result(plan, right),
             (Plan::Twice, _) => product(ty, ty),

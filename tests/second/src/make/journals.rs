@@ -37,7 +37,9 @@ fn retold(rng: &mut Rng, draft: &Draft, mut journal: Journal, length: usize) -> 
     if let Some(newest) = journal.conversions.last_mut() {
         if let Some(function) = functions.get(newest.function as usize) {
             match rng.below(5) {
-                0 | 1 => newest.ancillae = ancilla_bytes(rng, &function.parameters[..function.parameters.len() - 1]),
+                0 | 1 => {
+                    newest.ancillae = ancilla_bytes(rng, &function.parameters[..function.parameters.len() - 1])
+                }
                 2 => journal.held = long_value(rng, &function.result),
                 _ => journal.held = typed_near_miss(rng, &function.result, &journal.held),
             }

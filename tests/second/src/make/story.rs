@@ -41,8 +41,9 @@ impl Story {
     /// A function that takes its own result again.
     fn repeatable(&self, rng: &mut Rng) -> Option<usize> {
         let functions = &self.draft.functions;
-        let repeatable: Vec<usize> =
-            (0..functions.len()).filter(|&f| functions[f].parameters.last() == Some(&functions[f].result)).collect();
+        let repeatable: Vec<usize> = (0..functions.len())
+            .filter(|&f| functions[f].parameters.last() == Some(&functions[f].result))
+            .collect();
         repeatable.get(rng.below(repeatable.len())).copied()
     }
 
@@ -73,7 +74,7 @@ impl Story {
 
     /// The next call, with a buffer that loses no more than zeros.
     pub fn next_call(&self, rng: &mut Rng, converts: usize) -> Call {
-        let nothing_stands = Journal::read(&self.journal).map_or(true, |journal| journal.conversions.is_empty());
+        let nothing_stands = Journal::read(&self.journal).is_none_or(|journal| journal.conversions.is_empty());
         let rollbacks = if nothing_stands { 8 } else { 94 - converts };
         match rng.below(100) {
             0..=5 => self.open(rng),
@@ -137,7 +138,8 @@ impl Story {
     }
 
     fn convert_by(&self, rng: &mut Rng, number: usize) -> ConvertCall {
-        let (_, ancillae) = self.draft.functions[number].parameters.split_last().expect("a function has a parameter");
+        let (_, ancillae) =
+            self.draft.functions[number].parameters.split_last().expect("a function has a parameter");
         let mut journal = self.journal.clone();
         journal.resize(self.fields() + 4096, 0);
         ConvertCall {
@@ -171,7 +173,7 @@ impl Story {
             journal,
         };
         let ask = |fuel: u16| answer(&with(fuel, limits::workspace(fuel), journal.clone()));
-        let fuel = choices::fuel(rng, &ask);
+        let fuel = choices::fuel(rng, ask);
         let more = self.more_bytes(&ask(fuel));
         with(fuel, choices::workspace(rng, fuel), self.buffer(rng, more))
     }

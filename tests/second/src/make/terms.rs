@@ -45,15 +45,8 @@ pub fn random_program(rng: &mut Rng, fault_rate: usize) -> Draft {
     let most_terms = if rng.chance(15) { 300 } else { 60 };
     loop {
         let pool: Vec<Type> = (0..rng.between(2, 4)).map(|_| random_type(rng)).collect();
-        let mut writer = Writer {
-            rng,
-            pool,
-            signatures: Vec::new(),
-            scope: Vec::new(),
-            barrier: 0,
-            budget: 0,
-            fault_rate,
-        };
+        let mut writer =
+            Writer { rng, pool, signatures: Vec::new(), scope: Vec::new(), barrier: 0, budget: 0, fault_rate };
         let draft = writer.program();
         let terms: usize = draft.functions.iter().map(|function| function.body.count()).sum();
         if draft.functions.len() <= 24 && terms <= most_terms {
@@ -225,9 +218,7 @@ impl Writer<'_> {
             TypeTree::Product(left, right) => {
                 Some(let_pair(variable(number), self.under(&[left, right], goal, rest)))
             }
-            TypeTree::Sum(left, right) => {
-                Some(self.branches(variable(number), left, right, goal, rest))
-            }
+            TypeTree::Sum(left, right) => Some(self.branches(variable(number), left, right, goal, rest)),
             TypeTree::Recursive(_) => {
                 let unfolded = unfold(&ty);
                 let opened = unroll(&ty, variable(number));
@@ -348,7 +339,8 @@ impl Writer<'_> {
     }
 
     fn sink_function(&mut self, ty: &Type) -> usize {
-        let wanted = |s: &Signature| s.parameters.len() == 1 && s.parameters[0] == *ty && *s.result == TypeTree::Unit;
+        let wanted =
+            |s: &Signature| s.parameters.len() == 1 && s.parameters[0] == *ty && *s.result == TypeTree::Unit;
         self.signatures.iter().position(wanted).unwrap_or_else(|| {
             self.signatures.push(Signature { parameters: vec![ty.clone()], result: unit_type() });
             self.signatures.len() - 1

@@ -17,7 +17,7 @@ fn grown_value(rng: &mut Rng, ty: &Type, budget: usize) -> Vec<u8> {
     value_with(rng, ty, budget, percent)
 }
 
-/// While there is budget, the larger side of a sum, which is the one that recurs, is taken `percent` times in a hundred.
+/// While there is budget, the larger side of a sum, the one that recurs, is taken `percent` times in a hundred.
 fn value_with(rng: &mut Rng, ty: &Type, budget: usize, percent: usize) -> Vec<u8> {
     if smallest(ty).is_none() {
         return vec![0];
@@ -160,10 +160,11 @@ fn beyond_limit(rng: &mut Rng) -> Vec<u8> {
 
 /// All values of a type up to a length, at most `most` of them.
 pub fn small_values(ty: &Type, length: usize, most: usize) -> Vec<Vec<u8>> {
-    if length == 0 || smallest(ty).map_or(true, |size| size > length) {
+    if length == 0 || smallest(ty).is_none_or(|size| size > length) {
         return Vec::new();
     }
-    let prefixed = |byte: u8, values: Vec<Vec<u8>>| values.into_iter().map(move |value| [&[byte], &value[..]].concat());
+    let prefixed =
+        |byte: u8, values: Vec<Vec<u8>>| values.into_iter().map(move |value| [&[byte], &value[..]].concat());
     let mut values: Vec<Vec<u8>> = match &**ty {
         TypeTree::Unit => vec![vec![0]],
         TypeTree::Bound(_) => vec![],
