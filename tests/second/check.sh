@@ -28,7 +28,7 @@ same() {
 }
 
 status=0
-cargo test --release --offline > "$scratch/tests" 2>&1 || status=$?
+cargo test --release --offline --no-fail-fast > "$scratch/tests" 2>&1 || status=$?
 totals=$(awk '/^test result:/ { ok += $4; bad += $6 } END { print ok + 0, bad + 0 }' "$scratch/tests")
 passed=$((passed + ${totals% *}))
 failed=$((failed + ${totals#* }))

@@ -1,10 +1,10 @@
 //! Time per step, per term and per journal call.
 
 use crate::calls::{answer, arguments, Answer, Call, ConvertCall, Direction};
-use crate::draft::{boolean, let_one, pair, product, variable, Draft, Function};
+use crate::draft::{boolean, Draft};
 use crate::limits::{self, FUEL};
 use crate::run::{run, Start};
-use crate::samples::{library, list_bytes, nat_bytes};
+use crate::samples::{library, list_bytes, map, nat_bytes, not, reverse, snoc};
 use crate::typing::check;
 use crate::value::Heap;
 use std::hint::black_box;
@@ -59,21 +59,27 @@ fn measure_run(program: &[u8], function: u16, ancillae: &[u8], value: &[u8], dir
     measured
 }
 
-/// Functions of nested lets and pairs until the program is near 1,024 terms.
+/// List functions over and over until the program is near 1,024 terms.
 fn bench_check() {
-    let ty = product(&boolean(), &boolean());
-    let nested = |depth: usize| {
-        (1..depth)
-            .rev()
-            .fold(pair(variable(depth - 1), variable(depth - 1)), |body, bound| let_one(variable(bound - 1), body))
-    };
-    let function = || Function { parameters: vec![ty.clone()], result: product(&ty, &ty), body: nested(17) };
-    let terms = function().body.count();
-    let draft = Draft { functions: (0..limits::TERMS / terms).map(|_| function()).collect() };
-    let count = terms * draft.functions.len();
-    let program = draft.bytes();
+    let element = boolean();
+    let mut functions = vec![not()];
+    let mut terms = functions[0].body.count();
+    loop {
+        let number = functions.len();
+        let next = match number % 3 {
+            0 => reverse(number, &element, number - 1),
+            1 => map(number, &element, 0),
+            _ => snoc(number, &element),
+        };
+        if terms + next.body.count() > limits::TERMS || number == limits::FUNCTIONS {
+            break;
+        }
+        terms += next.body.count();
+        functions.push(next);
+    }
+    let program = Draft { functions }.bytes();
     let best = best_of(500, || black_box(check(black_box(&program))).is_ok());
-    println!("check of {count} terms, {} bytes: {:.1} ns a term", program.len(), best / count as f64);
+    println!("check of {terms} terms, {} bytes: {:.1} ns a term", program.len(), best / terms as f64);
 }
 
 fn bench_journal(program: &[u8]) {

@@ -25,7 +25,7 @@ const NUMBERS: [(&str, &[u8]); 6] = [
     ("backward", &[0, 1, 2, 4, 9, 10, 11, 12, 13, 14, 15, 16, 17]),
     ("open", &[0, 1, 2, 10, 20]),
     ("convert", &[0, 1, 2, 4, 9, 10, 11, 12, 13, 14, 15, 18, 20]),
-    ("rollback", &[0, 1, 2, 4, 9, 10, 11, 12, 16, 18, 19, 20]),
+    ("rollback", &[0, 1, 2, 4, 9, 10, 11, 12, 13, 14, 15, 16, 18, 19, 20]),
 ];
 
 /// The kinds of field or term at which a call must meet a number.
@@ -39,7 +39,7 @@ const PLACES: [(&str, u8, &[&str]); 12] = [
     ("forward", 12, &TERMS),
     ("backward", 12, &TERMS),
     ("forward", 14, &["inl", "inr", "pair", "roll"]),
-    ("backward", 14, &["variable", "call", "let"]),
+    ("backward", 14, &["variable", "call", "let", "let pair", "roll"]),
     ("backward", 15, &["case"]),
     ("backward", 16, &["inl", "inr", "variable"]),
 ];

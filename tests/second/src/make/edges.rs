@@ -7,9 +7,9 @@ use crate::limits::{FUNCTIONS, PARAMETERS, PROGRAM_BYTES, TERMS, TYPES, TYPE_NOD
 use crate::rng::Rng;
 
 pub fn edge_program(rng: &mut Rng) -> Vec<u8> {
-    match rng.below(12) {
+    match rng.below(14) {
         0 => counted(rng),
-        1 => parameters(rng),
+        1 | 12 | 13 => parameters(rng),
         2..=4 => scope(rng),
         5 | 6 => named_type(rng),
         7 | 8 => pair_size(rng),

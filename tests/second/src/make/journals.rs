@@ -1,12 +1,49 @@
 //! Journals that are malformed, or whose entries do not fit the program.
 
+use super::choices;
 use super::runs::ancilla_bytes;
 use super::values::{long_value, near_miss, typed_near_miss};
-use crate::calls::{Call, ConvertCall};
+use crate::calls::{answer, Answer, Call, ConvertCall, Direction, RunCall};
 use crate::draft::Draft;
 use crate::journal::{Conversion, Journal};
-use crate::limits::{ANCILLA_BYTES, CONVERSIONS, VALUE_BYTES};
+use crate::limits::{self, ANCILLA_BYTES, CONVERSIONS, FUEL, VALUE_BYTES};
 use crate::rng::Rng;
+
+/// The run as a convert call, or backward as a rollback, on a journal that was never opened: its record is the run's
+/// value, and what a rollback strikes is the run. Older entries may be anything.
+pub fn as_journal_call(rng: &mut Rng, run: &RunCall) -> Call {
+    let older =
+        Conversion { function: rng.below(3) as u16, steps: rng.below(9) as u32, ancillae: vec![0; rng.below(3)] };
+    let mut journal = Journal { held: run.value.clone(), conversions: vec![older; rng.below(3)] };
+    let RunCall { workspace, fuel, function, .. } = *run;
+    let (program, ancillae) = (run.program.clone(), run.ancillae.clone());
+    let carried = answer(&Call::Run(RunCall {
+        workspace: limits::workspace(FUEL),
+        output: VALUE_BYTES,
+        fuel: FUEL,
+        ..run.clone()
+    }));
+    let (value, steps) = match carried {
+        Answer::Value { value, steps } => (value, steps),
+        _ => (Vec::new(), rng.below(50) as u32),
+    };
+    if run.direction == Direction::Forward {
+        let entry = Conversion { function, steps, ancillae: ancillae.clone() };
+        let after = Journal { held: value, conversions: [&journal.conversions[..], &[entry]].concat() };
+        let journal = in_some_buffer(rng, &journal, after.length());
+        return Call::Convert(ConvertCall { workspace, fuel, function, program, ancillae, journal });
+    }
+    let after = Journal { held: value, conversions: journal.conversions.clone() };
+    let steps = if rng.chance(85) { steps } else { steps + 1 };
+    journal.conversions.push(Conversion { function, steps, ancillae });
+    Call::Rollback { workspace, fuel, program, journal: in_some_buffer(rng, &journal, after.length()) }
+}
+
+/// In a buffer about as long as the journal needs after the call.
+fn in_some_buffer(rng: &mut Rng, journal: &Journal, needed: usize) -> Vec<u8> {
+    let length = choices::length(rng, needed);
+    written(journal, length)
+}
 
 /// The same call on a damaged journal; other calls are handed back.
 pub fn with_damaged_journal(rng: &mut Rng, draft: &Draft, call: &Call) -> Call {

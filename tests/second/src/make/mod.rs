@@ -13,7 +13,7 @@ mod terms;
 mod types;
 pub mod values;
 
-use crate::calls::{answer, Call, ConvertCall, RunCall};
+use crate::calls::{answer, Answer, Call, ConvertCall, RunCall};
 use crate::draft::Draft;
 use crate::limits;
 use crate::rng::Rng;
@@ -34,31 +34,26 @@ impl Maker {
     fn fill(&mut self) {
         let rng = &mut self.rng;
         match rng.below(100) {
-            0..=4 => {
+            0..=3 => {
                 let program = sound_program(rng).shuffled(rng);
                 self.check(program);
             }
-            5..=22 => {
+            4..=17 => {
                 let program = sound_program(rng).shuffled(rng);
                 let program = damage::damaged(rng, &program);
                 self.check(program);
             }
-            23..=42 => {
+            18..=34 => {
                 let rate = *rng.pick(&[15, 40, 80]);
                 let program = terms::random_program(rng, rate).shuffled(rng);
                 self.check(program);
             }
-            43..=50 => {
+            35..=43 => {
                 let program = edges::edge_program(rng);
                 self.check(program);
             }
-            51..=78 => self.runs(),
-            79..=84 => {
-                let draft = corners::sized_program(rng);
-                let program = draft.shuffled(rng);
-                let calls = (0..4).map(|_| runs::long_run_call(rng, &draft, &program));
-                self.ready.extend(calls);
-            }
+            44..=76 => self.runs(),
+            77..=83 => self.long_runs(),
             _ => self.story(),
         }
     }
@@ -68,18 +63,35 @@ impl Maker {
         self.ready.push_back(Call::Check { workspace, program });
     }
 
-    /// Some runs of one program, and now and then one on a damaged program.
+    /// Some runs of one program, at times only rare ones, and now and then one on a damaged program.
     fn runs(&mut self) {
         let rng = &mut self.rng;
         let draft = sound_program(rng);
         let program = draft.shuffled(rng);
-        for _ in 0..rng.between(1, 3) {
-            let call = runs::run_call(rng, &draft, &program);
-            self.ready.push_back(if rng.chance(3) { with_damaged_program(rng, call) } else { call });
-        }
+        let (tries, only_rare) = if rng.chance(25) { (12, true) } else { (rng.between(1, 3), false) };
+        let make = |_| {
+            let run = runs::run_call(rng, &draft, &program);
+            run_or_journal_call(rng, run)
+        };
+        let calls = (0..tries).map(make).filter(|call| !only_rare || rare(call));
+        self.ready.extend(calls.take(3));
     }
 
-    /// The calls of a story, some of them on a damaged journal as well.
+    /// Runs whose values come near the limit of size, most of them past it.
+    fn long_runs(&mut self) {
+        let rng = &mut self.rng;
+        let draft = corners::sized_program(rng);
+        let program = draft.shuffled(rng);
+        let make = |_| {
+            let run = runs::long_run_call(rng, &draft, &program);
+            run_or_journal_call(rng, run)
+        };
+        let calls: Vec<Call> = (0..8).map(make).collect();
+        self.ready.extend(calls.iter().find(|call| !rare(call)).cloned());
+        self.ready.extend(calls.into_iter().filter(rare).take(3));
+    }
+
+    /// The calls of a story, some of them on a damaged journal as well; of a long story only the rare ones.
     fn story(&mut self) {
         let rng = &mut self.rng;
         let draft = match rng.below(10) {
@@ -89,19 +101,41 @@ impl Maker {
             _ => sound_program(rng),
         };
         let (mut story, open) = Story::begin(rng, draft);
-        self.ready.push_back(open);
-        for _ in 0..rng.between(1, 8) {
+        let long = rng.chance(25);
+        if !long {
+            self.ready.push_back(open);
+        }
+        for _ in 0..if long { 40 } else { rng.between(1, 8) } {
             let converts = rng.between(40, 80);
-            let call = story.next_call(rng, converts);
+            let mut call = story.next_call(rng, converts);
             story.turn(&call, &answer(&call));
             if rng.chance(35) {
-                self.ready.push_back(journals::with_damaged_journal(rng, &story.draft, &call));
+                call = journals::with_damaged_journal(rng, &story.draft, &call);
             } else if rng.chance(4) {
-                self.ready.push_back(with_damaged_program(rng, call));
-            } else {
+                call = with_damaged_program(rng, call);
+            }
+            if !long || rare(&call) {
                 self.ready.push_back(call);
             }
         }
+    }
+}
+
+/// The run itself, or as a convert or rollback call, and now and then on a damaged program.
+fn run_or_journal_call(rng: &mut Rng, run: RunCall) -> Call {
+    let call = if rng.chance(20) { journals::as_journal_call(rng, &run) } else { Call::Run(run) };
+    if rng.chance(3) {
+        with_damaged_program(rng, call)
+    } else {
+        call
+    }
+}
+
+/// Refused for the run itself, other than by fuel, or for want of room in the journal.
+fn rare(call: &Call) -> bool {
+    match answer(call) {
+        Answer::Refused(refusal) => matches!(refusal.number as u8, 13..=16 | 20),
+        _ => false,
     }
 }
 

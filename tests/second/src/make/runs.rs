@@ -8,7 +8,7 @@ use crate::limits::{self, FUEL, VALUE_BYTES};
 use crate::rng::Rng;
 use crate::samples::nat_bytes;
 
-pub fn run_call(rng: &mut Rng, draft: &Draft, program: &[u8]) -> Call {
+pub fn run_call(rng: &mut Rng, draft: &Draft, program: &[u8]) -> RunCall {
     let function = rng.below(draft.functions.len());
     let signature = &draft.functions[function];
     let (dynamic, ancillae) = signature.parameters.split_last().expect("a function has a parameter");
@@ -35,13 +35,13 @@ pub fn run_call(rng: &mut Rng, draft: &Draft, program: &[u8]) -> Call {
         call.output = *rng.pick(&[0, 1, 16, VALUE_BYTES]);
     }
     call.workspace = choices::workspace(rng, call.fuel);
-    Call::Run(call)
+    call
 }
 
 /// A call on a program whose values come near the limit of size, either way.
-pub fn long_run_call(rng: &mut Rng, draft: &Draft, program: &[u8]) -> Call {
-    let Call::Run(mut call) = run_call(rng, draft, program) else { unreachable!("a run call is a run") };
-    let Some(signature) = draft.functions.get(call.function as usize) else { return Call::Run(call) };
+pub fn long_run_call(rng: &mut Rng, draft: &Draft, program: &[u8]) -> RunCall {
+    let mut call = run_call(rng, draft, program);
+    let Some(signature) = draft.functions.get(call.function as usize) else { return call };
     let ty = match call.direction {
         Direction::Forward => signature.parameters.last().expect("a function has a parameter"),
         Direction::Backward => &signature.result,
@@ -50,7 +50,7 @@ pub fn long_run_call(rng: &mut Rng, draft: &Draft, program: &[u8]) -> Call {
     call.fuel = if rng.chance(80) { FUEL } else { call.fuel };
     call.workspace = limits::workspace(call.fuel);
     call.output = if rng.chance(90) { VALUE_BYTES } else { call.output };
-    Call::Run(call)
+    call
 }
 
 /// Values for ancilla parameters, one after another within the limit.
