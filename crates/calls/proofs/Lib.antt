@@ -5,6 +5,8 @@ pub mod Answer
 pub mod Values
 -- the test whether a value is of a type holds exactly if it is
 pub mod Types
+-- the journal is read from the bytes that it is written out as, and from no others
+pub mod Journal
 -- definitions that cases compute with
 pub mod Compute
 -- section 6's cases, by computation

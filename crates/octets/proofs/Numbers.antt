@@ -3,11 +3,11 @@
 use Prim.Native.Nat.{ℕ, zero, suc, _+_, _*_, _/_, _%_, _<_}
 use native.Mathlib.Omega.{arith}
 use native.Mathlib.Nat.{add-assoc, div-add-mod'}
-use mathlib.Core.Path.{_≡_, refl, sym, ap, ap₂, _∙_}
+use mathlib.Core.Path.{_≡_, refl, ap₂, _∙_}
 use mathlib.Core.List.{List, [], _∷_, _++_}
-use lib.ListN.{length, getD, take, drop}
+use lib.ListN.{length, getD}
 use lib.Arith.{digits-lt, digits-div, digits-mod}
-use lib.Seq.{getD-append-add, getD-drop}
+use lib.Seq.{getD-append-add}
 use package.Rattle.octets.specs.Numbers.{get16, get32, bytes16, bytes32}
 
 ----------------------------------------------------------------
@@ -17,17 +17,13 @@ use package.Rattle.octets.specs.Numbers.{get16, get32, bytes16, bytes32}
 abbrev pub AreBytes : List ℕ → Type 0
 AreBytes xs = (i : ℕ) → getD xs i 0 < 256
 
-pub bytes-tail : (x : ℕ) (xs : List ℕ) → AreBytes (x ∷ xs) → AreBytes xs
-bytes-tail x xs h i = h (suc i)
+pub bytes-left : (xs ys : List ℕ) → AreBytes (xs ++ ys) → AreBytes xs
+bytes-left [] ys h i = omega arith
+bytes-left (x ∷ xs) ys h zero = h 0
+bytes-left (x ∷ xs) ys h (suc i) = bytes-left xs ys (λ i. h (suc i)) i
 
-pub bytes-drop : (n : ℕ) (xs : List ℕ) → AreBytes xs → AreBytes (drop n xs)
-bytes-drop n xs h i = rw (getD-drop n xs i 0) (h (n + i))
-
-pub bytes-take : (n : ℕ) (xs : List ℕ) → AreBytes xs → AreBytes (take n xs)
-bytes-take zero xs h i = omega arith
-bytes-take (suc n) [] h i = h i
-bytes-take (suc n) (x ∷ xs) h zero = h 0
-bytes-take (suc n) (x ∷ xs) h (suc i) = bytes-take n xs (bytes-tail x xs h) i
+pub bytes-right : (xs ys : List ℕ) → AreBytes (xs ++ ys) → AreBytes ys
+bytes-right xs ys h i = rw (getD-append-add xs ys i 0) at (h (length xs + i))
 
 ----------------------------------------------------------------
 -- Behind a prefix
