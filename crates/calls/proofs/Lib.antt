@@ -7,6 +7,12 @@ pub mod Values
 pub mod Types
 -- the journal is read from the bytes that it is written out as, and from no others
 pub mod Journal
+-- with which numbers an answer may be refused
+pub mod Refusals
+-- what is loaded is well-formed and typed, and nothing else
+pub mod Load
+-- check, forward and backward: their parts, their refusals, and the claims about them
+pub mod Runs
 -- definitions that cases compute with
 pub mod Compute
 -- section 6's cases, by computation

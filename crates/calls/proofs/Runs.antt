@@ -1,0 +1,6 @@
+-- Check, forward and backward: the parts of a call (Parts); a call as a whole, in either direction (Calls); with which numbers calls
+-- are refused (Numbers); the claims of specs/Claims about them (Claims).
+pub mod Parts
+pub mod Calls
+pub mod Numbers
+pub mod Claims

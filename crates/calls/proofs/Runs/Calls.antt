@@ -1,0 +1,196 @@
+-- A call as a whole. Forward and backward differ in the side of the function that the given value is held to, and in the run; what
+-- both runs obey is a direction, and a call in any direction is answered and refused alike.
+use Prim.Native.Nat.{ℕ, _-_, _≤_}
+use native.Mathlib.Omega.{arith}
+use mathlib.Core.Path.{_≡_, refl, sym, subst, _∙_}
+use mathlib.Core.Bool.{true}
+use mathlib.Core.Option.{Option}
+use mathlib.Core.List.{List}
+use mathlib.Core.Logic.{_↔_, ⊎-elim}
+use lib.Dec.{leb}
+use package.Rattle.rules.specs.Limits.{fits, maxHeight, maxVariables, maxNodes, maxValueBytes}
+use package.Rattle.rules.specs.Val.{Val, unit, size}
+use package.Rattle.rules.specs.Ty.{Ty}
+use package.Rattle.rules.specs.Term.{Fun, Program}
+use package.Rattle.rules.specs.Typing.{WellTyped}
+use package.Rattle.rules.specs.Run.{Res, ok, stop, stuck}
+use package.Rattle.rules.specs.Machine.{runForward, runBackward}
+use package.Rattle.rules.proofs.Backward.Fits.{run-back-ends}
+use package.Rattle.rules.proofs.Basics.{given}
+use package.Rattle.rules.proofs.Numbers.{Ends, ends-map, run-forward-ends}
+use package.Rattle.rules.proofs.Theorems.{forward-iff-rules, backward-then-forward, never-stuck}
+use package.Rattle.rules.proofs.Typing.Tests.{leb-yes, leb-sound}
+use package.Rattle.calls.specs.Answer.{Answer, accepted, refused, _>>=_, require}
+use package.Rattle.calls.specs.Values.{value, ancillae}
+use package.Rattle.calls.specs.Runs.{prepared, Given, admit, Ran, ran, forwardCall, backwardCall}
+use package.Rattle.calls.specs.Claims.{Admitted, answer}
+use package.Rattle.calls.proofs.Answer.{refused≢accepted, accepted-inj, via, unbind, first, later, unstop, require-yes, required, require-number}
+use package.Rattle.calls.proofs.Refusals.{number}
+use package.Rattle.calls.proofs.Load.{prepared-numbered, prepared-iff}
+use package.Rattle.calls.proofs.Runs.Parts.{Admits, admit-iff, admit-numbered, ran-iff, ran-refused}
+
+-- what a run is given
+abbrev pub gives : Fun → List Val → Val → Given
+gives h vs v = record { fun = h; ancillae = vs; value = v }
+
+----------------------------------------------------------------
+-- Directions
+
+pub record Direction : Type 0 where
+  -- the type that the given value is held to
+  pub side : Fun → Ty
+  pub run : Program → Given → ℕ → Res Val
+  -- no more fuel is left than was given
+  pub left : (P : Program) (a : Given) (f : ℕ) (w : Val) (g : ℕ) → run P a f ≡ ok w g → g ≤ f
+  -- answers fit, and refusals have a run's numbers
+  pub ends : (P : Program) (a : Given) (f : ℕ) → Ends (λ w. fits w ≡ true) (run P a f)
+  -- what is admitted to a run of a typed program does not stick
+  pub safe : (P : Program) (fn : ℕ) (as? : Option (List Val)) (v? : Option Val) (a : Given) (f : ℕ) → WellTyped maxVariables maxNodes P
+      → Admits P fn as? v? side a → ¬ (run P a f ≡ stuck)
+
+pub forward-left : (P : Program) (h : Fun) (vs : List Val) (v w : Val) (f g : ℕ) → runForward fits P maxHeight h vs v f ≡ ok w g → g ≤ f
+forward-left P h vs v w f g p = given (forward-iff-rules P fits maxHeight h vs v w f g .0 p) λ (n, d, e). omega arith
+
+pub unit-fits : fits unit ≡ true
+unfolding fits maxValueBytes size
+unit-fits = refl
+
+abbrev pub onward : Direction
+onward = record {
+  side = λ h. h .dynamic;
+  run = λ P a f. runForward fits P maxHeight (a .fun) (a .ancillae) (a .value) f;
+  left = λ P a f w g p. forward-left P (a .fun) (a .ancillae) (a .value) w f g p;
+  ends = λ P a f. run-forward-ends fits P maxHeight (a .fun) (a .ancillae) (a .value) f;
+  safe = λ P fn as? v? a f T A. never-stuck maxVariables maxNodes P T fn (a .fun) (A .function) (a .ancillae) (A .ancillae-typed) fits maxHeight f (a .value) .0 (A .value-typed);
+}
+
+abbrev pub back : Direction
+back = record {
+  side = λ h. h .result;
+  run = λ P a f. runBackward fits P maxHeight (a .fun) (a .ancillae) (a .value) f;
+  left = λ P a f v g p.
+      forward-left P (a .fun) (a .ancillae) v (a .value) f g (backward-then-forward P fits maxHeight (a .fun) (a .ancillae) v (a .value) f g p);
+  ends = λ P a f. ends-map (λ v l. ⊎-elim (λ e. subst (λ v. fits v ≡ true) e unit-fits) (λ ft. ft) l) (run-back-ends fits P maxHeight (a .fun) (a .ancillae) (a .value) f);
+  safe = λ P fn as? v? a f T A. never-stuck maxVariables maxNodes P T fn (a .fun) (A .function) (a .ancillae) (A .ancillae-typed) fits maxHeight f (a .value) .1 (A .value-typed);
+}
+
+----------------------------------------------------------------
+-- The parts before the run
+
+module _ (side : Fun → Ty) (ws fuel fn : ℕ) (program anc bytes : List ℕ) where
+  -- the parts before the run
+  pub admitted-iff : (P : Program) (a : Given)
+      → ((prepared ws fuel program ≡ accepted P) × (admit P fn (ancillae anc) (value bytes) side ≡ accepted a))
+      ↔ Admitted ws fuel fn program anc bytes side P (a .fun) (a .ancillae) (a .value)
+  admitted-iff P a = (
+    λ (p, q). given (prepared-iff ws fuel program P .0 p) λ (l, F, T). given (admit-iff P fn (ancillae anc) (value bytes) side a .0 q) λ A. record {
+      enough = l;
+      formed = F;
+      typed = T;
+      function = A .function;
+      ancillae-read = A .ancillae-read;
+      value-read = A .value-read;
+      ancillae-typed = A .ancillae-typed;
+      value-typed = A .value-typed;
+    },
+    λ A. (
+      prepared-iff ws fuel program P .1 (A .enough, A .formed, A .typed),
+      admit-iff P fn (ancillae anc) (value bytes) side a .1 (record {
+        function = A .function;
+        ancillae-read = A .ancillae-read;
+        value-read = A .value-read;
+        ancillae-typed = A .ancillae-typed;
+        value-typed = A .value-typed;
+      }),
+    ),
+  )
+
+----------------------------------------------------------------
+-- A call in a direction
+
+module _ (D : Direction) (ws out fuel fn : ℕ) (program anc bytes : List ℕ) where
+  unfoldable pub directed : Answer Ran
+  directed = do
+    P ← prepared ws fuel program
+    a ← admit P fn (ancillae anc) (value bytes) (D .side)
+    r ← ran fuel (D .run P a fuel)
+    room ← require (leb (size (r .value)) out) 17 0
+    accepted r
+
+  -- it was admitted, its run answers within the fuel, and the output is long enough
+  abbrev pub Answers : Val → ℕ → Type 0
+  Answers w n = (P : Program) × (h : Fun) × (vs : List Val) × (v : Val) × Admitted ws fuel fn program anc bytes (D .side) P h vs v
+      × (D .run P (gives h vs v) fuel ≡ ok w (fuel - n)) × (n ≤ fuel) × (size w ≤ out)
+
+  directed-iff : (w : Val) (n : ℕ) → (directed ≡ answer w n) ↔ Answers w n
+  unfolding directed
+  directed-iff w n = (
+    λ e.
+        given (unbind (prepared ws fuel program) _ e) λ (P, p, e₁).
+        given (unbind (admit P fn (ancillae anc) (value bytes) (D .side)) _ e₁) λ (a, q, e₂).
+        given (unbind (ran fuel (D .run P a fuel)) _ e₂) λ (r, s, e₃).
+        given (unbind (require (leb (size (r .value)) out) 17 0) _ e₃) λ (room, t, e₄).
+        given (ran-iff fuel (D .run P a fuel) (D .left P a fuel) w n .0 (s ∙ e₄)) λ (x, l). (
+          P,
+          a .fun,
+          a .ancillae,
+          a .value,
+          admitted-iff (D .side) ws fuel fn program anc bytes P a .0 (p, q),
+          x,
+          l,
+          subst (λ r. size (r .value) ≤ out) (accepted-inj e₄) (leb-sound (size (r .value)) out (required _ 17 0 t)),
+        ),
+    λ (P, h, vs, v, A, x, l, s).
+        given (admitted-iff (D .side) ws fuel fn program anc bytes P (gives h vs v) .1 A) λ (p, q).
+        via _ p (via _ q (via _ (ran-iff fuel (D .run P (gives h vs v) fuel) (D .left P (gives h vs v) fuel) w n .1 (x, l))
+        (via _ (require-yes 17 0 (leb-yes (size w) out s)) refl))),
+  )
+
+  -- a refusal: before the run, of the run, or of the output
+  pub data Refuses (n k : ℕ) : Type 0 where
+    before : n ≤ 11 → Refuses n k
+    running : (P : Program) (h : Fun) (vs : List Val) (v : Val) → Admitted ws fuel fn program anc bytes (D .side) P h vs v
+        → D .run P (gives h vs v) fuel ≡ stop n k → Refuses n k
+    short : n ≡ 17 → Refuses n k
+
+  directed-refused : {n k : ℕ} → directed ≡ refused n k → Refuses n k
+  unfolding directed
+  directed-refused {n} {k} e = elim (unstop (prepared ws fuel program) _ e) [
+    | first p ↦ before (omega (arith, number (prepared-numbered ws fuel program) p .1))
+    | later P p e₁ ↦ elim (unstop (admit P fn (ancillae anc) (value bytes) (D .side)) _ e₁) [
+      | first q ↦ before (number (admit-numbered P fn (ancillae anc) (value bytes) (D .side)) q .1)
+      | later a q e₂ ↦ elim (unstop (ran fuel (D .run P a fuel)) _ e₂) [
+        | first s ↦ during P a p q s
+        | later r s e₃ ↦ elim (unstop (require (leb (size (r .value)) out) 17 0) _ e₃) [
+          | first t ↦ short (sym (require-number _ 17 0 t))
+          | later room t e₄ ↦ absurd (refused≢accepted (sym e₄))
+        ]
+      ]
+    ]
+  ]
+    where
+      during : (P : Program) (a : Given) → prepared ws fuel program ≡ accepted P → admit P fn (ancillae anc) (value bytes) (D .side) ≡ accepted a
+          → ran fuel (D .run P a fuel) ≡ refused n k → Refuses n k
+      during P a p q s = running P (a .fun) (a .ancillae) (a .value) (admitted-iff (D .side) ws fuel fn program anc bytes P a .0 (p, q))
+          (ran-refused fuel (D .run P a fuel) (D .safe P fn (ancillae anc) (value bytes) a fuel (prepared-iff ws fuel program P .0 p .2)
+          (admit-iff P fn (ancillae anc) (value bytes) (D .side) a .0 q)) s)
+
+----------------------------------------------------------------
+-- The calls
+
+module _ (ws out fuel fn : ℕ) (program anc bytes : List ℕ) where
+  pub forward-call-iff : (w : Val) (n : ℕ) → (forwardCall ws out fuel fn program anc bytes ≡ answer w n) ↔ Answers onward ws out fuel fn program anc bytes w n
+  unfolding forwardCall directed
+  forward-call-iff w n = directed-iff onward ws out fuel fn program anc bytes w n
+
+  pub backward-call-iff : (w : Val) (n : ℕ) → (backwardCall ws out fuel fn program anc bytes ≡ answer w n) ↔ Answers back ws out fuel fn program anc bytes w n
+  unfolding backwardCall directed
+  backward-call-iff w n = directed-iff back ws out fuel fn program anc bytes w n
+
+  pub forward-call-refused : {n k : ℕ} → forwardCall ws out fuel fn program anc bytes ≡ refused n k → Refuses onward ws out fuel fn program anc bytes n k
+  unfolding forwardCall directed
+  forward-call-refused e = directed-refused onward ws out fuel fn program anc bytes e
+
+  pub backward-call-refused : {n k : ℕ} → backwardCall ws out fuel fn program anc bytes ≡ refused n k → Refuses back ws out fuel fn program anc bytes n k
+  unfolding backwardCall directed
+  backward-call-refused e = directed-refused back ws out fuel fn program anc bytes e

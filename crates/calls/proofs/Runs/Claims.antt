@@ -1,0 +1,146 @@
+-- The claims of specs/Claims about check, forward and backward, each proved under its name.
+use Prim.Native.Nat.{ℕ, _+_, _-_, _≤_}
+use native.Mathlib.Omega.{arith}
+use mathlib.Core.Path.{_≡_, refl, sym, ap, subst, _∙_}
+use mathlib.Core.Option.{some}
+use mathlib.Core.List.{List, [], _++_}
+use package.Rattle.rules.specs.Limits.{fits, maxHeight, maxVariables, maxNodes}
+use package.Rattle.rules.specs.Val.{Val, size, encode}
+use package.Rattle.rules.specs.Ty.{HasTy, HasTys}
+use package.Rattle.rules.specs.Term.{Fun, Program, nth}
+use package.Rattle.rules.specs.Typing.{WellTyped}
+use package.Rattle.rules.specs.Run.{ok}
+use package.Rattle.rules.specs.Machine.{runBackward}
+use package.Rattle.rules.specs.Claims.{Carries}
+use package.Rattle.rules.proofs.Basics.{given}
+use package.Rattle.rules.proofs.Numbers.{answer-ends}
+use package.Rattle.rules.proofs.Theorems as Rules
+use package.Rattle.calls.specs.Answer.{Answer, refused}
+use package.Rattle.calls.specs.Values.{got, read, value}
+use package.Rattle.calls.specs.Runs.{prepared, checkCall}
+use package.Rattle.calls.specs.Claims.{CheckIffTyped, ForwardIffRules, BackwardIffForward, NoInput, NeverStuck, OldConversionsReturn}
+use package.Rattle.calls.proofs.Answer.{via, unbind}
+use package.Rattle.calls.proofs.Values.{read-encode, value-encode, value-sound}
+use package.Rattle.calls.proofs.Refusals.{Numbered, number}
+use package.Rattle.calls.proofs.Load.{prepared-iff}
+use package.Rattle.calls.proofs.Runs.Calls.{gives, Direction, onward, back, Answers, before, running, short, forward-call-iff, backward-call-iff, backward-call-refused}
+use package.Rattle.calls.proofs.Runs.Numbers.{forward-numbered, backward-numbered, convert-numbered, rollback-numbered}
+
+----------------------------------------------------------------
+-- Check and forward
+
+pub check-iff-typed : CheckIffTyped
+unfolding checkCall
+check-iff-typed ws program = (
+  λ e. given (unbind (prepared ws 0 program) _ e) λ (P, p, q). given (prepared-iff ws 0 program P .0 p) λ (l, F, T). (l, (P, F, T)),
+  λ (l, (P, F, T)). via _ (prepared-iff ws 0 program P .1 (l, F, T)) refl,
+)
+
+pub forward-iff-rules : ForwardIffRules
+forward-iff-rules ws out fuel fn program anc bytes w n = (
+  λ e.
+      given (forward-call-iff ws out fuel fn program anc bytes w n .0 e) λ (P, h, vs, v, A, x, l, s).
+      given (Rules.forward-iff-rules P fits maxHeight h vs v w fuel (fuel - n) .0 x) λ (m, d, y).
+      (P, h, vs, v, A, subst (Carries fits P maxHeight h vs v w) (let z : m ≡ n = omega arith in z) d, l, s),
+  λ (P, h, vs, v, A, d, l, s).
+      forward-call-iff ws out fuel fn program anc bytes w n .1
+      (P, h, vs, v, A, Rules.forward-iff-rules P fits maxHeight h vs v w fuel (fuel - n) .1 (n, d, omega arith), l, s),
+)
+
+----------------------------------------------------------------
+-- Backward is forward, turned
+
+got-value : {v w : Val} {xs ys : List ℕ} → got v xs ≡ got w ys → v ≡ w
+got-value e = cc
+
+-- what is read from a value's bytes is the value
+read-back : (v : Val) {w : Val} → value (encode v) ≡ some w → v ≡ w
+read-back v {w} e = got-value (sym (read-encode v (size v + size w) [] (omega arith))
+    ∙ ap (λ xs. read (size v + size w) (xs ++ [])) (value-sound (encode v) e .0) ∙ read-encode w (size v + size w) [] (omega arith))
+
+module _ (D D′ : Direction) where
+  -- an answer in one direction, run in the other, gives what was given
+  abbrev Turns : Type 0
+  Turns = (P : Program) → WellTyped maxVariables maxNodes P → (fn : ℕ) (h : Fun) → nth P fn ≡ some h → (vs : List Val) → HasTys vs (h .ancillae)
+      → (v w : Val) (f g : ℕ) → HasTy v (D .side h) → D .run P (gives h vs v) f ≡ ok w g
+      → HasTy w (D′ .side h) × (D′ .run P (gives h vs w) f ≡ ok v g)
+
+  turn : Turns → (ws out out′ fuel fn : ℕ) (program anc : List ℕ) (v w : Val) (n : ℕ) → size v ≤ out′
+      → Answers D ws out fuel fn program anc (encode v) w n → Answers D′ ws out′ fuel fn program anc (encode w) v n
+  turn T ws out out′ fuel fn program anc v w n s (P, h, vs, u, A, x, l, s′) =
+      given (T P (A .typed) fn h (A .function) vs (A .ancillae-typed) u w fuel (fuel - n) (A .value-typed) x) λ (hw, y). (
+        P,
+        h,
+        vs,
+        w,
+        record {
+          enough = A .enough;
+          formed = A .formed;
+          typed = A .typed;
+          function = A .function;
+          ancillae-read = A .ancillae-read;
+          value-read = value-encode w (answer-ends (D .ends P (gives h vs u) fuel) x);
+          ancillae-typed = A .ancillae-typed;
+          value-typed = hw;
+        },
+        y ∙ ap (λ u. ok u (fuel - n)) (sym (read-back v (A .value-read))),
+        l,
+        s,
+      )
+
+onward-turns : Turns onward back
+onward-turns P T fn h p vs hs v w f g hv x =
+    given (Rules.keeps-types maxVariables maxNodes P T fn h p vs hs fits maxHeight f g v w .0 hv x) λ hw.
+    (hw, Rules.backward-iff-forward maxVariables maxNodes P T fn h p vs hs fits maxHeight v w f g hw .1 (hv, x))
+
+back-turns : Turns back onward
+back-turns P T fn h p vs hs w v f g hw x = Rules.backward-iff-forward maxVariables maxNodes P T fn h p vs hs fits maxHeight v w f g hw .0 x
+
+pub backward-iff-forward : BackwardIffForward
+backward-iff-forward ws out out′ fuel fn program anc v w n s s′ = (
+  λ e. forward-call-iff ws out′ fuel fn program anc (encode v) w n .1
+      (turn back onward back-turns ws out out′ fuel fn program anc w v n s′ (backward-call-iff ws out fuel fn program anc (encode w) v n .0 e)),
+  λ e. backward-call-iff ws out fuel fn program anc (encode w) v n .1
+      (turn onward back onward-turns ws out′ out fuel fn program anc v w n s (forward-call-iff ws out′ fuel fn program anc (encode v) w n .0 e)),
+)
+
+----------------------------------------------------------------
+-- Refusals
+
+pub no-input : NoInput
+no-input ws out fuel fn program anc bytes k e = elim (backward-call-refused ws out fuel fn program anc bytes e) [
+  | before l ↦ absurd (omega arith)
+  | running P h vs w A x ↦ (
+    P,
+    h,
+    vs,
+    w,
+    A,
+    λ fits′ r n v hv d.
+        Rules.no-input maxVariables maxNodes P (A .typed) fn h (A .function) vs (A .ancillae-typed) fits fits′ maxHeight r v w fuel k n hv x d,
+  )
+  | short e′ ↦ absurd (omega arith)
+]
+
+-- numbers begin with 1
+not-zero : {A : Type 0} {high k : ℕ} {x : Answer A} → Numbered 1 high x → ¬ (x ≡ refused 0 k)
+not-zero h e = given (number h e) λ (l, l′). omega arith
+
+pub never-stuck : NeverStuck
+never-stuck ws out fuel fn program anc bytes k = (
+  not-zero (forward-numbered ws out fuel fn program anc bytes),
+  not-zero (backward-numbered ws out fuel fn program anc bytes),
+  not-zero (convert-numbered ws fuel fn program anc bytes),
+  not-zero (rollback-numbered ws fuel program bytes),
+)
+
+----------------------------------------------------------------
+-- Wider limits
+
+pub old-conversions-return : OldConversionsReturn
+old-conversions-return variables most P T fn h p vs hs narrow wide r r′ f g n v w wider l hv d e =
+    given (Rules.forward-iff-rules P narrow r h vs v w f g .1 (n, d, e)) λ x.
+    given (Rules.keeps-types variables most P T fn h p vs hs narrow r f g v w .0 hv x) λ hw.
+    given (Rules.backward-iff-forward variables most P T fn h p vs hs narrow r v w f g hw .1 (hv, x)) λ y.
+    given (Rules.more-never-changes P h vs w .1 narrow wide r r′ f 0 wider l .0 v g y) λ z.
+    ap (runBackward wide P r′ h vs w) (let q : f ≡ f + 0 = omega arith in q) ∙ z ∙ ap (ok v) (let q : g + 0 ≡ g = omega arith in q)
