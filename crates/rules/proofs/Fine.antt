@@ -8,6 +8,7 @@ use package.Rattle.rules.specs.Ty.{Ty, one, prod, sum, mu, unfoldTy, Has
 use package.Rattle.rules.specs.Run.{Res, ok, stop, stuck, Run, after, enter, test}
 use package.Rattle.rules.specs.Machine.{onSum, onPair, onRoll, onUnit, onSome}
 
+-- an answer of which `Q` holds, or a refusal
 pub data Fine {X : Type 0} (Q : X → Type 0) : Res X → Type 0 where
   fine : {x : X} {g : ℕ} → Q x → Fine Q (ok x g)
   refused : {c k : ℕ} → Fine Q (stop c k)

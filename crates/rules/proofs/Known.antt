@@ -19,6 +19,7 @@ use package.Rattle.rules.proofs.Directed.{inside, Spent, SameUse}
 use package.Rattle.rules.proofs.Scope.{look-lt, look-skip, look-newest, look-none}
 use package.Rattle.rules.proofs.State.{Agree, agree-full, agree-length, known-look, Enough}
 
+-- the state knows variable `i`
 abbrev pub Knows : State → ℕ → Type 0
 Knows σ i = (v : Val) × (known σ i ≡ some v)
 

@@ -11,6 +11,7 @@ use package.Rattle.rules.specs.Rules.{Judgement, Rule, e-var, e-unit, e-
 use package.Rattle.rules.specs.Run.{Res, ok, stop, Run, after, enter, test}
 use package.Rattle.rules.specs.Machine.{onSome}
 
+-- a derivation takes a step
 pub steps : {fits : Val → Bool} {P : Program} {R : Judgement} {a ρ : List Val} {t : Term} {v : Val} {n : ℕ} → Rule fits P R a ρ t v n → 0 < n
 steps (e-var x ft) = omega arith
 steps (e-unit ft) = omega arith

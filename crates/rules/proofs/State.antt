@@ -1,7 +1,4 @@
 -- Laws of states: what a state says of a scope, and how a state changes where a variable is met or leaves.
-
-----------------------------------------------------------------
--- A state agrees with a scope: it says of the variables nothing but what is so
 use Prim.Native.Nat.{ℕ, suc}
 use mathlib.Core.Path.{_≡_, refl, sym, ap, ap₂, subst, _∙_}
 use mathlib.Core.Bool.{Bool, true, false, cond}
@@ -16,6 +13,9 @@ use package.Rattle.rules.specs.Machine.{State, known, bindOr, meet, leav
 use package.Rattle.rules.proofs.Basics.{none≢some}
 use package.Rattle.rules.proofs.Run.{unbind, stuck≢ok, ok-value, ok-fuel, test-inv}
 use package.Rattle.rules.proofs.Val.{same-eq}
+
+----------------------------------------------------------------
+-- A state agrees with a scope: it says of the variables nothing but what is so
 
 abbrev pub Fit : Option Val → Val → Type 0
 Fit none v = Unit {0}

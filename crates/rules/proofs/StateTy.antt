@@ -1,6 +1,4 @@
 -- States whose values have the variables' types.
-
--- what is known of a variable has its type
 use Prim.Native.Nat.{ℕ, suc, _≤_, _<_}
 use native.Mathlib.Omega.{arith}
 use native.Mathlib.Decide.{decLt}
@@ -22,6 +20,7 @@ use package.Rattle.rules.proofs.Fine.{Fine, fine, fine-after, fine-test
 use package.Rattle.rules.proofs.Known.{Knows, known-new, knows-push, Mono, Bound, mono-pop, bound-pop, knows-new, mono-set, mono-push, knows-full}
 use package.Rattle.rules.proofs.Scope.{look-newest}
 
+-- what is known of a variable has its type
 abbrev OptTy : Option Val → Ty → Type 0
 OptTy none c = Unit {0}
 OptTy (some v) c = HasTy v c

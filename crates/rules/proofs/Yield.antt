@@ -14,6 +14,7 @@ use package.Rattle.rules.proofs.Basics.{or-right}
 use package.Rattle.rules.proofs.Scope.{look-lt, look-skip}
 use package.Rattle.rules.proofs.Val.{same-refl}
 
+-- the ancilla parameters `a` are the oldest variables of `ρ`
 abbrev pub Under : List Val → List Val → Type 0
 Under a ρ = (length a ≤ length ρ) × ((i : ℕ) (w : Val) → look a i ≡ some w → look ρ i ≡ some w)
 

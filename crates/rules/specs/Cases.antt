@@ -6,8 +6,8 @@ use mathlib.Core.List.{List, [], _∷_}
 use package.Rattle.rules.specs.Limits.{fits, maxHeight, maxNodes, maxVariables}
 use package.Rattle.rules.specs.Val.{Val, unit, inl, inr, pair, roll, size}
 use package.Rattle.rules.specs.Ty.{Ty, one, prod, sum, mu, tyvar}
-use package.Rattle.rules.specs.Term.{var, tunit, tinl, tinr, tpair, tletp, tcase, tcall, troll, tunroll, end, more, Fun, Program}
-use package.Rattle.rules.specs.Check.{Checked, good, bad, function, check}
+use package.Rattle.rules.specs.Term.{Term, var, tunit, tinl, tinr, tpair, tlet, tletp, tcase, tcall, troll, tunroll, end, more, Fun, Program}
+use package.Rattle.rules.specs.Check.{Checked, good, bad, term, function, check}
 use package.Rattle.rules.specs.Run.{Res, ok, stop}
 use package.Rattle.rules.specs.Machine.{runForward, runBackward}
 
@@ -75,6 +75,21 @@ leftCalls = record {
 abbrev pub identity : Fun
 identity = record { ancillae = []; dynamic = bit; result = bit; body = var 7 0 }
 
+-- Orders of typing tests (section 4). A left branch that leaves its variable, of type 1 + 1, unused, and a right branch that names a
+-- variable out of scope: 8 at the case comes first.
+abbrev pub leftUnused : Fun
+leftUnused = record { ancillae = []; dynamic = sum bit one; result = one; body = tcase 3 (var 0 0) (tunit 1) (var 2 9) }
+
+-- `n` lets of unit around a term
+unfoldable pub lets : ℕ → Term → Term
+lets zero t = t
+lets (suc n) t = tlet 100 (tunit 101) (lets n t)
+
+-- A let where 32 variables are in scope already, of a variable out of scope: 7 at the let comes first.
+unfoldable pub crowded : Fun
+unfolding lets
+crowded = record { ancillae = []; dynamic = one; result = one; body = lets 31 (tlet 3 (var 1 99) (tunit 2)) }
+
 ----------------------------------------------------------------
 -- The table
 
@@ -117,3 +132,5 @@ pub record Table : Type 0 where
   pub left-typed : checked (leftCalls ∷ identity ∷ []) ≡ good tt
   pub left-inl : returns (leftCalls ∷ identity ∷ []) leftCalls [] (inl unit) 65535 ≡ ok (inl unit) 65529
   pub left-inr : returns (leftCalls ∷ identity ∷ []) leftCalls [] (inr unit) 65535 ≡ stop 16 2
+  pub order-left : checked (leftUnused ∷ []) ≡ bad 8 (term 3)
+  pub order-let : checked (crowded ∷ []) ≡ bad 7 (term 3)
