@@ -9,6 +9,8 @@ pub mod Types
 pub mod Journal
 -- with which numbers an answer may be refused
 pub mod Refusals
+-- what the counting of type entries means for their trees
+pub mod Entries
 -- what is loaded is well-formed and typed, and nothing else
 pub mod Load
 -- check, forward and backward: their parts, their refusals, and the claims about them
