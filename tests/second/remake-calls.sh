@@ -1,7 +1,7 @@
 #!/usr/bin/env bash
-# Makes tests/calls anew. The first 152 calls stay as they are: section 6's cases (`second cases`), 31 calls that each
-# tell two readings of document 01 apart, and 100 others; the rest is made, in three bands of length, and the answers
-# of all are the second evaluator's.
+# Makes tests/calls anew. The first 131 calls stay as they are: 31 that each tell two readings of document 01 apart,
+# and 100 others. The rest is made: section 6's cases and the limits, then random calls in three bands of length, then
+# the calls of some lists. The answers of all are the second evaluator's.
 set -euo pipefail
 cd "$(dirname "$0")"
 cargo build --quiet --release --offline
@@ -14,9 +14,10 @@ band() {
 }
 
 {
-    band 0 100000 152 < "$calls"
+    band 0 100000 131 < "$calls"
+    "$second" cases
     "$second" make 1 4000 | band 0 1300 1300
-    "$second" make 2 3000 | band 2000 4200 250
+    "$second" make 2 3000 | band 2000 4200 220
     "$second" make 3 20000 | band 6000 17000 6
     "$second" book 4 60 | sed 's/ = .*//' | band 0 1300 300
 } > "$calls.new"

@@ -12,7 +12,7 @@ use std::process::ExitCode;
 
 const USAGE: &str = "\
 usage: second answer < CALLS       one answer a line
-       second cases                section 6's cases as calls
+       second cases                section 6's cases as calls, and each limit exactly and one past it
        second make SEED COUNT      COUNT random calls
        second book SEED COUNT      COUNT lists of calls, a line each: CALL = the plain book's ANSWER
        second tally < CALLS        how often each answer is met, by call and kind of place

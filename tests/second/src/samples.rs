@@ -61,6 +61,16 @@ pub fn flipped_by_part() -> Function {
     }
 }
 
+/// P12 with the deciding part as an ancilla: the left branch is the dynamic parameter, which may yield anything.
+pub fn flipped_by_ancilla() -> Function {
+    let flipped = case(variable(1), inr(&boolean(), variable(3)), inl(&boolean(), variable(3)));
+    Function {
+        parameters: vec![boolean(), boolean()],
+        result: boolean(),
+        body: case(variable(0), variable(1), flipped),
+    }
+}
+
 /// 1+1 with its injections exchanged.
 pub fn not() -> Function {
     let exchanged = case(variable(0), inr(&boolean(), variable(1)), inl(&boolean(), variable(1)));

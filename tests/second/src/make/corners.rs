@@ -3,7 +3,7 @@
 use super::types::{random_type, smallest_term};
 use crate::draft::*;
 use crate::rng::Rng;
-use crate::samples::{dup, flipped_by_part, plus, same_in_both_branches, successor};
+use crate::samples::{dup, flipped_by_ancilla, flipped_by_part, plus, same_in_both_branches, successor};
 
 /// Programs whose values are longer than what they come from, one way or the other.
 pub fn sized_program(rng: &mut Rng) -> Draft {
@@ -29,7 +29,7 @@ pub fn corner_program(rng: &mut Rng) -> Draft {
         4 | 11 => ancilla_terms(rng),
         5 => vec![plus(0), times(1, 0)],
         6 => parity(),
-        7 => vec![same_in_both_branches(), flipped_by_part()],
+        7 => vec![same_in_both_branches(), flipped_by_part(), flipped_by_ancilla()],
         8 => return shortening_program(rng),
         9 => beside_ancillae(rng),
         _ => bound_in_ancillae(rng),

@@ -1,9 +1,13 @@
-//! Section 6's cases as calls.
+//! Calls with a known point: section 6's cases, and each limit exactly and one past it.
+
+mod limits;
 
 use crate::calls::{answer, Answer, Call, ConvertCall, Direction, RunCall};
 use crate::draft::{nat, Draft, Function};
-use crate::limits::{self, FUEL, VALUE_BYTES};
-use crate::samples::{dup, flipped_by_part, nat_bytes, plus, same_in_both_branches, unused_sum};
+use crate::limits::{workspace, FUEL, VALUE_BYTES};
+use crate::samples::{
+    dup, flipped_by_ancilla, flipped_by_part, nat_bytes, plus, same_in_both_branches, unused_sum,
+};
 
 const PLUS: u16 = 0;
 const DUP: u16 = 1;
@@ -19,7 +23,7 @@ pub fn cases() -> Vec<Call> {
     let pair = |first, second| [&[3], &nat_bytes(first)[..], &nat_bytes(second)].concat();
     let (zero, two) = (nat_bytes(0), nat_bytes(2));
     let mut calls = vec![
-        Call::Check { workspace: limits::workspace(0), program: program.clone() },
+        check(program.clone()),
         forward(PLUS, FUEL, &two, &zero),
         forward(PLUS, 28, &two, &nat_bytes(3)),
         forward(PLUS, 27, &two, &nat_bytes(3)),
@@ -34,6 +38,7 @@ pub fn cases() -> Vec<Call> {
     ];
     calls.extend(first_match());
     calls.extend(journal(&program));
+    calls.extend(limits::at_the_limits());
     calls
 }
 
@@ -45,10 +50,13 @@ fn first_match() -> Vec<Call> {
     vec![
         forward(same_in_both_branches(), &[1, 0]),
         forward(same_in_both_branches(), &[2, 0]),
-        Call::Check { workspace: limits::workspace(0), program: program(unused_sum()) },
+        check(program(unused_sum())),
         forward(flipped_by_part(), &[3, 1, 0, 2, 0]),
         forward(flipped_by_part(), &[3, 2, 0, 1, 0]),
         forward(flipped_by_part(), &[3, 2, 0, 2, 0]),
+        run(&program(flipped_by_ancilla()), Direction::Forward, 0, FUEL, &[1, 0], &[2, 0]),
+        run(&program(flipped_by_ancilla()), Direction::Forward, 0, FUEL, &[2, 0], &[1, 0]),
+        run(&program(flipped_by_ancilla()), Direction::Backward, 0, FUEL, &[2, 0], &[1, 0]),
     ]
 }
 
@@ -59,32 +67,32 @@ fn journal(program: &[u8]) -> Vec<Call> {
         _ => Vec::new(),
     };
     let open = Call::Open {
-        workspace: limits::workspace(0),
+        workspace: workspace(0),
         program: program.to_vec(),
         record: nat_bytes(3),
         journal: vec![0; 40],
     };
     let convert = Call::Convert(ConvertCall {
-        workspace: limits::workspace(28),
+        workspace: workspace(28),
         fuel: 28,
         function: PLUS,
         program: program.to_vec(),
         ancillae: nat_bytes(2),
         journal: left(&open),
     });
-    let rollback = Call::Rollback {
-        workspace: limits::workspace(28),
-        fuel: 28,
-        program: program.to_vec(),
-        journal: left(&convert),
-    };
+    let rollback =
+        Call::Rollback { workspace: workspace(28), fuel: 28, program: program.to_vec(), journal: left(&convert) };
     vec![open, convert, rollback]
+}
+
+fn check(program: Vec<u8>) -> Call {
+    Call::Check { workspace: workspace(0), program }
 }
 
 fn run(program: &[u8], direction: Direction, function: u16, fuel: u16, ancillae: &[u8], value: &[u8]) -> Call {
     Call::Run(RunCall {
         direction,
-        workspace: limits::workspace(fuel),
+        workspace: workspace(fuel),
         output: VALUE_BYTES,
         fuel,
         function,
