@@ -6,7 +6,7 @@ use mathlib.Core.Path.{_≡_, refl, sym, subst, _∙_}
 use mathlib.Core.Bool.{true}
 use mathlib.Core.Option.{Option}
 use mathlib.Core.List.{List}
-use mathlib.Core.Logic.{_↔_, ⊎-elim}
+use mathlib.Core.Logic.{_↔_}
 use lib.Dec.{leb}
 use package.Rattle.rules.specs.Limits.{fits, maxHeight, maxVariables, maxNodes, maxValueBytes}
 use package.Rattle.rules.specs.Val.{Val, unit, size}
@@ -15,9 +15,9 @@ use package.Rattle.rules.specs.Term.{Fun, Program}
 use package.Rattle.rules.specs.Typing.{WellTyped}
 use package.Rattle.rules.specs.Run.{Res, ok, stop, stuck}
 use package.Rattle.rules.specs.Machine.{runForward, runBackward}
-use package.Rattle.rules.proofs.Backward.Fits.{run-back-ends}
+use package.Rattle.rules.proofs.Backward.Fits.{run-backward-ends}
 use package.Rattle.rules.proofs.Basics.{given}
-use package.Rattle.rules.proofs.Numbers.{Ends, ends-map, run-forward-ends}
+use package.Rattle.rules.proofs.Numbers.{Ends, run-forward-ends}
 use package.Rattle.rules.proofs.Theorems.{forward-iff-rules, backward-then-forward, never-stuck}
 use package.Rattle.rules.proofs.Typing.Tests.{leb-yes, leb-sound}
 use package.Rattle.calls.specs.Answer.{Answer, accepted, refused, _>>=_, require}
@@ -70,7 +70,7 @@ back = record {
   run = λ P a f. runBackward fits P maxHeight (a .fun) (a .ancillae) (a .value) f;
   left = λ P a f v g p.
       forward-left P (a .fun) (a .ancillae) v (a .value) f g (backward-then-forward P fits maxHeight (a .fun) (a .ancillae) v (a .value) f g p);
-  ends = λ P a f. ends-map (λ v l. ⊎-elim (λ e. subst (λ v. fits v ≡ true) e unit-fits) (λ ft. ft) l) (run-back-ends fits P maxHeight (a .fun) (a .ancillae) (a .value) f);
+  ends = λ P a f. run-backward-ends fits P unit-fits maxHeight (a .fun) (a .ancillae) (a .value) f;
   safe = λ P fn as? v? a f T A. never-stuck maxVariables maxNodes P T fn (a .fun) (A .function) (a .ancillae) (A .ancillae-typed) fits maxHeight f (a .value) .1 (A .value-typed);
 }
 
@@ -78,7 +78,7 @@ back = record {
 -- The parts before the run
 
 module _ (side : Fun → Ty) (ws fuel fn : ℕ) (program anc bytes : List ℕ) where
-  -- the parts before the run
+  -- they are accepted exactly if the call is admitted
   pub admitted-iff : (P : Program) (a : Given)
       → ((prepared ws fuel program ≡ accepted P) × (admit P fn (ancillae anc) (value bytes) side ≡ accepted a))
       ↔ Admitted ws fuel fn program anc bytes side P (a .fun) (a .ancillae) (a .value)
@@ -109,6 +109,7 @@ module _ (side : Fun → Ty) (ws fuel fn : ℕ) (program anc bytes : List ℕ) w
 -- A call in a direction
 
 module _ (D : Direction) (ws out fuel fn : ℕ) (program anc bytes : List ℕ) where
+  -- forward and backward are this call, each in its direction
   unfoldable pub directed : Answer Ran
   directed = do
     P ← prepared ws fuel program

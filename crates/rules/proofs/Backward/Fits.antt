@@ -6,7 +6,7 @@ use mathlib.Core.Path.{_≡_, refl, sym, subst}
 use mathlib.Core.Bool.{Bool, true, false, cond}
 use mathlib.Core.Option.{Option, none, some}
 use mathlib.Core.List.{List, [], _∷_, map}
-use mathlib.Core.Logic.{_⊎_, inl as left, inr as right}
+use mathlib.Core.Logic.{_⊎_, inl as left, inr as right, ⊎-elim}
 use lib.ListN.{length}
 use lib.Dec.{eqb}
 use package.Rattle.rules.specs.Val.{Val, unit, inl, inr, pair, roll, same}
@@ -122,14 +122,14 @@ module _ (fits : Val → Bool) where
     ----------------------------------------------------------------
     -- Functions
 
-    pub run-back-ends : (r : ℕ) (h : Fun) (vs : List Val) (w : Val) (f : ℕ) → Ends Leaves (runBackward fits P r h vs w f)
+    run-leaves : (r : ℕ) (h : Fun) (vs : List Val) (w : Val) (f : ℕ) → Ends Leaves (runBackward fits P r h vs w f)
     unfolding runBackward
-    run-back-ends r h vs w f = ends-after _ (backward-ends r (scope vs []) (none ∷ map some (scope vs [])) (h .body) w f) λ σ g x.
+    run-leaves r h vs w f = ends-after _ (backward-ends r (scope vs []) (none ∷ map some (scope vs [])) (h .body) w f) λ σ g x.
         leave-ends (map some (scope vs [])) σ _ g x λ v σ′ l y. answers l
 
-    pub run-back-fits : fits unit ≡ true → (r : ℕ) (h : Fun) (vs : List Val) (v w : Val) (f g : ℕ) → runBackward fits P r h vs w f ≡ ok v g → fits v ≡ true
-    run-back-fits u r h vs v w f g p = go (answer-ends (run-back-ends r h vs w f) p)
-      where
-        go : Leaves v → fits v ≡ true
-        go (left e) = subst (λ v. fits v ≡ true) e u
-        go (right ft) = ft
+    module _ (u : fits unit ≡ true) where
+      pub run-backward-ends : (r : ℕ) (h : Fun) (vs : List Val) (w : Val) (f : ℕ) → Ends (λ v. fits v ≡ true) (runBackward fits P r h vs w f)
+      run-backward-ends r h vs w f = ends-map (λ v l. ⊎-elim (λ e. subst (λ v. fits v ≡ true) e u) (λ ft. ft) l) (run-leaves r h vs w f)
+
+      pub run-back-fits : (r : ℕ) (h : Fun) (vs : List Val) (v w : Val) (f g : ℕ) → runBackward fits P r h vs w f ≡ ok v g → fits v ≡ true
+      run-back-fits r h vs v w f g p = answer-ends (run-backward-ends r h vs w f) p
