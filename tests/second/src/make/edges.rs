@@ -140,7 +140,7 @@ fn pair_size(rng: &mut Rng) -> Vec<u8> {
 /// An unfolding near 1,024 nodes: a recursive type over m nodes, k of them its variable, unfolds to m (k + 1) nodes.
 fn unfolded_size(rng: &mut Rng) -> Vec<u8> {
     let (variables, nodes) =
-        *rng.pick(&[(1, 512), (3, 256), (7, 128), (15, 64), (4, 205), (24, 41), (2, 341), (2, 342), (1, 513)]);
+        *rng.pick(&[(1, 512), (3, 256), (7, 128), (15, 64), (4, 205), (2, 341), (2, 342), (1, 513)]);
     let ty = recursive(&tree_of(variables, nodes));
     let unfolded = unfold(&ty);
     let within = variables * nodes + nodes <= TYPE_NODES as usize;
