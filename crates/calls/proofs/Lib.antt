@@ -15,7 +15,11 @@ pub mod Entries
 pub mod Load
 -- check, forward and backward: their parts, their refusals, and the claims about them
 pub mod Runs
+-- the plain book: demand 3
+pub mod Book
 -- definitions that cases compute with
 pub mod Compute
--- section 6's cases, by computation
+-- section 6's cases, orders and samples, by computation
 pub mod Table
+-- the claims, proved
+pub mod Theorems

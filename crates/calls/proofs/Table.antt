@@ -1,6 +1,7 @@
--- Section 6's cases on bytes, by computation.
+-- Section 6's cases on bytes, the orders of section 4 and sample calls, by computation.
 use mathlib.Core.Path.{refl}
-use package.Rattle.calls.specs.Cases.{Table, Limits}
+use package.Rattle.calls.specs.Cases.{Table, Limits, Orders}
+use package.Rattle.calls.specs.Samples.{Samples}
 use package.Rattle.calls.proofs.Compute.{computing}
 
 pub table : Table
@@ -28,3 +29,28 @@ table = record {
 pub limits : Limits
 unfolding computing
 limits = record { p6 = refl; p7 = refl; p7-short = refl; p8 = refl }
+
+pub orders : Orders
+unfolding computing
+orders = record { converts = refl; room = refl; steps-before-room = refl; malformed-before-typed = refl; typed = refl; second = refl }
+
+pub samples : Samples
+unfolding computing
+samples = record {
+  check-accepts = refl;
+  check-2 = refl;
+  check-4 = refl;
+  check-5 = refl;
+  check-6 = refl;
+  check-7 = refl;
+  check-8 = refl;
+  forward-answers = refl;
+  forward-12 = refl;
+  backward-answers = refl;
+  backward-16 = refl;
+  open-accepts = refl;
+  convert-turns = refl;
+  rollback-turns = refl;
+  rollback-18 = refl;
+  rollback-19 = refl;
+}

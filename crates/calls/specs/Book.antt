@@ -8,7 +8,7 @@ use mathlib.Core.List.{List, [], _∷_, _++_}
 use lib.ListN.{length, take, drop, replicate}
 use package.Rattle.rules.specs.Limits.{fits, maxHeight, maxFuel}
 use package.Rattle.rules.specs.Val.{Val, unit, size}
-use package.Rattle.rules.specs.Term.{Program, nth}
+use package.Rattle.rules.specs.Term.{Fun, Program, nth}
 use package.Rattle.rules.specs.Machine.{runForward}
 use package.Rattle.calls.specs.Answer.{Answer, accepted, refused}
 use package.Rattle.calls.specs.Values.{value, ancillae}
@@ -50,13 +50,20 @@ pub record Book : Type 0 where
   pub first : Val
   pub rows : List Row
 
+-- what a run answers; else the value stays
+unfoldable pub orStays : Val → Answer Ran → Ran
+orStays v (accepted r) = r
+orStays v (refused n k) = record { value = v; steps = 0 }
+
+unfoldable pub carryBy : Program → Option Fun → Row → Val → Ran
+unfolding orStays ran
+carryBy P none row v = record { value = v; steps = 0 }
+carryBy P (some h) row v = orStays v (ran maxFuel (runForward fits P maxHeight h (row .ancillae) v maxFuel))
+
 -- A row run forward by the rules. (A row of a book ran when it was added; for any other the value stays.)
 unfoldable pub carry : Program → Row → Val → Ran
-unfolding ran
-carry P row v = elim (nth P (row .function)) [
-  | none ↦ record { value = v; steps = 0 }
-  | some h ↦ elim (ran maxFuel (runForward fits P maxHeight h (row .ancillae) v maxFuel)) [ accepted r ↦ r | refused n k ↦ record { value = v; steps = 0 } ]
-]
+unfolding carryBy
+carry P row v = carryBy P (nth P (row .function)) row v
 
 -- a record run forward through rows, oldest first
 unfoldable pub through : Program → List Row → Val → Val
@@ -141,9 +148,14 @@ enters P (rollsBack ws fuel n) b =
     }
 
 -- A call that section 4 refuses on the bytes that the book writes out changes nothing.
+unfoldable pub turnUnless : Option Told → Program → Call → Book → Turn
+unfolding enters
+turnUnless (some t) P c b = record { book = b; told = t }
+turnUnless none P c b = enters P c b
+
 unfoldable pub bookTurn : List ℕ → Program → Call → Book → Turn
-unfolding refusal enters
-bookTurn program P c b = elim (refusal program c (writeOut (buffer c) (journalOf P b))) [ some t ↦ record { book = b; told = t } | none ↦ enters P c b ]
+unfolding refusal turnUnless
+bookTurn program P c b = turnUnless (refusal program c (writeOut (buffer c) (journalOf P b))) P c b
 
 -- a list of calls, in order: the book after it, and the answers
 pub record BookRun : Type 0 where

@@ -80,6 +80,14 @@ flip = bitTypes ++ typeField 1 (1 ∷ 1 ∷ [])
     ++ termField 7 (1 ∷ 2 ∷ 8 ∷ []) ++ termField 6 (0 ∷ 9 ∷ [])
     ++ functionField 1 (2 ∷ []) 10
 
+-- a product of six units, by let pairs, to unit: its record is eleven bytes, its result one
+unfoldable pub units : List ℕ
+unfolding typeField varField termField functionField
+units = typeField 0 [] ++ typeField 1 (0 ∷ 0 ∷ []) ++ typeField 1 (0 ∷ 1 ∷ []) ++ typeField 1 (0 ∷ 2 ∷ []) ++ typeField 1 (0 ∷ 3 ∷ []) ++ typeField 1 (0 ∷ 4 ∷ [])
+    ++ varField 0 ++ varField 2 ++ varField 4 ++ varField 6 ++ varField 8
+    ++ termField 1 [] ++ termField 6 (4 ∷ 5 ∷ []) ++ termField 6 (3 ∷ 6 ∷ []) ++ termField 6 (2 ∷ 7 ∷ []) ++ termField 6 (1 ∷ 8 ∷ []) ++ termField 6 (0 ∷ 9 ∷ [])
+    ++ functionField 0 (5 ∷ []) 10
+
 ----------------------------------------------------------------
 -- The table
 
@@ -136,3 +144,27 @@ pub record Limits : Type 0 where
   pub p7 : forwardCall ample 1024 65535 1 numbers [] (encode (num 254)) ≡ value (pair (num 254) (num 254)) 3
   pub p7-short : forwardCall ample 1022 65535 1 numbers [] (encode (num 254)) ≡ refused 17 0
   pub p8 : forwardCall ample 1024 65535 1 numbers [] (encode (num 255)) ≡ refused 14 11
+
+----------------------------------------------------------------
+-- Orders of section 4
+
+-- the six units
+abbrev pub sixUnits : Val
+sixUnits = pair unit (pair unit (pair unit (pair unit (pair unit unit))))
+
+-- unit held after the units' conversion, with the steps that its entry says, in a buffer with no zeros behind
+abbrev pub unitHeld : ℕ → List ℕ
+unitHeld steps = 0x21 ∷ 0 ∷ 1 ∷ 0 ∷ 0x22 ∷ 0 ∷ 6 ∷ 0 ∷ 0 ∷ 0 ∷ 0 ∷ 0 ∷ steps ∷ []
+
+pub record Orders : Type 0 where
+  -- the conversion takes 11 steps, and fits
+  pub converts : convertCall ample 65535 0 units [] (0x21 ∷ 0 ∷ 11 ∷ (encode sixUnits ++ replicate 9 0)) ≡ held 1 11 (unitHeld 11 ++ replicate 10 0)
+  -- rolled back in a buffer of 13 bytes, the record of 11 does not fit; steps that differ are met before that
+  pub room : rollbackCall ample 65535 units (unitHeld 11) ≡ refused 20 0
+  pub steps-before-room : rollbackCall ample 65535 units (unitHeld 12) ≡ refused 18 0
+  -- a malformed value goes before an ancilla of another type
+  pub malformed-before-typed : forwardCall ample 1024 28 0 numbers (encode unit) (5 ∷ []) ≡ refused 10 0
+  pub typed : forwardCall ample 1024 28 0 numbers (encode unit) (encode (num 3)) ≡ refused 11 0
+  -- a second conversion carries the record too, and both go back
+  pub second : convertCall ample 65535 0 numbers (encode (num 2)) (converted ++ replicate 20 0)
+      ≡ held 17 44 (0x21 ∷ 0 ∷ 17 ∷ (encode (num 7) ++ 0x22 ∷ 0 ∷ 13 ∷ 0 ∷ 0 ∷ 0 ∷ 0 ∷ 0 ∷ 28 ∷ (encode (num 2) ++ 0x22 ∷ 0 ∷ 13 ∷ 0 ∷ 0 ∷ 0 ∷ 0 ∷ 0 ∷ 44 ∷ (encode (num 2) ++ replicate 8 0))))

@@ -85,6 +85,16 @@ NeverStuck = (ws out fuel fn : ℕ) (program anc bytes : List ℕ) (k : ℕ)
     × ¬ (convertCall ws fuel fn program anc bytes ≡ refused 0 k)
     × ¬ (rollbackCall ws fuel program bytes ≡ refused 0 k)
 
+-- Demand 1: what a call does not accept it refuses under a number of document 01.
+abbrev pub RefusalNumbers : Type 0
+RefusalNumbers = (ws out fuel fn n k m : ℕ) (program anc bytes : List ℕ)
+    → (checkCall ws program ≡ refused n k → (1 ≤ n) × (n ≤ 8))
+    × (forwardCall ws out fuel fn program anc bytes ≡ refused n k → (1 ≤ n) × (n ≤ 17))
+    × (backwardCall ws out fuel fn program anc bytes ≡ refused n k → (1 ≤ n) × (n ≤ 17))
+    × (openCall ws program bytes m ≡ refused n k → (1 ≤ n) × (n ≤ 20))
+    × (convertCall ws fuel fn program anc bytes ≡ refused n k → (1 ≤ n) × (n ≤ 20))
+    × (rollbackCall ws fuel program bytes ≡ refused n k → (1 ≤ n) × (n ≤ 20))
+
 -- A conversion that was accepted under narrower limits goes back under wider ones, in as many steps, given fuel for them.
 abbrev pub OldConversionsReturn : Type 0
 OldConversionsReturn = (variables most : ℕ) (P : Program) → OfTyped variables most P λ h vs.

@@ -23,3 +23,5 @@ pub mod Book
 pub mod Claims
 -- section 6's cases, as propositions
 pub mod Cases
+-- sample calls with their answers, as one proposition
+pub mod Samples

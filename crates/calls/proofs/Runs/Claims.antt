@@ -18,13 +18,13 @@ use package.Rattle.rules.proofs.Theorems as Rules
 use package.Rattle.calls.specs.Answer.{Answer, refused}
 use package.Rattle.calls.specs.Values.{got, read, value}
 use package.Rattle.calls.specs.Runs.{prepared, checkCall}
-use package.Rattle.calls.specs.Claims.{CheckIffTyped, ForwardIffRules, BackwardIffForward, NoInput, NeverStuck, OldConversionsReturn}
+use package.Rattle.calls.specs.Claims.{CheckIffTyped, ForwardIffRules, BackwardIffForward, NoInput, NeverStuck, RefusalNumbers, OldConversionsReturn}
 use package.Rattle.calls.proofs.Answer.{via, unbind}
 use package.Rattle.calls.proofs.Values.{read-encode, value-encode, value-sound}
 use package.Rattle.calls.proofs.Refusals.{Numbered, number}
 use package.Rattle.calls.proofs.Load.{prepared-iff}
 use package.Rattle.calls.proofs.Runs.Calls.{gives, Direction, onward, back, Answers, before, running, short, forward-call-iff, backward-call-iff, backward-call-refused}
-use package.Rattle.calls.proofs.Runs.Numbers.{forward-numbered, backward-numbered, convert-numbered, rollback-numbered}
+use package.Rattle.calls.proofs.Runs.Numbers.{check-numbered, forward-numbered, backward-numbered, open-numbered, convert-numbered, rollback-numbered}
 
 ----------------------------------------------------------------
 -- Check and forward
@@ -144,3 +144,13 @@ old-conversions-return variables most P T fn h p vs hs narrow wide r r′ f g n 
     given (Rules.backward-iff-forward variables most P T fn h p vs hs narrow r v w f g hw .1 (hv, x)) λ y.
     given (Rules.more-never-changes P h vs w .1 narrow wide r r′ f 0 wider l .0 v g y) λ z.
     ap (runBackward wide P r′ h vs w) (let q : f ≡ f + 0 = omega arith in q) ∙ z ∙ ap (ok v) (let q : g + 0 ≡ g = omega arith in q)
+
+pub refusal-numbers : RefusalNumbers
+refusal-numbers ws out fuel fn n k m program anc bytes = (
+  number (check-numbered ws program),
+  number (forward-numbered ws out fuel fn program anc bytes),
+  number (backward-numbered ws out fuel fn program anc bytes),
+  number (open-numbered ws program bytes m),
+  number (convert-numbered ws fuel fn program anc bytes),
+  number (rollback-numbered ws fuel program bytes),
+)
