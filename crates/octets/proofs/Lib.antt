@@ -1,2 +1,7 @@
--- Laws of numbers in bytes.
+-- Laws of bytes, by subject.
+-- numbers of two and four bytes
 pub mod Numbers
+-- runs of bytes: zeros, copies
+pub mod Runs
+-- numbers put into bytes
+pub mod Puts

@@ -1,2 +1,3 @@
--- Numbers in bytes, the high byte first (section 1).
+-- Bytes: numbers in them, the high byte first (section 1), and runs of them.
 pub mod Numbers
+pub mod Runs
