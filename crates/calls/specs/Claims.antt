@@ -130,12 +130,16 @@ pub data CarriedThrough (P : Program) : List Row → List Entry → Val → Val 
 abbrev pub begun : Val → Book
 begun first = record { first = first; rows = [] }
 
--- After a list of calls: every answer, the journal's bytes and the held record are the book's.
-module _ (program : List ℕ) (P : Program) (first : Val) (journal : List ℕ) (cs : List Call) where
+-- the length of the last call's buffer, the open's before the list being `n`
+unfoldable pub lastBuffer : ℕ → List Call → ℕ
+lastBuffer n [] = n
+lastBuffer n (c ∷ cs) = lastBuffer (buffer c) cs
+
+-- After a list of calls from a journal in a buffer of `n` bytes: every answer, the journal's bytes and the held record are the book's.
+module _ (program : List ℕ) (P : Program) (first : Val) (n : ℕ) (journal : List ℕ) (cs : List Call) where
   pub record AsTheBook : Type 0 where
     pub answers : callRun program cs journal .answers ≡ bookRun program P cs (begun first) .answers
-    pub bytes : callRun program cs journal .journal
-        ≡ writeOut (length (callRun program cs journal .journal)) (journalOf P (bookRun program P cs (begun first) .book))
+    pub bytes : callRun program cs journal .journal ≡ writeOut (lastBuffer n cs) (journalOf P (bookRun program P cs (begun first) .book))
     pub held : readJournal (callRun program cs journal .journal) ≡ some (journalOf P (bookRun program P cs (begun first) .book))
     pub carried : CarriedThrough P (bookRun program P cs (begun first) .book .rows) (journalOf P (bookRun program P cs (begun first) .book) .entries)
         (bookRun program P cs (begun first) .book .first) (journalOf P (bookRun program P cs (begun first) .book) .held)
@@ -143,7 +147,7 @@ module _ (program : List ℕ) (P : Program) (first : Val) (journal : List ℕ) (
 -- For every list of calls, refused ones included, from a journal just left by an open that is accepted.
 abbrev pub Demand3 : Type 0
 Demand3 = (program : List ℕ) (P : Program) (ws n : ℕ) (bytes journal : List ℕ) (first : Val) → load program ≡ accepted P → value bytes ≡ some first
-    → openCall ws program bytes n ≡ accepted journal → (cs : List Call) → Premises program cs journal → AsTheBook program P first journal cs
+    → openCall ws program bytes n ≡ accepted journal → (cs : List Call) → Premises program cs journal → AsTheBook program P first n journal cs
 
 ----------------------------------------------------------------
 -- Demand 3: the rollback that is never refused

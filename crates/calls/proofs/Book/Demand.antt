@@ -1,7 +1,7 @@
 -- Demand 3: after any list of calls answers, bytes and held record are the book's; and the newest standing conversion rolls back.
 use Prim.Native.Nat.{ℕ, _+_, _-_, _≤_}
 use native.Mathlib.Omega.{arith}
-use mathlib.Core.Path.{_≡_, refl, sym, ap, subst, _∙_}
+use mathlib.Core.Path.{_≡_, refl, sym, ap, ap₂, subst, _∙_}
 use mathlib.Core.Bool.{true}
 use mathlib.Core.Option.{some}
 use mathlib.Core.List.{List, [], _∷_, _++_}
@@ -12,7 +12,7 @@ use package.Rattle.rules.specs.Term.{Program}
 use package.Rattle.rules.specs.Typing.{WellTyped}
 use package.Rattle.rules.specs.Run.{ok}
 use package.Rattle.rules.specs.Machine.{runBackward}
-use package.Rattle.calls.specs.Claims.{CarriedThrough, begun, Demand3, Met, NewestRollsBack}
+use package.Rattle.calls.specs.Claims.{CarriedThrough, begun, Demand3, Met, NewestRollsBack, lastBuffer}
 use package.Rattle.calls.specs.Answer.{accepted}
 use package.Rattle.calls.specs.Book.{Row, bookRun, resized, callRun}
 use package.Rattle.calls.specs.Conversions.{openCall, rollbackCall}
@@ -40,13 +40,17 @@ opened-keeps program bytes ws n {xs} {P} {origin} vr op =
     subst (λ xs. Keeps P (begun origin) xs []) (ap (λ v. writeOut n (journal v [])) (sym u-is) ∙ x)
     (written-keeps [] origin n empty (subst (λ v. length (fields (journal v [])) ≤ n) u-is l) (value-sound bytes vr .1) (omega arith))
 
+-- it fills its buffer
+opened-length : (program bytes : List ℕ) (ws n : ℕ) {xs : List ℕ} → openCall ws program bytes n ≡ accepted xs → length xs ≡ n
+opened-length program bytes ws n op = given (open-says ws program bytes n op) λ (P, u, lp, vu, l, x). ap length (sym x) ∙ length-writeOut n (journal u []) l
+
 pub demand3 : Demand3
 demand3 program P ws n bytes xs origin lp vr op cs pr =
-    given (runs program P lp (load-iff program P .0 lp .1) cs (begun origin) xs [] (opened-keeps program bytes ws n vr op) pr) λ (as′, K).
+    given (runs program P lp (load-iff program P .0 lp .1) cs (begun origin) xs [] (opened-keeps program bytes ws n vr op) pr) λ (as′, K, long).
     given (standing-journal (K .rows)) λ J-is.
     record {
       answers = as′;
-      bytes = K .bytes ∙ ap (writeOut (length (callRun program cs xs .journal))) (sym J-is);
+      bytes = K .bytes ∙ ap₂ writeOut (long ∙ ap (λ k. lastBuffer k cs) (opened-length program bytes ws n op)) (sym J-is);
       held = ap readJournal (K .bytes) ∙ read-written (length (callRun program cs xs .journal)) (journal (K .held) (K .entries)) (keeps-writable K) (K .fit) ∙ ap some (sym J-is);
       carried = subst (λ (J : Journal). CarriedThrough P (bookRun program P cs (begun origin) .book .rows) (J .entries) (bookRun program P cs (begun origin) .book .first) (J .held))
           (sym J-is) (standing-carried (K .rows));
@@ -95,6 +99,6 @@ pub newest-rolls-back : NewestRollsBack
 newest-rolls-back program ws n bytes xs op cs pr m ms st ws′ fuel n′ wl sl nl =
     given (open-says ws program bytes n op) λ (P, origin, lp, vr, l, x).
     given (load-iff program P .0 lp .1) λ typed.
-    given (runs program P lp typed cs (begun origin) xs [] (opened-keeps program bytes ws n vr op) pr) λ (as′, K).
+    given (runs program P lp typed cs (begun origin) xs [] (opened-keeps program bytes ws n vr op) pr) λ (as′, K, long).
     rolls-back program P lp typed (subst (Standing P _ _ (K .entries) (K .held)) st (K .rows)) (callRun program cs xs .journal) (K .bytes) (K .fit) (K .held-fits) (K .few)
     ws′ fuel n′ wl sl nl

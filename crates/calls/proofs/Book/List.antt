@@ -10,7 +10,7 @@ use package.Rattle.rules.specs.Limits.{maxVariables, maxNodes, fits, maxFuel, m
 use package.Rattle.rules.specs.Val.{Val}
 use package.Rattle.rules.specs.Term.{Program}
 use package.Rattle.rules.specs.Typing.{WellTyped}
-use package.Rattle.calls.specs.Claims.{Sized, lastField, Premises, Met, remember, standing}
+use package.Rattle.calls.specs.Claims.{Sized, lastField, Premises, lastBuffer, Met, remember, standing}
 use package.Rattle.calls.specs.Answer.{Answer, accepted, refused}
 use package.Rattle.calls.specs.Book.{Call, opens, converts, rollsBack, buffer, refuses, Row, Book, refusalOf, refusal, orUnit, enters, turnUnless, bookTurn, bookRun, resized, afterTurned, afterOpen, call, callRun}
 use package.Rattle.calls.specs.Conversions.{Turned, newest, openCall, convertCall, rollbackCall}
@@ -19,8 +19,8 @@ use package.Rattle.calls.specs.Load.{load}
 use package.Rattle.calls.specs.Values.{value}
 use package.Rattle.calls.proofs.Book.Calls.{open-says, convert-says, Returns, rollback-says}
 use package.Rattle.calls.proofs.Book.Rows.{entryOf, journal, Standing, empty, next, standing-journal}
-use package.Rattle.calls.proofs.Book.Turn.{Keeps, keeps-writable, Agrees, written-keeps, Ready, ready-reads, ready-keeps, convert-agrees, rollback-agrees}
-use package.Rattle.calls.proofs.Journal.Buffers.{resized-written, lastField-written}
+use package.Rattle.calls.proofs.Book.Turn.{Keeps, keeps-writable, Agrees, written-keeps, Ready, ready-length, ready-reads, ready-keeps, convert-agrees, rollback-agrees}
+use package.Rattle.calls.proofs.Journal.Buffers.{length-writeOut, resized-length, resized-written, lastField-written}
 use package.Rattle.calls.proofs.Values.{value-sound}
 use package.Rattle.rules.proofs.Basics.{given, none≢some}
 
@@ -44,7 +44,7 @@ module _ (program : List ℕ) (P : Program) (loads : load program ≡ accepted P
       → Agrees P c ys ms (record { journal = ys; told = refuses m p }) (turnUnless (some (refuses m p)) P c (bookOf origin rows))
   unfolding turnUnless
   refused-agrees {origin} {rows} {ms = ms} {ys = ys} c m p R =
-      record { told = refl; keeps = subst (Keeps P (bookOf origin rows) ys) (sym (refusal-remembers c ys m p ms)) (ready-keeps program P loads typed R) }
+      record { told = refl; keeps = subst (Keeps P (bookOf origin rows) ys) (sym (refusal-remembers c ys m p ms)) (ready-keeps program P loads typed R); long = refl }
 
   open-turn : {origin : Val} {rows : List Row} {es : List Entry} {held : Val} {ms : List Met} {n : ℕ} {ys : List ℕ} (ws : ℕ) (v : List ℕ)
       → Ready program P loads typed origin rows es held ms n ys → (x : Answer (List ℕ)) → openCall ws program v n ≡ x
@@ -57,6 +57,7 @@ module _ (program : List ℕ) (P : Program) (loads : load program ≡ accepted P
         told = refl;
         keeps = subst (λ xs. Keeps P (bookOf (orUnit (value v)) []) xs []) x
             (subst (λ o. Keeps P (bookOf (orUnit o) []) (writeOut n (journal u [])) []) (sym vr) (opened u l (value-sound v vr .1)));
+        long = ap length (sym x) ∙ length-writeOut n (journal u []) l ∙ sym (ready-length program P loads typed R);
       }
     where
       opened : (u : Val) → length (fields (journal u [])) ≤ n → fits u ≡ true → Keeps P (bookOf (orUnit (some u)) []) (writeOut n (journal u [])) []
@@ -127,9 +128,10 @@ module _ (program : List ℕ) (P : Program) (loads : load program ≡ accepted P
   pub runs : (cs : List Call) (b : Book) (xs : List ℕ) (ms : List Met) → Keeps P b xs ms → Premises program cs xs
       → (callRun program cs xs .answers ≡ bookRun program P cs b .answers)
       × Keeps P (bookRun program P cs b .book) (callRun program cs xs .journal) (standing program cs xs ms)
-  unfolding callRun bookRun standing
-  runs [] b xs ms K h = (refl, K)
+      × (length (callRun program cs xs .journal) ≡ lastBuffer (length xs) cs)
+  unfolding callRun bookRun standing lastBuffer
+  runs [] b xs ms K h = (refl, K, refl)
   runs (c ∷ cs) b xs ms K (sz, l, h) =
       given (turn c sz (resized-ready (buffer c) K (let z : lastField xs ≡ length (fields (journal (K .held) (K .entries))) = last-field K in omega arith))) λ A.
-      given (runs cs _ _ _ (A .keeps) h) λ (as′, K′).
-      (ap₂ _∷_ (A .told) as′, K′)
+      given (runs cs _ _ _ (A .keeps) h) λ (as′, K′, n′).
+      (ap₂ _∷_ (A .told) as′, K′, n′ ∙ ap (λ n. lastBuffer n cs) (A .long ∙ resized-length (buffer c) xs))

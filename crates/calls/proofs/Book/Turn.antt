@@ -51,6 +51,7 @@ keeps-writable K = record { held-fits = K .held-fits; entries-writable = standin
 pub record Agrees (P : Program) (c : Call) (ys : List ℕ) (ms : List Met) (l : Left) (t : Turn) : Type 0 where
   pub told : l .told ≡ t .told
   pub keeps : Keeps P (t .book) (l .journal) (remember c ys (l .told) ms)
+  pub long : length (l .journal) ≡ length ys
 
 -- what is written out in a buffer that it fits
 pub written-keeps : {P : Program} {b : Book} {ms : List Met} (es : List Entry) (v : Val) (n : ℕ) → Standing P (b .first) (b .rows) es v ms
@@ -145,7 +146,11 @@ module _ (program : List ℕ) (P : Program) (loads : load program ≡ accepted P
         (afterTurned ys (accepted (turnedTo (length ys) (C .ran) (journal (C .ran .value) (es ++ (entryOf row (C .ran .steps) ∷ []))))))
         (converted o))
         (sym (C .row .ancillae-read))
-        (record { told = ap (λ (r : Ran). holds (size (r .value)) (r .steps)) (sym carry-is); keeps = converted-keeps }))
+        (record {
+          told = ap (λ (r : Ran). holds (size (r .value)) (r .steps)) (sym carry-is);
+          keeps = converted-keeps;
+          long = length-writeOut (length ys) (journal (C .ran .value) (es ++ (entryOf row (C .ran .steps) ∷ []))) (C .fit);
+        }))
       where
         converted : Option (List Val) → Turn
         converted o = record {
@@ -208,6 +213,7 @@ module _ (program : List ℕ) (P : Program) (loads : load program ≡ accepted P
         (record {
           told = ap₂ (λ x s. holds (size x) s) (sym (standing-held S)) (ap (λ (r : Ran). r .steps) (sym (ap (carry P row) (standing-held S) ∙ carry-ran R)));
           keeps = written-keeps es v (length ys) S returned-fits (R .value-fits) few;
+          long = length-writeOut (length ys) (journal v es) returned-fits;
         }))
       where
         struck : Option Struck → Turn
