@@ -11,6 +11,8 @@ pub mod Journal
 pub mod Refusals
 -- what the counting of type entries means for their trees
 pub mod Entries
+-- what accepted entries are, and the trees of their terms
+pub mod Trees
 -- what is loaded is well-formed and typed, and nothing else
 pub mod Load
 -- check, forward and backward: their parts, their refusals, and the claims about them
