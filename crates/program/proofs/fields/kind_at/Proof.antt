@@ -1,0 +1,17 @@
+use Rattle.calls.specs.Fields.{kindAt}
+use borrow.Author.Needs.{needs}
+use Rattle.program.proofs.fields.kind_at.Statement.{statement}
+use Rattle.program.proofs.fields.kind_at.Tie as tie
+
+add-byte-at : tie.Need-add-byte-at
+add-byte-at c = search needs
+
+byte-at-requires : tie.Need-byte-at-requires
+byte-at-requires c κs = search needs
+
+returns : tie.Need-returns
+unfolding kindAt
+returns c = c .byte-at .ensures
+
+pub kind-at-spec : {M : Type 1} → statement M
+kind-at-spec = tie.close (tie.spec add-byte-at byte-at-requires returns)

@@ -1,0 +1,26 @@
+use native.Mathlib.Omega.{arith}
+use Rattle.calls.specs.Fields.{typeLengths}
+use Rattle.program.proofs.Formed.{type-beyond}
+use borrow.Author.Needs.{needs}
+use Rattle.program.proofs.fields.type_bytes.Statement.{statement}
+use Rattle.program.proofs.fields.type_bytes.Tie as tie
+
+index-requires : tie.Need-index-requires
+index-requires c κs = search needs
+
+mul-result : tie.Need-mul-result
+mul-result c = search needs
+
+array-read-result : tie.Need-array-read-result
+array-read-result c = search needs
+
+returns : tie.Need-returns
+unfolding typeLengths
+returns c = cc
+
+returns-2 : tie.Need-returns-2
+returns-2 c = type-beyond _ (omega arith)
+
+pub type-bytes-spec : {M : Type 1} → statement M
+type-bytes-spec =
+    tie.close (tie.spec index-requires mul-result array-read-result returns returns-2)

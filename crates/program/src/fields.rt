@@ -1,0 +1,156 @@
+// Reading a program's fields, from the first byte (document 01, section 1; section 4, row Field reading: refusals 2 and 3).
+// The functions on one field equal the definitions of calls/specs/Fields; a definition reads 0 past the end, and so does `byte_at`.
+ghost use mathlib.Core.Path.{_≡_};
+ghost use Prim.Native.Nat.{_+_, _<_, _≤_};
+ghost use lib.ListN.{length, getD};
+ghost use Rattle.calls.specs.Fields.{tagAt, lengthAt, nextAt, kindAt, parametersAt, typeLengths, termLengths, callLength, typeLength, termLength, functionLength, bodyFits, wellFormed};
+
+// The body length of each kind of type, then of term; a call's (8) is by its own rule.
+const TYPE_LENGTHS: [u16; 5] = [1, 5, 5, 3, 2];
+
+const TERM_LENGTHS: [u16; 11] = [2, 1, 5, 5, 5, 5, 5, 7, 0, 5, 5];
+
+fn index(x: u8) -> usize
+    ensures { λ r. ⌜ (r ≡ x) × (r < 256) ⌝ }
+{
+    x as usize
+}
+
+// The byte at an offset, 0 past the end.
+fn byte_at(p: &[u8], at: usize) -> u8
+    ensures { λ r. ⌜ r ≡ getD (now (p .entry)) at 0 ⌝ }
+{
+    if at < p.len() {
+        return p[at];
+    }
+    0
+}
+
+pub fn tag_at(p: &[u8], at: usize) -> u8
+    ensures { λ r. ⌜ r ≡ tagAt (now (p .entry)) at ⌝ }
+{
+    byte_at(p, at)
+}
+
+// The length of the body.
+pub fn length_at(p: &[u8], at: usize) -> u16
+    requires { ⌜ at + 3 ≤ length (now p) ⌝ }
+    ensures { λ r. ⌜ r ≡ lengthAt (now (p .entry)) at ⌝ }
+{
+    octets::read16(p, at + 1)
+}
+
+// The offset of the next field.
+pub fn next_at(p: &[u8], at: usize) -> usize
+    requires { ⌜ at + 3 ≤ length (now p) ⌝ }
+    ensures { λ r. ⌜ r ≡ nextAt (now (p .entry)) at ⌝ }
+{
+    at + 3 + octets::wide_index(length_at(p, at))
+}
+
+pub fn kind_at(p: &[u8], at: usize) -> u8
+    requires { ⌜ at + 3 ≤ length (now p) ⌝ }
+    ensures { λ r. ⌜ r ≡ kindAt (now (p .entry)) at ⌝ }
+{
+    byte_at(p, at + 3)
+}
+
+pub fn parameters_at(p: &[u8], at: usize) -> u8
+    requires { ⌜ at + 3 ≤ length (now p) ⌝ }
+    ensures { λ r. ⌜ r ≡ parametersAt (now (p .entry)) at ⌝ }
+{
+    byte_at(p, at + 5)
+}
+
+// The length that a type of this kind has, 0 where there is no such kind.
+fn type_bytes(kind: u8) -> u16
+    ensures { λ r. ⌜ r ≡ getD typeLengths kind 0 ⌝ }
+{
+    let k = index(kind);
+    if k < 5 {
+        return TYPE_LENGTHS[k];
+    }
+    0
+}
+
+fn term_bytes(kind: u8) -> u16
+    ensures { λ r. ⌜ r ≡ getD termLengths kind 0 ⌝ }
+{
+    let k = index(kind);
+    if k < 11 {
+        return TERM_LENGTHS[k];
+    }
+    0
+}
+
+pub fn type_length(kind: u8, n: u16) -> bool
+    ensures { λ r. ⌜ r ≡ typeLength kind n ⌝ }
+{
+    if n < 1 {
+        return false;
+    }
+    n == type_bytes(kind)
+}
+
+fn call_length(n: u16) -> bool
+    ensures { λ r. ⌜ r ≡ callLength n ⌝ }
+{
+    if n < 5 {
+        return false;
+    }
+    n % 2 == 1
+}
+
+pub fn term_length(kind: u8, n: u16) -> bool
+    ensures { λ r. ⌜ r ≡ termLength kind n ⌝ }
+{
+    if n < 1 {
+        return false;
+    }
+    if kind == 8 {
+        return call_length(n);
+    }
+    n == term_bytes(kind)
+}
+
+pub fn function_length(parameters: u8, n: u16) -> bool
+    ensures { λ r. ⌜ r ≡ functionLength parameters n ⌝ }
+{
+    n == 5 + 2 * octets::wide16(parameters)
+}
+
+// Has the body a length that its tag and kind have? No other tag is known.
+pub fn body_fits(p: &[u8], at: usize) -> bool
+    requires { ⌜ at + 3 ≤ length (now p) ⌝ }
+    ensures { λ r. ⌜ r ≡ bodyFits (now (p .entry)) at ⌝ }
+{
+    let tag = tag_at(p, at);
+    let n = length_at(p, at);
+    if tag == 1 {
+        return type_length(kind_at(p, at), n);
+    }
+    if tag == 2 {
+        return term_length(kind_at(p, at), n);
+    }
+    if tag == 3 {
+        return function_length(parameters_at(p, at), n);
+    }
+    false
+}
+
+// Is the field at `at` well-formed, `last` being the tag of the field before it?
+pub fn well_formed(p: &[u8], at: usize, last: u8) -> bool
+    requires { ⌜ at ≤ length (now p) ⌝ }
+    ensures { λ r. ⌜ r ≡ wellFormed (now (p .entry)) at last ⌝ }
+{
+    if p.len() < at + 3 {
+        return false;
+    }
+    if tag_at(p, at) < last {
+        return false;
+    }
+    if p.len() < next_at(p, at) {
+        return false;
+    }
+    body_fits(p, at)
+}

@@ -1,0 +1,2 @@
+// Programs as bytes: reading their fields and testing their entries, against calls/specs/Fields, Entries and Named.
+pub mod fields;
