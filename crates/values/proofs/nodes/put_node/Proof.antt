@@ -1,0 +1,69 @@
+use native.Mathlib.Omega.{arith}
+use lib.ListN.{length-set}
+use Rattle.values.specs.Nodes.{putNode}
+use borrow.Author.Needs.{needs}
+use Rattle.values.proofs.nodes.put_node.Statement.{statement}
+use Rattle.values.proofs.nodes.put_node.Tie as tie
+
+mul-ws : tie.Need-mul-ws
+mul-ws c = search needs
+
+slice-write-ws : tie.Need-slice-write-ws
+slice-write-ws c = search needs
+
+mul-write16 : tie.Need-mul-write16
+mul-write16 c = search needs
+
+add-write16 : tie.Need-add-write16
+add-write16 c = search needs
+
+write16-requires : tie.Need-write16-requires
+write16-requires c κs = simp length-set (omega arith)
+
+mul-write32 : tie.Need-mul-write32
+mul-write32 c = search needs
+
+add-write32 : tie.Need-add-write32
+add-write32 c = search needs
+
+write32-requires : tie.Need-write32-requires
+write32-requires c κs = omega (arith, simp length-set at (c .before .before .before .write16 .kept .0))
+
+mul-write32-2 : tie.Need-mul-write32-2
+mul-write32-2 c = search needs
+
+add-write32-2 : tie.Need-add-write32-2
+add-write32-2 c = search needs
+
+write32-requires-2 : tie.Need-write32-requires-2
+write32-requires-2 c κs =
+    let d = c .before .before .before in
+    omega (arith, d .write32 .kept .0, simp length-set at (d .before .before .before .before .write16 .kept .0))
+
+same-length : tie.Need-same-length
+same-length c =
+    let d = c .before .before in
+    let e = d .before .before .before .before in
+    omega (arith, d .write322 .kept .0, e .write32 .kept .0, simp length-set at (e .before .before .before .before .write16 .kept .0))
+
+returns : tie.Need-returns
+unfolding putNode
+returns c = cc
+
+pub put-node-spec : {M : Type 1} → statement M
+put-node-spec =
+    tie.close
+    (tie.spec
+    mul-ws
+    slice-write-ws
+    mul-write16
+    add-write16
+    write16-requires
+    mul-write32
+    add-write32
+    write32-requires
+    mul-write32-2
+    add-write32-2
+    write32-requires-2
+    same-length
+    returns)

@@ -1,0 +1,18 @@
+use Rattle.values.proofs.Making.{unit-ready}
+use Rattle.values.specs.Nodes.{ofKind}
+use borrow.Author.Needs.{needs}
+use Rattle.values.proofs.nodes.unit.Statement.{statement}
+use Rattle.values.proofs.nodes.unit.Tie as tie
+
+append-requires : tie.Need-append-requires
+append-requires c κs = unit-ready _ _ (c .before .before .pre .0) (c .before .before .pre .1)
+
+same-length : tie.Need-same-length
+same-length c = search needs
+
+returns : tie.Need-returns
+unfolding ofKind
+returns c = c .before .before .append .ensures
+
+pub unit-spec : {M : Type 1} → statement M
+unit-spec = tie.close (tie.spec append-requires same-length returns)

@@ -1,0 +1,3 @@
+-- Values in lent bytes.
+-- the value graph: nodes in bytes, and the value at a node
+pub mod Nodes

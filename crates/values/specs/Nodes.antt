@@ -1,0 +1,101 @@
+-- The value graph: values (section 1) as nodes in bytes. A node has a kind, the length of its value in bytes, and two parts, which are
+-- lower nodes. Nodes are appended and never changed, so values share what they have in common. Laws: proofs/Places, proofs/Heaps.
+use Prim.Native.Nat.{ℕ, zero, suc, _+_, _*_, _<_, _≤_}
+use mathlib.Core.Path.{_≡_}
+use mathlib.Core.Logic.{_⊎_}
+use mathlib.Core.Bool.{Bool, true, false}
+use mathlib.Core.List.{List}
+use lib.ListN.{length, getD, set}
+use package.Rattle.octets.specs.Numbers.{get16, get32, put16, put32}
+use package.Rattle.rules.specs.Val.{Val, unit, inl, inr, pair, roll, size}
+use package.Rattle.rules.specs.Limits.{fits}
+
+----------------------------------------------------------------
+-- The layout: kind, a spare byte, the value's length (2 bytes), left part and right part (4 bytes each)
+
+abbrev pub nodeBytes : ℕ
+nodeBytes = 12
+
+unfoldable pub kindAt : List ℕ → ℕ → ℕ
+kindAt heap n = getD heap (nodeBytes * n) 0
+
+unfoldable pub lengthAt : List ℕ → ℕ → ℕ
+lengthAt heap n = get16 heap (nodeBytes * n + 2)
+
+unfoldable pub leftAt : List ℕ → ℕ → ℕ
+leftAt heap n = get32 heap (nodeBytes * n + 4)
+
+unfoldable pub rightAt : List ℕ → ℕ → ℕ
+rightAt heap n = get32 heap (nodeBytes * n + 8)
+
+unfoldable pub putNode : List ℕ → ℕ → ℕ → ℕ → ℕ → ℕ → List ℕ
+putNode heap n kind len left right =
+    put32 (put32 (put16 (set heap (nodeBytes * n) kind) (nodeBytes * n + 2) len) (nodeBytes * n + 4) left) (nodeBytes * n + 8) right
+
+-- the bytes hold so many nodes
+abbrev pub Room : List ℕ → ℕ → Type 0
+Room heap n = nodeBytes * n ≤ length heap
+
+-- two heaps, of one length, agree on the nodes below `top`
+pub record Agree (top : ℕ) (heap heap′ : List ℕ) : Type 0 where
+  pub same : (i : ℕ) → i < nodeBytes * top → getD heap i 0 ≡ getD heap′ i 0
+  pub lengths : length heap ≡ length heap′
+
+----------------------------------------------------------------
+-- Values at nodes
+
+-- the value of a kind, over its parts: the kinds are those of the value bytes
+unfoldable pub ofKind : ℕ → Val → Val → Val
+ofKind zero v w = unit
+ofKind (suc zero) v w = inl v
+ofKind (suc (suc zero)) v w = inr v
+ofKind (suc (suc (suc zero))) v w = pair v w
+ofKind (suc (suc (suc (suc n)))) v w = roll v
+
+-- a kind with one part
+abbrev pub Single : ℕ → Type 0
+Single kind = (kind ≡ 1) ⊎ ((kind ≡ 2) ⊎ (kind ≡ 4))
+
+-- `depth` bounds how far down the parts are followed
+unfoldable pub valueWithin : ℕ → List ℕ → ℕ → Val
+valueWithin zero heap n = unit
+valueWithin (suc depth) heap n =
+    ofKind (kindAt heap n) (valueWithin depth heap (leftAt heap n)) (valueWithin depth heap (rightAt heap n))
+
+-- the value at a node: parts are lower nodes, so the node's number bounds the depth
+unfoldable pub valueAt : List ℕ → ℕ → Val
+valueAt heap n = valueWithin (suc n) heap n
+
+-- The node is a unit or names lower nodes, and its length is its value's.
+pub record Right (heap : List ℕ) (n : ℕ) : Type 0 where
+  pub parts : (kindAt heap n ≡ 0) ⊎ ((leftAt heap n < n) × (rightAt heap n < n))
+  pub kind : kindAt heap n ≤ 4
+  pub len : lengthAt heap n ≡ size (valueAt heap n)
+
+-- Every node below `top` is there, and right.
+pub record Heap (heap : List ℕ) (top : ℕ) : Type 0 where
+  pub held : Room heap top
+  pub node : (n : ℕ) → n < top → Right heap n
+
+----------------------------------------------------------------
+-- A new node
+
+-- A node of the kind `k` and the length `n` over the nodes `a` and `b` may stand at `top`.
+pub record NodeReady (heap : List ℕ) (top k n a b : ℕ) : Type 0 where
+  pub right : Heap heap top
+  pub room : Room heap (top + 1)
+  pub parts : (k ≡ 0) ⊎ ((a < top) × (b < top))
+  pub kind : k ≤ 4
+  pub len : n ≡ size (ofKind k (valueAt heap a) (valueAt heap b))
+
+-- The node at `top` is new and has the value; all below is as it was.
+pub record Grown (heap heap′ : List ℕ) (top : ℕ) (v : Val) : Type 0 where
+  pub right : Heap heap′ (top + 1)
+  pub agree : Agree top heap heap′
+  pub value : valueAt heap′ top ≡ v
+
+-- Such a node is made exactly if the value is within the limit on values (section 1); else the bytes stay.
+pub record Made (heap heap′ : List ℕ) (top : ℕ) (v : Val) (ok : Bool) : Type 0 where
+  pub answer : ok ≡ fits v
+  pub new : ok ≡ true → Grown heap heap′ top v
+  pub old : ok ≡ false → heap′ ≡ heap

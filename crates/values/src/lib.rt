@@ -1,0 +1,2 @@
+// Values in lent bytes.
+pub mod nodes; // nodes.rt: the value graph
