@@ -1,3 +1,9 @@
 -- Laws of programs as bytes, by subject.
 -- one field: the tests on it, in the order of the code
 pub mod Formed
+-- which entry a field is, by its kind
+pub mod Shapes
+-- how many bytes a well-formed field has, by its kind
+pub mod Rooms
+-- the fields of an accepted layout are well-formed
+pub mod Inside

@@ -1,3 +1,5 @@
 -- What the code says of programs. The modules in reading order:
 -- where the fields of a program's entries stand
 pub mod Places
+-- the parts of an entry's field, and fields that are well-formed
+pub mod Parts

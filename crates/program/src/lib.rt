@@ -1,2 +1,3 @@
 // Programs as bytes: reading their fields and testing their entries, against calls/specs/Fields, Entries and Named.
 pub mod fields;
+pub mod views;
