@@ -89,7 +89,7 @@ determined q Γ c w b σ ql h s k = go (isUnit c) refl s
     go true e s = right (unit-val w c e h)
     go false e s = left (k (length Γ) c (look-newest c Γ) e ql s)
 
-known-none : (σ : State) (i : ℕ) → length σ ≤ i → known σ i ≡ none
+pub known-none : (σ : State) (i : ℕ) → length σ ≤ i → known σ i ≡ none
 known-none σ i l = go (known σ i) refl
   where
     go : (o : Option Val) → known σ i ≡ o → known σ i ≡ none
