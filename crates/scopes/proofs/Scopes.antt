@@ -1,0 +1,101 @@
+-- Laws of the scope that slots hold: what is known of a variable, how a scope grows, and what leaves it as it is.
+use Prim.Native.Nat.{ℕ, zero, suc, _+_, _<_, _≤_}
+use native.Mathlib.Omega.{arith}
+use native.Mathlib.Decide.{decLt}
+use mathlib.Core.Path.{_≡_, refl, sym, ap, ap₂, subst, _∙_}
+use mathlib.Core.Bool.{Bool, true, false}
+use mathlib.Core.Option.{Option, none, some}
+use mathlib.Core.List.{List, [], _∷_}
+use mathlib.Core.Logic.{_⊎_, inl as left, inr as right}
+use lib.ListN.{length, getD, set}
+use lib.Dec.{eqb}
+use lib.Seq.{getD-set-same, getD-set-other}
+use borrow.Author.Tests.{eqb-true, eqb-false}
+use package.Rattle.rules.specs.Val.{Val}
+use package.Rattle.rules.specs.Machine.{State, known}
+use package.Rattle.rules.proofs.Known.{known-new, known-skip, known-none}
+use package.Rattle.values.specs.Nodes.{valueAt, Heap, Agree}
+use package.Rattle.values.proofs.Heaps.{value-kept}
+use package.Rattle.scopes.specs.Slots.{unknown, found, slotAt, meaning, stateAt, Slots}
+use package.Rattle.scopes.proofs.Marks.{found-mark, found-node, slot-in, slot-out}
+
+----------------------------------------------------------------
+-- What is known of a variable
+
+pub length-state : (heap slots : List ℕ) (base n : ℕ) → length (stateAt heap slots base n) ≡ n
+unfolding stateAt
+length-state heap slots base zero = refl
+length-state heap slots base (suc n) = ap suc (length-state heap slots base n)
+
+known-within : (heap slots : List ℕ) (base n i : ℕ) → i < n → known (stateAt heap slots base n) i ≡ meaning heap (found (getD slots (base + i) 0))
+unfolding stateAt
+known-within heap slots base zero i l = absurd (omega arith)
+known-within heap slots base (suc n) i l = go (decLt i n) (λ l. known-within heap slots base n i l)
+  where
+    newer : Option Val
+    newer = meaning heap (found (getD slots (base + n) 0))
+
+    go : Dec (i < n) → (i < n → known (stateAt heap slots base n) i ≡ meaning heap (found (getD slots (base + i) 0)))
+        → known (newer ∷ stateAt heap slots base n) i ≡ meaning heap (found (getD slots (base + i) 0))
+    go (yes x) s = known-skip newer _ i (let y : length (stateAt heap slots base n) ≡ n = length-state heap slots base n in omega arith) ∙ s x
+    go (no x) s = let e : n ≡ i = omega arith in
+        ap (known (newer ∷ stateAt heap slots base n)) (sym e ∙ sym (length-state heap slots base n)) ∙ known-new newer (stateAt heap slots base n)
+        ∙ ap (λ i. meaning heap (found (getD slots (base + i) 0))) e
+
+pub known-state : (heap slots : List ℕ) (base n i : ℕ) → known (stateAt heap slots base n) i ≡ meaning heap (slotAt slots base n i)
+known-state heap slots base n i = go (decLt i n)
+  where
+    go : Dec (i < n) → known (stateAt heap slots base n) i ≡ meaning heap (slotAt slots base n i)
+    go (yes l) = known-within heap slots base n i l ∙ ap (meaning heap) (sym (slot-in slots base n i l))
+    go (no l) = known-none _ i (let z : length (stateAt heap slots base n) ≡ n = length-state heap slots base n in omega arith)
+        ∙ ap (meaning heap) (sym (slot-out slots base n i (omega arith)))
+
+----------------------------------------------------------------
+-- What leaves a scope as it is
+
+-- slots that agree below the scope's end
+pub state-same : (heap slots slots′ : List ℕ) (base n : ℕ) → ((j : ℕ) → j < base + n → getD slots j 0 ≡ getD slots′ j 0)
+    → stateAt heap slots base n ≡ stateAt heap slots′ base n
+unfolding stateAt
+state-same heap slots slots′ base zero s = refl
+state-same heap slots slots′ base (suc n) s =
+    ap₂ _∷_ (ap (λ k. meaning heap (found k)) (s (base + n) (omega arith))) (state-same heap slots slots′ base n λ j l. s j (omega arith))
+
+-- a slot's meaning, on heaps that have one value at its node
+meaning-kept : (heap heap′ : List ℕ) (node : ℕ) → valueAt heap node ≡ valueAt heap′ node → meaning heap (found node) ≡ meaning heap′ (found node)
+meaning-kept heap heap′ node e = go (eqb node unknown) refl
+  where
+    go : (b : Bool) → eqb node unknown ≡ b → meaning heap (found node) ≡ meaning heap′ (found node)
+    go true p = let z = found-mark node (eqb-true node unknown p) in ap (meaning heap) z ∙ sym (ap (meaning heap′) z)
+    go false p = let z = found-node node (eqb-false node unknown p) in ap (meaning heap) z ∙ ap some e ∙ sym (ap (meaning heap′) z)
+
+-- a heap that has grown
+pub state-kept : (heap heap′ slots : List ℕ) (base n top : ℕ) → Heap heap top → Agree top heap heap′ → Slots slots (base + n) top
+    → stateAt heap slots base n ≡ stateAt heap′ slots base n
+unfolding stateAt
+state-kept heap heap′ slots base zero top H A S = refl
+state-kept heap heap′ slots base (suc n) top H A S =
+    ap₂ _∷_ (newest (S .held (base + n) (omega arith))) (state-kept heap heap′ slots base n top H A (record { held = λ j l. S .held j (omega arith) }))
+  where
+    newest : (getD slots (base + n) 0 ≡ unknown) ⊎ (getD slots (base + n) 0 < top)
+        → meaning heap (found (getD slots (base + n) 0)) ≡ meaning heap′ (found (getD slots (base + n) 0))
+    newest (left e) = ap (meaning heap) (found-mark _ e) ∙ sym (ap (meaning heap′) (found-mark _ e))
+    newest (right l) = meaning-kept heap heap′ (getD slots (base + n) 0) (value-kept heap heap′ top H A (getD slots (base + n) 0) l)
+
+----------------------------------------------------------------
+-- A scope grows
+
+-- a variable comes into scope
+pub state-bind : (heap slots : List ℕ) (base n node : ℕ) → base + n < length slots
+    → stateAt heap (set slots (base + n) node) base (suc n) ≡ meaning heap (found node) ∷ stateAt heap slots base n
+unfolding stateAt
+state-bind heap slots base n node l =
+    ap₂ _∷_ (ap (λ k. meaning heap (found k)) (getD-set-same slots (base + n) node 0 l))
+    (state-same heap (set slots (base + n) node) slots base n λ j h. getD-set-other slots (base + n) j node 0 (λ e. omega arith))
+
+pub slots-bind : (slots : List ℕ) (m top node : ℕ) → m < length slots → Slots slots m top → (node ≡ unknown) ⊎ (node < top) → Slots (set slots m node) (suc m) top
+slots-bind slots m top node l S d = record { held = λ j h. go j (decLt j m) h }
+  where
+    go : (j : ℕ) → Dec (j < m) → j < suc m → (getD (set slots m node) j 0 ≡ unknown) ⊎ (getD (set slots m node) j 0 < top)
+    go j (yes x) h = rw (getD-set-other slots m j node 0 (λ e. omega arith)) (S .held j x)
+    go j (no x) h = let e : j ≡ m = omega arith in rw (e, getD-set-same slots m node 0 l) d

@@ -1,0 +1,41 @@
+-- Scopes in slots: slot base + i holds variable i's node, or a mark if the variable is not known. A scope is the state that the rules'
+-- runs have (rules/specs/Machine). Laws: proofs/Scopes.
+use Prim.Native.Nat.{ℕ, zero, suc, _+_, _<_}
+use mathlib.Core.Path.{_≡_}
+use mathlib.Core.Bool.{Bool, true, false}
+use mathlib.Core.Option.{Option, none, some}
+use mathlib.Core.List.{List, [], _∷_}
+use mathlib.Core.Logic.{_⊎_}
+use lib.ListN.{getD}
+use lib.Dec.{eqb, ltb}
+use package.Rattle.rules.specs.Val.{Val}
+use package.Rattle.rules.specs.Machine.{State}
+use package.Rattle.values.specs.Nodes.{valueAt}
+use Rattle.scopes.specs.declared.slots.Found.{Found}
+use Rattle.scopes.specs.declared.slots.Found.the-variants.{Node, Unknown}
+
+-- the mark
+unfoldable pub unknown : ℕ
+unknown = 4294967295
+
+-- what a slot's number says
+unfoldable pub found : ℕ → Found
+found node = elim (eqb node unknown) [ true ↦ Unknown | false ↦ Node node ]
+
+-- variable `i` of `n`
+unfoldable pub slotAt : List ℕ → ℕ → ℕ → ℕ → Found
+slotAt slots base n i = elim (ltb i n) [ true ↦ found (getD slots (base + i) 0) | false ↦ Unknown ]
+
+-- what is known of a variable, on the heap that its node is in
+abbrev pub meaning : List ℕ → Found → Option Val
+meaning heap (Node node) = some (valueAt heap node)
+meaning heap Unknown = none
+
+-- the scope of `n` variables, the newest first
+unfoldable pub stateAt : List ℕ → List ℕ → ℕ → ℕ → State
+stateAt heap slots base zero = []
+stateAt heap slots base (suc n) = meaning heap (found (getD slots (base + n) 0)) ∷ stateAt heap slots base n
+
+-- every slot below `m` is marked, or holds a node below `top`
+pub record Slots (slots : List ℕ) (m top : ℕ) : Type 0 where
+  pub held : (j : ℕ) → j < m → (getD slots j 0 ≡ unknown) ⊎ (getD slots j 0 < top)
