@@ -1,13 +1,23 @@
 -- Laws of one field: what each test of calls/specs/Fields comes to, in the order in which the code makes them.
-use Prim.Native.Nat.{ℕ, _+_, _*_, _%_, _<_, _≤_}
-use native.Mathlib.Omega.{arith}
-use mathlib.Core.Path.{_≡_, refl, sym, ap, _∙_}
-use mathlib.Core.Bool.{Bool, true, false, _&&_, _||_}
+use Prim.Native.Nat.{ℕ, _+_, _%_, _<_, _≤_}
+use mathlib.Core.Path.{_≡_, refl, sym, _∙_}
+use mathlib.Core.Bool.{Bool, true, false, not, _||_}
 use mathlib.Core.List.{List}
 use lib.ListN.{length, getD, List·getD-eq-default}
 use lib.Dec.{eqb, leb}
-use borrow.Author.Tests.{le-leb, lt-leb, eq-eqb, ne-eqb}
+use borrow.Author.Tests.{le-leb, lt-leb, ne-eqb, not-true, not-false}
 use package.Rattle.calls.specs.Fields.{tagAt, lengthAt, nextAt, kindAt, parametersAt, typeLengths, termLengths, callLength, typeLength, termLength, functionLength, bodyFits, wellFormed}
+use package.Rattle.rules.specs.Limits.{maxParameters}
+use package.Rattle.program.specs.Places.{parametersWithin}
+
+----------------------------------------------------------------
+-- A test that is made by a function, and denied in an `if`
+
+pub denied : {r b : Bool} → r ≡ b → not r ≡ true → b ≡ false
+denied {r} e h = sym e ∙ not-true r h
+
+pub not-denied : {r b : Bool} → r ≡ b → not r ≡ false → b ≡ true
+not-denied {r} e h = sym e ∙ not-false r h
 
 ----------------------------------------------------------------
 -- Body lengths
@@ -48,6 +58,15 @@ term-call kind n h e = rw (le-leb 1 n h, e)
 pub term-by-kind : (kind n m : ℕ) → 1 ≤ n → (kind ≡ 8 → ⊥) → m ≡ getD termLengths kind 0 → eqb n m ≡ termLength kind n
 unfolding termLength
 term-by-kind kind n m h k e = rw (le-leb 1 n h, ne-eqb kind 8 k, e)
+
+-- a count of parameters
+pub no-parameters : (n : ℕ) → n < 1 → false ≡ parametersWithin n
+unfolding parametersWithin
+no-parameters n h = rw (lt-leb 1 n h)
+
+pub some-parameters : (n : ℕ) → 1 ≤ n → leb n 8 ≡ parametersWithin n
+unfolding parametersWithin maxParameters
+some-parameters n h = rw (le-leb 1 n h)
 
 ----------------------------------------------------------------
 -- The body, by the tag

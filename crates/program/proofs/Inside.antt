@@ -55,7 +55,7 @@ module _ (xs : List ℕ) (at : ℕ) (fits : bodyFits xs at ≡ true) where
   fits-function e = fits-tag 3 e
 
 -- a field that was accepted: inside the program, with a body that fits
-well-formed : (xs : List ℕ) (at last : ℕ) → wellFormed xs at last ≡ true → (nextAt xs at ≤ length xs) × (bodyFits xs at ≡ true)
+pub well-formed : (xs : List ℕ) (at last : ℕ) → wellFormed xs at last ≡ true → (nextAt xs at ≤ length xs) × (bodyFits xs at ≡ true)
 unfolding wellFormed
 well-formed xs at last e =
     given (and-both (begins && leb (nextAt xs at) (length xs)) (bodyFits xs at) e) λ (e₁, fits).

@@ -7,3 +7,7 @@ pub mod Shapes
 pub mod Rooms
 -- the fields of an accepted layout are well-formed
 pub mod Inside
+-- one field placed: the layout and its counts with a field more
+pub mod Placing
+-- the pass over the fields
+pub mod Reading

@@ -4,6 +4,7 @@ ghost use mathlib.Core.Path.{_≡_};
 ghost use Prim.Native.Nat.{_+_, _<_, _≤_};
 ghost use lib.ListN.{length, getD};
 ghost use Rattle.calls.specs.Fields.{tagAt, lengthAt, nextAt, kindAt, parametersAt, typeLengths, termLengths, callLength, typeLength, termLength, functionLength, bodyFits, wellFormed};
+ghost use Rattle.program.specs.Places.{parametersWithin, frontsOf, Placeable, PlacingMeans, Buffers, FieldsMean};
 
 // The body length of each kind of type, then of term; a call's (8) is by its own rule.
 const TYPE_LENGTHS: [u16; 5] = [1, 5, 5, 3, 2];
@@ -153,4 +154,130 @@ pub fn well_formed(p: &[u8], at: usize, last: u8) -> bool
         return false;
     }
     body_fits(p, at)
+}
+
+// The counts and the byte limit of section 1.
+const MAX_TYPES: usize = 256;
+
+const MAX_TERMS: usize = 1024;
+
+const MAX_FUNCTIONS: usize = 64;
+
+const MAX_PARAMETERS: u8 = 8;
+
+const MAX_PROGRAM_BYTES: usize = 32768;
+
+// How many entries of each tag were read: so many offsets stand at the front of each buffer.
+pub struct Counts {
+    pub types: usize,
+    pub terms: usize,
+    pub functions: usize,
+}
+
+// What reading the fields answers: the program's entries, or refusal 2 or 3 at a field's offset.
+pub enum Fields {
+    Read(Counts),
+    Malformed(usize),
+    Over(usize),
+}
+
+// What placing one field answers: the counts with it, or that it is over a count.
+pub enum Placing {
+    More(Counts),
+    Full,
+}
+
+fn parameters_within(parameters: u8) -> bool
+    ensures { λ r. ⌜ r ≡ parametersWithin parameters ⌝ }
+{
+    if parameters < 1 {
+        return false;
+    }
+    parameters <= MAX_PARAMETERS
+}
+
+// The offset of a well-formed field goes behind those of its tag, if the counts allow one more.
+fn place(
+    p: &[u8],
+    at: usize,
+    counts: Counts,
+    types: &mut [u16],
+    terms: &mut [u16],
+    functions: &mut [u16],
+) -> Placing
+    requires { ⌜ Placeable (now p) at counts (now types) (now terms) (now functions) ⌝ }
+    ensures { λ r. ⌜ PlacingMeans r (now (p .entry)) at (frontsOf (now (types .entry)) (now (terms .entry)) (now (functions .entry)) counts) (now (types .exit)) (now (terms .exit)) (now (functions .exit)) ⌝ }
+{
+    let tag = tag_at(p, at);
+    let offset = at as u16;
+    let i = counts.types;
+    let j = counts.terms;
+    let k = counts.functions;
+    if tag == 1 {
+        if i < MAX_TYPES {
+            types[i] = offset;
+            return Placing::More(Counts {
+                types: i + 1,
+                terms: j,
+                functions: k,
+            });
+        }
+        return Placing::Full;
+    }
+    if tag == 2 {
+        if j < MAX_TERMS {
+            terms[j] = offset;
+            return Placing::More(Counts {
+                types: i,
+                terms: j + 1,
+                functions: k,
+            });
+        }
+        return Placing::Full;
+    }
+    if tag == 3 {
+        if !parameters_within(parameters_at(p, at)) {
+            return Placing::Full;
+        }
+        if k < MAX_FUNCTIONS {
+            functions[k] = offset;
+            return Placing::More(Counts {
+                types: i,
+                terms: j,
+                functions: k + 1,
+            });
+        }
+        return Placing::Full;
+    }
+    Placing::More(counts)
+}
+
+// The fields of a program, in one pass. The offset of each entry goes into the buffer of its tag; a program over the byte limit
+// is refused before its fields are read, so that an offset has two bytes.
+pub fn layout(p: &[u8], types: &mut [u16], terms: &mut [u16], functions: &mut [u16]) -> Fields
+    requires { ⌜ Buffers (now types) (now terms) (now functions) ⌝ }
+    ensures { λ r. ⌜ FieldsMean r (now (p .entry)) (now (types .exit)) (now (terms .exit)) (now (functions .exit)) ⌝ }
+{
+    if MAX_PROGRAM_BYTES < p.len() {
+        return Fields::Over(0);
+    }
+    let mut counts = Counts {
+        types: 0,
+        terms: 0,
+        functions: 0,
+    };
+    let mut at = 0;
+    let mut last = 1;
+    while at < p.len() {
+        if !well_formed(p, at, last) {
+            return Fields::Malformed(at);
+        }
+        let Placing::More(more) = place(p, at, counts, types, terms, functions) else {
+            return Fields::Over(at);
+        };
+        counts = more;
+        last = tag_at(p, at);
+        at = next_at(p, at);
+    }
+    Fields::Read(counts)
 }

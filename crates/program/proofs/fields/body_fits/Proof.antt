@@ -1,7 +1,7 @@
 use mathlib.Core.Path.{ap₂, _∙_}
+use borrow.Author.Needs.{needs}
 use Rattle.calls.specs.Fields.{typeLength, termLength, functionLength}
 use Rattle.program.proofs.Formed.{fits-type, fits-term, fits-function, fits-nothing}
-use borrow.Author.Needs.{needs}
 use Rattle.program.proofs.fields.body_fits.Statement.{statement}
 use Rattle.program.proofs.fields.body_fits.Tie as tie
 

@@ -1,5 +1,5 @@
-use lib.ListN.{List·getD-eq-default}
 use mathlib.Core.Path.{sym}
+use lib.ListN.{List·getD-eq-default}
 use borrow.Author.Needs.{needs}
 use Rattle.program.proofs.fields.byte_at.Statement.{statement}
 use Rattle.program.proofs.fields.byte_at.Tie as tie

@@ -1,5 +1,5 @@
-use Rattle.calls.specs.Fields.{functionLength}
 use borrow.Author.Needs.{needs}
+use Rattle.calls.specs.Fields.{functionLength}
 use Rattle.program.proofs.fields.function_length.Statement.{statement}
 use Rattle.program.proofs.fields.function_length.Tie as tie
 

@@ -1,5 +1,5 @@
-use Rattle.calls.specs.Fields.{kindAt}
 use borrow.Author.Needs.{needs}
+use Rattle.calls.specs.Fields.{kindAt}
 use Rattle.program.proofs.fields.kind_at.Statement.{statement}
 use Rattle.program.proofs.fields.kind_at.Tie as tie
 

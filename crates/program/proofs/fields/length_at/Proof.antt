@@ -1,5 +1,5 @@
-use Rattle.calls.specs.Fields.{lengthAt}
 use borrow.Author.Needs.{needs}
+use Rattle.calls.specs.Fields.{lengthAt}
 use Rattle.program.proofs.fields.length_at.Statement.{statement}
 use Rattle.program.proofs.fields.length_at.Tie as tie
 

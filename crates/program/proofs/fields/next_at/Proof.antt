@@ -1,5 +1,5 @@
-use Rattle.calls.specs.Fields.{nextAt}
 use borrow.Author.Needs.{needs}
+use Rattle.calls.specs.Fields.{nextAt}
 use Rattle.program.proofs.fields.next_at.Statement.{statement}
 use Rattle.program.proofs.fields.next_at.Tie as tie
 

@@ -1,5 +1,5 @@
-use Rattle.calls.specs.Fields.{parametersAt}
 use borrow.Author.Needs.{needs}
+use Rattle.calls.specs.Fields.{parametersAt}
 use Rattle.program.proofs.fields.parameters_at.Statement.{statement}
 use Rattle.program.proofs.fields.parameters_at.Tie as tie
 

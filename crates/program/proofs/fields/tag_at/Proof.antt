@@ -1,5 +1,5 @@
-use Rattle.calls.specs.Fields.{tagAt}
 use borrow.Author.Needs.{needs}
+use Rattle.calls.specs.Fields.{tagAt}
 use Rattle.program.proofs.fields.tag_at.Statement.{statement}
 use Rattle.program.proofs.fields.tag_at.Tie as tie
 

@@ -1,7 +1,7 @@
 use native.Mathlib.Omega.{arith}
+use borrow.Author.Needs.{needs}
 use Rattle.calls.specs.Fields.{termLengths}
 use Rattle.program.proofs.Formed.{term-beyond}
-use borrow.Author.Needs.{needs}
 use Rattle.program.proofs.fields.term_bytes.Statement.{statement}
 use Rattle.program.proofs.fields.term_bytes.Tie as tie
 

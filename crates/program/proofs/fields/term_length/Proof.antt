@@ -1,7 +1,7 @@
-use mathlib.Core.Path.{_∙_}
 use native.Mathlib.Omega.{arith}
-use Rattle.program.proofs.Formed.{term-empty, term-call, term-by-kind}
+use mathlib.Core.Path.{_∙_}
 use borrow.Author.Needs.{needs}
+use Rattle.program.proofs.Formed.{term-empty, term-call, term-by-kind}
 use Rattle.program.proofs.fields.term_length.Statement.{statement}
 use Rattle.program.proofs.fields.term_length.Tie as tie
 

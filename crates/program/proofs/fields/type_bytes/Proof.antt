@@ -1,7 +1,7 @@
 use native.Mathlib.Omega.{arith}
+use borrow.Author.Needs.{needs}
 use Rattle.calls.specs.Fields.{typeLengths}
 use Rattle.program.proofs.Formed.{type-beyond}
-use borrow.Author.Needs.{needs}
 use Rattle.program.proofs.fields.type_bytes.Statement.{statement}
 use Rattle.program.proofs.fields.type_bytes.Tie as tie
 

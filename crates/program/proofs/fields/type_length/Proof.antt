@@ -1,6 +1,6 @@
 use native.Mathlib.Omega.{arith}
-use Rattle.program.proofs.Formed.{type-empty, type-by-kind}
 use borrow.Author.Needs.{needs}
+use Rattle.program.proofs.Formed.{type-empty, type-by-kind}
 use Rattle.program.proofs.fields.type_length.Statement.{statement}
 use Rattle.program.proofs.fields.type_length.Tie as tie
 

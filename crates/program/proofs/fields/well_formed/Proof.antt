@@ -1,7 +1,7 @@
 use native.Mathlib.Omega.{arith}
 use mathlib.Core.Path.{_∙_}
-use Rattle.program.proofs.Formed.{formed-short, formed-low, formed-long, formed-body}
 use borrow.Author.Needs.{needs}
+use Rattle.program.proofs.Formed.{formed-short, formed-low, formed-long, formed-body}
 use Rattle.program.proofs.fields.well_formed.Statement.{statement}
 use Rattle.program.proofs.fields.well_formed.Tie as tie
 

@@ -1,0 +1,133 @@
+use Prim.Native.Nat.{_-_}
+use native.Mathlib.Omega.{arith}
+use mathlib.Core.Path.{_≡_, refl, _∙_}
+use lib.ListN.{length}
+use Rattle.rules.specs.Limits.{maxProgramBytes}
+use Rattle.program.proofs.Formed.{denied, not-denied}
+use Rattle.program.proofs.Placing.{buffers-kept}
+use Rattle.program.proofs.Reading.{next-after, next-inside, field-inside, Reading, layout-over, reading-starts, reading-ends, reading-malformed, reading-over, reading-placeable, reading-more}
+use Rattle.program.proofs.fields.layout.Statement.{statement}
+use Rattle.program.proofs.fields.layout.Tie as tie
+
+abbrev Inv-loop : tie.InvT-loop
+Inv-loop p types₀ terms₀ functions₀ counts₀ at₀ last₀ types terms functions counts at last =
+    Reading p types terms functions counts at last × (length types ≡ length types₀) × (length terms ≡ length terms₀) × (length functions ≡ length functions₀)
+
+abbrev μ-loop : tie.MeasureT-loop
+μ-loop p types₀ terms₀ functions₀ counts₀ at₀ last₀ types terms functions counts at last = length p - at
+
+returns : tie.Need-returns Inv-loop μ-loop
+unfolding maxProgramBytes
+returns c = record { answer = layout-over _ (c .if1 .taken); counted = tt }
+
+loop-holds : tie.Need-loop-holds Inv-loop μ-loop
+unfolding maxProgramBytes
+loop-holds c = (reading-starts _ _ _ _ (c .if1 .left) (c .before .before .before .before .before .pre), refl, refl, refl)
+
+well-formed-requires : tie.Need-well-formed-requires Inv-loop μ-loop
+well-formed-requires c κs = c .before .loop .inv .0 .inside
+
+same-length : tie.Need-same-length Inv-loop μ-loop
+same-length c = c .before .before .before .loop .inv .1
+
+same-length-2 : tie.Need-same-length-2 Inv-loop μ-loop
+same-length-2 c = c .before .before .before .loop .inv .2
+
+same-length-3 : tie.Need-same-length-3 Inv-loop μ-loop
+same-length-3 c = c .before .before .before .loop .inv .3
+
+returns-2 : tie.Need-returns-2 Inv-loop μ-loop
+returns-2 c = record { answer = reading-malformed (c .before .before .before .loop .inv .0) (c .before .before .loop-test .taken) (denied (c .before .well-formed .ensures) (c .if2 .taken)); counted = tt }
+
+place-requires : tie.Need-place-requires Inv-loop μ-loop
+place-requires c κs = reading-placeable (c .before .before .before .before .before .before .loop .inv .0) (c .before .before .before .before .before .loop-test .taken) (not-denied (c .before .before .before .before .well-formed .ensures) (c .before .before .before .if2 .left))
+
+enum-known-more : tie.Need-enum-known-more Inv-loop μ-loop
+enum-known-more c = c .match .keys1
+
+enum-told : tie.Need-enum-told Inv-loop μ-loop
+enum-told c = c .match .keys2
+
+same-length-4 : tie.Need-same-length-4 Inv-loop μ-loop
+same-length-4 c = c .before .before .before .before .before .before .before .before .place .kept .1 .1 .1 .0 ∙ c .before .before .before .before .before .before .before .before .before .before .before .before .before .before .before .loop .inv .1
+
+same-length-5 : tie.Need-same-length-5 Inv-loop μ-loop
+same-length-5 c = c .before .before .before .before .before .before .before .before .place .kept .1 .1 .1 .1 .0 ∙ c .before .before .before .before .before .before .before .before .before .before .before .before .before .before .before .loop .inv .2
+
+same-length-6 : tie.Need-same-length-6 Inv-loop μ-loop
+same-length-6 c = c .before .before .before .before .before .before .before .before .place .kept .1 .1 .1 .1 .1 .0 ∙ c .before .before .before .before .before .before .before .before .before .before .before .before .before .before .before .loop .inv .3
+
+returns-3 : tie.Need-returns-3 Inv-loop μ-loop
+returns-3 c = let tested = c .before .before .before .before .before .before .before .before .before .before .before .before in
+    record {
+      answer = reading-over (tested .before .before .before .loop .inv .0) (tested .before .before .loop-test .taken)
+          (not-denied (tested .before .well-formed .ensures) (tested .if2 .left)) (rw (c .enum-told .given .1) at (c .before .before .before .before .before .before .before .before .place .ensures));
+      counted = tt;
+    }
+
+tag-at-requires : tie.Need-tag-at-requires Inv-loop μ-loop
+tag-at-requires c κs = tt
+
+next-at-requires : tie.Need-next-at-requires Inv-loop μ-loop
+next-at-requires c κs = let tested = c .before .before .before .before .before .before .before .before .before .before .before .before .before .before in field-inside _ _ _ (not-denied (tested .before .well-formed .ensures) (tested .if2 .left))
+
+loop-less : tie.Need-loop-less Inv-loop μ-loop
+loop-less c = let tested = c .before .before .before .before .before .before .before .before .before .before .before .before .before .before .before in
+    omega (
+      arith,
+      c .next-at .ensures,
+      next-after (c .before .before .before .before .before .before .before .before .before .before .before .before .before .before .before .before .before .before .before .before .before .before .before .before .args .p .now) (c .before .before .before .before .before .before .before .before .before .before .before .before .before .before .before .before .before .before .loop .at),
+      next-inside _ _ _ (not-denied (tested .before .well-formed .ensures) (tested .if2 .left)),
+    )
+
+loop-again : tie.Need-loop-again Inv-loop μ-loop
+loop-again c = let tested = c .before .before .before .before .before .before .before .before .before .before .before .before .before .before .before in
+    let turn = tested .before .before .before .loop .inv in
+    let kept = c .before .before .before .before .before .before .before .before .before .before .before .place .kept .1 .1 .1 in (
+      reading-more (turn .0) (tested .before .before .loop-test .taken) (not-denied (tested .before .well-formed .ensures) (tested .if2 .left))
+          (rw (c .before .before .before .more .given .1) at (c .before .before .before .before .before .before .before .before .before .before .before .place .ensures)) (buffers-kept (turn .0 .buffers) (kept .0) (kept .1 .0) (kept .1 .1 .0)) (c .before .tag-at .ensures) (c .next-at .ensures),
+      kept .0 ∙ turn .1,
+      kept .1 .0 ∙ turn .2,
+      kept .1 .1 .0 ∙ turn .3,
+    )
+
+same-length-7 : tie.Need-same-length-7 Inv-loop μ-loop
+same-length-7 c = c .before .loop .inv .1
+
+same-length-8 : tie.Need-same-length-8 Inv-loop μ-loop
+same-length-8 c = c .before .loop .inv .2
+
+same-length-9 : tie.Need-same-length-9 Inv-loop μ-loop
+same-length-9 c = c .before .loop .inv .3
+
+returns-4 : tie.Need-returns-4 Inv-loop μ-loop
+returns-4 c = record { answer = reading-ends (c .before .loop .inv .0) (c .loop-test .left); counted = c .before .loop .inv .0 .within }
+
+pub layout-spec : {M : Type 1} → statement M
+layout-spec =
+    tie.close
+    (tie.spec
+    Inv-loop
+    μ-loop
+    returns
+    loop-holds
+    well-formed-requires
+    same-length
+    same-length-2
+    same-length-3
+    returns-2
+    place-requires
+    enum-known-more
+    enum-told
+    same-length-4
+    same-length-5
+    same-length-6
+    returns-3
+    tag-at-requires
+    next-at-requires
+    loop-less
+    loop-again
+    same-length-7
+    same-length-8
+    same-length-9
+    returns-4)
