@@ -1,13 +1,12 @@
 -- Laws of the values at nodes: what a node's kind says of its value; heaps that agree have the same values; a new node keeps all.
-use Prim.Native.Nat.{ℕ, zero, suc, _+_, _*_, _^_, _<_, _≤_}
+use Prim.Native.Nat.{ℕ, zero, suc, _^_, _<_, _≤_}
 use native.Mathlib.Omega.{arith}
 use native.Mathlib.Nat.{eq-or-lt-of-le}
 use mathlib.Core.Path.{_≡_, refl, sym, ap, subst, _∙_}
 use mathlib.Core.Logic.{_⊎_, ⊎-elim, inl as left, inr as right}
 use mathlib.Core.List.{List}
-use lib.ListN.{length}
 use package.Rattle.rules.specs.Val.{Val, unit, inl, inr, pair, roll, size}
-use package.Rattle.values.specs.Nodes.{kindAt, leftAt, rightAt, lengthAt, putNode, Room, Agree, ofKind, valueWithin, valueAt, Right, Heap, NodeReady, Grown}
+use package.Rattle.values.specs.Nodes.{kindAt, leftAt, rightAt, putNode, Agree, ofKind, valueWithin, valueAt, Right, Heap, NodeReady, Grown}
 use package.Rattle.values.proofs.Places.{length-put, kind-put, len-put, left-put, right-put, agree-kind, agree-len, agree-left, agree-right, agree-put}
 
 -- a unit's parts mean nothing

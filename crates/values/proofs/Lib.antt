@@ -5,3 +5,9 @@ pub mod Places
 pub mod Heaps
 -- what the making of nodes cites
 pub mod Making
+-- when two nodes have the same value
+pub mod Equal
+-- what loading cites
+pub mod Loading
+-- what storing cites
+pub mod Storing

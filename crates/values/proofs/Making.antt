@@ -1,13 +1,13 @@
 -- Laws that the making of nodes cites: lengths of new values, and the two answers.
-use Prim.Native.Nat.{ℕ, suc, _+_, _<_, _≤_}
+use Prim.Native.Nat.{ℕ, _+_, _<_, _≤_}
 use native.Mathlib.Omega.{arith}
-use mathlib.Core.Path.{_≡_, refl, sym, ap, _∙_}
+use mathlib.Core.Path.{_≡_, refl, sym}
 use mathlib.Core.Logic.{_⊎_, ⊎-elim, inl as left, inr as right}
 use mathlib.Core.Bool.{true, false, false≢true}
 use mathlib.Core.List.{List}
 use borrow.Author.Tests.{le-leb, lt-leb}
 use package.Rattle.rules.specs.Limits.{fits, maxValueBytes}
-use package.Rattle.rules.specs.Val.{Val, unit, inl, inr, pair, roll, size}
+use package.Rattle.rules.specs.Val.{Val, size}
 use package.Rattle.values.specs.Nodes.{lengthAt, Room, ofKind, Single, valueAt, Heap, NodeReady, Grown, Made}
 
 ----------------------------------------------------------------
@@ -30,18 +30,18 @@ made-old heap top v h = record { answer = sym (fits-false v h); new = λ e. absu
 ----------------------------------------------------------------
 -- Nodes that may be put
 
-size-single : (k : ℕ) (v w : Val) → Single k → size (ofKind k v w) ≡ size v + 1
+pub size-single : (k : ℕ) (v w : Val) → Single k → size (ofKind k v w) ≡ size v + 1
 unfolding ofKind size
 size-single k v w s = ⊎-elim (λ e. rw e (omega arith)) (λ s′. ⊎-elim (λ e. rw e (omega arith)) (λ e. rw e (omega arith)) s′) s
 
-single-kind : (k : ℕ) → Single k → k ≤ 4
+pub single-kind : (k : ℕ) → Single k → k ≤ 4
 single-kind k s = ⊎-elim (λ e. omega arith) (λ s′. ⊎-elim (λ e. omega arith) (λ e. omega arith) s′) s
 
-size-pair : (v w : Val) → size (ofKind 3 v w) ≡ size v + size w + 1
+pub size-pair : (v w : Val) → size (ofKind 3 v w) ≡ size v + size w + 1
 unfolding ofKind size
 size-pair v w = omega arith
 
-size-unit : (v w : Val) → size (ofKind 0 v w) ≡ 1
+pub size-unit : (v w : Val) → size (ofKind 0 v w) ≡ 1
 unfolding ofKind size
 size-unit v w = refl
 

@@ -3,7 +3,7 @@ use Prim.Native.Nat.{ℕ, _+_, _*_, _^_, _<_, _≤_}
 use native.Mathlib.Omega.{arith}
 use mathlib.Core.Path.{_≡_, refl, sym, _∙_}
 use mathlib.Core.List.{List}
-use lib.ListN.{length, getD, set, length-set}
+use lib.ListN.{length, set, length-set}
 use lib.Seq.{getD-set-same}
 use package.Rattle.octets.specs.Numbers.{put16, put32}
 use package.Rattle.octets.proofs.Puts.{length-put16, length-put32, set-low, put16-low, put32-low, get16-same, get32-same, get16-put16, get32-put32}

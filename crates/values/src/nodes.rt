@@ -1,11 +1,11 @@
 // The value graph: values as nodes in lent bytes, each node once. Only this module knows a node's layout (specs/Nodes).
 ghost use mathlib.Core.Path.{_≡_};
-ghost use mathlib.Core.Logic.{_⊎_};
-ghost use Prim.Native.Nat.{_+_, _*_, _≤_, _<_};
-ghost use lib.ListN.{length};
-ghost use Rattle.rules.specs.Val.{unit, pair, size};
-ghost use Rattle.values.specs.Nodes.{nodeBytes, kindAt, lengthAt, leftAt, rightAt, putNode, Room};
+ghost use Prim.Native.Nat.{_+_, _*_, _<_};
+ghost use Rattle.rules.specs.Val.{unit, pair, same};
+ghost use Rattle.values.specs.Nodes.{kindAt, lengthAt, leftAt, rightAt, putNode, Room};
 ghost use Rattle.values.specs.Nodes.{ofKind, Single, valueAt, Heap, NodeReady, Grown, Made};
+ghost use Rattle.values.specs.Loads.{PlaceReady, PlaceDone, LoadReady, LoadDone};
+ghost use Rattle.values.specs.Stores.{StoreReady, StoreDone};
 
 const NODE_BYTES: usize = 12;
 
@@ -108,4 +108,112 @@ pub fn pair(ws: &mut [u8], top: u32, left: u32, right: u32) -> bool
     let n = octets::wide32(length_of(ws, left));
     let m = octets::wide32(length_of(ws, right));
     append_short(ws, top, 3, n + m + 1, left, right)
+}
+
+// Do two nodes have the same value? (Values share nodes, so a node is first compared with itself.)
+pub fn same(ws: &[u8], top: u32, a: u32, b: u32) -> bool
+    requires { ⌜ Heap (now ws) top ⌝ }
+    requires { ⌜ (a < top) × (b < top) ⌝ }
+    ensures { λ r. ⌜ r ≡ same (valueAt (now (ws .entry)) a) (valueAt (now (ws .entry)) b) ⌝ }
+{
+    if a == b {
+        return true;
+    }
+    let kind = kind_of(ws, a);
+    let other = kind_of(ws, b);
+    if kind != other {
+        return false;
+    }
+    if kind == 0 {
+        return true;
+    }
+    let left = same(ws, top, left_of(ws, a), left_of(ws, b));
+    if left {
+        if kind == 3 {
+            return same(ws, top, right_of(ws, a), right_of(ws, b));
+        }
+        return true;
+    }
+    false
+}
+
+// Where a value was placed: its node, the position behind its bytes, and the next free node.
+pub struct Placed {
+    pub node: u32,
+    pub next: usize,
+    pub top: u32,
+}
+
+// What loading finds at a position: a value, now in nodes; or bytes that are none.
+pub enum Loaded {
+    Node(Placed),
+    Malformed,
+}
+
+// The node over `left` and the node placed last, for a value whose bytes start at `at`.
+fn place(ws: &mut [u8], kind: u8, at: usize, left: u32, last: Placed) -> Placed
+    requires { ⌜ PlaceReady (now ws) kind at left last ⌝ }
+    ensures { λ r. ⌜ PlaceDone (now (ws .entry)) (now (ws .exit)) kind left last r ⌝ }
+{
+    let top = last.top;
+    let next = last.next;
+    append(ws, top, kind, (next - at) as u16, left, last.node);
+    Placed {
+        node: top,
+        next: next,
+        top: top + 1,
+    }
+}
+
+// The value whose bytes start at `at`, as nodes from `top` on, one for each byte. The bytes are few, so that no value in them is over
+// the limit and the recursion is not deep.
+pub fn load(ws: &mut [u8], top: u32, s: &[u8], at: usize) -> Loaded
+    requires { ⌜ LoadReady (now ws) top (now s) at ⌝ }
+    ensures { λ r. ⌜ LoadDone (now (ws .entry)) (now (ws .exit)) top (now (s .entry)) at r ⌝ }
+{
+    if s.len() <= at {
+        return Loaded::Malformed;
+    }
+    let kind = s[at];
+    if 4 < kind {
+        return Loaded::Malformed;
+    }
+    let next = at + 1;
+    if kind == 0 {
+        unit(ws, top);
+        return Loaded::Node(Placed {
+            node: top,
+            next: next,
+            top: top + 1,
+        });
+    }
+    let Loaded::Node(first) = load(ws, top, s, next) else {
+        return Loaded::Malformed;
+    };
+    let left = first.node;
+    if kind != 3 {
+        return Loaded::Node(place(ws, kind, at, left, first));
+    }
+    let Loaded::Node(second) = load(ws, first.top, s, first.next) else {
+        return Loaded::Malformed;
+    };
+    Loaded::Node(place(ws, 3, at, left, second))
+}
+
+// The bytes of a node's value, into `out` from `at` on. Answers the position behind them.
+pub fn store(ws: &[u8], n: u32, out: &mut [u8], at: usize) -> usize
+    requires { ⌜ StoreReady (now ws) n (now out) at ⌝ }
+    ensures { λ r. ⌜ StoreDone (now (ws .entry)) n (now (out .entry)) (now (out .exit)) at r ⌝ }
+{
+    let kind = kind_of(ws, n);
+    out[at] = kind;
+    let next = at + 1;
+    if kind == 0 {
+        return next;
+    }
+    let behind = store(ws, left_of(ws, n), out, next);
+    if kind == 3 {
+        return store(ws, right_of(ws, n), out, behind);
+    }
+    behind
 }

@@ -20,7 +20,8 @@ same-length c = search needs
 
 returns-2 : tie.Need-returns-2
 unfolding maxValueBytes
-returns-2 c = made-new (c .before .before .append .ensures) (omega (arith, c .before .before .before .before .before .before .pre .len))
+returns-2 c =
+    made-new (c .before .before .append .ensures) (omega (arith, c .before .before .before .before .before .before .pre .len))
 
 pub append-short-spec : {M : Type 1} → statement M
 append-short-spec = tie.close (tie.spec returns cast-append append-requires same-length returns-2)

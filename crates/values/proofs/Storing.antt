@@ -1,0 +1,143 @@
+-- Laws that storing cites: bytes put one behind another, the bytes of a value of a kind, and each answer of `store`.
+use Prim.Native.Nat.{ℕ, zero, suc, _+_, _<_, _≤_}
+use native.Mathlib.Omega.{arith}
+use native.Mathlib.Nat.{add-assoc}
+use mathlib.Core.Path.{_≡_, refl, sym, ap, ap₂, _∙_}
+use mathlib.Core.Logic.{inl as left, inr as right}
+use mathlib.Core.List.{List, [], _∷_, _++_, append-assoc}
+use lib.ListN.{length, set, take, drop, length-append, length-set}
+use lib.Seq.{length-take-le, set-split, append-snoc, take-at, drop-append-add, drop-drop}
+use package.Rattle.octets.specs.Runs.{pasted}
+use package.Rattle.rules.specs.Val.{Val, size, encode}
+use package.Rattle.rules.proofs.Val.{length-encode}
+use package.Rattle.calls.proofs.Values.{size-positive}
+use package.Rattle.values.specs.Nodes.{kindAt, leftAt, rightAt, ofKind, Single, valueAt}
+use package.Rattle.values.specs.Stores.{StoreReady, StoreDone}
+use package.Rattle.values.proofs.Heaps.{lower, value-parts, value-unit, heap-down}
+use package.Rattle.values.proofs.Making.{size-single, size-pair}
+use package.Rattle.values.proofs.Loading.{kind-single}
+
+----------------------------------------------------------------
+-- Bytes put one behind another
+
+-- one byte
+pasted-one : (xs : List ℕ) (at k : ℕ) → at < length xs → set xs at k ≡ pasted xs at (k ∷ [])
+unfolding pasted
+pasted-one xs at k h =
+    set-split xs at k h
+    ∙ sym (append-snoc (take at xs) k (drop (suc at) xs))
+    ∙ ap (λ n. take at xs ++ (k ∷ []) ++ drop n xs) (let z : suc at ≡ at + 1 = omega arith in z)
+
+-- a run behind a run
+pub pasted-behind : (xs : List ℕ) (at : ℕ) (ys zs : List ℕ) → at + length ys ≤ length xs
+    → pasted (pasted xs at ys) (at + length ys) zs ≡ pasted xs at (ys ++ zs)
+unfolding pasted
+pasted-behind xs at ys zs h =
+    ap₂ (λ a b. a ++ zs ++ b)
+    (take-at front rest (at + length ys) front-length)
+    (ap (λ n. drop (n + length zs) (front ++ rest)) (sym front-length)
+    ∙ drop-append-add front rest (length zs)
+    ∙ drop-drop (length zs) (at + length ys) xs
+    ∙ ap (λ n. drop n xs) (add-assoc at (length ys) (length zs) ∙ ap (λ n. at + n) (sym (length-append ys zs))))
+    ∙ ap (λ a. a ++ drop (at + length (ys ++ zs)) xs) (append-assoc (take at xs) ys zs)
+  where
+    front : List ℕ
+    front = take at xs ++ ys
+
+    rest : List ℕ
+    rest = drop (at + length ys) xs
+
+    front-length : length front ≡ at + length ys
+    front-length = length-append (take at xs) ys ∙ ap (λ n. n + length ys) (length-take-le at xs (omega arith))
+
+-- a byte, and a run behind it
+pasted-cons : (xs : List ℕ) (at k : ℕ) (ys : List ℕ) → at < length xs → pasted (set xs at k) (at + 1) ys ≡ pasted xs at (k ∷ ys)
+pasted-cons xs at k ys h = ap (λ l. pasted l (at + 1) ys) (pasted-one xs at k h) ∙ pasted-behind xs at (k ∷ []) ys (omega arith)
+
+----------------------------------------------------------------
+-- The bytes of a value of a kind
+
+encode-single : (k : ℕ) (v w : Val) → Single k → encode (ofKind k v w) ≡ k ∷ encode v
+unfolding ofKind encode
+encode-single k v w (left e) = rw e
+encode-single k v w (right (left e)) = rw e
+encode-single k v w (right (right e)) = rw e
+
+encode-pair : (v w : Val) → encode (ofKind 3 v w) ≡ 3 ∷ (encode v ++ encode w)
+unfolding ofKind encode
+encode-pair v w = refl
+
+-- a part is shorter than the whole
+size-left : (k : ℕ) (v w : Val) → ¬ (k ≡ 0) → size v + 1 ≤ size (ofKind k v w)
+unfolding ofKind size
+size-left zero v w z = absurd (z refl)
+size-left (suc zero) v w z = omega arith
+size-left (suc (suc zero)) v w z = omega arith
+size-left (suc (suc (suc zero))) v w z = omega arith
+size-left (suc (suc (suc (suc n)))) v w z = omega arith
+
+----------------------------------------------------------------
+-- The answers of `store`
+
+module _ (heap : List ℕ) (n : ℕ) (out : List ℕ) (at : ℕ) (h : StoreReady heap n out at) (k : ℕ) (ek : k ≡ kindAt heap n) where
+  pub here : at < length out
+  here = omega (arith, h .room, size-positive (valueAt heap n))
+
+  pub store-unit : k ≡ 0 → StoreDone heap n out (set out at k) at (at + 1)
+  unfolding size encode
+  store-unit z =
+      let e = value-unit heap (n + 1) (h .right) n (sym ek ∙ z) in
+      record { bytes = rw (e, ← z) (pasted-one out at k here); behind = rw e }
+
+  module _ (nz : ¬ (k ≡ 0)) (l : ℕ) (el : l ≡ leftAt heap n) where
+    whole : valueAt heap n ≡ ofKind k (valueAt heap l) (valueAt heap (rightAt heap n))
+    whole = rw (ek, el) (value-parts heap (n + 1) (h .right) n (omega arith) (λ z. nz (ek ∙ z)))
+
+    pub left-lower : l < n
+    left-lower = let p = lower heap (n + 1) (h .right) n (omega arith) (λ z. nz (ek ∙ z)) in omega arith
+
+    pub left-ready : StoreReady heap l (set out at k) (at + 1)
+    left-ready =
+        record {
+          right = heap-down (l + 1) (omega (arith, left-lower)) (h .right);
+          room = rw length-set (omega (arith, h .room, ap size whole, size-left k (valueAt heap l) (valueAt heap (rightAt heap n)) nz));
+        }
+
+    module _ (out′ : List ℕ) (behind : ℕ) (d : StoreDone heap l (set out at k) out′ (at + 1) behind) where
+      with-left : out′ ≡ pasted out at (k ∷ encode (valueAt heap l))
+      with-left = d .bytes ∙ pasted-cons out at k (encode (valueAt heap l)) here
+
+      pub store-one : ¬ (k ≡ 3) → StoreDone heap n out out′ at behind
+      store-one nt =
+          let single = kind-single k nz (rw ek (h .right .node n (omega arith) .kind)) nt in
+          record {
+            bytes = with-left ∙ ap (pasted out at) (sym (encode-single k (valueAt heap l) (valueAt heap (rightAt heap n)) single) ∙ ap encode (sym whole));
+            behind = omega (arith, d .behind, ap size whole, size-single k (valueAt heap l) (valueAt heap (rightAt heap n)) single);
+          }
+
+      module _ (three : k ≡ 3) (r : ℕ) (er : r ≡ rightAt heap n) where
+        whole-pair : valueAt heap n ≡ ofKind 3 (valueAt heap l) (valueAt heap r)
+        whole-pair = rw (← three, er) whole
+
+        whole-size : size (valueAt heap n) ≡ size (valueAt heap l) + size (valueAt heap r) + 1
+        whole-size = ap size whole-pair ∙ size-pair (valueAt heap l) (valueAt heap r)
+
+        pub right-lower : r < n
+        right-lower = let p = lower heap (n + 1) (h .right) n (omega arith) (λ z. nz (ek ∙ z)) in omega arith
+
+        pub right-ready : length out′ ≡ length out → StoreReady heap r out′ behind
+        right-ready e =
+            record {
+              right = heap-down (r + 1) (omega (arith, right-lower)) (h .right);
+              room = omega (arith, h .room, d .behind, whole-size);
+            }
+
+        pub store-two : {out″ : List ℕ} {next : ℕ} → StoreDone heap r out′ out″ behind next → StoreDone heap n out out″ at next
+        store-two d′ =
+            record {
+              bytes = d′ .bytes
+                  ∙ ap₂ (λ o b. pasted o b (encode (valueAt heap r))) with-left (omega (arith, d .behind, length-encode (valueAt heap l)))
+                  ∙ pasted-behind out at (k ∷ encode (valueAt heap l)) (encode (valueAt heap r)) (omega (arith, h .room, length-encode (valueAt heap l), whole-size))
+                  ∙ ap (pasted out at) (rw three (sym (encode-pair (valueAt heap l) (valueAt heap r)) ∙ ap encode (sym whole-pair)));
+              behind = omega (arith, d .behind, d′ .behind, whole-size);
+            }
