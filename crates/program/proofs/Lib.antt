@@ -11,3 +11,9 @@ pub mod Inside
 pub mod Placing
 -- the pass over the fields
 pub mod Reading
+-- runs of references, and what an entry names
+pub mod Lists
+-- one turn of each loop over references
+pub mod Turns
+-- the figures of one type entry, by its kind
+pub mod Figures

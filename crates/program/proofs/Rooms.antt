@@ -1,10 +1,11 @@
 -- How many bytes a well-formed field has, by its kind: what the view of an entry asks for.
-use Prim.Native.Nat.{ℕ, _+_, _*_, _-_, _%_, _≤_}
+use Prim.Native.Nat.{ℕ, _+_, _*_, _-_, _%_, _≤_, _<_}
 use native.Mathlib.Omega.{arith}
 use mathlib.Core.Path.{_≡_, refl, sym, ap, subst, _∙_}
 use mathlib.Core.Bool.{true, false, cond}
 use mathlib.Core.List.{List}
-use lib.ListN.{length, getD}
+use native.Mathlib.Decide.{decLt}
+use lib.ListN.{length, getD, List·getD-eq-default}
 use lib.Dec.{eqb, leb}
 use package.Rattle.rules.proofs.Basics.{given, and-both, eqb-sound, eqb-differs}
 use package.Rattle.rules.proofs.Typing.Tests.{leb-sound}
@@ -18,6 +19,17 @@ unfolding typeLength
 type-length k n e = given (and-both (leb 1 n) _ e) λ (x, y). (leb-sound 1 n x, eqb-sound n _ y)
 
 module _ {xs : List ℕ} {at : ℕ} (F : TypeField xs at) where
+  -- there is no sixth kind
+  pub type-kind : kindAt xs at < 5
+  unfolding typeLengths
+  type-kind = go (decLt (kindAt xs at) 5)
+    where
+      go : Dec (kindAt xs at < 5) → kindAt xs at < 5
+      go (yes l) = l
+      go (no l) =
+          given (type-length (kindAt xs at) (lengthAt xs at) (F .sized)) λ (some, same).
+          absurd (omega (arith, some, same, List·getD-eq-default typeLengths 0 {n = kindAt xs at} (let z : 5 ≤ kindAt xs at = omega arith in z)))
+
   pub type-kind-room : at + 4 ≤ length xs
   unfolding nextAt
   type-kind-room = omega (arith, F .inside, type-length (kindAt xs at) (lengthAt xs at) (F .sized) .0)
@@ -58,6 +70,18 @@ unfolding callLength
 call-length n e = given (and-both (leb 5 n) _ (term-length 8 n e .1)) λ (x, y). (leb-sound 5 n x, eqb-sound _ 1 y)
 
 module _ {xs : List ℕ} {at : ℕ} (F : TermField xs at) where
+  -- there is no twelfth kind
+  pub term-kind : kindAt xs at < 11
+  unfolding termLengths
+  term-kind = go (decLt (kindAt xs at) 11)
+    where
+      go : Dec (kindAt xs at < 11) → kindAt xs at < 11
+      go (yes l) = l
+      go (no l) =
+          let beyond : 11 ≤ kindAt xs at = omega arith in
+          given (term-length (kindAt xs at) (lengthAt xs at) (F .sized)) λ (some, same).
+          absurd (omega (arith, some, plain-length (kindAt xs at) (lengthAt xs at) (eqb-differs (kindAt xs at) 8 λ e. omega arith) (F .sized), List·getD-eq-default termLengths 0 beyond))
+
   pub term-kind-room : at + 4 ≤ length xs
   unfolding nextAt
   term-kind-room = omega (arith, F .inside, term-length (kindAt xs at) (lengthAt xs at) (F .sized) .0)

@@ -3,3 +3,7 @@
 pub mod Places
 -- the parts of an entry's field, and fields that are well-formed
 pub mod Parts
+-- the references of an entry, as runs in its field
+pub mod Lists
+-- what is noted of entries in arrays: uses of terms, figures of types
+pub mod Marks

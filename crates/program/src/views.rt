@@ -6,7 +6,8 @@ ghost use Prim.Native.Nat.{_+_, _*_, _≤_, _<_};
 ghost use lib.ListN.{length};
 ghost use Rattle.calls.specs.Fields.{kindAt, lengthAt, parametersAt};
 ghost use Rattle.calls.specs.Entries.{callAncillae};
-ghost use Rattle.program.specs.Parts.{variable, first, second, third, listed, result, body};
+ghost use Rattle.program.specs.Parts.{variable, first, second, third, listed, result, body, TypeField, TermField};
+ghost use Rattle.program.specs.Lists.{typesInType, typesInTerm, functionsInTerm, termsInTerm, termsFrom};
 
 // Types and terms.
 
@@ -15,6 +16,21 @@ pub fn kind(p: &[u8], at: usize) -> u8
     ensures { λ r. ⌜ r ≡ kindAt (now (p .entry)) at ⌝ }
 {
     p[at + 3]
+}
+
+// The same of a well-formed field: one of five kinds, one of eleven.
+pub fn type_kind(p: &[u8], at: usize) -> usize
+    requires { ⌜ TypeField (now p) at ⌝ }
+    ensures { λ r. ⌜ (r ≡ kindAt (now (p .entry)) at) × (r < 5) ⌝ }
+{
+    octets::wide_index(octets::wide16(kind(p, at)))
+}
+
+pub fn term_kind(p: &[u8], at: usize) -> usize
+    requires { ⌜ TermField (now p) at ⌝ }
+    ensures { λ r. ⌜ (r ≡ kindAt (now (p .entry)) at) × (r < 11) ⌝ }
+{
+    octets::wide_index(octets::wide16(kind(p, at)))
 }
 
 // The number of the variable that a type or a term is.
@@ -87,4 +103,58 @@ pub fn function_body(p: &[u8], at: usize) -> u16
 {
     let n = function_parameters(p, at);
     octets::read16(p, at + 6 + 2 * n)
+}
+
+// How many references an entry has, by its kind, in the order of the bytes; specs/Lists has the tables. A term's stand for a type or a
+// function first, then for terms; a call has its ancilla terms besides.
+
+const TYPES_IN_TYPE: [usize; 5] = [0, 2, 2, 1, 0];
+
+const TYPES_IN_TERM: [usize; 11] = [0, 0, 1, 1, 0, 0, 0, 0, 0, 1, 1];
+
+const FUNCTIONS_IN_TERM: [usize; 11] = [0, 0, 0, 0, 0, 0, 0, 0, 1, 0, 0];
+
+const TERMS_IN_TERM: [usize; 11] = [0, 0, 1, 1, 2, 2, 2, 3, 1, 1, 1];
+
+pub fn types_in_type(p: &[u8], at: usize) -> usize
+    requires { ⌜ TypeField (now p) at ⌝ }
+    ensures { λ r. ⌜ r ≡ typesInType (now (p .entry)) at ⌝ }
+{
+    let k = type_kind(p, at);
+    TYPES_IN_TYPE[k]
+}
+
+pub fn types_in_term(p: &[u8], at: usize) -> usize
+    requires { ⌜ TermField (now p) at ⌝ }
+    ensures { λ r. ⌜ r ≡ typesInTerm (now (p .entry)) at ⌝ }
+{
+    let k = term_kind(p, at);
+    TYPES_IN_TERM[k]
+}
+
+pub fn functions_in_term(p: &[u8], at: usize) -> usize
+    requires { ⌜ TermField (now p) at ⌝ }
+    ensures { λ r. ⌜ r ≡ functionsInTerm (now (p .entry)) at ⌝ }
+{
+    let k = term_kind(p, at);
+    FUNCTIONS_IN_TERM[k]
+}
+
+pub fn terms_in_term(p: &[u8], at: usize) -> usize
+    requires { ⌜ TermField (now p) at ⌝ }
+    ensures { λ r. ⌜ r ≡ termsInTerm (now (p .entry)) at ⌝ }
+{
+    let k = term_kind(p, at);
+    if k == 8 {
+        return call_ancillae(p, at) + 1;
+    }
+    TERMS_IN_TERM[k]
+}
+
+// Where a term's references to terms start.
+pub fn terms_from(p: &[u8], at: usize) -> usize
+    requires { ⌜ TermField (now p) at ⌝ }
+    ensures { λ r. ⌜ r ≡ termsFrom (now (p .entry)) at ⌝ }
+{
+    at + 4 + 2 * (types_in_term(p, at) + functions_in_term(p, at))
 }

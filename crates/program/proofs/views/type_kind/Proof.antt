@@ -1,0 +1,21 @@
+use native.Mathlib.Omega.{arith}
+use mathlib.Core.Path.{_∙_}
+use Rattle.program.proofs.Rooms.{type-kind, type-kind-room}
+use borrow.Author.Needs.{needs}
+use Rattle.program.proofs.views.type_kind.Statement.{statement}
+use Rattle.program.proofs.views.type_kind.Tie as tie
+
+kind-requires : tie.Need-kind-requires
+kind-requires c κs = type-kind-room (c .before .pre)
+
+wide16-requires : tie.Need-wide16-requires
+wide16-requires c κs = search needs
+
+wide-index-requires : tie.Need-wide-index-requires
+wide-index-requires c κs = search needs
+
+returns : tie.Need-returns
+returns c = let e = c .wide-index .ensures .0 ∙ c .before .wide16 .ensures .0 ∙ c .before .before .kind .ensures in (e, omega (arith, e, type-kind (c .before .before .before .before .pre)))
+
+pub type-kind-spec : {M : Type 1} → statement M
+type-kind-spec = tie.close (tie.spec kind-requires wide16-requires wide-index-requires returns)
