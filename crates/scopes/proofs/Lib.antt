@@ -3,3 +3,5 @@
 pub mod Marks
 -- the scope that slots hold
 pub mod Scopes
+-- the binding state
+pub mod Bound

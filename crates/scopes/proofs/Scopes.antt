@@ -27,6 +27,11 @@ unfolding stateAt
 length-state heap slots base zero = refl
 length-state heap slots base (suc n) = ap suc (length-state heap slots base n)
 
+-- the newest variable, and the others
+pub state-front : (heap slots : List ℕ) (base n : ℕ) → stateAt heap slots base (suc n) ≡ meaning heap (found (getD slots (base + n) 0)) ∷ stateAt heap slots base n
+unfolding stateAt
+state-front heap slots base n = refl
+
 known-within : (heap slots : List ℕ) (base n i : ℕ) → i < n → known (stateAt heap slots base n) i ≡ meaning heap (found (getD slots (base + i) 0))
 unfolding stateAt
 known-within heap slots base zero i l = absurd (omega arith)

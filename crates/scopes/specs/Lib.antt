@@ -1,3 +1,5 @@
 -- Scopes: what is known of each variable while a term runs.
 -- scopes in lent slots
 pub mod Slots
+-- the binding state of a backward run, by value
+pub mod Bindings
