@@ -17,3 +17,5 @@ pub mod Lists
 pub mod Turns
 -- the figures of one type entry, by its kind
 pub mod Figures
+-- the table of signatures: its rows, and how they are stored
+pub mod Rows

@@ -7,3 +7,5 @@ pub mod Parts
 pub mod Lists
 -- what is noted of entries in arrays: uses of terms, figures of types
 pub mod Marks
+-- the parameters of a function as a row of a table
+pub mod Signatures

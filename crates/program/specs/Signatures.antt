@@ -1,0 +1,29 @@
+-- The signatures of functions, as the code holds them: rows of eight parameter type numbers, a row for each function.
+use Prim.Native.Nat.{ℕ, _≤_, _<_}
+use mathlib.Core.Path.{_≡_}
+use mathlib.Core.List.{List, [], _∷_, _++_}
+use lib.ListN.{length, getD, replicate}
+use package.Rattle.rules.specs.Limits.{maxFunctions}
+use package.Rattle.calls.specs.Entries.{FunctionEntry, functionAt}
+use package.Rattle.program.specs.Parts.{FunctionField}
+
+-- the parameter types of a function in order, the dynamic one last
+abbrev pub parameterTypes : FunctionEntry → List ℕ
+parameterTypes h = h .ancillae ++ (h .dynamic ∷ [])
+
+-- A function's row: its parameter types, zeros after them.
+pub record SignatureIs (h : FunctionEntry) (row : List ℕ) : Type 0 where
+  pub sized : length row ≡ 8
+  pub few : length (parameterTypes h) ≤ 8
+  pub each : (k : ℕ) → getD row k 0 ≡ getD (parameterTypes h) k 0
+
+-- offsets of function fields that were read
+pub record FunctionFields (xs functions : List ℕ) : Type 0 where
+  pub few : length functions ≤ maxFunctions
+  pub each : (g : ℕ) → g < length functions → FunctionField xs (getD functions g 0)
+
+-- The table: a row for each function, rows of zeros after them.
+pub record SignaturesAre (xs functions : List ℕ) (table : List (List ℕ)) : Type 0 where
+  pub sized : length table ≡ 64
+  pub rows : (g : ℕ) → g < length functions → SignatureIs (functionAt xs (getD functions g 0)) (getD table g [])
+  pub beyond : (g : ℕ) → length functions ≤ g → g < 64 → getD table g [] ≡ replicate 8 0
