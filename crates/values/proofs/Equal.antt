@@ -58,52 +58,71 @@ same-pairs v w v′ w′ e = rw e
 ----------------------------------------------------------------
 -- Nodes
 
-module _ (heap : List ℕ) (top : ℕ) (h : Heap heap top) where
-  pub kindOf-value : (n : ℕ) → n < top → kindOf (valueAt heap n) ≡ kindAt heap n
-  unfolding valueAt valueWithin
-  kindOf-value n t = kindOf-ofKind (kindAt heap n) _ _ (h .node n t .kind)
+pub kindOf-value : (heap : List ℕ) (top : ℕ) → Heap heap top → (n : ℕ) → n < top → kindOf (valueAt heap n) ≡ kindAt heap n
+unfolding valueAt valueWithin
+kindOf-value heap top h n t = kindOf-ofKind (kindAt heap n) _ _ (h .node n t .kind)
 
-  module _ (a b : ℕ) (ta : a < top) (tb : b < top) where
-    abbrev Same : Bool → Type 0
-    Same r = r ≡ same (valueAt heap a) (valueAt heap b)
+pub one-node : (heap : List ℕ) (a b : ℕ) → a ≡ b → true ≡ same (valueAt heap a) (valueAt heap b)
+one-node heap a b e = rw e (sym (same-refl (valueAt heap b)))
 
-    pub one-node : a ≡ b → Same true
-    one-node e = rw e (sym (same-refl (valueAt heap b)))
+-- two nodes, with their kinds as they were read
+pub record Kinds (heap : List ℕ) (top a b k k′ : ℕ) : Type 0 where
+  pub right : Heap heap top
+  pub below : (a < top) × (b < top)
+  pub kind : k ≡ kindAt heap a
+  pub kind′ : k′ ≡ kindAt heap b
 
-    module _ (k k′ : ℕ) (ek : k ≡ kindAt heap a) (ek′ : k′ ≡ kindAt heap b) where
-      pub kinds-differ : ¬ (k ≡ k′) → Same false
-      kinds-differ d = sym (same-differs _ _ (λ e. d (ek ∙ sym (kindOf-value a ta) ∙ ap kindOf e ∙ kindOf-value b tb ∙ sym ek′)))
+-- two nodes of one kind, not unit, with their left parts as they were read
+pub record Lefts (heap : List ℕ) (top a b k k′ l l′ : ℕ) : Type 0 where
+  pub kinds : Kinds heap top a b k k′
+  pub one : k ≡ k′
+  pub some : ¬ (k ≡ 0)
+  pub left : l ≡ leftAt heap a
+  pub left′ : l′ ≡ leftAt heap b
 
-      module _ (one : k ≡ k′) where
-        pub both-units : k ≡ 0 → Same true
-        unfolding same
-        both-units z = rw (value-unit heap top h a (sym ek ∙ z), value-unit heap top h b (sym ek′ ∙ sym one ∙ z))
+module _ {heap : List ℕ} {top a b k k′ : ℕ} (w : Kinds heap top a b k k′) where
+  pub kinds-differ : ¬ (k ≡ k′) → false ≡ same (valueAt heap a) (valueAt heap b)
+  kinds-differ d =
+      let ka = kindOf-value heap top (w .right) a (w .below .0) in
+      let kb = kindOf-value heap top (w .right) b (w .below .1) in
+      sym (same-differs _ _ (λ e. d (w .kind ∙ sym ka ∙ ap kindOf e ∙ kb ∙ sym (w .kind′))))
 
-        module _ (nz : ¬ (k ≡ 0)) (la lb : ℕ) (ela : la ≡ leftAt heap a) (elb : lb ≡ leftAt heap b) where
-          of-a : valueAt heap a ≡ ofKind k (valueAt heap la) (valueAt heap (rightAt heap a))
-          of-a = rw (ek, ela) (value-parts heap top h a ta (λ z. nz (ek ∙ z)))
+  pub both-units : k ≡ k′ → k ≡ 0 → true ≡ same (valueAt heap a) (valueAt heap b)
+  unfolding same
+  both-units e z = rw (value-unit heap top (w .right) a (sym (w .kind) ∙ z), value-unit heap top (w .right) b (sym (w .kind′) ∙ sym e ∙ z))
 
-          of-b : valueAt heap b ≡ ofKind k (valueAt heap lb) (valueAt heap (rightAt heap b))
-          of-b = rw (one, ek′, elb) (value-parts heap top h b tb (λ z. nz (one ∙ ek′ ∙ z)))
+module _ {heap : List ℕ} {top a b k k′ l l′ : ℕ} (w : Lefts heap top a b k k′ l l′) where
+  some-a : ¬ (kindAt heap a ≡ 0)
+  some-a z = w .some (w .kinds .kind ∙ z)
 
-          pub lefts : (la < a) × (la < top) × (lb < top)
-          lefts =
-              let p = lower heap top h a ta (λ z. nz (ek ∙ z)) .0 in
-              let q = lower heap top h b tb (λ z. nz (one ∙ ek′ ∙ z)) .0 in
-              (omega arith, omega arith, omega arith)
+  some-b : ¬ (kindAt heap b ≡ 0)
+  some-b z = w .some (w .one ∙ w .kinds .kind′ ∙ z)
 
-          pub lefts-differ : same (valueAt heap la) (valueAt heap lb) ≡ false → Same false
-          lefts-differ e = rw (of-a, of-b) (sym (same-lefts-differ k _ _ _ _ nz e))
+  of-a : valueAt heap a ≡ ofKind k (valueAt heap l) (valueAt heap (rightAt heap a))
+  of-a = rw (w .kinds .kind, w .left) (value-parts heap top (w .kinds .right) a (w .kinds .below .0) some-a)
 
-          pub one-part : same (valueAt heap la) (valueAt heap lb) ≡ true → ¬ (k ≡ 3) → Same true
-          one-part e t = rw (of-a, of-b) (sym (same-left k _ _ _ _ nz t ∙ e))
+  of-b : valueAt heap b ≡ ofKind k (valueAt heap l′) (valueAt heap (rightAt heap b))
+  of-b = rw (w .one, w .kinds .kind′, w .left′) (value-parts heap top (w .kinds .right) b (w .kinds .below .1) some-b)
 
-          module _ (three : k ≡ 3) (ra rb : ℕ) (era : ra ≡ rightAt heap a) (erb : rb ≡ rightAt heap b) where
-            pub rights : (ra < a) × (ra < top) × (rb < top)
-            rights =
-                let p = lower heap top h a ta (λ z. nz (ek ∙ z)) .1 in
-                let q = lower heap top h b tb (λ z. nz (one ∙ ek′ ∙ z)) .1 in
-                (omega arith, omega arith, omega arith)
+  lower-a : (leftAt heap a < a) × (rightAt heap a < a)
+  lower-a = lower heap top (w .kinds .right) a (w .kinds .below .0) some-a
 
-            pub two-parts : same (valueAt heap la) (valueAt heap lb) ≡ true → (r : Bool) → r ≡ same (valueAt heap ra) (valueAt heap rb) → Same r
-            two-parts e r q = q ∙ rw (era, erb, of-a, of-b, three) (sym (same-pairs _ _ _ _ e))
+  lower-b : (leftAt heap b < b) × (rightAt heap b < b)
+  lower-b = lower heap top (w .kinds .right) b (w .kinds .below .1) some-b
+
+  pub lefts-lower : (l < a) × ((l < top) × (l′ < top))
+  lefts-lower = let p = lower-a in let q = lower-b in let r = w .kinds .below in (omega arith, (omega arith, omega arith))
+
+  pub lefts-differ : {r : Bool} → r ≡ same (valueAt heap l) (valueAt heap l′) → r ≡ false → false ≡ same (valueAt heap a) (valueAt heap b)
+  lefts-differ q e = rw (of-a, of-b) (sym (same-lefts-differ k _ _ _ _ (w .some) (sym q ∙ e)))
+
+  pub one-part : {r : Bool} → r ≡ same (valueAt heap l) (valueAt heap l′) → r ≡ true → ¬ (k ≡ 3) → true ≡ same (valueAt heap a) (valueAt heap b)
+  one-part q e t = rw (of-a, of-b) (sym (same-left k _ _ _ _ (w .some) t ∙ sym q ∙ e))
+
+  module _ {m m′ : ℕ} (right : m ≡ rightAt heap a) (right′ : m′ ≡ rightAt heap b) where
+    pub rights-lower : (m < a) × ((m < top) × (m′ < top))
+    rights-lower = let p = lower-a in let q = lower-b in let r = w .kinds .below in (omega arith, (omega arith, omega arith))
+
+    pub two-parts : {r s : Bool} → r ≡ same (valueAt heap l) (valueAt heap l′) → r ≡ true → k ≡ 3 → s ≡ same (valueAt heap m) (valueAt heap m′)
+        → s ≡ same (valueAt heap a) (valueAt heap b)
+    two-parts q e three u = u ∙ rw (right, right′, of-a, of-b, three) (sym (same-pairs _ _ _ _ (sym q ∙ e)))

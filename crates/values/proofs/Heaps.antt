@@ -4,7 +4,9 @@ use native.Mathlib.Omega.{arith}
 use native.Mathlib.Nat.{eq-or-lt-of-le}
 use mathlib.Core.Path.{_≡_, refl, sym, ap, subst, _∙_}
 use mathlib.Core.Logic.{_⊎_, ⊎-elim, inl as left, inr as right}
+use mathlib.Core.Bool.{true}
 use mathlib.Core.List.{List}
+use package.Rattle.rules.specs.Limits.{fits}
 use package.Rattle.rules.specs.Val.{Val, unit, inl, inr, pair, roll, size}
 use package.Rattle.values.specs.Nodes.{kindAt, leftAt, rightAt, putNode, Agree, ofKind, valueWithin, valueAt, Right, Heap, NodeReady, Grown}
 use package.Rattle.values.proofs.Places.{length-put, kind-put, len-put, left-put, right-put, agree-kind, agree-len, agree-left, agree-right, agree-put}
@@ -99,11 +101,15 @@ module _ (heap heap′ : List ℕ) (top : ℕ) (h : Heap heap top) (p : Agree to
         parts = ⊎-elim (λ z. left (sym (agree-kind p n t) ∙ z)) (λ lr. right (rw (← agree-left p n t) (lr .0), rw (← agree-right p n t) (lr .1))) (o .parts);
         kind = rw (← agree-kind p n t) (o .kind);
         len = sym (agree-len p n t) ∙ o .len ∙ ap size (value-kept n t);
+        fit = rw (← value-kept n t) (o .fit);
       }
 
   -- and a heap stays one
   pub heap-kept : Heap heap′ top
   heap-kept = record { held = omega (arith, h .held, p .lengths); node = node-kept }
+
+pub heap-empty : (heap : List ℕ) → Heap heap 0
+heap-empty heap = record { held = omega arith; node = λ n t. absurd (omega arith) }
 
 pub heap-down : {heap : List ℕ} {top : ℕ} (low : ℕ) → low ≤ top → Heap heap top → Heap heap low
 heap-down low le h = record { held = omega (arith, h .held); node = λ n t. h .node n (omega arith) }
@@ -111,7 +117,7 @@ heap-down low le h = record { held = omega (arith, h .held); node = λ n t. h .n
 ----------------------------------------------------------------
 -- A new node
 
-module _ (heap : List ℕ) (top k n a b : ℕ) (w : NodeReady heap top k n a b) (n16 : n < 2 ^ 16) (a32 : a < 2 ^ 32) (b32 : b < 2 ^ 32) where
+module _ (heap : List ℕ) (top k n a b : ℕ) (w : NodeReady heap top k n a b) (f : fits (ofKind k (valueAt heap a) (valueAt heap b)) ≡ true) (n16 : n < 2 ^ 16) (a32 : a < 2 ^ 32) (b32 : b < 2 ^ 32) where
   new : List ℕ
   new = putNode heap top k n a b
 
@@ -143,6 +149,7 @@ module _ (heap : List ℕ) (top k n a b : ℕ) (w : NodeReady heap top k n a b) 
             (w .parts);
         kind = rw (kind-put heap top k n a b (w .room)) (w .kind);
         len = len-put heap top k n a b (w .room) n16 ∙ w .len ∙ ap size (sym new-value);
+        fit = rw new-value f;
       }
 
   pub grown : Grown heap (putNode heap top k n a b) top (ofKind k (valueAt heap a) (valueAt heap b))

@@ -4,21 +4,21 @@ use Prim.Native.Nat.{ℕ, zero, suc, _+_, _-_, _<_, _≤_}
 use native.Mathlib.Omega.{arith}
 use mathlib.Core.Path.{_≡_, refl, sym, ap, subst, _∙_}
 use mathlib.Core.Logic.{inl as left, inr as right}
-use mathlib.Core.List.{List, [], _∷_}
+use mathlib.Core.List.{List, [], _∷_, _++_}
 use lib.ListN.{length, getD, drop, length-drop, drop-of-length-le}
 use lib.Seq.{drop-cons}
 use package.Rattle.rules.specs.Limits.{maxValueBytes}
-use package.Rattle.rules.specs.Val.{Val, unit, pair, size}
+use package.Rattle.rules.specs.Val.{Val, unit, pair, size, encode}
 use package.Rattle.calls.specs.Values.{Read, got, malformed, then, read}
 use package.Rattle.calls.proofs.Values.{read-encode, read-sound, length-encode-append}
 use package.Rattle.values.specs.Nodes.{Agree, ofKind, Single, valueAt, Grown}
-use package.Rattle.values.specs.Loads.{above, PlaceReady, PlaceDone, LoadReady, LoadDone}
+use package.Rattle.values.specs.Loads.{above, PlaceReady, PlaceDone, LoadReady, PlacedFrom, told, PlacedRight, LoadDone}
 use package.Rattle.values.specs.declared.nodes.Placed.{Placed}
 use package.Rattle.values.specs.declared.nodes.Loaded.{Loaded}
 use package.Rattle.values.specs.declared.nodes.Loaded.the-variants.{Node, Malformed}
 use package.Rattle.values.proofs.Places.{agree-refl, agree-trans, agree-down}
 use package.Rattle.values.proofs.Heaps.{value-kept}
-use package.Rattle.values.proofs.Making.{size-single, size-pair}
+use package.Rattle.values.proofs.Making.{fits-true, size-single, size-pair}
 
 ----------------------------------------------------------------
 -- Reading
@@ -131,131 +131,165 @@ finish {heap} {heap′} {heap″} {top} {at} {xs} {placed} last v e q p g le b n
       placed = record { node = omega arith; bytes = rw (g .value) b; nodes = rw (g .value) n; inside = i; right = g .right };
     })
 
-pub first-ready : {heap : List ℕ} {top : ℕ} {xs : List ℕ} {at : ℕ} → LoadReady heap top xs at → at < length xs → LoadReady heap top xs (at + 1)
-first-ready h lt = record { right = h .right; inside = omega arith; short = h .short; room = omega (arith, h .room); small = omega (arith, h .small) }
+-- at a byte that begins a value of one part or two
+pub record Begins (heap : List ℕ) (top : ℕ) (xs : List ℕ) (at : ℕ) : Type 0 where
+  pub ready : LoadReady heap top xs at
+  pub inside : at < length xs
+  pub some : ¬ (getD xs at 0 ≡ 0)
+  pub kind : getD xs at 0 ≤ 4
 
-module _ (heap heap′ : List ℕ) (top : ℕ) (xs : List ℕ) (at : ℕ) (h : LoadReady heap top xs at) (lt : at < length xs) where
-  module _ (nz : ¬ (getD xs at 0 ≡ 0)) (k4 : getD xs at 0 ≤ 4) where
-    pub load-first-bad : LoadDone heap heap′ top xs (at + 1) Malformed → LoadDone heap heap′ top xs at Malformed
-    load-first-bad d = record { gave = read-at xs at lt ∙ read-first-bad _ _ _ nz k4 (d .gave); agree = d .agree; placed = tt }
+pub first-ready : {heap : List ℕ} {top : ℕ} {xs : List ℕ} {at : ℕ} → Begins heap top xs at → LoadReady heap top xs (at + 1)
+first-ready w =
+    let h = w .ready in
+    record { right = h .right; inside = omega (arith, w .inside); short = h .short; room = omega (arith, h .room, w .inside); small = omega (arith, h .small, w .inside) }
 
-    module _ (first : Placed) (d : LoadDone heap heap′ top xs (at + 1) (Node first)) where
-      -- inl, inr and roll
-      module _ (nt : ¬ (getD xs at 0 ≡ 3)) where
-        one-size : size (ofKind (getD xs at 0) (valueAt heap′ (first .node)) (valueAt heap′ (first .node))) ≡ size (valueAt heap′ (first .node)) + 1
-        one-size = size-single (getD xs at 0) (valueAt heap′ (first .node)) (valueAt heap′ (first .node)) (kind-single (getD xs at 0) nz k4 nt)
+pub load-first-bad : {heap heap′ : List ℕ} {top : ℕ} {xs : List ℕ} {at : ℕ} → Begins heap top xs at
+    → LoadDone heap heap′ top xs (at + 1) Malformed → LoadDone heap heap′ top xs at Malformed
+load-first-bad {xs = xs} {at} w d = record { gave = read-at xs at (w .inside) ∙ read-first-bad _ _ _ (w .some) (w .kind) (d .gave); agree = d .agree; placed = tt }
 
-        pub one-ready : PlaceReady heap′ (getD xs at 0) at (first .node) first
-        unfolding maxValueBytes
-        one-ready =
-            let w = d .placed in
-            record {
-              node = record {
-                right = w .right;
-                room = omega (arith, h .room, d .agree .lengths);
-                parts = right (w .node, w .node);
-                kind = k4;
-                len = omega (arith, one-size);
-              };
-              behind = omega arith;
-              short = omega (arith, h .short);
-              small = omega (arith, h .small);
-            }
+-- the first part is loaded
+pub record First (heap heap′ : List ℕ) (top : ℕ) (xs : List ℕ) (at : ℕ) (first : Placed) : Type 0 where
+  pub begins : Begins heap top xs at
+  pub done : LoadDone heap heap′ top xs (at + 1) (Node first)
 
-        pub load-one : {heap″ : List ℕ} {placed : Placed} → PlaceDone heap′ heap″ (getD xs at 0) (first .node) first placed
-            → LoadDone heap heap″ top xs at (Node placed)
-        unfolding then
-        load-one p =
-            let w = d .placed in
-            finish
-            first
-            (ofKind (getD xs at 0) (valueAt heap′ (first .node)) (valueAt heap′ (first .node)))
-            (p .answer)
-            (read-at xs at lt
-            ∙ read-one (getD xs at 0) (length xs - (at + 1)) (drop (at + 1) xs) (kind-single (getD xs at 0) nz k4 nt)
-            ∙ ap (λ r. then r (λ v zs. got (ofKind (getD xs at 0) v v) zs)) (d .gave))
-            (d .agree)
-            (p .grown)
-            (omega arith)
-            (omega (arith, one-size))
-            (omega (arith, one-size))
-            (w .inside)
+module _ {heap heap′ : List ℕ} {top : ℕ} {xs : List ℕ} {at : ℕ} {first : Placed} (f : First heap heap′ top xs at first) where
+  -- inl, inr and roll
+  module _ (nt : ¬ (getD xs at 0 ≡ 3)) where
+    one-size : size (ofKind (getD xs at 0) (valueAt heap′ (first .node)) (valueAt heap′ (first .node))) ≡ size (valueAt heap′ (first .node)) + 1
+    one-size = size-single (getD xs at 0) (valueAt heap′ (first .node)) (valueAt heap′ (first .node)) (kind-single (getD xs at 0) (f .begins .some) (f .begins .kind) nt)
 
-      pub second-ready : LoadReady heap′ (first .top) xs (first .next)
-      second-ready =
-          let w = d .placed in
-          record {
+    pub one-ready : PlaceReady heap′ (getD xs at 0) at (first .node) first
+    unfolding maxValueBytes
+    one-ready =
+        let w = f .done .placed in
+        record {
+          node = record {
             right = w .right;
-            inside = w .inside;
-            short = h .short;
-            room = omega (arith, h .room, d .agree .lengths);
-            small = omega (arith, h .small);
+            room = omega (arith, f .begins .ready .room, f .done .agree .lengths);
+            parts = right (w .node, w .node);
+            kind = f .begins .kind;
+            len = omega (arith, one-size);
+          };
+          fit = fits-true _ (omega (arith, f .begins .ready .short, one-size));
+          behind = omega arith;
+          short = omega (arith, f .begins .ready .short);
+          small = omega (arith, f .begins .ready .small);
+        }
+
+    pub load-one : {heap″ : List ℕ} {placed : Placed} → PlaceDone heap′ heap″ (getD xs at 0) (first .node) first placed
+        → LoadDone heap heap″ top xs at (Node placed)
+    unfolding then
+    load-one p =
+        let w = f .done .placed in
+        finish
+        first
+        (ofKind (getD xs at 0) (valueAt heap′ (first .node)) (valueAt heap′ (first .node)))
+        (p .answer)
+        (read-at xs at (f .begins .inside)
+        ∙ read-one (getD xs at 0) (length xs - (at + 1)) (drop (at + 1) xs) (kind-single (getD xs at 0) (f .begins .some) (f .begins .kind) nt)
+        ∙ ap (λ r. then r (λ v zs. got (ofKind (getD xs at 0) v v) zs)) (f .done .gave))
+        (f .done .agree)
+        (p .grown)
+        (omega arith)
+        (omega (arith, one-size))
+        (omega (arith, one-size))
+        (w .inside)
+
+  pub second-ready : LoadReady heap′ (first .top) xs (first .next)
+  second-ready =
+      let w = f .done .placed in
+      record {
+        right = w .right;
+        inside = w .inside;
+        short = f .begins .ready .short;
+        room = omega (arith, f .begins .ready .room, f .done .agree .lengths);
+        small = omega (arith, f .begins .ready .small);
+      }
+
+  -- pairs
+  module _ (three : getD xs at 0 ≡ 3) where
+    -- what is read of a pair, from what is read behind its first part
+    read-pair : {r : Read} → read (length xs - first .next) (drop (first .next) xs) ≡ r
+        → read (length xs - at) (drop at xs) ≡ then r (λ w us. got (pair (valueAt heap′ (first .node)) w) us)
+    unfolding then
+    read-pair e =
+        let w = f .done .placed in
+        read-at xs at (f .begins .inside)
+        ∙ read-two (getD xs at 0) (length xs - (at + 1)) (drop (at + 1) xs) three
+        ∙ ap (λ r. then r (λ v zs. then (read (length xs - (at + 1)) zs) (λ w us. got (pair v w) us))) (f .done .gave)
+        ∙ ap (λ r. then r (λ w us. got (pair (valueAt heap′ (first .node)) w) us))
+        (read-enough (length xs - (at + 1)) (length xs - first .next) (drop (first .next) xs)
+        (omega (arith, length-drop (first .next) xs))
+        (omega (arith, length-drop (first .next) xs))
+        ∙ e)
+
+    both-agree : {heap″ : List ℕ} {r : Loaded} → LoadDone heap′ heap″ (first .top) xs (first .next) r → Agree top heap heap″
+    both-agree d′ = let w = f .done .placed in agree-trans (f .done .agree) (agree-down top (omega arith) (d′ .agree))
+
+    pub load-second-bad : {heap″ : List ℕ} → LoadDone heap′ heap″ (first .top) xs (first .next) Malformed → LoadDone heap heap″ top xs at Malformed
+    unfolding then
+    load-second-bad d′ = record { gave = read-pair (d′ .gave); agree = both-agree d′; placed = tt }
+
+    module _ {heap″ : List ℕ} {second : Placed} (d′ : LoadDone heap′ heap″ (first .top) xs (first .next) (Node second)) where
+      kept : valueAt heap′ (first .node) ≡ valueAt heap″ (first .node)
+      kept = let w = f .done .placed in value-kept heap′ heap″ (first .top) (w .right) (d′ .agree) (first .node) (w .node)
+
+      two-size : size (ofKind 3 (valueAt heap″ (first .node)) (valueAt heap″ (second .node)))
+          ≡ size (valueAt heap′ (first .node)) + size (valueAt heap″ (second .node)) + 1
+      two-size = rw kept (size-pair (valueAt heap″ (first .node)) (valueAt heap″ (second .node)))
+
+      pub two-ready : PlaceReady heap″ 3 at (first .node) second
+      unfolding maxValueBytes
+      two-ready =
+          let w = f .done .placed in
+          let w′ = d′ .placed in
+          record {
+            node = record {
+              right = w′ .right;
+              room = omega (arith, f .begins .ready .room, f .done .agree .lengths, d′ .agree .lengths);
+              parts = right (omega arith, w′ .node);
+              kind = omega arith;
+              len = omega (arith, two-size);
+            };
+            fit = fits-true _ (omega (arith, f .begins .ready .short, two-size));
+            behind = omega arith;
+            short = omega (arith, f .begins .ready .short);
+            small = omega (arith, f .begins .ready .small);
           }
 
-      -- pairs
-      module _ (three : getD xs at 0 ≡ 3) (heap″ : List ℕ) where
-        -- what is read of a pair, from what is read behind its first part
-        read-pair : {r : Read} → read (length xs - first .next) (drop (first .next) xs) ≡ r
-            → read (length xs - at) (drop at xs) ≡ then r (λ w us. got (pair (valueAt heap′ (first .node)) w) us)
-        unfolding then
-        read-pair e =
-            let w = d .placed in
-            read-at xs at lt
-            ∙ read-two (getD xs at 0) (length xs - (at + 1)) (drop (at + 1) xs) three
-            ∙ ap (λ r. then r (λ v zs. then (read (length xs - (at + 1)) zs) (λ w us. got (pair v w) us))) (d .gave)
-            ∙ ap (λ r. then r (λ w us. got (pair (valueAt heap′ (first .node)) w) us))
-            (read-enough (length xs - (at + 1)) (length xs - first .next) (drop (first .next) xs)
-            (omega (arith, length-drop (first .next) xs))
-            (omega (arith, length-drop (first .next) xs))
-            ∙ e)
+      pub load-two : {heap‴ : List ℕ} {placed : Placed} → PlaceDone heap″ heap‴ 3 (first .node) second placed
+          → LoadDone heap heap‴ top xs at (Node placed)
+      unfolding then ofKind
+      load-two p =
+          let w = f .done .placed in
+          let w′ = d′ .placed in
+          finish
+          second
+          (ofKind 3 (valueAt heap″ (first .node)) (valueAt heap″ (second .node)))
+          (p .answer)
+          (read-pair (d′ .gave) ∙ ap (λ v. got (pair v (valueAt heap″ (second .node))) (drop (second .next) xs)) kept)
+          (both-agree d′)
+          (p .grown)
+          (omega arith)
+          (omega (arith, two-size))
+          (omega (arith, two-size))
+          (w′ .inside)
 
-        both-agree : {r : Loaded} → LoadDone heap′ heap″ (first .top) xs (first .next) r → Agree top heap heap″
-        both-agree d′ = let w = d .placed in agree-trans (d .agree) (agree-down top (omega arith) (d′ .agree))
+----------------------------------------------------------------
+-- For callers
 
-        pub load-second-bad : LoadDone heap′ heap″ (first .top) xs (first .next) Malformed → LoadDone heap heap″ top xs at Malformed
-        unfolding then
-        load-second-bad d′ = record { gave = read-pair (d′ .gave); agree = both-agree d′; placed = tt }
-
-        module _ (second : Placed) (d′ : LoadDone heap′ heap″ (first .top) xs (first .next) (Node second)) where
-          kept : valueAt heap′ (first .node) ≡ valueAt heap″ (first .node)
-          kept = let w = d .placed in value-kept heap′ heap″ (first .top) (w .right) (d′ .agree) (first .node) (w .node)
-
-          two-size : size (ofKind 3 (valueAt heap″ (first .node)) (valueAt heap″ (second .node)))
-              ≡ size (valueAt heap′ (first .node)) + size (valueAt heap″ (second .node)) + 1
-          two-size = rw kept (size-pair (valueAt heap″ (first .node)) (valueAt heap″ (second .node)))
-
-          pub two-ready : PlaceReady heap″ 3 at (first .node) second
-          unfolding maxValueBytes
-          two-ready =
-              let w = d .placed in
-              let w′ = d′ .placed in
-              record {
-                node = record {
-                  right = w′ .right;
-                  room = omega (arith, h .room, d .agree .lengths, d′ .agree .lengths);
-                  parts = right (omega arith, w′ .node);
-                  kind = omega arith;
-                  len = omega (arith, two-size);
-                };
-                behind = omega arith;
-                short = omega (arith, h .short);
-                small = omega (arith, h .small);
-              }
-
-          pub load-two : {heap‴ : List ℕ} {placed : Placed} → PlaceDone heap″ heap‴ 3 (first .node) second placed
-              → LoadDone heap heap‴ top xs at (Node placed)
-          unfolding then ofKind
-          load-two p =
-              let w = d .placed in
-              let w′ = d′ .placed in
-              finish
-              second
-              (ofKind 3 (valueAt heap″ (first .node)) (valueAt heap″ (second .node)))
-              (p .answer)
-              (read-pair (d′ .gave) ∙ ap (λ v. got (pair v (valueAt heap″ (second .node))) (drop (second .next) xs)) kept)
-              (both-agree d′)
-              (p .grown)
-              (omega arith)
-              (omega (arith, two-size))
-              (omega (arith, two-size))
-              (w′ .inside)
+-- where the bytes are those of a value, that value is loaded
+pub load-encoded : {heap heap′ : List ℕ} {top : ℕ} {xs : List ℕ} {at : ℕ} {answer : Loaded} (v : Val) (ys : List ℕ) → drop at xs ≡ encode v ++ ys
+    → LoadDone heap heap′ top xs at answer
+    → (p : Placed) × (answer ≡ Node p) × (valueAt heap′ (p .node) ≡ v) × PlacedFrom heap′ top at (length xs) p
+load-encoded {heap} {heap′} {top} {xs} {at} {answer} v ys e d =
+    go answer
+    (sym (d .gave)
+    ∙ ap (read (length xs - at)) e
+    ∙ read-encode v (length xs - at) ys (omega (arith, length-drop at xs, ap length e, length-encode-append v ys)))
+    (d .placed)
+  where
+    go : (r : Loaded) → told heap′ xs r ≡ got v ys → PlacedRight heap′ top at (length xs) r
+        → (p : Placed) × (r ≡ Node p) × (valueAt heap′ (p .node) ≡ v) × PlacedFrom heap′ top at (length xs) p
+    go (Node p) q w = (p, refl, cc, w)
+    go Malformed q w = absurd (let z : _≡_ {A = ℕ} 0 1 = cc in omega arith)

@@ -49,6 +49,10 @@ module _ (heap : List ℕ) (top : ℕ) (h : Heap heap top) (room : Room heap (to
   pub unit-ready : NodeReady heap top 0 1 0 0
   unit-ready = record { right = h; room = room; parts = left refl; kind = omega arith; len = sym (size-unit (valueAt heap 0) (valueAt heap 0)) }
 
+  pub unit-fits : fits (ofKind 0 (valueAt heap 0) (valueAt heap 0)) ≡ true
+  unfolding maxValueBytes
+  unit-fits = fits-true (ofKind 0 (valueAt heap 0) (valueAt heap 0)) (omega (arith, size-unit (valueAt heap 0) (valueAt heap 0)))
+
   pub single-ready : (k n a : ℕ) → a < top → Single k → n ≡ lengthAt heap a → NodeReady heap top k (n + 1) a a
   single-ready k n a t s e =
       record {

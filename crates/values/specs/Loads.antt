@@ -1,10 +1,11 @@
 -- What loading must do: the value that calls' `read` finds in bytes (section 1) stands in new nodes, one for each of its bytes.
 use Prim.Native.Nat.{ℕ, _+_, _-_, _<_, _≤_, _^_}
 use mathlib.Core.Path.{_≡_}
+use mathlib.Core.Bool.{true}
 use mathlib.Core.List.{List}
 use lib.ListN.{length, drop}
 use package.Rattle.rules.specs.Val.{size}
-use package.Rattle.rules.specs.Limits.{maxValueBytes}
+use package.Rattle.rules.specs.Limits.{fits, maxValueBytes}
 use package.Rattle.calls.specs.Values.{Read, got, malformed, read}
 use package.Rattle.values.specs.Nodes.{Room, Agree, ofKind, valueAt, Heap, NodeReady, Grown}
 use package.Rattle.values.specs.declared.nodes.Placed.{Placed}
@@ -16,6 +17,7 @@ use package.Rattle.values.specs.declared.nodes.Loaded.the-variants.{Node
 
 pub record PlaceReady (heap : List ℕ) (kind at left : ℕ) (last : Placed) : Type 0 where
   pub node : NodeReady heap (last .top) kind (last .next - at) left (last .node)
+  pub fit : fits (ofKind kind (valueAt heap left) (valueAt heap (last .node))) ≡ true
   pub behind : at ≤ last .next
   pub short : last .next - at < 2 ^ 16
   pub small : last .top + 1 < 2 ^ 32

@@ -66,11 +66,12 @@ valueWithin (suc depth) heap n =
 unfoldable pub valueAt : List ℕ → ℕ → Val
 valueAt heap n = valueWithin (suc n) heap n
 
--- The node is a unit or names lower nodes, and its length is its value's.
+-- The node is a unit or names lower nodes; its length is its value's; and its value is within the limit on values (section 1).
 pub record Right (heap : List ℕ) (n : ℕ) : Type 0 where
   pub parts : (kindAt heap n ≡ 0) ⊎ ((leftAt heap n < n) × (rightAt heap n < n))
   pub kind : kindAt heap n ≤ 4
   pub len : lengthAt heap n ≡ size (valueAt heap n)
+  pub fit : fits (valueAt heap n) ≡ true
 
 -- Every node below `top` is there, and right.
 pub record Heap (heap : List ℕ) (top : ℕ) : Type 0 where
@@ -80,7 +81,7 @@ pub record Heap (heap : List ℕ) (top : ℕ) : Type 0 where
 ----------------------------------------------------------------
 -- A new node
 
--- A node of the kind `k` and the length `n` over the nodes `a` and `b` may stand at `top`.
+-- A node of the kind `k` and the length `n` over the nodes `a` and `b` may stand at `top`, if its value is within the limit.
 pub record NodeReady (heap : List ℕ) (top k n a b : ℕ) : Type 0 where
   pub right : Heap heap top
   pub room : Room heap (top + 1)
@@ -94,7 +95,7 @@ pub record Grown (heap heap′ : List ℕ) (top : ℕ) (v : Val) : Type 0 where
   pub agree : Agree top heap heap′
   pub value : valueAt heap′ top ≡ v
 
--- Such a node is made exactly if the value is within the limit on values (section 1); else the bytes stay.
+-- Such a node is made exactly if the value is within the limit; else the bytes stay.
 pub record Made (heap heap′ : List ℕ) (top : ℕ) (v : Val) (ok : Bool) : Type 0 where
   pub answer : ok ≡ fits v
   pub new : ok ≡ true → Grown heap heap′ top v

@@ -1,6 +1,8 @@
-// The value graph: values as nodes in lent bytes, each node once. Only this module knows a node's layout (specs/Nodes).
+// The value graph: values as nodes in lent bytes, appended and never changed. Only this module knows a node's layout (specs/Nodes).
 ghost use mathlib.Core.Path.{_≡_};
 ghost use Prim.Native.Nat.{_+_, _*_, _<_};
+ghost use mathlib.Core.Bool.{true};
+ghost use Rattle.rules.specs.Limits.{fits};
 ghost use Rattle.rules.specs.Val.{unit, pair, same};
 ghost use Rattle.values.specs.Nodes.{kindAt, lengthAt, leftAt, rightAt, putNode, Room};
 ghost use Rattle.values.specs.Nodes.{ofKind, Single, valueAt, Heap, NodeReady, Grown, Made};
@@ -61,6 +63,7 @@ fn put_node(ws: &mut [u8], n: u32, kind: u8, len: u16, left: u32, right: u32)
 // A node of a kind and a length, over two nodes. (Of a unit the parts mean nothing; of a single part it is named twice.)
 fn append(ws: &mut [u8], top: u32, kind: u8, len: u16, left: u32, right: u32)
     requires { ⌜ NodeReady (now ws) top kind len left right ⌝ }
+    requires { ⌜ fits (ofKind kind (valueAt (now ws) left) (valueAt (now ws) right)) ≡ true ⌝ }
     ensures { λ _. ⌜ Grown (now (ws .entry)) (now (ws .exit)) top (ofKind kind (valueAt (now (ws .entry)) left) (valueAt (now (ws .entry)) right)) ⌝ }
 {
     put_node(ws, top, kind, len, left, right);

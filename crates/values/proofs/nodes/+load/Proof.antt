@@ -1,11 +1,12 @@
-use Rattle.values.proofs.Loading.{load-end, load-bad, load-unit, first-ready, load-first-bad, one-ready, load-one, second-ready, load-second-bad, two-ready, load-two}
-use borrow.Author.Needs.{needs}
-use mathlib.Core.Path.{_∙_}
-use native.Mathlib.Omega.{arith}
+-- `load` ends, since the bytes left grow fewer. What it has loaded at a place is a record of proofs/Loading, and each answer is a law of it.
 use Prim.Native.Nat.{ℕ, _-_, _<_}
+use native.Mathlib.Omega.{arith}
+use mathlib.Core.Path.{_∙_}
 use lib.ListN.{length}
+use borrow.Author.Needs.{needs}
 use borrow.Fn.Kinds.{In}
 use borrow.Fn.PlainCycle.{Measures, is, falls, and}
+use Rattle.values.proofs.Loading.{Begins, First, load-end, load-bad, load-unit, first-ready, load-first-bad, one-ready, load-one, second-ready, load-second-bad, two-ready, load-two}
 use Rattle.values.proofs.nodes.load.Reads as load
 use Rattle.values.proofs.nodes.load.Kinds as load-kinds
 use Rattle.values.proofs.nodes.+load.Lts-load as load-lts
@@ -26,6 +27,24 @@ load-below t = and 2 load-kinds.ps (falls 2 load-kinds.ps _<_ μ-load t) load.Pr
 abbrev load-uses : ℕ → load-lts.Claims
 load-uses t = (unit-reads.Asked, unit-reads.Learnt, load-below t, load.Post, place-reads.Asked, place-reads.Learnt)
 
+-- at a byte that begins a value of one part or two
+begins-at : (t : ℕ) (c : load-lts.Else3 (load-uses t) (load-at t) load.Post)
+    → let start = c .before .before .before .before .before .before in
+    Begins (start .args .ws .now) (start .args .top) (start .args .s .now) (start .args .at)
+begins-at t c =
+    record {
+      ready = c .before .before .before .before .before .before .pre .1;
+      inside = omega (arith, c .before .before .before .if1 .left);
+      some = c .if3 .left;
+      kind = omega (arith, c .before .if2 .left);
+    }
+
+-- the first part is loaded
+first-at : (t : ℕ) (c : load-lts.After-first (load-uses t) (load-at t) load.Post)
+    → let start = c .before .before .before .before .before .before .before .before .before .before .before .before in
+    First (start .args .ws .now) (c .before .before .before .before .load .last .0) (start .args .top) (start .args .s .now) (start .args .at) (c .first .given .0 .0)
+first-at t c = record { begins = begins-at t (c .before .before .before .before .before .before); done = rw (c .first .given .1) at (c .before .before .before .before .load .ensures) }
+
 load-returns : (t : ℕ) → load-lts.Need-returns (load-uses t) (load-at t) load.Post
 load-returns t c = load-end _ _ _ _ (c .if1 .taken)
 
@@ -40,31 +59,25 @@ load-add-next t c = omega (arith, c .before .before .if1 .left)
 
 load-unit-requires : (t : ℕ) → load-lts.Need-unit-requires (load-uses t) (load-at t) load.Post
 load-unit-requires t c κs =
-    let at-if1 = c .before .before .before .before in
-    let start = at-if1 .before .before .before in
-    (start .pre .1 .right, omega (arith, start .pre .1 .room, at-if1 .if1 .left))
+    let start = c .before .before .before .before .before .before .before in
+    (start .pre .1 .right, omega (arith, start .pre .1 .room, c .before .before .before .before .if1 .left))
 
 load-add-t17 : (t : ℕ) → load-lts.Need-add-t17 (load-uses t) (load-at t) load.Post
 load-add-t17 t c =
-    let at-if1 = c .before .before .before .before .before .before .before in
-    let start = at-if1 .before .before .before in
-    omega (arith, start .pre .1 .small, at-if1 .if1 .left)
+    omega
+    (arith, c .before .before .before .before .before .before .before .before .before .before .pre .1 .small, c .before .before .before .before .before .before .before .if1 .left)
 
 load-same-length : (t : ℕ) → load-lts.Need-same-length (load-uses t) (load-at t) load.Post
 load-same-length t c = c .before .before .unit .kept .0
 
 load-returns-3 : (t : ℕ) → load-lts.Need-returns-3 (load-uses t) (load-at t) load.Post
 load-returns-3 t c =
-    let at-unit = c .before .before in
-    let at-if3 = at-unit .before .before in
-    let at-if1 = at-if3 .before .before .before in
-    load-unit _ _ _ _ (omega (arith, at-if1 .if1 .left)) (at-if3 .if3 .taken) (at-unit .unit .ensures)
+    load-unit _ _ _ _ (omega (arith, c .before .before .before .before .before .before .before .if1 .left))
+    (c .before .before .before .before .if3 .taken) (c .before .before .unit .ensures)
 
 load-load-requires : (t : ℕ) → load-lts.Need-load-requires (load-uses t) (load-at t) load.Post
-load-load-requires t c κs =
-    let at-if1 = c .before .before .before .before in
-    let start = at-if1 .before .before .before in
-    (omega (arith, start .pre .0, at-if1 .if1 .left), first-ready (start .pre .1) (omega (arith, at-if1 .if1 .left)))
+load-load-requires t c κs = let w = begins-at t (c .before) in
+    (omega (arith, c .before .before .before .before .before .before .before .pre .0, w .inside), first-ready w)
 
 load-enum-known-first : (t : ℕ) → load-lts.Need-enum-known-first (load-uses t) (load-at t) load.Post
 load-enum-known-first t c = search needs
@@ -77,25 +90,11 @@ load-same-length-2 t c = c .before .before .before .before .load .kept .0
 
 load-returns-4 : (t : ℕ) → load-lts.Need-returns-4 (load-uses t) (load-at t) load.Post
 load-returns-4 t c =
-    let at-load = c .before .before .before .before in
-    let at-if3 = at-load .before .before in
-    let at-if2 = at-if3 .before in
-    let at-if1 = at-if2 .before .before in
-    let start = at-if1 .before .before .before in
-    load-first-bad _ _ _ _ _ (start .pre .1) (omega (arith, at-if1 .if1 .left)) (at-if3 .if3 .left) (omega (arith, at-if2 .if2 .left))
-    (rw (c .enum-told .given .1) at (at-load .load .ensures))
+    load-first-bad (begins-at t (c .before .before .before .before .before .before))
+    (rw (c .enum-told .given .1) at (c .before .before .before .before .load .ensures))
 
 load-place-requires : (t : ℕ) → load-lts.Need-place-requires (load-uses t) (load-at t) load.Post
-load-place-requires t c κs =
-    let at-if4 = c .before in
-    let at-first = at-if4 .before .before in
-    let at-load = at-first .before .before .before .before in
-    let at-if3 = at-load .before .before in
-    let at-if2 = at-if3 .before in
-    let at-if1 = at-if2 .before .before in
-    let start = at-if1 .before .before .before in
-    one-ready _ _ _ _ _ (start .pre .1) (omega (arith, at-if1 .if1 .left)) (at-if3 .if3 .left) (omega (arith, at-if2 .if2 .left)) _
-    (rw (at-first .first .given .1) at (at-load .load .ensures)) (at-if4 .if4 .taken)
+load-place-requires t c κs = one-ready (first-at t (c .before .before .before)) (c .before .if4 .taken)
 
 load-same-length-3 : (t : ℕ) → load-lts.Need-same-length-3 (load-uses t) (load-at t) load.Post
 load-same-length-3 t c =
@@ -103,27 +102,12 @@ load-same-length-3 t c =
 
 load-returns-5 : (t : ℕ) → load-lts.Need-returns-5 (load-uses t) (load-at t) load.Post
 load-returns-5 t c =
-    let at-place = c .before .before in
-    let at-if4 = at-place .before .before in
-    let at-first = at-if4 .before .before in
-    let at-load = at-first .before .before .before .before in
-    let at-if3 = at-load .before .before in
-    let at-if2 = at-if3 .before in
-    let at-if1 = at-if2 .before .before in
-    let start = at-if1 .before .before .before in
-    load-one _ _ _ _ _ (start .pre .1) (omega (arith, at-if1 .if1 .left)) (at-if3 .if3 .left) (omega (arith, at-if2 .if2 .left)) _
-    (rw (at-first .first .given .1) at (at-load .load .ensures)) (at-if4 .if4 .taken) (at-place .place .ensures)
+    load-one (first-at t (c .before .before .before .before .before .before)) (c .before .before .before .before .if4 .taken)
+    (c .before .before .place .ensures)
 
 load-load-requires-2 : (t : ℕ) → load-lts.Need-load-requires-2 (load-uses t) (load-at t) load.Post
-load-load-requires-2 t c κs =
-    let at-first = c .before .before .before in
-    let at-load = at-first .before .before .before .before in
-    let at-if3 = at-load .before .before in
-    let at-if2 = at-if3 .before in
-    let at-if1 = at-if2 .before .before in
-    let start = at-if1 .before .before .before in
-    let d = rw (at-first .first .given .1) at (at-load .load .ensures) in
-    (omega (arith, start .pre .0, at-if1 .if1 .left, d .placed), second-ready _ _ _ _ _ (start .pre .1) (omega (arith, at-if1 .if1 .left)) (at-if3 .if3 .left) (omega (arith, at-if2 .if2 .left)) _ d)
+load-load-requires-2 t c κs = let w = first-at t (c .before .before .before) in
+    (omega (arith, c .before .before .before .before .before .before .before .before .before .before .before .before .before .before .before .pre .0, w .begins .inside, w .done .placed), second-ready w)
 
 load-enum-known-second : (t : ℕ) → load-lts.Need-enum-known-second (load-uses t) (load-at t) load.Post
 load-enum-known-second t c = search needs
@@ -133,38 +117,20 @@ load-enum-told-2 t c = search needs
 
 load-same-length-4 : (t : ℕ) → load-lts.Need-same-length-4 (load-uses t) (load-at t) load.Post
 load-same-length-4 t c =
-    let at-load2 = c .before .before .before .before in
-    let at-load = at-load2 .before .before .before .before .before .before .before .before in
-    at-load2 .load2 .kept .0 ∙ at-load .load .kept .0
+    c .before .before .before .before .load2 .kept .0 ∙ c .before .before .before .before .before .before .before .before .before .before
+    .before .before .load .kept .0
 
 load-returns-6 : (t : ℕ) → load-lts.Need-returns-6 (load-uses t) (load-at t) load.Post
 load-returns-6 t c =
-    let at-load2 = c .before .before .before .before in
-    let at-if4 = at-load2 .before .before in
-    let at-first = at-if4 .before .before in
-    let at-load = at-first .before .before .before .before in
-    let at-if3 = at-load .before .before in
-    let at-if2 = at-if3 .before in
-    let at-if1 = at-if2 .before .before in
-    let start = at-if1 .before .before .before in
-    load-second-bad _ _ _ _ _ (start .pre .1) (omega (arith, at-if1 .if1 .left)) (at-if3 .if3 .left) (omega (arith, at-if2 .if2 .left)) _
-    (rw (at-first .first .given .1) at (at-load .load .ensures)) (at-if4 .if4 .left) _
-    (rw (c .enum-told2 .given .1) at (at-load2 .load2 .ensures))
+    load-second-bad (first-at t (c .before .before .before .before .before .before .before .before))
+    (c .before .before .before .before .before .before .if4 .left)
+    (rw (c .enum-told2 .given .1) at (c .before .before .before .before .load2 .ensures))
 
 load-place-requires-2 : (t : ℕ) → load-lts.Need-place-requires-2 (load-uses t) (load-at t) load.Post
 load-place-requires-2 t c κs =
-    let at-second = c .before .before in
-    let at-load2 = at-second .before .before .before .before in
-    let at-if4 = at-load2 .before .before in
-    let at-first = at-if4 .before .before in
-    let at-load = at-first .before .before .before .before in
-    let at-if3 = at-load .before .before in
-    let at-if2 = at-if3 .before in
-    let at-if1 = at-if2 .before .before in
-    let start = at-if1 .before .before .before in
-    two-ready _ _ _ _ _ (start .pre .1) (omega (arith, at-if1 .if1 .left)) (at-if3 .if3 .left) (omega (arith, at-if2 .if2 .left)) _
-    (rw (at-first .first .given .1) at (at-load .load .ensures)) (at-if4 .if4 .left) _ _
-    (rw (at-second .second .given .1) at (at-load2 .load2 .ensures))
+    two-ready (first-at t (c .before .before .before .before .before .before .before .before .before .before))
+    (c .before .before .before .before .before .before .before .before .if4 .left)
+    (rw (c .before .before .second .given .1) at (c .before .before .before .before .before .before .load2 .ensures))
 
 load-same-length-5 : (t : ℕ) → load-lts.Need-same-length-5 (load-uses t) (load-at t) load.Post
 load-same-length-5 t c =
@@ -179,15 +145,8 @@ load-returns-7 t c =
     let at-second = at-place2 .before .before .before in
     let at-load2 = at-second .before .before .before .before in
     let at-if4 = at-load2 .before .before in
-    let at-first = at-if4 .before .before in
-    let at-load = at-first .before .before .before .before in
-    let at-if3 = at-load .before .before in
-    let at-if2 = at-if3 .before in
-    let at-if1 = at-if2 .before .before in
-    let start = at-if1 .before .before .before in
-    load-two _ _ _ _ _ (start .pre .1) (omega (arith, at-if1 .if1 .left)) (at-if3 .if3 .left) (omega (arith, at-if2 .if2 .left)) _
-    (rw (at-first .first .given .1) at (at-load .load .ensures)) (at-if4 .if4 .left) _ _
-    (rw (at-second .second .given .1) at (at-load2 .load2 .ensures)) (at-place2 .place2 .ensures)
+    load-two (first-at t (c .before .before .before .before .before .before .before .before .before .before .before .before .before))
+    (at-if4 .if4 .left) (rw (at-second .second .given .1) at (at-load2 .load2 .ensures)) (at-place2 .place2 .ensures)
 
 pub +load-spec : {M : Type 1} → statement M
 +load-spec = close μ-load λ t. load-lts.spec (load-uses t)

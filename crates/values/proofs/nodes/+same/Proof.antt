@@ -1,9 +1,9 @@
-use Rattle.values.proofs.Equal.{one-node, kinds-differ, both-units, lefts, lefts-differ, one-part, rights, two-parts}
-use mathlib.Core.Path.{sym, _∙_}
-use native.Mathlib.Omega.{arith}
+-- `same` ends, since the first node falls. What it has read at a place is a record of proofs/Equal, and each answer is a law of it.
 use Prim.Native.Nat.{ℕ, _<_}
+use native.Mathlib.Omega.{arith}
 use borrow.Fn.Kinds.{In}
 use borrow.Fn.PlainCycle.{Measures, is, falls, and}
+use Rattle.values.proofs.Equal.{Kinds, Lefts, one-node, kinds-differ, both-units, lefts-lower, lefts-differ, one-part, rights-lower, two-parts}
 use Rattle.values.proofs.nodes.same.Reads as same
 use Rattle.values.proofs.nodes.same.Kinds as same-kinds
 use Rattle.values.proofs.nodes.+same.Lts-same as same-lts
@@ -25,9 +25,30 @@ same-below t = and 1 same-kinds.ps (falls 1 same-kinds.ps _<_ μ-same t) same.Pr
 abbrev same-uses : ℕ → same-lts.Claims
 same-uses t = (kind-of-reads.Asked, kind-of-reads.Learnt, left-of-reads.Asked, left-of-reads.Learnt, same-below t, same.Post, right-of-reads.Asked, right-of-reads.Learnt)
 
+-- the kinds, as they were read
+kinds-at : (t : ℕ) (c : same-lts.After-kind-of2 (same-uses t) (same-at t) same.Post)
+    → let start = c .before .before .before .before in
+    Kinds (start .args .ws .now) (start .args .top) (start .args .a) (start .args .b) (c .before .kind-of .result) (c .kind-of2 .result)
+kinds-at t c =
+    let start = c .before .before .before .before in
+    record { right = start .pre .1 .0; below = start .pre .1 .1; kind = c .before .kind-of .ensures; kind′ = c .kind-of2 .ensures }
+
+-- and the left parts
+lefts-at : (t : ℕ) (c : same-lts.After-left-of2 (same-uses t) (same-at t) same.Post)
+    → let kinds = c .before .before .before .before in
+    let start = kinds .before .before .before .before in
+    Lefts (start .args .ws .now) (start .args .top) (start .args .a) (start .args .b) (kinds .before .kind-of .result) (kinds .kind-of2 .result) (c .before .left-of .result) (c .left-of2 .result)
+lefts-at t c =
+    record {
+      kinds = kinds-at t (c .before .before .before .before);
+      one = c .before .before .before .if2 .left;
+      some = c .before .before .if3 .left;
+      left = c .before .left-of .ensures;
+      left′ = c .left-of2 .ensures;
+    }
+
 same-returns : (t : ℕ) → same-lts.Need-returns (same-uses t) (same-at t) same.Post
-same-returns t c =
-    one-node _ _ (c .before .before .pre .1 .0) _ _ (c .before .before .pre .1 .1 .0) (c .before .before .pre .1 .1 .1) (c .if1 .taken)
+same-returns t c = one-node _ _ _ (c .if1 .taken)
 
 same-kind-of-requires : (t : ℕ) → same-lts.Need-kind-of-requires (same-uses t) (same-at t) same.Post
 same-kind-of-requires t c κs = omega (arith, c .before .before .pre .1 .0 .held, c .before .before .pre .1 .1)
@@ -36,26 +57,15 @@ same-kind-of-requires-2 : (t : ℕ) → same-lts.Need-kind-of-requires-2 (same-u
 same-kind-of-requires-2 t c κs = omega (arith, c .before .before .before .pre .1 .0 .held, c .before .before .before .pre .1 .1)
 
 same-returns-2 : (t : ℕ) → same-lts.Need-returns-2 (same-uses t) (same-at t) same.Post
-same-returns-2 t c =
-    let at-kind-of2 = c .before in
-    let at-kind-of = at-kind-of2 .before in
-    let start = at-kind-of .before .before .before in
-    kinds-differ _ _ (start .pre .1 .0) _ _ (start .pre .1 .1 .0) (start .pre .1 .1 .1) _ _ (at-kind-of .kind-of .ensures)
-    (at-kind-of2 .kind-of2 .ensures) (c .if2 .taken)
+same-returns-2 t c = kinds-differ (kinds-at t (c .before)) (c .if2 .taken)
 
 same-returns-3 : (t : ℕ) → same-lts.Need-returns-3 (same-uses t) (same-at t) same.Post
-same-returns-3 t c =
-    let at-if2 = c .before in
-    let at-kind-of2 = at-if2 .before in
-    let at-kind-of = at-kind-of2 .before in
-    let start = at-kind-of .before .before .before in
-    both-units _ _ (start .pre .1 .0) _ _ (start .pre .1 .1 .0) (start .pre .1 .1 .1) _ _ (at-kind-of .kind-of .ensures)
-    (at-kind-of2 .kind-of2 .ensures) (at-if2 .if2 .left) (c .if3 .taken)
+same-returns-3 t c = both-units (kinds-at t (c .before .before)) (c .before .if2 .left) (c .if3 .taken)
 
 same-left-of-requires : (t : ℕ) → same-lts.Need-left-of-requires (same-uses t) (same-at t) same.Post
 same-left-of-requires t c κs =
-    omega
-    (arith, c .before .before .before .before .before .before .pre .1 .0 .held, c .before .before .before .before .before .before .pre .1 .1)
+    let start = c .before .before .before .before .before .before in
+    omega (arith, start .pre .1 .0 .held, start .pre .1 .1)
 
 same-left-of-requires-2 : (t : ℕ) → same-lts.Need-left-of-requires-2 (same-uses t) (same-at t) same.Post
 same-left-of-requires-2 t c κs =
@@ -64,15 +74,9 @@ same-left-of-requires-2 t c κs =
 
 same-same-requires : (t : ℕ) → same-lts.Need-same-requires (same-uses t) (same-at t) same.Post
 same-same-requires t c κs =
-    let at-left-of = c .before in
-    let at-if3 = at-left-of .before in
-    let at-if2 = at-if3 .before in
-    let at-kind-of2 = at-if2 .before in
-    let at-kind-of = at-kind-of2 .before in
-    let start = at-kind-of .before .before .before in
-    let w = lefts _ _ (start .pre .1 .0) _ _ (start .pre .1 .1 .0) (start .pre .1 .1 .1) _ _ (at-kind-of .kind-of .ensures)
-    (at-kind-of2 .kind-of2 .ensures) (at-if2 .if2 .left) (at-if3 .if3 .left) _ _ (at-left-of .left-of .ensures) (c .left-of2 .ensures) in
-    (omega (arith, start .pre .0), (start .pre .1 .0, (w .1, w .2)))
+    let start = c .before .before .before .before .before .before .before .before in
+    let w = lefts-lower (lefts-at t c) in
+    (omega (arith, start .pre .0, w .0), (start .pre .1 .0, w .1))
 
 same-right-of-requires : (t : ℕ) → same-lts.Need-right-of-requires (same-uses t) (same-at t) same.Post
 same-right-of-requires t c κs =
@@ -86,67 +90,22 @@ same-right-of-requires-2 t c κs =
 
 same-same-requires-2 : (t : ℕ) → same-lts.Need-same-requires-2 (same-uses t) (same-at t) same.Post
 same-same-requires-2 t c κs =
-    let at-right-of = c .before in
-    let at-if5 = at-right-of .before in
-    let at-left-of2 = at-if5 .before .before .before in
-    let at-left-of = at-left-of2 .before in
-    let at-if3 = at-left-of .before in
-    let at-if2 = at-if3 .before in
-    let at-kind-of2 = at-if2 .before in
-    let at-kind-of = at-kind-of2 .before in
-    let start = at-kind-of .before .before .before in
-    let w = rights _ _ (start .pre .1 .0) _ _ (start .pre .1 .1 .0) (start .pre .1 .1 .1) _ _ (at-kind-of .kind-of .ensures)
-    (at-kind-of2 .kind-of2 .ensures) (at-if2 .if2 .left) (at-if3 .if3 .left) _ _ (at-left-of .left-of .ensures)
-    (at-left-of2 .left-of2 .ensures) (at-if5 .if5 .taken) _ _ (at-right-of .right-of .ensures) (c .right-of2 .ensures) in
-    (omega (arith, start .pre .0), (start .pre .1 .0, (w .1, w .2)))
+    let start = c .before .before .before .before .before .before .before .before .before .before .before .before .before in
+    let w = rights-lower (lefts-at t (c .before .before .before .before .before)) (c .before .right-of .ensures) (c .right-of2 .ensures) in
+    (omega (arith, start .pre .0, w .0), (start .pre .1 .0, w .1))
 
 same-returns-4 : (t : ℕ) → same-lts.Need-returns-4 (same-uses t) (same-at t) same.Post
 same-returns-4 t c =
-    let at-right-of2 = c .before in
-    let at-right-of = at-right-of2 .before in
-    let at-if5 = at-right-of .before in
-    let at-if4 = at-if5 .before in
-    let at-same = at-if4 .before in
-    let at-left-of2 = at-same .before in
-    let at-left-of = at-left-of2 .before in
-    let at-if3 = at-left-of .before in
-    let at-if2 = at-if3 .before in
-    let at-kind-of2 = at-if2 .before in
-    let at-kind-of = at-kind-of2 .before in
-    let start = at-kind-of .before .before .before in
-    two-parts _ _ (start .pre .1 .0) _ _ (start .pre .1 .1 .0) (start .pre .1 .1 .1) _ _ (at-kind-of .kind-of .ensures)
-    (at-kind-of2 .kind-of2 .ensures) (at-if2 .if2 .left) (at-if3 .if3 .left) _ _ (at-left-of .left-of .ensures)
-    (at-left-of2 .left-of2 .ensures) (at-if5 .if5 .taken) _ _ (at-right-of .right-of .ensures) (at-right-of2 .right-of2 .ensures)
-    (sym (at-same .same .ensures) ∙ at-if4 .if4 .taken) _ (c .same2 .ensures)
+    two-parts (lefts-at t (c .before .before .before .before .before .before)) (c .before .before .right-of .ensures)
+    (c .before .right-of2 .ensures) (c .before .before .before .before .before .same .ensures)
+    (c .before .before .before .before .if4 .taken) (c .before .before .before .if5 .taken) (c .same2 .ensures)
 
 same-returns-5 : (t : ℕ) → same-lts.Need-returns-5 (same-uses t) (same-at t) same.Post
 same-returns-5 t c =
-    let at-if4 = c .before in
-    let at-same = at-if4 .before in
-    let at-left-of2 = at-same .before in
-    let at-left-of = at-left-of2 .before in
-    let at-if3 = at-left-of .before in
-    let at-if2 = at-if3 .before in
-    let at-kind-of2 = at-if2 .before in
-    let at-kind-of = at-kind-of2 .before in
-    let start = at-kind-of .before .before .before in
-    one-part _ _ (start .pre .1 .0) _ _ (start .pre .1 .1 .0) (start .pre .1 .1 .1) _ _ (at-kind-of .kind-of .ensures)
-    (at-kind-of2 .kind-of2 .ensures) (at-if2 .if2 .left) (at-if3 .if3 .left) _ _ (at-left-of .left-of .ensures)
-    (at-left-of2 .left-of2 .ensures) (sym (at-same .same .ensures) ∙ at-if4 .if4 .taken) (c .if5 .left)
+    one-part (lefts-at t (c .before .before .before)) (c .before .before .same .ensures) (c .before .if4 .taken) (c .if5 .left)
 
 same-returns-6 : (t : ℕ) → same-lts.Need-returns-6 (same-uses t) (same-at t) same.Post
-same-returns-6 t c =
-    let at-same = c .before in
-    let at-left-of2 = at-same .before in
-    let at-left-of = at-left-of2 .before in
-    let at-if3 = at-left-of .before in
-    let at-if2 = at-if3 .before in
-    let at-kind-of2 = at-if2 .before in
-    let at-kind-of = at-kind-of2 .before in
-    let start = at-kind-of .before .before .before in
-    lefts-differ _ _ (start .pre .1 .0) _ _ (start .pre .1 .1 .0) (start .pre .1 .1 .1) _ _ (at-kind-of .kind-of .ensures)
-    (at-kind-of2 .kind-of2 .ensures) (at-if2 .if2 .left) (at-if3 .if3 .left) _ _ (at-left-of .left-of .ensures)
-    (at-left-of2 .left-of2 .ensures) (sym (at-same .same .ensures) ∙ c .if4 .left)
+same-returns-6 t c = lefts-differ (lefts-at t (c .before .before)) (c .before .same .ensures) (c .if4 .left)
 
 pub +same-spec : {M : Type 1} → statement M
 +same-spec = close μ-same λ t. same-lts.spec (same-uses t)

@@ -1,6 +1,6 @@
-use Rattle.values.proofs.Heaps.{grown}
 use native.Mathlib.Omega.{arith}
 use borrow.Author.Needs.{needs}
+use Rattle.values.proofs.Heaps.{grown}
 use Rattle.values.proofs.nodes.append.Statement.{statement}
 use Rattle.values.proofs.nodes.append.Tie as tie
 
@@ -11,7 +11,9 @@ same-length : tie.Need-same-length
 same-length c = search needs
 
 returns : tie.Need-returns
-returns c = rw (c .before .before .put-node .ensures) (grown _ _ _ _ _ _ (c .before .before .before .before .before .pre) (omega arith) (omega arith) (omega arith))
+returns c =
+    rw (c .before .before .put-node .ensures)
+    (grown _ _ _ _ _ _ (c .before .before .before .before .before .pre .0) (c .before .before .before .before .before .pre .1) (omega arith) (omega arith) (omega arith))
 
 pub append-spec : {M : Type 1} → statement M
 append-spec = tie.close (tie.spec put-node-requires same-length returns)

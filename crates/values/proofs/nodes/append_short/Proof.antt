@@ -1,7 +1,8 @@
-use Rattle.rules.specs.Limits.{maxValueBytes}
-use Rattle.values.proofs.Making.{made-new, made-old}
 use native.Mathlib.Omega.{arith}
 use borrow.Author.Needs.{needs}
+use Rattle.rules.specs.Limits.{maxValueBytes}
+use Rattle.values.proofs.Making.{fits-true}
+use Rattle.values.proofs.Making.{made-new, made-old}
 use Rattle.values.proofs.nodes.append_short.Statement.{statement}
 use Rattle.values.proofs.nodes.append_short.Tie as tie
 
@@ -13,7 +14,8 @@ cast-append : tie.Need-cast-append
 cast-append c = search needs
 
 append-requires : tie.Need-append-requires
-append-requires c κs = search needs
+unfolding maxValueBytes
+append-requires c κs = (c .before .before .before .pre, fits-true _ (omega (arith, c .before .before .before .pre .len)))
 
 same-length : tie.Need-same-length
 same-length c = search needs

@@ -1,6 +1,6 @@
 use mathlib.Core.Path.{refl}
-use Rattle.values.specs.Nodes.{kindAt}
 use borrow.Author.Needs.{needs}
+use Rattle.values.specs.Nodes.{kindAt}
 use Rattle.values.proofs.nodes.kind_of.Statement.{statement}
 use Rattle.values.proofs.nodes.kind_of.Tie as tie
 

@@ -1,5 +1,5 @@
-use Rattle.values.specs.Nodes.{leftAt}
 use borrow.Author.Needs.{needs}
+use Rattle.values.specs.Nodes.{leftAt}
 use Rattle.values.proofs.nodes.left_of.Statement.{statement}
 use Rattle.values.proofs.nodes.left_of.Tie as tie
 

@@ -1,5 +1,5 @@
-use Rattle.values.specs.Nodes.{lengthAt}
 use borrow.Author.Needs.{needs}
+use Rattle.values.specs.Nodes.{lengthAt}
 use Rattle.values.proofs.nodes.length_of.Statement.{statement}
 use Rattle.values.proofs.nodes.length_of.Tie as tie
 

@@ -1,7 +1,7 @@
-use Rattle.values.proofs.Making.{pair-ready}
-use Rattle.values.specs.Nodes.{ofKind}
 use mathlib.Core.Path.{_∙_}
 use borrow.Author.Needs.{needs}
+use Rattle.values.specs.Nodes.{ofKind}
+use Rattle.values.proofs.Making.{pair-ready}
 use Rattle.values.proofs.nodes.pair.Statement.{statement}
 use Rattle.values.proofs.nodes.pair.Tie as tie
 

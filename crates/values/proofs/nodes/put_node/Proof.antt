@@ -1,7 +1,7 @@
 use native.Mathlib.Omega.{arith}
 use lib.ListN.{length-set}
-use Rattle.values.specs.Nodes.{putNode}
 use borrow.Author.Needs.{needs}
+use Rattle.values.specs.Nodes.{putNode}
 use Rattle.values.proofs.nodes.put_node.Statement.{statement}
 use Rattle.values.proofs.nodes.put_node.Tie as tie
 

@@ -1,5 +1,5 @@
-use Rattle.values.specs.Nodes.{rightAt}
 use borrow.Author.Needs.{needs}
+use Rattle.values.specs.Nodes.{rightAt}
 use Rattle.values.proofs.nodes.right_of.Statement.{statement}
 use Rattle.values.proofs.nodes.right_of.Tie as tie
 

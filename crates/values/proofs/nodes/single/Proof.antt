@@ -1,6 +1,6 @@
-use Rattle.values.proofs.Making.{single-ready}
 use mathlib.Core.Path.{_∙_}
 use borrow.Author.Needs.{needs}
+use Rattle.values.proofs.Making.{single-ready}
 use Rattle.values.proofs.nodes.single.Statement.{statement}
 use Rattle.values.proofs.nodes.single.Tie as tie
 

@@ -1,11 +1,13 @@
-use Rattle.values.proofs.Making.{unit-ready}
-use Rattle.values.specs.Nodes.{ofKind}
 use borrow.Author.Needs.{needs}
+use Rattle.values.specs.Nodes.{ofKind}
+use Rattle.values.proofs.Making.{unit-fits}
+use Rattle.values.proofs.Making.{unit-ready}
 use Rattle.values.proofs.nodes.unit.Statement.{statement}
 use Rattle.values.proofs.nodes.unit.Tie as tie
 
 append-requires : tie.Need-append-requires
-append-requires c κs = unit-ready _ _ (c .before .before .pre .0) (c .before .before .pre .1)
+append-requires c κs =
+    (unit-ready _ _ (c .before .before .pre .0) (c .before .before .pre .1), unit-fits _ _ (c .before .before .pre .0) (c .before .before .pre .1))
 
 same-length : tie.Need-same-length
 same-length c = search needs
