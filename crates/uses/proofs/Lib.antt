@@ -1,0 +1,5 @@
+-- Laws of sets of variables.
+-- bits of numbers
+pub mod Bits
+-- what the operations on sets hold
+pub mod Sets

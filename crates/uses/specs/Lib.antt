@@ -1,0 +1,2 @@
+-- Sets of variables.
+pub mod Sets

@@ -1,0 +1,49 @@
+// Sets of variables by value, of which a term's uses are one: bit i is variable i. Behind these methods nobody sees the bits, so that a
+// larger scope changes this crate alone.
+ghost use mathlib.Core.Path.{_≡_};
+ghost use Prim.Native.Nat.{_<_};
+ghost use Rattle.uses.specs.Sets.{Holds, nobody, alone, joined, has, AgreeOn};
+ghost use Rattle.octets.specs.Runs.{Decides};
+
+pub struct Uses {
+    pub bits: u32,
+}
+
+impl Uses {
+    pub fn none() -> Self
+        ensures { λ r. ⌜ Holds r nobody ⌝ }
+    {
+        Self { bits: 0 }
+    }
+
+    // Variable i alone.
+    pub fn only(i: u8) -> Self
+        requires { ⌜ i < 32 ⌝ }
+        ensures { λ r. ⌜ Holds r (alone i) ⌝ }
+    {
+        Self { bits: 1 << i }
+    }
+
+    pub fn union(self, other: Uses) -> Uses
+        ensures { λ r. ⌜ Holds r (joined (has self) (has other)) ⌝ }
+    {
+        Uses {
+            bits: self.bits | other.bits,
+        }
+    }
+
+    // Is variable i in the set?
+    pub fn contains(self, i: u8) -> bool
+        requires { ⌜ i < 32 ⌝ }
+        ensures { λ r. ⌜ r ≡ has self i ⌝ }
+    {
+        (self.bits >> i) % 2 == 1
+    }
+
+    // Do two sets have the same variables among those of a third?
+    pub fn agree_on(self, other: Uses, among: Uses) -> bool
+        ensures { λ r. ⌜ Decides r (AgreeOn self other among) ⌝ }
+    {
+        (self.bits ^ other.bits) & among.bits == 0
+    }
+}
