@@ -5,7 +5,6 @@ use mathlib.Core.Path.{_≡_, refl, sym, ap, _∙_}
 use mathlib.Core.Bool.{Bool, true, false}
 use mathlib.Core.List.{List}
 use lib.ListN.{length, take}
-use lib.Seq.{length-take-le}
 use lib.Dec.{eqb}
 use borrow.Author.Tests.{le-leb, lt-leb, eq-eqb, ne-eqb}
 use package.Rattle.rules.specs.Limits.{maxProgramBytes}
@@ -143,17 +142,17 @@ module _ {xs types terms functions : List ℕ} {c : Counts} {at last : ℕ} (r :
         fields-left = goes (r .left) (r .enough) (r .same)
 
 ----------------------------------------------------------------
--- What a caller has of a program that is read: its layout is the fronts, each as long as its count
+-- What a caller has of a program that is read: its layout is the fronts, and the buffers hold them
 
-module _ {xs types terms functions : List ℕ} {c : Counts} (m : FieldsMean (Read c) xs types terms functions) (b : Buffers types terms functions) where
+module _ {xs types terms functions : List ℕ} {c : Counts} (m : FieldsMean (Read c) xs types terms functions) where
   pub read-placed : Placed xs (take (c .types) types) (take (c .terms) terms) (take (c .functions) functions)
   read-placed = record { read = m .answer }
 
-  pub read-types : length (take (c .types) types) ≡ c .types
-  read-types = length-take-le (c .types) types (omega arith)
+  pub read-types : c .types ≤ length types
+  read-types = omega (arith, m .counted .types, m .buffers .forTypes)
 
-  pub read-terms : length (take (c .terms) terms) ≡ c .terms
-  read-terms = length-take-le (c .terms) terms (omega arith)
+  pub read-terms : c .terms ≤ length terms
+  read-terms = omega (arith, m .counted .terms, m .buffers .forTerms)
 
-  pub read-functions : length (take (c .functions) functions) ≡ c .functions
-  read-functions = length-take-le (c .functions) functions (omega arith)
+  pub read-functions : c .functions ≤ length functions
+  read-functions = omega (arith, m .counted .functions, m .buffers .forFunctions)

@@ -1,20 +1,22 @@
--- Laws of the table of signatures: references in order, the parameters of a function, and loops that store one element after another.
-use Prim.Native.Nat.{ℕ, zero, suc, _+_, _*_, _-_, _<_, _≤_}
+-- Laws of the table of signatures: references in order, the parameters of a function, loops that store one element after another,
+-- and the turns of the two loops that fill a row and the table.
+use Prim.Native.Nat.{ℕ, zero, suc, _+_, _*_, _<_, _≤_}
 use native.Mathlib.Omega.{arith}
 use native.Mathlib.Decide.{decLt}
-use mathlib.Core.Path.{_≡_, refl, sym, ap, ap₂, subst, _∙_}
+use mathlib.Core.Path.{_≡_, refl, sym, ap, subst, _∙_}
 use mathlib.Core.List.{List, [], _∷_, _++_}
-use lib.ListN.{length, getD, set, replicate, length-set, getD-replicate, List·getD-eq-default}
+use lib.ListN.{length, getD, set, drop, replicate, length-set, getD-replicate, List·getD-eq-default}
 use lib.Seq.{getD-set-same, getD-set-other}
 use package.Rattle.octets.specs.Numbers.{get16}
 use package.Rattle.rules.specs.Limits.{maxParameters}
 use package.Rattle.calls.specs.Fields.{parametersAt}
 use package.Rattle.calls.specs.Entries.{references, functionAt}
+use package.Rattle.calls.specs.Named.{typesOfFunction}
 use package.Rattle.program.specs.Places.{Placed}
 use package.Rattle.program.specs.Parts.{FunctionField, listed}
 use package.Rattle.program.specs.Signatures.{parameterTypes, SignatureIs, FunctionFields, SignaturesAre}
 use package.Rattle.program.proofs.Inside.{formed}
-use package.Rattle.program.proofs.Shapes.{function-ancillae, function-dynamic}
+use package.Rattle.program.proofs.Lists.{types-of-function}
 
 ----------------------------------------------------------------
 -- References
@@ -24,36 +26,26 @@ unfolding references
 length-references xs i zero = refl
 length-references xs i (suc n) = ap suc (length-references xs (i + 2) n)
 
-references-at : (xs : List ℕ) (i n k : ℕ) → k < n → getD (references xs i n) k 0 ≡ get16 xs (i + 2 * k)
+getD-references : (xs : List ℕ) (i n k : ℕ) → k < n → getD (references xs i n) k 0 ≡ get16 xs (i + 2 * k)
 unfolding references
-references-at xs i zero k h = absurd (omega arith)
-references-at xs i (suc n) zero h = ap (get16 xs) (let e : i ≡ i + 2 * 0 = omega arith in e)
-references-at xs i (suc n) (suc k) h =
-    references-at xs (i + 2) n k (omega arith) ∙ ap (get16 xs) (let e : i + 2 + 2 * k ≡ i + 2 * suc k = omega arith in e)
-
--- the last of them
-references-last : (xs : List ℕ) (i n : ℕ) → references xs i n ++ (get16 xs (i + 2 * n) ∷ []) ≡ references xs i (suc n)
-unfolding references
-references-last xs i zero = ap (λ j. get16 xs j ∷ []) (let e : i + 2 * 0 ≡ i = omega arith in e)
-references-last xs i (suc n) =
-    ap (λ r. get16 xs i ∷ r)
-    (ap (λ j. references xs (i + 2) n ++ (get16 xs j ∷ [])) (let e : i + 2 * suc n ≡ i + 2 + 2 * n = omega arith in e) ∙ references-last xs (i + 2) n)
+getD-references xs i zero k h = absurd (omega arith)
+getD-references xs i (suc n) zero h = ap (get16 xs) (let e : i ≡ i + 2 * 0 = omega arith in e)
+getD-references xs i (suc n) (suc k) h =
+    getD-references xs (i + 2) n k (omega arith) ∙ ap (get16 xs) (let e : i + 2 + 2 * k ≡ i + 2 * suc k = omega arith in e)
 
 ----------------------------------------------------------------
 -- The parameters of a function
 
-module _ (xs : List ℕ) (at : ℕ) (some : 1 ≤ parametersAt xs at) where
+module _ {xs : List ℕ} {at : ℕ} (F : FunctionField xs at) where
   parameters-are : parameterTypes (functionAt xs at) ≡ references xs (at + 6) (parametersAt xs at)
-  parameters-are =
-      ap₂ (λ r d. r ++ (d ∷ [])) (function-ancillae xs at) (function-dynamic xs at some)
-      ∙ references-last xs (at + 6) (parametersAt xs at - 1)
-      ∙ ap (references xs (at + 6)) (let e : suc (parametersAt xs at - 1) ≡ parametersAt xs at = omega arith in e)
+  unfolding typesOfFunction references
+  parameters-are = ap (drop 1) (types-of-function F)
 
   parameter-count : length (parameterTypes (functionAt xs at)) ≡ parametersAt xs at
   parameter-count = ap length parameters-are ∙ length-references xs (at + 6) (parametersAt xs at)
 
   parameter-at : (k : ℕ) → k < parametersAt xs at → listed xs at k ≡ getD (parameterTypes (functionAt xs at)) k 0
-  parameter-at k h = sym (ap (λ l. getD l k 0) parameters-are ∙ references-at xs (at + 6) (parametersAt xs at) k h)
+  parameter-at k h = sym (ap (λ l. getD l k 0) parameters-are ∙ getD-references xs (at + 6) (parametersAt xs at) k h)
 
   no-parameter-at : (k : ℕ) → parametersAt xs at ≤ k → 0 ≡ getD (parameterTypes (functionAt xs at)) k 0
   no-parameter-at k h = sym (List·getD-eq-default (parameterTypes (functionAt xs at)) 0 (omega (arith, parameter-count)))
@@ -108,13 +100,13 @@ pub all-filled : {xs : List ℕ} {at k : ℕ} {row : List ℕ} → FunctionField
 unfolding maxParameters
 all-filled {xs} {at} {k} {row} F e f = record {
   sized = f .sized;
-  few = omega (arith, parameter-count xs at (F .some), F .few);
+  few = omega (arith, parameter-count F, F .few);
   each = λ j. by j (decLt j (parametersAt xs at));
 }
   where
     by : (j : ℕ) → Dec (j < parametersAt xs at) → getD row j 0 ≡ getD (parameterTypes (functionAt xs at)) j 0
-    by j (yes lt) = f .front j (omega arith) ∙ parameter-at xs at (F .some) j lt
-    by j (no ge) = f .back j (omega arith) ∙ no-parameter-at xs at (F .some) j (omega arith)
+    by j (yes lt) = f .front j (omega arith) ∙ parameter-at F j lt
+    by j (no ge) = f .back j (omega arith) ∙ no-parameter-at F j (omega arith)
 
 ----------------------------------------------------------------
 -- The table, as it is filled

@@ -76,7 +76,7 @@ answerOf (Read c) types terms functions = accepted (frontsOf types terms functio
 answerOf (Malformed at) types terms functions = refused 2 at
 answerOf (Over at) types terms functions = refused 3 at
 
--- counts are no more than the buffers hold, so that a front is as long as its count
+-- the counts, where there are any, are those that section 1 allows
 abbrev pub Counted : Fields → Type 0
 Counted (Read c) = Within c
 Counted (Malformed at) = Unit {0}
@@ -85,3 +85,5 @@ Counted (Over at) = Unit {0}
 pub record FieldsMean (r : Fields) (xs types terms functions : List ℕ) : Type 0 where
   pub answer : layout xs ≡ answerOf r types terms functions
   pub counted : Counted r
+  -- so that a front is as long as its count
+  pub buffers : Buffers types terms functions

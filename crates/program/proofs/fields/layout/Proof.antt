@@ -18,7 +18,7 @@ abbrev μ-loop : tie.MeasureT-loop
 
 returns : tie.Need-returns Inv-loop μ-loop
 unfolding maxProgramBytes
-returns c = record { answer = layout-over _ (c .if1 .taken); counted = tt }
+returns c = record { answer = layout-over _ (c .if1 .taken); counted = tt; buffers = c .before .before .before .before .before .pre }
 
 loop-holds : tie.Need-loop-holds Inv-loop μ-loop
 unfolding maxProgramBytes
@@ -37,7 +37,8 @@ same-length-3 : tie.Need-same-length-3 Inv-loop μ-loop
 same-length-3 c = c .before .before .before .loop .inv .3
 
 returns-2 : tie.Need-returns-2 Inv-loop μ-loop
-returns-2 c = record { answer = reading-malformed (c .before .before .before .loop .inv .0) (c .before .before .loop-test .taken) (denied (c .before .well-formed .ensures) (c .if2 .taken)); counted = tt }
+returns-2 c = let turn = c .before .before .before .loop .inv .0 in
+    record { answer = reading-malformed turn (c .before .before .loop-test .taken) (denied (c .before .well-formed .ensures) (c .if2 .taken)); counted = tt; buffers = turn .buffers }
 
 place-requires : tie.Need-place-requires Inv-loop μ-loop
 place-requires c κs = reading-placeable (c .before .before .before .before .before .before .loop .inv .0) (c .before .before .before .before .before .loop-test .taken) (not-denied (c .before .before .before .before .well-formed .ensures) (c .before .before .before .if2 .left))
@@ -59,10 +60,12 @@ same-length-6 c = c .before .before .before .before .before .before .before .bef
 
 returns-3 : tie.Need-returns-3 Inv-loop μ-loop
 returns-3 c = let tested = c .before .before .before .before .before .before .before .before .before .before .before .before in
+    let turn = tested .before .before .before .loop .inv .0 in
+    let kept = c .before .before .before .before .before .before .before .before .place .kept .1 .1 .1 in
     record {
-      answer = reading-over (tested .before .before .before .loop .inv .0) (tested .before .before .loop-test .taken)
-          (not-denied (tested .before .well-formed .ensures) (tested .if2 .left)) (rw (c .enum-told .given .1) at (c .before .before .before .before .before .before .before .before .place .ensures));
+      answer = reading-over turn (tested .before .before .loop-test .taken) (not-denied (tested .before .well-formed .ensures) (tested .if2 .left)) (rw (c .enum-told .given .1) at (c .before .before .before .before .before .before .before .before .place .ensures));
       counted = tt;
+      buffers = buffers-kept (turn .buffers) (kept .0) (kept .1 .0) (kept .1 .1 .0);
     }
 
 tag-at-requires : tie.Need-tag-at-requires Inv-loop μ-loop
@@ -101,7 +104,7 @@ same-length-9 : tie.Need-same-length-9 Inv-loop μ-loop
 same-length-9 c = c .before .loop .inv .3
 
 returns-4 : tie.Need-returns-4 Inv-loop μ-loop
-returns-4 c = record { answer = reading-ends (c .before .loop .inv .0) (c .loop-test .left); counted = c .before .loop .inv .0 .within }
+returns-4 c = let turn = c .before .loop .inv .0 in record { answer = reading-ends turn (c .loop-test .left); counted = turn .within; buffers = turn .buffers }
 
 pub layout-spec : {M : Type 1} → statement M
 layout-spec =
