@@ -1,0 +1,3 @@
+-- Laws of the checker.
+-- contexts as the code holds them
+pub mod Contexts

@@ -1,0 +1,37 @@
+-- Contexts (rules/specs/Typing) as the checker holds them: the type of variable i is code i of a list; the first `q` variables are
+-- ancilla parameters; those from `q` on and below `lo` are barred, being dynamic and bound outside the ancilla argument at hand; the
+-- others are dynamic. `T` gives a code's type. Laws: proofs/Contexts.
+use Prim.Native.Nat.{ℕ, zero, suc}
+use mathlib.Core.Bool.{Bool, true, false}
+use mathlib.Core.Option.{none, some}
+use mathlib.Core.List.{List, [], _∷_}
+use lib.ListN.{getD}
+use lib.Dec.{ltb}
+use package.Rattle.rules.specs.Ty.{Ty}
+use package.Rattle.rules.specs.Term.{Term, look}
+use package.Rattle.rules.specs.Typing.{Binding, static, dynamic, barred, Context}
+use package.Rattle.rules.specs.Check.{names, mustUse}
+use package.Rattle.uses.specs.declared.Uses.{Uses}
+use package.Rattle.uses.specs.Sets.{Holds}
+
+-- how variable `i` stands
+unfoldable pub standing : ℕ → ℕ → ℕ → Ty → Binding
+standing q lo i τ = elim (ltb i q) [ true ↦ static τ | false ↦ elim (ltb i lo) [ true ↦ barred τ | false ↦ dynamic τ ] ]
+
+-- the context of `n` variables, the newest first
+unfoldable pub contextAt : (ℕ → Ty) → List ℕ → ℕ → ℕ → ℕ → Context
+unfolding standing
+contextAt T codes q lo zero = []
+contextAt T codes q lo (suc n) = standing q lo n (T (getD codes n 0)) ∷ contextAt T codes q lo n
+
+-- the set holds the variables that the term names
+abbrev pub NamedBy : Uses → Term → Type 0
+NamedBy u t = Holds u (λ i. names i t)
+
+-- must variable `i` of the context be used?
+unfoldable pub mustUseAt : Context → ℕ → Bool
+mustUseAt Δ i = elim (look Δ i) [ none ↦ false | some x ↦ mustUse x ]
+
+-- the set holds the variables that must be used
+abbrev pub Owed : Uses → Context → Type 0
+Owed u Δ = Holds u (mustUseAt Δ)

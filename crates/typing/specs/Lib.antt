@@ -1,0 +1,3 @@
+-- The checker in code.
+-- contexts as the code holds them
+pub mod Contexts
