@@ -1,0 +1,18 @@
+use Rattle.types.proofs.Trees.{other-form, other-depth, other-place, by-stands}
+use Rattle.types.proofs.codes.identical.Statement.{statement}
+use Rattle.types.proofs.codes.identical.Tie as tie
+
+returns : tie.Need-returns
+returns c = let a = c .before .before .before .args in other-form (a .c) (a .d) (c .if1 .taken)
+
+returns-2 : tie.Need-returns-2
+returns-2 c = let a = c .before .before .before .before .before .before .args in other-depth (a .c) (a .d) (c .if2 .taken)
+
+returns-3 : tie.Need-returns-3
+returns-3 c = let a = c .before .before .before .before .before .before .before .before .before .args in other-place (a .c) (a .d) (c .if3 .taken)
+
+returns-4 : tie.Need-returns-4
+returns-4 c = let a = c .before .before .before .before .before .before .before .before .before .before .before .args in by-stands (a .c) (a .d) (c .before .before .before .before .before .before .before .before .if1 .left) (c .before .before .before .before .before .if2 .left) (c .before .before .if3 .left)
+
+pub identical-spec : {M : Type 1} → statement M
+identical-spec = tie.close (tie.spec returns returns-2 returns-3 returns-4)

@@ -1,0 +1,5 @@
+-- The types that typing gives a term. The modules in reading order:
+-- codes of types, and the tree of a code
+pub mod Codes
+-- the outermost node of a code's tree
+pub mod Shapes

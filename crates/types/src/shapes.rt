@@ -1,0 +1,133 @@
+// The outermost node of a type that a code is of, with the codes of its parts.
+ghost use mathlib.Core.Path.{_≡_};
+ghost use Prim.Native.Nat.{_+_, _*_, _<_, _≤_};
+ghost use lib.ListN.{length, getD};
+ghost use Rattle.calls.specs.Entries.{typeAt};
+ghost use Rattle.types.specs.Codes.{nodeBytes, codeAt, Readable, Sources, Known};
+ghost use Rattle.types.specs.Shapes.{leaf, entryShape, underShape, productShape, Shaped};
+use crate::codes;
+use crate::codes::Code;
+
+const NODE_BYTES: usize = 14;
+
+// By its kind, as in the program's bytes: 0 unit; 1 product and 2 sum of `first` and `second`; 3 recursive over `first`;
+// 4 the bound variable `variable`. A part that a kind does not have is unit.
+pub struct Shape {
+    pub kind: u8,
+    pub variable: u8,
+    pub first: Code,
+    pub second: Code,
+}
+
+// A node without parts.
+fn leaf(kind: u8, variable: u8) -> Shape
+    ensures { λ r. ⌜ r ≡ leaf kind variable ⌝ }
+{
+    let none = codes::unit();
+    Shape {
+        kind,
+        variable,
+        first: none,
+        second: none,
+    }
+}
+
+// The node of the entry that `c` is of, its variables as they stand. A recursive entry's part is `step` deeper.
+fn entry_shape(p: &[u8], types: &[u16], c: Code, step: u8) -> Shape
+    requires { ⌜ Readable (now p) (now types) ⌝ }
+    requires { ⌜ (c .at < length (now types)) × (c .at + c .depth < 256) × (step ≤ 1) ⌝ }
+    ensures { λ r. ⌜ r ≡ entryShape (typeAt (now (p .entry)) (getD (now (types .entry)) (c .at) 0)) c step ⌝ }
+{
+    let i = octets::wide_index(c.at);
+    let at = octets::wide_index(types[i]);
+    let kind = program::views::kind(p, at);
+    if kind == 0 {
+        return leaf(0, 0);
+    }
+    if kind == 3 {
+        let under = codes::deeper(c, program::views::first(p, at), step);
+        let none = codes::unit();
+        return Shape {
+            kind: 3,
+            variable: 0,
+            first: under,
+            second: none,
+        };
+    }
+    if kind < 3 {
+        let left = codes::part(c, program::views::first(p, at));
+        let right = codes::part(c, program::views::second(p, at));
+        return Shape {
+            kind: kind,
+            variable: 0,
+            first: left,
+            second: right,
+        };
+    }
+    leaf(4, program::views::variable(p, at))
+}
+
+// The same of an entry whose variable number `depth` stands for the entry `stands`.
+fn under_shape(p: &[u8], types: &[u16], c: Code) -> Shape
+    requires { ⌜ Readable (now p) (now types) ⌝ }
+    requires { ⌜ (c .at + c .depth < length (now types)) × (c .stands < length (now types)) ⌝ }
+    ensures { λ r. ⌜ r ≡ underShape (now (p .entry)) (now (types .entry)) c ⌝ }
+{
+    let s = entry_shape(p, types, c, 1);
+    if s.kind != 4 {
+        return s;
+    }
+    if s.variable != c.depth {
+        return s;
+    }
+    entry_shape(p, types, codes::entry(c.stands), 0)
+}
+
+// The code at an offset of the product nodes.
+fn code_at(ws: &[u8], at: usize) -> Code
+    requires { ⌜ at + 6 ≤ length (now ws) ⌝ }
+    ensures { λ r. ⌜ r ≡ codeAt (now (ws .entry)) at ⌝ }
+{
+    let n = octets::read16(ws, at + 2);
+    let stands = octets::read16(ws, at + 4);
+    Code {
+        form: ws[at],
+        depth: ws[at + 1],
+        at: n,
+        stands,
+    }
+}
+
+fn product_shape(ws: &[u8], n: u16) -> Shape
+    requires { ⌜ nodeBytes * (n + 1) ≤ length (now ws) ⌝ }
+    ensures { λ r. ⌜ r ≡ productShape (now (ws .entry)) n ⌝ }
+{
+    let at = NODE_BYTES * octets::wide_index(n);
+    let left = code_at(ws, at);
+    let right = code_at(ws, at + 6);
+    Shape {
+        kind: 1,
+        variable: 0,
+        first: left,
+        second: right,
+    }
+}
+
+// The node of a type.
+pub fn shape_of(p: &[u8], types: &[u16], ws: &[u8], top: u16, c: Code) -> Shape
+    requires { ⌜ Sources (now p) (now types) (now ws) top ⌝ }
+    requires { ⌜ Known (length (now types)) top c ⌝ }
+    ensures { λ r. ⌜ Shaped (now (p .entry)) (now (types .entry)) (now (ws .entry)) top c r ⌝ }
+{
+    let form = c.form;
+    if form == 0 {
+        return leaf(0, 0);
+    }
+    if form == 1 {
+        return entry_shape(p, types, c, 0);
+    }
+    if form == 2 {
+        return under_shape(p, types, c);
+    }
+    product_shape(ws, c.at)
+}
