@@ -1,7 +1,10 @@
+use Prim.Native.Nat.{_+_, _*_}
 use native.Mathlib.Omega.{arith}
+use mathlib.Core.Path.{ap, _∙_}
 use lib.ListN.{length-set}
 use borrow.Author.Needs.{needs}
-use Rattle.values.specs.Nodes.{putNode}
+use Rattle.octets.specs.Numbers.{put32}
+use Rattle.values.specs.Nodes.{nodeBytes, putNode}
 use Rattle.values.proofs.nodes.put_node.Statement.{statement}
 use Rattle.values.proofs.nodes.put_node.Tie as tie
 
@@ -48,7 +51,15 @@ same-length c =
 
 returns : tie.Need-returns
 unfolding putNode
-returns c = cc
+returns c =
+    let at-write322 = c .before .before in
+    let at-write32 = at-write322 .before .before .before .before in
+    let at-write16 = at-write32 .before .before .before .before in
+    let start = at-write16 .before .before .before in
+    let a = start .args in
+    at-write322 .write322 .ensures
+    ∙ ap (λ heap. put32 heap (nodeBytes * a .n + 8) (a .right))
+    (at-write32 .write32 .ensures ∙ ap (λ heap. put32 heap (nodeBytes * a .n + 4) (a .left)) (at-write16 .write16 .ensures))
 
 pub put-node-spec : {M : Type 1} → statement M
 put-node-spec =
