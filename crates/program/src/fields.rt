@@ -1,7 +1,7 @@
 // Reading a program's fields, from the first byte (document 01, section 1; section 4, row Field reading: refusals 2 and 3).
 // The functions on one field equal the definitions of calls/specs/Fields; a definition reads 0 past the end, and so does `byte_at`.
 ghost use mathlib.Core.Path.{_≡_};
-ghost use Prim.Native.Nat.{_+_, _<_, _≤_};
+ghost use Prim.Native.Nat.{_+_, _≤_};
 ghost use lib.ListN.{length, getD};
 ghost use Rattle.calls.specs.Fields.{tagAt, lengthAt, nextAt, kindAt, parametersAt, typeLengths, termLengths, callLength, typeLength, termLength, functionLength, bodyFits, wellFormed};
 ghost use Rattle.program.specs.Places.{parametersWithin, frontsOf, Placeable, PlacingMeans, Buffers, FieldsMean};
@@ -10,12 +10,6 @@ ghost use Rattle.program.specs.Places.{parametersWithin, frontsOf, Place
 const TYPE_LENGTHS: [u16; 5] = [1, 5, 5, 3, 2];
 
 const TERM_LENGTHS: [u16; 11] = [2, 1, 5, 5, 5, 5, 5, 7, 0, 5, 5];
-
-fn index(x: u8) -> usize
-    ensures { λ r. ⌜ (r ≡ x) × (r < 256) ⌝ }
-{
-    x as usize
-}
 
 // The byte at an offset, 0 past the end.
 fn byte_at(p: &[u8], at: usize) -> u8
@@ -67,7 +61,7 @@ pub fn parameters_at(p: &[u8], at: usize) -> u8
 fn type_bytes(kind: u8) -> u16
     ensures { λ r. ⌜ r ≡ getD typeLengths kind 0 ⌝ }
 {
-    let k = index(kind);
+    let k = octets::wide_index(octets::wide16(kind));
     if k < 5 {
         return TYPE_LENGTHS[k];
     }
@@ -77,7 +71,7 @@ fn type_bytes(kind: u8) -> u16
 fn term_bytes(kind: u8) -> u16
     ensures { λ r. ⌜ r ≡ getD termLengths kind 0 ⌝ }
 {
-    let k = index(kind);
+    let k = octets::wide_index(octets::wide16(kind));
     if k < 11 {
         return TERM_LENGTHS[k];
     }
@@ -182,7 +176,7 @@ pub enum Fields {
 }
 
 // What placing one field answers: the counts with it, or that it is over a count.
-pub enum Placing {
+enum Placing {
     More(Counts),
     Full,
 }

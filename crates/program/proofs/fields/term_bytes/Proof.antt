@@ -5,8 +5,11 @@ use Rattle.program.proofs.Formed.{term-beyond}
 use Rattle.program.proofs.fields.term_bytes.Statement.{statement}
 use Rattle.program.proofs.fields.term_bytes.Tie as tie
 
-index-requires : tie.Need-index-requires
-index-requires c κs = search needs
+wide16-requires : tie.Need-wide16-requires
+wide16-requires c κs = search needs
+
+wide-index-requires : tie.Need-wide-index-requires
+wide-index-requires c κs = search needs
 
 mul-result : tie.Need-mul-result
 mul-result c = search needs
@@ -23,4 +26,5 @@ returns-2 c = term-beyond _ (omega arith)
 
 pub term-bytes-spec : {M : Type 1} → statement M
 term-bytes-spec =
-    tie.close (tie.spec index-requires mul-result array-read-result returns returns-2)
+    tie.close
+    (tie.spec wide16-requires wide-index-requires mul-result array-read-result returns returns-2)
