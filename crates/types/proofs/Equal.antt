@@ -78,6 +78,9 @@ module _ {xs types heap : List ℕ} {top : ℕ} {c : Code} {v : Shape} (S : Shap
   unfolding shapeTree
   is-unit = unit-kind (v .kind) _ _ _ ∙ ap isUnit (S .tree)
 
+  pub below-four : ¬ (v .kind ≡ 4) → v .kind < 4
+  below-four n = omega (arith, S .kind)
+
   -- neither a variable nor recursive
   pub two-parts : ¬ (v .kind ≡ 4) → ¬ (v .kind ≡ 3) → v .kind < 3
   two-parts n m = omega (arith, S .kind)

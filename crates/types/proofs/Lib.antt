@@ -5,3 +5,13 @@ pub mod Trees
 pub mod Outer
 -- when two types are equal, by their outermost nodes
 pub mod Equal
+-- what a recursive entry unfolds to
+pub mod Unfold
+-- how many nodes a type has
+pub mod Figures
+-- new product nodes: what is put, and what stays
+pub mod Growing
+-- what typing asks of a type, by its outermost node
+pub mod Asked
+-- how the sources of codes come about
+pub mod Beginning

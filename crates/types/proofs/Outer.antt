@@ -1,5 +1,5 @@
 -- Laws of outermost nodes: which node an entry has by the kind in its field; that the node's tree is the code's; that its parts are known.
-use Prim.Native.Nat.{ℕ, zero, suc, _+_, _*_, _<_, _≤_}
+use Prim.Native.Nat.{ℕ, zero, suc, _+_, _<_, _≤_}
 use native.Mathlib.Omega.{arith}
 use native.Mathlib.Decide.{decLt}
 use native.Mathlib.Numerals.{add-one}
@@ -23,7 +23,7 @@ use package.Rattle.program.proofs.Rooms.{type-kind-room, prod-room, sum-room, m
 use package.Rattle.program.proofs.Shapes.{type-unit, type-prod, type-sum, type-mu, type-var}
 use package.Rattle.types.specs.declared.codes.Code.{Code}
 use package.Rattle.types.specs.declared.shapes.Shape.{Shape}
-use package.Rattle.types.specs.Codes.{nodeBytes, unitCode, entryCode, part, deeper, treeIn, Readable, Known, Sources}
+use package.Rattle.types.specs.Codes.{Room, unitCode, entryCode, underCode, productCode, part, deeper, treeIn, Readable, Known, Sources}
 use package.Rattle.types.specs.Shapes.{ofKind, shapeTree, node, leaf, entryShape, jump, underShape, productShape, Shaped}
 use package.Rattle.types.proofs.Trees.{tree-unit, tree-entry, tree-under, tree-product, product-parts}
 
@@ -163,6 +163,12 @@ module _ {n top : ℕ} where
   pub entry-known : (i : ℕ) → i < n → Known n top (entryCode i)
   entry-known i h = record { form = omega arith; entry = λ l u. omega arith; stands = λ e. absurd (omega arith); product = λ e. absurd (omega arith) }
 
+  pub under-known : (i j : ℕ) → i < j → j < n → Known n top (underCode i j)
+  under-known i j h k = record { form = omega arith; entry = λ l u. omega arith; stands = λ e. k; product = λ e. absurd (omega arith) }
+
+  pub product-known : (k : ℕ) → k < top → Known n top (productCode k)
+  product-known k h = record { form = omega arith; entry = λ l u. absurd (omega arith); stands = λ e. absurd (omega arith); product = λ e. h }
+
   module _ (c : Code) (K : Known n top c) (f : c .form ≤ 2) (a : ℕ) (h : a < c .at) where
     deeper-known : (step : ℕ) → step ≤ 1 → Known n top (deeper c a step)
     deeper-known step s =
@@ -202,10 +208,10 @@ jump-parted {n} {top} c s v p q = either (eqb (v .kind) 4 && eqb (v .variable) (
 -- The node of a code, by form
 
 module _ {xs types heap : List ℕ} {top : ℕ} (S : Sources xs types heap top) where
-  lower-entry : (i : ℕ) → i < length types → below i (typesOfType (typeAt xs (getD types i 0))) ≡ true
+  pub lower-entry : (i : ℕ) → i < length types → below i (typesOfType (typeAt xs (getD types i 0))) ≡ true
   lower-entry i l = subst (λ y. below i (typesOfType y) ≡ true) (at-place xs types i l) (S .entries .lower i)
 
-  entry-unfolds : (i : ℕ) → i < length types
+  pub entry-unfolds : (i : ℕ) → i < length types
       → typeTree (typeOf (map (typeAt xs) types)) (typeAt xs (getD types i 0)) ≡ typeOf (map (typeAt xs) types) i
   entry-unfolds i l =
       ap (typeTree (typeOf (map (typeAt xs) types))) (sym (at-place xs types i l)) ∙ sym (type-unfolds (map (typeAt xs) types) (S .entries .lower) i)
@@ -257,7 +263,7 @@ module _ {xs types heap : List ℕ} {top : ℕ} (S : Sources xs types heap top) 
         shaped q (record { kind = omega arith; first = known-up (omega (arith, K .product e)) (N .left); second = known-up (omega (arith, K .product e)) (N .right) })
         (sym (product-parts (S .products) (c .at) (K .product e)) ∙ sym (tree-product (map (typeAt xs) types) heap c e))
 
-    pub product-there : c .form ≡ 3 → nodeBytes * (c .at + 1) ≤ length heap
+    pub product-there : c .form ≡ 3 → Room heap (c .at + 1)
     product-there e = omega (arith, K .product e, S .products .held)
 
 pub product-form : {n top : ℕ} {c : Code} → Known n top c → ¬ (c .form ≡ 0) → ¬ (c .form ≡ 1) → ¬ (c .form ≡ 2) → c .form ≡ 3

@@ -88,6 +88,10 @@ treeIn xs types heap c = treeOf (map (typeAt xs) types) heap c
 ----------------------------------------------------------------
 -- What codes stand on
 
+-- the bytes hold so many product nodes
+abbrev pub Room : List ℕ → ℕ → Type 0
+Room heap n = nodeBytes * n ≤ length heap
+
 -- The fields of the type entries are well-formed, and each entry names lower ones.
 pub record Readable (xs types : List ℕ) : Type 0 where
   pub field : (i : ℕ) → i < length types → TypeField xs (getD types i 0)
@@ -110,7 +114,7 @@ pub record Right (ys : List TypeEntry) (n : ℕ) (heap : List ℕ) (k : ℕ) : T
 
 -- Every product node below `top` is there, and right, `n` being the number of type entries.
 pub record Products (ys : List TypeEntry) (n : ℕ) (heap : List ℕ) (top : ℕ) : Type 0 where
-  pub held : nodeBytes * top ≤ length heap
+  pub held : Room heap top
   pub node : (k : ℕ) → k < top → Right ys n heap k
 
 -- What the codes of a program stand on: its type entries, and product nodes in the bytes `heap`.

@@ -1,4 +1,8 @@
 // The types that typing gives a term, as codes that are compared as trees without writing them out (document 01, section 3).
 pub mod codes; // codes.rt: what a code is
+pub mod nodes; // nodes.rt: product nodes in lent bytes
 pub mod shapes; // shapes.rt: the outermost node of a type
+pub mod unfolding; // unfolding.rt: what a recursive entry unfolds to
 pub mod compare; // compare.rt: types compared
+pub mod counting; // counting.rt: the nodes of a type
+pub mod products; // products.rt: products of two types

@@ -3,12 +3,11 @@ ghost use mathlib.Core.Path.{_≡_};
 ghost use Prim.Native.Nat.{_+_, _*_, _<_, _≤_};
 ghost use lib.ListN.{length, getD};
 ghost use Rattle.calls.specs.Entries.{typeAt};
-ghost use Rattle.types.specs.Codes.{nodeBytes, codeAt, Readable, Sources, Known};
+ghost use Rattle.types.specs.Codes.{Room, Readable, Sources, Known};
 ghost use Rattle.types.specs.Shapes.{leaf, entryShape, underShape, productShape, Shaped};
 use crate::codes;
 use crate::codes::Code;
-
-const NODE_BYTES: usize = 14;
+use crate::nodes;
 
 // By its kind, as in the program's bytes: 0 unit; 1 product and 2 sum of `first` and `second`; 3 recursive over `first`;
 // 4 the bound variable `variable`. A part that a kind does not have is unit.
@@ -83,28 +82,12 @@ fn under_shape(p: &[u8], types: &[u16], c: Code) -> Shape
     entry_shape(p, types, codes::entry(c.stands), 0)
 }
 
-// The code at an offset of the product nodes.
-fn code_at(ws: &[u8], at: usize) -> Code
-    requires { ⌜ at + 6 ≤ length (now ws) ⌝ }
-    ensures { λ r. ⌜ r ≡ codeAt (now (ws .entry)) at ⌝ }
-{
-    let n = octets::read16(ws, at + 2);
-    let stands = octets::read16(ws, at + 4);
-    Code {
-        form: ws[at],
-        depth: ws[at + 1],
-        at: n,
-        stands,
-    }
-}
-
 fn product_shape(ws: &[u8], n: u16) -> Shape
-    requires { ⌜ nodeBytes * (n + 1) ≤ length (now ws) ⌝ }
+    requires { ⌜ Room (now ws) (n + 1) ⌝ }
     ensures { λ r. ⌜ r ≡ productShape (now (ws .entry)) n ⌝ }
 {
-    let at = NODE_BYTES * octets::wide_index(n);
-    let left = code_at(ws, at);
-    let right = code_at(ws, at + 6);
+    let left = nodes::left_of(ws, n);
+    let right = nodes::right_of(ws, n);
     Shape {
         kind: 1,
         variable: 0,

@@ -2,8 +2,8 @@ use Rattle.types.specs.Codes.{codeAt}
 use Rattle.types.proofs.Trees.{same-numbers}
 use mathlib.Core.Path.{refl}
 use borrow.Author.Needs.{needs}
-use Rattle.types.proofs.shapes.code_at.Statement.{statement}
-use Rattle.types.proofs.shapes.code_at.Tie as tie
+use Rattle.types.proofs.nodes.code_at.Statement.{statement}
+use Rattle.types.proofs.nodes.code_at.Tie as tie
 
 add-read16 : tie.Need-add-read16
 add-read16 c = search needs

@@ -1,0 +1,138 @@
+-- Laws of counting: what a type's nodes are by its outermost node, counting that stops one above the limit.
+use Prim.Native.Nat.{ℕ, zero, suc, _+_, _<_, _≤_, min}
+use native.Mathlib.Omega.{arith}
+use native.Mathlib.Decide.{decLt}
+use mathlib.Core.Path.{_≡_, refl, sym, ap, _∙_}
+use mathlib.Core.List.{List, map}
+use lib.ListN.{length, getD}
+use lib.Dec.{leb}
+use borrow.Author.Tests.{le-leb, lt-leb}
+use package.Rattle.rules.specs.Limits.{maxNodes}
+use package.Rattle.rules.specs.Ty.{Ty, nodes}
+use package.Rattle.calls.specs.Entries.{typeAt}
+use package.Rattle.calls.specs.Named.{ceiling}
+use package.Rattle.types.specs.declared.codes.Code.{Code}
+use package.Rattle.types.specs.declared.shapes.Shape.{Shape}
+use package.Rattle.types.specs.Codes.{countAt, treeIn, Known, Sources}
+use package.Rattle.types.specs.Shapes.{ofKind, shapeTree, Shaped}
+use package.Rattle.types.specs.Counts.{Counted}
+use package.Rattle.types.proofs.Trees.{tree-entry, tree-product}
+
+----------------------------------------------------------------
+-- Counting that stops
+
+pub stops : (n : ℕ) → 1024 < n → 1025 ≡ min ceiling n
+unfolding ceiling maxNodes
+stops n h = omega arith
+
+pub goes-on : (n : ℕ) → n ≤ 1024 → n ≡ min ceiling n
+unfolding ceiling maxNodes
+goes-on n h = omega arith
+
+-- what is over the limit stays there
+pub over : (n m : ℕ) → n ≤ ceiling → 1024 < n → n ≡ min ceiling (n + m)
+unfolding ceiling maxNodes
+over n m h l = omega arith
+
+pub limited : (n : ℕ) → n ≤ 1024 → n + 1 ≤ ceiling
+unfolding ceiling maxNodes
+limited n h = omega arith
+
+pub below-ceiling : (n : ℕ) {m : ℕ} → m ≡ min ceiling n → m ≤ ceiling
+below-ceiling n e = omega arith
+
+----------------------------------------------------------------
+-- By kind
+
+nodes-unit : (k : ℕ) (a b : Ty) (n : ℕ) → k ≡ 0 → nodes (ofKind k a b n) ≡ 1
+unfolding ofKind nodes
+nodes-unit k a b n e = rw e
+
+nodes-variable : (k : ℕ) (a b : Ty) (n : ℕ) → k ≡ 4 → nodes (ofKind k a b n) ≡ 1
+unfolding ofKind nodes
+nodes-variable k a b n e = rw e
+
+nodes-recursive : (k : ℕ) (a b : Ty) (n : ℕ) → k ≡ 3 → nodes (ofKind k a b n) ≡ suc (nodes a)
+unfolding ofKind nodes
+nodes-recursive k a b n e = rw e
+
+nodes-two : (k : ℕ) (a b : Ty) (n : ℕ) → ¬ (k ≡ 0) → k < 3 → nodes (ofKind k a b n) ≡ suc (nodes a + nodes b)
+unfolding ofKind nodes
+nodes-two zero a b n z l = absurd (z refl)
+nodes-two (suc zero) a b n z l = refl
+nodes-two (suc (suc zero)) a b n z l = refl
+nodes-two (suc (suc (suc k))) a b n z l = absurd (omega arith)
+
+module _ {xs types heap : List ℕ} {top : ℕ} {c : Code} {v : Shape} (S : Shaped xs types heap top c v) where
+  size : Code → ℕ
+  size d = nodes (treeIn xs types heap d)
+
+  unfold-size : size c ≡ nodes (ofKind (v .kind) (treeIn xs types heap (v .first)) (treeIn xs types heap (v .second)) (v .variable))
+  unfolding shapeTree size
+  unfold-size = ap nodes (sym (S .tree))
+
+  module _ (n : ℕ) where
+    pub unit-counted : v .kind ≡ 0 → n ≤ 1024 → n + 1 ≡ min ceiling (n + nodes (treeIn xs types heap c))
+    unfolding ceiling maxNodes size
+    unit-counted e h = omega (arith, unfold-size, nodes-unit (v .kind) (treeIn xs types heap (v .first)) (treeIn xs types heap (v .second)) (v .variable) e)
+
+    pub variable-counted : v .kind ≡ 4 → n ≤ 1024 → n + 1 ≡ min ceiling (n + nodes (treeIn xs types heap c))
+    unfolding ceiling maxNodes size
+    variable-counted e h = omega (arith, unfold-size, nodes-variable (v .kind) (treeIn xs types heap (v .first)) (treeIn xs types heap (v .second)) (v .variable) e)
+
+    module _ {m : ℕ} (first : m ≡ min ceiling (n + 1 + nodes (treeIn xs types heap (v .first)))) where
+      pub recursive-counted : v .kind ≡ 3 → m ≡ min ceiling (n + nodes (treeIn xs types heap c))
+      unfolding ceiling maxNodes size
+      recursive-counted e = omega (arith, unfold-size, nodes-recursive (v .kind) (treeIn xs types heap (v .first)) (treeIn xs types heap (v .second)) (v .variable) e)
+
+      pub two-counted : {r : ℕ} → ¬ (v .kind ≡ 0) → v .kind < 3 → r ≡ min ceiling (m + nodes (treeIn xs types heap (v .second)))
+          → r ≡ min ceiling (n + nodes (treeIn xs types heap c))
+      unfolding ceiling maxNodes size
+      two-counted z l second =
+          omega (arith, unfold-size, nodes-two (v .kind) (treeIn xs types heap (v .first)) (treeIn xs types heap (v .second)) (v .variable) z l)
+
+----------------------------------------------------------------
+-- Entries and products, which are counted already
+
+module _ {xs types heap : List ℕ} {top : ℕ} (S : Sources xs types heap top) (c : Code) (K : Known (length types) top c) (n : ℕ) where
+  pub entry-counted : {counts : List ℕ} {i r : ℕ} → Counted xs types counts → c .form ≡ 1 → i ≡ c .at → r ≡ min ceiling (n + getD counts i 0)
+      → r ≡ min ceiling (n + nodes (treeIn xs types heap c))
+  unfolding ceiling maxNodes
+  entry-counted {counts} {i} {r} C f e q =
+      omega (
+        arith,
+        q,
+        ap (λ i. getD counts i 0) e,
+        C .count (c .at) (omega (arith, K .entry (omega arith) (omega arith))),
+        ap nodes (tree-entry (map (typeAt xs) types) heap c f),
+      )
+
+  pub count-held : {counts : List ℕ} {i : ℕ} → Counted xs types counts → c .form ≡ 1 → i ≡ c .at → i < length counts
+  count-held C f e = omega (arith, C .held, K .entry (omega arith) (omega arith))
+
+  pub product-counted : {k r : ℕ} → c .form ≡ 3 → k ≡ countAt heap (c .at) → r ≡ min ceiling (n + k) → r ≡ min ceiling (n + nodes (treeIn xs types heap c))
+  unfolding ceiling maxNodes
+  product-counted f e q =
+      omega (arith, q, e, S .products .node (c .at) (K .product f) .count, ap nodes (tree-product (map (typeAt xs) types) heap c f))
+
+  -- a count that is kept is small
+  pub kept-small : {k : ℕ} → c .form ≡ 3 → k ≡ countAt heap (c .at) → k ≤ 1024
+  unfolding maxNodes
+  kept-small f e = omega (arith, e, S .products .node (c .at) (K .product f) .small)
+
+  pub count-small : {counts : List ℕ} {i : ℕ} → Counted xs types counts → c .form ≡ 1 → i ≡ c .at → getD counts i 0 ≤ 1025
+  unfolding ceiling maxNodes
+  count-small {counts} C f e =
+      omega (arith, ap (λ i. getD counts i 0) e, C .count (c .at) (omega (arith, K .entry (omega arith) (omega arith))))
+
+----------------------------------------------------------------
+-- The limit
+
+-- counting that stops one above the limit decides it
+pub limit-decided : (n : ℕ) {m : ℕ} → m ≡ min ceiling n → leb m 1024 ≡ leb n maxNodes
+unfolding ceiling maxNodes
+limit-decided n {m} e = go (decLt 1024 n)
+  where
+    go : Dec (1024 < n) → leb m 1024 ≡ leb n 1024
+    go (yes l) = lt-leb m 1024 (omega arith) ∙ sym (lt-leb n 1024 l)
+    go (no l) = le-leb m 1024 (omega arith) ∙ sym (le-leb n 1024 (omega arith))

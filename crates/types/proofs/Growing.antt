@@ -1,0 +1,270 @@
+-- Laws of new product nodes: what was put is there, what is below stays, and so do the trees of older codes.
+use Prim.Native.Nat.{ℕ, zero, suc, _+_, _*_, _<_, _≤_, min}
+use native.Mathlib.Omega.{arith}
+use native.Mathlib.Nat.{eq-or-lt-of-le}
+use mathlib.Core.Path.{_≡_, refl, sym, ap, ap₂, subst, _∙_}
+use mathlib.Core.Logic.{_⊎_, ⊎-elim}
+use mathlib.Core.Bool.{true, false, false≢true}
+use mathlib.Core.List.{List, map}
+use lib.ListN.{length, getD, set, length-set}
+use lib.Seq.{getD-set-same}
+use borrow.Author.Tests.{le-leb, lt-leb}
+use package.Rattle.octets.specs.Numbers.{put16}
+use package.Rattle.octets.proofs.Puts.{length-put16, set-low, put16-low, get16-same, get16-put16}
+use package.Rattle.rules.specs.Limits.{maxNodes}
+use package.Rattle.rules.specs.Ty.{Ty, prod, nodes}
+use package.Rattle.calls.specs.Entries.{TypeEntry, typeAt}
+use package.Rattle.calls.specs.Named.{ceiling}
+use package.Rattle.types.specs.declared.codes.Code.{Code}
+use package.Rattle.types.specs.Codes.{Room, nodeBytes, productCode, codeAt, leftAt, rightAt, countAt, ofCode, productWithin, productAt, treeOf, treeIn, Known, Right, Products, Sources}
+use package.Rattle.types.specs.Growth.{putCode, putNode, Agree, Grown, Made}
+use package.Rattle.types.proofs.Trees.{same-numbers, tree-product, code-agrees, enough}
+
+----------------------------------------------------------------
+-- A code that is put
+
+pub length-code : (heap : List ℕ) (i : ℕ) (c : Code) → length (putCode heap i c) ≡ length heap
+unfolding putCode
+length-code heap i c = simp (length-put16, length-set)
+
+code-low : (heap : List ℕ) (i : ℕ) (c : Code) (j : ℕ) → j < i → getD (putCode heap i c) j 0 ≡ getD heap j 0
+unfolding putCode
+code-low heap i c j h =
+    put16-low _ (i + 4) (c .stands) j (omega arith)
+    ∙ put16-low _ (i + 2) (c .at) j (omega arith)
+    ∙ set-low (set heap i (c .form)) (i + 1) j (c .depth) (omega arith)
+    ∙ set-low heap i j (c .form) h
+
+-- codes from bytes that agree
+code-same : (heap heap′ : List ℕ) (i : ℕ) → ((j : ℕ) → j < i + 6 → getD heap j 0 ≡ getD heap′ j 0) → codeAt heap i ≡ codeAt heap′ i
+unfolding codeAt
+code-same heap heap′ i s =
+    same-numbers _ _
+    (s i (omega arith))
+    (s (i + 1) (omega arith))
+    (get16-same _ _ (i + 2) λ j l. s j (omega arith))
+    (get16-same _ _ (i + 4) λ j l. s j (omega arith))
+
+-- The numbers of a code fit their bytes.
+pub record Fitting (c : Code) : Type 0 where
+  pub at : c .at < 65536
+  pub stands : c .stands < 65536
+
+module _ (heap : List ℕ) (i : ℕ) (c : Code) (F : Fitting c) (room : i + 6 ≤ length heap) where
+  marked : List ℕ
+  marked = set (set heap i (c .form)) (i + 1) (c .depth)
+
+  length-marked : length marked ≡ length heap
+  unfolding marked
+  length-marked = simp length-set
+
+  code-put : codeAt (putCode heap i c) i ≡ c
+  unfolding codeAt putCode marked
+  code-put =
+      same-numbers _ _
+      (put16-low _ (i + 4) (c .stands) i (omega arith)
+      ∙ put16-low _ (i + 2) (c .at) i (omega arith)
+      ∙ set-low (set heap i (c .form)) (i + 1) i (c .depth) (omega arith)
+      ∙ getD-set-same heap i (c .form) 0 (omega arith))
+      (put16-low _ (i + 4) (c .stands) (i + 1) (omega arith)
+      ∙ put16-low _ (i + 2) (c .at) (i + 1) (omega arith)
+      ∙ getD-set-same (set heap i (c .form)) (i + 1) (c .depth) 0 (simp length-set (omega arith)))
+      (get16-same _ (put16 marked (i + 2) (c .at)) (i + 2) (λ j h. put16-low _ (i + 4) (c .stands) j (omega arith))
+      ∙ get16-put16 marked (i + 2) (c .at) (omega (arith, length-marked)) (F .at))
+      (get16-put16 (put16 marked (i + 2) (c .at)) (i + 4) (c .stands) (simp length-put16 (omega (arith, length-marked))) (F .stands))
+
+----------------------------------------------------------------
+-- A node that is put
+
+pub length-node : (heap : List ℕ) (n : ℕ) (left right : Code) (count : ℕ) → length (putNode heap n left right count) ≡ length heap
+unfolding putNode
+length-node heap n left right count = simp (length-put16, length-code)
+
+module _ (heap : List ℕ) (n : ℕ) (left right : Code) (count : ℕ) where
+  placed : List ℕ
+  placed = putCode heap (nodeBytes * n) left
+
+  length-placed : length placed ≡ length heap
+  unfolding placed
+  length-placed = length-code heap (nodeBytes * n) left
+
+  node-low : (j : ℕ) → j < nodeBytes * n → getD (putNode heap n left right count) j 0 ≡ getD heap j 0
+  unfolding putNode placed
+  node-low j h =
+      put16-low (putCode placed (nodeBytes * n + 6) right) (nodeBytes * n + 12) count j (omega arith)
+      ∙ code-low placed (nodeBytes * n + 6) right j (omega arith)
+      ∙ code-low heap (nodeBytes * n) left j h
+
+  module _ (room : Room heap (n + 1)) where
+    left-put : Fitting left → leftAt (putNode heap n left right count) n ≡ left
+    unfolding leftAt putNode placed
+    left-put F =
+        code-same (putNode heap n left right count) placed (nodeBytes * n)
+        (λ j h. put16-low (putCode placed (nodeBytes * n + 6) right) (nodeBytes * n + 12) count j (omega arith) ∙ code-low placed (nodeBytes * n + 6) right j (omega arith))
+        ∙ code-put heap (nodeBytes * n) left F (omega arith)
+
+    right-put : Fitting right → rightAt (putNode heap n left right count) n ≡ right
+    unfolding rightAt putNode placed
+    right-put F =
+        code-same (putNode heap n left right count) (putCode placed (nodeBytes * n + 6) right) (nodeBytes * n + 6)
+        (λ j h. put16-low (putCode placed (nodeBytes * n + 6) right) (nodeBytes * n + 12) count j (omega arith))
+        ∙ code-put placed (nodeBytes * n + 6) right F (omega (arith, length-placed))
+
+    count-put : count < 65536 → countAt (putNode heap n left right count) n ≡ count
+    unfolding countAt putNode placed
+    count-put small =
+        get16-put16 (putCode placed (nodeBytes * n + 6) right) (nodeBytes * n + 12) count
+        (omega (arith, length-code placed (nodeBytes * n + 6) right, length-placed)) small
+
+pub agree-put : (heap : List ℕ) (n : ℕ) (left right : Code) (count : ℕ) → Agree n heap (putNode heap n left right count)
+agree-put heap n left right count =
+    record { same = λ j h. sym (node-low heap n left right count j h); lengths = sym (length-node heap n left right count) }
+
+----------------------------------------------------------------
+-- Heaps that agree
+
+pub agree-refl : (top : ℕ) (heap : List ℕ) → Agree top heap heap
+agree-refl top heap = record { same = λ i h. refl; lengths = refl }
+
+pub agree-trans : {top : ℕ} {heap heap′ heap″ : List ℕ} → Agree top heap heap′ → Agree top heap′ heap″ → Agree top heap heap″
+agree-trans p q = record { same = λ i h. p .same i h ∙ q .same i h; lengths = p .lengths ∙ q .lengths }
+
+pub agree-down : {top : ℕ} (low : ℕ) {heap heap′ : List ℕ} → low ≤ top → Agree top heap heap′ → Agree low heap heap′
+agree-down low le p = record { same = λ i h. p .same i (omega arith); lengths = p .lengths }
+
+module _ {top : ℕ} {heap heap′ : List ℕ} (A : Agree top heap heap′) (k : ℕ) (l : k < top) where
+  agree-left : leftAt heap k ≡ leftAt heap′ k
+  unfolding leftAt
+  agree-left = code-same heap heap′ (nodeBytes * k) λ j h. A .same j (omega arith)
+
+  agree-right : rightAt heap k ≡ rightAt heap′ k
+  unfolding rightAt
+  agree-right = code-same heap heap′ (nodeBytes * k + 6) λ j h. A .same j (omega arith)
+
+  agree-count : countAt heap k ≡ countAt heap′ k
+  unfolding countAt
+  agree-count = get16-same heap heap′ (nodeBytes * k + 12) λ j h. A .same j (omega arith)
+
+module _ {ys : List TypeEntry} {n : ℕ} {heap heap′ : List ℕ} {top : ℕ} (P : Products ys n heap top) (A : Agree top heap heap′) where
+  within-kept : (d k : ℕ) → k < top → productWithin d ys heap k ≡ productWithin d ys heap′ k
+  unfolding productWithin
+  within-kept zero k l = refl
+  within-kept (suc d) k l =
+      ap₂ prod
+      (code-agrees ys _ _ (P .node k l .left) (λ j h. within-kept d j (omega arith)) ∙ ap (ofCode ys (productWithin d ys heap′)) (agree-left A k l))
+      (code-agrees ys _ _ (P .node k l .right) (λ j h. within-kept d j (omega arith)) ∙ ap (ofCode ys (productWithin d ys heap′)) (agree-right A k l))
+
+  product-kept : (k : ℕ) → k < top → productAt ys heap k ≡ productAt ys heap′ k
+  unfolding productAt
+  product-kept k l = within-kept (suc k) k l
+
+  -- older codes keep their trees
+  pub tree-kept : {c : Code} → Known n top c → treeOf ys heap c ≡ treeOf ys heap′ c
+  unfolding treeOf
+  tree-kept K = code-agrees ys _ _ K product-kept
+
+  right-kept : (k : ℕ) → k < top → Right ys n heap′ k
+  right-kept k l =
+      let N = P .node k l in
+      record {
+        left = subst (Known n k) (agree-left A k l) (N .left);
+        right = subst (Known n k) (agree-right A k l) (N .right);
+        count = sym (agree-count A k l) ∙ N .count ∙ ap nodes (product-kept k l);
+        small = subst (λ m. m ≤ maxNodes) (agree-count A k l) (N .small);
+      }
+
+  pub products-kept : Products ys n heap′ top
+  products-kept = record { held = omega (arith, P .held, A .lengths); node = right-kept }
+
+pub sources-kept : {xs types heap heap′ : List ℕ} {top : ℕ} → Sources xs types heap top → Agree top heap heap′ → Sources xs types heap′ top
+sources-kept S A = record { entries = S .entries; products = products-kept (S .products) A }
+
+----------------------------------------------------------------
+-- The product of two types
+
+module _ {xs types heap : List ℕ} {top : ℕ} (S : Sources xs types heap top) {left right : Code} (K : Known (length types) top left) (K′ : Known (length types) top right) where
+  abbrev a : Ty
+  a = treeIn xs types heap left
+
+  abbrev b : Ty
+  b = treeIn xs types heap right
+
+  -- counted from 1 on, left then right
+  module _ {n m : ℕ} (e : n ≡ min ceiling (1 + nodes a)) (e′ : m ≡ min ceiling (n + nodes b)) where
+    both-counted : m ≡ min ceiling (nodes (prod a b))
+    unfolding nodes ceiling maxNodes
+    both-counted = omega arith
+
+    pub made-old : 1024 < m → Made xs types heap heap top left right false
+    unfolding ceiling maxNodes
+    made-old h = record {
+      answer = sym (lt-leb (nodes (prod a b)) maxNodes (omega (arith, both-counted)));
+      new = λ e. absurd (false≢true e);
+      old = λ e. refl;
+    }
+
+    module _ (room : Room heap (top + 1)) (F : Fitting left) (F′ : Fitting right) (h : m ≤ 1024) where
+      new : List ℕ
+      new = putNode heap top left right m
+
+      exact : m ≡ nodes (prod a b)
+      unfolding ceiling maxNodes
+      exact = omega (arith, both-counted)
+
+      agree : Agree top heap new
+      unfolding new
+      agree = agree-put heap top left right m
+
+      -- an older code under the new node
+      part-kept : {c : Code} → Known (length types) top c → ofCode (map (typeAt xs) types) (productWithin top (map (typeAt xs) types) new) c ≡ treeIn xs types heap c
+      unfolding treeOf productAt
+      part-kept K = code-agrees (map (typeAt xs) types) _ _ K λ k l.
+          sym (within-kept (S .products) agree top k l) ∙ enough (S .products) top (suc k) k l l (omega arith)
+
+      new-tree : productAt (map (typeAt xs) types) new top ≡ prod a b
+      unfolding productAt productWithin new
+      new-tree =
+          ap₂ prod
+          (ap (ofCode (map (typeAt xs) types) (productWithin top (map (typeAt xs) types) new)) (left-put heap top left right m room F) ∙ part-kept K)
+          (ap (ofCode (map (typeAt xs) types) (productWithin top (map (typeAt xs) types) new)) (right-put heap top left right m room F′) ∙ part-kept K′)
+
+      count-is : countAt new top ≡ m
+      unfolding new
+      count-is = count-put heap top left right m room (omega arith)
+
+      new-right : Right (map (typeAt xs) types) (length types) new top
+      unfolding new maxNodes
+      new-right = record {
+        left = subst (Known (length types) top) (sym (left-put heap top left right m room F)) K;
+        right = subst (Known (length types) top) (sym (right-put heap top left right m room F′)) K′;
+        count = count-is ∙ exact ∙ ap nodes (sym new-tree);
+        small = omega (arith, count-is);
+      }
+
+      grown : Grown xs types heap new top (prod a b)
+      unfolding new
+      grown = record {
+        sources = record {
+          entries = S .entries;
+          products = record {
+            held = omega (arith, room, length-node heap top left right m);
+            node = λ k l. ⊎-elim
+                (λ e. subst (Right (map (typeAt xs) types) (length types) new) (sym e) new-right)
+                (λ lt. right-kept (S .products) agree k lt)
+                (at-or-below k (omega arith));
+          };
+        };
+        agree = agree;
+        tree = tree-product (map (typeAt xs) types) new (productCode top) refl ∙ new-tree;
+      }
+        where
+          at-or-below : (k : ℕ) → k ≤ top → (k ≡ top) ⊎ (k < top)
+          at-or-below k le = eq-or-lt-of-le le
+
+      pub made-new : {heap′ : List ℕ} → heap′ ≡ putNode heap top left right m → Made xs types heap heap′ top left right true
+      unfolding new maxNodes
+      made-new q = rw q (record {
+        answer = sym (le-leb (nodes (prod a b)) maxNodes (omega (arith, exact)));
+        new = λ e. grown;
+        old = λ e. absurd (false≢true (sym e));
+      })

@@ -1,0 +1,100 @@
+-- Laws of unfolding: which body an entry has by the kind in its field, and that it is of the unfolded type.
+use Prim.Native.Nat.{ℕ, zero, suc, _<_}
+use native.Mathlib.Omega.{arith}
+use mathlib.Core.Path.{_≡_, refl, sym, ap, subst, _∙_}
+use mathlib.Core.Bool.{true}
+use mathlib.Core.List.{List, [], map}
+use lib.ListN.{length, getD}
+use package.Rattle.rules.specs.Ty.{Ty, plug, unfoldTy}
+use package.Rattle.rules.specs.Check.{Site, Checked, bad, asMu}
+use package.Rattle.calls.specs.Fields.{kindAt}
+use package.Rattle.calls.specs.Entries.{TypeEntry, y-unit, y-prod, y-sum, y-mu, y-var, typeAt, typeTree, typeOf}
+use package.Rattle.calls.specs.Named.{below, typesOfType}
+use package.Rattle.calls.proofs.Entries.{below-head}
+use package.Rattle.program.specs.Parts.{first}
+use package.Rattle.program.proofs.Shapes.{type-unit, type-prod, type-sum, type-mu, type-var}
+use package.Rattle.types.specs.declared.codes.Code.{Code}
+use package.Rattle.types.specs.declared.unfolding.Body.{Body}
+use package.Rattle.types.specs.declared.unfolding.Body.the-variants.{Of, Other}
+use package.Rattle.types.specs.Codes.{entryCode, underCode, treeIn, Sources}
+use package.Rattle.types.specs.Unfolding.{bodyOf, Unfolds}
+use package.Rattle.types.proofs.Trees.{tree-entry, tree-under}
+use package.Rattle.types.proofs.Outer.{under-known, lower-entry, entry-unfolds}
+
+----------------------------------------------------------------
+-- By the kind in the entry's field at `at`, which stands in place `n` of the offsets
+
+module _ (xs types : List ℕ) (i : ℕ) {n at kind : ℕ} (e : n ≡ i) (f : at ≡ getD types n 0) (g : kind ≡ kindAt xs at) where
+  found : {r : Body} → r ≡ bodyOf (typeAt xs at) i → r ≡ bodyOf (typeAt xs (getD types i 0)) i
+  found p = p ∙ ap (λ at. bodyOf (typeAt xs at) i) (f ∙ ap (λ n. getD types n 0) e)
+
+  pub no-body : ¬ (kind ≡ 3) → Other ≡ bodyOf (typeAt xs (getD types i 0)) i
+  unfolding bodyOf
+  no-body d = found (by kind (sym g) d)
+    where
+      by : (k : ℕ) → kindAt xs at ≡ k → ¬ (k ≡ 3) → Other ≡ bodyOf (typeAt xs at) i
+      by zero q d = rw (type-unit xs at q) refl
+      by (suc zero) q d = rw (type-prod xs at q) refl
+      by (suc (suc zero)) q d = rw (type-sum xs at q) refl
+      by (suc (suc (suc zero))) q d = absurd (d refl)
+      by (suc (suc (suc (suc k)))) q d = rw (type-var xs at (omega arith)) refl
+
+  pub a-body : {c : Code} {x : ℕ} → kind ≡ 3 → x ≡ first xs at → c ≡ underCode x i → Of c ≡ bodyOf (typeAt xs (getD types i 0)) i
+  unfolding bodyOf
+  a-body k q p = found (ap Of (p ∙ ap (λ x. underCode x i) q) ∙ rw (type-mu xs at (sym g ∙ k)))
+
+----------------------------------------------------------------
+-- What the body is
+
+of-other : {c : Code} → Of c ≡ Other → ⊥
+of-other p = let z : _≡_ {A = ℕ} 0 1 = cc in omega arith
+
+of-inj : {c d : Code} → Of c ≡ Of d → c ≡ d
+of-inj p = cc
+
+module _ {xs types heap : List ℕ} {top : ℕ} (S : Sources xs types heap top) (i : ℕ) (l : i < length types) where
+  whole-tree : (y : TypeEntry) → typeAt xs (getD types i 0) ≡ y → treeIn xs types heap (entryCode i) ≡ typeTree (typeOf (map (typeAt xs) types)) y
+  whole-tree y e =
+      tree-entry (map (typeAt xs) types) heap (entryCode i) refl ∙ sym (entry-unfolds S i l) ∙ ap (typeTree (typeOf (map (typeAt xs) types))) e
+
+  mu-unfolds : (a : ℕ) → typeAt xs (getD types i 0) ≡ y-mu a → Unfolds xs types heap top i (underCode a i)
+  unfolding typeTree typesOfType unfoldTy
+  mu-unfolds a e =
+      let h = below-head i a [] (subst (λ y. below i (typesOfType y) ≡ true) e (lower-entry S i l)) .0 in
+      record {
+        body = typeOf (map (typeAt xs) types) a;
+        whole = whole-tree (y-mu a) e;
+        tree = tree-under (map (typeAt xs) types) heap (underCode a i) refl
+            ∙ ap (λ t. plug t 0 (typeOf (map (typeAt xs) types) a)) (sym (tree-entry (map (typeAt xs) types) heap (entryCode i) refl) ∙ whole-tree (y-mu a) e);
+        known = under-known a i h l;
+      }
+
+  pub unfolds : {c : Code} → Of c ≡ bodyOf (typeAt xs (getD types i 0)) i → Unfolds xs types heap top i c
+  unfolding bodyOf
+  unfolds {c} p = by (typeAt xs (getD types i 0)) refl p
+    where
+      by : (y : TypeEntry) → typeAt xs (getD types i 0) ≡ y → Of c ≡ bodyOf y i → Unfolds xs types heap top i c
+      by y-unit e p = absurd (of-other p)
+      by (y-prod a b) e p = absurd (of-other p)
+      by (y-sum a b) e p = absurd (of-other p)
+      by (y-mu a) e p = subst (Unfolds xs types heap top i) (sym (of-inj p)) (mu-unfolds a e)
+      by (y-var k) e p = absurd (of-other p)
+
+  ----------------------------------------------------------------
+  -- For the typing of roll and unroll (rules/specs/Check)
+
+  module _ {A : Type 0} (at : Site) (f : Ty → Checked A) where
+    pub not-recursive : Other ≡ bodyOf (typeAt xs (getD types i 0)) i → asMu at (treeIn xs types heap (entryCode i)) f ≡ bad 6 at
+    unfolding bodyOf asMu typeTree
+    not-recursive p = by (typeAt xs (getD types i 0)) refl p
+      where
+        by : (y : TypeEntry) → typeAt xs (getD types i 0) ≡ y → Other ≡ bodyOf y i → asMu at (treeIn xs types heap (entryCode i)) f ≡ bad 6 at
+        by y-unit e p = rw (whole-tree y-unit e)
+        by (y-prod a b) e p = rw (whole-tree (y-prod a b) e)
+        by (y-sum a b) e p = rw (whole-tree (y-sum a b) e)
+        by (y-mu a) e p = absurd (of-other (sym p))
+        by (y-var k) e p = rw (whole-tree (y-var k) e)
+
+    pub recursive : {c : Code} (U : Unfolds xs types heap top i c) → asMu at (treeIn xs types heap (entryCode i)) f ≡ f (U .body)
+    unfolding asMu
+    recursive U = rw (U .whole)

@@ -1,0 +1,126 @@
+use native.Mathlib.Omega.{arith}
+use borrow.Author.Needs.{needs}
+use Rattle.rules.specs.Ty.{nodes}
+use Rattle.types.specs.Codes.{treeIn}
+use Rattle.types.proofs.Outer.{product-there}
+use Rattle.types.proofs.Equal.{below-four, two-parts, less-first, less-second}
+use Rattle.types.proofs.Figures.{over, limited, below-ceiling, unit-counted, variable-counted, recursive-counted, two-counted, entry-counted, count-held, count-small, product-counted, kept-small}
+use Prim.Native.Nat.{ℕ, _<_}
+use borrow.Fn.Kinds.{In}
+use borrow.Fn.PlainCycle.{Measures, is, falls, and}
+use Rattle.types.proofs.counting.add_nodes.Reads as add-nodes
+use Rattle.types.proofs.counting.add_nodes.Kinds as add-nodes-kinds
+use Rattle.types.proofs.counting.+add_nodes.Lts-add_nodes as add-nodes-lts
+use Rattle.octets.proofs.wide_index.Reads as wide-index-reads
+use Rattle.types.proofs.counting.capped.Reads as capped-reads
+use Rattle.types.proofs.nodes.count_of.Reads as count-of-reads
+use Rattle.types.proofs.shapes.shape_of.Reads as shape-of-reads
+use Rattle.types.proofs.counting.+add_nodes.{statement}
+use Rattle.types.proofs.counting.+add_nodes.Tie.{close}
+
+abbrev μ-add-nodes : Measures 4 add-nodes-kinds.ps ℕ
+μ-add-nodes κs a = nodes (treeIn (a .0 .now) (a .1 .0 .now) (a .1 .1 .1 .0 .now) (a .1 .1 .1 .1 .1 .0))
+
+abbrev add-nodes-at : ℕ → In 4 add-nodes-kinds.ps
+add-nodes-at t = and 4 add-nodes-kinds.ps (is 4 add-nodes-kinds.ps μ-add-nodes t) add-nodes.Pre
+
+abbrev add-nodes-below : ℕ → In 4 add-nodes-kinds.ps
+add-nodes-below t =
+    and 4 add-nodes-kinds.ps (falls 4 add-nodes-kinds.ps _<_ μ-add-nodes t) add-nodes.Pre
+
+abbrev add-nodes-uses : ℕ → add-nodes-lts.Claims
+add-nodes-uses t = (wide-index-reads.Asked, wide-index-reads.Learnt, capped-reads.Asked, capped-reads.Learnt, count-of-reads.Asked, count-of-reads.Learnt, shape-of-reads.Asked, shape-of-reads.Learnt, add-nodes-below t, add-nodes.Post)
+
+add-nodes-returns : (t : ℕ) → add-nodes-lts.Need-returns (add-nodes-uses t) (add-nodes-at t) add-nodes.Post
+add-nodes-returns t c = over (c .before .before .before .before .before .args .n) _ (c .before .before .before .before .before .pre .1 .1 .1 .1) (c .if1 .taken)
+
+add-nodes-wide-index-requires : (t : ℕ) → add-nodes-lts.Need-wide-index-requires (add-nodes-uses t) (add-nodes-at t) add-nodes.Post
+add-nodes-wide-index-requires t c κs = search needs
+
+add-nodes-mul-capped : (t : ℕ) → add-nodes-lts.Need-mul-capped (add-nodes-uses t) (add-nodes-at t) add-nodes.Post
+add-nodes-mul-capped t c = search needs
+
+add-nodes-shared-slice-read-capped : (t : ℕ) → add-nodes-lts.Need-shared-slice-read-capped (add-nodes-uses t) (add-nodes-at t) add-nodes.Post
+add-nodes-shared-slice-read-capped t c = let a = c .before .before .before .before .before .before .before .before in count-held (a .pre .1 .0) (a .args .c) (a .pre .1 .1 .0) (a .args .n) (a .pre .1 .1 .1 .0) (c .before .before .if2 .taken) (c .before .wide-index .ensures .0)
+
+add-nodes-add-capped : (t : ℕ) → add-nodes-lts.Need-add-capped (add-nodes-uses t) (add-nodes-at t) add-nodes.Post
+add-nodes-add-capped t c = let a = c .before .before .before .before .before .before .before .before in
+    omega (arith, c .before .before .before .if1 .left, count-small (a .pre .1 .0) (a .args .c) (a .pre .1 .1 .0) (a .args .n) (a .pre .1 .1 .1 .0) (c .before .before .if2 .taken) (c .before .wide-index .ensures .0))
+
+add-nodes-capped-requires : (t : ℕ) → add-nodes-lts.Need-capped-requires (add-nodes-uses t) (add-nodes-at t) add-nodes.Post
+add-nodes-capped-requires t c κs = search needs
+
+add-nodes-returns-2 : (t : ℕ) → add-nodes-lts.Need-returns-2 (add-nodes-uses t) (add-nodes-at t) add-nodes.Post
+add-nodes-returns-2 t c = let a = c .before .before .before .before .before .before .before .before .before in
+    entry-counted (a .pre .1 .0) (a .args .c) (a .pre .1 .1 .0) (a .args .n) (a .pre .1 .1 .1 .0) (c .before .before .before .if2 .taken) (c .before .before .wide-index .ensures .0) (c .capped .ensures)
+
+add-nodes-count-of-requires : (t : ℕ) → add-nodes-lts.Need-count-of-requires (add-nodes-uses t) (add-nodes-at t) add-nodes.Post
+add-nodes-count-of-requires t c κs = let a = c .before .before .before .before .before .before .before in product-there (a .pre .1 .0) (a .args .c) (a .pre .1 .1 .0) (c .if3 .taken)
+
+add-nodes-add-capped-2 : (t : ℕ) → add-nodes-lts.Need-add-capped-2 (add-nodes-uses t) (add-nodes-at t) add-nodes.Post
+add-nodes-add-capped-2 t c = let a = c .before .before .before .before .before .before .before .before in
+    omega (arith, c .before .before .before .if1 .left, kept-small (a .pre .1 .0) (a .args .c) (a .pre .1 .1 .0) (a .args .n) (c .before .if3 .taken) (c .count-of .ensures))
+
+add-nodes-capped-requires-2 : (t : ℕ) → add-nodes-lts.Need-capped-requires-2 (add-nodes-uses t) (add-nodes-at t) add-nodes.Post
+add-nodes-capped-requires-2 t c κs = search needs
+
+add-nodes-returns-3 : (t : ℕ) → add-nodes-lts.Need-returns-3 (add-nodes-uses t) (add-nodes-at t) add-nodes.Post
+add-nodes-returns-3 t c = let a = c .before .before .before .before .before .before .before .before .before in product-counted (a .pre .1 .0) (a .args .c) (a .pre .1 .1 .0) (a .args .n) (c .before .before .if3 .taken) (c .before .count-of .ensures) (c .capped2 .ensures)
+
+add-nodes-shape-of-requires : (t : ℕ) → add-nodes-lts.Need-shape-of-requires (add-nodes-uses t) (add-nodes-at t) add-nodes.Post
+add-nodes-shape-of-requires t c κs = let a = c .before .before .before .before .before .before .before .pre .1 in (a .0, a .1 .0)
+
+add-nodes-add-result : (t : ℕ) → add-nodes-lts.Need-add-result (add-nodes-uses t) (add-nodes-at t) add-nodes.Post
+add-nodes-add-result t c = omega (arith, c .before .before .before .before .if1 .left)
+
+add-nodes-returns-4 : (t : ℕ) → add-nodes-lts.Need-returns-4 (add-nodes-uses t) (add-nodes-at t) add-nodes.Post
+add-nodes-returns-4 t c = unit-counted (c .before .shape-of .ensures) (c .before .before .before .before .before .before .before .before .before .args .n) (c .if4 .taken) (c .before .before .before .before .if1 .left)
+
+add-nodes-add-result-2 : (t : ℕ) → add-nodes-lts.Need-add-result-2 (add-nodes-uses t) (add-nodes-at t) add-nodes.Post
+add-nodes-add-result-2 t c = omega (arith, c .before .before .before .before .before .if1 .left)
+
+add-nodes-returns-5 : (t : ℕ) → add-nodes-lts.Need-returns-5 (add-nodes-uses t) (add-nodes-at t) add-nodes.Post
+add-nodes-returns-5 t c = variable-counted (c .before .before .shape-of .ensures) (c .before .before .before .before .before .before .before .before .before .before .args .n) (c .if5 .taken) (c .before .before .before .before .before .if1 .left)
+
+add-nodes-add-add-nodes : (t : ℕ) → add-nodes-lts.Need-add-add-nodes (add-nodes-uses t) (add-nodes-at t) add-nodes.Post
+add-nodes-add-add-nodes t c = omega (arith, c .before .before .before .before .before .if1 .left)
+
+add-nodes-add-nodes-requires : (t : ℕ) → add-nodes-lts.Need-add-nodes-requires (add-nodes-uses t) (add-nodes-at t) add-nodes.Post
+add-nodes-add-nodes-requires t c κs = let a = c .before .before .before .before .before .before .before .before .before .before .pre in
+    (omega (arith, a .0, less-first (c .before .before .shape-of .ensures) (c .before .if4 .left) (below-four (c .before .before .shape-of .ensures) (c .if5 .left))), (a .1 .0, (c .before .before .shape-of .ensures .first, (a .1 .1 .1 .0, limited (c .before .before .before .before .before .before .before .before .before .before .args .n) (c .before .before .before .before .before .if1 .left)))))
+
+add-nodes-returns-6 : (t : ℕ) → add-nodes-lts.Need-returns-6 (add-nodes-uses t) (add-nodes-at t) add-nodes.Post
+add-nodes-returns-6 t c = recursive-counted (c .before .before .before .before .shape-of .ensures) (c .before .before .before .before .before .before .before .before .before .before .before .before .args .n) (c .before .add-nodes .ensures) (c .if6 .taken)
+
+add-nodes-add-nodes-requires-2 : (t : ℕ) → add-nodes-lts.Need-add-nodes-requires-2 (add-nodes-uses t) (add-nodes-at t) add-nodes.Post
+add-nodes-add-nodes-requires-2 t c κs = let a = c .before .before .before .before .before .before .before .before .before .before .before .before .pre in
+    (omega (arith, a .0, less-second (c .before .before .before .before .shape-of .ensures) (c .before .before .before .if4 .left) (two-parts (c .before .before .before .before .shape-of .ensures) (c .before .before .if5 .left) (c .if6 .left))), (a .1 .0, (c .before .before .before .before .shape-of .ensures .second, (a .1 .1 .1 .0, below-ceiling _ (c .before .add-nodes .ensures)))))
+
+add-nodes-returns-7 : (t : ℕ) → add-nodes-lts.Need-returns-7 (add-nodes-uses t) (add-nodes-at t) add-nodes.Post
+add-nodes-returns-7 t c = two-counted (c .before .before .before .before .before .shape-of .ensures) (c .before .before .before .before .before .before .before .before .before .before .before .before .before .args .n) (c .before .before .add-nodes .ensures) (c .before .before .before .before .if4 .left) (two-parts (c .before .before .before .before .before .shape-of .ensures) (c .before .before .before .if5 .left) (c .before .if6 .left)) (c .add-nodes2 .ensures)
+
+pub +add-nodes-spec : {M : Type 1} → statement M
++add-nodes-spec = close μ-add-nodes λ t. add-nodes-lts.spec (add-nodes-uses t)
+    (add-nodes-at t)
+    add-nodes.Post
+    (add-nodes-returns t)
+    (add-nodes-wide-index-requires t)
+    (add-nodes-mul-capped t)
+    (add-nodes-shared-slice-read-capped t)
+    (add-nodes-add-capped t)
+    (add-nodes-capped-requires t)
+    (add-nodes-returns-2 t)
+    (add-nodes-count-of-requires t)
+    (add-nodes-add-capped-2 t)
+    (add-nodes-capped-requires-2 t)
+    (add-nodes-returns-3 t)
+    (add-nodes-shape-of-requires t)
+    (add-nodes-add-result t)
+    (add-nodes-returns-4 t)
+    (add-nodes-add-result-2 t)
+    (add-nodes-returns-5 t)
+    (add-nodes-add-add-nodes t)
+    (add-nodes-add-nodes-requires t)
+    (add-nodes-returns-6 t)
+    (add-nodes-add-nodes-requires-2 t)
+    (add-nodes-returns-7 t)

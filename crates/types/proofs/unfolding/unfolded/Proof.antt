@@ -1,0 +1,46 @@
+use Rattle.types.proofs.Outer.{kind-there, mu-there}
+use Rattle.types.proofs.Unfold.{no-body, a-body}
+use borrow.Author.Needs.{needs}
+use Rattle.types.proofs.unfolding.unfolded.Statement.{statement}
+use Rattle.types.proofs.unfolding.unfolded.Tie as tie
+
+wide-index-requires : tie.Need-wide-index-requires
+wide-index-requires c κs = search needs
+
+mul-wide-index : tie.Need-mul-wide-index
+mul-wide-index c = search needs
+
+shared-slice-read-wide-index : tie.Need-shared-slice-read-wide-index
+shared-slice-read-wide-index c = search needs
+
+wide-index-requires-2 : tie.Need-wide-index-requires-2
+wide-index-requires-2 c κs = search needs
+
+kind-requires : tie.Need-kind-requires
+kind-requires c κs = let a = c .before .before .before .before .before in kind-there (a .pre .0) (a .pre .1) (c .before .before .wide-index .ensures .0) (c .wide-index2 .ensures .0)
+
+returns : tie.Need-returns
+returns c = let a = c .before .before .before .before .before .before .before .args in no-body (a .p .now) (a .types .now) (a .i) (c .before .before .before .before .wide-index .ensures .0) (c .before .before .wide-index2 .ensures .0) (c .before .kind .ensures) (c .if1 .taken)
+
+first-requires : tie.Need-first-requires
+first-requires c κs = let a = c .before .before .before .before .before .before .before in mu-there (a .pre .0) (a .pre .1) (c .before .before .before .before .wide-index .ensures .0) (c .before .before .wide-index2 .ensures .0) (c .before .kind .ensures) (c .if1 .left)
+
+under-requires : tie.Need-under-requires
+under-requires c κs = search needs
+
+returns-2 : tie.Need-returns-2
+returns-2 c = let a = c .before .before .before .before .before .before .before .before .before .args in a-body (a .p .now) (a .types .now) (a .i) (c .before .before .before .before .before .before .wide-index .ensures .0) (c .before .before .before .before .wide-index2 .ensures .0) (c .before .before .before .kind .ensures) (c .before .before .if1 .left) (c .before .first .ensures) (c .under .ensures)
+
+pub unfolded-spec : {M : Type 1} → statement M
+unfolded-spec =
+    tie.close
+    (tie.spec
+    wide-index-requires
+    mul-wide-index
+    shared-slice-read-wide-index
+    wide-index-requires-2
+    kind-requires
+    returns
+    first-requires
+    under-requires
+    returns-2)

@@ -1,0 +1,88 @@
+// How many nodes a type has as a tree, as far as the limit of section 1 lets matter: counting stops one above it. Type entries are
+// counted already, and products keep their count, so that only an unfolded type is walked.
+ghost use mathlib.Core.Path.{_≡_};
+ghost use Prim.Native.Nat.{_+_, _≤_, min};
+ghost use lib.ListN.{length};
+ghost use lib.Dec.{leb};
+ghost use Rattle.rules.specs.Limits.{maxNodes};
+ghost use Rattle.rules.specs.Ty.{nodes};
+ghost use Rattle.calls.specs.Named.{ceiling};
+ghost use Rattle.types.specs.Codes.{treeIn, Sources, Known};
+ghost use Rattle.types.specs.Counts.{Counted};
+use crate::codes::Code;
+use crate::nodes;
+use crate::shapes;
+
+// Section 1's limit on the nodes of a type.
+pub const MAX_NODES: u16 = 1024;
+
+fn capped(n: u16) -> u16
+    ensures { λ r. ⌜ r ≡ min ceiling n ⌝ }
+{
+    if MAX_NODES < n {
+        return MAX_NODES + 1;
+    }
+    n
+}
+
+// `n` and the nodes of the type.
+pub fn add_nodes(
+    p: &[u8],
+    types: &[u16],
+    counts: &[u16],
+    ws: &[u8],
+    top: u16,
+    c: Code,
+    n: u16,
+) -> u16
+    requires { ⌜ Sources (now p) (now types) (now ws) top ⌝ }
+    requires { ⌜ Known (length (now types)) top c ⌝ }
+    requires { ⌜ Counted (now p) (now types) (now counts) ⌝ }
+    requires { ⌜ n ≤ ceiling ⌝ }
+    ensures { λ r. ⌜ r ≡ min ceiling (n + nodes (treeIn (now (p .entry)) (now (types .entry)) (now (ws .entry)) c)) ⌝ }
+{
+    if MAX_NODES < n {
+        return n;
+    }
+    let form = c.form;
+    if form == 1 {
+        let i = octets::wide_index(c.at);
+        return capped(n + counts[i]);
+    }
+    if form == 3 {
+        return capped(n + nodes::count_of(ws, c.at));
+    }
+    let s = shapes::shape_of(p, types, ws, top, c);
+    let kind = s.kind;
+    if kind == 0 {
+        return n + 1;
+    }
+    if kind == 4 {
+        return n + 1;
+    }
+    let m = add_nodes(p, types, counts, ws, top, s.first, n + 1);
+    if kind == 3 {
+        return m;
+    }
+    add_nodes(p, types, counts, ws, top, s.second, m)
+}
+
+// How many nodes the type has.
+pub fn node_count(p: &[u8], types: &[u16], counts: &[u16], ws: &[u8], top: u16, c: Code) -> u16
+    requires { ⌜ Sources (now p) (now types) (now ws) top ⌝ }
+    requires { ⌜ Known (length (now types)) top c ⌝ }
+    requires { ⌜ Counted (now p) (now types) (now counts) ⌝ }
+    ensures { λ r. ⌜ r ≡ min ceiling (nodes (treeIn (now (p .entry)) (now (types .entry)) (now (ws .entry)) c)) ⌝ }
+{
+    add_nodes(p, types, counts, ws, top, c, 0)
+}
+
+// Has the type as few nodes as section 1 allows?
+pub fn within_limit(p: &[u8], types: &[u16], counts: &[u16], ws: &[u8], top: u16, c: Code) -> bool
+    requires { ⌜ Sources (now p) (now types) (now ws) top ⌝ }
+    requires { ⌜ Known (length (now types)) top c ⌝ }
+    requires { ⌜ Counted (now p) (now types) (now counts) ⌝ }
+    ensures { λ r. ⌜ r ≡ leb (nodes (treeIn (now (p .entry)) (now (types .entry)) (now (ws .entry)) c)) maxNodes ⌝ }
+{
+    node_count(p, types, counts, ws, top, c) <= MAX_NODES
+}

@@ -1,0 +1,29 @@
+// What a recursive type entry unfolds to (section 3; T-ROLL and T-UNROLL).
+ghost use mathlib.Core.Path.{_≡_};
+ghost use Prim.Native.Nat.{_<_};
+ghost use lib.ListN.{length, getD};
+ghost use Rattle.calls.specs.Entries.{typeAt};
+ghost use Rattle.types.specs.Codes.{Readable};
+ghost use Rattle.types.specs.Unfolding.{bodyOf};
+use crate::codes;
+use crate::codes::Code;
+
+// The unfolded type, if the entry is recursive.
+pub enum Body {
+    Of(Code),
+    Other,
+}
+
+pub fn unfolded(p: &[u8], types: &[u16], i: u16) -> Body
+    requires { ⌜ Readable (now p) (now types) ⌝ }
+    requires { ⌜ i < length (now types) ⌝ }
+    ensures { λ r. ⌜ r ≡ bodyOf (typeAt (now (p .entry)) (getD (now (types .entry)) i 0)) i ⌝ }
+{
+    let n = octets::wide_index(i);
+    let at = octets::wide_index(types[n]);
+    let kind = program::views::kind(p, at);
+    if kind != 3 {
+        return Body::Other;
+    }
+    Body::Of(codes::under(program::views::first(p, at), i))
+}
