@@ -19,3 +19,15 @@ pub mod Turns
 pub mod Figures
 -- the table of signatures: its rows, and how they are stored
 pub mod Rows
+-- testing the type entries
+pub mod Types
+-- verdicts on one entry after another
+pub mod Verdicts
+-- testing the term entries
+pub mod Terms
+-- testing the function entries
+pub mod Functions
+-- terms that nothing uses
+pub mod Unused
+-- all tests on entries
+pub mod Whole

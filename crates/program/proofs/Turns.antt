@@ -63,7 +63,7 @@ module _ (xs : List ℕ) (from limit : ℕ) where
 -- Plain types
 
 module _ (nodes free : List ℕ) where
-  plain-append : (is js : List ℕ) → allPlainIn nodes free (is ++ js) ≡ (allPlainIn nodes free is && allPlainIn nodes free js)
+  pub plain-append : (is js : List ℕ) → allPlainIn nodes free (is ++ js) ≡ (allPlainIn nodes free is && allPlainIn nodes free js)
   unfolding allPlainIn
   plain-append [] js = refl
   plain-append (i ∷ is) js = ap (λ b. plainIn nodes free i && b) (plain-append is js) ∙ sym (and-assoc (plainIn nodes free i) (allPlainIn nodes free is) (allPlainIn nodes free js))

@@ -9,3 +9,5 @@ pub mod Lists
 pub mod Marks
 -- the parameters of a function as a row of a table
 pub mod Signatures
+-- what the tests on entries answer
+pub mod Tested

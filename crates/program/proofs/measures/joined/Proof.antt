@@ -2,8 +2,8 @@ use native.Mathlib.Omega.{arith}
 use Rattle.rules.specs.Limits.{maxNodes}
 use Rattle.calls.specs.Named.{ceiling}
 use borrow.Author.Needs.{needs}
-use Rattle.program.proofs.entries.joined.Statement.{statement}
-use Rattle.program.proofs.entries.joined.Tie as tie
+use Rattle.program.proofs.measures.joined.Statement.{statement}
+use Rattle.program.proofs.measures.joined.Tie as tie
 
 wide32-requires : tie.Need-wide32-requires
 wide32-requires c κs = search needs

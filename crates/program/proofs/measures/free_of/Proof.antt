@@ -4,8 +4,8 @@ use borrow.Author.Needs.{needs}
 use Rattle.program.proofs.Rooms.{mu-room}
 use Rattle.program.proofs.Figures.{pair-room, variable-room, pair-below, one-below, free-unit, free-pair, free-one, free-variable}
 use borrow.Author.Needs.{needs}
-use Rattle.program.proofs.entries.free_of.Statement.{statement}
-use Rattle.program.proofs.entries.free_of.Tie as tie
+use Rattle.program.proofs.measures.free_of.Statement.{statement}
+use Rattle.program.proofs.measures.free_of.Tie as tie
 
 type-kind-requires : tie.Need-type-kind-requires
 type-kind-requires c κs = search needs

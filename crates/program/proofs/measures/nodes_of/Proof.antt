@@ -4,8 +4,8 @@ use borrow.Author.Needs.{needs}
 use Rattle.program.proofs.Rooms.{mu-room}
 use Rattle.program.proofs.Figures.{pair-room, pair-below, one-below, nodes-pair, nodes-one, nodes-unit, nodes-variable}
 use borrow.Author.Needs.{needs}
-use Rattle.program.proofs.entries.nodes_of.Statement.{statement}
-use Rattle.program.proofs.entries.nodes_of.Tie as tie
+use Rattle.program.proofs.measures.nodes_of.Statement.{statement}
+use Rattle.program.proofs.measures.nodes_of.Tie as tie
 
 type-kind-requires : tie.Need-type-kind-requires
 type-kind-requires c κs = search needs
