@@ -3,16 +3,15 @@ use Prim.Native.Nat.{ℕ, zero, suc, _+_, _-_, _≤_, _<_}
 use native.Mathlib.Omega.{arith}
 use native.Mathlib.Numerals.{add-one}
 use mathlib.Core.Path.{_≡_, refl, sym, ap, _∙_}
-use mathlib.Core.Bool.{Bool, true, false}
+use mathlib.Core.Bool.{true, false}
 use mathlib.Core.Option.{Option, none, some}
-use mathlib.Core.List.{List, [], _∷_, _++_}
+use mathlib.Core.List.{List, [], _∷_}
 use lib.ListN.{length, getD, drop, drop-of-length-le}
 use lib.Seq.{drop-cons}
 use lib.Dec.{leb}
 use borrow.Author.Tests.{le-leb, lt-leb}
 use package.Rattle.rules.specs.Limits.{maxValueBytes, fits}
-use package.Rattle.rules.specs.Val.{Val, unit, inl, inr, pair, roll, size, encode}
-use package.Rattle.calls.specs.Values.{Read, got, malformed, then, read}
+use package.Rattle.calls.specs.Values.{Read, got, malformed}
 use package.Rattle.reading.specs.declared.scan.End.{End}
 use package.Rattle.reading.specs.declared.scan.End.the-variants as end
 use package.Rattle.reading.specs.Ends.{pending, firstOf, endOf}

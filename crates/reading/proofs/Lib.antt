@@ -7,3 +7,17 @@ pub mod Ends
 pub mod Whole
 -- values one after another
 pub mod Many
+-- closed types put for variables
+pub mod Plugs
+-- the types that cells stand for
+pub mod Scopes
+-- the trees of type entries, by kind
+pub mod Trees
+-- cells: what a variable names, cells that are kept, one cell more
+pub mod Cells
+-- a value taken apart, and its type
+pub mod Apart
+-- one step of the test of a value's type
+pub mod Steps
+-- the test as callers ask it
+pub mod Asked

@@ -2,23 +2,21 @@
 use Prim.Native.Nat.{ℕ, zero, suc, _+_, _-_, _≤_, _<_}
 use native.Mathlib.Omega.{arith}
 use mathlib.Core.Path.{_≡_, refl, sym, ap, _∙_}
-use mathlib.Core.Bool.{Bool, true, false}
 use mathlib.Core.Option.{Option, none, some}
-use mathlib.Core.List.{List, [], _∷_, _++_}
-use lib.ListN.{length, getD, drop, length-drop, drop-of-length-le}
+use mathlib.Core.List.{List, [], _∷_}
+use lib.ListN.{length, drop, length-drop, drop-of-length-le}
 use borrow.Author.Tests.{le-leb, lt-leb}
 use package.Rattle.rules.specs.Limits.{maxValueBytes, maxAncillaBytes, fits}
 use package.Rattle.rules.specs.Val.{Val, size}
 use package.Rattle.rules.proofs.Typing.Tests.{leb-yes}
 use package.Rattle.rules.proofs.Basics.{given}
-use package.Rattle.calls.specs.Values.{Read, got, malformed, read, consTo, readAll, ancillae}
+use package.Rattle.calls.specs.Values.{Read, got, malformed, consTo, readAll, ancillae}
 use package.Rattle.calls.proofs.Values.{read-sound, length-encode-append}
-use package.Rattle.reading.specs.declared.scan.End.{End}
 use package.Rattle.reading.specs.declared.scan.End.the-variants as end
 use package.Rattle.reading.specs.declared.scan.Counted.{Counted}
 use package.Rattle.reading.specs.declared.scan.Counted.the-variants as count
 use package.Rattle.reading.specs.Ends.{firstOf, endOf, counted}
-use package.Rattle.reading.proofs.Whole.{Ended, ended, unended, rest-is, end-within}
+use package.Rattle.reading.proofs.Whole.{ended, unended, rest-is}
 
 ----------------------------------------------------------------
 -- So many values more

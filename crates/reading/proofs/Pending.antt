@@ -3,11 +3,10 @@ use Prim.Native.Nat.{ℕ, zero, suc, _+_, _-_, _≤_, _<_}
 use native.Mathlib.Omega.{arith}
 use native.Mathlib.Nat.{le-refl}
 use mathlib.Core.Path.{_≡_, refl, sym, ap, _∙_}
-use mathlib.Core.Bool.{Bool, true, false}
 use mathlib.Core.Option.{Option, none, some}
-use mathlib.Core.List.{List, [], _∷_, _++_}
+use mathlib.Core.List.{List, [], _∷_}
 use lib.ListN.{length}
-use package.Rattle.rules.specs.Val.{Val, unit, inl, inr, pair, roll, size, encode}
+use package.Rattle.rules.specs.Val.{Val, inl, inr, pair, roll, size}
 use package.Rattle.rules.proofs.Basics.{none≢some, some-inj}
 use package.Rattle.calls.specs.Values.{Read, got, malformed, then, read}
 use package.Rattle.calls.proofs.Values.{read-sound, length-encode-append}

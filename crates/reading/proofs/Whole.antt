@@ -1,12 +1,11 @@
 -- Bytes that are one value within the limit, what an end that was found says of them, and the parts of a pair.
-use Prim.Native.Nat.{ℕ, zero, suc, _+_, _-_, _≤_, _<_}
+use Prim.Native.Nat.{ℕ, suc, _+_, _-_, _≤_, _<_}
 use native.Mathlib.Omega.{arith}
-use native.Mathlib.Nat.{le-refl}
 use mathlib.Core.Path.{_≡_, refl, sym, ap, subst, _∙_}
 use mathlib.Core.Bool.{Bool, true, false, false≢true}
 use mathlib.Core.Option.{Option, none, some}
 use mathlib.Core.List.{List, [], _∷_, _++_, append-nil}
-use lib.ListN.{length, getD, take, drop, length-append, length-drop}
+use lib.ListN.{length, getD, take, drop, length-drop}
 use lib.Seq.{take-all, take-at, drop-at, drop-drop}
 use lib.Dec.{eqb}
 use package.Rattle.rules.specs.Limits.{maxValueBytes, fits}
@@ -14,7 +13,7 @@ use package.Rattle.rules.specs.Val.{Val, unit, inl, inr, pair, roll, size, enco
 use package.Rattle.rules.proofs.Basics.{given, eqb-yes, eqb-sound}
 use package.Rattle.rules.proofs.Val.{length-encode}
 use package.Rattle.rules.proofs.Typing.Tests.{leb-yes, leb-sound, bool-ext}
-use package.Rattle.calls.specs.Values.{Read, got, malformed, read, value}
+use package.Rattle.calls.specs.Values.{Read, got, malformed, value}
 use package.Rattle.calls.proofs.Values.{read-encode, read-sound, value-encode, value-sound, size-positive, length-encode-append}
 use package.Rattle.reading.specs.declared.scan.End.{End}
 use package.Rattle.reading.specs.declared.scan.End.the-variants as end

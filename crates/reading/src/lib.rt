@@ -3,3 +3,5 @@
 
 // where values end, and the parts of a pair
 pub mod scan;
+// whether a value is of a type
+pub mod typed;

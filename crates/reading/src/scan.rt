@@ -8,7 +8,7 @@ ghost use Rattle.calls.specs.Values.{value, ancillae};
 ghost use Rattle.reading.specs.Ends.{pending, endOf, firstOf, isValue, counted, partOf};
 
 // A value has at most so many bytes.
-const MAX_VALUE_BYTES: usize = 1024;
+pub const MAX_VALUE_BYTES: usize = 1024;
 
 // The ancillae of one call have at most so many bytes, together.
 const MAX_ANCILLA_BYTES: usize = 1024;
