@@ -13,21 +13,5 @@ pub mod Placing
 pub mod Reading
 -- runs of references, and what an entry names
 pub mod Lists
--- one turn of each loop over references
-pub mod Turns
--- the figures of one type entry, by its kind
-pub mod Figures
 -- the table of signatures: its rows, and how they are stored
 pub mod Rows
--- testing the type entries
-pub mod Types
--- verdicts on one entry after another
-pub mod Verdicts
--- testing the term entries
-pub mod Terms
--- testing the function entries
-pub mod Functions
--- terms that nothing uses
-pub mod Unused
--- all tests on entries
-pub mod Whole

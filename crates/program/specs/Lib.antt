@@ -5,9 +5,5 @@ pub mod Places
 pub mod Parts
 -- the references of an entry, as runs in its field
 pub mod Lists
--- what is noted of entries in arrays: uses of terms, figures of types
-pub mod Marks
 -- the parameters of a function as a row of a table
 pub mod Signatures
--- what the tests on entries answer
-pub mod Tested

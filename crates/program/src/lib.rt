@@ -1,6 +1,4 @@
-// Programs as bytes: reading their fields and testing their entries, against calls/specs/Fields, Entries and Named.
-pub mod entries;
+// Programs as bytes: reading their fields and entries, against calls/specs/Fields and Entries.
 pub mod fields;
-pub mod measures;
 pub mod signatures;
 pub mod views;

@@ -1,0 +1,42 @@
+use native.Mathlib.Omega.{arith}
+use mathlib.Core.Path.{_∙_}
+use borrow.Author.Tests.{not-true, not-false}
+use Rattle.entries.specs.Marks.{allPlainIn}
+use Rattle.program.proofs.Rooms.{function-room}
+use Rattle.entries.proofs.Turns.{plain-append}
+use Rattle.entries.proofs.Functions.{signature-stops, signature-rest, result-below, parameters-below}
+use Rattle.entries.proofs.testing.signature_plain.Statement.{statement}
+use Rattle.entries.proofs.testing.signature_plain.Tie as tie
+
+add-all-plain : tie.Need-add-all-plain
+add-all-plain c = omega (arith, function-room (c .before .before .before .pre .0))
+
+all-plain-requires : tie.Need-all-plain-requires
+all-plain-requires c κs = (omega (arith, function-room (c .before .before .before .pre .0)), (result-below (c .before .before .before .pre .0) _ (c .before .before .before .pre .1 .0), result-below (c .before .before .before .pre .0) _ (c .before .before .before .pre .1 .1)))
+
+returns : tie.Need-returns
+returns c = signature-stops (c .before .before .before .before .before .pre .0) (allPlainIn (c .before .before .before .before .before .args .nodes .now) (c .before .before .before .before .before .args .free .now)) (plain-append (c .before .before .before .before .before .args .nodes .now) (c .before .before .before .before .before .args .free .now)) (c .before .all-plain .result) (c .before .all-plain .ensures) (not-true (c .before .all-plain .result) (c .if1 .taken))
+
+function-parameters-requires : tie.Need-function-parameters-requires
+function-parameters-requires c κs = omega (arith, function-room (c .before .before .before .before .before .pre .0))
+
+add-all-plain-2 : tie.Need-add-all-plain-2
+add-all-plain-2 c = omega (arith, function-room (c .before .before .before .before .before .before .pre .0))
+
+all-plain-requires-2 : tie.Need-all-plain-requires-2
+all-plain-requires-2 c κs = (omega (arith, function-room (c .before .before .before .before .before .before .pre .0), c .function-parameters .ensures .0), (parameters-below (c .before .before .before .before .before .before .pre .0) _ _ (c .function-parameters .ensures .0) (c .before .before .before .before .before .before .pre .1 .0), parameters-below (c .before .before .before .before .before .before .pre .0) _ _ (c .function-parameters .ensures .0) (c .before .before .before .before .before .before .pre .1 .1)))
+
+returns-2 : tie.Need-returns-2
+returns-2 c = c .all-plain2 .ensures ∙ signature-rest (c .before .before .before .before .before .before .before .pre .0) (allPlainIn (c .before .before .before .before .before .before .before .args .nodes .now) (c .before .before .before .before .before .before .before .args .free .now)) (plain-append (c .before .before .before .before .before .before .before .args .nodes .now) (c .before .before .before .before .before .before .before .args .free .now)) _ (c .before .before .before .all-plain .result) (c .before .function-parameters .ensures .0) (c .before .before .before .all-plain .ensures) (not-false (c .before .before .before .all-plain .result) (c .before .before .if1 .left))
+
+pub signature-plain-spec : {M : Type 1} → statement M
+signature-plain-spec =
+    tie.close
+    (tie.spec
+    add-all-plain
+    all-plain-requires
+    returns
+    function-parameters-requires
+    add-all-plain-2
+    all-plain-requires-2
+    returns-2)

@@ -1,0 +1,62 @@
+use native.Mathlib.Omega.{arith}
+use Rattle.entries.proofs.Whole.{placed-formed, types-few, types-sound, entries-sound, entries-bad-reference, entries-bad-type}
+use borrow.Author.Needs.{needs}
+use Rattle.entries.proofs.testing.test_entries.Statement.{statement}
+use Rattle.entries.proofs.testing.test_entries.Tie as tie
+
+slice-aggregate-test-types : tie.Need-slice-aggregate-test-types
+slice-aggregate-test-types c = search needs
+
+test-types-requires : tie.Need-test-types-requires
+test-types-requires c κs = (placed-formed (c .before .before .before .before .before .before .before .pre .0) .types, (c .before .before .before .before .before .before .before .pre .1, omega (arith, types-few (c .before .before .before .before .before .before .before .pre .0))))
+
+enum-told : tie.Need-enum-told
+enum-told c = search needs
+
+slice-aggregate-test-uses : tie.Need-slice-aggregate-test-uses
+slice-aggregate-test-uses c = search needs
+
+test-uses-requires : tie.Need-test-uses-requires
+test-uses-requires c κs = (placed-formed (c .before .before .before .before .before .before .before .before .before .before .before .before .before .before .before .pre .0), types-sound _ _ _ _ _ (c .before .before .before .before .before .before .before .test-types .ensures) (c .before .before .enum-told .given .1))
+
+enum-known-v : tie.Need-enum-known-v
+enum-known-v c = search needs
+
+enum-known-v-2 : tie.Need-enum-known-v-2
+enum-known-v-2 c = search needs
+
+same-length : tie.Need-same-length
+same-length c = search needs
+
+returns : tie.Need-returns
+returns c = entries-sound _ _ _ _ _ _ _ (c .before .before .before .before .before .before .before .before .test-types .ensures) (c .before .before .before .enum-told .given .1) (c .test-uses .result) (c .test-uses .ensures)
+
+same-length-2 : tie.Need-same-length-2
+same-length-2 c = search needs
+
+returns-2 : tie.Need-returns-2
+returns-2 c = entries-bad-reference _ _ _ _ _ _ _ (c .before .before .before .before .before .before .test-types .ensures) _ (c .before .v .given .1)
+
+same-length-3 : tie.Need-same-length-3
+same-length-3 c = search needs
+
+returns-3 : tie.Need-returns-3
+returns-3 c = entries-bad-type _ _ _ _ _ _ _ (c .before .before .before .before .before .before .test-types .ensures) _ (c .before .v2 .given .1)
+
+pub test-entries-spec : {M : Type 1} → statement M
+test-entries-spec =
+    tie.close
+    (tie.spec
+    slice-aggregate-test-types
+    test-types-requires
+    enum-told
+    slice-aggregate-test-uses
+    test-uses-requires
+    enum-known-v
+    enum-known-v-2
+    same-length
+    returns
+    same-length-2
+    returns-2
+    same-length-3
+    returns-3)

@@ -1,0 +1,91 @@
+use Prim.Native.Nat.{_+_, _-_, _≤_}
+use native.Mathlib.Omega.{arith}
+use mathlib.Core.Path.{_≡_, refl, subst, sym, _∙_}
+use lib.ListN.{length}
+use Rattle.program.specs.Parts.{FunctionField}
+use Rattle.entries.proofs.Verdicts.{Going, going-start, going-more, going-bad-reference, going-bad-type, going-end, measured-room}
+use Rattle.entries.proofs.Functions.{functionsFromEntry, functions-step, functions-over}
+use borrow.Author.Needs.{needs}
+use Rattle.entries.proofs.testing.test_functions.Statement.{statement}
+use Rattle.entries.proofs.testing.test_functions.Tie as tie
+
+abbrev Inv-loop : tie.InvT-loop
+Inv-loop p types terms functions nodes free used₀ g₀ used g = (g ≤ length functions) × (length used ≡ length used₀) × Going (functionsFromEntry p types terms functions nodes free 0) (functionsFromEntry p types terms functions nodes free g) used₀ used
+
+abbrev μ-loop : tie.MeasureT-loop
+μ-loop p types terms functions nodes free used₀ g₀ used g = length functions - g
+
+loop-holds : tie.Need-loop-holds Inv-loop μ-loop
+loop-holds c = (omega arith, refl, going-start _ _)
+
+mul-wide-index : tie.Need-mul-wide-index Inv-loop μ-loop
+mul-wide-index c = search needs
+
+shared-slice-read-wide-index : tie.Need-shared-slice-read-wide-index Inv-loop μ-loop
+shared-slice-read-wide-index c = omega arith
+
+wide-index-requires : tie.Need-wide-index-requires Inv-loop μ-loop
+wide-index-requires c κs = search needs
+
+test-function-requires : tie.Need-test-function-requires Inv-loop μ-loop
+test-function-requires c κs = (subst (FunctionField _) (sym (c .before .wide-index .ensures .0)) (c .before .before .before .before .before .before .before .before .before .before .before .before .pre .formed .functions (c .before .before .before .before .loop .g) (omega arith)), omega (arith, (measured-room (c .before .before .before .before .before .before .before .before .before .before .before .before .args .p .now) (c .before .before .before .before .before .before .before .before .before .before .before .before .args .types .now) (c .before .before .before .before .before .before .before .before .before .before .before .before .args .nodes .now) (c .before .before .before .before .before .before .before .before .before .before .before .before .args .free .now) (c .before .before .before .before .before .before .before .before .before .before .before .before .pre .measured)), c .before .before .before .before .before .before .before .before .before .before .before .before .pre .room, c .before .before .before .before .loop .inv .1))
+
+enum-told : tie.Need-enum-told Inv-loop μ-loop
+enum-told c = search needs
+
+add-g : tie.Need-add-g Inv-loop μ-loop
+add-g c = omega arith
+
+loop-less : tie.Need-loop-less Inv-loop μ-loop
+loop-less c = omega arith
+
+loop-again : tie.Need-loop-again Inv-loop μ-loop
+loop-again c = (omega arith, c .before .before .before .before .test-function .kept .1 .1 .1 .1 .1 .1 .0 ∙ c .before .before .before .before .before .before .before .before .before .loop .inv .1, going-more _ _ (functionsFromEntry (c .before .before .before .before .before .before .before .before .before .before .before .before .before .before .before .before .before .args .p .now) (c .before .before .before .before .before .before .before .before .before .before .before .before .before .before .before .before .before .args .types .now) (c .before .before .before .before .before .before .before .before .before .before .before .before .before .before .before .before .before .args .terms .now) (c .before .before .before .before .before .before .before .before .before .before .before .before .before .before .before .before .before .args .functions .now) (c .before .before .before .before .before .before .before .before .before .before .before .before .before .before .before .before .before .args .nodes .now) (c .before .before .before .before .before .before .before .before .before .before .before .before .before .before .before .before .before .args .free .now) (c .before .before .before .before .before .before .before .before .before .loop .g + 1)) _ _ _ _ _ (functions-step (c .before .before .before .before .before .before .before .before .before .before .before .before .before .before .before .before .before .args .p .now) (c .before .before .before .before .before .before .before .before .before .before .before .before .before .before .before .before .before .args .types .now) (c .before .before .before .before .before .before .before .before .before .before .before .before .before .before .before .before .before .args .terms .now) (c .before .before .before .before .before .before .before .before .before .before .before .before .before .before .before .before .before .args .functions .now) (c .before .before .before .before .before .before .before .before .before .before .before .before .before .before .before .before .before .args .nodes .now) (c .before .before .before .before .before .before .before .before .before .before .before .before .before .before .before .before .before .args .free .now) (c .before .before .before .before .before .before .before .before .before .before .before .before .before .before .before .before .before .pre .measured) (c .before .before .before .before .before .before .before .before .before .loop .g) _ (omega arith) (c .before .before .before .before .before .before .wide-index .ensures .0)) (c .before .before .before .before .before .before .before .before .before .loop .inv .2) _ (c .before .before .before .before .test-function .ensures) (c .enum-told .given .1))
+
+enum-known-v : tie.Need-enum-known-v Inv-loop μ-loop
+enum-known-v c = search needs
+
+same-length : tie.Need-same-length Inv-loop μ-loop
+same-length c = c .before .before .before .before .before .test-function .kept .1 .1 .1 .1 .1 .1 .0 ∙ c .before .before .before .before .before .before .before .before .before .before .loop .inv .1
+
+returns : tie.Need-returns Inv-loop μ-loop
+returns c = going-bad-reference _ _ (functionsFromEntry (c .before .before .before .before .before .before .before .before .before .before .before .before .before .before .before .before .before .before .args .p .now) (c .before .before .before .before .before .before .before .before .before .before .before .before .before .before .before .before .before .before .args .types .now) (c .before .before .before .before .before .before .before .before .before .before .before .before .before .before .before .before .before .before .args .terms .now) (c .before .before .before .before .before .before .before .before .before .before .before .before .before .before .before .before .before .before .args .functions .now) (c .before .before .before .before .before .before .before .before .before .before .before .before .before .before .before .before .before .before .args .nodes .now) (c .before .before .before .before .before .before .before .before .before .before .before .before .before .before .before .before .before .before .args .free .now) (c .before .before .before .before .before .before .before .before .before .before .loop .g + 1)) _ _ _ _ _ (functions-step (c .before .before .before .before .before .before .before .before .before .before .before .before .before .before .before .before .before .before .args .p .now) (c .before .before .before .before .before .before .before .before .before .before .before .before .before .before .before .before .before .before .args .types .now) (c .before .before .before .before .before .before .before .before .before .before .before .before .before .before .before .before .before .before .args .terms .now) (c .before .before .before .before .before .before .before .before .before .before .before .before .before .before .before .before .before .before .args .functions .now) (c .before .before .before .before .before .before .before .before .before .before .before .before .before .before .before .before .before .before .args .nodes .now) (c .before .before .before .before .before .before .before .before .before .before .before .before .before .before .before .before .before .before .args .free .now) (c .before .before .before .before .before .before .before .before .before .before .before .before .before .before .before .before .before .before .pre .measured) (c .before .before .before .before .before .before .before .before .before .before .loop .g) _ (omega arith) (c .before .before .before .before .before .before .before .wide-index .ensures .0)) (c .before .before .before .before .before .before .before .before .before .before .loop .inv .2) _ (c .before .before .before .before .before .test-function .ensures) _ (c .before .v .given .1)
+
+enum-known-v-2 : tie.Need-enum-known-v-2 Inv-loop μ-loop
+enum-known-v-2 c = search needs
+
+same-length-2 : tie.Need-same-length-2 Inv-loop μ-loop
+same-length-2 c = c .before .before .before .before .before .test-function .kept .1 .1 .1 .1 .1 .1 .0 ∙ c .before .before .before .before .before .before .before .before .before .before .loop .inv .1
+
+returns-2 : tie.Need-returns-2 Inv-loop μ-loop
+returns-2 c = going-bad-type _ _ (functionsFromEntry (c .before .before .before .before .before .before .before .before .before .before .before .before .before .before .before .before .before .before .args .p .now) (c .before .before .before .before .before .before .before .before .before .before .before .before .before .before .before .before .before .before .args .types .now) (c .before .before .before .before .before .before .before .before .before .before .before .before .before .before .before .before .before .before .args .terms .now) (c .before .before .before .before .before .before .before .before .before .before .before .before .before .before .before .before .before .before .args .functions .now) (c .before .before .before .before .before .before .before .before .before .before .before .before .before .before .before .before .before .before .args .nodes .now) (c .before .before .before .before .before .before .before .before .before .before .before .before .before .before .before .before .before .before .args .free .now) (c .before .before .before .before .before .before .before .before .before .before .loop .g + 1)) _ _ _ _ _ (functions-step (c .before .before .before .before .before .before .before .before .before .before .before .before .before .before .before .before .before .before .args .p .now) (c .before .before .before .before .before .before .before .before .before .before .before .before .before .before .before .before .before .before .args .types .now) (c .before .before .before .before .before .before .before .before .before .before .before .before .before .before .before .before .before .before .args .terms .now) (c .before .before .before .before .before .before .before .before .before .before .before .before .before .before .before .before .before .before .args .functions .now) (c .before .before .before .before .before .before .before .before .before .before .before .before .before .before .before .before .before .before .args .nodes .now) (c .before .before .before .before .before .before .before .before .before .before .before .before .before .before .before .before .before .before .args .free .now) (c .before .before .before .before .before .before .before .before .before .before .before .before .before .before .before .before .before .before .pre .measured) (c .before .before .before .before .before .before .before .before .before .before .loop .g) _ (omega arith) (c .before .before .before .before .before .before .before .wide-index .ensures .0)) (c .before .before .before .before .before .before .before .before .before .before .loop .inv .2) _ (c .before .before .before .before .before .test-function .ensures) _ (c .before .v2 .given .1)
+
+same-length-3 : tie.Need-same-length-3 Inv-loop μ-loop
+same-length-3 c = search needs
+
+returns-3 : tie.Need-returns-3 Inv-loop μ-loop
+returns-3 c = going-end _ _ _ _ (functions-over (c .before .before .before .before .before .before .before .before .before .args .p .now) (c .before .before .before .before .before .before .before .before .before .args .types .now) (c .before .before .before .before .before .before .before .before .before .args .terms .now) (c .before .before .before .before .before .before .before .before .before .args .functions .now) (c .before .before .before .before .before .before .before .before .before .args .nodes .now) (c .before .before .before .before .before .before .before .before .before .args .free .now) (c .before .loop .g) (omega arith)) (c .before .loop .inv .2)
+
+pub test-functions-spec : {M : Type 1} → statement M
+test-functions-spec =
+    tie.close
+    (tie.spec
+    Inv-loop
+    μ-loop
+    loop-holds
+    mul-wide-index
+    shared-slice-read-wide-index
+    wide-index-requires
+    test-function-requires
+    enum-told
+    add-g
+    loop-less
+    loop-again
+    enum-known-v
+    same-length
+    returns
+    enum-known-v-2
+    same-length-2
+    returns-2
+    same-length-3
+    returns-3)

@@ -1,0 +1,83 @@
+// The figures of one type entry, from those of the lower entries (document 01, section 1: closed types, nodes of a type written out as a
+// tree), against calls/specs/Named. Counting stops one above the limit on nodes.
+use program::views;
+ghost use mathlib.Core.Path.{_≡_};
+ghost use mathlib.Core.Bool.{true};
+ghost use Prim.Native.Nat.{suc, _+_, min, max, pred};
+ghost use lib.ListN.{length};
+ghost use Rattle.calls.specs.Entries.{typeAt};
+ghost use Rattle.calls.specs.Named.{ceiling, nodesOf, freeOf, typesOfType, below};
+ghost use Rattle.program.specs.Parts.{TypeField};
+
+// One node more than `a` and `b`, or one more than the limit.
+fn joined(a: u16, b: u16) -> u16
+    ensures { λ r. ⌜ r ≡ min ceiling (suc (a + b)) ⌝ }
+{
+    let n = octets::wide32(a) + octets::wide32(b) + 1;
+    if n < 1025 {
+        return n as u16;
+    }
+    1025
+}
+
+fn greater(a: u16, b: u16) -> u16
+    ensures { λ r. ⌜ r ≡ max a b ⌝ }
+{
+    if a < b {
+        return b;
+    }
+    a
+}
+
+// The nodes of the type at `at`, from those of the types that it names.
+pub fn nodes_of(p: &[u8], at: usize, nodes: &[u16]) -> u16
+    requires { ⌜ TypeField (now p) at ⌝ }
+    requires { ⌜ below (length (now nodes)) (typesOfType (typeAt (now p) at)) ≡ true ⌝ }
+    ensures { λ r. ⌜ r ≡ nodesOf (now (nodes .entry)) (typeAt (now (p .entry)) at) ⌝ }
+{
+    let k = views::type_kind(p, at);
+    match k {
+        1 | 2 => {
+            let a = octets::wide_index(views::first(p, at));
+            let b = octets::wide_index(views::second(p, at));
+            joined(nodes[a], nodes[b])
+        }
+        3 => {
+            let a = octets::wide_index(views::first(p, at));
+            joined(nodes[a], 0)
+        }
+        _ => 1,
+    }
+}
+
+// How many recursive types must still enclose the type at `at`, from the same of the types that it names.
+pub fn free_of(p: &[u8], at: usize, free: &[u16]) -> u16
+    requires { ⌜ TypeField (now p) at ⌝ }
+    requires { ⌜ below (length (now free)) (typesOfType (typeAt (now p) at)) ≡ true ⌝ }
+    ensures { λ r. ⌜ r ≡ freeOf (now (free .entry)) (typeAt (now (p .entry)) at) ⌝ }
+{
+    let k = views::type_kind(p, at);
+    match k {
+        0 => 0,
+        1 | 2 => {
+            let a = octets::wide_index(views::first(p, at));
+            let b = octets::wide_index(views::second(p, at));
+            greater(free[a], free[b])
+        }
+        3 => {
+            let a = octets::wide_index(views::first(p, at));
+            outside(free[a])
+        }
+        _ => octets::wide16(views::variable(p, at)) + 1,
+    }
+}
+
+// One recursive type fewer.
+fn outside(n: u16) -> u16
+    ensures { λ r. ⌜ r ≡ pred n ⌝ }
+{
+    if n == 0 {
+        return 0;
+    }
+    n - 1
+}
