@@ -1,0 +1,141 @@
+-- A call: its arguments are placed, and the body is evaluated in the scope that they are.
+use Prim.Native.Nat.{ℕ, _+_, _*_, _-_, _≤_, _<_}
+use native.Mathlib.Omega.{arith}
+use native.Mathlib.Decide.{decLt}
+use native.Mathlib.Numerals.{add-one}
+use mathlib.Core.Path.{_≡_, sym, ap, ap₂, subst, _∙_}
+use mathlib.Core.Logic.{_⊎_, inr as right}
+use mathlib.Core.Option.{some}
+use mathlib.Core.List.{List, [], _∷_, map}
+use lib.ListN.{length, getD}
+use package.Rattle.rules.specs.Limits.{fits}
+use package.Rattle.rules.specs.Val.{Val}
+use package.Rattle.rules.specs.Term.{Term, Fun, nth, scope}
+use package.Rattle.rules.specs.Run.{Res, Run}
+use package.Rattle.rules.specs.Machine.{onSome, forwardStep, forward}
+use package.Rattle.calls.specs.Fields.{lengthAt}
+use package.Rattle.calls.specs.Entries.{TypeEntry, callAncillae}
+use package.Rattle.program.specs.Parts.{first, listed, body}
+use package.Rattle.values.specs.Nodes.{valueAt}
+use package.Rattle.scopes.specs.Slots.{unknown, meaning as slotMeaning, stateAt}
+use package.Rattle.scopes.proofs.Marks.{found-node}
+use package.Rattle.scopes.proofs.Scopes.{state-front}
+use package.Rattle.yields.specs.Yields.{ancillaeAt, Ancillae}
+use package.Rattle.yields.proofs.Ancillae.{state-ancillae}
+use package.Rattle.forward.specs.Code.{treeAt, programAt}
+use package.Rattle.forward.specs.Ready.{Ready, Ran, ancillaeOf, stateOf, runOf, stepOf, valuesAt, argumentsOf, Places, Calls}
+use package.Rattle.forward.proofs.Trees.{tree-call, called-function, called-body}
+use package.Rattle.forward.proofs.Runs.{meaning-refused, says, slack, then, held-later}
+use package.Rattle.forward.proofs.Steps.{stepped}
+use package.Rattle.forward.proofs.Placing.{arguments, scope-values, placed-value, placed-refused, few-count, place-room}
+use Rattle.forward.specs.declared.outcomes.Refusal.{Refusal}
+use Rattle.forward.specs.declared.outcomes.Status.the-variants.{Value, Refused}
+use Rattle.forward.specs.declared.outcomes.Machine.{Machine}
+use Rattle.forward.specs.declared.outcomes.Scope.{Scope}
+use Rattle.forward.specs.declared.outcomes.Out.{Out}
+
+-- the scope of the function that is called: its arguments
+abbrev pub inner : Scope → ℕ → Scope
+inner sc count = record { base = sc .base + sc .n; q = count; n = count + 1 }
+
+module _ {p terms functions heap slots : List ℕ} {st : Machine} {sc : Scope} {t room : ℕ} (rd : Ready 1 0 p terms functions heap slots st sc t room)
+    {count : ℕ} (C : Calls p terms t 0 count) {heap₁ slots₁ : List ℕ} {r₁ : Out} (D : Places p terms functions heap heap₁ slots slots₁ st sc t room 0 count r₁) where
+  abbrev at : ℕ
+  at = getD terms t 0
+
+  abbrev m : ℕ
+  m = sc .base + sc .n
+
+  abbrev step : List TypeEntry → Res Val
+  step = stepOf p terms functions heap slots st sc t room
+
+  abbrev callee : Fun → List TypeEntry → List Val → Val → Run Val
+  callee h ys vs v = forward fits (programAt p terms functions ys) (room - 1) (scope vs []) (some v ∷ map some (scope vs [])) (h .body)
+
+  step-call : (ys : List TypeEntry) (h : Fun) → nth (programAt p terms functions ys) (first p at) ≡ some h
+      → step ys ≡ argumentsOf p terms functions heap slots st sc t room 0 count ys (callee h ys)
+  unfolding forwardStep onSome
+  step-call ys h e =
+      stepped rd ys (tree-call (rd .code .entries) t (rd .term) ys (C .kind))
+      ∙ ap (λ o. onSome o (λ h. λ fuel. arguments go (treeAt p terms ys) p (treeAt p terms ys (listed p at ancillae)) (at + 6) ancillae fuel (callee h ys)) (st .fuel)) e
+      ∙ ap₂ (λ i n. arguments go (treeAt p terms ys) p (treeAt p terms ys (listed p at n)) i n (st .fuel) (callee h ys)) (let z : at + 6 ≡ at + 6 + 2 * 0 = omega arith in z) (sym (C .ancillae))
+      ∙ ap (λ n. arguments go (treeAt p terms ys) p (treeAt p terms ys (listed p at count)) (at + 6 + 2 * 0) n (st .fuel) (callee h ys)) (let z : count ≡ count - 0 = omega arith in z)
+    where
+      ancillae : ℕ
+      ancillae = callAncillae (lengthAt p at)
+
+      go : Term → Run Val
+      go = forward fits (programAt p terms functions ys) (room - 1) (ancillaeOf heap slots sc) (stateOf heap slots sc)
+
+  abbrev function : (ys : List TypeEntry) → (h : Fun) × (nth (programAt p terms functions ys) (first p at) ≡ some h) × (h .body ≡ treeAt p terms ys (body p (getD functions (first p at) 0)))
+  function ys = called-body (rd .code) ys (first p at) (called-function (rd .code) t (rd .term) (C .kind))
+
+  pub call-refused : {why : Refusal} → r₁ .status ≡ Refused why → Ran 1 heap heap₁ m slots slots₁ st r₁ step
+  call-refused {why} s =
+      slack (says (D .ran) (λ ys. meaning-refused heap₁ r₁ s ∙ sym (placed-refused heap₁ slots₁ m 0 count (r₁ .state .fuel) (callee (function ys .0) ys) s)
+      ∙ sym (D .answer ys (callee (function ys .0) ys)) ∙ sym (step-call ys (function ys .0) (function ys .1)))) 1 (omega arith)
+
+  module _ {n : ℕ} (s : r₁ .status ≡ Value n) (g b : ℕ) (qg : g ≡ first p at) (qb : b ≡ body p (getD functions g 0)) where
+    all-arguments : Calls p terms t count count
+    all-arguments = record { kind = C .kind; ancillae = C .ancillae; next = omega arith }
+
+    small-nodes : r₁ .state .top ≤ unknown
+    small-nodes = omega (arith, rd .small, D .ran .owes)
+
+    arguments-held : Ancillae slots₁ m count (r₁ .state .top)
+    arguments-held = record {
+      there = omega (arith, place-room rd all-arguments, D .ran .lengths);
+      known = λ i h. D .held n s i (omega arith) (omega arith);
+    }
+
+    called : g < length functions
+    called = rw qg (called-function (rd .code) t (rd .term) (C .kind))
+
+    held-all : (j : ℕ) → Dec (j < m) → j < m + (count + 1) → (getD slots₁ j 0 ≡ unknown) ⊎ (getD slots₁ j 0 < r₁ .state .top)
+    held-all j (yes l) h = held-later rd (D .ran) .held j l
+    held-all j (no l) h = right (subst (λ j. getD slots₁ j 0 < r₁ .state .top) (let z : m + (j - m) ≡ j = omega arith in z) (D .held n s (j - m) (omega arith) (omega arith)))
+
+    pub call-ready : Ready 0 0 p terms functions heap₁ slots₁ (r₁ .state) (inner sc count) b (room - 1)
+    call-ready = record {
+      code = rd .code;
+      term = rw qb (rd .code .function g called .there);
+      few = rw qb (rd .code .function g called .few);
+      graph = D .ran .graph;
+      held = record { held = λ j h. held-all j (decLt j m) h };
+      ancillae = arguments-held .known;
+      within = omega arith;
+      nodes = omega (arith, rd .nodes, D .ran .owes, D .ran .agree .lengths);
+      small = omega (arith, rd .small, D .ran .owes);
+      variables = omega (arith, rd .variables, rd .tall, few-count rd C, D .ran .lengths);
+      tall = omega arith;
+    }
+
+    abbrev dynamic : Val
+    dynamic = valueAt heap₁ (getD slots₁ (m + count) 0)
+
+    call-ancillae : scope (valuesAt heap₁ slots₁ (m + 0) (count - 0)) [] ≡ ancillaeAt heap₁ slots₁ m count
+    unfolding ancillaeAt
+    call-ancillae =
+        ap (λ n. scope (valuesAt heap₁ slots₁ (m + 0) n) []) (let z : count - 0 ≡ count = omega arith in z)
+        ∙ scope-values heap₁ slots₁ m 0 count ∙ ap (ancillaeAt heap₁ slots₁ m) (let z : 0 + count ≡ count = omega arith in z)
+
+    call-state : some dynamic ∷ map some (ancillaeAt heap₁ slots₁ m count) ≡ stateAt heap₁ slots₁ m (count + 1)
+    call-state =
+        sym (ap (stateAt heap₁ slots₁ m) (add-one count) ∙ state-front heap₁ slots₁ m count
+        ∙ ap₂ _∷_ (ap (slotMeaning heap₁) (found-node (getD slots₁ (m + count) 0) (λ e. omega (arith, small-nodes, D .held n s count (omega arith) (omega arith)))))
+        (state-ancillae heap₁ slots₁ m count (r₁ .state .top) arguments-held small-nodes))
+
+    call-body : (ys : List TypeEntry) → function ys .0 .body ≡ treeAt p terms ys b
+    call-body ys = function ys .2 ∙ ap (treeAt p terms ys) (rw qg at (sym qb))
+
+    called-run : (ys : List TypeEntry) → callee (function ys .0) ys (valuesAt heap₁ slots₁ (m + 0) (count - 0)) dynamic (r₁ .state .fuel)
+        ≡ runOf p terms functions heap₁ slots₁ (r₁ .state) (inner sc count) b (room - 1) ys
+    called-run ys =
+        ap₂ (λ a (T : Term). forward fits (programAt p terms functions ys) (room - 1) a (some dynamic ∷ map some a) T (r₁ .state .fuel)) call-ancillae (call-body ys)
+        ∙ ap (λ σ. forward fits (programAt p terms functions ys) (room - 1) (ancillaeAt heap₁ slots₁ m count) σ (treeAt p terms ys b) (r₁ .state .fuel)) call-state
+
+    pub call-done : {heap₂ slots₂ : List ℕ} {r₂ : Out} → Ran 0 heap₁ heap₂ (m + (count + 1)) slots₁ slots₂ (r₁ .state) r₂ (runOf p terms functions heap₁ slots₁ (r₁ .state) (inner sc count) b (room - 1))
+        → Ran 1 heap heap₂ m slots slots₂ st r₂ step
+    call-done d =
+        slack (then (D .ran) (says d (λ ys. sym (called-run ys) ∙ sym (placed-value heap₁ slots₁ m 0 count (r₁ .state .fuel) (callee (function ys .0) ys) s)
+        ∙ sym (D .answer ys (callee (function ys .0) ys)) ∙ sym (step-call ys (function ys .0) (function ys .1)))) (omega arith)) 1 (omega arith)

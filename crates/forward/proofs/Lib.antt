@@ -1,0 +1,19 @@
+-- Laws that the proofs of forward evaluation cite.
+-- the trees of entries, by kind
+pub mod Trees
+-- what is read is inside the program
+pub mod Bounds
+-- runs in code, one after another
+pub mod Runs
+-- new nodes
+pub mod Making
+-- steps that have no parts to evaluate
+pub mod Leaves
+-- entering a term, and the kinds that bind nothing
+pub mod Steps
+-- the kinds that bind variables
+pub mod Binds
+-- the arguments of a call
+pub mod Placing
+-- calls
+pub mod Calling

@@ -1,0 +1,66 @@
+-- Laws of the nodes that evaluation makes: the graph stays one of short values, and an answer says whether the value was within the limit.
+use Prim.Native.Nat.{ℕ, _+_, _≤_, _<_}
+use native.Mathlib.Omega.{arith}
+use native.Mathlib.Nat.{eq-or-lt-of-le}
+use mathlib.Core.Path.{_≡_, refl, sym, ap, _∙_}
+use mathlib.Core.Bool.{Bool, true, false}
+use mathlib.Core.Logic.{_⊎_, ⊎-elim}
+use mathlib.Core.List.{List}
+use package.Rattle.rules.specs.Limits.{fits}
+use package.Rattle.rules.specs.Val.{Val}
+use package.Rattle.rules.specs.Run.{give, test}
+use package.Rattle.values.specs.Nodes.{valueAt, Grown, Made}
+use package.Rattle.values.proofs.Heaps.{value-kept}
+use package.Rattle.values.proofs.Places.{agree-refl}
+use package.Rattle.forward.specs.Outcomes.{refusalOf, finished}
+use package.Rattle.forward.specs.Ready.{Graph, Makes}
+use package.Rattle.forward.proofs.Runs.{meaning-value, meaning-refused}
+use Rattle.forward.specs.declared.outcomes.Refusal.the-variants.{Long}
+use Rattle.forward.specs.declared.outcomes.Machine.{Machine}
+
+graph-grown : {heap heap′ : List ℕ} {top : ℕ} {v : Val} → Graph heap top → Grown heap heap′ top v → fits v ≡ true → Graph heap′ (top + 1)
+graph-grown {heap} {heap′} {top} {v} G g f = record { right = g .right; short = λ n h. ⊎-elim (λ e. ap fits (ap (valueAt heap′) e ∙ g .value) ∙ f) (λ l. older n l) (split n (omega arith)) }
+  where
+    split : (n : ℕ) → n ≤ top → (n ≡ top) ⊎ (n < top)
+    split n le = eq-or-lt-of-le le
+
+    older : (n : ℕ) → n < top → fits (valueAt heap′ n) ≡ true
+    older n l = ap fits (sym (value-kept heap heap′ top (G .right) (g .agree) n l)) ∙ G .short n l
+
+pub test-true : (b : Bool) (n t : ℕ) (v : Val) (fuel : ℕ) → b ≡ true → test b n t (give v) fuel ≡ give v fuel
+unfolding test
+test-true b n t v fuel e = rw e
+
+test-false : (b : Bool) (n t : ℕ) (v : Val) (fuel : ℕ) → b ≡ false → test b 14 t (give v) fuel ≡ refusalOf (Long t)
+unfolding test refusalOf
+test-false b n t v fuel e = rw e
+
+-- a new node of a value within the limit
+pub makes-new : {heap heap′ : List ℕ} {st : Machine} {v : Val} (t : ℕ) → Graph heap (st .top) → Grown heap heap′ (st .top) v → fits v ≡ true → Makes heap heap′ st (finished true st t) t v
+unfolding finished
+makes-new {heap} {heap′} {st} {v} t G g f = record {
+  agree = g .agree;
+  graph = graph-grown G g f;
+  grows = omega arith;
+  spends = refl;
+  one = omega arith;
+  node = λ n s. let z : st .top ≡ n = cc in omega arith;
+  answer = meaning-value heap′ (finished true st t) refl ∙ ap (λ w. give w (st .fuel)) (g .value) ∙ sym (test-true (fits v) 14 t v (st .fuel) f);
+}
+
+makes-old : {heap : List ℕ} {st : Machine} {v : Val} (t : ℕ) → Graph heap (st .top) → fits v ≡ false → Makes heap heap st (finished false st t) t v
+unfolding finished
+makes-old {heap} {st} {v} t G f = record {
+  agree = agree-refl (st .top) heap;
+  graph = G;
+  grows = omega arith;
+  spends = refl;
+  one = omega arith;
+  node = λ n s. let z : _≡_ {A = ℕ} 0 1 = cc in absurd (omega arith);
+  answer = meaning-refused heap (finished false st t) refl ∙ sym (test-false (fits v) 14 t v (st .fuel) f);
+}
+
+-- what the value graph answers, finished
+pub makes : {heap heap′ : List ℕ} {st : Machine} {v : Val} (t : ℕ) (b : Bool) → Graph heap (st .top) → Made heap heap′ (st .top) v b → Makes heap heap′ st (finished b st t) t v
+makes t true G d = makes-new t G (d .new refl) (sym (d .answer))
+makes {heap} {heap′} {st} {v} t false G d = rw (d .old refl) (makes-old t G (sym (d .answer)))

@@ -1,0 +1,285 @@
+-- The functions of evaluation meet their contracts: the answers of Proof/, put together.
+mod Claims
+mod Calls
+mod Cases
+mod Entering
+mod Lets
+mod Parts
+mod Scopes
+use Rattle.forward.proofs.eval.call.Reads as call
+use Rattle.forward.proofs.eval.+call+choose+eval+let_one+let_two+pair+place+under+unroll+wrap.Lts-call as call-lts
+use Rattle.forward.proofs.eval.choose.Reads as choose
+use Rattle.forward.proofs.eval.+call+choose+eval+let_one+let_two+pair+place+under+unroll+wrap.Lts-choose as choose-lts
+use Rattle.forward.proofs.eval.eval.Reads as eval
+use Rattle.forward.proofs.eval.+call+choose+eval+let_one+let_two+pair+place+under+unroll+wrap.Lts-eval as eval-lts
+use Rattle.forward.proofs.eval.let_one.Reads as let-one
+use Rattle.forward.proofs.eval.+call+choose+eval+let_one+let_two+pair+place+under+unroll+wrap.Lts-let_one as let-one-lts
+use Rattle.forward.proofs.eval.let_two.Reads as let-two
+use Rattle.forward.proofs.eval.+call+choose+eval+let_one+let_two+pair+place+under+unroll+wrap.Lts-let_two as let-two-lts
+use Rattle.forward.proofs.eval.pair.Reads as pair
+use Rattle.forward.proofs.eval.+call+choose+eval+let_one+let_two+pair+place+under+unroll+wrap.Lts-pair as pair-lts
+use Rattle.forward.proofs.eval.place.Reads as place
+use Rattle.forward.proofs.eval.+call+choose+eval+let_one+let_two+pair+place+under+unroll+wrap.Lts-place as place-lts
+use Rattle.forward.proofs.eval.under.Reads as under
+use Rattle.forward.proofs.eval.+call+choose+eval+let_one+let_two+pair+place+under+unroll+wrap.Lts-under as under-lts
+use Rattle.forward.proofs.eval.unroll.Reads as unroll
+use Rattle.forward.proofs.eval.+call+choose+eval+let_one+let_two+pair+place+under+unroll+wrap.Lts-unroll as unroll-lts
+use Rattle.forward.proofs.eval.wrap.Reads as wrap
+use Rattle.forward.proofs.eval.+call+choose+eval+let_one+let_two+pair+place+under+unroll+wrap.Lts-wrap as wrap-lts
+use Rattle.scopes.proofs.slots.bind.Reads as bind-reads
+use Rattle.forward.proofs.eval.+call+choose+eval+let_one+let_two+pair+place+under+unroll+wrap.Proof.Claims.{μ-call, μ-choose, μ-eval, μ-let-one, μ-let-two, μ-pair, μ-place, μ-under, μ-unroll, μ-wrap, call-at, choose-at, eval-at, eval-below, let-one-at, let-two-at, pair-at, place-at, under-at, unroll-at, wrap-at, call-uses, choose-uses, eval-uses, let-one-uses, let-two-uses, pair-uses, place-uses, unroll-uses, wrap-uses}
+use Rattle.forward.proofs.eval.+call+choose+eval+let_one+let_two+pair+place+under+unroll+wrap.Proof.Calls.{call-ancillae-of-requires, call-place-requires, call-enum-told, call-first-of-requires, call-body-of-requires, call-add-t22, call-add-t23, call-sub-eval, call-eval-requires, call-enum-told-2, call-same-length, call-same-length-2, call-returns, call-same-length-3, call-same-length-4, call-returns-2}
+use Rattle.forward.proofs.eval.+call+choose+eval+let_one+let_two+pair+place+under+unroll+wrap.Proof.Cases.{choose-first-of-requires, choose-sub-eval, choose-eval-requires, choose-enum-known-status, choose-kind-of-requires, choose-left-of-requires, choose-second-of-requires, choose-sub-under, choose-under-requires, choose-same-length, choose-same-length-2, choose-returns, choose-third-of-requires, choose-sub-under-2, choose-under-requires-2, choose-first-match-requires, choose-same-length-3, choose-same-length-4, choose-returns-2, choose-refuse-requires, choose-enum-told, choose-same-length-5, choose-same-length-6, choose-returns-3, choose-same-length-7, choose-same-length-8, choose-returns-4}
+use Rattle.forward.proofs.eval.+call+choose+eval+let_one+let_two+pair+place+under+unroll+wrap.Proof.Entering.{eval-refuse-requires, eval-returns, eval-refuse-requires-2, eval-returns-2, eval-sub-t17, eval-offset-requires, eval-kind-requires, eval-variable-requires, eval-make-unit-requires, eval-wrap-requires, eval-wrap-requires-2, eval-pair-requires, eval-let-one-requires, eval-let-two-requires, eval-choose-requires, eval-call-requires, eval-wrap-requires-3, eval-unroll-requires, eval-same-length, eval-returns-3, eval-same-length-2, eval-returns-4, eval-same-length-3, eval-same-length-4, eval-returns-5, eval-same-length-5, eval-same-length-6, eval-returns-6, eval-same-length-7, eval-same-length-8, eval-returns-7, eval-same-length-9, eval-same-length-10, eval-returns-8, eval-same-length-11, eval-same-length-12, eval-returns-9, eval-same-length-13, eval-same-length-14, eval-returns-10, eval-same-length-15, eval-same-length-16, eval-returns-11, eval-same-length-17, eval-same-length-18, eval-returns-12, eval-same-length-19, eval-same-length-20, eval-returns-13}
+use Rattle.forward.proofs.eval.+call+choose+eval+let_one+let_two+pair+place+under+unroll+wrap.Proof.Lets.{let-one-first-of-requires, let-one-second-of-requires, let-one-sub-eval, let-one-eval-requires, let-one-enum-known-status, let-one-sub-under, let-one-under-requires, let-one-enum-told, let-one-same-length, let-one-same-length-2, let-one-returns, let-one-same-length-3, let-one-same-length-4, let-one-returns-2, let-two-first-of-requires, let-two-second-of-requires, let-two-sub-eval, let-two-eval-requires, let-two-enum-known-status, let-two-kind-of-requires, let-two-refuse-requires, let-two-same-length, let-two-same-length-2, let-two-returns, let-two-left-of-requires, let-two-right-of-requires, let-two-add-at, let-two-bind-requires, let-two-add-t38, let-two-sub-under, let-two-under-requires, let-two-enum-told, let-two-same-length-3, let-two-same-length-4, let-two-returns-2, let-two-same-length-5, let-two-same-length-6, let-two-returns-3}
+use Rattle.forward.proofs.eval.+call+choose+eval+let_one+let_two+pair+place+under+unroll+wrap.Proof.Parts.{pair-first-of-requires, pair-second-of-requires, pair-sub-eval, pair-eval-requires, pair-enum-known-status, pair-sub-eval-2, pair-eval-requires-2, pair-enum-known-status2, pair-make-pair-requires, pair-enum-told, pair-enum-told-2, pair-same-length, pair-same-length-2, pair-returns, pair-same-length-3, pair-same-length-4, pair-returns-2, pair-same-length-5, pair-same-length-6, pair-returns-3, unroll-second-of-requires, unroll-sub-eval, unroll-eval-requires, unroll-enum-known-status, unroll-unrolled-requires, unroll-enum-told, unroll-same-length, unroll-same-length-2, unroll-returns, unroll-same-length-3, unroll-same-length-4, unroll-returns-2, wrap-second-of-requires, wrap-sub-eval, wrap-eval-requires, wrap-enum-known-status, wrap-make-single-requires, wrap-enum-told, wrap-same-length, wrap-same-length-2, wrap-returns, wrap-same-length-3, wrap-same-length-4, wrap-returns-2}
+use Rattle.forward.proofs.eval.+call+choose+eval+let_one+let_two+pair+place+under+unroll+wrap.Proof.Scopes.{place-argument-of-requires, place-sub-eval, place-eval-requires, place-enum-known-status, place-add-at, place-add-at-2, place-bind-requires, place-same-length, place-same-length-2, place-returns, place-add-place, place-place-requires, place-bind-requires-2, place-enum-told, place-same-length-3, place-same-length-4, place-returns-2, place-same-length-5, place-same-length-6, place-returns-3, under-add-at, under-bind-requires, under-add-t16, under-eval-requires, under-same-length, under-same-length-2, under-returns}
+use Rattle.forward.proofs.eval.+call+choose+eval+let_one+let_two+pair+place+under+unroll+wrap.{statement}
+use Rattle.forward.proofs.eval.+call+choose+eval+let_one+let_two+pair+place+under+unroll+wrap.Tie.{close}
+
+pub +call+choose+eval+let-one+let-two+pair+place+under+unroll+wrap-spec :
+    {M : Type 1} → statement M
++call+choose+eval+let-one+let-two+pair+place+under+unroll+wrap-spec =
+    close
+    μ-call
+    μ-choose
+    μ-eval
+    μ-let-one
+    μ-let-two
+    μ-pair
+    μ-place
+    μ-under
+    μ-unroll
+    μ-wrap
+    (λ t. call-lts.spec (call-uses t)
+    (call-at t)
+    call.Post
+    (call-ancillae-of-requires t)
+    (call-place-requires t)
+    (call-enum-told t)
+    (call-first-of-requires t)
+    (call-body-of-requires t)
+    (call-add-t22 t)
+    (call-add-t23 t)
+    (call-sub-eval t)
+    (call-eval-requires t)
+    (call-enum-told-2 t)
+    (call-same-length t)
+    (call-same-length-2 t)
+    (call-returns t)
+    (call-same-length-3 t)
+    (call-same-length-4 t)
+    (call-returns-2 t))
+    (λ t. choose-lts.spec (choose-uses t)
+    (choose-at t)
+    choose.Post
+    (choose-first-of-requires t)
+    (choose-sub-eval t)
+    (choose-eval-requires t)
+    (choose-enum-known-status t)
+    (choose-kind-of-requires t)
+    (choose-left-of-requires t)
+    (choose-second-of-requires t)
+    (choose-sub-under t)
+    (choose-under-requires t)
+    (choose-same-length t)
+    (choose-same-length-2 t)
+    (choose-returns t)
+    (choose-third-of-requires t)
+    (choose-sub-under-2 t)
+    (choose-under-requires-2 t)
+    (choose-first-match-requires t)
+    (choose-same-length-3 t)
+    (choose-same-length-4 t)
+    (choose-returns-2 t)
+    (choose-refuse-requires t)
+    (choose-enum-told t)
+    (choose-same-length-5 t)
+    (choose-same-length-6 t)
+    (choose-returns-3 t)
+    (choose-same-length-7 t)
+    (choose-same-length-8 t)
+    (choose-returns-4 t))
+    (λ t. eval-lts.spec (eval-uses t)
+    (eval-at t)
+    eval.Post
+    (eval-refuse-requires t)
+    (eval-returns t)
+    (eval-refuse-requires-2 t)
+    (eval-returns-2 t)
+    (eval-sub-t17 t)
+    (eval-offset-requires t)
+    (eval-kind-requires t)
+    (eval-variable-requires t)
+    (eval-make-unit-requires t)
+    (eval-wrap-requires t)
+    (eval-wrap-requires-2 t)
+    (eval-pair-requires t)
+    (eval-let-one-requires t)
+    (eval-let-two-requires t)
+    (eval-choose-requires t)
+    (eval-call-requires t)
+    (eval-wrap-requires-3 t)
+    (eval-unroll-requires t)
+    (eval-same-length t)
+    (eval-returns-3 t)
+    (eval-same-length-2 t)
+    (eval-returns-4 t)
+    (eval-same-length-3 t)
+    (eval-same-length-4 t)
+    (eval-returns-5 t)
+    (eval-same-length-5 t)
+    (eval-same-length-6 t)
+    (eval-returns-6 t)
+    (eval-same-length-7 t)
+    (eval-same-length-8 t)
+    (eval-returns-7 t)
+    (eval-same-length-9 t)
+    (eval-same-length-10 t)
+    (eval-returns-8 t)
+    (eval-same-length-11 t)
+    (eval-same-length-12 t)
+    (eval-returns-9 t)
+    (eval-same-length-13 t)
+    (eval-same-length-14 t)
+    (eval-returns-10 t)
+    (eval-same-length-15 t)
+    (eval-same-length-16 t)
+    (eval-returns-11 t)
+    (eval-same-length-17 t)
+    (eval-same-length-18 t)
+    (eval-returns-12 t)
+    (eval-same-length-19 t)
+    (eval-same-length-20 t)
+    (eval-returns-13 t))
+    (λ t. let-one-lts.spec (let-one-uses t)
+    (let-one-at t)
+    let-one.Post
+    (let-one-first-of-requires t)
+    (let-one-second-of-requires t)
+    (let-one-sub-eval t)
+    (let-one-eval-requires t)
+    (let-one-enum-known-status t)
+    (let-one-sub-under t)
+    (let-one-under-requires t)
+    (let-one-enum-told t)
+    (let-one-same-length t)
+    (let-one-same-length-2 t)
+    (let-one-returns t)
+    (let-one-same-length-3 t)
+    (let-one-same-length-4 t)
+    (let-one-returns-2 t))
+    (λ t. let-two-lts.spec (let-two-uses t)
+    (let-two-at t)
+    let-two.Post
+    (let-two-first-of-requires t)
+    (let-two-second-of-requires t)
+    (let-two-sub-eval t)
+    (let-two-eval-requires t)
+    (let-two-enum-known-status t)
+    (let-two-kind-of-requires t)
+    (let-two-refuse-requires t)
+    (let-two-same-length t)
+    (let-two-same-length-2 t)
+    (let-two-returns t)
+    (let-two-left-of-requires t)
+    (let-two-right-of-requires t)
+    (let-two-add-at t)
+    (let-two-bind-requires t)
+    (let-two-add-t38 t)
+    (let-two-sub-under t)
+    (let-two-under-requires t)
+    (let-two-enum-told t)
+    (let-two-same-length-3 t)
+    (let-two-same-length-4 t)
+    (let-two-returns-2 t)
+    (let-two-same-length-5 t)
+    (let-two-same-length-6 t)
+    (let-two-returns-3 t))
+    (λ t. pair-lts.spec (pair-uses t)
+    (pair-at t)
+    pair.Post
+    (pair-first-of-requires t)
+    (pair-second-of-requires t)
+    (pair-sub-eval t)
+    (pair-eval-requires t)
+    (pair-enum-known-status t)
+    (pair-sub-eval-2 t)
+    (pair-eval-requires-2 t)
+    (pair-enum-known-status2 t)
+    (pair-make-pair-requires t)
+    (pair-enum-told t)
+    (pair-enum-told-2 t)
+    (pair-same-length t)
+    (pair-same-length-2 t)
+    (pair-returns t)
+    (pair-same-length-3 t)
+    (pair-same-length-4 t)
+    (pair-returns-2 t)
+    (pair-same-length-5 t)
+    (pair-same-length-6 t)
+    (pair-returns-3 t))
+    (λ t. place-lts.spec (place-uses t)
+    (place-at t)
+    place.Post
+    (place-argument-of-requires t)
+    (place-sub-eval t)
+    (place-eval-requires t)
+    (place-enum-known-status t)
+    (place-add-at t)
+    (place-add-at-2 t)
+    (place-bind-requires t)
+    (place-same-length t)
+    (place-same-length-2 t)
+    (place-returns t)
+    (place-add-place t)
+    (place-place-requires t)
+    (place-bind-requires-2 t)
+    (place-enum-told t)
+    (place-same-length-3 t)
+    (place-same-length-4 t)
+    (place-returns-2 t)
+    (place-same-length-5 t)
+    (place-same-length-6 t)
+    (place-returns-3 t))
+    (λ t. under-lts.spec
+    (bind-reads.Asked, bind-reads.Learnt, eval-below t, eval.Post)
+    (under-at t)
+    under.Post
+    (under-add-at t)
+    (under-bind-requires t)
+    (under-add-t16 t)
+    (under-eval-requires t)
+    (under-same-length t)
+    (under-same-length-2 t)
+    (under-returns t))
+    (λ t. unroll-lts.spec (unroll-uses t)
+    (unroll-at t)
+    unroll.Post
+    (unroll-second-of-requires t)
+    (unroll-sub-eval t)
+    (unroll-eval-requires t)
+    (unroll-enum-known-status t)
+    (unroll-unrolled-requires t)
+    (unroll-enum-told t)
+    (unroll-same-length t)
+    (unroll-same-length-2 t)
+    (unroll-returns t)
+    (unroll-same-length-3 t)
+    (unroll-same-length-4 t)
+    (unroll-returns-2 t))
+    λ t. wrap-lts.spec (wrap-uses t)
+    (wrap-at t)
+    wrap.Post
+    (wrap-second-of-requires t)
+    (wrap-sub-eval t)
+    (wrap-eval-requires t)
+    (wrap-enum-known-status t)
+    (wrap-make-single-requires t)
+    (wrap-enum-told t)
+    (wrap-same-length t)
+    (wrap-same-length-2 t)
+    (wrap-returns t)
+    (wrap-same-length-3 t)
+    (wrap-same-length-4 t)
+    (wrap-returns-2 t)

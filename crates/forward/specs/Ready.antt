@@ -1,0 +1,165 @@
+-- What evaluation asks for, and what it ensures. A run has the value graph up to `top` and fuel; a scope is `n` variables in the slots from
+-- `base` on, of which the first `q` are the ancilla parameters. Laws: proofs/Graphs, Runs, Steps.
+use Prim.Native.Nat.{ℕ, zero, suc, _+_, _*_, _-_, _≤_, _<_}
+use mathlib.Core.Path.{_≡_}
+use mathlib.Core.Bool.{true, not}
+use mathlib.Core.Option.{some}
+use mathlib.Core.List.{List, [], _∷_}
+use lib.ListN.{length, getD}
+use package.Rattle.rules.specs.Limits.{fits}
+use package.Rattle.rules.specs.Val.{Val}
+use package.Rattle.rules.specs.Run.{Res, Run, after, give, test}
+use package.Rattle.rules.specs.Yield.{mayYield}
+use package.Rattle.rules.specs.Machine.{State, onRoll, each, forwardStep, forward}
+use package.Rattle.calls.specs.Fields.{kindAt, lengthAt}
+use package.Rattle.calls.specs.Entries.{TypeEntry, termTrees, references, callAncillae}
+use package.Rattle.program.specs.Parts.{second, listed}
+use package.Rattle.values.specs.Nodes.{nodeBytes, valueAt, Agree, Heap}
+use package.Rattle.scopes.specs.Slots.{unknown, stateAt, Slots}
+use package.Rattle.yields.specs.Yields.{ancillaeAt, Ancillae, AcceptedTerms}
+use package.Rattle.forward.specs.Code.{treeAt, programAt, FewArguments, Code}
+use package.Rattle.forward.specs.Outcomes.{refusalOf, meaning}
+use Rattle.forward.specs.declared.outcomes.Status.{Status}
+use Rattle.forward.specs.declared.outcomes.Status.the-variants.{Value, Refused}
+use Rattle.forward.specs.declared.outcomes.Machine.{Machine}
+use Rattle.forward.specs.declared.outcomes.Scope.{Scope}
+use Rattle.forward.specs.declared.outcomes.Out.{Out}
+
+----------------------------------------------------------------
+-- The value graph in a run
+
+-- every node is right, and has a value within the limit (section 1)
+pub record Graph (heap : List ℕ) (top : ℕ) : Type 0 where
+  pub right : Heap heap top
+  pub short : (n : ℕ) → n < top → fits (valueAt heap n) ≡ true
+
+----------------------------------------------------------------
+-- Before
+
+-- Term `t` can be evaluated in a scope, with height `room` left: there is room for a node for each unit of fuel and `k` nodes more, and
+-- for `v` variables more than the height says. No node has the number that marks a variable as not known.
+pub record Ready (k v : ℕ) (p terms functions heap slots : List ℕ) (st : Machine) (sc : Scope) (t room : ℕ) : Type 0 where
+  pub code : Code p terms functions
+  pub term : t < length terms
+  pub few : FewArguments (treeAt p terms [] t)
+  pub graph : Graph heap (st .top)
+  pub held : Slots slots (sc .base + sc .n) (st .top)
+  pub ancillae : (i : ℕ) → i < sc .q → getD slots (sc .base + i) 0 < st .top
+  pub within : sc .q ≤ sc .n
+  pub nodes : nodeBytes * (st .top + st .fuel + k) ≤ length heap
+  pub small : st .top + st .fuel + k ≤ unknown
+  pub variables : sc .base + sc .n + v + 8 * room ≤ length slots
+  pub tall : k ≤ room
+
+----------------------------------------------------------------
+-- After
+
+-- A run that may have made `k` nodes more than it took fuel: older nodes and the slots below `m` are as they were, and its meaning is
+-- `res`, whatever the type entries are.
+pub record Ran (k : ℕ) (heap heap′ : List ℕ) (m : ℕ) (slots slots′ : List ℕ) (st : Machine) (out : Out) (res : List TypeEntry → Res Val) : Type 0 where
+  pub agree : Agree (st .top) heap heap′
+  pub graph : Graph heap′ (out .state .top)
+  pub below : (j : ℕ) → j < m → getD slots j 0 ≡ getD slots′ j 0
+  pub lengths : length slots ≡ length slots′
+  pub grows : st .top ≤ out .state .top
+  pub spends : out .state .fuel ≤ st .fuel
+  pub owes : out .state .top + out .state .fuel ≤ st .top + st .fuel + k
+  pub node : (n : ℕ) → out .status ≡ Value n → n < out .state .top
+  pub answer : (ys : List TypeEntry) → meaning heap′ out ≡ res ys
+
+-- The value `v` is made, or refused as too long at term `t` (14).
+pub record Makes (heap heap′ : List ℕ) (st : Machine) (out : Out) (t : ℕ) (v : Val) : Type 0 where
+  pub agree : Agree (st .top) heap heap′
+  pub graph : Graph heap′ (out .state .top)
+  pub grows : st .top ≤ out .state .top
+  pub spends : out .state .fuel ≡ st .fuel
+  pub one : out .state .top ≤ st .top + 1
+  pub node : (n : ℕ) → out .status ≡ Value n → n < out .state .top
+  pub answer : meaning heap′ out ≡ test (fits v) 14 t (give v) (st .fuel)
+
+----------------------------------------------------------------
+-- What is run
+
+-- the values of the ancilla parameters, and what is known of each variable
+abbrev pub ancillaeOf : List ℕ → List ℕ → Scope → List Val
+ancillaeOf heap slots sc = ancillaeAt heap slots (sc .base) (sc .q)
+
+abbrev pub stateOf : List ℕ → List ℕ → Scope → State
+stateOf heap slots sc = stateAt heap slots (sc .base) (sc .n)
+
+-- term `t`, from its entering on, with height `room`
+abbrev pub runOf : (p terms functions heap slots : List ℕ) → Machine → Scope → ℕ → ℕ → List TypeEntry → Res Val
+runOf p terms functions heap slots st sc t room ys =
+    forward fits (programAt p terms functions ys) room (ancillaeOf heap slots sc) (stateOf heap slots sc) (treeAt p terms ys t) (st .fuel)
+
+-- the same, once it is entered
+abbrev pub stepOf : (p terms functions heap slots : List ℕ) → Machine → Scope → ℕ → ℕ → List TypeEntry → Res Val
+stepOf p terms functions heap slots st sc t room ys =
+    forwardStep fits (programAt p terms functions ys) (forward fits (programAt p terms functions ys) (room - 1)) (ancillaeOf heap slots sc)
+    (stateOf heap slots sc) (treeAt p terms ys t) (st .fuel)
+
+-- the same in a scope with one variable more, known by its node
+abbrev pub underOf : (p terms functions heap slots : List ℕ) → Machine → Scope → ℕ → ℕ → ℕ → List TypeEntry → Res Val
+underOf p terms functions heap slots st sc node t room ys =
+    forward fits (programAt p terms functions ys) room (ancillaeOf heap slots sc) (some (valueAt heap node) ∷ stateOf heap slots sc) (treeAt p terms ys t) (st .fuel)
+
+----------------------------------------------------------------
+-- Calls
+
+-- the values in `n` slots, in order
+unfoldable pub valuesAt : List ℕ → List ℕ → ℕ → ℕ → List Val
+valuesAt heap slots from zero = []
+valuesAt heap slots from (suc n) = valueAt heap (getD slots from 0) ∷ valuesAt heap slots (from + 1) n
+
+-- The arguments of call `t` from ancilla term `k` of `count` on, the dynamic term last; then `next` with their values.
+abbrev pub argumentsOf : (p terms functions heap slots : List ℕ) → Machine → Scope → ℕ → ℕ → ℕ → ℕ → List TypeEntry → (List Val → Val → Run Val) → Res Val
+argumentsOf p terms functions heap slots st sc t room k count ys next =
+    after
+    (each (forward fits (programAt p terms functions ys) (room - 1) (ancillaeOf heap slots sc) (stateOf heap slots sc))
+    (termTrees (treeAt p terms ys) (references p (getD terms t 0 + 6 + 2 * k) (count - k))) (st .fuel))
+    (λ vs fuel. after
+    (forward fits (programAt p terms functions ys) (room - 1) (ancillaeOf heap slots sc) (stateOf heap slots sc) (treeAt p terms ys (listed p (getD terms t 0) count)) fuel)
+    (next vs))
+
+-- `next` with the values in the slots from ancilla argument `k` on, where `m` is the slot of the first argument; or the refusal
+unfoldable pub placedOf : List ℕ → List ℕ → ℕ → ℕ → ℕ → ℕ → Status → (List Val → Val → Run Val) → Res Val
+placedOf heap slots m k count fuel (Value node) next = next (valuesAt heap slots (m + k) (count - k)) (valueAt heap (getD slots (m + count) 0)) fuel
+placedOf heap slots m k count fuel (Refused why) next = refusalOf why
+
+-- The arguments stand in the slots behind the caller's scope, which is as it was.
+pub record Places (p terms functions heap heap′ slots slots′ : List ℕ) (st : Machine) (sc : Scope) (t room k count : ℕ) (out : Out) : Type 0 where
+  pub ran : Ran 0 heap heap′ (sc .base + sc .n) slots slots′ st out (λ ys. meaning heap′ out)
+  pub held : (n : ℕ) → out .status ≡ Value n → (j : ℕ) → k ≤ j → j ≤ count → getD slots′ (sc .base + sc .n + j) 0 < out .state .top
+  pub answer : (ys : List TypeEntry) (next : List Val → Val → Run Val)
+      → argumentsOf p terms functions heap slots st sc t room k count ys next ≡ placedOf heap′ slots′ (sc .base + sc .n) k count (out .state .fuel) (out .status) next
+
+-- a call of `count` ancilla terms, of which argument `k` is next
+pub record Calls (p terms : List ℕ) (t k count : ℕ) : Type 0 where
+  pub kind : kindAt p (getD terms t 0) ≡ 8
+  pub ancillae : count ≡ callAncillae (lengthAt p (getD terms t 0))
+  pub next : k ≤ count
+
+----------------------------------------------------------------
+-- Unrolls and cases
+
+-- What a roll holds is the answer (rules/specs/Machine, `onRoll`); it was within the limit before.
+pub record Unrolls (heap : List ℕ) (st : Machine) (node : ℕ) (r : Out) : Type 0 where
+  pub state : r .state ≡ st
+  pub below : (n : ℕ) → r .status ≡ Value n → n < st .top
+  pub answer : (t : ℕ) → meaning heap r ≡ onRoll (valueAt heap node) (λ v. test (fits v) 14 t (give v)) (st .fuel)
+
+-- The right branch of case `t` gave `out`, and the left branch's form can be asked about it.
+pub record CheckReady (p terms heap slots : List ℕ) (sc : Scope) (t : ℕ) (out : Out) : Type 0 where
+  pub entries : AcceptedTerms p terms
+  pub term : t < length terms
+  pub kind : kindAt p (getD terms t 0) ≡ 7
+  pub graph : Heap heap (out .state .top)
+  pub ancillae : Ancillae slots (sc .base) (sc .q) (out .state .top)
+  pub node : (n : ℕ) → out .status ≡ Value n → n < out .state .top
+
+-- The right branch of case `t` gave `out`; `r` is the answer, with the left branch's form asked whether it may yield it (15).
+pub record Checks (p terms heap slots : List ℕ) (sc : Scope) (t : ℕ) (out r : Out) : Type 0 where
+  pub state : r .state ≡ out .state
+  pub node : (n : ℕ) → r .status ≡ Value n → out .status ≡ Value n
+  pub answer : (ys : List TypeEntry) → meaning heap r
+      ≡ after (meaning heap out) (λ w. test (not (mayYield (ancillaeOf heap slots sc) (treeAt p terms ys (second p (getD terms t 0))) w)) 15 t (give w))
