@@ -1,9 +1,10 @@
 -- How the sources of codes come about: type entries of an accepted layout, no products yet, and the counts of entries.
-use Prim.Native.Nat.{ℕ, _<_, _≤_}
+use Prim.Native.Nat.{ℕ, _≤_}
 use native.Mathlib.Omega.{arith}
-use mathlib.Core.Path.{_≡_, _∙_}
+use mathlib.Core.Path.{_≡_, sym, ap, _∙_}
 use mathlib.Core.List.{List, [], map}
-use lib.ListN.{length, getD, length-map}
+use lib.ListN.{length, getD, take, length-map}
+use lib.Seq.{getD-take}
 use package.Rattle.calls.specs.Fields.{Layout}
 use package.Rattle.calls.specs.Entries.{typeAt}
 use package.Rattle.calls.specs.Named.{nodesOf, figures}
@@ -18,10 +19,15 @@ readable F low = record { field = F .types; lower = low; few = F .few-types }
 pub no-products : {xs types : List ℕ} (heap : List ℕ) → Readable xs types → Sources xs types heap 0
 no-products heap R = record { entries = R; products = record { held = omega arith; node = λ k l. absurd (omega arith) } }
 
--- counts that are the figures of calls/specs/Named
-pub counted : {xs types : List ℕ} (counts : List ℕ) → Readable xs types → length types ≤ length counts
-    → ((i : ℕ) → i < length types → getD counts i 0 ≡ getD (figures nodesOf [] (map (typeAt xs) types)) i 0) → Counted xs types counts
-counted {xs} {types} counts R held same = record {
-  held = held;
-  count = λ i l. same i l ∙ nodes-figure (map (typeAt xs) types) (R .lower) i (omega (arith, length-map types (typeAt xs)));
-}
+-- counts whose front is the figures of calls/specs/Named
+pub counted : {xs types nodes : List ℕ} → Readable xs types → length (map (typeAt xs) types) ≤ length nodes
+    → take (length (map (typeAt xs) types)) nodes ≡ figures nodesOf [] (map (typeAt xs) types) → Counted xs types nodes
+counted {xs} {types} {nodes} R room front =
+    let n : length (map (typeAt xs) types) ≡ length types = length-map types (typeAt xs) in
+    record {
+      held = omega arith;
+      count = λ i l.
+          sym (getD-take (length (map (typeAt xs) types)) nodes i 0 (omega arith))
+          ∙ ap (λ ns. getD ns i 0) front
+          ∙ nodes-figure (map (typeAt xs) types) (R .lower) i (omega arith);
+    }

@@ -1,4 +1,4 @@
--- The outermost node of a type, with the codes of its parts. Laws: proofs/Shapes.
+-- The outermost node of a type, with the codes of its parts. Laws: proofs/Outer.
 use Prim.Native.Nat.{ℕ, zero, suc, _≤_}
 use mathlib.Core.Path.{_≡_}
 use mathlib.Core.Bool.{_&&_, cond}

@@ -1,6 +1,6 @@
 // The outermost node of a type that a code is of, with the codes of its parts.
 ghost use mathlib.Core.Path.{_≡_};
-ghost use Prim.Native.Nat.{_+_, _*_, _<_, _≤_};
+ghost use Prim.Native.Nat.{_+_, _<_, _≤_};
 ghost use lib.ListN.{length, getD};
 ghost use Rattle.calls.specs.Entries.{typeAt};
 ghost use Rattle.types.specs.Codes.{Room, Readable, Sources, Known};
