@@ -5,8 +5,7 @@ use mathlib.Core.Path.{_≡_, refl, sym, ap, subst, _∙_}
 use mathlib.Core.Logic.{⊎-elim}
 use mathlib.Core.List.{List}
 use lib.ListN.{length, getD}
-use package.Rattle.calls.specs.Fields.{lengthAt, nextAt, kindAt, parametersAt, termLengths}
-use package.Rattle.calls.specs.Entries.{callAncillae}
+use package.Rattle.calls.specs.Fields.{lengthAt, kindAt, parametersAt, termLengths}
 use package.Rattle.program.specs.Parts.{first, TermField}
 use package.Rattle.program.proofs.Rooms.{term-kind, term-kind-room, var-room, two-room, case-room, call-sized, call-room, function-room}
 use package.Rattle.yields.specs.Yields.{Wraps}

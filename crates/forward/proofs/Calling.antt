@@ -2,7 +2,6 @@
 use Prim.Native.Nat.{ℕ, _+_, _*_, _-_, _≤_, _<_}
 use native.Mathlib.Omega.{arith}
 use native.Mathlib.Decide.{decLt}
-use native.Mathlib.Numerals.{add-one}
 use mathlib.Core.Path.{_≡_, sym, ap, ap₂, subst, _∙_}
 use mathlib.Core.Logic.{_⊎_, inr as right}
 use mathlib.Core.Option.{some}
@@ -12,22 +11,20 @@ use package.Rattle.rules.specs.Limits.{fits}
 use package.Rattle.rules.specs.Val.{Val}
 use package.Rattle.rules.specs.Term.{Term, Fun, nth, scope}
 use package.Rattle.rules.specs.Run.{Res, Run}
-use package.Rattle.rules.specs.Machine.{onSome, forwardStep, forward}
+use package.Rattle.rules.specs.Machine.{runForward, onSome, forwardStep, forward}
 use package.Rattle.calls.specs.Fields.{lengthAt}
 use package.Rattle.calls.specs.Entries.{TypeEntry, callAncillae}
 use package.Rattle.program.specs.Parts.{first, listed, body}
 use package.Rattle.values.specs.Nodes.{valueAt}
-use package.Rattle.scopes.specs.Slots.{unknown, meaning as slotMeaning, stateAt}
-use package.Rattle.scopes.proofs.Marks.{found-node}
-use package.Rattle.scopes.proofs.Scopes.{state-front}
-use package.Rattle.yields.specs.Yields.{ancillaeAt, Ancillae}
-use package.Rattle.yields.proofs.Ancillae.{state-ancillae}
+use package.Rattle.scopes.specs.Slots.{unknown}
+use package.Rattle.yields.specs.Yields.{Ancillae}
 use package.Rattle.forward.specs.Code.{treeAt, programAt}
 use package.Rattle.forward.specs.Ready.{Ready, Ran, ancillaeOf, stateOf, runOf, stepOf, valuesAt, argumentsOf, Places, Calls}
-use package.Rattle.forward.proofs.Trees.{tree-call, called-function, called-body}
+use package.Rattle.forward.proofs.Trees.{tree-call, called-function, called-tree, called-there}
 use package.Rattle.forward.proofs.Runs.{meaning-refused, says, slack, then, held-later}
 use package.Rattle.forward.proofs.Steps.{stepped}
-use package.Rattle.forward.proofs.Placing.{arguments, scope-values, placed-value, placed-refused, few-count, place-room}
+use package.Rattle.forward.proofs.Starting.{argumentScope, run-of-function}
+use package.Rattle.forward.proofs.Placing.{arguments, placed-value, placed-refused, few-count, place-room}
 use Rattle.forward.specs.declared.outcomes.Refusal.{Refusal}
 use Rattle.forward.specs.declared.outcomes.Status.the-variants.{Value, Refused}
 use Rattle.forward.specs.declared.outcomes.Machine.{Machine}
@@ -36,7 +33,7 @@ use Rattle.forward.specs.declared.outcomes.Out.{Out}
 
 -- the scope of the function that is called: its arguments
 abbrev pub inner : Scope → ℕ → Scope
-inner sc count = record { base = sc .base + sc .n; q = count; n = count + 1 }
+inner sc count = argumentScope (sc .base + sc .n) count
 
 module _ {p terms functions heap slots : List ℕ} {st : Machine} {sc : Scope} {t room : ℕ} (rd : Ready 1 0 p terms functions heap slots st sc t room)
     {count : ℕ} (C : Calls p terms t 0 count) {heap₁ slots₁ : List ℕ} {r₁ : Out} (D : Places p terms functions heap heap₁ slots slots₁ st sc t room 0 count r₁) where
@@ -67,13 +64,17 @@ module _ {p terms functions heap slots : List ℕ} {st : Machine} {sc : Scope} {
       go : Term → Run Val
       go = forward fits (programAt p terms functions ys) (room - 1) (ancillaeOf heap slots sc) (stateOf heap slots sc)
 
-  abbrev function : (ys : List TypeEntry) → (h : Fun) × (nth (programAt p terms functions ys) (first p at) ≡ some h) × (h .body ≡ treeAt p terms ys (body p (getD functions (first p at) 0)))
-  function ys = called-body (rd .code) ys (first p at) (called-function (rd .code) t (rd .term) (C .kind))
+  abbrev function : List TypeEntry → Fun
+  function ys = called-tree p terms functions ys (first p at)
+
+  -- the call, from its arguments on
+  from-arguments : (ys : List TypeEntry) → step ys ≡ argumentsOf p terms functions heap slots st sc t room 0 count ys (callee (function ys) ys)
+  from-arguments ys = step-call ys (function ys) (called-there p terms functions ys (first p at) (called-function (rd .code) t (rd .term) (C .kind)))
 
   pub call-refused : {why : Refusal} → r₁ .status ≡ Refused why → Ran 1 heap heap₁ m slots slots₁ st r₁ step
   call-refused {why} s =
-      slack (says (D .ran) (λ ys. meaning-refused heap₁ r₁ s ∙ sym (placed-refused heap₁ slots₁ m 0 count (r₁ .state .fuel) (callee (function ys .0) ys) s)
-      ∙ sym (D .answer ys (callee (function ys .0) ys)) ∙ sym (step-call ys (function ys .0) (function ys .1)))) 1 (omega arith)
+      slack (says (D .ran) (λ ys. meaning-refused heap₁ r₁ s ∙ sym (placed-refused heap₁ slots₁ m 0 count (r₁ .state .fuel) (callee (function ys) ys) s)
+      ∙ sym (D .answer ys (callee (function ys) ys)) ∙ sym (from-arguments ys))) 1 (omega arith)
 
   module _ {n : ℕ} (s : r₁ .status ≡ Value n) (g b : ℕ) (qg : g ≡ first p at) (qb : b ≡ body p (getD functions g 0)) where
     all-arguments : Calls p terms t count count
@@ -110,32 +111,16 @@ module _ {p terms functions heap slots : List ℕ} {st : Machine} {sc : Scope} {
       tall = omega arith;
     }
 
-    abbrev dynamic : Val
-    dynamic = valueAt heap₁ (getD slots₁ (m + count) 0)
-
-    call-ancillae : scope (valuesAt heap₁ slots₁ (m + 0) (count - 0)) [] ≡ ancillaeAt heap₁ slots₁ m count
-    unfolding ancillaeAt
-    call-ancillae =
-        ap (λ n. scope (valuesAt heap₁ slots₁ (m + 0) n) []) (let z : count - 0 ≡ count = omega arith in z)
-        ∙ scope-values heap₁ slots₁ m 0 count ∙ ap (ancillaeAt heap₁ slots₁ m) (let z : 0 + count ≡ count = omega arith in z)
-
-    call-state : some dynamic ∷ map some (ancillaeAt heap₁ slots₁ m count) ≡ stateAt heap₁ slots₁ m (count + 1)
-    call-state =
-        sym (ap (stateAt heap₁ slots₁ m) (add-one count) ∙ state-front heap₁ slots₁ m count
-        ∙ ap₂ _∷_ (ap (slotMeaning heap₁) (found-node (getD slots₁ (m + count) 0) (λ e. omega (arith, small-nodes, D .held n s count (omega arith) (omega arith)))))
-        (state-ancillae heap₁ slots₁ m count (r₁ .state .top) arguments-held small-nodes))
-
-    call-body : (ys : List TypeEntry) → function ys .0 .body ≡ treeAt p terms ys b
-    call-body ys = function ys .2 ∙ ap (treeAt p terms ys) (rw qg at (sym qb))
-
-    called-run : (ys : List TypeEntry) → callee (function ys .0) ys (valuesAt heap₁ slots₁ (m + 0) (count - 0)) dynamic (r₁ .state .fuel)
+    called-run : (ys : List TypeEntry) → callee (function ys) ys (valuesAt heap₁ slots₁ (m + 0) (count - 0)) (valueAt heap₁ (getD slots₁ (m + count) 0)) (r₁ .state .fuel)
         ≡ runOf p terms functions heap₁ slots₁ (r₁ .state) (inner sc count) b (room - 1) ys
+    unfolding runForward
     called-run ys =
-        ap₂ (λ a (T : Term). forward fits (programAt p terms functions ys) (room - 1) a (some dynamic ∷ map some a) T (r₁ .state .fuel)) call-ancillae (call-body ys)
-        ∙ ap (λ σ. forward fits (programAt p terms functions ys) (room - 1) (ancillaeAt heap₁ slots₁ m count) σ (treeAt p terms ys b) (r₁ .state .fuel)) call-state
+        ap₂ (λ i n. callee (function ys) ys (valuesAt heap₁ slots₁ i n) (valueAt heap₁ (getD slots₁ (m + count) 0)) (r₁ .state .fuel))
+        (let z : m + 0 ≡ m = omega arith in z) (let z : count - 0 ≡ count = omega arith in z)
+        ∙ run-of-function p terms functions heap₁ slots₁ (r₁ .state) m count arguments-held (D .held n s count (omega arith) (omega arith)) small-nodes (first p at) b (rw qg at qb) (room - 1) ys
 
     pub call-done : {heap₂ slots₂ : List ℕ} {r₂ : Out} → Ran 0 heap₁ heap₂ (m + (count + 1)) slots₁ slots₂ (r₁ .state) r₂ (runOf p terms functions heap₁ slots₁ (r₁ .state) (inner sc count) b (room - 1))
         → Ran 1 heap heap₂ m slots slots₂ st r₂ step
     call-done d =
-        slack (then (D .ran) (says d (λ ys. sym (called-run ys) ∙ sym (placed-value heap₁ slots₁ m 0 count (r₁ .state .fuel) (callee (function ys .0) ys) s)
-        ∙ sym (D .answer ys (callee (function ys .0) ys)) ∙ sym (step-call ys (function ys .0) (function ys .1)))) (omega arith)) 1 (omega arith)
+        slack (then (D .ran) (says d (λ ys. sym (called-run ys) ∙ sym (placed-value heap₁ slots₁ m 0 count (r₁ .state .fuel) (callee (function ys) ys) s)
+        ∙ sym (D .answer ys (callee (function ys) ys)) ∙ sym (from-arguments ys))) (omega arith)) 1 (omega arith)

@@ -7,7 +7,7 @@ use mathlib.Core.List.{List}
 use lib.ListN.{length, getD}
 use package.Rattle.rules.specs.Limits.{fits}
 use package.Rattle.rules.specs.Val.{Val, roll}
-use package.Rattle.rules.specs.Run.{ok, stuck, Run, after, give, test}
+use package.Rattle.rules.specs.Run.{stuck, Run, after, give, test}
 use package.Rattle.rules.specs.Yield.{mayYield}
 use package.Rattle.rules.specs.Machine.{onRoll}
 use package.Rattle.rules.proofs.Run.{via}
@@ -23,7 +23,7 @@ use package.Rattle.scopes.specs.declared.slots.Found.the-variants.{Node, Unknow
 use package.Rattle.yields.specs.Yields.{Yields, MayYield}
 use package.Rattle.yields.proofs.Entries.{second-lower}
 use package.Rattle.forward.specs.Code.{treeAt}
-use package.Rattle.forward.specs.Outcomes.{refusalOf, answerOf, meaning, foundOut}
+use package.Rattle.forward.specs.Outcomes.{refusalOf, meaning, foundOut}
 use package.Rattle.forward.specs.Ready.{Graph, Unrolls, CheckReady, Checks, ancillaeOf}
 use package.Rattle.forward.proofs.Runs.{meaning-value, meaning-refused, refusal-after}
 use package.Rattle.forward.proofs.Making.{test-true}

@@ -13,7 +13,11 @@ pub mod Leaves
 pub mod Steps
 -- the kinds that bind variables
 pub mod Binds
+-- arguments as a scope, and the run of a function
+pub mod Starting
 -- the arguments of a call
 pub mod Placing
 -- calls
 pub mod Calling
+-- accepted programs
+pub mod Accepted

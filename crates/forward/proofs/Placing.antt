@@ -10,7 +10,7 @@ use lib.Seq.{getD-set-same, getD-set-other}
 use package.Rattle.octets.specs.Numbers.{get16}
 use package.Rattle.rules.specs.Limits.{fits}
 use package.Rattle.rules.specs.Val.{Val}
-use package.Rattle.rules.specs.Term.{Term, scope}
+use package.Rattle.rules.specs.Term.{Term}
 use package.Rattle.rules.specs.Run.{Res, ok, stop, stuck, Run, after}
 use package.Rattle.rules.proofs.Run.{via}
 use package.Rattle.rules.specs.Machine.{each, forward}
@@ -19,7 +19,6 @@ use package.Rattle.calls.specs.Entries.{TypeEntry, termTrees, references, callA
 use package.Rattle.program.specs.Parts.{listed}
 use package.Rattle.values.specs.Nodes.{valueAt}
 use package.Rattle.values.proofs.Heaps.{value-kept}
-use package.Rattle.yields.specs.Yields.{ancillaeAt}
 use package.Rattle.forward.specs.Code.{treeAt, programAt}
 use package.Rattle.forward.specs.Outcomes.{refusalOf}
 use package.Rattle.forward.specs.Ready.{Ready, Ran, ancillaeOf, stateOf, runOf, valuesAt, argumentsOf, placedOf, Places, Calls}
@@ -88,19 +87,6 @@ values-none heap slots from n e = rw e
 values-front : (heap slots : List ℕ) (from n n′ : ℕ) → n ≡ suc n′ → valuesAt heap slots from n ≡ valueAt heap (getD slots from 0) ∷ valuesAt heap slots (from + 1) n′
 unfolding valuesAt
 values-front heap slots from n n′ e = rw e
-
--- parameters bound in order are the scope of the ancilla parameters
-ancillae-front : (heap slots : List ℕ) (base q : ℕ) → valueAt heap (getD slots (base + q) 0) ∷ ancillaeAt heap slots base q ≡ ancillaeAt heap slots base (suc q)
-unfolding ancillaeAt
-ancillae-front heap slots base q = refl
-
-pub scope-values : (heap slots : List ℕ) (base q n : ℕ) → scope (valuesAt heap slots (base + q) n) (ancillaeAt heap slots base q) ≡ ancillaeAt heap slots base (q + n)
-unfolding valuesAt scope
-scope-values heap slots base q zero = ap (ancillaeAt heap slots base) (let z : q ≡ q + 0 = omega arith in z)
-scope-values heap slots base q (suc n) =
-    ap₂ (λ i (l : List Val). scope (valuesAt heap slots i n) l) (let z : base + q + 1 ≡ base + suc q = omega arith in z) (ancillae-front heap slots base q)
-    ∙ scope-values heap slots base (suc q) n
-    ∙ ap (ancillaeAt heap slots base) (let z : suc q + n ≡ q + suc n = omega arith in z)
 
 pub placed-value : (heap slots : List ℕ) (m k count fuel : ℕ) {s : Status} {node : ℕ} (next : List Val → Val → Run Val) → s ≡ Value node
     → placedOf heap slots m k count fuel s next ≡ next (valuesAt heap slots (m + k) (count - k)) (valueAt heap (getD slots (m + count) 0)) fuel

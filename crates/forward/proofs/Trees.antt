@@ -5,9 +5,9 @@ use native.Mathlib.Omega.{arith}
 use native.Mathlib.Decide.{decLt}
 use mathlib.Core.Path.{_≡_, refl, sym, ap, subst, _∙_}
 use mathlib.Core.Bool.{true}
-use mathlib.Core.Option.{some}
+use mathlib.Core.Option.{none, some}
 use mathlib.Core.List.{List, [], _∷_, _++_, map}
-use lib.ListN.{length, getD}
+use lib.ListN.{length, getD, length-map}
 use package.Rattle.octets.specs.Numbers.{get16}
 use package.Rattle.rules.specs.Term.{Term, var, tunit, tinl, tinr, tpair, tlet, tletp, tcase, tcall, troll, tunroll, count, Fun, nth, entry}
 use package.Rattle.rules.proofs.Basics.{given, none≢some, some-inj}
@@ -231,26 +231,50 @@ nth-map f [] g e = absurd (none≢some e)
 nth-map f (y ∷ l) zero e = ap (λ x. some (f x)) (some-inj e)
 nth-map f (y ∷ l) (suc g) e = nth-map f l g e
 
+nth-none : {A : Type 0} (l : List A) (g : ℕ) → length l ≤ g → nth l g ≡ none
+unfolding nth
+nth-none [] g h = refl
+nth-none (x ∷ l) zero h = absurd (omega arith)
+nth-none (x ∷ l) (suc g) h = nth-none l g (omega arith)
+
 nth-there : (l : List ℕ) (g : ℕ) → g < length l → nth l g ≡ some (getD l g 0)
 unfolding nth
 nth-there [] g h = absurd (omega arith)
 nth-there (x ∷ l) zero h = refl
 nth-there (x ∷ l) (suc g) h = nth-there l g (omega arith)
 
-module _ {p terms functions : List ℕ} (K : Code p terms functions) where
-  -- it is there
-  pub called-function : (t : ℕ) → t < length terms → kindAt p (getD terms t 0) ≡ 8 → first p (getD terms t 0) < length functions
-  unfolding functionsOfTerm
-  called-function t l e =
-      below-head (length functions) (first p (getD terms t 0)) []
-      (subst (λ x. below (length functions) (functionsOfTerm x) ≡ true) (get-map (termAt p) terms t n-unit l ∙ term-call p (getD terms t 0) e) (K .called t l)) .0
+-- it is there
+pub called-function : {p terms functions : List ℕ} → Code p terms functions → (t : ℕ) → t < length terms → kindAt p (getD terms t 0) ≡ 8
+    → first p (getD terms t 0) < length functions
+unfolding functionsOfTerm
+called-function {p} {terms} {functions} K t l e =
+    below-head (length functions) (first p (getD terms t 0)) []
+    (subst (λ x. below (length functions) (functionsOfTerm x) ≡ true) (get-map (termAt p) terms t n-unit l ∙ term-call p (getD terms t 0) e) (K .called t l)) .0
 
-  -- and this is its body
-  pub called-body : (ys : List TypeEntry) (g : ℕ) → g < length functions
-      → (h : Fun) × (nth (programAt p terms functions ys) g ≡ some h) × (h .body ≡ treeAt p terms ys (body p (getD functions g 0)))
-  unfolding programOf functionOf
-  called-body ys g l = (
-    functionOf ys (map (termAt p) terms) (functionAt p (getD functions g 0)),
-    nth-map (functionOf ys (map (termAt p) terms)) (map (functionAt p) functions) g (nth-map (functionAt p) functions g (nth-there functions g l)),
-    ap (termOf ys (map (termAt p) terms)) (function-body p (getD functions g 0)),
-  )
+module _ (p terms functions : List ℕ) (ys : List TypeEntry) (g : ℕ) where
+  pub called-entry : g < length functions → nth (map (functionAt p) functions) g ≡ some (functionAt p (getD functions g 0))
+  called-entry l = nth-map (functionAt p) functions g (nth-there functions g l)
+
+  -- and this is it
+  abbrev pub called-tree : Fun
+  called-tree = functionOf ys (map (termAt p) terms) (functionAt p (getD functions g 0))
+
+  pub called-there : g < length functions → nth (programAt p terms functions ys) g ≡ some called-tree
+  unfolding programOf
+  called-there l = nth-map (functionOf ys (map (termAt p) terms)) (map (functionAt p) functions) g (called-entry l)
+
+  pub called-body : called-tree .body ≡ treeAt p terms ys (body p (getD functions g 0))
+  unfolding functionOf
+  called-body = ap (termOf ys (map (termAt p) terms)) (function-body p (getD functions g 0))
+
+  as-many : length (programAt p terms functions ys) ≡ length functions
+  unfolding programOf
+  as-many = length-map (map (functionAt p) functions) (functionOf ys (map (termAt p) terms)) ∙ length-map functions (functionAt p)
+
+  -- there is no other
+  pub called-only : {h : Fun} → nth (programAt p terms functions ys) g ≡ some h → (g < length functions) × (called-tree ≡ h)
+  called-only {h} e = go (decLt g (length functions))
+    where
+      go : Dec (g < length functions) → (g < length functions) × (called-tree ≡ h)
+      go (yes l) = (l, some-inj (sym (called-there l) ∙ e))
+      go (no l) = absurd (none≢some (sym (nth-none (programAt p terms functions ys) g (let z : length (programAt p terms functions ys) ≡ length functions = as-many in omega arith)) ∙ e))
