@@ -14,12 +14,26 @@ const PLUS: u16 = 0;
 const MAP: u16 = 3;
 const REVERSE: u16 = 5;
 
+/// A run to measure: a function of `samples::library`, its ancillae and its value.
+pub struct Sample {
+    pub name: &'static str,
+    pub function: u16,
+    pub ancillae: Vec<u8>,
+    pub value: Vec<u8>,
+}
+
+pub fn run_samples() -> [Sample; 3] {
+    let bits = |count: usize| list_bytes(&(0..count).map(|n| vec![1 + (n % 3 / 2) as u8, 0]).collect::<Vec<_>>());
+    let of_list = |name, function, count| Sample { name, function, ancillae: Vec::new(), value: bits(count) };
+    let plus = Sample { name: "plus 0 of 255", function: PLUS, ancillae: nat_bytes(0), value: nat_bytes(255) };
+    [plus, of_list("reverse of a list of 92", REVERSE, 92), of_list("map over a list of 125", MAP, 125)]
+}
+
 pub fn bench() {
     let program = library().bytes();
-    let bits = |count: usize| list_bytes(&(0..count).map(|n| vec![1 + (n % 3 / 2) as u8, 0]).collect::<Vec<_>>());
-    bench_run("plus 0 of 255", &program, PLUS, &nat_bytes(0), &nat_bytes(255));
-    bench_run("reverse of a list of 92", &program, REVERSE, &[], &bits(92));
-    bench_run("map over a list of 125", &program, MAP, &[], &bits(125));
+    for sample in run_samples() {
+        bench_run(sample.name, &program, sample.function, &sample.ancillae, &sample.value);
+    }
     bench_check();
     bench_journal(&program);
 }
@@ -59,8 +73,14 @@ fn measure_run(program: &[u8], function: u16, ancillae: &[u8], value: &[u8], dir
     measured
 }
 
-/// List functions over and over until the program is near 1,024 terms.
 fn bench_check() {
+    let (program, terms) = largest_program();
+    let best = best_of(500, || black_box(check(black_box(&program))).is_ok());
+    println!("check of {terms} terms, {} bytes: {:.1} ns a term", program.len(), best / terms as f64);
+}
+
+/// List functions over and over until the program is near 1,024 terms: its bytes, and its terms.
+pub fn largest_program() -> (Vec<u8>, usize) {
     let element = boolean();
     let mut functions = vec![not()];
     let mut terms = functions[0].body.count();
@@ -77,9 +97,7 @@ fn bench_check() {
         terms += next.body.count();
         functions.push(next);
     }
-    let program = Draft { functions }.bytes();
-    let best = best_of(500, || black_box(check(black_box(&program))).is_ok());
-    println!("check of {terms} terms, {} bytes: {:.1} ns a term", program.len(), best / terms as f64);
+    (Draft { functions }.bytes(), terms)
 }
 
 fn bench_journal(program: &[u8]) {
@@ -108,7 +126,7 @@ fn bench_journal(program: &[u8]) {
 }
 
 /// The shortest of several timings, in nanoseconds.
-fn best_of(times: usize, mut work: impl FnMut() -> bool) -> f64 {
+pub fn best_of(times: usize, mut work: impl FnMut() -> bool) -> f64 {
     let mut best = f64::MAX;
     for _ in 0..times {
         let start = Instant::now();

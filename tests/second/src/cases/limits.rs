@@ -28,6 +28,7 @@ fn programs() -> Vec<Vec<u8>> {
         programs.push(parameters(1 - past));
         programs.extend(binders(VARIABLES + past));
         programs.extend(large_types(past));
+        programs.push(doubling_types(past == 1));
     }
     programs
 }
@@ -96,6 +97,18 @@ fn large_types(past: usize) -> Vec<Vec<u8>> {
         program_of(vec![doubled(8), right, unit], &paired, pair(variable(0), variable(1))),
         program_of(vec![unfolding.clone()], &opened, unroll(&unfolding, variable(0))),
     ]
+}
+
+/// As many types as there can be, each a product of the one before with itself: the last has over 2^255 nodes as a tree.
+/// That is accepted, and quickly, unless a function names it.
+fn doubling_types(named: bool) -> Vec<u8> {
+    let mut a = Assembler::default();
+    let unit = a.unit_type();
+    let last = (1..TYPES).fold(unit, |ty, _| a.product(ty, ty));
+    let body = a.variable(0);
+    let parameter = if named { last } else { unit };
+    a.function(parameter, &[parameter], body);
+    a.bytes()
 }
 
 /// Given values and ancillae, and values made by a run either way.
