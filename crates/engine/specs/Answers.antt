@@ -1,0 +1,73 @@
+-- The answers of the public calls in the definitions' terms (section 4): of each kind of refusal its number and place, of each answer
+-- what calls/specs/Runs says it is.
+use Prim.Native.Nat.{ℕ}
+use package.Rattle.rules.specs.Val.{size}
+use package.Rattle.calls.specs.Answer.{Answer, accepted, refused}
+use package.Rattle.calls.specs.Runs.{Ran}
+use package.Rattle.engine.specs.declared.answers.Refusal.{Refusal}
+use package.Rattle.engine.specs.declared.answers.Refusal.the-variants.{Workspace, Field, Limit, Reference, NamedType, Mismatch, Scope, Usage, Function, Values, ValueType, Fuel, Height, Long, FirstMatch, NoInput, Output, Journal, Standing, Full}
+use package.Rattle.engine.specs.declared.answers.CheckAnswer.{CheckAnswer}
+use package.Rattle.engine.specs.declared.answers.CheckAnswer.the-variants as checks
+use package.Rattle.engine.specs.declared.answers.RunAnswer.{RunAnswer}
+use package.Rattle.engine.specs.declared.answers.RunAnswer.the-variants as runs
+
+-- the number of a refusal: section 4's table
+abbrev pub numberOf : Refusal → ℕ
+numberOf Workspace = 1
+numberOf (Field at) = 2
+numberOf (Limit at) = 3
+numberOf (Reference at) = 4
+numberOf (NamedType at) = 5
+numberOf (Mismatch at) = 6
+numberOf (Scope at) = 7
+numberOf (Usage at) = 8
+numberOf Function = 9
+numberOf Values = 10
+numberOf ValueType = 11
+numberOf (Fuel k) = 12
+numberOf (Height k) = 13
+numberOf (Long k) = 14
+numberOf (FirstMatch k) = 15
+numberOf (NoInput k) = 16
+numberOf Output = 17
+numberOf Journal = 18
+numberOf Standing = 19
+numberOf Full = 20
+
+-- its place: for 2 to 8 the offset of the field's first byte, for 12 to 16 the term entry, otherwise 0 (section 4)
+abbrev pub placeOf : Refusal → ℕ
+placeOf Workspace = 0
+placeOf (Field at) = at
+placeOf (Limit at) = at
+placeOf (Reference at) = at
+placeOf (NamedType at) = at
+placeOf (Mismatch at) = at
+placeOf (Scope at) = at
+placeOf (Usage at) = at
+placeOf Function = 0
+placeOf Values = 0
+placeOf ValueType = 0
+placeOf (Fuel k) = k
+placeOf (Height k) = k
+placeOf (Long k) = k
+placeOf (FirstMatch k) = k
+placeOf (NoInput k) = k
+placeOf Output = 0
+placeOf Journal = 0
+placeOf Standing = 0
+placeOf Full = 0
+
+-- check answers only that it accepts, or a refusal (section 4)
+abbrev pub checkAnswer : CheckAnswer → Answer (Unit {0})
+checkAnswer checks.Accepted = accepted tt
+checkAnswer (checks.Refused r) = refused (numberOf r) (placeOf r)
+
+-- a run answers the value's length and the steps, or a refusal (section 4)
+abbrev pub runAnswer : RunAnswer → Answer (ℕ × ℕ)
+runAnswer (runs.Ran d) = accepted (d .len, d .steps)
+runAnswer (runs.Refused r) = refused (numberOf r) (placeOf r)
+
+-- what is answered of a run: of its value the length alone, since the value itself fills the output (section 4)
+abbrev pub summary : Answer Ran → Answer (ℕ × ℕ)
+summary (accepted r) = accepted (size (r .value), r .steps)
+summary (refused n p) = refused n p

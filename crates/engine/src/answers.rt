@@ -1,0 +1,44 @@
+// What the calls answer (document 01, section 4). Which number and place a refusal has, and what an answer is in the definitions'
+// terms: specs/Answers.
+
+// A refusal by its kind, in the order of section 4's table, 1 to 20, with its place: the offset of a field's first byte (2 to 8), or a
+// term entry (12 to 16); the others have none.
+pub enum Refusal {
+    Workspace,
+    Field(usize),
+    Limit(usize),
+    Reference(usize),
+    NamedType(usize),
+    Mismatch(usize),
+    Scope(usize),
+    Usage(usize),
+    Function,
+    Values,
+    ValueType,
+    Fuel(u16),
+    Height(u16),
+    Long(u16),
+    FirstMatch(u16),
+    NoInput(u16),
+    Output,
+    Journal,
+    Standing,
+    Full,
+}
+
+// Check and open answer only that they accept.
+pub enum CheckAnswer {
+    Accepted,
+    Refused(Refusal),
+}
+
+// A value's length, and the steps.
+pub struct Done {
+    pub len: u16,
+    pub steps: u16,
+}
+
+pub enum RunAnswer {
+    Ran(Done),
+    Refused(Refusal),
+}

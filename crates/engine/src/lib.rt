@@ -1,0 +1,2 @@
+// The public calls (document 01, section 4): none asks anything of its caller, and each contract is an equation with calls/specs.
+pub mod answers;
