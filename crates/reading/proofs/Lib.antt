@@ -5,8 +5,10 @@ pub mod Pending
 pub mod Ends
 -- bytes that are one value; the parts of a pair
 pub mod Whole
--- values one after another
+-- values one after another, counted
 pub mod Many
+-- values one after another, and where each begins
+pub mod Walks
 -- closed types put for variables
 pub mod Plugs
 -- the types that cells stand for
