@@ -9,6 +9,8 @@ pub mod Rooms
 pub mod Inside
 -- one field placed: the layout and its counts with a field more
 pub mod Placing
+-- one field read: its tests and its answer
+pub mod Found
 -- the pass over the fields
 pub mod Reading
 -- runs of references, and what an entry names

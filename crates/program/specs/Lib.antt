@@ -1,6 +1,8 @@
 -- What the code says of programs. The modules in reading order:
 -- where the fields of a program's entries stand
 pub mod Places
+-- what reading one field answers
+pub mod Found
 -- the parts of an entry's field, and fields that are well-formed
 pub mod Parts
 -- the references of an entry, as runs in its field

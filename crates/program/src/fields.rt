@@ -5,6 +5,8 @@ ghost use Prim.Native.Nat.{_+_, _≤_};
 ghost use lib.ListN.{length, getD};
 ghost use Rattle.calls.specs.Fields.{tagAt, lengthAt, nextAt, kindAt, parametersAt, typeLengths, termLengths, callLength, typeLength, termLength, functionLength, bodyFits, wellFormed};
 ghost use Rattle.program.specs.Places.{parametersWithin, frontsOf, Placeable, PlacingMeans, Buffers, FieldsMean};
+use crate::reader;
+use crate::reader::Field;
 
 // The body length of each kind of type, then of term; a call's (8) is by its own rule.
 const TYPE_LENGTHS: [u16; 5] = [1, 5, 5, 3, 2];
@@ -263,15 +265,15 @@ pub fn layout(p: &[u8], types: &mut [u16], terms: &mut [u16], functions: &mut [u
     let mut at = 0;
     let mut last = 1;
     while at < p.len() {
-        if !well_formed(p, at, last) {
+        let Field::Whole { tag, next } = reader::read_field(p, at, last) else {
             return Fields::Malformed(at);
-        }
+        };
         let Placing::More(more) = place(p, at, counts, types, terms, functions) else {
             return Fields::Over(at);
         };
         counts = more;
-        last = tag_at(p, at);
-        at = next_at(p, at);
+        last = tag;
+        at = next;
     }
     Fields::Read(counts)
 }

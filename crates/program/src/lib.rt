@@ -1,4 +1,5 @@
 // Programs as bytes: reading their fields and entries, against calls/specs/Fields and Entries.
 pub mod fields;
+pub mod reader;
 pub mod signatures;
 pub mod views;

@@ -3,9 +3,9 @@ use native.Mathlib.Omega.{arith}
 use mathlib.Core.Path.{_≡_, refl, _∙_}
 use lib.ListN.{length}
 use Rattle.rules.specs.Limits.{maxProgramBytes}
-use Rattle.program.proofs.Formed.{denied, not-denied}
+use Rattle.program.proofs.Found.{none-formed, whole-formed, whole-tag, whole-next}
 use Rattle.program.proofs.Placing.{buffers-kept}
-use Rattle.program.proofs.Reading.{next-after, next-inside, field-inside, Reading, layout-over, reading-starts, reading-ends, reading-malformed, reading-over, reading-placeable, reading-more}
+use Rattle.program.proofs.Reading.{next-after, next-inside, Reading, layout-over, reading-starts, reading-ends, reading-malformed, reading-over, reading-placeable, reading-more}
 use Rattle.program.proofs.fields.layout.Statement.{statement}
 use Rattle.program.proofs.fields.layout.Tie as tie
 
@@ -24,71 +24,71 @@ loop-holds : tie.Need-loop-holds Inv-loop μ-loop
 unfolding maxProgramBytes
 loop-holds c = (reading-starts _ _ _ _ (c .if1 .left) (c .before .before .before .before .before .pre), refl, refl, refl)
 
-well-formed-requires : tie.Need-well-formed-requires Inv-loop μ-loop
-well-formed-requires c κs = c .before .loop .inv .0 .inside
+read-field-requires : tie.Need-read-field-requires Inv-loop μ-loop
+read-field-requires c κs = c .before .loop .inv .0 .inside
 
-same-length : tie.Need-same-length Inv-loop μ-loop
-same-length c = c .before .before .before .loop .inv .1
-
-same-length-2 : tie.Need-same-length-2 Inv-loop μ-loop
-same-length-2 c = c .before .before .before .loop .inv .2
-
-same-length-3 : tie.Need-same-length-3 Inv-loop μ-loop
-same-length-3 c = c .before .before .before .loop .inv .3
-
-returns-2 : tie.Need-returns-2 Inv-loop μ-loop
-returns-2 c = let turn = c .before .before .before .loop .inv .0 in
-    record { answer = reading-malformed turn (c .before .before .loop-test .taken) (denied (c .before .well-formed .ensures) (c .if2 .taken)); counted = tt; buffers = turn .buffers }
-
-place-requires : tie.Need-place-requires Inv-loop μ-loop
-place-requires c κs = reading-placeable (c .before .before .before .before .before .before .loop .inv .0) (c .before .before .before .before .before .loop-test .taken) (not-denied (c .before .before .before .before .well-formed .ensures) (c .before .before .before .if2 .left))
-
-enum-known-more : tie.Need-enum-known-more Inv-loop μ-loop
-enum-known-more c = c .match .keys1
+enum-known-tag : tie.Need-enum-known-tag Inv-loop μ-loop
+enum-known-tag c = c .match .keys1
 
 enum-told : tie.Need-enum-told Inv-loop μ-loop
 enum-told c = c .match .keys2
 
+same-length : tie.Need-same-length Inv-loop μ-loop
+same-length c = c .before .before .before .before .loop .inv .1
+
+same-length-2 : tie.Need-same-length-2 Inv-loop μ-loop
+same-length-2 c = c .before .before .before .before .loop .inv .2
+
+same-length-3 : tie.Need-same-length-3 Inv-loop μ-loop
+same-length-3 c = c .before .before .before .before .loop .inv .3
+
+returns-2 : tie.Need-returns-2 Inv-loop μ-loop
+returns-2 c = let turn = c .before .before .before .before .loop .inv .0 in
+    record { answer = reading-malformed turn (c .before .before .before .loop-test .taken) (none-formed _ _ _ (rw (c .enum-told .given .1) at (c .before .before .read-field .ensures))); counted = tt; buffers = turn .buffers }
+
+place-requires : tie.Need-place-requires Inv-loop μ-loop
+place-requires c κs = reading-placeable (c .before .before .before .before .before .before .before .before .loop .inv .0) (c .before .before .before .before .before .before .before .loop-test .taken) (whole-formed _ _ _ _ _ (rw (c .before .before .before .before .tag .given .1) at (c .before .before .before .before .before .before .read-field .ensures)))
+
+enum-known-more : tie.Need-enum-known-more Inv-loop μ-loop
+enum-known-more c = c .match2 .keys1
+
+enum-told-2 : tie.Need-enum-told-2 Inv-loop μ-loop
+enum-told-2 c = c .match2 .keys2
+
 same-length-4 : tie.Need-same-length-4 Inv-loop μ-loop
-same-length-4 c = c .before .before .before .before .before .before .before .before .place .kept .1 .1 .1 .0 ∙ c .before .before .before .before .before .before .before .before .before .before .before .before .before .before .before .loop .inv .1
+same-length-4 c = c .before .before .before .before .before .before .before .before .place .kept .1 .1 .1 .0 ∙ c .before .before .before .before .before .before .before .before .before .before .before .before .before .before .before .before .before .loop .inv .1
 
 same-length-5 : tie.Need-same-length-5 Inv-loop μ-loop
-same-length-5 c = c .before .before .before .before .before .before .before .before .place .kept .1 .1 .1 .1 .0 ∙ c .before .before .before .before .before .before .before .before .before .before .before .before .before .before .before .loop .inv .2
+same-length-5 c = c .before .before .before .before .before .before .before .before .place .kept .1 .1 .1 .1 .0 ∙ c .before .before .before .before .before .before .before .before .before .before .before .before .before .before .before .before .before .loop .inv .2
 
 same-length-6 : tie.Need-same-length-6 Inv-loop μ-loop
-same-length-6 c = c .before .before .before .before .before .before .before .before .place .kept .1 .1 .1 .1 .1 .0 ∙ c .before .before .before .before .before .before .before .before .before .before .before .before .before .before .before .loop .inv .3
+same-length-6 c = c .before .before .before .before .before .before .before .before .place .kept .1 .1 .1 .1 .1 .0 ∙ c .before .before .before .before .before .before .before .before .before .before .before .before .before .before .before .before .before .loop .inv .3
 
 returns-3 : tie.Need-returns-3 Inv-loop μ-loop
-returns-3 c = let tested = c .before .before .before .before .before .before .before .before .before .before .before .before in
-    let turn = tested .before .before .before .loop .inv .0 in
+returns-3 c = let turn = c .before .before .before .before .before .before .before .before .before .before .before .before .before .before .before .before .before .loop .inv .0 in
     let kept = c .before .before .before .before .before .before .before .before .place .kept .1 .1 .1 in
+    let formed = whole-formed _ _ _ _ _ (rw (c .before .before .before .before .before .before .before .before .before .before .before .before .before .tag .given .1) at (c .before .before .before .before .before .before .before .before .before .before .before .before .before .before .before .read-field .ensures)) in
     record {
-      answer = reading-over turn (tested .before .before .loop-test .taken) (not-denied (tested .before .well-formed .ensures) (tested .if2 .left)) (rw (c .enum-told .given .1) at (c .before .before .before .before .before .before .before .before .place .ensures));
+      answer = reading-over turn (c .before .before .before .before .before .before .before .before .before .before .before .before .before .before .before .before .loop-test .taken) formed (rw (c .enum-told2 .given .1) at (c .before .before .before .before .before .before .before .before .place .ensures));
       counted = tt;
       buffers = buffers-kept (turn .buffers) (kept .0) (kept .1 .0) (kept .1 .1 .0);
     }
 
-tag-at-requires : tie.Need-tag-at-requires Inv-loop μ-loop
-tag-at-requires c κs = tt
-
-next-at-requires : tie.Need-next-at-requires Inv-loop μ-loop
-next-at-requires c κs = let tested = c .before .before .before .before .before .before .before .before .before .before .before .before .before .before in field-inside _ _ _ (not-denied (tested .before .well-formed .ensures) (tested .if2 .left))
-
 loop-less : tie.Need-loop-less Inv-loop μ-loop
-loop-less c = let tested = c .before .before .before .before .before .before .before .before .before .before .before .before .before .before .before in
+loop-less c = let whole = rw (c .before .before .before .before .before .before .before .before .before .before .before .before .before .before .tag .given .1) at (c .before .before .before .before .before .before .before .before .before .before .before .before .before .before .before .before .read-field .ensures) in
     omega (
       arith,
-      c .next-at .ensures,
+      whole-next _ _ _ _ _ whole,
       next-after (c .before .before .before .before .before .before .before .before .before .before .before .before .before .before .before .before .before .before .before .before .before .before .before .before .args .p .now) (c .before .before .before .before .before .before .before .before .before .before .before .before .before .before .before .before .before .before .loop .at),
-      next-inside _ _ _ (not-denied (tested .before .well-formed .ensures) (tested .if2 .left)),
+      next-inside _ _ _ (whole-formed _ _ _ _ _ whole),
     )
 
 loop-again : tie.Need-loop-again Inv-loop μ-loop
-loop-again c = let tested = c .before .before .before .before .before .before .before .before .before .before .before .before .before .before .before in
-    let turn = tested .before .before .before .loop .inv in
-    let kept = c .before .before .before .before .before .before .before .before .before .before .before .place .kept .1 .1 .1 in (
-      reading-more (turn .0) (tested .before .before .loop-test .taken) (not-denied (tested .before .well-formed .ensures) (tested .if2 .left))
-          (rw (c .before .before .before .more .given .1) at (c .before .before .before .before .before .before .before .before .before .before .before .place .ensures)) (buffers-kept (turn .0 .buffers) (kept .0) (kept .1 .0) (kept .1 .1 .0)) (c .before .tag-at .ensures) (c .next-at .ensures),
+loop-again c = let turn = c .before .before .before .before .before .before .before .before .before .before .before .before .before .before .before .before .before .before .loop .inv in
+    let kept = c .before .before .before .before .before .before .before .before .before .place .kept .1 .1 .1 in
+    let whole = rw (c .before .before .before .before .before .before .before .before .before .before .before .before .before .before .tag .given .1) at (c .before .before .before .before .before .before .before .before .before .before .before .before .before .before .before .before .read-field .ensures) in (
+      reading-more (turn .0) (c .before .before .before .before .before .before .before .before .before .before .before .before .before .before .before .before .before .loop-test .taken) (whole-formed _ _ _ _ _ whole)
+          (rw (c .before .more .given .1) at (c .before .before .before .before .before .before .before .before .before .place .ensures)) (buffers-kept (turn .0 .buffers) (kept .0) (kept .1 .0) (kept .1 .1 .0)) (whole-tag _ _ _ _ _ whole) (whole-next _ _ _ _ _ whole),
       kept .0 ∙ turn .1,
       kept .1 .0 ∙ turn .2,
       kept .1 .1 .0 ∙ turn .3,
@@ -114,20 +114,20 @@ layout-spec =
     μ-loop
     returns
     loop-holds
-    well-formed-requires
+    read-field-requires
+    enum-known-tag
+    enum-told
     same-length
     same-length-2
     same-length-3
     returns-2
     place-requires
     enum-known-more
-    enum-told
+    enum-told-2
     same-length-4
     same-length-5
     same-length-6
     returns-3
-    tag-at-requires
-    next-at-requires
     loop-less
     loop-again
     same-length-7
