@@ -27,7 +27,7 @@ pub length-code : (heap : List ℕ) (i : ℕ) (c : Code) → length (putCode hea
 unfolding putCode
 length-code heap i c = simp (length-put16, length-set)
 
-code-low : (heap : List ℕ) (i : ℕ) (c : Code) (j : ℕ) → j < i → getD (putCode heap i c) j 0 ≡ getD heap j 0
+pub code-low : (heap : List ℕ) (i : ℕ) (c : Code) (j : ℕ) → j < i → getD (putCode heap i c) j 0 ≡ getD heap j 0
 unfolding putCode
 code-low heap i c j h =
     put16-low _ (i + 4) (c .stands) j (omega arith)
@@ -36,7 +36,7 @@ code-low heap i c j h =
     ∙ set-low heap i j (c .form) h
 
 -- codes from bytes that agree
-code-same : (heap heap′ : List ℕ) (i : ℕ) → ((j : ℕ) → j < i + 6 → getD heap j 0 ≡ getD heap′ j 0) → codeAt heap i ≡ codeAt heap′ i
+pub code-same : (heap heap′ : List ℕ) (i : ℕ) → ((j : ℕ) → j < i + 6 → getD heap j 0 ≡ getD heap′ j 0) → codeAt heap i ≡ codeAt heap′ i
 unfolding codeAt
 code-same heap heap′ i s =
     same-numbers _ _
@@ -58,7 +58,7 @@ module _ (heap : List ℕ) (i : ℕ) (c : Code) (F : Fitting c) (room : i + 6 �
   unfolding marked
   length-marked = simp length-set
 
-  code-put : codeAt (putCode heap i c) i ≡ c
+  pub code-put : codeAt (putCode heap i c) i ≡ c
   unfolding codeAt putCode marked
   code-put =
       same-numbers _ _

@@ -9,7 +9,7 @@ use crate::codes::Code;
 const NODE_BYTES: usize = 14;
 
 // The code at an offset.
-fn code_at(ws: &[u8], at: usize) -> Code
+pub fn code_at(ws: &[u8], at: usize) -> Code
     requires { ⌜ at + 6 ≤ length (now ws) ⌝ }
     ensures { λ r. ⌜ r ≡ codeAt (now (ws .entry)) at ⌝ }
 {
@@ -45,7 +45,7 @@ pub fn count_of(ws: &[u8], n: u16) -> u16
     octets::read16(ws, NODE_BYTES * octets::wide_index(n) + 12)
 }
 
-fn put_code(ws: &mut [u8], at: usize, c: Code)
+pub fn put_code(ws: &mut [u8], at: usize, c: Code)
     requires { ⌜ at + 6 ≤ length (now ws) ⌝ }
     ensures { λ _. ⌜ now (ws .exit) ≡ putCode (now (ws .entry)) at c ⌝ }
 {
