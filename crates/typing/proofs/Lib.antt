@@ -3,3 +3,23 @@
 pub mod Contexts
 -- how many terms a function has
 pub mod Sizes
+-- the tests after a part is typed
+pub mod Deciding
+-- variables: what they are, and one more
+pub mod Naming
+-- what an outcome says, one after another, and what stays ready
+pub mod Answers
+-- the tree of a term entry by its kind, and its parts
+pub mod Trees
+-- variables, unit, inl and inr, roll, unroll
+pub mod Steps
+-- pairs
+pub mod Pairing
+-- let and let pair
+pub mod Binding
+-- case
+pub mod Branching
+-- the function that a call names
+pub mod Called
+-- calls
+pub mod Passing

@@ -1,11 +1,10 @@
--- Contexts (rules/specs/Typing) as the checker holds them: the type of variable i is code i of a list; the first `q` variables are
--- ancilla parameters; those from `q` on and below `lo` are barred, being dynamic and bound outside the ancilla argument at hand; the
--- others are dynamic. `T` gives a code's type. Laws: proofs/Contexts.
+-- Contexts (rules/specs/Typing) as the checker holds them: `T` gives the type of a variable; the first `q` variables are ancilla
+-- parameters; those from `q` on and below `lo` are barred, being dynamic and bound outside the ancilla argument at hand; the others are
+-- dynamic. Laws: proofs/Contexts.
 use Prim.Native.Nat.{ℕ, zero, suc}
 use mathlib.Core.Bool.{Bool, true, false}
 use mathlib.Core.Option.{none, some}
-use mathlib.Core.List.{List, [], _∷_}
-use lib.ListN.{getD}
+use mathlib.Core.List.{[], _∷_}
 use lib.Dec.{ltb}
 use package.Rattle.rules.specs.Ty.{Ty}
 use package.Rattle.rules.specs.Term.{Term, look}
@@ -19,10 +18,10 @@ unfoldable pub standing : ℕ → ℕ → ℕ → Ty → Binding
 standing q lo i τ = elim (ltb i q) [ true ↦ static τ | false ↦ elim (ltb i lo) [ true ↦ barred τ | false ↦ dynamic τ ] ]
 
 -- the context of `n` variables, the newest first
-unfoldable pub contextAt : (ℕ → Ty) → List ℕ → ℕ → ℕ → ℕ → Context
+unfoldable pub contextAt : (ℕ → Ty) → ℕ → ℕ → ℕ → Context
 unfolding standing
-contextAt T codes q lo zero = []
-contextAt T codes q lo (suc n) = standing q lo n (T (getD codes n 0)) ∷ contextAt T codes q lo n
+contextAt T q lo zero = []
+contextAt T q lo (suc n) = standing q lo n (T n) ∷ contextAt T q lo n
 
 -- the set holds the variables that the term names
 abbrev pub NamedBy : Uses → Term → Type 0

@@ -1,5 +1,9 @@
--- The checker in code.
+-- The checker in code. The modules in reading order:
 -- contexts as the code holds them
 pub mod Contexts
 -- how many terms a tree has
 pub mod Sizes
+-- what an outcome means
+pub mod Outcomes
+-- what typing a term asks for, and what it ensures
+pub mod Ready

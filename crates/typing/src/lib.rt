@@ -1,0 +1,8 @@
+// Typing (document 01, section 4, row Typing): the type of a term, or the refusal 6, 7 or 8 that it meets, by the rules' `infer`.
+pub mod outcomes; // outcomes.rt: what typing a term answers, and scopes
+pub mod variables; // variables.rt: the types of variables in lent bytes
+pub mod tests; // tests.rt: the tests after a part is typed
+pub mod entries; // entries.rt: where the field of an entry starts; the unit type
+pub mod infer; // infer.rt: terms, in a cycle with binds and calling
+pub mod binds; // binds.rt: terms that bind variables
+pub mod calling; // calling.rt: calls

@@ -1,0 +1,113 @@
+-- The function that a call names, and lists of references from a number on.
+use Prim.Native.Nat.{ℕ, zero, suc, _+_, _*_, _-_, _≤_, _<_}
+use native.Mathlib.Omega.{arith}
+use mathlib.Core.Path.{_≡_, refl, sym, ap, ap₂, subst, _∙_}
+use mathlib.Core.Bool.{true}
+use mathlib.Core.Option.{none, some}
+use mathlib.Core.List.{List, [], _∷_, _++_, map}
+use lib.ListN.{length, getD, length-map}
+use package.Rattle.rules.specs.Term.{Term, end, more, count, Fun, nth}
+use package.Rattle.rules.specs.Limits.{maxParameters}
+use package.Rattle.rules.proofs.Basics.{none≢some, some-inj}
+use package.Rattle.calls.specs.Fields.{parametersAt}
+use package.Rattle.calls.specs.Entries.{typeAt, typeOf, termAt, termTrees, references, functionAt, functionOf, entriesAt, programOf}
+use package.Rattle.calls.specs.Named.{typesOfFunction, below}
+use package.Rattle.calls.proofs.Entries.{below-head}
+use package.Rattle.program.specs.Parts.{listed, result, FunctionField}
+use package.Rattle.program.proofs.Rooms.{function-room}
+use package.Rattle.program.proofs.Shapes.{function-dynamic}
+use package.Rattle.typing.specs.Ready.{termIn, programIn, termsFrom, typesFrom, Entered}
+use package.Rattle.typing.proofs.Trees.{below-last, below-each}
+
+----------------------------------------------------------------
+-- The function that is called
+
+nth-map : {A B : Type 0} (f : A → B) (l : List A) (g : ℕ) {x : A} → nth l g ≡ some x → nth (map f l) g ≡ some (f x)
+unfolding nth
+nth-map f [] g e = absurd (none≢some e)
+nth-map f (y ∷ l) zero e = ap (λ x. some (f x)) (some-inj e)
+nth-map f (y ∷ l) (suc g) e = nth-map f l g e
+
+nth-there : (l : List ℕ) (g : ℕ) → g < length l → nth l g ≡ some (getD l g 0)
+unfolding nth
+nth-there [] g h = absurd (omega arith)
+nth-there (x ∷ l) zero h = refl
+nth-there (x ∷ l) (suc g) h = nth-there l g (omega arith)
+
+module _ {p types terms functions nodes : List ℕ} (E : Entered p types terms functions nodes) {g h : ℕ} (there : g < length functions) (q : h ≡ getD functions g 0) where
+  entry-there : nth (map (functionAt p) functions) g ≡ some (functionAt p h)
+  entry-there = nth-map (functionAt p) functions g (nth-there functions g there ∙ ap some (sym q))
+
+  abbrev pub called : Fun
+  called = functionOf (map (typeAt p) types) (map (termAt p) terms) (functionAt p h)
+
+  pub called-in : nth (programIn p types terms functions) g ≡ some called
+  unfolding programOf entriesAt
+  called-in = nth-map (functionOf (map (typeAt p) types) (map (termAt p) terms)) (map (functionAt p) functions) g entry-there
+
+  function-field : FunctionField p h
+  function-field = subst (FunctionField p) (sym q) (E .formed .functions g there)
+
+  pub read-function : h + 8 + 2 * parametersAt p h ≤ length p
+  read-function = function-room function-field
+
+  pub some-parameters : (1 ≤ parametersAt p h) × (parametersAt p h ≤ 8)
+  unfolding maxParameters
+  some-parameters = (function-field .some, function-field .few)
+
+  -- the types that it names are there
+  types-named : below (length types) (result p h ∷ (references p (h + 6) (parametersAt p h - 1) ++ (functionAt p h .dynamic ∷ []))) ≡ true
+  unfolding entriesAt typesOfFunction functionAt
+  types-named = subst (λ n. below n (typesOfFunction (functionAt p h)) ≡ true) (length-map types (typeAt p)) (E .tested .function g (functionAt p h) entry-there .types-there)
+
+  pub result-there : result p h < length types
+  result-there = below-head (length types) (result p h) _ types-named .0
+
+  pub parameter-there : (k : ℕ) → k < parametersAt p h - 1 → listed p h k < length types
+  parameter-there k l = below-each (length types) p (h + 6) (parametersAt p h - 1) _ (below-head (length types) (result p h) _ types-named .1) k l
+
+  pub dynamic-there : listed p h (parametersAt p h - 1) < length types
+  dynamic-there = rw (← function-dynamic p h (function-field .some)) (below-last (length types) p (h + 6) (parametersAt p h - 1) _ (below-head (length types) (result p h) _ types-named .1))
+
+----------------------------------------------------------------
+-- Lists of references
+
+pub count-trees : (go : ℕ → Term) (xs : List ℕ) (i n : ℕ) → count (termTrees go (references xs i n)) ≡ n
+unfolding references termTrees count
+count-trees go xs i zero = refl
+count-trees go xs i (suc n) = ap suc (count-trees go xs (i + 2) n)
+
+pub length-references : (xs : List ℕ) (i n : ℕ) → length (references xs i n) ≡ n
+unfolding references
+length-references xs i zero = refl
+length-references xs i (suc n) = ap suc (length-references xs (i + 2) n)
+
+module _ (p types : List ℕ) (at k n : ℕ) where
+  -- from number `k` on there is one, and then those from the next on
+  references-next : k < n → references p (at + 6 + 2 * k) (n - k) ≡ listed p at k ∷ references p (at + 6 + 2 * (k + 1)) (n - (k + 1))
+  unfolding references
+  references-next l =
+      ap (references p (at + 6 + 2 * k)) (let z : n - k ≡ suc (n - (k + 1)) = omega arith in z)
+      ∙ ap (λ i. listed p at k ∷ references p i (n - (k + 1))) (let z : at + 6 + 2 * k + 2 ≡ at + 6 + 2 * (k + 1) = omega arith in z)
+
+  references-none : k ≡ n → references p (at + 6 + 2 * k) (n - k) ≡ []
+  unfolding references
+  references-none e = ap (references p (at + 6 + 2 * k)) (let z : n - k ≡ 0 = omega arith in z)
+
+  pub terms-next : (terms : List ℕ) → k < n → termsFrom p types terms at k n ≡ more (termIn p types terms (listed p at k)) (termsFrom p types terms at (k + 1) n)
+  unfolding termTrees
+  terms-next terms l = ap (termTrees (termIn p types terms)) (references-next l)
+
+  pub terms-none : (terms : List ℕ) → k ≡ n → termsFrom p types terms at k n ≡ end
+  unfolding termTrees
+  terms-none terms e = ap (termTrees (termIn p types terms)) (references-none e)
+
+  pub types-next : k < n → typesFrom p types at k n ≡ typeOf (map (typeAt p) types) (listed p at k) ∷ typesFrom p types at (k + 1) n
+  types-next l = ap (map (typeOf (map (typeAt p) types))) (references-next l)
+
+  pub types-none : k ≡ n → typesFrom p types at k n ≡ []
+  types-none e = ap (map (typeOf (map (typeAt p) types))) (references-none e)
+
+-- all of them
+pub references-all : (p : List ℕ) (at n : ℕ) → references p (at + 6 + 2 * 0) (n - 0) ≡ references p (at + 6) n
+references-all p at n = ap₂ (references p) (let z : at + 6 + 2 * 0 ≡ at + 6 = omega arith in z) (let z : n - 0 ≡ n = omega arith in z)

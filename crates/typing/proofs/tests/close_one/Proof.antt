@@ -1,0 +1,42 @@
+use mathlib.Core.Path.{refl, sym, _∙_}
+use Rattle.typing.proofs.Deciding.{after-typed, after-refused, picks-yes, picks-no}
+use borrow.Author.Needs.{needs}
+use Rattle.typing.proofs.tests.close_one.Statement.{statement}
+use Rattle.typing.proofs.tests.close_one.Tie as tie
+
+enum-known-status : tie.Need-enum-known-status
+enum-known-status c = search needs
+
+spent-requires : tie.Need-spent-requires
+spent-requires c κs = search needs
+
+join-requires : tie.Need-join-requires
+join-requires c κs = search needs
+
+returns : tie.Need-returns
+returns c = after-typed (c .before .before .before .before .status .given .1) (c .join .ensures .0) (picks-yes (sym (c .before .before .spent .ensures) ∙ c .before .if1 .taken) (c .join .ensures .1))
+
+refuse-requires : tie.Need-refuse-requires
+refuse-requires c κs = search needs
+
+enum-told : tie.Need-enum-told
+enum-told c = search needs
+
+returns-2 : tie.Need-returns-2
+returns-2 c = after-typed (c .before .before .before .before .status .given .1) (c .refuse .ensures .1) (picks-no (sym (c .before .before .spent .ensures) ∙ c .before .if1 .left) (c .refuse .ensures .0))
+
+returns-3 : tie.Need-returns-3
+returns-3 c = after-refused (c .enum-told .given .1) refl
+
+pub close-one-spec : {M : Type 1} → statement M
+close-one-spec =
+    tie.close
+    (tie.spec
+    enum-known-status
+    spent-requires
+    join-requires
+    returns
+    refuse-requires
+    enum-told
+    returns-2
+    returns-3)

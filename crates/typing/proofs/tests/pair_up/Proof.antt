@@ -1,0 +1,59 @@
+use native.Mathlib.Omega.{arith}
+use mathlib.Core.Path.{refl}
+use Rattle.typing.proofs.Deciding.{pairs-made, pairs-large, pairs-refused}
+use borrow.Author.Needs.{needs}
+use Rattle.typing.proofs.tests.pair_up.Statement.{statement}
+use Rattle.typing.proofs.tests.pair_up.Tie as tie
+
+enum-known-status : tie.Need-enum-known-status
+enum-known-status c = search needs
+
+product-requires : tie.Need-product-requires
+product-requires c κs = (c .before .before .before .before .before .before .before .before .pre .0 .sources, ((c .before .before .before .before .before .before .before .before .pre .1 .0, c .before .before .before .before .before .before .before .before .pre .0 .known _ (c .before .before .status .given .1)), (c .before .before .before .before .before .before .before .before .pre .1 .1 .0, c .before .before .before .before .before .before .before .before .pre .1 .1 .1 .0)))
+
+product-requires-2 : tie.Need-product-requires-2
+product-requires-2 c κs = search needs
+
+add-join : tie.Need-add-join
+add-join c = omega (arith, c .before .before .before .before .before .before .before .before .before .before .before .before .before .before .pre .1 .1 .1 .1)
+
+join-requires : tie.Need-join-requires
+join-requires c κs = search needs
+
+same-length : tie.Need-same-length
+same-length c = search needs
+
+returns : tie.Need-returns
+returns c = pairs-made (c .before .before .before .before .before .before .before .before .before .status .given .1) (c .before .before .before .before .before .before .product .ensures) (c .before .before .before .if1 .taken) (c .join .ensures .0) (c .before .before .product2 .ensures) (c .join .ensures .1)
+
+refuse-requires : tie.Need-refuse-requires
+refuse-requires c κs = search needs
+
+enum-told : tie.Need-enum-told
+enum-told c = search needs
+
+same-length-2 : tie.Need-same-length-2
+same-length-2 c = search needs
+
+returns-2 : tie.Need-returns-2
+returns-2 c = pairs-large (c .before .before .before .before .before .before .before .status .given .1) (c .before .before .before .before .product .ensures) (c .before .if1 .left) (c .refuse .ensures .1) (c .refuse .ensures .0)
+
+returns-3 : tie.Need-returns-3
+returns-3 c = pairs-refused (c .enum-told .given .1) refl
+
+pub pair-up-spec : {M : Type 1} → statement M
+pair-up-spec =
+    tie.close
+    (tie.spec
+    enum-known-status
+    product-requires
+    product-requires-2
+    add-join
+    join-requires
+    same-length
+    returns
+    refuse-requires
+    enum-told
+    same-length-2
+    returns-2
+    returns-3)

@@ -1,0 +1,192 @@
+// The tests that typing makes once a part is typed (section 4: "as soon as the parts it needs are typed"). A refusal of the part stands.
+use crate::outcomes;
+use crate::outcomes::Fault;
+use crate::outcomes::Found;
+use crate::outcomes::Out;
+use crate::outcomes::Status;
+use types::codes::Code;
+use uses::Uses;
+ghost use mathlib.Core.Path.{_≡_};
+ghost use Prim.Native.Nat.{_+_, _<_};
+ghost use lib.ListN.{length};
+ghost use Rattle.types.specs.Codes.{Room, Known, Sources};
+ghost use Rattle.types.specs.Counts.{Counted};
+ghost use Rattle.typing.specs.Ready.{Told, After, Joins, Expects, spentBy, ClosesOne, ClosesTwo, Meets, Pairs};
+
+// The part has to have the type `want`; then the type is `answer`.
+pub fn expect(p: &[u8], types: &[u16], ws: &[u8], out: Out, want: Code, answer: Code, t: u16) -> Out
+    requires { ⌜ Told (now p) (now types) (now ws) out ⌝ }
+    requires { ⌜ Known (length (now types)) (out .top) want ⌝ }
+    ensures { λ r. ⌜ After out r (Expects (now (p .entry)) (now (types .entry)) (now (ws .entry)) want answer t) ⌝ }
+{
+    let status = out.status;
+    let top = out.top;
+    match status {
+        Status::Typed(f) => {
+            if types::compare::same(p, types, ws, top, f.code, want) {
+                let uses = f.uses;
+                return Out {
+                    status: Status::Typed(Found { code: answer, uses }),
+                    top,
+                };
+            }
+            outcomes::refuse(top, Fault::Differ(t))
+        }
+        Status::Refused(_) => out,
+    }
+}
+
+// Is variable i, of the code's type, used? If its type is exactly unit, it need not be.
+pub fn spent(p: &[u8], types: &[u16], ws: &[u8], top: u16, c: Code, i: u8, uses: Uses) -> bool
+    requires { ⌜ Sources (now p) (now types) (now ws) top ⌝ }
+    requires { ⌜ Known (length (now types)) top c × (i < 32) ⌝ }
+    ensures { λ r. ⌜ r ≡ spentBy (now (p .entry)) (now (types .entry)) (now (ws .entry)) c i uses ⌝ }
+{
+    if types::compare::is_unit(p, types, ws, top, c) {
+        return true;
+    }
+    uses.contains(i)
+}
+
+// A type, with the uses of another part besides.
+fn join(top: u16, f: Found, uses: Uses) -> Out
+    ensures { λ r. ⌜ (r .top ≡ top) × Joins f uses (r .status) ⌝ }
+{
+    let code = f.code;
+    let all = uses.union(f.uses);
+    Out {
+        status: Status::Typed(Found { code, uses: all }),
+        top,
+    }
+}
+
+// The body of a term that binds variable i, of the code's type.
+pub fn close_one(
+    p: &[u8],
+    types: &[u16],
+    ws: &[u8],
+    out: Out,
+    uses: Uses,
+    i: u8,
+    c: Code,
+    t: u16,
+) -> Out
+    requires { ⌜ Told (now p) (now types) (now ws) out ⌝ }
+    requires { ⌜ Known (length (now types)) (out .top) c × (i < 32) ⌝ }
+    ensures { λ r. ⌜ After out r (ClosesOne (now (p .entry)) (now (types .entry)) (now (ws .entry)) uses i c t) ⌝ }
+{
+    let status = out.status;
+    let top = out.top;
+    match status {
+        Status::Typed(f) => {
+            if spent(p, types, ws, top, c, i, f.uses) {
+                return join(top, f, uses);
+            }
+            outcomes::refuse(top, Fault::Misused(t))
+        }
+        Status::Refused(_) => out,
+    }
+}
+
+// The same of two variables, i and the next.
+pub fn close_two(
+    p: &[u8],
+    types: &[u16],
+    ws: &[u8],
+    out: Out,
+    uses: Uses,
+    i: u8,
+    c: Code,
+    d: Code,
+    t: u16,
+) -> Out
+    requires { ⌜ Told (now p) (now types) (now ws) out ⌝ }
+    requires { ⌜ Known (length (now types)) (out .top) c × Known (length (now types)) (out .top) d × (i + 1 < 32) ⌝ }
+    ensures { λ r. ⌜ After out r (ClosesTwo (now (p .entry)) (now (types .entry)) (now (ws .entry)) uses i c d t) ⌝ }
+{
+    let status = out.status;
+    let top = out.top;
+    match status {
+        Status::Typed(f) => {
+            if spent(p, types, ws, top, c, i, f.uses) {
+                if spent(p, types, ws, top, d, i + 1, f.uses) {
+                    return join(top, f, uses);
+                }
+                return outcomes::refuse(top, Fault::Misused(t));
+            }
+            outcomes::refuse(top, Fault::Misused(t))
+        }
+        Status::Refused(_) => out,
+    }
+}
+
+// The right branch of a case, which binds variable i of the code's type, once the left branch has its type.
+pub fn meet(
+    p: &[u8],
+    types: &[u16],
+    ws: &[u8],
+    out: Out,
+    left: Found,
+    uses: Uses,
+    i: u8,
+    d: Code,
+    owed: Uses,
+    t: u16,
+) -> Out
+    requires { ⌜ Told (now p) (now types) (now ws) out ⌝ }
+    requires { ⌜ Known (length (now types)) (out .top) (left .code) × Known (length (now types)) (out .top) d × (i < 32) ⌝ }
+    ensures { λ r. ⌜ After out r (Meets (now (p .entry)) (now (types .entry)) (now (ws .entry)) left uses i d owed t) ⌝ }
+{
+    let status = out.status;
+    let top = out.top;
+    match status {
+        Status::Typed(f) => {
+            if types::compare::same(p, types, ws, top, left.code, f.code) {
+                if spent(p, types, ws, top, d, i, f.uses) {
+                    let mine = left.uses;
+                    if mine.agree_on(f.uses, owed) {
+                        let both = mine.union(f.uses);
+                        let code = left.code;
+                        return join(top, Found { code, uses: both }, uses);
+                    }
+                    return outcomes::refuse(top, Fault::Misused(t));
+                }
+                return outcomes::refuse(top, Fault::Misused(t));
+            }
+            outcomes::refuse(top, Fault::Differ(t))
+        }
+        Status::Refused(_) => out,
+    }
+}
+
+// The right part of a pair, once the left part has its type.
+pub fn pair_up(
+    p: &[u8],
+    types: &[u16],
+    nodes: &[u16],
+    ws: &mut [u8],
+    out: Out,
+    left: Found,
+    t: u16,
+) -> Out
+    requires { ⌜ Told (now p) (now types) (now ws) out ⌝ }
+    requires { ⌜ Known (length (now types)) (out .top) (left .code) ⌝ }
+    requires { ⌜ Counted (now p) (now types) (now nodes) ⌝ }
+    requires { ⌜ Room (now ws) (out .top + 1) × (out .top < 1024) ⌝ }
+    ensures { λ r. ⌜ Pairs (now (p .entry)) (now (types .entry)) (now (ws .entry)) (now (ws .exit)) left t out r ⌝ }
+{
+    let status = out.status;
+    let top = out.top;
+    match status {
+        Status::Typed(f) => {
+            let made = types::products::product(p, types, nodes, ws, top, left.code, f.code);
+            if made {
+                let code = types::codes::product(top);
+                let uses = f.uses;
+                return join(top + 1, Found { code, uses }, left.uses);
+            }
+            outcomes::refuse(top, Fault::Differ(t))
+        }
+        Status::Refused(_) => out,
+    }
+}
