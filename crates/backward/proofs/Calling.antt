@@ -1,0 +1,182 @@
+-- A call: its ancilla terms forward; the body of the function with the arguments known and the dynamic parameter not; then the dynamic term,
+-- with the bindings as they were before the call.
+use Prim.Native.Nat.{ℕ, _+_, _-_, _≤_, _<_}
+use native.Mathlib.Omega.{arith}
+use mathlib.Core.Path.{_≡_, sym, ap, ap₂, subst, _∙_}
+use mathlib.Core.Option.{none, some}
+use mathlib.Core.List.{List, [], _∷_, map}
+use lib.ListN.{length, getD}
+use package.Rattle.rules.specs.Limits.{fits}
+use package.Rattle.rules.specs.Val.{Val}
+use package.Rattle.rules.specs.Term.{Term, Fun, nth, scope}
+use package.Rattle.rules.specs.Run.{Res, Run, after}
+use package.Rattle.rules.specs.Machine.{State, onSome, each, leave, forward, backwardStep, backward}
+use package.Rattle.calls.specs.Fields.{lengthAt}
+use package.Rattle.calls.specs.Entries.{TypeEntry, termTrees, references, callAncillae}
+use package.Rattle.program.specs.Parts.{first, listed, body}
+use package.Rattle.values.specs.Nodes.{valueAt}
+use package.Rattle.values.proofs.Heaps.{value-kept}
+use package.Rattle.scopes.specs.Slots.{unknown, stateAt}
+use package.Rattle.scopes.specs.Bindings.{stateOf}
+use package.Rattle.scopes.specs.declared.bindings.Bindings.{Bindings}
+use package.Rattle.yields.specs.Yields.{ancillaeAt}
+use package.Rattle.yields.proofs.Ancillae.{state-ancillae}
+use package.Rattle.forward.specs.Code.{treeAt, programAt}
+use package.Rattle.forward.specs.Ready.{Calls}
+use package.Rattle.forward.proofs.Trees.{tree-call, part-argument, called-function, called-tree, called-there, called-body, few-ancillae}
+use package.Rattle.forward.specs.declared.outcomes.Machine.{Machine}
+use package.Rattle.backward.specs.Scoped.{ScopedAt, arityAt}
+use package.Rattle.backward.specs.Ready.{Ready, Held, Follows, Moves, Ran, RanUnder, ancillaeOf, runOf, underOf, stepOf}
+use package.Rattle.backward.specs.Calls.{Collected, argumentsOf, Arguments}
+use package.Rattle.backward.proofs.Runs.{meaning-refused, not-done, bound-up, follows-same, ancillae-held, ancillae-later, state-later, moves-then, held-later, held-less, small-top, says, slack, under-refused, under-done}
+use package.Rattle.backward.proofs.Parts.{later, owing-none, part, scoped-call}
+use package.Rattle.backward.proofs.Steps.{go, stepped}
+use package.Rattle.backward.proofs.Gathering.{gathered-done, gathered-refused}
+use Rattle.backward.specs.declared.outcomes.Refusal.{Refusal}
+use Rattle.backward.specs.declared.outcomes.Status.the-variants.{Done, Refused}
+use Rattle.backward.specs.declared.outcomes.Out.{Out}
+use Rattle.backward.specs.declared.outcomes.Inner.{Inner}
+
+-- what went before a run
+before-run : {k : ℕ} {heap heap₁ heap₂ slots slots₁ slots₂ : List ℕ} {st st₁ : Machine} {b : Bindings} {out : Out} {res : List TypeEntry → Res State}
+    → Moves 0 heap heap₁ slots slots₁ st st₁ → Ran k heap₁ heap₂ slots₁ slots₂ st₁ b out res → Ran k heap heap₂ slots slots₂ st b out res
+before-run M d = record { moves = moves-then M (d .moves); follows = d .follows; answer = d .answer }
+
+-- all ancilla terms were run, and the dynamic one is next
+pub all-arguments : {p terms : List ℕ} {t count : ℕ} → Calls p terms t 0 count → Calls p terms t count count
+all-arguments C = record { kind = C .kind; ancillae = C .ancillae; next = omega arith }
+
+----------------------------------------------------------------
+-- The arguments as a scope
+
+module _ {args : Bindings} {count top : ℕ} (K : Collected args count top) (small : top ≤ unknown) (heap : List ℕ) where
+  -- all is known
+  pub arguments-state : map some (ancillaeAt heap (args .slots) 0 count) ≡ stateOf heap args
+  unfolding stateOf
+  arguments-state =
+      sym (state-ancillae heap (args .slots) 0 count top (ancillae-held (K .binds)) small)
+      ∙ ap (stateAt heap (args .slots) 0) (sym (K .all))
+
+-- The body of function `g` can be run with the arguments known.
+pub body-ready : {p terms functions heap slots : List ℕ} {st : Machine} {args : Bindings} {count g u room : ℕ} → Held 0 p terms functions heap slots st room
+    → Collected args count (st .top) → g < length functions → count + 1 ≡ arityAt p functions g → u ≡ body p (getD functions g 0)
+    → Ready 0 0 p terms functions heap slots st args count (args .len + 1) u room
+body-ready {p} {terms} {functions} {args = args} {g = g} {u = u} H K l e q = record {
+  machine = H;
+  binds = K .binds;
+  term = rw q (H .code .function g l .there);
+  few = rw q (H .code .function g l .few);
+  scoped = rw q (subst (λ n. ScopedAt p terms functions n (body p (getD functions g 0))) (let z : arityAt p functions g ≡ args .len + 1 = omega (arith, K .all) in z) (H .bodies .scoped g l));
+  tall = omega arith;
+}
+
+----------------------------------------------------------------
+-- The call
+
+module _ {p terms functions heap slots : List ℕ} {st : Machine} {b : Bindings} {q t room : ℕ} (rd : Ready 1 1 p terms functions heap slots st b q (b .len) t room)
+    {node : ℕ} (low : node < st .top) {count : ℕ} (C : Calls p terms t 0 count)
+    {heap₁ slots₁ : List ℕ} {made : Out} (D : Arguments p terms functions heap heap₁ slots slots₁ st b q t room count made) where
+  abbrev at : ℕ
+  at = getD terms t 0
+
+  abbrev step : List TypeEntry → Res State
+  step = stepOf p terms functions heap st b q t (valueAt heap node) room
+
+  -- the dynamic term, in the state at hand
+  abbrev call-next : List TypeEntry → Val → State → Run State
+  call-next ys w σ = go rd low ys (stateOf heap b) (listed p at count) w
+
+  abbrev callee : Fun → List TypeEntry → List Val → Run State
+  callee h ys ρ fuel =
+      after (backward fits (programAt p terms functions ys) (room - 1) ρ (none ∷ map some ρ) (h .body) (valueAt heap node) fuel) (λ σ. leave σ (call-next ys))
+
+  abbrev ancillae : ℕ
+  ancillae = callAncillae (lengthAt p at)
+
+  step-call : (ys : List TypeEntry) (h : Fun) → nth (programAt p terms functions ys) (first p at) ≡ some h
+      → step ys ≡ argumentsOf p terms functions heap st b q t room count ys (callee h ys)
+  unfolding backwardStep onSome
+  step-call ys h e =
+      stepped rd low ys (tree-call (rd .machine .code .entries) t (rd .term) ys (C .kind))
+      ∙ ap (λ o. onSome o (λ h fuel. from ancillae h fuel) (st .fuel)) e
+      ∙ ap (λ n. from n h (st .fuel)) (sym (C .ancillae))
+    where
+      from : ℕ → Fun → ℕ → Res State
+      from n h fuel =
+          after (each (forward fits (programAt p terms functions ys) (room - 1) (ancillaeOf heap b q) (stateOf heap b)) (termTrees (treeAt p terms ys) (references p (at + 6) n)) fuel)
+          (λ vs fuel. after (backward fits (programAt p terms functions ys) (room - 1) (scope vs []) (none ∷ map some (scope vs [])) (h .body) (valueAt heap node) fuel)
+          (λ σ. leave σ (λ w σ. go rd low ys (stateOf heap b) (listed p at n) w)))
+
+  abbrev function : List TypeEntry → Fun
+  function ys = called-tree p terms functions ys (first p at)
+
+  called : first p at < length functions
+  called = called-function (rd .machine .code) t (rd .term) (C .kind)
+
+  -- the call, from its arguments on
+  from-arguments : (ys : List TypeEntry) → step ys ≡ argumentsOf p terms functions heap st b q t room count ys (callee (function ys) ys)
+  from-arguments ys = step-call ys (function ys) (called-there p terms functions ys (first p at) called)
+
+  pub call-refused : {why : Refusal} → made .status ≡ Refused why → Ran 1 heap heap₁ slots slots₁ st b made step
+  call-refused s = slack (record {
+    moves = D .moves;
+    follows = λ n. absurd (not-done s n);
+    answer = λ ys. meaning-refused heap₁ made s ∙ sym (gathered-refused heap₁ (made .bindings) count (made .state .fuel) (callee (function ys) ys) s)
+        ∙ sym (D .answer ys (callee (function ys) ys)) ∙ sym (from-arguments ys);
+  }) 1 (omega arith)
+
+  module _ (s : made .status ≡ Done) {g u : ℕ} (qg : g ≡ first p at) (qu : u ≡ body p (getD functions g 0)) where
+    abbrev args : Bindings
+    args = made .bindings
+
+    known : Collected args count (made .state .top)
+    known = D .collected s
+
+    parameters : count + 1 ≡ arityAt p functions g
+    parameters = rw qg (ap (λ n. n + 1) (C .ancillae) ∙ scoped-call rd (C .kind) .0)
+
+    -- the body
+    pub call-body : Ready 0 0 p terms functions heap₁ slots₁ (made .state) args count (args .len + 1) u (room - 1)
+    call-body = body-ready (held-less (held-later (rd .machine) (D .moves)) 0 (room - 1) (omega arith) (omega arith)) known (rw qg called) parameters qu
+
+    pub call-space : args .len < 32
+    call-space = omega (arith, known .all, C .ancillae, few-ancillae (rd .machine .code .entries) t (rd .term) (rd .few) (C .kind))
+
+    pub call-node : node < made .state .top
+    call-node = omega (arith, low, D .moves .grows)
+
+    -- the call, from the body on
+    from-body : (ys : List TypeEntry) → step ys
+        ≡ after (underOf p terms functions heap₁ (made .state) args count u (valueAt heap₁ node) (room - 1) ys) (λ σ. leave σ (call-next ys))
+    from-body ys =
+        from-arguments ys ∙ D .answer ys (callee (function ys) ys) ∙ gathered-done heap₁ args count (made .state .fuel) (callee (function ys) ys) s
+        ∙ ap₂ (λ σ (T : Term). after (backward fits (programAt p terms functions ys) (room - 1) (ancillaeOf heap₁ args count) (none ∷ σ) T (valueAt heap node) (made .state .fuel)) (λ σ. leave σ (call-next ys)))
+        (arguments-state known (small-top (held-later (rd .machine) (D .moves))) heap₁) (called-body p terms functions ys (first p at) ∙ ap (treeAt p terms ys) (sym (rw qg at qu)))
+        ∙ ap (λ v. after (underOf p terms functions heap₁ (made .state) args count u v (room - 1) ys) (λ σ. leave σ (call-next ys)))
+        (value-kept heap heap₁ (st .top) (rd .machine .graph .right) (D .moves .agree) node low)
+
+    module _ {heap₂ slots₂ : List ℕ} {r : Inner}
+        (d : RanUnder heap₁ heap₂ slots₁ slots₂ (made .state) args r (underOf p terms functions heap₁ (made .state) args count u (valueAt heap₁ node) (room - 1))) where
+      pub call-refused-2 : {why : Refusal} → r .out .status ≡ Refused why → Ran 1 heap heap₂ slots slots₂ st b (r .out) step
+      call-refused-2 s₂ = slack (before-run (D .moves) (under-refused d call-next s₂ from-body)) 1 (omega arith)
+
+      all-moves : Moves 0 heap heap₂ slots slots₂ st (r .out .state)
+      all-moves = moves-then (D .moves) (d .moves)
+
+      as-before : Follows b b (r .out .state .top)
+      as-before = follows-same (bound-up (r .out .state .top) (rd .binds .bound) (all-moves .grows))
+
+      module _ {w : ℕ} (qw : w ≡ listed p at count) where
+        -- the dynamic term
+        pub call-dynamic : Ready 0 0 p terms functions heap₂ slots₂ (r .out .state) b q (b .len) w (room - 1)
+        call-dynamic = rw (qw, C .ancillae)
+            (owing-none (later (part rd (listed p at ancillae) (b .len) (part-argument (rd .machine .code .entries) t (rd .term) (rd .few) (C .kind) ancillae (omega arith)) (scoped-call rd (C .kind) .1)) all-moves as-before))
+
+        pub call-done : r .out .status ≡ Done → {heap₃ slots₃ : List ℕ} {r₂ : Out}
+            → Ran 0 heap₂ heap₃ slots₂ slots₃ (r .out .state) b r₂ (runOf p terms functions heap₂ (r .out .state) b q w (valueAt heap₂ (r .newest)) (room - 1))
+            → Ran 1 heap heap₃ slots slots₃ st b r₂ step
+        call-done s₂ d₂ =
+            slack (before-run (D .moves) (under-done d call-next s₂ from-body (says d₂ (λ ys.
+            ap₂ (λ a σ. backward fits (programAt p terms functions ys) (room - 1) a σ (treeAt p terms ys w) (valueAt heap₂ (r .newest)) (r .out .state .fuel))
+            (sym (ancillae-later (rd .machine .graph) (all-moves .agree) b q (rd .binds))) (sym (state-later (rd .machine .graph) (all-moves .agree) b (rd .binds .bound)))
+            ∙ ap (λ w. go rd low ys (stateOf heap b) w (valueAt heap₂ (r .newest)) (r .out .state .fuel)) qw)) as-before)) 1 (omega arith)

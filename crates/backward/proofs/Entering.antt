@@ -1,0 +1,261 @@
+-- A term is entered: fuel, height, and the value's length are tested. Then what a term may be entered with: a value that is made for it, and
+-- a scope with one variable more.
+use Prim.Native.Nat.{ℕ, zero, suc, _+_, _-_, _≤_, _<_}
+use native.Mathlib.Omega.{arith}
+use native.Mathlib.Nat.{pos-of-ne-zero}
+use mathlib.Core.Path.{_≡_, refl, sym, ap, ap₂, subst, _∙_}
+use mathlib.Core.Bool.{Bool, true, false}
+use mathlib.Core.Option.{none}
+use mathlib.Core.Logic.{inl as left}
+use mathlib.Core.List.{List, _∷_}
+use lib.ListN.{getD}
+use lib.Seq.{getD-set-other}
+use package.Rattle.rules.specs.Limits.{fits}
+use package.Rattle.rules.specs.Val.{Val}
+use package.Rattle.rules.specs.Term.{Term, Program, entry}
+use package.Rattle.rules.specs.Run.{Res, stop, after, enter, test}
+use package.Rattle.rules.specs.Machine.{State, leave, forward, backwardStep, backward}
+use package.Rattle.rules.proofs.Run.{via}
+use package.Rattle.calls.specs.Entries.{TypeEntry}
+use package.Rattle.values.specs.Nodes.{Room, valueAt, Grown, Made}
+use package.Rattle.values.proofs.Heaps.{value-kept}
+use package.Rattle.values.proofs.Places.{agree-trans, agree-down}
+use package.Rattle.scopes.specs.Slots.{unknown, meaning as slotMeaning}
+use package.Rattle.scopes.specs.Bindings.{stateOf, Opens}
+use package.Rattle.scopes.specs.declared.bindings.Bindings.{Bindings}
+use package.Rattle.scopes.specs.declared.bindings.Left.{Left}
+use package.Rattle.scopes.proofs.Marks.{found-mark}
+use package.Rattle.scopes.proofs.Bound.{opens-state}
+use package.Rattle.yields.proofs.Ancillae.{ancillae-same}
+use package.Rattle.forward.specs.Code.{treeAt, programAt}
+use package.Rattle.forward.specs.Outcomes.{finished}
+use package.Rattle.forward.specs.Ready.{Graph}
+use package.Rattle.forward.proofs.Trees.{tree-entry}
+use package.Rattle.forward.proofs.Making.{makes}
+use package.Rattle.forward.specs.declared.outcomes.Machine.{Machine}
+use package.Rattle.backward.specs.Scoped.{ScopedAt}
+use package.Rattle.backward.specs.Outcomes.{refusalOf, tooLong}
+use package.Rattle.backward.specs.Ready.{Ready, Binds, Ran, RanUnder, Goes, ancillaeOf, runOf, underOf, stepOf}
+use package.Rattle.backward.proofs.Runs.{meaning-done, meaning-refused, refusal-after, not-done, left-done, left-refused, binds-up, ancillae-later, state-later, held-later, refuses, slack}
+use package.Rattle.backward.proofs.Leaves.{opened-binds, goes-node, goes-state, goes-follows}
+use Rattle.backward.specs.declared.outcomes.Refusal.{Refusal}
+use Rattle.backward.specs.declared.outcomes.Refusal.the-variants.{Fuel, Height}
+use Rattle.backward.specs.declared.outcomes.Status.the-variants.{Done, Refused}
+use Rattle.backward.specs.declared.outcomes.Out.{Out}
+
+----------------------------------------------------------------
+-- The tests
+
+module _ (P : Program) (a : List Val) (σ : State) (T : Term) (v : Val) where
+  spent : (room fuel : ℕ) → fuel ≡ 0 → backward fits P room a σ T v fuel ≡ stop 12 (entry T)
+  unfolding backward enter
+  spent zero fuel e = rw e
+  spent (suc room) fuel e = rw e
+
+  high : (room fuel : ℕ) → room ≡ 0 → 0 < fuel → backward fits P room a σ T v fuel ≡ stop 13 (entry T)
+  unfolding backward enter
+  high room fuel e h = let z : fuel ≡ suc (fuel - 1) = omega arith in rw (e, z)
+
+  entered : (room fuel : ℕ) → 0 < room → 0 < fuel → fits v ≡ true
+      → backward fits P room a σ T v fuel ≡ backwardStep fits P (forward fits P (room - 1)) (backward fits P (room - 1)) a σ T v (fuel - 1)
+  unfolding backward enter test
+  entered room fuel h h′ short =
+      let r : room ≡ suc (room - 1) = omega arith in
+      let f : fuel ≡ suc (fuel - 1) = omega arith in
+      ap₂ (λ r f. backward fits P r a σ T v f) r f
+      ∙ ap (λ b. test b 14 (entry T) (backwardStep fits P (forward fits P (room - 1)) (backward fits P (room - 1)) a σ T v) (fuel - 1)) short
+
+  too-long : (room fuel : ℕ) → fits v ≡ false → backward fits P room a σ T v fuel ≡ refusalOf (tooLong fuel room (entry T))
+  unfolding backward enter test refusalOf tooLong
+  too-long zero zero long = refl
+  too-long (suc room) zero long = refl
+  too-long zero (suc fuel) long = refl
+  too-long (suc room) (suc fuel) long =
+      ap (λ b. test b 14 (entry T) (backwardStep fits P (forward fits P room) (backward fits P room) a σ T v) fuel) long
+
+----------------------------------------------------------------
+-- A term is entered with the value at a node
+
+module _ {p terms functions heap slots : List ℕ} {st : Machine} {b : Bindings} {q t room : ℕ} (rd : Ready 0 0 p terms functions heap slots st b q (b .len) t room)
+    {node : ℕ} (low : node < st .top) where
+  abbrev place : (ys : List TypeEntry) → entry (treeAt p terms ys t) ≡ t
+  place ys = tree-entry (rd .machine .code .entries) t (rd .term) ys
+
+  abbrev run : List TypeEntry → Res State
+  run = runOf p terms functions heap st b q t (valueAt heap node) room
+
+  pub term-spent : (r : Out) → r .status ≡ Refused (Fuel t) → r .state ≡ st → st .fuel ≡ 0 → Ran 0 heap heap slots slots st b r run
+  unfolding refusalOf
+  term-spent r s e z = refuses r (rd .machine .graph) s e (λ ys. spent (programAt p terms functions ys) _ _ _ _ room (st .fuel) z ∙ ap (stop 12) (place ys))
+
+  module _ (some-fuel : ¬ (st .fuel ≡ 0)) where
+    pub term-high : (r : Out) → r .status ≡ Refused (Height t) → r .state ≡ st → room ≡ 0 → Ran 0 heap heap slots slots st b r run
+    unfolding refusalOf
+    term-high r s e z =
+        refuses r (rd .machine .graph) s e (λ ys. high (programAt p terms functions ys) _ _ _ _ room (st .fuel) z (pos-of-ne-zero some-fuel) ∙ ap (stop 13) (place ys))
+
+    module _ (some-room : ¬ (room ≡ 0)) where
+      -- one unit of fuel is taken
+      abbrev taken : Machine
+      taken = record { top = st .top; fuel = st .fuel - 1 }
+
+      pub term-ready : Ready 1 1 p terms functions heap slots taken b q (b .len) t room
+      term-ready =
+          let pos = pos-of-ne-zero some-fuel in
+          let tall = pos-of-ne-zero some-room in
+          record {
+            machine = record {
+              code = rd .machine .code;
+              bodies = rd .machine .bodies;
+              graph = rd .machine .graph;
+              some = rd .machine .some;
+              unit-there = rd .machine .unit-there;
+              nodes = omega (arith, rd .machine .nodes);
+              small = omega (arith, rd .machine .small);
+              variables = rd .machine .variables;
+            };
+            binds = rd .binds;
+            term = rd .term;
+            few = rd .few;
+            scoped = rd .scoped;
+            tall = omega arith;
+          }
+
+      pub term-done : {heap′ slots′ : List ℕ} {r : Out} → Ran 1 heap heap′ slots slots′ taken b r (stepOf p terms functions heap taken b q t (valueAt heap node) room)
+          → Ran 0 heap heap′ slots slots′ st b r run
+      term-done d =
+          let pos = pos-of-ne-zero some-fuel in
+          record {
+            moves = record {
+              agree = d .moves .agree;
+              graph = d .moves .graph;
+              lengths = d .moves .lengths;
+              grows = d .moves .grows;
+              spends = omega (arith, d .moves .spends);
+              owes = omega (arith, d .moves .owes);
+            };
+            follows = d .follows;
+            answer = λ ys. d .answer ys
+                ∙ sym (entered (programAt p terms functions ys) _ _ _ _ room (st .fuel) (pos-of-ne-zero some-room) pos (rd .machine .graph .short node low));
+          }
+
+----------------------------------------------------------------
+-- A value is made for the term
+
+module _ {p terms functions heap slots : List ℕ} {st : Machine} {b : Bindings} {q t room : ℕ} (rd : Ready 1 0 p terms functions heap slots st b q (b .len) t room) where
+  pub node-room : Room heap (st .top + 1)
+  node-room = omega (arith, rd .machine .nodes)
+
+  pub next-node : st .top + 1 ≤ unknown
+  next-node = omega (arith, rd .machine .small)
+
+  module _ {v : Val} {heap₁ : List ℕ} {made : Bool} (M : Made heap heap₁ (st .top) v made) where
+    -- with the node
+    abbrev grown : Machine
+    grown = record { top = st .top + 1; fuel = st .fuel }
+
+    module _ (e : made ≡ true) where
+      grows : Grown heap heap₁ (st .top) v
+      grows = M .new e
+
+      new-graph : Graph heap₁ (st .top + 1)
+      unfolding finished
+      new-graph = makes {st = st} t true (rd .machine .graph) (subst (λ m. Made heap heap₁ (st .top) v m) e M) .graph
+
+      pub over-ready : Ready 0 0 p terms functions heap₁ slots grown b q (b .len) t room
+      over-ready = record {
+        machine = record {
+          code = rd .machine .code;
+          bodies = rd .machine .bodies;
+          graph = new-graph;
+          some = omega arith;
+          unit-there = sym (value-kept heap heap₁ (st .top) (rd .machine .graph .right) (grows .agree) 0 (rd .machine .some)) ∙ rd .machine .unit-there;
+          nodes = omega (arith, rd .machine .nodes, grows .agree .lengths);
+          small = omega (arith, rd .machine .small);
+          variables = rd .machine .variables;
+        };
+        binds = binds-up (st .top + 1) (rd .binds) (omega arith);
+        term = rd .term;
+        few = rd .few;
+        scoped = rd .scoped;
+        tall = omega arith;
+      }
+
+      pub over-done : {heap₂ slots₂ : List ℕ} {r : Out} → Ran 0 heap₁ heap₂ slots slots₂ grown b r (runOf p terms functions heap₁ grown b q t (valueAt heap₁ (st .top)) room)
+          → Ran 1 heap heap₂ slots slots₂ st b r (runOf p terms functions heap st b q t v room)
+      over-done d = record {
+        moves = record {
+          agree = agree-trans (grows .agree) (agree-down (st .top) (omega arith) (d .moves .agree));
+          graph = d .moves .graph;
+          lengths = d .moves .lengths;
+          grows = omega (arith, d .moves .grows);
+          spends = d .moves .spends;
+          owes = omega (arith, d .moves .owes);
+        };
+        follows = d .follows;
+        answer = λ ys. d .answer ys
+            ∙ ap₂ (λ a σ. backward fits (programAt p terms functions ys) room a σ (treeAt p terms ys t) (valueAt heap₁ (st .top)) (st .fuel))
+            (sym (ancillae-later (rd .machine .graph) (grows .agree) b q (rd .binds))) (sym (state-later (rd .machine .graph) (grows .agree) b (rd .binds .bound)))
+            ∙ ap (λ v. runOf p terms functions heap st b q t v room ys) (grows .value);
+      }
+
+    pub over-long : made ≡ false → (r : Out) → r .status ≡ Refused (tooLong (st .fuel) room t) → r .state ≡ st
+        → Ran 1 heap heap₁ slots slots st b r (runOf p terms functions heap st b q t v room)
+    over-long e r s q′ = rw (M .old e)
+        (slack (refuses r (rd .machine .graph) s q′ (λ ys. too-long (programAt p terms functions ys) _ _ _ v room (st .fuel) (sym (M .answer) ∙ e)
+        ∙ ap (λ k. refusalOf (tooLong (st .fuel) room k)) (tree-entry (rd .machine .code .entries) t (rd .term) ys))) 1 (omega arith))
+
+----------------------------------------------------------------
+-- A variable more, of which nothing is known
+
+module _ {b : Bindings} {q top : ℕ} (B : Binds b q top) (space : b .len < 32) {b₁ : Bindings} (O : Opens b unknown b₁) (heap : List ℕ) where
+  pub inner-state : stateOf heap b₁ ≡ none ∷ stateOf heap b
+  inner-state = opens-state heap b unknown top b₁ O (B .bound) space ∙ ap (λ f. slotMeaning heap f ∷ stateOf heap b) (found-mark unknown refl)
+
+  pub inner-ancillae : ancillaeOf heap b₁ q ≡ ancillaeOf heap b q
+  inner-ancillae =
+      ancillae-same heap (b₁ .slots) (b .slots) 0 q
+      (λ j h. ap (λ (l : List ℕ). getD l j 0) (O .slots) ∙ getD-set-other (b .slots) (b .len) j unknown 0 (λ e. omega (arith, B .within)))
+
+module _ {p terms functions heap slots : List ℕ} {st : Machine} {b : Bindings} {q t room : ℕ} (rd : Ready 0 0 p terms functions heap slots st b q (b .len + 1) t room)
+    (space : b .len < 32) {b₁ : Bindings} (O : Opens b unknown b₁) where
+  pub inner-ready : Ready 0 0 p terms functions heap slots st b₁ q (b₁ .len) t room
+  inner-ready = record {
+    machine = rd .machine;
+    binds = opened-binds O (rd .binds .bound) space (left refl) (rd .binds);
+    term = rd .term;
+    few = rd .few;
+    scoped = subst (λ n. ScopedAt p terms functions n t) (sym (O .len)) (rd .scoped);
+    tall = omega arith;
+  }
+
+  inner-run : (v : Val) (ys : List TypeEntry) → runOf p terms functions heap st b₁ q t v room ys ≡ underOf p terms functions heap st b q t v room ys
+  inner-run v ys = ap₂ (λ a σ. backward fits (programAt p terms functions ys) room a σ (treeAt p terms ys t) v (st .fuel)) (inner-ancillae (rd .binds) space O heap) (inner-state (rd .binds) space O heap)
+
+  module _ {node : ℕ} (low : node < st .top) {heap₁ slots₁ : List ℕ} {r : Out} (d : Ran 0 heap heap₁ slots slots₁ st b₁ r (runOf p terms functions heap st b₁ q t (valueAt heap node) room)) where
+    pub inner-stopped : {w : Refusal} → r .status ≡ Refused w → RanUnder heap heap₁ slots slots₁ st b (record { out = r; newest = 0 }) (underOf p terms functions heap st b q t (valueAt heap node) room)
+    inner-stopped {w} s = record {
+      moves = d .moves;
+      follows = λ n. absurd (not-done s n);
+      there = λ n. absurd (not-done s n);
+      answer = λ ys next.
+          ap (λ x. after x (λ σ. leave σ next)) (sym (inner-run (valueAt heap node) ys) ∙ sym (d .answer ys) ∙ meaning-refused heap₁ r s)
+          ∙ refusal-after w (λ σ. leave σ next) ∙ sym (left-refused heap₁ (r .bindings) 0 (r .state .fuel) next s);
+    }
+
+    module _ (s : r .status ≡ Done) where
+      -- there is one to leave
+      pub inner-some : (0 < r .bindings .len) × (r .bindings .len ≤ 32)
+      inner-some = (omega (arith, d .follows s .len, O .len), d .follows s .bound .few)
+
+      pub inner-done : {l : Left} → Goes (r .bindings) l
+          → RanUnder heap heap₁ slots slots₁ st b (record { out = record { status = Done; state = r .state; bindings = l .state }; newest = l .newest }) (underOf p terms functions heap st b q t (valueAt heap node) room)
+      inner-done {l} L = record {
+        moves = d .moves;
+        follows = λ n. goes-follows L (d .follows s .bound) (inner-some .0) O (rd .binds .bound .full) (d .follows s);
+        there = λ n. goes-node L (d .follows s .bound) (inner-some .0) (held-later (rd .machine) (d .moves) .some);
+        answer = λ ys next.
+            via (λ σ. leave σ next) (sym (inner-run (valueAt heap node) ys) ∙ sym (d .answer ys) ∙ meaning-done heap₁ r s)
+            (goes-state L (d .follows s .bound) (inner-some .0) heap₁ (held-later (rd .machine) (d .moves) .unit-there) next (r .state .fuel))
+            ∙ sym (left-done heap₁ (l .state) (l .newest) (r .state .fuel) next refl);
+      }

@@ -1,0 +1,241 @@
+-- Laws of the steps that have no parts to run: refusals on entering, variables, the unit, and a variable that leaves the scope.
+use Prim.Native.Nat.{ℕ, zero, suc, _-_, _≤_, _<_}
+use native.Mathlib.Omega.{arith}
+use native.Mathlib.Decide.{decLt}
+use mathlib.Core.Path.{_≡_, refl, sym, ap, subst, _∙_}
+use mathlib.Core.Bool.{Bool, true, false, cond}
+use mathlib.Core.Logic.{_⊎_, ⊎-elim, inr as right}
+use mathlib.Core.List.{List, _∷_}
+use lib.ListN.{length, getD, set, length-set}
+use lib.Seq.{getD-set-same, getD-set-other}
+use lib.Dec.{eqb}
+use borrow.Author.Tests.{eq-eqb, ne-eqb, eqb-true, eqb-false}
+use package.Rattle.rules.specs.Val.{Val, unit}
+use package.Rattle.rules.specs.Run.{stuck, Run, give}
+use package.Rattle.rules.specs.Machine.{State, meet, leave, onUnit}
+use package.Rattle.values.specs.Nodes.{kindAt, ofKind, valueWithin, valueAt}
+use package.Rattle.values.proofs.Heaps.{value-unit}
+use package.Rattle.scopes.specs.Slots.{unknown, found, meaning as slotMeaning, Slots}
+use package.Rattle.scopes.specs.Bindings.{stateOf, Bound, Opens, Meets, Leaves}
+use package.Rattle.scopes.specs.declared.bindings.Bindings.{Bindings}
+use package.Rattle.scopes.specs.declared.bindings.Met.{Met}
+use package.Rattle.scopes.specs.declared.bindings.Left.{Left}
+use package.Rattle.scopes.proofs.Marks.{found-mark, found-node}
+use package.Rattle.scopes.proofs.Scopes.{slots-bind}
+use package.Rattle.scopes.proofs.Bound.{meet-bound, leaves-state}
+use package.Rattle.forward.specs.Ready.{Graph}
+use package.Rattle.forward.specs.declared.outcomes.Machine.{Machine}
+use package.Rattle.backward.specs.Outcomes.{refusalOf, tooLong, against, mismatch, nodeOr}
+use package.Rattle.backward.specs.Ready.{Binds, Follows, Stays, Goes}
+use package.Rattle.backward.proofs.Runs.{meaning-done, meaning-refused, not-done, follows-same}
+use Rattle.backward.specs.declared.outcomes.Refusal.the-variants.{Fuel, Height, Long, NoInput, Stuck}
+use Rattle.backward.specs.declared.outcomes.Status.the-variants.{Done, Refused}
+
+----------------------------------------------------------------
+-- Refusals
+
+pub long-fuel : (fuel room t : ℕ) → fuel ≡ 0 → Fuel t ≡ tooLong fuel room t
+unfolding tooLong
+long-fuel fuel room t e = rw e
+
+pub long-height : (fuel room t : ℕ) → ¬ (fuel ≡ 0) → room ≡ 0 → Height t ≡ tooLong fuel room t
+unfolding tooLong
+long-height zero room t n e = absurd (n refl)
+long-height (suc fuel) room t n e = rw e
+
+pub long-value : (fuel room t : ℕ) → ¬ (fuel ≡ 0) → ¬ (room ≡ 0) → Long t ≡ tooLong fuel room t
+unfolding tooLong
+long-value zero room t n n′ = absurd (n refl)
+long-value (suc fuel) zero t n n′ = absurd (n′ refl)
+long-value (suc fuel) (suc room) t n n′ = refl
+
+pub against-other : (other found t : ℕ) → found ≡ other → NoInput t ≡ against other found t
+unfolding against
+against-other other found t e = rw (against, eq-eqb found other e)
+
+pub against-none : (other found t : ℕ) → ¬ (found ≡ other) → Stuck ≡ against other found t
+unfolding against
+against-none other found t n = rw (against, ne-eqb found other n)
+
+pub mismatch-left : (kind found t : ℕ) → kind ≡ 1 → against 2 found t ≡ mismatch kind found t
+unfolding mismatch
+mismatch-left kind found t e = rw (mismatch, eq-eqb kind 1 e)
+
+pub mismatch-right : (kind found t : ℕ) → ¬ (kind ≡ 1) → kind ≡ 2 → against 1 found t ≡ mismatch kind found t
+unfolding mismatch
+mismatch-right kind found t n e = rw (mismatch, ne-eqb kind 1 n, eq-eqb kind 2 e)
+
+pub mismatch-none : (kind found t : ℕ) → ¬ (kind ≡ 1) → ¬ (kind ≡ 2) → Stuck ≡ mismatch kind found t
+unfolding mismatch
+mismatch-none kind found t n n′ = rw (mismatch, ne-eqb kind 1 n, ne-eqb kind 2 n′)
+
+----------------------------------------------------------------
+-- Branches
+
+pub choice-left : {A : Type 0} {b : Bool} {x y : A} (z : A) → b ≡ true → x ≡ y → x ≡ cond b y z
+choice-left z e q = rw e q
+
+pub choice-right : {A : Type 0} {b : Bool} {x z : A} (y : A) → b ≡ false → x ≡ z → x ≡ cond b y z
+choice-right y e q = rw e q
+
+----------------------------------------------------------------
+-- Variables
+
+pub lt-same : {i v n : ℕ} → i ≡ v → v < n → i < n
+lt-same e h = omega arith
+
+-- meeting keeps what is known
+pub meets-follows : (heap : List ℕ) (b : Bindings) (i node top : ℕ) (r : Met) → Meets heap b i node r → Bound b top → i < b .len → node < top → Follows b (r .state) top
+meets-follows heap b i node top r M B l low = go (eqb (getD (b .slots) i 0) unknown) refl
+  where
+    bound-slot : (slots : List ℕ) → slots ≡ set (b .slots) i node → (j : ℕ) → Dec (j < i) → Dec (i < j) → j < b .len → (getD slots j 0 ≡ unknown) ⊎ (getD slots j 0 < top)
+    bound-slot slots e j (yes x) d h = rw (e, getD-set-other (b .slots) i j node 0 (λ q. omega arith)) (B .held .held j h)
+    bound-slot slots e j (no x) (yes y) h = rw (e, getD-set-other (b .slots) i j node 0 (λ q. omega arith)) (B .held .held j h)
+    bound-slot slots e j (no x) (no y) h = let z : j ≡ i = omega arith in rw (e, z, getD-set-same (b .slots) i node 0 (omega (arith, B .full, B .few))) (right low)
+
+    bound : getD (b .slots) i 0 ≡ unknown → (r .state .slots ≡ set (b .slots) i node) → (r .state .len ≡ b .len) → Follows b (r .state) top
+    bound u s n = record {
+      bound = record {
+        full = rw s (length-set (b .slots) i node ∙ B .full);
+        few = omega (arith, n, B .few);
+        held = record { held = λ j h. bound-slot (r .state .slots) s j (decLt j i) (decLt i j) (omega arith) };
+      };
+      len = n;
+      kept = λ j h d. ap (λ (l : List ℕ). getD l j 0) s ∙ getD-set-other (b .slots) i j node 0 (λ q. d (ap (λ j. getD (b .slots) j 0) q ∙ u));
+    }
+
+    go : (e : Bool) → eqb (getD (b .slots) i 0) unknown ≡ e → Follows b (r .state) top
+    go true e = let u = eqb-true (getD (b .slots) i 0) unknown e in bound u (M .binds u .1) (M .binds u .2)
+    go false e = let u = eqb-false (getD (b .slots) i 0) unknown e in subst (λ (c : Bindings). Follows b c top) (sym (M .compares u .1)) (follows-same B)
+
+module _ {heap : List ℕ} {st : Machine} {b : Bindings} {i node : ℕ} {r : Met} (M : Meets heap b i node r) (B : Bound b (st .top)) (small : st .top ≤ unknown) (l : i < b .len)
+    (low : node < st .top) (t v : ℕ) (q : i ≡ v) where
+  pub variable-met : r .agrees ≡ true → Stays heap st b (record { status = Done; state = st; bindings = r .state }) (meet t (stateOf heap b) v (valueAt heap node) (st .fuel))
+  variable-met e = record {
+    state = refl;
+    follows = λ d. meets-follows heap b i node (st .top) r M B l low;
+    answer = meaning-done heap (record { status = Done; state = st; bindings = r .state }) refl
+        ∙ sym (meet-bound heap b i node (st .top) t (st .fuel) r M B l (λ z. omega arith) .0 e) ∙ ap (λ i. meet t (stateOf heap b) i (valueAt heap node) (st .fuel)) q;
+  }
+
+  pub variable-differs : r .agrees ≡ false → Stays heap st b (record { status = Refused (NoInput t); state = st; bindings = b }) (meet t (stateOf heap b) v (valueAt heap node) (st .fuel))
+  unfolding refusalOf
+  variable-differs e = record {
+    state = refl;
+    follows = λ d. absurd (not-done refl d);
+    answer = meaning-refused heap (record { status = Refused (NoInput t); state = st; bindings = b }) refl
+        ∙ sym (meet-bound heap b i node (st .top) t (st .fuel) r M B l (λ z. omega arith) .1 e) ∙ ap (λ i. meet t (stateOf heap b) i (valueAt heap node) (st .fuel)) q;
+  }
+
+----------------------------------------------------------------
+-- The unit
+
+no-unit : {A : Type 0} (n : ℕ) (v w : Val) (m : Run A) (fuel : ℕ) → ¬ (n ≡ 0) → onUnit (ofKind n v w) m fuel ≡ stuck
+unfolding onUnit ofKind
+no-unit zero v w m fuel d = absurd (d refl)
+no-unit (suc zero) v w m fuel d = refl
+no-unit (suc (suc zero)) v w m fuel d = refl
+no-unit (suc (suc (suc zero))) v w m fuel d = refl
+no-unit (suc (suc (suc (suc n)))) v w m fuel d = refl
+
+module _ {heap : List ℕ} (st : Machine) (G : Graph heap (st .top)) {b : Bindings} (B : Bound b (st .top)) (node : ℕ) where
+  pub unit-met : kindAt heap node ≡ 0 → Stays heap st b (record { status = Done; state = st; bindings = b }) (onUnit (valueAt heap node) (give (stateOf heap b)) (st .fuel))
+  unfolding onUnit
+  unit-met e = record {
+    state = refl;
+    follows = λ d. follows-same B;
+    answer = meaning-done heap (record { status = Done; state = st; bindings = b }) refl
+        ∙ sym (ap (λ v. onUnit v (give (stateOf heap b)) (st .fuel)) (value-unit heap (st .top) (G .right) node e));
+  }
+
+  pub unit-stuck : ¬ (kindAt heap node ≡ 0) → Stays heap st b (record { status = Refused Stuck; state = st; bindings = b }) (onUnit (valueAt heap node) (give (stateOf heap b)) (st .fuel))
+  unfolding refusalOf valueAt valueWithin
+  unit-stuck n = record {
+    state = refl;
+    follows = λ d. absurd (not-done refl d);
+    answer = meaning-refused heap (record { status = Refused Stuck; state = st; bindings = b }) refl
+        ∙ sym (no-unit (kindAt heap node) _ _ (give (stateOf heap b)) (st .fuel) n);
+  }
+
+----------------------------------------------------------------
+-- A variable comes into scope, not known, and leaves it
+
+pub node-mark : (node : ℕ) → node ≡ unknown → 0 ≡ nodeOr node
+unfolding nodeOr
+node-mark node e = rw (nodeOr, eq-eqb node unknown e)
+
+pub node-known : (node : ℕ) → ¬ (node ≡ unknown) → node ≡ nodeOr node
+unfolding nodeOr
+node-known node n = rw (nodeOr, ne-eqb node unknown n)
+
+pub goes : {b : Bindings} {r r′ : Left} → Leaves b r → r′ .newest ≡ nodeOr (r .newest) → r′ .state ≡ r .state → Goes b r′
+goes {b} L e s = record {
+  newest = e ∙ ap nodeOr (L .newest);
+  slots = ap (λ (c : Bindings). c .slots) s ∙ L .slots;
+  len = ap (λ (c : Bindings). c .len) s ∙ L .len;
+}
+
+module _ {b : Bindings} {r : Left} (L : Goes b r) {top : ℕ} (B : Bound b top) (some : 0 < b .len) where
+  pub goes-node : 0 < top → r .newest < top
+  goes-node pos = go (eqb (getD (b .slots) (b .len - 1) 0) unknown) refl
+    where
+      go : (e : Bool) → eqb (getD (b .slots) (b .len - 1) 0) unknown ≡ e → r .newest < top
+      go true e = rw (L .newest ∙ sym (node-mark _ (eqb-true (getD (b .slots) (b .len - 1) 0) unknown e))) pos
+      go false e =
+          let n = eqb-false (getD (b .slots) (b .len - 1) 0) unknown e in
+          rw (L .newest ∙ sym (node-known _ n)) (⊎-elim (λ x. absurd (n x)) (λ x. x) (B .held .held (b .len - 1) (omega arith)))
+
+  as-left : Leaves b (record { newest = getD (b .slots) (b .len - 1) 0; state = r .state })
+  as-left = record { newest = refl; slots = L .slots; len = L .len }
+
+  -- as the rules have it
+  pub goes-state : {A : Type 0} (heap : List ℕ) → valueAt heap 0 ≡ unit → (next : Val → State → Run A) (fuel : ℕ)
+      → leave (stateOf heap b) next fuel ≡ next (valueAt heap (r .newest)) (stateOf heap (r .state)) fuel
+  unfolding leave
+  goes-state heap u next fuel = go (eqb (getD (b .slots) (b .len - 1) 0) unknown) refl
+    where
+      front : stateOf heap b ≡ slotMeaning heap (found (getD (b .slots) (b .len - 1) 0)) ∷ stateOf heap (r .state)
+      front = leaves-state heap b (record { newest = getD (b .slots) (b .len - 1) 0; state = r .state }) as-left some
+
+      go : (e : Bool) → eqb (getD (b .slots) (b .len - 1) 0) unknown ≡ e → leave (stateOf heap b) next fuel ≡ next (valueAt heap (r .newest)) (stateOf heap (r .state)) fuel
+      go true e =
+          let m = eqb-true (getD (b .slots) (b .len - 1) 0) unknown e in
+          ap (λ σ. leave σ next fuel) (front ∙ ap (λ f. slotMeaning heap f ∷ stateOf heap (r .state)) (found-mark _ m))
+          ∙ ap (λ v. next v (stateOf heap (r .state)) fuel) (sym u ∙ ap (valueAt heap) (node-mark _ m ∙ sym (L .newest)))
+      go false e =
+          let n = eqb-false (getD (b .slots) (b .len - 1) 0) unknown e in
+          ap (λ σ. leave σ next fuel) (front ∙ ap (λ f. slotMeaning heap f ∷ stateOf heap (r .state)) (found-node _ n))
+          ∙ ap (λ v. next v (stateOf heap (r .state)) fuel) (ap (valueAt heap) (node-known _ n ∙ sym (L .newest)))
+
+  -- an outer state that `b` follows, with one variable more
+  pub goes-follows : {c c₁ : Bindings} → Opens c unknown c₁ → length (c .slots) ≡ 32 → Follows c₁ b top → Follows c (r .state) top
+  goes-follows {c} {c₁} O full F = record {
+    bound = record {
+      full = ap length (L .slots) ∙ B .full;
+      few = omega (arith, L .len, B .few);
+      held = record { held = λ j h. rw (L .slots) (B .held .held j (omega (arith, L .len))) };
+    };
+    len = let z : r .state .len ≡ b .len - 1 = L .len in omega (arith, F .len, O .len);
+    kept = λ i h n.
+        ap (λ (l : List ℕ). getD l i 0) (L .slots)
+        ∙ F .kept i (omega (arith, O .len)) (λ e. n (sym (same i h) ∙ e)) ∙ same i h;
+  }
+    where
+      same : (i : ℕ) → i < c .len → getD (c₁ .slots) i 0 ≡ getD (c .slots) i 0
+      same i h = ap (λ (l : List ℕ). getD l i 0) (O .slots) ∙ getD-set-other (c .slots) (c .len) i unknown 0 (λ q. omega arith)
+
+module _ {c c₁ : Bindings} {node : ℕ} (O : Opens c node c₁) {top : ℕ} (B : Bound c top) (room : c .len < 32) (low : (node ≡ unknown) ⊎ (node < top)) where
+  pub opened-bound : Bound c₁ top
+  opened-bound = record {
+    full = ap length (O .slots) ∙ length-set (c .slots) (c .len) node ∙ B .full;
+    few = omega (arith, O .len);
+    held = rw (O .slots) (subst (λ n. Slots (set (c .slots) (c .len) node) n top) (let z : suc (c .len) ≡ c₁ .len = omega (arith, O .len) in z)
+        (slots-bind (c .slots) (c .len) top node (omega (arith, B .full)) (B .held) low));
+  }
+
+  pub opened-binds : {q : ℕ} → Binds c q top → Binds c₁ q top
+  opened-binds {q} D = record {
+    bound = opened-bound;
+    within = omega (arith, D .within, O .len);
+    ancillae = λ i h. rw (ap (λ (l : List ℕ). getD l i 0) (O .slots) ∙ getD-set-other (c .slots) (c .len) i node 0 (λ e. omega (arith, D .within))) (D .ancillae i h);
+  }

@@ -1,0 +1,23 @@
+-- Laws that the proofs of backward evaluation cite.
+-- runs in code, one after another
+pub mod Runs
+-- steps that have no parts to run
+pub mod Leaves
+-- the ancilla arguments of a call
+pub mod Gathering
+-- a term that is run next
+pub mod Parts
+-- a term is entered, and the values and scopes that it is entered with
+pub mod Entering
+-- the kinds that bind nothing
+pub mod Steps
+-- let and let pair
+pub mod Lets
+-- case
+pub mod Choosing
+-- calls
+pub mod Calling
+-- the run of a function
+pub mod Starting
+-- accepted programs
+pub mod Accepted

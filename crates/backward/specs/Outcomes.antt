@@ -1,0 +1,69 @@
+-- What the outcome of a backward run in code means: an answer of rules/specs/Run, with document 01's numbers of refusals (section 4).
+use Prim.Native.Nat.{ℕ, zero, suc}
+use mathlib.Core.Bool.{true, false}
+use mathlib.Core.List.{List}
+use lib.Dec.{eqb}
+use package.Rattle.rules.specs.Val.{Val}
+use package.Rattle.rules.specs.Run.{Res, ok, stop, stuck, Run}
+use package.Rattle.rules.specs.Machine.{State}
+use package.Rattle.values.specs.Nodes.{valueAt}
+use package.Rattle.scopes.specs.Slots.{unknown}
+use package.Rattle.scopes.specs.Bindings.{stateOf}
+use package.Rattle.scopes.specs.declared.bindings.Bindings.{Bindings}
+use package.Rattle.forward.specs.declared.outcomes.Refusal.{Refusal as Carried}
+use package.Rattle.forward.specs.declared.outcomes.Refusal.the-variants.{Fuel as cFuel, Height as cHeight, Long as cLong, FirstMatch as cFirstMatch, Stuck as cStuck}
+use Rattle.backward.specs.declared.outcomes.Refusal.{Refusal}
+use Rattle.backward.specs.declared.outcomes.Refusal.the-variants.{Fuel, Height, Long, FirstMatch, NoInput, Stuck}
+use Rattle.backward.specs.declared.outcomes.Status.{Status}
+use Rattle.backward.specs.declared.outcomes.Status.the-variants.{Done, Refused}
+use Rattle.backward.specs.declared.outcomes.Out.{Out}
+
+-- the number of a refusal, and its place
+unfoldable pub refusalOf : {A : Type 0} → Refusal → Res A
+refusalOf (Fuel t) = stop 12 t
+refusalOf (Height t) = stop 13 t
+refusalOf (Long t) = stop 14 t
+refusalOf (FirstMatch t) = stop 15 t
+refusalOf (NoInput t) = stop 16 t
+refusalOf Stuck = stuck
+
+-- a status, with the bindings and the fuel that is left, on the heap that their nodes are in
+unfoldable pub answerOf : List ℕ → Bindings → ℕ → Status → Res State
+answerOf heap b fuel Done = ok (stateOf heap b) fuel
+answerOf heap b fuel (Refused why) = refusalOf why
+
+abbrev pub meaning : List ℕ → Out → Res State
+meaning heap out = answerOf heap (out .bindings) (out .state .fuel) (out .status)
+
+-- how a run goes on with the node of a variable that has left the scope, and the other bindings
+unfoldable pub leftWith : List ℕ → Bindings → ℕ → ℕ → Status → (Val → State → Run State) → Res State
+leftWith heap b newest fuel Done next = next (valueAt heap newest) (stateOf heap b) fuel
+leftWith heap b newest fuel (Refused why) next = refusalOf why
+
+-- a refusal of an ancilla term, which is run forward
+unfoldable pub carried : Carried → Refusal
+carried (cFuel t) = Fuel t
+carried (cHeight t) = Height t
+carried (cLong t) = Long t
+carried (cFirstMatch t) = FirstMatch t
+carried cStuck = Stuck
+
+-- Term `t` is entered with a value that is too long: 14 is met after 12 and 13.
+unfoldable pub tooLong : ℕ → ℕ → ℕ → Refusal
+tooLong zero room t = Fuel t
+tooLong (suc fuel) zero t = Height t
+tooLong (suc fuel) (suc room) t = Long t
+
+-- Term `t` makes values of one kind, and its value is of the kind `found`: inl against inr has no input (16), other kinds are of no typed value.
+unfoldable pub against : ℕ → ℕ → ℕ → Refusal
+against other found t = elim (eqb found other) [ true ↦ NoInput t | false ↦ Stuck ]
+
+unfoldable pub mismatch : ℕ → ℕ → ℕ → Refusal
+mismatch kind found t = elim (eqb kind 1) [
+  | true ↦ against 2 found t
+  | false ↦ elim (eqb kind 2) [ true ↦ against 1 found t | false ↦ Stuck ]
+]
+
+-- The node of a variable that leaves the scope: node 0 is the unit, which a variable never met is.
+unfoldable pub nodeOr : ℕ → ℕ
+nodeOr node = elim (eqb node unknown) [ true ↦ 0 | false ↦ node ]
