@@ -1,0 +1,7 @@
+-- Laws that the proofs of runs cite.
+-- values loaded as nodes, one after another
+pub mod Loads
+-- the answers of a run, and the output
+pub mod Ends
+-- a forward run, from the values to the outcome
+pub mod Onward
