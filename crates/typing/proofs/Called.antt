@@ -35,7 +35,7 @@ nth-there (x ∷ l) zero h = refl
 nth-there (x ∷ l) (suc g) h = nth-there l g (omega arith)
 
 module _ {p types terms functions nodes : List ℕ} (E : Entered p types terms functions nodes) {g h : ℕ} (there : g < length functions) (q : h ≡ getD functions g 0) where
-  entry-there : nth (map (functionAt p) functions) g ≡ some (functionAt p h)
+  pub entry-there : nth (map (functionAt p) functions) g ≡ some (functionAt p h)
   entry-there = nth-map (functionAt p) functions g (nth-there functions g there ∙ ap some (sym q))
 
   abbrev pub called : Fun
@@ -45,7 +45,7 @@ module _ {p types terms functions nodes : List ℕ} (E : Entered p types terms f
   unfolding programOf entriesAt
   called-in = nth-map (functionOf (map (typeAt p) types) (map (termAt p) terms)) (map (functionAt p) functions) g entry-there
 
-  function-field : FunctionField p h
+  pub function-field : FunctionField p h
   function-field = subst (FunctionField p) (sym q) (E .formed .functions g there)
 
   pub read-function : h + 8 + 2 * parametersAt p h ≤ length p

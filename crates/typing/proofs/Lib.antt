@@ -23,3 +23,13 @@ pub mod Branching
 pub mod Called
 -- calls
 pub mod Passing
+-- the parameters of a function
+pub mod Parameters
+-- the tests of a function whose body is typed
+pub mod Ending
+-- the scope of a function's parameters
+pub mod Starts
+-- typing one function
+pub mod Checks
+-- the functions in order
+pub mod Turns

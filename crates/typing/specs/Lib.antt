@@ -7,3 +7,5 @@ pub mod Sizes
 pub mod Outcomes
 -- what typing a term asks for, and what it ensures
 pub mod Ready
+-- what typing the functions answers
+pub mod Checked

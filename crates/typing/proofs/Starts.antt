@@ -1,0 +1,160 @@
+-- The scope of a function's parameters: bound one after another, the ancillae first, they are the context that the rules type its body in.
+use Prim.Native.Nat.{ℕ, zero, suc, _+_, _-_, _*_, _<_, _≤_}
+use native.Mathlib.Omega.{arith}
+use native.Mathlib.Decide.{decLt}
+use mathlib.Core.Path.{_≡_, refl, sym, ap, ap₂, _∙_}
+use mathlib.Core.Bool.{false}
+use mathlib.Core.Option.{some}
+use mathlib.Core.List.{List, [], _∷_, _++_, map}
+use lib.ListN.{length, getD, take, length-map, List·getD-map}
+use lib.Seq.{take-suc, take-all}
+use package.Rattle.rules.specs.Ty.{Ty}
+use package.Rattle.rules.specs.Term.{look}
+use package.Rattle.rules.specs.Typing.{Binding, static, dynamic, barred, Context}
+use package.Rattle.rules.specs.Check.{mustUse, statics}
+use package.Rattle.rules.proofs.Basics.{some-inj}
+use package.Rattle.rules.proofs.Scope.{look-newest, look-skip}
+use package.Rattle.calls.specs.Entries.{TypeEntry, typeAt, typeOf, functionAt}
+use package.Rattle.calls.specs.Fields.{parametersAt}
+use package.Rattle.types.specs.declared.codes.Code.{Code}
+use package.Rattle.types.specs.Codes.{entryCode, treeIn, Sources}
+use package.Rattle.uses.specs.declared.Uses.{Uses}
+use package.Rattle.uses.specs.Sets.{Holds, nobody}
+use package.Rattle.typing.specs.declared.outcomes.Scope.{Scope}
+use package.Rattle.typing.specs.Contexts.{standing, contextAt, mustUseAt, Owed}
+use package.Rattle.typing.specs.Ready.{variableBytes, variableAt, contextIn, Scoped, Opened}
+use package.Rattle.typing.specs.Checked.{Signed, Bound, Started}
+use package.Rattle.typing.proofs.Contexts.{stands-static, stands-barred, stands-dynamic, length-context, look-context, look-outside}
+use package.Rattle.typing.proofs.Parameters.{ancilla-count, row-ancilla, row-dynamic}
+use package.Rattle.typing.proofs.Ending.{entry-tree}
+
+----------------------------------------------------------------
+-- Ancilla parameters
+
+-- the last of the ancillae is the newest
+statics-last : (cs : List Ty) (c : Ty) (Δ : Context) → statics (cs ++ (c ∷ [])) Δ ≡ static c ∷ statics cs Δ
+unfolding statics
+statics-last [] c Δ = refl
+statics-last (x ∷ cs) c Δ = statics-last cs c (static x ∷ Δ)
+
+statics-are : (T : ℕ → Ty) (q : ℕ) (cs : List Ty) (d : Ty) (n : ℕ) → n ≤ q → n ≤ length cs → ((i : ℕ) → i < n → T i ≡ getD cs i d)
+    → contextAt T q 0 n ≡ statics (take n cs) []
+unfolding contextAt statics
+statics-are T q cs d zero l h s = refl
+statics-are T q cs d (suc n) l h s =
+    ap₂ _∷_ (stands-static q 0 n (T n) (omega arith) ∙ ap static (s n (omega arith))) (statics-are T q cs d n (omega arith) (omega arith) (λ i x. s i (omega arith)))
+    ∙ sym (ap (λ cs. statics cs []) (take-suc cs n d (omega arith)) ∙ statics-last (take n cs) (getD cs n d) [])
+
+-- ancillae need not be used
+none-owed : (T : ℕ → Ty) (n : ℕ) (u : Uses) → Holds u nobody → Owed u (contextAt T n 0 n)
+unfolding mustUseAt mustUse
+none-owed T n u h = record { each = λ i l. h .each i l ∙ sym (go i (decLt i n)) }
+  where
+    go : (i : ℕ) → Dec (i < n) → mustUseAt (contextAt T n 0 n) i ≡ false
+    go i (yes l) = rw (look-context T n 0 n i l, stands-static n 0 i (T i) l, mustUseAt)
+    go i (no l) = rw (look-outside T n 0 n i (omega arith), mustUseAt)
+
+----------------------------------------------------------------
+-- What a context says of the types of its variables
+
+bound : Binding → Ty
+bound (static c) = c
+bound (dynamic c) = c
+bound (barred c) = c
+
+bound-standing : (q lo i : ℕ) (τ : Ty) → bound (standing q lo i τ) ≡ τ
+unfolding bound
+bound-standing q lo i τ = go (decLt i q) (decLt i lo)
+  where
+    go : Dec (i < q) → Dec (i < lo) → bound (standing q lo i τ) ≡ τ
+    go (yes x) y = ap bound (stands-static q lo i τ x)
+    go (no x) (yes y) = ap bound (stands-barred q lo i τ (omega arith) y)
+    go (no x) (no y) = ap bound (stands-dynamic q lo i τ (omega arith) (omega arith))
+
+-- the type of variable `i`
+abbrev typeAtVar : List ℕ → List ℕ → List ℕ → List ℕ → ℕ → Ty
+typeAtVar xs types heap vars i = treeIn xs types heap (variableAt vars i)
+
+-- a variable of the code's type is bound
+module _ {xs types heap vars vars′ : List ℕ} {sc r : Scope} {top : ℕ} {c : Code} (O : Opened xs types heap vars vars′ sc top c r) where
+  seen : (i : ℕ) → i < r .n → some (standing (r .q) (r .lo) i (typeAtVar xs types heap vars′ i)) ≡ look (dynamic (treeIn xs types heap c) ∷ contextIn xs types heap vars sc) i
+  seen i l = sym (look-context (typeAtVar xs types heap vars′) (r .q) (r .lo) (r .n) i l) ∙ ap (λ Δ. look Δ i) (O .context)
+
+  size : length (contextIn xs types heap vars sc) ≡ sc .n
+  size = length-context (typeAtVar xs types heap vars) (sc .q) (sc .lo) (sc .n)
+
+  -- the types of the others are as they were
+  older : (i : ℕ) → i < sc .n → typeAtVar xs types heap vars′ i ≡ typeAtVar xs types heap vars i
+  older i l =
+      sym (bound-standing (r .q) (r .lo) i (typeAtVar xs types heap vars′ i))
+      ∙ ap bound (some-inj (seen i (omega (arith, O .one-more)) ∙ look-skip (contextIn xs types heap vars sc) (dynamic (treeIn xs types heap c)) i (omega (arith, size))
+      ∙ look-context (typeAtVar xs types heap vars) (sc .q) (sc .lo) (sc .n) i l))
+      ∙ bound-standing (sc .q) (sc .lo) i (typeAtVar xs types heap vars i)
+
+  newest : typeAtVar xs types heap vars′ (sc .n) ≡ treeIn xs types heap c
+  unfolding bound
+  newest =
+      sym (bound-standing (r .q) (r .lo) (sc .n) (typeAtVar xs types heap vars′ (sc .n)))
+      ∙ ap bound (some-inj (seen (sc .n) (omega (arith, O .one-more)) ∙ ap (look (dynamic (treeIn xs types heap c) ∷ contextIn xs types heap vars sc)) (sym size)
+      ∙ look-newest (dynamic (treeIn xs types heap c)) (contextIn xs types heap vars sc)))
+
+----------------------------------------------------------------
+-- Parameters bound in order
+
+pub none-bound : {xs types heap vars row : List ℕ} → variableBytes * 32 ≤ length vars → Bound xs types heap vars row 0
+none-bound l = record { slots = l; known = λ i h. absurd (omega arith); tree = λ i h. absurd (omega arith) }
+
+-- the scope of ancillae alone, of which there are as many as `n` says
+pub ancillae-scoped : {xs types heap vars row : List ℕ} {n : ℕ} {u : Uses} → Sources xs types heap 0 → Bound xs types heap vars row n → n ≤ 32 → Holds u nobody
+    → Scoped xs types heap vars (record { q = n; lo = 0; n = n; owed = u }) 0
+ancillae-scoped {n = n} {u = u} S B l h = record {
+  sources = S;
+  slots = B .slots;
+  static = omega arith;
+  low = omega arith;
+  few = l;
+  known = B .known;
+  owed = none-owed _ n u h;
+}
+
+-- one parameter more
+pub one-bound : {xs types heap vars vars′ row : List ℕ} {n i : ℕ} {u : Uses} {c : Code} {r : Scope}
+    → Opened xs types heap vars vars′ (record { q = n; lo = 0; n = n; owed = u }) 0 c r → i ≡ n → c ≡ entryCode (getD row i 0)
+    → Bound xs types heap vars row n → Bound xs types heap vars′ row (n + 1)
+one-bound {xs} {types} {heap} {vars} {vars′} {row} {n} {i} O s e B = record {
+  slots = omega (arith, B .slots, O .lengths);
+  known = λ j l. O .scoped .known j (omega (arith, O .one-more));
+  tree = λ j l. go j l (decLt j n);
+}
+  where
+    go : (j : ℕ) → j < n + 1 → Dec (j < n) → typeAtVar xs types heap vars′ j ≡ typeOf (map (typeAt xs) types) (getD row j 0)
+    go j l (yes h) = older O j h ∙ B .tree j h
+    go j l (no h) = let k : j ≡ n = omega arith in
+        ap (typeAtVar xs types heap vars′) k ∙ newest O ∙ entry-tree xs types heap e ∙ ap (λ j. typeOf (map (typeAt xs) types) (getD row j 0)) (s ∙ sym k)
+
+-- the scope of all parameters
+pub all-bound : {xs types heap vars vars′ row : List ℕ} {at n i : ℕ} {u : Uses} {c : Code} {r : Scope} → Signed xs types at row
+    → Bound xs types heap vars row n → n ≡ parametersAt xs at - 1 → i ≡ n → c ≡ entryCode (getD row i 0)
+    → Opened xs types heap vars vars′ (record { q = n; lo = 0; n = n; owed = u }) 0 c r → Started xs types heap vars′ at r
+all-bound {xs} {types} {heap} {vars} {vars′} {row} {at} {n} {i} {c = c} S B m s e O = record {
+  scoped = O .scoped;
+  context = O .context ∙ ap₂ (λ c Δ. dynamic c ∷ Δ) last firsts;
+}
+  where
+    ys : List TypeEntry
+    ys = map (typeAt xs) types
+
+    last : treeIn xs types heap c ≡ typeOf ys (functionAt xs at .dynamic)
+    last = entry-tree xs types heap e ∙ ap (typeOf ys) (ap (λ i. getD row i 0) (s ∙ m) ∙ row-dynamic (S .formed) (S .signature))
+
+    firsts : contextAt (typeAtVar xs types heap vars) n 0 n ≡ statics (map (typeOf ys) (functionAt xs at .ancillae)) []
+    firsts =
+        let k : length cs ≡ n = length-map (functionAt xs at .ancillae) (typeOf ys) ∙ ancilla-count (S .formed) ∙ sym m in
+        statics-are (typeAtVar xs types heap vars) n cs (typeOf ys 0) n (omega arith) (omega arith) ancilla
+        ∙ ap (λ cs. statics cs []) (take-all n cs (omega arith))
+      where
+        cs : List Ty
+        cs = map (typeOf ys) (functionAt xs at .ancillae)
+
+        ancilla : (j : ℕ) → j < n → typeAtVar xs types heap vars j ≡ getD cs j (typeOf ys 0)
+        ancilla j l = B .tree j l ∙ ap (typeOf ys) (row-ancilla (S .formed) (S .signature) j (omega arith)) ∙ sym (List·getD-map (typeOf ys) (functionAt xs at .ancillae) j 0)

@@ -1,0 +1,210 @@
+// The functions of a program, typed in order (document 01, section 4, row Typing: refusals 6 to 8), against rules/specs/Check. The
+// parameters' types come from the table of signatures; product nodes of one function are not needed by the next, so each function has
+// all the room for them.
+use crate::infer;
+use crate::outcomes::Fault;
+use crate::outcomes::Scope;
+use crate::outcomes::Status;
+use crate::variables;
+use types::codes;
+use types::codes::Code;
+use types::compare;
+use uses::Uses;
+ghost use mathlib.Core.Path.{_≡_};
+ghost use Prim.Native.Nat.{_*_, _-_, _≤_, _<_};
+ghost use lib.ListN.{length, getD};
+ghost use Rattle.calls.specs.Fields.{parametersAt};
+ghost use Rattle.calls.specs.Entries.{functionAt};
+ghost use Rattle.program.specs.Signatures.{SignatureIs};
+ghost use Rattle.types.specs.Codes.{treeIn, Sources, Known};
+ghost use Rattle.uses.specs.Sets.{has};
+ghost use Rattle.typing.specs.Ready.{variableBytes};
+ghost use Rattle.typing.specs.Checked.{verdictOf, Typeable, Signed, Bound, Started, typingAnswer, functionAnswer, endAnswer, faultAnswer};
+
+// What typing the functions answers: they are typed, or refusal 6, 7 or 8 at a field's offset.
+pub enum Verdict {
+    Typed,
+    Differ(usize),
+    Unscoped(usize),
+    Misused(usize),
+}
+
+// The first `q` variables get the types of the ancilla parameters. Each is bound like any variable, and then counted among the ancillae.
+fn bind_ancillae(
+    p: &[u8],
+    types: &[u16],
+    ws: &[u8],
+    vars: &mut [u8],
+    at: usize,
+    row: [u16; 8],
+    q: u8,
+)
+    requires { ⌜ Sources (now p) (now types) (now ws) 0 ⌝ }
+    requires { ⌜ Signed (now p) (now types) at row ⌝ }
+    requires { ⌜ (q < parametersAt (now p) at) × (variableBytes * 32 ≤ length (now vars)) ⌝ }
+    ensures { λ _. ⌜ Bound (now (p .entry)) (now (types .entry)) (now (ws .entry)) (now (vars .exit)) row q ⌝ }
+{
+    let none = Uses::none();
+    let mut i: u8 = 0;
+    while i < q {
+        let k = octets::wide_index(octets::wide16(i));
+        let c = codes::entry(row[k]);
+        let sc = Scope {
+            q: i,
+            lo: 0,
+            n: i,
+            owed: none,
+        };
+        variables::bind(p, types, ws, vars, sc, 0, c);
+        i += 1;
+    }
+}
+
+// The scope of the parameters of the function at `at`.
+fn bind_parameters(
+    p: &[u8],
+    types: &[u16],
+    ws: &[u8],
+    vars: &mut [u8],
+    at: usize,
+    row: [u16; 8],
+) -> Scope
+    requires { ⌜ Sources (now p) (now types) (now ws) 0 ⌝ }
+    requires { ⌜ Signed (now p) (now types) at row ⌝ }
+    requires { ⌜ variableBytes * 32 ≤ length (now vars) ⌝ }
+    ensures { λ r. ⌜ Started (now (p .entry)) (now (types .entry)) (now (ws .entry)) (now (vars .exit)) at r ⌝ }
+{
+    let last = program::views::function_parameters(p, at) - 1;
+    let q = last as u8;
+    bind_ancillae(p, types, ws, vars, at, row, q);
+    let none = Uses::none();
+    let c = codes::entry(row[last]);
+    let sc = Scope {
+        q,
+        lo: 0,
+        n: q,
+        owed: none,
+    };
+    variables::bind(p, types, ws, vars, sc, 0, c)
+}
+
+// The function at `at`, whose body has a type and uses variables: is the type the result's, and is the dynamic parameter used?
+fn finish(
+    p: &[u8],
+    types: &[u16],
+    ws: &[u8],
+    top: u16,
+    at: usize,
+    row: [u16; 8],
+    code: Code,
+    used: Uses,
+) -> Verdict
+    requires { ⌜ Sources (now p) (now types) (now ws) top ⌝ }
+    requires { ⌜ Known (length (now types)) top code ⌝ }
+    requires { ⌜ Signed (now p) (now types) at row ⌝ }
+    ensures { λ r. ⌜ verdictOf r ≡ endAnswer (now (p .entry)) (now (types .entry)) at (treeIn (now (p .entry)) (now (types .entry)) (now (ws .entry)) code) (has used (parametersAt (now (p .entry)) at - 1)) ⌝ }
+{
+    let result = codes::entry(program::views::function_result(p, at));
+    if compare::same(p, types, ws, top, code, result) {
+        let last = program::views::function_parameters(p, at) - 1;
+        let dynamic = codes::entry(row[last]);
+        if compare::is_unit(p, types, ws, top, dynamic) {
+            return Verdict::Typed;
+        }
+        if used.contains(last as u8) {
+            return Verdict::Typed;
+        }
+        return Verdict::Misused(at);
+    }
+    Verdict::Differ(at)
+}
+
+// The offset of a term's field; 0 if there is no such term, as in the definition of a refusal's place.
+fn place(terms: &[u16], t: u16) -> usize
+    ensures { λ r. ⌜ r ≡ getD (now (terms .entry)) t 0 ⌝ }
+{
+    let k = octets::wide_index(t);
+    if k < terms.len() {
+        return octets::wide_index(terms[k]);
+    }
+    0
+}
+
+// A refusal at a term, placed at the term's field.
+fn refusal(terms: &[u16], why: Fault) -> Verdict
+    ensures { λ r. ⌜ verdictOf r ≡ faultAnswer (now (terms .entry)) why ⌝ }
+{
+    match why {
+        Fault::Differ(t) => Verdict::Differ(place(terms, t)),
+        Fault::Unscoped(t) => Verdict::Unscoped(place(terms, t)),
+        Fault::Misused(t) => Verdict::Misused(place(terms, t)),
+    }
+}
+
+// Function `g`, whose parameters' types the row has.
+fn check_function(
+    p: &[u8],
+    types: &[u16],
+    terms: &[u16],
+    functions: &[u16],
+    nodes: &[u16],
+    ws: &mut [u8],
+    g: usize,
+    row: [u16; 8],
+) -> Verdict
+    requires { ⌜ Typeable (now p) (now types) (now terms) (now functions) (now nodes) (now ws) ⌝ }
+    requires { ⌜ (g < length (now functions)) × SignatureIs (functionAt (now p) (getD (now functions) g 0)) row ⌝ }
+    ensures { λ r. ⌜ verdictOf r ≡ functionAnswer (now (p .entry)) (now (types .entry)) (now (terms .entry)) (now (functions .entry)) g ⌝ }
+{
+    let at = octets::wide_index(functions[g]);
+    let body = program::views::function_body(p, at);
+    let mut vars = [0u8; 192];
+    let sc = bind_parameters(p, types, ws, &mut vars, at, row);
+    let out = infer::infer(
+        p,
+        types,
+        terms,
+        functions,
+        nodes,
+        ws,
+        &mut vars,
+        sc,
+        0,
+        body,
+    );
+    let top = out.top;
+    let status = out.status;
+    match status {
+        Status::Typed(f) => finish(p, types, ws, top, at, row, f.code, f.uses),
+        Status::Refused(why) => refusal(terms, why),
+    }
+}
+
+// The functions of a program whose entries are tested, in order. `nodes` has the nodes of each type entry; product nodes stand in `ws`.
+pub fn check_functions(
+    p: &[u8],
+    types: &[u16],
+    terms: &[u16],
+    functions: &[u16],
+    nodes: &[u16],
+    ws: &mut [u8],
+) -> Verdict
+    requires { ⌜ Typeable (now p) (now types) (now terms) (now functions) (now nodes) (now ws) ⌝ }
+    ensures { λ r. ⌜ verdictOf r ≡ typingAnswer (now (p .entry)) (now (types .entry)) (now (terms .entry)) (now (functions .entry)) ⌝ }
+{
+    let table = program::signatures::signatures(p, functions);
+    let mut g = 0;
+    while g < functions.len() {
+        let row = table[g];
+        let v = check_function(p, types, terms, functions, nodes, ws, g, row);
+        match v {
+            Verdict::Typed => {
+                g += 1;
+            }
+            Verdict::Differ(at) => return Verdict::Differ(at),
+            Verdict::Unscoped(at) => return Verdict::Unscoped(at),
+            Verdict::Misused(at) => return Verdict::Misused(at),
+        }
+    }
+    Verdict::Typed
+}
