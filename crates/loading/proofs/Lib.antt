@@ -1,0 +1,3 @@
+-- Laws of loading, by subject.
+-- what each row gives the answer
+pub mod Loading

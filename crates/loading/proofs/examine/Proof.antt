@@ -1,0 +1,55 @@
+use mathlib.Core.Path.{ap}
+use Rattle.entries.specs.Tested.{verdictOf}
+use Rattle.loading.proofs.Loading.{types-held, examine-sound, examine-refused}
+use borrow.Author.Needs.{needs}
+use Rattle.loading.proofs.examine.Statement.{statement}
+use Rattle.loading.proofs.examine.Tie as tie
+
+slice-aggregate-test-entries : tie.Need-slice-aggregate-test-entries
+slice-aggregate-test-entries c = search needs
+
+test-entries-requires : tie.Need-test-entries-requires
+test-entries-requires c κs = (c .before .before .before .before .before .before .pre .0, types-held (c .before .before .before .before .before .before .pre .0))
+
+enum-told : tie.Need-enum-told
+enum-told c = search needs
+
+slice-aggregate-infer : tie.Need-slice-aggregate-infer
+slice-aggregate-infer c = search needs
+
+infer-requires : tie.Need-infer-requires
+infer-requires c κs = examine-sound (c .before .before .before .before .before .before .before .before .before .before .before .before .pre .0) _ (c .before .before .before .before .before .test-entries .ensures) (c .before .before .enum-told .given .1) (search needs) _ (c .before .before .before .before .before .before .before .before .before .before .before .before .pre .1)
+
+enum-known-v : tie.Need-enum-known-v
+enum-known-v c = search needs
+
+enum-known-v-2 : tie.Need-enum-known-v-2
+enum-known-v-2 c = search needs
+
+same-length : tie.Need-same-length
+same-length c = search needs
+
+returns : tie.Need-returns
+returns c = search needs
+
+returns-2 : tie.Need-returns-2
+returns-2 c = record { answer = examine-refused (c .before .before .before .before .before .before .before .before .before .before .before .pre .0) _ (c .before .before .before .before .test-entries .ensures) 4 _ (ap verdictOf (c .before .v .given .1)); ready = tt }
+
+returns-3 : tie.Need-returns-3
+returns-3 c = record { answer = examine-refused (c .before .before .before .before .before .before .before .before .before .before .before .pre .0) _ (c .before .before .before .before .test-entries .ensures) 5 _ (ap verdictOf (c .before .v2 .given .1)); ready = tt }
+
+pub examine-spec : {M : Type 1} → statement M
+examine-spec =
+    tie.close
+    (tie.spec
+    slice-aggregate-test-entries
+    test-entries-requires
+    enum-told
+    slice-aggregate-infer
+    infer-requires
+    enum-known-v
+    enum-known-v-2
+    same-length
+    returns
+    returns-2
+    returns-3)

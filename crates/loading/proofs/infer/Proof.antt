@@ -1,0 +1,63 @@
+use mathlib.Core.Path.{ap}
+use Rattle.typing.specs.Checked.{verdictOf}
+use Rattle.loading.proofs.Loading.{infer-typed, infer-refused}
+use borrow.Author.Needs.{needs}
+use Rattle.loading.proofs.infer.Statement.{statement}
+use Rattle.loading.proofs.infer.Tie as tie
+
+check-functions-requires : tie.Need-check-functions-requires
+check-functions-requires c κs = search needs
+
+enum-told : tie.Need-enum-told
+enum-told c = search needs
+
+enum-known-v : tie.Need-enum-known-v
+enum-known-v c = search needs
+
+enum-known-v-2 : tie.Need-enum-known-v-2
+enum-known-v-2 c = search needs
+
+enum-known-v-3 : tie.Need-enum-known-v-3
+enum-known-v-3 c = search needs
+
+same-length : tie.Need-same-length
+same-length c = search needs
+
+returns : tie.Need-returns
+returns c = infer-typed (c .before .before .before .before .before .before .before .before .before .before .before .before .pre) (c .before .before .before .before .check-functions .result) (c .before .before .before .before .check-functions .ensures) (c .enum-told .given .1)
+
+same-length-2 : tie.Need-same-length-2
+same-length-2 c = search needs
+
+returns-2 : tie.Need-returns-2
+returns-2 c = record { answer = infer-refused (c .before .before .before .before .before .before .before .before .before .before .before .before .before .pre) (c .before .before .before .before .before .check-functions .result) (c .before .before .before .before .before .check-functions .ensures) 6 _ (ap verdictOf (c .before .v .given .1)); ready = tt }
+
+same-length-3 : tie.Need-same-length-3
+same-length-3 c = search needs
+
+returns-3 : tie.Need-returns-3
+returns-3 c = record { answer = infer-refused (c .before .before .before .before .before .before .before .before .before .before .before .before .before .pre) (c .before .before .before .before .before .check-functions .result) (c .before .before .before .before .before .check-functions .ensures) 7 _ (ap verdictOf (c .before .v2 .given .1)); ready = tt }
+
+same-length-4 : tie.Need-same-length-4
+same-length-4 c = search needs
+
+returns-4 : tie.Need-returns-4
+returns-4 c = record { answer = infer-refused (c .before .before .before .before .before .before .before .before .before .before .before .before .before .pre) (c .before .before .before .before .before .check-functions .result) (c .before .before .before .before .before .check-functions .ensures) 8 _ (ap verdictOf (c .before .v3 .given .1)); ready = tt }
+
+pub infer-spec : {M : Type 1} → statement M
+infer-spec =
+    tie.close
+    (tie.spec
+    check-functions-requires
+    enum-told
+    enum-known-v
+    enum-known-v-2
+    enum-known-v-3
+    same-length
+    returns
+    same-length-2
+    returns-2
+    same-length-3
+    returns-3
+    same-length-4
+    returns-4)

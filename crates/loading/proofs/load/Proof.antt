@@ -1,0 +1,107 @@
+use mathlib.Core.Path.{sym}
+use lib.Seq.{length-take-le}
+use Rattle.loading.proofs.Loading.{fields-placed, types-inside, terms-inside, functions-inside, load-read, load-malformed, load-over}
+use borrow.Author.Needs.{needs}
+use Rattle.loading.proofs.load.Statement.{statement}
+use Rattle.loading.proofs.load.Tie as tie
+
+layout-requires : tie.Need-layout-requires
+layout-requires c κs = search needs
+
+enum-known-v : tie.Need-enum-known-v
+enum-known-v c = search needs
+
+slice-reshare-prefix-examine : tie.Need-slice-reshare-prefix-examine
+slice-reshare-prefix-examine c = types-inside _ (c .before .before .before .before .before .before .before .before .before .layout .ensures) _ (c .before .v .given .1)
+
+slice-aggregate-examine : tie.Need-slice-aggregate-examine
+slice-aggregate-examine c = sym (length-take-le _ _ (types-inside _ (c .before .before .before .before .before .before .before .before .before .before .layout .ensures) _ (c .before .before .v .given .1)))
+
+slice-reshare-prefix-examine-2 : tie.Need-slice-reshare-prefix-examine-2
+slice-reshare-prefix-examine-2 c = terms-inside _ (c .before .before .before .before .before .before .before .before .before .before .layout .ensures) _ (c .before .before .v .given .1)
+
+slice-aggregate-examine-2 : tie.Need-slice-aggregate-examine-2
+slice-aggregate-examine-2 c = sym (length-take-le _ _ (terms-inside _ (c .before .before .before .before .before .before .before .before .before .before .before .layout .ensures) _ (c .before .before .before .v .given .1)))
+
+slice-reshare-prefix-examine-3 : tie.Need-slice-reshare-prefix-examine-3
+slice-reshare-prefix-examine-3 c = functions-inside _ (c .before .before .before .before .before .before .before .before .before .before .before .layout .ensures) _ (c .before .before .before .v .given .1)
+
+slice-aggregate-examine-3 : tie.Need-slice-aggregate-examine-3
+slice-aggregate-examine-3 c = sym (length-take-le _ _ (functions-inside _ (c .before .before .before .before .before .before .before .before .before .before .before .before .layout .ensures) _ (c .before .before .before .before .v .given .1)))
+
+examine-requires : tie.Need-examine-requires
+examine-requires c κs = (fields-placed _ (c .before .before .before .before .before .before .before .before .before .before .before .before .before .layout .ensures) _ (c .before .before .before .before .before .v .given .1), c .before .before .before .before .before .before .before .before .before .before .before .before .before .before .before .before .before .before .before .before .before .before .pre .1)
+
+enum-known-v-2 : tie.Need-enum-known-v-2
+enum-known-v-2 c = search needs
+
+enum-known-v-3 : tie.Need-enum-known-v-3
+enum-known-v-3 c = search needs
+
+same-length : tie.Need-same-length
+same-length c = search needs
+
+same-length-2 : tie.Need-same-length-2
+same-length-2 c = search needs
+
+same-length-3 : tie.Need-same-length-3
+same-length-3 c = search needs
+
+same-length-4 : tie.Need-same-length-4
+same-length-4 c = search needs
+
+returns : tie.Need-returns
+returns c = load-read _ (c .before .before .before .before .before .before .before .before .before .before .before .before .before .before .before .before .layout .ensures) _ (c .before .before .before .before .before .before .before .before .v .given .1) _ (c .before .before .examine .ensures)
+
+same-length-5 : tie.Need-same-length-5
+same-length-5 c = search needs
+
+same-length-6 : tie.Need-same-length-6
+same-length-6 c = search needs
+
+same-length-7 : tie.Need-same-length-7
+same-length-7 c = search needs
+
+returns-2 : tie.Need-returns-2
+returns-2 c = load-malformed _ (c .before .before .before .before .before .before .before .before .before .layout .ensures) _ (c .before .v2 .given .1)
+
+same-length-8 : tie.Need-same-length-8
+same-length-8 c = search needs
+
+same-length-9 : tie.Need-same-length-9
+same-length-9 c = search needs
+
+same-length-10 : tie.Need-same-length-10
+same-length-10 c = search needs
+
+returns-3 : tie.Need-returns-3
+returns-3 c = load-over _ (c .before .before .before .before .before .before .before .before .before .layout .ensures) _ (c .before .v3 .given .1)
+
+pub load-spec : {M : Type 1} → statement M
+load-spec =
+    tie.close
+    (tie.spec
+    layout-requires
+    enum-known-v
+    slice-reshare-prefix-examine
+    slice-aggregate-examine
+    slice-reshare-prefix-examine-2
+    slice-aggregate-examine-2
+    slice-reshare-prefix-examine-3
+    slice-aggregate-examine-3
+    examine-requires
+    enum-known-v-2
+    enum-known-v-3
+    same-length
+    same-length-2
+    same-length-3
+    same-length-4
+    returns
+    same-length-5
+    same-length-6
+    same-length-7
+    returns-2
+    same-length-8
+    same-length-9
+    same-length-10
+    returns-3)

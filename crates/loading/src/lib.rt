@@ -1,0 +1,94 @@
+// A program, read and typed: rows Field reading, Entries and Typing of document 01's section 4 (refusals 2 to 8), against
+// calls/specs/Load. The offsets of the entries' fields stand in buffers that the caller lends, so that a run finds them there.
+use entries::testing;
+use program::fields;
+use program::fields::Counts;
+use typing::functions;
+ghost use Prim.Native.Nat.{_*_, _≤_};
+ghost use lib.ListN.{length};
+ghost use Rattle.rules.specs.Limits.{maxTerms};
+ghost use Rattle.program.specs.Places.{Placed, Buffers};
+ghost use Rattle.types.specs.Codes.{nodeBytes};
+ghost use Rattle.typing.specs.Checked.{Typeable};
+ghost use Rattle.loading.specs.Loading.{Examined, LoadMeans};
+
+// What loading answers: how many entries of each tag are ready, at the fronts of the buffers, or refusal 2 to 8 at a field's offset.
+pub enum Loaded {
+    Ready(Counts),
+    Malformed(usize),
+    Over(usize),
+    BadReference(usize),
+    BadType(usize),
+    Differ(usize),
+    Unscoped(usize),
+    Misused(usize),
+}
+
+// Row Typing, for entries that are tested.
+fn infer(
+    p: &[u8],
+    counts: Counts,
+    types: &[u16],
+    terms: &[u16],
+    functions: &[u16],
+    nodes: &[u16],
+    ws: &mut [u8],
+) -> Loaded
+    requires { ⌜ Typeable (now p) (now types) (now terms) (now functions) (now nodes) (now ws) ⌝ }
+    ensures { λ r. ⌜ Examined r counts (now (p .entry)) (now (types .entry)) (now (terms .entry)) (now (functions .entry)) ⌝ }
+{
+    let v = functions::check_functions(p, types, terms, functions, nodes, ws);
+    match v {
+        functions::Verdict::Typed => Loaded::Ready(counts),
+        functions::Verdict::Differ(at) => Loaded::Differ(at),
+        functions::Verdict::Unscoped(at) => Loaded::Unscoped(at),
+        functions::Verdict::Misused(at) => Loaded::Misused(at),
+    }
+}
+
+// Rows Entries and Typing, for fields that are read.
+fn examine(
+    p: &[u8],
+    counts: Counts,
+    types: &[u16],
+    terms: &[u16],
+    functions: &[u16],
+    ws: &mut [u8],
+) -> Loaded
+    requires { ⌜ Placed (now p) (now types) (now terms) (now functions) ⌝ }
+    requires { ⌜ nodeBytes * maxTerms ≤ length (now ws) ⌝ }
+    ensures { λ r. ⌜ Examined r counts (now (p .entry)) (now (types .entry)) (now (terms .entry)) (now (functions .entry)) ⌝ }
+{
+    let mut nodes = [0u16; 256];
+    let v = testing::test_entries(p, types, terms, functions, &mut nodes);
+    match v {
+        testing::Verdict::Sound => infer(p, counts, types, terms, functions, &nodes, ws),
+        testing::Verdict::BadReference(at) => Loaded::BadReference(at),
+        testing::Verdict::BadType(at) => Loaded::BadType(at),
+    }
+}
+
+// All three rows. The workspace is room for the types that typing makes.
+pub fn load(
+    p: &[u8],
+    types: &mut [u16],
+    terms: &mut [u16],
+    functions: &mut [u16],
+    ws: &mut [u8],
+) -> Loaded
+    requires { ⌜ Buffers (now types) (now terms) (now functions) ⌝ }
+    requires { ⌜ nodeBytes * maxTerms ≤ length (now ws) ⌝ }
+    ensures { λ r. ⌜ LoadMeans r (now (p .entry)) (now (types .exit)) (now (terms .exit)) (now (functions .exit)) ⌝ }
+{
+    let v = fields::layout(p, types, terms, functions);
+    match v {
+        fields::Fields::Read(counts) => {
+            let i = counts.types;
+            let j = counts.terms;
+            let k = counts.functions;
+            examine(p, counts, &types[..i], &terms[..j], &functions[..k], ws)
+        }
+        fields::Fields::Malformed(at) => Loaded::Malformed(at),
+        fields::Fields::Over(at) => Loaded::Over(at),
+    }
+}
