@@ -1,1 +1,5 @@
 -- Laws of the public calls, by subject.
+-- rows Workspace to Typing, and the workspace after a call
+pub mod Beginning
+-- the call check
+pub mod Checks
