@@ -1,0 +1,171 @@
+-- The journals that open, convert and rollback leave: how long their fields are, and that what the code puts into the buffer is what
+-- is written out of them.
+use Prim.Native.Nat.{ℕ, _+_, _-_, _≤_, _<_}
+use native.Mathlib.Omega.{arith}
+use mathlib.Core.Path.{_≡_, refl, sym, ap, ap₂, _∙_}
+use mathlib.Core.Bool.{true, false≢true}
+use mathlib.Core.Option.{Option, none, some}
+use mathlib.Core.List.{List, _++_, append-nil}
+use lib.ListN.{length, take, drop, replicate, length-append}
+use package.Rattle.octets.specs.Numbers.{bytes16, bytes32}
+use package.Rattle.octets.specs.Runs.{pasted}
+use package.Rattle.rules.specs.Val.{Val, size, encode}
+use package.Rattle.rules.proofs.Basics.{given}
+use package.Rattle.rules.proofs.Val.{length-encode}
+use package.Rattle.calls.specs.Values.{value, ancillae, encodeAll}
+use package.Rattle.calls.specs.Journal.{Journal, field, heldTag, entryTag, entryBody, entryFields, fields, writeOut}
+use package.Rattle.calls.proofs.Values.{value-sound, ancillae-sound}
+use package.Rattle.calls.proofs.Journal.Fields.{fits-below, ancillae-below, length-field}
+use package.Rattle.calls.proofs.Journal.Buffers.{length-fields, length-fields-snoc, fields-snoc}
+use package.Rattle.reading.specs.Ends.{isSome, isValue}
+use package.Rattle.journal.specs.declared.places.Places.{Places}
+use package.Rattle.journal.specs.Places.{orElse, journalIn, Stands}
+use package.Rattle.journal.specs.Turns.{valueOf, valuesOf, areValues, conversion, opens, converted, rolledBack}
+use package.Rattle.journal.proofs.Stands.{standing, ranges, end-place, newest-place, entries-are, older-are}
+use package.Rattle.journal.proofs.Writes.{put-next, written-out}
+
+----------------------------------------------------------------
+-- Bytes that are values
+
+pub record IsValue (h : List ℕ) : Type 0 where
+  pub bytes : h ≡ encode (valueOf h)
+  pub long : length h ≡ size (valueOf h)
+  pub short : length h < 65536
+
+pub is-value : (h : List ℕ) → isValue h ≡ true → IsValue h
+is-value h t = go (value h) refl t
+  where
+    go : (o : Option Val) → value h ≡ o → isSome o ≡ true → IsValue h
+    go none e t = absurd (false≢true t)
+    go (some v) e t = given (value-sound h e) λ (same, fit).
+        let is : valueOf h ≡ v = ap (orElse _) e in
+        let long : length h ≡ size v = ap length same ∙ length-encode v in
+        record { bytes = same ∙ ap encode (sym is); long = long ∙ ap size (sym is); short = omega (arith, long, fits-below v fit) }
+
+pub record AreValues (a : List ℕ) : Type 0 where
+  pub bytes : a ≡ encodeAll (valuesOf a)
+  pub short : 6 + length a < 65536
+
+pub are-values : (a : List ℕ) → areValues a ≡ true → AreValues a
+are-values a t = go (ancillae a) refl t
+  where
+    go : (o : Option (List Val)) → ancillae a ≡ o → isSome o ≡ true → AreValues a
+    go none e t = absurd (false≢true t)
+    go (some vs) e t = given (ancillae-sound a e) λ (same, within).
+        record { bytes = same ∙ ap encodeAll (sym (ap (orElse _) e)); short = ancillae-below within }
+
+-- a value and values whose bytes are known
+pub valueOf-is : (h : List ℕ) {v : Val} → value h ≡ some v → valueOf h ≡ v
+valueOf-is h e = ap (orElse _) e
+
+pub valuesOf-is : (a : List ℕ) {vs : List Val} → ancillae a ≡ some vs → valuesOf a ≡ vs
+valuesOf-is a e = ap (orElse _) e
+
+----------------------------------------------------------------
+-- Open
+
+module _ (h : List ℕ) (t : isValue h ≡ true) where
+  pub open-length : length (fields (opens (valueOf h))) ≡ 3 + length h
+  unfolding entryFields
+  open-length = length-fields (opens (valueOf h)) ∙ omega (arith, is-value h t .long)
+
+  open-fields : field heldTag h ≡ fields (opens (valueOf h))
+  unfolding fields entryFields
+  open-fields = ap (field heldTag) (is-value h t .bytes) ∙ sym (append-nil (field heldTag (encode (valueOf h))))
+
+  pub open-written : (xs ys zs : List ℕ) → length (fields (opens (valueOf h))) ≤ length xs → ys ≡ pasted xs 0 (field heldTag h)
+      → zs ≡ take (3 + length h) ys ++ replicate (length ys - (3 + length h)) 0 → zs ≡ writeOut (length xs) (opens (valueOf h))
+  open-written xs ys zs fit e k =
+      k ∙ ap (λ s. take (3 + length h) s ++ replicate (length s - (3 + length h)) 0) e
+      ∙ written-out xs (field heldTag h) (3 + length h) (opens (valueOf h)) open-fields fit (sym (length-field heldTag h))
+
+----------------------------------------------------------------
+-- Convert
+
+module _ (pl : Places) (xs h a : List ℕ) (s : Stands pl xs) (t : isValue h ≡ true) (u : areValues a ≡ true) (f n : ℕ) where
+  after : Journal
+  after = converted (journalIn xs) (valueOf h) (conversion f n (valuesOf a))
+
+  pub convert-length : length (fields (converted (journalIn xs) (valueOf h) (conversion f n (valuesOf a)))) ≡ 12 + length h + (pl .end - pl .held) + length a
+  convert-length =
+      length-fields-snoc (valueOf h) (journalIn xs .entries) (conversion f n (valuesOf a))
+      ∙ omega (arith, is-value h t .long, end-place (standing pl xs s), ap length (are-values a u .bytes))
+
+  -- the held value's field, those that stood, and the new one
+  block : List ℕ
+  block = take (pl .end - pl .held) (drop (pl .held) xs)
+
+  entry : List ℕ
+  entry = field entryTag (bytes16 f ++ bytes32 n ++ a)
+
+  convert-fields : field heldTag h ++ block ++ entry ≡ fields after
+  unfolding after block entry entryBody
+  convert-fields =
+      ap₂ (λ b e. field heldTag b ++ e ++ entry) (is-value h t .bytes) (entries-are (standing pl xs s))
+      ∙ ap (λ b. field heldTag (encode (valueOf h)) ++ entryFields (journalIn xs .entries) ++ field entryTag (bytes16 f ++ bytes32 n ++ b)) (are-values a u .bytes)
+      ∙ sym (fields-snoc (valueOf h) (journalIn xs .entries) (conversion f n (valuesOf a)))
+
+  front-length : length (field heldTag h ++ block) ≡ 3 + length h + (pl .end - pl .held)
+  unfolding block
+  front-length =
+      length-append (field heldTag h) block
+      ∙ omega (arith, length-field heldTag h, ap length (entries-are (standing pl xs s)), end-place (standing pl xs s))
+
+  entry-length : length entry ≡ 9 + length a
+  unfolding entry bytes16 bytes32
+  entry-length = length-field entryTag (bytes16 f ++ bytes32 n ++ a) ∙ omega arith
+
+  module _ (fit : length (fields (converted (journalIn xs) (valueOf h) (conversion f n (valuesOf a)))) ≤ length xs) where
+    -- what the parts of the code ask
+    pub record ConvertRoom : Type 0 where
+      pub ordered : pl .held ≤ pl .end
+      pub inside : pl .end ≤ length xs
+      pub whole : 12 + length h + (pl .end - pl .held) + length a ≤ length xs
+      pub short : length h < 65536
+      pub few : 6 + length a < 65536
+
+    pub convert-room : ConvertRoom
+    convert-room = given (ranges (standing pl xs s)) λ (r₀, r₁, r₂, r₃).
+        record { ordered = omega arith; inside = r₃; whole = omega (arith, fit, convert-length); short = is-value h t .short; few = are-values a u .short }
+
+    pub convert-written : (ys zs ws : List ℕ) → ys ≡ pasted xs 0 (field heldTag h ++ take (pl .end - pl .held) (drop (pl .held) xs))
+        → zs ≡ pasted ys (3 + length h + (pl .end - pl .held)) (field entryTag (bytes16 f ++ bytes32 n ++ a))
+        → ws ≡ take (3 + length h + (pl .end - pl .held) + 9 + length a) zs ++ replicate (length zs - (3 + length h + (pl .end - pl .held) + 9 + length a)) 0
+        → ws ≡ writeOut (length xs) (converted (journalIn xs) (valueOf h) (conversion f n (valuesOf a)))
+    unfolding after block entry
+    convert-written ys zs ws e k l =
+        l ∙ ap (λ r. take (3 + length h + (pl .end - pl .held) + 9 + length a) r ++ replicate (length r - (3 + length h + (pl .end - pl .held) + 9 + length a)) 0)
+        (k ∙ ap (λ r. pasted r (3 + length h + (pl .end - pl .held)) entry) e
+        ∙ put-next xs (3 + length h + (pl .end - pl .held)) (field heldTag h ++ block) entry (sym front-length) (omega (arith, front-length, entry-length, fit, convert-length)))
+        ∙ written-out xs (field heldTag h ++ block ++ entry) (3 + length h + (pl .end - pl .held) + 9 + length a) after convert-fields fit
+        (omega (arith, length-append (field heldTag h ++ block) entry, front-length, entry-length))
+
+----------------------------------------------------------------
+-- Rollback
+
+module _ (pl : Places) (xs h : List ℕ) (s : Stands pl xs) (t : isValue h ≡ true) where
+  pub rollback-length : length (fields (rolledBack (journalIn xs) (valueOf h))) ≡ 3 + length h + (pl .newest - pl .held)
+  rollback-length = length-fields (rolledBack (journalIn xs) (valueOf h)) ∙ omega (arith, is-value h t .long, newest-place (standing pl xs s))
+
+  rollback-fields : field heldTag h ++ take (pl .newest - pl .held) (drop (pl .held) xs) ≡ fields (rolledBack (journalIn xs) (valueOf h))
+  unfolding fields
+  rollback-fields = ap₂ (λ b e. field heldTag b ++ e) (is-value h t .bytes) (older-are (standing pl xs s))
+
+  module _ (fit : length (fields (rolledBack (journalIn xs) (valueOf h))) ≤ length xs) where
+    pub record RollbackRoom : Type 0 where
+      pub ordered : pl .held ≤ pl .newest
+      pub inside : pl .newest ≤ length xs
+      pub whole : 3 + length h + (pl .newest - pl .held) ≤ length xs
+      pub short : length h < 65536
+
+    pub rollback-room : RollbackRoom
+    rollback-room = given (ranges (standing pl xs s)) λ (r₀, r₁, r₂, r₃).
+        record { ordered = r₁; inside = omega arith; whole = omega (arith, fit, rollback-length); short = is-value h t .short }
+
+    pub rollback-written : (ys zs : List ℕ) → ys ≡ pasted xs 0 (field heldTag h ++ take (pl .newest - pl .held) (drop (pl .held) xs))
+        → zs ≡ take (3 + length h + (pl .newest - pl .held)) ys ++ replicate (length ys - (3 + length h + (pl .newest - pl .held))) 0
+        → zs ≡ writeOut (length xs) (rolledBack (journalIn xs) (valueOf h))
+    rollback-written ys zs e k =
+        k ∙ ap (λ r. take (3 + length h + (pl .newest - pl .held)) r ++ replicate (length r - (3 + length h + (pl .newest - pl .held))) 0) e
+        ∙ written-out xs (field heldTag h ++ take (pl .newest - pl .held) (drop (pl .held) xs)) (3 + length h + (pl .newest - pl .held))
+        (rolledBack (journalIn xs) (valueOf h)) rollback-fields fit (omega (arith, ap length rollback-fields, rollback-length))

@@ -1,0 +1,58 @@
+use mathlib.Core.Path.{sym, _∙_}
+use borrow.Author.Needs.{needs}
+use Rattle.calls.specs.Journal.{heldTag}
+use Rattle.journal.proofs.Ends.{are-bytes, here, here-within, held-missing, held-whole, held-broken}
+use borrow.Author.Needs.{needs}
+use Rattle.journal.proofs.form.held_end.Statement.{statement}
+use Rattle.journal.proofs.form.held_end.Tie as tie
+
+field-end-requires : tie.Need-field-end-requires
+field-end-requires c κs = search needs
+
+enum-known-field : tie.Need-enum-known-field
+enum-known-field c = search needs
+
+enum-told : tie.Need-enum-told
+enum-told c = search needs
+
+returns : tie.Need-returns
+unfolding heldTag
+returns c = held-missing _ (sym (c .enum-told .given .1) ∙ c .before .before .field-end .ensures)
+
+sub-value : tie.Need-sub-value
+unfolding heldTag
+sub-value c = let h = here-within (here heldTag 0 _ (c .before .before .before .before .before .args .journal .now) (are-bytes (c .before .before .before .before .before .args .journal .now) (c .before .before .before .before .shared-slice-known .given)) (sym (c .before .field .given .1) ∙ c .before .before .before .field-end .ensures)) in search needs
+
+part-value-start : tie.Need-part-value-start
+unfolding heldTag
+part-value-start c = let h = here-within (here heldTag 0 _ (c .before .before .before .before .before .args .journal .now) (are-bytes (c .before .before .before .before .before .args .journal .now) (c .before .before .before .before .shared-slice-known .given)) (sym (c .before .field .given .1) ∙ c .before .before .before .field-end .ensures)) in search needs
+
+part-value-end : tie.Need-part-value-end
+unfolding heldTag
+part-value-end c = let h = here-within (here heldTag 0 _ (c .before .before .before .before .before .args .journal .now) (are-bytes (c .before .before .before .before .before .args .journal .now) (c .before .before .before .before .shared-slice-known .given)) (sym (c .before .field .given .1) ∙ c .before .before .before .field-end .ensures)) in search needs
+
+one-value-requires : tie.Need-one-value-requires
+one-value-requires c κs = search needs
+
+returns-2 : tie.Need-returns-2
+unfolding heldTag
+returns-2 c = held-whole _ (are-bytes (c .before .before .before .before .before .before .before .before .args .journal .now) (c .before .before .before .before .before .before .before .shared-slice-known .given)) _ (sym (c .before .before .before .before .field .given .1) ∙ c .before .before .before .before .before .before .field-end .ensures) _ (c .before .one-value .ensures) (c .if1 .taken)
+
+returns-3 : tie.Need-returns-3
+unfolding heldTag
+returns-3 c = held-broken _ (are-bytes (c .before .before .before .before .before .before .before .before .args .journal .now) (c .before .before .before .before .before .before .before .shared-slice-known .given)) _ (sym (c .before .before .before .before .field .given .1) ∙ c .before .before .before .before .before .before .field-end .ensures) _ (c .before .one-value .ensures) (c .if1 .left)
+
+pub held-end-spec : {M : Type 1} → statement M
+held-end-spec =
+    tie.close
+    (tie.spec
+    field-end-requires
+    enum-known-field
+    enum-told
+    returns
+    sub-value
+    part-value-start
+    part-value-end
+    one-value-requires
+    returns-2
+    returns-3)

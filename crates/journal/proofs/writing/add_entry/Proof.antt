@@ -1,0 +1,62 @@
+use Prim.Native.Nat.{_+_}
+use mathlib.Core.Path.{ap, _∙_}
+use borrow.Author.Needs.{needs}
+use Rattle.octets.specs.Numbers.{put16, put32}
+use Rattle.octets.specs.Runs.{pasted}
+use Rattle.calls.specs.Journal.{entryTag}
+use Rattle.journal.proofs.Writes.{put-entry}
+use borrow.Author.Needs.{needs}
+use Rattle.journal.proofs.writing.add_entry.Statement.{statement}
+use Rattle.journal.proofs.writing.add_entry.Tie as tie
+
+add-put-head : tie.Need-add-put-head
+add-put-head c = search needs
+
+put-head-requires : tie.Need-put-head-requires
+put-head-requires c κs = search needs
+
+add-write16 : tie.Need-add-write16
+add-write16 c = search needs
+
+write16-requires : tie.Need-write16-requires
+write16-requires c κs = search needs
+
+add-write32 : tie.Need-add-write32
+add-write32 c = search needs
+
+write32-requires : tie.Need-write32-requires
+write32-requires c κs = search needs
+
+add-copy : tie.Need-add-copy
+add-copy c = search needs
+
+copy-requires : tie.Need-copy-requires
+copy-requires c κs = search needs
+
+same-length : tie.Need-same-length
+same-length c = search needs
+
+returns : tie.Need-returns
+unfolding entryTag
+returns c = let a = c .before .before .before .before .before .before .before .before .before .before .before .before .before .before .before .before .before .before in
+    let x = a .args in
+    c .before .before .copy .ensures
+    ∙ ap (λ s. pasted s (x .at + 9) (x .ancillae .now)) (c .before .before .before .before .before .before .write32 .ensures
+    ∙ ap (λ s. put32 s (x .at + 5) (x .steps)) (c .before .before .before .before .before .before .before .before .before .before .write16 .ensures
+    ∙ ap (λ s. put16 s (x .at + 3) (x .function)) (c .before .before .before .before .before .before .before .before .before .before .before .before .before .before .put-head .ensures)))
+    ∙ put-entry (x .journal .now) (x .at) (x .function) (x .steps) (x .ancillae .now) (a .pre .0)
+
+pub add-entry-spec : {M : Type 1} → statement M
+add-entry-spec =
+    tie.close
+    (tie.spec
+    add-put-head
+    put-head-requires
+    add-write16
+    write16-requires
+    add-write32
+    write32-requires
+    add-copy
+    copy-requires
+    same-length
+    returns)

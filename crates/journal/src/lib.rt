@@ -1,0 +1,13 @@
+// The journal's bytes (document 01, section 5): whether they have its form, what they say of the held value and the newest
+// conversion, and how open, convert and rollback write them anew. The calls that use these stand in the crate of the public calls.
+
+// where the fields of a journal stand
+pub mod places;
+// the test of the form (18), in one pass
+pub mod form;
+// the held value and the newest conversion
+pub mod parts;
+// a run of bytes moved within a slice
+pub mod moves;
+// whether a new journal fits (20), and writing it in place
+pub mod writing;
