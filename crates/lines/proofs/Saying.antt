@@ -1,0 +1,145 @@
+-- What a line says, step by step as the code reads it (specs/Calls).
+use Prim.Native.Nat.{ℕ, zero, suc, _≤_}
+use native.Mathlib.Omega.{arith}
+use mathlib.Core.Path.{_≡_, refl, sym, ap, subst, _∙_}
+use mathlib.Core.Bool.{Bool, true, false, _&&_}
+use mathlib.Core.Option.{Option, none, some}
+use mathlib.Core.List.{List, [], _∷_}
+use lib.ListN.{length, take, drop, length-take, length-drop}
+use lib.Dec.{eqb}
+use borrow.Author.Tests.{eq-eqb, ne-eqb, eqb-true}
+use package.Rattle.octets.specs.Runs.{Decides}
+use package.Rattle.bytes.specs.Bytes.{indexOf}
+use package.Rattle.lines.specs.Text.{text, sameBytes}
+use package.Rattle.lines.specs.Words.{first, behind, from, wordAt, spaces}
+use package.Rattle.lines.specs.Decimal.{numberIn}
+use package.Rattle.lines.specs.Hexadecimal.{bytesIn}
+use package.Rattle.lines.specs.Numbered.{numberOf, valueOf, Numbers}
+use package.Rattle.lines.specs.Decoded.{decodedOf, sizeOf, Decodes}
+use package.Rattle.lines.specs.Calls.{Line, checkLine, runLine, noCall, wordCount, noNumber, noBytes, withNumber, withBytes, mostLength, mostShort, readCheck, readRun, nameOf, ofLength, readNamed, readLine}
+use package.Rattle.lines.specs.Parsed.{Parses}
+use package.Rattle.lines.specs.declared.decimal.Number.{Number}
+use package.Rattle.lines.specs.declared.decimal.Number.the-variants as number
+use package.Rattle.lines.specs.declared.hexadecimal.Decoded.{Decoded}
+use package.Rattle.lines.specs.declared.hexadecimal.Decoded.the-variants as decoded
+use package.Rattle.lines.specs.declared.calls.Name.{Name}
+use package.Rattle.lines.specs.declared.calls.Name.the-variants.{Check, Forward, Backward, Other}
+use package.Rattle.lines.specs.declared.calls.Parsed.{Parsed}
+
+----------------------------------------------------------------
+-- A number or bytes that were read
+
+pub told-number : {r : Number} {most : ℕ} {o : Option ℕ} → Numbers r most o → {n : ℕ} → r ≡ number.Is n → o ≡ some n
+told-number h e = sym (h .said) ∙ ap numberOf e
+
+pub told-no-number : {r : Number} {most : ℕ} {o : Option ℕ} → Numbers r most o → r ≡ number.Not → o ≡ none
+told-no-number h e = sym (h .said) ∙ ap numberOf e
+
+pub number-within : {r : Number} {most : ℕ} {o : Option ℕ} → Numbers r most o → {n : ℕ} → r ≡ number.Is n → n ≤ most
+number-within h e = omega (arith, h .within, ap valueOf e)
+
+pub told-bytes : {r : Decoded} {out : List ℕ} {o : Option (List ℕ)} → Decodes r out o → {n : ℕ} → r ≡ decoded.Bytes n → o ≡ some (take n out)
+told-bytes {out = out} h e = sym (h .said) ∙ ap (λ d. decodedOf d out) e
+
+pub told-no-bytes : {r : Decoded} {out : List ℕ} {o : Option (List ℕ)} → Decodes r out o → r ≡ decoded.Not → o ≡ none
+told-no-bytes {out = out} h e = sym (h .said) ∙ ap (λ d. decodedOf d out) e
+
+pub bytes-within : {r : Decoded} {out : List ℕ} {o : Option (List ℕ)} → Decodes r out o → {n : ℕ} → r ≡ decoded.Bytes n → n ≤ length out
+bytes-within h e = omega (arith, h .within, ap sizeOf e)
+
+----------------------------------------------------------------
+-- Words
+
+from-shorter : (k : ℕ) (xs : List ℕ) → length (from k xs) ≤ length xs
+unfolding from behind
+from-shorter zero xs = omega arith
+from-shorter (suc k) xs = let h = from-shorter k xs in simp length-drop (omega arith)
+
+pub word-shorter : (k : ℕ) (xs : List ℕ) → length (wordAt k xs) ≤ length xs
+unfolding wordAt first
+word-shorter k xs = let h = from-shorter k xs in simp length-take (omega arith)
+
+same-self : (xs : List ℕ) → sameBytes xs xs ≡ true
+unfolding sameBytes
+same-self [] = refl
+same-self (x ∷ xs) = rw (eq-eqb x x refl, same-self xs)
+
+both : (s t : Bool) → (s && t) ≡ true → (s ≡ true) × (t ≡ true)
+both true t e = (refl, e)
+both false t e = absurd (let z : _≡_ {A = ℕ} 0 1 = cc in omega arith)
+
+same-equal : (xs ys : List ℕ) → sameBytes xs ys ≡ true → xs ≡ ys
+unfolding sameBytes
+same-equal [] [] e = refl
+same-equal [] (y ∷ ys) e = absurd (let z : _≡_ {A = ℕ} 0 1 = cc in omega arith)
+same-equal (x ∷ xs) [] e = absurd (let z : _≡_ {A = ℕ} 0 1 = cc in omega arith)
+same-equal (x ∷ xs) (y ∷ ys) e =
+    let (p, q) = both (eqb x y) (sameBytes xs ys) e in
+    let heads = eqb-true x y p in
+    let tails = same-equal xs ys q in
+    ap (λ h. h ∷ xs) heads ∙ ap (λ t. y ∷ t) tails
+
+-- whether two words are the same, as it was found
+pub same-if : (r : Bool) (a b : List ℕ) → Decides r (a ≡ b) → sameBytes a b ≡ r
+same-if true a b e = subst (λ c. sameBytes a c ≡ true) e (same-self a)
+same-if false a b n = by (sameBytes a b) refl
+  where
+    by : (t : Bool) → sameBytes a b ≡ t → t ≡ false
+    by true e = absurd (n (same-equal a b e))
+    by false e = refl
+
+module _ (w : List ℕ) where
+  pub name-check : sameBytes w (text "check") ≡ true → Check ≡ nameOf w
+  unfolding nameOf
+  name-check e = rw e
+
+  pub name-forward : sameBytes w (text "check") ≡ false → sameBytes w (text "forward") ≡ true → Forward ≡ nameOf w
+  unfolding nameOf
+  name-forward e f = rw (e, f)
+
+  pub name-backward : sameBytes w (text "check") ≡ false → sameBytes w (text "forward") ≡ false → sameBytes w (text "backward") ≡ true → Backward ≡ nameOf w
+  unfolding nameOf
+  name-backward e f g = rw (e, f, g)
+
+  pub name-other : sameBytes w (text "check") ≡ false → sameBytes w (text "forward") ≡ false → sameBytes w (text "backward") ≡ false → Other ≡ nameOf w
+  unfolding nameOf
+  name-other e f g = rw (e, f, g)
+
+----------------------------------------------------------------
+-- A line of a known name
+
+pub parses-as : {r : Parsed} {p anc v : List ℕ} {l m : Line} → Parses r p anc v l → l ≡ m → Parses r p anc v m
+parses-as {r} {p} {anc} {v} h e = subst (λ x. Parses r p anc v x) e h
+
+module _ (line : List ℕ) where
+  named : (n : Name) → nameOf (wordAt 0 line) ≡ n → readLine line ≡ readNamed n line
+  unfolding readLine
+  named n e = ap (λ m. readNamed m line) e
+
+  pub is-check : nameOf (wordAt 0 line) ≡ Check → spaces line ≡ 2 → readCheck line ≡ readLine line
+  unfolding readNamed ofLength
+  is-check e h = sym (named Check e ∙ rw (eq-eqb (spaces line) 2 h))
+
+  pub is-forward : nameOf (wordAt 0 line) ≡ Forward → spaces line ≡ 7 → readRun false line ≡ readLine line
+  unfolding readNamed ofLength
+  is-forward e h = sym (named Forward e ∙ rw (eq-eqb (spaces line) 7 h))
+
+  pub is-backward : nameOf (wordAt 0 line) ≡ Backward → spaces line ≡ 7 → readRun true line ≡ readLine line
+  unfolding readNamed ofLength
+  is-backward e h = sym (named Backward e ∙ rw (eq-eqb (spaces line) 7 h))
+
+  pub no-check : nameOf (wordAt 0 line) ≡ Check → (spaces line ≡ 2 → ⊥) → wordCount ≡ readLine line
+  unfolding readNamed ofLength
+  no-check e h = sym (named Check e ∙ rw (ne-eqb (spaces line) 2 h))
+
+  pub no-forward : nameOf (wordAt 0 line) ≡ Forward → (spaces line ≡ 7 → ⊥) → wordCount ≡ readLine line
+  unfolding readNamed ofLength
+  no-forward e h = sym (named Forward e ∙ rw (ne-eqb (spaces line) 7 h))
+
+  pub no-backward : nameOf (wordAt 0 line) ≡ Backward → (spaces line ≡ 7 → ⊥) → wordCount ≡ readLine line
+  unfolding readNamed ofLength
+  no-backward e h = sym (named Backward e ∙ rw (ne-eqb (spaces line) 7 h))
+
+  pub is-other : nameOf (wordAt 0 line) ≡ Other → noCall ≡ readLine line
+  unfolding readNamed
+  is-other e = sym (named Other e)

@@ -1,0 +1,54 @@
+use Rattle.lines.proofs.Saying.{told-number, told-no-number, told-bytes, told-no-bytes, bytes-within}
+use Rattle.lines.proofs.Heard.{check-1, check-2, check-all}
+use borrow.Author.Needs.{needs}
+use Rattle.lines.proofs.calls.check_call.Statement.{statement}
+use Rattle.lines.proofs.calls.check_call.Tie as tie
+
+number-at-requires : tie.Need-number-at-requires
+number-at-requires c κs = search needs
+
+enum-known-workspace : tie.Need-enum-known-workspace
+enum-known-workspace c = search needs
+
+enum-told : tie.Need-enum-told
+enum-told c = search needs
+
+returns : tie.Need-returns
+returns c = record { said = check-1 _ (told-no-number (c .before .before .number-at .ensures) (c .enum-told .given .1)); within = tt }
+
+bytes-at-requires : tie.Need-bytes-at-requires
+bytes-at-requires c κs = search needs
+
+enum-known-n : tie.Need-enum-known-n
+enum-known-n c = search needs
+
+enum-told-2 : tie.Need-enum-told-2
+enum-told-2 c = search needs
+
+same-length : tie.Need-same-length
+same-length c = search needs
+
+returns-2 : tie.Need-returns-2
+returns-2 c = record { said = check-2 _ (told-number (c .before .before .before .before .before .before .before .before .before .number-at .ensures) (c .before .before .before .before .before .before .before .workspace .given .1)) (told-no-bytes (c .before .before .before .before .bytes-at .ensures) (c .enum-told2 .given .1)); within = tt }
+
+same-length-2 : tie.Need-same-length-2
+same-length-2 c = search needs
+
+returns-3 : tie.Need-returns-3
+returns-3 c = record { said = check-all _ (told-number (c .before .before .before .before .before .before .before .before .before .before .number-at .ensures) (c .before .before .before .before .before .before .before .before .workspace .given .1)) (told-bytes (c .before .before .before .before .before .bytes-at .ensures) (c .before .n .given .1)); within = bytes-within (c .before .before .before .before .before .bytes-at .ensures) (c .before .n .given .1) }
+
+pub check-call-spec : {M : Type 1} → statement M
+check-call-spec =
+    tie.close
+    (tie.spec
+    number-at-requires
+    enum-known-workspace
+    enum-told
+    returns
+    bytes-at-requires
+    enum-known-n
+    enum-told-2
+    same-length
+    returns-2
+    same-length-2
+    returns-3)

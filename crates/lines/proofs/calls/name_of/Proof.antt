@@ -1,0 +1,50 @@
+use mathlib.Core.Path.{_∙_}
+use Rattle.lines.proofs.Saying.{same-if, name-check, name-forward, name-backward, name-other}
+use borrow.Author.Needs.{needs}
+use Rattle.lines.proofs.calls.name_of.Statement.{statement}
+use Rattle.lines.proofs.calls.name_of.Tie as tie
+
+slice-aggregate-equal : tie.Need-slice-aggregate-equal
+slice-aggregate-equal c = search needs
+
+equal-requires : tie.Need-equal-requires
+equal-requires c κs = search needs
+
+returns : tie.Need-returns
+returns c = name-check _ (same-if _ _ _ (c .before .equal .ensures) ∙ c .if1 .taken)
+
+slice-aggregate-equal-2 : tie.Need-slice-aggregate-equal-2
+slice-aggregate-equal-2 c = search needs
+
+equal-requires-2 : tie.Need-equal-requires-2
+equal-requires-2 c κs = search needs
+
+returns-2 : tie.Need-returns-2
+returns-2 c = name-forward _ (same-if _ _ _ (c .before .before .before .before .equal .ensures) ∙ c .before .before .before .if1 .left) (same-if _ _ _ (c .before .equal2 .ensures) ∙ c .if2 .taken)
+
+slice-aggregate-equal-3 : tie.Need-slice-aggregate-equal-3
+slice-aggregate-equal-3 c = search needs
+
+equal-requires-3 : tie.Need-equal-requires-3
+equal-requires-3 c κs = search needs
+
+returns-3 : tie.Need-returns-3
+returns-3 c = name-backward _ (same-if _ _ _ (c .before .before .before .before .before .before .before .equal .ensures) ∙ c .before .before .before .before .before .before .if1 .left) (same-if _ _ _ (c .before .before .before .before .equal2 .ensures) ∙ c .before .before .before .if2 .left) (same-if _ _ _ (c .before .equal3 .ensures) ∙ c .if3 .taken)
+
+returns-4 : tie.Need-returns-4
+returns-4 c = name-other _ (same-if _ _ _ (c .before .before .before .before .before .before .before .equal .ensures) ∙ c .before .before .before .before .before .before .if1 .left) (same-if _ _ _ (c .before .before .before .before .equal2 .ensures) ∙ c .before .before .before .if2 .left) (same-if _ _ _ (c .before .equal3 .ensures) ∙ c .if3 .left)
+
+pub name-of-spec : {M : Type 1} → statement M
+name-of-spec =
+    tie.close
+    (tie.spec
+    slice-aggregate-equal
+    equal-requires
+    returns
+    slice-aggregate-equal-2
+    equal-requires-2
+    returns-2
+    slice-aggregate-equal-3
+    equal-requires-3
+    returns-3
+    returns-4)

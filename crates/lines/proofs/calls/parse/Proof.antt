@@ -1,0 +1,115 @@
+use mathlib.Core.Path.{sym, ap, _∙_}
+use Rattle.lines.specs.Calls.{nameOf}
+use Rattle.lines.proofs.Saying.{parses-as, is-check, is-forward, is-backward, no-check, no-forward, no-backward, is-other}
+use borrow.Author.Needs.{needs}
+use Rattle.lines.proofs.calls.parse.Statement.{statement}
+use Rattle.lines.proofs.calls.parse.Tie as tie
+
+count-spaces-requires : tie.Need-count-spaces-requires
+count-spaces-requires c κs = search needs
+
+word-requires : tie.Need-word-requires
+word-requires c κs = search needs
+
+name-of-requires : tie.Need-name-of-requires
+name-of-requires c κs = search needs
+
+enum-told : tie.Need-enum-told
+enum-told c = search needs
+
+returns : tie.Need-returns
+returns c = record { said = no-check _ (ap nameOf (sym (c .before .before .before .before .word .ensures)) ∙ sym (c .before .before .before .name-of .ensures) ∙ c .before .enum-told .given .1) λ e. c .if1 .taken (c .before .before .before .before .before .count-spaces .ensures ∙ e); within = tt }
+
+check-call-requires : tie.Need-check-call-requires
+check-call-requires c κs = search needs
+
+enum-told-2 : tie.Need-enum-told-2
+enum-told-2 c = search needs
+
+returns-2 : tie.Need-returns-2
+returns-2 c = record { said = no-forward _ (ap nameOf (sym (c .before .before .before .before .word .ensures)) ∙ sym (c .before .before .before .name-of .ensures) ∙ c .before .enum-told2 .given .1) λ e. c .if2 .taken (c .before .before .before .before .before .count-spaces .ensures ∙ e); within = tt }
+
+run-call-requires : tie.Need-run-call-requires
+run-call-requires c κs = search needs
+
+enum-told-3 : tie.Need-enum-told-3
+enum-told-3 c = search needs
+
+returns-3 : tie.Need-returns-3
+returns-3 c = record { said = no-backward _ (ap nameOf (sym (c .before .before .before .before .word .ensures)) ∙ sym (c .before .before .before .name-of .ensures) ∙ c .before .enum-told3 .given .1) λ e. c .if3 .taken (c .before .before .before .before .before .count-spaces .ensures ∙ e); within = tt }
+
+run-call-requires-2 : tie.Need-run-call-requires-2
+run-call-requires-2 c κs = search needs
+
+enum-told-4 : tie.Need-enum-told-4
+enum-told-4 c = search needs
+
+same-length : tie.Need-same-length
+same-length c = search needs
+
+same-length-2 : tie.Need-same-length-2
+same-length-2 c = search needs
+
+same-length-3 : tie.Need-same-length-3
+same-length-3 c = search needs
+
+returns-4 : tie.Need-returns-4
+returns-4 c = parses-as (c .before .before .before .before .before .before .check-call .ensures) (is-check _ (ap nameOf (sym (c .before .before .before .before .before .before .before .before .before .before .before .before .before .before .word .ensures)) ∙ sym (c .before .before .before .before .before .before .before .before .before .before .before .before .before .name-of .ensures) ∙ c .before .before .before .before .before .before .before .before .before .before .before .enum-told .given .1) (sym (c .before .before .before .before .before .before .before .before .before .before .before .before .before .before .before .count-spaces .ensures) ∙ c .before .before .before .before .before .before .before .before .before .before .if1 .left))
+
+same-length-4 : tie.Need-same-length-4
+same-length-4 c = search needs
+
+same-length-5 : tie.Need-same-length-5
+same-length-5 c = search needs
+
+same-length-6 : tie.Need-same-length-6
+same-length-6 c = search needs
+
+returns-5 : tie.Need-returns-5
+returns-5 c = parses-as (c .before .before .before .before .before .before .run-call .ensures) (is-forward _ (ap nameOf (sym (c .before .before .before .before .before .before .before .before .before .before .before .before .before .before .word .ensures)) ∙ sym (c .before .before .before .before .before .before .before .before .before .before .before .before .before .name-of .ensures) ∙ c .before .before .before .before .before .before .before .before .before .before .before .enum-told2 .given .1) (sym (c .before .before .before .before .before .before .before .before .before .before .before .before .before .before .before .count-spaces .ensures) ∙ c .before .before .before .before .before .before .before .before .before .before .if2 .left))
+
+same-length-7 : tie.Need-same-length-7
+same-length-7 c = search needs
+
+same-length-8 : tie.Need-same-length-8
+same-length-8 c = search needs
+
+same-length-9 : tie.Need-same-length-9
+same-length-9 c = search needs
+
+returns-6 : tie.Need-returns-6
+returns-6 c = parses-as (c .before .before .before .before .before .before .run-call2 .ensures) (is-backward _ (ap nameOf (sym (c .before .before .before .before .before .before .before .before .before .before .before .before .before .before .word .ensures)) ∙ sym (c .before .before .before .before .before .before .before .before .before .before .before .before .before .name-of .ensures) ∙ c .before .before .before .before .before .before .before .before .before .before .before .enum-told3 .given .1) (sym (c .before .before .before .before .before .before .before .before .before .before .before .before .before .before .before .count-spaces .ensures) ∙ c .before .before .before .before .before .before .before .before .before .before .if3 .left))
+
+returns-7 : tie.Need-returns-7
+returns-7 c = record { said = is-other _ (ap nameOf (sym (c .before .before .before .word .ensures)) ∙ sym (c .before .before .name-of .ensures) ∙ c .enum-told4 .given .1); within = tt }
+
+pub parse-spec : {M : Type 1} → statement M
+parse-spec =
+    tie.close
+    (tie.spec
+    count-spaces-requires
+    word-requires
+    name-of-requires
+    enum-told
+    returns
+    check-call-requires
+    enum-told-2
+    returns-2
+    run-call-requires
+    enum-told-3
+    returns-3
+    run-call-requires-2
+    enum-told-4
+    same-length
+    same-length-2
+    same-length-3
+    returns-4
+    same-length-4
+    same-length-5
+    same-length-6
+    returns-5
+    same-length-7
+    same-length-8
+    same-length-9
+    returns-6
+    returns-7)

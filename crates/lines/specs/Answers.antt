@@ -1,0 +1,14 @@
+-- Answers as lines, each with the byte that ends it.
+use Prim.Native.Nat.{ℕ}
+use mathlib.Core.List.{List, _++_}
+use package.Rattle.lines.specs.Text.{text}
+use package.Rattle.lines.specs.Decimal.{decimalText}
+use package.Rattle.lines.specs.Hexadecimal.{hexText}
+
+-- a run's value and its steps
+unfoldable pub valueLine : List ℕ → ℕ → List ℕ
+valueLine value steps = text "value " ++ hexText value ++ text " " ++ decimalText steps ++ text "\n"
+
+-- a refusal's number and its place
+unfoldable pub refusedLine : ℕ → ℕ → List ℕ
+refusedLine number place = text "refused " ++ decimalText number ++ text " " ++ decimalText place ++ text "\n"

@@ -1,0 +1,90 @@
+-- The call that a line says. Calls on a journal have no line here yet.
+use Prim.Native.Nat.{ℕ}
+use mathlib.Core.Bool.{Bool, true, false, cond}
+use mathlib.Core.Option.{Option, none, some}
+use mathlib.Core.List.{List}
+use lib.Dec.{eqb}
+use package.Rattle.lines.specs.Text.{text, sameBytes}
+use package.Rattle.lines.specs.Words.{wordAt, spaces}
+use package.Rattle.lines.specs.Decimal.{numberIn}
+use package.Rattle.lines.specs.Hexadecimal.{bytesIn}
+use package.Rattle.lines.specs.declared.calls.Name.{Name}
+use package.Rattle.lines.specs.declared.calls.Name.the-variants.{Check, Forward, Backward, Other}
+
+pub record RunLine : Type 0 where
+  pub backward : Bool
+  pub workspace : ℕ
+  pub output : ℕ
+  pub fuel : ℕ
+  pub function : ℕ
+  pub program : List ℕ
+  pub ancillae : List ℕ
+  pub value : List ℕ
+
+-- A call, or what is wrong with the line: its first word is no call's name, it has too few or too many words, or word k is no number
+-- in its range, or no bytes.
+pub data Line : Type 0 where
+  checkLine : ℕ → List ℕ → Line
+  runLine : RunLine → Line
+  noCall : Line
+  wordCount : Line
+  noNumber : ℕ → Line
+  noBytes : ℕ → Line
+
+unfoldable pub withNumber : ℕ → Option ℕ → (ℕ → Line) → Line
+withNumber k none f = noNumber k
+withNumber k (some n) f = f n
+
+unfoldable pub withBytes : ℕ → Option (List ℕ) → (List ℕ → Line) → Line
+withBytes k none f = noBytes k
+withBytes k (some xs) f = f xs
+
+-- A length is below a thousand millions; fuel and function have two bytes.
+abbrev pub mostLength : ℕ
+mostLength = 999999999
+
+abbrev pub mostShort : ℕ
+mostShort = 65535
+
+-- check WS PROGRAM
+unfoldable pub readCheck : List ℕ → Line
+unfolding withNumber withBytes
+readCheck line =
+    withNumber 1 (numberIn mostLength (wordAt 1 line)) λ ws.
+    withBytes 2 (bytesIn (wordAt 2 line)) λ p.
+    checkLine ws p
+
+-- forward WS OUTLEN FUEL FN PROGRAM ANCILLAE VALUE, and backward the same
+unfoldable pub readRun : Bool → List ℕ → Line
+unfolding withNumber withBytes
+readRun backward line =
+    withNumber 1 (numberIn mostLength (wordAt 1 line)) λ ws.
+    withNumber 2 (numberIn mostLength (wordAt 2 line)) λ out.
+    withNumber 3 (numberIn mostShort (wordAt 3 line)) λ fuel.
+    withNumber 4 (numberIn mostShort (wordAt 4 line)) λ fn.
+    withBytes 5 (bytesIn (wordAt 5 line)) λ p.
+    withBytes 6 (bytesIn (wordAt 6 line)) λ anc.
+    withBytes 7 (bytesIn (wordAt 7 line)) λ v.
+    runLine record { backward = backward; workspace = ws; output = out; fuel = fuel; function = fn; program = p; ancillae = anc; value = v }
+
+unfoldable pub nameOf : List ℕ → Name
+unfolding sameBytes
+nameOf w =
+    cond (sameBytes w (text "check")) Check
+    (cond (sameBytes w (text "forward")) Forward
+    (cond (sameBytes w (text "backward")) Backward Other))
+
+-- how many spaces a call's line has
+unfoldable pub ofLength : ℕ → ℕ → Line → Line
+ofLength n m line = cond (eqb n m) line wordCount
+
+unfoldable pub readNamed : Name → List ℕ → Line
+unfolding ofLength readCheck readRun
+readNamed Check line = ofLength (spaces line) 2 (readCheck line)
+readNamed Forward line = ofLength (spaces line) 7 (readRun false line)
+readNamed Backward line = ofLength (spaces line) 7 (readRun true line)
+readNamed Other line = noCall
+
+unfoldable pub readLine : List ℕ → Line
+unfolding nameOf readNamed
+readLine line = readNamed (nameOf (wordAt 0 line)) line

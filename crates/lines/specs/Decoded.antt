@@ -1,0 +1,21 @@
+-- What a decoded word leaves in a buffer.
+use Prim.Native.Nat.{ℕ, _≤_}
+use mathlib.Core.Path.{_≡_}
+use mathlib.Core.Option.{Option, none, some}
+use mathlib.Core.List.{List}
+use lib.ListN.{length, take}
+use package.Rattle.lines.specs.declared.hexadecimal.Decoded.{Decoded}
+use package.Rattle.lines.specs.declared.hexadecimal.Decoded.the-variants.{Bytes, Not}
+
+-- the bytes at the start of the buffer, if the word is any
+abbrev pub decodedOf : Decoded → List ℕ → Option (List ℕ)
+decodedOf (Bytes n) out = some (take n out)
+decodedOf Not out = none
+
+abbrev pub sizeOf : Decoded → ℕ
+sizeOf (Bytes n) = n
+sizeOf Not = 0
+
+pub record Decodes (r : Decoded) (out : List ℕ) (bytes : Option (List ℕ)) : Type 0 where
+  pub said : decodedOf r out ≡ bytes
+  pub within : sizeOf r ≤ length out

@@ -1,0 +1,41 @@
+-- What a parsed call says, with the bytes that it leaves in the buffers.
+use Prim.Native.Nat.{ℕ, _≤_}
+use mathlib.Core.Path.{_≡_}
+use mathlib.Core.List.{List}
+use lib.ListN.{length, take}
+use package.Rattle.lines.specs.Calls.{Line, checkLine, runLine, noCall, wordCount, noNumber, noBytes}
+use package.Rattle.lines.specs.declared.calls.Parsed.{Parsed}
+use package.Rattle.lines.specs.declared.calls.Parsed.the-variants.{Checks, Runs, NoCall, WordCount, NoNumber, NoBytes}
+
+-- program, ancillae and value stand at the starts of their buffers
+abbrev pub lineOf : Parsed → List ℕ → List ℕ → List ℕ → Line
+lineOf (Checks c) p anc v = checkLine (c .workspace) (take (c .program) p)
+lineOf (Runs c) p anc v =
+    runLine
+    record {
+      backward = c .backward;
+      workspace = c .workspace;
+      output = c .output;
+      fuel = c .fuel;
+      function = c .function;
+      program = take (c .program) p;
+      ancillae = take (c .ancillae) anc;
+      value = take (c .value) v;
+    }
+lineOf NoCall p anc v = noCall
+lineOf WordCount p anc v = wordCount
+lineOf (NoNumber k) p anc v = noNumber k
+lineOf (NoBytes k) p anc v = noBytes k
+
+-- the bytes are within the buffers
+abbrev pub Within : Parsed → List ℕ → List ℕ → List ℕ → Type 0
+Within (Checks c) p anc v = c .program ≤ length p
+Within (Runs c) p anc v = (c .program ≤ length p) × (c .ancillae ≤ length anc) × (c .value ≤ length v)
+Within NoCall p anc v = Unit {0}
+Within WordCount p anc v = Unit {0}
+Within (NoNumber k) p anc v = Unit {0}
+Within (NoBytes k) p anc v = Unit {0}
+
+pub record Parses (r : Parsed) (p anc v : List ℕ) (line : Line) : Type 0 where
+  pub said : lineOf r p anc v ≡ line
+  pub within : Within r p anc v

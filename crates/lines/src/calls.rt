@@ -1,0 +1,181 @@
+// The call that a line says: its numbers, and its byte strings in buffers.
+use crate::decimal;
+use crate::decimal::Number;
+use crate::hexadecimal;
+use crate::hexadecimal::Decoded;
+use crate::words;
+ghost use mathlib.Core.Path.{_≡_};
+ghost use mathlib.Core.Bool.{true, false};
+ghost use Prim.Native.Nat.{_*_, _≤_, _<_};
+ghost use lib.ListN.{length};
+ghost use Rattle.lines.specs.Words.{wordAt};
+ghost use Rattle.lines.specs.Decimal.{numberIn};
+ghost use Rattle.lines.specs.Numbered.{Numbers};
+ghost use Rattle.lines.specs.Hexadecimal.{bytesIn};
+ghost use Rattle.lines.specs.Decoded.{Decodes};
+ghost use Rattle.lines.specs.Calls.{nameOf, readCheck, readRun, readLine};
+ghost use Rattle.lines.specs.Parsed.{Parses};
+
+// The greatest length that a line can name.
+const MOST_LENGTH: u64 = 999999999;
+
+// Fuel and function have two bytes.
+const MOST_SHORT: u64 = 65535;
+
+pub enum Name {
+    Check,
+    Forward,
+    Backward,
+    Other,
+}
+
+// A check: the workspace's length, and how many bytes of its buffer the program is.
+pub struct CheckCall {
+    pub workspace: usize,
+    pub program: usize,
+}
+
+// A run, its byte strings by their lengths in their buffers.
+pub struct RunCall {
+    pub backward: bool,
+    pub workspace: usize,
+    pub output: usize,
+    pub fuel: u16,
+    pub function: u16,
+    pub program: usize,
+    pub ancillae: usize,
+    pub value: usize,
+}
+
+// A call, or what is wrong with the line.
+pub enum Parsed {
+    Checks(CheckCall),
+    Runs(RunCall),
+    NoCall,
+    WordCount,
+    NoNumber(u8),
+    NoBytes(u8),
+}
+
+fn name_of(word: &[u8]) -> Name
+    ensures { λ r. ⌜ r ≡ nameOf (now (word .entry)) ⌝ }
+{
+    if octets::equal(word, b"check") {
+        return Name::Check;
+    }
+    if octets::equal(word, b"forward") {
+        return Name::Forward;
+    }
+    if octets::equal(word, b"backward") {
+        return Name::Backward;
+    }
+    Name::Other
+}
+
+// The number that word k is.
+fn number_at(line: &[u8], k: u8, most: u64) -> Number
+    requires { ⌜ most < 1000000000 ⌝ }
+    ensures { λ r. ⌜ Numbers r most (numberIn most (wordAt k (now (line .entry)))) ⌝ }
+{
+    decimal::read_number(words::word(line, k), most)
+}
+
+// The bytes that word k is, at the start of `out`.
+fn bytes_at(line: &[u8], k: u8, out: &mut [u8]) -> Decoded
+    requires { ⌜ length (now line) ≤ 2 * length (now out) ⌝ }
+    ensures { λ r. ⌜ Decodes r (now (out .exit)) (bytesIn (wordAt k (now (line .entry)))) ⌝ }
+{
+    hexadecimal::decode(words::word(line, k), out)
+}
+
+fn check_call(line: &[u8], program: &mut [u8], ancillae: &mut [u8], value: &mut [u8]) -> Parsed
+    requires { ⌜ length (now line) ≤ 2 * length (now program) ⌝ }
+    ensures { λ r. ⌜ Parses r (now (program .exit)) (now (ancillae .exit)) (now (value .exit)) (readCheck (now (line .entry))) ⌝ }
+{
+    let Number::Is(workspace) = number_at(line, 1, MOST_LENGTH) else {
+        return Parsed::NoNumber(1);
+    };
+    let Decoded::Bytes(n) = bytes_at(line, 2, program) else {
+        return Parsed::NoBytes(2);
+    };
+    Parsed::Checks(CheckCall {
+        workspace: workspace as usize,
+        program: n,
+    })
+}
+
+fn run_call(
+    line: &[u8],
+    backward: bool,
+    program: &mut [u8],
+    ancillae: &mut [u8],
+    value: &mut [u8],
+) -> Parsed
+    requires { ⌜ length (now line) ≤ 2 * length (now program) ⌝ }
+    requires { ⌜ length (now line) ≤ 2 * length (now ancillae) ⌝ }
+    requires { ⌜ length (now line) ≤ 2 * length (now value) ⌝ }
+    ensures { λ r. ⌜ Parses r (now (program .exit)) (now (ancillae .exit)) (now (value .exit)) (readRun backward (now (line .entry))) ⌝ }
+{
+    let Number::Is(workspace) = number_at(line, 1, MOST_LENGTH) else {
+        return Parsed::NoNumber(1);
+    };
+    let Number::Is(output) = number_at(line, 2, MOST_LENGTH) else {
+        return Parsed::NoNumber(2);
+    };
+    let Number::Is(fuel) = number_at(line, 3, MOST_SHORT) else {
+        return Parsed::NoNumber(3);
+    };
+    let Number::Is(function) = number_at(line, 4, MOST_SHORT) else {
+        return Parsed::NoNumber(4);
+    };
+    let Decoded::Bytes(p) = bytes_at(line, 5, program) else {
+        return Parsed::NoBytes(5);
+    };
+    let Decoded::Bytes(a) = bytes_at(line, 6, ancillae) else {
+        return Parsed::NoBytes(6);
+    };
+    let Decoded::Bytes(v) = bytes_at(line, 7, value) else {
+        return Parsed::NoBytes(7);
+    };
+    Parsed::Runs(RunCall {
+        backward,
+        workspace: workspace as usize,
+        output: output as usize,
+        fuel: fuel as u16,
+        function: function as u16,
+        program: p,
+        ancillae: a,
+        value: v,
+    })
+}
+
+// The call that a line says, its byte strings at the starts of the buffers, each of which can hold as many bytes as a line has.
+pub fn parse(line: &[u8], program: &mut [u8], ancillae: &mut [u8], value: &mut [u8]) -> Parsed
+    requires { ⌜ length (now line) ≤ 2 * length (now program) ⌝ }
+    requires { ⌜ length (now line) ≤ 2 * length (now ancillae) ⌝ }
+    requires { ⌜ length (now line) ≤ 2 * length (now value) ⌝ }
+    ensures { λ r. ⌜ Parses r (now (program .exit)) (now (ancillae .exit)) (now (value .exit)) (readLine (now (line .entry))) ⌝ }
+{
+    let spaces = words::count_spaces(line);
+    match name_of(words::word(line, 0)) {
+        Name::Check => {
+            if spaces != 2 {
+                return Parsed::WordCount;
+            }
+            check_call(line, program, ancillae, value)
+        }
+        Name::Forward => {
+            if spaces != 7 {
+                return Parsed::WordCount;
+            }
+            run_call(line, false, program, ancillae, value)
+        }
+        Name::Backward => {
+            if spaces != 7 {
+                return Parsed::WordCount;
+            }
+            run_call(line, true, program, ancillae, value)
+        }
+        Name::Other => Parsed::NoCall,
+    }
+}
