@@ -29,6 +29,10 @@ pub enough-room : (fuel n : ℕ) → leb (workspaceFor fuel) n ≡ true → node
 unfolding workspaceFor workspaceBase workspacePerFuel maxTerms
 enough-room fuel n e = omega (arith, leb-sound (workspaceFor fuel) n e)
 
+pub enough-types : (fuel n : ℕ) → workspaceFor fuel ≤ n → nodeBytes * maxTerms ≤ n
+unfolding workspaceFor workspaceBase workspacePerFuel maxTerms
+enough-types fuel n l = omega arith
+
 pub prepared-enough : (fuel n : ℕ) (xs : List ℕ) → leb (workspaceFor fuel) n ≡ true → prepared n fuel xs ≡ load xs
 unfolding prepared require _>>=_
 prepared-enough fuel n xs e = ap (λ b. require b 1 0 >>= λ u. load xs) e

@@ -3,3 +3,5 @@
 pub mod Beginning
 -- the call check
 pub mod Checks
+-- rows Call, Run and Output, and the call forward
+pub mod Rows

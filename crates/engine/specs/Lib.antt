@@ -3,3 +3,5 @@
 pub mod Answers
 -- what the parts of a call answer
 pub mod Calls
+-- what the rows of a run answer
+pub mod Runs

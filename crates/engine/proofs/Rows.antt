@@ -1,0 +1,183 @@
+-- Laws of the rows Call, Run and Output, and of the call forward as a whole.
+use Prim.Native.Nat.{ℕ, _≤_}
+use native.Mathlib.Omega.{arith}
+use mathlib.Core.Path.{_≡_, refl, sym, ap, subst, _∙_}
+use mathlib.Core.Bool.{true, false}
+use mathlib.Core.List.{List}
+use lib.ListN.{length, replicate}
+use lib.Dec.{leb}
+use package.Rattle.rules.specs.Limits.{maxVariables, maxNodes}
+use package.Rattle.rules.specs.Typing.{WellTyped}
+use package.Rattle.rules.proofs.Basics.{given}
+use package.Rattle.rules.proofs.Typing.Tests.{leb-sound}
+use package.Rattle.calls.specs.Answer.{Answer, accepted, refused, _>>=_, cleared}
+use package.Rattle.calls.specs.Values.{value, ancillae}
+use package.Rattle.calls.specs.Runs.{workspaceFor, admit, Ran, goes, forwardCall, written}
+use package.Rattle.calls.proofs.Answer.{via}
+use package.Rattle.calls.proofs.Load.{load-iff}
+use package.Rattle.program.specs.declared.fields.Counts.{Counts}
+use package.Rattle.admission.specs.declared.Admitted.{Admitted}
+use package.Rattle.admission.specs.declared.Admitted.the-variants as admitted
+use package.Rattle.admission.specs.Given.{programIn, givenIn}
+use package.Rattle.admission.specs.Admitting.{Admittable, answerOf, AdmitMeans}
+use package.Rattle.admission.proofs.Tested.{admittable}
+use package.Rattle.running.specs.declared.ended.Ended.{Ended}
+use package.Rattle.running.specs.declared.ended.Ended.the-variants as ended
+use package.Rattle.running.specs.Ended.{finished, endOf}
+use package.Rattle.running.specs.Ahead.{Runnable, Goes}
+use package.Rattle.loading.specs.Loading.{Accepted}
+use package.Rattle.engine.specs.declared.answers.Refusal.{Refusal}
+use package.Rattle.engine.specs.declared.answers.Refusal.the-variants.{Function, Values, ValueType}
+use package.Rattle.engine.specs.declared.answers.RunAnswer.{RunAnswer}
+use package.Rattle.engine.specs.declared.answers.RunAnswer.the-variants as runs
+use package.Rattle.engine.specs.declared.preparing.Prepared.{Prepared}
+use package.Rattle.engine.specs.declared.preparing.Prepared.the-variants.{Ready, Refused}
+use package.Rattle.engine.specs.Answers.{numberOf, placeOf, runAnswer, summary}
+use package.Rattle.engine.specs.Calls.{Later, accepts, refuses, preparedOf, Begins, PrepareMeans}
+use package.Rattle.engine.specs.Runs.{endedFrom, called, forwardOf, frontsRun, Fronts, ofProgram, RunMeans}
+use package.Rattle.engine.proofs.Beginning.{prepared-enough, prepared-short, cleared-run}
+
+-- a refusal of the definitions is one of the answer, and the output is unchanged
+refused-as : {x : Answer Ran} {n p : ℕ} (r : Refusal) (out : List ℕ) → x ≡ refused n p → numberOf r ≡ n → placeOf r ≡ p → 2 ≤ n → RunMeans (runs.Refused r) x out out
+unfolding written
+refused-as {x} {n} {p} r out e q s l = rw (e, ← q, ← s) (record { answer = refl; later = refuses {n = numberOf r} (rw q l); output = refl })
+
+end-is : (e : Ended) → runAnswer (endedFrom e) ≡ endOf e
+end-is (ended.Done s) = refl
+end-is (ended.Fuel k) = refl
+end-is (ended.Height k) = refl
+end-is (ended.Long k) = refl
+end-is (ended.FirstMatch k) = refl
+end-is (ended.NoInput k) = refl
+end-is ended.Short = refl
+
+end-later : (e : Ended) → Later (runAnswer (endedFrom e))
+end-later (ended.Done s) = accepts
+end-later (ended.Fuel k) = refuses {n = 12} (omega arith)
+end-later (ended.Height k) = refuses {n = 13} (omega arith)
+end-later (ended.Long k) = refuses {n = 14} (omega arith)
+end-later (ended.FirstMatch k) = refuses {n = 15} (omega arith)
+end-later (ended.NoInput k) = refuses {n = 16} (omega arith)
+end-later ended.Short = refuses {n = 17} (omega arith)
+
+----------------------------------------------------------------
+-- Rows Call, Run and Output, of a program that is accepted
+
+module _ {xs types terms functions : List ℕ} (A : Accepted xs types terms functions) where
+  pub askable : Admittable xs types functions
+  askable = admittable (A .read) (A .tested)
+
+  typed : WellTyped maxVariables maxNodes (programIn xs types terms functions)
+  typed = load-iff xs (programIn xs types terms functions) .0 (A .loads) .1
+
+  module _ {g : ℕ} {anc bytes : List ℕ} {v : Admitted} (M : AdmitMeans v xs types functions g anc bytes false) where
+    gave : {w : Admitted} → v ≡ w → admit (programIn xs types terms functions) g (ancillae anc) (value bytes) (λ h. h .dynamic) ≡ answerOf w (givenIn xs types terms functions g anc bytes)
+    gave e = sym (M .answer terms) ∙ ap (λ v. answerOf v (givenIn xs types terms functions g anc bytes)) e
+
+    pub runnable : v ≡ admitted.Given → {heap : List ℕ} {fuel : ℕ} → workspaceFor fuel ≤ length heap → Runnable xs terms functions heap g anc bytes fuel
+    runnable e l = record { types = types; loaded = record { read = A .read; tested = A .tested; typed = typed }; given = gave e; enough = l }
+
+    module _ (fuel : ℕ) (out : List ℕ) where
+      not-called : {n : ℕ} (r : Refusal) → admit (programIn xs types terms functions) g (ancillae anc) (value bytes) (λ h. h .dynamic) ≡ refused n 0 → numberOf r ≡ n → placeOf r ≡ 0 → 2 ≤ n
+          → RunMeans (runs.Refused r) (forwardOf xs types terms functions g anc bytes fuel (length out)) out out
+      unfolding called _>>=_
+      not-called r e q s l = refused-as r out (ap (λ a. a >>= λ a. finished (length out) (goes (programIn xs types terms functions) fuel a)) e) q s l
+
+      pub no-function : v ≡ admitted.NoFunction → RunMeans (runs.Refused Function) (forwardOf xs types terms functions g anc bytes fuel (length out)) out out
+      no-function e = not-called Function (gave e) refl refl (omega arith)
+
+      pub bad-values : v ≡ admitted.BadValues → RunMeans (runs.Refused Values) (forwardOf xs types terms functions g anc bytes fuel (length out)) out out
+      bad-values e = not-called Values (gave e) refl refl (omega arith)
+
+      pub wrong-type : v ≡ admitted.WrongType → RunMeans (runs.Refused ValueType) (forwardOf xs types terms functions g anc bytes fuel (length out)) out out
+      wrong-type e = not-called ValueType (gave e) refl refl (omega arith)
+
+      reached : v ≡ admitted.Given
+          → forwardOf xs types terms functions g anc bytes fuel (length out) ≡ finished (length out) (goes (programIn xs types terms functions) fuel (givenIn xs types terms functions g anc bytes))
+      unfolding called
+      reached y = via _ (gave y) refl
+
+      -- what the run gave is the answer
+      pub ran-as : v ≡ admitted.Given → {e : Ended} {r : RunAnswer} {out′ : List ℕ} → Goes e xs terms functions g anc bytes fuel out out′ → r ≡ endedFrom e
+          → RunMeans r (forwardOf xs types terms functions g anc bytes fuel (length out)) out out′
+      ran-as y {e} {r} {out′} G q = record {
+        answer = ap runAnswer q ∙ end-is e ∙ G .means types .answer ∙ ap summary (sym (reached y));
+        later = subst (λ r. Later (runAnswer r)) (sym q) (end-later e);
+        output = G .means types .output ∙ ap (λ x. written x out) (sym (reached y));
+      }
+
+-- the fronts are inside the buffers
+module _ {c : Counts} {xs types terms functions : List ℕ} (F : Fronts c xs types terms functions) where
+  pub types-inside : c .types ≤ length types
+  types-inside = omega (arith, F .within .types, F .buffers .forTypes)
+
+  pub terms-inside : c .terms ≤ length terms
+  terms-inside = omega (arith, F .within .terms, F .buffers .forTerms)
+
+  pub functions-inside : c .functions ≤ length functions
+  functions-inside = omega (arith, F .within .functions, F .buffers .forFunctions)
+
+----------------------------------------------------------------
+-- After the rows of the program
+
+module _ {xs types terms functions : List ℕ} {v : Prepared} (M : PrepareMeans v xs types terms functions) where
+  pub fronts : {c : Counts} → v ≡ Ready c → Fronts c xs types terms functions
+  fronts e = given (subst (λ v. Begins v xs types terms functions) e (M .begins)) λ (w, a). record { within = w; buffers = M .buffers; accepts = a }
+
+  module _ (g : ℕ) (anc bytes : List ℕ) (fuel : ℕ) {out out′ : List ℕ} where
+    pub prepared-run : {c : Counts} → v ≡ Ready c → {r : RunAnswer}
+        → RunMeans r (frontsRun c xs types terms functions g anc bytes fuel (length out)) out out′
+        → RunMeans r (ofProgram xs g anc bytes fuel (length out)) out out′
+    unfolding _>>=_
+    prepared-run e {r} R = subst (λ x. RunMeans r x out out′) (sym (via _ (M .answer ∙ ap (λ v. preparedOf v xs types terms functions) e) refl)) R
+
+  pub prepared-refused : (g : ℕ) (anc bytes : List ℕ) (fuel : ℕ) (out : List ℕ) {r : Refusal} → v ≡ Refused r
+      → RunMeans (runs.Refused r) (ofProgram xs g anc bytes fuel (length out)) out out
+  unfolding _>>=_
+  prepared-refused g anc bytes fuel out {r} e =
+      refused-as r out (ap (λ a. a >>= λ P. called (λ h. h .dynamic) goes P g anc bytes fuel (length out)) (M .answer ∙ ap (λ v. preparedOf v xs types terms functions) e)) refl refl
+      (subst (λ v. Begins v xs types terms functions) e (M .begins))
+
+----------------------------------------------------------------
+-- The call
+
+module _ (xs : List ℕ) (g : ℕ) (anc bytes : List ℕ) (fuel : ℕ) (ws out : List ℕ) where
+  abbrev whole : Answer Ran
+  whole = forwardCall (length ws) (length out) fuel g xs anc bytes
+
+  whole-enough : leb (workspaceFor fuel) (length ws) ≡ true → whole ≡ ofProgram xs g anc bytes fuel (length out)
+  unfolding forwardCall called finished
+  whole-enough e = ap (λ a. a >>= λ P. called (λ h. h .dynamic) goes P g anc bytes fuel (length out)) (prepared-enough fuel (length ws) xs e)
+
+  pub whole-short : leb (workspaceFor fuel) (length ws) ≡ false → forwardCall (length ws) (length out) fuel g xs anc bytes ≡ refused 1 0
+  unfolding forwardCall called finished _>>=_
+  whole-short e = ap (λ a. a >>= λ P. called (λ h. h .dynamic) goes P g anc bytes fuel (length out)) (prepared-short fuel (length ws) xs e)
+
+  module _ (e : leb (workspaceFor fuel) (length ws) ≡ true) {r : RunAnswer} {out′ : List ℕ} (R : RunMeans r (ofProgram xs g anc bytes fuel (length out)) out out′) where
+    pub forward-answer : runAnswer r ≡ summary (forwardCall (length ws) (length out) fuel g xs anc bytes)
+    forward-answer = R .answer ∙ ap summary (sym (whole-enough e))
+
+    pub forward-fills : out′ ≡ written (forwardCall (length ws) (length out) fuel g xs anc bytes) out
+    forward-fills = R .output ∙ ap (λ x. written x out) (sym (whole-enough e))
+
+    pub forward-clears : replicate (length ws) 0 ≡ cleared (forwardCall (length ws) (length out) fuel g xs anc bytes) ws
+    forward-clears = sym (cleared-run r whole ws forward-answer (R .later))
+
+  module _ (e : leb (workspaceFor fuel) (length ws) ≡ false) where
+    pub short-answer : refused 1 0 ≡ summary (forwardCall (length ws) (length out) fuel g xs anc bytes)
+    short-answer = ap summary (sym (whole-short e))
+
+    pub short-fills : out ≡ written (forwardCall (length ws) (length out) fuel g xs anc bytes) out
+    unfolding written
+    short-fills = ap (λ x. written x out) (sym (whole-short e))
+
+    pub short-keeps : ws ≡ cleared (forwardCall (length ws) (length out) fuel g xs anc bytes) ws
+    unfolding cleared
+    short-keeps = ap (λ x. cleared x ws) (sym (whole-short e))
+
+pub enough-le : (fuel n : ℕ) → leb (workspaceFor fuel) n ≡ true → workspaceFor fuel ≤ n
+enough-le fuel n e = leb-sound (workspaceFor fuel) n e
+
+-- a workspace stays as long as it is
+pub kept-enough : {n m k : ℕ} → m ≡ n → k ≤ n → k ≤ m
+kept-enough e l = omega arith

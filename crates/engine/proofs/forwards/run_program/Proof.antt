@@ -1,0 +1,73 @@
+use native.Mathlib.Omega.{arith}
+use Rattle.rules.specs.Limits.{maxTypes, maxTerms, maxFunctions}
+use Rattle.engine.proofs.Beginning.{enough-types}
+use Rattle.engine.proofs.Rows.{fronts, prepared-run, prepared-refused, kept-enough}
+use borrow.Author.Needs.{needs}
+use Rattle.engine.proofs.forwards.run_program.Statement.{statement}
+use Rattle.engine.proofs.forwards.run_program.Tie as tie
+
+slice-aggregate-prepare : tie.Need-slice-aggregate-prepare
+slice-aggregate-prepare c = search needs
+
+slice-aggregate-prepare-2 : tie.Need-slice-aggregate-prepare-2
+slice-aggregate-prepare-2 c = search needs
+
+slice-aggregate-prepare-3 : tie.Need-slice-aggregate-prepare-3
+slice-aggregate-prepare-3 c = search needs
+
+prepare-requires : tie.Need-prepare-requires
+unfolding maxTypes maxTerms maxFunctions
+prepare-requires c κs = (record { forTypes = omega arith; forTerms = omega arith; forFunctions = omega arith }, enough-types _ _ (c .before .before .before .before .before .before .before .before .before .pre))
+
+enum-known-prepared : tie.Need-enum-known-prepared
+enum-known-prepared c = search needs
+
+slice-aggregate-run-fronts : tie.Need-slice-aggregate-run-fronts
+slice-aggregate-run-fronts c = search needs
+
+slice-aggregate-run-fronts-2 : tie.Need-slice-aggregate-run-fronts-2
+slice-aggregate-run-fronts-2 c = search needs
+
+slice-aggregate-run-fronts-3 : tie.Need-slice-aggregate-run-fronts-3
+slice-aggregate-run-fronts-3 c = search needs
+
+run-fronts-requires : tie.Need-run-fronts-requires
+run-fronts-requires c κs = (fronts (c .before .before .before .before .before .before .before .before .before .before .before .before .before .prepare .ensures) (c .before .before .before .before .before .before .prepared .given .1), kept-enough (c .before .before .before .before .before .before .before .before .before .before .before .before .before .prepare .kept .1 .1 .1 .1 .0) (c .before .before .before .before .before .before .before .before .before .before .before .before .before .before .before .before .before .before .before .before .before .before .before .pre))
+
+enum-known-prepared-2 : tie.Need-enum-known-prepared-2
+enum-known-prepared-2 c = search needs
+
+same-length : tie.Need-same-length
+same-length c = search needs
+
+same-length-2 : tie.Need-same-length-2
+same-length-2 c = search needs
+
+returns : tie.Need-returns
+returns c = prepared-run (c .before .before .before .before .before .before .before .before .before .before .before .before .before .before .before .before .before .before .prepare .ensures) _ _ _ _ (c .before .before .before .before .before .before .before .before .before .before .before .prepared .given .1) (c .before .before .before .before .run-fronts .ensures)
+
+same-length-3 : tie.Need-same-length-3
+same-length-3 c = search needs
+
+returns-2 : tie.Need-returns-2
+returns-2 c = prepared-refused (c .before .before .before .before .before .before .before .before .prepare .ensures) _ _ _ _ _ (c .before .prepared2 .given .1)
+
+pub run-program-spec : {M : Type 1} → statement M
+run-program-spec =
+    tie.close
+    (tie.spec
+    slice-aggregate-prepare
+    slice-aggregate-prepare-2
+    slice-aggregate-prepare-3
+    prepare-requires
+    enum-known-prepared
+    slice-aggregate-run-fronts
+    slice-aggregate-run-fronts-2
+    slice-aggregate-run-fronts-3
+    run-fronts-requires
+    enum-known-prepared-2
+    same-length
+    same-length-2
+    returns
+    same-length-3
+    returns-2)
