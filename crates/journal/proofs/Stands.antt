@@ -76,6 +76,16 @@ pub newest-split : (es : List Entry) → 0 < length es → es ≡ newestOf es .o
 newest-split [] h = absurd (omega arith)
 newest-split (e ∷ es) h = given (splits e es) λ s. s .whole ∙ ap (λ (n : Newest). n .older ++ (n .newest ∷ [])) (sym (ap (orElse noNewest) (s .is)))
 
+-- none is the newest, or the one that `newestOf` gives
+pub newest-none : (es : List Entry) → length es ≡ 0 → newest es ≡ none
+unfolding newest
+newest-none [] h = refl
+newest-none (e ∷ es) h = absurd (omega arith)
+
+pub newest-some : (es : List Entry) → 0 < length es → newest es ≡ some (newestOf es)
+newest-some [] h = absurd (omega arith)
+newest-some (e ∷ es) h = given (splits e es) λ s. s .is ∙ ap some (sym (ap (orElse noNewest) (s .is)))
+
 -- the fields of the older ones come first
 older-first : (es : List Entry) → (r : List ℕ) × (entryFields es ≡ entryFields (newestOf es .older) ++ r)
 unfolding newest entryFields
@@ -99,6 +109,10 @@ module _ {pl : Places} {xs : List ℕ} {J : Journal} (s : Standing pl xs J) wher
   pub held-place : pl .held ≡ 3 + size (J .held)
   unfolding placesOf
   held-place = ap (λ (p : Places). p .held) (s .places)
+
+  pub count-place : pl .count ≡ length (J .entries)
+  unfolding placesOf
+  count-place = ap (λ (p : Places). p .count) (s .places)
 
   pub newest-place : pl .newest ≡ pl .held + length (entryFields (newestOf (J .entries) .older))
   unfolding placesOf
@@ -146,8 +160,8 @@ module _ {pl : Places} {xs : List ℕ} {J : Journal} (s : Standing pl xs J) wher
     last = newestOf (J .entries) .newest
 
     last-split : J .entries ≡ newestOf (J .entries) .older ++ (last ∷ [])
-    unfolding placesOf last
-    last-split = newest-split (J .entries) (subst (λ n. 0 < n) (ap (λ (p : Places). p .count) (s .places)) some-stand)
+    unfolding last
+    last-split = newest-split (J .entries) (omega (arith, count-place))
 
     last-writable : WritableEntry last
     last-writable = entries-unsnoc (newestOf (J .entries) .older) (subst WritableEntries last-split (s .writable .entries-writable)) .1
