@@ -1,6 +1,6 @@
 // Calls: the ancilla arguments, then the dynamic one. Laws: proofs/Called, Passing.
-use crate::entries;
 use crate::infer;
+use crate::leaves;
 use crate::outcomes;
 use crate::outcomes::Fault;
 use crate::outcomes::Out;
@@ -34,7 +34,7 @@ fn arguments(
     ensures { λ r. ⌜ Argued (now (p .entry)) (now (types .entry)) (now (terms .entry)) (now (functions .entry)) (now (ws .entry)) (now (ws .exit)) (now (vars .entry)) (now (vars .exit)) sc top t at h k count r ⌝ }
 {
     if k == count {
-        return entries::unit(top);
+        return leaves::unit(top);
     }
     let argument = program::views::listed(p, at, k);
     let r = infer::infer(
@@ -97,7 +97,7 @@ pub fn call(
     ensures { λ r. ⌜ Inferred (termsIn (termIn (now (p .entry)) (now (types .entry)) (now (terms .entry)) t)) (termIn (now (p .entry)) (now (types .entry)) (now (terms .entry)) t) (now (p .entry)) (now (types .entry)) (now (ws .entry)) (now (ws .exit)) (sc .n) (now (vars .entry)) (now (vars .exit)) top r (typeIn (now (p .entry)) (now (types .entry)) (now (terms .entry)) (now (functions .entry)) (now (ws .entry)) (now (vars .entry)) sc t) ⌝ }
 {
     let g = program::views::first(p, at);
-    let h = entries::offset(functions, g);
+    let h = leaves::offset(functions, g);
     let count = program::views::call_ancillae(p, at);
     let parameters = program::views::function_parameters(p, h);
     let own = parameters - 1;

@@ -2,7 +2,7 @@
 // written order and makes each test as soon as the parts that it needs are typed. Laws of each kind: proofs/Steps, Pairing.
 use crate::binds;
 use crate::calling;
-use crate::entries;
+use crate::leaves;
 use crate::outcomes;
 use crate::outcomes::Fault;
 use crate::outcomes::Out;
@@ -36,11 +36,11 @@ pub fn infer(
     requires { ⌜ t < length (now terms) ⌝ }
     ensures { λ r. ⌜ Inferred (termsIn (termIn (now (p .entry)) (now (types .entry)) (now (terms .entry)) t)) (termIn (now (p .entry)) (now (types .entry)) (now (terms .entry)) t) (now (p .entry)) (now (types .entry)) (now (ws .entry)) (now (ws .exit)) (sc .n) (now (vars .entry)) (now (vars .exit)) top r (typeIn (now (p .entry)) (now (types .entry)) (now (terms .entry)) (now (functions .entry)) (now (ws .entry)) (now (vars .entry)) sc t) ⌝ }
 {
-    let at = entries::offset(terms, t);
+    let at = leaves::offset(terms, t);
     let kind = program::views::kind(p, at);
     match kind {
         0 => variables::variable(vars, sc, top, t, program::views::variable(p, at)),
-        1 => entries::unit(top),
+        1 => leaves::unit(top),
         2 => inject(
             p,
             types,

@@ -3,7 +3,7 @@
 pub mod outcomes; // outcomes.rt: what typing a term answers, and scopes
 pub mod variables; // variables.rt: the types of variables in lent bytes
 pub mod tests; // tests.rt: the tests after a part is typed
-pub mod entries; // entries.rt: where the field of an entry starts; the unit type
+pub mod leaves; // leaves.rt: where the field of an entry starts; the unit type
 pub mod infer; // infer.rt: terms, in a cycle with binds and calling
 pub mod binds; // binds.rt: terms that bind variables
 pub mod calling; // calling.rt: calls

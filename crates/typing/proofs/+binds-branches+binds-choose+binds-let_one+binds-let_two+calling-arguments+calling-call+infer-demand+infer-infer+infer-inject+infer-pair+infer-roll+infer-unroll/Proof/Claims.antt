@@ -53,8 +53,8 @@ use Rattle.types.proofs.compare.same.Reads as same-reads
 use Rattle.types.proofs.counting.within_limit.Reads as within-limit-reads
 use Rattle.types.proofs.shapes.shape_of.Reads as shape-of-reads
 use Rattle.types.proofs.unfolding.unfolded.Reads as unfolded-reads
-use Rattle.typing.proofs.entries.offset.Reads as offset-reads
-use Rattle.typing.proofs.entries.unit.Reads as unit-reads
+use Rattle.typing.proofs.leaves.offset.Reads as offset-reads
+use Rattle.typing.proofs.leaves.unit.Reads as unit-reads
 use Rattle.typing.proofs.outcomes.refuse.Reads as refuse-reads
 use Rattle.typing.proofs.tests.close_one.Reads as close-one-reads
 use Rattle.typing.proofs.tests.close_two.Reads as close-two-reads

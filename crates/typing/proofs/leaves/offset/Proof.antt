@@ -1,6 +1,6 @@
 use borrow.Author.Needs.{needs}
-use Rattle.typing.proofs.entries.offset.Statement.{statement}
-use Rattle.typing.proofs.entries.offset.Tie as tie
+use Rattle.typing.proofs.leaves.offset.Statement.{statement}
+use Rattle.typing.proofs.leaves.offset.Tie as tie
 
 wide-index-requires : tie.Need-wide-index-requires
 wide-index-requires c κs = search needs

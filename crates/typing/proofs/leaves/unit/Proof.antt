@@ -1,7 +1,7 @@
 use mathlib.Core.Path.{refl}
 use borrow.Author.Needs.{needs}
-use Rattle.typing.proofs.entries.unit.Statement.{statement}
-use Rattle.typing.proofs.entries.unit.Tie as tie
+use Rattle.typing.proofs.leaves.unit.Statement.{statement}
+use Rattle.typing.proofs.leaves.unit.Tie as tie
 
 unit-requires : tie.Need-unit-requires
 unit-requires c κs = search needs
