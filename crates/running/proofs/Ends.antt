@@ -13,10 +13,10 @@ use package.Rattle.calls.specs.Answer.{accepted, refused, _>>=_, require}
 use package.Rattle.calls.specs.Runs.{Ran, ran, written}
 use package.Rattle.values.specs.Nodes.{nodeBytes, lengthAt, valueAt}
 use package.Rattle.values.specs.Stores.{StoreReady, StoreDone}
-use package.Rattle.forward.specs.declared.outcomes.Refusal.{Refusal}
-use package.Rattle.forward.specs.declared.outcomes.Refusal.the-variants as why
-use package.Rattle.forward.specs.Outcomes.{refusalOf}
-use package.Rattle.running.specs.declared.ended.Ended.the-variants.{Done, Fuel, Height, Long, FirstMatch, Short}
+use package.Rattle.backward.specs.declared.outcomes.Refusal.{Refusal}
+use package.Rattle.backward.specs.declared.outcomes.Refusal.the-variants as why
+use package.Rattle.backward.specs.Outcomes.{refusalOf}
+use package.Rattle.running.specs.declared.ended.Ended.the-variants.{Done, Fuel, Height, Long, FirstMatch, NoInput, Short}
 use package.Rattle.running.specs.Ended.{finished, summary, Means, Gives}
 
 ----------------------------------------------------------------
@@ -89,3 +89,7 @@ module _ (out : List ℕ) (fuel : ℕ) {w : Refusal} {t : ℕ} where
   pub refused-match : w ≡ why.FirstMatch t → Means (FirstMatch t) out out (ran fuel (refusalOf w))
   unfolding ran refusalOf finished _>>=_ written
   refused-match e = rw e (record { answer = refl; output = refl })
+
+  pub refused-input : w ≡ why.NoInput t → Means (NoInput t) out out (ran fuel (refusalOf w))
+  unfolding ran refusalOf finished _>>=_ written
+  refused-input e = rw e (record { answer = refl; output = refl })

@@ -3,5 +3,9 @@
 pub mod Loads
 -- the answers of a run, and the output
 pub mod Ends
+-- what is asked at the start, in either direction
+pub mod Starts
 -- a forward run, from the values to the outcome
 pub mod Onward
+-- a backward run, from the values to the outcome
+pub mod Homeward

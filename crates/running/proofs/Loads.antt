@@ -1,5 +1,5 @@
 -- Values loaded as nodes: the unit, the ancillae one after another, then the value.
-use Prim.Native.Nat.{ℕ, suc, _+_, _-_, _≤_, _<_, _^_}
+use Prim.Native.Nat.{ℕ, zero, suc, _+_, _-_, _≤_, _<_, _^_}
 use native.Mathlib.Omega.{arith}
 use native.Mathlib.Decide.{decLt}
 use native.Mathlib.Numerals.{add-one}
@@ -164,6 +164,14 @@ values-are heap slots [] from e = refl
 values-are heap slots (v ∷ vs) from e =
     ap₂ _∷_ (ap (λ i. valueAt heap (getD slots i 0)) (let z : from ≡ from + 0 = omega arith in z) ∙ e 0 (omega arith))
     (values-are heap slots vs (from + 1) λ i l. ap (λ i. valueAt heap (getD slots i 0)) (let z : from + 1 + i ≡ from + suc i = omega arith in z) ∙ e (suc i) (omega arith))
+
+-- the values are those of slots that hold the same nodes
+pub values-same : (heap slots slots′ : List ℕ) (from n : ℕ) → ((j : ℕ) → from ≤ j → j < from + n → getD slots j 0 ≡ getD slots′ j 0)
+    → valuesAt heap slots from n ≡ valuesAt heap slots′ from n
+unfolding valuesAt
+values-same heap slots slots′ from zero s = refl
+values-same heap slots slots′ from (suc n) s =
+    ap₂ _∷_ (ap (valueAt heap) (s from (omega arith) (omega arith))) (values-same heap slots slots′ (from + 1) n λ j h h′. s j (omega arith) (omega arith))
 
 module _ {heap slots anc bytes : List ℕ} (B : Beginning heap slots anc bytes) where
   -- the value's bytes are within the limit

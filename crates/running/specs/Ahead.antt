@@ -16,8 +16,6 @@ use package.Rattle.calls.specs.Named.{testEntries}
 use package.Rattle.calls.specs.Values.{value, ancillae}
 use package.Rattle.calls.specs.Runs.{workspaceFor, admit, goes}
 use package.Rattle.program.specs.Places.{placesOf, Placed}
-use package.Rattle.forward.specs.declared.outcomes.Refusal.{Refusal}
-use package.Rattle.forward.specs.declared.outcomes.Refusal.the-variants.{Fuel, Height, Long, FirstMatch, Stuck}
 use package.Rattle.forward.specs.declared.outcomes.Status.the-variants.{Value}
 use package.Rattle.forward.specs.declared.outcomes.Out.{Out}
 use package.Rattle.forward.specs.Outcomes.{meaning}
@@ -47,14 +45,6 @@ Runnable = Admitted (λ h. h .dynamic)
 
 ----------------------------------------------------------------
 -- What evaluation gives
-
--- a refusal that is one of section 4's
-abbrev pub Shaped : Refusal → Type 0
-Shaped (Fuel t) = Unit {0}
-Shaped (Height t) = Unit {0}
-Shaped (Long t) = Unit {0}
-Shaped (FirstMatch t) = Unit {0}
-Shaped Stuck = ⊥
 
 -- the outcome is the rules' run of the function, and does not stick
 pub record Evaluated (xs terms functions heap heap′ : List ℕ) (g : ℕ) (anc bytes : List ℕ) (fuel : ℕ) (r : Out) : Type 0 where

@@ -8,6 +8,8 @@ use package.Rattle.rules.specs.Val.{size}
 use package.Rattle.calls.specs.Answer.{Answer, accepted, refused, _>>=_, require}
 use package.Rattle.calls.specs.Runs.{Ran, written}
 use package.Rattle.values.specs.Nodes.{Heap}
+use package.Rattle.backward.specs.declared.outcomes.Refusal.{Refusal}
+use package.Rattle.backward.specs.declared.outcomes.Refusal.the-variants as why
 use package.Rattle.running.specs.declared.ended.Ended.{Ended}
 use package.Rattle.running.specs.declared.ended.Ended.the-variants.{Done, Fuel, Height, Long, FirstMatch, NoInput, Short}
 
@@ -42,3 +44,12 @@ pub record Means (r : Ended) (out out′ : List ℕ) (x : Answer Ran) : Type 0 w
 pub record Gives (heap : List ℕ) (node fuel left : ℕ) : Type 0 where
   pub right : Heap heap (node + 1)
   pub less : left ≤ fuel
+
+-- a refusal that is one of section 4's
+abbrev pub Shaped : Refusal → Type 0
+Shaped (why.Fuel t) = Unit {0}
+Shaped (why.Height t) = Unit {0}
+Shaped (why.Long t) = Unit {0}
+Shaped (why.FirstMatch t) = Unit {0}
+Shaped (why.NoInput t) = Unit {0}
+Shaped why.Stuck = ⊥

@@ -5,3 +5,5 @@ pub mod Begun
 pub mod Ended
 -- what a forward run asks for, and what evaluation gives
 pub mod Ahead
+-- the same of a backward run
+pub mod Back

@@ -4,32 +4,9 @@ use crate::ended;
 use crate::ended::Ended;
 use forward::outcomes::Machine;
 use forward::outcomes::Out;
-use forward::outcomes::Refusal;
 use forward::outcomes::Scope;
 use forward::outcomes::Status;
-ghost use Rattle.calls.specs.Runs.{ran};
-ghost use Rattle.forward.specs.Outcomes.{refusalOf};
-ghost use Rattle.running.specs.Ended.{Means};
-ghost use Rattle.running.specs.Ahead.{Shaped, Runnable, Evaluated, Goes};
-
-// Room for the variables of a run of the greatest height.
-pub const SLOTS: usize = 8232;
-
-const MAX_HEIGHT: u16 = 1024;
-
-fn refuse(why: Refusal, fuel: u16, out: &mut [u8]) -> Ended
-    requires { ⌜ Shaped why ⌝ }
-    ensures { λ r. ⌜ Means r (now (out .entry)) (now (out .exit)) (ran fuel (refusalOf why)) ⌝ }
-{
-    match why {
-        Refusal::Fuel(t) => Ended::Fuel(t),
-        Refusal::Height(t) => Ended::Height(t),
-        Refusal::Long(t) => Ended::Long(t),
-        Refusal::FirstMatch(t) => Ended::FirstMatch(t),
-        // never met: a checked program never meets a value of wrong shape
-        Refusal::Stuck => Ended::Short,
-    }
-}
+ghost use Rattle.running.specs.Ahead.{Runnable, Evaluated, Goes};
 
 // The body of a function, with the given values.
 fn evaluate(
@@ -45,7 +22,7 @@ fn evaluate(
     requires { ⌜ Runnable (now p) (now terms) (now functions) (now ws) function (now ancillae) (now value) fuel ⌝ }
     ensures { λ r. ⌜ Evaluated (now (p .entry)) (now (terms .entry)) (now (functions .entry)) (now (ws .entry)) (now (ws .exit)) function (now (ancillae .entry)) (now (value .entry)) fuel r ⌝ }
 {
-    let mut slots = [0u32; SLOTS];
+    let mut slots = [0u32; begin::SLOTS];
     let start = begin::begin(ws, &mut slots, ancillae, value);
     let count = start.count;
     let st = Machine {
@@ -67,7 +44,7 @@ fn evaluate(
         st,
         sc,
         body,
-        MAX_HEIGHT,
+        begin::MAX_HEIGHT,
     )
 }
 
@@ -91,6 +68,9 @@ pub fn run(
     let m = r.state;
     match status {
         Status::Value(node) => ended::give(ws, node, fuel, m.fuel, out),
-        Status::Refused(why) => refuse(why, fuel, out),
+        Status::Refused(why) => {
+            let refusal = backward::outcomes::carry(why);
+            ended::refuse(refusal, fuel, out)
+        }
     }
 }

@@ -3,6 +3,12 @@
 use values::nodes;
 ghost use Rattle.running.specs.Begun.{Enough, Beginning, AncillaeLoaded, Begun};
 
+// Room for the variables of a run of the greatest height.
+pub const SLOTS: usize = 8232;
+
+// Section 1's limit of a run's height.
+pub const MAX_HEIGHT: u16 = 1024;
+
 // How many ancillae there are, and the first free node.
 pub struct Start {
     pub count: usize,

@@ -2,7 +2,8 @@ use mathlib.Core.Path.{_∙_}
 use Prim.Native.Nat.{_≤_}
 use lib.Dec.{lit≤}
 use borrow.Author.Needs.{needs}
-use Rattle.running.proofs.Onward.{there, body-room, beginning, few-arguments, eval-ready, evaluated, long-slots}
+use Rattle.running.proofs.Starts.{there, body-room, beginning, few-arguments, long-slots}
+use Rattle.running.proofs.Onward.{eval-ready, evaluated}
 use Rattle.running.proofs.ahead.evaluate.Statement.{statement}
 use Rattle.running.proofs.ahead.evaluate.Tie as tie
 

@@ -15,8 +15,11 @@ give-requires c κs = gives (c .before .before .before .before .before .before .
 enum-known-status-2 : tie.Need-enum-known-status-2
 enum-known-status-2 c = search needs
 
+carry-requires : tie.Need-carry-requires
+carry-requires c κs = search needs
+
 refuse-requires : tie.Need-refuse-requires
-refuse-requires c κs = shaped (c .before .before .before .before .before .before .before .evaluate .ensures) (c .before .before .status2 .given .1)
+refuse-requires c κs = shaped (c .before .before .before .before .before .before .before .before .evaluate .ensures) (c .before .before .before .status2 .given .1) (c .before .carry .ensures)
 
 same-length : tie.Need-same-length
 same-length c = search needs
@@ -34,7 +37,7 @@ same-length-4 : tie.Need-same-length-4
 same-length-4 c = search needs
 
 returns-2 : tie.Need-returns-2
-returns-2 c = goes-refused (c .before .before .before .before .before .before .before .before .before .before .evaluate .ensures) (c .before .before .before .before .before .status2 .given .1) (c .before .before .refuse .ensures)
+returns-2 c = goes-refused (c .before .before .before .before .before .before .before .before .before .before .before .evaluate .ensures) (c .before .before .before .before .before .before .status2 .given .1) (c .before .before .before .before .carry .ensures) (c .before .before .refuse .ensures)
 
 pub run-spec : {M : Type 1} → statement M
 run-spec =
@@ -44,6 +47,7 @@ run-spec =
     enum-known-status
     give-requires
     enum-known-status-2
+    carry-requires
     refuse-requires
     same-length
     same-length-2

@@ -1,0 +1,103 @@
+-- A run of a call that was admitted, in either direction: what is asked at its start holds.
+use Prim.Native.Nat.{ℕ, _+_, _*_, _≤_, _<_}
+use native.Mathlib.Omega.{arith}
+use mathlib.Core.Path.{_≡_, refl}
+use mathlib.Core.List.{List, map}
+use lib.ListN.{length, getD, length-map}
+use package.Rattle.rules.specs.Limits.{maxVariables, maxNodes, maxParameters, workspaceBase, workspacePerFuel}
+use package.Rattle.rules.specs.Val.{Val}
+use package.Rattle.rules.specs.Ty.{Ty}
+use package.Rattle.rules.specs.Term.{Fun}
+use package.Rattle.rules.specs.Run.{Res, stuck}
+use package.Rattle.rules.proofs.Preserve.{env-length}
+use package.Rattle.calls.specs.Fields.{parametersAt}
+use package.Rattle.calls.specs.Entries.{typeAt, typeOf, functionAt, functionOf, entriesAt}
+use package.Rattle.calls.specs.Values.{value, ancillae}
+use package.Rattle.calls.specs.Runs.{workspaceFor}
+use package.Rattle.calls.proofs.Trees.{entries-good}
+use package.Rattle.calls.proofs.Runs.Parts.{Admits, admit-iff}
+use package.Rattle.program.proofs.Rooms.{function-room}
+use package.Rattle.values.specs.Nodes.{nodeBytes}
+use package.Rattle.scopes.specs.Slots.{unknown}
+use package.Rattle.forward.specs.Code.{Code}
+use package.Rattle.forward.proofs.Accepted.{accepted-code}
+use package.Rattle.forward.proofs.Trees.{called-only}
+use package.Rattle.backward.specs.declared.outcomes.Refusal.{Refusal}
+use package.Rattle.backward.specs.declared.outcomes.Refusal.the-variants.{Fuel, Height, Long, FirstMatch, NoInput, Stuck}
+use package.Rattle.backward.specs.Scoped.{arityAt}
+use package.Rattle.backward.specs.Outcomes.{refusalOf}
+use package.Rattle.admission.specs.Given.{programIn, functionIn, valuesIn, givenIn}
+use package.Rattle.admission.proofs.Parameters.{ancillae-count}
+use package.Rattle.running.specs.declared.begin.Start.{Start}
+use package.Rattle.running.specs.Begun.{startNodes, Beginning, Begun}
+use package.Rattle.running.specs.Ended.{Shaped}
+use package.Rattle.running.specs.Ahead.{Admitted}
+
+----------------------------------------------------------------
+-- What is asked at the start
+
+module _ {side : Fun → Ty} {xs terms functions heap : List ℕ} {g : ℕ} {anc bytes : List ℕ} {fuel : ℕ} (R : Admitted side xs terms functions heap g anc bytes fuel) where
+  pub admits : Admits (programIn xs (R .types) terms functions) g (ancillae anc) (value bytes) side (givenIn xs (R .types) terms functions g anc bytes)
+  admits = admit-iff (programIn xs (R .types) terms functions) g (ancillae anc) (value bytes) side (givenIn xs (R .types) terms functions g anc bytes) .0 (R .given)
+
+  pub code : Code xs terms functions
+  code = accepted-code (R .loaded .read) (entries-good _ _ (R .loaded .tested)) maxVariables maxNodes (R .loaded .typed)
+
+  pub there : g < length functions
+  unfolding entriesAt
+  there = called-only xs terms functions (map (typeAt xs) (R .types)) g (admits .function) .0
+
+  pub body-room : getD functions g 0 + 8 + 2 * parametersAt xs (getD functions g 0) ≤ length xs
+  body-room = function-room (code .function g there .field)
+
+  -- an ancilla for each parameter but the last
+  pub as-many : length (valuesIn anc) + 1 ≡ arityAt xs functions g
+  unfolding functionOf
+  as-many = omega (
+    arith,
+    env-length (valuesIn anc) (functionIn xs (R .types) terms functions g .ancillae) (admits .ancillae-typed),
+    length-map (functionAt xs (getD functions g 0) .ancillae) (typeOf (map (typeAt xs) (R .types))),
+    ancillae-count xs (getD functions g 0),
+    code .function g there .field .some,
+  )
+
+  few : length (valuesIn anc) ≤ 7
+  unfolding maxParameters
+  few = omega (arith, as-many, code .function g there .field .few)
+
+  pub beginning : {slots : List ℕ} → 8 ≤ length slots → Beginning heap slots anc bytes
+  unfolding startNodes workspaceFor workspaceBase workspacePerFuel
+  beginning l = record {
+    for-ancillae = record { read = admits .ancillae-read; few = few; slots-there = l; nodes-there = omega (arith, R .enough) };
+    read = admits .value-read;
+  }
+
+  module _ {heap′ slots slots′ : List ℕ} {start : Start} (B : Begun heap heap′ slots slots′ anc bytes start) where
+    pub few-arguments : start .count ≤ 7
+    few-arguments = omega (arith, B .count, few)
+
+    -- a node for each unit of fuel, after those of the values
+    pub nodes-room : nodeBytes * (start .top + fuel) ≤ length heap′
+    unfolding startNodes workspaceFor workspaceBase workspacePerFuel
+    nodes-room = omega (arith, R .enough, B .few, B .heap-length)
+
+    pub nodes-small : fuel < 65536 → start .top + fuel ≤ unknown
+    unfolding startNodes unknown
+    nodes-small l = omega (arith, B .few)
+
+-- slots are as many after a call
+pub long-slots : {m n : ℕ} → m ≡ n → 8232 ≤ n → 8232 ≤ m
+long-slots e l = omega arith
+
+----------------------------------------------------------------
+-- The answer
+
+-- a refusal that is not stuck is one of section 4's
+pub shaped-of : (w : Refusal) → (_≡_ {A = Res Val} (refusalOf w) stuck → ⊥) → Shaped w
+unfolding refusalOf
+shaped-of (Fuel t) s = tt
+shaped-of (Height t) s = tt
+shaped-of (Long t) s = tt
+shaped-of (FirstMatch t) s = tt
+shaped-of (NoInput t) s = tt
+shaped-of Stuck s = s refl
