@@ -3,5 +3,5 @@
 pub mod Beginning
 -- the call check
 pub mod Checks
--- rows Call, Run and Output, and the call forward
+-- rows Call, Run and Output, and the calls forward and backward
 pub mod Rows

@@ -1,8 +1,8 @@
--- Laws of the rows Call, Run and Output, and of the call forward as a whole.
+-- Laws of the rows Call, Run and Output, and of the calls that run a function as a whole.
 use Prim.Native.Nat.{ℕ, _≤_}
 use native.Mathlib.Omega.{arith}
 use mathlib.Core.Path.{_≡_, refl, sym, ap, subst, _∙_}
-use mathlib.Core.Bool.{true, false}
+use mathlib.Core.Bool.{Bool, true, false}
 use mathlib.Core.List.{List}
 use lib.ListN.{length, replicate}
 use lib.Dec.{leb}
@@ -12,29 +12,30 @@ use package.Rattle.rules.proofs.Basics.{given}
 use package.Rattle.rules.proofs.Typing.Tests.{leb-sound}
 use package.Rattle.calls.specs.Answer.{Answer, accepted, refused, _>>=_, cleared}
 use package.Rattle.calls.specs.Values.{value, ancillae}
-use package.Rattle.calls.specs.Runs.{workspaceFor, admit, Ran, goes, forwardCall, written}
+use package.Rattle.calls.specs.Runs.{workspaceFor, prepared, admit, Ran, forwardCall, backwardCall, written}
 use package.Rattle.calls.proofs.Answer.{via}
 use package.Rattle.calls.proofs.Load.{load-iff}
 use package.Rattle.program.specs.declared.fields.Counts.{Counts}
 use package.Rattle.admission.specs.declared.Admitted.{Admitted}
 use package.Rattle.admission.specs.declared.Admitted.the-variants as admitted
 use package.Rattle.admission.specs.Given.{programIn, givenIn}
-use package.Rattle.admission.specs.Admitting.{Admittable, answerOf, AdmitMeans}
+use package.Rattle.admission.specs.Admitting.{sideOf, Admittable, answerOf, AdmitMeans}
 use package.Rattle.admission.proofs.Tested.{admittable}
 use package.Rattle.running.specs.declared.ended.Ended.{Ended}
 use package.Rattle.running.specs.declared.ended.Ended.the-variants as ended
 use package.Rattle.running.specs.Ended.{finished, endOf}
-use package.Rattle.running.specs.Ahead.{Runnable, Goes}
+use package.Rattle.running.specs.Ahead.{Admitted as Allowed, Runnable, Goes}
+use package.Rattle.running.specs.Back.{Returnable, Returns}
 use package.Rattle.loading.specs.Loading.{Accepted}
 use package.Rattle.engine.specs.declared.answers.Refusal.{Refusal}
-use package.Rattle.engine.specs.declared.answers.Refusal.the-variants.{Function, Values, ValueType}
+use package.Rattle.engine.specs.declared.answers.Refusal.the-variants.{Workspace, Function, Values, ValueType}
 use package.Rattle.engine.specs.declared.answers.RunAnswer.{RunAnswer}
 use package.Rattle.engine.specs.declared.answers.RunAnswer.the-variants as runs
 use package.Rattle.engine.specs.declared.preparing.Prepared.{Prepared}
 use package.Rattle.engine.specs.declared.preparing.Prepared.the-variants.{Ready, Refused}
 use package.Rattle.engine.specs.Answers.{numberOf, placeOf, runAnswer, summary}
 use package.Rattle.engine.specs.Calls.{Later, accepts, refuses, preparedOf, Begins, PrepareMeans}
-use package.Rattle.engine.specs.Runs.{endedFrom, called, forwardOf, frontsRun, Fronts, ofProgram, RunMeans}
+use package.Rattle.engine.specs.Runs.{endedFrom, runOf, called, calledOf, frontsRun, Fronts, ofProgram, runCall, EndMeans, RunMeans, CallMeans}
 use package.Rattle.engine.proofs.Beginning.{prepared-enough, prepared-short, cleared-run}
 
 -- a refusal of the definitions is one of the answer, and the output is unchanged
@@ -70,36 +71,36 @@ module _ {xs types terms functions : List ℕ} (A : Accepted xs types terms func
   typed : WellTyped maxVariables maxNodes (programIn xs types terms functions)
   typed = load-iff xs (programIn xs types terms functions) .0 (A .loads) .1
 
-  module _ {g : ℕ} {anc bytes : List ℕ} {v : Admitted} (M : AdmitMeans v xs types functions g anc bytes false) where
-    gave : {w : Admitted} → v ≡ w → admit (programIn xs types terms functions) g (ancillae anc) (value bytes) (λ h. h .dynamic) ≡ answerOf w (givenIn xs types terms functions g anc bytes)
+  module _ {g : ℕ} {anc bytes : List ℕ} {back : Bool} {v : Admitted} (M : AdmitMeans v xs types functions g anc bytes back) where
+    gave : {w : Admitted} → v ≡ w → admit (programIn xs types terms functions) g (ancillae anc) (value bytes) (sideOf back) ≡ answerOf w (givenIn xs types terms functions g anc bytes)
     gave e = sym (M .answer terms) ∙ ap (λ v. answerOf v (givenIn xs types terms functions g anc bytes)) e
 
-    pub runnable : v ≡ admitted.Given → {heap : List ℕ} {fuel : ℕ} → workspaceFor fuel ≤ length heap → Runnable xs terms functions heap g anc bytes fuel
-    runnable e l = record { types = types; loaded = record { read = A .read; tested = A .tested; typed = typed }; given = gave e; enough = l }
+    pub allowed : v ≡ admitted.Given → {heap : List ℕ} {fuel : ℕ} → workspaceFor fuel ≤ length heap → Allowed (sideOf back) xs terms functions heap g anc bytes fuel
+    allowed e l = record { types = types; loaded = record { read = A .read; tested = A .tested; typed = typed }; given = gave e; enough = l }
 
     module _ (fuel : ℕ) (out : List ℕ) where
-      not-called : {n : ℕ} (r : Refusal) → admit (programIn xs types terms functions) g (ancillae anc) (value bytes) (λ h. h .dynamic) ≡ refused n 0 → numberOf r ≡ n → placeOf r ≡ 0 → 2 ≤ n
-          → RunMeans (runs.Refused r) (forwardOf xs types terms functions g anc bytes fuel (length out)) out out
+      not-called : {n : ℕ} (r : Refusal) → admit (programIn xs types terms functions) g (ancillae anc) (value bytes) (sideOf back) ≡ refused n 0 → numberOf r ≡ n → placeOf r ≡ 0 → 2 ≤ n
+          → RunMeans (runs.Refused r) (calledOf back xs types terms functions g anc bytes fuel (length out)) out out
       unfolding called _>>=_
-      not-called r e q s l = refused-as r out (ap (λ a. a >>= λ a. finished (length out) (goes (programIn xs types terms functions) fuel a)) e) q s l
+      not-called r e q s l = refused-as r out (ap (λ a. a >>= λ a. finished (length out) (runOf back (programIn xs types terms functions) fuel a)) e) q s l
 
-      pub no-function : v ≡ admitted.NoFunction → RunMeans (runs.Refused Function) (forwardOf xs types terms functions g anc bytes fuel (length out)) out out
+      pub no-function : v ≡ admitted.NoFunction → RunMeans (runs.Refused Function) (calledOf back xs types terms functions g anc bytes fuel (length out)) out out
       no-function e = not-called Function (gave e) refl refl (omega arith)
 
-      pub bad-values : v ≡ admitted.BadValues → RunMeans (runs.Refused Values) (forwardOf xs types terms functions g anc bytes fuel (length out)) out out
+      pub bad-values : v ≡ admitted.BadValues → RunMeans (runs.Refused Values) (calledOf back xs types terms functions g anc bytes fuel (length out)) out out
       bad-values e = not-called Values (gave e) refl refl (omega arith)
 
-      pub wrong-type : v ≡ admitted.WrongType → RunMeans (runs.Refused ValueType) (forwardOf xs types terms functions g anc bytes fuel (length out)) out out
+      pub wrong-type : v ≡ admitted.WrongType → RunMeans (runs.Refused ValueType) (calledOf back xs types terms functions g anc bytes fuel (length out)) out out
       wrong-type e = not-called ValueType (gave e) refl refl (omega arith)
 
       reached : v ≡ admitted.Given
-          → forwardOf xs types terms functions g anc bytes fuel (length out) ≡ finished (length out) (goes (programIn xs types terms functions) fuel (givenIn xs types terms functions g anc bytes))
+          → calledOf back xs types terms functions g anc bytes fuel (length out) ≡ finished (length out) (runOf back (programIn xs types terms functions) fuel (givenIn xs types terms functions g anc bytes))
       unfolding called
       reached y = via _ (gave y) refl
 
       -- what the run gave is the answer
-      pub ran-as : v ≡ admitted.Given → {e : Ended} {r : RunAnswer} {out′ : List ℕ} → Goes e xs terms functions g anc bytes fuel out out′ → r ≡ endedFrom e
-          → RunMeans r (forwardOf xs types terms functions g anc bytes fuel (length out)) out out′
+      pub ran-as : v ≡ admitted.Given → {e : Ended} {r : RunAnswer} {out′ : List ℕ} → EndMeans back e xs terms functions g anc bytes fuel out out′ → r ≡ endedFrom e
+          → RunMeans r (calledOf back xs types terms functions g anc bytes fuel (length out)) out out′
       ran-as y {e} {r} {out′} G q = record {
         answer = ap runAnswer q ∙ end-is e ∙ G .means types .answer ∙ ap summary (sym (reached y));
         later = subst (λ r. Later (runAnswer r)) (sym q) (end-later e);
@@ -124,56 +125,78 @@ module _ {xs types terms functions : List ℕ} {v : Prepared} (M : PrepareMeans 
   pub fronts : {c : Counts} → v ≡ Ready c → Fronts c xs types terms functions
   fronts e = given (subst (λ v. Begins v xs types terms functions) e (M .begins)) λ (w, a). record { within = w; buffers = M .buffers; accepts = a }
 
-  module _ (g : ℕ) (anc bytes : List ℕ) (fuel : ℕ) {out out′ : List ℕ} where
+  module _ (back : Bool) (g : ℕ) (anc bytes : List ℕ) (fuel : ℕ) {out out′ : List ℕ} where
     pub prepared-run : {c : Counts} → v ≡ Ready c → {r : RunAnswer}
-        → RunMeans r (frontsRun c xs types terms functions g anc bytes fuel (length out)) out out′
-        → RunMeans r (ofProgram xs g anc bytes fuel (length out)) out out′
+        → RunMeans r (frontsRun c back xs types terms functions g anc bytes fuel (length out)) out out′
+        → RunMeans r (ofProgram back xs g anc bytes fuel (length out)) out out′
     unfolding _>>=_
     prepared-run e {r} R = subst (λ x. RunMeans r x out out′) (sym (via _ (M .answer ∙ ap (λ v. preparedOf v xs types terms functions) e) refl)) R
 
-  pub prepared-refused : (g : ℕ) (anc bytes : List ℕ) (fuel : ℕ) (out : List ℕ) {r : Refusal} → v ≡ Refused r
-      → RunMeans (runs.Refused r) (ofProgram xs g anc bytes fuel (length out)) out out
+  pub prepared-refused : (back : Bool) (g : ℕ) (anc bytes : List ℕ) (fuel : ℕ) (out : List ℕ) {r : Refusal} → v ≡ Refused r
+      → RunMeans (runs.Refused r) (ofProgram back xs g anc bytes fuel (length out)) out out
   unfolding _>>=_
-  prepared-refused g anc bytes fuel out {r} e =
-      refused-as r out (ap (λ a. a >>= λ P. called (λ h. h .dynamic) goes P g anc bytes fuel (length out)) (M .answer ∙ ap (λ v. preparedOf v xs types terms functions) e)) refl refl
+  prepared-refused back g anc bytes fuel out {r} e =
+      refused-as r out (ap (λ a. a >>= λ P. called back P g anc bytes fuel (length out)) (M .answer ∙ ap (λ v. preparedOf v xs types terms functions) e)) refl refl
       (subst (λ v. Begins v xs types terms functions) e (M .begins))
+
+----------------------------------------------------------------
+-- The run in a direction
+
+module _ {back : Bool} {xs terms functions : List ℕ} {g : ℕ} {anc bytes : List ℕ} {fuel : ℕ} where
+  pub allowed-back : {heap : List ℕ} → Allowed (sideOf back) xs terms functions heap g anc bytes fuel → back ≡ true → Returnable xs terms functions heap g anc bytes fuel
+  allowed-back {heap} A e = subst (λ b. Allowed (sideOf b) xs terms functions heap g anc bytes fuel) e A
+
+  pub allowed-ahead : {heap : List ℕ} → Allowed (sideOf back) xs terms functions heap g anc bytes fuel → back ≡ false → Runnable xs terms functions heap g anc bytes fuel
+  allowed-ahead {heap} A e = subst (λ b. Allowed (sideOf b) xs terms functions heap g anc bytes fuel) e A
+
+  module _ {r : Ended} {out out′ : List ℕ} where
+    pub ends-back : back ≡ true → Returns r xs terms functions g anc bytes fuel out out′ → EndMeans back r xs terms functions g anc bytes fuel out out′
+    unfolding runOf
+    ends-back e R = rw e (record { means = R .means })
+
+    pub ends-ahead : back ≡ false → Goes r xs terms functions g anc bytes fuel out out′ → EndMeans back r xs terms functions g anc bytes fuel out out′
+    unfolding runOf
+    ends-ahead e G = rw e (record { means = G .means })
 
 ----------------------------------------------------------------
 -- The call
 
 module _ (xs : List ℕ) (g : ℕ) (anc bytes : List ℕ) (fuel : ℕ) (ws out : List ℕ) where
-  abbrev whole : Answer Ran
-  whole = forwardCall (length ws) (length out) fuel g xs anc bytes
+  -- after the workspace test comes the program
+  whole : (back : Bool) → runCall back (length ws) (length out) fuel g xs anc bytes ≡ (prepared (length ws) fuel xs >>= λ P. called back P g anc bytes fuel (length out))
+  unfolding runCall forwardCall backwardCall called finished runOf
+  whole true = refl
+  whole false = refl
 
-  whole-enough : leb (workspaceFor fuel) (length ws) ≡ true → whole ≡ ofProgram xs g anc bytes fuel (length out)
-  unfolding forwardCall called finished
-  whole-enough e = ap (λ a. a >>= λ P. called (λ h. h .dynamic) goes P g anc bytes fuel (length out)) (prepared-enough fuel (length ws) xs e)
+module _ (back : Bool) (xs : List ℕ) (g : ℕ) (anc bytes : List ℕ) (fuel : ℕ) (ws out : List ℕ) where
+  abbrev answer : Answer Ran
+  answer = runCall back (length ws) (length out) fuel g xs anc bytes
 
-  pub whole-short : leb (workspaceFor fuel) (length ws) ≡ false → forwardCall (length ws) (length out) fuel g xs anc bytes ≡ refused 1 0
-  unfolding forwardCall called finished _>>=_
-  whole-short e = ap (λ a. a >>= λ P. called (λ h. h .dynamic) goes P g anc bytes fuel (length out)) (prepared-short fuel (length ws) xs e)
+  whole-enough : leb (workspaceFor fuel) (length ws) ≡ true → answer ≡ ofProgram back xs g anc bytes fuel (length out)
+  whole-enough e = whole xs g anc bytes fuel ws out back ∙ ap (λ a. a >>= λ P. called back P g anc bytes fuel (length out)) (prepared-enough fuel (length ws) xs e)
 
-  module _ (e : leb (workspaceFor fuel) (length ws) ≡ true) {r : RunAnswer} {out′ : List ℕ} (R : RunMeans r (ofProgram xs g anc bytes fuel (length out)) out out′) where
-    pub forward-answer : runAnswer r ≡ summary (forwardCall (length ws) (length out) fuel g xs anc bytes)
-    forward-answer = R .answer ∙ ap summary (sym (whole-enough e))
+  whole-short : leb (workspaceFor fuel) (length ws) ≡ false → answer ≡ refused 1 0
+  unfolding _>>=_
+  whole-short e = whole xs g anc bytes fuel ws out back ∙ ap (λ a. a >>= λ P. called back P g anc bytes fuel (length out)) (prepared-short fuel (length ws) xs e)
 
-    pub forward-fills : out′ ≡ written (forwardCall (length ws) (length out) fuel g xs anc bytes) out
-    forward-fills = R .output ∙ ap (λ x. written x out) (sym (whole-enough e))
+  pub call-means : leb (workspaceFor fuel) (length ws) ≡ true → {r : RunAnswer} {out′ ws′ : List ℕ} → RunMeans r (ofProgram back xs g anc bytes fuel (length out)) out out′
+      → ws′ ≡ replicate (length ws) 0 → CallMeans r (runCall back (length ws) (length out) fuel g xs anc bytes) out out′ ws ws′
+  call-means e {r} R w = record {
+    answer = same;
+    fills = R .output ∙ ap (λ x. written x out) (sym (whole-enough e));
+    clear = w ∙ sym (cleared-run r answer ws same (R .later));
+  }
+    where
+      same : runAnswer r ≡ summary answer
+      same = R .answer ∙ ap summary (sym (whole-enough e))
 
-    pub forward-clears : replicate (length ws) 0 ≡ cleared (forwardCall (length ws) (length out) fuel g xs anc bytes) ws
-    forward-clears = sym (cleared-run r whole ws forward-answer (R .later))
-
-  module _ (e : leb (workspaceFor fuel) (length ws) ≡ false) where
-    pub short-answer : refused 1 0 ≡ summary (forwardCall (length ws) (length out) fuel g xs anc bytes)
-    short-answer = ap summary (sym (whole-short e))
-
-    pub short-fills : out ≡ written (forwardCall (length ws) (length out) fuel g xs anc bytes) out
-    unfolding written
-    short-fills = ap (λ x. written x out) (sym (whole-short e))
-
-    pub short-keeps : ws ≡ cleared (forwardCall (length ws) (length out) fuel g xs anc bytes) ws
-    unfolding cleared
-    short-keeps = ap (λ x. cleared x ws) (sym (whole-short e))
+  pub call-short : leb (workspaceFor fuel) (length ws) ≡ false → CallMeans (runs.Refused Workspace) (runCall back (length ws) (length out) fuel g xs anc bytes) out out ws ws
+  unfolding written cleared
+  call-short e = record {
+    answer = ap summary (sym (whole-short e));
+    fills = ap (λ x. written x out) (sym (whole-short e));
+    clear = ap (λ x. cleared x ws) (sym (whole-short e));
+  }
 
 pub enough-le : (fuel n : ℕ) → leb (workspaceFor fuel) n ≡ true → workspaceFor fuel ≤ n
 enough-le fuel n e = leb-sound (workspaceFor fuel) n e

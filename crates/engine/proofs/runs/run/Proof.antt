@@ -1,7 +1,7 @@
-use Rattle.engine.proofs.Rows.{askable, runnable, no-function, bad-values, wrong-type, ran-as}
+use Rattle.engine.proofs.Rows.{askable, allowed, no-function, bad-values, wrong-type, ran-as}
 use borrow.Author.Needs.{needs}
-use Rattle.engine.proofs.forwards.run.Statement.{statement}
-use Rattle.engine.proofs.forwards.run.Tie as tie
+use Rattle.engine.proofs.runs.run.Statement.{statement}
+use Rattle.engine.proofs.runs.run.Tie as tie
 
 admit-requires : tie.Need-admit-requires
 admit-requires c κs = askable (c .before .before .before .before .before .before .before .before .pre .0)
@@ -9,8 +9,8 @@ admit-requires c κs = askable (c .before .before .before .before .before .befor
 enum-told : tie.Need-enum-told
 enum-told c = search needs
 
-run-requires : tie.Need-run-requires
-run-requires c κs = runnable (c .before .before .before .before .before .before .before .before .before .before .before .before .before .pre .0) (c .before .before .before .before .admit .ensures) (c .before .before .enum-told .given .1) (c .before .before .before .before .before .before .before .before .before .before .before .before .before .pre .1)
+run-function-requires : tie.Need-run-function-requires
+run-function-requires c κs = allowed (c .before .before .before .before .before .before .before .before .before .before .before .before .before .pre .0) (c .before .before .before .before .admit .ensures) (c .before .before .enum-told .given .1) (c .before .before .before .before .before .before .before .before .before .before .before .before .before .pre .1)
 
 from-ended-requires : tie.Need-from-ended-requires
 from-ended-requires c κs = search needs
@@ -31,7 +31,7 @@ same-length-2 : tie.Need-same-length-2
 same-length-2 c = search needs
 
 returns : tie.Need-returns
-returns c = ran-as (c .before .before .before .before .before .before .before .before .before .before .before .before .before .before .before .before .before .before .before .pre .0) (c .before .before .before .before .before .before .before .before .before .before .admit .ensures) _ _ (c .before .before .before .before .before .before .before .before .enum-told .given .1) (c .before .before .before .before .before .run .ensures) (c .from-ended .ensures)
+returns c = ran-as (c .before .before .before .before .before .before .before .before .before .before .before .before .before .before .before .before .before .before .before .pre .0) (c .before .before .before .before .before .before .before .before .before .before .admit .ensures) _ _ (c .before .before .before .before .before .before .before .before .enum-told .given .1) (c .before .before .before .before .before .run-function .ensures) (c .from-ended .ensures)
 
 returns-2 : tie.Need-returns-2
 returns-2 c = no-function (c .before .before .before .before .before .before .before .before .before .before .before .pre .0) (c .before .before .admit .ensures) _ _ (c .enum-told2 .given .1)
@@ -48,7 +48,7 @@ run-spec =
     (tie.spec
     admit-requires
     enum-told
-    run-requires
+    run-function-requires
     from-ended-requires
     enum-told-2
     enum-told-3

@@ -3,8 +3,8 @@ use Rattle.rules.specs.Limits.{maxTypes, maxTerms, maxFunctions}
 use Rattle.engine.proofs.Beginning.{enough-types}
 use Rattle.engine.proofs.Rows.{fronts, prepared-run, prepared-refused, kept-enough}
 use borrow.Author.Needs.{needs}
-use Rattle.engine.proofs.forwards.run_program.Statement.{statement}
-use Rattle.engine.proofs.forwards.run_program.Tie as tie
+use Rattle.engine.proofs.runs.run_program.Statement.{statement}
+use Rattle.engine.proofs.runs.run_program.Tie as tie
 
 slice-aggregate-prepare : tie.Need-slice-aggregate-prepare
 slice-aggregate-prepare c = search needs
@@ -44,13 +44,13 @@ same-length-2 : tie.Need-same-length-2
 same-length-2 c = search needs
 
 returns : tie.Need-returns
-returns c = prepared-run (c .before .before .before .before .before .before .before .before .before .before .before .before .before .before .before .before .before .before .prepare .ensures) _ _ _ _ (c .before .before .before .before .before .before .before .before .before .before .before .prepared .given .1) (c .before .before .before .before .run-fronts .ensures)
+returns c = prepared-run (c .before .before .before .before .before .before .before .before .before .before .before .before .before .before .before .before .before .before .prepare .ensures) _ _ _ _ _ (c .before .before .before .before .before .before .before .before .before .before .before .prepared .given .1) (c .before .before .before .before .run-fronts .ensures)
 
 same-length-3 : tie.Need-same-length-3
 same-length-3 c = search needs
 
 returns-2 : tie.Need-returns-2
-returns-2 c = prepared-refused (c .before .before .before .before .before .before .before .before .prepare .ensures) _ _ _ _ _ (c .before .prepared2 .given .1)
+returns-2 c = prepared-refused (c .before .before .before .before .before .before .before .before .prepare .ensures) _ _ _ _ _ _ (c .before .prepared2 .given .1)
 
 pub run-program-spec : {M : Type 1} → statement M
 run-program-spec =
