@@ -1,0 +1,3 @@
+-- Laws of the exported calls.
+-- the four numbers of a refusal
+pub mod Numbers

@@ -1,0 +1,3 @@
+-- What the exported calls tell. The modules in reading order:
+-- answers as four numbers
+pub mod Told

@@ -1,0 +1,78 @@
+// The public calls for C and for Rust, as a static library (`rt staticlib exports`): a slice is a pointer and a length. What a call
+// answers is told in four numbers: the refusal's number, or 0 where it is accepted; its place; the value's length; the steps.
+use engine::answers::CheckAnswer;
+use engine::answers::RunAnswer;
+ghost use mathlib.Core.Path.{_≡_};
+ghost use lib.ListN.{length};
+ghost use Rattle.calls.specs.Answer.{cleared};
+ghost use Rattle.calls.specs.Runs.{checkCall, forwardCall, backwardCall, written};
+ghost use Rattle.engine.specs.Answers.{checkAnswer, runAnswer, summary};
+ghost use Rattle.exports.specs.Told.{checkTold, runTold};
+
+fn check_told(answer: CheckAnswer) -> [u64; 4]
+    ensures { λ r. ⌜ r ≡ checkTold (checkAnswer answer) ⌝ }
+{
+    match answer {
+        CheckAnswer::Accepted => [0, 0, 0, 0],
+        CheckAnswer::Refused(r) => [wording::number(r), wording::place(r), 0, 0],
+    }
+}
+
+fn run_told(answer: RunAnswer) -> [u64; 4]
+    ensures { λ r. ⌜ r ≡ runTold (runAnswer answer) ⌝ }
+{
+    match answer {
+        RunAnswer::Ran(d) => [0, 0, d.len as u64, d.steps as u64],
+        RunAnswer::Refused(r) => [wording::number(r), wording::place(r), 0, 0],
+    }
+}
+
+// Is the program accepted?
+#[no_mangle]
+pub extern "C" fn corefun_check(program: &[u8], workspace: &mut [u8], told: &mut [u64; 4])
+    ensures answer { λ _. ⌜ now (told .exit) ≡ checkTold (checkCall (length (now (workspace .entry))) (now (program .entry))) ⌝ }
+    ensures clear { λ _. ⌜ now (workspace .exit) ≡ cleared (checkCall (length (now (workspace .entry))) (now (program .entry))) (now (workspace .entry)) ⌝ }
+{
+    let answer = engine::check(program, workspace);
+    *told = check_told(answer);
+}
+
+// Runs a function forward.
+#[no_mangle]
+pub extern "C" fn corefun_forward(
+    program: &[u8],
+    function: u16,
+    ancillae: &[u8],
+    value: &[u8],
+    fuel: u16,
+    workspace: &mut [u8],
+    output: &mut [u8],
+    told: &mut [u64; 4],
+)
+    ensures answer { λ _. ⌜ now (told .exit) ≡ runTold (summary (forwardCall (length (now (workspace .entry))) (length (now (output .entry))) fuel function (now (program .entry)) (now (ancillae .entry)) (now (value .entry)))) ⌝ }
+    ensures fills { λ _. ⌜ now (output .exit) ≡ written (forwardCall (length (now (workspace .entry))) (length (now (output .entry))) fuel function (now (program .entry)) (now (ancillae .entry)) (now (value .entry))) (now (output .entry)) ⌝ }
+    ensures clear { λ _. ⌜ now (workspace .exit) ≡ cleared (forwardCall (length (now (workspace .entry))) (length (now (output .entry))) fuel function (now (program .entry)) (now (ancillae .entry)) (now (value .entry))) (now (workspace .entry)) ⌝ }
+{
+    let answer = engine::forward(program, function, ancillae, value, fuel, workspace, output);
+    *told = run_told(answer);
+}
+
+// Runs a function backward.
+#[no_mangle]
+pub extern "C" fn corefun_backward(
+    program: &[u8],
+    function: u16,
+    ancillae: &[u8],
+    value: &[u8],
+    fuel: u16,
+    workspace: &mut [u8],
+    output: &mut [u8],
+    told: &mut [u64; 4],
+)
+    ensures answer { λ _. ⌜ now (told .exit) ≡ runTold (summary (backwardCall (length (now (workspace .entry))) (length (now (output .entry))) fuel function (now (program .entry)) (now (ancillae .entry)) (now (value .entry)))) ⌝ }
+    ensures fills { λ _. ⌜ now (output .exit) ≡ written (backwardCall (length (now (workspace .entry))) (length (now (output .entry))) fuel function (now (program .entry)) (now (ancillae .entry)) (now (value .entry))) (now (output .entry)) ⌝ }
+    ensures clear { λ _. ⌜ now (workspace .exit) ≡ cleared (backwardCall (length (now (workspace .entry))) (length (now (output .entry))) fuel function (now (program .entry)) (now (ancillae .entry)) (now (value .entry))) (now (workspace .entry)) ⌝ }
+{
+    let answer = engine::backward(program, function, ancillae, value, fuel, workspace, output);
+    *told = run_told(answer);
+}

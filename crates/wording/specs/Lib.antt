@@ -1,0 +1,3 @@
+-- Refusals in words. The modules in reading order:
+-- what each refusal means
+pub mod Meanings
