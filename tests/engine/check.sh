@@ -1,0 +1,37 @@
+#!/usr/bin/env bash
+# Links the engine as a static library and holds it to the second evaluator: on the calls of tests/calls, on fresh random
+# calls, in time (printed, not judged) and in stack. The last line is 'N passed, M failed'; the exit status is 0 only if M is 0.
+set -euo pipefail
+cd "$(dirname "$0")"
+
+random_calls=100000
+seed=$(date +%s)
+passed=0
+failed=0
+
+# part NAME COMMAND..
+part() {
+    local name=$1
+    shift
+    if "$@"; then
+        passed=$((passed + 1))
+        echo "$name: ok"
+    else
+        failed=$((failed + 1))
+        echo "$name: FAILED"
+    fi
+}
+
+calls() {
+    target/release/harness lines < ../calls/calls.txt
+}
+
+part "static library" rt staticlib exports
+part "harness" cargo build --quiet --release --offline
+part "the calls of tests/calls" calls
+part "random calls, seed $seed" target/release/harness random "$seed" "$random_calls"
+part "time beside the second evaluator" target/release/harness bench
+part "stack of the deepest calls" target/release/harness stack
+
+echo "$passed passed, $failed failed"
+[ "$failed" -eq 0 ]

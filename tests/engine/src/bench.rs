@@ -1,0 +1,85 @@
+//! Both evaluators in one run. A step's time is what a call with just enough fuel takes beyond the same call with none,
+//! which does all but the run; so it has its share of the workspace's clearing and of the value's bytes. The shortest of
+//! several timings stands for each.
+
+use crate::engine;
+use second::bench::{best_of, largest_program, run_samples, Sample};
+use second::calls::{answer, Answer, Call, Direction, RunCall};
+use second::limits::{workspace, FUEL, VALUE_BYTES};
+use second::samples::library;
+use std::hint::black_box;
+
+const TIMES: usize = 200;
+
+pub fn bench() -> Result<(), String> {
+    let program = library().bytes();
+    for sample in run_samples() {
+        let forward = run_call(&program, &sample, Direction::Forward, &sample.value)?;
+        let Answer::Value { value, .. } = answer(&Call::Run(forward.clone())) else { unreachable!() };
+        let backward = run_call(&program, &sample, Direction::Backward, &value)?;
+        bench_run(&format!("forward, {}", sample.name), &forward);
+        bench_run(&format!("backward, {}", sample.name), &backward);
+    }
+    bench_check();
+    Ok(())
+}
+
+/// The call with just the fuel that it needs.
+fn run_call(program: &[u8], sample: &Sample, direction: Direction, value: &[u8]) -> Result<RunCall, String> {
+    let call = RunCall {
+        direction,
+        workspace: workspace(FUEL),
+        output: VALUE_BYTES,
+        fuel: FUEL,
+        function: sample.function,
+        program: program.to_vec(),
+        ancillae: sample.ancillae.clone(),
+        value: value.to_vec(),
+    };
+    match answer(&Call::Run(call.clone())) {
+        Answer::Value { steps, .. } => Ok(with_fuel(call, steps as u16)),
+        other => Err(format!("{} does not run: {other:?}", sample.name)),
+    }
+}
+
+fn with_fuel(call: RunCall, fuel: u16) -> RunCall {
+    RunCall { workspace: workspace(fuel), fuel, ..call }
+}
+
+fn bench_run(name: &str, call: &RunCall) {
+    let none = with_fuel(call.clone(), 0);
+    let steps = f64::from(call.fuel);
+    let engine = (engine_time(call), engine_time(&none));
+    let second = (second_time(call), second_time(&none));
+    let step = |(whole, rest): (f64, f64)| (whole - rest) / steps;
+    println!(
+        "{name}: {steps} steps, {}; the whole call {}",
+        beside(step(engine), step(second), "ns a step"),
+        beside(engine.0 / 1000.0, second.0 / 1000.0, "us")
+    );
+}
+
+fn bench_check() {
+    let (program, terms) = largest_program();
+    let mut space = vec![0; workspace(0)];
+    let engine = best_of(TIMES, || black_box(engine::check(black_box(&program), &mut space))[0] == 0);
+    let call = Call::Check { workspace: workspace(0), program };
+    let second = best_of(TIMES, || matches!(black_box(answer(black_box(&call))), Answer::Accepted));
+    let term = |time: f64| time / terms as f64;
+    println!("check of {terms} terms: {}", beside(term(engine), term(second), "ns a term"));
+}
+
+fn engine_time(call: &RunCall) -> f64 {
+    let mut space = vec![0; call.workspace];
+    let mut output = vec![0; call.output];
+    best_of(TIMES, || black_box(engine::run(black_box(call), &mut space, &mut output))[1] != u64::MAX)
+}
+
+fn second_time(call: &RunCall) -> f64 {
+    let call = Call::Run(call.clone());
+    best_of(TIMES, || !matches!(black_box(answer(black_box(&call))), Answer::Accepted))
+}
+
+fn beside(engine: f64, second: f64, unit: &str) -> String {
+    format!("engine {engine:.1}, second {second:.1} {unit}, ratio {:.2}", engine / second)
+}

@@ -1,0 +1,50 @@
+//! The engine, linked as a static library, held to the second evaluator: answers, bytes, time and stack.
+
+mod bench;
+mod compare;
+mod engine;
+mod stack;
+
+use compare::Tally;
+use std::process::ExitCode;
+
+const USAGE: &str = "\
+usage: harness lines < CALLS         both answer each check, forward and backward call, and are compared
+       harness random SEED COUNT     the same on COUNT random calls
+       harness bench                 ns a step forward and backward, ns a term for check, as ratios
+       harness stack                 the stack that the deepest calls need";
+
+fn main() -> ExitCode {
+    let words: Vec<String> = std::env::args().skip(1).collect();
+    let words: Vec<&str> = words.iter().map(String::as_str).collect();
+    let done = match words[..] {
+        ["lines"] => compare::compare_lines(std::io::stdin().lock()).and_then(report),
+        ["random", seed, count] => {
+            number(seed).and_then(|seed| report(compare::compare_random(seed, number(count)? as usize)))
+        }
+        ["bench"] => bench::bench(),
+        ["stack"] => stack::report(),
+        ["deep", group, kilobytes] => number(group).and_then(|group| stack::deep(group, number(kilobytes)?)),
+        _ => Err(USAGE.to_string()),
+    };
+    match done {
+        Ok(()) => ExitCode::SUCCESS,
+        Err(message) => {
+            eprintln!("{message}");
+            ExitCode::FAILURE
+        }
+    }
+}
+
+fn number(word: &str) -> Result<u64, String> {
+    word.parse().map_err(|_| format!("not a number: {word:?}\n{USAGE}"))
+}
+
+fn report(tally: Tally) -> Result<(), String> {
+    println!("{} calls compared, {} differ", tally.compared, tally.different);
+    match tally {
+        Tally { compared: 0, .. } => Err("no call was compared".to_string()),
+        Tally { different: 0, .. } => Ok(()),
+        _ => Err("the engine and the second evaluator differ".to_string()),
+    }
+}

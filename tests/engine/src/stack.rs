@@ -1,0 +1,110 @@
+//! The stack that the deepest calls need: the smallest thread in which they end, found by halving. Each try is a process
+//! of its own, since a stack that is too small ends it.
+
+use crate::engine;
+use second::bench::largest_program;
+use second::calls::{Call, Direction, RunCall};
+use second::cases::cases;
+use second::draft::{case, inl, nat, roll, sum, unfold, unit_type, variable, Draft, Function, Term};
+use second::limits::{workspace, FUEL, VALUE_BYTES};
+use second::samples::{library, nat_bytes, successor};
+
+/// What the harness's own threads get, in bytes.
+pub const ROOM: usize = 64 << 20;
+
+const MOST_KILOBYTES: u64 = 32 << 10;
+
+/// What the deepest call may take.
+const LIMIT_KILOBYTES: u64 = 4 << 10;
+
+/// Stack is found to so many kilobytes.
+const EXACT_TO: u64 = 16;
+
+const GROUPS: [&str; 3] = ["check", "forward", "backward"];
+
+pub fn report() -> Result<(), String> {
+    for (group, name) in GROUPS.iter().enumerate() {
+        let calls = deepest(group).len();
+        let (mut short, mut enough) = (0, MOST_KILOBYTES);
+        if !ends(group, enough) {
+            return Err(format!("{name}: not answered in {enough} KB of stack"));
+        }
+        while enough - short > EXACT_TO {
+            let middle = (short + enough) / 2;
+            if ends(group, middle) {
+                enough = middle;
+            } else {
+                short = middle;
+            }
+        }
+        println!("{name}: {calls} calls, among them the deepest, in {enough} KB of stack");
+        if enough > LIMIT_KILOBYTES {
+            return Err(format!("{name}: more than {LIMIT_KILOBYTES} KB of stack"));
+        }
+    }
+    Ok(())
+}
+
+/// Do the calls of a group end in a stack of that size?
+fn ends(group: usize, kilobytes: u64) -> bool {
+    let harness = std::env::current_exe().expect("the harness has a path");
+    let words = ["deep".to_string(), group.to_string(), kilobytes.to_string()];
+    std::process::Command::new(harness).args(words).output().is_ok_and(|ended| ended.status.success())
+}
+
+/// Answers the calls of a group in a thread of that size.
+pub fn deep(group: u64, kilobytes: u64) -> Result<(), String> {
+    let calls = deepest(group as usize);
+    let thread = std::thread::Builder::new().stack_size((kilobytes << 10) as usize);
+    let work = move || calls.iter().all(|call| engine::answer(call).is_some());
+    let answered = thread.spawn(work).map_err(|error| error.to_string())?.join();
+    if answered.unwrap_or(false) {
+        Ok(())
+    } else {
+        Err("not answered".to_string())
+    }
+}
+
+/// The calls of a group that reach the limits of height, of terms and of a value's bytes.
+fn deepest(group: usize) -> Vec<Call> {
+    let mut calls = cases();
+    calls.push(Call::Check { workspace: workspace(0), program: largest_program().0 });
+    let library = library().bytes();
+    let tested = long_left_branch();
+    for direction in [Direction::Forward, Direction::Backward] {
+        calls.extend([255, 256].map(|n| run(&library, direction, &nat_bytes(0), nat_bytes(n))));
+    }
+    calls.push(run(&tested, Direction::Forward, &[], [&[2], &nat_bytes(501)[..]].concat()));
+    calls.push(run(&tested, Direction::Backward, &[], nat_bytes(501)));
+    calls.retain(|call| match call {
+        Call::Check { .. } => group == 0,
+        Call::Run(call) => group == if call.direction == Direction::Forward { 1 } else { 2 },
+        _ => false,
+    });
+    calls
+}
+
+fn run(program: &[u8], direction: Direction, ancillae: &[u8], value: Vec<u8>) -> Call {
+    Call::Run(RunCall {
+        direction,
+        workspace: workspace(FUEL),
+        output: VALUE_BYTES,
+        fuel: FUEL,
+        function: 0,
+        program: program.to_vec(),
+        ancillae: ancillae.to_vec(),
+        value,
+    })
+}
+
+/// A case whose left branch is 500 constructors deep, so that first match looks as deep into a value.
+fn long_left_branch() -> Vec<u8> {
+    let zero = roll(&nat(), inl(&unfold(&nat()), Term::Unit));
+    let left = (0..500).fold(zero, |term, _| successor(term));
+    let function = Function {
+        parameters: vec![sum(&unit_type(), &nat())],
+        result: nat(),
+        body: case(variable(0), left, variable(1)),
+    };
+    Draft { functions: vec![function] }.bytes()
+}
