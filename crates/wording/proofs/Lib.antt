@@ -1,1 +1,3 @@
 -- Laws of refusals in words.
+-- every meaning is short
+pub mod Short

@@ -1,4 +1,8 @@
-// A refusal in numbers and in words (document 01, section 4).
+// A refusal in numbers and in words, and answers as text (document 01, section 4).
+
+// answers as text
+pub mod replies;
+
 use engine::answers::Refusal;
 use lines::answers;
 ghost use mathlib.Core.Path.{_≡_};

@@ -1,0 +1,37 @@
+use native.Mathlib.Omega.{arith}
+use Rattle.lines.proofs.Writing.{wrote-both}
+use Rattle.wording.specs.Replies.{refusalText}
+use Rattle.wording.proofs.Short.{meaning-short}
+use borrow.Author.Needs.{needs}
+use Rattle.wording.proofs.replies.refusal_text.Statement.{statement}
+use Rattle.wording.proofs.replies.refusal_text.Tie as tie
+
+put-where-requires : tie.Need-put-where-requires
+put-where-requires c κs = search needs
+
+put-meaning-requires : tie.Need-put-meaning-requires
+put-meaning-requires c κs = omega (arith, c .before .before .before .put-where .ensures .1, c .before .before .before .put-where .ensures .0 .kept, c .before .before .before .before .before .before .pre)
+
+slice-aggregate-put : tie.Need-slice-aggregate-put
+slice-aggregate-put c = search needs
+
+put-requires : tie.Need-put-requires
+put-requires c κs = omega (arith, c .before .before .before .before .before .before .before .before .put-where .ensures .1, c .before .before .before .before .before .before .before .before .put-where .ensures .0 .kept, c .before .before .before .before .put-meaning .ensures .ends, c .before .before .before .before .put-meaning .ensures .kept, meaning-short (c .before .before .before .before .before .before .before .before .before .before .before .args .r), c .before .before .before .before .before .before .before .before .before .before .before .pre)
+
+same-length : tie.Need-same-length
+same-length c = let w = wrote-both (wrote-both (c .before .before .before .before .before .before .before .before .before .before .before .put-where .ensures .0) (c .before .before .before .before .before .before .before .put-meaning .ensures)) (c .before .before .put .ensures) in w .kept
+
+returns : tie.Need-returns
+unfolding refusalText
+returns c = wrote-both (wrote-both (c .before .before .before .before .before .before .before .before .before .before .before .put-where .ensures .0) (c .before .before .before .before .before .before .before .put-meaning .ensures)) (c .before .before .put .ensures)
+
+pub refusal-text-spec : {M : Type 1} → statement M
+refusal-text-spec =
+    tie.close
+    (tie.spec
+    put-where-requires
+    put-meaning-requires
+    slice-aggregate-put
+    put-requires
+    same-length
+    returns)

@@ -1,0 +1,79 @@
+// Answers as text: a line of calls and answers each (crate lines), and a refusal with its meaning.
+use engine::answers::CheckAnswer;
+use engine::answers::Done;
+use engine::answers::Refusal;
+use engine::answers::RunAnswer;
+use lines::answers;
+use lines::decimal;
+ghost use Prim.Native.Nat.{_+_, _*_, _≤_};
+ghost use lib.ListN.{length, take};
+ghost use Rattle.engine.specs.Answers.{numberOf, placeOf, checkAnswer, runAnswer};
+ghost use Rattle.lines.specs.Wrote.{Wrote};
+ghost use Rattle.lines.specs.Answers.{valueLine, refusedLine};
+ghost use Rattle.wording.specs.Replies.{checkText, runText, lengthOf, whereText, refusalText};
+
+// The line of a refusal.
+fn refusal_line(r: Refusal, out: &mut [u8]) -> usize
+    requires { ⌜ 64 ≤ length (now out) ⌝ }
+    ensures { λ end. ⌜ Wrote (now (out .entry)) (now (out .exit)) 0 end (refusedLine (numberOf r) (placeOf r)) ⌝ }
+{
+    let number = crate::number(r);
+    let place = crate::place(r);
+    answers::refused_line(number, place, out)
+}
+
+// The line of a run that was done, whose value the output starts with.
+fn done_line(d: Done, output: &[u8], out: &mut [u8]) -> usize
+    requires { ⌜ d .len ≤ length (now output) ⌝ }
+    requires { ⌜ 2 * length (now output) + 32 ≤ length (now out) ⌝ }
+    ensures { λ end. ⌜ Wrote (now (out .entry)) (now (out .exit)) 0 end (valueLine (take (d .len) (now (output .entry))) (d .steps)) ⌝ }
+{
+    let n = octets::wide_index(d.len);
+    let steps = d.steps as u64;
+    answers::value_line(&output[..n], steps, out)
+}
+
+// The line that answers a check.
+pub fn check_line(answer: CheckAnswer, out: &mut [u8]) -> usize
+    requires { ⌜ 64 ≤ length (now out) ⌝ }
+    ensures { λ end. ⌜ Wrote (now (out .entry)) (now (out .exit)) 0 end (checkText (checkAnswer answer)) ⌝ }
+{
+    match answer {
+        CheckAnswer::Accepted => answers::put(b"ok\n", out, 0),
+        CheckAnswer::Refused(r) => refusal_line(r, out),
+    }
+}
+
+// The line that answers a run, whose value the output starts with.
+pub fn run_line(answer: RunAnswer, output: &[u8], out: &mut [u8]) -> usize
+    requires { ⌜ lengthOf answer ≤ length (now output) ⌝ }
+    requires { ⌜ (2 * length (now output) + 32 ≤ length (now out)) × (64 ≤ length (now out)) ⌝ }
+    ensures { λ end. ⌜ Wrote (now (out .entry)) (now (out .exit)) 0 end (runText (runAnswer answer) (now (output .entry))) ⌝ }
+{
+    match answer {
+        RunAnswer::Ran(d) => done_line(d, output, out),
+        RunAnswer::Refused(r) => refusal_line(r, out),
+    }
+}
+
+// The number and the place of a refusal, in front of its meaning.
+fn put_where(r: Refusal, out: &mut [u8]) -> usize
+    requires { ⌜ 64 ≤ length (now out) ⌝ }
+    ensures { λ end. ⌜ Wrote (now (out .entry)) (now (out .exit)) 0 end (whereText (numberOf r) (placeOf r)) × (end ≤ 54) ⌝ }
+{
+    let named = answers::put(b"refused ", out, 0);
+    let numbered = decimal::put_number(crate::number(r), out, named);
+    let behind = answers::put(b" at ", out, numbered);
+    let placed = decimal::put_number(crate::place(r), out, behind);
+    answers::put(b": ", out, placed)
+}
+
+// A refusal: its number, its place and its meaning.
+pub fn refusal_text(r: Refusal, out: &mut [u8]) -> usize
+    requires { ⌜ 256 ≤ length (now out) ⌝ }
+    ensures { λ end. ⌜ Wrote (now (out .entry)) (now (out .exit)) 0 end (refusalText r) ⌝ }
+{
+    let told = put_where(r, out);
+    let meant = crate::put_meaning(r, out, told);
+    answers::put(b"\n", out, meant)
+}
