@@ -1,81 +1,17 @@
--- What the rows Call, Run and Output answer (section 4), against calls/specs/Runs.
+-- The calls forward and backward as one, and what they answer (section 4), against calls/specs/Runs.
 use Prim.Native.Nat.{ℕ}
 use mathlib.Core.Path.{_≡_}
 use mathlib.Core.Bool.{Bool, true, false}
 use mathlib.Core.List.{List}
-use lib.ListN.{take}
-use package.Rattle.rules.specs.Term.{Program}
-use package.Rattle.calls.specs.Answer.{Answer, _>>=_, cleared}
-use package.Rattle.calls.specs.Load.{load}
-use package.Rattle.calls.specs.Values.{value, ancillae}
-use package.Rattle.calls.specs.Runs.{Given, admit, Ran, goes, returns, forwardCall, backwardCall, written}
-use package.Rattle.program.specs.Places.{Buffers, Within}
-use package.Rattle.program.specs.declared.fields.Counts.{Counts}
-use package.Rattle.admission.specs.Given.{programIn, givenIn}
-use package.Rattle.admission.specs.Admitting.{sideOf}
-use package.Rattle.loading.specs.Loading.{Accepted}
-use package.Rattle.running.specs.declared.ended.Ended.{Ended}
-use package.Rattle.running.specs.declared.ended.Ended.the-variants as ended
-use package.Rattle.running.specs.Ended.{finished, Means}
-use package.Rattle.engine.specs.declared.answers.Refusal.the-variants.{Fuel, Height, Long, FirstMatch, NoInput, Output}
-use package.Rattle.engine.specs.declared.answers.RunAnswer.{RunAnswer}
-use package.Rattle.engine.specs.declared.answers.RunAnswer.the-variants as runs
-use package.Rattle.engine.specs.Answers.{runAnswer, summary}
-use package.Rattle.engine.specs.Calls.{Later}
-
--- the kind of each refusal
-abbrev pub endedFrom : Ended → RunAnswer
-endedFrom (ended.Done s) = runs.Ran (record { len = s .len; steps = s .steps })
-endedFrom (ended.Fuel k) = runs.Refused (Fuel k)
-endedFrom (ended.Height k) = runs.Refused (Height k)
-endedFrom (ended.Long k) = runs.Refused (Long k)
-endedFrom (ended.FirstMatch k) = runs.Refused (FirstMatch k)
-endedFrom (ended.NoInput k) = runs.Refused (NoInput k)
-endedFrom ended.Short = runs.Refused Output
-
--- the run of what is given, back or forward
-unfoldable pub runOf : Bool → Program → ℕ → Given → Answer Ran
-runOf true = returns
-runOf false = goes
-
--- A run of a program, from row Call on.
-unfoldable pub called : Bool → Program → ℕ → List ℕ → List ℕ → ℕ → ℕ → Answer Ran
-called back P g anc bytes fuel out = do
-  a ← admit P g (ancillae anc) (value bytes) (sideOf back)
-  finished out (runOf back P fuel a)
-
--- the same of the program whose entries stand at these offsets
-abbrev pub calledOf : Bool → List ℕ → List ℕ → List ℕ → List ℕ → ℕ → List ℕ → List ℕ → ℕ → ℕ → Answer Ran
-calledOf back xs types terms functions g anc bytes fuel out = called back (programIn xs types terms functions) g anc bytes fuel out
-
--- the same, with the offsets at the fronts of buffers
-abbrev pub frontsRun : Counts → Bool → List ℕ → List ℕ → List ℕ → List ℕ → ℕ → List ℕ → List ℕ → ℕ → ℕ → Answer Ran
-frontsRun c back xs types terms functions g anc bytes fuel out = calledOf back xs (take (c .types) types) (take (c .terms) terms) (take (c .functions) functions) g anc bytes fuel out
-
--- a program that is accepted has its offsets there
-pub record Fronts (c : Counts) (xs types terms functions : List ℕ) : Type 0 where
-  pub within : Within c
-  pub buffers : Buffers types terms functions
-  pub accepts : Accepted xs (take (c .types) types) (take (c .terms) terms) (take (c .functions) functions)
-
--- the same of the program that the bytes are, if they are one
-abbrev pub ofProgram : Bool → List ℕ → ℕ → List ℕ → List ℕ → ℕ → ℕ → Answer Ran
-ofProgram back xs g anc bytes fuel out = load xs >>= λ P. called back P g anc bytes fuel out
+use package.Rattle.calls.specs.Answer.{Answer, cleared}
+use package.Rattle.calls.specs.Runs.{Ran, forwardCall, backwardCall, written}
+use package.Rattle.rows.specs.declared.answers.RunAnswer.{RunAnswer}
+use package.Rattle.rows.specs.Answers.{runAnswer, summary}
 
 -- all rows
 unfoldable pub runCall : Bool → ℕ → ℕ → ℕ → ℕ → List ℕ → List ℕ → List ℕ → Answer Ran
 runCall true = backwardCall
 runCall false = forwardCall
-
--- how the run of a function that was admitted ends, whatever the types are
-pub record EndMeans (back : Bool) (r : Ended) (xs terms functions : List ℕ) (g : ℕ) (anc bytes : List ℕ) (fuel : ℕ) (out out′ : List ℕ) : Type 0 where
-  pub means : (types : List ℕ) → Means r out out′ (runOf back (programIn xs types terms functions) fuel (givenIn xs types terms functions g anc bytes))
-
--- An answer whose meaning is `x`, in a workspace that is long enough, and the output before and after it.
-pub record RunMeans (r : RunAnswer) (x : Answer Ran) (out out′ : List ℕ) : Type 0 where
-  pub answer : runAnswer r ≡ summary x
-  pub later : Later (runAnswer r)
-  pub output : out′ ≡ written x out
 
 -- An answer whose meaning is `x`, with the output and the workspace before and after it.
 pub record CallMeans (r : RunAnswer) (x : Answer Ran) (out out′ ws ws′ : List ℕ) : Type 0 where

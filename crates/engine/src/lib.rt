@@ -1,7 +1,5 @@
 // The public calls (document 01, section 4): none asks anything of its caller, and each contract is an equation with calls/specs.
-pub mod answers;
 pub mod checking;
-pub mod preparing;
 pub mod runs;
 
 pub use checking::check;

@@ -1,12 +1,12 @@
 // The public calls for C and for Rust, as a static library (`rt staticlib exports`): a slice is a pointer and a length. What a call
 // answers is told in four numbers: the refusal's number, or 0 where it is accepted; its place; the value's length; the steps.
-use engine::answers::CheckAnswer;
-use engine::answers::RunAnswer;
+use rows::answers::CheckAnswer;
+use rows::answers::RunAnswer;
 ghost use mathlib.Core.Path.{_≡_};
 ghost use lib.ListN.{length};
 ghost use Rattle.calls.specs.Answer.{cleared};
 ghost use Rattle.calls.specs.Runs.{checkCall, forwardCall, backwardCall, written};
-ghost use Rattle.engine.specs.Answers.{checkAnswer, runAnswer, summary};
+ghost use Rattle.rows.specs.Answers.{checkAnswer, runAnswer, summary};
 ghost use Rattle.exports.specs.Told.{checkTold, runTold};
 
 fn check_told(answer: CheckAnswer) -> [u64; 4]

@@ -2,8 +2,8 @@
 use Prim.Native.Nat.{ℕ, _≤_}
 use native.Mathlib.Omega.{arith}
 use lib.ListN.{length}
-use package.Rattle.engine.specs.declared.answers.Refusal.{Refusal}
-use package.Rattle.engine.specs.declared.answers.Refusal.the-variants.{Workspace, Field, Limit, Reference, NamedType, Mismatch, Scope, Usage, Function, Values, ValueType, Fuel, Height, Long, FirstMatch, NoInput, Output, Journal, Standing, Full}
+use package.Rattle.rows.specs.declared.answers.Refusal.{Refusal}
+use package.Rattle.rows.specs.declared.answers.Refusal.the-variants.{Workspace, Field, Limit, Reference, NamedType, Mismatch, Scope, Usage, Function, Values, ValueType, Fuel, Height, Long, FirstMatch, NoInput, Output, Journal, Standing, Full}
 use package.Rattle.wording.specs.Meanings.{meaningOf}
 
 pub meaning-short : (r : Refusal) → length (meaningOf r) ≤ 80

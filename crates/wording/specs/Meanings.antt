@@ -1,8 +1,8 @@
 -- What each refusal means, in words (section 4's table).
 use Prim.Native.Nat.{ℕ}
 use mathlib.Core.List.{List}
-use package.Rattle.engine.specs.declared.answers.Refusal.{Refusal}
-use package.Rattle.engine.specs.declared.answers.Refusal.the-variants.{Workspace, Field, Limit, Reference, NamedType, Mismatch, Scope, Usage, Function, Values, ValueType, Fuel, Height, Long, FirstMatch, NoInput, Output, Journal, Standing, Full}
+use package.Rattle.rows.specs.declared.answers.Refusal.{Refusal}
+use package.Rattle.rows.specs.declared.answers.Refusal.the-variants.{Workspace, Field, Limit, Reference, NamedType, Mismatch, Scope, Usage, Function, Values, ValueType, Fuel, Height, Long, FirstMatch, NoInput, Output, Journal, Standing, Full}
 use package.Rattle.lines.specs.Text.{text}
 
 unfoldable pub meaningOf : Refusal → List ℕ

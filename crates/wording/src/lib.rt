@@ -3,12 +3,12 @@
 // answers as text
 pub mod replies;
 
-use engine::answers::Refusal;
 use lines::answers;
+use rows::answers::Refusal;
 ghost use mathlib.Core.Path.{_≡_};
 ghost use Prim.Native.Nat.{_+_, _≤_};
 ghost use lib.ListN.{length};
-ghost use Rattle.engine.specs.Answers.{numberOf, placeOf};
+ghost use Rattle.rows.specs.Answers.{numberOf, placeOf};
 ghost use Rattle.lines.specs.Wrote.{Wrote};
 ghost use Rattle.wording.specs.Meanings.{meaningOf};
 

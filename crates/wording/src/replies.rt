@@ -1,13 +1,13 @@
 // Answers as text: a line of calls and answers each (crate lines), and a refusal with its meaning.
-use engine::answers::CheckAnswer;
-use engine::answers::Done;
-use engine::answers::Refusal;
-use engine::answers::RunAnswer;
 use lines::answers;
 use lines::decimal;
+use rows::answers::CheckAnswer;
+use rows::answers::Done;
+use rows::answers::Refusal;
+use rows::answers::RunAnswer;
 ghost use Prim.Native.Nat.{_+_, _*_, _≤_};
 ghost use lib.ListN.{length, take};
-ghost use Rattle.engine.specs.Answers.{numberOf, placeOf, checkAnswer, runAnswer};
+ghost use Rattle.rows.specs.Answers.{numberOf, placeOf, checkAnswer, runAnswer};
 ghost use Rattle.lines.specs.Wrote.{Wrote};
 ghost use Rattle.lines.specs.Answers.{valueLine, refusedLine};
 ghost use Rattle.wording.specs.Replies.{checkText, runText, lengthOf, whereText, refusalText};

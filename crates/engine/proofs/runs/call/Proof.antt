@@ -1,6 +1,7 @@
 use mathlib.Core.Path.{sym, ap, _∙_}
 use lib.ListN.{replicate}
-use Rattle.engine.proofs.Rows.{enough-le, call-means, call-short}
+use Rattle.engine.proofs.Beginning.{enough-le}
+use Rattle.engine.proofs.Directions.{call-means, call-short}
 use borrow.Author.Needs.{needs}
 use Rattle.engine.proofs.runs.call.Statement.{statement}
 use Rattle.engine.proofs.runs.call.Tie as tie

@@ -1,10 +1,10 @@
 use native.Mathlib.Omega.{arith}
 use Rattle.rules.specs.Limits.{maxTypes, maxTerms, maxFunctions}
-use Rattle.engine.proofs.Beginning.{enough-types}
-use Rattle.engine.proofs.Rows.{fronts, prepared-run, prepared-refused, kept-enough}
+use Rattle.rows.proofs.Beginning.{enough-types}
+use Rattle.rows.proofs.Rows.{fronts, prepared-run, prepared-refused, kept-enough}
 use borrow.Author.Needs.{needs}
-use Rattle.engine.proofs.runs.run_program.Statement.{statement}
-use Rattle.engine.proofs.runs.run_program.Tie as tie
+use Rattle.rows.proofs.runs.run_program.Statement.{statement}
+use Rattle.rows.proofs.runs.run_program.Tie as tie
 
 slice-aggregate-prepare : tie.Need-slice-aggregate-prepare
 slice-aggregate-prepare c = search needs

@@ -3,8 +3,8 @@ use lib.Dec.{leb}
 use Rattle.rules.specs.Limits.{workspaceBase, workspacePerFuel}
 use Rattle.calls.specs.Runs.{workspaceFor}
 use borrow.Author.Needs.{needs}
-use Rattle.engine.proofs.preparing.enough.Statement.{statement}
-use Rattle.engine.proofs.preparing.enough.Tie as tie
+use Rattle.rows.proofs.preparing.enough.Statement.{statement}
+use Rattle.rows.proofs.preparing.enough.Tie as tie
 
 wide-index-requires : tie.Need-wide-index-requires
 wide-index-requires c κs = search needs

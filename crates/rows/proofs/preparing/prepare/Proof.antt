@@ -1,7 +1,7 @@
-use Rattle.engine.proofs.Beginning.{prepare-means}
+use Rattle.rows.proofs.Beginning.{prepare-means}
 use borrow.Author.Needs.{needs}
-use Rattle.engine.proofs.preparing.prepare.Statement.{statement}
-use Rattle.engine.proofs.preparing.prepare.Tie as tie
+use Rattle.rows.proofs.preparing.prepare.Statement.{statement}
+use Rattle.rows.proofs.preparing.prepare.Tie as tie
 
 load-requires : tie.Need-load-requires
 load-requires c κs = search needs

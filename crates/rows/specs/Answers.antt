@@ -1,15 +1,17 @@
 -- The answers of the public calls in the definitions' terms (section 4): of each kind of refusal its number and place, of each answer
 -- what calls/specs/Runs says it is.
 use Prim.Native.Nat.{ℕ}
+use mathlib.Core.List.{List}
 use package.Rattle.rules.specs.Val.{size}
 use package.Rattle.calls.specs.Answer.{Answer, accepted, refused}
 use package.Rattle.calls.specs.Runs.{Ran}
-use package.Rattle.engine.specs.declared.answers.Refusal.{Refusal}
-use package.Rattle.engine.specs.declared.answers.Refusal.the-variants.{Workspace, Field, Limit, Reference, NamedType, Mismatch, Scope, Usage, Function, Values, ValueType, Fuel, Height, Long, FirstMatch, NoInput, Output, Journal, Standing, Full}
-use package.Rattle.engine.specs.declared.answers.CheckAnswer.{CheckAnswer}
-use package.Rattle.engine.specs.declared.answers.CheckAnswer.the-variants as checks
-use package.Rattle.engine.specs.declared.answers.RunAnswer.{RunAnswer}
-use package.Rattle.engine.specs.declared.answers.RunAnswer.the-variants as runs
+use package.Rattle.calls.specs.Conversions.{Turned}
+use package.Rattle.rows.specs.declared.answers.Refusal.{Refusal}
+use package.Rattle.rows.specs.declared.answers.Refusal.the-variants.{Workspace, Field, Limit, Reference, NamedType, Mismatch, Scope, Usage, Function, Values, ValueType, Fuel, Height, Long, FirstMatch, NoInput, Output, Journal, Standing, Full}
+use package.Rattle.rows.specs.declared.answers.CheckAnswer.{CheckAnswer}
+use package.Rattle.rows.specs.declared.answers.CheckAnswer.the-variants as checks
+use package.Rattle.rows.specs.declared.answers.RunAnswer.{RunAnswer}
+use package.Rattle.rows.specs.declared.answers.RunAnswer.the-variants as runs
 
 -- the number of a refusal: section 4's table
 abbrev pub numberOf : Refusal → ℕ
@@ -62,7 +64,7 @@ abbrev pub checkAnswer : CheckAnswer → Answer (Unit {0})
 checkAnswer checks.Accepted = accepted tt
 checkAnswer (checks.Refused r) = refused (numberOf r) (placeOf r)
 
--- a run answers the value's length and the steps, or a refusal (section 4)
+-- a run, and convert and rollback, answer a value's length and the steps, or a refusal (section 4)
 abbrev pub runAnswer : RunAnswer → Answer (ℕ × ℕ)
 runAnswer (runs.Ran d) = accepted (d .len, d .steps)
 runAnswer (runs.Refused r) = refused (numberOf r) (placeOf r)
@@ -71,3 +73,13 @@ runAnswer (runs.Refused r) = refused (numberOf r) (placeOf r)
 abbrev pub summary : Answer Ran → Answer (ℕ × ℕ)
 summary (accepted r) = accepted (size (r .value), r .steps)
 summary (refused n p) = refused n p
+
+-- open answers only that it accepts (section 4)
+abbrev pub openAnswer : Answer (List ℕ) → Answer (Unit {0})
+openAnswer (accepted journal) = accepted tt
+openAnswer (refused n p) = refused n p
+
+-- convert and rollback answer the held value's length and the steps (section 4)
+abbrev pub heldAnswer : Answer Turned → Answer (ℕ × ℕ)
+heldAnswer (accepted t) = accepted (t .held, t .steps)
+heldAnswer (refused n p) = refused n p

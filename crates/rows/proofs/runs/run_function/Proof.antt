@@ -1,7 +1,7 @@
-use Rattle.engine.proofs.Rows.{allowed-back, allowed-ahead, ends-back, ends-ahead}
+use Rattle.rows.proofs.Rows.{allowed-back, allowed-ahead, ends-back, ends-ahead}
 use borrow.Author.Needs.{needs}
-use Rattle.engine.proofs.runs.run_function.Statement.{statement}
-use Rattle.engine.proofs.runs.run_function.Tie as tie
+use Rattle.rows.proofs.runs.run_function.Statement.{statement}
+use Rattle.rows.proofs.runs.run_function.Tie as tie
 
 run-requires : tie.Need-run-requires
 run-requires c κs = allowed-back {back = c .before .before .before .before .before .before .before .before .before .before .args .back} (c .before .before .before .before .before .before .before .before .before .before .pre) (c .before .before .if1 .taken)

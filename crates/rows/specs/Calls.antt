@@ -11,11 +11,11 @@ use package.Rattle.program.specs.Places.{frontsOf, Buffers, Within}
 use package.Rattle.loading.specs.Loading.{Accepted}
 use package.Rattle.loading.specs.declared.Loaded.{Loaded}
 use package.Rattle.loading.specs.declared.Loaded.the-variants as loaded
-use package.Rattle.engine.specs.declared.answers.CheckAnswer.{CheckAnswer}
-use package.Rattle.engine.specs.declared.answers.Refusal.the-variants.{Field, Limit, Reference, NamedType, Mismatch, Scope, Usage}
-use package.Rattle.engine.specs.declared.preparing.Prepared.{Prepared}
-use package.Rattle.engine.specs.declared.preparing.Prepared.the-variants.{Ready, Refused}
-use package.Rattle.engine.specs.Answers.{numberOf, placeOf, checkAnswer}
+use package.Rattle.rows.specs.declared.answers.CheckAnswer.{CheckAnswer}
+use package.Rattle.rows.specs.declared.answers.Refusal.the-variants.{Field, Limit, Reference, NamedType, Mismatch, Scope, Usage}
+use package.Rattle.rows.specs.declared.preparing.Prepared.{Prepared}
+use package.Rattle.rows.specs.declared.preparing.Prepared.the-variants.{Ready, Refused}
+use package.Rattle.rows.specs.Answers.{numberOf, placeOf, checkAnswer}
 
 -- Answered in a workspace that is long enough: whatever is refused, not with 1. Such a call clears its workspace (section 4).
 pub data Later {A : Type 0} : Answer A → Type 0 where

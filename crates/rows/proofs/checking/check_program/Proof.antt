@@ -1,9 +1,9 @@
 use native.Mathlib.Omega.{arith}
 use Rattle.rules.specs.Limits.{maxTypes, maxTerms, maxFunctions}
-use Rattle.engine.proofs.Checks.{check-ready, check-refused}
+use Rattle.rows.proofs.Checks.{check-ready, check-refused}
 use borrow.Author.Needs.{needs}
-use Rattle.engine.proofs.checking.check_program.Statement.{statement}
-use Rattle.engine.proofs.checking.check_program.Tie as tie
+use Rattle.rows.proofs.checking.check_program.Statement.{statement}
+use Rattle.rows.proofs.checking.check_program.Tie as tie
 
 slice-aggregate-prepare : tie.Need-slice-aggregate-prepare
 slice-aggregate-prepare c = search needs

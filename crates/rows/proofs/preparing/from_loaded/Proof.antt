@@ -1,8 +1,8 @@
 use mathlib.Core.Path.{sym, ap}
-use Rattle.engine.specs.Calls.{preparedFrom}
+use Rattle.rows.specs.Calls.{preparedFrom}
 use borrow.Author.Needs.{needs}
-use Rattle.engine.proofs.preparing.from_loaded.Statement.{statement}
-use Rattle.engine.proofs.preparing.from_loaded.Tie as tie
+use Rattle.rows.proofs.preparing.from_loaded.Statement.{statement}
+use Rattle.rows.proofs.preparing.from_loaded.Tie as tie
 
 enum-known-loaded : tie.Need-enum-known-loaded
 enum-known-loaded c = search needs

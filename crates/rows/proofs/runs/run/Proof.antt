@@ -1,7 +1,7 @@
-use Rattle.engine.proofs.Rows.{askable, allowed, no-function, bad-values, wrong-type, ran-as}
+use Rattle.rows.proofs.Rows.{askable, allowed, no-function, bad-values, wrong-type, ran-as}
 use borrow.Author.Needs.{needs}
-use Rattle.engine.proofs.runs.run.Statement.{statement}
-use Rattle.engine.proofs.runs.run.Tie as tie
+use Rattle.rows.proofs.runs.run.Statement.{statement}
+use Rattle.rows.proofs.runs.run.Tie as tie
 
 admit-requires : tie.Need-admit-requires
 admit-requires c κs = askable (c .before .before .before .before .before .before .before .before .pre .0)

@@ -1,8 +1,8 @@
 use mathlib.Core.Path.{sym, ap}
-use Rattle.engine.specs.Runs.{endedFrom}
+use Rattle.rows.specs.Runs.{endedFrom}
 use borrow.Author.Needs.{needs}
-use Rattle.engine.proofs.runs.from_ended.Statement.{statement}
-use Rattle.engine.proofs.runs.from_ended.Tie as tie
+use Rattle.rows.proofs.runs.from_ended.Statement.{statement}
+use Rattle.rows.proofs.runs.from_ended.Tie as tie
 
 enum-known-ended : tie.Need-enum-known-ended
 enum-known-ended c = search needs

@@ -32,7 +32,7 @@ pub enum CheckAnswer {
     Refused(Refusal),
 }
 
-// A value's length, and the steps.
+// The length of a run's value, or of the record that convert and rollback leave held, and the steps.
 pub struct Done {
     pub len: u16,
     pub steps: u16,

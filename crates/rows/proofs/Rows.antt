@@ -1,18 +1,16 @@
--- Laws of the rows Call, Run and Output, and of the calls that run a function as a whole.
+-- Laws of the rows Call, Run and Output.
 use Prim.Native.Nat.{ℕ, _≤_}
 use native.Mathlib.Omega.{arith}
 use mathlib.Core.Path.{_≡_, refl, sym, ap, subst, _∙_}
 use mathlib.Core.Bool.{Bool, true, false}
 use mathlib.Core.List.{List}
-use lib.ListN.{length, replicate}
-use lib.Dec.{leb}
+use lib.ListN.{length}
 use package.Rattle.rules.specs.Limits.{maxVariables, maxNodes}
 use package.Rattle.rules.specs.Typing.{WellTyped}
 use package.Rattle.rules.proofs.Basics.{given}
-use package.Rattle.rules.proofs.Typing.Tests.{leb-sound}
-use package.Rattle.calls.specs.Answer.{Answer, accepted, refused, _>>=_, cleared}
+use package.Rattle.calls.specs.Answer.{Answer, accepted, refused, _>>=_}
 use package.Rattle.calls.specs.Values.{value, ancillae}
-use package.Rattle.calls.specs.Runs.{workspaceFor, prepared, admit, Ran, forwardCall, backwardCall, written}
+use package.Rattle.calls.specs.Runs.{workspaceFor, admit, Ran, written}
 use package.Rattle.calls.proofs.Answer.{via}
 use package.Rattle.calls.proofs.Load.{load-iff}
 use package.Rattle.program.specs.declared.fields.Counts.{Counts}
@@ -27,16 +25,15 @@ use package.Rattle.running.specs.Ended.{finished, endOf}
 use package.Rattle.running.specs.Ahead.{Admitted as Allowed, Runnable, Goes}
 use package.Rattle.running.specs.Back.{Returnable, Returns}
 use package.Rattle.loading.specs.Loading.{Accepted}
-use package.Rattle.engine.specs.declared.answers.Refusal.{Refusal}
-use package.Rattle.engine.specs.declared.answers.Refusal.the-variants.{Workspace, Function, Values, ValueType}
-use package.Rattle.engine.specs.declared.answers.RunAnswer.{RunAnswer}
-use package.Rattle.engine.specs.declared.answers.RunAnswer.the-variants as runs
-use package.Rattle.engine.specs.declared.preparing.Prepared.{Prepared}
-use package.Rattle.engine.specs.declared.preparing.Prepared.the-variants.{Ready, Refused}
-use package.Rattle.engine.specs.Answers.{numberOf, placeOf, runAnswer, summary}
-use package.Rattle.engine.specs.Calls.{Later, accepts, refuses, preparedOf, Begins, PrepareMeans}
-use package.Rattle.engine.specs.Runs.{endedFrom, runOf, called, calledOf, frontsRun, Fronts, ofProgram, runCall, EndMeans, RunMeans, CallMeans}
-use package.Rattle.engine.proofs.Beginning.{prepared-enough, prepared-short, cleared-run}
+use package.Rattle.rows.specs.declared.answers.Refusal.{Refusal}
+use package.Rattle.rows.specs.declared.answers.Refusal.the-variants.{Function, Values, ValueType}
+use package.Rattle.rows.specs.declared.answers.RunAnswer.{RunAnswer}
+use package.Rattle.rows.specs.declared.answers.RunAnswer.the-variants as runs
+use package.Rattle.rows.specs.declared.preparing.Prepared.{Prepared}
+use package.Rattle.rows.specs.declared.preparing.Prepared.the-variants.{Ready, Refused}
+use package.Rattle.rows.specs.Answers.{numberOf, placeOf, runAnswer, summary}
+use package.Rattle.rows.specs.Calls.{Later, accepts, refuses, preparedOf, Begins, PrepareMeans}
+use package.Rattle.rows.specs.Runs.{endedFrom, runOf, called, calledOf, frontsRun, Fronts, ofProgram, EndMeans, RunMeans}
 
 -- a refusal of the definitions is one of the answer, and the output is unchanged
 refused-as : {x : Answer Ran} {n p : ℕ} (r : Refusal) (out : List ℕ) → x ≡ refused n p → numberOf r ≡ n → placeOf r ≡ p → 2 ≤ n → RunMeans (runs.Refused r) x out out
@@ -157,49 +154,6 @@ module _ {back : Bool} {xs terms functions : List ℕ} {g : ℕ} {anc bytes : Li
     pub ends-ahead : back ≡ false → Goes r xs terms functions g anc bytes fuel out out′ → EndMeans back r xs terms functions g anc bytes fuel out out′
     unfolding runOf
     ends-ahead e G = rw e (record { means = G .means })
-
-----------------------------------------------------------------
--- The call
-
-module _ (xs : List ℕ) (g : ℕ) (anc bytes : List ℕ) (fuel : ℕ) (ws out : List ℕ) where
-  -- after the workspace test comes the program
-  whole : (back : Bool) → runCall back (length ws) (length out) fuel g xs anc bytes ≡ (prepared (length ws) fuel xs >>= λ P. called back P g anc bytes fuel (length out))
-  unfolding runCall forwardCall backwardCall called finished runOf
-  whole true = refl
-  whole false = refl
-
-module _ (back : Bool) (xs : List ℕ) (g : ℕ) (anc bytes : List ℕ) (fuel : ℕ) (ws out : List ℕ) where
-  abbrev answer : Answer Ran
-  answer = runCall back (length ws) (length out) fuel g xs anc bytes
-
-  whole-enough : leb (workspaceFor fuel) (length ws) ≡ true → answer ≡ ofProgram back xs g anc bytes fuel (length out)
-  whole-enough e = whole xs g anc bytes fuel ws out back ∙ ap (λ a. a >>= λ P. called back P g anc bytes fuel (length out)) (prepared-enough fuel (length ws) xs e)
-
-  whole-short : leb (workspaceFor fuel) (length ws) ≡ false → answer ≡ refused 1 0
-  unfolding _>>=_
-  whole-short e = whole xs g anc bytes fuel ws out back ∙ ap (λ a. a >>= λ P. called back P g anc bytes fuel (length out)) (prepared-short fuel (length ws) xs e)
-
-  pub call-means : leb (workspaceFor fuel) (length ws) ≡ true → {r : RunAnswer} {out′ ws′ : List ℕ} → RunMeans r (ofProgram back xs g anc bytes fuel (length out)) out out′
-      → ws′ ≡ replicate (length ws) 0 → CallMeans r (runCall back (length ws) (length out) fuel g xs anc bytes) out out′ ws ws′
-  call-means e {r} R w = record {
-    answer = same;
-    fills = R .output ∙ ap (λ x. written x out) (sym (whole-enough e));
-    clear = w ∙ sym (cleared-run r answer ws same (R .later));
-  }
-    where
-      same : runAnswer r ≡ summary answer
-      same = R .answer ∙ ap summary (sym (whole-enough e))
-
-  pub call-short : leb (workspaceFor fuel) (length ws) ≡ false → CallMeans (runs.Refused Workspace) (runCall back (length ws) (length out) fuel g xs anc bytes) out out ws ws
-  unfolding written cleared
-  call-short e = record {
-    answer = ap summary (sym (whole-short e));
-    fills = ap (λ x. written x out) (sym (whole-short e));
-    clear = ap (λ x. cleared x ws) (sym (whole-short e));
-  }
-
-pub enough-le : (fuel n : ℕ) → leb (workspaceFor fuel) n ≡ true → workspaceFor fuel ≤ n
-enough-le fuel n e = leb-sound (workspaceFor fuel) n e
 
 -- a workspace stays as long as it is
 pub kept-enough : {n m k : ℕ} → m ≡ n → k ≤ n → k ≤ m

@@ -10,7 +10,7 @@ ghost use Rattle.rules.specs.Limits.{maxTerms};
 ghost use Rattle.calls.specs.Runs.{workspaceFor};
 ghost use Rattle.program.specs.Places.{Buffers};
 ghost use Rattle.types.specs.Codes.{nodeBytes};
-ghost use Rattle.engine.specs.Calls.{preparedFrom, PrepareMeans};
+ghost use Rattle.rows.specs.Calls.{preparedFrom, PrepareMeans};
 
 // The workspace that a call needs, and for each step of fuel (section 2).
 const WORKSPACE_BASE: usize = 32768;

@@ -1,9 +1,9 @@
 use mathlib.Core.Path.{sym}
 use lib.Seq.{length-take-le}
-use Rattle.engine.proofs.Rows.{types-inside, terms-inside, functions-inside}
+use Rattle.rows.proofs.Rows.{types-inside, terms-inside, functions-inside}
 use borrow.Author.Needs.{needs}
-use Rattle.engine.proofs.runs.run_fronts.Statement.{statement}
-use Rattle.engine.proofs.runs.run_fronts.Tie as tie
+use Rattle.rows.proofs.runs.run_fronts.Statement.{statement}
+use Rattle.rows.proofs.runs.run_fronts.Tie as tie
 
 slice-aggregate-run : tie.Need-slice-aggregate-run
 slice-aggregate-run c = sym (length-take-le _ _ (types-inside (c .before .before .before .before .before .before .before .before .before .pre .0)))

@@ -1,0 +1,24 @@
+// Rows Field reading, Entries and Typing of document 01's section 4, as the call check answers them.
+use crate::answers::CheckAnswer;
+use crate::preparing;
+use crate::preparing::Prepared;
+ghost use Prim.Native.Nat.{_*_, _≤_};
+ghost use lib.ListN.{length};
+ghost use Rattle.rules.specs.Limits.{maxTerms};
+ghost use Rattle.types.specs.Codes.{nodeBytes};
+ghost use Rattle.rows.specs.Calls.{CheckMeans};
+
+// The rows of the program, in a workspace that is long enough and that is left as it comes.
+pub fn check_program(program: &[u8], workspace: &mut [u8]) -> CheckAnswer
+    requires { ⌜ nodeBytes * maxTerms ≤ length (now workspace) ⌝ }
+    ensures { λ r. ⌜ CheckMeans r (now (program .entry)) ⌝ }
+{
+    let mut types = [0u16; 256];
+    let mut terms = [0u16; 1024];
+    let mut functions = [0u16; 64];
+    let prepared = preparing::prepare(program, &mut types, &mut terms, &mut functions, workspace);
+    match prepared {
+        Prepared::Ready(_) => CheckAnswer::Accepted,
+        Prepared::Refused(refusal) => CheckAnswer::Refused(refusal),
+    }
+}

@@ -1,0 +1,193 @@
+// Rows Call, Run and Output of document 01's section 4, for the calls that run a function. Forward and backward differ in the type that
+// the value is held to, and in the run: all else they share, with `back` the direction.
+use crate::answers::Done;
+use crate::answers::Refusal;
+use crate::answers::RunAnswer;
+use crate::preparing;
+use crate::preparing::Prepared;
+use admission::Admitted;
+use program::fields::Counts;
+use running::ended::Ended;
+ghost use mathlib.Core.Path.{_≡_};
+ghost use Prim.Native.Nat.{_≤_};
+ghost use lib.ListN.{length};
+ghost use Rattle.calls.specs.Runs.{workspaceFor};
+ghost use Rattle.admission.specs.Admitting.{sideOf};
+ghost use Rattle.running.specs.Ahead.{Admitted as Allowed};
+ghost use Rattle.loading.specs.Loading.{Accepted};
+ghost use Rattle.rows.specs.Runs.{endedFrom, EndMeans, RunMeans, ofProgram, calledOf, Fronts, frontsRun};
+
+// The kind of each refusal.
+fn from_ended(ended: Ended) -> RunAnswer
+    ensures { λ r. ⌜ r ≡ endedFrom ended ⌝ }
+{
+    match ended {
+        Ended::Done(s) => RunAnswer::Ran(Done {
+            len: s.len,
+            steps: s.steps,
+        }),
+        Ended::Fuel(k) => RunAnswer::Refused(Refusal::Fuel(k)),
+        Ended::Height(k) => RunAnswer::Refused(Refusal::Height(k)),
+        Ended::Long(k) => RunAnswer::Refused(Refusal::Long(k)),
+        Ended::FirstMatch(k) => RunAnswer::Refused(Refusal::FirstMatch(k)),
+        Ended::NoInput(k) => RunAnswer::Refused(Refusal::NoInput(k)),
+        Ended::Short => RunAnswer::Refused(Refusal::Output),
+    }
+}
+
+// The run of a function that was admitted.
+fn run_function(
+    program: &[u8],
+    terms: &[u16],
+    functions: &[u16],
+    function: u16,
+    ancillae: &[u8],
+    value: &[u8],
+    back: bool,
+    fuel: u16,
+    workspace: &mut [u8],
+    output: &mut [u8],
+) -> Ended
+    requires { ⌜ Allowed (sideOf back) (now program) (now terms) (now functions) (now workspace) function (now ancillae) (now value) fuel ⌝ }
+    ensures { λ r. ⌜ EndMeans back r (now (program .entry)) (now (terms .entry)) (now (functions .entry)) function (now (ancillae .entry)) (now (value .entry)) fuel (now (output .entry)) (now (output .exit)) ⌝ }
+{
+    if back {
+        return running::back::run(
+            program,
+            terms,
+            functions,
+            workspace,
+            function,
+            ancillae,
+            value,
+            fuel,
+            output,
+        );
+    }
+    running::ahead::run(
+        program,
+        terms,
+        functions,
+        workspace,
+        function,
+        ancillae,
+        value,
+        fuel,
+        output,
+    )
+}
+
+// Rows Call, Run and Output, for a program that is accepted.
+pub fn run(
+    program: &[u8],
+    types: &[u16],
+    terms: &[u16],
+    functions: &[u16],
+    function: u16,
+    ancillae: &[u8],
+    value: &[u8],
+    back: bool,
+    fuel: u16,
+    workspace: &mut [u8],
+    output: &mut [u8],
+) -> RunAnswer
+    requires { ⌜ Accepted (now program) (now types) (now terms) (now functions) ⌝ }
+    requires { ⌜ workspaceFor fuel ≤ length (now workspace) ⌝ }
+    ensures { λ r. ⌜ RunMeans r (calledOf back (now (program .entry)) (now (types .entry)) (now (terms .entry)) (now (functions .entry)) function (now (ancillae .entry)) (now (value .entry)) fuel (length (now (output .entry)))) (now (output .entry)) (now (output .exit)) ⌝ }
+{
+    let admitted = admission::admit(program, types, functions, function, ancillae, value, back);
+    match admitted {
+        Admitted::Given => {
+            let ended = run_function(
+                program,
+                terms,
+                functions,
+                function,
+                ancillae,
+                value,
+                back,
+                fuel,
+                workspace,
+                output,
+            );
+            from_ended(ended)
+        }
+        Admitted::NoFunction => RunAnswer::Refused(Refusal::Function),
+        Admitted::BadValues => RunAnswer::Refused(Refusal::Values),
+        Admitted::WrongType => RunAnswer::Refused(Refusal::ValueType),
+    }
+}
+
+// The same, with the offsets of the entries at the fronts of buffers.
+fn run_fronts(
+    program: &[u8],
+    counts: Counts,
+    types: &[u16],
+    terms: &[u16],
+    functions: &[u16],
+    function: u16,
+    ancillae: &[u8],
+    value: &[u8],
+    back: bool,
+    fuel: u16,
+    workspace: &mut [u8],
+    output: &mut [u8],
+) -> RunAnswer
+    requires { ⌜ Fronts counts (now program) (now types) (now terms) (now functions) ⌝ }
+    requires { ⌜ workspaceFor fuel ≤ length (now workspace) ⌝ }
+    ensures { λ r. ⌜ RunMeans r (frontsRun counts back (now (program .entry)) (now (types .entry)) (now (terms .entry)) (now (functions .entry)) function (now (ancillae .entry)) (now (value .entry)) fuel (length (now (output .entry)))) (now (output .entry)) (now (output .exit)) ⌝ }
+{
+    let i = counts.types;
+    let j = counts.terms;
+    let k = counts.functions;
+    run(
+        program,
+        &types[..i],
+        &terms[..j],
+        &functions[..k],
+        function,
+        ancillae,
+        value,
+        back,
+        fuel,
+        workspace,
+        output,
+    )
+}
+
+// The rows after the first, in a workspace that is long enough and that is left as it comes.
+pub fn run_program(
+    program: &[u8],
+    function: u16,
+    ancillae: &[u8],
+    value: &[u8],
+    back: bool,
+    fuel: u16,
+    workspace: &mut [u8],
+    output: &mut [u8],
+) -> RunAnswer
+    requires { ⌜ workspaceFor fuel ≤ length (now workspace) ⌝ }
+    ensures { λ r. ⌜ RunMeans r (ofProgram back (now (program .entry)) function (now (ancillae .entry)) (now (value .entry)) fuel (length (now (output .entry)))) (now (output .entry)) (now (output .exit)) ⌝ }
+{
+    let mut types = [0u16; 256];
+    let mut terms = [0u16; 1024];
+    let mut functions = [0u16; 64];
+    let prepared = preparing::prepare(program, &mut types, &mut terms, &mut functions, workspace);
+    match prepared {
+        Prepared::Ready(counts) => run_fronts(
+            program,
+            counts,
+            &types,
+            &terms,
+            &functions,
+            function,
+            ancillae,
+            value,
+            back,
+            fuel,
+            workspace,
+            output,
+        ),
+        Prepared::Refused(refusal) => RunAnswer::Refused(refusal),
+    }
+}
