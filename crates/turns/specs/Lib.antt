@@ -1,0 +1,3 @@
+-- The calls on a journal, from the rows of the program on.
+-- what open, convert and rollback answer of a program that loads
+pub mod Turns
