@@ -5,3 +5,5 @@ pub mod Values
 pub mod Opens
 -- convert
 pub mod Converts
+-- rollback
+pub mod Rollbacks

@@ -2,3 +2,5 @@
 
 // open: the first record
 pub mod opening;
+// rollback: the newest conversion struck
+pub mod returning;
