@@ -35,9 +35,8 @@ use package.Rattle.journal.proofs.Turns.{valueOf-is}
 use package.Rattle.rows.specs.declared.answers.Done.{Done}
 use package.Rattle.rows.specs.declared.answers.Refusal.{Refusal}
 use package.Rattle.rows.specs.declared.answers.Refusal.the-variants.{Full}
-use package.Rattle.rows.specs.declared.answers.RunAnswer.{RunAnswer}
 use package.Rattle.rows.specs.declared.answers.RunAnswer.the-variants as runs
-use package.Rattle.rows.specs.Answers.{numberOf, placeOf, runAnswer, summary}
+use package.Rattle.rows.specs.Answers.{numberOf, placeOf, summary}
 use package.Rattle.rows.specs.Calls.{Later, accepts, refuses as rejects}
 use package.Rattle.rows.specs.Runs.{runOf, called, RunMeans}
 use package.Rattle.turns.specs.Turns.{TurnMeans}

@@ -2,5 +2,7 @@
 
 // open: the first record
 pub mod opening;
+// convert: one conversion more
+pub mod converting;
 // rollback: the newest conversion struck
 pub mod returning;
