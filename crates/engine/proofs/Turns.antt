@@ -48,8 +48,8 @@ module _ {A : Type 0} (then : Program → Answer A) (fuel : ℕ) (xs ws : List �
 
 module _ (turn : Program → Answer Turned) (fuel : ℕ) (xs ws j : List ℕ) {x : Answer Turned} (whole : x ≡ (prepared (length ws) fuel xs >>= turn)) where
   pub turn-enough : leb (workspaceFor fuel) (length ws) ≡ true → {r : RunAnswer} {j′ ws′ : List ℕ} → TurnMeans r (load xs >>= turn) j j′ → ws′ ≡ replicate (length ws) 0
-      → (runAnswer r ≡ heldAnswer x) × (j′ ≡ afterTurned j x .journal) × (ws′ ≡ cleared x ws)
-  turn-enough e {r} T w = (same, T .journal ∙ ap (λ x. afterTurned j x .journal) (sym (whole-enough turn fuel xs ws whole e)), w ∙ sym clear)
+      → (runAnswer r ≡ heldAnswer x) × ((j′ ≡ afterTurned j x .journal) × (ws′ ≡ cleared x ws))
+  turn-enough e {r} T w = (same, (T .journal ∙ ap (λ x. afterTurned j x .journal) (sym (whole-enough turn fuel xs ws whole e)), w ∙ sym clear))
     where
       same : runAnswer r ≡ heldAnswer x
       same = T .answer ∙ ap heldAnswer (sym (whole-enough turn fuel xs ws whole e))
@@ -58,9 +58,9 @@ module _ (turn : Program → Answer Turned) (fuel : ℕ) (xs ws j : List ℕ) {x
       clear = sym (cleared-held x ws) ∙ ap (λ a. cleared a ws) (sym same) ∙ cleared-later ws (T .later)
 
   pub turn-short : leb (workspaceFor fuel) (length ws) ≡ false
-      → (runAnswer (runs.Refused Workspace) ≡ heldAnswer x) × (j ≡ afterTurned j x .journal) × (ws ≡ cleared x ws)
+      → (runAnswer (runs.Refused Workspace) ≡ heldAnswer x) × ((j ≡ afterTurned j x .journal) × (ws ≡ cleared x ws))
   unfolding afterTurned cleared
-  turn-short e = let s = sym (whole-short turn fuel xs ws whole e) in (ap heldAnswer s, ap (λ x. afterTurned j x .journal) s, ap (λ x. cleared x ws) s)
+  turn-short e = let s = sym (whole-short turn fuel xs ws whole e) in (ap heldAnswer s, (ap (λ x. afterTurned j x .journal) s, ap (λ x. cleared x ws) s))
 
 ----------------------------------------------------------------
 -- Open
@@ -73,8 +73,8 @@ module _ (bytes xs ws j : List ℕ) where
   whole-open = open-whole (length ws) xs bytes (length j)
 
   pub open-enough : leb (workspaceFor 0) (length ws) ≡ true → {r : CheckAnswer} {j′ ws′ : List ℕ} → OpenMeans r (load xs >>= λ P. openOf bytes (length j)) j j′ → ws′ ≡ replicate (length ws) 0
-      → (checkAnswer r ≡ openAnswer opened) × (j′ ≡ afterOpen j opened .journal) × (ws′ ≡ cleared opened ws)
-  open-enough e {r} O w = (same, O .journal ∙ ap (λ x. afterOpen j x .journal) (sym (whole-enough (λ P. openOf bytes (length j)) 0 xs ws whole-open e)), w ∙ sym clear)
+      → (checkAnswer r ≡ openAnswer opened) × ((j′ ≡ afterOpen j opened .journal) × (ws′ ≡ cleared opened ws))
+  open-enough e {r} O w = (same, (O .journal ∙ ap (λ x. afterOpen j x .journal) (sym (whole-enough (λ P. openOf bytes (length j)) 0 xs ws whole-open e)), w ∙ sym clear))
     where
       same : checkAnswer r ≡ openAnswer opened
       same = O .answer ∙ ap openAnswer (sym (whole-enough (λ P. openOf bytes (length j)) 0 xs ws whole-open e))
@@ -83,6 +83,6 @@ module _ (bytes xs ws j : List ℕ) where
       clear = sym (cleared-opened opened ws) ∙ ap (λ a. cleared a ws) (sym same) ∙ cleared-later ws (O .later)
 
   pub open-short : leb (workspaceFor 0) (length ws) ≡ false
-      → (checkAnswer (checks.Refused Workspace) ≡ openAnswer opened) × (j ≡ afterOpen j opened .journal) × (ws ≡ cleared opened ws)
+      → (checkAnswer (checks.Refused Workspace) ≡ openAnswer opened) × ((j ≡ afterOpen j opened .journal) × (ws ≡ cleared opened ws))
   unfolding afterOpen cleared
-  open-short e = let s = sym (whole-short (λ P. openOf bytes (length j)) 0 xs ws whole-open e) in (ap openAnswer s, ap (λ x. afterOpen j x .journal) s, ap (λ x. cleared x ws) s)
+  open-short e = let s = sym (whole-short (λ P. openOf bytes (length j)) 0 xs ws whole-open e) in (ap openAnswer s, (ap (λ x. afterOpen j x .journal) s, ap (λ x. cleared x ws) s))
