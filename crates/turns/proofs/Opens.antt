@@ -29,14 +29,14 @@ use package.Rattle.turns.proofs.Values.{stops, present-none, require-no
 ----------------------------------------------------------------
 -- Bytes that are a value, or none
 
-pub is-there : (h : List ℕ) → isValue h ≡ true → value h ≡ some (valueOf h)
+is-there : (h : List ℕ) → isValue h ≡ true → value h ≡ some (valueOf h)
 is-there h t = go (value h) t
   where
     go : (o : Option Val) → isSome o ≡ true → o ≡ some (orElse unit o)
     go none t = absurd (false≢true t)
     go (some v) t = refl
 
-pub is-none : (h : List ℕ) → isValue h ≡ false → value h ≡ none
+is-none : (h : List ℕ) → isValue h ≡ false → value h ≡ none
 is-none h t = go (value h) t
   where
     go : (o : Option Val) → isSome o ≡ false → o ≡ none
@@ -69,7 +69,7 @@ module _ (h j : List ℕ) {ok : Bool} (is : ok ≡ isValue h) where
   no-record e = open-refused Values j (stops _ (present-none 10 (is-none h (sym is ∙ e)))) (omega arith)
 
   module _ (e : ok ≡ true) where
-    pub opened : openOf h (length j) ≡ kept (length j) (opens (valueOf h))
+    opened : openOf h (length j) ≡ kept (length j) (opens (valueOf h))
     unfolding openOf
     opened = via _ (present-some 10 (is-there h (sym is ∙ e))) refl
 
