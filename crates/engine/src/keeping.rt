@@ -38,7 +38,14 @@ pub fn convert(
     ensures clear { λ _. ⌜ now (workspace .exit) ≡ cleared (convertCall (length (now (workspace .entry))) fuel function (now (program .entry)) (now (ancillae .entry)) (now (journal .entry))) (now (workspace .entry)) ⌝ }
 {
     if rows::preparing::enough(workspace.len(), fuel) {
-        let answer = turns::programs::convert(program, function, ancillae, fuel, workspace, journal);
+        let answer = turns::programs::convert(
+            program,
+            function,
+            ancillae,
+            fuel,
+            workspace,
+            journal,
+        );
         octets::clear(workspace);
         return answer;
     }

@@ -75,7 +75,13 @@ pub fn convert(
     let mut types = [0u16; 256];
     let mut terms = [0u16; 1024];
     let mut functions = [0u16; 64];
-    let prepared = rows::preparing::prepare(program, &mut types, &mut terms, &mut functions, workspace);
+    let prepared = rows::preparing::prepare(
+        program,
+        &mut types,
+        &mut terms,
+        &mut functions,
+        workspace,
+    );
     match prepared {
         Prepared::Ready(counts) => convert_fronts(
             program,
@@ -130,7 +136,13 @@ pub fn rollback(program: &[u8], fuel: u16, workspace: &mut [u8], journal: &mut [
     let mut types = [0u16; 256];
     let mut terms = [0u16; 1024];
     let mut functions = [0u16; 64];
-    let prepared = rows::preparing::prepare(program, &mut types, &mut terms, &mut functions, workspace);
+    let prepared = rows::preparing::prepare(
+        program,
+        &mut types,
+        &mut terms,
+        &mut functions,
+        workspace,
+    );
     match prepared {
         Prepared::Ready(counts) => rollback_fronts(
             program,
