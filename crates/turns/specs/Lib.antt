@@ -3,3 +3,5 @@
 pub mod Turns
 -- convert after its run
 pub mod Converting
+-- the parts of rollback
+pub mod Rollbacks
