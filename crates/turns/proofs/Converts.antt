@@ -98,9 +98,7 @@ module _ (P : Program) (fuel fn : ℕ) (anc j : List ℕ) where
       unfolding convertOf runOf
       convert-refused {r} e = turn-refused r j
           (via _ (present-some 18 there) (via _ (require-yes 20 0 few)
-          (not-carried false P fn fuel anc bytes (ancillae anc) (some (journalIn j .held)) refl held-read
-          (λ a r. turned (length j) r (converted (journalIn j) (r .value) (conversion fn (r .steps) (a .ancillae))))
-          (whole ∙ refused-into (run-as e)))))
+          (not-carried false P fn fuel anc bytes (ancillae anc) (some (journalIn j .held)) refl held-read _ (whole ∙ refused-into (run-as e)))))
           (run-as e .later)
 
       module _ {d : Done} (e : a ≡ runs.Ran d) where
