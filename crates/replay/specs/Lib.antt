@@ -1,0 +1,7 @@
+-- What a script of journal calls is, and what playing it leaves.
+-- the bytes of a script
+pub mod Scripts
+-- the lines that answer its calls
+pub mod Lines
+-- playing it, call by call
+pub mod Playing
