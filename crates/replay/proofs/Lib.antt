@@ -7,3 +7,5 @@ pub mod Lines
 pub mod Fronts
 -- one turn, and the calls in turn
 pub mod Turns
+-- the first call
+pub mod Beginnings

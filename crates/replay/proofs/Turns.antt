@@ -142,6 +142,9 @@ module _ (program s : List ℕ) (start : ℕ) (J₀ A₀ W₀ : List ℕ) where
     pub inside : at ≤ length s
     pub few : count ≤ at
     pub line : 7 * count ≤ length A
+    pub journal-long : length J ≡ length J₀
+    pub answers-long : length A ≡ length A₀
+    pub workspace-long : length W ≡ length W₀
     pub same : play (suc (length s) - count) program s at count J A W ≡ play (length s) program s start 1 J₀ A₀ W₀
 
   pub going-starts : 1 ≤ start → start ≤ length s → 7 ≤ length A₀ → Going J₀ A₀ W₀ start 1
@@ -149,6 +152,9 @@ module _ (program s : List ℕ) (start : ℕ) (J₀ A₀ W₀ : List ℕ) where
     inside = k;
     few = h;
     line = omega arith;
+    journal-long = refl;
+    answers-long = refl;
+    workspace-long = refl;
     same = ap (λ r. play r program s start 1 J₀ A₀ W₀) (let z : suc (length s) - 1 ≡ length s = omega arith in z);
   }
 
@@ -160,24 +166,31 @@ module _ (program s : List ℕ) (start : ℕ) (J₀ A₀ W₀ : List ℕ) where
     again : play (suc (length s - count)) program s at count J A W ≡ play (length s) program s start 1 J₀ A₀ W₀
     again = ap (λ r. play r program s at count J A W) (sym one-more) ∙ G .same
 
-    pub going-stops : (r : ReplayAnswer) (J′ A′ W′ : List ℕ) → TurnMeans (moves.Stop r) (turnOf program s (stepAt s at) at count J A W) J′ A′ W′
+    pub going-stops : (m : Move) (r : ReplayAnswer) (J′ A′ W′ : List ℕ) → m ≡ moves.Stop r → TurnMeans m (turnOf program s (stepAt s at) at count J A W) J′ A′ W′
         → ReplayMeans r (play (length s) program s start 1 J₀ A₀ W₀) J′ A′ W′
-    going-stops r J′ A′ W′ T = subst (λ x. ReplayMeans r x J′ A′ W′) again (play-stops program s at count J A W (length s - count) r J′ A′ W′ T)
+    going-stops m r J′ A′ W′ e T =
+        subst (λ x. ReplayMeans r x J′ A′ W′) again
+        (play-stops program s at count J A W (length s - count) r J′ A′ W′
+        (subst (λ m. TurnMeans m (turnOf program s (stepAt s at) at count J A W) J′ A′ W′) e T))
 
     pub going-ends : length s ≤ at → ReplayMeans (replies.Played count) (play (length s) program s start 1 J₀ A₀ W₀) J A W
     going-ends h = subst (λ x. ReplayMeans (replies.Played count) x J A W) again (play-ends program s at count J A W (length s - count) h)
 
-    pub going-further : (next : ℕ) (J′ A′ W′ : List ℕ) → TurnMeans (moves.To next) (turnOf program s (stepAt s at) at count J A W) J′ A′ W′ → Onward program s at count J A W next
-    going-further next J′ A′ W′ T = onward program s at count J A W (sym (T .next-is))
+    module _ (m : Move) (next : ℕ) (J′ A′ W′ : List ℕ) (e : m ≡ moves.To next) (T : TurnMeans m (turnOf program s (stepAt s at) at count J A W) J′ A′ W′) where
+      turned : TurnMeans (moves.To next) (turnOf program s (stepAt s at) at count J A W) J′ A′ W′
+      turned = subst (λ m. TurnMeans m (turnOf program s (stepAt s at) at count J A W) J′ A′ W′) e T
 
-    pub going-goes : (next : ℕ) (J′ A′ W′ : List ℕ) → length A′ ≡ length A → TurnMeans (moves.To next) (turnOf program s (stepAt s at) at count J A W) J′ A′ W′
-        → Going J′ A′ W′ next (count + 1)
-    going-goes next J′ A′ W′ long T =
-        let o = going-further next J′ A′ W′ T in
-        record {
-          inside = o .inside;
-          few = omega (arith, o .further, G .few);
-          line = omega (arith, o .line);
-          same = ap (λ r. play r program s next (count + 1) J′ A′ W′) (let z : suc (length s) - (count + 1) ≡ length s - count = omega arith in z)
-              ∙ sym (play-goes program s at count J A W (length s - count) next J′ A′ W′ T) ∙ again;
-        }
+      pub going-further : Onward program s at count J A W next
+      going-further = onward program s at count J A W (sym (turned .next-is))
+
+      pub going-goes : length J′ ≡ length J → length A′ ≡ length A → length W′ ≡ length W → Going J′ A′ W′ next (count + 1)
+      going-goes ej ea ew = record {
+        inside = going-further .inside;
+        few = omega (arith, going-further .further, G .few);
+        line = omega (arith, going-further .line);
+        journal-long = ej ∙ G .journal-long;
+        answers-long = ea ∙ G .answers-long;
+        workspace-long = ew ∙ G .workspace-long;
+        same = ap (λ r. play r program s next (count + 1) J′ A′ W′) (let z : suc (length s) - (count + 1) ≡ length s - count = omega arith in z)
+            ∙ sym (play-goes program s at count J A W (length s - count) next J′ A′ W′ turned) ∙ again;
+      }

@@ -1,3 +1,6 @@
+use mathlib.Core.Path.{_≡_, refl, sym, ap, _∙_}
+use lib.Seq.{length-take-le}
+use Rattle.replay.proofs.Fronts.{open-made, convert-made, rollback-made}
 use borrow.Author.Needs.{needs}
 use Rattle.replay.proofs.making.make_open.Statement.{statement}
 use Rattle.replay.proofs.making.make_open.Tie as tie
@@ -13,7 +16,7 @@ slice-relend-prefix-open c = search needs
 
 -- src/making.rt:28:57
 slice-aggregate-open : tie.Need-slice-aggregate-open
-slice-aggregate-open c = ?
+slice-aggregate-open c = sym (length-take-le _ _ (c .before .before .before .before .before .before .pre))
 
 -- src/making.rt:28:9
 open-requires : tie.Need-open-requires
@@ -37,7 +40,9 @@ same-length-2 c = search needs
 
 -- src/making.rt:24:1
 returns : tie.Need-returns
-returns c = ?
+returns c = let a = c .before .before .before .before .before .before .before .before .before .before .before .before .before .before .before .before in let o = c .before .before .before .before .before .before .before .before .before .«open» in
+    open-made (a .args .program .now) (a .args .journal .now) (a .args .workspace .now) (o .last .1 .1 .1 .0) _ _ _ (a .args .held .now) (a .args .n) (o .result) (a .pre) (o .kept .1 .1 .1 .0)
+    (o .ensures .0) (o .ensures .1 .0) (o .ensures .1 .1) (c .open-line .ensures) (c .before .before .before .clear-from .ensures)
 
 pub make-open-spec : {M : Type 1} → statement M
 make-open-spec =

@@ -1,3 +1,6 @@
+use mathlib.Core.Path.{_≡_, refl, sym, ap, _∙_}
+use lib.Seq.{length-take-le}
+use Rattle.replay.proofs.Fronts.{open-made, convert-made, rollback-made}
 use borrow.Author.Needs.{needs}
 use Rattle.replay.proofs.making.make_rollback.Statement.{statement}
 use Rattle.replay.proofs.making.make_rollback.Tie as tie
@@ -13,7 +16,7 @@ slice-relend-prefix-rollback c = search needs
 
 -- src/making.rt:46:61
 slice-aggregate-rollback : tie.Need-slice-aggregate-rollback
-slice-aggregate-rollback c = ?
+slice-aggregate-rollback c = sym (length-take-le _ _ (c .before .before .before .before .before .pre))
 
 -- src/making.rt:46:9
 rollback-requires : tie.Need-rollback-requires
@@ -37,7 +40,9 @@ same-length-2 c = search needs
 
 -- src/making.rt:42:1
 returns : tie.Need-returns
-returns c = ?
+returns c = let a = c .before .before .before .before .before .before .before .before .before .before .before .before .before .before .before in let o = c .before .before .before .before .before .before .before .before .before .rollback in
+    rollback-made (a .args .program .now) (a .args .journal .now) (a .args .workspace .now) (o .last .1 .1 .1 .0) _ _ _ (a .args .fuel) (a .args .n) (o .result) (a .pre) (o .kept .1 .1 .1 .0)
+    (o .ensures .0) (o .ensures .1 .0) (o .ensures .1 .1) (c .turn-line .ensures) (c .before .before .before .clear-from .ensures)
 
 pub make-rollback-spec : {M : Type 1} → statement M
 make-rollback-spec =

@@ -1,3 +1,5 @@
+use mathlib.Core.Path.{_≡_, refl, sym, ap, _∙_}
+use Rattle.replay.proofs.Beginnings.{follow-refused, follow-accepted, opened-begins, begins-end, begins-malformed, begins-play}
 use borrow.Author.Needs.{needs}
 use Rattle.replay.proofs.playing.opened_on.Statement.{statement}
 use Rattle.replay.proofs.playing.opened_on.Tie as tie
@@ -38,7 +40,7 @@ play-on-requires c κs = search needs
 
 -- src/playing.rt:117:1
 returns : tie.Need-returns
-returns c = ?
+returns c = let a = c .before .before .before .before .before .before .before .before .args in follow-refused (a .program .now) (a .script .now) (a .part) (a .journal .now) (a .answers .now) (a .workspace .now) _ _ (c .before .answer .given .1)
 
 -- src/playing.rt:117:1
 same-length : tie.Need-same-length
@@ -54,7 +56,7 @@ same-length-3 c = search needs
 
 -- src/playing.rt:117:1
 returns-2 : tie.Need-returns-2
-returns-2 c = ?
+returns-2 c = let a = c .before .before .before .before .before .before .before .before .before .before .before .before .before .before .before .before .before .before .before .before .before .before .before .before .before .before .before .args in follow-accepted (a .program .now) (a .script .now) (a .part) (a .journal .now) (a .answers .now) (a .workspace .now) _ _ _ _ _ _ _ _ (c .before .before .before .before .before .before .before .before .before .before .before .before .before .before .before .before .before .before .before .before .enum-told .given .1) (c .before .before .before .before .before .before .before .before .before .before .before .before .before .before .before .before .before .before .before .before .before .before .before .before .before .before .before .pre .1 .0) (c .before .before .before .before .before .before .before .before .before .before .before .before .before .before .before .before .before .before .clear-from .ensures) (c .before .before .before .before .before .before .before .before .before .before .before .before .before .before .before .open-line .ensures) (c .before .before .before .before .before .before .before .before .before .before .before .before .copy .ensures) (c .before .before .before .before .before .before .play-on .ensures)
 
 pub opened-on-spec : {M : Type 1} → statement M
 opened-on-spec =

@@ -1,3 +1,8 @@
+use mathlib.Core.Path.{_≡_, refl, sym, ap, _∙_}
+use Rattle.replay.proofs.Beginnings.{follow-refused, follow-accepted, opened-begins, begins-end, begins-malformed, begins-play}
+use Rattle.replay.proofs.Parts.{within}
+use native.Mathlib.Omega.{arith}
+use Rattle.replay.specs.Playing.{replayed}
 use borrow.Author.Needs.{needs}
 use Rattle.replay.proofs.playing.replay.Statement.{statement}
 use Rattle.replay.proofs.playing.replay.Tie as tie
@@ -24,15 +29,17 @@ enum-known-step c = search needs
 
 -- src/playing.rt:188:29
 begin-requires : tie.Need-begin-requires
-begin-requires c κs = ?
+begin-requires c κs = let w = within (c .before .before .before .before .before .before .before .before .before .before .before .before .args .script .now) 0 (sym (c .before .before .before .before .before .before .step-at .ensures) ∙ c .before .before .before .before .step .given .1) in ((w .ordered, w .inside), omega (arith, w .further))
 
 -- src/playing.rt:175:1
 returns : tie.Need-returns
-returns c = ?
+unfolding replayed
+returns c = begins-end (c .before .before .before .before .before .before .before .before .args .program .now) (c .before .before .before .before .before .before .before .before .args .script .now) (c .before .before .before .before .before .before .before .before .args .journal .now) (c .before .before .before .before .before .before .before .before .args .answers .now) (c .before .before .before .before .before .before .before .before .args .workspace .now) _ (sym (c .enum-told .given .1) ∙ c .before .before .step-at .ensures)
 
 -- src/playing.rt:175:1
 returns-2 : tie.Need-returns-2
-returns-2 c = ?
+unfolding replayed
+returns-2 c = begins-malformed (c .before .before .before .before .before .before .before .before .args .program .now) (c .before .before .before .before .before .before .before .before .args .script .now) (c .before .before .before .before .before .before .before .before .args .journal .now) (c .before .before .before .before .before .before .before .before .args .answers .now) (c .before .before .before .before .before .before .before .before .args .workspace .now) _ (sym (c .enum-told2 .given .1) ∙ c .before .before .step-at .ensures)
 
 -- src/playing.rt:175:1
 same-length : tie.Need-same-length
@@ -48,7 +55,8 @@ same-length-3 c = search needs
 
 -- src/playing.rt:175:1
 returns-3 : tie.Need-returns-3
-returns-3 c = ?
+unfolding replayed
+returns-3 c = begins-play (c .before .before .before .before .before .before .before .before .before .before .before .before .before .before .before .before .before .before .before .args .program .now) (c .before .before .before .before .before .before .before .before .before .before .before .before .before .before .before .before .before .before .before .args .script .now) (c .before .before .before .before .before .before .before .before .before .before .before .before .before .before .before .before .before .before .before .args .journal .now) (c .before .before .before .before .before .before .before .before .before .before .before .before .before .before .before .before .before .before .before .args .answers .now) (c .before .before .before .before .before .before .before .before .before .before .before .before .before .before .before .before .before .before .before .args .workspace .now) _ _ _ _ _ _ (sym (c .before .before .before .before .before .before .before .before .before .before .before .step .given .1) ∙ c .before .before .before .before .before .before .before .before .before .before .before .before .before .step-at .ensures) (c .before .before .before .before .before .before .begin .ensures)
 
 pub replay-spec : {M : Type 1} → statement M
 replay-spec =
