@@ -9,3 +9,5 @@ pub mod Fronts
 pub mod Turns
 -- the first call
 pub mod Beginnings
+-- the plain book: demand 3 of a script
+pub mod Book

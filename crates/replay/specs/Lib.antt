@@ -5,3 +5,5 @@ pub mod Scripts
 pub mod Lines
 -- playing it, call by call
 pub mod Playing
+-- the plain book of a script
+pub mod Booked

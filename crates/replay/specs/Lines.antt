@@ -16,6 +16,12 @@ line isOpen = lineOf 0x41 0 0
 line (holds l s) = lineOf 0x42 l s
 line (refuses n p) = lineOf 0x43 n p
 
+-- one line behind another
+unfoldable pub lines : List Told → List ℕ
+unfolding line
+lines [] = []
+lines (t ∷ ts) = line t ++ lines ts
+
 -- the line of what a public call answers
 unfoldable pub checkLine : Answer (Unit {0}) → List ℕ
 unfolding line

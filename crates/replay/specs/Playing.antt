@@ -1,5 +1,5 @@
 -- Playing a script on one program, one workspace, one journal's buffer and one buffer for the answers, step by step as
--- calls/specs/Book has the calls. Each call gets the front part of the journal's buffer that it names. Laws: proofs/Playing.
+-- calls/specs/Book has the calls. Each call gets the front part of the journal's buffer that it names. Laws: proofs/Turns, proofs/Beginnings.
 use Prim.Native.Nat.{ℕ, zero, suc, _+_, _*_, _-_}
 use mathlib.Core.Path.{_≡_}
 use mathlib.Core.Bool.{Bool, true, false, cond}

@@ -1,9 +1,9 @@
 -- A script: the arguments of journal calls (section 5), one call behind another. A call is a tag byte (31, 32 or 33 hexadecimal: open,
 -- convert, rollback), the length of its journal's buffer in four bytes, then two bytes each: convert and rollback their fuel, convert its
--- function, open and convert the length of the bytes behind: the record, or the ancilla values. Laws: proofs/Scripts.
-use Prim.Native.Nat.{ℕ, _+_, _-_}
+-- function, open and convert the length of the bytes behind: the record, or the ancilla values. Laws: proofs/Parts.
+use Prim.Native.Nat.{ℕ, zero, suc, _+_, _-_}
 use mathlib.Core.Bool.{Bool, true, false}
-use mathlib.Core.List.{List}
+use mathlib.Core.List.{List, [], _∷_}
 use lib.ListN.{length, take, drop, getD}
 use lib.Dec.{eqb, ltb}
 use package.Rattle.octets.specs.Numbers.{get16, get32}
@@ -65,3 +65,16 @@ unfoldable pub callOf : ℕ → List ℕ → Part → Call
 callOf ws s p =
     pick (eqb (p .kind) openTag) (opens ws (givenOf s p) (p .n))
     (pick (eqb (p .kind) convertTag) (converts ws (p .fuel) (p .function) (givenOf s p) (p .n)) (rollsBack ws (p .fuel) (p .n)))
+
+----------------------------------------------------------------
+-- All calls
+
+-- the calls from a place on; `room` bounds how many there are
+unfoldable pub callsFrom : ℕ → ℕ → List ℕ → ℕ → List Call
+unfolding stepAt callOf
+callsFrom zero ws s at = []
+callsFrom (suc room) ws s at = elim (stepAt s at) [
+    End ↦ []
+  | Malformed ↦ []
+  | Play p ↦ callOf ws s p ∷ callsFrom room ws s (p .next)
+  ]
