@@ -1,0 +1,73 @@
+#!/usr/bin/env bash
+# Builds the example of each binding over the static library, runs it, and compares its answers with the second evaluator's.
+# Without a C compiler the C example is skipped, which counts neither way. The last line is 'N passed, M failed'; the exit
+# status is 0 only if M is 0.
+set -euo pipefail
+cd "$(dirname "$0")/.."
+
+passed=0
+failed=0
+scratch=$(mktemp -d)
+trap 'rm -rf "$scratch"' EXIT
+
+# part NAME COMMAND..
+part() {
+    local name=$1
+    shift
+    if "$@"; then
+        passed=$((passed + 1))
+        echo "$name: ok"
+    else
+        failed=$((failed + 1))
+        echo "$name: FAILED"
+    fi
+}
+
+# Written anew only where a source is younger, since it proves the crate again.
+library() {
+    local archive=target/staticlib/libexports.a
+    if [ ! -e "$archive" ] || [ -n "$(find crates crates.txt -newer "$archive" -print -quit)" ]; then
+        rt staticlib exports
+    fi
+}
+
+# The calls that both examples make, in the second evaluator's lines.
+plus_calls() {
+    local program two=04020402040100 three=040204020402040100 most=2129888
+    program=$(od -An -v -tx1 "$scratch/plus.cf" | tr -d ' \n')
+    echo "check $most $program"
+    echo "forward $most 1024 28 0 $program $two $three"
+    echo "forward $most 1024 27 0 $program $two $three"
+    echo "backward $most 1024 28 0 $program $two 04020402040204020402040100"
+    echo "backward $most 1024 28 1 $program - 03${three}0402${three}"
+}
+
+expect_plus() {
+    examples/bytes.sh examples/programs/plus.txt > "$scratch/plus.cf" &&
+        plus_calls > "$scratch/calls" &&
+        cargo run --quiet --release --offline --manifest-path tests/second/Cargo.toml -- answer < "$scratch/calls" > "$scratch/plus"
+}
+
+c_example() {
+    "$compiler" -std=c99 -O2 -Wall -Wextra -pedantic -Werror -I include examples/c/plus.c target/staticlib/libexports.a -o "$scratch/plus-c" &&
+        "$scratch/plus-c" "$scratch/plus.cf" > "$scratch/got" &&
+        diff "$scratch/got" "$scratch/plus"
+}
+
+rust_example() {
+    cargo run --quiet --release --offline --manifest-path bindings/rust/Cargo.toml --example plus "$scratch/plus.cf" > "$scratch/got" &&
+        diff "$scratch/got" "$scratch/plus"
+}
+
+part "static library" library
+part "the second evaluator's answers" expect_plus
+if compiler=$(command -v cc || command -v gcc || command -v clang); then
+    part "C example" c_example
+else
+    echo "C example: SKIPPED, there is no C compiler here"
+fi
+part "Rust example" rust_example
+part "Rust, a refusal's words are the engine's" cargo test --quiet --release --offline --manifest-path bindings/rust/Cargo.toml --lib
+
+echo "$passed passed, $failed failed"
+[ "$failed" -eq 0 ]
