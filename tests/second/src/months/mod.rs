@@ -88,7 +88,8 @@ impl Machine {
             answers: Vec::new(),
             tally: Tally::default(),
             buffer: BUFFER / 4,
-            record: Record { form: Form::Old, weeks: 0, strokes: Vec::new() },
+            // Of no weeks and no strokes both forms would have the same bytes.
+            record: Record { form: Form::Old, weeks: 1, strokes: Vec::new() },
             met: Vec::new(),
         };
         machine.open(machine.record.clone());
@@ -179,7 +180,7 @@ impl Machine {
                 Answer::Refused(refusal) if refusal.number == Number::Size => self.restart(self.record.form),
                 Answer::Refused(_) if self.met.len() == CONVERSIONS => self.restart(self.record.form),
                 Answer::Refused(_) => self.buffer = BUFFER,
-                other => unreachable!("a conversion is held or refused: {other:?}"),
+                other => unreachable!("a conversion is held or refused: {:?}", line(&other)),
             }
         }
         false
@@ -209,7 +210,11 @@ impl Machine {
         }
         self.buffer = BUFFER;
         let answer = self.act(Act::Rollback { fuel }, self.buffer);
-        assert!(matches!(answer, Answer::Held { .. }), "a rollback with enough of everything: {answer:?}");
+        assert!(
+            matches!(answer, Answer::Held { .. }),
+            "a rollback with enough of everything: {:?}",
+            line(&answer)
+        );
         self.record = self.met.pop().expect("a conversion stands");
         self.settled();
     }
@@ -225,7 +230,7 @@ impl Machine {
         let needed = 3 + record.bytes().len();
         let buffer = self.buffer.max(needed).max(self.player.fields.len());
         let answer = self.act(Act::Open { record: record.bytes() }, buffer);
-        assert!(matches!(answer, Answer::Opened { .. }), "an open with enough of everything: {answer:?}");
+        assert!(matches!(answer, Answer::Opened { .. }), "an open with enough of everything: {:?}", line(&answer));
         self.record = record;
         self.met.clear();
         self.settled();

@@ -4,7 +4,7 @@ use super::firmware::{Form, STROKE};
 use super::{Machine, MOST_FUEL};
 use crate::calls::Answer;
 use crate::limits::VALUE_BYTES;
-use crate::script::Act;
+use crate::script::{line, Act};
 
 impl Machine {
     pub(super) fn refused_call(&mut self) {
@@ -26,13 +26,13 @@ impl Machine {
             _ => return self.in_too_short_a_buffer(convert(enough, function, ancillae)),
         };
         let answer = self.act(act, self.buffer);
-        assert!(matches!(answer, Answer::Refused(_)), "a call that is refused: {answer:?}");
+        assert!(matches!(answer, Answer::Refused(_)), "a call that is refused: {:?}", line(&answer));
     }
 
     /// Just the fields fit: one more entry does not.
     fn in_too_short_a_buffer(&mut self, act: Act) {
         let answer = self.act(act, self.player.fields.len());
-        assert!(matches!(answer, Answer::Refused(_)), "a buffer that is too short: {answer:?}");
+        assert!(matches!(answer, Answer::Refused(_)), "a buffer that is too short: {:?}", line(&answer));
     }
 
     fn any_stroke(&mut self, form: Form) -> Vec<u8> {
