@@ -13,7 +13,7 @@
 use crate::book::{Book, Circumstances};
 use crate::calls::Answer;
 use crate::journal::Journal;
-use crate::refusal::Refusal;
+use crate::refusal::{Number, Refusal};
 
 const OPEN: u8 = 0x31;
 const CONVERT: u8 = 0x32;
@@ -183,15 +183,15 @@ pub enum Ended {
     Cut(usize),
 }
 
-/// Plays a script; the journal and the answers are changed as far as it is played.
+/// Plays a script; the buffers are changed as far as it is played. The workspace is zero after a call, unchanged after refusal 1.
 pub fn replay(
     program: &[u8],
     script: &[u8],
-    workspace: usize,
+    workspace: &mut [u8],
     journal: &mut Vec<u8>,
     answers: &mut [u8],
 ) -> Ended {
-    let mut player = Player::new(program.to_vec(), workspace);
+    let mut player = Player::new(program.to_vec(), workspace.len());
     let mut rest = script;
     let mut count = 0;
     while count == 0 || !rest.is_empty() {
@@ -206,7 +206,11 @@ pub fn replay(
         } else if step.buffer < player.fields.len() {
             return Ended::Cut(at);
         }
-        match player.play(&step) {
+        let answer = player.play(&step);
+        if !matches!(answer, Answer::Refused(refusal) if refusal.number == Number::Workspace) {
+            workspace.fill(0);
+        }
+        match answer {
             Answer::Refused(refusal) if count == 0 => return Ended::Unopened(refusal),
             answer => answers[LINE * count..][..LINE].copy_from_slice(&line(&answer)),
         }

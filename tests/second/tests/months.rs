@@ -35,15 +35,25 @@ fn script(steps: &[Step]) -> Vec<u8> {
 
 struct Left {
     ended: Ended,
+    workspace: Vec<u8>,
     journal: Vec<u8>,
     answers: Vec<u8>,
 }
 
-/// Plays on a journal of 40 bytes, with room for three answers, each filled with 55 (hexadecimal).
+/// Plays on a journal of 40 bytes, with room for three answers, all buffers filled with 55 (hexadecimal).
+fn play_in(room: usize, script: &[u8]) -> Left {
+    let (mut workspace, mut journal, mut answers) = (vec![0x55; room], vec![0x55; 40], vec![0x55; 3 * LINE]);
+    let ended = replay(&program(), script, &mut workspace, &mut journal, &mut answers);
+    Left { ended, workspace, journal, answers }
+}
+
 fn play(script: &[u8]) -> Left {
-    let (mut journal, mut answers) = (vec![0x55; 40], vec![0x55; 3 * LINE]);
-    let ended = replay(&program(), script, WORKSPACE, &mut journal, &mut answers);
-    Left { ended, journal, answers }
+    play_in(WORKSPACE, script)
+}
+
+/// Are the bytes all the same?
+fn all(bytes: &[u8], same: u8) -> bool {
+    bytes.iter().all(|&byte| byte == same)
 }
 
 /// Section 6, P13, in the bytes of scripts and answers.
@@ -54,7 +64,7 @@ fn the_journal_of_section_6_is_played() {
     let lines = [[0x41, 0, 0, 0, 0, 0, 0], [0x42, 0, 13, 0, 0, 0, 28], [0x42, 0, 9, 0, 0, 0, 28]];
     assert_eq!(left.answers, lines.concat());
     assert_eq!(left.journal[..12], [&[0x21, 0, 9], &nat_bytes(3)[..]].concat());
-    assert!(left.journal[12..].iter().all(|&byte| byte == 0));
+    assert!(all(&left.journal[12..], 0) && all(&left.workspace, 0));
 }
 
 #[test]
@@ -62,7 +72,7 @@ fn a_script_that_does_not_begin_with_a_call_of_open_is_malformed() {
     for start in [vec![], vec![0x31, 0, 0], script(&[rollback(40)]), vec![0x34, 0, 0, 0, 40, 0, 0]] {
         let left = play(&start);
         assert_eq!(left.ended, Ended::Malformed(0));
-        assert_eq!((left.journal, left.answers), (vec![0x55; 40], vec![0x55; 3 * LINE]));
+        assert!(all(&left.journal, 0x55) && all(&left.answers, 0x55) && all(&left.workspace, 0x55));
     }
 }
 
@@ -89,10 +99,13 @@ fn playing_stops_where_a_call_cannot_be_made() {
 }
 
 #[test]
-fn a_first_open_that_is_refused_leaves_everything() {
+fn a_first_open_that_is_refused_leaves_journal_and_answers() {
     let left = play(&script(&[open(11, 3)]));
     assert_eq!(left.ended, Ended::Unopened(Number::JournalFull.plain()));
-    assert_eq!((left.journal, left.answers), (vec![0x55; 40], vec![0x55; 3 * LINE]));
+    assert!(all(&left.journal, 0x55) && all(&left.answers, 0x55) && all(&left.workspace, 0));
+    let left = play_in(32_767, &script(&[open(40, 3)]));
+    assert_eq!(left.ended, Ended::Unopened(Number::Workspace.plain()));
+    assert!(all(&left.journal, 0x55) && all(&left.answers, 0x55) && all(&left.workspace, 0x55));
 }
 
 /// The calls on bytes, which know no book, answer each call of the months as the book does and leave its journal.
@@ -132,7 +145,7 @@ fn on_bytes(act: Act, program: &[u8], journal: &[u8]) -> Call {
 fn the_months_are_played_as_a_script() {
     let made = months(2, 26, 4);
     let (mut journal, mut answers) = (vec![0x55; BUFFER], vec![0x55; made.answers.len()]);
-    let ended = replay(&made.program, &made.script, WORKSPACE, &mut journal, &mut answers);
+    let ended = replay(&made.program, &made.script, &mut [0; WORKSPACE], &mut journal, &mut answers);
     assert_eq!(ended, Ended::Played(made.tally.calls));
     assert_eq!((journal, answers), (made.journal, made.answers));
 }
@@ -157,7 +170,8 @@ fn random_scripts_end_in_every_way() {
     for _ in 0..600 {
         let call = script_call(&mut rng);
         let (mut journal, mut answers) = (vec![0x55; call.journal], vec![0x55; call.answers]);
-        ways[match replay(&call.program, &call.script, call.workspace, &mut journal, &mut answers) {
+        let mut workspace = vec![0x55; call.workspace];
+        ways[match replay(&call.program, &call.script, &mut workspace, &mut journal, &mut answers) {
             Ended::Played(_) => 0,
             Ended::Malformed(_) => 1,
             Ended::TooWide(_) => 2,
