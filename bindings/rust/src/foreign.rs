@@ -60,6 +60,40 @@ extern "C" {
         output_length: usize,
         told: *mut Told,
     );
+    fn corefun_open(
+        program: *const u8,
+        program_length: usize,
+        record: *const u8,
+        record_length: usize,
+        workspace: *mut u8,
+        workspace_length: usize,
+        journal: *mut u8,
+        journal_length: usize,
+        told: *mut Told,
+    );
+    fn corefun_convert(
+        program: *const u8,
+        program_length: usize,
+        function: u16,
+        ancillae: *const u8,
+        ancillae_length: usize,
+        fuel: u16,
+        workspace: *mut u8,
+        workspace_length: usize,
+        journal: *mut u8,
+        journal_length: usize,
+        told: *mut Told,
+    );
+    fn corefun_rollback(
+        program: *const u8,
+        program_length: usize,
+        fuel: u16,
+        workspace: *mut u8,
+        workspace_length: usize,
+        journal: *mut u8,
+        journal_length: usize,
+        told: *mut Told,
+    );
 }
 
 pub struct Run<'a> {
@@ -104,6 +138,71 @@ fn carry(function: RunFunction, run: &Run, workspace: &mut [u8], output: &mut [u
             workspace.len(),
             output.as_mut_ptr(),
             output.len(),
+            &mut told,
+        );
+    }
+    read(told)
+}
+
+pub fn open(program: &[u8], record: &[u8], workspace: &mut [u8], journal: &mut [u8]) -> Result<Done, Refusal> {
+    let mut told = [0; 4];
+    // SAFETY: each pointer and length are one slice's, and the borrows keep them apart.
+    unsafe {
+        corefun_open(
+            program.as_ptr(),
+            program.len(),
+            record.as_ptr(),
+            record.len(),
+            workspace.as_mut_ptr(),
+            workspace.len(),
+            journal.as_mut_ptr(),
+            journal.len(),
+            &mut told,
+        );
+    }
+    read(told)
+}
+
+pub fn convert(
+    program: &[u8],
+    function: u16,
+    ancillae: &[u8],
+    fuel: u16,
+    workspace: &mut [u8],
+    journal: &mut [u8],
+) -> Result<Done, Refusal> {
+    let mut told = [0; 4];
+    // SAFETY: each pointer and length are one slice's, and the borrows keep them apart.
+    unsafe {
+        corefun_convert(
+            program.as_ptr(),
+            program.len(),
+            function,
+            ancillae.as_ptr(),
+            ancillae.len(),
+            fuel,
+            workspace.as_mut_ptr(),
+            workspace.len(),
+            journal.as_mut_ptr(),
+            journal.len(),
+            &mut told,
+        );
+    }
+    read(told)
+}
+
+pub fn rollback(program: &[u8], fuel: u16, workspace: &mut [u8], journal: &mut [u8]) -> Result<Done, Refusal> {
+    let mut told = [0; 4];
+    // SAFETY: each pointer and length are one slice's, and the borrows keep them apart.
+    unsafe {
+        corefun_rollback(
+            program.as_ptr(),
+            program.len(),
+            fuel,
+            workspace.as_mut_ptr(),
+            workspace.len(),
+            journal.as_mut_ptr(),
+            journal.len(),
             &mut told,
         );
     }

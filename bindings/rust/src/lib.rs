@@ -1,5 +1,5 @@
 //! The CoreFun engine's calls as safe functions over its static library. Every call answers, whatever the bytes are: nothing
-//! panics, and a refusal leaves the output as it was. The deepest calls take 2.2 MB of stack.
+//! panics, and a refusal leaves output and journal as they were. The deepest calls take 2.2 MB of stack.
 //!
 //! The program format, and what to do about each refusal: docs/USING.md.
 
@@ -11,10 +11,10 @@ pub use refusal::Refusal;
 /// A value has at most so many bytes, so that an output of this length is never too short.
 pub const VALUE_BYTES: usize = 1024;
 
-/// What a run has done.
+/// What a run, a conversion or a rollback has done.
 #[derive(Clone, Copy, PartialEq, Eq, Debug)]
 pub struct Done {
-    /// Bytes of the value, which fills the output from its start.
+    /// Bytes of the value, which fills the output from its start or is now held in the journal.
     pub length: usize,
     pub steps: u32,
 }
@@ -55,4 +55,26 @@ pub fn backward(
 ) -> Result<Done, Refusal> {
     let run = foreign::Run { program, function, ancillae, value, fuel };
     foreign::backward(&run, workspace, output)
+}
+
+/// Opens a journal with a record: the buffer becomes the record's field and zeros.
+pub fn open(program: &[u8], record: &[u8], workspace: &mut [u8], journal: &mut [u8]) -> Result<(), Refusal> {
+    foreign::open(program, record, workspace, journal).map(|_| ())
+}
+
+/// Converts the held record by a function forward, and adds the conversion to those that stand.
+pub fn convert(
+    program: &[u8],
+    function: u16,
+    ancillae: &[u8],
+    fuel: u16,
+    workspace: &mut [u8],
+    journal: &mut [u8],
+) -> Result<Done, Refusal> {
+    foreign::convert(program, function, ancillae, fuel, workspace, journal)
+}
+
+/// Rolls the newest standing conversion back.
+pub fn rollback(program: &[u8], fuel: u16, workspace: &mut [u8], journal: &mut [u8]) -> Result<Done, Refusal> {
+    foreign::rollback(program, fuel, workspace, journal)
 }

@@ -2,7 +2,7 @@
 //! which does all but the run; so it has its share of the workspace's clearing and of the value's bytes. The shortest of
 //! several timings stands for each.
 
-use crate::engine;
+use crate::foreign;
 use second::bench::{best_of, largest_program, run_samples, Sample};
 use second::calls::{answer, Answer, Call, Direction, RunCall};
 use second::limits::{workspace, FUEL, VALUE_BYTES};
@@ -62,7 +62,7 @@ fn bench_run(name: &str, call: &RunCall) {
 fn bench_check() {
     let (program, terms) = largest_program();
     let mut space = vec![0; workspace(0)];
-    let engine = best_of(TIMES, || black_box(engine::check(black_box(&program), &mut space))[0] == 0);
+    let engine = best_of(TIMES, || black_box(foreign::check(black_box(&program), &mut space))[0] == 0);
     let call = Call::Check { workspace: workspace(0), program };
     let second = best_of(TIMES, || matches!(black_box(answer(black_box(&call))), Answer::Accepted));
     let term = |time: f64| time / terms as f64;
@@ -72,7 +72,7 @@ fn bench_check() {
 fn engine_time(call: &RunCall) -> f64 {
     let mut space = vec![0; call.workspace];
     let mut output = vec![0; call.output];
-    best_of(TIMES, || black_box(engine::run(black_box(call), &mut space, &mut output))[1] != u64::MAX)
+    best_of(TIMES, || black_box(foreign::run(black_box(call), &mut space, &mut output))[1] != u64::MAX)
 }
 
 fn second_time(call: &RunCall) -> f64 {
