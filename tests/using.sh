@@ -1,6 +1,6 @@
 #!/usr/bin/env bash
-# Holds docs/USING.md to what it says: every listing is its file, every refusal's words are the engine's, and every example, a
-# command behind '$' in a console block, prints the lines below it. Examples are answered twice: by the second evaluator, a refusal by
+# Holds docs/USING.md to what it says: every listing is its file, every refusal's words are the engine's, the journal's bytes are the
+# second evaluator's, and every example, a command behind '$' in a console block, prints the lines below it. Examples are answered twice: by the second evaluator, a refusal by
 # its number and place, and by the program corefun, to the letter. The last line is 'N passed, M failed'; the exit status
 # is 0 only if M is 0.
 set -euo pipefail
@@ -8,6 +8,9 @@ cd "$(dirname "$0")/.."
 
 root=$PWD
 page=docs/USING.md
+second=$root/tests/second/target/release/second
+# The workspace of the largest fuel.
+most=2129888
 passed=0
 failed=0
 scratch=$(mktemp -d)
@@ -45,6 +48,18 @@ refusals() {
     verdict "the words of the refusals" "$status"
 }
 
+# The page's journal: opened with 3, then converted by plus 2 in a buffer of 40 bytes.
+journal() {
+    local program answer zeros status=0
+    program=$(examples/bytes.sh examples/programs/plus.txt | od -An -v -tx1 | tr -d ' \n')
+    zeros=$(printf '00%.0s' {1..40})
+    answer=$("$second" answer <<< "open $most $program 040204020402040100 $zeros")
+    answer=$("$second" answer <<< "convert $most 28 0 $program 04020402040100 ${answer##* }")
+    diff <(awk '$0 == "```hexadecimal" { inside = 1; next } /^```$/ { inside = 0 } inside' "$page" |
+        sed 's/#.*//' | tr -d ' \n' | tr A-F a-f; echo 0000000000000000) <(echo "${answer##* }") || status=$?
+    verdict "the journal's bytes" "$status"
+}
+
 # example WHO COMMAND EXPECTED
 example() {
     local got status=0
@@ -75,11 +90,11 @@ examples() {
 second_as_corefun() {
     cat << END
 #!/usr/bin/env bash
-second=$root/tests/second/target/release/second
+second=$second
+most=$most
 END
     cat << 'END'
 program() { od -An -v -tx1 "$1" | tr -d ' \n'; }
-most=2129888
 case $1 in
     check) echo "check $most $(program "$2")" ;;
     forward | backward) echo "$1 $most 1024 $4 $3 $(program "$2") $5 $6" ;;
@@ -87,11 +102,12 @@ esac | "$second" answer
 END
 }
 
+cargo build --quiet --release --offline --manifest-path tests/second/Cargo.toml
 listings
 refusals
+journal
 
 mkdir -p "$scratch/second/bin" "$scratch/corefun/bin"
-cargo build --quiet --release --offline --manifest-path tests/second/Cargo.toml
 second_as_corefun > "$scratch/second/bin/corefun"
 chmod +x "$scratch/second/bin/corefun"
 examples second

@@ -145,7 +145,7 @@ fn on_bytes(act: Act, program: &[u8], journal: &[u8]) -> Call {
 fn the_months_are_played_as_a_script() {
     let made = months(2, 26, 4);
     let (mut journal, mut answers) = (vec![0x55; BUFFER], vec![0x55; made.answers.len()]);
-    let ended = replay(&made.program, &made.script, &mut [0; WORKSPACE], &mut journal, &mut answers);
+    let ended = replay(&made.program, &made.script, &mut vec![0; WORKSPACE], &mut journal, &mut answers);
     assert_eq!(ended, Ended::Played(made.tally.calls));
     assert_eq!((journal, answers), (made.journal, made.answers));
 }
