@@ -16,7 +16,7 @@ usage: harness lines < CALLS         both answer each call, and are compared
        harness lists SEED COUNT      COUNT lists of journal calls, each on the bytes that the engine left
        harness months SEED WEEKS STROKES
                                      the months of a machine with STROKES a day, call by call
-       harness bench                 ns a step forward and backward, ns a term for check, as ratios
+       harness bench                 ns a step forward and backward, ns a term for check, us a journal call, as ratios
        harness stack                 the stack that the deepest calls need";
 
 fn main() -> ExitCode {
