@@ -24,7 +24,7 @@ use package.Rattle.calls.proofs.Journal.Buffers.{resized-length, resized-writte
 use package.Rattle.journal.proofs.Pastes.{length-pasted, pasted-behind}
 use package.Rattle.replay.specs.Scripts.{pick, openTag, convertTag, stepAt, givenOf, callOf, callsFrom}
 use package.Rattle.replay.specs.Lines.{line, lines}
-use package.Rattle.replay.specs.Playing.{Reply, played, malformed, tooWide, shortAnswers, unopened, cut, Next, halts, on, swept, leaves, tested, Turn, unplayed, makes, turnOf, Result, ends, play, madeBy}
+use package.Rattle.replay.specs.Playing.{Reply, played, malformed, tooWide, shortAnswers, unopened, cut, Next, halts, on, swept, leaves, roomFor, uncut, tested, Turn, unplayed, makes, turnOf, Result, ends, play, madeBy}
 use package.Rattle.replay.specs.declared.scripts.Part.{Part}
 use package.Rattle.replay.specs.declared.scripts.Step.{Step}
 use package.Rattle.replay.specs.declared.scripts.Step.the-variants as steps
@@ -103,13 +103,19 @@ unlike : {A : Type 0} (b : Bool) (r : Reply) (m : Next) (k : ℕ) → pick b (ha
 unlike true r m k e f g = f (halts-inj e)
 unlike false r m k e f g = g e
 
+uncut-unlike : (m : Next) (n at k : ℕ) (J : List ℕ) → (m ≡ halts (played k) → ⊥) → uncut m n at J ≡ halts (played k) → ⊥
+unfolding uncut
+uncut-unlike (halts r) n at k J h e = h e
+uncut-unlike (on to) n at k J h e =
+    unlike (ltb n (lastField J)) (cut at) (on to) k e (λ q. let z : _≡_ {A = ℕ} 0 1 = cc in omega arith) λ q. let z : _≡_ {A = ℕ} 0 1 = cc in omega arith
+
 tested-unlike : (n at next count : ℕ) (J : List ℕ) (room k : ℕ) → tested n at next count J room ≡ halts (played k) → ⊥
-unfolding tested
+unfolding tested roomFor
 tested-unlike n at next count J room k e =
-    unlike (ltb (length J) n) (tooWide at) _ k e (λ q. let z : _≡_ {A = ℕ} 0 1 = cc in omega arith) λ e₁.
-    unlike (ltb room (7 * count + 7)) shortAnswers _ k e₁ (λ q. let z : _≡_ {A = ℕ} 0 1 = cc in omega arith) λ e₂.
-    unlike (ltb n (lastField J)) (cut at) (on next) k e₂ (λ q. let z : _≡_ {A = ℕ} 0 1 = cc in omega arith) λ e₃.
-    let z : _≡_ {A = ℕ} 0 1 = cc in omega arith
+    uncut-unlike (roomFor n at next count (length J) room) n at k J
+    (λ e. unlike (ltb (length J) n) (tooWide at) _ k e (λ q. let z : _≡_ {A = ℕ} 0 1 = cc in omega arith) λ e₁.
+    unlike (ltb room (7 * count + 7)) shortAnswers (on next) k e₁ (λ q. let z : _≡_ {A = ℕ} 0 1 = cc in omega arith) λ e₂.
+    let z : _≡_ {A = ℕ} 0 1 = cc in omega arith) e
 
 ----------------------------------------------------------------
 -- A turn, and the playing from there on

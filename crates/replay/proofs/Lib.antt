@@ -7,7 +7,10 @@ pub mod Lines
 pub mod Fronts
 -- one turn, and the calls in turn
 pub mod Turns
+-- reading all calls first
+pub mod Scans
 -- the first call
 pub mod Beginnings
--- the plain book: demand 3 of a script
+-- the plain book: the calls of a script, and demand 3 of all of it
 pub mod Book
+pub mod Demand

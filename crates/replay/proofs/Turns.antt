@@ -6,13 +6,13 @@ use mathlib.Core.Bool.{Bool, true, false}
 use mathlib.Core.List.{List, [], _∷_}
 use lib.ListN.{length}
 use lib.Dec.{eqb, ltb}
-use borrow.Author.Tests.{ltb-false, eq-eqb}
+use borrow.Author.Tests.{ltb-false, eq-eqb, lt-ltb, le-ltb}
 use package.Rattle.octets.specs.Runs.{pasted}
 use package.Rattle.calls.specs.Book.{Call}
 use package.Rattle.calls.specs.Claims.{lastField}
 use package.Rattle.replay.specs.Scripts.{pick, stepAt, callOf}
 use package.Rattle.replay.specs.Lines.{line}
-use package.Rattle.replay.specs.Playing.{Reply, played, malformed, tooWide, shortAnswers, cut, replyOf, Next, halts, on, nextOf, swept, leaves, tested, Turn, makes, turnOf, Result, play, Made, TurnMeans, ReplayMeans}
+use package.Rattle.replay.specs.Playing.{Reply, played, malformed, tooWide, shortAnswers, cut, replyOf, Next, halts, on, nextOf, swept, leaves, roomFor, uncut, tested, Turn, makes, turnOf, Result, play, Made, TurnMeans, ReplayMeans}
 use package.Rattle.replay.specs.declared.scripts.Part.{Part}
 use package.Rattle.replay.specs.declared.scripts.Step.{Step}
 use package.Rattle.replay.specs.declared.scripts.Step.the-variants as steps
@@ -43,16 +43,46 @@ passed : {R : Type 0} (b : Bool) (r : Reply) (m : Next) {to : ℕ} → pick b (h
 passed true r m e k = absurd (halts≢on e)
 passed false r m e k = k refl e
 
+-- room for a call
+pub record Roomy (n next to count width room : ℕ) : Type 0 where
+  pub place : next ≡ to
+  pub narrow : n ≤ width
+  pub line : 7 * count + 7 ≤ room
+
+pub roomy : (n at next to count width room : ℕ) → roomFor n at next count width room ≡ on to → Roomy n next to count width room
+unfolding roomFor
+roomy n at next to count width room e =
+    passed (ltb width n) (tooWide at) _ e λ t₁ e₁. passed (ltb room (7 * count + 7)) shortAnswers _ e₁ λ t₂ e₂.
+    record { place = on-inj e₂; narrow = ltb-false width n t₁; line = ltb-false room (7 * count + 7) t₂ }
+
+uncut-on : (m : Next) (n at to : ℕ) (journal : List ℕ) → uncut m n at journal ≡ on to → (m ≡ on to) × (lastField journal ≤ n)
+unfolding uncut
+uncut-on (halts r) n at to journal e = absurd (halts≢on e)
+uncut-on (on k) n at to journal e = passed (ltb n (lastField journal)) (cut at) (on k) e λ t m. (m, ltb-false n (lastField journal) t)
+
 pub allowed : (n at next to count : ℕ) (journal : List ℕ) (room : ℕ) → tested n at next count journal room ≡ on to → Allowed n next to count room journal
 unfolding tested
 allowed n at next to count journal room e =
-    passed (ltb (length journal) n) (tooWide at) _ e λ t₁ e₁. passed (ltb room (7 * count + 7)) shortAnswers _ e₁ λ t₂ e₂.
-    passed (ltb n (lastField journal)) (cut at) _ e₂ λ t₃ e₃. record {
-      place = on-inj e₃;
-      narrow = ltb-false (length journal) n t₁;
-      line = ltb-false room (7 * count + 7) t₂;
-      whole = ltb-false n (lastField journal) t₃;
-    }
+    let u = uncut-on (roomFor n at next count (length journal) room) n at to journal e in
+    let r = roomy n at next to count (length journal) room (u .0) in
+    record { place = r .place; narrow = r .narrow; line = r .line; whole = u .1 }
+
+-- the tests in code
+pub test-stops : (r : Reply) (m : Next) (n at : ℕ) (journal : List ℕ) → halts r ≡ m → halts r ≡ uncut m n at journal
+unfolding uncut
+test-stops r m n at journal e = ap (λ m. uncut m n at journal) e
+
+pub test-cuts : (m : Next) (n at to end : ℕ) (journal : List ℕ) → on to ≡ m → end ≡ lastField journal → n < end → halts (cut at) ≡ uncut m n at journal
+unfolding uncut
+test-cuts m n at to end journal e q l =
+    let z : n < lastField journal = omega (arith, q) in
+    ap (λ b. pick b (halts (cut at)) (on to)) (sym (lt-ltb n (lastField journal) z)) ∙ ap (λ m. uncut m n at journal) e
+
+pub test-goes : (m : Next) (n at to end : ℕ) (journal : List ℕ) → on to ≡ m → end ≡ lastField journal → end ≤ n → on to ≡ uncut m n at journal
+unfolding uncut
+test-goes m n at to end journal e q l =
+    let z : lastField journal ≤ n = omega (arith, q) in
+    ap (λ b. pick b (halts (cut at)) (on to)) (sym (le-ltb n (lastField journal) z)) ∙ ap (λ m. uncut m n at journal) e
 
 ----------------------------------------------------------------
 -- One call
@@ -126,7 +156,7 @@ module _ (program s : List ℕ) (at count : ℕ) (J A W : List ℕ) where
       let e : turnOf program s (stepAt s at) at count J A W .next ≡ on next = sym (T .next-is) in
       rw (e, play, T .kept, T .told, T .clear)
 
-  step-ends : length s ≤ at → steps.End ≡ stepAt s at
+  pub step-ends : length s ≤ at → steps.End ≡ stepAt s at
   unfolding stepAt
   step-ends h = let z : length s - at ≡ 0 = omega arith in simp (eq-eqb (length s - at) 0 z)
 

@@ -25,7 +25,7 @@ use package.Rattle.replay.specs.declared.replies.Move.the-variants as mo
 ----------------------------------------------------------------
 -- Answers
 
--- The calls played, all of them; or why the playing stopped. The calls before that place stand played, with their answers.
+-- The calls played, all of them; or why the playing did not start, or stopped.
 pub data Reply : Type 0 where
   -- how many calls
   played : ℕ → Reply
@@ -37,7 +37,7 @@ pub data Reply : Type 0 where
   shortAnswers : Reply
   -- the first open is refused, with this number and place
   unopened : ℕ → ℕ → Reply
-  -- the buffer of the call at this place would cut the journal's fields
+  -- the buffer of the call at this place would cut the journal's fields; the calls before it stand played
   cut : ℕ → Reply
 
 abbrev pub replyOf : ReplayAnswer → Reply
@@ -70,12 +70,19 @@ swept (refuses n p) ws = cond (eqb n 1) ws (replicate (length ws) 0)
 unfoldable pub leaves : List ℕ → Call → List ℕ → Left
 leaves program c journal = call program c (resized (buffer c) journal)
 
--- May the call at `at`, with a buffer of `n` bytes, be made?
+-- Is there room for the call at `at`, with a buffer of `n` bytes, in a journal's buffer of `width` bytes, and for its line in `room` bytes?
+unfoldable pub roomFor : ℕ → ℕ → ℕ → ℕ → ℕ → ℕ → Next
+roomFor n at next count width room =
+    pick (ltb width n) (halts (tooWide at)) (pick (ltb room (7 * count + 7)) (halts shortAnswers) (on next))
+
+-- And does its buffer leave the journal's fields whole?
+unfoldable pub uncut : Next → ℕ → ℕ → List ℕ → Next
+uncut (halts r) n at journal = halts r
+uncut (on next) n at journal = pick (ltb n (lastField journal)) (halts (cut at)) (on next)
+
 unfoldable pub tested : ℕ → ℕ → ℕ → ℕ → List ℕ → ℕ → Next
-tested n at next count journal room =
-    pick (ltb (length journal) n) (halts (tooWide at))
-    (pick (ltb room (7 * count + 7)) (halts shortAnswers)
-    (pick (ltb n (lastField journal)) (halts (cut at)) (on next)))
+unfolding roomFor uncut
+tested n at next count journal room = uncut (roomFor n at next count (length journal) room) n at journal
 
 -- what comes next, the call made, if it was, and the buffers
 pub record Turn : Type 0 where
@@ -175,10 +182,27 @@ beginsAt steps.End program script journal answers workspace = ends (malformed 0)
 beginsAt steps.Malformed program script journal answers workspace = ends (malformed 0) journal answers workspace
 beginsAt (steps.Play p) program script journal answers workspace = begins program script p journal answers workspace
 
+-- A script is read to its end before any call is made: each call stands there whole, and there is room for it. `left` bounds how many
+-- calls there are.
+unfoldable pub scan : ℕ → ℕ → ℕ → List ℕ → ℕ → ℕ → Next
+unfolding stepAt roomFor
+scan zero width room s at count = halts (malformed at)
+scan (suc left) width room s at count = elim (stepAt s at) [
+    steps.End ↦ on count
+  | steps.Malformed ↦ halts (malformed at)
+  | steps.Play p ↦ elim (roomFor (p .n) at (p .next) count width room) [ halts r ↦ halts r | on next ↦ scan left width room s next (count + 1) ]
+  ]
+
+unfoldable pub plays : Next → List ℕ → List ℕ → List ℕ → List ℕ → List ℕ → Result
+unfolding beginsAt stepAt
+plays (halts r) program script journal answers workspace = ends r journal answers workspace
+plays (on k) program script journal answers workspace = beginsAt (stepAt script 0) program script journal answers workspace
+
 -- what playing a script answers and leaves
 unfoldable pub replayed : List ℕ → List ℕ → List ℕ → List ℕ → List ℕ → Result
-unfolding beginsAt
-replayed program script journal answers workspace = beginsAt (stepAt script 0) program script journal answers workspace
+unfolding scan plays
+replayed program script journal answers workspace =
+    plays (scan (suc (length script)) (length journal) (length answers) script 0 0) program script journal answers workspace
 
 ----------------------------------------------------------------
 -- What the functions promise

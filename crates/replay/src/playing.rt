@@ -9,28 +9,75 @@ use crate::stubs as engine;
 use crate::told;
 use rows::answers::CheckAnswer;
 ghost use mathlib.Core.Path.{_≡_};
-ghost use Prim.Native.Nat.{_+_, _*_, _≤_};
+ghost use Prim.Native.Nat.{suc, _+_, _*_, _≤_};
 ghost use lib.ListN.{length};
 ghost use Rattle.rows.specs.Answers.{checkAnswer};
 ghost use Rattle.replay.specs.Scripts.{stepAt, callOf};
-ghost use Rattle.replay.specs.Playing.{nextOf, tested, makes, turnOf, play, follows, begins, replayed, TurnMeans, ReplayMeans};
+ghost use Rattle.replay.specs.Booked.{Stood, Booked};
+ghost use Rattle.replay.specs.Playing.{replyOf, nextOf, roomFor, tested, scan, beginsAt, makes, turnOf, play, follows, begins, replayed, TurnMeans, ReplayMeans};
 
-// May the call at a place, with a buffer of `n` bytes, be made?
-fn test(n: usize, at: usize, next: usize, count: usize, journal: &[u8], room: usize) -> Move
+// Is there room for the call at a place, with a buffer of `n` bytes, and for its line?
+fn fits(n: usize, at: usize, next: usize, count: usize, width: usize, room: usize) -> Move
     requires { ⌜ 7 * count ≤ room ⌝ }
-    ensures { λ r. ⌜ nextOf r ≡ tested n at next count (now (journal .entry)) room ⌝ }
+    ensures { λ r. ⌜ nextOf r ≡ roomFor n at next count width room ⌝ }
 {
-    if journal.len() < n {
+    if width < n {
         return Move::Stop(ReplayAnswer::TooWide(at));
     }
     if room - 7 * count < 7 {
         return Move::Stop(ReplayAnswer::ShortAnswers);
     }
-    let end = making::last_field(journal);
-    if n < end {
-        return Move::Stop(ReplayAnswer::Cut(at));
-    }
     Move::To(next)
+}
+
+// And does its buffer leave the journal's fields whole?
+fn test(n: usize, at: usize, next: usize, count: usize, journal: &[u8], room: usize) -> Move
+    requires { ⌜ 7 * count ≤ room ⌝ }
+    ensures { λ r. ⌜ nextOf r ≡ tested n at next count (now (journal .entry)) room ⌝ }
+{
+    let fit = fits(n, at, next, count, journal.len(), room);
+    match fit {
+        Move::Stop(answer) => Move::Stop(answer),
+        Move::To(to) => {
+            let end = making::last_field(journal);
+            if n < end {
+                return Move::Stop(ReplayAnswer::Cut(at));
+            }
+            Move::To(to)
+        }
+    }
+}
+
+// Reads a script to its end: how many calls it has, all whole and with room.
+fn read_all(script: &[u8], width: usize, room: usize) -> Move
+    ensures { λ r. ⌜ nextOf r ≡ scan (suc (length (now (script .entry)))) width room (now (script .entry)) 0 0 ⌝ }
+{
+    let mut at: usize = 0;
+    let mut count: usize = 0;
+    while at < script.len() {
+        let step = scripts::step_at(script, at);
+        match step {
+            Step::End => {
+                return Move::To(count);
+            }
+            Step::Malformed => {
+                return Move::Stop(ReplayAnswer::Malformed(at));
+            }
+            Step::Play(part) => {
+                let fit = fits(part.n, at, part.next, count, width, room);
+                match fit {
+                    Move::Stop(answer) => {
+                        return Move::Stop(answer);
+                    }
+                    Move::To(next) => {
+                        at = next;
+                        count += 1;
+                    }
+                }
+            }
+        }
+    }
+    Move::To(count)
 }
 
 // The call that a script's part says, if it may be made; its line is the answers' line number `count`.
@@ -171,7 +218,26 @@ fn begin(
     opened_on(answer, program, script, part, workspace, journal, answers)
 }
 
-// Plays a script: its calls, in order, on the program, the workspace and the journal's buffer, a line of the answers for each.
+// A script that was read, from its first call on.
+fn start(
+    program: &[u8],
+    script: &[u8],
+    workspace: &mut [u8],
+    journal: &mut [u8],
+    answers: &mut [u8],
+) -> ReplayAnswer
+    ensures { λ r. ⌜ ReplayMeans r (beginsAt (stepAt (now (script .entry)) 0) (now (program .entry)) (now (script .entry)) (now (journal .entry)) (now (answers .entry)) (now (workspace .entry))) (now (journal .exit)) (now (answers .exit)) (now (workspace .exit)) ⌝ }
+{
+    let step = scripts::step_at(script, 0);
+    match step {
+        Step::End => ReplayAnswer::Malformed(0),
+        Step::Malformed => ReplayAnswer::Malformed(0),
+        Step::Play(part) => begin(program, script, part, workspace, journal, answers),
+    }
+}
+
+// Plays a script: its calls, in order, on the program, the workspace and the journal's buffer, a line of the answers for each. It is
+// read to its end first, so that one that is malformed or has no room touches nothing.
 pub fn replay(
     program: &[u8],
     script: &[u8],
@@ -179,12 +245,12 @@ pub fn replay(
     journal: &mut [u8],
     answers: &mut [u8],
 ) -> ReplayAnswer
-    ensures { λ r. ⌜ ReplayMeans r (replayed (now (program .entry)) (now (script .entry)) (now (journal .entry)) (now (answers .entry)) (now (workspace .entry))) (now (journal .exit)) (now (answers .exit)) (now (workspace .exit)) ⌝ }
+    ensures result { λ r. ⌜ ReplayMeans r (replayed (now (program .entry)) (now (script .entry)) (now (journal .entry)) (now (answers .entry)) (now (workspace .entry))) (now (journal .exit)) (now (answers .exit)) (now (workspace .exit)) ⌝ }
+    ensures book { λ r. ⌜ (Stood (replyOf r) → Booked (now (program .entry)) (now (script .entry)) (now (journal .entry)) (now (answers .entry)) (length (now (workspace .entry))) (replyOf r) (now (journal .exit)) (now (answers .exit))) ⌝ }
 {
-    let step = scripts::step_at(script, 0);
-    match step {
-        Step::End => ReplayAnswer::Malformed(0),
-        Step::Malformed => ReplayAnswer::Malformed(0),
-        Step::Play(part) => begin(program, script, part, workspace, journal, answers),
+    let read = read_all(script, journal.len(), answers.len());
+    match read {
+        Move::Stop(answer) => answer,
+        Move::To(_) => start(program, script, workspace, journal, answers),
     }
 }

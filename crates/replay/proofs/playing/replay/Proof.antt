@@ -1,75 +1,63 @@
 use mathlib.Core.Path.{_≡_, refl, sym, ap, _∙_}
-use Rattle.replay.proofs.Beginnings.{follow-refused, follow-accepted, opened-begins, begins-end, begins-malformed, begins-play}
-use Rattle.replay.proofs.Parts.{within}
-use native.Mathlib.Omega.{arith}
-use Rattle.replay.specs.Playing.{replayed}
+use Rattle.replay.proofs.Demand.{plays-stops, plays-goes, replay-booked}
+use Rattle.replay.specs.Playing.{nextOf, replayed}
+use Rattle.journal.proofs.Ends.{are-bytes}
 use borrow.Author.Needs.{needs}
 use Rattle.replay.proofs.playing.replay.Statement.{statement}
 use Rattle.replay.proofs.playing.replay.Tie as tie
 use Rattle.replay.proofs.playing.replay.Reads as reads
 use Rattle.replay.proofs.playing.replay.Lts as lts
-use Rattle.replay.proofs.playing.begin.Reads as begin-reads
-use Rattle.replay.proofs.scripts.step_at.Reads as step-at-reads
+use Rattle.replay.proofs.playing.read_all.Reads as read-all-reads
+use Rattle.replay.proofs.playing.start.Reads as start-reads
 
--- src/playing.rt:184:9
-step-at-requires : tie.Need-step-at-requires
-step-at-requires c κs = search needs
+-- src/playing.rt:251:9
+read-all-requires : tie.Need-read-all-requires
+read-all-requires c κs = search needs
 
--- src/playing.rt:186:22
+-- src/playing.rt:253:20
+enum-known-read : tie.Need-enum-known-read
+enum-known-read c = search needs
+
+-- src/playing.rt:254:47
 enum-told : tie.Need-enum-told
 enum-told c = search needs
 
--- src/playing.rt:187:28
-enum-told-2 : tie.Need-enum-told-2
-enum-told-2 c = search needs
+-- src/playing.rt:254:24
+start-requires : tie.Need-start-requires
+start-requires c κs = search needs
 
--- src/playing.rt:188:20
-enum-known-step : tie.Need-enum-known-step
-enum-known-step c = search needs
-
--- src/playing.rt:188:29
-begin-requires : tie.Need-begin-requires
-begin-requires c κs = let w = within (c .before .before .before .before .before .before .before .before .before .before .before .before .args .script .now) 0 (sym (c .before .before .before .before .before .before .step-at .ensures) ∙ c .before .before .before .before .step .given .1) in ((w .ordered, w .inside), omega (arith, w .further))
-
--- src/playing.rt:175:1
+-- src/playing.rt:241:1
 returns : tie.Need-returns
 unfolding replayed
-returns c = begins-end (c .before .before .before .before .before .before .before .before .args .program .now) (c .before .before .before .before .before .before .before .before .args .script .now) (c .before .before .before .before .before .before .before .before .args .journal .now) (c .before .before .before .before .before .before .before .before .args .answers .now) (c .before .before .before .before .before .before .before .before .args .workspace .now) _ (sym (c .enum-told .given .1) ∙ c .before .before .step-at .ensures)
+returns c = let m = plays-stops (c .before .before .before .before .before .before .before .before .before .args .program .now) (c .before .before .before .before .before .before .before .before .before .args .script .now) (c .before .before .before .before .before .before .before .before .before .args .journal .now) (c .before .before .before .before .before .before .before .before .before .args .answers .now) (c .before .before .before .before .before .before .before .before .before .args .workspace .now) _ _ (sym (ap nextOf (c .before .read .given .1)) ∙ c .before .before .before .read-all .ensures) in (m, λ st. replay-booked (c .before .before .before .before .before .before .before .before .before .args .program .now) (c .before .before .before .before .before .before .before .before .before .args .script .now) (c .before .before .before .before .before .before .before .before .before .args .journal .now) (c .before .before .before .before .before .before .before .before .before .args .answers .now) (c .before .before .before .before .before .before .before .before .before .args .workspace .now) (are-bytes (c .before .before .before .before .before .before .before .before .before .args .script .now) (c .before .before .before .before .before .before .before .shared-slice-known2 .given)) _ _ _ _ m st)
 
--- src/playing.rt:175:1
-returns-2 : tie.Need-returns-2
-unfolding replayed
-returns-2 c = begins-malformed (c .before .before .before .before .before .before .before .before .args .program .now) (c .before .before .before .before .before .before .before .before .args .script .now) (c .before .before .before .before .before .before .before .before .args .journal .now) (c .before .before .before .before .before .before .before .before .args .answers .now) (c .before .before .before .before .before .before .before .before .args .workspace .now) _ (sym (c .enum-told2 .given .1) ∙ c .before .before .step-at .ensures)
-
--- src/playing.rt:175:1
+-- src/playing.rt:241:1
 same-length : tie.Need-same-length
 same-length c = search needs
 
--- src/playing.rt:175:1
+-- src/playing.rt:241:1
 same-length-2 : tie.Need-same-length-2
 same-length-2 c = search needs
 
--- src/playing.rt:175:1
+-- src/playing.rt:241:1
 same-length-3 : tie.Need-same-length-3
 same-length-3 c = search needs
 
--- src/playing.rt:175:1
-returns-3 : tie.Need-returns-3
+-- src/playing.rt:241:1
+returns-2 : tie.Need-returns-2
 unfolding replayed
-returns-3 c = begins-play (c .before .before .before .before .before .before .before .before .before .before .before .before .before .before .before .before .before .before .before .args .program .now) (c .before .before .before .before .before .before .before .before .before .before .before .before .before .before .before .before .before .before .before .args .script .now) (c .before .before .before .before .before .before .before .before .before .before .before .before .before .before .before .before .before .before .before .args .journal .now) (c .before .before .before .before .before .before .before .before .before .before .before .before .before .before .before .before .before .before .before .args .answers .now) (c .before .before .before .before .before .before .before .before .before .before .before .before .before .before .before .before .before .before .before .args .workspace .now) _ _ _ _ _ _ (sym (c .before .before .before .before .before .before .before .before .before .before .before .step .given .1) ∙ c .before .before .before .before .before .before .before .before .before .before .before .before .before .step-at .ensures) (c .before .before .before .before .before .before .begin .ensures)
+returns-2 c = let m = plays-goes (c .before .before .before .before .before .before .before .before .before .before .before .before .before .before .before .before .before .before .args .program .now) (c .before .before .before .before .before .before .before .before .before .before .before .before .before .before .before .before .before .before .args .script .now) (c .before .before .before .before .before .before .before .before .before .before .before .before .before .before .before .before .before .before .args .journal .now) (c .before .before .before .before .before .before .before .before .before .before .before .before .before .before .before .before .before .before .args .answers .now) (c .before .before .before .before .before .before .before .before .before .before .before .before .before .before .before .before .before .before .args .workspace .now) _ _ _ _ _ _ (sym (ap nextOf (c .before .before .before .before .before .before .before .before .before .before .enum-told .given .1)) ∙ c .before .before .before .before .before .before .before .before .before .before .before .before .read-all .ensures) (c .before .before .before .before .before .before .start .ensures) in (m, λ st. replay-booked (c .before .before .before .before .before .before .before .before .before .before .before .before .before .before .before .before .before .before .args .program .now) (c .before .before .before .before .before .before .before .before .before .before .before .before .before .before .before .before .before .before .args .script .now) (c .before .before .before .before .before .before .before .before .before .before .before .before .before .before .before .before .before .before .args .journal .now) (c .before .before .before .before .before .before .before .before .before .before .before .before .before .before .before .before .before .before .args .answers .now) (c .before .before .before .before .before .before .before .before .before .before .before .before .before .before .before .before .before .before .args .workspace .now) (are-bytes (c .before .before .before .before .before .before .before .before .before .before .before .before .before .before .before .before .before .before .args .script .now) (c .before .before .before .before .before .before .before .before .before .before .before .before .before .before .before .before .shared-slice-known2 .given)) _ _ _ _ m st)
 
 pub replay-spec : {M : Type 1} → statement M
 replay-spec =
     tie.close
     (tie.spec
-    step-at-requires
+    read-all-requires
+    enum-known-read
     enum-told
-    enum-told-2
-    enum-known-step
-    begin-requires
+    start-requires
     returns
-    returns-2
     same-length
     same-length-2
     same-length-3
-    returns-3)
+    returns-2)
