@@ -1,2 +1,8 @@
 // Open, convert and rollback from the rows of the program on (document 01, sections 4 and 5).
 
+// open: the first record
+pub mod opening;
+// convert: one conversion more
+pub mod converting;
+// rollback: the newest conversion struck
+pub mod returning;
