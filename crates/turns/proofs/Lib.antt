@@ -7,3 +7,5 @@ pub mod Opens
 pub mod Converts
 -- rollback
 pub mod Rollbacks
+-- the rows of the program before those of the journal
+pub mod Loads

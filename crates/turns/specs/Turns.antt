@@ -10,6 +10,7 @@ use lib.Dec.{eqb, ltb}
 use package.Rattle.rules.specs.Limits.{maxConversions}
 use package.Rattle.rules.specs.Term.{Program}
 use package.Rattle.calls.specs.Answer.{Answer, accepted, refused, _>>=_, require, present}
+use package.Rattle.calls.specs.Load.{load}
 use package.Rattle.calls.specs.Values.{value, ancillae}
 use package.Rattle.calls.specs.Runs.{admit, goes, returns}
 use package.Rattle.calls.specs.Journal.{Entry, Journal, readJournal}
@@ -71,3 +72,13 @@ pub record TurnMeans (r : RunAnswer) (x : Answer Turned) (j j′ : List ℕ) : T
 -- the program whose entries stand at the offsets at the fronts of buffers
 abbrev pub inFronts : Counts → List ℕ → List ℕ → List ℕ → List ℕ → Program
 inFronts c xs types terms functions = programIn xs (take (c .types) types) (take (c .terms) terms) (take (c .functions) functions)
+
+-- the same of the program that the bytes are, if they are one
+abbrev pub openIn : List ℕ → List ℕ → ℕ → Answer (List ℕ)
+openIn xs bytes n = load xs >>= λ P. openOf bytes n
+
+abbrev pub convertIn : List ℕ → ℕ → ℕ → List ℕ → List ℕ → Answer Turned
+convertIn xs fuel fn anc journal = load xs >>= λ P. convertOf P fuel fn anc journal
+
+abbrev pub rollbackIn : List ℕ → ℕ → List ℕ → Answer Turned
+rollbackIn xs fuel journal = load xs >>= λ P. rollbackOf P fuel journal

@@ -6,3 +6,5 @@ pub mod opening;
 pub mod converting;
 // rollback: the newest conversion struck
 pub mod returning;
+// the same for a program in bytes: its rows come first
+pub mod programs;
