@@ -2,7 +2,7 @@
 -- calls/specs/Book has the calls. Each call gets the front part of the journal's buffer that it names. Laws: proofs/Turns, proofs/Beginnings.
 use Prim.Native.Nat.{ℕ, zero, suc, _+_, _*_, _-_}
 use mathlib.Core.Path.{_≡_}
-use mathlib.Core.Bool.{Bool, true, false, cond}
+use mathlib.Core.Bool.{cond}
 use mathlib.Core.List.{List, [], _∷_, _++_}
 use lib.ListN.{length, take, replicate}
 use lib.Dec.{eqb, ltb}
@@ -134,8 +134,8 @@ play zero program script at count journal answers workspace = ends (malformed at
 play (suc room) program script at count journal answers workspace =
     let t = turnOf program script (stepAt script at) at count journal answers workspace in
     elim (t .next) [
-      halts r ↦ ends r (t .journal) (t .answers) (t .workspace)
-    | on next ↦ play room program script next (count + 1) (t .journal) (t .answers) (t .workspace)
+      | halts r ↦ ends r (t .journal) (t .answers) (t .workspace)
+      | on next ↦ play room program script next (count + 1) (t .journal) (t .answers) (t .workspace)
     ]
 
 -- the calls that `play` makes, in order
@@ -145,8 +145,8 @@ madeBy zero program script at count journal answers workspace = []
 madeBy (suc room) program script at count journal answers workspace =
     let t = turnOf program script (stepAt script at) at count journal answers workspace in
     elim (t .next) [
-      halts r ↦ []
-    | on next ↦ t .made ++ madeBy room program script next (count + 1) (t .journal) (t .answers) (t .workspace)
+      | halts r ↦ []
+      | on next ↦ t .made ++ madeBy room program script next (count + 1) (t .journal) (t .answers) (t .workspace)
     ]
 
 ----------------------------------------------------------------
@@ -188,10 +188,10 @@ unfoldable pub scan : ℕ → ℕ → ℕ → List ℕ → ℕ → ℕ → Next
 unfolding stepAt roomFor
 scan zero width room s at count = halts (malformed at)
 scan (suc left) width room s at count = elim (stepAt s at) [
-    steps.End ↦ on count
+  | steps.End ↦ on count
   | steps.Malformed ↦ halts (malformed at)
   | steps.Play p ↦ elim (roomFor (p .n) at (p .next) count width room) [ halts r ↦ halts r | on next ↦ scan left width room s next (count + 1) ]
-  ]
+]
 
 unfoldable pub plays : Next → List ℕ → List ℕ → List ℕ → List ℕ → List ℕ → Result
 unfolding beginsAt stepAt

@@ -74,7 +74,7 @@ unfoldable pub callsFrom : ℕ → ℕ → List ℕ → ℕ → List Call
 unfolding stepAt callOf
 callsFrom zero ws s at = []
 callsFrom (suc room) ws s at = elim (stepAt s at) [
-    End ↦ []
+  | End ↦ []
   | Malformed ↦ []
   | Play p ↦ callOf ws s p ∷ callsFrom room ws s (p .next)
-  ]
+]
