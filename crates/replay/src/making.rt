@@ -13,7 +13,7 @@ ghost use Rattle.replay.specs.Scripts.{callOf};
 ghost use Rattle.replay.specs.Playing.{Made};
 
 // Zeros from a place to the end.
-pub fn clear_from(journal: &mut [u8], at: usize)
+pub(crate) fn clear_from(journal: &mut [u8], at: usize)
     requires { ⌜ at ≤ length (now journal) ⌝ }
     ensures { λ _. ⌜ now (journal .exit) ≡ take at (now (journal .entry)) ++ replicate (length (now (journal .entry)) - at) 0 ⌝ }
 {
@@ -75,7 +75,7 @@ fn make_rollback(
 }
 
 // The call that a script's part says, and the line that answers it.
-pub fn make(
+pub(crate) fn make(
     program: &[u8],
     script: &[u8],
     part: Part,
@@ -103,7 +103,7 @@ pub fn make(
 }
 
 // The end of the journal's last field, or of the buffer where it has not the journal's form.
-pub fn last_field(journal: &[u8]) -> usize
+pub(crate) fn last_field(journal: &[u8]) -> usize
     ensures { λ r. ⌜ r ≡ lastField (now (journal .entry)) ⌝ }
 {
     let found = journal::form::survey(journal);
