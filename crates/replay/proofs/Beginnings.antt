@@ -16,7 +16,7 @@ use package.Rattle.rows.specs.declared.answers.Refusal.{Refusal}
 use package.Rattle.rows.specs.declared.answers.CheckAnswer.{CheckAnswer}
 use package.Rattle.rows.specs.declared.answers.CheckAnswer.the-variants as checks
 use package.Rattle.replay.specs.Lines.{line, checkLine}
-use package.Rattle.replay.specs.Playing.{unopened, swept, Result, ends, play, follows, opened, begins, beginsAt, ReplayMeans}
+use package.Rattle.replay.specs.Playing.{unopened, swept, ends, play, follows, opened, begins, beginsAt, ReplayMeans}
 use package.Rattle.replay.specs.declared.scripts.Part.{Part}
 use package.Rattle.replay.specs.declared.scripts.Step.{Step}
 use package.Rattle.replay.specs.declared.scripts.Step.the-variants as steps
@@ -43,7 +43,7 @@ module _ (program s : List ℕ) (p : Part) (J A W : List ℕ) where
   follow-accepted answer a l J₁ A₁ J′ A′ W′ e h ej el ea M =
       let k : length (take (p .n) J) ≡ p .n = length-take-le (p .n) J h in
       let front : J₁ ≡ resized (length J) (take (p .n) J) =
-          ej ∙ ap (λ i. take (p .n) J ++ replicate (length J - i) 0) (sym k) ∙ sym (resized-longer (length J) (take (p .n) J) (omega arith)) in
+      ej ∙ ap (λ i. take (p .n) J ++ replicate (length J - i) 0) (sym k) ∙ sym (resized-longer (length J) (take (p .n) J) (omega arith)) in
       subst (λ x. ReplayMeans a (follows (checkAnswer x) program s p J A W) J′ A′ W′) (sym e)
       (subst (λ z. ReplayMeans a z J′ A′ W′)
       (ap₂ (λ j b. play (length s) program s (p .next) 1 j b W) front (ea ∙ ap (pasted A 0) el)) M)

@@ -4,7 +4,7 @@ use native.Mathlib.Omega.{arith}
 use mathlib.Core.Path.{_≡_, refl, sym, ap, ap₂, subst, _∙_}
 use mathlib.Core.Bool.{Bool, true, false}
 use mathlib.Core.List.{List, [], _∷_, _++_, append-nil}
-use lib.ListN.{length, take, drop, replicate, length-append, length-take, take-append-drop}
+use lib.ListN.{length, take, drop, length-append, take-append-drop}
 use lib.Dec.{eqb, ltb}
 use package.Rattle.octets.specs.Runs.{pasted}
 use package.Rattle.octets.proofs.Numbers.{AreBytes}
@@ -12,7 +12,7 @@ use package.Rattle.rules.specs.Limits.{maxVariables, maxNodes, maxFuel}
 use package.Rattle.rules.specs.Term.{Program}
 use package.Rattle.rules.specs.Typing.{WellTyped}
 use package.Rattle.rules.proofs.Basics.{given}
-use package.Rattle.calls.specs.Answer.{Answer, accepted, refused}
+use package.Rattle.calls.specs.Answer.{accepted}
 use package.Rattle.calls.specs.Load.{load}
 use package.Rattle.calls.specs.Journal.{fields, writeOut}
 use package.Rattle.calls.specs.Book.{Call, opens, converts, rollsBack, buffer, Book, Left, bookTurn, call, callRun, resized}
@@ -24,7 +24,7 @@ use package.Rattle.calls.proofs.Journal.Buffers.{resized-length, resized-writte
 use package.Rattle.journal.proofs.Pastes.{length-pasted, pasted-behind}
 use package.Rattle.replay.specs.Scripts.{pick, openTag, convertTag, stepAt, givenOf, callOf, callsFrom}
 use package.Rattle.replay.specs.Lines.{line, lines}
-use package.Rattle.replay.specs.Playing.{Reply, played, malformed, tooWide, shortAnswers, unopened, cut, Next, halts, on, swept, leaves, roomFor, uncut, tested, Turn, unplayed, makes, turnOf, Result, ends, play, madeBy}
+use package.Rattle.replay.specs.Playing.{Reply, played, malformed, tooWide, shortAnswers, cut, Next, halts, on, swept, leaves, roomFor, uncut, tested, Turn, unplayed, makes, turnOf, Result, ends, play, madeBy}
 use package.Rattle.replay.specs.declared.scripts.Part.{Part}
 use package.Rattle.replay.specs.declared.scripts.Step.{Step}
 use package.Rattle.replay.specs.declared.scripts.Step.the-variants as steps

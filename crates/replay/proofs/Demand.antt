@@ -4,7 +4,7 @@ use native.Mathlib.Omega.{arith}
 use mathlib.Core.Path.{_≡_, refl, sym, ap, subst, _∙_}
 use mathlib.Core.Bool.{Bool, true, false}
 use mathlib.Core.Option.{some}
-use mathlib.Core.List.{List, [], _∷_, _++_}
+use mathlib.Core.List.{List, [], _∷_}
 use lib.ListN.{length}
 use lib.Dec.{eqb, ltb}
 use borrow.Author.Tests.{ltb-false}
@@ -18,8 +18,8 @@ use package.Rattle.calls.specs.Load.{load}
 use package.Rattle.calls.specs.Values.{value}
 use package.Rattle.calls.specs.Journal.{fields, writeOut}
 use package.Rattle.calls.specs.Conversions.{openCall}
-use package.Rattle.calls.specs.Book.{Call, isOpen, bookRun, callRun, resized}
-use package.Rattle.calls.specs.Claims.{begun, Premises}
+use package.Rattle.calls.specs.Book.{Call, isOpen, callRun, resized}
+use package.Rattle.calls.specs.Claims.{begun}
 use package.Rattle.calls.proofs.Theorems.{demand3}
 use package.Rattle.calls.proofs.Load.{load-iff}
 use package.Rattle.calls.proofs.Values.{value-sound}
@@ -31,7 +31,7 @@ use package.Rattle.calls.proofs.Journal.Buffers.{length-writeOut}
 use package.Rattle.journal.proofs.Pastes.{length-pasted, pasted-behind}
 use package.Rattle.replay.specs.Scripts.{pick, openTag, stepAt, givenOf}
 use package.Rattle.replay.specs.Lines.{line, lines}
-use package.Rattle.replay.specs.Playing.{Reply, malformed, tooWide, shortAnswers, unopened, replyOf, Next, halts, on, swept, roomFor, Result, ends, play, madeBy, opened, begins, beginsAt, scan, plays, replayed, ReplayMeans}
+use package.Rattle.replay.specs.Playing.{Reply, tooWide, shortAnswers, replyOf, Next, halts, on, swept, roomFor, Result, play, madeBy, opened, begins, beginsAt, scan, plays, replayed, ReplayMeans}
 use package.Rattle.replay.specs.Booked.{Stood, Booked}
 use package.Rattle.replay.specs.declared.scripts.Part.{Part}
 use package.Rattle.replay.specs.declared.scripts.Step.{Step}

@@ -10,7 +10,7 @@ use package.Rattle.calls.specs.Answer.{cleared}
 use package.Rattle.calls.specs.Conversions.{openCall, convertCall, rollbackCall}
 use package.Rattle.calls.specs.Book.{Call, opens, converts, rollsBack, buffer, resized, afterOpen, afterTurned, call}
 use package.Rattle.calls.specs.Claims.{lastField}
-use package.Rattle.calls.specs.Journal.{Journal, fields, readJournal}
+use package.Rattle.calls.specs.Journal.{Journal, readJournal}
 use package.Rattle.journal.specs.Places.{placesOf, surveyOf}
 use package.Rattle.journal.specs.declared.places.Places.{Places}
 use package.Rattle.journal.specs.declared.places.Survey.the-variants as survey

@@ -1,7 +1,7 @@
 -- A call that stands in a script: where it ends, and how large its numbers are.
 use Prim.Native.Nat.{ℕ, _+_, _-_, _≤_, _<_}
 use native.Mathlib.Omega.{arith}
-use mathlib.Core.Path.{_≡_, refl, sym, subst}
+use mathlib.Core.Path.{_≡_, refl, subst}
 use mathlib.Core.Bool.{Bool, true, false}
 use mathlib.Core.List.{List}
 use lib.ListN.{length, getD}
@@ -11,7 +11,6 @@ use package.Rattle.octets.specs.Numbers.{get16, get32}
 use package.Rattle.octets.proofs.Numbers.{AreBytes, get16-below}
 use package.Rattle.replay.specs.Scripts.{pick, openTag, convertTag, rollbackTag, givenAt, openAt, convertAt, rollbackAt, stepAt}
 use package.Rattle.replay.specs.declared.scripts.Part.{Part}
-use package.Rattle.replay.specs.declared.scripts.Step.{Step}
 use package.Rattle.replay.specs.declared.scripts.Step.the-variants.{End, Malformed, Play}
 
 ----------------------------------------------------------------

@@ -1,12 +1,12 @@
 -- Reading a script to its end before any call is made.
 use Prim.Native.Nat.{ℕ, suc, _+_, _*_, _-_, _≤_}
 use native.Mathlib.Omega.{arith}
-use mathlib.Core.Path.{_≡_, refl, sym, ap, _∙_}
+use mathlib.Core.Path.{_≡_, sym, ap, _∙_}
 use mathlib.Core.List.{List}
 use lib.ListN.{length}
 use borrow.Author.Tests.{eq-eqb}
 use package.Rattle.replay.specs.Scripts.{stepAt}
-use package.Rattle.replay.specs.Playing.{Reply, malformed, Next, halts, on, roomFor, scan}
+use package.Rattle.replay.specs.Playing.{Reply, malformed, halts, on, roomFor, scan}
 use package.Rattle.replay.specs.declared.scripts.Part.{Part}
 use package.Rattle.replay.specs.declared.scripts.Step.the-variants as steps
 use package.Rattle.replay.proofs.Parts.{Within, within}

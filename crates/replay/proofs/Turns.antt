@@ -3,16 +3,16 @@ use Prim.Native.Nat.{ℕ, suc, _+_, _*_, _-_, _≤_, _<_}
 use native.Mathlib.Omega.{arith}
 use mathlib.Core.Path.{_≡_, refl, sym, ap, subst, _∙_}
 use mathlib.Core.Bool.{Bool, true, false}
-use mathlib.Core.List.{List, [], _∷_}
+use mathlib.Core.List.{List}
 use lib.ListN.{length}
-use lib.Dec.{eqb, ltb}
+use lib.Dec.{ltb}
 use borrow.Author.Tests.{ltb-false, eq-eqb, lt-ltb, le-ltb}
 use package.Rattle.octets.specs.Runs.{pasted}
 use package.Rattle.calls.specs.Book.{Call}
 use package.Rattle.calls.specs.Claims.{lastField}
 use package.Rattle.replay.specs.Scripts.{pick, stepAt, callOf}
 use package.Rattle.replay.specs.Lines.{line}
-use package.Rattle.replay.specs.Playing.{Reply, played, malformed, tooWide, shortAnswers, cut, replyOf, Next, halts, on, nextOf, swept, leaves, roomFor, uncut, tested, Turn, makes, turnOf, Result, play, Made, TurnMeans, ReplayMeans}
+use package.Rattle.replay.specs.Playing.{Reply, tooWide, shortAnswers, cut, replyOf, Next, halts, on, roomFor, uncut, tested, makes, turnOf, play, Made, TurnMeans, ReplayMeans}
 use package.Rattle.replay.specs.declared.scripts.Part.{Part}
 use package.Rattle.replay.specs.declared.scripts.Step.{Step}
 use package.Rattle.replay.specs.declared.scripts.Step.the-variants as steps
@@ -20,7 +20,7 @@ use package.Rattle.replay.specs.declared.replies.ReplayAnswer.{ReplayAns
 use package.Rattle.replay.specs.declared.replies.ReplayAnswer.the-variants as replies
 use package.Rattle.replay.specs.declared.replies.Move.{Move}
 use package.Rattle.replay.specs.declared.replies.Move.the-variants as moves
-use package.Rattle.replay.proofs.Parts.{Within, within}
+use package.Rattle.replay.proofs.Parts.{within}
 
 ----------------------------------------------------------------
 -- The tests

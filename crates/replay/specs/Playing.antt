@@ -1,8 +1,9 @@
 -- Playing a script on one program, one workspace, one journal's buffer and one buffer for the answers, step by step as
--- calls/specs/Book has the calls. Each call gets the front part of the journal's buffer that it names. Laws: proofs/Turns, proofs/Beginnings.
+-- calls/specs/Book has the calls. Each call gets the front part of the journal's buffer that it names. Laws:
+-- proofs/Turns, proofs/Scans, proofs/Beginnings.
 use Prim.Native.Nat.{ℕ, zero, suc, _+_, _*_, _-_}
 use mathlib.Core.Path.{_≡_}
-use mathlib.Core.Bool.{Bool, true, false, cond}
+use mathlib.Core.Bool.{cond}
 use mathlib.Core.List.{List, [], _∷_, _++_}
 use lib.ListN.{length, take, replicate}
 use lib.Dec.{eqb, ltb}
@@ -107,6 +108,7 @@ makes (on next) program c count journal answers workspace = record {
   workspace = swept (leaves program c journal .told) workspace;
 }
 
+-- what stands at a place, played
 unfoldable pub turnOf : List ℕ → List ℕ → Step → ℕ → ℕ → List ℕ → List ℕ → List ℕ → Turn
 unfolding makes tested callOf
 turnOf program script steps.End at count journal answers workspace = unplayed (played count) journal answers workspace
@@ -117,7 +119,7 @@ turnOf program script (steps.Play p) at count journal answers workspace =
 ----------------------------------------------------------------
 -- All calls
 
--- the answer, the calls made, in order, and the buffers
+-- the answer, and the buffers
 pub record Result : Type 0 where
   pub reply : Reply
   pub journal : List ℕ
@@ -127,26 +129,27 @@ pub record Result : Type 0 where
 abbrev pub ends : Reply → List ℕ → List ℕ → List ℕ → Result
 ends r journal answers workspace = record { reply = r; journal = journal; answers = answers; workspace = workspace }
 
--- the calls from a place on, `count` calls being made; `room` bounds how many there are
+-- The calls from a place on, `count` calls being made; `left` bounds how many there are. Each is tested where it is made, with the tests
+-- that the reading made (below) among them, so that a turn asks nothing of the script.
 unfoldable pub play : ℕ → List ℕ → List ℕ → ℕ → ℕ → List ℕ → List ℕ → List ℕ → Result
 unfolding turnOf
 play zero program script at count journal answers workspace = ends (malformed at) journal answers workspace
-play (suc room) program script at count journal answers workspace =
+play (suc left) program script at count journal answers workspace =
     let t = turnOf program script (stepAt script at) at count journal answers workspace in
     elim (t .next) [
-      halts r ↦ ends r (t .journal) (t .answers) (t .workspace)
-    | on next ↦ play room program script next (count + 1) (t .journal) (t .answers) (t .workspace)
+      | halts r ↦ ends r (t .journal) (t .answers) (t .workspace)
+      | on next ↦ play left program script next (count + 1) (t .journal) (t .answers) (t .workspace)
     ]
 
 -- the calls that `play` makes, in order
 unfoldable pub madeBy : ℕ → List ℕ → List ℕ → ℕ → ℕ → List ℕ → List ℕ → List ℕ → List Call
 unfolding turnOf
 madeBy zero program script at count journal answers workspace = []
-madeBy (suc room) program script at count journal answers workspace =
+madeBy (suc left) program script at count journal answers workspace =
     let t = turnOf program script (stepAt script at) at count journal answers workspace in
     elim (t .next) [
-      halts r ↦ []
-    | on next ↦ t .made ++ madeBy room program script next (count + 1) (t .journal) (t .answers) (t .workspace)
+      | halts r ↦ []
+      | on next ↦ t .made ++ madeBy left program script next (count + 1) (t .journal) (t .answers) (t .workspace)
     ]
 
 ----------------------------------------------------------------
@@ -176,6 +179,7 @@ begins program script p journal answers workspace =
     (opened (openCall (length workspace) program (givenOf script p) (p .n)) program script (p .next) journal answers workspace)))
     (ends (malformed 0) journal answers workspace)
 
+-- what stands at the start
 unfoldable pub beginsAt : Step → List ℕ → List ℕ → List ℕ → List ℕ → List ℕ → Result
 unfolding begins
 beginsAt steps.End program script journal answers workspace = ends (malformed 0) journal answers workspace
@@ -188,11 +192,12 @@ unfoldable pub scan : ℕ → ℕ → ℕ → List ℕ → ℕ → ℕ → Next
 unfolding stepAt roomFor
 scan zero width room s at count = halts (malformed at)
 scan (suc left) width room s at count = elim (stepAt s at) [
-    steps.End ↦ on count
+  | steps.End ↦ on count
   | steps.Malformed ↦ halts (malformed at)
   | steps.Play p ↦ elim (roomFor (p .n) at (p .next) count width room) [ halts r ↦ halts r | on next ↦ scan left width room s next (count + 1) ]
-  ]
+]
 
+-- what was read, played
 unfoldable pub plays : Next → List ℕ → List ℕ → List ℕ → List ℕ → List ℕ → Result
 unfolding beginsAt stepAt
 plays (halts r) program script journal answers workspace = ends r journal answers workspace
@@ -213,12 +218,14 @@ pub record Made (program : List ℕ) (c : Call) (journal workspace l journal′ 
   pub kept : journal′ ≡ resized (length journal) (leaves program c journal .journal)
   pub clear : workspace′ ≡ swept (leaves program c journal .told) workspace
 
+-- a turn was played
 pub record TurnMeans (m : Move) (t : Turn) (journal′ answers′ workspace′ : List ℕ) : Type 0 where
   pub next-is : nextOf m ≡ t .next
   pub kept : journal′ ≡ t .journal
   pub told : answers′ ≡ t .answers
   pub clear : workspace′ ≡ t .workspace
 
+-- a script was played: the answer, and what the buffers are afterwards
 pub record ReplayMeans (a : ReplayAnswer) (r : Result) (journal′ answers′ workspace′ : List ℕ) : Type 0 where
   pub answer : replyOf a ≡ r .reply
   pub kept : journal′ ≡ r .journal

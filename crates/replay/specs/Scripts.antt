@@ -69,12 +69,12 @@ callOf ws s p =
 ----------------------------------------------------------------
 -- All calls
 
--- the calls from a place on; `room` bounds how many there are
+-- the calls from a place on; `left` bounds how many there are
 unfoldable pub callsFrom : ℕ → ℕ → List ℕ → ℕ → List Call
 unfolding stepAt callOf
 callsFrom zero ws s at = []
-callsFrom (suc room) ws s at = elim (stepAt s at) [
-    End ↦ []
+callsFrom (suc left) ws s at = elim (stepAt s at) [
+  | End ↦ []
   | Malformed ↦ []
-  | Play p ↦ callOf ws s p ∷ callsFrom room ws s (p .next)
-  ]
+  | Play p ↦ callOf ws s p ∷ callsFrom left ws s (p .next)
+]

@@ -11,7 +11,5 @@ pub mod replies;
 pub mod making;
 // all calls
 pub mod playing;
-// stand-ins for the calls of the engine
-pub mod stubs;
 
 pub use playing::replay;

@@ -5,7 +5,6 @@ use crate::replies::ReplayAnswer;
 use crate::scripts;
 use crate::scripts::Part;
 use crate::scripts::Step;
-use crate::stubs as engine;
 use crate::told;
 use rows::answers::CheckAnswer;
 ghost use mathlib.Core.Path.{_≡_};
@@ -126,7 +125,16 @@ fn turn_at(
     match step {
         Step::End => Move::Stop(ReplayAnswer::Played(count)),
         Step::Malformed => Move::Stop(ReplayAnswer::Malformed(at)),
-        Step::Play(part) => turn(program, script, part, at, count, workspace, journal, answers),
+        Step::Play(part) => turn(
+            program,
+            script,
+            part,
+            at,
+            count,
+            workspace,
+            journal,
+            answers,
+        ),
     }
 }
 

@@ -93,7 +93,7 @@ fn rollback_at(script: &[u8], at: usize) -> Step
 }
 
 // What stands at a place.
-pub fn step_at(script: &[u8], at: usize) -> Step
+pub(crate) fn step_at(script: &[u8], at: usize) -> Step
     requires { ⌜ at ≤ length (now script) ⌝ }
     ensures { λ r. ⌜ r ≡ stepAt (now (script .entry)) at ⌝ }
 {

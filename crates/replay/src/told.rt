@@ -27,7 +27,7 @@ fn line_of(kind: u8, number: u64, detail: u64) -> [u8; 7]
 }
 
 // The line that answers an open.
-pub fn open_line(answer: CheckAnswer) -> [u8; 7]
+pub(crate) fn open_line(answer: CheckAnswer) -> [u8; 7]
     ensures { λ r. ⌜ r ≡ checkLine (checkAnswer answer) ⌝ }
 {
     match answer {
@@ -37,7 +37,7 @@ pub fn open_line(answer: CheckAnswer) -> [u8; 7]
 }
 
 // The line that answers a convert or a rollback.
-pub fn turn_line(answer: RunAnswer) -> [u8; 7]
+pub(crate) fn turn_line(answer: RunAnswer) -> [u8; 7]
     ensures { λ r. ⌜ r ≡ runLine (runAnswer answer) ⌝ }
 {
     match answer {

@@ -2,31 +2,22 @@ use Rattle.journal.proofs.Writes.{cleared-from}
 use borrow.Author.Needs.{needs}
 use Rattle.replay.proofs.making.clear_from.Statement.{statement}
 use Rattle.replay.proofs.making.clear_from.Tie as tie
-use Rattle.replay.proofs.making.clear_from.Reads as reads
-use Rattle.replay.proofs.making.clear_from.Lts as lts
-use Rattle.octets.proofs.clear.Reads as clear-reads
 
--- src/making.rt:21:19
 sub-clear : tie.Need-sub-clear
 sub-clear c = search needs
 
--- src/making.rt:21:19
 part-clear-start : tie.Need-part-clear-start
 part-clear-start c = search needs
 
--- src/making.rt:21:19
 part-clear-end : tie.Need-part-clear-end
 part-clear-end c = search needs
 
--- src/making.rt:21:5
 clear-requires : tie.Need-clear-requires
 clear-requires c κs = search needs
 
--- src/making.rt:17:1
 same-length : tie.Need-same-length
 same-length c = search needs
 
--- src/making.rt:17:1
 returns : tie.Need-returns
 returns c = let a = c .before .before .before .before .before in
     cleared-from (a .args .journal .now) (a .args .at) (c .before .before .clear .last .0) (a .pre) (c .before .before .clear .ensures)

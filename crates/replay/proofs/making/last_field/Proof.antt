@@ -1,29 +1,21 @@
-use mathlib.Core.Path.{_≡_, refl, sym, ap, _∙_}
+use mathlib.Core.Path.{sym, _∙_}
 use Rattle.replay.proofs.Fronts.{last-missing, last-there}
 use borrow.Author.Needs.{needs}
 use Rattle.replay.proofs.making.last_field.Statement.{statement}
 use Rattle.replay.proofs.making.last_field.Tie as tie
-use Rattle.replay.proofs.making.last_field.Reads as reads
-use Rattle.replay.proofs.making.last_field.Lts as lts
-use Rattle.journal.proofs.form.survey.Reads as survey-reads
 
--- src/making.rt:77:9
 survey-requires : tie.Need-survey-requires
 survey-requires c κs = search needs
 
--- src/making.rt:79:47
 enum-told : tie.Need-enum-told
 enum-told c = search needs
 
--- src/making.rt:80:39
 enum-known-found : tie.Need-enum-known-found
 enum-known-found c = search needs
 
--- src/making.rt:74:1
 returns : tie.Need-returns
 returns c = last-missing (c .before .before .before .before .args .journal .now) (sym (c .enum-told .given .1) ∙ c .before .before .survey .ensures .answer)
 
--- src/making.rt:74:1
 returns-2 : tie.Need-returns-2
 returns-2 c = last-there (c .before .before .before .before .before .args .journal .now) _ (sym (c .before .found .given .1) ∙ c .before .before .before .survey .ensures .answer)
 

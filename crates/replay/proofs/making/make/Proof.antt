@@ -1,74 +1,53 @@
-use borrow.Author.Tests.{lt-ltb, le-ltb, eq-eqb, ne-eqb}
-use mathlib.Core.Path.{_≡_, refl, sym, ap, _∙_}
+use borrow.Author.Tests.{eq-eqb, ne-eqb}
 use Rattle.replay.specs.Scripts.{callOf}
 use borrow.Author.Needs.{needs}
 use Rattle.replay.proofs.making.make.Statement.{statement}
 use Rattle.replay.proofs.making.make.Tie as tie
-use Rattle.replay.proofs.making.make.Reads as reads
-use Rattle.replay.proofs.making.make.Lts as lts
-use Rattle.replay.proofs.making.make_convert.Reads as make-convert-reads
-use Rattle.replay.proofs.making.make_open.Reads as make-open-reads
-use Rattle.replay.proofs.making.make_rollback.Reads as make-rollback-reads
 
--- src/making.rt:63:17
 sub-given : tie.Need-sub-given
 sub-given c = search needs
 
--- src/making.rt:63:17
 part-given-start : tie.Need-part-given-start
 part-given-start c = search needs
 
--- src/making.rt:63:17
 part-given-end : tie.Need-part-given-end
 part-given-end c = search needs
 
--- src/making.rt:65:9
 make-open-requires : tie.Need-make-open-requires
 make-open-requires c κs = search needs
 
--- src/making.rt:65:9
 same-length : tie.Need-same-length
 same-length c = search needs
 
--- src/making.rt:65:9
 same-length-2 : tie.Need-same-length-2
 same-length-2 c = search needs
 
--- src/making.rt:65:9
 returns : tie.Need-returns
 unfolding callOf
 returns c = simp (eq-eqb _ _ (c .before .before .before .before .before .before .before .if1 .taken)) (c .before .before .before .before .make-open .ensures)
 
--- src/making.rt:68:9
 make-convert-requires : tie.Need-make-convert-requires
 make-convert-requires c κs = search needs
 
--- src/making.rt:68:9
 same-length-3 : tie.Need-same-length-3
 same-length-3 c = search needs
 
--- src/making.rt:68:9
 same-length-4 : tie.Need-same-length-4
 same-length-4 c = search needs
 
--- src/making.rt:68:9
 returns-2 : tie.Need-returns-2
 unfolding callOf
 returns-2 c = simp (ne-eqb _ _ (c .before .before .before .before .before .before .before .before .if1 .left), eq-eqb _ _ (c .before .before .before .before .before .before .before .if2 .taken)) (c .before .before .before .before .make-convert .ensures)
 
--- src/making.rt:70:5
 make-rollback-requires : tie.Need-make-rollback-requires
 make-rollback-requires c κs = search needs
 
--- src/making.rt:52:1
 same-length-5 : tie.Need-same-length-5
 same-length-5 c = search needs
 
--- src/making.rt:52:1
 same-length-6 : tie.Need-same-length-6
 same-length-6 c = search needs
 
--- src/making.rt:52:1
 returns-3 : tie.Need-returns-3
 unfolding callOf
 returns-3 c = simp (ne-eqb _ _ (c .before .before .before .before .before .before .before .before .if1 .left), ne-eqb _ _ (c .before .before .before .before .before .before .before .if2 .left)) (c .before .before .before .before .make-rollback .ensures)

@@ -1,72 +1,54 @@
-use mathlib.Core.Path.{_≡_, refl, sym, ap, _∙_}
-use Rattle.replay.proofs.Beginnings.{follow-refused, follow-accepted, opened-begins, begins-end, begins-malformed, begins-play}
+use mathlib.Core.Path.{refl, sym}
+use Rattle.replay.proofs.Beginnings.{opened-begins}
 use borrow.Author.Tests.{lt-ltb, le-ltb, eq-eqb, ne-eqb}
 use lib.Seq.{length-take-le}
 use Rattle.replay.specs.Playing.{begins}
 use borrow.Author.Needs.{needs}
 use Rattle.replay.proofs.playing.begin.Statement.{statement}
 use Rattle.replay.proofs.playing.begin.Tie as tie
-use Rattle.replay.proofs.playing.begin.Reads as reads
-use Rattle.replay.proofs.playing.begin.Lts as lts
-use Rattle.replay.proofs.playing.opened_on.Reads as opened-on-reads
-use Rattle.replay.proofs.stubs.open.Reads as open-reads
 
--- src/playing.rt:161:9
 returns : tie.Need-returns
 unfolding begins
 returns c = simp (ne-eqb _ _ (c .if1 .taken)) (record { answer = refl; kept = refl; told = refl; clear = refl })
 
--- src/playing.rt:164:9
 returns-2 : tie.Need-returns-2
 unfolding begins
 returns-2 c = simp (eq-eqb _ _ (c .before .if1 .left), lt-ltb _ _ (c .if2 .taken)) (record { answer = refl; kept = refl; told = refl; clear = refl })
 
--- src/playing.rt:167:9
 returns-3 : tie.Need-returns-3
 unfolding begins
 returns-3 c = simp (eq-eqb _ _ (c .before .before .if1 .left), le-ltb _ _ (c .before .if2 .left), lt-ltb _ _ (c .if3 .taken)) (record { answer = refl; kept = refl; told = refl; clear = refl })
 
--- src/playing.rt:169:16
 sub-held : tie.Need-sub-held
 sub-held c = search needs
 
--- src/playing.rt:169:16
 part-held-start : tie.Need-part-held-start
 part-held-start c = search needs
 
--- src/playing.rt:169:16
 part-held-end : tie.Need-part-held-end
 part-held-end c = search needs
 
--- src/playing.rt:170:57
 slice-relend-prefix-open : tie.Need-slice-relend-prefix-open
 slice-relend-prefix-open c = search needs
 
--- src/playing.rt:170:57
 slice-aggregate-open : tie.Need-slice-aggregate-open
 slice-aggregate-open c = sym (length-take-le _ _ (c .before .before .before .before .if2 .left))
 
--- src/playing.rt:170:9
 open-requires : tie.Need-open-requires
 open-requires c κs = search needs
 
--- src/playing.rt:171:5
 opened-on-requires : tie.Need-opened-on-requires
 opened-on-requires c κs = search needs
 
--- src/playing.rt:144:1
 same-length : tie.Need-same-length
 same-length c = search needs
 
--- src/playing.rt:144:1
 same-length-2 : tie.Need-same-length-2
 same-length-2 c = search needs
 
--- src/playing.rt:144:1
 same-length-3 : tie.Need-same-length-3
 same-length-3 c = search needs
 
--- src/playing.rt:144:1
 returns-4 : tie.Need-returns-4
 unfolding begins
 returns-4 c = let a = c .before .before .before .before .before .before .before .before .before .before .before .before .before .before .before .before .before .before .before .before .before .before .before .before .before .before .args in let o = c .before .before .before .before .before .before .before .before .before .before .before .before .before .before .«open» in

@@ -1,34 +1,26 @@
-use borrow.Author.Tests.{lt-ltb, le-ltb, eq-eqb, ne-eqb}
-use mathlib.Core.Path.{_≡_, refl, sym, ap, _∙_}
+use borrow.Author.Tests.{lt-ltb, le-ltb}
 use native.Mathlib.Omega.{arith}
 use Prim.Native.Nat.{_+_, _*_, _<_, _≤_}
 use Rattle.replay.specs.Playing.{roomFor}
 use borrow.Author.Needs.{needs}
 use Rattle.replay.proofs.playing.fits.Statement.{statement}
 use Rattle.replay.proofs.playing.fits.Tie as tie
-use Rattle.replay.proofs.playing.fits.Reads as reads
-use Rattle.replay.proofs.playing.fits.Lts as lts
 
--- src/playing.rt:25:9
 returns : tie.Need-returns
 unfolding roomFor
 returns c = simp (lt-ltb _ _ (c .if1 .taken))
 
--- src/playing.rt:27:15
 mul-if2 : tie.Need-mul-if2
 mul-if2 c = search needs
 
--- src/playing.rt:27:8
 sub-if2 : tie.Need-sub-if2
 sub-if2 c = search needs
 
--- src/playing.rt:28:9
 returns-2 : tie.Need-returns-2
 unfolding roomFor
 returns-2 c = let a = c .before .before .args in
     let z : a .room < 7 * a .count + 7 = omega (arith, c .if2 .taken, c .before .before .pre) in simp (le-ltb _ _ (c .before .if1 .left), lt-ltb _ _ z)
 
--- src/playing.rt:20:1
 returns-3 : tie.Need-returns-3
 unfolding roomFor
 returns-3 c = let a = c .before .before .args in

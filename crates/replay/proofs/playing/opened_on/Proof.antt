@@ -1,60 +1,41 @@
-use mathlib.Core.Path.{_≡_, refl, sym, ap, _∙_}
-use Rattle.replay.proofs.Beginnings.{follow-refused, follow-accepted, opened-begins, begins-end, begins-malformed, begins-play}
+use Rattle.replay.proofs.Beginnings.{follow-refused, follow-accepted}
 use borrow.Author.Needs.{needs}
 use Rattle.replay.proofs.playing.opened_on.Statement.{statement}
 use Rattle.replay.proofs.playing.opened_on.Tie as tie
-use Rattle.replay.proofs.playing.opened_on.Reads as reads
-use Rattle.replay.proofs.playing.opened_on.Lts as lts
-use Rattle.octets.proofs.copy.Reads as copy-reads
-use Rattle.replay.proofs.making.clear_from.Reads as clear-from-reads
-use Rattle.replay.proofs.playing.play_on.Reads as play-on-reads
-use Rattle.replay.proofs.told.open_line.Reads as open-line-reads
 
--- src/playing.rt:133:30
 enum-known-answer : tie.Need-enum-known-answer
 enum-known-answer c = search needs
 
--- src/playing.rt:135:32
 enum-told : tie.Need-enum-told
 enum-told c = search needs
 
--- src/playing.rt:135:13
 clear-from-requires : tie.Need-clear-from-requires
 clear-from-requires c κs = search needs
 
--- src/playing.rt:136:24
 open-line-requires : tie.Need-open-line-requires
 open-line-requires c κs = search needs
 
--- src/playing.rt:137:38
 slice-aggregate-copy : tie.Need-slice-aggregate-copy
 slice-aggregate-copy c = search needs
 
--- src/playing.rt:137:13
 copy-requires : tie.Need-copy-requires
 copy-requires c κs = search needs
 
--- src/playing.rt:138:13
 play-on-requires : tie.Need-play-on-requires
 play-on-requires c κs = search needs
 
--- src/playing.rt:117:1
 returns : tie.Need-returns
 returns c = let a = c .before .before .before .before .before .before .before .before .args in follow-refused (a .program .now) (a .script .now) (a .part) (a .journal .now) (a .answers .now) (a .workspace .now) _ _ (c .before .answer .given .1)
 
--- src/playing.rt:117:1
 same-length : tie.Need-same-length
 same-length c = search needs
 
--- src/playing.rt:117:1
 same-length-2 : tie.Need-same-length-2
 same-length-2 c = search needs
 
--- src/playing.rt:117:1
 same-length-3 : tie.Need-same-length-3
 same-length-3 c = search needs
 
--- src/playing.rt:117:1
 returns-2 : tie.Need-returns-2
 returns-2 c = let a = c .before .before .before .before .before .before .before .before .before .before .before .before .before .before .before .before .before .before .before .before .before .before .before .before .before .before .before .args in follow-accepted (a .program .now) (a .script .now) (a .part) (a .journal .now) (a .answers .now) (a .workspace .now) _ _ _ _ _ _ _ _ (c .before .before .before .before .before .before .before .before .before .before .before .before .before .before .before .before .before .before .before .before .enum-told .given .1) (c .before .before .before .before .before .before .before .before .before .before .before .before .before .before .before .before .before .before .before .before .before .before .before .before .before .before .before .pre .1 .0) (c .before .before .before .before .before .before .before .before .before .before .before .before .before .before .before .before .before .before .clear-from .ensures) (c .before .before .before .before .before .before .before .before .before .before .before .before .before .before .before .open-line .ensures) (c .before .before .before .before .before .before .before .before .before .before .before .before .copy .ensures) (c .before .before .before .before .before .before .play-on .ensures)
 

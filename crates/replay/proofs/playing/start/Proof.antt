@@ -1,57 +1,41 @@
-use mathlib.Core.Path.{_≡_, refl, sym, ap, _∙_}
-use Rattle.replay.proofs.Beginnings.{follow-refused, follow-accepted, opened-begins, begins-end, begins-malformed, begins-play}
+use mathlib.Core.Path.{sym, _∙_}
+use Rattle.replay.proofs.Beginnings.{begins-end, begins-malformed, begins-play}
 use Rattle.replay.proofs.Parts.{within}
 use native.Mathlib.Omega.{arith}
-
 use borrow.Author.Needs.{needs}
 use Rattle.replay.proofs.playing.start.Statement.{statement}
 use Rattle.replay.proofs.playing.start.Tie as tie
-use Rattle.replay.proofs.playing.start.Reads as reads
-use Rattle.replay.proofs.playing.start.Lts as lts
-use Rattle.replay.proofs.playing.begin.Reads as begin-reads
-use Rattle.replay.proofs.scripts.step_at.Reads as step-at-reads
 
--- src/playing.rt:184:9
 step-at-requires : tie.Need-step-at-requires
 step-at-requires c κs = search needs
 
--- src/playing.rt:186:22
 enum-told : tie.Need-enum-told
 enum-told c = search needs
 
--- src/playing.rt:187:28
 enum-told-2 : tie.Need-enum-told-2
 enum-told-2 c = search needs
 
--- src/playing.rt:188:20
 enum-known-step : tie.Need-enum-known-step
 enum-known-step c = search needs
 
--- src/playing.rt:188:29
 begin-requires : tie.Need-begin-requires
 begin-requires c κs = let w = within (c .before .before .before .before .before .before .before .before .before .before .before .before .args .script .now) 0 (sym (c .before .before .before .before .before .before .step-at .ensures) ∙ c .before .before .before .before .step .given .1) in ((w .ordered, w .inside), omega (arith, w .further))
 
--- src/playing.rt:175:1
 returns : tie.Need-returns
 returns c = begins-end (c .before .before .before .before .before .before .before .before .args .program .now) (c .before .before .before .before .before .before .before .before .args .script .now) (c .before .before .before .before .before .before .before .before .args .journal .now) (c .before .before .before .before .before .before .before .before .args .answers .now) (c .before .before .before .before .before .before .before .before .args .workspace .now) _ (sym (c .enum-told .given .1) ∙ c .before .before .step-at .ensures)
 
--- src/playing.rt:175:1
 returns-2 : tie.Need-returns-2
 returns-2 c = begins-malformed (c .before .before .before .before .before .before .before .before .args .program .now) (c .before .before .before .before .before .before .before .before .args .script .now) (c .before .before .before .before .before .before .before .before .args .journal .now) (c .before .before .before .before .before .before .before .before .args .answers .now) (c .before .before .before .before .before .before .before .before .args .workspace .now) _ (sym (c .enum-told2 .given .1) ∙ c .before .before .step-at .ensures)
 
--- src/playing.rt:175:1
 same-length : tie.Need-same-length
 same-length c = search needs
 
--- src/playing.rt:175:1
 same-length-2 : tie.Need-same-length-2
 same-length-2 c = search needs
 
--- src/playing.rt:175:1
 same-length-3 : tie.Need-same-length-3
 same-length-3 c = search needs
 
--- src/playing.rt:175:1
 returns-3 : tie.Need-returns-3
 returns-3 c = begins-play (c .before .before .before .before .before .before .before .before .before .before .before .before .before .before .before .before .before .before .before .args .program .now) (c .before .before .before .before .before .before .before .before .before .before .before .before .before .before .before .before .before .before .before .args .script .now) (c .before .before .before .before .before .before .before .before .before .before .before .before .before .before .before .before .before .before .before .args .journal .now) (c .before .before .before .before .before .before .before .before .before .before .before .before .before .before .before .before .before .before .before .args .answers .now) (c .before .before .before .before .before .before .before .before .before .before .before .before .before .before .before .before .before .before .before .args .workspace .now) _ _ _ _ _ _ (sym (c .before .before .before .before .before .before .before .before .before .before .before .step .given .1) ∙ c .before .before .before .before .before .before .before .before .before .before .before .before .before .step-at .ensures) (c .before .before .before .before .before .before .begin .ensures)
 

@@ -1,41 +1,30 @@
-use mathlib.Core.Path.{_≡_, refl, sym, ap, _∙_}
+use mathlib.Core.Path.{sym, ap, _∙_}
 use Rattle.replay.specs.Playing.{nextOf, tested}
 use Rattle.replay.proofs.Turns.{test-stops, test-cuts, test-goes}
 use borrow.Author.Needs.{needs}
 use Rattle.replay.proofs.playing.test.Statement.{statement}
 use Rattle.replay.proofs.playing.test.Tie as tie
-use Rattle.replay.proofs.playing.test.Reads as reads
-use Rattle.replay.proofs.playing.test.Lts as lts
-use Rattle.replay.proofs.making.last_field.Reads as last-field-reads
-use Rattle.replay.proofs.playing.fits.Reads as fits-reads
 
--- src/playing.rt:38:9
 fits-requires : tie.Need-fits-requires
 fits-requires c κs = search needs
 
--- src/playing.rt:40:20
 enum-known-fit : tie.Need-enum-known-fit
 enum-known-fit c = search needs
 
--- src/playing.rt:41:18
 enum-known-fit-2 : tie.Need-enum-known-fit-2
 enum-known-fit-2 c = search needs
 
--- src/playing.rt:42:17
 last-field-requires : tie.Need-last-field-requires
 last-field-requires c κs = search needs
 
--- src/playing.rt:44:17
 returns : tie.Need-returns
 unfolding tested
 returns c = test-cuts _ _ _ _ _ _ (sym (ap nextOf (c .before .before .before .fit2 .given .1)) ∙ c .before .before .before .before .before .fits2 .ensures) (c .before .last-field .ensures) (c .if1 .taken)
 
--- src/playing.rt:34:1
 returns-2 : tie.Need-returns-2
 unfolding tested
 returns-2 c = let a = c .before .before .before .before .before .args in test-stops _ _ (a .n) (a .at) (a .journal .now) (sym (ap nextOf (c .before .fit .given .1)) ∙ c .before .before .before .fits2 .ensures)
 
--- src/playing.rt:34:1
 returns-3 : tie.Need-returns-3
 unfolding tested
 returns-3 c = test-goes _ _ _ _ _ _ (sym (ap nextOf (c .before .before .before .fit2 .given .1)) ∙ c .before .before .before .before .before .fits2 .ensures) (c .before .last-field .ensures) (c .if1 .left)

@@ -1,65 +1,47 @@
-use mathlib.Core.Path.{_≡_, refl, sym, ap, _∙_}
-use Rattle.replay.proofs.Turns.{allowed, call-stops, call-goes, turn-ends, turn-breaks, turn-plays, Going, going-starts, going-stops, going-ends, going-further, going-goes}
+use mathlib.Core.Path.{sym, ap, _∙_}
+use Rattle.replay.proofs.Turns.{allowed, call-stops, call-goes}
 use Rattle.replay.specs.Playing.{nextOf}
 use native.Mathlib.Omega.{arith}
 use borrow.Author.Needs.{needs}
 use Rattle.replay.proofs.playing.turn.Statement.{statement}
 use Rattle.replay.proofs.playing.turn.Tie as tie
-use Rattle.replay.proofs.playing.turn.Reads as reads
-use Rattle.replay.proofs.playing.turn.Lts as lts
-use Rattle.octets.proofs.copy.Reads as copy-reads
-use Rattle.replay.proofs.making.make.Reads as make-reads
-use Rattle.replay.proofs.playing.test.Reads as test-reads
 
--- src/playing.rt:53:9
 test-requires : tie.Need-test-requires
 test-requires c κs = search needs
 
--- src/playing.rt:55:20
 enum-known-tested : tie.Need-enum-known-tested
 enum-known-tested c = search needs
 
--- src/playing.rt:56:18
 enum-known-tested-2 : tie.Need-enum-known-tested-2
 enum-known-tested-2 c = search needs
 
--- src/playing.rt:57:24
 make-requires : tie.Need-make-requires
 make-requires c κs = let a = allowed _ (c .before .before .before .before .before .before .before .before .before .before .before .before .args .at) _ _ _ (c .before .before .before .before .before .before .before .before .before .before .before .before .args .journal .now) _ (sym (sym (ap nextOf (c .before .before .before .tested2 .given .1)) ∙ c .before .before .before .before .before .test .ensures)) in (c .before .before .before .before .before .before .before .before .before .before .before .before .pre .0, a .narrow)
 
--- src/playing.rt:58:35
 mul-copy : tie.Need-mul-copy
 mul-copy c = search needs
 
--- src/playing.rt:58:46
 slice-aggregate-copy : tie.Need-slice-aggregate-copy
 slice-aggregate-copy c = search needs
 
--- src/playing.rt:58:13
 copy-requires : tie.Need-copy-requires
 copy-requires c κs = let a = allowed _ (c .before .before .before .before .before .before .before .before .before .before .before .before .before .before .before .before .before .before .before .args .at) _ _ _ (c .before .before .before .before .before .before .before .before .before .before .before .before .before .before .before .before .before .before .before .args .journal .now) _ (sym (sym (ap nextOf (c .before .before .before .before .before .before .before .before .before .before .tested2 .given .1)) ∙ c .before .before .before .before .before .before .before .before .before .before .before .before .test .ensures)) in omega (arith, a .line)
 
--- src/playing.rt:37:1
 same-length : tie.Need-same-length
 same-length c = search needs
 
--- src/playing.rt:37:1
 returns : tie.Need-returns
 returns c = call-stops _ _ _ _ _ _ _ _ (sym (ap nextOf (c .before .tested .given .1)) ∙ c .before .before .before .test .ensures)
 
--- src/playing.rt:37:1
 same-length-2 : tie.Need-same-length-2
 same-length-2 c = search needs
 
--- src/playing.rt:37:1
 same-length-3 : tie.Need-same-length-3
 same-length-3 c = search needs
 
--- src/playing.rt:37:1
 same-length-4 : tie.Need-same-length-4
 same-length-4 c = search needs
 
--- src/playing.rt:37:1
 returns-2 : tie.Need-returns-2
 returns-2 c = call-goes _ _ _ _ _ _ _ _ _ _ _ _ (sym (ap nextOf (c .before .before .before .before .before .before .before .before .before .before .before .before .before .tested2 .given .1)) ∙ c .before .before .before .before .before .before .before .before .before .before .before .before .before .before .before .test .ensures) (c .before .before .before .before .before .before .before .before .before .make .ensures) (c .before .before .copy .ensures)
 

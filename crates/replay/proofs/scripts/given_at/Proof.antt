@@ -1,40 +1,29 @@
-use borrow.Author.Tests.{lt-ltb, le-ltb, eq-eqb, ne-eqb}
-use mathlib.Core.Path.{_≡_, refl, sym, ap, _∙_}
-use Rattle.replay.specs.Scripts.{givenAt, openAt, convertAt, rollbackAt, stepAt, callOf}
+use borrow.Author.Tests.{lt-ltb, le-ltb}
+use mathlib.Core.Path.{_∙_}
+use Rattle.replay.specs.Scripts.{givenAt}
 use borrow.Author.Needs.{needs}
 use Rattle.replay.proofs.scripts.given_at.Statement.{statement}
 use Rattle.replay.proofs.scripts.given_at.Tie as tie
-use Rattle.replay.proofs.scripts.given_at.Reads as reads
-use Rattle.replay.proofs.scripts.given_at.Lts as lts
-use Rattle.octets.proofs.read16.Reads as read16-reads
-use Rattle.octets.proofs.wide_index.Reads as wide-index-reads
 
--- src/scripts.rt:36:34
 read16-requires : tie.Need-read16-requires
 read16-requires c κs = search needs
 
--- src/scripts.rt:36:9
 wide-index-requires : tie.Need-wide-index-requires
 wide-index-requires c κs = search needs
 
--- src/scripts.rt:37:16
 add-from : tie.Need-add-from
 add-from c = search needs
 
--- src/scripts.rt:38:8
 sub-if1 : tie.Need-sub-if1
 sub-if1 c = search needs
 
--- src/scripts.rt:39:9
 returns : tie.Need-returns
 unfolding givenAt
 returns c = simp (lt-ltb _ _ (rw (c .before .wide-index .ensures .0 ∙ c .before .before .read16 .ensures) at (c .if1 .taken)))
 
--- src/scripts.rt:47:15
 add-t10 : tie.Need-add-t10
 add-t10 c = search needs
 
--- src/scripts.rt:32:1
 returns-2 : tie.Need-returns-2
 unfolding givenAt
 returns-2 c = simp (c .before .wide-index .ensures .0 ∙ c .before .before .read16 .ensures, le-ltb _ _ (rw (c .before .wide-index .ensures .0 ∙ c .before .before .read16 .ensures) at (c .if1 .left)))

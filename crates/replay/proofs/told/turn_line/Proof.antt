@@ -1,54 +1,39 @@
-use mathlib.Core.Path.{_≡_, refl, sym, ap, _∙_}
-use Rattle.rows.specs.Answers.{checkAnswer, runAnswer}
-use Rattle.replay.specs.Lines.{lineOf, line, checkLine, runLine}
+use mathlib.Core.Path.{sym, ap, _∙_}
+use Rattle.rows.specs.Answers.{runAnswer}
+use Rattle.replay.specs.Lines.{line, runLine}
 use Rattle.replay.proofs.Lines.{refused-line}
 use borrow.Author.Needs.{needs}
 use Rattle.replay.proofs.told.turn_line.Statement.{statement}
 use Rattle.replay.proofs.told.turn_line.Tie as tie
-use Rattle.replay.proofs.told.turn_line.Reads as reads
-use Rattle.replay.proofs.told.turn_line.Lts as lts
-use Rattle.replay.proofs.told.line_of.Reads as line-of-reads
-use Rattle.wording.proofs.number.Reads as number-reads
-use Rattle.wording.proofs.place.Reads as place-reads
 
--- src/told.rt:44:24
 enum-known-answer : tie.Need-enum-known-answer
 enum-known-answer c = search needs
 
--- src/told.rt:44:44
 cast-line-of : tie.Need-cast-line-of
 cast-line-of c = search needs
 
--- src/told.rt:44:58
 cast-line-of-2 : tie.Need-cast-line-of-2
 cast-line-of-2 c = search needs
 
--- src/told.rt:44:30
 line-of-requires : tie.Need-line-of-requires
 line-of-requires c κs = search needs
 
--- src/told.rt:45:28
 enum-known-answer-2 : tie.Need-enum-known-answer-2
 enum-known-answer-2 c = search needs
 
--- src/told.rt:45:51
 number-requires : tie.Need-number-requires
 number-requires c κs = search needs
 
--- src/told.rt:45:71
 place-requires : tie.Need-place-requires
 place-requires c κs = search needs
 
--- src/told.rt:45:34
 line-of-requires-2 : tie.Need-line-of-requires-2
 line-of-requires-2 c κs = search needs
 
--- src/told.rt:40:1
 returns : tie.Need-returns
 unfolding runLine line
 returns c = c .line-of .ensures ∙ sym (ap (λ a. runLine (runAnswer a)) (c .before .before .before .before .answer .given .1))
 
--- src/told.rt:40:1
 returns-2 : tie.Need-returns-2
 unfolding runLine line
 returns-2 c = c .line-of2 .ensures ∙ refused-line 0x43 (c .before .before .number .ensures) (c .before .place .ensures) ∙ sym (ap (λ a. runLine (runAnswer a)) (c .before .before .before .before .answer2 .given .1))
