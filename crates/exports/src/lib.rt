@@ -8,8 +8,9 @@ ghost use Rattle.calls.specs.Answer.{cleared};
 ghost use Rattle.calls.specs.Runs.{checkCall, forwardCall, backwardCall, written};
 ghost use Rattle.calls.specs.Conversions.{openCall, convertCall, rollbackCall};
 ghost use Rattle.calls.specs.Book.{afterOpen, afterTurned};
-ghost use Rattle.rows.specs.Answers.{checkAnswer, runAnswer, summary, openAnswer, heldAnswer};
+ghost use Rattle.rows.specs.Answers.{checkAnswer, runAnswer, openAnswer, heldAnswer};
 ghost use Rattle.exports.specs.Told.{checkTold, runTold};
+ghost use Rattle.running.specs.Ended.{summary};
 
 fn check_told(answer: CheckAnswer) -> [u64; 4]
     ensures { λ r. ⌜ r ≡ checkTold (checkAnswer answer) ⌝ }
