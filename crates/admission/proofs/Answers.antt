@@ -1,25 +1,28 @@
 -- The answers of admission, each as the definition has it: rows 9, 10 and 11 in their order.
-use Prim.Native.Nat.{ℕ, zero, suc, _≤_, _<_}
+use Prim.Native.Nat.{ℕ, _≤_, _<_}
 use native.Mathlib.Omega.{arith}
 use mathlib.Core.Path.{_≡_, refl, sym, ap, subst, _∙_}
 use mathlib.Core.Bool.{Bool, true, false, _&&_}
 use mathlib.Core.Option.{Option, none, some}
-use mathlib.Core.List.{List, [], _∷_, map}
+use mathlib.Core.List.{List, map}
 use lib.ListN.{length, getD, length-map}
 use lib.Dec.{eqb}
 use package.Rattle.rules.specs.Val.{Val}
 use package.Rattle.rules.specs.Term.{Fun, nth}
 use package.Rattle.rules.proofs.Basics.{eqb-yes}
 use package.Rattle.calls.specs.Answer.{Answer, accepted, refused, _>>=_, require, present}
-use package.Rattle.calls.specs.Entries.{typeOf, typeAt, termAt, FunctionEntry, functionAt, functionOf, entriesAt, programOf}
+use package.Rattle.calls.specs.Entries.{typeOf, termAt, FunctionEntry, functionAt, functionOf}
 use package.Rattle.calls.specs.Values.{value, ancillae, hasTy, hasTys}
 use package.Rattle.calls.specs.Runs.{Given, admit}
 use package.Rattle.calls.proofs.Answer.{via, present-some, require-yes}
 use package.Rattle.reading.specs.Typing.{entriesOf}
+use package.Rattle.reading.specs.Ends.{valueIn, valuesIn}
 use package.Rattle.admission.specs.declared.Admitted.the-variants as admitted
-use package.Rattle.admission.specs.Given.{programIn, functionIn, valuesIn, valueIn, givenIn}
+use package.Rattle.admission.specs.Given.{givenIn}
 use package.Rattle.admission.specs.Admitting.{Callable, Admittable, inNumber, rightIn, sideNumber, sideOf, allTyped, AdmitMeans}
 use package.Rattle.admission.proofs.Right.{right-values}
+use package.Rattle.program.proofs.Programs.{function-there, function-none}
+use package.Rattle.program.specs.Programs.{programIn, functionIn}
 
 ----------------------------------------------------------------
 -- Tests that fail
@@ -32,37 +35,6 @@ module _ {A : Type 0} where
   untrue : (n : ℕ) (k : Unit {0} → Answer A) {b : Bool} → b ≡ false → (require b n 0 >>= k) ≡ refused n 0
   unfolding _>>=_ require
   untrue n k e = ap (λ b. require b n 0 >>= k) e
-
-----------------------------------------------------------------
--- The function
-
-pub entry-there : {A : Type 0} (h : ℕ → A) (l : List ℕ) (g : ℕ) → g < length l → nth (map h l) g ≡ some (h (getD l g 0))
-unfolding nth
-entry-there h [] g n = absurd (omega arith)
-entry-there h (x ∷ l) zero n = refl
-entry-there h (x ∷ l) (suc g) n = entry-there h l g (omega arith)
-
-entry-none : {A : Type 0} (h : ℕ → A) (l : List ℕ) (g : ℕ) → length l ≤ g → nth (map h l) g ≡ none
-unfolding nth
-entry-none h [] g n = refl
-entry-none h (x ∷ l) zero n = absurd (omega arith)
-entry-none h (x ∷ l) (suc g) n = entry-none h l g (omega arith)
-
--- two maps are one
-map-twice : {A B : Type 0} (f : A → B) (h : ℕ → A) (l : List ℕ) → map f (map h l) ≡ map (λ x. f (h x)) l
-map-twice f h [] = refl
-map-twice f h (x ∷ l) = ap (λ r. f (h x) ∷ r) (map-twice f h l)
-
-module _ (xs types terms functions : List ℕ) (g : ℕ) where
-  program-is : programIn xs types terms functions ≡ map (λ at. functionOf (map (typeAt xs) types) (map (termAt xs) terms) (functionAt xs at)) functions
-  unfolding programOf entriesAt
-  program-is = map-twice _ (functionAt xs) functions
-
-  pub function-there : g < length functions → nth (programIn xs types terms functions) g ≡ some (functionIn xs types terms functions g)
-  function-there l = ap (λ P. nth P g) program-is ∙ entry-there _ functions g l
-
-  function-none : length functions ≤ g → nth (programIn xs types terms functions) g ≡ none
-  function-none l = ap (λ P. nth P g) program-is ∙ entry-none _ functions g l
 
 ----------------------------------------------------------------
 -- All of 10
@@ -78,35 +50,35 @@ wrong h (some vs) (some v) k e = untrue 10 (k vs v) e
 module _ (xs types functions : List ℕ) (g : ℕ) (anc bytes : List ℕ) (back : Bool) where
   pub no-function : length functions ≤ g → AdmitMeans admitted.NoFunction xs types functions g anc bytes back
   unfolding admit
-  no-function l = record { answer = λ terms. sym (absent 9 _ (function-none xs types terms functions g l)) }
+  no-function l = record { answer = λ terms. sym (absent 9 _ (function-none xs functions g types terms l)) }
 
   -- the function is there, its field at `at`
   module _ (l : g < length functions) {at : ℕ} (q : at ≡ getD functions g 0) where
     abbrev h : FunctionEntry
     h = functionAt xs at
 
-    function-is : (terms : List ℕ) → functionIn xs types terms functions g ≡ functionOf (entriesOf xs types) (map (termAt xs) terms) h
+    function-is : (terms : List ℕ) → functionIn xs types terms (getD functions g 0) ≡ functionOf (entriesOf xs types) (map (termAt xs) terms) h
     function-is terms = ap (λ at. functionOf (entriesOf xs types) (map (termAt xs) terms) (functionAt xs at)) (sym q)
 
-    there : (terms : List ℕ) → nth (programIn xs types terms functions) g ≡ some (functionIn xs types terms functions g)
-    there terms = function-there xs types terms functions g l
+    there : (terms : List ℕ) → nth (programIn xs types terms functions) g ≡ some (functionIn xs types terms (getD functions g 0))
+    there terms = function-there xs functions g types terms l
 
     -- as many ancillae as the tree of the function has
-    count-same : (terms : List ℕ) → length (h .ancillae) ≡ length (functionIn xs types terms functions g .ancillae)
+    count-same : (terms : List ℕ) → length (h .ancillae) ≡ length (functionIn xs types terms (getD functions g 0) .ancillae)
     unfolding functionOf
     count-same terms = sym (ap (λ h. length (h .ancillae)) (function-is terms) ∙ length-map (h .ancillae) (typeOf (entriesOf xs types)))
 
     pub bad-values : {b : Bool} → b ≡ rightIn anc bytes h → b ≡ false → AdmitMeans admitted.BadValues xs types functions g anc bytes back
     unfolding admit
     bad-values e f = record {
-      answer = λ terms. sym (via _ (present-some 9 (there terms)) (wrong (functionIn xs types terms functions g) (ancillae anc) (value bytes) _
+      answer = λ terms. sym (via _ (present-some 9 (there terms)) (wrong (functionIn xs types terms (getD functions g 0)) (ancillae anc) (value bytes) _
           (ap (inNumber (ancillae anc) (value bytes)) (sym (count-same terms)) ∙ sym e ∙ f)));
     }
 
     module _ (right : rightIn anc bytes h ≡ true) where
       -- what is left to test
       abbrev last : (terms : List ℕ) → Answer Given
-      last terms = require (hasTys (valuesIn anc) (functionIn xs types terms functions g .ancillae) && hasTy (valueIn bytes) (sideOf back (functionIn xs types terms functions g))) 11 0
+      last terms = require (hasTys (valuesIn anc) (functionIn xs types terms (getD functions g 0) .ancillae) && hasTy (valueIn bytes) (sideOf back (functionIn xs types terms (getD functions g 0)))) 11 0
           >>= λ typed. accepted (givenIn xs types terms functions g anc bytes)
 
       reached : (terms : List ℕ) → admit (programIn xs types terms functions) g (ancillae anc) (value bytes) (sideOf back) ≡ last terms
@@ -122,7 +94,7 @@ module _ (xs types functions : List ℕ) (g : ℕ) (anc bytes : List ℕ) (back 
       side-same true terms = refl
       side-same false terms = refl
 
-      typed-same : (terms : List ℕ) → (hasTys (valuesIn anc) (functionIn xs types terms functions g .ancillae) && hasTy (valueIn bytes) (sideOf back (functionIn xs types terms functions g)))
+      typed-same : (terms : List ℕ) → (hasTys (valuesIn anc) (functionIn xs types terms (getD functions g 0) .ancillae) && hasTy (valueIn bytes) (sideOf back (functionIn xs types terms (getD functions g 0))))
           ≡ allTyped (entriesOf xs types) h back anc bytes
       unfolding functionOf
       typed-same terms =

@@ -1,41 +1,27 @@
 -- The parts of a function's entry: how many ancillae it has, the type of each, and the side that a value is held to.
 use Prim.Native.Nat.{ℕ, zero, suc, _+_, _*_, _-_, _≤_, _<_}
 use native.Mathlib.Omega.{arith}
-use mathlib.Core.Path.{_≡_, refl, sym, ap, subst, _∙_}
+use mathlib.Core.Path.{_≡_, sym, ap, subst, _∙_}
 use mathlib.Core.Bool.{Bool, true, false}
 use mathlib.Core.List.{List, [], _∷_}
 use lib.ListN.{length, getD, length-append, List·getD-append}
 use lib.Seq.{getD-append-seam}
 use package.Rattle.rules.proofs.Basics.{and-both}
 use package.Rattle.calls.specs.Fields.{parametersAt}
-use package.Rattle.calls.specs.Entries.{TypeEntry, references, FunctionEntry, functionAt}
-use package.Rattle.calls.specs.Named.{plain, typesOfFunction, below, allPlain}
-use package.Rattle.calls.proofs.Entries.{below-head}
+use package.Rattle.calls.specs.Entries.{TypeEntry, FunctionEntry, functionAt}
+use package.Rattle.calls.specs.Named.{plain, typesOfFunction, allPlain}
+use package.Rattle.calls.proofs.Entries.{below-at}
 use package.Rattle.program.specs.Parts.{FunctionField, result, listed}
 use package.Rattle.program.specs.Signatures.{SignatureIs}
 use package.Rattle.program.proofs.Rooms.{function-room}
-use package.Rattle.program.proofs.Shapes.{function-result, function-ancillae, function-dynamic}
+use package.Rattle.program.proofs.Shapes.{function-result, function-dynamic}
 use package.Rattle.reading.specs.Typing.{entriesOf}
 use package.Rattle.admission.specs.Admitting.{Callable, sideNumber}
-
-length-references : (xs : List ℕ) (i n : ℕ) → length (references xs i n) ≡ n
-unfolding references
-length-references xs i zero = refl
-length-references xs i (suc n) = ap suc (length-references xs (i + 2) n)
-
--- one parameter less than there are
-pub ancillae-count : (xs : List ℕ) (at : ℕ) → length (functionAt xs at .ancillae) ≡ parametersAt xs at - 1
-ancillae-count xs at = ap length (function-ancillae xs at) ∙ length-references xs (at + 6) (parametersAt xs at - 1)
 
 ----------------------------------------------------------------
 -- What is named
 
--- the types that are named are there, and plain
-named-there : (n : ℕ) (is : List ℕ) → below n is ≡ true → (k : ℕ) → k < length is → getD is k 0 < n
-named-there n [] e k h = absurd (omega arith)
-named-there n (i ∷ is) e zero h = below-head n i is e .0
-named-there n (i ∷ is) e (suc k) h = named-there n is (below-head n i is e .1) k (omega arith)
-
+-- the types that are named are plain
 named-plain : (ys : List TypeEntry) (is : List ℕ) → allPlain ys is ≡ true → (k : ℕ) → k < length is → plain ys (getD is k 0) ≡ true
 unfolding allPlain
 named-plain ys [] e k h = absurd (omega arith)
@@ -51,7 +37,7 @@ module _ {xs types : List ℕ} {at : ℕ} (C : Callable xs types at) where
   Asked t = (t < length types) × (plain (entriesOf xs types) t ≡ true)
 
   named : (k : ℕ) → k < length (typesOfFunction h) → Asked (getD (typesOfFunction h) k 0)
-  named k l = (named-there _ _ (C .there) k l, named-plain _ _ (C .closes) k l)
+  named k l = (below-at _ _ k (C .there) l, named-plain _ _ (C .closes) k l)
 
   named-count : length (typesOfFunction h) ≡ suc (length (h .ancillae) + 1)
   unfolding typesOfFunction

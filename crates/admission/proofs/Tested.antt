@@ -7,11 +7,12 @@ use lib.ListN.{getD, length-map}
 use package.Rattle.calls.specs.Answer.{accepted}
 use package.Rattle.calls.specs.Entries.{typeAt, functionAt, entriesAt}
 use package.Rattle.calls.specs.Named.{typesOfFunction, below, testEntries}
-use package.Rattle.calls.proofs.Trees.{Good, entries-good}
+use package.Rattle.calls.proofs.Trees.{entries-good}
+use package.Rattle.calls.specs.Tested.{Good}
 use package.Rattle.program.specs.Places.{placesOf, Placed}
 use package.Rattle.program.proofs.Inside.{formed}
+use package.Rattle.program.proofs.Programs.{entry-there}
 use package.Rattle.admission.specs.Admitting.{Admittable}
-use package.Rattle.admission.proofs.Answers.{entry-there}
 
 pub admittable : {xs types terms functions : List ℕ} → Placed xs types terms functions
     → testEntries (placesOf types terms functions) (entriesAt xs (placesOf types terms functions)) ≡ accepted tt → Admittable xs types functions
@@ -21,8 +22,8 @@ admittable {xs} {types} {terms} {functions} P e = record {
   function = λ g l. record {
     field = formed xs (P .read) .functions g l;
     there = subst (λ n. below n (typesOfFunction (functionAt xs (getD functions g 0))) ≡ true) (length-map types (typeAt xs))
-        (G .function g _ (entry-there (functionAt xs) functions g l) .types-there);
-    closes = G .function g _ (entry-there (functionAt xs) functions g l) .types-plain;
+        (G .function g _ (entry-there xs functions g l) .types-there);
+    closes = G .function g _ (entry-there xs functions g l) .types-plain;
   };
 }
   where

@@ -16,10 +16,12 @@ use package.Rattle.calls.specs.Named.{typesOfFunction, below, allPlain}
 use package.Rattle.calls.specs.Values.{value, ancillae, hasTy, hasTys}
 use package.Rattle.calls.specs.Runs.{Given, admit}
 use package.Rattle.program.specs.Parts.{FunctionField}
+use package.Rattle.program.specs.Programs.{programIn}
 use package.Rattle.reading.specs.Typing.{entriesOf, Table}
+use package.Rattle.reading.specs.Ends.{valueIn, valuesIn}
 use package.Rattle.admission.specs.declared.Admitted.{Admitted}
 use package.Rattle.admission.specs.declared.Admitted.the-variants as admitted
-use package.Rattle.admission.specs.Given.{programIn, valuesIn, valueIn, givenIn}
+use package.Rattle.admission.specs.Given.{givenIn}
 
 ----------------------------------------------------------------
 -- The program

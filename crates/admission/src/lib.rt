@@ -13,7 +13,7 @@ ghost use Rattle.calls.specs.Entries.{typeOf, functionAt};
 ghost use Rattle.calls.specs.Values.{hasTys};
 ghost use Rattle.program.specs.Parts.{FunctionField};
 ghost use Rattle.reading.specs.Typing.{entriesOf, Table};
-ghost use Rattle.admission.specs.Given.{valuesIn};
+ghost use Rattle.reading.specs.Ends.{valuesIn};
 ghost use Rattle.admission.specs.Admitting.{Callable, Admittable, rightIn, AsMany, sideNumber, allTyped, AdmitMeans};
 
 // What becomes of a call's function, ancillae and value: they are given to a run, or refused with 9, 10 or 11.

@@ -15,11 +15,11 @@ use package.Rattle.rules.proofs.Basics.{given}
 use package.Rattle.rules.proofs.Scope.{look-lt}
 use package.Rattle.rules.proofs.Typing.Functions.{length-parameters, body-typed}
 use package.Rattle.calls.specs.Fields.{parametersAt}
-use package.Rattle.calls.specs.Entries.{TypeEntry, typeAt, typeOf, TermEntry, n-var, n-unit, n-inl, n-inr, n-roll, n-unroll, n-pair, n-let, n-letp, n-case, n-call, termAt, termTrees, termTree, termBelow, termOf, references, functionAt, functionOf, entriesAt, programOf}
+use package.Rattle.calls.specs.Entries.{TypeEntry, typeAt, typeOf, TermEntry, n-var, n-unit, n-inl, n-inr, n-roll, n-unroll, n-pair, n-let, n-letp, n-case, n-call, termAt, termTrees, termTree, termBelow, termOf, functionAt, functionOf, entriesAt, programOf}
 use package.Rattle.program.specs.Parts.{body, FunctionField}
 use package.Rattle.program.specs.Places.{placesOf, Placed}
 use package.Rattle.program.proofs.Inside.{formed}
-use package.Rattle.program.proofs.Shapes.{function-ancillae}
+use package.Rattle.program.proofs.Lists.{ancillae-count}
 use package.Rattle.forward.specs.Code.{programAt}
 use package.Rattle.forward.proofs.Trees.{called-tree, called-there, called-body, called-only}
 use package.Rattle.backward.specs.Scoped.{Scoped, arityAt, ScopedAt, Bodies}
@@ -92,16 +92,11 @@ module _ (arity : ℕ → ℕ) where
 ----------------------------------------------------------------
 -- Accepted programs
 
-length-references : (xs : List ℕ) (i n : ℕ) → length (references xs i n) ≡ n
-unfolding references
-length-references xs i zero = refl
-length-references xs i (suc n) = ap suc (length-references xs (i + 2) n)
-
 -- the dynamic parameter comes after the ancilla parameters
 parameter-count : {p : List ℕ} {at : ℕ} (ys : List TypeEntry) (ts : List TermEntry) → FunctionField p at → length (functionOf ys ts (functionAt p at) .ancillae) + 1 ≡ parametersAt p at
 unfolding functionOf
 parameter-count {p} {at} ys ts F =
-    omega (arith, F .some, length-map (functionAt p at .ancillae) (typeOf ys), ap length (function-ancillae p at), length-references p (at + 6) (parametersAt p at - 1))
+    omega (arith, F .some, length-map (functionAt p at .ancillae) (typeOf ys), ancillae-count p at)
 
 module _ {p types terms functions : List ℕ} (read : Placed p types terms functions) (variables most : ℕ) (most-variables : variables ≤ 32)
     (typed : WellTyped variables most (programOf (entriesAt p (placesOf types terms functions)))) where

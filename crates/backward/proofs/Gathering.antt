@@ -13,8 +13,9 @@ use package.Rattle.octets.specs.Numbers.{get16}
 use package.Rattle.rules.specs.Limits.{fits}
 use package.Rattle.rules.specs.Val.{Val}
 use package.Rattle.rules.specs.Term.{Term, scope}
-use package.Rattle.rules.specs.Run.{Res, ok, stop, stuck, Run, after}
+use package.Rattle.rules.specs.Run.{Res, ok, Run, after}
 use package.Rattle.rules.specs.Machine.{State, each, forward}
+use package.Rattle.rules.proofs.Run.{after-after}
 use package.Rattle.calls.specs.Entries.{TypeEntry, termTrees, references}
 use package.Rattle.program.specs.Parts.{listed}
 use package.Rattle.values.specs.Nodes.{valueAt}
@@ -55,12 +56,6 @@ spilled-more slots known i l same j h = go (decLt j i)
 
 ----------------------------------------------------------------
 -- Terms one after the other
-
-after-after : {A B C : Type 0} (x : Res A) (f : A → Run B) (g : B → Run C) → after (after x f) g ≡ after x (λ a fuel. after (f a fuel) g)
-unfolding after
-after-after (ok a fuel) f g = refl
-after-after (stop n k) f g = refl
-after-after stuck f g = refl
 
 module _ (go : Term → Run Val) (tree : ℕ → Term) (xs : List ℕ) where
   -- the terms from place `i` on, `n` of them

@@ -1,15 +1,16 @@
 -- The terms that are run next: a part of a term is ready where the term is, with the variables that its binders add; and what was ready
 -- stays so after a run.
-use Prim.Native.Nat.{ℕ, zero, suc, _+_, _-_, _≤_, _<_}
+use Prim.Native.Nat.{ℕ, _+_, _-_, _≤_, _<_}
 use native.Mathlib.Omega.{arith}
-use mathlib.Core.Path.{_≡_, refl, sym, ap, subst, _∙_}
+use mathlib.Core.Path.{_≡_, sym, ap, subst, _∙_}
 use mathlib.Core.Logic.{⊎-elim}
 use mathlib.Core.List.{List, []}
 use lib.ListN.{length, getD}
-use package.Rattle.rules.specs.Term.{Term, count}
+use package.Rattle.rules.specs.Term.{Term}
 use package.Rattle.calls.specs.Fields.{kindAt, lengthAt}
-use package.Rattle.calls.specs.Entries.{termTrees, callAncillae, references}
+use package.Rattle.calls.specs.Entries.{callAncillae}
 use package.Rattle.program.specs.Parts.{variable, first, second, third, listed}
+use package.Rattle.program.proofs.Lists.{count-trees}
 use package.Rattle.scopes.specs.declared.bindings.Bindings.{Bindings}
 use package.Rattle.yields.specs.Yields.{Wraps}
 use package.Rattle.forward.specs.Code.{treeAt, FewArguments}
@@ -98,11 +99,6 @@ as-forward rd = record {
 
 ----------------------------------------------------------------
 -- Variables of the parts, by kind
-
-count-trees : (go : ℕ → Term) (xs : List ℕ) (i n : ℕ) → count (termTrees go (references xs i n)) ≡ n
-unfolding references termTrees count
-count-trees go xs i zero = refl
-count-trees go xs i (suc n) = ap suc (count-trees go xs (i + 2) n)
 
 module _ {k h : ℕ} {p terms functions heap slots : List ℕ} {st : Machine} {b : Bindings} {q n t room : ℕ} (rd : Ready k h p terms functions heap slots st b q n t room) where
   abbrev at : ℕ

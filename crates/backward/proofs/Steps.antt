@@ -8,7 +8,7 @@ use lib.ListN.{getD}
 use package.Rattle.rules.specs.Limits.{fits}
 use package.Rattle.rules.specs.Val.{Val, inl, inr, pair, roll}
 use package.Rattle.rules.specs.Term.{Term}
-use package.Rattle.rules.specs.Run.{Res, stuck, Run, after, give, refuse}
+use package.Rattle.rules.specs.Run.{Res, Run, after, give, refuse}
 use package.Rattle.rules.specs.Machine.{State, meet, onSum, onPair, onRoll, onUnit, forward, backwardStep, backward}
 use package.Rattle.calls.specs.Fields.{kindAt}
 use package.Rattle.calls.specs.Entries.{TypeEntry}
@@ -21,6 +21,7 @@ use package.Rattle.yields.specs.Yields.{Wraps}
 use package.Rattle.forward.specs.Code.{treeAt, programAt}
 use package.Rattle.forward.proofs.Trees.{Part, tree-var, tree-unit, tree-inl, tree-inr, tree-pair, tree-roll, tree-unroll, part-inl, part-inr, part-roll, part-unroll, parts-pair}
 use package.Rattle.forward.specs.declared.outcomes.Machine.{Machine}
+use package.Rattle.forward.proofs.Binds.{no-pair}
 use package.Rattle.backward.specs.Outcomes.{refusalOf, mismatch}
 use package.Rattle.backward.specs.Ready.{Ready, Ran, Stays, ancillaeOf, runOf, stepOf}
 use package.Rattle.backward.proofs.Runs.{stays, refuses, says, slack, part-refused, part-done}
@@ -58,14 +59,6 @@ other-roll (suc zero) v w go t fuel l d = ap refusalOf (mismatch-none 4 1 t (λ 
 other-roll (suc (suc zero)) v w go t fuel l d = ap refusalOf (mismatch-none 4 2 t (λ e. omega arith) (λ e. omega arith))
 other-roll (suc (suc (suc zero))) v w go t fuel l d = ap refusalOf (mismatch-none 4 3 t (λ e. omega arith) (λ e. omega arith))
 other-roll (suc (suc (suc (suc n)))) v w go t fuel l d = absurd (d (omega arith))
-
-no-pair : (n : ℕ) (v w : Val) (next : Val → Val → Run State) (fuel : ℕ) → ¬ (n ≡ 3) → onPair (ofKind n v w) next fuel ≡ stuck
-unfolding onPair ofKind
-no-pair zero v w next fuel d = refl
-no-pair (suc zero) v w next fuel d = refl
-no-pair (suc (suc zero)) v w next fuel d = refl
-no-pair (suc (suc (suc zero))) v w next fuel d = absurd (d refl)
-no-pair (suc (suc (suc (suc n)))) v w next fuel d = refl
 
 ----------------------------------------------------------------
 -- By kind

@@ -4,7 +4,7 @@ use Prim.Native.Nat.{ℕ, zero, suc, _+_, _≤_, _<_, pred, min, max}
 use native.Mathlib.Omega.{arith}
 use native.Mathlib.Decide.{decLt}
 use mathlib.Core.Path.{_≡_, refl, sym, ap, ap₂, subst, _∙_}
-use mathlib.Core.Bool.{Bool, true, _&&_}
+use mathlib.Core.Bool.{Bool, true, false, _&&_, _||_}
 use mathlib.Core.List.{List, [], _∷_, _++_}
 use mathlib.Core.Logic.{_↔_}
 use lib.ListN.{length, getD, length-append, List·getD-append}
@@ -16,19 +16,12 @@ use package.Rattle.rules.proofs.Typing.Tests.{leb-yes, leb-sound}
 use package.Rattle.calls.specs.Answer.{accepted}
 use package.Rattle.calls.specs.Fields.{Layout}
 use package.Rattle.calls.specs.Entries.{TypeEntry, y-unit, y-prod, y-sum, y-mu, y-var, typeTree, typeBelow, typeOf}
-use package.Rattle.calls.specs.Named.{ceiling, nodesOf, freeOf, figures, plain, typesOfType, below, testTypes}
+use package.Rattle.calls.specs.Named.{ceiling, nodesOf, freeOf, figures, plain, typesOfType, below, member, testTypes}
+use package.Rattle.calls.specs.Tested.{closed, Lower}
 use package.Rattle.calls.proofs.Answer.{unbind, required}
 
 ----------------------------------------------------------------
 -- Closed types
-
--- every variable is bound, under `n` recursive types more
-unfoldable pub closed : ℕ → Ty → Bool
-closed n one = true
-closed n (prod a b) = closed n a && closed n b
-closed n (sum a b) = closed n a && closed n b
-closed n (mu a) = closed (suc n) a
-closed n (tyvar k) = ltb k n
 
 -- a closed type within the limit on nodes (section 1)
 abbrev pub Plain : Ty → Type 0
@@ -66,9 +59,21 @@ pub below-head : (n i : ℕ) (is : List ℕ) → below n (i ∷ is) ≡ true →
 unfolding below
 below-head n i is e = given (and-both (ltb i n) (below n is) e) λ (x, y). (ltb→lt i n (rw x tt), y)
 
--- every entry names lower ones alone
-abbrev pub Lower : List TypeEntry → Type 0
-Lower ys = (i : ℕ) → below i (typesOfType (getD ys i y-unit)) ≡ true
+pub below-at : (n : ℕ) (is : List ℕ) (i : ℕ) → below n is ≡ true → i < length is → getD is i 0 < n
+below-at n [] i e l = absurd (omega arith)
+below-at n (x ∷ is) zero e l = below-head n x is e .0
+below-at n (x ∷ is) (suc i) e l = below-at n is i (below-head n x is e .1) (omega arith)
+
+-- an element in the middle is as good as in front
+pub member-middle : (k t : ℕ) (ts us : List ℕ) → member k (ts ++ (t ∷ us)) ≡ (eqb k t || member k (ts ++ us))
+unfolding member
+member-middle k t [] us = refl
+member-middle k t (s ∷ ts) us = ap (λ b. eqb k s || b) (member-middle k t ts us) ∙ swap (eqb k s) (eqb k t) (member k (ts ++ us))
+  where
+    swap : (a b c : Bool) → (a || (b || c)) ≡ (b || (a || c))
+    swap true true c = refl
+    swap true false c = refl
+    swap false b c = refl
 
 lower-from : (L : Layout) (k : ℕ) (ys : List TypeEntry) → testTypes L k ys ≡ accepted tt → (i : ℕ) → below (k + i) (typesOfType (getD ys i y-unit)) ≡ true
 unfolding testTypes below typesOfType

@@ -3,7 +3,7 @@
 use Prim.Native.Nat.{ℕ, zero, suc, _+_, _≤_, _<_}
 use native.Mathlib.Omega.{arith}
 use native.Mathlib.Decide.{decLt}
-use mathlib.Core.Path.{_≡_, refl, ap, ap₂, subst, _∙_}
+use mathlib.Core.Path.{_≡_, refl, ap, ap₂, subst}
 use mathlib.Core.Bool.{true, and-eq-true-iff}
 use mathlib.Core.Option.{some}
 use mathlib.Core.List.{List, [], _∷_, _++_}
@@ -14,32 +14,14 @@ use package.Rattle.rules.specs.Term.{Term, tinl, tinr, tpair, tlet, tletp, tcas
 use package.Rattle.calls.specs.Answer.{accepted}
 use package.Rattle.calls.specs.Entries.{TypeEntry, typeOf, TermEntry, n-var, n-unit, n-inl, n-inr, n-roll, n-unroll, n-pair, n-let, n-letp, n-case, n-call, termTrees, termTree, termBelow, termOf, FunctionEntry, Entries}
 use package.Rattle.calls.specs.Fields.{Layout}
-use package.Rattle.calls.specs.Named.{typesOfTerm, termsOfTerm, functionsOfTerm, typesOfFunction, below, allPlain, testTypes, testTerms, testFunctions, testEntries}
+use package.Rattle.calls.specs.Named.{termsOfTerm, below, testTypes, testTerms, testFunctions, testEntries}
 use package.Rattle.calls.proofs.Answer.{unbind, required}
-use package.Rattle.calls.proofs.Entries.{below-head, Lower, lower}
+use package.Rattle.calls.specs.Tested.{TermGood, FunctionGood, Good, LowerTerms}
+use package.Rattle.calls.proofs.Entries.{below-head, lower}
 use package.Rattle.rules.proofs.Basics.{given, none≢some, some-inj, and-both}
 
 ----------------------------------------------------------------
 -- Tests passed, entry by entry
-
--- what the tests ask of a term entry `t` numbered `k`
-pub record TermGood (E : Entries) (k : ℕ) (t : TermEntry) : Type 0 where
-  pub types-there : below (length (E .types)) (typesOfTerm t) ≡ true
-  pub terms-lower : below k (termsOfTerm t) ≡ true
-  pub functions-there : below (length (E .functions)) (functionsOfTerm t) ≡ true
-  pub types-plain : allPlain (E .types) (typesOfTerm t) ≡ true
-
--- and of a function entry
-pub record FunctionGood (E : Entries) (h : FunctionEntry) : Type 0 where
-  pub types-there : below (length (E .types)) (typesOfFunction h) ≡ true
-  pub body-there : h .body < length (E .terms)
-  pub types-plain : allPlain (E .types) (typesOfFunction h) ≡ true
-
--- entries that pass the tests
-pub record Good (E : Entries) : Type 0 where
-  pub types-lower : Lower (E .types)
-  pub term : (k : ℕ) → k < length (E .terms) → TermGood E k (getD (E .terms) k n-unit)
-  pub function : (g : ℕ) (h : FunctionEntry) → nth (E .functions) g ≡ some h → FunctionGood E h
 
 module _ (L : Layout) (E : Entries) where
   terms-good : (k : ℕ) (used : List ℕ) (ts : List TermEntry) {more : List ℕ} → testTerms L E k used ts ≡ accepted more
@@ -80,10 +62,6 @@ module _ (L : Layout) (E : Entries) where
 
 ----------------------------------------------------------------
 -- The tree of a term
-
--- every term entry names lower ones alone
-abbrev pub LowerTerms : List TermEntry → Type 0
-LowerTerms ts = (k : ℕ) → below k (termsOfTerm (getD ts k n-unit)) ≡ true
 
 pub good-lower : {E : Entries} → Good E → LowerTerms (E .terms)
 unfolding termsOfTerm below

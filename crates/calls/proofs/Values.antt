@@ -36,8 +36,11 @@ then-via : {x : Read} {v : Val} {xs : List ℕ} (k : Val → List ℕ → Read) 
 unfolding then
 then-via k p q = ap (λ x. then x k) p ∙ q
 
-malformed≢got : {v : Val} {xs : List ℕ} → malformed ≡ got v xs → ⊥
+pub malformed≢got : {v : Val} {xs : List ℕ} → malformed ≡ got v xs → ⊥
 malformed≢got e = let z : _≡_ {A = ℕ} 0 1 = cc in omega arith
+
+pub got-value : {v w : Val} {xs ys : List ℕ} → got v xs ≡ got w ys → v ≡ w
+got-value e = cc
 
 -- what was read before
 unthen : (x : Read) (k : Val → List ℕ → Read) {v : Val} {ys : List ℕ} → then x k ≡ got v ys
@@ -120,7 +123,7 @@ unfolding readAll read
 readAll-more n [] e = absurd (malformed≢got e)
 readAll-more n (x ∷ xs) e = rw e
 
-readAll-nil : (n : ℕ) → readAll n [] ≡ some []
+pub readAll-nil : (n : ℕ) → readAll n [] ≡ some []
 unfolding readAll
 readAll-nil zero = refl
 readAll-nil (suc n) = refl

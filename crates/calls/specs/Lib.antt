@@ -7,6 +7,8 @@ pub mod Fields
 pub mod Entries
 -- references, uses, types: refusals 4 and 5 (section 4)
 pub mod Named
+-- what those tests find, as propositions
+pub mod Tested
 -- a program read and typed: refusals 2 to 8 (section 4)
 pub mod Load
 -- values from bytes, and whether a value is of a type (section 1)

@@ -15,9 +15,10 @@ use package.Rattle.calls.specs.Runs.{Ran, workspaceFor, prepared}
 use package.Rattle.calls.specs.Conversions.{Turned}
 use package.Rattle.types.specs.Codes.{nodeBytes}
 use package.Rattle.rows.proofs.Beginning.{enough-types}
-use package.Rattle.rows.specs.Answers.{runAnswer, summary, openAnswer, heldAnswer}
+use package.Rattle.rows.specs.Answers.{runAnswer, openAnswer, heldAnswer}
 use package.Rattle.rows.specs.Calls.{Later, accepts, refuses}
 use package.Rattle.rows.specs.declared.answers.RunAnswer.{RunAnswer}
+use package.Rattle.running.specs.Ended.{summary}
 
 ----------------------------------------------------------------
 -- Row Workspace

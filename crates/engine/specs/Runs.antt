@@ -6,7 +6,8 @@ use mathlib.Core.List.{List}
 use package.Rattle.calls.specs.Answer.{Answer, cleared}
 use package.Rattle.calls.specs.Runs.{Ran, forwardCall, backwardCall, written}
 use package.Rattle.rows.specs.declared.answers.RunAnswer.{RunAnswer}
-use package.Rattle.rows.specs.Answers.{runAnswer, summary}
+use package.Rattle.rows.specs.Answers.{runAnswer}
+use package.Rattle.running.specs.Ended.{summary}
 
 -- all rows
 unfoldable pub runCall : Bool → ℕ → ℕ → ℕ → ℕ → List ℕ → List ℕ → List ℕ → Answer Ran

@@ -5,8 +5,9 @@ ghost use mathlib.Core.Path.{_≡_};
 ghost use lib.ListN.{length};
 ghost use Rattle.calls.specs.Answer.{cleared};
 ghost use Rattle.calls.specs.Runs.{forwardCall, backwardCall, written};
-ghost use Rattle.rows.specs.Answers.{runAnswer, summary};
+ghost use Rattle.rows.specs.Answers.{runAnswer};
 ghost use Rattle.engine.specs.Runs.{runCall, CallMeans};
+ghost use Rattle.running.specs.Ended.{summary};
 
 // All rows. The workspace is all zero afterwards, but unchanged if it is too short.
 fn call(

@@ -13,7 +13,7 @@ use package.Rattle.rules.specs.Limits.{maxNodes}
 use package.Rattle.rules.proofs.Basics.{given, and-both}
 use package.Rattle.calls.specs.Entries.{references}
 use package.Rattle.calls.specs.Named.{below, member, fresh}
-use package.Rattle.calls.proofs.Entries.{below-head}
+use package.Rattle.calls.proofs.Entries.{below-head, member-middle}
 use package.Rattle.entries.specs.Marks.{Marks, Used, plainIn, allPlainIn}
 use package.Rattle.program.proofs.Lists.{references-snoc, references-at}
 
@@ -103,18 +103,6 @@ module _ (nodes free : List ℕ) where
 
 ----------------------------------------------------------------
 -- Terms that were unused
-
--- an element in the middle is as good as in front
-member-middle : (k t : ℕ) (ts us : List ℕ) → member k (ts ++ (t ∷ us)) ≡ (eqb k t || member k (ts ++ us))
-unfolding member
-member-middle k t [] us = refl
-member-middle k t (s ∷ ts) us = ap (λ b. eqb k s || b) (member-middle k t ts us) ∙ swap (eqb k s) (eqb k t) (member k (ts ++ us))
-  where
-    swap : (a b c : Bool) → (a || (b || c)) ≡ (b || (a || c))
-    swap true true c = refl
-    swap true false c = refl
-    swap false true c = refl
-    swap false false c = refl
 
 -- the terms used by the time that `ts` were tested
 onto : List ℕ → List ℕ → List ℕ

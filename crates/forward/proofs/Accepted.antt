@@ -1,5 +1,5 @@
 -- What evaluation asks of a program holds of one that is accepted: fields read, entries tested, program well-typed.
-use Prim.Native.Nat.{ℕ, zero, suc, _+_, _-_, _≤_, _<_}
+use Prim.Native.Nat.{ℕ, zero, suc, _-_, _≤_, _<_}
 use native.Mathlib.Omega.{arith}
 use mathlib.Core.Path.{_≡_, refl, sym, ap, subst, _∙_}
 use mathlib.Core.Bool.{true}
@@ -13,17 +13,18 @@ use package.Rattle.rules.specs.Typing.{WellTyped}
 use package.Rattle.rules.proofs.Basics.{given}
 use package.Rattle.rules.proofs.Directed.{Typed, TypedAll}
 use package.Rattle.rules.proofs.Typing.ToDirected.{directed}
-use package.Rattle.calls.specs.Fields.{parametersAt}
-use package.Rattle.calls.specs.Entries.{TypeEntry, typeAt, typeOf, TermEntry, n-var, n-unit, n-inl, n-inr, n-roll, n-unroll, n-pair, n-let, n-letp, n-case, n-call, termAt, termTrees, termTree, termBelow, termOf, references, functionAt, functionOf, entriesAt, programOf}
+use package.Rattle.calls.specs.Entries.{TypeEntry, typeAt, typeOf, TermEntry, n-var, n-unit, n-inl, n-inr, n-roll, n-unroll, n-pair, n-let, n-letp, n-case, n-call, termAt, termTrees, termTree, termBelow, termOf, functionAt, functionOf, entriesAt, programOf}
 use package.Rattle.calls.specs.Named.{functionsOfTerm, below}
-use package.Rattle.calls.proofs.Trees.{Good}
+use package.Rattle.calls.specs.Tested.{Good}
 use package.Rattle.program.specs.Parts.{body, FunctionField}
 use package.Rattle.program.specs.Places.{placesOf, Placed}
 use package.Rattle.program.proofs.Inside.{formed}
-use package.Rattle.program.proofs.Shapes.{function-ancillae, function-body}
+use package.Rattle.program.proofs.Shapes.{function-body}
+use package.Rattle.program.proofs.Lists.{ancillae-count}
+use package.Rattle.program.proofs.Programs.{entry-there}
 use package.Rattle.yields.proofs.Entries.{accepted-terms}
 use package.Rattle.forward.specs.Code.{treeAt, programAt, FewArguments, FewEach, Code}
-use package.Rattle.forward.proofs.Trees.{called-entry, called-tree, called-there, called-body, called-only}
+use package.Rattle.forward.proofs.Trees.{called-tree, called-there, called-body, called-only}
 
 ----------------------------------------------------------------
 -- Typed terms have few arguments
@@ -95,15 +96,10 @@ few-any ys ys′ ts k f = few-below ys ys′ ts (suc k) k f
 ----------------------------------------------------------------
 -- Accepted programs
 
-length-references : (xs : List ℕ) (i n : ℕ) → length (references xs i n) ≡ n
-unfolding references
-length-references xs i zero = refl
-length-references xs i (suc n) = ap suc (length-references xs (i + 2) n)
-
 few-parameters : {p : List ℕ} {at : ℕ} (ys : List TypeEntry) (ts : List TermEntry) → FunctionField p at → length (functionOf ys ts (functionAt p at) .ancillae) ≤ 7
 unfolding functionOf maxParameters
 few-parameters {p} {at} ys ts F =
-    omega (arith, F .few, length-map (functionAt p at .ancillae) (typeOf ys), ap length (function-ancillae p at), length-references p (at + 6) (parametersAt p at - 1))
+    omega (arith, F .few, length-map (functionAt p at .ancillae) (typeOf ys), ancillae-count p at)
 
 module _ {p types terms functions : List ℕ} (read : Placed p types terms functions) (good : Good (entriesAt p (placesOf types terms functions)))
     (variables most : ℕ) (typed : WellTyped variables most (programOf (entriesAt p (placesOf types terms functions)))) where
@@ -138,7 +134,7 @@ module _ {p types terms functions : List ℕ} (read : Placed p types terms funct
     function = λ g l. record {
       field = field g l;
       there = subst (λ n. body p (getD functions g 0) < n) (length-map terms (termAt p))
-          (subst (λ b. b < length (map (termAt p) terms)) (function-body p (getD functions g 0)) (good .function g _ (called-entry p terms functions types-read g l) .body-there));
+          (subst (λ b. b < length (map (termAt p) terms)) (function-body p (getD functions g 0)) (good .function g _ (entry-there p functions g l) .body-there));
       few = few-body g l;
     };
   }

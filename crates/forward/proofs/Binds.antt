@@ -119,7 +119,7 @@ module _ {k v : ℕ} {p terms functions heap slots : List ℕ} {st : Machine} {s
 ----------------------------------------------------------------
 -- Values of another kind
 
-no-pair : {A : Type 0} (n : ℕ) (v w : Val) (next : Val → Val → Run A) (fuel : ℕ) → ¬ (n ≡ 3) → onPair (ofKind n v w) next fuel ≡ stuck
+pub no-pair : {A : Type 0} (n : ℕ) (v w : Val) (next : Val → Val → Run A) (fuel : ℕ) → ¬ (n ≡ 3) → onPair (ofKind n v w) next fuel ≡ stuck
 unfolding onPair ofKind
 no-pair zero v w next fuel d = refl
 no-pair (suc zero) v w next fuel d = refl

@@ -11,8 +11,8 @@ use package.Rattle.octets.specs.Numbers.{get16}
 use package.Rattle.rules.specs.Limits.{fits}
 use package.Rattle.rules.specs.Val.{Val}
 use package.Rattle.rules.specs.Term.{Term}
-use package.Rattle.rules.specs.Run.{Res, ok, stop, stuck, Run, after}
-use package.Rattle.rules.proofs.Run.{via}
+use package.Rattle.rules.specs.Run.{Res, ok, Run, after}
+use package.Rattle.rules.proofs.Run.{via, after-after}
 use package.Rattle.rules.specs.Machine.{each, forward}
 use package.Rattle.calls.specs.Fields.{kindAt, lengthAt}
 use package.Rattle.calls.specs.Entries.{TypeEntry, termTrees, references, callAncillae}
@@ -33,12 +33,6 @@ use Rattle.forward.specs.declared.outcomes.Out.{Out}
 
 ----------------------------------------------------------------
 -- Arguments one after the other
-
-after-after : {A B C : Type 0} (x : Res A) (f : A → Run B) (g : B → Run C) → after (after x f) g ≡ after x (λ a fuel. after (f a fuel) g)
-unfolding after
-after-after (ok a fuel) f g = refl
-after-after (stop n k) f g = refl
-after-after stuck f g = refl
 
 module _ (go : Term → Run Val) (tree : ℕ → Term) (xs : List ℕ) (last : Term) where
   -- the terms from place `i` on, `n` of them, and the last

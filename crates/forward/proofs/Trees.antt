@@ -5,12 +5,13 @@ use native.Mathlib.Omega.{arith}
 use native.Mathlib.Decide.{decLt}
 use mathlib.Core.Path.{_≡_, refl, sym, ap, subst, _∙_}
 use mathlib.Core.Bool.{true}
-use mathlib.Core.Option.{none, some}
+use mathlib.Core.Option.{some}
 use mathlib.Core.List.{List, [], _∷_, _++_, map}
 use lib.ListN.{length, getD, length-map}
 use package.Rattle.octets.specs.Numbers.{get16}
-use package.Rattle.rules.specs.Term.{Term, var, tunit, tinl, tinr, tpair, tlet, tletp, tcase, tcall, troll, tunroll, count, Fun, nth, entry}
+use package.Rattle.rules.specs.Term.{Term, var, tunit, tinl, tinr, tpair, tlet, tletp, tcase, tcall, troll, tunroll, Fun, nth, entry}
 use package.Rattle.rules.proofs.Basics.{given, none≢some, some-inj}
+use package.Rattle.rules.proofs.Lists.{get-map, nth-map, nth-none}
 use package.Rattle.calls.specs.Fields.{kindAt, lengthAt}
 use package.Rattle.calls.specs.Entries.{TypeEntry, typeOf, TermEntry, n-var, n-unit, n-inl, n-inr, n-roll, n-unroll, n-pair, n-let, n-letp, n-case, n-call, termAt, termTrees, termTree, termOf, callAncillae, references, functionAt, functionOf, programOf}
 use package.Rattle.calls.specs.Named.{termsOfTerm, functionsOfTerm, below}
@@ -18,15 +19,11 @@ use package.Rattle.calls.proofs.Entries.{below-head}
 use package.Rattle.calls.proofs.Trees.{term-unfolds}
 use package.Rattle.program.specs.Parts.{variable, first, second, third, listed, body}
 use package.Rattle.program.proofs.Shapes.{term-var, term-unit, term-inl, term-inr, term-pair, term-let, term-letp, term-case, term-call, term-roll, term-unroll, function-body}
+use package.Rattle.program.proofs.Lists.{count-trees, below-last, below-each}
+use package.Rattle.program.proofs.Programs.{entry-there}
 use package.Rattle.yields.specs.Yields.{AcceptedTerms}
 use package.Rattle.yields.proofs.Entries.{tree-is, first-lower, second-lower, third-lower}
 use package.Rattle.forward.specs.Code.{treeAt, programAt, FewArguments, FewEach, Code}
-
--- an element of a mapped list that is there
-pub get-map : {A : Type 0} (f : ℕ → A) (l : List ℕ) (k : ℕ) (d : A) → k < length l → getD (map f l) k d ≡ f (getD l k 0)
-get-map f [] k d h = absurd (omega arith)
-get-map f (x ∷ l) zero d h = refl
-get-map f (x ∷ l) (suc k) d h = get-map f l k d (omega arith)
 
 module _ {p terms : List ℕ} (T : AcceptedTerms p terms) (t : ℕ) (l : t < length terms) where
   abbrev at : ℕ
@@ -168,24 +165,6 @@ module _ {p terms : List ℕ} (T : AcceptedTerms p terms) (t : ℕ) (l : t < len
 ----------------------------------------------------------------
 -- The arguments of a call
 
-count-trees : (go : ℕ → Term) (xs : List ℕ) (i n : ℕ) → count (termTrees go (references xs i n)) ≡ n
-unfolding references termTrees count
-count-trees go xs i zero = refl
-count-trees go xs i (suc n) = ap suc (count-trees go xs (i + 2) n)
-
--- references, and one more behind them
-below-last : (t : ℕ) (xs : List ℕ) (i n last : ℕ) → below t (references xs i n ++ (last ∷ [])) ≡ true → last < t
-unfolding references
-below-last t xs i zero last e = below-head t last [] e .0
-below-last t xs i (suc n) last e = below-last t xs (i + 2) n last (below-head t _ _ e .1)
-
-below-each : (t : ℕ) (xs : List ℕ) (i n last : ℕ) → below t (references xs i n ++ (last ∷ [])) ≡ true → (j : ℕ) → j < n → get16 xs (i + 2 * j) < t
-unfolding references
-below-each t xs i zero last e j h = absurd (omega arith)
-below-each t xs i (suc n) last e zero h = rw (let z : i + 2 * 0 ≡ i = omega arith in z) (below-head t _ _ e .0)
-below-each t xs i (suc n) last e (suc j) h =
-    rw (let z : i + 2 * suc j ≡ i + 2 + 2 * j = omega arith in z) (below-each t xs (i + 2) n last (below-head t _ _ e .1) j (omega arith))
-
 few-each : (go : ℕ → Term) (xs : List ℕ) (i n : ℕ) → FewEach (termTrees go (references xs i n)) → (j : ℕ) → j < n → FewArguments (go (get16 xs (i + 2 * j)))
 unfolding references termTrees FewEach
 few-each go xs i zero f j h = absurd (omega arith)
@@ -225,24 +204,6 @@ module _ {p terms : List ℕ} (T : AcceptedTerms p terms) (t : ℕ) (l : t < len
 ----------------------------------------------------------------
 -- The function of a call
 
-nth-map : {A B : Type 0} (f : A → B) (l : List A) (g : ℕ) {x : A} → nth l g ≡ some x → nth (map f l) g ≡ some (f x)
-unfolding nth
-nth-map f [] g e = absurd (none≢some e)
-nth-map f (y ∷ l) zero e = ap (λ x. some (f x)) (some-inj e)
-nth-map f (y ∷ l) (suc g) e = nth-map f l g e
-
-nth-none : {A : Type 0} (l : List A) (g : ℕ) → length l ≤ g → nth l g ≡ none
-unfolding nth
-nth-none [] g h = refl
-nth-none (x ∷ l) zero h = absurd (omega arith)
-nth-none (x ∷ l) (suc g) h = nth-none l g (omega arith)
-
-nth-there : (l : List ℕ) (g : ℕ) → g < length l → nth l g ≡ some (getD l g 0)
-unfolding nth
-nth-there [] g h = absurd (omega arith)
-nth-there (x ∷ l) zero h = refl
-nth-there (x ∷ l) (suc g) h = nth-there l g (omega arith)
-
 -- it is there
 pub called-function : {p terms functions : List ℕ} → Code p terms functions → (t : ℕ) → t < length terms → kindAt p (getD terms t 0) ≡ 8
     → first p (getD terms t 0) < length functions
@@ -252,16 +213,13 @@ called-function {p} {terms} {functions} K t l e =
     (subst (λ x. below (length functions) (functionsOfTerm x) ≡ true) (get-map (termAt p) terms t n-unit l ∙ term-call p (getD terms t 0) e) (K .called t l)) .0
 
 module _ (p terms functions : List ℕ) (ys : List TypeEntry) (g : ℕ) where
-  pub called-entry : g < length functions → nth (map (functionAt p) functions) g ≡ some (functionAt p (getD functions g 0))
-  called-entry l = nth-map (functionAt p) functions g (nth-there functions g l)
-
   -- and this is it
   abbrev pub called-tree : Fun
   called-tree = functionOf ys (map (termAt p) terms) (functionAt p (getD functions g 0))
 
   pub called-there : g < length functions → nth (programAt p terms functions ys) g ≡ some called-tree
   unfolding programOf
-  called-there l = nth-map (functionOf ys (map (termAt p) terms)) (map (functionAt p) functions) g (called-entry l)
+  called-there l = nth-map (functionOf ys (map (termAt p) terms)) (map (functionAt p) functions) g (entry-there p functions g l)
 
   pub called-body : called-tree .body ≡ treeAt p terms ys (body p (getD functions g 0))
   unfolding functionOf

@@ -11,8 +11,8 @@ use lib.Dec.{leb, eqb}
 use borrow.Author.Tests.{le-leb, lt-leb, eq-eqb, ne-eqb}
 use mir.Syntax.{w8}
 use mir.Val.{Fits}
-use package.Rattle.octets.specs.Numbers.{get16, get32, bytes16}
-use package.Rattle.octets.proofs.Numbers.{AreBytes, bytes-right}
+use package.Rattle.octets.specs.Numbers.{get16, get32, bytes16, AreBytes}
+use package.Rattle.octets.proofs.Numbers.{bytes-right}
 use package.Rattle.rules.specs.Val.{Val}
 use package.Rattle.rules.proofs.Basics.{given}
 use package.Rattle.calls.specs.Values.{value, ancillae}
@@ -151,7 +151,7 @@ some-value : (o : Option Val) → isSome o ≡ true → (v : Val) × (o ≡ some
 some-value none e = absurd (false≢true e)
 some-value (some v) e = (v, refl)
 
-no-value : (o : Option Val) → isSome o ≡ false → o ≡ none
+pub no-value : (o : Option Val) → isSome o ≡ false → o ≡ none
 no-value none e = refl
 no-value (some v) e = absurd (false≢true (sym e))
 

@@ -17,19 +17,28 @@ use package.Rattle.calls.specs.Journal.{Journal, field, heldTag, entryTag, entr
 use package.Rattle.calls.proofs.Values.{value-sound, ancillae-sound}
 use package.Rattle.calls.proofs.Journal.Fields.{fits-below, ancillae-below, length-field}
 use package.Rattle.calls.proofs.Journal.Buffers.{length-fields, length-fields-snoc, fields-snoc}
-use package.Rattle.reading.specs.Ends.{isSome, isValue}
+use package.Rattle.calls.specs.Book.{orUnit, orNone}
+use package.Rattle.reading.specs.Ends.{isSome, isValue, valueIn, valuesIn}
 use package.Rattle.journal.specs.declared.places.Places.{Places}
-use package.Rattle.journal.specs.Places.{orElse, journalIn, Stands}
-use package.Rattle.journal.specs.Turns.{valueOf, valuesOf, areValues, conversion, opens, converted, rolledBack}
+use package.Rattle.journal.specs.Places.{journalIn, Stands}
+use package.Rattle.journal.specs.Turns.{areValues, conversion, opens, converted, rolledBack}
 use package.Rattle.journal.proofs.Stands.{standing, ranges, end-place, newest-place, entries-are, older-are}
 use package.Rattle.journal.proofs.Writes.{put-next, written-out}
 
 ----------------------------------------------------------------
 -- Bytes that are values
 
+pub valueIn-is : (h : List ℕ) {v : Val} → value h ≡ some v → valueIn h ≡ v
+unfolding orUnit
+valueIn-is h e = ap orUnit e
+
+pub valuesIn-is : (a : List ℕ) {vs : List Val} → ancillae a ≡ some vs → valuesIn a ≡ vs
+unfolding orNone
+valuesIn-is a e = ap orNone e
+
 pub record IsValue (h : List ℕ) : Type 0 where
-  pub bytes : h ≡ encode (valueOf h)
-  pub long : length h ≡ size (valueOf h)
+  pub bytes : h ≡ encode (valueIn h)
+  pub long : length h ≡ size (valueIn h)
   pub short : length h < 65536
 
 pub is-value : (h : List ℕ) → isValue h ≡ true → IsValue h
@@ -38,12 +47,12 @@ is-value h t = go (value h) refl t
     go : (o : Option Val) → value h ≡ o → isSome o ≡ true → IsValue h
     go none e t = absurd (false≢true t)
     go (some v) e t = given (value-sound h e) λ (same, fit).
-        let is : valueOf h ≡ v = ap (orElse _) e in
+        let is : valueIn h ≡ v = valueIn-is h e in
         let long : length h ≡ size v = ap length same ∙ length-encode v in
         record { bytes = same ∙ ap encode (sym is); long = long ∙ ap size (sym is); short = omega (arith, long, fits-below v fit) }
 
 pub record AreValues (a : List ℕ) : Type 0 where
-  pub bytes : a ≡ encodeAll (valuesOf a)
+  pub bytes : a ≡ encodeAll (valuesIn a)
   pub short : 6 + length a < 65536
 
 pub are-values : (a : List ℕ) → areValues a ≡ true → AreValues a
@@ -52,43 +61,36 @@ are-values a t = go (ancillae a) refl t
     go : (o : Option (List Val)) → ancillae a ≡ o → isSome o ≡ true → AreValues a
     go none e t = absurd (false≢true t)
     go (some vs) e t = given (ancillae-sound a e) λ (same, within).
-        record { bytes = same ∙ ap encodeAll (sym (ap (orElse _) e)); short = ancillae-below within }
-
--- a value and values whose bytes are known
-pub valueOf-is : (h : List ℕ) {v : Val} → value h ≡ some v → valueOf h ≡ v
-valueOf-is h e = ap (orElse _) e
-
-pub valuesOf-is : (a : List ℕ) {vs : List Val} → ancillae a ≡ some vs → valuesOf a ≡ vs
-valuesOf-is a e = ap (orElse _) e
+        record { bytes = same ∙ ap encodeAll (sym (valuesIn-is a e)); short = ancillae-below within }
 
 ----------------------------------------------------------------
 -- Open
 
 module _ (h : List ℕ) (t : isValue h ≡ true) where
-  pub open-length : length (fields (opens (valueOf h))) ≡ 3 + length h
+  pub open-length : length (fields (opens (valueIn h))) ≡ 3 + length h
   unfolding entryFields
-  open-length = length-fields (opens (valueOf h)) ∙ omega (arith, is-value h t .long)
+  open-length = length-fields (opens (valueIn h)) ∙ omega (arith, is-value h t .long)
 
-  open-fields : field heldTag h ≡ fields (opens (valueOf h))
+  open-fields : field heldTag h ≡ fields (opens (valueIn h))
   unfolding fields entryFields
-  open-fields = ap (field heldTag) (is-value h t .bytes) ∙ sym (append-nil (field heldTag (encode (valueOf h))))
+  open-fields = ap (field heldTag) (is-value h t .bytes) ∙ sym (append-nil (field heldTag (encode (valueIn h))))
 
-  pub open-written : (xs ys zs : List ℕ) → length (fields (opens (valueOf h))) ≤ length xs → ys ≡ pasted xs 0 (field heldTag h)
-      → zs ≡ take (3 + length h) ys ++ replicate (length ys - (3 + length h)) 0 → zs ≡ writeOut (length xs) (opens (valueOf h))
+  pub open-written : (xs ys zs : List ℕ) → length (fields (opens (valueIn h))) ≤ length xs → ys ≡ pasted xs 0 (field heldTag h)
+      → zs ≡ take (3 + length h) ys ++ replicate (length ys - (3 + length h)) 0 → zs ≡ writeOut (length xs) (opens (valueIn h))
   open-written xs ys zs fit e k =
       k ∙ ap (λ s. take (3 + length h) s ++ replicate (length s - (3 + length h)) 0) e
-      ∙ written-out xs (field heldTag h) (3 + length h) (opens (valueOf h)) open-fields fit (sym (length-field heldTag h))
+      ∙ written-out xs (field heldTag h) (3 + length h) (opens (valueIn h)) open-fields fit (sym (length-field heldTag h))
 
 ----------------------------------------------------------------
 -- Convert
 
 module _ (pl : Places) (xs h a : List ℕ) (s : Stands pl xs) (t : isValue h ≡ true) (u : areValues a ≡ true) (f n : ℕ) where
   after : Journal
-  after = converted (journalIn xs) (valueOf h) (conversion f n (valuesOf a))
+  after = converted (journalIn xs) (valueIn h) (conversion f n (valuesIn a))
 
-  pub convert-length : length (fields (converted (journalIn xs) (valueOf h) (conversion f n (valuesOf a)))) ≡ 12 + length h + (pl .end - pl .held) + length a
+  pub convert-length : length (fields (converted (journalIn xs) (valueIn h) (conversion f n (valuesIn a)))) ≡ 12 + length h + (pl .end - pl .held) + length a
   convert-length =
-      length-fields-snoc (valueOf h) (journalIn xs .entries) (conversion f n (valuesOf a))
+      length-fields-snoc (valueIn h) (journalIn xs .entries) (conversion f n (valuesIn a))
       ∙ omega (arith, is-value h t .long, end-place (standing pl xs s), ap length (are-values a u .bytes))
 
   -- the held value's field, those that stood, and the new one
@@ -102,8 +104,8 @@ module _ (pl : Places) (xs h a : List ℕ) (s : Stands pl xs) (t : isValue h ≡
   unfolding after block entry entryBody
   convert-fields =
       ap₂ (λ b e. field heldTag b ++ e ++ entry) (is-value h t .bytes) (entries-are (standing pl xs s))
-      ∙ ap (λ b. field heldTag (encode (valueOf h)) ++ entryFields (journalIn xs .entries) ++ field entryTag (bytes16 f ++ bytes32 n ++ b)) (are-values a u .bytes)
-      ∙ sym (fields-snoc (valueOf h) (journalIn xs .entries) (conversion f n (valuesOf a)))
+      ∙ ap (λ b. field heldTag (encode (valueIn h)) ++ entryFields (journalIn xs .entries) ++ field entryTag (bytes16 f ++ bytes32 n ++ b)) (are-values a u .bytes)
+      ∙ sym (fields-snoc (valueIn h) (journalIn xs .entries) (conversion f n (valuesIn a)))
 
   front-length : length (field heldTag h ++ block) ≡ 3 + length h + (pl .end - pl .held)
   unfolding block
@@ -115,7 +117,7 @@ module _ (pl : Places) (xs h a : List ℕ) (s : Stands pl xs) (t : isValue h ≡
   unfolding entry bytes16 bytes32
   entry-length = length-field entryTag (bytes16 f ++ bytes32 n ++ a) ∙ omega arith
 
-  module _ (fit : length (fields (converted (journalIn xs) (valueOf h) (conversion f n (valuesOf a)))) ≤ length xs) where
+  module _ (fit : length (fields (converted (journalIn xs) (valueIn h) (conversion f n (valuesIn a)))) ≤ length xs) where
     -- what the parts of the code ask
     pub record ConvertRoom : Type 0 where
       pub ordered : pl .held ≤ pl .end
@@ -131,7 +133,7 @@ module _ (pl : Places) (xs h a : List ℕ) (s : Stands pl xs) (t : isValue h ≡
     pub convert-written : (ys zs ws : List ℕ) → ys ≡ pasted xs 0 (field heldTag h ++ take (pl .end - pl .held) (drop (pl .held) xs))
         → zs ≡ pasted ys (3 + length h + (pl .end - pl .held)) (field entryTag (bytes16 f ++ bytes32 n ++ a))
         → ws ≡ take (3 + length h + (pl .end - pl .held) + 9 + length a) zs ++ replicate (length zs - (3 + length h + (pl .end - pl .held) + 9 + length a)) 0
-        → ws ≡ writeOut (length xs) (converted (journalIn xs) (valueOf h) (conversion f n (valuesOf a)))
+        → ws ≡ writeOut (length xs) (converted (journalIn xs) (valueIn h) (conversion f n (valuesIn a)))
     unfolding after block entry
     convert-written ys zs ws e k l =
         l ∙ ap (λ r. take (3 + length h + (pl .end - pl .held) + 9 + length a) r ++ replicate (length r - (3 + length h + (pl .end - pl .held) + 9 + length a)) 0)
@@ -144,14 +146,14 @@ module _ (pl : Places) (xs h a : List ℕ) (s : Stands pl xs) (t : isValue h ≡
 -- Rollback
 
 module _ (pl : Places) (xs h : List ℕ) (s : Stands pl xs) (t : isValue h ≡ true) where
-  pub rollback-length : length (fields (rolledBack (journalIn xs) (valueOf h))) ≡ 3 + length h + (pl .newest - pl .held)
-  rollback-length = length-fields (rolledBack (journalIn xs) (valueOf h)) ∙ omega (arith, is-value h t .long, newest-place (standing pl xs s))
+  pub rollback-length : length (fields (rolledBack (journalIn xs) (valueIn h))) ≡ 3 + length h + (pl .newest - pl .held)
+  rollback-length = length-fields (rolledBack (journalIn xs) (valueIn h)) ∙ omega (arith, is-value h t .long, newest-place (standing pl xs s))
 
-  rollback-fields : field heldTag h ++ take (pl .newest - pl .held) (drop (pl .held) xs) ≡ fields (rolledBack (journalIn xs) (valueOf h))
+  rollback-fields : field heldTag h ++ take (pl .newest - pl .held) (drop (pl .held) xs) ≡ fields (rolledBack (journalIn xs) (valueIn h))
   unfolding fields
   rollback-fields = ap₂ (λ b e. field heldTag b ++ e) (is-value h t .bytes) (older-are (standing pl xs s))
 
-  module _ (fit : length (fields (rolledBack (journalIn xs) (valueOf h))) ≤ length xs) where
+  module _ (fit : length (fields (rolledBack (journalIn xs) (valueIn h))) ≤ length xs) where
     pub record RollbackRoom : Type 0 where
       pub ordered : pl .held ≤ pl .newest
       pub inside : pl .newest ≤ length xs
@@ -164,8 +166,8 @@ module _ (pl : Places) (xs h : List ℕ) (s : Stands pl xs) (t : isValue h ≡ t
 
     pub rollback-written : (ys zs : List ℕ) → ys ≡ pasted xs 0 (field heldTag h ++ take (pl .newest - pl .held) (drop (pl .held) xs))
         → zs ≡ take (3 + length h + (pl .newest - pl .held)) ys ++ replicate (length ys - (3 + length h + (pl .newest - pl .held))) 0
-        → zs ≡ writeOut (length xs) (rolledBack (journalIn xs) (valueOf h))
+        → zs ≡ writeOut (length xs) (rolledBack (journalIn xs) (valueIn h))
     rollback-written ys zs e k =
         k ∙ ap (λ r. take (3 + length h + (pl .newest - pl .held)) r ++ replicate (length r - (3 + length h + (pl .newest - pl .held))) 0) e
         ∙ written-out xs (field heldTag h ++ take (pl .newest - pl .held) (drop (pl .held) xs)) (3 + length h + (pl .newest - pl .held))
-        (rolledBack (journalIn xs) (valueOf h)) rollback-fields fit (omega (arith, ap length rollback-fields, rollback-length))
+        (rolledBack (journalIn xs) (valueIn h)) rollback-fields fit (omega (arith, ap length rollback-fields, rollback-length))

@@ -8,7 +8,7 @@ use mathlib.Core.Option.{Option, none, some}
 use mathlib.Core.List.{List, [], _∷_, _++_, append-assoc, append-nil}
 use lib.ListN.{length, getD, drop, length-append, length-drop, drop-of-length-le}
 use lib.Seq.{getD-drop}
-use package.Rattle.octets.proofs.Numbers.{AreBytes}
+use package.Rattle.octets.specs.Numbers.{AreBytes}
 use package.Rattle.rules.specs.Limits.{maxConversions}
 use package.Rattle.rules.specs.Val.{Val, size}
 use package.Rattle.rules.proofs.Basics.{given, none≢some, some-inj}

@@ -7,7 +7,7 @@ use lib.ListN.{length, take, drop, set, replicate, length-set, length-drop, drop
 use lib.Seq.{length-take-le}
 use package.Rattle.octets.specs.Numbers.{bytes16, bytes32, put16, put32}
 use package.Rattle.octets.specs.Runs.{pasted}
-use package.Rattle.journal.proofs.Pastes.{length-pasted, take-pasted, pasted-behind, pasted-before, set-pasted, put16-pasted, put32-pasted}
+use package.Rattle.octets.proofs.Pastes.{length-pasted, take-pasted, pasted-behind, pasted-before, set-pasted, put16-pasted, put32-pasted}
 use package.Rattle.calls.specs.Journal.{Journal, field, entryTag, fields, writeOut}
 use package.Rattle.calls.proofs.Journal.Fields.{length-field}
 
@@ -17,13 +17,13 @@ unfolding bytes16
 put-head xs at tag n h =
     put16-pasted (set xs at tag) (at + 1) n (simp length-set (omega arith))
     ∙ ap (λ s. pasted s (at + 1) (bytes16 n)) (set-pasted xs at tag (omega arith))
-    ∙ pasted-behind xs at (tag ∷ []) (omega arith) (bytes16 n) (omega arith)
+    ∙ pasted-behind xs at (tag ∷ []) (omega arith) (bytes16 n)
 
 -- a body behind them
 pub put-body : (xs : List ℕ) (at tag : ℕ) (body : List ℕ) → at + 3 + length body ≤ length xs
     → pasted (pasted xs at (tag ∷ bytes16 (length body))) (at + 3) body ≡ pasted xs at (field tag body)
 unfolding field bytes16
-put-body xs at tag body h = pasted-behind xs at (tag ∷ bytes16 (length body)) (omega arith) body (omega arith)
+put-body xs at tag body h = pasted-behind xs at (tag ∷ bytes16 (length body)) (omega arith) body
 
 -- a field before a run that was moved behind it
 pub put-before : (xs : List ℕ) (tag : ℕ) (body block : List ℕ) → 3 + length body + length block ≤ length xs
@@ -40,19 +40,19 @@ unfolding field bytes16 bytes32
 put-entry xs at function steps anc h =
     let head = entryTag ∷ bytes16 (6 + length anc) in
     let one : put16 (pasted xs at head) (at + 3) function ≡ pasted xs at (head ++ bytes16 function) =
-    put16-pasted (pasted xs at head) (at + 3) function (omega (arith, length-pasted xs at head (omega arith))) ∙ pasted-behind xs at head (omega arith) (bytes16 function) (omega arith) in
+    put16-pasted (pasted xs at head) (at + 3) function (omega (arith, length-pasted xs at head (omega arith))) ∙ pasted-behind xs at head (omega arith) (bytes16 function) in
     let two : put32 (pasted xs at (head ++ bytes16 function)) (at + 5) steps ≡ pasted xs at (head ++ bytes16 function ++ bytes32 steps) =
     put32-pasted (pasted xs at (head ++ bytes16 function)) (at + 5) steps (omega (arith, length-pasted xs at (head ++ bytes16 function) (omega arith)))
-    ∙ pasted-behind xs at (head ++ bytes16 function) (omega arith) (bytes32 steps) (omega arith) in
+    ∙ pasted-behind xs at (head ++ bytes16 function) (omega arith) (bytes32 steps) in
     ap (λ s. pasted s (at + 9) anc) (ap (λ s. put32 s (at + 5) steps) one ∙ two)
-    ∙ pasted-behind xs at (head ++ bytes16 function ++ bytes32 steps) (omega arith) anc (omega arith)
+    ∙ pasted-behind xs at (head ++ bytes16 function ++ bytes32 steps) (omega arith) anc
     ∙ ap (λ n. pasted xs at ((entryTag ∷ bytes16 n) ++ bytes16 function ++ bytes32 steps ++ anc))
     (let z : 6 + length anc ≡ length (bytes16 function ++ bytes32 steps ++ anc) = omega arith in z)
 
 -- a run at the start, and another behind it
 pub put-next : (xs : List ℕ) (n : ℕ) (ys zs : List ℕ) → n ≡ length ys → length ys + length zs ≤ length xs → pasted (pasted xs 0 ys) n zs ≡ pasted xs 0 (ys ++ zs)
 put-next xs n ys zs e h =
-    ap (λ n. pasted (pasted xs 0 ys) n zs) (let z : n ≡ 0 + length ys = omega (arith, e) in z) ∙ pasted-behind xs 0 ys (omega arith) zs (omega arith)
+    ap (λ n. pasted (pasted xs 0 ys) n zs) (let z : n ≡ 0 + length ys = omega (arith, e) in z) ∙ pasted-behind xs 0 ys (omega arith) zs
 
 -- the fields at the start, and zeros to the end: what is written out
 pub written-out : (xs : List ℕ) (ys : List ℕ) (n : ℕ) (J : Journal) → ys ≡ fields J → length (fields J) ≤ length xs → n ≡ length ys

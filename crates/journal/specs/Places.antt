@@ -5,7 +5,7 @@ use mathlib.Core.Path.{_≡_}
 use mathlib.Core.Option.{Option, none, some}
 use mathlib.Core.List.{List, []}
 use lib.ListN.{length}
-use package.Rattle.octets.proofs.Numbers.{AreBytes}
+use package.Rattle.octets.specs.Numbers.{AreBytes}
 use package.Rattle.rules.specs.Val.{unit, size}
 use package.Rattle.calls.specs.Values.{value}
 use package.Rattle.calls.specs.Journal.{Entry, Journal, heldTag, entryTag, fields, _>>=_, Opened, opened, readEntry, readJournal}

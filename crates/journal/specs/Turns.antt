@@ -2,18 +2,11 @@
 use Prim.Native.Nat.{ℕ}
 use mathlib.Core.Bool.{Bool}
 use mathlib.Core.List.{List, [], _∷_, _++_}
-use package.Rattle.rules.specs.Val.{Val, unit}
-use package.Rattle.calls.specs.Values.{value, ancillae}
+use package.Rattle.rules.specs.Val.{Val}
+use package.Rattle.calls.specs.Values.{ancillae}
 use package.Rattle.calls.specs.Journal.{Entry, Journal}
 use package.Rattle.reading.specs.Ends.{isSome}
-use package.Rattle.journal.specs.Places.{orElse, newestOf}
-
--- the value, and the values, that bytes are
-abbrev pub valueOf : List ℕ → Val
-valueOf xs = orElse unit (value xs)
-
-abbrev pub valuesOf : List ℕ → List Val
-valuesOf xs = orElse [] (ancillae xs)
+use package.Rattle.journal.specs.Places.{newestOf}
 
 -- Are the bytes values within the limits?
 abbrev pub areValues : List ℕ → Bool

@@ -11,9 +11,9 @@ ghost use lib.Dec.{leb};
 ghost use Rattle.octets.specs.Numbers.{bytes16, bytes32};
 ghost use Rattle.octets.specs.Runs.{pasted};
 ghost use Rattle.calls.specs.Journal.{field, heldTag, entryTag, fields, writeOut};
-ghost use Rattle.reading.specs.Ends.{isValue};
+ghost use Rattle.reading.specs.Ends.{isValue, valueIn, valuesIn};
 ghost use Rattle.journal.specs.Places.{Stands, journalIn};
-ghost use Rattle.journal.specs.Turns.{valueOf, valuesOf, areValues, conversion, opens, converted, rolledBack};
+ghost use Rattle.journal.specs.Turns.{areValues, conversion, opens, converted, rolledBack};
 
 const HELD_TAG: u8 = 0x21;
 
@@ -22,7 +22,7 @@ const ENTRY_TAG: u8 = 0x22;
 // Does the journal that open leaves fit?
 pub fn fits_open(journal: &[u8], held: &[u8]) -> bool
     requires { ⌜ isValue (now held) ≡ true ⌝ }
-    ensures { λ r. ⌜ r ≡ leb (length (fields (opens (valueOf (now (held .entry)))))) (length (now (journal .entry))) ⌝ }
+    ensures { λ r. ⌜ r ≡ leb (length (fields (opens (valueIn (now (held .entry)))))) (length (now (journal .entry))) ⌝ }
 {
     3 + held.len() <= journal.len()
 }
@@ -31,7 +31,7 @@ pub fn fits_open(journal: &[u8], held: &[u8]) -> bool
 pub fn fits_convert(journal: &[u8], pl: Places, held: &[u8], ancillae: &[u8]) -> bool
     requires { ⌜ Stands pl (now journal) ⌝ }
     requires { ⌜ (isValue (now held) ≡ true) × (areValues (now ancillae) ≡ true) ⌝ }
-    ensures { λ r. ⌜ ((f s : ℕ) → r ≡ leb (length (fields (converted (journalIn (now (journal .entry))) (valueOf (now (held .entry))) (conversion f s (valuesOf (now (ancillae .entry))))))) (length (now (journal .entry)))) ⌝ }
+    ensures { λ r. ⌜ ((f s : ℕ) → r ≡ leb (length (fields (converted (journalIn (now (journal .entry))) (valueIn (now (held .entry))) (conversion f s (valuesIn (now (ancillae .entry))))))) (length (now (journal .entry)))) ⌝ }
 {
     let from = pl.held;
     let to = pl.end;
@@ -42,7 +42,7 @@ pub fn fits_convert(journal: &[u8], pl: Places, held: &[u8], ancillae: &[u8]) ->
 pub fn fits_rollback(journal: &[u8], pl: Places, held: &[u8]) -> bool
     requires { ⌜ Stands pl (now journal) ⌝ }
     requires { ⌜ isValue (now held) ≡ true ⌝ }
-    ensures { λ r. ⌜ r ≡ leb (length (fields (rolledBack (journalIn (now (journal .entry))) (valueOf (now (held .entry)))))) (length (now (journal .entry))) ⌝ }
+    ensures { λ r. ⌜ r ≡ leb (length (fields (rolledBack (journalIn (now (journal .entry))) (valueIn (now (held .entry)))))) (length (now (journal .entry))) ⌝ }
 {
     let from = pl.held;
     let to = pl.newest;
@@ -99,8 +99,8 @@ fn clear_from(journal: &mut [u8], at: usize)
 // The journal that open leaves: the record, and no conversion.
 pub fn write_open(journal: &mut [u8], held: &[u8])
     requires { ⌜ isValue (now held) ≡ true ⌝ }
-    requires { ⌜ length (fields (opens (valueOf (now held)))) ≤ length (now journal) ⌝ }
-    ensures { λ _. ⌜ now (journal .exit) ≡ writeOut (length (now (journal .entry))) (opens (valueOf (now (held .entry)))) ⌝ }
+    requires { ⌜ length (fields (opens (valueIn (now held)))) ≤ length (now journal) ⌝ }
+    ensures { λ _. ⌜ now (journal .exit) ≡ writeOut (length (now (journal .entry))) (opens (valueIn (now (held .entry)))) ⌝ }
 {
     put_held(journal, held);
     clear_from(journal, 3 + held.len());
@@ -117,8 +117,8 @@ pub fn write_convert(
 )
     requires { ⌜ Stands pl (now journal) ⌝ }
     requires { ⌜ (isValue (now held) ≡ true) × (areValues (now ancillae) ≡ true) ⌝ }
-    requires { ⌜ length (fields (converted (journalIn (now journal)) (valueOf (now held)) (conversion function steps (valuesOf (now ancillae))))) ≤ length (now journal) ⌝ }
-    ensures { λ _. ⌜ now (journal .exit) ≡ writeOut (length (now (journal .entry))) (converted (journalIn (now (journal .entry))) (valueOf (now (held .entry))) (conversion function steps (valuesOf (now (ancillae .entry))))) ⌝ }
+    requires { ⌜ length (fields (converted (journalIn (now journal)) (valueIn (now held)) (conversion function steps (valuesIn (now ancillae))))) ≤ length (now journal) ⌝ }
+    ensures { λ _. ⌜ now (journal .exit) ≡ writeOut (length (now (journal .entry))) (converted (journalIn (now (journal .entry))) (valueIn (now (held .entry))) (conversion function steps (valuesIn (now (ancillae .entry))))) ⌝ }
 {
     let from = pl.held;
     let to = pl.end;
@@ -132,8 +132,8 @@ pub fn write_convert(
 pub fn write_rollback(journal: &mut [u8], pl: Places, held: &[u8])
     requires { ⌜ Stands pl (now journal) ⌝ }
     requires { ⌜ isValue (now held) ≡ true ⌝ }
-    requires { ⌜ length (fields (rolledBack (journalIn (now journal)) (valueOf (now held)))) ≤ length (now journal) ⌝ }
-    ensures { λ _. ⌜ now (journal .exit) ≡ writeOut (length (now (journal .entry))) (rolledBack (journalIn (now (journal .entry))) (valueOf (now (held .entry)))) ⌝ }
+    requires { ⌜ length (fields (rolledBack (journalIn (now journal)) (valueIn (now held)))) ≤ length (now journal) ⌝ }
+    ensures { λ _. ⌜ now (journal .exit) ≡ writeOut (length (now (journal .entry))) (rolledBack (journalIn (now (journal .entry))) (valueIn (now (held .entry)))) ⌝ }
 {
     let from = pl.held;
     let to = pl.newest;

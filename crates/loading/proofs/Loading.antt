@@ -6,12 +6,13 @@ use mathlib.Core.List.{List}
 use lib.ListN.{length, take}
 use package.Rattle.rules.specs.Limits.{maxTypes, maxTerms, maxVariables, maxNodes}
 use package.Rattle.rules.specs.Typing.{WellTyped}
-use package.Rattle.calls.specs.Answer.{Answer, accepted, refused, _>>=_}
+use package.Rattle.calls.specs.Answer.{Answer, refused, _>>=_}
 use package.Rattle.calls.specs.Entries.{entriesAt, programOf}
 use package.Rattle.calls.specs.Load.{load}
 use package.Rattle.calls.proofs.Answer.{via}
-use package.Rattle.calls.proofs.Trees.{Good, entries-good}
+use package.Rattle.calls.proofs.Trees.{entries-good}
 use package.Rattle.calls.proofs.Load.{load-iff}
+use package.Rattle.calls.specs.Tested.{Good}
 use package.Rattle.program.specs.Places.{placesOf, Placed, Within, Counted, FieldsMean, answerOf}
 use package.Rattle.program.specs.declared.fields.Counts.{Counts}
 use package.Rattle.program.specs.declared.fields.Fields.{Fields}

@@ -5,3 +5,5 @@ pub mod Numbers
 pub mod Runs
 -- numbers put into bytes
 pub mod Puts
+-- runs put into bytes
+pub mod Pastes

@@ -5,17 +5,13 @@ use native.Mathlib.Omega.{arith}
 use native.Mathlib.Nat.{add-assoc, div-add-mod'}
 use mathlib.Core.Path.{_≡_, refl, ap₂, _∙_}
 use mathlib.Core.List.{List, [], _∷_, _++_}
-use lib.ListN.{length, getD}
+use lib.ListN.{length}
 use lib.Arith.{digits-lt, digits-div, digits-mod}
 use lib.Seq.{getD-append-add}
-use package.Rattle.octets.specs.Numbers.{get16, get32, bytes16, bytes32}
+use package.Rattle.octets.specs.Numbers.{AreBytes, get16, get32, bytes16, bytes32}
 
 ----------------------------------------------------------------
 -- Lists of bytes
-
--- Every element is a byte. (Past the end the answer is 0.)
-abbrev pub AreBytes : List ℕ → Type 0
-AreBytes xs = (i : ℕ) → getD xs i 0 < 256
 
 pub bytes-left : (xs ys : List ℕ) → AreBytes (xs ++ ys) → AreBytes xs
 bytes-left [] ys h i = omega arith

@@ -1,7 +1,11 @@
 -- Numbers of two and four bytes at a place of a list of bytes, the high byte first (section 1). Laws: proofs/Numbers.
-use Prim.Native.Nat.{ℕ, _+_, _*_, _/_, _%_}
+use Prim.Native.Nat.{ℕ, _+_, _*_, _/_, _%_, _<_}
 use mathlib.Core.List.{List, [], _∷_, _++_}
 use lib.ListN.{getD, set}
+
+-- Every element is a byte. (Past the end the answer is 0.)
+abbrev pub AreBytes : List ℕ → Type 0
+AreBytes xs = (i : ℕ) → getD xs i 0 < 256
 
 ----------------------------------------------------------------
 -- Reading

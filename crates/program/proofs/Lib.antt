@@ -17,3 +17,5 @@ pub mod Reading
 pub mod Lists
 -- the table of signatures: its rows, and how they are stored
 pub mod Rows
+-- the functions of a program, by offsets
+pub mod Programs

@@ -2,22 +2,48 @@
 use Prim.Native.Nat.{ℕ, zero, suc, _+_, _*_, _-_, _≤_, _<_}
 use native.Mathlib.Omega.{arith}
 use mathlib.Core.Path.{_≡_, refl, sym, ap, ap₂, _∙_}
-use mathlib.Core.Bool.{cond}
+use mathlib.Core.Bool.{true, cond}
 use mathlib.Core.List.{List, [], _∷_, _++_}
 use lib.ListN.{length, getD}
 use lib.Dec.{eqb}
 use borrow.Author.Tests.{ne-eqb}
 use package.Rattle.octets.specs.Numbers.{get16}
+use package.Rattle.rules.specs.Term.{Term, count}
 use package.Rattle.calls.specs.Fields.{kindAt, lengthAt, parametersAt, termLengths}
-use package.Rattle.calls.specs.Entries.{typeAt, termAt, functionAt, references, callAncillae}
-use package.Rattle.calls.specs.Named.{typesOfType, typesOfTerm, termsOfTerm, functionsOfTerm, typesOfFunction}
+use package.Rattle.calls.specs.Entries.{typeAt, termAt, termTrees, functionAt, references, callAncillae}
+use package.Rattle.calls.specs.Named.{typesOfType, typesOfTerm, termsOfTerm, functionsOfTerm, typesOfFunction, below}
+use package.Rattle.calls.proofs.Entries.{below-head}
 use package.Rattle.program.specs.Parts.{first, second, third, listed, result, body, TypeField, TermField, FunctionField}
 use package.Rattle.program.specs.Lists.{typeTypes, termTypes, termFunctions, termTerms, typesInType, typesInTerm, functionsInTerm, termsFrom, termsInTerm}
-use package.Rattle.program.proofs.Shapes.{type-unit, type-prod, type-sum, type-mu, type-var, term-var, term-unit, term-inl, term-inr, term-pair, term-let, term-letp, term-case, term-call, term-roll, term-unroll, function-dynamic}
+use package.Rattle.program.proofs.Shapes.{type-unit, type-prod, type-sum, type-mu, type-var, term-var, term-unit, term-inl, term-inr, term-pair, term-let, term-letp, term-case, term-call, term-roll, term-unroll, function-ancillae, function-dynamic}
 use package.Rattle.program.proofs.Rooms.{type-kind, type-kind-room, prod-room, sum-room, mu-room, term-kind, term-kind-room, two-room, case-room, call-room}
 
 ----------------------------------------------------------------
 -- Runs
+
+pub length-references : (xs : List ℕ) (i n : ℕ) → length (references xs i n) ≡ n
+unfolding references
+length-references xs i zero = refl
+length-references xs i (suc n) = ap suc (length-references xs (i + 2) n)
+
+-- the trees of a run of terms
+pub count-trees : (go : ℕ → Term) (xs : List ℕ) (i n : ℕ) → count (termTrees go (references xs i n)) ≡ n
+unfolding references termTrees count
+count-trees go xs i zero = refl
+count-trees go xs i (suc n) = ap suc (count-trees go xs (i + 2) n)
+
+-- references, and one more behind them
+pub below-last : (t : ℕ) (xs : List ℕ) (i n last : ℕ) → below t (references xs i n ++ (last ∷ [])) ≡ true → last < t
+unfolding references
+below-last t xs i zero last e = below-head t last [] e .0
+below-last t xs i (suc n) last e = below-last t xs (i + 2) n last (below-head t _ _ e .1)
+
+pub below-each : (t : ℕ) (xs : List ℕ) (i n last : ℕ) → below t (references xs i n ++ (last ∷ [])) ≡ true → (j : ℕ) → j < n → get16 xs (i + 2 * j) < t
+unfolding references
+below-each t xs i zero last e j h = absurd (omega arith)
+below-each t xs i (suc n) last e zero h = rw (let z : i + 2 * 0 ≡ i = omega arith in z) (below-head t _ _ e .0)
+below-each t xs i (suc n) last e (suc j) h =
+    rw (let z : i + 2 * suc j ≡ i + 2 + 2 * j = omega arith in z) (below-each t xs (i + 2) n last (below-head t _ _ e .1) j (omega arith))
 
 -- the first `i` of a run of `n`, and the rest
 pub references-split : (xs : List ℕ) (from i n : ℕ) → references xs from (i + n) ≡ references xs from i ++ references xs (from + 2 * i) n
@@ -210,6 +236,10 @@ terms-by-kind xs at d =
 
 ----------------------------------------------------------------
 -- Functions
+
+-- one parameter less than there are
+pub ancillae-count : (xs : List ℕ) (at : ℕ) → length (functionAt xs at .ancillae) ≡ parametersAt xs at - 1
+ancillae-count xs at = ap length (function-ancillae xs at) ∙ length-references xs (at + 6) (parametersAt xs at - 1)
 
 module _ {xs : List ℕ} {at : ℕ} (F : FunctionField xs at) where
   pub types-of-function : typesOfFunction (functionAt xs at) ≡ references xs (at + 3) 1 ++ references xs (at + 6) (parametersAt xs at)

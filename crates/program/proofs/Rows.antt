@@ -4,7 +4,7 @@ use Prim.Native.Nat.{ℕ, zero, suc, _+_, _*_, _<_, _≤_}
 use native.Mathlib.Omega.{arith}
 use native.Mathlib.Decide.{decLt}
 use mathlib.Core.Path.{_≡_, refl, sym, ap, subst, _∙_}
-use mathlib.Core.List.{List, [], _∷_, _++_}
+use mathlib.Core.List.{List, []}
 use lib.ListN.{length, getD, set, drop, replicate, length-set, getD-replicate, List·getD-eq-default}
 use lib.Seq.{getD-set-same, getD-set-other}
 use package.Rattle.octets.specs.Numbers.{get16}
@@ -16,15 +16,10 @@ use package.Rattle.program.specs.Places.{Placed}
 use package.Rattle.program.specs.Parts.{FunctionField, listed}
 use package.Rattle.program.specs.Signatures.{parameterTypes, SignatureIs, FunctionFields, SignaturesAre}
 use package.Rattle.program.proofs.Inside.{formed}
-use package.Rattle.program.proofs.Lists.{types-of-function}
+use package.Rattle.program.proofs.Lists.{length-references, types-of-function}
 
 ----------------------------------------------------------------
 -- References
-
-length-references : (xs : List ℕ) (i n : ℕ) → length (references xs i n) ≡ n
-unfolding references
-length-references xs i zero = refl
-length-references xs i (suc n) = ap suc (length-references xs (i + 2) n)
 
 getD-references : (xs : List ℕ) (i n k : ℕ) → k < n → getD (references xs i n) k 0 ≡ get16 xs (i + 2 * k)
 unfolding references

@@ -9,3 +9,5 @@ pub mod Parts
 pub mod Lists
 -- the parameters of a function as a row of a table
 pub mod Signatures
+-- the program, and a function of it, by offsets
+pub mod Programs

@@ -16,7 +16,8 @@ use package.Rattle.calls.specs.Fields.{Layout, layout}
 use package.Rattle.calls.specs.Entries.{typeAt, typeOf}
 use package.Rattle.calls.specs.Named.{plain, testTypes}
 use package.Rattle.calls.specs.Values.{Read, got, malformed, value, hasTy}
-use package.Rattle.calls.proofs.Entries.{closed, lower, plain-iff}
+use package.Rattle.calls.proofs.Entries.{lower, plain-iff}
+use package.Rattle.calls.specs.Tested.{closed}
 use package.Rattle.program.proofs.Inside.{formed}
 use package.Rattle.reading.specs.declared.scan.End.the-variants as end
 use package.Rattle.reading.specs.declared.typed.Step.the-variants as step

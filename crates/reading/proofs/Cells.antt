@@ -11,7 +11,7 @@ use borrow.Author.Tests.{ltb-true}
 use package.Rattle.rules.specs.Ty.{Ty, one}
 use package.Rattle.calls.specs.Fields.{kindAt}
 use package.Rattle.calls.specs.Entries.{TypeEntry, typeOf}
-use package.Rattle.calls.proofs.Entries.{closed}
+use package.Rattle.calls.specs.Tested.{closed}
 use package.Rattle.program.specs.Parts.{variable}
 use package.Rattle.reading.specs.declared.typed.Scoped.{Scoped}
 use package.Rattle.reading.specs.Scopes.{plugs, outward, scopeBelow, scopeOf, typeUnder}

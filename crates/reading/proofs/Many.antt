@@ -1,5 +1,5 @@
 -- Values one after another: counting them by their ends agrees with reading them.
-use Prim.Native.Nat.{ℕ, zero, suc, _+_, _-_, _≤_, _<_}
+use Prim.Native.Nat.{ℕ, suc, _+_, _-_, _≤_, _<_}
 use native.Mathlib.Omega.{arith}
 use mathlib.Core.Path.{_≡_, refl, sym, ap, _∙_}
 use mathlib.Core.Option.{Option, none, some}
@@ -11,7 +11,7 @@ use package.Rattle.rules.specs.Val.{Val, size}
 use package.Rattle.rules.proofs.Typing.Tests.{leb-yes}
 use package.Rattle.rules.proofs.Basics.{given}
 use package.Rattle.calls.specs.Values.{Read, got, malformed, consTo, readAll, ancillae}
-use package.Rattle.calls.proofs.Values.{read-sound, length-encode-append}
+use package.Rattle.calls.proofs.Values.{read-sound, length-encode-append, readAll-nil}
 use package.Rattle.reading.specs.declared.scan.End.the-variants as end
 use package.Rattle.reading.specs.declared.scan.Counted.{Counted}
 use package.Rattle.reading.specs.declared.scan.Counted.the-variants as count
@@ -58,11 +58,6 @@ count-start xs h =
 pub count-long : (xs : List ℕ) → maxAncillaBytes < length xs → count.Malformed ≡ counted (ancillae xs)
 unfolding counted
 count-long xs h = ap counted (sym (ancillae-long xs h))
-
-readAll-nil : (k : ℕ) → readAll k [] ≡ some []
-unfolding readAll
-readAll-nil zero = refl
-readAll-nil (suc k) = refl
 
 pub count-done : (xs : List ℕ) (n at : ℕ) → length xs ≤ at → Counting xs n (drop at xs) → count.Values n ≡ counted (ancillae xs)
 unfolding plus counted

@@ -9,7 +9,8 @@ use lib.ListN.{getD}
 use borrow.Author.Tests.{ltb-true, lt-ltb, le-ltb, eq-eqb}
 use package.Rattle.rules.specs.Ty.{Ty, one, prod, sum, mu, tyvar, plug, unfoldTy}
 use package.Rattle.rules.proofs.Basics.{given, and-both, eqb-no}
-use package.Rattle.calls.proofs.Entries.{closed, free, closed-iff-free}
+use package.Rattle.calls.proofs.Entries.{free, closed-iff-free}
+use package.Rattle.calls.specs.Tested.{closed}
 use package.Rattle.reading.specs.Scopes.{plugs}
 
 ----------------------------------------------------------------

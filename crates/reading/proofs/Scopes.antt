@@ -6,7 +6,7 @@ use mathlib.Core.List.{List, _∷_}
 use lib.ListN.{getD, take}
 use lib.Seq.{getD-take}
 use package.Rattle.calls.specs.Entries.{TypeEntry, typeOf}
-use package.Rattle.calls.proofs.Entries.{closed}
+use package.Rattle.calls.specs.Tested.{closed}
 use package.Rattle.reading.specs.Scopes.{plugs, scopeBelow, scopeOf, typeUnder}
 use package.Rattle.reading.proofs.Plugs.{AllClosed, closed-plugs}
 

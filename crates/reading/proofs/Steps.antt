@@ -12,7 +12,7 @@ use package.Rattle.rules.proofs.Basics.{given, and-both}
 use package.Rattle.calls.specs.Fields.{kindAt}
 use package.Rattle.calls.specs.Entries.{typeOf}
 use package.Rattle.calls.specs.Values.{value}
-use package.Rattle.calls.proofs.Entries.{closed}
+use package.Rattle.calls.specs.Tested.{closed}
 use package.Rattle.calls.proofs.Values.{size-positive}
 use package.Rattle.rules.specs.Val.{Val, size}
 use package.Rattle.program.specs.Parts.{first, second}

@@ -14,7 +14,7 @@ use package.Rattle.rules.proofs.Basics.{given, eqb-yes, eqb-sound}
 use package.Rattle.rules.proofs.Val.{length-encode}
 use package.Rattle.rules.proofs.Typing.Tests.{leb-yes, leb-sound, bool-ext}
 use package.Rattle.calls.specs.Values.{Read, got, malformed, value}
-use package.Rattle.calls.proofs.Values.{read-encode, read-sound, value-encode, value-sound, size-positive, length-encode-append}
+use package.Rattle.calls.proofs.Values.{read-encode, read-sound, value-encode, value-sound, size-positive, length-encode-append, got-value}
 use package.Rattle.reading.specs.declared.scan.End.{End}
 use package.Rattle.reading.specs.declared.scan.End.the-variants as end
 use package.Rattle.reading.specs.Ends.{firstOf, endOf, isSome, isValue, partOf}
@@ -86,9 +86,6 @@ length-none : (xs : List ℕ) → length xs ≡ 0 → xs ≡ []
 length-none [] e = refl
 length-none (x ∷ xs) e = absurd (let z : suc (length xs) ≡ 0 = e in omega arith)
 
-got-first : {v w : Val} {xs ys : List ℕ} → got v xs ≡ got w ys → v ≡ w
-got-first e = cc
-
 -- an end was found: at the end of the bytes, if they are one value
 pub value-at : (xs : List ℕ) (e : ℕ) → end.At e ≡ endOf 0 (firstOf xs) → eqb e (length xs) ≡ isValue xs
 value-at xs e p = given (ended 0 e (firstOf xs) p) λ d.
@@ -98,7 +95,7 @@ value-at xs e p = given (ended 0 e (firstOf xs) p) λ d.
     let none-left : length (d .rest) ≡ 0 = omega (arith, eqb-sound e (length xs) q, d .place, long) in
     is-value (whole-of (read-sound (length xs) xs (d .is) ∙ ap (λ r. encode (d .value) ++ r) (length-none (d .rest) none-left) ∙ append-nil (encode (d .value))) (d .small)))
     (λ q. given (whole xs q) λ (v, w).
-    let same : size v ≡ size (d .value) = ap size (got-first (sym (first-whole w) ∙ d .is)) in
+    let same : size v ≡ size (d .value) = ap size (got-value (sym (first-whole w) ∙ d .is)) in
     let z : e ≡ length xs = omega (arith, same, d .place, ap length (w .bytes), length-encode v) in
     subst (λ n. eqb e n ≡ true) z (eqb-yes e))
 
@@ -160,7 +157,7 @@ module _ (xs : List ℕ) (e : isValue xs ≡ true) (t : getD xs 0 0 ≡ 3) where
   -- where the first component ends
   pub pair-end : (m : ℕ) → end.At m ≡ endOf 1 (firstOf (drop 1 xs)) → m ≡ 1 + size (is-pair xs e t .first)
   unfolding encode
-  pair-end m p = given (ended 1 m (firstOf (drop 1 xs)) p) λ d. d .place ∙ ap (λ v. 1 + size v) (got-first (sym (d .is) ∙ first-component))
+  pair-end m p = given (ended 1 m (firstOf (drop 1 xs)) p) λ d. d .place ∙ ap (λ v. 1 + size v) (got-value (sym (d .is) ∙ first-component))
     where
       first-component : firstOf (drop 1 xs) ≡ got (is-pair xs e t .first) (encode (is-pair xs e t .second))
       first-component = first-is (drop 1 xs) (ap (drop 1) (is-pair xs e t .whole .bytes))

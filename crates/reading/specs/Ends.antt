@@ -6,7 +6,8 @@ use mathlib.Core.List.{List, []}
 use lib.ListN.{length}
 use package.Rattle.rules.specs.Limits.{fits}
 use package.Rattle.rules.specs.Val.{Val, unit, inl, inr, pair, roll, size, encode}
-use package.Rattle.calls.specs.Values.{Read, got, malformed, read, value}
+use package.Rattle.calls.specs.Values.{Read, got, malformed, read, value, ancillae}
+use package.Rattle.calls.specs.Book.{orUnit, orNone}
 use package.Rattle.reading.specs.declared.scan.End.{End}
 use package.Rattle.reading.specs.declared.scan.End.the-variants as end
 use package.Rattle.reading.specs.declared.scan.Counted.{Counted}
@@ -42,6 +43,13 @@ isSome (some a) = true
 -- Are the bytes one value within the limit?
 abbrev pub isValue : List ℕ → Bool
 isValue xs = isSome (value xs)
+
+-- the value, and the values, that bytes are; what stands for bytes that section 4 refuses is the plain book's
+abbrev pub valueIn : List ℕ → Val
+valueIn xs = orUnit (value xs)
+
+abbrev pub valuesIn : List ℕ → List Val
+valuesIn xs = orNone (ancillae xs)
 
 unfoldable pub counted : Option (List Val) → Counted
 counted none = count.Malformed

@@ -12,7 +12,7 @@ use package.Rattle.calls.specs.Fields.{kindAt}
 use package.Rattle.calls.specs.Entries.{TypeEntry, y-unit, typeAt, typeOf}
 use package.Rattle.calls.specs.Named.{typesOfType, below}
 use package.Rattle.calls.specs.Values.{Read, got, malformed, value, hasTy}
-use package.Rattle.calls.proofs.Entries.{closed}
+use package.Rattle.calls.specs.Tested.{closed}
 use package.Rattle.program.specs.Parts.{TypeField}
 use package.Rattle.reading.specs.declared.typed.Scoped.{Scoped}
 use package.Rattle.reading.specs.declared.typed.Step.{Step}

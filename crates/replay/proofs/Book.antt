@@ -7,7 +7,7 @@ use mathlib.Core.List.{List, [], _∷_, _++_, append-nil}
 use lib.ListN.{length, take, drop, length-append, take-append-drop}
 use lib.Dec.{eqb, ltb}
 use package.Rattle.octets.specs.Runs.{pasted}
-use package.Rattle.octets.proofs.Numbers.{AreBytes}
+use package.Rattle.octets.specs.Numbers.{AreBytes}
 use package.Rattle.rules.specs.Limits.{maxVariables, maxNodes, maxFuel}
 use package.Rattle.rules.specs.Term.{Program}
 use package.Rattle.rules.specs.Typing.{WellTyped}

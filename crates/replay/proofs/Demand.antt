@@ -9,7 +9,7 @@ use lib.ListN.{length}
 use lib.Dec.{eqb, ltb}
 use borrow.Author.Tests.{ltb-false}
 use package.Rattle.octets.specs.Runs.{pasted}
-use package.Rattle.octets.proofs.Numbers.{AreBytes}
+use package.Rattle.octets.specs.Numbers.{AreBytes}
 use package.Rattle.rules.specs.Val.{Val}
 use package.Rattle.rules.specs.Term.{Program}
 use package.Rattle.rules.proofs.Basics.{given}

@@ -7,8 +7,8 @@ use mathlib.Core.List.{List}
 use lib.ListN.{length, getD}
 use lib.Dec.{eqb, ltb}
 use borrow.Author.Tests.{ltb-false}
-use package.Rattle.octets.specs.Numbers.{get16, get32}
-use package.Rattle.octets.proofs.Numbers.{AreBytes, get16-below}
+use package.Rattle.octets.specs.Numbers.{AreBytes, get16, get32}
+use package.Rattle.octets.proofs.Numbers.{get16-below}
 use package.Rattle.replay.specs.Scripts.{pick, openTag, convertTag, rollbackTag, givenAt, openAt, convertAt, rollbackAt, stepAt}
 use package.Rattle.replay.specs.declared.scripts.Part.{Part}
 use package.Rattle.replay.specs.declared.scripts.Step.the-variants.{End, Malformed, Play}

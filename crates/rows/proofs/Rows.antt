@@ -8,20 +8,21 @@ use lib.ListN.{length}
 use package.Rattle.rules.specs.Limits.{maxVariables, maxNodes}
 use package.Rattle.rules.specs.Typing.{WellTyped}
 use package.Rattle.rules.proofs.Basics.{given}
-use package.Rattle.calls.specs.Answer.{Answer, accepted, refused, _>>=_}
+use package.Rattle.calls.specs.Answer.{Answer, refused, _>>=_}
 use package.Rattle.calls.specs.Values.{value, ancillae}
 use package.Rattle.calls.specs.Runs.{workspaceFor, admit, Ran, written}
 use package.Rattle.calls.proofs.Answer.{via}
 use package.Rattle.calls.proofs.Load.{load-iff}
 use package.Rattle.program.specs.declared.fields.Counts.{Counts}
+use package.Rattle.program.specs.Programs.{programIn}
 use package.Rattle.admission.specs.declared.Admitted.{Admitted}
 use package.Rattle.admission.specs.declared.Admitted.the-variants as admitted
-use package.Rattle.admission.specs.Given.{programIn, givenIn}
+use package.Rattle.admission.specs.Given.{givenIn}
 use package.Rattle.admission.specs.Admitting.{sideOf, Admittable, answerOf, AdmitMeans}
 use package.Rattle.admission.proofs.Tested.{admittable}
 use package.Rattle.running.specs.declared.ended.Ended.{Ended}
 use package.Rattle.running.specs.declared.ended.Ended.the-variants as ended
-use package.Rattle.running.specs.Ended.{finished, endOf}
+use package.Rattle.running.specs.Ended.{finished, endOf, summary}
 use package.Rattle.running.specs.Ahead.{Admitted as Allowed, Runnable, Goes}
 use package.Rattle.running.specs.Back.{Returnable, Returns}
 use package.Rattle.loading.specs.Loading.{Accepted}
@@ -31,7 +32,7 @@ use package.Rattle.rows.specs.declared.answers.RunAnswer.{RunAnswer}
 use package.Rattle.rows.specs.declared.answers.RunAnswer.the-variants as runs
 use package.Rattle.rows.specs.declared.preparing.Prepared.{Prepared}
 use package.Rattle.rows.specs.declared.preparing.Prepared.the-variants.{Ready, Refused}
-use package.Rattle.rows.specs.Answers.{numberOf, placeOf, runAnswer, summary}
+use package.Rattle.rows.specs.Answers.{numberOf, placeOf, runAnswer}
 use package.Rattle.rows.specs.Calls.{Later, accepts, refuses, preparedOf, Begins, PrepareMeans}
 use package.Rattle.rows.specs.Runs.{endedFrom, runOf, called, calledOf, frontsRun, Fronts, ofProgram, EndMeans, RunMeans}
 

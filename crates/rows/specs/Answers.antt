@@ -2,7 +2,6 @@
 -- what calls/specs/Runs says it is.
 use Prim.Native.Nat.{ℕ}
 use mathlib.Core.List.{List}
-use package.Rattle.rules.specs.Val.{size}
 use package.Rattle.calls.specs.Answer.{Answer, accepted, refused}
 use package.Rattle.calls.specs.Runs.{Ran}
 use package.Rattle.calls.specs.Conversions.{Turned}
@@ -68,11 +67,6 @@ checkAnswer (checks.Refused r) = refused (numberOf r) (placeOf r)
 abbrev pub runAnswer : RunAnswer → Answer (ℕ × ℕ)
 runAnswer (runs.Ran d) = accepted (d .len, d .steps)
 runAnswer (runs.Refused r) = refused (numberOf r) (placeOf r)
-
--- what is answered of a run: of its value the length alone, since the value itself fills the output (section 4)
-abbrev pub summary : Answer Ran → Answer (ℕ × ℕ)
-summary (accepted r) = accepted (size (r .value), r .steps)
-summary (refused n p) = refused n p
 
 -- open answers only that it accepts (section 4)
 abbrev pub openAnswer : Answer (List ℕ) → Answer (Unit {0})

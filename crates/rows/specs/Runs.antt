@@ -11,16 +11,17 @@ use package.Rattle.calls.specs.Values.{value, ancillae}
 use package.Rattle.calls.specs.Runs.{Given, admit, Ran, goes, returns, written}
 use package.Rattle.program.specs.Places.{Buffers, Within}
 use package.Rattle.program.specs.declared.fields.Counts.{Counts}
-use package.Rattle.admission.specs.Given.{programIn, givenIn}
+use package.Rattle.program.specs.Programs.{programIn}
+use package.Rattle.admission.specs.Given.{givenIn}
 use package.Rattle.admission.specs.Admitting.{sideOf}
 use package.Rattle.loading.specs.Loading.{Accepted}
 use package.Rattle.running.specs.declared.ended.Ended.{Ended}
 use package.Rattle.running.specs.declared.ended.Ended.the-variants as ended
-use package.Rattle.running.specs.Ended.{finished, Means}
+use package.Rattle.running.specs.Ended.{finished, Means, summary}
 use package.Rattle.rows.specs.declared.answers.Refusal.the-variants.{Fuel, Height, Long, FirstMatch, NoInput, Output}
 use package.Rattle.rows.specs.declared.answers.RunAnswer.{RunAnswer}
 use package.Rattle.rows.specs.declared.answers.RunAnswer.the-variants as runs
-use package.Rattle.rows.specs.Answers.{runAnswer, summary}
+use package.Rattle.rows.specs.Answers.{runAnswer}
 use package.Rattle.rows.specs.Calls.{Later}
 
 -- the kind of each refusal

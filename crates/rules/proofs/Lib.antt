@@ -1,6 +1,8 @@
 -- The laws behind the claims, by subject. A reader who wants only what is claimed reads specs/Claims and proofs/Theorems.
 -- small laws of logic and Booleans
 pub mod Basics
+-- laws of lists
+pub mod Lists
 -- laws of values
 pub mod Val
 -- laws of runs

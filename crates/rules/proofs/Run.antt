@@ -21,6 +21,13 @@ module _ {A B : Type 0} where
   unbind (stop n e) k {b} {g} p = absurd (let z : _≡_ {A = ℕ} 0 1 = cc in omega arith)
   unbind stuck k {b} {g} p = absurd (let z : _≡_ {A = ℕ} 0 1 = cc in omega arith)
 
+-- runs one after another, however they are grouped
+pub after-after : {A B C : Type 0} (x : Res A) (f : A → Run B) (g : B → Run C) → after (after x f) g ≡ after x (λ a fuel. after (f a fuel) g)
+unfolding after
+after-after (ok a fuel) f g = refl
+after-after (stop n k) f g = refl
+after-after stuck f g = refl
+
 pub stop≢ok : {A : Type 0} {n e f : ℕ} {a : A} → stop n e ≡ ok a f → ⊥
 stop≢ok p = let z : _≡_ {A = ℕ} 0 1 = cc in omega arith
 

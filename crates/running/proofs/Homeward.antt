@@ -23,10 +23,9 @@ use package.Rattle.backward.specs.declared.outcomes.Status.the-variants.{Done, 
 use package.Rattle.backward.specs.declared.outcomes.Inner.{Inner}
 use package.Rattle.backward.specs.Outcomes.{refusalOf}
 use package.Rattle.backward.specs.Scoped.{Bodies}
-use package.Rattle.backward.specs.Ready.{Held}
 use package.Rattle.backward.specs.Calls.{Collected, Starts, returned, Returns as Ran}
 use package.Rattle.backward.proofs.Accepted.{accepted-bodies}
-use package.Rattle.admission.specs.Given.{programIn, functionIn, valuesIn, valueIn, givenIn}
+use package.Rattle.admission.specs.Given.{givenIn}
 use package.Rattle.running.specs.declared.begin.Start.{Start}
 use package.Rattle.running.specs.declared.ended.Ended.{Ended}
 use package.Rattle.running.specs.Begun.{Begun}
@@ -34,6 +33,8 @@ use package.Rattle.running.specs.Ended.{Shaped, Means, Gives}
 use package.Rattle.running.specs.Back.{Returnable, Known, inputOf, Undone, Returns}
 use package.Rattle.running.proofs.Loads.{values-same}
 use package.Rattle.running.proofs.Starts.{admits, code, there, as-many, few-arguments, nodes-room, nodes-small, shaped-of}
+use package.Rattle.program.specs.Programs.{programIn, functionIn}
+use package.Rattle.reading.specs.Ends.{valueIn, valuesIn}
 
 ----------------------------------------------------------------
 -- The ancillae
@@ -96,12 +97,12 @@ module _ {xs terms functions heap : List ℕ} {g : ℕ} {anc bytes : List ℕ} {
       value-is = ap (valueAt heap′) q ∙ B .last
 
       answers : (types : List ℕ) → inputOf heap″ r
-          ≡ runBackward fits (programIn xs types terms functions) maxHeight (functionIn xs types terms functions g) (valuesIn anc) (valueIn bytes) fuel
+          ≡ runBackward fits (programIn xs types terms functions) maxHeight (functionIn xs types terms (getD functions g 0)) (valuesIn anc) (valueIn bytes) fuel
       unfolding maxHeight entriesAt
       answers types =
           d .answer (map (typeAt xs) types)
-          ∙ ap₂ (λ vs v. runBackward fits (programIn xs types terms functions) 1024 (functionIn xs types terms functions g) vs v f) values value-is
-          ∙ ap (runBackward fits (programIn xs types terms functions) 1024 (functionIn xs types terms functions g) (valuesIn anc) (valueIn bytes)) e
+          ∙ ap₂ (λ vs v. runBackward fits (programIn xs types terms functions) 1024 (functionIn xs types terms (getD functions g 0)) vs v f) values value-is
+          ∙ ap (runBackward fits (programIn xs types terms functions) 1024 (functionIn xs types terms (getD functions g 0)) (valuesIn anc) (valueIn bytes)) e
 
       pub undone : Undone xs terms functions heap″ g anc bytes fuel r
       undone = record {

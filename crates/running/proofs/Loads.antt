@@ -4,7 +4,6 @@ use native.Mathlib.Omega.{arith}
 use native.Mathlib.Decide.{decLt}
 use native.Mathlib.Numerals.{add-one}
 use mathlib.Core.Path.{_≡_, refl, sym, ap, ap₂, subst, _∙_}
-use mathlib.Core.Option.{some}
 use mathlib.Core.List.{List, [], _∷_, _++_}
 use lib.ListN.{length, getD, set, drop, length-set, length-drop, List·getD-append}
 use lib.Seq.{getD-set-same, getD-set-other, getD-append-seam}
@@ -13,30 +12,23 @@ use package.Rattle.rules.specs.Val.{Val, unit, size}
 use package.Rattle.rules.proofs.Basics.{given}
 use package.Rattle.rules.proofs.Val.{length-encode}
 use package.Rattle.rules.proofs.Typing.Tests.{leb-sound}
-use package.Rattle.calls.specs.Values.{got, malformed, read, value, ancillae, encodeAll}
-use package.Rattle.calls.proofs.Values.{size-positive, value-sound}
+use package.Rattle.calls.specs.Values.{got, read, value, encodeAll}
+use package.Rattle.calls.proofs.Values.{size-positive, value-sound, got-value, malformed≢got}
 use package.Rattle.values.specs.Nodes.{Agree, valueAt, Heap, Grown}
 use package.Rattle.values.specs.Loads.{LoadReady, LoadDone}
 use package.Rattle.values.specs.declared.nodes.Placed.{Placed}
 use package.Rattle.values.specs.declared.nodes.Loaded.the-variants.{Node, Malformed}
 use package.Rattle.values.proofs.Heaps.{value-kept}
-use package.Rattle.reading.specs.Ends.{firstOf}
+use package.Rattle.reading.specs.Ends.{firstOf, valueIn, valuesIn}
 use package.Rattle.reading.proofs.Whole.{whole-of, first-whole}
 use package.Rattle.reading.proofs.Walks.{Begins, walk-start, walk-done, walk-more, walk-first, walk-next}
 use package.Rattle.forward.specs.Ready.{Graph, valuesAt}
-use package.Rattle.admission.specs.Given.{valuesIn, valueIn}
 use package.Rattle.running.specs.declared.begin.Start.{Start}
 use package.Rattle.running.specs.Begun.{startNodes, Enough, Beginning, AncillaeLoaded, Begun}
 
 -- every node of a heap that is right has a value within the limit
 graph-of : {heap : List ℕ} {top : ℕ} → Heap heap top → Graph heap top
 graph-of h = record { right = h; short = λ n l. h .node n l .fit }
-
-got-value : {v w : Val} {xs ys : List ℕ} → got v xs ≡ got w ys → v ≡ w
-got-value e = cc
-
-malformed≢got : {v : Val} {xs : List ℕ} → malformed ≡ got v xs → ⊥
-malformed≢got e = let z : _≡_ {A = ℕ} 0 1 = cc in omega arith
 
 -- what is read at a place, as loading and reading say it
 read-at : (xs : List ℕ) (at : ℕ) → read (length xs - at) (drop at xs) ≡ firstOf (drop at xs)

@@ -13,6 +13,7 @@ use package.Rattle.calls.specs.Values.{value, ancillae}
 use package.Rattle.calls.specs.Runs.{ran, goes}
 use package.Rattle.calls.proofs.Runs.Calls.{onward}
 use package.Rattle.program.specs.Parts.{body}
+use package.Rattle.program.specs.Programs.{programIn, functionIn}
 use package.Rattle.values.specs.Nodes.{valueAt}
 use package.Rattle.values.proofs.Heaps.{heap-down}
 use package.Rattle.yields.specs.Yields.{Ancillae}
@@ -27,13 +28,14 @@ use package.Rattle.forward.proofs.Starting.{argumentScope, run-of-function, sta
 use package.Rattle.backward.specs.declared.outcomes.Refusal.{Refusal as Carried}
 use package.Rattle.backward.specs.Outcomes.{refusalOf, carried}
 use package.Rattle.backward.proofs.Runs.{carried-means}
-use package.Rattle.admission.specs.Given.{programIn, functionIn, valuesIn, valueIn, givenIn}
+use package.Rattle.admission.specs.Given.{givenIn}
 use package.Rattle.running.specs.declared.begin.Start.{Start}
 use package.Rattle.running.specs.declared.ended.Ended.{Ended}
 use package.Rattle.running.specs.Begun.{Begun}
 use package.Rattle.running.specs.Ended.{Shaped, Means, Gives}
 use package.Rattle.running.specs.Ahead.{Runnable, Evaluated, Goes}
 use package.Rattle.running.proofs.Starts.{admits, code, there, few-arguments, nodes-room, nodes-small, shaped-of}
+use package.Rattle.reading.specs.Ends.{valueIn, valuesIn}
 
 ----------------------------------------------------------------
 -- Evaluation
@@ -63,14 +65,14 @@ module _ {xs terms functions heap : List ℕ} {g : ℕ} {anc bytes : List ℕ} {
     last-is = ap (λ i. valueAt heap′ (getD slots′ i 0)) (let z : 0 + count ≡ count = omega arith in z) ∙ B .last
 
     answers : (types : List ℕ) → meaning heap″ out
-        ≡ runForward fits (programIn xs types terms functions) maxHeight (functionIn xs types terms functions g) (valuesIn anc) (valueIn bytes) fuel
+        ≡ runForward fits (programIn xs types terms functions) maxHeight (functionIn xs types terms (getD functions g 0)) (valuesIn anc) (valueIn bytes) fuel
     unfolding maxHeight entriesAt
     answers types =
         d .answer (map (typeAt xs) types)
         ∙ sym (run-of-function xs terms functions heap′ slots′ st 0 count held (subst (λ i. getD slots′ i 0 < start .top) (let z : count ≡ 0 + count = omega arith in z) (B .held count (omega arith)))
         (omega (arith, nodes-small R B (omega arith))) g b q 1024 (map (typeAt xs) types))
-        ∙ ap₂ (λ vs v. runForward fits (programIn xs types terms functions) 1024 (functionIn xs types terms functions g) vs v f) (B .values) last-is
-        ∙ ap (runForward fits (programIn xs types terms functions) 1024 (functionIn xs types terms functions g) (valuesIn anc) (valueIn bytes)) e
+        ∙ ap₂ (λ vs v. runForward fits (programIn xs types terms functions) 1024 (functionIn xs types terms (getD functions g 0)) vs v f) (B .values) last-is
+        ∙ ap (runForward fits (programIn xs types terms functions) 1024 (functionIn xs types terms (getD functions g 0)) (valuesIn anc) (valueIn bytes)) e
 
     pub evaluated : Evaluated xs terms functions heap heap″ g anc bytes fuel out
     evaluated = record {

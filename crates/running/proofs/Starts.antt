@@ -26,12 +26,14 @@ use package.Rattle.backward.specs.declared.outcomes.Refusal.{Refusal}
 use package.Rattle.backward.specs.declared.outcomes.Refusal.the-variants.{Fuel, Height, Long, FirstMatch, NoInput, Stuck}
 use package.Rattle.backward.specs.Scoped.{arityAt}
 use package.Rattle.backward.specs.Outcomes.{refusalOf}
-use package.Rattle.admission.specs.Given.{programIn, functionIn, valuesIn, givenIn}
-use package.Rattle.admission.proofs.Parameters.{ancillae-count}
+use package.Rattle.admission.specs.Given.{givenIn}
+use package.Rattle.program.proofs.Lists.{ancillae-count}
+use package.Rattle.program.specs.Programs.{programIn, functionIn}
 use package.Rattle.running.specs.declared.begin.Start.{Start}
 use package.Rattle.running.specs.Begun.{startNodes, Beginning, Begun}
 use package.Rattle.running.specs.Ended.{Shaped}
 use package.Rattle.running.specs.Ahead.{Admitted}
+use package.Rattle.reading.specs.Ends.{valuesIn}
 
 ----------------------------------------------------------------
 -- What is asked at the start
@@ -55,7 +57,7 @@ module _ {side : Fun → Ty} {xs terms functions heap : List ℕ} {g : ℕ} {anc
   unfolding functionOf
   as-many = omega (
     arith,
-    env-length (valuesIn anc) (functionIn xs (R .types) terms functions g .ancillae) (admits .ancillae-typed),
+    env-length (valuesIn anc) (functionIn xs (R .types) terms (getD functions g 0) .ancillae) (admits .ancillae-typed),
     length-map (functionAt xs (getD functions g 0) .ancillae) (typeOf (map (typeAt xs) (R .types))),
     ancillae-count xs (getD functions g 0),
     code .function g there .field .some,

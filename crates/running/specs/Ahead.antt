@@ -3,7 +3,7 @@
 use Prim.Native.Nat.{ℕ, _≤_, _<_}
 use mathlib.Core.Path.{_≡_}
 use mathlib.Core.List.{List}
-use lib.ListN.{length}
+use lib.ListN.{length, getD}
 use package.Rattle.rules.specs.Limits.{maxVariables, maxNodes, maxHeight, fits}
 use package.Rattle.rules.specs.Term.{Fun}
 use package.Rattle.rules.specs.Ty.{Ty}
@@ -16,13 +16,15 @@ use package.Rattle.calls.specs.Named.{testEntries}
 use package.Rattle.calls.specs.Values.{value, ancillae}
 use package.Rattle.calls.specs.Runs.{workspaceFor, admit, goes}
 use package.Rattle.program.specs.Places.{placesOf, Placed}
+use package.Rattle.program.specs.Programs.{programIn, functionIn}
 use package.Rattle.forward.specs.declared.outcomes.Status.the-variants.{Value}
 use package.Rattle.forward.specs.declared.outcomes.Out.{Out}
 use package.Rattle.forward.specs.Outcomes.{meaning}
 use package.Rattle.forward.specs.Ready.{Graph}
-use package.Rattle.admission.specs.Given.{programIn, functionIn, valuesIn, valueIn, givenIn}
+use package.Rattle.admission.specs.Given.{givenIn}
 use package.Rattle.running.specs.declared.ended.Ended.{Ended}
 use package.Rattle.running.specs.Ended.{Means}
+use package.Rattle.reading.specs.Ends.{valueIn, valuesIn}
 
 ----------------------------------------------------------------
 -- What is asked for
@@ -52,7 +54,7 @@ pub record Evaluated (xs terms functions heap heap′ : List ℕ) (g : ℕ) (anc
   pub node : (n : ℕ) → r .status ≡ Value n → n < r .state .top
   pub spends : r .state .fuel ≤ fuel
   pub answer : (types : List ℕ) → meaning heap′ r
-      ≡ runForward fits (programIn xs types terms functions) maxHeight (functionIn xs types terms functions g) (valuesIn anc) (valueIn bytes) fuel
+      ≡ runForward fits (programIn xs types terms functions) maxHeight (functionIn xs types terms (getD functions g 0)) (valuesIn anc) (valueIn bytes) fuel
   pub shaped : meaning heap′ r ≡ stuck → ⊥
 
 -- The run as the definition has it (calls/specs/Runs, `goes`), with row Output.

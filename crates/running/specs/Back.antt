@@ -13,10 +13,12 @@ use package.Rattle.forward.specs.Ready.{Graph}
 use package.Rattle.backward.specs.declared.outcomes.Status.the-variants.{Done}
 use package.Rattle.backward.specs.declared.outcomes.Inner.{Inner}
 use package.Rattle.backward.specs.Calls.{returned}
-use package.Rattle.admission.specs.Given.{programIn, functionIn, valuesIn, valueIn, givenIn}
+use package.Rattle.admission.specs.Given.{givenIn}
 use package.Rattle.running.specs.declared.ended.Ended.{Ended}
 use package.Rattle.running.specs.Ended.{Means}
 use package.Rattle.running.specs.Ahead.{Admitted}
+use package.Rattle.program.specs.Programs.{programIn, functionIn}
+use package.Rattle.reading.specs.Ends.{valueIn, valuesIn}
 
 -- a value given to a backward run is held to the result type
 abbrev pub Returnable : (xs terms functions heap : List ℕ) (g : ℕ) (anc bytes : List ℕ) (fuel : ℕ) → Type 0
@@ -38,7 +40,7 @@ pub record Undone (xs terms functions heap′ : List ℕ) (g : ℕ) (anc bytes :
   pub node : r .out .status ≡ Done → r .newest < r .out .state .top
   pub spends : r .out .state .fuel ≤ fuel
   pub answer : (types : List ℕ) → inputOf heap′ r
-      ≡ runBackward fits (programIn xs types terms functions) maxHeight (functionIn xs types terms functions g) (valuesIn anc) (valueIn bytes) fuel
+      ≡ runBackward fits (programIn xs types terms functions) maxHeight (functionIn xs types terms (getD functions g 0)) (valuesIn anc) (valueIn bytes) fuel
   pub shaped : inputOf heap′ r ≡ stuck → ⊥
 
 -- The run as the definition has it (calls/specs/Runs, `returns`), with row Output.

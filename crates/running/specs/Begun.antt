@@ -8,8 +8,8 @@ use package.Rattle.rules.specs.Val.{unit}
 use package.Rattle.calls.specs.Values.{value, ancillae}
 use package.Rattle.values.specs.Nodes.{nodeBytes, valueAt}
 use package.Rattle.forward.specs.Ready.{Graph, valuesAt}
-use package.Rattle.admission.specs.Given.{valuesIn, valueIn}
 use package.Rattle.running.specs.declared.begin.Start.{Start}
+use package.Rattle.reading.specs.Ends.{valueIn, valuesIn}
 
 -- the most nodes that the values of a run have: a unit, 1,024 bytes of ancillae and 1,024 of the value
 unfoldable pub startNodes : ℕ

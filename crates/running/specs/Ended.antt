@@ -20,7 +20,7 @@ finished out x = do
   room ← require (leb (size (r .value)) out) 17 0
   accepted r
 
--- what is answered of a run: of its value the length alone
+-- what is answered of a run: of its value the length alone, since the value itself fills the output (section 4)
 abbrev pub summary : Answer Ran → Answer (ℕ × ℕ)
 summary (accepted r) = accepted (size (r .value), r .steps)
 summary (refused n p) = refused n p

@@ -17,14 +17,14 @@ use package.Rattle.calls.specs.Journal.{fields, readJournal, writeOut}
 use package.Rattle.calls.specs.Conversions.{turned}
 use package.Rattle.calls.proofs.Answer.{via, require-yes, present-some}
 use package.Rattle.calls.proofs.Values.{value-encode}
-use package.Rattle.reading.specs.Ends.{isSome, isValue}
+use package.Rattle.reading.specs.Ends.{isSome, isValue, valueIn, valuesIn}
 use package.Rattle.journal.specs.declared.places.Places.{Places}
 use package.Rattle.journal.specs.declared.places.Survey.{Survey}
 use package.Rattle.journal.specs.declared.places.Survey.the-variants as survey
 use package.Rattle.journal.specs.Places.{journalIn, Surveyed, Stands}
-use package.Rattle.journal.specs.Turns.{valueOf, valuesOf, areValues, conversion, converted}
+use package.Rattle.journal.specs.Turns.{areValues, conversion, converted}
 use package.Rattle.journal.proofs.Stands.{unformed, standing, count-place}
-use package.Rattle.journal.proofs.Turns.{valuesOf-is, is-value}
+use package.Rattle.journal.proofs.Turns.{valuesIn-is, is-value}
 use package.Rattle.rows.specs.declared.answers.Done.{Done}
 use package.Rattle.rows.specs.declared.answers.Refusal.{Refusal}
 use package.Rattle.rows.specs.declared.answers.Refusal.the-variants.{Journal, Full}
@@ -34,22 +34,22 @@ use package.Rattle.rows.specs.Calls.{refuses}
 use package.Rattle.rows.specs.Runs.{runOf, called, RunMeans}
 use package.Rattle.turns.specs.Turns.{convertOf, TurnMeans}
 use package.Rattle.turns.specs.Converting.{convertedTo}
-use package.Rattle.turns.proofs.Values.{stops, present-none, require-no, Carried, carried, not-carried, Into, ran-into, refused-into, front-is-value, front-valueOf, turn-refused, turn-full, turn-written}
+use package.Rattle.turns.proofs.Values.{stops, present-none, require-no, Carried, carried, not-carried, Into, ran-into, refused-into, front-is-value, front-valueIn, turn-refused, turn-full, turn-written}
 
 ----------------------------------------------------------------
 -- After the run
 
-module _ (j held anc : List ℕ) {b : Bool} (fit : (f s : ℕ) → b ≡ leb (length (fields (converted (journalIn j) (valueOf held) (conversion f s (valuesOf anc))))) (length j)) where
+module _ (j held anc : List ℕ) {b : Bool} (fit : (f s : ℕ) → b ≡ leb (length (fields (converted (journalIn j) (valueIn held) (conversion f s (valuesIn anc))))) (length j)) where
   -- the new journal fits
-  pub convert-room : b ≡ true → (f s : ℕ) → length (fields (converted (journalIn j) (valueOf held) (conversion f s (valuesOf anc)))) ≤ length j
+  pub convert-room : b ≡ true → (f s : ℕ) → length (fields (converted (journalIn j) (valueIn held) (conversion f s (valuesIn anc)))) ≤ length j
   convert-room t f s = leb-true _ _ (sym (fit f s) ∙ t)
 
   -- and is written
   pub convert-kept : b ≡ true → isValue held ≡ true → (d : Done) → d .len ≡ length held → (fn : ℕ) {n : ℕ} → n ≡ d .steps
-      → {j′ : List ℕ} → j′ ≡ writeOut (length j) (converted (journalIn j) (valueOf held) (conversion fn n (valuesOf anc)))
+      → {j′ : List ℕ} → j′ ≡ writeOut (length j) (converted (journalIn j) (valueIn held) (conversion fn n (valuesIn anc)))
       → TurnMeans (runs.Ran d) (convertedTo j held (d .steps) fn anc) j j′
   convert-kept t is d long fn e w = turn-written _ _ _ j d (sym (fit fn (d .steps)) ∙ t) (long ∙ is-value held is .long) refl
-      (w ∙ ap (λ n. writeOut (length j) (converted (journalIn j) (valueOf held) (conversion fn n (valuesOf anc)))) e)
+      (w ∙ ap (λ n. writeOut (length j) (converted (journalIn j) (valueIn held) (conversion fn n (valuesIn anc)))) e)
 
   -- or it does not fit
   pub convert-unfit : b ≡ false → (s fn : ℕ) → TurnMeans (runs.Refused Full) (convertedTo j held s fn anc) j j
@@ -115,10 +115,10 @@ module _ (P : Program) (fuel fn : ℕ) (anc j : List ℕ) where
         converted-is : convertedTo j (take (d .len) out′) (d .steps) fn anc
             ≡ turned (length j) (into .ran) (converted (journalIn j) (into .ran .value) (conversion fn (into .ran .steps) (ran .given .ancillae)))
         converted-is =
-            ap (λ v. turned (length j) (record { value = v; steps = d .steps }) (converted (journalIn j) v (conversion fn (d .steps) (valuesOf anc))))
-            (front-valueOf (into .ran .value) (into .front) (ran .fitting))
+            ap (λ v. turned (length j) (record { value = v; steps = d .steps }) (converted (journalIn j) v (conversion fn (d .steps) (valuesIn anc))))
+            (front-valueIn (into .ran .value) (into .front) (ran .fitting))
             ∙ ap₂ (λ n vs. turned (length j) (record { value = into .ran .value; steps = n }) (converted (journalIn j) (into .ran .value) (conversion fn n vs)))
-            (into .steps) (valuesOf-is anc (ran .ancillae-read))
+            (into .steps) (valuesIn-is anc (ran .ancillae-read))
 
         -- what is answered after the run is what convert answers
         pub convert-ran : {r : RunAnswer} {j′ : List ℕ} → TurnMeans r (convertedTo j (take (d .len) out′) (d .steps) fn anc) j j′ → TurnMeans r (convertOf P fuel fn anc j) j j′

@@ -22,14 +22,14 @@ use package.Rattle.calls.proofs.Answer.{via, unbind, require-yes, present-some}
 use package.Rattle.calls.proofs.Values.{value-encode, ancillae-encode}
 use package.Rattle.calls.proofs.Journal.Fields.{WritableEntry}
 use package.Rattle.calls.proofs.Journal.Entries.{WritableEntries, entries-unsnoc}
-use package.Rattle.reading.specs.Ends.{isValue}
+use package.Rattle.reading.specs.Ends.{isValue, valueIn}
 use package.Rattle.admission.specs.Admitting.{sideOf}
 use package.Rattle.running.specs.Ended.{finished}
 use package.Rattle.journal.specs.declared.places.Places.{Places}
 use package.Rattle.journal.specs.declared.places.Survey.{Survey}
 use package.Rattle.journal.specs.declared.places.Survey.the-variants as survey
 use package.Rattle.journal.specs.Places.{newestOf, journalIn, Surveyed, Stands}
-use package.Rattle.journal.specs.Turns.{valueOf, rolledBack}
+use package.Rattle.journal.specs.Turns.{rolledBack}
 use package.Rattle.journal.proofs.Stands.{standing, count-place, unformed, newest-split, newest-none, newest-some}
 use package.Rattle.journal.proofs.Turns.{is-value}
 use package.Rattle.rows.specs.declared.answers.Done.{Done}
@@ -41,7 +41,7 @@ use package.Rattle.rows.specs.Calls.{refuses}
 use package.Rattle.rows.specs.Runs.{runOf, called, RunMeans}
 use package.Rattle.turns.specs.Turns.{rollbackOf, TurnMeans}
 use package.Rattle.turns.specs.Rollbacks.{ranTo, takenBack, struck}
-use package.Rattle.turns.proofs.Values.{stops, present-none, require-no, run-fits, finished-whole, Into, ran-into, refused-into, front-is-value, front-valueOf, turn-refused, turn-full, turn-written}
+use package.Rattle.turns.proofs.Values.{stops, present-none, require-no, run-fits, finished-whole, Into, ran-into, refused-into, front-is-value, front-valueIn, turn-refused, turn-full, turn-written}
 
 ----------------------------------------------------------------
 -- Answers that go on
@@ -141,38 +141,38 @@ module _ (pl : Places) (j : List ℕ) (s : Stands pl j) (stood : 0 < pl .count) 
         pub front-long : d .len ≡ length (take n out′)
         front-long = into .len ∙ sym (ap length front ∙ length-encode (into .ran .value))
 
-        pub taken : {r : RunAnswer} {j′ : List ℕ} → TurnMeans r (struck (length j) (journalIn j) (ranTo (valueOf (take n out′)) (d .steps))) j j′
+        pub taken : {r : RunAnswer} {j′ : List ℕ} → TurnMeans r (struck (length j) (journalIn j) (ranTo (valueIn (take n out′)) (d .steps))) j j′
             → TurnMeans r (rollbackOf P fuel j) j j′
         taken {r} {j′} T = subst (λ x. TurnMeans r x j j′)
             (sym (rollback-is ∙ via _ (into .is)
-            (ap₂ (λ v k. struck (length j) (journalIn j) (ranTo v k)) (sym (front-valueOf (into .ran .value) front fitting)) (sym (into .steps))))) T
+            (ap₂ (λ v k. struck (length j) (journalIn j) (ranTo v k)) (sym (front-valueIn (into .ran .value) front fitting)) (sym (into .steps))))) T
 
 ----------------------------------------------------------------
 -- The steps, and the journal without the newest conversion
 
 module _ (j h : List ℕ) (d : Done) {m k : ℕ} (t : isValue h ≡ true) (long : d .len ≡ length h) (same : m ≡ d .steps) (noted : k ≡ newestOf (journalIn j .entries) .newest .steps) where
   abbrev after : Answer Turned
-  after = struck (length j) (journalIn j) (ranTo (valueOf h) (d .steps))
+  after = struck (length j) (journalIn j) (ranTo (valueIn h) (d .steps))
 
   pub other-steps : ¬ (m ≡ k) → TurnMeans (runs.Refused Unread) after j j
   unfolding struck
   other-steps o = turn-refused Unread j (stops _ (require-no 18 0 (eqb-differs _ _ λ z. o (same ∙ z ∙ sym noted)))) (refuses {n = 18} (omega arith))
 
   module _ (e : m ≡ k) where
-    counted : after ≡ turned (length j) (ranTo (valueOf h) (d .steps)) (rolledBack (journalIn j) (valueOf h))
+    counted : after ≡ turned (length j) (ranTo (valueIn h) (d .steps)) (rolledBack (journalIn j) (valueIn h))
     unfolding struck
     counted = via _ (require-yes 18 0 (ap (eqb (d .steps)) (sym (sym same ∙ e ∙ noted)) ∙ eqb-yes (d .steps))) refl
 
-    module _ {fit : Bool} (f : fit ≡ leb (length (fields (rolledBack (journalIn j) (valueOf h)))) (length j)) where
-      pub room : fit ≡ true → length (fields (rolledBack (journalIn j) (valueOf h))) ≤ length j
+    module _ {fit : Bool} (f : fit ≡ leb (length (fields (rolledBack (journalIn j) (valueIn h)))) (length j)) where
+      pub room : fit ≡ true → length (fields (rolledBack (journalIn j) (valueIn h))) ≤ length j
       room y = leb-sound _ _ (sym f ∙ y)
 
       pub no-room : fit ≡ false → TurnMeans (runs.Refused Full) after j j
-      no-room y = subst (λ x. TurnMeans (runs.Refused Full) x j j) (sym counted) (turn-full (valueOf h) (d .steps) (rolledBack (journalIn j) (valueOf h)) j (sym f ∙ y))
+      no-room y = subst (λ x. TurnMeans (runs.Refused Full) x j j) (sym counted) (turn-full (valueIn h) (d .steps) (rolledBack (journalIn j) (valueIn h)) j (sym f ∙ y))
 
-      pub rolled : fit ≡ true → {j′ : List ℕ} → j′ ≡ writeOut (length j) (rolledBack (journalIn j) (valueOf h)) → TurnMeans (runs.Ran d) after j j′
+      pub rolled : fit ≡ true → {j′ : List ℕ} → j′ ≡ writeOut (length j) (rolledBack (journalIn j) (valueIn h)) → TurnMeans (runs.Ran d) after j j′
       rolled y {j′} w = subst (λ x. TurnMeans (runs.Ran d) x j j′) (sym counted)
-          (turn-written (valueOf h) (d .steps) (rolledBack (journalIn j) (valueOf h)) j d (sym f ∙ y) (long ∙ is-value h t .long) refl w)
+          (turn-written (valueIn h) (d .steps) (rolledBack (journalIn j) (valueIn h)) j d (sym f ∙ y) (long ∙ is-value h t .long) refl w)
 
 ----------------------------------------------------------------
 -- Before the run

@@ -27,16 +27,15 @@ use package.Rattle.calls.proofs.Answer.{refused≢accepted, accepted-inj, via, 
 use package.Rattle.calls.proofs.Values.{value-encode, length-encode-append}
 use package.Rattle.calls.proofs.Runs.Parts.{admit-iff}
 use package.Rattle.calls.proofs.Runs.Calls.{unit-fits}
-use package.Rattle.reading.specs.Ends.{isSome, isValue}
+use package.Rattle.reading.specs.Ends.{isSome, isValue, valueIn}
 use package.Rattle.admission.specs.Admitting.{sideOf}
-use package.Rattle.running.specs.Ended.{finished}
-use package.Rattle.journal.specs.Turns.{valueOf}
-use package.Rattle.journal.proofs.Turns.{valueOf-is}
+use package.Rattle.running.specs.Ended.{finished, summary}
+use package.Rattle.journal.proofs.Turns.{valueIn-is}
 use package.Rattle.rows.specs.declared.answers.Done.{Done}
 use package.Rattle.rows.specs.declared.answers.Refusal.{Refusal}
 use package.Rattle.rows.specs.declared.answers.Refusal.the-variants.{Full}
 use package.Rattle.rows.specs.declared.answers.RunAnswer.the-variants as runs
-use package.Rattle.rows.specs.Answers.{numberOf, placeOf, summary}
+use package.Rattle.rows.specs.Answers.{numberOf, placeOf}
 use package.Rattle.rows.specs.Calls.{Later, accepts, refuses as rejects}
 use package.Rattle.rows.specs.Runs.{runOf, called, RunMeans}
 use package.Rattle.turns.specs.Turns.{TurnMeans}
@@ -170,8 +169,8 @@ module _ (v : Val) {h : List ℕ} (e : h ≡ encode v) (f : fits v ≡ true) whe
   pub front-is-value : isValue h ≡ true
   front-is-value = ap isSome front-value
 
-  pub front-valueOf : valueOf h ≡ v
-  front-valueOf = valueOf-is h front-value
+  pub front-valueIn : valueIn h ≡ v
+  front-valueIn = valueIn-is h front-value
 
 ----------------------------------------------------------------
 -- What convert and rollback answer

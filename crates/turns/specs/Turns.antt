@@ -1,23 +1,22 @@
 -- Open, convert and rollback from the rows of the program on (sections 4 and 5), against calls/specs/Conversions: the same answers, of a
 -- program that has loaded in a workspace that is long enough.
-use Prim.Native.Nat.{ℕ, _≤_}
+use Prim.Native.Nat.{ℕ}
 use mathlib.Core.Path.{_≡_}
-use mathlib.Core.Bool.{Bool, true, false}
-use mathlib.Core.Option.{Option, none, some}
+use mathlib.Core.Option.{some}
 use mathlib.Core.List.{List, [], _∷_, _++_}
 use lib.ListN.{length, take}
 use lib.Dec.{eqb, ltb}
 use package.Rattle.rules.specs.Limits.{maxConversions}
 use package.Rattle.rules.specs.Term.{Program}
-use package.Rattle.calls.specs.Answer.{Answer, accepted, refused, _>>=_, require, present}
+use package.Rattle.calls.specs.Answer.{Answer, _>>=_, require, present}
 use package.Rattle.calls.specs.Load.{load}
 use package.Rattle.calls.specs.Values.{value, ancillae}
 use package.Rattle.calls.specs.Runs.{admit, goes, returns}
-use package.Rattle.calls.specs.Journal.{Entry, Journal, readJournal}
+use package.Rattle.calls.specs.Journal.{readJournal}
 use package.Rattle.calls.specs.Conversions.{Turned, kept, turned, newest}
 use package.Rattle.calls.specs.Book.{afterOpen, afterTurned}
 use package.Rattle.program.specs.declared.fields.Counts.{Counts}
-use package.Rattle.admission.specs.Given.{programIn}
+use package.Rattle.program.specs.Programs.{programIn}
 use package.Rattle.rows.specs.declared.answers.CheckAnswer.{CheckAnswer}
 use package.Rattle.rows.specs.declared.answers.RunAnswer.{RunAnswer}
 use package.Rattle.rows.specs.Answers.{checkAnswer, runAnswer, openAnswer, heldAnswer}

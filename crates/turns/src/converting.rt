@@ -17,7 +17,7 @@ ghost use Rattle.calls.specs.Runs.{workspaceFor};
 ghost use Rattle.reading.specs.Ends.{isValue};
 ghost use Rattle.journal.specs.Places.{Stands};
 ghost use Rattle.journal.specs.Turns.{areValues};
-ghost use Rattle.admission.specs.Given.{programIn};
+ghost use Rattle.program.specs.Programs.{programIn};
 ghost use Rattle.loading.specs.Loading.{Accepted};
 ghost use Rattle.turns.specs.Turns.{convertOf, TurnMeans};
 ghost use Rattle.turns.specs.Converting.{convertedTo};

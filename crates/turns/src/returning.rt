@@ -11,11 +11,10 @@ ghost use Prim.Native.Nat.{_≤_, _<_};
 ghost use lib.ListN.{length};
 ghost use Rattle.rules.specs.Limits.{maxValueBytes};
 ghost use Rattle.calls.specs.Runs.{workspaceFor};
-ghost use Rattle.reading.specs.Ends.{isValue};
-ghost use Rattle.admission.specs.Given.{programIn};
+ghost use Rattle.reading.specs.Ends.{isValue, valueIn};
+ghost use Rattle.program.specs.Programs.{programIn};
 ghost use Rattle.loading.specs.Loading.{Accepted};
 ghost use Rattle.journal.specs.Places.{Stands, journalIn};
-ghost use Rattle.journal.specs.Turns.{valueOf};
 ghost use Rattle.rows.specs.Runs.{RunMeans};
 ghost use Rattle.turns.specs.Turns.{rollbackOf, TurnMeans};
 ghost use Rattle.turns.specs.Rollbacks.{ranTo, takenBack, struck};
@@ -59,7 +58,7 @@ fn run_newest(
 fn strike(journal: &mut [u8], pl: Places, held: &[u8], done: Done) -> RunAnswer
     requires { ⌜ Stands pl (now journal) × (0 < pl .count) ⌝ }
     requires { ⌜ (isValue (now held) ≡ true) × (done .len ≡ length (now held)) ⌝ }
-    ensures { λ r. ⌜ TurnMeans r (struck (length (now (journal .entry))) (journalIn (now (journal .entry))) (ranTo (valueOf (now (held .entry))) (done .steps))) (now (journal .entry)) (now (journal .exit)) ⌝ }
+    ensures { λ r. ⌜ TurnMeans r (struck (length (now (journal .entry))) (journalIn (now (journal .entry))) (ranTo (valueIn (now (held .entry))) (done .steps))) (now (journal .entry)) (now (journal .exit)) ⌝ }
 {
     let noted = journal::parts::newest_steps(journal, pl);
     let steps = octets::wide32(done.steps);

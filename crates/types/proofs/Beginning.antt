@@ -8,7 +8,8 @@ use lib.Seq.{getD-take}
 use package.Rattle.calls.specs.Fields.{Layout}
 use package.Rattle.calls.specs.Entries.{typeAt}
 use package.Rattle.calls.specs.Named.{nodesOf, figures}
-use package.Rattle.calls.proofs.Entries.{Lower, nodes-figure}
+use package.Rattle.calls.proofs.Entries.{nodes-figure}
+use package.Rattle.calls.specs.Tested.{Lower}
 use package.Rattle.program.specs.Parts.{Formed}
 use package.Rattle.types.specs.Codes.{Readable, Sources}
 use package.Rattle.types.specs.Counts.{Counted}

@@ -9,7 +9,7 @@ use package.Rattle.octets.specs.Numbers.{get16}
 use package.Rattle.rules.specs.Limits.{maxTypes, maxNodes}
 use package.Rattle.rules.specs.Ty.{Ty, one, prod, plug, nodes}
 use package.Rattle.calls.specs.Entries.{TypeEntry, typeAt, typeOf}
-use package.Rattle.calls.proofs.Entries.{Lower}
+use package.Rattle.calls.specs.Tested.{Lower}
 use package.Rattle.program.specs.Parts.{TypeField}
 use package.Rattle.types.specs.declared.codes.Code.{Code}
 

@@ -1,14 +1,14 @@
 -- The function that a call names, and lists of references from a number on.
-use Prim.Native.Nat.{ℕ, zero, suc, _+_, _*_, _-_, _≤_, _<_}
+use Prim.Native.Nat.{ℕ, suc, _+_, _*_, _-_, _≤_, _<_}
 use native.Mathlib.Omega.{arith}
-use mathlib.Core.Path.{_≡_, refl, sym, ap, ap₂, subst, _∙_}
+use mathlib.Core.Path.{_≡_, sym, ap, ap₂, subst, _∙_}
 use mathlib.Core.Bool.{true}
-use mathlib.Core.Option.{none, some}
+use mathlib.Core.Option.{some}
 use mathlib.Core.List.{List, [], _∷_, _++_, map}
 use lib.ListN.{length, getD, length-map}
-use package.Rattle.rules.specs.Term.{Term, end, more, count, Fun, nth}
+use package.Rattle.rules.specs.Term.{end, more, Fun, nth}
 use package.Rattle.rules.specs.Limits.{maxParameters}
-use package.Rattle.rules.proofs.Basics.{none≢some, some-inj}
+use package.Rattle.rules.proofs.Lists.{nth-map, nth-there}
 use package.Rattle.calls.specs.Fields.{parametersAt}
 use package.Rattle.calls.specs.Entries.{typeAt, typeOf, termAt, termTrees, references, functionAt, functionOf, entriesAt, programOf}
 use package.Rattle.calls.specs.Named.{typesOfFunction, below}
@@ -16,23 +16,12 @@ use package.Rattle.calls.proofs.Entries.{below-head}
 use package.Rattle.program.specs.Parts.{listed, result, FunctionField}
 use package.Rattle.program.proofs.Rooms.{function-room}
 use package.Rattle.program.proofs.Shapes.{function-dynamic}
-use package.Rattle.typing.specs.Ready.{termIn, programIn, termsFrom, typesFrom, Entered}
-use package.Rattle.typing.proofs.Trees.{below-last, below-each}
+use package.Rattle.program.specs.Programs.{programIn}
+use package.Rattle.program.proofs.Lists.{below-last, below-each}
+use package.Rattle.typing.specs.Ready.{termIn, termsFrom, typesFrom, Entered}
 
 ----------------------------------------------------------------
 -- The function that is called
-
-nth-map : {A B : Type 0} (f : A → B) (l : List A) (g : ℕ) {x : A} → nth l g ≡ some x → nth (map f l) g ≡ some (f x)
-unfolding nth
-nth-map f [] g e = absurd (none≢some e)
-nth-map f (y ∷ l) zero e = ap (λ x. some (f x)) (some-inj e)
-nth-map f (y ∷ l) (suc g) e = nth-map f l g e
-
-nth-there : (l : List ℕ) (g : ℕ) → g < length l → nth l g ≡ some (getD l g 0)
-unfolding nth
-nth-there [] g h = absurd (omega arith)
-nth-there (x ∷ l) zero h = refl
-nth-there (x ∷ l) (suc g) h = nth-there l g (omega arith)
 
 module _ {p types terms functions nodes : List ℕ} (E : Entered p types terms functions nodes) {g h : ℕ} (there : g < length functions) (q : h ≡ getD functions g 0) where
   pub entry-there : nth (map (functionAt p) functions) g ≡ some (functionAt p h)
@@ -71,16 +60,6 @@ module _ {p types terms functions nodes : List ℕ} (E : Entered p types terms f
 
 ----------------------------------------------------------------
 -- Lists of references
-
-pub count-trees : (go : ℕ → Term) (xs : List ℕ) (i n : ℕ) → count (termTrees go (references xs i n)) ≡ n
-unfolding references termTrees count
-count-trees go xs i zero = refl
-count-trees go xs i (suc n) = ap suc (count-trees go xs (i + 2) n)
-
-pub length-references : (xs : List ℕ) (i n : ℕ) → length (references xs i n) ≡ n
-unfolding references
-length-references xs i zero = refl
-length-references xs i (suc n) = ap suc (length-references xs (i + 2) n)
 
 module _ (p types : List ℕ) (at k n : ℕ) where
   -- from number `k` on there is one, and then those from the next on

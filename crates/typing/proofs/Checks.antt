@@ -17,12 +17,15 @@ use package.Rattle.calls.specs.Fields.{Layout, parametersAt}
 use package.Rattle.calls.specs.Entries.{typeAt, typeOf, termAt, functionAt, functionOf, entriesAt}
 use package.Rattle.calls.specs.Named.{typesOfFunction, below}
 use package.Rattle.calls.specs.Load.{offset, typed}
-use package.Rattle.calls.proofs.Trees.{Good, entries-good}
+use package.Rattle.calls.proofs.Trees.{entries-good}
+use package.Rattle.calls.specs.Tested.{Good}
 use package.Rattle.program.specs.Parts.{FunctionField, Formed, body}
 use package.Rattle.program.specs.Places.{placesOf}
 use package.Rattle.program.specs.Signatures.{SignatureIs}
 use package.Rattle.program.proofs.Inside.{formed}
 use package.Rattle.program.proofs.Shapes.{function-body}
+use package.Rattle.program.specs.Programs.{programIn, functionIn}
+use package.Rattle.program.proofs.Lists.{ancillae-count}
 use package.Rattle.types.specs.Codes.{treeIn, Readable, Sources}
 use package.Rattle.types.specs.Counts.{Counted}
 use package.Rattle.types.proofs.Beginning.{readable, no-products, counted}
@@ -35,11 +38,10 @@ use package.Rattle.typing.specs.declared.outcomes.Status.the-variants.{T
 use package.Rattle.typing.specs.declared.outcomes.Out.{Out}
 use package.Rattle.typing.specs.Sizes.{termsIn}
 use package.Rattle.typing.specs.Outcomes.{faultOf, statusOf, meaning}
-use package.Rattle.typing.specs.Ready.{termIn, programIn, typingOf, typeIn, Entered, Ready, Inferred}
-use package.Rattle.typing.specs.Checked.{Typeable, Signed, Started, functionIn, functionAnswer, endAnswer, faultAnswer}
+use package.Rattle.typing.specs.Ready.{termIn, typingOf, typeIn, Entered, Ready, Inferred}
+use package.Rattle.typing.specs.Checked.{Typeable, Signed, Started, functionAnswer, endAnswer, faultAnswer}
 use package.Rattle.typing.proofs.Sizes.{body-size}
 use package.Rattle.typing.proofs.Called.{entry-there, function-field}
-use package.Rattle.typing.proofs.Parameters.{ancilla-count}
 
 ----------------------------------------------------------------
 -- The answer for a function
@@ -156,7 +158,7 @@ module _ {xs types terms functions nodes heap : List ℕ} (Y : Typeable xs types
           n = length (functionIn xs types terms at .ancillae)
 
           count : n ≡ parametersAt xs at - 1
-          count = length-map (functionAt xs at .ancillae) (typeOf (map (typeAt xs) types)) ∙ ancilla-count field
+          count = length-map (functionAt xs at .ancillae) (typeOf (map (typeAt xs) types)) ∙ ancillae-count xs at
 
           used : names n (functionIn xs types terms at .body) ≡ has (f .uses) (parametersAt xs at - 1)
           used = ap (names n) (sym the-body) ∙ sym (I .uses f t .each n (omega (arith, count, field .few))) ∙ ap (has (f .uses)) count

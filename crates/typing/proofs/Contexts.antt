@@ -14,7 +14,7 @@ use package.Rattle.rules.specs.Ty.{Ty, isUnit}
 use package.Rattle.rules.specs.Term.{Term, look}
 use package.Rattle.rules.specs.Typing.{Binding, static, dynamic, barred, Context, barOne, bar}
 use package.Rattle.rules.specs.Check.{mustUse, sameUse}
-use package.Rattle.rules.proofs.Basics.{given, none≢some}
+use package.Rattle.rules.proofs.Basics.{given, none≢some, not-true}
 use package.Rattle.rules.proofs.Typing.Tests.{sameUse-yes, sameUse-sound}
 use package.Rattle.rules.proofs.Scope.{look-newest, look-skip, look-none}
 use package.Rattle.uses.specs.declared.Uses.{Uses}
@@ -143,11 +143,7 @@ must-use-barred T q n i = go (decLt i n) (decLt i q)
 must-use-dynamic : (x : Binding) → mustUse x ≡ true → (c : Ty) × (x ≡ dynamic c) × (isUnit c ≡ false)
 unfolding mustUse
 must-use-dynamic (static c) e = absurd (false≢true e)
-must-use-dynamic (dynamic c) e = (c, refl, not-true (isUnit c) e)
-  where
-    not-true : (u : Bool) → not u ≡ true → u ≡ false
-    not-true true e = absurd (false≢true e)
-    not-true false e = refl
+must-use-dynamic (dynamic c) e = (c, refl, not-true {b = isUnit c} e)
 must-use-dynamic (barred c) e = absurd (false≢true e)
 
 dynamic-must-use : (Δ : Context) (i : ℕ) (c : Ty) → look Δ i ≡ some (dynamic c) → isUnit c ≡ false → mustUseAt Δ i ≡ true

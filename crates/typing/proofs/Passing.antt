@@ -16,6 +16,8 @@ use package.Rattle.calls.specs.Fields.{lengthAt, parametersAt}
 use package.Rattle.calls.specs.Entries.{typeAt, typeOf, termTrees, callAncillae, references, functionOf}
 use package.Rattle.program.specs.Parts.{first, listed, result}
 use package.Rattle.program.proofs.Shapes.{function-result, function-ancillae, function-dynamic}
+use package.Rattle.program.specs.Programs.{programIn}
+use package.Rattle.program.proofs.Lists.{count-trees, length-references}
 use package.Rattle.types.specs.declared.codes.Code.{Code}
 use package.Rattle.types.specs.Codes.{entryCode, treeIn, Known}
 use package.Rattle.types.proofs.Trees.{tree-entry}
@@ -24,11 +26,11 @@ use package.Rattle.uses.specs.declared.Uses.{Uses}
 use package.Rattle.uses.specs.Sets.{Holds, nobody}
 use package.Rattle.typing.specs.Sizes.{termsIn, termsInAll}
 use package.Rattle.typing.specs.Outcomes.{faultOf, doneOf}
-use package.Rattle.typing.specs.Ready.{termIn, variableAt, programIn, contextIn, typingOf, typeIn, demanded, termsFrom, typesFrom, Ready, Here, Kept, Inferred, Bare, Calls, Argued}
+use package.Rattle.typing.specs.Ready.{termIn, variableAt, contextIn, typingOf, typeIn, demanded, termsFrom, typesFrom, Ready, Here, Kept, Inferred, Bare, Calls, Argued}
 use package.Rattle.typing.proofs.Contexts.{context-bar, must-use-barred}
 use package.Rattle.typing.proofs.Answers.{ends-refused, inferred, kept-still, kept-then, kept-more, stopped, need-yes, need-no, answered, refused, around, earlier, says, good-then, bad-then, ready-less, context-later, ready-later}
 use package.Rattle.typing.proofs.Trees.{tree-call, read-call, called-there, part-argument, part-dynamic}
-use package.Rattle.typing.proofs.Called.{called, called-in, read-function, some-parameters, result-there, parameter-there, dynamic-there, count-trees, length-references, terms-next, terms-none, types-next, types-none, references-all}
+use package.Rattle.typing.proofs.Called.{called, called-in, read-function, some-parameters, result-there, parameter-there, dynamic-there, terms-next, terms-none, types-next, types-none, references-all}
 use Rattle.typing.specs.declared.outcomes.Scope.{Scope}
 use Rattle.typing.specs.declared.outcomes.Found.{Found}
 use Rattle.typing.specs.declared.outcomes.Fault.{Fault}

@@ -18,23 +18,13 @@ use package.Rattle.calls.specs.Fields.{Layout}
 use package.Rattle.calls.specs.Entries.{typeOf, TermEntry, n-var, n-unit, n-inl, n-inr, n-roll, n-unroll, n-pair, n-let, n-letp, n-case, n-call, termTrees, termTree, termOf, FunctionEntry, Entries}
 use package.Rattle.calls.specs.Named.{typesOfTerm, termsOfTerm, functionsOfTerm, typesOfFunction, below, member, fresh, testTypes, testTerms, testFunctions, testEntries}
 use package.Rattle.calls.proofs.Answer.{accepted-inj, unbind, required}
-use package.Rattle.calls.proofs.Entries.{below-head}
-use package.Rattle.calls.proofs.Trees.{Good, entries-good, good-lower, term-unfolds}
+use package.Rattle.calls.proofs.Entries.{below-head, member-middle}
+use package.Rattle.calls.proofs.Trees.{entries-good, good-lower, term-unfolds}
+use package.Rattle.calls.specs.Tested.{Good}
 use package.Rattle.typing.specs.Sizes.{termsIn, termsInAll}
 
 ----------------------------------------------------------------
 -- Members
-
--- a term that is used comes anywhere in the list of those used
-member-between : (j t : ℕ) (ts used : List ℕ) → member j (ts ++ (t ∷ used)) ≡ (eqb j t || member j (ts ++ used))
-unfolding member
-member-between j t [] used = refl
-member-between j t (x ∷ ts) used = ap (λ b. eqb j x || b) (member-between j t ts used) ∙ swapped (eqb j x) (eqb j t) (member j (ts ++ used))
-  where
-    swapped : (a b c : Bool) → (a || (b || c)) ≡ (b || (a || c))
-    swapped true true c = refl
-    swapped true false c = refl
-    swapped false b c = refl
 
 or-false : (a b : Bool) → (a || b) ≡ false → b ≡ false
 or-false true b e = absurd (let z : _≡_ {A = ℕ} 0 1 = cc in omega arith)
@@ -112,7 +102,7 @@ module _ (size : ℕ → ℕ) where
       omega arith
     where
       moved : weight (t ∷ (ts ++ used)) k ≡ weight (ts ++ (t ∷ used)) k
-      moved = weight-same (t ∷ (ts ++ used)) (ts ++ (t ∷ used)) k λ j l. sym (member-between j t ts used)
+      moved = weight-same (t ∷ (ts ++ used)) (ts ++ (t ∷ used)) k λ j l. sym (member-middle j t ts used)
 
   -- one entry more, whose parts are lower and fresh: its size is one more than theirs
   weight-next : (k : ℕ) (ts used : List ℕ) → below k ts ≡ true → below k used ≡ true → fresh used ts ≡ true → size k ≡ suc (sizes ts)

@@ -25,8 +25,9 @@ use package.Rattle.typing.specs.Contexts.{standing, contextAt, mustUseAt
 use package.Rattle.typing.specs.Ready.{variableBytes, variableAt, contextIn, Scoped, Opened}
 use package.Rattle.typing.specs.Checked.{Signed, Bound, Started}
 use package.Rattle.typing.proofs.Contexts.{stands-static, stands-barred, stands-dynamic, length-context, look-context, look-outside}
-use package.Rattle.typing.proofs.Parameters.{ancilla-count, row-ancilla, row-dynamic}
+use package.Rattle.typing.proofs.Parameters.{row-ancilla, row-dynamic}
 use package.Rattle.typing.proofs.Ending.{entry-tree}
+use package.Rattle.program.proofs.Lists.{ancillae-count}
 
 ----------------------------------------------------------------
 -- Ancilla parameters
@@ -149,7 +150,7 @@ all-bound {xs} {types} {heap} {vars} {vars′} {row} {at} {n} {i} {c = c} S B m 
 
     firsts : contextAt (typeAtVar xs types heap vars) n 0 n ≡ statics (map (typeOf ys) (functionAt xs at .ancillae)) []
     firsts =
-        let k : length cs ≡ n = length-map (functionAt xs at .ancillae) (typeOf ys) ∙ ancilla-count (S .formed) ∙ sym m in
+        let k : length cs ≡ n = length-map (functionAt xs at .ancillae) (typeOf ys) ∙ ancillae-count xs at ∙ sym m in
         statics-are (typeAtVar xs types heap vars) n cs (typeOf ys 0) n (omega arith) (omega arith) ancilla
         ∙ ap (λ cs. statics cs []) (take-all n cs (omega arith))
       where

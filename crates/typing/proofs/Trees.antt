@@ -5,8 +5,8 @@ use mathlib.Core.Path.{_≡_, refl, sym, ap, subst, _∙_}
 use mathlib.Core.Bool.{true}
 use mathlib.Core.List.{List, [], _∷_, _++_, map}
 use lib.ListN.{length, getD, length-map}
-use package.Rattle.octets.specs.Numbers.{get16}
 use package.Rattle.rules.specs.Term.{var, tunit, tinl, tinr, tpair, tlet, tletp, tcase, tcall, troll, tunroll}
+use package.Rattle.rules.proofs.Lists.{get-map}
 use package.Rattle.calls.specs.Fields.{kindAt, lengthAt, termLengths}
 use package.Rattle.calls.specs.Entries.{typeAt, typeOf, TermEntry, n-unit, termAt, termTrees, termTree, callAncillae, references, entriesAt, functionAt}
 use package.Rattle.calls.specs.Named.{typesOfTerm, termsOfTerm, functionsOfTerm, below}
@@ -15,13 +15,8 @@ use package.Rattle.calls.proofs.Trees.{good-lower, term-unfolds}
 use package.Rattle.program.specs.Parts.{variable, first, second, third, listed, TermField}
 use package.Rattle.program.proofs.Rooms.{term-kind, term-kind-room, var-room, two-room, case-room, call-sized, call-room}
 use package.Rattle.program.proofs.Shapes.{term-var, term-unit, term-inl, term-inr, term-pair, term-let, term-letp, term-case, term-call, term-roll, term-unroll}
+use package.Rattle.program.proofs.Lists.{below-last, below-each}
 use package.Rattle.typing.specs.Ready.{termIn, Entered, Here}
-
--- an element of a mapped list that is there
-pub get-map : {A : Type 0} (f : ℕ → A) (l : List ℕ) (k : ℕ) (d : A) → k < length l → getD (map f l) k d ≡ f (getD l k 0)
-get-map f [] k d h = absurd (omega arith)
-get-map f (x ∷ l) zero d h = refl
-get-map f (x ∷ l) (suc k) d h = get-map f l k d (omega arith)
 
 -- the kind that was read
 pub here : {p terms : List ℕ} {t at kind k : ℕ} → t < length terms → at ≡ getD terms t 0 → kind ≡ kindAt p at → kind ≡ k → Here p terms t at k
@@ -33,19 +28,6 @@ from-five a b c d e = omega arith
 
 pub last-kind : {k n : ℕ} → 5 ≤ k → ¬ (k ≡ 5) → ¬ (k ≡ 6) → ¬ (k ≡ 7) → ¬ (k ≡ 8) → ¬ (k ≡ 9) → k ≡ n → n < 11 → k ≡ 10
 last-kind l a b c d e q h = omega arith
-
--- references, and one more behind them
-pub below-last : (t : ℕ) (xs : List ℕ) (i n last : ℕ) → below t (references xs i n ++ (last ∷ [])) ≡ true → last < t
-unfolding references
-below-last t xs i zero last e = below-head t last [] e .0
-below-last t xs i (suc n) last e = below-last t xs (i + 2) n last (below-head t _ _ e .1)
-
-pub below-each : (t : ℕ) (xs : List ℕ) (i n last : ℕ) → below t (references xs i n ++ (last ∷ [])) ≡ true → (j : ℕ) → j < n → get16 xs (i + 2 * j) < t
-unfolding references
-below-each t xs i zero last e j h = absurd (omega arith)
-below-each t xs i (suc n) last e zero h = rw (let z : i + 2 * 0 ≡ i = omega arith in z) (below-head t _ _ e .0)
-below-each t xs i (suc n) last e (suc j) h =
-    rw (let z : i + 2 * suc j ≡ i + 2 + 2 * j = omega arith in z) (below-each t xs (i + 2) n last (below-head t _ _ e .1) j (omega arith))
 
 module _ {p types terms functions nodes : List ℕ} (E : Entered p types terms functions nodes) where
   -- the kind can be read, and is one of eleven

@@ -14,8 +14,8 @@ use package.Rattle.calls.specs.Entries.{typeAt, termAt, functionAt, functionOf,
 use package.Rattle.calls.specs.Load.{typed}
 use package.Rattle.calls.proofs.Answer.{refused≢accepted}
 use package.Rattle.program.specs.Places.{placesOf}
-use package.Rattle.typing.specs.Ready.{programIn}
-use package.Rattle.typing.specs.Checked.{Typeable, functionIn, functionAnswer, typingAnswer}
+use package.Rattle.program.specs.Programs.{programIn, functionIn}
+use package.Rattle.typing.specs.Checked.{Typeable, functionAnswer, typingAnswer}
 
 ----------------------------------------------------------------
 -- Answers one after another

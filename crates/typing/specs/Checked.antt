@@ -7,18 +7,18 @@ use mathlib.Core.List.{List, [], _∷_, map}
 use lib.ListN.{length, getD, take}
 use package.Rattle.rules.specs.Limits.{maxTerms, maxVariables, maxNodes}
 use package.Rattle.rules.specs.Ty.{Ty, isUnit, sameTy}
-use package.Rattle.rules.specs.Term.{Fun}
 use package.Rattle.rules.specs.Typing.{dynamic}
 use package.Rattle.rules.specs.Check.{statics, checkFun, check}
 use package.Rattle.calls.specs.Answer.{Answer, accepted, refused, _>>=_, require}
-use package.Rattle.calls.specs.Entries.{typeAt, typeOf, termAt, functionAt, functionOf, entriesAt}
+use package.Rattle.calls.specs.Entries.{typeAt, typeOf, functionAt, entriesAt}
 use package.Rattle.calls.specs.Named.{nodesOf, figures, typesOfFunction, below, testEntries}
 use package.Rattle.calls.specs.Load.{typed}
 use package.Rattle.program.specs.Parts.{FunctionField}
 use package.Rattle.program.specs.Places.{placesOf, Placed}
 use package.Rattle.program.specs.Signatures.{SignatureIs}
+use package.Rattle.program.specs.Programs.{functionIn, programIn}
 use package.Rattle.types.specs.Codes.{nodeBytes, treeIn, Known}
-use package.Rattle.typing.specs.Ready.{programIn, variableBytes, variableAt, contextIn, Scoped}
+use package.Rattle.typing.specs.Ready.{variableBytes, variableAt, contextIn, Scoped}
 use package.Rattle.typing.specs.declared.outcomes.Scope.{Scope}
 use package.Rattle.typing.specs.declared.outcomes.Fault.{Fault}
 use package.Rattle.typing.specs.declared.outcomes.Fault.the-variants as fault
@@ -65,10 +65,6 @@ pub record Started (xs types heap vars : List ℕ) (at : ℕ) (sc : Scope) : Typ
 abbrev pub typingAnswer : List ℕ → List ℕ → List ℕ → List ℕ → Answer (Unit {0})
 typingAnswer xs types terms functions =
     typed (placesOf types terms functions) (check maxVariables maxNodes (programIn xs types terms functions))
-
--- the function whose field is at `at`
-abbrev pub functionIn : List ℕ → List ℕ → List ℕ → ℕ → Fun
-functionIn xs types terms at = functionOf (map (typeAt xs) types) (map (termAt xs) terms) (functionAt xs at)
 
 -- of the function with entry `g`
 abbrev pub functionAnswer : List ℕ → List ℕ → List ℕ → List ℕ → ℕ → Answer (Unit {0})

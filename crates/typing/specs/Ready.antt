@@ -7,14 +7,15 @@ use mathlib.Core.List.{List, _∷_, map}
 use lib.ListN.{length, getD}
 use package.Rattle.rules.specs.Limits.{maxTerms, maxVariables, maxNodes}
 use package.Rattle.rules.specs.Ty.{Ty, isUnit, sameTy}
-use package.Rattle.rules.specs.Term.{Term, Terms, Program, look}
+use package.Rattle.rules.specs.Term.{Term, Terms, look}
 use package.Rattle.rules.specs.Typing.{dynamic, Context}
 use package.Rattle.rules.specs.Check.{term, Checked, good, _>>=_, _>>_, need, visible, spent, sameUse, infer, inferArguments}
 use package.Rattle.calls.specs.Fields.{kindAt, lengthAt, parametersAt}
-use package.Rattle.calls.specs.Entries.{typeAt, typeOf, termAt, termOf, termTrees, callAncillae, references, entriesAt, programOf}
-use package.Rattle.calls.proofs.Trees.{Good}
+use package.Rattle.calls.specs.Entries.{typeAt, typeOf, termAt, termOf, termTrees, callAncillae, references, entriesAt}
+use package.Rattle.calls.specs.Tested.{Good}
 use package.Rattle.program.specs.Parts.{Formed, first}
 use package.Rattle.program.specs.Places.{placesOf}
+use package.Rattle.program.specs.Programs.{programIn}
 use package.Rattle.types.specs.declared.codes.Code.{Code}
 use package.Rattle.types.specs.Codes.{Room, codeAt, unitCode, productCode, treeIn, Known, Sources}
 use package.Rattle.types.specs.Counts.{Counted}
@@ -38,9 +39,6 @@ use Rattle.typing.specs.declared.outcomes.Out.{Out}
 -- the tree of term entry `t`
 abbrev pub termIn : List ℕ → List ℕ → List ℕ → ℕ → Term
 termIn p types terms t = termOf (map (typeAt p) types) (map (termAt p) terms) t
-
-abbrev pub programIn : List ℕ → List ℕ → List ℕ → List ℕ → Program
-programIn p types terms functions = programOf (entriesAt p (placesOf types terms functions))
 
 abbrev pub variableBytes : ℕ
 variableBytes = 6

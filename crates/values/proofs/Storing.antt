@@ -1,13 +1,12 @@
 -- Laws that storing cites: bytes put one behind another, the bytes of a value of a kind, and each answer of `store`.
 use Prim.Native.Nat.{ℕ, zero, suc, _+_, _<_, _≤_}
 use native.Mathlib.Omega.{arith}
-use native.Mathlib.Nat.{add-assoc}
 use mathlib.Core.Path.{_≡_, refl, sym, ap, ap₂, _∙_}
 use mathlib.Core.Logic.{inl as left, inr as right}
-use mathlib.Core.List.{List, [], _∷_, _++_, append-assoc}
-use lib.ListN.{length, set, take, drop, length-append, length-set}
-use lib.Seq.{length-take-le, set-split, append-snoc, take-at, drop-append-add, drop-drop}
+use mathlib.Core.List.{List, [], _∷_, _++_}
+use lib.ListN.{length, set, length-set}
 use package.Rattle.octets.specs.Runs.{pasted}
+use package.Rattle.octets.proofs.Pastes.{set-pasted, pasted-behind}
 use package.Rattle.rules.specs.Val.{Val, size, encode}
 use package.Rattle.rules.proofs.Val.{length-encode}
 use package.Rattle.calls.proofs.Values.{size-positive}
@@ -20,39 +19,9 @@ use package.Rattle.values.proofs.Loading.{kind-single}
 ----------------------------------------------------------------
 -- Bytes put one behind another
 
--- one byte
-pasted-one : (xs : List ℕ) (at k : ℕ) → at < length xs → set xs at k ≡ pasted xs at (k ∷ [])
-unfolding pasted
-pasted-one xs at k h =
-    set-split xs at k h
-    ∙ sym (append-snoc (take at xs) k (drop (suc at) xs))
-    ∙ ap (λ n. take at xs ++ (k ∷ []) ++ drop n xs) (let z : suc at ≡ at + 1 = omega arith in z)
-
--- a run behind a run
-pub pasted-behind : (xs : List ℕ) (at : ℕ) (ys zs : List ℕ) → at + length ys ≤ length xs
-    → pasted (pasted xs at ys) (at + length ys) zs ≡ pasted xs at (ys ++ zs)
-unfolding pasted
-pasted-behind xs at ys zs h =
-    ap₂ (λ a b. a ++ zs ++ b)
-    (take-at front rest (at + length ys) front-length)
-    (ap (λ n. drop (n + length zs) (front ++ rest)) (sym front-length)
-    ∙ drop-append-add front rest (length zs)
-    ∙ drop-drop (length zs) (at + length ys) xs
-    ∙ ap (λ n. drop n xs) (add-assoc at (length ys) (length zs) ∙ ap (λ n. at + n) (sym (length-append ys zs))))
-    ∙ ap (λ a. a ++ drop (at + length (ys ++ zs)) xs) (append-assoc (take at xs) ys zs)
-  where
-    front : List ℕ
-    front = take at xs ++ ys
-
-    rest : List ℕ
-    rest = drop (at + length ys) xs
-
-    front-length : length front ≡ at + length ys
-    front-length = length-append (take at xs) ys ∙ ap (λ n. n + length ys) (length-take-le at xs (omega arith))
-
 -- a byte, and a run behind it
 pasted-cons : (xs : List ℕ) (at k : ℕ) (ys : List ℕ) → at < length xs → pasted (set xs at k) (at + 1) ys ≡ pasted xs at (k ∷ ys)
-pasted-cons xs at k ys h = ap (λ l. pasted l (at + 1) ys) (pasted-one xs at k h) ∙ pasted-behind xs at (k ∷ []) ys (omega arith)
+pasted-cons xs at k ys h = ap (λ l. pasted l (at + 1) ys) (set-pasted xs at k h) ∙ pasted-behind xs at (k ∷ []) (omega arith) ys
 
 ----------------------------------------------------------------
 -- The bytes of a value of a kind
@@ -98,7 +67,7 @@ module _ {heap : List ℕ} {n : ℕ} {out : List ℕ} {at k : ℕ} (w : KindRead
   unfolding size encode
   store-unit z =
       let e = value-unit heap (n + 1) (w .ready .right) n (sym (w .kind) ∙ z) in
-      record { bytes = rw (e, ← z) (pasted-one out at k here); behind = rw e }
+      record { bytes = rw (e, ← z) (set-pasted out at k here); behind = rw e }
 
 module _ {heap : List ℕ} {n : ℕ} {out : List ℕ} {at k l : ℕ} (w : LeftRead heap n out at k l) where
   heap-n : Heap heap (n + 1)
@@ -154,8 +123,8 @@ module _ {heap : List ℕ} {n : ℕ} {out : List ℕ} {at k l : ℕ} (w : LeftRe
           record {
             bytes = d′ .bytes
                 ∙ ap₂ (λ o b. pasted o b (encode (valueAt heap r))) with-left (omega (arith, d .behind, length-encode (valueAt heap l)))
-                ∙ pasted-behind out at (k ∷ encode (valueAt heap l)) (encode (valueAt heap r))
-                (omega (arith, w .node .ready .room, length-encode (valueAt heap l), whole-size))
+                ∙ pasted-behind out at (k ∷ encode (valueAt heap l))
+                (omega (arith, w .node .ready .room, length-encode (valueAt heap l), whole-size)) (encode (valueAt heap r))
                 ∙ ap (pasted out at) (rw three (sym (encode-pair (valueAt heap l) (valueAt heap r)) ∙ ap encode (sym whole-pair)));
             behind = omega (arith, d .behind, d′ .behind, whole-size);
           }

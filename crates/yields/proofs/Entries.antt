@@ -9,7 +9,8 @@ use package.Rattle.rules.specs.Term.{Term}
 use package.Rattle.calls.specs.Entries.{TypeEntry, typeOf, TermEntry, n-unit, termAt, termTree, termOf, entriesAt}
 use package.Rattle.calls.specs.Named.{termsOfTerm, below}
 use package.Rattle.calls.proofs.Entries.{below-head}
-use package.Rattle.calls.proofs.Trees.{Good, good-lower, term-unfolds}
+use package.Rattle.calls.proofs.Trees.{good-lower, term-unfolds}
+use package.Rattle.calls.specs.Tested.{Good}
 use package.Rattle.program.specs.Places.{placesOf, Placed}
 use package.Rattle.program.proofs.Inside.{formed}
 use package.Rattle.yields.specs.Yields.{AcceptedTerms}

@@ -1,11 +1,12 @@
 use Prim.Native.Nat.{_-_}
 use native.Mathlib.Omega.{arith}
 use mathlib.Core.Path.{sym, ap, _∙_}
-use Rattle.admission.proofs.Parameters.{ancillae-count, parameters-room}
+use Rattle.admission.proofs.Parameters.{parameters-room}
 use Rattle.admission.proofs.Right.{right-none, right-not, right-number}
 use borrow.Author.Needs.{needs}
 use Rattle.admission.proofs.values_right.Statement.{statement}
 use Rattle.admission.proofs.values_right.Tie as tie
+use package.Rattle.program.proofs.Lists.{ancillae-count}
 
 count-values-requires : tie.Need-count-values-requires
 count-values-requires c κs = search needs

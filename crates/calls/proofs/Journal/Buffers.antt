@@ -9,7 +9,7 @@ use mathlib.Core.Option.{some}
 use mathlib.Core.List.{List, [], _∷_, _++_, append-assoc}
 use lib.ListN.{length, take, replicate, length-append, length-take, length-replicate, replicate-append-replicate}
 use lib.Seq.{take-append-add}
-use package.Rattle.octets.proofs.Numbers.{AreBytes}
+use package.Rattle.octets.specs.Numbers.{AreBytes}
 use package.Rattle.rules.specs.Limits.{fits, maxConversions}
 use package.Rattle.rules.specs.Val.{Val, size, encode}
 use package.Rattle.rules.proofs.Basics.{given, some-inj}

@@ -8,7 +8,7 @@ use mathlib.Core.Option.{some}
 use mathlib.Core.List.{List, [], _∷_, _++_, append-assoc, append-nil}
 use lib.ListN.{length, replicate, length-append}
 use lib.Dec.{eqb}
-use package.Rattle.octets.proofs.Numbers.{AreBytes}
+use package.Rattle.octets.specs.Numbers.{AreBytes}
 use package.Rattle.rules.proofs.Basics.{given, none≢some, some-inj, and-both, eqb-sound}
 use package.Rattle.calls.specs.Values.{encodeAll}
 use package.Rattle.calls.specs.Journal.{Entry, field, entryTag, entryBody, entryFields, when, opened, readEntry, allZero, readEntries}

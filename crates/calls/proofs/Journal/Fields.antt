@@ -9,8 +9,8 @@ use mathlib.Core.List.{List, [], _∷_, _++_}
 use lib.ListN.{length, take, drop, length-append, take-append-drop}
 use lib.Dec.{leb, eqb}
 use lib.Seq.{length-take-le, take-at, drop-at}
-use package.Rattle.octets.specs.Numbers.{get16, get32, bytes16, bytes32}
-use package.Rattle.octets.proofs.Numbers.{AreBytes, bytes-left, bytes-right, get16-bytes16, get32-bytes32, get32-behind, get16-below, get32-below, bytes16-get16, bytes32-get32}
+use package.Rattle.octets.specs.Numbers.{get16, get32, bytes16, bytes32, AreBytes}
+use package.Rattle.octets.proofs.Numbers.{bytes-left, bytes-right, get16-bytes16, get32-bytes32, get32-behind, get16-below, get32-below, bytes16-get16, bytes32-get32}
 use package.Rattle.rules.specs.Limits.{fits, maxValueBytes, maxAncillaBytes}
 use package.Rattle.rules.specs.Val.{Val, size}
 use package.Rattle.rules.proofs.Basics.{given, none≢some, some-inj, eqb-yes, eqb-sound}

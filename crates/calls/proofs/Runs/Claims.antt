@@ -16,11 +16,11 @@ use package.Rattle.rules.proofs.Basics.{given}
 use package.Rattle.rules.proofs.Numbers.{answer-ends}
 use package.Rattle.rules.proofs.Theorems as Rules
 use package.Rattle.calls.specs.Answer.{Answer, refused}
-use package.Rattle.calls.specs.Values.{got, read, value}
+use package.Rattle.calls.specs.Values.{read, value}
 use package.Rattle.calls.specs.Runs.{prepared, checkCall}
 use package.Rattle.calls.specs.Claims.{CheckIffTyped, ForwardIffRules, BackwardIffForward, NoInput, NeverStuck, RefusalNumbers, OldConversionsReturn}
 use package.Rattle.calls.proofs.Answer.{via, unbind}
-use package.Rattle.calls.proofs.Values.{read-encode, value-encode, value-sound}
+use package.Rattle.calls.proofs.Values.{got-value, read-encode, value-encode, value-sound}
 use package.Rattle.calls.proofs.Refusals.{Numbered, number}
 use package.Rattle.calls.proofs.Load.{prepared-iff}
 use package.Rattle.calls.proofs.Runs.Calls.{gives, Direction, onward, back, Answers, before, running, short, forward-call-iff, backward-call-iff, backward-call-refused}
@@ -49,9 +49,6 @@ forward-iff-rules ws out fuel fn program anc bytes w n = (
 
 ----------------------------------------------------------------
 -- Backward is forward, turned
-
-got-value : {v w : Val} {xs ys : List ℕ} → got v xs ≡ got w ys → v ≡ w
-got-value e = cc
 
 -- what is read from a value's bytes is the value
 read-back : (v : Val) {w : Val} → value (encode v) ≡ some w → v ≡ w
