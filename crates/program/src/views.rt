@@ -106,15 +106,15 @@ pub fn function_body(p: &[u8], at: usize) -> u16
 }
 
 // How many references an entry has, by its kind, in the order of the bytes; specs/Lists has the tables. A term's stand for a type or a
-// function first, then for terms; a call has its ancilla terms besides.
+// function first, then for terms; a call has its ancilla terms besides. The numbers are bytes: each use of a table makes it anew.
 
 const TYPES_IN_TYPE: [usize; 5] = [0, 2, 2, 1, 0];
 
-const TYPES_IN_TERM: [usize; 11] = [0, 0, 1, 1, 0, 0, 0, 0, 0, 1, 1];
+const TYPES_IN_TERM: [u8; 11] = [0, 0, 1, 1, 0, 0, 0, 0, 0, 1, 1];
 
-const FUNCTIONS_IN_TERM: [usize; 11] = [0, 0, 0, 0, 0, 0, 0, 0, 1, 0, 0];
+const FUNCTIONS_IN_TERM: [u8; 11] = [0, 0, 0, 0, 0, 0, 0, 0, 1, 0, 0];
 
-const TERMS_IN_TERM: [usize; 11] = [0, 0, 1, 1, 2, 2, 2, 3, 1, 1, 1];
+const TERMS_IN_TERM: [u8; 11] = [0, 0, 1, 1, 2, 2, 2, 3, 1, 1, 1];
 
 pub fn types_in_type(p: &[u8], at: usize) -> usize
     requires { ⌜ TypeField (now p) at ⌝ }
@@ -129,7 +129,7 @@ pub fn types_in_term(p: &[u8], at: usize) -> usize
     ensures { λ r. ⌜ r ≡ typesInTerm (now (p .entry)) at ⌝ }
 {
     let k = term_kind(p, at);
-    TYPES_IN_TERM[k]
+    octets::wide_index(octets::wide16(TYPES_IN_TERM[k]))
 }
 
 pub fn functions_in_term(p: &[u8], at: usize) -> usize
@@ -137,7 +137,7 @@ pub fn functions_in_term(p: &[u8], at: usize) -> usize
     ensures { λ r. ⌜ r ≡ functionsInTerm (now (p .entry)) at ⌝ }
 {
     let k = term_kind(p, at);
-    FUNCTIONS_IN_TERM[k]
+    octets::wide_index(octets::wide16(FUNCTIONS_IN_TERM[k]))
 }
 
 pub fn terms_in_term(p: &[u8], at: usize) -> usize
@@ -148,7 +148,7 @@ pub fn terms_in_term(p: &[u8], at: usize) -> usize
     if k == 8 {
         return call_ancillae(p, at) + 1;
     }
-    TERMS_IN_TERM[k]
+    octets::wide_index(octets::wide16(TERMS_IN_TERM[k]))
 }
 
 // Where a term's references to terms start.

@@ -2,13 +2,13 @@
 ghost use mathlib.Core.Path.{_≡_};
 ghost use lib.ListN.{length};
 ghost use Rattle.rules.specs.Ty.{isUnit, sameTy};
-ghost use Rattle.types.specs.Codes.{treeIn, Sources, Known};
+ghost use Rattle.types.specs.Codes.{code, treeIn, Sources, Known};
 use crate::codes;
 use crate::codes::Code;
 use crate::shapes;
 
 // Is the type exactly unit?
-pub fn is_unit(p: &[u8], types: &[u16], ws: &[u8], top: u16, c: Code) -> bool
+pub fn is_unit(p: &[u8], types: &[u16], ws: &[u8], top: u32, c: Code) -> bool
     requires { ⌜ Sources (now p) (now types) (now ws) top ⌝ }
     requires { ⌜ Known (length (now types)) top c ⌝ }
     ensures { λ r. ⌜ r ≡ isUnit (treeIn (now (p .entry)) (now (types .entry)) (now (ws .entry)) c) ⌝ }
@@ -18,11 +18,58 @@ pub fn is_unit(p: &[u8], types: &[u16], ws: &[u8], top: u16, c: Code) -> bool
 }
 
 // Are the types equal? At most as many nodes are looked at as the smaller tree has; of one code, none.
-pub fn same(p: &[u8], types: &[u16], ws: &[u8], top: u16, c: Code, d: Code) -> bool
+pub fn same(p: &[u8], types: &[u16], ws: &[u8], top: u32, c: Code, d: Code) -> bool
     requires { ⌜ Sources (now p) (now types) (now ws) top ⌝ }
     requires { ⌜ Known (length (now types)) top c × Known (length (now types)) top d ⌝ }
     ensures { λ r. ⌜ r ≡ sameTy (treeIn (now (p .entry)) (now (types .entry)) (now (ws .entry)) c) (treeIn (now (p .entry)) (now (types .entry)) (now (ws .entry)) d) ⌝ }
 {
+    alike(
+        p,
+        types,
+        ws,
+        top,
+        c.form,
+        c.depth,
+        c.at,
+        c.stands,
+        d.form,
+        d.depth,
+        d.at,
+        d.stands,
+    )
+}
+
+// The same of codes in parts: numbers go from call to call in registers, where a struct would be copied.
+fn alike(
+    p: &[u8],
+    types: &[u16],
+    ws: &[u8],
+    top: u32,
+    form: u8,
+    depth: u8,
+    at: u16,
+    stands: u16,
+    form2: u8,
+    depth2: u8,
+    at2: u16,
+    stands2: u16,
+) -> bool
+    requires { ⌜ Sources (now p) (now types) (now ws) top ⌝ }
+    requires { ⌜ Known (length (now types)) top (code form depth at stands) × Known (length (now types)) top (code form2 depth2 at2 stands2) ⌝ }
+    ensures { λ r. ⌜ r ≡ sameTy (treeIn (now (p .entry)) (now (types .entry)) (now (ws .entry)) (code form depth at stands)) (treeIn (now (p .entry)) (now (types .entry)) (now (ws .entry)) (code form2 depth2 at2 stands2)) ⌝ }
+{
+    let c = Code {
+        form,
+        depth,
+        at,
+        stands,
+    };
+    let d = Code {
+        form: form2,
+        depth: depth2,
+        at: at2,
+        stands: stands2,
+    };
     if codes::identical(c, d) {
         return true;
     }
@@ -39,10 +86,49 @@ pub fn same(p: &[u8], types: &[u16], ws: &[u8], top: u16, c: Code, d: Code) -> b
         return v.variable == w.variable;
     }
     if kind == 3 {
-        return same(p, types, ws, top, v.first, w.first);
+        return alike(
+            p,
+            types,
+            ws,
+            top,
+            v.first.form,
+            v.first.depth,
+            v.first.at,
+            v.first.stands,
+            w.first.form,
+            w.first.depth,
+            w.first.at,
+            w.first.stands,
+        );
     }
-    if same(p, types, ws, top, v.first, w.first) {
-        return same(p, types, ws, top, v.second, w.second);
+    if alike(
+        p,
+        types,
+        ws,
+        top,
+        v.first.form,
+        v.first.depth,
+        v.first.at,
+        v.first.stands,
+        w.first.form,
+        w.first.depth,
+        w.first.at,
+        w.first.stands,
+    ) {
+        return alike(
+            p,
+            types,
+            ws,
+            top,
+            v.second.form,
+            v.second.depth,
+            v.second.at,
+            v.second.stands,
+            w.second.form,
+            w.second.depth,
+            w.second.at,
+            w.second.stands,
+        );
     }
     false
 }

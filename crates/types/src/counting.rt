@@ -31,7 +31,7 @@ pub fn add_nodes(
     types: &[u16],
     counts: &[u16],
     ws: &[u8],
-    top: u16,
+    top: u32,
     c: Code,
     n: u16,
 ) -> u16
@@ -68,7 +68,7 @@ pub fn add_nodes(
 }
 
 // How many nodes the type has.
-pub fn node_count(p: &[u8], types: &[u16], counts: &[u16], ws: &[u8], top: u16, c: Code) -> u16
+pub fn node_count(p: &[u8], types: &[u16], counts: &[u16], ws: &[u8], top: u32, c: Code) -> u16
     requires { ⌜ Sources (now p) (now types) (now ws) top ⌝ }
     requires { ⌜ Known (length (now types)) top c ⌝ }
     requires { ⌜ Counted (now p) (now types) (now counts) ⌝ }
@@ -78,7 +78,7 @@ pub fn node_count(p: &[u8], types: &[u16], counts: &[u16], ws: &[u8], top: u16, 
 }
 
 // Has the type as few nodes as section 1 allows?
-pub fn within_limit(p: &[u8], types: &[u16], counts: &[u16], ws: &[u8], top: u16, c: Code) -> bool
+pub fn within_limit(p: &[u8], types: &[u16], counts: &[u16], ws: &[u8], top: u32, c: Code) -> bool
     requires { ⌜ Sources (now p) (now types) (now ws) top ⌝ }
     requires { ⌜ Known (length (now types)) top c ⌝ }
     requires { ⌜ Counted (now p) (now types) (now counts) ⌝ }

@@ -1,5 +1,5 @@
 // New product nodes, for the types of pairs: no entry of the program need name them.
-ghost use Prim.Native.Nat.{_+_};
+ghost use Prim.Native.Nat.{_+_, _<_};
 ghost use lib.ListN.{length};
 ghost use Rattle.types.specs.Codes.{Room, Sources, Known};
 ghost use Rattle.types.specs.Counts.{Counted};
@@ -15,14 +15,14 @@ pub fn product(
     types: &[u16],
     counts: &[u16],
     ws: &mut [u8],
-    top: u16,
+    top: u32,
     left: Code,
     right: Code,
 ) -> bool
     requires { ⌜ Sources (now p) (now types) (now ws) top ⌝ }
     requires { ⌜ Known (length (now types)) top left × Known (length (now types)) top right ⌝ }
     requires { ⌜ Counted (now p) (now types) (now counts) ⌝ }
-    requires { ⌜ Room (now ws) (top + 1) ⌝ }
+    requires { ⌜ Room (now ws) (top + 1) × (top < 65536) ⌝ }
     ensures { λ r. ⌜ Made (now (p .entry)) (now (types .entry)) (now (ws .entry)) (now (ws .exit)) top left right r ⌝ }
 {
     let n = counting::add_nodes(p, types, counts, ws, top, left, 1);
@@ -30,6 +30,6 @@ pub fn product(
     if MAX_NODES < m {
         return false;
     }
-    nodes::put_node(ws, top, left, right, m);
+    nodes::put_node(ws, top as u16, left, right, m);
     true
 }

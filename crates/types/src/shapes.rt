@@ -97,7 +97,7 @@ fn product_shape(ws: &[u8], n: u16) -> Shape
 }
 
 // The node of a type.
-pub fn shape_of(p: &[u8], types: &[u16], ws: &[u8], top: u16, c: Code) -> Shape
+pub fn shape_of(p: &[u8], types: &[u16], ws: &[u8], top: u32, c: Code) -> Shape
     requires { ⌜ Sources (now p) (now types) (now ws) top ⌝ }
     requires { ⌜ Known (length (now types)) top c ⌝ }
     ensures { λ r. ⌜ Shaped (now (p .entry)) (now (types .entry)) (now (ws .entry)) top c r ⌝ }

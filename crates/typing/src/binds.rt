@@ -31,7 +31,7 @@ pub fn let_one(
     ws: &mut [u8],
     vars: &mut [u8],
     sc: Scope,
-    top: u16,
+    top: u32,
     t: u16,
     at: usize,
 ) -> Out
@@ -68,7 +68,7 @@ pub fn let_two(
     ws: &mut [u8],
     vars: &mut [u8],
     sc: Scope,
-    top: u16,
+    top: u32,
     t: u16,
     at: usize,
 ) -> Out
@@ -111,7 +111,7 @@ pub fn choose(
     ws: &mut [u8],
     vars: &mut [u8],
     sc: Scope,
-    top: u16,
+    top: u32,
     t: u16,
     at: usize,
 ) -> Out
@@ -165,7 +165,7 @@ fn branches(
     ws: &mut [u8],
     vars: &mut [u8],
     sc: Scope,
-    top: u16,
+    top: u32,
     t: u16,
     at: usize,
     uses: Uses,

@@ -22,7 +22,7 @@ fn arguments(
     ws: &mut [u8],
     vars: &mut [u8],
     sc: Scope,
-    top: u16,
+    top: u32,
     t: u16,
     at: usize,
     h: usize,
@@ -88,7 +88,7 @@ pub fn call(
     ws: &mut [u8],
     vars: &mut [u8],
     sc: Scope,
-    top: u16,
+    top: u32,
     t: u16,
     at: usize,
 ) -> Out

@@ -93,7 +93,7 @@ fn finish(
     p: &[u8],
     types: &[u16],
     ws: &[u8],
-    top: u16,
+    top: u32,
     at: usize,
     row: [u16; 8],
     code: Code,

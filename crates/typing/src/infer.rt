@@ -29,7 +29,7 @@ pub fn infer(
     ws: &mut [u8],
     vars: &mut [u8],
     sc: Scope,
-    top: u16,
+    top: u32,
     t: u16,
 ) -> Out
     requires { ⌜ Ready (termsIn (termIn (now p) (now types) (now terms) t)) (now p) (now types) (now terms) (now functions) (now nodes) (now ws) (now vars) sc top ⌝ }
@@ -89,7 +89,7 @@ pub fn demand(
     ws: &mut [u8],
     vars: &mut [u8],
     sc: Scope,
-    top: u16,
+    top: u32,
     part: u16,
     want: Code,
     answer: Code,
@@ -114,7 +114,7 @@ fn inject(
     ws: &mut [u8],
     vars: &mut [u8],
     sc: Scope,
-    top: u16,
+    top: u32,
     t: u16,
     at: usize,
     kind: u8,
@@ -175,7 +175,7 @@ fn pair(
     ws: &mut [u8],
     vars: &mut [u8],
     sc: Scope,
-    top: u16,
+    top: u32,
     t: u16,
     at: usize,
 ) -> Out
@@ -207,7 +207,7 @@ fn roll(
     ws: &mut [u8],
     vars: &mut [u8],
     sc: Scope,
-    top: u16,
+    top: u32,
     t: u16,
     at: usize,
 ) -> Out
@@ -251,7 +251,7 @@ fn unroll(
     ws: &mut [u8],
     vars: &mut [u8],
     sc: Scope,
-    top: u16,
+    top: u32,
     t: u16,
     at: usize,
 ) -> Out

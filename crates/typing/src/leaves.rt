@@ -18,7 +18,7 @@ pub fn offset(entries: &[u16], i: u16) -> usize
 }
 
 // Unit names no variable.
-pub fn unit(top: u16) -> Out
+pub fn unit(top: u32) -> Out
     ensures { λ r. ⌜ Bare top r ⌝ }
 {
     let code = types::codes::unit();

@@ -34,10 +34,10 @@ pub enum Status {
 // With the product nodes made so far.
 pub struct Out {
     pub status: Status,
-    pub top: u16,
+    pub top: u32,
 }
 
-pub fn refuse(top: u16, why: Fault) -> Out
+pub fn refuse(top: u32, why: Fault) -> Out
     ensures { λ r. ⌜ (r .status ≡ Refused why) × (r .top ≡ top) ⌝ }
 {
     Out {

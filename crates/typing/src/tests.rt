@@ -37,7 +37,7 @@ pub fn expect(p: &[u8], types: &[u16], ws: &[u8], out: Out, want: Code, answer: 
 }
 
 // Is variable i, of the code's type, used? If its type is exactly unit, it need not be.
-pub fn spent(p: &[u8], types: &[u16], ws: &[u8], top: u16, c: Code, i: u8, uses: Uses) -> bool
+pub fn spent(p: &[u8], types: &[u16], ws: &[u8], top: u32, c: Code, i: u8, uses: Uses) -> bool
     requires { ⌜ Sources (now p) (now types) (now ws) top ⌝ }
     requires { ⌜ Known (length (now types)) top c × (i < 32) ⌝ }
     ensures { λ r. ⌜ r ≡ spentBy (now (p .entry)) (now (types .entry)) (now (ws .entry)) c i uses ⌝ }
@@ -49,7 +49,7 @@ pub fn spent(p: &[u8], types: &[u16], ws: &[u8], top: u16, c: Code, i: u8, uses:
 }
 
 // A type, with the uses of another part besides.
-fn join(top: u16, f: Found, uses: Uses) -> Out
+fn join(top: u32, f: Found, uses: Uses) -> Out
     ensures { λ r. ⌜ (r .top ≡ top) × Joins f uses (r .status) ⌝ }
 {
     let code = f.code;
@@ -181,7 +181,7 @@ pub fn pair_up(
         Status::Typed(f) => {
             let made = types::products::product(p, types, nodes, ws, top, left.code, f.code);
             if made {
-                let code = types::codes::product(top);
+                let code = types::codes::product(top as u16);
                 let uses = f.uses;
                 return join(top + 1, Found { code, uses }, left.uses);
             }

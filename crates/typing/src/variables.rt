@@ -30,7 +30,7 @@ fn code_of(vars: &[u8], i: u8) -> Code
 }
 
 // A variable that may be named.
-fn named(vars: &[u8], top: u16, i: u8) -> Out
+fn named(vars: &[u8], top: u32, i: u8) -> Out
     requires { ⌜ (i < 32) × (variableBytes * 32 ≤ length (now vars)) ⌝ }
     ensures { λ r. ⌜ Reads (now (vars .entry)) top i r ⌝ }
 {
@@ -43,7 +43,7 @@ fn named(vars: &[u8], top: u16, i: u8) -> Out
 }
 
 // Variable i as a term: its type, unless it is not in scope, or barred.
-pub fn variable(vars: &[u8], sc: Scope, top: u16, t: u16, i: u8) -> Out
+pub fn variable(vars: &[u8], sc: Scope, top: u32, t: u16, i: u8) -> Out
     requires { ⌜ (sc .n ≤ 32) × (variableBytes * 32 ≤ length (now vars)) ⌝ }
     ensures { λ r. ⌜ Seen (now (vars .entry)) sc top t i r ⌝ }
 {
@@ -66,7 +66,7 @@ pub fn bind(
     ws: &[u8],
     vars: &mut [u8],
     sc: Scope,
-    top: u16,
+    top: u32,
     c: Code,
 ) -> Scope
     requires { ⌜ Scoped (now p) (now types) (now ws) (now vars) sc top ⌝ }

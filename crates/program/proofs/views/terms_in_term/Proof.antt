@@ -21,15 +21,18 @@ add-result c = omega (arith, call-room (c .before .before .before .before .pre) 
 returns : tie.Need-returns
 returns c = ap (λ n. n + 1) (c .call-ancillae .ensures) ∙ terms-in-call _ _ (sym (c .before .before .term-kind .ensures .0) ∙ c .before .if1 .taken)
 
-mul-result : tie.Need-mul-result
-mul-result c = search needs
+array-read-wide16 : tie.Need-array-read-wide16
+array-read-wide16 c = search needs
 
-array-read-result : tie.Need-array-read-result
-array-read-result c = search needs
+wide16-requires : tie.Need-wide16-requires
+wide16-requires c κs = search needs
+
+wide-index-requires : tie.Need-wide-index-requires
+wide-index-requires c κs = search needs
 
 returns-2 : tie.Need-returns-2
 unfolding termTerms
-returns-2 c = ap (λ k. getD termTerms k 0) (c .before .term-kind .ensures .0) ∙ terms-by-kind _ _ (λ e. c .if1 .left (c .before .term-kind .ensures .0 ∙ e))
+returns-2 c = c .wide-index .ensures .0 ∙ c .before .wide16 .ensures .0 ∙ ap (λ k. getD termTerms k 0) (c .before .before .before .term-kind .ensures .0) ∙ terms-by-kind _ _ (λ e. c .before .before .if1 .left (c .before .before .before .term-kind .ensures .0 ∙ e))
 
 pub terms-in-term-spec : {M : Type 1} → statement M
 terms-in-term-spec =
@@ -39,6 +42,7 @@ terms-in-term-spec =
     call-ancillae-requires
     add-result
     returns
-    mul-result
-    array-read-result
+    array-read-wide16
+    wide16-requires
+    wide-index-requires
     returns-2)

@@ -20,6 +20,9 @@ same-length c = search needs
 returns : tie.Need-returns
 returns c = let a = c .before .before .before .before .before .before .before .before .before .pre in made-old (a .0) (a .1 .0 .0) (a .1 .0 .1) (c .before .before .before .add-nodes .ensures) (c .before .add-nodes2 .ensures) (c .if1 .taken)
 
+cast-put-node : tie.Need-cast-put-node
+cast-put-node c = search needs
+
 put-node-requires : tie.Need-put-node-requires
 put-node-requires c κs = search needs
 
@@ -29,7 +32,7 @@ same-length-2 c = search needs
 returns-2 : tie.Need-returns-2
 returns-2 c = let a = c .before .before .before .before .before .before .before .before .before .before .before .before .before .pre in
     let g = c .before .before .before .before .before .before .before .before .before .before .before .before .before .good .1 .1 .1 .1 .1 in
-    made-new (a .0) (a .1 .0 .0) (a .1 .0 .1) (c .before .before .before .before .before .before .before .add-nodes .ensures) (c .before .before .before .before .before .add-nodes2 .ensures) (a .1 .1 .1)
+    made-new (a .0) (a .1 .0 .0) (a .1 .0 .1) (c .before .before .before .before .before .before .before .add-nodes .ensures) (c .before .before .before .before .before .add-nodes2 .ensures) (a .1 .1 .1 .0)
     (record { at = omega (arith, g .0); stands = omega (arith, g .0) })
     (record { at = omega (arith, g .1 .0); stands = omega (arith, g .1 .0) })
     (c .before .before .before .before .if1 .left) (c .before .before .put-node .ensures)
@@ -42,6 +45,7 @@ product-spec =
     add-nodes-requires-2
     same-length
     returns
+    cast-put-node
     put-node-requires
     same-length-2
     returns-2)

@@ -9,7 +9,11 @@ enum-known-status : tie.Need-enum-known-status
 enum-known-status c = search needs
 
 product-requires : tie.Need-product-requires
-product-requires c κs = (c .before .before .before .before .before .before .before .before .pre .0 .sources, ((c .before .before .before .before .before .before .before .before .pre .1 .0, c .before .before .before .before .before .before .before .before .pre .0 .known _ (c .before .before .status .given .1)), (c .before .before .before .before .before .before .before .before .pre .1 .1 .0, c .before .before .before .before .before .before .before .before .pre .1 .1 .1 .0)))
+product-requires c κs = let a = c .before .before .before .before .before .before .before .before .pre in
+    (a .0 .sources, ((a .1 .0, a .0 .known _ (c .before .before .status .given .1)), (a .1 .1 .0, (a .1 .1 .1 .0, omega (arith, a .1 .1 .1 .1)))))
+
+cast-product : tie.Need-cast-product
+cast-product c = search needs
 
 product-requires-2 : tie.Need-product-requires-2
 product-requires-2 c κs = search needs
@@ -47,6 +51,7 @@ pair-up-spec =
     (tie.spec
     enum-known-status
     product-requires
+    cast-product
     product-requires-2
     add-join
     join-requires
