@@ -21,7 +21,7 @@ use package.Rattle.calls.proofs.Book.Rows.{journal}
 use package.Rattle.calls.proofs.Book.Turn.{Keeps, keeps-writable, Agrees}
 use package.Rattle.calls.proofs.Book.List.{turn, resized-ready}
 use package.Rattle.calls.proofs.Journal.Buffers.{resized-length, resized-written, lastField-written}
-use package.Rattle.journal.proofs.Pastes.{length-pasted, pasted-behind}
+use package.Rattle.octets.proofs.Pastes.{length-pasted, pasted-behind}
 use package.Rattle.replay.specs.Scripts.{pick, openTag, convertTag, stepAt, givenOf, callOf, callsFrom}
 use package.Rattle.replay.specs.Lines.{line, lines}
 use package.Rattle.replay.specs.Playing.{Reply, played, malformed, tooWide, shortAnswers, cut, Next, halts, on, swept, leaves, roomFor, uncut, tested, Turn, unplayed, makes, turnOf, Result, ends, play, madeBy}
@@ -200,7 +200,7 @@ module _ (program s : List ℕ) (ws N : ℕ) where
         kept = B .kept;
         short = B .short;
         told = B .told ∙ ap (λ i. pasted (pasted A (7 * count) (line t)) i (lines ts)) (let q : 7 * (count + 1) ≡ 7 * count + length (line t) = omega arith in q)
-            ∙ pasted-behind A (7 * count) (line t) h (lines ts) (omega arith);
+            ∙ pasted-behind A (7 * count) (line t) h (lines ts);
         within = omega arith;
         front = ap (λ xs. c ∷ xs) (B .front) ∙ sym (ap (take (suc (length cs))) e);
         all = λ k q. (B .all k q .0 ∙ (let y : count + 1 + length cs ≡ count + suc (length cs) = omega arith in y), ap (λ xs. c ∷ xs) (B .all k q .1) ∙ sym e);

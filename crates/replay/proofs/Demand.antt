@@ -28,7 +28,7 @@ use package.Rattle.calls.proofs.Book.List.{runs}
 use package.Rattle.calls.proofs.Book.Rows.{journal, empty, standing-journal}
 use package.Rattle.calls.proofs.Book.Turn.{Keeps, written-keeps}
 use package.Rattle.calls.proofs.Journal.Buffers.{length-writeOut}
-use package.Rattle.journal.proofs.Pastes.{length-pasted, pasted-behind}
+use package.Rattle.octets.proofs.Pastes.{length-pasted, pasted-behind}
 use package.Rattle.replay.specs.Scripts.{pick, openTag, stepAt, givenOf}
 use package.Rattle.replay.specs.Lines.{line, lines}
 use package.Rattle.replay.specs.Playing.{Reply, tooWide, shortAnswers, replyOf, Next, halts, on, swept, roomFor, Result, play, madeBy, opened, begins, beginsAt, scan, plays, replayed, ReplayMeans}
@@ -123,7 +123,6 @@ module _ (program s J A W : List ℕ) (bytes : AreBytes s) where
       told-is =
           booking .told ∙ ap (λ i. pasted A₁ i (lines (callRun program cs xs .answers))) (let z : 7 * 1 ≡ 0 + length (line isOpen) = omega (arith, length-line isOpen) in z)
           ∙ pasted-behind A 0 (line isOpen) (omega (arith, length-line isOpen)) (lines (callRun program cs xs .answers))
-          (omega (arith, length-line isOpen, booking .within, A₁-long))
 
       booked : Booked program s J A (length W) (play (length s) program s (p .next) 1 J₁ A₁ W₁ .reply) (play (length s) program s (p .next) 1 J₁ A₁ W₁ .journal)
           (play (length s) program s (p .next) 1 J₁ A₁ W₁ .answers)
