@@ -1,0 +1,138 @@
+-- A length beyond the most that makes a difference changes no answer (specs/Capped): the workspace is held to what the fuel needs, the
+-- output to a value, which has at most 1,024 bytes.
+use Prim.Native.Nat.{ℕ, _≤_, _<_}
+use native.Mathlib.Omega.{arith}
+use mathlib.Core.Path.{_≡_, refl, sym, ap, ap₂, _∙_}
+use mathlib.Core.Bool.{Bool, true, false, cond}
+use mathlib.Core.List.{List}
+use lib.ListN.{length, take}
+use lib.Seq.{length-take-le}
+use lib.Dec.{leb}
+use borrow.Author.Tests.{le-leb, lt-leb, leb-true, leb-false}
+use package.Rattle.rules.specs.Limits.{fits, maxValueBytes, workspaceBase, workspacePerFuel}
+use package.Rattle.rules.specs.Val.{Val, size}
+use package.Rattle.rules.specs.Term.{Program}
+use package.Rattle.rules.specs.Run.{Res, ok, stop, stuck}
+use package.Rattle.rules.proofs.Numbers.{Ends, answer-ends}
+use package.Rattle.calls.specs.Answer.{Answer, accepted, refused, _>>=_, require}
+use package.Rattle.calls.specs.Load.{load}
+use package.Rattle.calls.specs.Values.{value, ancillae}
+use package.Rattle.calls.specs.Runs.{workspaceFor, prepared, Given, admit, Ran, ran, goes, returns, checkCall, forwardCall, backwardCall}
+use package.Rattle.calls.proofs.Answer.{refused≢accepted, accepted-inj, unbind, required}
+use package.Rattle.calls.proofs.Runs.Calls.{Direction, onward, back, directed}
+use package.Rattle.engine.specs.Runs.{runCall}
+use package.Rattle.batch.specs.Capped.{mostWorkspace, mostOutput, capped}
+
+----------------------------------------------------------------
+-- Lengths
+
+pub capped-most : (most n : ℕ) → capped most n ≤ most
+unfolding capped
+capped-most most n = by (leb n most) refl
+  where
+    by : (t : Bool) → leb n most ≡ t → cond t n most ≤ most
+    by true e = leb-true n most e
+    by false e = omega arith
+
+pub capped-low : (most n : ℕ) → n ≤ most → n ≡ capped most n
+unfolding capped
+capped-low most n h = sym (rw (le-leb n most h))
+
+pub capped-high : (most n : ℕ) → most < n → most ≡ capped most n
+unfolding capped
+capped-high most n h = sym (rw (lt-leb n most h))
+
+-- a buffer of the most is lent as far as the length brought down
+module _ (most n : ℕ) {k : ℕ} (e : k ≡ capped most n) (buffer : List ℕ) (h : most ≤ length buffer) where
+  pub lent-within : k ≤ length buffer
+  lent-within = omega (arith, e, capped-most most n)
+
+  pub lent-length : length (take k buffer) ≡ capped most n
+  lent-length = length-take-le k buffer lent-within ∙ e
+
+-- what is within the most is within a length exactly if it is within the length brought down
+leb-capped : (most k n : ℕ) → k ≤ most → leb k (capped most n) ≡ leb k n
+unfolding capped
+leb-capped most k n h = by (leb n most) refl
+  where
+    by : (t : Bool) → leb n most ≡ t → leb k (cond t n most) ≡ leb k n
+    by true e = refl
+    by false e = le-leb k most h ∙ sym (le-leb k n (omega (arith, leb-false n most e)))
+
+----------------------------------------------------------------
+-- The workspace
+
+most-enough : (fuel : ℕ) → fuel < 65536 → workspaceFor fuel ≤ mostWorkspace
+unfolding workspaceFor workspaceBase workspacePerFuel
+most-enough fuel h = omega arith
+
+pub prepared-capped : (ws fuel : ℕ) (program : List ℕ) → fuel < 65536 → prepared (capped mostWorkspace ws) fuel program ≡ prepared ws fuel program
+unfolding prepared
+prepared-capped ws fuel program h = ap (λ t. require t 1 0 >>= λ enough. load program) (leb-capped mostWorkspace (workspaceFor fuel) ws (most-enough fuel h))
+
+pub check-capped : (ws : ℕ) (program : List ℕ) → checkCall (capped mostWorkspace ws) program ≡ checkCall ws program
+unfolding checkCall
+check-capped ws program = ap (λ a. a >>= λ P. accepted tt) (prepared-capped ws 0 program (omega arith))
+
+----------------------------------------------------------------
+-- The output
+
+-- two ways to go on agree where they are gone
+go-on : {A B : Type 0} (x : Answer A) (f g : A → Answer B) → ((a : A) → x ≡ accepted a → f a ≡ g a) → (x >>= f) ≡ (x >>= g)
+unfolding _>>=_
+go-on (accepted a) f g h = h a refl
+go-on (refused n p) f g h = refl
+
+-- a value that a run answers fits
+ran-fits : (fuel : ℕ) (x : Res Val) (r : Ran) → Ends (λ w. fits w ≡ true) x → ran fuel x ≡ accepted r → size (r .value) ≤ mostOutput
+unfolding ran fits maxValueBytes
+ran-fits fuel (ok v left) r e a = omega (arith, leb-true (size v) 1024 (answer-ends e refl), ap (λ r. size (r .value)) (accepted-inj a))
+ran-fits fuel (stop n k) r e a = absurd (refused≢accepted a)
+ran-fits fuel stuck r e a = absurd (refused≢accepted a)
+
+module _ (D : Direction) (ws out fuel fn : ℕ) (program anc bytes : List ℕ) where
+  directed-capped : fuel < 65536 → directed D (capped mostWorkspace ws) (capped mostOutput out) fuel fn program anc bytes ≡ directed D ws out fuel fn program anc bytes
+  unfolding directed
+  directed-capped h =
+      ap (λ x. x >>= λ P. admit P fn (ancillae anc) (value bytes) (D .side) >>= λ a. ran fuel (D .run P a fuel) >>= λ r. require (leb (size (r .value)) (capped mostOutput out)) 17 0 >>= λ room. accepted r)
+      (prepared-capped ws fuel program h)
+      ∙ go-on (prepared ws fuel program) _ _ λ P p.
+      go-on (admit P fn (ancillae anc) (value bytes) (D .side)) _ _ λ a q.
+      go-on (ran fuel (D .run P a fuel)) _ _ λ r s.
+      ap (λ t. require t 17 0 >>= λ room. accepted r) (leb-capped mostOutput (size (r .value)) out (ran-fits fuel (D .run P a fuel) r (D .ends P a fuel) s))
+
+  directed-within : (r : Ran) → directed D ws out fuel fn program anc bytes ≡ accepted r → size (r .value) ≤ out
+  unfolding directed
+  directed-within r e =
+      let (P, p, e₁) = unbind (prepared ws fuel program) _ e in
+      let (a, q, e₂) = unbind (admit P fn (ancillae anc) (value bytes) (D .side)) _ e₁ in
+      let (r′, s, e₃) = unbind (ran fuel (D .run P a fuel)) _ e₂ in
+      let (room, t, e₄) = unbind (require (leb (size (r′ .value)) out) 17 0) _ e₃ in
+      omega (arith, leb-true (size (r′ .value)) out (required _ 17 0 t), ap (λ r. size (r .value)) (accepted-inj e₄))
+
+pub run-capped : (b : Bool) (ws out fuel fn : ℕ) (program anc bytes : List ℕ) → fuel < 65536
+    → runCall b (capped mostWorkspace ws) (capped mostOutput out) fuel fn program anc bytes ≡ runCall b ws out fuel fn program anc bytes
+unfolding runCall forwardCall backwardCall goes returns directed
+run-capped true ws out fuel fn program anc bytes h = directed-capped back ws out fuel fn program anc bytes h
+run-capped false ws out fuel fn program anc bytes h = directed-capped onward ws out fuel fn program anc bytes h
+
+-- an accepted value is within the output
+pub run-within : (b : Bool) (ws out fuel fn : ℕ) (program anc bytes : List ℕ) (r : Ran) → runCall b ws out fuel fn program anc bytes ≡ accepted r → size (r .value) ≤ out
+unfolding runCall forwardCall backwardCall goes returns directed
+run-within true ws out fuel fn program anc bytes r e = directed-within back ws out fuel fn program anc bytes r e
+run-within false ws out fuel fn program anc bytes r e = directed-within onward ws out fuel fn program anc bytes r e
+
+----------------------------------------------------------------
+-- Calls in what is lent
+
+pub check-lent : (ws : ℕ) {k : ℕ} → k ≡ capped mostWorkspace ws → (buffer : List ℕ) → mostWorkspace ≤ length buffer → (program : List ℕ)
+    → checkCall (length (take k buffer)) program ≡ checkCall ws program
+check-lent ws e buffer h program = ap (λ n. checkCall n program) (lent-length mostWorkspace ws e buffer h) ∙ check-capped ws program
+
+pub run-lent : (b : Bool) (ws out : ℕ) {k l : ℕ} → k ≡ capped mostWorkspace ws → l ≡ capped mostOutput out
+    → (buffer space : List ℕ) → mostWorkspace ≤ length buffer → mostOutput ≤ length space
+    → (fuel fn : ℕ) (program anc bytes : List ℕ) → fuel < 65536
+    → runCall b (length (take k buffer)) (length (take l space)) fuel fn program anc bytes ≡ runCall b ws out fuel fn program anc bytes
+run-lent b ws out e f buffer space h h′ fuel fn program anc bytes fuelled =
+    ap₂ (λ n m. runCall b n m fuel fn program anc bytes) (lent-length mostWorkspace ws e buffer h) (lent-length mostOutput out f space h′)
+    ∙ run-capped b ws out fuel fn program anc bytes fuelled

@@ -1,0 +1,54 @@
+use mathlib.Core.Path.{sym, ap, _∙_}
+use lib.ListN.{take}
+use lib.Seq.{length-take-le}
+use Rattle.lines.proofs.Writing.{wrote-as}
+use Rattle.wording.specs.Replies.{checkText}
+use Rattle.batch.specs.Capped.{mostWorkspace}
+use Rattle.batch.proofs.Capping.{lent-within, check-lent}
+use borrow.Author.Needs.{needs}
+use Rattle.batch.proofs.making.check.Statement.{statement}
+use Rattle.batch.proofs.making.check.Tie as tie
+
+least-requires : tie.Need-least-requires
+least-requires c κs = search needs
+
+slice-aggregate-check : tie.Need-slice-aggregate-check
+slice-aggregate-check c = let s = c .before .before .before .before .before in sym (length-take-le (s .args .call .program) (s .args .program .now) (s .pre .0))
+
+slice-relend-prefix-check : tie.Need-slice-relend-prefix-check
+slice-relend-prefix-check c = let s = c .before .before .before .before .before in lent-within mostWorkspace (s .args .call .workspace) (c .before .least .ensures) (s .args .workspace .now) (s .pre .1 .0)
+
+slice-aggregate-check-2 : tie.Need-slice-aggregate-check-2
+slice-aggregate-check-2 c = let s = c .before .before .before .before .before .before in
+    sym (length-take-le (c .before .before .least .result) (s .args .workspace .now) (lent-within mostWorkspace (s .args .call .workspace) (c .before .before .least .ensures) (s .args .workspace .now) (s .pre .1 .0)))
+
+check-requires : tie.Need-check-requires
+check-requires c κs = search needs
+
+check-line-requires : tie.Need-check-line-requires
+check-line-requires c κs = search needs
+
+same-length : tie.Need-same-length
+same-length c = search needs
+
+same-length-2 : tie.Need-same-length-2
+same-length-2 c = search needs
+
+returns : tie.Need-returns
+returns c = let s = c .before .before .before .before .before .before .before .before .before .before .before .before .before in
+    wrote-as (c .before .before .check-line .ensures)
+    (ap checkText (c .before .before .before .before .before .before .check .ensures .0 ∙ check-lent (s .args .call .workspace) (c .before .before .before .before .before .before .before .before .before .least .ensures) (s .args .workspace .now) (s .pre .1 .0) (take (s .args .call .program) (s .args .program .now))))
+
+pub check-spec : {M : Type 1} → statement M
+check-spec =
+    tie.close
+    (tie.spec
+    least-requires
+    slice-aggregate-check
+    slice-relend-prefix-check
+    slice-aggregate-check-2
+    check-requires
+    check-line-requires
+    same-length
+    same-length-2
+    returns)

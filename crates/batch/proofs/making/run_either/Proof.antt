@@ -1,0 +1,50 @@
+use mathlib.Core.Path.{sym, ap}
+use lib.ListN.{length}
+use Rattle.engine.specs.Runs.{runCall}
+use Rattle.batch.proofs.Telling.{means-as}
+use borrow.Author.Needs.{needs}
+use Rattle.batch.proofs.making.run_either.Statement.{statement}
+use Rattle.batch.proofs.making.run_either.Tie as tie
+
+backward-requires : tie.Need-backward-requires
+backward-requires c κs = search needs
+
+same-length : tie.Need-same-length
+same-length c = search needs
+
+same-length-2 : tie.Need-same-length-2
+same-length-2 c = search needs
+
+returns : tie.Need-returns
+unfolding runCall
+returns c = let a = c .before .before .before .before .before .before .before .before .before .before .before .before .before .args in
+    means-as (record { answer = c .before .before .before .before .backward .ensures .0; fills = c .before .before .before .before .backward .ensures .1 .0; clear = c .before .before .before .before .backward .ensures .1 .1 })
+    (ap (λ b. runCall b (length (a .workspace .now)) (length (a .output .now)) (a .fuel) (a .function) (a .program .now) (a .ancillae .now) (a .value .now)) (sym (c .before .before .before .before .before .before .before .if1 .taken)))
+
+forward-requires : tie.Need-forward-requires
+forward-requires c κs = search needs
+
+same-length-3 : tie.Need-same-length-3
+same-length-3 c = search needs
+
+same-length-4 : tie.Need-same-length-4
+same-length-4 c = search needs
+
+returns-2 : tie.Need-returns-2
+unfolding runCall
+returns-2 c = let a = c .before .before .before .before .before .before .before .before .before .before .before .before .before .args in
+    means-as (record { answer = c .before .before .before .before .forward .ensures .0; fills = c .before .before .before .before .forward .ensures .1 .0; clear = c .before .before .before .before .forward .ensures .1 .1 })
+    (ap (λ b. runCall b (length (a .workspace .now)) (length (a .output .now)) (a .fuel) (a .function) (a .program .now) (a .ancillae .now) (a .value .now)) (sym (c .before .before .before .before .before .before .before .if1 .left)))
+
+pub run-either-spec : {M : Type 1} → statement M
+run-either-spec =
+    tie.close
+    (tie.spec
+    backward-requires
+    same-length
+    same-length-2
+    returns
+    forward-requires
+    same-length-3
+    same-length-4
+    returns-2)

@@ -1,0 +1,153 @@
+use native.Mathlib.Omega.{arith}
+use mathlib.Core.Path.{sym, ap, subst}
+use Rattle.lines.specs.Parsed.{lineOf, Within}
+use Rattle.lines.proofs.Writing.{wrote-as}
+use Rattle.batch.specs.Answering.{answerTo}
+use borrow.Author.Needs.{needs}
+use Rattle.batch.proofs.replying.reply.Statement.{statement}
+use Rattle.batch.proofs.replying.reply.Tie as tie
+
+enum-known-parsed : tie.Need-enum-known-parsed
+enum-known-parsed c = search needs
+
+check-requires : tie.Need-check-requires
+check-requires c κs = let s = c .before .before .before .before .before .before .before .before .before .before .before in
+    let a = s .args in
+    (subst (λ q. Within q (a .program .now) (a .ancillae .now) (a .value .now)) (c .before .before .before .parsed .given .1) (s .pre .0), (s .pre .1 .0 .0, omega (arith, s .pre .1 .1)))
+
+enum-known-parsed-2 : tie.Need-enum-known-parsed-2
+enum-known-parsed-2 c = search needs
+
+run-requires : tie.Need-run-requires
+run-requires c κs = let s = c .before .before .before .before .before .before .before .before .before .before .before .before in
+    let a = s .args in
+    (subst (λ q. Within q (a .program .now) (a .ancillae .now) (a .value .now)) (c .before .before .before .before .parsed2 .given .1) (s .pre .0), (s .pre .1 .0, s .pre .1 .1))
+
+enum-told : tie.Need-enum-told
+enum-told c = search needs
+
+slice-aggregate-put : tie.Need-slice-aggregate-put
+slice-aggregate-put c = search needs
+
+put-requires : tie.Need-put-requires
+put-requires c κs = search needs
+
+enum-told-2 : tie.Need-enum-told-2
+enum-told-2 c = search needs
+
+slice-aggregate-put-2 : tie.Need-slice-aggregate-put-2
+slice-aggregate-put-2 c = search needs
+
+put-requires-2 : tie.Need-put-requires-2
+put-requires-2 c κs = search needs
+
+enum-known-parsed-3 : tie.Need-enum-known-parsed-3
+enum-known-parsed-3 c = search needs
+
+slice-aggregate-word-error : tie.Need-slice-aggregate-word-error
+slice-aggregate-word-error c = search needs
+
+word-error-requires : tie.Need-word-error-requires
+word-error-requires c κs = search needs
+
+enum-known-parsed-4 : tie.Need-enum-known-parsed-4
+enum-known-parsed-4 c = search needs
+
+slice-aggregate-word-error-2 : tie.Need-slice-aggregate-word-error-2
+slice-aggregate-word-error-2 c = search needs
+
+word-error-requires-2 : tie.Need-word-error-requires-2
+word-error-requires-2 c κs = search needs
+
+same-length : tie.Need-same-length
+same-length c = search needs
+
+same-length-2 : tie.Need-same-length-2
+same-length-2 c = search needs
+
+returns : tie.Need-returns
+unfolding answerTo
+returns c = let a = c .before .before .before .before .before .before .before .before .before .before .before .before .before .before .before .before .args in
+    wrote-as (c .before .before .before .before .check .ensures) (ap (λ q. answerTo (lineOf q (a .program .now) (a .ancillae .now) (a .value .now))) (sym (c .before .before .before .before .before .before .before .before .parsed .given .1)))
+
+same-length-3 : tie.Need-same-length-3
+same-length-3 c = search needs
+
+same-length-4 : tie.Need-same-length-4
+same-length-4 c = search needs
+
+same-length-5 : tie.Need-same-length-5
+same-length-5 c = search needs
+
+returns-2 : tie.Need-returns-2
+unfolding answerTo
+returns-2 c = let a = c .before .before .before .before .before .before .before .before .before .before .before .before .before .before .before .before .before .before .before .args in
+    wrote-as (c .before .before .before .before .before .before .run .ensures) (ap (λ q. answerTo (lineOf q (a .program .now) (a .ancillae .now) (a .value .now))) (sym (c .before .before .before .before .before .before .before .before .before .before .before .parsed2 .given .1)))
+
+same-length-6 : tie.Need-same-length-6
+same-length-6 c = search needs
+
+returns-3 : tie.Need-returns-3
+unfolding answerTo
+returns-3 c = let a = c .before .before .before .before .before .before .before .before .before .before .before .before .before .args in
+    wrote-as (c .before .before .put .ensures) (ap (λ q. answerTo (lineOf q (a .program .now) (a .ancillae .now) (a .value .now))) (sym (c .before .before .before .before .before .enum-told .given .1)))
+
+same-length-7 : tie.Need-same-length-7
+same-length-7 c = search needs
+
+returns-4 : tie.Need-returns-4
+unfolding answerTo
+returns-4 c = let a = c .before .before .before .before .before .before .before .before .before .before .before .before .before .args in
+    wrote-as (c .before .before .put2 .ensures) (ap (λ q. answerTo (lineOf q (a .program .now) (a .ancillae .now) (a .value .now))) (sym (c .before .before .before .before .before .enum-told2 .given .1)))
+
+same-length-8 : tie.Need-same-length-8
+same-length-8 c = search needs
+
+returns-5 : tie.Need-returns-5
+unfolding answerTo
+returns-5 c = let a = c .before .before .before .before .before .before .before .before .before .before .before .before .before .before .args in
+    wrote-as (c .before .before .word-error .ensures) (ap (λ q. answerTo (lineOf q (a .program .now) (a .ancillae .now) (a .value .now))) (sym (c .before .before .before .before .before .before .parsed3 .given .1)))
+
+same-length-9 : tie.Need-same-length-9
+same-length-9 c = search needs
+
+returns-6 : tie.Need-returns-6
+unfolding answerTo
+returns-6 c = let a = c .before .before .before .before .before .before .before .before .before .before .before .before .before .before .args in
+    wrote-as (c .before .before .word-error2 .ensures) (ap (λ q. answerTo (lineOf q (a .program .now) (a .ancillae .now) (a .value .now))) (sym (c .before .before .before .before .before .before .parsed4 .given .1)))
+
+pub reply-spec : {M : Type 1} → statement M
+reply-spec =
+    tie.close
+    (tie.spec
+    enum-known-parsed
+    check-requires
+    enum-known-parsed-2
+    run-requires
+    enum-told
+    slice-aggregate-put
+    put-requires
+    enum-told-2
+    slice-aggregate-put-2
+    put-requires-2
+    enum-known-parsed-3
+    slice-aggregate-word-error
+    word-error-requires
+    enum-known-parsed-4
+    slice-aggregate-word-error-2
+    word-error-requires-2
+    same-length
+    same-length-2
+    returns
+    same-length-3
+    same-length-4
+    same-length-5
+    returns-2
+    same-length-6
+    returns-3
+    same-length-7
+    returns-4
+    same-length-8
+    returns-5
+    same-length-9
+    returns-6)

@@ -1,0 +1,34 @@
+-- The line that answers a line: the answer of the call that it says, or what is wrong with it.
+use Prim.Native.Nat.{ℕ}
+use mathlib.Core.List.{List, _++_}
+use package.Rattle.rules.specs.Val.{encode}
+use package.Rattle.calls.specs.Answer.{Answer, accepted, refused}
+use package.Rattle.calls.specs.Runs.{Ran, checkCall}
+use package.Rattle.engine.specs.Runs.{runCall}
+use package.Rattle.lines.specs.Text.{text}
+use package.Rattle.lines.specs.Decimal.{decimalText}
+use package.Rattle.lines.specs.Calls.{Line, checkLine, runLine, noCall, wordCount, noNumber, noBytes, readLine}
+use package.Rattle.lines.specs.Answers.{valueLine, refusedLine}
+use package.Rattle.wording.specs.Replies.{checkText}
+
+-- the line that answers a run: its value and steps, or its refusal
+unfoldable pub ranText : Answer Ran → List ℕ
+ranText (accepted r) = valueLine (encode (r .value)) (r .steps)
+ranText (refused n p) = refusedLine n p
+
+-- what is wrong with a word; words count from 0, the call's name
+unfoldable pub wordError : ℕ → List ℕ → List ℕ
+wordError k what = text "error word " ++ decimalText k ++ what
+
+unfoldable pub answerTo : Line → List ℕ
+unfolding ranText wordError
+answerTo (checkLine ws p) = checkText (checkCall ws p)
+answerTo (runLine c) = ranText (runCall (c .backward) (c .workspace) (c .output) (c .fuel) (c .function) (c .program) (c .ancillae) (c .value))
+answerTo noCall = text "error no call of this name\n"
+answerTo wordCount = text "error too few or too many words\n"
+answerTo (noNumber k) = wordError k (text " is no number in its range\n")
+answerTo (noBytes k) = wordError k (text " is no bytes in hexadecimal\n")
+
+unfoldable pub answerLine : List ℕ → List ℕ
+unfolding answerTo
+answerLine line = answerTo (readLine line)

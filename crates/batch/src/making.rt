@@ -1,0 +1,123 @@
+// The calls that a line says, made in a workspace and an output of the lengths that it names, and answered by a line.
+use lines::calls::CheckCall;
+use lines::calls::RunCall;
+use rows::answers::RunAnswer;
+use wording::replies;
+ghost use mathlib.Core.Path.{_≡_};
+ghost use Prim.Native.Nat.{_+_, _*_, _≤_};
+ghost use lib.ListN.{length, take};
+ghost use Rattle.calls.specs.Runs.{checkCall};
+ghost use Rattle.engine.specs.Runs.{runCall, CallMeans};
+ghost use Rattle.lines.specs.Wrote.{Wrote};
+ghost use Rattle.wording.specs.Replies.{checkText};
+ghost use Rattle.batch.specs.Capped.{mostWorkspace, mostOutput, capped};
+ghost use Rattle.batch.specs.Answering.{ranText};
+
+// The workspace for the most fuel.
+const MOST_WORKSPACE: usize = 2129888;
+
+// The most bytes of a value.
+const MOST_OUTPUT: usize = 1024;
+
+// A length, at most `most`.
+fn least(n: usize, most: usize) -> usize
+    ensures { λ r. ⌜ r ≡ capped most n ⌝ }
+{
+    if n <= most {
+        return n;
+    }
+    most
+}
+
+// A check, made and answered.
+pub fn check(call: CheckCall, program: &[u8], workspace: &mut [u8], out: &mut [u8]) -> usize
+    requires { ⌜ call .program ≤ length (now program) ⌝ }
+    requires { ⌜ mostWorkspace ≤ length (now workspace) ⌝ }
+    requires { ⌜ 64 ≤ length (now out) ⌝ }
+    ensures { λ r. ⌜ Wrote (now (out .entry)) (now (out .exit)) 0 r (checkText (checkCall (call .workspace) (take (call .program) (now (program .entry))))) ⌝ }
+{
+    let n = call.program;
+    let ws = least(call.workspace, MOST_WORKSPACE);
+    let answer = engine::check(&program[..n], &mut workspace[..ws]);
+    replies::check_line(answer, out)
+}
+
+// A run in either direction.
+fn run_either(
+    backward: bool,
+    program: &[u8],
+    function: u16,
+    ancillae: &[u8],
+    value: &[u8],
+    fuel: u16,
+    workspace: &mut [u8],
+    output: &mut [u8],
+) -> RunAnswer
+    ensures { λ r. ⌜ CallMeans r (runCall backward (length (now (workspace .entry))) (length (now (output .entry))) fuel function (now (program .entry)) (now (ancillae .entry)) (now (value .entry))) (now (output .entry)) (now (output .exit)) (now (workspace .entry)) (now (workspace .exit)) ⌝ }
+{
+    if backward {
+        return engine::backward(program, function, ancillae, value, fuel, workspace, output);
+    }
+    engine::forward(program, function, ancillae, value, fuel, workspace, output)
+}
+
+// A run in a workspace and an output as they are lent, made and answered.
+fn run_lent(
+    backward: bool,
+    program: &[u8],
+    function: u16,
+    ancillae: &[u8],
+    value: &[u8],
+    fuel: u16,
+    workspace: &mut [u8],
+    output: &mut [u8],
+    out: &mut [u8],
+) -> usize
+    requires { ⌜ 2 * length (now output) + 64 ≤ length (now out) ⌝ }
+    ensures { λ r. ⌜ Wrote (now (out .entry)) (now (out .exit)) 0 r (ranText (runCall backward (length (now (workspace .entry))) (length (now (output .entry))) fuel function (now (program .entry)) (now (ancillae .entry)) (now (value .entry)))) ⌝ }
+{
+    let answer = run_either(
+        backward,
+        program,
+        function,
+        ancillae,
+        value,
+        fuel,
+        workspace,
+        output,
+    );
+    replies::run_line(answer, output, out)
+}
+
+// A run, made and answered.
+pub fn run(
+    call: RunCall,
+    program: &[u8],
+    ancillae: &[u8],
+    value: &[u8],
+    workspace: &mut [u8],
+    output: &mut [u8],
+    out: &mut [u8],
+) -> usize
+    requires { ⌜ (call .program ≤ length (now program)) × (call .ancillae ≤ length (now ancillae)) × (call .value ≤ length (now value)) ⌝ }
+    requires { ⌜ (mostWorkspace ≤ length (now workspace)) × (mostOutput ≤ length (now output)) ⌝ }
+    requires { ⌜ 2112 ≤ length (now out) ⌝ }
+    ensures { λ r. ⌜ Wrote (now (out .entry)) (now (out .exit)) 0 r (ranText (runCall (call .backward) (call .workspace) (call .output) (call .fuel) (call .function) (take (call .program) (now (program .entry))) (take (call .ancillae) (now (ancillae .entry))) (take (call .value) (now (value .entry))))) ⌝ }
+{
+    let p = call.program;
+    let a = call.ancillae;
+    let v = call.value;
+    let ws = least(call.workspace, MOST_WORKSPACE);
+    let len = least(call.output, MOST_OUTPUT);
+    run_lent(
+        call.backward,
+        &program[..p],
+        call.function,
+        &ancillae[..a],
+        &value[..v],
+        call.fuel,
+        &mut workspace[..ws],
+        &mut output[..len],
+        out,
+    )
+}

@@ -1,0 +1,46 @@
+// The line that answers what was read of a line: a call's answer, or what is wrong with the line.
+use crate::making;
+use lines::answers;
+use lines::calls::Parsed;
+use lines::decimal;
+ghost use Prim.Native.Nat.{_+_, _≤_};
+ghost use lib.ListN.{length};
+ghost use Rattle.lines.specs.Parsed.{lineOf, Within};
+ghost use Rattle.lines.specs.Wrote.{Wrote};
+ghost use Rattle.batch.specs.Capped.{mostWorkspace, mostOutput};
+ghost use Rattle.batch.specs.Answering.{wordError, answerTo};
+
+// What is wrong with word k.
+fn word_error(k: u8, what: &[u8], out: &mut [u8]) -> usize
+    requires { ⌜ length (now what) + 32 ≤ length (now out) ⌝ }
+    ensures { λ r. ⌜ Wrote (now (out .entry)) (now (out .exit)) 0 r (wordError k (now (what .entry))) ⌝ }
+{
+    let named = answers::put(b"error word ", out, 0);
+    let counted = decimal::put_number(k as u64, out, named);
+    answers::put(what, out, counted)
+}
+
+// The line that answers what was read, its byte strings at the starts of the buffers.
+pub fn reply(
+    parsed: Parsed,
+    program: &[u8],
+    ancillae: &[u8],
+    value: &[u8],
+    workspace: &mut [u8],
+    output: &mut [u8],
+    out: &mut [u8],
+) -> usize
+    requires { ⌜ Within parsed (now program) (now ancillae) (now value) ⌝ }
+    requires { ⌜ (mostWorkspace ≤ length (now workspace)) × (mostOutput ≤ length (now output)) ⌝ }
+    requires { ⌜ 2112 ≤ length (now out) ⌝ }
+    ensures { λ r. ⌜ Wrote (now (out .entry)) (now (out .exit)) 0 r (answerTo (lineOf parsed (now (program .entry)) (now (ancillae .entry)) (now (value .entry)))) ⌝ }
+{
+    match parsed {
+        Parsed::Checks(call) => making::check(call, program, workspace, out),
+        Parsed::Runs(call) => making::run(call, program, ancillae, value, workspace, output, out),
+        Parsed::NoCall => answers::put(b"error no call of this name\n", out, 0),
+        Parsed::WordCount => answers::put(b"error too few or too many words\n", out, 0),
+        Parsed::NoNumber(k) => word_error(k, b" is no number in its range\n", out),
+        Parsed::NoBytes(k) => word_error(k, b" is no bytes in hexadecimal\n", out),
+    }
+}
