@@ -1,10 +1,12 @@
 #!/usr/bin/env bash
-# Links the engine as a static library and holds it to the second evaluator: on the calls of tests/calls, on fresh random
-# calls, in time (printed, not judged) and in stack. The last line is 'N passed, M failed'; the exit status is 0 only if M is 0.
+# Links the engine as a static library and holds it to the second evaluator: on the calls of tests/calls, on fresh random calls and
+# lists of journal calls, on 26 weeks of a machine, in time (printed, not judged) and in stack. The last line is 'N passed,
+# M failed'; the exit status is 0 only if M is 0.
 set -euo pipefail
 cd "$(dirname "$0")"
 
 random_calls=100000
+random_lists=2000
 seed=$(date +%s)
 passed=0
 failed=0
@@ -30,6 +32,8 @@ part "static library" rt staticlib exports
 part "harness" cargo build --quiet --release --offline
 part "the calls of tests/calls" calls
 part "random calls, seed $seed" target/release/harness random "$seed" "$random_calls"
+part "lists of journal calls, seed $seed" target/release/harness lists "$seed" "$random_lists"
+part "26 weeks of a machine, seed $seed" target/release/harness months "$seed" 26 4
 part "time beside the second evaluator" target/release/harness bench
 part "stack of the deepest calls" target/release/harness stack
 

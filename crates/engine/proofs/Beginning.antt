@@ -12,9 +12,10 @@ use package.Rattle.rules.proofs.Typing.Tests.{leb-sound}
 use package.Rattle.calls.specs.Answer.{Answer, accepted, refused, _>>=_, require, cleared}
 use package.Rattle.calls.specs.Load.{load}
 use package.Rattle.calls.specs.Runs.{Ran, workspaceFor, prepared}
+use package.Rattle.calls.specs.Conversions.{Turned}
 use package.Rattle.types.specs.Codes.{nodeBytes}
 use package.Rattle.rows.proofs.Beginning.{enough-types}
-use package.Rattle.rows.specs.Answers.{runAnswer, summary}
+use package.Rattle.rows.specs.Answers.{runAnswer, summary, openAnswer, heldAnswer}
 use package.Rattle.rows.specs.Calls.{Later, accepts, refuses}
 use package.Rattle.rows.specs.declared.answers.RunAnswer.{RunAnswer}
 
@@ -49,6 +50,17 @@ pub cleared-summary : (a : Answer Ran) (ws : List ℕ) → cleared (summary a) w
 unfolding cleared
 cleared-summary (accepted r) ws = refl
 cleared-summary (refused n p) ws = refl
+
+-- nor what a journal's call holds
+pub cleared-held : (a : Answer Turned) (ws : List ℕ) → cleared (heldAnswer a) ws ≡ cleared a ws
+unfolding cleared
+cleared-held (accepted t) ws = refl
+cleared-held (refused n p) ws = refl
+
+pub cleared-opened : (a : Answer (List ℕ)) (ws : List ℕ) → cleared (openAnswer a) ws ≡ cleared a ws
+unfolding cleared
+cleared-opened (accepted j) ws = refl
+cleared-opened (refused n p) ws = refl
 
 -- what a run answers tells whether its workspace is cleared
 pub cleared-run : (r : RunAnswer) (a : Answer Ran) (ws : List ℕ) → runAnswer r ≡ summary a → Later (runAnswer r) → cleared a ws ≡ replicate (length ws) 0

@@ -5,3 +5,5 @@ pub mod Beginning
 pub mod Checks
 -- the calls forward and backward
 pub mod Directions
+-- the calls open, convert and rollback
+pub mod Turns

@@ -6,7 +6,9 @@ ghost use mathlib.Core.Path.{_≡_};
 ghost use lib.ListN.{length};
 ghost use Rattle.calls.specs.Answer.{cleared};
 ghost use Rattle.calls.specs.Runs.{checkCall, forwardCall, backwardCall, written};
-ghost use Rattle.rows.specs.Answers.{checkAnswer, runAnswer, summary};
+ghost use Rattle.calls.specs.Conversions.{openCall, convertCall, rollbackCall};
+ghost use Rattle.calls.specs.Book.{afterOpen, afterTurned};
+ghost use Rattle.rows.specs.Answers.{checkAnswer, runAnswer, summary, openAnswer, heldAnswer};
 ghost use Rattle.exports.specs.Told.{checkTold, runTold};
 
 fn check_told(answer: CheckAnswer) -> [u64; 4]
@@ -74,5 +76,58 @@ pub extern "C" fn corefun_backward(
     ensures clear { λ _. ⌜ now (workspace .exit) ≡ cleared (backwardCall (length (now (workspace .entry))) (length (now (output .entry))) fuel function (now (program .entry)) (now (ancillae .entry)) (now (value .entry))) (now (workspace .entry)) ⌝ }
 {
     let answer = engine::backward(program, function, ancillae, value, fuel, workspace, output);
+    *told = run_told(answer);
+}
+
+// Opens a journal with a record.
+#[no_mangle]
+pub extern "C" fn corefun_open(
+    program: &[u8],
+    record: &[u8],
+    workspace: &mut [u8],
+    journal: &mut [u8],
+    told: &mut [u64; 4],
+)
+    ensures answer { λ _. ⌜ now (told .exit) ≡ checkTold (openAnswer (openCall (length (now (workspace .entry))) (now (program .entry)) (now («record» .entry)) (length (now (journal .entry))))) ⌝ }
+    ensures keeps { λ _. ⌜ now (journal .exit) ≡ afterOpen (now (journal .entry)) (openCall (length (now (workspace .entry))) (now (program .entry)) (now («record» .entry)) (length (now (journal .entry)))) .journal ⌝ }
+    ensures clear { λ _. ⌜ now (workspace .exit) ≡ cleared (openCall (length (now (workspace .entry))) (now (program .entry)) (now («record» .entry)) (length (now (journal .entry)))) (now (workspace .entry)) ⌝ }
+{
+    let answer = engine::open(program, record, workspace, journal);
+    *told = check_told(answer);
+}
+
+// Converts the held record.
+#[no_mangle]
+pub extern "C" fn corefun_convert(
+    program: &[u8],
+    function: u16,
+    ancillae: &[u8],
+    fuel: u16,
+    workspace: &mut [u8],
+    journal: &mut [u8],
+    told: &mut [u64; 4],
+)
+    ensures answer { λ _. ⌜ now (told .exit) ≡ runTold (heldAnswer (convertCall (length (now (workspace .entry))) fuel function (now (program .entry)) (now (ancillae .entry)) (now (journal .entry)))) ⌝ }
+    ensures keeps { λ _. ⌜ now (journal .exit) ≡ afterTurned (now (journal .entry)) (convertCall (length (now (workspace .entry))) fuel function (now (program .entry)) (now (ancillae .entry)) (now (journal .entry))) .journal ⌝ }
+    ensures clear { λ _. ⌜ now (workspace .exit) ≡ cleared (convertCall (length (now (workspace .entry))) fuel function (now (program .entry)) (now (ancillae .entry)) (now (journal .entry))) (now (workspace .entry)) ⌝ }
+{
+    let answer = engine::convert(program, function, ancillae, fuel, workspace, journal);
+    *told = run_told(answer);
+}
+
+// Rolls back the newest conversion.
+#[no_mangle]
+pub extern "C" fn corefun_rollback(
+    program: &[u8],
+    fuel: u16,
+    workspace: &mut [u8],
+    journal: &mut [u8],
+    told: &mut [u64; 4],
+)
+    ensures answer { λ _. ⌜ now (told .exit) ≡ runTold (heldAnswer (rollbackCall (length (now (workspace .entry))) fuel (now (program .entry)) (now (journal .entry)))) ⌝ }
+    ensures keeps { λ _. ⌜ now (journal .exit) ≡ afterTurned (now (journal .entry)) (rollbackCall (length (now (workspace .entry))) fuel (now (program .entry)) (now (journal .entry))) .journal ⌝ }
+    ensures clear { λ _. ⌜ now (workspace .exit) ≡ cleared (rollbackCall (length (now (workspace .entry))) fuel (now (program .entry)) (now (journal .entry))) (now (workspace .entry)) ⌝ }
+{
+    let answer = engine::rollback(program, fuel, workspace, journal);
     *told = run_told(answer);
 }

@@ -3,7 +3,9 @@
 use crate::engine;
 use second::calls::{answer, Answer, Call};
 use second::lines::{read_call, write_answer, write_call};
+use second::make::lists::book_list;
 use second::make::Maker;
+use second::rng::Rng;
 use std::io::BufRead;
 
 /// How many calls were compared, and how many answers differ.
@@ -22,19 +24,24 @@ impl Tally {
         self.different += other.different;
     }
 
-    /// Compares the engine's answer, if the engine has such a call, with the one expected.
-    fn compare(&mut self, call: &Call, expected: &Answer) {
-        let Some(got) = engine::answer(call) else { return };
+    /// Compares the engine's answer with the one expected, and hands it back.
+    fn compare(&mut self, call: &Call, expected: &Answer) -> Option<Answer> {
+        let got = engine::answer(call);
+        let same = got.as_ref().is_ok_and(|got| got == expected);
+        let said = || got.as_ref().map_or_else(String::clone, write_answer);
+        self.count(same, || {
+            let (line, expected) = (write_call(call), write_answer(expected));
+            format!("{line}\n  engine: {}\n  second: {expected}", said())
+        });
+        got.ok()
+    }
+
+    pub fn count(&mut self, same: bool, said: impl Fn() -> String) {
         self.compared += 1;
-        let (got, same) = match got {
-            Ok(got) => (write_answer(&got), got == *expected),
-            Err(broken) => (broken, false),
-        };
         if !same {
             self.different += 1;
             if self.different <= SHOWN {
-                let (line, expected) = (write_call(call), write_answer(expected));
-                eprintln!("DIFFERS: {line}\n  engine: {got}\n  second: {expected}");
+                eprintln!("DIFFERS: {}", said());
             }
         }
     }
@@ -51,24 +58,60 @@ pub fn compare_lines(input: impl BufRead) -> Result<Tally, String> {
     Ok(tally)
 }
 
-/// Fresh random calls, shared out to the processors, each with a seed of its own.
+/// Fresh random calls, each alone.
 pub fn compare_random(seed: u64, count: usize) -> Tally {
-    let workers = std::thread::available_parallelism().map_or(1, |n| n.get());
-    let share = |worker: usize| count / workers + usize::from(worker < count % workers);
-    let work = |worker: usize| {
-        let mut tally = Tally::default();
-        let calls = Maker::new(seed + worker as u64).filter(engine::has);
-        for call in calls.take(share(worker)) {
+    shared_out(seed, count, |seed, count, tally| {
+        for call in Maker::new(seed).take(count) {
             tally.compare(&call, &answer(&call));
         }
-        tally
-    };
+    })
+}
+
+/// Fresh lists of journal calls. Each call gets the bytes that the engine itself left, and is held to the plain book.
+pub fn compare_lists(seed: u64, count: usize) -> Tally {
+    shared_out(seed, count, |seed, count, tally| {
+        let mut rng = Rng::new(seed);
+        for _ in 0..count {
+            let mut left: Option<Vec<u8>> = None;
+            for (mut call, expected) in book_list(&mut rng) {
+                let bytes = journal(&mut call);
+                if let Some(mut left) = left.take() {
+                    left.resize(bytes.len(), 0);
+                    *bytes = left;
+                }
+                let before = bytes.clone();
+                left = match tally.compare(&call, &expected) {
+                    Some(Answer::Opened { journal } | Answer::Held { journal, .. }) => Some(journal),
+                    _ => Some(before),
+                };
+            }
+        }
+    })
+}
+
+fn journal(call: &mut Call) -> &mut Vec<u8> {
+    match call {
+        Call::Open { journal, .. } | Call::Rollback { journal, .. } => journal,
+        Call::Convert(call) => &mut call.journal,
+        Call::Check { .. } | Call::Run(_) => unreachable!("calls that write no journal stand outside the list"),
+    }
+}
+
+/// Work of so many parts, shared out to the processors, each with a seed of its own.
+pub fn shared_out(seed: u64, count: usize, work: impl Fn(u64, usize, &mut Tally) + Sync) -> Tally {
+    let workers = std::thread::available_parallelism().map_or(1, |n| n.get());
+    let share = |worker: usize| count / workers + usize::from(worker < count % workers);
     std::thread::scope(|scope| {
         let work = &work;
         let started: Vec<_> = (0..workers)
             .map(|worker| {
                 let thread = std::thread::Builder::new().stack_size(crate::stack::ROOM);
-                thread.spawn_scoped(scope, move || work(worker)).expect("a thread starts")
+                let part = move || {
+                    let mut tally = Tally::default();
+                    work(seed + worker as u64, share(worker), &mut tally);
+                    tally
+                };
+                thread.spawn_scoped(scope, part).expect("a thread starts")
             })
             .collect();
         let mut all = Tally::default();

@@ -3,15 +3,20 @@
 mod bench;
 mod compare;
 mod engine;
+mod foreign;
+mod months;
 mod stack;
 
 use compare::Tally;
 use std::process::ExitCode;
 
 const USAGE: &str = "\
-usage: harness lines < CALLS         both answer each check, forward and backward call, and are compared
+usage: harness lines < CALLS         both answer each call, and are compared
        harness random SEED COUNT     the same on COUNT random calls
-       harness bench                 ns a step forward and backward, ns a term for check, as ratios
+       harness lists SEED COUNT      COUNT lists of journal calls, each on the bytes that the engine left
+       harness months SEED WEEKS STROKES
+                                     the months of a machine with STROKES a day, call by call
+       harness bench                 ns a step forward and backward, ns a term for check, us a journal call, as ratios
        harness stack                 the stack that the deepest calls need";
 
 fn main() -> ExitCode {
@@ -22,6 +27,11 @@ fn main() -> ExitCode {
         ["random", seed, count] => {
             number(seed).and_then(|seed| report(compare::compare_random(seed, number(count)? as usize)))
         }
+        ["lists", seed, count] => {
+            number(seed).and_then(|seed| report(compare::compare_lists(seed, number(count)? as usize)))
+        }
+        ["months", seed, weeks, strokes] => number(seed)
+            .and_then(|seed| months::compare_months(seed, number(weeks)? as usize, number(strokes)? as usize)),
         ["bench"] => bench::bench(),
         ["stack"] => stack::report(),
         ["deep", group, kilobytes] => number(group).and_then(|group| stack::deep(group, number(kilobytes)?)),

@@ -3,7 +3,7 @@
 
 use crate::engine;
 use second::bench::largest_program;
-use second::calls::{Call, Direction, RunCall};
+use second::calls::{answer, Answer, Call, ConvertCall, Direction, RunCall};
 use second::cases::cases;
 use second::draft::{case, inl, nat, roll, sum, unfold, unit_type, variable, Draft, Function, Term};
 use second::limits::{workspace, FUEL, VALUE_BYTES};
@@ -20,7 +20,7 @@ const LIMIT_KILOBYTES: u64 = 4 << 10;
 /// Stack is found to so many kilobytes.
 const EXACT_TO: u64 = 16;
 
-const GROUPS: [&str; 3] = ["check", "forward", "backward"];
+const GROUPS: [&str; 5] = ["check", "forward", "backward", "convert", "rollback"];
 
 pub fn report() -> Result<(), String> {
     for (group, name) in GROUPS.iter().enumerate() {
@@ -56,7 +56,7 @@ fn ends(group: usize, kilobytes: u64) -> bool {
 pub fn deep(group: u64, kilobytes: u64) -> Result<(), String> {
     let calls = deepest(group as usize);
     let thread = std::thread::Builder::new().stack_size((kilobytes << 10) as usize);
-    let work = move || calls.iter().all(|call| engine::answer(call).is_some());
+    let work = move || calls.iter().all(|call| engine::answer(call).is_ok());
     let answered = thread.spawn(work).map_err(|error| error.to_string())?.join();
     if answered.unwrap_or(false) {
         Ok(())
@@ -76,12 +76,40 @@ fn deepest(group: usize) -> Vec<Call> {
     }
     calls.push(run(&tested, Direction::Forward, &[], [&[2], &nat_bytes(501)[..]].concat()));
     calls.push(run(&tested, Direction::Backward, &[], nat_bytes(501)));
+    calls.extend(journal_calls(&library));
     calls.retain(|call| match call {
         Call::Check { .. } => group == 0,
         Call::Run(call) => group == if call.direction == Direction::Forward { 1 } else { 2 },
-        _ => false,
+        Call::Open { .. } => false,
+        Call::Convert(_) => group == 3,
+        Call::Rollback { .. } => group == 4,
     });
     calls
+}
+
+/// The deepest conversion, and its rollback.
+fn journal_calls(program: &[u8]) -> [Call; 2] {
+    let left = |call: &Call| match answer(call) {
+        Answer::Opened { journal } | Answer::Held { journal, .. } => journal,
+        other => panic!("a call that is accepted: {other:?}"),
+    };
+    let (room, program) = (workspace(FUEL), program.to_vec());
+    let open = Call::Open {
+        workspace: room,
+        program: program.clone(),
+        record: nat_bytes(255),
+        journal: vec![0; 2 * VALUE_BYTES],
+    };
+    let convert = Call::Convert(ConvertCall {
+        workspace: room,
+        fuel: FUEL,
+        function: 0,
+        program: program.clone(),
+        ancillae: nat_bytes(0),
+        journal: left(&open),
+    });
+    let rollback = Call::Rollback { workspace: room, fuel: FUEL, program, journal: left(&convert) };
+    [convert, rollback]
 }
 
 fn run(program: &[u8], direction: Direction, ancillae: &[u8], value: Vec<u8>) -> Call {

@@ -5,9 +5,11 @@ use second::calls::{answer, Call};
 use second::cases::cases;
 use second::lines::{read_call, write_answer, write_call};
 use second::make::{lists::book_list, Maker};
+use second::months::months;
 use second::rng::Rng;
 use second::tally::Tally;
 use std::io::{self, BufRead, BufWriter, Write};
+use std::path::Path;
 use std::process::ExitCode;
 
 const USAGE: &str = "\
@@ -15,6 +17,8 @@ usage: second answer < CALLS       one answer a line
        second cases                section 6's cases as calls, and each limit exactly and one past it
        second make SEED COUNT      COUNT random calls
        second book SEED COUNT      COUNT lists of calls, a line each: CALL = the plain book's ANSWER
+       second months SEED WEEKS STROKES FOLDER
+                                   the months of a machine, STROKES a day, as files: program, script, answers, journal
        second tally < CALLS        how often each answer is met, by call and kind of place
        second bench                time per step, per term and per journal call";
 
@@ -26,6 +30,7 @@ fn main() -> ExitCode {
         ["cases"] => write_calls(cases()),
         ["make", seed, count] => number(seed).and_then(|seed| make(seed, number(count)?)),
         ["book", seed, count] => number(seed).and_then(|seed| book(seed, number(count)?)),
+        ["months", seed, weeks, strokes, folder] => write_months(seed, weeks, strokes, Path::new(folder)),
         ["tally"] => tally(),
         ["bench"] => {
             bench();
@@ -73,6 +78,22 @@ fn book(seed: u64, count: u64) -> Result<(), String> {
         }
     }
     output.finish()
+}
+
+fn write_months(seed: &str, weeks: &str, strokes: &str, folder: &Path) -> Result<(), String> {
+    let made = months(number(seed)?, number(weeks)? as usize, number(strokes)? as usize);
+    let files = [
+        ("program", &made.program),
+        ("script", &made.script),
+        ("answers", &made.answers),
+        ("journal", &made.journal),
+    ];
+    for (name, bytes) in files {
+        let path = folder.join(name);
+        std::fs::write(&path, bytes).map_err(|error| format!("{}: {error}", path.display()))?;
+    }
+    println!("{}", made.tally.text());
+    Ok(())
 }
 
 fn tally() -> Result<(), String> {

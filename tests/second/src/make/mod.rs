@@ -8,6 +8,7 @@ mod isos;
 mod journals;
 pub mod lists;
 mod runs;
+pub mod scripts;
 mod story;
 mod terms;
 mod types;

@@ -1,0 +1,44 @@
+//! A journal that is opened, converted and rolled back, called from Rust. The program is the one of
+//! examples/programs/plus.txt, its bytes in a file.
+//!
+//! It prints an answer a line: ok JOURNAL, held LENGTH STEPS JOURNAL, or refused NUMBER PLACE.
+
+use corefun::{convert, open, rollback, workspace_bytes, Done, Refusal};
+
+const PLUS: u16 = 0;
+const FUEL: u16 = 28;
+
+fn main() -> Result<(), Box<dyn std::error::Error>> {
+    let file = std::env::args().nth(1).ok_or("usage: journal PROGRAM")?;
+    let program = std::fs::read(file)?;
+    let mut workspace = vec![0; workspace_bytes(FUEL)];
+    let mut journal = vec![0; 40];
+
+    match open(&program, &nat(3), &mut workspace, &mut journal) {
+        Ok(()) => println!("ok {}", hexadecimal(&journal)),
+        Err(refusal) => println!("refused {} {}", refusal.number, refusal.place),
+    }
+    let answer = convert(&program, PLUS, &nat(2), FUEL, &mut workspace, &mut journal);
+    print(answer, &journal);
+    let answer = rollback(&program, FUEL, &mut workspace, &mut journal);
+    print(answer, &journal);
+    let answer = rollback(&program, FUEL, &mut workspace, &mut journal);
+    print(answer, &journal);
+    Ok(())
+}
+
+/// Nat n is n times 04 02, then 04 01 00.
+fn nat(n: usize) -> Vec<u8> {
+    [&[4, 2].repeat(n)[..], &[4, 1, 0]].concat()
+}
+
+fn print(answer: Result<Done, Refusal>, journal: &[u8]) {
+    match answer {
+        Ok(done) => println!("held {} {} {}", done.length, done.steps, hexadecimal(journal)),
+        Err(refusal) => println!("refused {} {}", refusal.number, refusal.place),
+    }
+}
+
+fn hexadecimal(bytes: &[u8]) -> String {
+    bytes.iter().map(|byte| format!("{byte:02x}")).collect()
+}

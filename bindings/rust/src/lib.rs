@@ -1,0 +1,80 @@
+//! The CoreFun engine's calls as safe functions over its static library. Every call answers, whatever the bytes are: nothing
+//! panics, and a refusal leaves output and journal as they were. The deepest calls take 2.2 MB of stack.
+//!
+//! The program format, and what to do about each refusal: docs/USING.md.
+
+mod foreign;
+mod refusal;
+
+pub use refusal::Refusal;
+
+/// A value has at most so many bytes, so that an output of this length is never too short.
+pub const VALUE_BYTES: usize = 1024;
+
+/// What a run, a conversion or a rollback has done.
+#[derive(Clone, Copy, PartialEq, Eq, Debug)]
+pub struct Done {
+    /// Bytes of the value, which fills the output from its start or is now held in the journal.
+    pub length: usize,
+    pub steps: u32,
+}
+
+/// Bytes of workspace that a call with the given fuel needs; a call without fuel needs those of fuel 0.
+pub const fn workspace_bytes(fuel: u16) -> usize {
+    32_768 + 32 * fuel as usize
+}
+
+/// Is the program accepted?
+pub fn check(program: &[u8], workspace: &mut [u8]) -> Result<(), Refusal> {
+    foreign::check(program, workspace).map(|_| ())
+}
+
+/// Runs a function forward on a value, within so many steps.
+pub fn forward(
+    program: &[u8],
+    function: u16,
+    ancillae: &[u8],
+    value: &[u8],
+    fuel: u16,
+    workspace: &mut [u8],
+    output: &mut [u8],
+) -> Result<Done, Refusal> {
+    let run = foreign::Run { program, function, ancillae, value, fuel };
+    foreign::forward(&run, workspace, output)
+}
+
+/// Runs a function backward: the output becomes the input that the function carries to the value.
+pub fn backward(
+    program: &[u8],
+    function: u16,
+    ancillae: &[u8],
+    value: &[u8],
+    fuel: u16,
+    workspace: &mut [u8],
+    output: &mut [u8],
+) -> Result<Done, Refusal> {
+    let run = foreign::Run { program, function, ancillae, value, fuel };
+    foreign::backward(&run, workspace, output)
+}
+
+/// Opens a journal with a record: the buffer becomes the record's field and zeros.
+pub fn open(program: &[u8], record: &[u8], workspace: &mut [u8], journal: &mut [u8]) -> Result<(), Refusal> {
+    foreign::open(program, record, workspace, journal).map(|_| ())
+}
+
+/// Converts the held record by a function forward, and adds the conversion to those that stand.
+pub fn convert(
+    program: &[u8],
+    function: u16,
+    ancillae: &[u8],
+    fuel: u16,
+    workspace: &mut [u8],
+    journal: &mut [u8],
+) -> Result<Done, Refusal> {
+    foreign::convert(program, function, ancillae, fuel, workspace, journal)
+}
+
+/// Rolls the newest standing conversion back.
+pub fn rollback(program: &[u8], fuel: u16, workspace: &mut [u8], journal: &mut [u8]) -> Result<Done, Refusal> {
+    foreign::rollback(program, fuel, workspace, journal)
+}

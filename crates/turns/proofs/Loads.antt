@@ -1,0 +1,70 @@
+-- Laws of the rows of the program before those of the journal.
+use Prim.Native.Nat.{ℕ, _≤_}
+use mathlib.Core.Path.{_≡_, refl, sym, ap, subst, _∙_}
+use mathlib.Core.List.{List}
+use package.Rattle.rules.specs.Term.{Program}
+use package.Rattle.calls.specs.Answer.{Answer, accepted, refused, _>>=_}
+use package.Rattle.calls.specs.Load.{load}
+use package.Rattle.calls.specs.Conversions.{Turned}
+use package.Rattle.calls.specs.Book.{afterOpen, afterTurned}
+use package.Rattle.calls.proofs.Answer.{via, refused≢accepted}
+use package.Rattle.program.specs.declared.fields.Counts.{Counts}
+use package.Rattle.rows.specs.declared.answers.Refusal.{Refusal}
+use package.Rattle.rows.specs.declared.answers.CheckAnswer.{CheckAnswer}
+use package.Rattle.rows.specs.declared.answers.CheckAnswer.the-variants as checks
+use package.Rattle.rows.specs.declared.answers.RunAnswer.{RunAnswer}
+use package.Rattle.rows.specs.declared.answers.RunAnswer.the-variants as runs
+use package.Rattle.rows.specs.declared.preparing.Prepared.{Prepared}
+use package.Rattle.rows.specs.declared.preparing.Prepared.the-variants.{Ready, Refused}
+use package.Rattle.rows.specs.Answers.{numberOf, placeOf, checkAnswer, openAnswer, heldAnswer}
+use package.Rattle.rows.specs.Calls.{Later, refuses, preparedOf, Begins, PrepareMeans, CheckMeans}
+use package.Rattle.turns.specs.Turns.{OpenMeans, TurnMeans, inFronts}
+
+----------------------------------------------------------------
+-- Open
+
+-- what follows a part of which the kind alone counts
+kind-accepted : {A B : Type 0} (a : Answer A) (x : Answer B) → _≡_ {A = Answer (Unit {0})} (accepted tt) (a >>= λ u. accepted tt) → x ≡ (a >>= λ u. x)
+unfolding _>>=_
+kind-accepted (accepted u) x e = refl
+kind-accepted (refused n p) x e = absurd (refused≢accepted (sym e))
+
+kind-refused : {A B : Type 0} (a : Answer A) (x : Answer B) {n p : ℕ} → _≡_ {A = Answer (Unit {0})} (refused n p) (a >>= λ u. accepted tt) → refused n p ≡ (a >>= λ u. x)
+unfolding _>>=_
+kind-refused (accepted u) x e = absurd (refused≢accepted e)
+kind-refused (refused m q) x e = refused-same e
+  where
+    refused-same : {A B : Type 0} {n m p q : ℕ} → _≡_ {A = Answer A} (refused n p) (refused m q) → _≡_ {A = Answer B} (refused n p) (refused m q)
+    refused-same e = cc
+
+refused-open : {x : Answer (List ℕ)} (r : Refusal) (j : List ℕ) → refused (numberOf r) (placeOf r) ≡ x → 2 ≤ numberOf r → OpenMeans (checks.Refused r) x j j
+unfolding afterOpen
+refused-open r j e l = rw (← e) (record { answer = refl; later = refuses {n = numberOf r} l; journal = refl })
+
+-- a refusal that a workspace long enough lets stand is none of 1
+later-number : {A : Type 0} {n p : ℕ} → Later {A = A} (refused n p) → 2 ≤ n
+later-number (refuses l) = l
+
+module _ {xs : List ℕ} {v : CheckAnswer} (C : CheckMeans v xs) (x : Answer (List ℕ)) {j : List ℕ} where
+  pub open-ready : v ≡ checks.Accepted → {r : CheckAnswer} {j′ : List ℕ} → OpenMeans r x j j′ → OpenMeans r (load xs >>= λ P. x) j j′
+  open-ready e {r} {j′} O = subst (λ x. OpenMeans r x j j′) (kind-accepted (load xs) x (ap checkAnswer (sym e) ∙ C .answer)) O
+
+  pub open-refused : {r : Refusal} → v ≡ checks.Refused r → OpenMeans (checks.Refused r) (load xs >>= λ P. x) j j
+  open-refused {r} e = refused-open r j (kind-refused (load xs) x (ap checkAnswer (sym e) ∙ C .answer)) (later-number (subst (λ v. Later (checkAnswer v)) e (C .later)))
+
+----------------------------------------------------------------
+-- Convert and rollback
+
+refused-turn : {x : Answer Turned} (r : Refusal) (j : List ℕ) → x ≡ refused (numberOf r) (placeOf r) → 2 ≤ numberOf r → TurnMeans (runs.Refused r) x j j
+unfolding afterTurned
+refused-turn r j e l = rw e (record { answer = refl; later = refuses {n = numberOf r} l; journal = refl })
+
+module _ {xs types terms functions : List ℕ} {v : Prepared} (M : PrepareMeans v xs types terms functions) (turn : Program → Answer Turned) {j : List ℕ} where
+  pub turn-ready : {c : Counts} → v ≡ Ready c → {r : RunAnswer} {j′ : List ℕ} → TurnMeans r (turn (inFronts c xs types terms functions)) j j′ → TurnMeans r (load xs >>= turn) j j′
+  unfolding _>>=_
+  turn-ready e {r} {j′} T = subst (λ x. TurnMeans r x j j′) (sym (via _ (M .answer ∙ ap (λ v. preparedOf v xs types terms functions) e) refl)) T
+
+  pub turn-refused : {r : Refusal} → v ≡ Refused r → TurnMeans (runs.Refused r) (load xs >>= turn) j j
+  unfolding _>>=_
+  turn-refused {r} e =
+      refused-turn r j (ap (λ a. a >>= turn) (M .answer ∙ ap (λ v. preparedOf v xs types terms functions) e)) (subst (λ v. Begins v xs types terms functions) e (M .begins))

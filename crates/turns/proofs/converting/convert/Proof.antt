@@ -1,0 +1,58 @@
+use mathlib.Core.Path.{refl}
+use Rattle.turns.proofs.Converts.{stands-at, convert-malformed, convert-many}
+use borrow.Author.Needs.{needs}
+use Rattle.turns.proofs.converting.convert.Statement.{statement}
+use Rattle.turns.proofs.converting.convert.Tie as tie
+
+survey-requires : tie.Need-survey-requires
+survey-requires c κs = search needs
+
+enum-known-survey : tie.Need-enum-known-survey
+enum-known-survey c = search needs
+
+enum-told : tie.Need-enum-told
+enum-told c = search needs
+
+same-length : tie.Need-same-length
+same-length c = search needs
+
+returns : tie.Need-returns
+returns c = convert-malformed _ _ _ _ _ (c .before .before .survey .ensures) (c .enum-told .given .1)
+
+same-length-2 : tie.Need-same-length-2
+same-length-2 c = search needs
+
+returns-2 : tie.Need-returns-2
+returns-2 c = convert-many _ _ _ _ _ (stands-at (c .before .before .before .before .before .survey .ensures) (c .before .before .before .survey2 .given .1)) (c .if1 .taken)
+
+slice-aggregate-convert-held : tie.Need-slice-aggregate-convert-held
+slice-aggregate-convert-held c = search needs
+
+convert-held-requires : tie.Need-convert-held-requires
+convert-held-requires c κs = ((c .before .before .before .before .before .before .before .before .before .before .before .before .before .before .before .before .before .pre .0, c .before .before .before .before .before .before .before .before .before .before .before .before .before .before .before .before .before .pre .1), (stands-at (c .before .before .before .before .before .before .before .before .survey .ensures) (c .before .before .before .before .before .before .survey2 .given .1), (c .before .before .before .if1 .left, refl)))
+
+same-length-3 : tie.Need-same-length-3
+same-length-3 c = search needs
+
+same-length-4 : tie.Need-same-length-4
+same-length-4 c = search needs
+
+returns-3 : tie.Need-returns-3
+returns-3 c = search needs
+
+pub convert-spec : {M : Type 1} → statement M
+convert-spec =
+    tie.close
+    (tie.spec
+    survey-requires
+    enum-known-survey
+    enum-told
+    same-length
+    returns
+    same-length-2
+    returns-2
+    slice-aggregate-convert-held
+    convert-held-requires
+    same-length-3
+    same-length-4
+    returns-3)

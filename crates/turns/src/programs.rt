@@ -1,0 +1,159 @@
+// Open, convert and rollback for a program in bytes, in a workspace that is long enough and that is left as it comes: the rows of the
+// program (document 01, section 4), then those of the journal.
+use crate::converting;
+use crate::opening;
+use crate::returning;
+use program::fields::Counts;
+use rows::answers::CheckAnswer;
+use rows::answers::RunAnswer;
+use rows::preparing::Prepared;
+ghost use Prim.Native.Nat.{_*_, _≤_};
+ghost use lib.ListN.{length};
+ghost use Rattle.rules.specs.Limits.{maxTerms};
+ghost use Rattle.types.specs.Codes.{nodeBytes};
+ghost use Rattle.calls.specs.Runs.{workspaceFor};
+ghost use Rattle.rows.specs.Runs.{Fronts};
+ghost use Rattle.turns.specs.Turns.{openIn, convertOf, convertIn, rollbackOf, rollbackIn, OpenMeans, TurnMeans, inFronts};
+
+// Open: whether the program is accepted, then the record.
+pub fn open(program: &[u8], record: &[u8], workspace: &mut [u8], journal: &mut [u8]) -> CheckAnswer
+    requires { ⌜ nodeBytes * maxTerms ≤ length (now workspace) ⌝ }
+    ensures { λ r. ⌜ OpenMeans r (openIn (now (program .entry)) (now («record» .entry)) (length (now (journal .entry)))) (now (journal .entry)) (now (journal .exit)) ⌝ }
+{
+    let checked = rows::checking::check_program(program, workspace);
+    match checked {
+        CheckAnswer::Accepted => opening::open(record, journal),
+        CheckAnswer::Refused(refusal) => CheckAnswer::Refused(refusal),
+    }
+}
+
+// Convert, with the offsets of the entries at the fronts of buffers.
+fn convert_fronts(
+    program: &[u8],
+    counts: Counts,
+    types: &[u16],
+    terms: &[u16],
+    functions: &[u16],
+    function: u16,
+    ancillae: &[u8],
+    fuel: u16,
+    workspace: &mut [u8],
+    journal: &mut [u8],
+) -> RunAnswer
+    requires { ⌜ Fronts counts (now program) (now types) (now terms) (now functions) ⌝ }
+    requires { ⌜ workspaceFor fuel ≤ length (now workspace) ⌝ }
+    ensures { λ r. ⌜ TurnMeans r (convertOf (inFronts counts (now (program .entry)) (now (types .entry)) (now (terms .entry)) (now (functions .entry))) fuel function (now (ancillae .entry)) (now (journal .entry))) (now (journal .entry)) (now (journal .exit)) ⌝ }
+{
+    let i = counts.types;
+    let j = counts.terms;
+    let k = counts.functions;
+    converting::convert(
+        program,
+        &types[..i],
+        &terms[..j],
+        &functions[..k],
+        function,
+        ancillae,
+        fuel,
+        workspace,
+        journal,
+    )
+}
+
+// Convert: the rows of the program, then those of the journal, the call and the run.
+pub fn convert(
+    program: &[u8],
+    function: u16,
+    ancillae: &[u8],
+    fuel: u16,
+    workspace: &mut [u8],
+    journal: &mut [u8],
+) -> RunAnswer
+    requires { ⌜ workspaceFor fuel ≤ length (now workspace) ⌝ }
+    ensures { λ r. ⌜ TurnMeans r (convertIn (now (program .entry)) fuel function (now (ancillae .entry)) (now (journal .entry))) (now (journal .entry)) (now (journal .exit)) ⌝ }
+{
+    let mut types = [0u16; 256];
+    let mut terms = [0u16; 1024];
+    let mut functions = [0u16; 64];
+    let prepared = rows::preparing::prepare(
+        program,
+        &mut types,
+        &mut terms,
+        &mut functions,
+        workspace,
+    );
+    match prepared {
+        Prepared::Ready(counts) => convert_fronts(
+            program,
+            counts,
+            &types,
+            &terms,
+            &functions,
+            function,
+            ancillae,
+            fuel,
+            workspace,
+            journal,
+        ),
+        Prepared::Refused(refusal) => RunAnswer::Refused(refusal),
+    }
+}
+
+// Rollback, with the offsets of the entries at the fronts of buffers.
+fn rollback_fronts(
+    program: &[u8],
+    counts: Counts,
+    types: &[u16],
+    terms: &[u16],
+    functions: &[u16],
+    fuel: u16,
+    workspace: &mut [u8],
+    journal: &mut [u8],
+) -> RunAnswer
+    requires { ⌜ Fronts counts (now program) (now types) (now terms) (now functions) ⌝ }
+    requires { ⌜ workspaceFor fuel ≤ length (now workspace) ⌝ }
+    ensures { λ r. ⌜ TurnMeans r (rollbackOf (inFronts counts (now (program .entry)) (now (types .entry)) (now (terms .entry)) (now (functions .entry))) fuel (now (journal .entry))) (now (journal .entry)) (now (journal .exit)) ⌝ }
+{
+    let i = counts.types;
+    let j = counts.terms;
+    let k = counts.functions;
+    returning::rollback(
+        program,
+        &types[..i],
+        &terms[..j],
+        &functions[..k],
+        fuel,
+        workspace,
+        journal,
+    )
+}
+
+// Rollback: the rows of the program, then those of the journal, the call and the run.
+pub fn rollback(program: &[u8], fuel: u16, workspace: &mut [u8], journal: &mut [u8]) -> RunAnswer
+    requires { ⌜ workspaceFor fuel ≤ length (now workspace) ⌝ }
+    ensures { λ r. ⌜ TurnMeans r (rollbackIn (now (program .entry)) fuel (now (journal .entry))) (now (journal .entry)) (now (journal .exit)) ⌝ }
+{
+    let mut types = [0u16; 256];
+    let mut terms = [0u16; 1024];
+    let mut functions = [0u16; 64];
+    let prepared = rows::preparing::prepare(
+        program,
+        &mut types,
+        &mut terms,
+        &mut functions,
+        workspace,
+    );
+    match prepared {
+        Prepared::Ready(counts) => rollback_fronts(
+            program,
+            counts,
+            &types,
+            &terms,
+            &functions,
+            fuel,
+            workspace,
+            journal,
+        ),
+        Prepared::Refused(refusal) => RunAnswer::Refused(refusal),
+    }
+}

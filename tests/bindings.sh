@@ -1,0 +1,92 @@
+#!/usr/bin/env bash
+# Builds the examples of each binding over the static library, runs them, and compares their answers with the second evaluator's.
+# Without a C compiler the C examples are skipped, which counts neither way. The last line is 'N passed, M failed'; the exit
+# status is 0 only if M is 0.
+set -euo pipefail
+cd "$(dirname "$0")/.."
+
+passed=0
+failed=0
+scratch=$(mktemp -d)
+trap 'rm -rf "$scratch"' EXIT
+
+# part NAME COMMAND..
+part() {
+    local name=$1
+    shift
+    if "$@"; then
+        passed=$((passed + 1))
+        echo "$name: ok"
+    else
+        failed=$((failed + 1))
+        echo "$name: FAILED"
+    fi
+}
+
+# Written anew only where a source is younger, since it proves the crate again.
+library() {
+    local archive=target/staticlib/libexports.a
+    if [ ! -e "$archive" ] || [ -n "$(find crates crates.txt -newer "$archive" -print -quit)" ]; then
+        rt staticlib exports
+    fi
+}
+
+# The calls that both examples make, in the second evaluator's lines.
+plus_calls() {
+    local program two=04020402040100 three=040204020402040100 most=2129888
+    program=$(od -An -v -tx1 "$scratch/plus.cf" | tr -d ' \n')
+    echo "check $most $program"
+    echo "forward $most 1024 28 0 $program $two $three"
+    echo "forward $most 1024 27 0 $program $two $three"
+    echo "backward $most 1024 28 0 $program $two 04020402040204020402040100"
+    echo "backward $most 1024 28 1 $program - 03${three}0402${three}"
+}
+
+# The answers to the calls of the example `journal`, each on the journal that the one before left.
+journal_answers() {
+    local program two=04020402040100 three=040204020402040100 most=33664 journal answer zeros
+    program=$(od -An -v -tx1 "$scratch/plus.cf" | tr -d ' \n')
+    zeros=$(printf '00%.0s' {1..40})
+    answer=$("$second" answer <<< "open $most $program $three $zeros") && echo "$answer"
+    answer=$("$second" answer <<< "convert $most 28 0 $program $two ${answer##* }") && echo "$answer"
+    answer=$("$second" answer <<< "rollback $most 28 $program ${answer##* }") && echo "$answer"
+    answer=$("$second" answer <<< "rollback $most 28 $program ${answer##* }") && echo "$answer"
+}
+
+second=tests/second/target/release/second
+
+expect() {
+    examples/bytes.sh examples/programs/plus.txt > "$scratch/plus.cf" &&
+        cargo build --quiet --release --offline --manifest-path tests/second/Cargo.toml &&
+        plus_calls | "$second" answer > "$scratch/plus" &&
+        journal_answers > "$scratch/journal"
+}
+
+# c_example NAME
+c_example() {
+    "$compiler" -std=c99 -O2 -Wall -Wextra -pedantic -Werror -I include "examples/c/$1.c" target/staticlib/libexports.a -o "$scratch/$1-c" &&
+        "$scratch/$1-c" "$scratch/plus.cf" > "$scratch/got" &&
+        diff "$scratch/got" "$scratch/$1"
+}
+
+# rust_example NAME
+rust_example() {
+    cargo run --quiet --release --offline --manifest-path bindings/rust/Cargo.toml --example "$1" "$scratch/plus.cf" > "$scratch/got" &&
+        diff "$scratch/got" "$scratch/$1"
+}
+
+part "static library" library
+part "the second evaluator's answers" expect
+compiler=$(command -v cc || command -v gcc || command -v clang || true)
+for name in plus journal; do
+    if [ -n "$compiler" ]; then
+        part "C example $name" c_example "$name"
+    else
+        echo "C example $name: SKIPPED, there is no C compiler here"
+    fi
+    part "Rust example $name" rust_example "$name"
+done
+part "Rust, a refusal's words are the engine's" cargo test --quiet --release --offline --manifest-path bindings/rust/Cargo.toml --lib
+
+echo "$passed passed, $failed failed"
+[ "$failed" -eq 0 ]

@@ -1,0 +1,198 @@
+//! The library's own functions (include/corefun.h), each called with the pointers and lengths of slices.
+
+use second::calls::{Direction, RunCall};
+
+/// What a call tells: number (0 accepted), place, length of the value, steps.
+pub type Told = [u64; 4];
+
+type RunFunction = unsafe extern "C" fn(
+    program: *const u8,
+    program_length: usize,
+    function: u16,
+    ancillae: *const u8,
+    ancillae_length: usize,
+    value: *const u8,
+    value_length: usize,
+    fuel: u16,
+    workspace: *mut u8,
+    workspace_length: usize,
+    output: *mut u8,
+    output_length: usize,
+    told: *mut Told,
+);
+
+extern "C" {
+    fn corefun_check(
+        program: *const u8,
+        program_length: usize,
+        workspace: *mut u8,
+        workspace_length: usize,
+        told: *mut Told,
+    );
+    fn corefun_forward(
+        program: *const u8,
+        program_length: usize,
+        function: u16,
+        ancillae: *const u8,
+        ancillae_length: usize,
+        value: *const u8,
+        value_length: usize,
+        fuel: u16,
+        workspace: *mut u8,
+        workspace_length: usize,
+        output: *mut u8,
+        output_length: usize,
+        told: *mut Told,
+    );
+    fn corefun_backward(
+        program: *const u8,
+        program_length: usize,
+        function: u16,
+        ancillae: *const u8,
+        ancillae_length: usize,
+        value: *const u8,
+        value_length: usize,
+        fuel: u16,
+        workspace: *mut u8,
+        workspace_length: usize,
+        output: *mut u8,
+        output_length: usize,
+        told: *mut Told,
+    );
+    fn corefun_open(
+        program: *const u8,
+        program_length: usize,
+        record: *const u8,
+        record_length: usize,
+        workspace: *mut u8,
+        workspace_length: usize,
+        journal: *mut u8,
+        journal_length: usize,
+        told: *mut Told,
+    );
+    fn corefun_convert(
+        program: *const u8,
+        program_length: usize,
+        function: u16,
+        ancillae: *const u8,
+        ancillae_length: usize,
+        fuel: u16,
+        workspace: *mut u8,
+        workspace_length: usize,
+        journal: *mut u8,
+        journal_length: usize,
+        told: *mut Told,
+    );
+    fn corefun_rollback(
+        program: *const u8,
+        program_length: usize,
+        fuel: u16,
+        workspace: *mut u8,
+        workspace_length: usize,
+        journal: *mut u8,
+        journal_length: usize,
+        told: *mut Told,
+    );
+}
+
+/// What no call tells, so that a call that tells nothing is found out.
+const NOTHING: Told = [u64::MAX; 4];
+
+// SAFETY, for every call below: each pointer and length are one slice's, and the borrows keep what is written apart from all else. The
+// calls have no requirement of their own.
+
+pub fn check(program: &[u8], workspace: &mut [u8]) -> Told {
+    let mut told = NOTHING;
+    unsafe {
+        corefun_check(program.as_ptr(), program.len(), workspace.as_mut_ptr(), workspace.len(), &mut told);
+    }
+    told
+}
+
+pub fn run(call: &RunCall, workspace: &mut [u8], output: &mut [u8]) -> Told {
+    let mut told = NOTHING;
+    let carry: RunFunction = match call.direction {
+        Direction::Forward => corefun_forward,
+        Direction::Backward => corefun_backward,
+    };
+    unsafe {
+        carry(
+            call.program.as_ptr(),
+            call.program.len(),
+            call.function,
+            call.ancillae.as_ptr(),
+            call.ancillae.len(),
+            call.value.as_ptr(),
+            call.value.len(),
+            call.fuel,
+            workspace.as_mut_ptr(),
+            workspace.len(),
+            output.as_mut_ptr(),
+            output.len(),
+            &mut told,
+        );
+    }
+    told
+}
+
+pub fn open(program: &[u8], record: &[u8], workspace: &mut [u8], journal: &mut [u8]) -> Told {
+    let mut told = NOTHING;
+    unsafe {
+        corefun_open(
+            program.as_ptr(),
+            program.len(),
+            record.as_ptr(),
+            record.len(),
+            workspace.as_mut_ptr(),
+            workspace.len(),
+            journal.as_mut_ptr(),
+            journal.len(),
+            &mut told,
+        );
+    }
+    told
+}
+
+pub fn convert(
+    program: &[u8],
+    function: u16,
+    ancillae: &[u8],
+    fuel: u16,
+    workspace: &mut [u8],
+    journal: &mut [u8],
+) -> Told {
+    let mut told = NOTHING;
+    unsafe {
+        corefun_convert(
+            program.as_ptr(),
+            program.len(),
+            function,
+            ancillae.as_ptr(),
+            ancillae.len(),
+            fuel,
+            workspace.as_mut_ptr(),
+            workspace.len(),
+            journal.as_mut_ptr(),
+            journal.len(),
+            &mut told,
+        );
+    }
+    told
+}
+
+pub fn rollback(program: &[u8], fuel: u16, workspace: &mut [u8], journal: &mut [u8]) -> Told {
+    let mut told = NOTHING;
+    unsafe {
+        corefun_rollback(
+            program.as_ptr(),
+            program.len(),
+            fuel,
+            workspace.as_mut_ptr(),
+            workspace.len(),
+            journal.as_mut_ptr(),
+            journal.len(),
+            &mut told,
+        );
+    }
+    told
+}

@@ -1,0 +1,55 @@
+//! The months of a machine, answered by the engine and by the plain book.
+
+use crate::engine;
+use second::calls::{Answer, Call, ConvertCall};
+use second::lines::write_hex;
+use second::months::{months, Months, BUFFER, WORKSPACE};
+use second::script::{line, Act, Step, LINE};
+use std::time::Instant;
+
+/// Every answer and the journal at the end are the book's.
+pub fn compare_months(seed: u64, weeks: usize, strokes: usize) -> Result<(), String> {
+    let clock = Instant::now();
+    let made = months(seed, weeks, strokes);
+    println!("{weeks} weeks, {}; by the book in {:.1} s", made.tally.text(), clock.elapsed().as_secs_f64());
+    let clock = Instant::now();
+    call_by_call(&made)?;
+    println!("call by call in {:.1} s", clock.elapsed().as_secs_f64());
+    Ok(())
+}
+
+/// Each call gets the bytes that the engine itself left, in the front part of the buffer that it names.
+fn call_by_call(made: &Months) -> Result<(), String> {
+    let mut journal = vec![0; BUFFER];
+    let mut rest = &made.script[..];
+    for (number, expected) in made.answers.chunks(LINE).enumerate() {
+        let (Step { buffer, act }, behind) = Step::read(rest).ok_or("the script ends early")?;
+        journal.truncate(buffer);
+        let answer = engine::answer(&on_bytes(act, &made.program, &journal))?;
+        if line(&answer) != expected {
+            let (got, expected) = (write_hex(&line(&answer)), write_hex(expected));
+            return Err(format!("call {number} is answered {got} and not {expected}"));
+        }
+        if let Answer::Opened { journal: left } | Answer::Held { journal: left, .. } = answer {
+            journal = left;
+        }
+        journal.resize(BUFFER, 0);
+        rest = behind;
+    }
+    if rest.is_empty() && journal == made.journal {
+        Ok(())
+    } else {
+        Err("the journal at the end differs".to_string())
+    }
+}
+
+fn on_bytes(act: Act, program: &[u8], journal: &[u8]) -> Call {
+    let (workspace, program, journal) = (WORKSPACE, program.to_vec(), journal.to_vec());
+    match act {
+        Act::Open { record } => Call::Open { workspace, program, record, journal },
+        Act::Convert { fuel, function, ancillae } => {
+            Call::Convert(ConvertCall { workspace, fuel, function, program, ancillae, journal })
+        }
+        Act::Rollback { fuel } => Call::Rollback { workspace, fuel, program, journal },
+    }
+}

@@ -1,0 +1,222 @@
+//! Scripts of journal calls, and playing one: each call gets the front part of one journal's buffer that it names, and its
+//! answer is a line of seven bytes. The answers and the journal are the plain book's.
+//!
+//! ```text
+//! 31 BUFFER(4) LENGTH(2) RECORD                        open
+//! 32 BUFFER(4) FUEL(2) FUNCTION(2) LENGTH(2) ANCILLAE  convert
+//! 33 BUFFER(4) FUEL(2)                                 rollback
+//! 41 0(2) 0(4)              opened
+//! 42 LENGTH(2) STEPS(4)     held
+//! 43 NUMBER(2) PLACE(4)     refused
+//! ```
+
+use crate::book::{Book, Circumstances};
+use crate::calls::Answer;
+use crate::journal::Journal;
+use crate::refusal::{Number, Refusal};
+
+const OPEN: u8 = 0x31;
+const CONVERT: u8 = 0x32;
+const ROLLBACK: u8 = 0x33;
+
+const OPENED: u8 = 0x41;
+const HELD: u8 = 0x42;
+const REFUSED: u8 = 0x43;
+
+/// Bytes of the line that answers a call.
+pub const LINE: usize = 7;
+
+#[derive(Clone, PartialEq, Eq, Debug)]
+pub enum Act {
+    Open { record: Vec<u8> },
+    Convert { fuel: u16, function: u16, ancillae: Vec<u8> },
+    Rollback { fuel: u16 },
+}
+
+/// A call of a script, in a buffer of so many bytes.
+#[derive(Clone, PartialEq, Eq, Debug)]
+pub struct Step {
+    pub buffer: usize,
+    pub act: Act,
+}
+
+impl Step {
+    pub fn write(&self, script: &mut Vec<u8>) {
+        let buffer = (self.buffer as u32).to_be_bytes();
+        match &self.act {
+            Act::Open { record } => {
+                script.push(OPEN);
+                script.extend(buffer);
+                write_bytes(script, record);
+            }
+            Act::Convert { fuel, function, ancillae } => {
+                script.push(CONVERT);
+                script.extend(buffer);
+                script.extend(fuel.to_be_bytes());
+                script.extend(function.to_be_bytes());
+                write_bytes(script, ancillae);
+            }
+            Act::Rollback { fuel } => {
+                script.push(ROLLBACK);
+                script.extend(buffer);
+                script.extend(fuel.to_be_bytes());
+            }
+        }
+    }
+
+    /// The call that the bytes begin with, and the bytes behind it.
+    pub fn read(bytes: &[u8]) -> Option<(Step, &[u8])> {
+        let (&[tag, a, b, c, d], rest) = bytes.split_first_chunk::<5>()?;
+        let buffer = u32::from_be_bytes([a, b, c, d]) as usize;
+        let (act, rest) = match tag {
+            OPEN => {
+                let (record, rest) = read_bytes(rest)?;
+                (Act::Open { record }, rest)
+            }
+            CONVERT => {
+                let (fuel, rest) = read_number(rest)?;
+                let (function, rest) = read_number(rest)?;
+                let (ancillae, rest) = read_bytes(rest)?;
+                (Act::Convert { fuel, function, ancillae }, rest)
+            }
+            ROLLBACK => {
+                let (fuel, rest) = read_number(rest)?;
+                (Act::Rollback { fuel }, rest)
+            }
+            _ => return None,
+        };
+        Some((Step { buffer, act }, rest))
+    }
+}
+
+fn write_bytes(script: &mut Vec<u8>, bytes: &[u8]) {
+    script.extend((bytes.len() as u16).to_be_bytes());
+    script.extend_from_slice(bytes);
+}
+
+fn read_number(bytes: &[u8]) -> Option<(u16, &[u8])> {
+    let (&number, rest) = bytes.split_first_chunk::<2>()?;
+    Some((u16::from_be_bytes(number), rest))
+}
+
+fn read_bytes(bytes: &[u8]) -> Option<(Vec<u8>, &[u8])> {
+    let (length, rest) = read_number(bytes)?;
+    let (bytes, rest) = rest.split_at_checked(length as usize)?;
+    Some((bytes.to_vec(), rest))
+}
+
+/// The line that answers a call.
+pub fn line(answer: &Answer) -> [u8; LINE] {
+    let (kind, short, long) = match answer {
+        Answer::Opened { .. } => (OPENED, 0, 0),
+        Answer::Held { length, steps, .. } => (HELD, *length as u16, *steps),
+        Answer::Refused(refusal) => (REFUSED, refusal.number as u16, refusal.place),
+        Answer::Accepted | Answer::Value { .. } => unreachable!("no answer of a journal call"),
+    };
+    let ([a, b], [c, d, e, f]) = (short.to_be_bytes(), long.to_be_bytes());
+    [kind, a, b, c, d, e, f]
+}
+
+/// The plain book, fed the calls of a script, with the journal as it stands.
+#[derive(Clone)]
+pub struct Player {
+    program: Vec<u8>,
+    workspace: usize,
+    book: Option<Book>,
+    /// The journal's fields, without the zeros behind them.
+    pub fields: Vec<u8>,
+}
+
+impl Player {
+    pub fn new(program: Vec<u8>, workspace: usize) -> Player {
+        Player { program, workspace, book: None, fields: Vec::new() }
+    }
+
+    /// The book's answer. The first call is an open, and the book begins with its record if it is accepted.
+    pub fn play(&mut self, step: &Step) -> Answer {
+        let fuel = match step.act {
+            Act::Open { .. } => 0,
+            Act::Convert { fuel, .. } | Act::Rollback { fuel } => fuel,
+        };
+        let given = Circumstances { workspace: self.workspace, fuel, program: &self.program, buffer: step.buffer };
+        let answer = match (&step.act, &mut self.book) {
+            (Act::Open { record }, Some(book)) => book.open(&given, record),
+            (Act::Open { record }, none) => {
+                let mut book = Book::begin(record);
+                let answer = book.open(&given, record);
+                *none = matches!(answer, Answer::Opened { .. }).then_some(book);
+                answer
+            }
+            (Act::Convert { function, ancillae, .. }, Some(book)) => book.convert(&given, *function, ancillae),
+            (Act::Rollback { .. }, Some(book)) => book.rollback(&given),
+            (_, None) => unreachable!("a script begins with an open that is accepted"),
+        };
+        if let Answer::Opened { journal } | Answer::Held { journal, .. } = &answer {
+            let length = Journal::read(journal).map_or(0, |journal| journal.length());
+            self.fields = journal[..length].to_vec();
+        }
+        answer
+    }
+
+    /// The journal in a buffer of so many bytes.
+    pub fn journal(&self, buffer: usize) -> Vec<u8> {
+        let mut journal = self.fields.clone();
+        journal.resize(buffer, 0);
+        journal
+    }
+}
+
+/// How the playing of a script ended; places are offsets in the script. The calls before such a place stand played.
+#[derive(Clone, Copy, PartialEq, Eq, Debug)]
+pub enum Ended {
+    /// All calls, so many.
+    Played(usize),
+    /// No call stands there, or no open at the start.
+    Malformed(usize),
+    /// The call's buffer is longer than the journal's.
+    TooWide(usize),
+    /// No room for the next answer.
+    ShortAnswers,
+    /// The first open was refused.
+    Unopened(Refusal),
+    /// The call's buffer would cut the journal's fields.
+    Cut(usize),
+}
+
+/// Plays a script; the buffers are changed as far as it is played. The workspace is zero after a call, unchanged after refusal 1.
+pub fn replay(
+    program: &[u8],
+    script: &[u8],
+    workspace: &mut [u8],
+    journal: &mut Vec<u8>,
+    answers: &mut [u8],
+) -> Ended {
+    let mut player = Player::new(program.to_vec(), workspace.len());
+    let mut rest = script;
+    let mut count = 0;
+    while count == 0 || !rest.is_empty() {
+        let at = script.len() - rest.len();
+        let Some((step, behind)) = Step::read(rest) else { return Ended::Malformed(at) };
+        if count == 0 && !matches!(step.act, Act::Open { .. }) {
+            return Ended::Malformed(at);
+        } else if step.buffer > journal.len() {
+            return Ended::TooWide(at);
+        } else if answers.len() < LINE * (count + 1) {
+            return Ended::ShortAnswers;
+        } else if step.buffer < player.fields.len() {
+            return Ended::Cut(at);
+        }
+        let answer = player.play(&step);
+        if !matches!(answer, Answer::Refused(refusal) if refusal.number == Number::Workspace) {
+            workspace.fill(0);
+        }
+        match answer {
+            Answer::Refused(refusal) if count == 0 => return Ended::Unopened(refusal),
+            answer => answers[LINE * count..][..LINE].copy_from_slice(&line(&answer)),
+        }
+        *journal = player.journal(journal.len());
+        count += 1;
+        rest = behind;
+    }
+    Ended::Played(count)
+}

@@ -1,0 +1,123 @@
+#!/usr/bin/env bash
+# Holds docs/USING.md to what it says: every listing is its file, every refusal's words are the engine's, the journal's bytes are the
+# second evaluator's, and every example, a command behind '$' in a console block, prints the lines below it. Examples are answered twice: by the second evaluator, a refusal by
+# its number and place, and by the program corefun, to the letter. The last line is 'N passed, M failed'; the exit status
+# is 0 only if M is 0.
+set -euo pipefail
+cd "$(dirname "$0")/.."
+
+root=$PWD
+page=docs/USING.md
+second=$root/tests/second/target/release/second
+# The workspace of the largest fuel.
+most=2129888
+passed=0
+failed=0
+scratch=$(mktemp -d)
+trap 'rm -rf "$scratch"' EXIT
+
+# verdict NAME STATUS
+verdict() {
+    if [ "$2" -eq 0 ]; then
+        passed=$((passed + 1))
+    else
+        failed=$((failed + 1))
+        echo "$1: FAILED"
+    fi
+}
+
+# listing FILE: the block of the page that says it is the file.
+listing() {
+    awk -v start="\`\`\`listing $1" '$0 == start { inside = 1; next } /^```$/ { inside = 0 } inside' "$page"
+}
+
+listings() {
+    local file status
+    while IFS= read -r file; do
+        status=0
+        diff <(listing "$file") "$file" || status=$?
+        verdict "listing $file" "$status"
+    done < <(sed -n 's/^```listing //p' "$page")
+}
+
+# The words of each refusal stand in the engine, in the order of their numbers.
+refusals() {
+    local status=0
+    diff <(awk -F' [|] ' '/^[|] [0-9]+ [|]/ { print $2 }' "$page") \
+        <(sed -n '/pub fn put_meaning/,$ s/.*b"\([^"]*\)".*/\1/p' crates/wording/src/lib.rt) || status=$?
+    verdict "the words of the refusals" "$status"
+}
+
+# The page's journal: opened with 3, then converted by plus 2 in a buffer of 40 bytes.
+journal() {
+    local program answer zeros status=0
+    program=$(examples/bytes.sh examples/programs/plus.txt | od -An -v -tx1 | tr -d ' \n')
+    zeros=$(printf '00%.0s' {1..40})
+    answer=$("$second" answer <<< "open $most $program 040204020402040100 $zeros")
+    answer=$("$second" answer <<< "convert $most 28 0 $program 04020402040100 ${answer##* }")
+    diff <(awk '$0 == "```hexadecimal" { inside = 1; next } /^```$/ { inside = 0 } inside' "$page" |
+        sed 's/#.*//' | tr -d ' \n' | tr A-F a-f; echo 0000000000000000) <(echo "${answer##* }") || status=$?
+    verdict "the journal's bytes" "$status"
+}
+
+# example WHO COMMAND EXPECTED
+example() {
+    local got status=0
+    got=$(cd "$scratch/$1" && PATH="$scratch/$1/bin:$PATH" bash -c "$2" 2>&1) || true
+    if [ "$1" = second ]; then set -- "$1" "$2" "$(sed 's/^\(refused [0-9]*\) at \([0-9]*\): .*/\1 \2/' <<< "$3")"; fi
+    diff <(echo "$got") <(echo "$3") || status=$?
+    verdict "$1: $2" "$status"
+}
+
+# examples WHO: all of the page's, one after another in one folder.
+examples() {
+    local line inside=no command= expected=
+    ln -s "$root/examples" "$scratch/$1/examples"
+    while IFS= read -r line; do
+        if [ "$inside" = no ]; then
+            if [ "$line" = '```console' ]; then inside=yes; fi
+        elif [ "$line" = '```' ] || [ "${line:0:2}" = '$ ' ]; then
+            if [ -n "$command" ]; then example "$1" "$command" "$expected"; fi
+            command=${line:2} expected=
+            if [ "$line" = '```' ]; then inside=no command=; fi
+        else
+            expected+=${expected:+$'\n'}$line
+        fi
+    done < "$page"
+}
+
+# The commands, each put to the second evaluator as a line.
+second_as_corefun() {
+    cat << END
+#!/usr/bin/env bash
+second=$second
+most=$most
+END
+    cat << 'END'
+program() { od -An -v -tx1 "$1" | tr -d ' \n'; }
+case $1 in
+    check) echo "check $most $(program "$2")" ;;
+    forward | backward) echo "$1 $most 1024 $4 $3 $(program "$2") $5 $6" ;;
+esac | "$second" answer
+END
+}
+
+cargo build --quiet --release --offline --manifest-path tests/second/Cargo.toml
+listings
+refusals
+journal
+
+mkdir -p "$scratch/second/bin" "$scratch/corefun/bin"
+second_as_corefun > "$scratch/second/bin/corefun"
+chmod +x "$scratch/second/bin/corefun"
+examples second
+
+if grep -q '^corefun:' crates.txt; then
+    ln -s "$root/target/bin/corefun" "$scratch/corefun/bin/corefun"
+    examples corefun
+else
+    echo "The examples by corefun: SKIPPED, there is no crate corefun"
+fi
+
+echo "$passed passed, $failed failed"
+[ "$failed" -eq 0 ]
