@@ -18,6 +18,7 @@ use package.Rattle.calls.specs.Answer.{Answer, accepted, refused, _>>=_, requir
 use package.Rattle.calls.specs.Load.{load}
 use package.Rattle.calls.specs.Values.{value, ancillae}
 use package.Rattle.calls.specs.Runs.{workspaceFor, prepared, Given, admit, Ran, ran, goes, returns, checkCall, forwardCall, backwardCall}
+use package.Rattle.calls.specs.Conversions.{openCall, convertCall, rollbackCall}
 use package.Rattle.calls.proofs.Answer.{refused≢accepted, accepted-inj, unbind, required}
 use package.Rattle.calls.proofs.Runs.Calls.{Direction, onward, back, directed}
 use package.Rattle.engine.specs.Runs.{runCall}
@@ -136,3 +137,25 @@ pub run-lent : (b : Bool) (ws out : ℕ) {k l : ℕ} → k ≡ capped mostWorksp
 run-lent b ws out e f buffer space h h′ fuel fn program anc bytes fuelled =
     ap₂ (λ n m. runCall b n m fuel fn program anc bytes) (lent-length mostWorkspace ws e buffer h) (lent-length mostOutput out f space h′)
     ∙ run-capped b ws out fuel fn program anc bytes fuelled
+
+-- the program comes after the workspace, in every call
+first-same : {A B : Type 0} {x y : Answer A} (f : A → Answer B) → x ≡ y → (x >>= f) ≡ (y >>= f)
+first-same f e = ap (λ x. x >>= f) e
+
+module _ (ws : ℕ) {k : ℕ} (e : k ≡ capped mostWorkspace ws) (buffer : List ℕ) (h : mostWorkspace ≤ length buffer) (program : List ℕ) where
+  prepared-lent : (fuel : ℕ) → fuel < 65536 → prepared (length (take k buffer)) fuel program ≡ prepared ws fuel program
+  prepared-lent fuel fuelled = ap (λ n. prepared n fuel program) (lent-length mostWorkspace ws e buffer h) ∙ prepared-capped ws fuel program fuelled
+
+  pub open-lent : (held : List ℕ) (n : ℕ) → openCall (length (take k buffer)) program held n ≡ openCall ws program held n
+  unfolding openCall
+  open-lent held n = first-same _ (prepared-lent 0 (omega arith))
+
+  pub convert-lent : (fuel fn : ℕ) (anc journal : List ℕ) → fuel < 65536
+      → convertCall (length (take k buffer)) fuel fn program anc journal ≡ convertCall ws fuel fn program anc journal
+  unfolding convertCall
+  convert-lent fuel fn anc journal fuelled = first-same _ (prepared-lent fuel fuelled)
+
+  pub rollback-lent : (fuel : ℕ) (journal : List ℕ) → fuel < 65536
+      → rollbackCall (length (take k buffer)) fuel program journal ≡ rollbackCall ws fuel program journal
+  unfolding rollbackCall
+  rollback-lent fuel journal fuelled = first-same _ (prepared-lent fuel fuelled)

@@ -1,4 +1,5 @@
--- A run's answer as a line: the value at the start of the output is the value that the run answers.
+-- A call's answer as a line: the value at the start of the output is the value that the run answers, the journal's buffer is the journal
+-- that the call leaves.
 use Prim.Native.Nat.{ℕ, _≤_}
 use native.Mathlib.Omega.{arith}
 use mathlib.Core.Path.{_≡_, refl, sym, ap, ap₂, subst, _∙_}
@@ -9,14 +10,17 @@ use package.Rattle.rules.specs.Val.{size, encode}
 use package.Rattle.rules.proofs.Val.{length-encode}
 use package.Rattle.calls.specs.Answer.{Answer, accepted, refused}
 use package.Rattle.calls.specs.Runs.{Ran, written}
+use package.Rattle.calls.specs.Conversions.{Turned}
+use package.Rattle.calls.specs.Book.{afterOpen, afterTurned}
 use package.Rattle.calls.proofs.Answer.{refused≢accepted, accepted-inj}
+use package.Rattle.rows.specs.declared.answers.CheckAnswer.{CheckAnswer}
 use package.Rattle.rows.specs.declared.answers.RunAnswer.{RunAnswer}
 use package.Rattle.rows.specs.declared.answers.RunAnswer.the-variants.{Ran as RanTo, Refused}
-use package.Rattle.rows.specs.Answers.{runAnswer, summary}
+use package.Rattle.rows.specs.Answers.{checkAnswer, runAnswer, summary, openAnswer, heldAnswer}
 use package.Rattle.engine.specs.Runs.{CallMeans}
 use package.Rattle.lines.specs.Answers.{valueLine}
-use package.Rattle.wording.specs.Replies.{runText, lengthOf}
-use package.Rattle.batch.specs.Answering.{ranText}
+use package.Rattle.wording.specs.Replies.{runText, openedText, heldText, lengthOf}
+use package.Rattle.batch.specs.Answering.{ranText, openText, turnText}
 
 -- the output starts with the value
 told-run : (x : Answer Ran) (out : List ℕ) → runText (summary x) (written x out) ≡ ranText x
@@ -36,3 +40,24 @@ length-within (Refused q) x n e h = omega arith
 -- the same call by another name
 pub means-as : {r : RunAnswer} {x y : Answer Ran} {out out′ ws ws′ : List ℕ} → CallMeans r x out out′ ws ws′ → x ≡ y → CallMeans r y out out′ ws ws′
 means-as {r} {x} {y} {out} {out′} {ws} {ws′} m e = subst (λ z. CallMeans r z out out′ ws ws′) e m
+
+----------------------------------------------------------------
+-- Calls on a journal
+
+told-open : (x : Answer (List ℕ)) (journal : List ℕ) → openedText (openAnswer x) (afterOpen journal x .journal) ≡ openText x
+unfolding openedText afterOpen openText
+told-open (accepted j) journal = refl
+told-open (refused n p) journal = refl
+
+pub tells-open : (r : CheckAnswer) (x : Answer (List ℕ)) (journal : List ℕ) {journal′ : List ℕ} → checkAnswer r ≡ openAnswer x → journal′ ≡ afterOpen journal x .journal
+    → openedText (checkAnswer r) journal′ ≡ openText x
+tells-open r x journal e f = ap₂ openedText e f ∙ told-open x journal
+
+told-turn : (x : Answer Turned) (journal : List ℕ) → heldText (heldAnswer x) (afterTurned journal x .journal) ≡ turnText x
+unfolding heldText afterTurned turnText
+told-turn (accepted t) journal = refl
+told-turn (refused n p) journal = refl
+
+pub tells-turn : (r : RunAnswer) (x : Answer Turned) (journal : List ℕ) {journal′ : List ℕ} → runAnswer r ≡ heldAnswer x → journal′ ≡ afterTurned journal x .journal
+    → heldText (runAnswer r) journal′ ≡ turnText x
+tells-turn r x journal e f = ap₂ heldText e f ∙ told-turn x journal

@@ -1,14 +1,16 @@
 -- The line that answers a line: the answer of the call that it says, or what is wrong with it.
 use Prim.Native.Nat.{ℕ}
 use mathlib.Core.List.{List, _++_}
+use lib.ListN.{length}
 use package.Rattle.rules.specs.Val.{encode}
 use package.Rattle.calls.specs.Answer.{Answer, accepted, refused}
 use package.Rattle.calls.specs.Runs.{Ran, checkCall}
+use package.Rattle.calls.specs.Conversions.{Turned, openCall, convertCall, rollbackCall}
 use package.Rattle.engine.specs.Runs.{runCall}
 use package.Rattle.lines.specs.Text.{text}
 use package.Rattle.lines.specs.Decimal.{decimalText}
-use package.Rattle.lines.specs.Calls.{Line, checkLine, runLine, noCall, wordCount, noNumber, noBytes, readLine}
-use package.Rattle.lines.specs.Answers.{valueLine, refusedLine}
+use package.Rattle.lines.specs.Calls.{Line, checkLine, runLine, openLine, convertLine, rollbackLine, noCall, wordCount, noNumber, noBytes, readLine}
+use package.Rattle.lines.specs.Answers.{valueLine, refusedLine, openedLine, heldLine}
 use package.Rattle.wording.specs.Replies.{checkText}
 
 -- the line that answers a run: its value and steps, or its refusal
@@ -16,14 +18,26 @@ unfoldable pub ranText : Answer Ran → List ℕ
 ranText (accepted r) = valueLine (encode (r .value)) (r .steps)
 ranText (refused n p) = refusedLine n p
 
+-- the line that answers an open: the journal; a convert or rollback: the held value's length, the steps and the journal
+unfoldable pub openText : Answer (List ℕ) → List ℕ
+openText (accepted journal) = openedLine journal
+openText (refused n p) = refusedLine n p
+
+unfoldable pub turnText : Answer Turned → List ℕ
+turnText (accepted t) = heldLine (t .held) (t .steps) (t .journal)
+turnText (refused n p) = refusedLine n p
+
 -- what is wrong with a word; words count from 0, the call's name
 unfoldable pub wordError : ℕ → List ℕ → List ℕ
 wordError k what = text "error word " ++ decimalText k ++ what
 
 unfoldable pub answerTo : Line → List ℕ
-unfolding ranText wordError
+unfolding ranText openText turnText wordError
 answerTo (checkLine ws p) = checkText (checkCall ws p)
 answerTo (runLine c) = ranText (runCall (c .backward) (c .workspace) (c .output) (c .fuel) (c .function) (c .program) (c .ancillae) (c .value))
+answerTo (openLine c) = openText (openCall (c .workspace) (c .program) (c .held) (length (c .journal)))
+answerTo (convertLine c) = turnText (convertCall (c .workspace) (c .fuel) (c .function) (c .program) (c .ancillae) (c .journal))
+answerTo (rollbackLine c) = turnText (rollbackCall (c .workspace) (c .fuel) (c .program) (c .journal))
 answerTo noCall = text "error no call of this name\n"
 answerTo wordCount = text "error too few or too many words\n"
 answerTo (noNumber k) = wordError k (text " is no number in its range\n")

@@ -3,6 +3,8 @@
 
 // the calls, made in the lengths that a line names
 pub mod making;
+// the calls on a journal
+pub mod keeping;
 // the line that answers what was read
 pub mod replying;
 
@@ -12,8 +14,8 @@ ghost use Rattle.lines.specs.Wrote.{Wrote};
 ghost use Rattle.batch.specs.Answering.{answerLine};
 
 // The line that answers a line, put at the start of `out`: where it ends. The line comes without the byte that ends it, the answer has
-// it. The byte strings of the line are put into `program`, `ancillae` and `value`; workspace and output are as long as makes a
-// difference to any call.
+// it. The byte strings of the line are put into `program`, `ancillae` and `value` (a journal into `value`); workspace and output are as
+// long as makes a difference to any call.
 pub fn answer(
     line: &[u8],
     program: &mut [u8],
@@ -28,7 +30,7 @@ pub fn answer(
     requires { ⌜ length (now line) ≤ 2 * length (now value) ⌝ }
     requires { ⌜ 2129888 ≤ length (now workspace) ⌝ }
     requires { ⌜ 1024 ≤ length (now output) ⌝ }
-    requires { ⌜ 2112 ≤ length (now out) ⌝ }
+    requires { ⌜ 2 * length (now value) + 2112 ≤ length (now out) ⌝ }
     ensures { λ r. ⌜ Wrote (now (out .entry)) (now (out .exit)) 0 r (answerLine (now (line .entry))) ⌝ }
 {
     let parsed = lines::calls::parse(line, program, ancillae, value);

@@ -14,13 +14,13 @@ ghost use Rattle.batch.specs.Capped.{mostWorkspace, mostOutput, capped};
 ghost use Rattle.batch.specs.Answering.{ranText};
 
 // The workspace for the most fuel.
-const MOST_WORKSPACE: usize = 2129888;
+pub const MOST_WORKSPACE: usize = 2129888;
 
 // The most bytes of a value.
 const MOST_OUTPUT: usize = 1024;
 
 // A length, at most `most`.
-fn least(n: usize, most: usize) -> usize
+pub fn least(n: usize, most: usize) -> usize
     ensures { λ r. ⌜ r ≡ capped most n ⌝ }
 {
     if n <= most {

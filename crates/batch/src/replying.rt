@@ -1,9 +1,10 @@
 // The line that answers what was read of a line: a call's answer, or what is wrong with the line.
+use crate::keeping;
 use crate::making;
 use lines::answers;
 use lines::calls::Parsed;
 use lines::decimal;
-ghost use Prim.Native.Nat.{_+_, _≤_};
+ghost use Prim.Native.Nat.{_+_, _*_, _≤_};
 ghost use lib.ListN.{length};
 ghost use Rattle.lines.specs.Parsed.{lineOf, Within};
 ghost use Rattle.lines.specs.Wrote.{Wrote};
@@ -20,24 +21,28 @@ fn word_error(k: u8, what: &[u8], out: &mut [u8]) -> usize
     answers::put(what, out, counted)
 }
 
-// The line that answers what was read, its byte strings at the starts of the buffers.
+// The line that answers what was read, its byte strings at the starts of the buffers. A call on a journal leaves the new journal where
+// the old one stood.
 pub fn reply(
     parsed: Parsed,
     program: &[u8],
     ancillae: &[u8],
-    value: &[u8],
+    value: &mut [u8],
     workspace: &mut [u8],
     output: &mut [u8],
     out: &mut [u8],
 ) -> usize
     requires { ⌜ Within parsed (now program) (now ancillae) (now value) ⌝ }
     requires { ⌜ (mostWorkspace ≤ length (now workspace)) × (mostOutput ≤ length (now output)) ⌝ }
-    requires { ⌜ 2112 ≤ length (now out) ⌝ }
+    requires { ⌜ 2 * length (now value) + 2112 ≤ length (now out) ⌝ }
     ensures { λ r. ⌜ Wrote (now (out .entry)) (now (out .exit)) 0 r (answerTo (lineOf parsed (now (program .entry)) (now (ancillae .entry)) (now (value .entry)))) ⌝ }
 {
     match parsed {
         Parsed::Checks(call) => making::check(call, program, workspace, out),
         Parsed::Runs(call) => making::run(call, program, ancillae, value, workspace, output, out),
+        Parsed::Opens(call) => keeping::open(call, program, ancillae, value, workspace, out),
+        Parsed::Converts(call) => keeping::convert(call, program, ancillae, value, workspace, out),
+        Parsed::RollsBack(call) => keeping::rollback(call, program, value, workspace, out),
         Parsed::NoCall => answers::put(b"error no call of this name\n", out, 0),
         Parsed::WordCount => answers::put(b"error too few or too many words\n", out, 0),
         Parsed::NoNumber(k) => word_error(k, b" is no number in its range\n", out),

@@ -7,7 +7,7 @@ use mathlib.Core.List.{List}
 use package.Rattle.lines.specs.Words.{wordAt}
 use package.Rattle.lines.specs.Decimal.{numberIn}
 use package.Rattle.lines.specs.Hexadecimal.{bytesIn}
-use package.Rattle.lines.specs.Calls.{Line, checkLine, runLine, noNumber, noBytes, withNumber, withBytes, mostLength, mostShort, readCheck, readRun}
+use package.Rattle.lines.specs.Calls.{Line, checkLine, runLine, openLine, convertLine, rollbackLine, noNumber, noBytes, withNumber, withBytes, mostLength, mostShort, readCheck, readRun, readOpen, readConvert, readRollback}
 
 module _ (line : List ℕ) where
   pub check-1 : numberIn mostLength (wordAt 1 line) ≡ none → noNumber 1 ≡ readCheck line
@@ -62,3 +62,91 @@ module _ (b : Bool) (line : List ℕ) {ws : ℕ} (e₁ : numberIn mostLength (wo
                 → runLine (record { backward = b; workspace = ws; output = out; fuel = fuel; function = fn; program = p; ancillae = anc; value = v }) ≡ readRun b line
             unfolding readRun withNumber withBytes
             run-all e = rw (e₁, e₂, e₃, e₄, e₅, e₆, e)
+
+-- what is read of an open so far, and the rest of the line
+module _ (line : List ℕ) where
+  pub open-1 : numberIn mostLength (wordAt 1 line) ≡ none → noNumber 1 ≡ readOpen line
+  unfolding readOpen withNumber
+  open-1 e = rw e
+
+  module _ {ws : ℕ} (e₁ : numberIn mostLength (wordAt 1 line) ≡ some ws) where
+    pub open-2 : bytesIn (wordAt 2 line) ≡ none → noBytes 2 ≡ readOpen line
+    unfolding readOpen withNumber withBytes
+    open-2 e = rw (e₁, e)
+
+    module _ {p : List ℕ} (e₂ : bytesIn (wordAt 2 line) ≡ some p) where
+      pub open-3 : bytesIn (wordAt 3 line) ≡ none → noBytes 3 ≡ readOpen line
+      unfolding readOpen withNumber withBytes
+      open-3 e = rw (e₁, e₂, e)
+
+      module _ {v : List ℕ} (e₃ : bytesIn (wordAt 3 line) ≡ some v) where
+        pub open-4 : bytesIn (wordAt 4 line) ≡ none → noBytes 4 ≡ readOpen line
+        unfolding readOpen withNumber withBytes
+        open-4 e = rw (e₁, e₂, e₃, e)
+
+        pub open-all : {j : List ℕ} → bytesIn (wordAt 4 line) ≡ some j
+            → openLine (record { workspace = ws; program = p; held = v; journal = j }) ≡ readOpen line
+        unfolding readOpen withNumber withBytes
+        open-all e = rw (e₁, e₂, e₃, e)
+
+-- what is read of a convert so far, and the rest of the line
+module _ (line : List ℕ) where
+  pub convert-1 : numberIn mostLength (wordAt 1 line) ≡ none → noNumber 1 ≡ readConvert line
+  unfolding readConvert withNumber
+  convert-1 e = rw e
+
+  module _ {ws : ℕ} (e₁ : numberIn mostLength (wordAt 1 line) ≡ some ws) where
+    pub convert-2 : numberIn mostShort (wordAt 2 line) ≡ none → noNumber 2 ≡ readConvert line
+    unfolding readConvert withNumber
+    convert-2 e = rw (e₁, e)
+
+    module _ {fuel : ℕ} (e₂ : numberIn mostShort (wordAt 2 line) ≡ some fuel) where
+      pub convert-3 : numberIn mostShort (wordAt 3 line) ≡ none → noNumber 3 ≡ readConvert line
+      unfolding readConvert withNumber
+      convert-3 e = rw (e₁, e₂, e)
+
+      module _ {fn : ℕ} (e₃ : numberIn mostShort (wordAt 3 line) ≡ some fn) where
+        pub convert-4 : bytesIn (wordAt 4 line) ≡ none → noBytes 4 ≡ readConvert line
+        unfolding readConvert withNumber withBytes
+        convert-4 e = rw (e₁, e₂, e₃, e)
+
+        module _ {p : List ℕ} (e₄ : bytesIn (wordAt 4 line) ≡ some p) where
+          pub convert-5 : bytesIn (wordAt 5 line) ≡ none → noBytes 5 ≡ readConvert line
+          unfolding readConvert withNumber withBytes
+          convert-5 e = rw (e₁, e₂, e₃, e₄, e)
+
+          module _ {anc : List ℕ} (e₅ : bytesIn (wordAt 5 line) ≡ some anc) where
+            pub convert-6 : bytesIn (wordAt 6 line) ≡ none → noBytes 6 ≡ readConvert line
+            unfolding readConvert withNumber withBytes
+            convert-6 e = rw (e₁, e₂, e₃, e₄, e₅, e)
+
+            pub convert-all : {j : List ℕ} → bytesIn (wordAt 6 line) ≡ some j
+                → convertLine (record { workspace = ws; fuel = fuel; function = fn; program = p; ancillae = anc; journal = j }) ≡ readConvert line
+            unfolding readConvert withNumber withBytes
+            convert-all e = rw (e₁, e₂, e₃, e₄, e₅, e)
+
+-- what is read of a rollback so far, and the rest of the line
+module _ (line : List ℕ) where
+  pub rollback-1 : numberIn mostLength (wordAt 1 line) ≡ none → noNumber 1 ≡ readRollback line
+  unfolding readRollback withNumber
+  rollback-1 e = rw e
+
+  module _ {ws : ℕ} (e₁ : numberIn mostLength (wordAt 1 line) ≡ some ws) where
+    pub rollback-2 : numberIn mostShort (wordAt 2 line) ≡ none → noNumber 2 ≡ readRollback line
+    unfolding readRollback withNumber
+    rollback-2 e = rw (e₁, e)
+
+    module _ {fuel : ℕ} (e₂ : numberIn mostShort (wordAt 2 line) ≡ some fuel) where
+      pub rollback-3 : bytesIn (wordAt 3 line) ≡ none → noBytes 3 ≡ readRollback line
+      unfolding readRollback withNumber withBytes
+      rollback-3 e = rw (e₁, e₂, e)
+
+      module _ {p : List ℕ} (e₃ : bytesIn (wordAt 3 line) ≡ some p) where
+        pub rollback-4 : bytesIn (wordAt 4 line) ≡ none → noBytes 4 ≡ readRollback line
+        unfolding readRollback withNumber withBytes
+        rollback-4 e = rw (e₁, e₂, e₃, e)
+
+        pub rollback-all : {j : List ℕ} → bytesIn (wordAt 4 line) ≡ some j
+            → rollbackLine (record { workspace = ws; fuel = fuel; program = p; journal = j }) ≡ readRollback line
+        unfolding readRollback withNumber withBytes
+        rollback-all e = rw (e₁, e₂, e₃, e)

@@ -16,14 +16,14 @@ use package.Rattle.lines.specs.Decimal.{numberIn}
 use package.Rattle.lines.specs.Hexadecimal.{bytesIn}
 use package.Rattle.lines.specs.Numbered.{numberOf, valueOf, Numbers}
 use package.Rattle.lines.specs.Decoded.{decodedOf, sizeOf, Decodes}
-use package.Rattle.lines.specs.Calls.{Line, checkLine, runLine, noCall, wordCount, noNumber, noBytes, withNumber, withBytes, mostLength, mostShort, readCheck, readRun, nameOf, ofLength, readNamed, readLine}
+use package.Rattle.lines.specs.Calls.{Line, checkLine, runLine, noCall, wordCount, noNumber, noBytes, withNumber, withBytes, mostLength, mostShort, readCheck, readRun, readOpen, readConvert, readRollback, nameOf, ofLength, readNamed, readLine}
 use package.Rattle.lines.specs.Parsed.{Parses}
 use package.Rattle.lines.specs.declared.decimal.Number.{Number}
 use package.Rattle.lines.specs.declared.decimal.Number.the-variants as number
 use package.Rattle.lines.specs.declared.hexadecimal.Decoded.{Decoded}
 use package.Rattle.lines.specs.declared.hexadecimal.Decoded.the-variants as decoded
 use package.Rattle.lines.specs.declared.calls.Name.{Name}
-use package.Rattle.lines.specs.declared.calls.Name.the-variants.{Check, Forward, Backward, Other}
+use package.Rattle.lines.specs.declared.calls.Name.the-variants.{Check, Forward, Backward, Open, Convert, Rollback, Other}
 use package.Rattle.lines.specs.declared.calls.Parsed.{Parsed}
 
 ----------------------------------------------------------------
@@ -101,9 +101,23 @@ module _ (w : List ℕ) where
   unfolding nameOf
   name-backward e f g = rw (e, f, g)
 
-  pub name-other : sameBytes w (text "check") ≡ false → sameBytes w (text "forward") ≡ false → sameBytes w (text "backward") ≡ false → Other ≡ nameOf w
-  unfolding nameOf
-  name-other e f g = rw (e, f, g)
+  module _ (e₁ : sameBytes w (text "check") ≡ false) (e₂ : sameBytes w (text "forward") ≡ false) (e₃ : sameBytes w (text "backward") ≡ false) where
+    pub name-open : sameBytes w (text "open") ≡ true → Open ≡ nameOf w
+    unfolding nameOf
+    name-open e = rw (e₁, e₂, e₃, e)
+
+    module _ (e₄ : sameBytes w (text "open") ≡ false) where
+      pub name-convert : sameBytes w (text "convert") ≡ true → Convert ≡ nameOf w
+      unfolding nameOf
+      name-convert e = rw (e₁, e₂, e₃, e₄, e)
+
+      pub name-rollback : sameBytes w (text "convert") ≡ false → sameBytes w (text "rollback") ≡ true → Rollback ≡ nameOf w
+      unfolding nameOf
+      name-rollback e f = rw (e₁, e₂, e₃, e₄, e, f)
+
+      pub name-other : sameBytes w (text "convert") ≡ false → sameBytes w (text "rollback") ≡ false → Other ≡ nameOf w
+      unfolding nameOf
+      name-other e f = rw (e₁, e₂, e₃, e₄, e, f)
 
 ----------------------------------------------------------------
 -- A line of a known name
@@ -143,3 +157,24 @@ module _ (line : List ℕ) where
   pub is-other : nameOf (wordAt 0 line) ≡ Other → noCall ≡ readLine line
   unfolding readNamed
   is-other e = sym (named Other e)
+
+  pub is-open : nameOf (wordAt 0 line) ≡ Open → ofLength (spaces line) 4 (readOpen line) ≡ readLine line
+  unfolding readNamed
+  is-open e = sym (named Open e)
+
+  pub is-convert : nameOf (wordAt 0 line) ≡ Convert → ofLength (spaces line) 6 (readConvert line) ≡ readLine line
+  unfolding readNamed
+  is-convert e = sym (named Convert e)
+
+  pub is-rollback : nameOf (wordAt 0 line) ≡ Rollback → ofLength (spaces line) 4 (readRollback line) ≡ readLine line
+  unfolding readNamed
+  is-rollback e = sym (named Rollback e)
+
+-- a line of the right number of words, and one of another
+pub counted : (n m : ℕ) (l : Line) → n ≡ m → l ≡ ofLength n m l
+unfolding ofLength
+counted n m l e = sym (rw (eq-eqb n m e))
+
+pub miscounted : (n m : ℕ) (l : Line) → (n ≡ m → ⊥) → wordCount ≡ ofLength n m l
+unfolding ofLength
+miscounted n m l e = sym (rw (ne-eqb n m e))

@@ -8,12 +8,12 @@ ghost use mathlib.Core.Path.{_≡_};
 ghost use mathlib.Core.Bool.{true, false};
 ghost use Prim.Native.Nat.{_*_, _≤_, _<_};
 ghost use lib.ListN.{length};
-ghost use Rattle.lines.specs.Words.{wordAt};
+ghost use Rattle.lines.specs.Words.{wordAt, spaces};
 ghost use Rattle.lines.specs.Decimal.{numberIn};
 ghost use Rattle.lines.specs.Numbered.{Numbers};
 ghost use Rattle.lines.specs.Hexadecimal.{bytesIn};
 ghost use Rattle.lines.specs.Decoded.{Decodes};
-ghost use Rattle.lines.specs.Calls.{nameOf, readCheck, readRun, readLine};
+ghost use Rattle.lines.specs.Calls.{nameOf, readCheck, readRun, readOpen, readConvert, readRollback, ofLength, readLine};
 ghost use Rattle.lines.specs.Parsed.{Parses};
 
 // The greatest length that a line can name.
@@ -26,6 +26,9 @@ pub enum Name {
     Check,
     Forward,
     Backward,
+    Open,
+    Convert,
+    Rollback,
     Other,
 }
 
@@ -47,10 +50,37 @@ pub struct RunCall {
     pub value: usize,
 }
 
+// The calls on a journal: it stands where a value would, and the value to be held where ancillae would.
+pub struct OpenCall {
+    pub workspace: usize,
+    pub program: usize,
+    pub held: usize,
+    pub journal: usize,
+}
+
+pub struct ConvertCall {
+    pub workspace: usize,
+    pub fuel: u16,
+    pub function: u16,
+    pub program: usize,
+    pub ancillae: usize,
+    pub journal: usize,
+}
+
+pub struct RollbackCall {
+    pub workspace: usize,
+    pub fuel: u16,
+    pub program: usize,
+    pub journal: usize,
+}
+
 // A call, or what is wrong with the line.
 pub enum Parsed {
     Checks(CheckCall),
     Runs(RunCall),
+    Opens(OpenCall),
+    Converts(ConvertCall),
+    RollsBack(RollbackCall),
     NoCall,
     WordCount,
     NoNumber(u8),
@@ -68,6 +98,15 @@ fn name_of(word: &[u8]) -> Name
     }
     if octets::equal(word, b"backward") {
         return Name::Backward;
+    }
+    if octets::equal(word, b"open") {
+        return Name::Open;
+    }
+    if octets::equal(word, b"convert") {
+        return Name::Convert;
+    }
+    if octets::equal(word, b"rollback") {
+        return Name::Rollback;
     }
     Name::Other
 }
@@ -149,6 +188,103 @@ fn run_call(
     })
 }
 
+fn open_call(line: &[u8], program: &mut [u8], ancillae: &mut [u8], value: &mut [u8]) -> Parsed
+    requires { ⌜ length (now line) ≤ 2 * length (now program) ⌝ }
+    requires { ⌜ length (now line) ≤ 2 * length (now ancillae) ⌝ }
+    requires { ⌜ length (now line) ≤ 2 * length (now value) ⌝ }
+    ensures { λ r. ⌜ Parses r (now (program .exit)) (now (ancillae .exit)) (now (value .exit)) (ofLength (spaces (now (line .entry))) 4 (readOpen (now (line .entry)))) ⌝ }
+{
+    let count = words::count_spaces(line);
+    if count != 4 {
+        return Parsed::WordCount;
+    }
+    let Number::Is(workspace) = number_at(line, 1, MOST_LENGTH) else {
+        return Parsed::NoNumber(1);
+    };
+    let Decoded::Bytes(p) = bytes_at(line, 2, program) else {
+        return Parsed::NoBytes(2);
+    };
+    let Decoded::Bytes(h) = bytes_at(line, 3, ancillae) else {
+        return Parsed::NoBytes(3);
+    };
+    let Decoded::Bytes(j) = bytes_at(line, 4, value) else {
+        return Parsed::NoBytes(4);
+    };
+    Parsed::Opens(OpenCall {
+        workspace: workspace as usize,
+        program: p,
+        held: h,
+        journal: j,
+    })
+}
+
+fn convert_call(line: &[u8], program: &mut [u8], ancillae: &mut [u8], value: &mut [u8]) -> Parsed
+    requires { ⌜ length (now line) ≤ 2 * length (now program) ⌝ }
+    requires { ⌜ length (now line) ≤ 2 * length (now ancillae) ⌝ }
+    requires { ⌜ length (now line) ≤ 2 * length (now value) ⌝ }
+    ensures { λ r. ⌜ Parses r (now (program .exit)) (now (ancillae .exit)) (now (value .exit)) (ofLength (spaces (now (line .entry))) 6 (readConvert (now (line .entry)))) ⌝ }
+{
+    let count = words::count_spaces(line);
+    if count != 6 {
+        return Parsed::WordCount;
+    }
+    let Number::Is(workspace) = number_at(line, 1, MOST_LENGTH) else {
+        return Parsed::NoNumber(1);
+    };
+    let Number::Is(fuel) = number_at(line, 2, MOST_SHORT) else {
+        return Parsed::NoNumber(2);
+    };
+    let Number::Is(function) = number_at(line, 3, MOST_SHORT) else {
+        return Parsed::NoNumber(3);
+    };
+    let Decoded::Bytes(p) = bytes_at(line, 4, program) else {
+        return Parsed::NoBytes(4);
+    };
+    let Decoded::Bytes(a) = bytes_at(line, 5, ancillae) else {
+        return Parsed::NoBytes(5);
+    };
+    let Decoded::Bytes(j) = bytes_at(line, 6, value) else {
+        return Parsed::NoBytes(6);
+    };
+    Parsed::Converts(ConvertCall {
+        workspace: workspace as usize,
+        fuel: fuel as u16,
+        function: function as u16,
+        program: p,
+        ancillae: a,
+        journal: j,
+    })
+}
+
+fn rollback_call(line: &[u8], program: &mut [u8], ancillae: &mut [u8], value: &mut [u8]) -> Parsed
+    requires { ⌜ length (now line) ≤ 2 * length (now program) ⌝ }
+    requires { ⌜ length (now line) ≤ 2 * length (now value) ⌝ }
+    ensures { λ r. ⌜ Parses r (now (program .exit)) (now (ancillae .exit)) (now (value .exit)) (ofLength (spaces (now (line .entry))) 4 (readRollback (now (line .entry)))) ⌝ }
+{
+    let count = words::count_spaces(line);
+    if count != 4 {
+        return Parsed::WordCount;
+    }
+    let Number::Is(workspace) = number_at(line, 1, MOST_LENGTH) else {
+        return Parsed::NoNumber(1);
+    };
+    let Number::Is(fuel) = number_at(line, 2, MOST_SHORT) else {
+        return Parsed::NoNumber(2);
+    };
+    let Decoded::Bytes(p) = bytes_at(line, 3, program) else {
+        return Parsed::NoBytes(3);
+    };
+    let Decoded::Bytes(j) = bytes_at(line, 4, value) else {
+        return Parsed::NoBytes(4);
+    };
+    Parsed::RollsBack(RollbackCall {
+        workspace: workspace as usize,
+        fuel: fuel as u16,
+        program: p,
+        journal: j,
+    })
+}
+
 // The call that a line says, its byte strings at the starts of the buffers, each of which can hold as many bytes as a line has.
 pub fn parse(line: &[u8], program: &mut [u8], ancillae: &mut [u8], value: &mut [u8]) -> Parsed
     requires { ⌜ length (now line) ≤ 2 * length (now program) ⌝ }
@@ -176,6 +312,9 @@ pub fn parse(line: &[u8], program: &mut [u8], ancillae: &mut [u8], value: &mut [
             }
             run_call(line, true, program, ancillae, value)
         }
+        Name::Open => open_call(line, program, ancillae, value),
+        Name::Convert => convert_call(line, program, ancillae, value),
+        Name::Rollback => rollback_call(line, program, ancillae, value),
         Name::Other => Parsed::NoCall,
     }
 }

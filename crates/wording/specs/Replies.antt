@@ -9,7 +9,7 @@ use package.Rattle.rows.specs.declared.answers.RunAnswer.{RunAnswer}
 use package.Rattle.rows.specs.declared.answers.RunAnswer.the-variants.{Ran, Refused}
 use package.Rattle.lines.specs.Text.{text}
 use package.Rattle.lines.specs.Decimal.{decimalText}
-use package.Rattle.lines.specs.Answers.{valueLine, refusedLine}
+use package.Rattle.lines.specs.Answers.{valueLine, refusedLine, openedLine, heldLine}
 use package.Rattle.wording.specs.Meanings.{meaningOf}
 
 -- the line that answers a check
@@ -21,6 +21,15 @@ checkText (refused n p) = refusedLine n p
 unfoldable pub runText : Answer (ℕ × ℕ) → List ℕ → List ℕ
 runText (accepted a) output = valueLine (take (a .0) output) (a .1)
 runText (refused n p) output = refusedLine n p
+
+-- the lines that answer the calls on a journal, with the journal's buffer as the call left it
+unfoldable pub openedText : Answer (Unit {0}) → List ℕ → List ℕ
+openedText (accepted a) journal = openedLine journal
+openedText (refused n p) journal = refusedLine n p
+
+unfoldable pub heldText : Answer (ℕ × ℕ) → List ℕ → List ℕ
+heldText (accepted a) journal = heldLine (a .0) (a .1) journal
+heldText (refused n p) journal = refusedLine n p
 
 -- how many bytes of the output a run filled
 abbrev pub lengthOf : RunAnswer → ℕ

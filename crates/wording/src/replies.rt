@@ -9,8 +9,8 @@ ghost use Prim.Native.Nat.{_+_, _*_, _≤_};
 ghost use lib.ListN.{length, take};
 ghost use Rattle.rows.specs.Answers.{numberOf, placeOf, checkAnswer, runAnswer};
 ghost use Rattle.lines.specs.Wrote.{Wrote};
-ghost use Rattle.lines.specs.Answers.{valueLine, refusedLine};
-ghost use Rattle.wording.specs.Replies.{checkText, runText, lengthOf, whereText, refusalText};
+ghost use Rattle.lines.specs.Answers.{valueLine, heldLine, refusedLine};
+ghost use Rattle.wording.specs.Replies.{checkText, runText, openedText, heldText, lengthOf, whereText, refusalText};
 
 // The line of a refusal.
 fn refusal_line(r: Refusal, out: &mut [u8]) -> usize
@@ -52,6 +52,38 @@ pub fn run_line(answer: RunAnswer, output: &[u8], out: &mut [u8]) -> usize
 {
     match answer {
         RunAnswer::Ran(d) => done_line(d, output, out),
+        RunAnswer::Refused(r) => refusal_line(r, out),
+    }
+}
+
+// The line that answers an open, with the journal as it left it.
+pub fn opened_line(answer: CheckAnswer, journal: &[u8], out: &mut [u8]) -> usize
+    requires { ⌜ 2 * length (now journal) + 64 ≤ length (now out) ⌝ }
+    ensures { λ end. ⌜ Wrote (now (out .entry)) (now (out .exit)) 0 end (openedText (checkAnswer answer) (now (journal .entry))) ⌝ }
+{
+    match answer {
+        CheckAnswer::Accepted => answers::opened_line(journal, out),
+        CheckAnswer::Refused(r) => refusal_line(r, out),
+    }
+}
+
+// The line of a convert or rollback that was done.
+fn turned_line(d: Done, journal: &[u8], out: &mut [u8]) -> usize
+    requires { ⌜ 2 * length (now journal) + 64 ≤ length (now out) ⌝ }
+    ensures { λ end. ⌜ Wrote (now (out .entry)) (now (out .exit)) 0 end (heldLine (d .len) (d .steps) (now (journal .entry))) ⌝ }
+{
+    let len = d.len as u64;
+    let steps = d.steps as u64;
+    answers::held_line(len, steps, journal, out)
+}
+
+// The line that answers a convert or rollback, with the journal as it left it.
+pub fn held_line(answer: RunAnswer, journal: &[u8], out: &mut [u8]) -> usize
+    requires { ⌜ 2 * length (now journal) + 64 ≤ length (now out) ⌝ }
+    ensures { λ end. ⌜ Wrote (now (out .entry)) (now (out .exit)) 0 end (heldText (runAnswer answer) (now (journal .entry))) ⌝ }
+{
+    match answer {
+        RunAnswer::Ran(d) => turned_line(d, journal, out),
         RunAnswer::Refused(r) => refusal_line(r, out),
     }
 }

@@ -1,3 +1,4 @@
+use native.Mathlib.Omega.{arith}
 use mathlib.Core.Path.{ap}
 use Rattle.lines.proofs.Writing.{wrote-as}
 use Rattle.batch.specs.Answering.{answerTo, answerLine}
@@ -9,7 +10,8 @@ parse-requires : tie.Need-parse-requires
 parse-requires c κs = search needs
 
 reply-requires : tie.Need-reply-requires
-reply-requires c κs = let s = c .before .before .before .before .before .before .before .before .before .before .before .before .before .before .before .before .before .before .before .before .before .before .before in (c .before .before .before .before .before .before .before .before .before .before .before .before .parse .ensures .within, ((s .pre .1 .1 .1 .0, s .pre .1 .1 .1 .1 .0), s .pre .1 .1 .1 .1 .1))
+reply-requires c κs = let s = c .before .before .before .before .before .before .before .before .before .before .before .before .before .before .before .before .before .before .before .before .before .before .before in
+    (c .before .before .before .before .before .before .before .before .before .before .before .before .parse .ensures .within, ((s .pre .1 .1 .1 .0, s .pre .1 .1 .1 .1 .0), omega (arith, s .pre .1 .1 .1 .1 .1, c .before .before .before .before .before .before .before .before .before .before .before .before .parse .kept .1 .1 .1 .0)))
 
 same-length : tie.Need-same-length
 same-length c = search needs
@@ -31,7 +33,7 @@ same-length-6 c = search needs
 
 returns : tie.Need-returns
 unfolding answerLine
-returns c = wrote-as (c .before .before .before .before .before .before .reply .ensures) (ap answerTo (c .before .before .before .before .before .before .before .before .before .before .before .before .before .before .before .before .before .before .before .parse .ensures .said))
+returns c = wrote-as (c .before .before .before .before .before .before .before .before .reply .ensures) (ap answerTo (c .before .before .before .before .before .before .before .before .before .before .before .before .before .before .before .before .before .before .before .before .before .parse .ensures .said))
 
 pub answer-spec : {M : Type 1} → statement M
 answer-spec =

@@ -19,9 +19,33 @@ enum-known-parsed-2 : tie.Need-enum-known-parsed-2
 enum-known-parsed-2 c = search needs
 
 run-requires : tie.Need-run-requires
-run-requires c κs = let s = c .before .before .before .before .before .before .before .before .before .before .before .before in
+run-requires c κs = let s = c .before .before .before .before .before .before .before .before .before .before .before .before .before in
     let a = s .args in
-    (subst (λ q. Within q (a .program .now) (a .ancillae .now) (a .value .now)) (c .before .before .before .before .parsed2 .given .1) (s .pre .0), (s .pre .1 .0, s .pre .1 .1))
+    (subst (λ q. Within q (a .program .now) (a .ancillae .now) (a .value .now)) (c .before .before .before .before .before .parsed2 .given .1) (s .pre .0), (s .pre .1 .0, omega (arith, s .pre .1 .1)))
+
+enum-known-parsed-3 : tie.Need-enum-known-parsed-3
+enum-known-parsed-3 c = search needs
+
+open-requires : tie.Need-open-requires
+open-requires c κs = let s = c .before .before .before .before .before .before .before .before .before .before .before .before in
+    let a = s .args in
+    (subst (λ q. Within q (a .program .now) (a .ancillae .now) (a .value .now)) (c .before .before .before .before .parsed3 .given .1) (s .pre .0), (s .pre .1 .0 .0, omega (arith, s .pre .1 .1)))
+
+enum-known-parsed-4 : tie.Need-enum-known-parsed-4
+enum-known-parsed-4 c = search needs
+
+convert-requires : tie.Need-convert-requires
+convert-requires c κs = let s = c .before .before .before .before .before .before .before .before .before .before .before .before in
+    let a = s .args in
+    (subst (λ q. Within q (a .program .now) (a .ancillae .now) (a .value .now)) (c .before .before .before .before .parsed4 .given .1) (s .pre .0), (s .pre .1 .0 .0, omega (arith, s .pre .1 .1)))
+
+enum-known-parsed-5 : tie.Need-enum-known-parsed-5
+enum-known-parsed-5 c = search needs
+
+rollback-requires : tie.Need-rollback-requires
+rollback-requires c κs = let s = c .before .before .before .before .before .before .before .before .before .before .before .before in
+    let a = s .args in
+    (subst (λ q. Within q (a .program .now) (a .ancillae .now) (a .value .now)) (c .before .before .before .before .parsed5 .given .1) (s .pre .0), (s .pre .1 .0 .0, omega (arith, s .pre .1 .1)))
 
 enum-told : tie.Need-enum-told
 enum-told c = search needs
@@ -41,8 +65,8 @@ slice-aggregate-put-2 c = search needs
 put-requires-2 : tie.Need-put-requires-2
 put-requires-2 c κs = search needs
 
-enum-known-parsed-3 : tie.Need-enum-known-parsed-3
-enum-known-parsed-3 c = search needs
+enum-known-parsed-6 : tie.Need-enum-known-parsed-6
+enum-known-parsed-6 c = search needs
 
 slice-aggregate-word-error : tie.Need-slice-aggregate-word-error
 slice-aggregate-word-error c = search needs
@@ -50,8 +74,8 @@ slice-aggregate-word-error c = search needs
 word-error-requires : tie.Need-word-error-requires
 word-error-requires c κs = search needs
 
-enum-known-parsed-4 : tie.Need-enum-known-parsed-4
-enum-known-parsed-4 c = search needs
+enum-known-parsed-7 : tie.Need-enum-known-parsed-7
+enum-known-parsed-7 c = search needs
 
 slice-aggregate-word-error-2 : tie.Need-slice-aggregate-word-error-2
 slice-aggregate-word-error-2 c = search needs
@@ -79,42 +103,87 @@ same-length-4 c = search needs
 same-length-5 : tie.Need-same-length-5
 same-length-5 c = search needs
 
-returns-2 : tie.Need-returns-2
-unfolding answerTo
-returns-2 c = let a = c .before .before .before .before .before .before .before .before .before .before .before .before .before .before .before .before .before .before .before .args in
-    wrote-as (c .before .before .before .before .before .before .run .ensures) (ap (λ q. answerTo (lineOf q (a .program .now) (a .ancillae .now) (a .value .now))) (sym (c .before .before .before .before .before .before .before .before .before .before .before .parsed2 .given .1)))
-
 same-length-6 : tie.Need-same-length-6
 same-length-6 c = search needs
 
-returns-3 : tie.Need-returns-3
+returns-2 : tie.Need-returns-2
 unfolding answerTo
-returns-3 c = let a = c .before .before .before .before .before .before .before .before .before .before .before .before .before .args in
-    wrote-as (c .before .before .put .ensures) (ap (λ q. answerTo (lineOf q (a .program .now) (a .ancillae .now) (a .value .now))) (sym (c .before .before .before .before .before .enum-told .given .1)))
+returns-2 c = let a = c .before .before .before .before .before .before .before .before .before .before .before .before .before .before .before .before .before .before .before .before .args in
+    wrote-as (c .before .before .before .before .before .before .run .ensures) (ap (λ q. answerTo (lineOf q (a .program .now) (a .ancillae .now) (a .value .now))) (sym (c .before .before .before .before .before .before .before .before .before .before .before .before .parsed2 .given .1)))
 
 same-length-7 : tie.Need-same-length-7
 same-length-7 c = search needs
 
-returns-4 : tie.Need-returns-4
-unfolding answerTo
-returns-4 c = let a = c .before .before .before .before .before .before .before .before .before .before .before .before .before .args in
-    wrote-as (c .before .before .put2 .ensures) (ap (λ q. answerTo (lineOf q (a .program .now) (a .ancillae .now) (a .value .now))) (sym (c .before .before .before .before .before .enum-told2 .given .1)))
-
 same-length-8 : tie.Need-same-length-8
 same-length-8 c = search needs
-
-returns-5 : tie.Need-returns-5
-unfolding answerTo
-returns-5 c = let a = c .before .before .before .before .before .before .before .before .before .before .before .before .before .before .args in
-    wrote-as (c .before .before .word-error .ensures) (ap (λ q. answerTo (lineOf q (a .program .now) (a .ancillae .now) (a .value .now))) (sym (c .before .before .before .before .before .before .parsed3 .given .1)))
 
 same-length-9 : tie.Need-same-length-9
 same-length-9 c = search needs
 
+returns-3 : tie.Need-returns-3
+unfolding answerTo
+returns-3 c = let a = c .before .before .before .before .before .before .before .before .before .before .before .before .before .before .before .before .before .before .before .args in
+    wrote-as (c .before .before .before .before .before .before .«open» .ensures) (ap (λ q. answerTo (lineOf q (a .program .now) (a .ancillae .now) (a .value .now))) (sym (c .before .before .before .before .before .before .before .before .before .before .before .parsed3 .given .1)))
+
+same-length-10 : tie.Need-same-length-10
+same-length-10 c = search needs
+
+same-length-11 : tie.Need-same-length-11
+same-length-11 c = search needs
+
+same-length-12 : tie.Need-same-length-12
+same-length-12 c = search needs
+
+returns-4 : tie.Need-returns-4
+unfolding answerTo
+returns-4 c = let a = c .before .before .before .before .before .before .before .before .before .before .before .before .before .before .before .before .before .before .before .args in
+    wrote-as (c .before .before .before .before .before .before .convert .ensures) (ap (λ q. answerTo (lineOf q (a .program .now) (a .ancillae .now) (a .value .now))) (sym (c .before .before .before .before .before .before .before .before .before .before .before .parsed4 .given .1)))
+
+same-length-13 : tie.Need-same-length-13
+same-length-13 c = search needs
+
+same-length-14 : tie.Need-same-length-14
+same-length-14 c = search needs
+
+same-length-15 : tie.Need-same-length-15
+same-length-15 c = search needs
+
+returns-5 : tie.Need-returns-5
+unfolding answerTo
+returns-5 c = let a = c .before .before .before .before .before .before .before .before .before .before .before .before .before .before .before .before .before .before .before .args in
+    wrote-as (c .before .before .before .before .before .before .rollback .ensures) (ap (λ q. answerTo (lineOf q (a .program .now) (a .ancillae .now) (a .value .now))) (sym (c .before .before .before .before .before .before .before .before .before .before .before .parsed5 .given .1)))
+
+same-length-16 : tie.Need-same-length-16
+same-length-16 c = search needs
+
 returns-6 : tie.Need-returns-6
 unfolding answerTo
-returns-6 c = let a = c .before .before .before .before .before .before .before .before .before .before .before .before .before .before .args in
-    wrote-as (c .before .before .word-error2 .ensures) (ap (λ q. answerTo (lineOf q (a .program .now) (a .ancillae .now) (a .value .now))) (sym (c .before .before .before .before .before .before .parsed4 .given .1)))
+returns-6 c = let a = c .before .before .before .before .before .before .before .before .before .before .before .before .before .args in
+    wrote-as (c .before .before .put .ensures) (ap (λ q. answerTo (lineOf q (a .program .now) (a .ancillae .now) (a .value .now))) (sym (c .before .before .before .before .before .enum-told .given .1)))
+
+same-length-17 : tie.Need-same-length-17
+same-length-17 c = search needs
+
+returns-7 : tie.Need-returns-7
+unfolding answerTo
+returns-7 c = let a = c .before .before .before .before .before .before .before .before .before .before .before .before .before .args in
+    wrote-as (c .before .before .put2 .ensures) (ap (λ q. answerTo (lineOf q (a .program .now) (a .ancillae .now) (a .value .now))) (sym (c .before .before .before .before .before .enum-told2 .given .1)))
+
+same-length-18 : tie.Need-same-length-18
+same-length-18 c = search needs
+
+returns-8 : tie.Need-returns-8
+unfolding answerTo
+returns-8 c = let a = c .before .before .before .before .before .before .before .before .before .before .before .before .before .before .args in
+    wrote-as (c .before .before .word-error .ensures) (ap (λ q. answerTo (lineOf q (a .program .now) (a .ancillae .now) (a .value .now))) (sym (c .before .before .before .before .before .before .parsed6 .given .1)))
+
+same-length-19 : tie.Need-same-length-19
+same-length-19 c = search needs
+
+returns-9 : tie.Need-returns-9
+unfolding answerTo
+returns-9 c = let a = c .before .before .before .before .before .before .before .before .before .before .before .before .before .before .args in
+    wrote-as (c .before .before .word-error2 .ensures) (ap (λ q. answerTo (lineOf q (a .program .now) (a .ancillae .now) (a .value .now))) (sym (c .before .before .before .before .before .before .parsed7 .given .1)))
 
 pub reply-spec : {M : Type 1} → statement M
 reply-spec =
@@ -124,16 +193,22 @@ reply-spec =
     check-requires
     enum-known-parsed-2
     run-requires
+    enum-known-parsed-3
+    open-requires
+    enum-known-parsed-4
+    convert-requires
+    enum-known-parsed-5
+    rollback-requires
     enum-told
     slice-aggregate-put
     put-requires
     enum-told-2
     slice-aggregate-put-2
     put-requires-2
-    enum-known-parsed-3
+    enum-known-parsed-6
     slice-aggregate-word-error
     word-error-requires
-    enum-known-parsed-4
+    enum-known-parsed-7
     slice-aggregate-word-error-2
     word-error-requires-2
     same-length
@@ -142,12 +217,25 @@ reply-spec =
     same-length-3
     same-length-4
     same-length-5
-    returns-2
     same-length-6
-    returns-3
+    returns-2
     same-length-7
-    returns-4
     same-length-8
-    returns-5
     same-length-9
-    returns-6)
+    returns-3
+    same-length-10
+    same-length-11
+    same-length-12
+    returns-4
+    same-length-13
+    same-length-14
+    same-length-15
+    returns-5
+    same-length-16
+    returns-6
+    same-length-17
+    returns-7
+    same-length-18
+    returns-8
+    same-length-19
+    returns-9)

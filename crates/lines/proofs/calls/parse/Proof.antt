@@ -1,6 +1,6 @@
 use mathlib.Core.Path.{sym, ap, _∙_}
 use Rattle.lines.specs.Calls.{nameOf}
-use Rattle.lines.proofs.Saying.{parses-as, is-check, is-forward, is-backward, no-check, no-forward, no-backward, is-other}
+use Rattle.lines.proofs.Saying.{parses-as, is-check, is-forward, is-backward, no-check, no-forward, no-backward, is-open, is-convert, is-rollback, is-other}
 use borrow.Author.Needs.{needs}
 use Rattle.lines.proofs.calls.parse.Statement.{statement}
 use Rattle.lines.proofs.calls.parse.Tie as tie
@@ -44,6 +44,24 @@ run-call-requires-2 c κs = search needs
 enum-told-4 : tie.Need-enum-told-4
 enum-told-4 c = search needs
 
+open-call-requires : tie.Need-open-call-requires
+open-call-requires c κs = search needs
+
+enum-told-5 : tie.Need-enum-told-5
+enum-told-5 c = search needs
+
+convert-call-requires : tie.Need-convert-call-requires
+convert-call-requires c κs = search needs
+
+enum-told-6 : tie.Need-enum-told-6
+enum-told-6 c = search needs
+
+rollback-call-requires : tie.Need-rollback-call-requires
+rollback-call-requires c κs = search needs
+
+enum-told-7 : tie.Need-enum-told-7
+enum-told-7 c = search needs
+
 same-length : tie.Need-same-length
 same-length c = search needs
 
@@ -80,8 +98,44 @@ same-length-9 c = search needs
 returns-6 : tie.Need-returns-6
 returns-6 c = parses-as (c .before .before .before .before .before .before .run-call2 .ensures) (is-backward _ (ap nameOf (sym (c .before .before .before .before .before .before .before .before .before .before .before .before .before .before .word .ensures)) ∙ sym (c .before .before .before .before .before .before .before .before .before .before .before .before .before .name-of .ensures) ∙ c .before .before .before .before .before .before .before .before .before .before .before .enum-told3 .given .1) (sym (c .before .before .before .before .before .before .before .before .before .before .before .before .before .before .before .count-spaces .ensures) ∙ c .before .before .before .before .before .before .before .before .before .before .if3 .left))
 
+same-length-10 : tie.Need-same-length-10
+same-length-10 c = search needs
+
+same-length-11 : tie.Need-same-length-11
+same-length-11 c = search needs
+
+same-length-12 : tie.Need-same-length-12
+same-length-12 c = search needs
+
 returns-7 : tie.Need-returns-7
-returns-7 c = record { said = is-other _ (ap nameOf (sym (c .before .before .before .word .ensures)) ∙ sym (c .before .before .name-of .ensures) ∙ c .enum-told4 .given .1); within = tt }
+returns-7 c = parses-as (c .before .before .before .before .before .before .open-call .ensures) (is-open _ (ap nameOf (sym (c .before .before .before .before .before .before .before .before .before .before .before .before .before .word .ensures)) ∙ sym (c .before .before .before .before .before .before .before .before .before .before .before .before .name-of .ensures) ∙ c .before .before .before .before .before .before .before .before .before .before .enum-told4 .given .1))
+
+same-length-13 : tie.Need-same-length-13
+same-length-13 c = search needs
+
+same-length-14 : tie.Need-same-length-14
+same-length-14 c = search needs
+
+same-length-15 : tie.Need-same-length-15
+same-length-15 c = search needs
+
+returns-8 : tie.Need-returns-8
+returns-8 c = parses-as (c .before .before .before .before .before .before .convert-call .ensures) (is-convert _ (ap nameOf (sym (c .before .before .before .before .before .before .before .before .before .before .before .before .before .word .ensures)) ∙ sym (c .before .before .before .before .before .before .before .before .before .before .before .before .name-of .ensures) ∙ c .before .before .before .before .before .before .before .before .before .before .enum-told5 .given .1))
+
+same-length-16 : tie.Need-same-length-16
+same-length-16 c = search needs
+
+same-length-17 : tie.Need-same-length-17
+same-length-17 c = search needs
+
+same-length-18 : tie.Need-same-length-18
+same-length-18 c = search needs
+
+returns-9 : tie.Need-returns-9
+returns-9 c = parses-as (c .before .before .before .before .before .before .rollback-call .ensures) (is-rollback _ (ap nameOf (sym (c .before .before .before .before .before .before .before .before .before .before .before .before .before .word .ensures)) ∙ sym (c .before .before .before .before .before .before .before .before .before .before .before .before .name-of .ensures) ∙ c .before .before .before .before .before .before .before .before .before .before .enum-told6 .given .1))
+
+returns-10 : tie.Need-returns-10
+returns-10 c = record { said = is-other _ (ap nameOf (sym (c .before .before .before .word .ensures)) ∙ sym (c .before .before .name-of .ensures) ∙ c .enum-told7 .given .1); within = tt }
 
 pub parse-spec : {M : Type 1} → statement M
 parse-spec =
@@ -100,6 +154,12 @@ parse-spec =
     returns-3
     run-call-requires-2
     enum-told-4
+    open-call-requires
+    enum-told-5
+    convert-call-requires
+    enum-told-6
+    rollback-call-requires
+    enum-told-7
     same-length
     same-length-2
     same-length-3
@@ -112,4 +172,16 @@ parse-spec =
     same-length-8
     same-length-9
     returns-6
-    returns-7)
+    same-length-10
+    same-length-11
+    same-length-12
+    returns-7
+    same-length-13
+    same-length-14
+    same-length-15
+    returns-8
+    same-length-16
+    same-length-17
+    same-length-18
+    returns-9
+    returns-10)

@@ -1,0 +1,31 @@
+use lib.ListN.{length}
+use Rattle.calls.specs.Conversions.{convertCall}
+use Rattle.lines.proofs.Writing.{wrote-as}
+use Rattle.batch.proofs.Telling.{tells-turn}
+use borrow.Author.Needs.{needs}
+use Rattle.batch.proofs.keeping.convert_lent.Statement.{statement}
+use Rattle.batch.proofs.keeping.convert_lent.Tie as tie
+
+convert-requires : tie.Need-convert-requires
+convert-requires c κs = search needs
+
+held-line-requires : tie.Need-held-line-requires
+held-line-requires c κs = search needs
+
+same-length : tie.Need-same-length
+same-length c = search needs
+
+same-length-2 : tie.Need-same-length-2
+same-length-2 c = search needs
+
+same-length-3 : tie.Need-same-length-3
+same-length-3 c = search needs
+
+returns : tie.Need-returns
+returns c = let a = c .before .before .before .before .before .before .before .before .before .before .before .before .before .before .before .before .before .args in
+    wrote-as (c .before .before .held-line .ensures) (tells-turn (c .before .before .before .before .before .before .before .before .before .convert .result) (convertCall (length (a .workspace .now)) (a .fuel) (a .function) (a .program .now) (a .ancillae .now) (a .journal .now)) (a .journal .now) (c .before .before .before .before .before .before .before .before .before .convert .ensures .0) (c .before .before .before .before .before .before .before .before .before .convert .ensures .1 .0))
+
+pub convert-lent-spec : {M : Type 1} → statement M
+convert-lent-spec =
+    tie.close
+    (tie.spec convert-requires held-line-requires same-length same-length-2 same-length-3 returns)

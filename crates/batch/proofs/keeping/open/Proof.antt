@@ -1,0 +1,66 @@
+use native.Mathlib.Omega.{arith}
+use mathlib.Core.Path.{sym, ap}
+use lib.ListN.{length, take}
+use lib.Seq.{length-take-le}
+use Rattle.lines.proofs.Writing.{wrote-as}
+use Rattle.batch.specs.Capped.{mostWorkspace}
+use Rattle.batch.specs.Answering.{openText}
+use Rattle.batch.proofs.Capping.{lent-within, open-lent}
+use borrow.Author.Needs.{needs}
+use Rattle.batch.proofs.keeping.open.Statement.{statement}
+use Rattle.batch.proofs.keeping.open.Tie as tie
+
+least-requires : tie.Need-least-requires
+least-requires c κs = search needs
+
+slice-aggregate-open-lent : tie.Need-slice-aggregate-open-lent
+slice-aggregate-open-lent c = let s = c .before .before .before .before .before .before .before in sym (length-take-le (s .args .call .program) (s .args .program .now) (s .pre .0 .0))
+
+slice-aggregate-open-lent-2 : tie.Need-slice-aggregate-open-lent-2
+slice-aggregate-open-lent-2 c = let s = c .before .before .before .before .before .before .before .before in sym (length-take-le (s .args .call .held) (s .args .held .now) (s .pre .0 .1))
+
+slice-relend-prefix-open-lent : tie.Need-slice-relend-prefix-open-lent
+slice-relend-prefix-open-lent c = let s = c .before .before .before .before .before .before .before .before in lent-within mostWorkspace (s .args .call .workspace) (c .before .before .least .ensures) (s .args .workspace .now) (s .pre .1 .0)
+
+slice-aggregate-open-lent-3 : tie.Need-slice-aggregate-open-lent-3
+slice-aggregate-open-lent-3 c = let s = c .before .before .before .before .before .before .before .before .before in sym (length-take-le (c .before .before .before .least .result) (s .args .workspace .now) (lent-within mostWorkspace (s .args .call .workspace) (c .before .before .before .least .ensures) (s .args .workspace .now) (s .pre .1 .0)))
+
+slice-relend-prefix-open-lent-2 : tie.Need-slice-relend-prefix-open-lent-2
+slice-relend-prefix-open-lent-2 c = c .before .before .before .before .before .before .before .before .before .pre .0 .2
+
+slice-aggregate-open-lent-4 : tie.Need-slice-aggregate-open-lent-4
+slice-aggregate-open-lent-4 c = let s = c .before .before .before .before .before .before .before .before .before .before in sym (length-take-le (s .args .call .journal) (s .args .journal .now) (s .pre .0 .2))
+
+open-lent-requires : tie.Need-open-lent-requires
+open-lent-requires c κs = let s = c .before .before .before .before .before .before .before .before .before .before .before in omega (arith, length-take-le (s .args .call .journal) (s .args .journal .now) (s .pre .0 .2), s .pre .0 .2, s .pre .1 .1)
+
+same-length : tie.Need-same-length
+same-length c = search needs
+
+same-length-2 : tie.Need-same-length-2
+same-length-2 c = search needs
+
+same-length-3 : tie.Need-same-length-3
+same-length-3 c = search needs
+
+returns : tie.Need-returns
+returns c = let s = c .before .before .before .before .before .before .before .before .before .before .before .before .before .before .before .before .before .before in
+    let a = s .args in
+    wrote-as (c .before .before .before .before .before .before .open-lent .ensures) (ap openText (open-lent (a .call .workspace) (c .before .before .before .before .before .before .before .before .before .before .before .before .least .ensures) (a .workspace .now) (s .pre .1 .0) (take (a .call .program) (a .program .now)) (take (a .call .held) (a .held .now)) (length (take (a .call .journal) (a .journal .now)))))
+
+pub open-spec : {M : Type 1} → statement M
+open-spec =
+    tie.close
+    (tie.spec
+    least-requires
+    slice-aggregate-open-lent
+    slice-aggregate-open-lent-2
+    slice-relend-prefix-open-lent
+    slice-aggregate-open-lent-3
+    slice-relend-prefix-open-lent-2
+    slice-aggregate-open-lent-4
+    open-lent-requires
+    same-length
+    same-length-2
+    same-length-3
+    returns)

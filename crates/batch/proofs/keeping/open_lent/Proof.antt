@@ -1,0 +1,31 @@
+use lib.ListN.{length}
+use Rattle.calls.specs.Conversions.{openCall}
+use Rattle.lines.proofs.Writing.{wrote-as}
+use Rattle.batch.proofs.Telling.{tells-open}
+use borrow.Author.Needs.{needs}
+use Rattle.batch.proofs.keeping.open_lent.Statement.{statement}
+use Rattle.batch.proofs.keeping.open_lent.Tie as tie
+
+open-requires : tie.Need-open-requires
+open-requires c κs = search needs
+
+opened-line-requires : tie.Need-opened-line-requires
+opened-line-requires c κs = search needs
+
+same-length : tie.Need-same-length
+same-length c = search needs
+
+same-length-2 : tie.Need-same-length-2
+same-length-2 c = search needs
+
+same-length-3 : tie.Need-same-length-3
+same-length-3 c = search needs
+
+returns : tie.Need-returns
+returns c = let a = c .before .before .before .before .before .before .before .before .before .before .before .before .before .before .before .before .before .args in
+    wrote-as (c .before .before .opened-line .ensures) (tells-open (c .before .before .before .before .before .before .before .before .before .«open» .result) (openCall (length (a .workspace .now)) (a .program .now) (a .held .now) (length (a .journal .now))) (a .journal .now) (c .before .before .before .before .before .before .before .before .before .«open» .ensures .0) (c .before .before .before .before .before .before .before .before .before .«open» .ensures .1 .0))
+
+pub open-lent-spec : {M : Type 1} → statement M
+open-lent-spec =
+    tie.close
+    (tie.spec open-requires opened-line-requires same-length same-length-2 same-length-3 returns)

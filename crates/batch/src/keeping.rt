@@ -1,0 +1,140 @@
+// The calls on a journal that a line says, made in a workspace of the length that it names, and answered by a line with the journal.
+use crate::making;
+use lines::calls::ConvertCall;
+use lines::calls::OpenCall;
+use lines::calls::RollbackCall;
+use wording::replies;
+ghost use Prim.Native.Nat.{_+_, _*_, _≤_};
+ghost use lib.ListN.{length, take};
+ghost use Rattle.calls.specs.Conversions.{openCall, convertCall, rollbackCall};
+ghost use Rattle.lines.specs.Wrote.{Wrote};
+ghost use Rattle.batch.specs.Capped.{mostWorkspace};
+ghost use Rattle.batch.specs.Answering.{openText, turnText};
+
+// An open in a workspace as it is lent.
+fn open_lent(
+    program: &[u8],
+    held: &[u8],
+    workspace: &mut [u8],
+    journal: &mut [u8],
+    out: &mut [u8],
+) -> usize
+    requires { ⌜ 2 * length (now journal) + 64 ≤ length (now out) ⌝ }
+    ensures { λ r. ⌜ Wrote (now (out .entry)) (now (out .exit)) 0 r (openText (openCall (length (now (workspace .entry))) (now (program .entry)) (now (held .entry)) (length (now (journal .entry))))) ⌝ }
+{
+    let answer = engine::open(program, held, workspace, journal);
+    replies::opened_line(answer, journal, out)
+}
+
+// An open, made and answered.
+pub fn open(
+    call: OpenCall,
+    program: &[u8],
+    held: &[u8],
+    journal: &mut [u8],
+    workspace: &mut [u8],
+    out: &mut [u8],
+) -> usize
+    requires { ⌜ (call .program ≤ length (now program)) × (call .held ≤ length (now held)) × (call .journal ≤ length (now journal)) ⌝ }
+    requires { ⌜ mostWorkspace ≤ length (now workspace) ⌝ }
+    requires { ⌜ 2 * length (now journal) + 64 ≤ length (now out) ⌝ }
+    ensures { λ r. ⌜ Wrote (now (out .entry)) (now (out .exit)) 0 r (openText (openCall (call .workspace) (take (call .program) (now (program .entry))) (take (call .held) (now (held .entry))) (length (take (call .journal) (now (journal .entry)))))) ⌝ }
+{
+    let p = call.program;
+    let h = call.held;
+    let j = call.journal;
+    let ws = making::least(call.workspace, making::MOST_WORKSPACE);
+    open_lent(
+        &program[..p],
+        &held[..h],
+        &mut workspace[..ws],
+        &mut journal[..j],
+        out,
+    )
+}
+
+// A convert in a workspace as it is lent.
+fn convert_lent(
+    program: &[u8],
+    function: u16,
+    ancillae: &[u8],
+    fuel: u16,
+    workspace: &mut [u8],
+    journal: &mut [u8],
+    out: &mut [u8],
+) -> usize
+    requires { ⌜ 2 * length (now journal) + 64 ≤ length (now out) ⌝ }
+    ensures { λ r. ⌜ Wrote (now (out .entry)) (now (out .exit)) 0 r (turnText (convertCall (length (now (workspace .entry))) fuel function (now (program .entry)) (now (ancillae .entry)) (now (journal .entry)))) ⌝ }
+{
+    let answer = engine::convert(program, function, ancillae, fuel, workspace, journal);
+    replies::held_line(answer, journal, out)
+}
+
+// A convert, made and answered.
+pub fn convert(
+    call: ConvertCall,
+    program: &[u8],
+    ancillae: &[u8],
+    journal: &mut [u8],
+    workspace: &mut [u8],
+    out: &mut [u8],
+) -> usize
+    requires { ⌜ (call .program ≤ length (now program)) × (call .ancillae ≤ length (now ancillae)) × (call .journal ≤ length (now journal)) ⌝ }
+    requires { ⌜ mostWorkspace ≤ length (now workspace) ⌝ }
+    requires { ⌜ 2 * length (now journal) + 64 ≤ length (now out) ⌝ }
+    ensures { λ r. ⌜ Wrote (now (out .entry)) (now (out .exit)) 0 r (turnText (convertCall (call .workspace) (call .fuel) (call .function) (take (call .program) (now (program .entry))) (take (call .ancillae) (now (ancillae .entry))) (take (call .journal) (now (journal .entry))))) ⌝ }
+{
+    let p = call.program;
+    let a = call.ancillae;
+    let j = call.journal;
+    let ws = making::least(call.workspace, making::MOST_WORKSPACE);
+    convert_lent(
+        &program[..p],
+        call.function,
+        &ancillae[..a],
+        call.fuel,
+        &mut workspace[..ws],
+        &mut journal[..j],
+        out,
+    )
+}
+
+// A rollback in a workspace as it is lent.
+fn rollback_lent(
+    program: &[u8],
+    fuel: u16,
+    workspace: &mut [u8],
+    journal: &mut [u8],
+    out: &mut [u8],
+) -> usize
+    requires { ⌜ 2 * length (now journal) + 64 ≤ length (now out) ⌝ }
+    ensures { λ r. ⌜ Wrote (now (out .entry)) (now (out .exit)) 0 r (turnText (rollbackCall (length (now (workspace .entry))) fuel (now (program .entry)) (now (journal .entry)))) ⌝ }
+{
+    let answer = engine::rollback(program, fuel, workspace, journal);
+    replies::held_line(answer, journal, out)
+}
+
+// A rollback, made and answered.
+pub fn rollback(
+    call: RollbackCall,
+    program: &[u8],
+    journal: &mut [u8],
+    workspace: &mut [u8],
+    out: &mut [u8],
+) -> usize
+    requires { ⌜ (call .program ≤ length (now program)) × (call .journal ≤ length (now journal)) ⌝ }
+    requires { ⌜ mostWorkspace ≤ length (now workspace) ⌝ }
+    requires { ⌜ 2 * length (now journal) + 64 ≤ length (now out) ⌝ }
+    ensures { λ r. ⌜ Wrote (now (out .entry)) (now (out .exit)) 0 r (turnText (rollbackCall (call .workspace) (call .fuel) (take (call .program) (now (program .entry))) (take (call .journal) (now (journal .entry))))) ⌝ }
+{
+    let p = call.program;
+    let j = call.journal;
+    let ws = making::least(call.workspace, making::MOST_WORKSPACE);
+    rollback_lent(
+        &program[..p],
+        call.fuel,
+        &mut workspace[..ws],
+        &mut journal[..j],
+        out,
+    )
+}
