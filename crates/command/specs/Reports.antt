@@ -11,6 +11,7 @@ use package.Rattle.calls.specs.Runs.{Ran}
 use package.Rattle.rows.specs.declared.answers.Refusal.{Refusal}
 use package.Rattle.rows.specs.declared.answers.Refusal.the-variants.{Workspace, Field, Limit, Reference, NamedType, Mismatch, Scope, Usage, Function, Values, ValueType, Fuel, Height, Long, FirstMatch, NoInput, Output, Journal, Standing, Full}
 use package.Rattle.lines.specs.Text.{text}
+use package.Rattle.lines.specs.Decimal.{decimalText}
 use package.Rattle.lines.specs.Answers.{valueLine}
 use package.Rattle.wording.specs.Meanings.{meaningOf}
 use package.Rattle.wording.specs.Replies.{whereText}
@@ -57,3 +58,12 @@ runReport (refused n p) = refusedReport n p
 unfoldable pub filledReport : Answer (ℕ × ℕ) → List ℕ → List ℕ
 filledReport (accepted a) output = valueLine (take (a .0) output) (a .1)
 filledReport (refused n p) output = refusedReport n p
+
+-- what convert and rollback answer: the length of the held record, and the steps
+unfoldable pub heldText : ℕ → ℕ → List ℕ
+heldText length steps = text "held " ++ decimalText length ++ text " " ++ decimalText steps ++ text "\n"
+
+unfoldable pub heldReport : Answer (ℕ × ℕ) → List ℕ
+unfolding heldText
+heldReport (accepted a) = heldText (a .0) (a .1)
+heldReport (refused n p) = refusedReport n p
