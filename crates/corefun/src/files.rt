@@ -1,4 +1,5 @@
 // Files, read whole.
+use crate::printing;
 ghost use Prim.Native.Nat.{_≤_};
 ghost use lib.ListN.{length};
 ghost use Rattle.corefun.specs.Bounds.{heldIn};
@@ -74,4 +75,21 @@ pub(crate) fn load(i: usize, word: &mut [u8], into: &mut [u8]) -> Held
 {
     let n = os::arg(i, word);
     load_named(&word[..n], into)
+}
+
+// The same of a file that the buffer has to hold, with a byte to spare.
+pub(crate) fn load_all(i: usize, word: &mut [u8], into: &mut [u8]) -> Held
+    ensures { λ r. ⌜ heldIn r ≤ length (now (into .exit)) ⌝ }
+{
+    let held = load(i, word, into);
+    match held {
+        Held::Bytes(n) => {
+            if n < into.len() {
+                return Held::Bytes(n);
+            }
+            printing::complain(b"JOURNALFILE", b" holds over 131072 bytes\n");
+            Held::Not
+        }
+        Held::Not => Held::Not,
+    }
 }

@@ -9,11 +9,11 @@ ghost use Rattle.corefun.specs.Bounds.{Fits};
 // The longest line that is answered, with the byte that ends it.
 pub(crate) const LINE: usize = 262144;
 
-// The bytes that the hexadecimal words of such a line can be.
-pub(crate) const HALF: usize = 131072;
+// The bytes that the hexadecimal words of such a line can be; and a byte more than a journal's file may have.
+pub(crate) const HALF: usize = 131073;
 
 // The longest answer: a journal in hexadecimal, and the numbers in front of it.
-pub(crate) const ANSWER: usize = 264256;
+pub(crate) const ANSWER: usize = 264258;
 
 // The bytes that were read and are not answered yet: from `at` to `end`. `over` says that they continue a line that is too long, `open`
 // that there may be more to read.

@@ -4,7 +4,9 @@
 mod arguments;
 mod files;
 mod input;
+mod keeping;
 mod printing;
+mod replacing;
 mod runs;
 
 use input::ANSWER;
@@ -22,7 +24,25 @@ enum Command {
     Forward,
     Backward,
     Batch,
+    Open,
+    Convert,
+    Rollback,
     Unknown,
+}
+
+fn journal_usage() {
+    io::write_all(
+        libc::STDERR_FILENO,
+        b"       corefun open PROGRAM JOURNALFILE LENGTH RECORD\n",
+    );
+    io::write_all(
+        libc::STDERR_FILENO,
+        b"       corefun convert PROGRAM JOURNALFILE FUNCTION FUEL ANCILLAE\n",
+    );
+    io::write_all(
+        libc::STDERR_FILENO,
+        b"       corefun rollback PROGRAM JOURNALFILE FUEL\n",
+    );
 }
 
 fn usage() {
@@ -36,10 +56,31 @@ fn usage() {
         b"       corefun backward FILE FUNCTION FUEL ANCILLAE VALUE\n",
     );
     io::write_all(libc::STDERR_FILENO, b"       corefun batch < CALLS\n");
+    journal_usage();
     io::write_all(
         libc::STDERR_FILENO,
-        b"FILE holds a program. FUNCTION and FUEL are decimal, ANCILLAE and VALUE hexadecimal, - for none.\n",
+        b"FILE and PROGRAM hold a program, JOURNALFILE a journal. FUNCTION, FUEL and LENGTH are decimal, ANCILLAE, VALUE and RECORD hexadecimal, - for none.\n",
     );
+}
+
+// A command on a journal.
+fn journal_command_of(name: &[u8], given: usize) -> Command {
+    if octets::equal(name, b"open") {
+        if given == 6 {
+            return Command::Open;
+        }
+    }
+    if octets::equal(name, b"convert") {
+        if given == 7 {
+            return Command::Convert;
+        }
+    }
+    if octets::equal(name, b"rollback") {
+        if given == 5 {
+            return Command::Rollback;
+        }
+    }
+    Command::Unknown
 }
 
 // The command of this name that takes so many arguments, its own name and the program's among them.
@@ -64,7 +105,7 @@ fn command_of(name: &[u8], given: usize) -> Command {
             return Command::Batch;
         }
     }
-    Command::Unknown
+    journal_command_of(name, given)
 }
 
 // The command that the first argument names.
@@ -74,7 +115,8 @@ fn asked(word: &mut [u8]) -> Command {
     command_of(&word[..n], given)
 }
 
-// Carries the command out, in buffers that serve all of them: `word` an argument or a line, `program`, `ancillae` and `value` bytes.
+// Carries the command out, in buffers that serve all of them: `word` an argument or a line, `program`, `ancillae` and `value` bytes; a
+// record stands in `ancillae`, a journal in `value`.
 fn carry_out(
     word: &mut [u8; LINE],
     program: &mut [u8; HALF],
@@ -89,6 +131,9 @@ fn carry_out(
         Command::Forward => runs::run(false, word, program, ancillae, value, workspace),
         Command::Backward => runs::run(true, word, program, ancillae, value, workspace),
         Command::Batch => input::answer_all(word, program, ancillae, value, workspace, output, out),
+        Command::Open => keeping::open(word, program, ancillae, value, workspace),
+        Command::Convert => keeping::convert(word, program, ancillae, value, workspace),
+        Command::Rollback => keeping::rollback(word, program, value, workspace),
         Command::Unknown => usage(),
     }
 }
