@@ -31,6 +31,9 @@ typedef struct corefun_answer {
 /* A value has at most so many bytes, so that an output of this length is never too short. */
 #define COREFUN_VALUE_BYTES 1024
 
+/* Bytes of the line that answers a call of a script. */
+#define COREFUN_LINE_BYTES 7
+
 /* Is the program accepted? It needs COREFUN_WORKSPACE(0). */
 void corefun_check(
     const uint8_t *program, size_t program_length,
@@ -84,6 +87,33 @@ void corefun_rollback(
     uint8_t *workspace, size_t workspace_length,
     uint8_t *journal, size_t journal_length,
     corefun_answer *answer);
+
+/* How the playing of a script ended. */
+typedef enum corefun_ending {
+    COREFUN_PLAYED = 0,        /* `at` is how many calls */
+    COREFUN_MALFORMED = 1,     /* no call stands at offset `at` of the script, or no open at its start: nothing was played */
+    COREFUN_TOO_WIDE = 2,      /* the call at `at` names a longer buffer than the journal's: nothing was played */
+    COREFUN_SHORT_ANSWERS = 3, /* there is no room for all answers: nothing was played */
+    COREFUN_UNOPENED = 4,      /* the first open is refused with `number` and `place` */
+    COREFUN_CUT = 5            /* the buffer of the call at `at` would cut the journal's fields: the calls before stand played */
+} corefun_ending;
+
+typedef struct corefun_replay_answer {
+    uint64_t ending; /* a corefun_ending */
+    uint64_t at;
+    uint64_t number;
+    uint64_t place;
+} corefun_replay_answer;
+
+/* Plays a script of open, convert and rollback calls on one journal (the form of scripts and answers: docs/USING.md). Each answer
+ * takes COREFUN_LINE_BYTES of `answers`. */
+void corefun_replay(
+    const uint8_t *program, size_t program_length,
+    const uint8_t *script, size_t script_length,
+    uint8_t *workspace, size_t workspace_length,
+    uint8_t *journal, size_t journal_length,
+    uint8_t *answers, size_t answers_length,
+    corefun_replay_answer *answer);
 
 #ifdef __cplusplus
 }

@@ -42,7 +42,7 @@ plus_calls() {
     echo "backward $most 1024 28 1 $program - 03${three}0402${three}"
 }
 
-# The answers to the calls of the example `journal`, each on the journal that the one before left.
+# The answers to the calls of the example `journal`, each on the journal that the one before left, and the script's answers.
 journal_answers() {
     local program two=04020402040100 three=040204020402040100 most=33664 journal answer zeros
     program=$(od -An -v -tx1 "$scratch/plus.cf" | tr -d ' \n')
@@ -51,6 +51,8 @@ journal_answers() {
     answer=$("$second" answer <<< "convert $most 28 0 $program $two ${answer##* }") && echo "$answer"
     answer=$("$second" answer <<< "rollback $most 28 $program ${answer##* }") && echo "$answer"
     answer=$("$second" answer <<< "rollback $most 28 $program ${answer##* }") && echo "$answer"
+    # Document 01, section 6, P13, in the lines of docs/USING.md: opened; 13 bytes, 28 steps; 9 bytes, 28 steps; refused 19.
+    echo "played 4 4100000000000042000d0000001c4200090000001c43001300000000"
 }
 
 second=tests/second/target/release/second

@@ -1,12 +1,13 @@
 #!/usr/bin/env bash
-# Links the engine as a static library and holds it to the second evaluator: on the calls of tests/calls, on fresh random calls and
-# lists of journal calls, on 26 weeks of a machine, in time (printed, not judged) and in stack. The last line is 'N passed,
+# Links the engine as a static library and holds it to the second evaluator: on the calls of tests/calls, on fresh random calls, lists
+# and scripts of journal calls, on 26 weeks of a machine, in time (printed, not judged) and in stack. The last line is 'N passed,
 # M failed'; the exit status is 0 only if M is 0.
 set -euo pipefail
 cd "$(dirname "$0")"
 
 random_calls=100000
 random_lists=2000
+random_scripts=2000
 seed=$(date +%s)
 passed=0
 failed=0
@@ -33,6 +34,7 @@ part "harness" cargo build --quiet --release --offline
 part "the calls of tests/calls" calls
 part "random calls, seed $seed" target/release/harness random "$seed" "$random_calls"
 part "lists of journal calls, seed $seed" target/release/harness lists "$seed" "$random_lists"
+part "scripts of journal calls, seed $seed" target/release/harness scripts "$seed" "$random_scripts"
 part "26 weeks of a machine, seed $seed" target/release/harness months "$seed" 26 4
 part "time beside the second evaluator" target/release/harness bench
 part "stack of the deepest calls" target/release/harness stack

@@ -1,9 +1,9 @@
-//! A journal that is opened, converted and rolled back, called from Rust. The program is the one of
-//! examples/programs/plus.txt, its bytes in a file.
+//! A journal that is opened, converted and rolled back, called from Rust; then the same calls as a script. The program is the one
+//! of examples/programs/plus.txt, its bytes in a file.
 //!
-//! It prints an answer a line: ok JOURNAL, held LENGTH STEPS JOURNAL, or refused NUMBER PLACE.
+//! It prints an answer a line: ok JOURNAL, held LENGTH STEPS JOURNAL, or refused NUMBER PLACE; then the script's answers.
 
-use corefun::{convert, open, rollback, workspace_bytes, Done, Refusal};
+use corefun::{convert, open, replay, rollback, workspace_bytes, Done, Refusal, LINE_BYTES};
 
 const PLUS: u16 = 0;
 const FUEL: u16 = 28;
@@ -24,7 +24,19 @@ fn main() -> Result<(), Box<dyn std::error::Error>> {
     print(answer, &journal);
     let answer = rollback(&program, FUEL, &mut workspace, &mut journal);
     print(answer, &journal);
+
+    let mut answers = vec![0; 4 * LINE_BYTES];
+    let played = replay(&program, &script(), &mut workspace, &mut journal, &mut answers)?;
+    println!("played {played} {}", hexadecimal(&answers));
     Ok(())
+}
+
+/// The four calls above, each in a buffer of 40 bytes.
+fn script() -> Vec<u8> {
+    let opens = [&[0x31, 0, 0, 0, 40, 0, 9], &nat(3)[..]].concat();
+    let converts = [&[0x32, 0, 0, 0, 40, 0, 28, 0, 0, 0, 7], &nat(2)[..]].concat();
+    let rolls_back = [0x33, 0, 0, 0, 40, 0, 28];
+    [&opens[..], &converts, &rolls_back, &rolls_back].concat()
 }
 
 /// Nat n is n times 04 02, then 04 01 00.

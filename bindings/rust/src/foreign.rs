@@ -1,9 +1,10 @@
 //! The library's own functions (include/corefun.h), each called with the pointers and lengths of slices. That is all that they
 //! ask for, so that these calls are safe.
 
-use crate::{Done, Refusal};
+use crate::{Done, Refusal, Stopped};
 
-/// What a call tells: the refusal's number or 0, its place, the value's length, the steps.
+/// What a call tells: the refusal's number or 0, its place, the value's length, the steps. Replay: how it ended, count or offset, a
+/// refusal's number and place.
 type Told = [u64; 4];
 
 type RunFunction = unsafe extern "C" fn(
@@ -92,6 +93,19 @@ extern "C" {
         workspace_length: usize,
         journal: *mut u8,
         journal_length: usize,
+        told: *mut Told,
+    );
+    fn corefun_replay(
+        program: *const u8,
+        program_length: usize,
+        script: *const u8,
+        script_length: usize,
+        workspace: *mut u8,
+        workspace_length: usize,
+        journal: *mut u8,
+        journal_length: usize,
+        answers: *mut u8,
+        answers_length: usize,
         told: *mut Told,
     );
 }
@@ -209,10 +223,50 @@ pub fn rollback(program: &[u8], fuel: u16, workspace: &mut [u8], journal: &mut [
     read(told)
 }
 
+pub fn replay(
+    program: &[u8],
+    script: &[u8],
+    workspace: &mut [u8],
+    journal: &mut [u8],
+    answers: &mut [u8],
+) -> Result<usize, Stopped> {
+    let mut told = [0; 4];
+    // SAFETY: each pointer and length are one slice's, and the borrows keep them apart.
+    unsafe {
+        corefun_replay(
+            program.as_ptr(),
+            program.len(),
+            script.as_ptr(),
+            script.len(),
+            workspace.as_mut_ptr(),
+            workspace.len(),
+            journal.as_mut_ptr(),
+            journal.len(),
+            answers.as_mut_ptr(),
+            answers.len(),
+            &mut told,
+        );
+    }
+    ending(told)
+}
+
 /// Numbers are 0 to 20, places and steps under 2^32, by the library's contracts.
 fn read([number, place, length, steps]: Told) -> Result<Done, Refusal> {
     match number {
         0 => Ok(Done { length: length as usize, steps: steps as u32 }),
         _ => Err(Refusal { number: number as u8, place: place as u32 }),
+    }
+}
+
+/// The endings are numbered as in include/corefun.h.
+fn ending([ending, at, number, place]: Told) -> Result<usize, Stopped> {
+    let at = at as usize;
+    match ending {
+        0 => Ok(at),
+        1 => Err(Stopped::Malformed(at)),
+        2 => Err(Stopped::TooWide(at)),
+        3 => Err(Stopped::ShortAnswers),
+        4 => Err(Stopped::Unopened(Refusal { number: number as u8, place: place as u32 })),
+        _ => Err(Stopped::Cut(at)),
     }
 }

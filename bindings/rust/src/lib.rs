@@ -5,11 +5,16 @@
 
 mod foreign;
 mod refusal;
+mod stopped;
 
 pub use refusal::Refusal;
+pub use stopped::Stopped;
 
 /// A value has at most so many bytes, so that an output of this length is never too short.
 pub const VALUE_BYTES: usize = 1024;
+
+/// Bytes of the line that answers a call of a script.
+pub const LINE_BYTES: usize = 7;
 
 /// What a run, a conversion or a rollback has done.
 #[derive(Clone, Copy, PartialEq, Eq, Debug)]
@@ -77,4 +82,16 @@ pub fn convert(
 /// Rolls the newest standing conversion back.
 pub fn rollback(program: &[u8], fuel: u16, workspace: &mut [u8], journal: &mut [u8]) -> Result<Done, Refusal> {
     foreign::rollback(program, fuel, workspace, journal)
+}
+
+/// Plays a script of open, convert and rollback calls on one journal (the form of scripts and answers: docs/USING.md): how many calls
+/// were played. Each answer takes `LINE_BYTES` of `answers`.
+pub fn replay(
+    program: &[u8],
+    script: &[u8],
+    workspace: &mut [u8],
+    journal: &mut [u8],
+    answers: &mut [u8],
+) -> Result<usize, Stopped> {
+    foreign::replay(program, script, workspace, journal, answers)
 }

@@ -1,5 +1,6 @@
 // The public calls for C and for Rust, as a static library (`rt staticlib exports`): a slice is a pointer and a length. What a call
 // answers is told in four numbers: the refusal's number, or 0 where it is accepted; its place; the value's length; the steps.
+use replay::replies::ReplayAnswer;
 use rows::answers::CheckAnswer;
 use rows::answers::RunAnswer;
 ghost use mathlib.Core.Path.{_≡_};
@@ -9,7 +10,9 @@ ghost use Rattle.calls.specs.Runs.{checkCall, forwardCall, backwardCall, writte
 ghost use Rattle.calls.specs.Conversions.{openCall, convertCall, rollbackCall};
 ghost use Rattle.calls.specs.Book.{afterOpen, afterTurned};
 ghost use Rattle.rows.specs.Answers.{checkAnswer, runAnswer, summary, openAnswer, heldAnswer};
-ghost use Rattle.exports.specs.Told.{checkTold, runTold};
+ghost use Rattle.replay.specs.Playing.{replyOf, replayed};
+ghost use Rattle.replay.specs.Booked.{Stood, Booked};
+ghost use Rattle.exports.specs.Told.{checkTold, runTold, replayTold};
 
 fn check_told(answer: CheckAnswer) -> [u64; 4]
     ensures { λ r. ⌜ r ≡ checkTold (checkAnswer answer) ⌝ }
@@ -26,6 +29,19 @@ fn run_told(answer: RunAnswer) -> [u64; 4]
     match answer {
         RunAnswer::Ran(d) => [0, 0, d.len as u64, d.steps as u64],
         RunAnswer::Refused(r) => [wording::number(r), wording::place(r), 0, 0],
+    }
+}
+
+fn replay_told(answer: ReplayAnswer) -> [u64; 4]
+    ensures { λ r. ⌜ r ≡ replayTold (replyOf answer) ⌝ }
+{
+    match answer {
+        ReplayAnswer::Played(k) => [0, k as u64, 0, 0],
+        ReplayAnswer::Malformed(at) => [1, at as u64, 0, 0],
+        ReplayAnswer::TooWide(at) => [2, at as u64, 0, 0],
+        ReplayAnswer::ShortAnswers => [3, 0, 0, 0],
+        ReplayAnswer::Unopened(r) => [4, 0, wording::number(r), wording::place(r)],
+        ReplayAnswer::Cut(at) => [5, at as u64, 0, 0],
     }
 }
 
@@ -130,4 +146,26 @@ pub extern "C" fn corefun_rollback(
 {
     let answer = engine::rollback(program, fuel, workspace, journal);
     *told = run_told(answer);
+}
+
+// Plays a script of calls on a journal. What is told: how it ended (0 played, 1 malformed, 2 a buffer too wide, 3 answers too short, 4 not
+// opened, 5 fields cut); how many calls were played, or the place in the script; and of a refused open the number and the place. What stands
+// played is the plain book's.
+#[no_mangle]
+pub extern "C" fn corefun_replay(
+    program: &[u8],
+    script: &[u8],
+    workspace: &mut [u8],
+    journal: &mut [u8],
+    answers: &mut [u8],
+    told: &mut [u64; 4],
+)
+    ensures answer { λ _. ⌜ now (told .exit) ≡ replayTold ((replayed (now (program .entry)) (now (script .entry)) (now (journal .entry)) (now (answers .entry)) (now (workspace .entry))) .reply) ⌝ }
+    ensures keeps { λ _. ⌜ now (journal .exit) ≡ (replayed (now (program .entry)) (now (script .entry)) (now (journal .entry)) (now (answers .entry)) (now (workspace .entry))) .journal ⌝ }
+    ensures fills { λ _. ⌜ now (answers .exit) ≡ (replayed (now (program .entry)) (now (script .entry)) (now (journal .entry)) (now (answers .entry)) (now (workspace .entry))) .answers ⌝ }
+    ensures clear { λ _. ⌜ now (workspace .exit) ≡ (replayed (now (program .entry)) (now (script .entry)) (now (journal .entry)) (now (answers .entry)) (now (workspace .entry))) .workspace ⌝ }
+    ensures book { λ _. ⌜ (Stood ((replayed (now (program .entry)) (now (script .entry)) (now (journal .entry)) (now (answers .entry)) (now (workspace .entry))) .reply) → Booked (now (program .entry)) (now (script .entry)) (now (journal .entry)) (now (answers .entry)) (length (now (workspace .entry))) ((replayed (now (program .entry)) (now (script .entry)) (now (journal .entry)) (now (answers .entry)) (now (workspace .entry))) .reply) (now (journal .exit)) (now (answers .exit))) ⌝ }
+{
+    let answer = replay::replay(program, script, workspace, journal, answers);
+    *told = replay_told(answer);
 }

@@ -2,7 +2,9 @@
 
 use crate::foreign::{self, Told};
 use second::calls::{Answer, Call, RunCall};
+use second::make::scripts::ScriptCall;
 use second::refusal::{Number, Refusal};
+use second::script::Ended;
 
 /// The engine's answer, or what it broke: a byte of the workspace, the output or the journal that is not as section 4 has it.
 pub fn answer(call: &Call) -> Result<Answer, String> {
@@ -64,8 +66,37 @@ fn held((told, left): (Told, Result<Vec<u8>, Refusal>)) -> Result<Answer, String
     }
 }
 
+/// What playing a script leaves in the buffers, which start with a pattern.
+#[derive(PartialEq, Eq)]
+pub struct Replayed {
+    pub ended: Ended,
+    pub workspace: Vec<u8>,
+    pub journal: Vec<u8>,
+    pub answers: Vec<u8>,
+}
+
+pub fn replay(call: &ScriptCall) -> Result<Replayed, String> {
+    let mut workspace = pattern(call.workspace);
+    let (mut journal, mut answers) = (pattern(call.journal), pattern(call.answers));
+    let told = foreign::replay(&call.program, &call.script, &mut workspace, &mut journal, &mut answers);
+    Ok(Replayed { ended: ending(told)?, workspace, journal, answers })
+}
+
+fn ending([way, at, number, place]: Told) -> Result<Ended, String> {
+    let refused = refusal([number, place, 0, 0])?;
+    match (way, refused) {
+        (0, None) => Ok(Ended::Played(at as usize)),
+        (1, None) => Ok(Ended::Malformed(at as usize)),
+        (2, None) => Ok(Ended::TooWide(at as usize)),
+        (3, None) if at == 0 => Ok(Ended::ShortAnswers),
+        (4, Some(refusal)) if at == 0 => Ok(Ended::Unopened(refusal)),
+        (5, None) => Ok(Ended::Cut(at as usize)),
+        _ => Err(format!("no ending: {:?}", [way, at, number, place])),
+    }
+}
+
 /// Bytes that no call writes by chance.
-fn pattern(length: usize) -> Vec<u8> {
+pub fn pattern(length: usize) -> Vec<u8> {
     const PERIOD: usize = 223;
     let period: [u8; PERIOD] = std::array::from_fn(|i| (17 + 31 * i % PERIOD) as u8);
     let mut bytes = period.repeat(length / PERIOD + 1);

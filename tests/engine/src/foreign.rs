@@ -2,7 +2,7 @@
 
 use second::calls::{Direction, RunCall};
 
-/// What a call tells: number (0 accepted), place, length of the value, steps.
+/// What a call tells: number (0 accepted), place, length of the value, steps. Replay: how it ended, count or offset, number, place.
 pub type Told = [u64; 4];
 
 type RunFunction = unsafe extern "C" fn(
@@ -91,6 +91,19 @@ extern "C" {
         workspace_length: usize,
         journal: *mut u8,
         journal_length: usize,
+        told: *mut Told,
+    );
+    fn corefun_replay(
+        program: *const u8,
+        program_length: usize,
+        script: *const u8,
+        script_length: usize,
+        workspace: *mut u8,
+        workspace_length: usize,
+        journal: *mut u8,
+        journal_length: usize,
+        answers: *mut u8,
+        answers_length: usize,
         told: *mut Told,
     );
 }
@@ -191,6 +204,32 @@ pub fn rollback(program: &[u8], fuel: u16, workspace: &mut [u8], journal: &mut [
             workspace.len(),
             journal.as_mut_ptr(),
             journal.len(),
+            &mut told,
+        );
+    }
+    told
+}
+
+pub fn replay(
+    program: &[u8],
+    script: &[u8],
+    workspace: &mut [u8],
+    journal: &mut [u8],
+    answers: &mut [u8],
+) -> Told {
+    let mut told = NOTHING;
+    unsafe {
+        corefun_replay(
+            program.as_ptr(),
+            program.len(),
+            script.as_ptr(),
+            script.len(),
+            workspace.as_mut_ptr(),
+            workspace.len(),
+            journal.as_mut_ptr(),
+            journal.len(),
+            answers.as_mut_ptr(),
+            answers.len(),
             &mut told,
         );
     }

@@ -5,6 +5,7 @@ mod compare;
 mod engine;
 mod foreign;
 mod months;
+mod scripts;
 mod stack;
 
 use compare::Tally;
@@ -14,8 +15,9 @@ const USAGE: &str = "\
 usage: harness lines < CALLS         both answer each call, and are compared
        harness random SEED COUNT     the same on COUNT random calls
        harness lists SEED COUNT      COUNT lists of journal calls, each on the bytes that the engine left
+       harness scripts SEED COUNT    COUNT scripts of journal calls, played whole
        harness months SEED WEEKS STROKES
-                                     the months of a machine with STROKES a day, call by call
+                                     the months of a machine with STROKES a day, call by call and as one script
        harness bench                 ns a step forward and backward, ns a term for check, us a journal call, as ratios
        harness stack                 the stack that the deepest calls need";
 
@@ -29,6 +31,9 @@ fn main() -> ExitCode {
         }
         ["lists", seed, count] => {
             number(seed).and_then(|seed| report(compare::compare_lists(seed, number(count)? as usize)))
+        }
+        ["scripts", seed, count] => {
+            number(seed).and_then(|seed| report(scripts::compare_scripts(seed, number(count)? as usize)))
         }
         ["months", seed, weeks, strokes] => number(seed)
             .and_then(|seed| months::compare_months(seed, number(weeks)? as usize, number(strokes)? as usize)),

@@ -1,10 +1,11 @@
 //! The months of a machine, answered by the engine and by the plain book.
 
-use crate::engine;
+use crate::engine::{self, Replayed};
 use second::calls::{Answer, Call, ConvertCall};
 use second::lines::write_hex;
+use second::make::scripts::ScriptCall;
 use second::months::{months, Months, BUFFER, WORKSPACE};
-use second::script::{line, Act, Step, LINE};
+use second::script::{line, Act, Ended, Step, LINE};
 use std::time::Instant;
 
 /// Every answer and the journal at the end are the book's.
@@ -15,7 +16,32 @@ pub fn compare_months(seed: u64, weeks: usize, strokes: usize) -> Result<(), Str
     let clock = Instant::now();
     call_by_call(&made)?;
     println!("call by call in {:.1} s", clock.elapsed().as_secs_f64());
+    let clock = Instant::now();
+    whole(made)?;
+    println!("as one script in {:.1} s", clock.elapsed().as_secs_f64());
     Ok(())
+}
+
+/// The script played by one call.
+fn whole(made: Months) -> Result<(), String> {
+    let call = ScriptCall {
+        program: made.program,
+        script: made.script,
+        workspace: WORKSPACE,
+        journal: BUFFER,
+        answers: made.answers.len(),
+    };
+    let expected = Replayed {
+        ended: Ended::Played(made.tally.calls),
+        workspace: vec![0; WORKSPACE],
+        journal: made.journal,
+        answers: made.answers,
+    };
+    if engine::replay(&call)? == expected {
+        Ok(())
+    } else {
+        Err("the script played whole differs".to_string())
+    }
 }
 
 /// Each call gets the bytes that the engine itself left, in the front part of the buffer that it names.

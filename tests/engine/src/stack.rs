@@ -76,7 +76,8 @@ fn deepest(group: usize) -> Vec<Call> {
     }
     calls.push(run(&tested, Direction::Forward, &[], [&[2], &nat_bytes(501)[..]].concat()));
     calls.push(run(&tested, Direction::Backward, &[], nat_bytes(501)));
-    calls.extend(journal_calls(&library));
+    calls.extend(journal_calls(&library, nat_bytes(0), nat_bytes(255)));
+    calls.extend(journal_calls(&tested, Vec::new(), [&[2], &nat_bytes(501)[..]].concat()));
     calls.retain(|call| match call {
         Call::Check { .. } => group == 0,
         Call::Run(call) => group == if call.direction == Direction::Forward { 1 } else { 2 },
@@ -87,25 +88,20 @@ fn deepest(group: usize) -> Vec<Call> {
     calls
 }
 
-/// The deepest conversion, and its rollback.
-fn journal_calls(program: &[u8]) -> [Call; 2] {
+/// A conversion by function 0, and its rollback.
+fn journal_calls(program: &[u8], ancillae: Vec<u8>, record: Vec<u8>) -> [Call; 2] {
     let left = |call: &Call| match answer(call) {
         Answer::Opened { journal } | Answer::Held { journal, .. } => journal,
         other => panic!("a call that is accepted: {other:?}"),
     };
     let (room, program) = (workspace(FUEL), program.to_vec());
-    let open = Call::Open {
-        workspace: room,
-        program: program.clone(),
-        record: nat_bytes(255),
-        journal: vec![0; 2 * VALUE_BYTES],
-    };
+    let open = Call::Open { workspace: room, program: program.clone(), record, journal: vec![0; 2 * VALUE_BYTES] };
     let convert = Call::Convert(ConvertCall {
         workspace: room,
         fuel: FUEL,
         function: 0,
         program: program.clone(),
-        ancillae: nat_bytes(0),
+        ancillae,
         journal: left(&open),
     });
     let rollback = Call::Rollback { workspace: room, fuel: FUEL, program, journal: left(&convert) };

@@ -166,20 +166,20 @@ impl Player {
     }
 }
 
-/// How the playing of a script ended; places are offsets in the script. The calls before such a place stand played.
+/// How the playing of a script ended; places are offsets in the script.
 #[derive(Clone, Copy, PartialEq, Eq, Debug)]
 pub enum Ended {
     /// All calls, so many.
     Played(usize),
-    /// No call stands there, or no open at the start.
+    /// No call stands there, or no open at the start: nothing was played.
     Malformed(usize),
-    /// The call's buffer is longer than the journal's.
+    /// The call's buffer is longer than the journal's: nothing was played.
     TooWide(usize),
-    /// No room for the next answer.
+    /// No room for the answers: nothing was played.
     ShortAnswers,
     /// The first open was refused.
     Unopened(Refusal),
-    /// The call's buffer would cut the journal's fields.
+    /// The call's buffer would cut the journal's fields: the calls before stand played, with their answers.
     Cut(usize),
 }
 
@@ -191,22 +191,16 @@ pub fn replay(
     journal: &mut Vec<u8>,
     answers: &mut [u8],
 ) -> Ended {
+    let steps = match read_script(script, journal.len(), answers.len()) {
+        Ok(steps) => steps,
+        Err(ended) => return ended,
+    };
     let mut player = Player::new(program.to_vec(), workspace.len());
-    let mut rest = script;
-    let mut count = 0;
-    while count == 0 || !rest.is_empty() {
-        let at = script.len() - rest.len();
-        let Some((step, behind)) = Step::read(rest) else { return Ended::Malformed(at) };
-        if count == 0 && !matches!(step.act, Act::Open { .. }) {
-            return Ended::Malformed(at);
-        } else if step.buffer > journal.len() {
-            return Ended::TooWide(at);
-        } else if answers.len() < LINE * (count + 1) {
-            return Ended::ShortAnswers;
-        } else if step.buffer < player.fields.len() {
-            return Ended::Cut(at);
+    for (count, (at, step)) in steps.iter().enumerate() {
+        if step.buffer < player.fields.len() {
+            return Ended::Cut(*at);
         }
-        let answer = player.play(&step);
+        let answer = player.play(step);
         if !matches!(answer, Answer::Refused(refusal) if refusal.number == Number::Workspace) {
             workspace.fill(0);
         }
@@ -215,8 +209,28 @@ pub fn replay(
             answer => answers[LINE * count..][..LINE].copy_from_slice(&line(&answer)),
         }
         *journal = player.journal(journal.len());
-        count += 1;
+    }
+    Ended::Played(steps.len())
+}
+
+/// The calls with their offsets. A script is read to its end before a call is made: each call stands there whole, and there is room for
+/// it and for its answer. Only then is the first call looked at.
+fn read_script(script: &[u8], journal: usize, answers: usize) -> Result<Vec<(usize, Step)>, Ended> {
+    let mut steps = Vec::new();
+    let mut rest = script;
+    while !rest.is_empty() {
+        let at = script.len() - rest.len();
+        let (step, behind) = Step::read(rest).ok_or(Ended::Malformed(at))?;
+        if step.buffer > journal {
+            return Err(Ended::TooWide(at));
+        } else if answers < LINE * (steps.len() + 1) {
+            return Err(Ended::ShortAnswers);
+        }
+        steps.push((at, step));
         rest = behind;
     }
-    Ended::Played(count)
+    match steps.first() {
+        Some((_, Step { act: Act::Open { .. }, .. })) => Ok(steps),
+        _ => Err(Ended::Malformed(0)),
+    }
 }

@@ -77,7 +77,7 @@ fn a_script_that_does_not_begin_with_a_call_of_open_is_malformed() {
 }
 
 #[test]
-fn playing_stops_where_a_call_cannot_be_made() {
+fn a_script_is_read_to_its_end_before_a_call_is_made() {
     let begun = script(&[open(40, 3), add_two(32)]);
     let at = begun.len();
     let mut cut_short = [&begun[..], &script(&[rollback(40)])].concat();
@@ -85,17 +85,23 @@ fn playing_stops_where_a_call_cannot_be_made() {
     let ends = [
         (cut_short, Ended::Malformed(at)),
         ([&begun[..], &script(&[rollback(41)])].concat(), Ended::TooWide(at)),
-        ([&begun[..], &script(&[rollback(31)])].concat(), Ended::Cut(at)),
+        ([&begun[..], &script(&[rollback(40), rollback(40)])].concat(), Ended::ShortAnswers),
     ];
     for (script, ended) in ends {
         let left = play(&script);
         assert_eq!(left.ended, ended);
-        assert_eq!(left.journal[0..3], [0x21, 0, 13]);
-        assert_eq!(left.answers[2 * LINE..], [0x55; LINE]);
+        assert!(all(&left.journal, 0x55) && all(&left.answers, 0x55) && all(&left.workspace, 0x55));
     }
-    let left = play(&script(&[open(40, 3), add_two(40), rollback(40), rollback(40)]));
-    assert_eq!(left.ended, Ended::ShortAnswers);
-    assert_eq!(left.journal[0..3], [0x21, 0, 9]);
+}
+
+#[test]
+fn playing_stops_before_the_fields_are_cut() {
+    let begun = script(&[open(40, 3), add_two(32)]);
+    let left = play(&[&begun[..], &script(&[rollback(31)])].concat());
+    assert_eq!(left.ended, Ended::Cut(begun.len()));
+    assert_eq!(left.journal[0..3], [0x21, 0, 13]);
+    assert_eq!(left.answers[LINE..2 * LINE], [0x42, 0, 13, 0, 0, 0, 28]);
+    assert!(all(&left.answers[2 * LINE..], 0x55));
 }
 
 #[test]

@@ -1,0 +1,57 @@
+use Rattle.replay.proofs.Beginnings.{follow-refused, follow-accepted}
+use borrow.Author.Needs.{needs}
+use Rattle.replay.proofs.playing.opened_on.Statement.{statement}
+use Rattle.replay.proofs.playing.opened_on.Tie as tie
+
+enum-known-answer : tie.Need-enum-known-answer
+enum-known-answer c = search needs
+
+enum-told : tie.Need-enum-told
+enum-told c = search needs
+
+clear-from-requires : tie.Need-clear-from-requires
+clear-from-requires c κs = search needs
+
+open-line-requires : tie.Need-open-line-requires
+open-line-requires c κs = search needs
+
+slice-aggregate-copy : tie.Need-slice-aggregate-copy
+slice-aggregate-copy c = search needs
+
+copy-requires : tie.Need-copy-requires
+copy-requires c κs = search needs
+
+play-on-requires : tie.Need-play-on-requires
+play-on-requires c κs = search needs
+
+returns : tie.Need-returns
+returns c = let a = c .before .before .before .before .before .before .before .before .args in follow-refused (a .program .now) (a .script .now) (a .part) (a .journal .now) (a .answers .now) (a .workspace .now) _ _ (c .before .answer .given .1)
+
+same-length : tie.Need-same-length
+same-length c = search needs
+
+same-length-2 : tie.Need-same-length-2
+same-length-2 c = search needs
+
+same-length-3 : tie.Need-same-length-3
+same-length-3 c = search needs
+
+returns-2 : tie.Need-returns-2
+returns-2 c = let a = c .before .before .before .before .before .before .before .before .before .before .before .before .before .before .before .before .before .before .before .before .before .before .before .before .before .before .before .args in follow-accepted (a .program .now) (a .script .now) (a .part) (a .journal .now) (a .answers .now) (a .workspace .now) _ _ _ _ _ _ _ _ (c .before .before .before .before .before .before .before .before .before .before .before .before .before .before .before .before .before .before .before .before .enum-told .given .1) (c .before .before .before .before .before .before .before .before .before .before .before .before .before .before .before .before .before .before .before .before .before .before .before .before .before .before .before .pre .1 .0) (c .before .before .before .before .before .before .before .before .before .before .before .before .before .before .before .before .before .before .clear-from .ensures) (c .before .before .before .before .before .before .before .before .before .before .before .before .before .before .before .open-line .ensures) (c .before .before .before .before .before .before .before .before .before .before .before .before .copy .ensures) (c .before .before .before .before .before .before .play-on .ensures)
+
+pub opened-on-spec : {M : Type 1} → statement M
+opened-on-spec =
+    tie.close
+    (tie.spec
+    enum-known-answer
+    enum-told
+    clear-from-requires
+    open-line-requires
+    slice-aggregate-copy
+    copy-requires
+    play-on-requires
+    returns
+    same-length
+    same-length-2
+    same-length-3
+    returns-2)

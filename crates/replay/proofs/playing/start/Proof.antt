@@ -1,0 +1,56 @@
+use mathlib.Core.Path.{sym, _∙_}
+use Rattle.replay.proofs.Beginnings.{begins-end, begins-malformed, begins-play}
+use Rattle.replay.proofs.Parts.{within}
+use native.Mathlib.Omega.{arith}
+use borrow.Author.Needs.{needs}
+use Rattle.replay.proofs.playing.start.Statement.{statement}
+use Rattle.replay.proofs.playing.start.Tie as tie
+
+step-at-requires : tie.Need-step-at-requires
+step-at-requires c κs = search needs
+
+enum-told : tie.Need-enum-told
+enum-told c = search needs
+
+enum-told-2 : tie.Need-enum-told-2
+enum-told-2 c = search needs
+
+enum-known-step : tie.Need-enum-known-step
+enum-known-step c = search needs
+
+begin-requires : tie.Need-begin-requires
+begin-requires c κs = let w = within (c .before .before .before .before .before .before .before .before .before .before .before .before .args .script .now) 0 (sym (c .before .before .before .before .before .before .step-at .ensures) ∙ c .before .before .before .before .step .given .1) in ((w .ordered, w .inside), omega (arith, w .further))
+
+returns : tie.Need-returns
+returns c = begins-end (c .before .before .before .before .before .before .before .before .args .program .now) (c .before .before .before .before .before .before .before .before .args .script .now) (c .before .before .before .before .before .before .before .before .args .journal .now) (c .before .before .before .before .before .before .before .before .args .answers .now) (c .before .before .before .before .before .before .before .before .args .workspace .now) _ (sym (c .enum-told .given .1) ∙ c .before .before .step-at .ensures)
+
+returns-2 : tie.Need-returns-2
+returns-2 c = begins-malformed (c .before .before .before .before .before .before .before .before .args .program .now) (c .before .before .before .before .before .before .before .before .args .script .now) (c .before .before .before .before .before .before .before .before .args .journal .now) (c .before .before .before .before .before .before .before .before .args .answers .now) (c .before .before .before .before .before .before .before .before .args .workspace .now) _ (sym (c .enum-told2 .given .1) ∙ c .before .before .step-at .ensures)
+
+same-length : tie.Need-same-length
+same-length c = search needs
+
+same-length-2 : tie.Need-same-length-2
+same-length-2 c = search needs
+
+same-length-3 : tie.Need-same-length-3
+same-length-3 c = search needs
+
+returns-3 : tie.Need-returns-3
+returns-3 c = begins-play (c .before .before .before .before .before .before .before .before .before .before .before .before .before .before .before .before .before .before .before .args .program .now) (c .before .before .before .before .before .before .before .before .before .before .before .before .before .before .before .before .before .before .before .args .script .now) (c .before .before .before .before .before .before .before .before .before .before .before .before .before .before .before .before .before .before .before .args .journal .now) (c .before .before .before .before .before .before .before .before .before .before .before .before .before .before .before .before .before .before .before .args .answers .now) (c .before .before .before .before .before .before .before .before .before .before .before .before .before .before .before .before .before .before .before .args .workspace .now) _ _ _ _ _ _ (sym (c .before .before .before .before .before .before .before .before .before .before .before .step .given .1) ∙ c .before .before .before .before .before .before .before .before .before .before .before .before .before .step-at .ensures) (c .before .before .before .before .before .before .begin .ensures)
+
+pub start-spec : {M : Type 1} → statement M
+start-spec =
+    tie.close
+    (tie.spec
+    step-at-requires
+    enum-told
+    enum-told-2
+    enum-known-step
+    begin-requires
+    returns
+    returns-2
+    same-length
+    same-length-2
+    same-length-3
+    returns-3)

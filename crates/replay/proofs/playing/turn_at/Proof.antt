@@ -1,0 +1,55 @@
+use mathlib.Core.Path.{sym, _∙_}
+use Rattle.replay.proofs.Turns.{turn-ends, turn-breaks, turn-plays}
+use Rattle.replay.proofs.Parts.{within}
+use borrow.Author.Needs.{needs}
+use Rattle.replay.proofs.playing.turn_at.Statement.{statement}
+use Rattle.replay.proofs.playing.turn_at.Tie as tie
+
+step-at-requires : tie.Need-step-at-requires
+step-at-requires c κs = search needs
+
+enum-told : tie.Need-enum-told
+enum-told c = search needs
+
+enum-told-2 : tie.Need-enum-told-2
+enum-told-2 c = search needs
+
+enum-known-step : tie.Need-enum-known-step
+enum-known-step c = search needs
+
+turn-requires : tie.Need-turn-requires
+turn-requires c κs = let w = within (c .before .before .before .before .before .before .before .before .before .before .before .before .args .script .now) (c .before .before .before .before .before .before .before .before .before .before .before .before .args .at) (sym (c .before .before .before .before .before .before .step-at .ensures) ∙ c .before .before .before .before .step .given .1) in ((w .ordered, w .inside), c .before .before .before .before .before .before .before .before .before .before .before .before .pre .1)
+
+returns : tie.Need-returns
+returns c = let a = c .before .before .before .before .before .before .before .before .args in turn-ends (a .program .now) (a .script .now) (a .at) (a .count) (a .journal .now) (a .answers .now) (a .workspace .now) _ (sym (c .enum-told .given .1) ∙ c .before .before .step-at .ensures)
+
+returns-2 : tie.Need-returns-2
+returns-2 c = let a = c .before .before .before .before .before .before .before .before .args in turn-breaks (a .program .now) (a .script .now) (a .at) (a .count) (a .journal .now) (a .answers .now) (a .workspace .now) _ (sym (c .enum-told2 .given .1) ∙ c .before .before .step-at .ensures)
+
+same-length : tie.Need-same-length
+same-length c = search needs
+
+same-length-2 : tie.Need-same-length-2
+same-length-2 c = search needs
+
+same-length-3 : tie.Need-same-length-3
+same-length-3 c = search needs
+
+returns-3 : tie.Need-returns-3
+returns-3 c = let a = c .before .before .before .before .before .before .before .before .before .before .before .before .before .before .before .before .before .before .before .args in turn-plays (a .program .now) (a .script .now) (a .at) (a .count) (a .journal .now) (a .answers .now) (a .workspace .now) _ _ _ _ _ _ (sym (c .before .before .before .before .before .before .before .before .before .before .before .step .given .1) ∙ c .before .before .before .before .before .before .before .before .before .before .before .before .before .step-at .ensures) (c .before .before .before .before .before .before .turn .ensures)
+
+pub turn-at-spec : {M : Type 1} → statement M
+turn-at-spec =
+    tie.close
+    (tie.spec
+    step-at-requires
+    enum-told
+    enum-told-2
+    enum-known-step
+    turn-requires
+    returns
+    returns-2
+    same-length
+    same-length-2
+    same-length-3
+    returns-3)

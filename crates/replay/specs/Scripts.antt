@@ -1,0 +1,80 @@
+-- A script: the arguments of journal calls (section 5), one call behind another. A call is a tag byte (31, 32 or 33 hexadecimal: open,
+-- convert, rollback), the length of its journal's buffer in four bytes, then two bytes each: convert and rollback their fuel, convert its
+-- function, open and convert the length of the bytes behind: the record, or the ancilla values. Laws: proofs/Parts.
+use Prim.Native.Nat.{ℕ, zero, suc, _+_, _-_}
+use mathlib.Core.Bool.{Bool, true, false}
+use mathlib.Core.List.{List, [], _∷_}
+use lib.ListN.{length, take, drop, getD}
+use lib.Dec.{eqb, ltb}
+use package.Rattle.octets.specs.Numbers.{get16, get32}
+use package.Rattle.calls.specs.Book.{Call, opens, converts, rollsBack}
+use package.Rattle.replay.specs.declared.scripts.Part.{Part}
+use package.Rattle.replay.specs.declared.scripts.Step.{Step}
+use package.Rattle.replay.specs.declared.scripts.Step.the-variants.{End, Malformed, Play}
+
+abbrev pub pick : {A : Type 0} → Bool → A → A → A
+pick true a b = a
+pick false a b = b
+
+abbrev pub openTag : ℕ
+openTag = 0x31
+
+abbrev pub convertTag : ℕ
+convertTag = 0x32
+
+abbrev pub rollbackTag : ℕ
+rollbackTag = 0x33
+
+----------------------------------------------------------------
+-- One call
+
+-- the call ends with the bytes whose length stands at `at`
+unfoldable pub givenAt : List ℕ → ℕ → ℕ → ℕ → ℕ → ℕ → Step
+givenAt s kind n fuel function at =
+    pick (ltb (length s - (at + 2)) (get16 s at)) Malformed
+    (Play (record { kind = kind; n = n; fuel = fuel; function = function; from = at + 2; next = at + 2 + get16 s at }))
+
+unfoldable pub openAt : List ℕ → ℕ → Step
+unfolding givenAt
+openAt s at = pick (ltb (length s - at) 7) Malformed (givenAt s openTag (get32 s (at + 1)) 0 0 (at + 5))
+
+unfoldable pub convertAt : List ℕ → ℕ → Step
+unfolding givenAt
+convertAt s at = pick (ltb (length s - at) 11) Malformed (givenAt s convertTag (get32 s (at + 1)) (get16 s (at + 5)) (get16 s (at + 7)) (at + 9))
+
+unfoldable pub rollbackAt : List ℕ → ℕ → Step
+rollbackAt s at =
+    pick (ltb (length s - at) 7) Malformed
+    (Play (record { kind = rollbackTag; n = get32 s (at + 1); fuel = get16 s (at + 5); function = 0; from = at + 7; next = at + 7 }))
+
+-- what stands at a place of a script
+unfoldable pub stepAt : List ℕ → ℕ → Step
+unfolding openAt convertAt rollbackAt
+stepAt s at =
+    pick (eqb (length s - at) 0) End
+    (pick (eqb (getD s at 0) openTag) (openAt s at)
+    (pick (eqb (getD s at 0) convertTag) (convertAt s at)
+    (pick (eqb (getD s at 0) rollbackTag) (rollbackAt s at) Malformed)))
+
+-- the record, or the ancilla values
+abbrev pub givenOf : List ℕ → Part → List ℕ
+givenOf s p = take (p .next - p .from) (drop (p .from) s)
+
+-- the call, with a workspace of `ws` bytes
+unfoldable pub callOf : ℕ → List ℕ → Part → Call
+callOf ws s p =
+    pick (eqb (p .kind) openTag) (opens ws (givenOf s p) (p .n))
+    (pick (eqb (p .kind) convertTag) (converts ws (p .fuel) (p .function) (givenOf s p) (p .n)) (rollsBack ws (p .fuel) (p .n)))
+
+----------------------------------------------------------------
+-- All calls
+
+-- the calls from a place on; `left` bounds how many there are
+unfoldable pub callsFrom : ℕ → ℕ → List ℕ → ℕ → List Call
+unfolding stepAt callOf
+callsFrom zero ws s at = []
+callsFrom (suc left) ws s at = elim (stepAt s at) [
+  | End ↦ []
+  | Malformed ↦ []
+  | Play p ↦ callOf ws s p ∷ callsFrom left ws s (p .next)
+]
