@@ -1,0 +1,2 @@
+-- the laws of the reports
+pub mod Reporting

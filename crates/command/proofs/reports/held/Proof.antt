@@ -1,0 +1,51 @@
+use Rattle.lines.proofs.Writing.{wrote-five}
+use Rattle.command.specs.Reports.{heldText}
+use borrow.Author.Needs.{needs}
+use Rattle.command.proofs.reports.held.Statement.{statement}
+use Rattle.command.proofs.reports.held.Tie as tie
+
+slice-aggregate-put : tie.Need-slice-aggregate-put
+slice-aggregate-put c = search needs
+
+put-requires : tie.Need-put-requires
+put-requires c κs = search needs
+
+put-figure-requires : tie.Need-put-figure-requires
+put-figure-requires c κs = search needs
+
+slice-aggregate-put-2 : tie.Need-slice-aggregate-put-2
+slice-aggregate-put-2 c = search needs
+
+put-requires-2 : tie.Need-put-requires-2
+put-requires-2 c κs = search needs
+
+put-figure-requires-2 : tie.Need-put-figure-requires-2
+put-figure-requires-2 c κs = search needs
+
+slice-aggregate-put-3 : tie.Need-slice-aggregate-put-3
+slice-aggregate-put-3 c = search needs
+
+put-requires-3 : tie.Need-put-requires-3
+put-requires-3 c κs = search needs
+
+same-length : tie.Need-same-length
+same-length c = search needs
+
+returns : tie.Need-returns
+unfolding heldText
+returns c = wrote-five (c .before .before .before .before .before .before .before .before .before .before .before .before .before .before .before .before .before .before .before .before .put .ensures) (c .before .before .before .before .before .before .before .before .before .before .before .before .before .before .before .before .put-figure .ensures .0) (c .before .before .before .before .before .before .before .before .before .before .before .put2 .ensures) (c .before .before .before .before .before .before .before .put-figure2 .ensures .0) (c .before .before .put3 .ensures)
+
+pub held-spec : {M : Type 1} → statement M
+held-spec =
+    tie.close
+    (tie.spec
+    slice-aggregate-put
+    put-requires
+    put-figure-requires
+    slice-aggregate-put-2
+    put-requires-2
+    put-figure-requires-2
+    slice-aggregate-put-3
+    put-requires-3
+    same-length
+    returns)

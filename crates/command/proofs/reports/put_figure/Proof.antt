@@ -1,0 +1,17 @@
+use native.Mathlib.Omega.{arith}
+use Rattle.lines.proofs.Figures.{at-most-twenty}
+use borrow.Author.Needs.{needs}
+use Rattle.command.proofs.reports.put_figure.Statement.{statement}
+use Rattle.command.proofs.reports.put_figure.Tie as tie
+
+put-number-requires : tie.Need-put-number-requires
+put-number-requires c κs = omega (arith, c .before .before .pre, at-most-twenty (c .before .before .args .n) (search needs))
+
+same-length : tie.Need-same-length
+same-length c = search needs
+
+returns : tie.Need-returns
+returns c = (c .before .before .put-number .ensures, omega (arith, c .before .before .put-number .ensures .ends, at-most-twenty (c .before .before .before .before .before .args .n) (search needs)))
+
+pub put-figure-spec : {M : Type 1} → statement M
+put-figure-spec = tie.close (tie.spec put-number-requires same-length returns)

@@ -1,0 +1,48 @@
+use native.Mathlib.Omega.{arith}
+use mathlib.Core.Path.{sym, ap}
+use Rattle.rows.specs.Answers.{runAnswer}
+use Rattle.lines.proofs.Writing.{wrote-as}
+use Rattle.wording.specs.Replies.{runText, lengthOf}
+use Rattle.command.specs.Reports.{filledReport}
+use borrow.Author.Needs.{needs}
+use Rattle.command.proofs.reports.run_report.Statement.{statement}
+use Rattle.command.proofs.reports.run_report.Tie as tie
+
+enum-known-answer : tie.Need-enum-known-answer
+enum-known-answer c = search needs
+
+run-line-requires : tie.Need-run-line-requires
+run-line-requires c κs = (omega (arith, c .before .before .before .before .before .before .pre .0, ap lengthOf (c .before .before .answer .given .1)), (omega (arith, c .before .before .before .before .before .before .pre .1), omega (arith, c .before .before .before .before .before .before .pre .1)))
+
+enum-known-answer-2 : tie.Need-enum-known-answer-2
+enum-known-answer-2 c = search needs
+
+refusal-requires : tie.Need-refusal-requires
+refusal-requires c κs = omega (arith, c .before .before .before .before .before .before .pre .1)
+
+same-length : tie.Need-same-length
+same-length c = search needs
+
+returns : tie.Need-returns
+unfolding runText filledReport
+returns c = wrote-as (c .before .before .run-line .ensures) (sym (ap (λ a. filledReport (runAnswer a) (c .before .before .before .before .before .before .before .before .before .args .output .now)) (c .before .before .before .before .before .answer .given .1)))
+
+same-length-2 : tie.Need-same-length-2
+same-length-2 c = search needs
+
+returns-2 : tie.Need-returns-2
+unfolding filledReport
+returns-2 c = wrote-as (c .before .before .refusal .ensures) (sym (ap (λ a. filledReport (runAnswer a) (c .before .before .before .before .before .before .before .before .before .args .output .now)) (c .before .before .before .before .before .answer2 .given .1)))
+
+pub run-report-spec : {M : Type 1} → statement M
+run-report-spec =
+    tie.close
+    (tie.spec
+    enum-known-answer
+    run-line-requires
+    enum-known-answer-2
+    refusal-requires
+    same-length
+    returns
+    same-length-2
+    returns-2)

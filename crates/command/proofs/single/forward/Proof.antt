@@ -1,0 +1,39 @@
+use native.Mathlib.Omega.{arith}
+use Rattle.lines.proofs.Writing.{wrote-as}
+use Rattle.command.proofs.Reporting.{within, run-reported}
+use borrow.Author.Needs.{needs}
+use Rattle.command.proofs.single.forward.Statement.{statement}
+use Rattle.command.proofs.single.forward.Tie as tie
+
+slice-aggregate-forward : tie.Need-slice-aggregate-forward
+slice-aggregate-forward c = search needs
+
+forward-requires : tie.Need-forward-requires
+forward-requires c κs = search needs
+
+slice-aggregate-run-report : tie.Need-slice-aggregate-run-report
+slice-aggregate-run-report c = search needs
+
+run-report-requires : tie.Need-run-report-requires
+run-report-requires c κs = (within (c .before .before .before .before .before .forward .result) _ _ (c .before .before .before .before .before .forward .ensures .0) (c .before .before .before .before .before .forward .ensures .1 .0) (c .before .before .before .before .before .forward .kept .1 .1 .1 .1 .1 .1 .0), omega (arith, c .before .before .before .before .before .forward .kept .1 .1 .1 .1 .1 .1 .0, c .before .before .before .before .before .before .before .before .before .before .before .before .before .pre))
+
+same-length : tie.Need-same-length
+same-length c = search needs
+
+same-length-2 : tie.Need-same-length-2
+same-length-2 c = search needs
+
+returns : tie.Need-returns
+returns c = (wrote-as (c .before .before .run-report .ensures) (run-reported (c .before .before .before .before .before .before .before .before .forward .result) _ _ (c .before .before .before .before .before .before .before .before .forward .ensures .0) (c .before .before .before .before .before .before .before .before .forward .ensures .1 .0)), c .before .before .before .before .before .before .before .before .forward .ensures .1 .1)
+
+pub forward-spec : {M : Type 1} → statement M
+forward-spec =
+    tie.close
+    (tie.spec
+    slice-aggregate-forward
+    forward-requires
+    slice-aggregate-run-report
+    run-report-requires
+    same-length
+    same-length-2
+    returns)

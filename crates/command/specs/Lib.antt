@@ -1,0 +1,2 @@
+-- What the commands report.
+pub mod Reports

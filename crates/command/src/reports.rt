@@ -1,0 +1,76 @@
+// What a call answered, as text: as a line of calls and answers has it (crate lines), a refusal with its meaning.
+use lines::answers;
+use lines::decimal;
+use rows::answers::CheckAnswer;
+use rows::answers::Refusal;
+use rows::answers::RunAnswer;
+use wording::replies;
+ghost use Prim.Native.Nat.{_+_, _*_, _≤_};
+ghost use lib.ListN.{length};
+ghost use Rattle.rows.specs.Answers.{numberOf, placeOf, checkAnswer, runAnswer};
+ghost use Rattle.lines.specs.Decimal.{decimalText};
+ghost use Rattle.lines.specs.Wrote.{Wrote};
+ghost use Rattle.wording.specs.Replies.{lengthOf};
+ghost use Rattle.command.specs.Reports.{refusedReport, checkReport, filledReport, heldText, heldReport};
+
+// A refusal: its number, its place and its meaning.
+fn refusal(r: Refusal, out: &mut [u8]) -> usize
+    requires { ⌜ 256 ≤ length (now out) ⌝ }
+    ensures { λ end. ⌜ Wrote (now (out .entry)) (now (out .exit)) 0 end (refusedReport (numberOf r) (placeOf r)) ⌝ }
+{
+    replies::refusal_text(r, out)
+}
+
+// What a check answered.
+pub fn check_report(answer: CheckAnswer, out: &mut [u8]) -> usize
+    requires { ⌜ 256 ≤ length (now out) ⌝ }
+    ensures { λ end. ⌜ Wrote (now (out .entry)) (now (out .exit)) 0 end (checkReport (checkAnswer answer)) ⌝ }
+{
+    match answer {
+        CheckAnswer::Accepted => answers::put(b"ok\n", out, 0),
+        CheckAnswer::Refused(r) => refusal(r, out),
+    }
+}
+
+// What a run answered, whose value the output starts with.
+pub fn run_report(answer: RunAnswer, output: &[u8], out: &mut [u8]) -> usize
+    requires { ⌜ lengthOf answer ≤ length (now output) ⌝ }
+    requires { ⌜ 2 * length (now output) + 256 ≤ length (now out) ⌝ }
+    ensures { λ end. ⌜ Wrote (now (out .entry)) (now (out .exit)) 0 end (filledReport (runAnswer answer) (now (output .entry))) ⌝ }
+{
+    match answer {
+        RunAnswer::Ran(d) => replies::run_line(RunAnswer::Ran(d), output, out),
+        RunAnswer::Refused(r) => refusal(r, out),
+    }
+}
+
+// A number, which has at most 20 digits.
+fn put_figure(n: u64, out: &mut [u8], at: usize) -> usize
+    requires { ⌜ at + 20 ≤ length (now out) ⌝ }
+    ensures { λ end. ⌜ Wrote (now (out .entry)) (now (out .exit)) at end (decimalText n) × (end ≤ at + 20) ⌝ }
+{
+    decimal::put_number(n, out, at)
+}
+
+// The length of the held record, and the steps.
+fn held(len: u64, steps: u64, out: &mut [u8]) -> usize
+    requires { ⌜ 64 ≤ length (now out) ⌝ }
+    ensures { λ end. ⌜ Wrote (now (out .entry)) (now (out .exit)) 0 end (heldText len steps) ⌝ }
+{
+    let named = answers::put(b"held ", out, 0);
+    let counted = put_figure(len, out, named);
+    let spaced = answers::put(b" ", out, counted);
+    let stepped = put_figure(steps, out, spaced);
+    answers::put(b"\n", out, stepped)
+}
+
+// What convert and rollback answered.
+pub fn held_report(answer: RunAnswer, out: &mut [u8]) -> usize
+    requires { ⌜ 256 ≤ length (now out) ⌝ }
+    ensures { λ end. ⌜ Wrote (now (out .entry)) (now (out .exit)) 0 end (heldReport (runAnswer answer)) ⌝ }
+{
+    match answer {
+        RunAnswer::Ran(d) => held(d.len as u64, d.steps as u64, out),
+        RunAnswer::Refused(r) => refusal(r, out),
+    }
+}

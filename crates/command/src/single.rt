@@ -1,0 +1,73 @@
+// The calls check, forward and backward, made and reported. The output is as long as a value may be, so it is never too short.
+use crate::reports;
+ghost use mathlib.Core.Path.{_≡_};
+ghost use Prim.Native.Nat.{_≤_};
+ghost use lib.ListN.{length};
+ghost use Rattle.calls.specs.Answer.{cleared};
+ghost use Rattle.calls.specs.Runs.{checkCall, forwardCall, backwardCall};
+ghost use Rattle.lines.specs.Wrote.{Wrote};
+ghost use Rattle.command.specs.Reports.{checkReport, runReport};
+
+// Is the program accepted?
+pub fn check(program: &[u8], workspace: &mut [u8], out: &mut [u8]) -> usize
+    requires { ⌜ 256 ≤ length (now out) ⌝ }
+    ensures report { λ end. ⌜ Wrote (now (out .entry)) (now (out .exit)) 0 end (checkReport (checkCall (length (now (workspace .entry))) (now (program .entry)))) ⌝ }
+    ensures clear { λ _. ⌜ now (workspace .exit) ≡ cleared (checkCall (length (now (workspace .entry))) (now (program .entry))) (now (workspace .entry)) ⌝ }
+{
+    let answer = engine::check(program, workspace);
+    reports::check_report(answer, out)
+}
+
+// Runs a function forward.
+pub fn forward(
+    program: &[u8],
+    function: u16,
+    fuel: u16,
+    ancillae: &[u8],
+    value: &[u8],
+    workspace: &mut [u8],
+    out: &mut [u8],
+) -> usize
+    requires { ⌜ 2304 ≤ length (now out) ⌝ }
+    ensures report { λ end. ⌜ Wrote (now (out .entry)) (now (out .exit)) 0 end (runReport (forwardCall (length (now (workspace .entry))) 1024 fuel function (now (program .entry)) (now (ancillae .entry)) (now (value .entry)))) ⌝ }
+    ensures clear { λ _. ⌜ now (workspace .exit) ≡ cleared (forwardCall (length (now (workspace .entry))) 1024 fuel function (now (program .entry)) (now (ancillae .entry)) (now (value .entry))) (now (workspace .entry)) ⌝ }
+{
+    let mut output = [0u8; 1024];
+    let answer = engine::forward(
+        program,
+        function,
+        ancillae,
+        value,
+        fuel,
+        workspace,
+        &mut output,
+    );
+    reports::run_report(answer, &output, out)
+}
+
+// Runs a function backward.
+pub fn backward(
+    program: &[u8],
+    function: u16,
+    fuel: u16,
+    ancillae: &[u8],
+    value: &[u8],
+    workspace: &mut [u8],
+    out: &mut [u8],
+) -> usize
+    requires { ⌜ 2304 ≤ length (now out) ⌝ }
+    ensures report { λ end. ⌜ Wrote (now (out .entry)) (now (out .exit)) 0 end (runReport (backwardCall (length (now (workspace .entry))) 1024 fuel function (now (program .entry)) (now (ancillae .entry)) (now (value .entry)))) ⌝ }
+    ensures clear { λ _. ⌜ now (workspace .exit) ≡ cleared (backwardCall (length (now (workspace .entry))) 1024 fuel function (now (program .entry)) (now (ancillae .entry)) (now (value .entry))) (now (workspace .entry)) ⌝ }
+{
+    let mut output = [0u8; 1024];
+    let answer = engine::backward(
+        program,
+        function,
+        ancillae,
+        value,
+        fuel,
+        workspace,
+        &mut output,
+    );
+    reports::run_report(answer, &output, out)
+}

@@ -1,0 +1,2 @@
+-- parts of a buffer within it
+pub mod Parts

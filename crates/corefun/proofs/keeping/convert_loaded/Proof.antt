@@ -1,0 +1,67 @@
+use mathlib.Core.Path.{ap}
+use Rattle.corefun.specs.Bounds.{heldIn}
+use Rattle.corefun.proofs.Parts.{counted, counted-within}
+use borrow.Author.Needs.{needs}
+use Rattle.corefun.proofs.keeping.convert_loaded.Statement.{statement}
+use Rattle.corefun.proofs.keeping.convert_loaded.Tie as tie
+
+load-all-requires : tie.Need-load-all-requires
+load-all-requires c κs = search needs
+
+enum-known-j : tie.Need-enum-known-j
+enum-known-j c = search needs
+
+enum-told : tie.Need-enum-told
+enum-told c = search needs
+
+same-length : tie.Need-same-length
+same-length c = search needs
+
+same-length-2 : tie.Need-same-length-2
+same-length-2 c = search needs
+
+returns : tie.Need-returns
+returns c = search needs
+
+slice-relend-prefix-convert-held : tie.Need-slice-relend-prefix-convert-held
+slice-relend-prefix-convert-held c = counted-within (ap heldIn (c .before .j .given .1)) (c .before .before .before .before .before .before .before .load-all .ensures)
+
+slice-aggregate-convert-held : tie.Need-slice-aggregate-convert-held
+slice-aggregate-convert-held c = counted _ (ap heldIn (c .before .before .j .given .1)) (c .before .before .before .before .before .before .before .before .load-all .ensures)
+
+convert-held-requires : tie.Need-convert-held-requires
+convert-held-requires c κs = search needs
+
+same-length-3 : tie.Need-same-length-3
+same-length-3 c = search needs
+
+same-length-4 : tie.Need-same-length-4
+same-length-4 c = search needs
+
+same-length-5 : tie.Need-same-length-5
+same-length-5 c = search needs
+
+same-length-6 : tie.Need-same-length-6
+same-length-6 c = search needs
+
+returns-2 : tie.Need-returns-2
+returns-2 c = search needs
+
+pub convert-loaded-spec : {M : Type 1} → statement M
+convert-loaded-spec =
+    tie.close
+    (tie.spec
+    load-all-requires
+    enum-known-j
+    enum-told
+    same-length
+    same-length-2
+    returns
+    slice-relend-prefix-convert-held
+    slice-aggregate-convert-held
+    convert-held-requires
+    same-length-3
+    same-length-4
+    same-length-5
+    same-length-6
+    returns-2)

@@ -1,0 +1,64 @@
+// Arguments: numbers and byte strings. Where one is not what it should be, standard error says so.
+use crate::printing;
+use lines::decimal;
+use lines::decimal::Number;
+use lines::hexadecimal;
+use lines::hexadecimal::Decoded;
+ghost use Prim.Native.Nat.{_*_, _≤_};
+ghost use lib.ListN.{length};
+ghost use Rattle.lines.specs.Numbered.{valueOf};
+ghost use Rattle.lines.specs.Decoded.{sizeOf};
+
+// Fuel and function have two bytes.
+const MOST_SHORT: u64 = 65535;
+
+const MOST_JOURNAL: u64 = 131072;
+
+// Argument i as a number of two bytes.
+pub(crate) fn short(i: usize, name: &[u8], word: &mut [u8]) -> Number
+    ensures { λ r. ⌜ valueOf r ≤ 65535 ⌝ }
+{
+    let n = os::arg(i, word);
+    let number = decimal::read_number(&word[..n], MOST_SHORT);
+    match number {
+        Number::Is(k) => Number::Is(k),
+        Number::Not => {
+            printing::complain(name, b" is not a decimal number from 0 to 65535\n");
+            Number::Not
+        }
+    }
+}
+
+// Argument i as the length of a journal's buffer. No journal needs more than 67,139 bytes.
+pub(crate) fn journal_length(i: usize, word: &mut [u8]) -> Number
+    ensures { λ r. ⌜ valueOf r ≤ 131072 ⌝ }
+{
+    let n = os::arg(i, word);
+    let number = decimal::read_number(&word[..n], MOST_JOURNAL);
+    match number {
+        Number::Is(k) => Number::Is(k),
+        Number::Not => {
+            printing::complain(b"LENGTH", b" is not a decimal number from 0 to 131072\n");
+            Number::Not
+        }
+    }
+}
+
+// Argument i as bytes, at the start of `into`.
+pub(crate) fn byte_string(i: usize, name: &[u8], word: &mut [u8], into: &mut [u8]) -> Decoded
+    requires { ⌜ length (now word) ≤ 2 * length (now into) ⌝ }
+    ensures { λ r. ⌜ sizeOf r ≤ length (now (into .exit)) ⌝ }
+{
+    let n = os::arg(i, word);
+    let decoded = hexadecimal::decode(&word[..n], into);
+    match decoded {
+        Decoded::Bytes(k) => Decoded::Bytes(k),
+        Decoded::Not => {
+            printing::complain(
+                name,
+                b" is not hexadecimal: two digits a byte, or - for none\n",
+            );
+            Decoded::Not
+        }
+    }
+}

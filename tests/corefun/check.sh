@@ -1,0 +1,332 @@
+#!/usr/bin/env bash
+# Runs the program corefun: on the calls of tests/calls, as a batch and one by one, against the second evaluator's answers; on the cases of
+# document 01, section 6; and on bad arguments, files and lines, each of which gets a message and no crash. A conversion that is cut off at
+# any call that changes files leaves the journal before it or after it.
+# The last line is 'N passed, M failed'; the exit status is 0 only if M is 0.
+set -euo pipefail
+cd "$(dirname "$0")/../.."
+
+passed=0
+failed=0
+corefun=$PWD/target/bin/corefun
+calls=$PWD/tests/calls/calls.txt
+answers=$PWD/tests/calls/answers.txt
+scratch=$(mktemp -d)
+trap 'rm -rf "$scratch"' EXIT
+
+# verdict NAME STATUS
+verdict() {
+    if [ "$2" -eq 0 ]; then
+        passed=$((passed + 1))
+    else
+        failed=$((failed + 1))
+        echo "$1: FAILED"
+    fi
+}
+
+# same NAME FILE FILE: the first lines that differ, cut to a readable length.
+same() {
+    local status=0
+    cmp -s "$2" "$3" || status=1
+    if [ "$status" -ne 0 ]; then diff "$2" "$3" | cut -c1-200 | sed -n 1,10p || true; fi
+    verdict "$1" "$status"
+}
+
+# run ARGUMENT..: one run, with what it wrote in $scratch/out and $scratch/err, and its status, which is 0 unless it crashed.
+run() {
+    status=0
+    "$corefun" "$@" > "$scratch/out" 2> "$scratch/err" < "${input:-/dev/null}" || status=$?
+}
+
+# answers_with TEXT ARGUMENT..: the run answers this line, and says nothing else.
+answers_with() {
+    local text=$1
+    shift
+    run "$@"
+    printf '%s\n' "$text" > "$scratch/expected"
+    if [ "$status" -ne 0 ] || [ -s "$scratch/err" ]; then status=1; fi
+    cmp -s "$scratch/out" "$scratch/expected" || status=1
+    if [ "$status" -ne 0 ]; then cat "$scratch/out" "$scratch/err" | cut -c1-200; fi
+    verdict "corefun $(cut -c1-100 <<< "$*")" "$status"
+}
+
+# complains TEXT ARGUMENT..: the run answers nothing, and says this on standard error.
+complains() {
+    local text=$1
+    shift
+    run "$@"
+    if [ "$status" -ne 0 ] || [ -s "$scratch/out" ]; then status=1; fi
+    grep -qF -- "$text" "$scratch/err" || status=1
+    if [ "$status" -ne 0 ]; then cat "$scratch/out" "$scratch/err" | cut -c1-200; fi
+    verdict "corefun $(cut -c1-100 <<< "$*")" "$status"
+}
+
+# bytes HEX FILE; '-' is no bytes.
+bytes() {
+    if [ "$1" = - ]; then : > "$2"; else xxd -r -p <<< "$1" > "$2"; fi
+}
+
+# hex FILE; no bytes are '-'.
+hex() {
+    if [ -s "$1" ]; then xxd -p "$1" | tr -d '\n'; else echo -; fi
+}
+
+# nat N: a number in ones (document 01, section 6).
+nat() {
+    local text=
+    for _ in $(seq "$1"); do text+=0402; done
+    echo "${text}040100"
+}
+
+batches() {
+    "$corefun" batch < "$calls" > "$scratch/got" || true
+    same "batch of $(wc -l < "$calls") calls" "$scratch/got" "$answers"
+    dd if="$calls" bs=1013 status=none | "$corefun" batch > "$scratch/got" || true
+    same "batch, read in small pieces" "$scratch/got" "$answers"
+    head -c -1 "$calls" | "$corefun" batch > "$scratch/got" || true
+    same "batch whose last line nothing ends" "$scratch/got" "$answers"
+    "$corefun" batch < /dev/null > "$scratch/got" || true
+    same "batch of no calls" "$scratch/got" /dev/null
+}
+
+# one CALL: a call of tests/calls as a command, with its answer as a line. The command lends as much workspace and output as any call
+# needs, so calls that are short of them (1, 17) are left out by the caller.
+one() {
+    local name ws a b c d e f journal=$scratch/journal
+    read -r name ws a b c d e f <<< "$1"
+    case $name in
+        check) bytes "$a" "$scratch/program" ;;
+        forward | backward) bytes "$d" "$scratch/program" ;;
+        open) bytes "$a" "$scratch/program" && bytes "$c" "$journal" ;;
+        convert) bytes "$c" "$scratch/program" && bytes "$e" "$journal" ;;
+        rollback) bytes "$b" "$scratch/program" && bytes "$c" "$journal" ;;
+    esac
+    case $name in
+        check) "$corefun" check "$scratch/program" ;;
+        forward | backward) "$corefun" "$name" "$scratch/program" "$c" "$b" "$e" "$f" ;;
+        open) "$corefun" open "$scratch/program" "$journal" "$(stat -c %s "$journal")" "$b" ;;
+        convert) "$corefun" convert "$scratch/program" "$journal" "$b" "$a" "$d" ;;
+        rollback) "$corefun" rollback "$scratch/program" "$journal" "$a" ;;
+    esac > "$scratch/line" 2>&1 || true
+    case $name in open | convert | rollback) kept "$journal" ;; esac
+    sed 's/^\(refused [0-9]*\) at \([0-9]*\): .*/\1 \2/' "$scratch/line"
+}
+
+# kept JOURNAL: an accepted call's line has the journal's bytes behind it.
+kept() {
+    if grep -qE '^(ok|held)' "$scratch/line"; then echo "$(cat "$scratch/line") $(hex "$1")" > "$scratch/line"; fi
+}
+
+singles() {
+    local call answer
+    : > "$scratch/got"
+    : > "$scratch/expected"
+    while IFS='|' read -r call answer; do
+        case $answer in 'refused 1 '* | 'refused 17 '*) continue ;; esac
+        one "$call" >> "$scratch/got"
+        echo "$answer" >> "$scratch/expected"
+    done < <(paste -d'|' "$calls" "$answers")
+    same "$(wc -l < "$scratch/expected") calls one by one" "$scratch/got" "$scratch/expected"
+}
+
+# Document 01, section 6. The program of plus and dup is that of the call that tests/calls has for P2.
+cases() {
+    local plus=$scratch/plus
+    bytes "$(awk -v a="$(nat 2)" -v v="$(nat 3)" '$1 == "forward" && $7 == a && $8 == v { print $6; exit }' "$calls")" "$plus"
+    answers_with ok check "$plus"
+    answers_with "value $(nat 2) 4" forward "$plus" 0 65535 "$(nat 2)" "$(nat 0)"
+    answers_with "value $(nat 5) 28" forward "$plus" 0 28 "$(nat 2)" "$(nat 3)"
+    answers_with "refused 12 at 2: the fuel is spent" forward "$plus" 0 27 "$(nat 2)" "$(nat 3)"
+    answers_with "value $(nat 3) 28" backward "$plus" 0 28 "$(nat 2)" "$(nat 5)"
+    answers_with "value $(nat 255) 2044" forward "$plus" 0 65535 "$(nat 0)" "$(nat 255)"
+    answers_with "value 03$(nat 254)$(nat 254) 3" forward "$plus" 1 3 - "$(nat 254)"
+    answers_with "value $(nat 3) 3" backward "$plus" 1 3 - "03$(nat 3)$(nat 3)"
+    answers_with "refused 9 at 0: there is no such function" forward "$plus" 2 0 - -
+    : > "$scratch/empty"
+    answers_with ok check "$scratch/empty"
+}
+
+# holds JOURNAL HEX: the file has these bytes, and zeros up to 64.
+holds() {
+    local zeros status=0
+    zeros=$(printf '%0128d' 0)
+    [ "$(hex "$1")" = "$2${zeros:${#2}}" ] || status=1
+    verdict "the journal $2" "$status"
+}
+
+# P13, and calls that change nothing. What the journal holds is written out in document 01. Without fuel 12 is met at the function's body,
+# which is term 8 in this program.
+journals() {
+    local plus=$scratch/plus journal=$scratch/j
+    opened=210009$(nat 3)
+    converted=21000d$(nat 5)22000d00000000001c$(nat 2)
+    answers_with ok open "$plus" "$journal" 64 "$(nat 3)"
+    holds "$journal" "$opened"
+    answers_with "held 13 28" convert "$plus" "$journal" 0 28 "$(nat 2)"
+    holds "$journal" "$converted"
+    answers_with "refused 12 at 8: the fuel is spent" rollback "$plus" "$journal" 0
+    answers_with "refused 10 at 0: value bytes are malformed, over the limit or wrong in number" convert "$plus" "$journal" 0 28 -
+    answers_with "refused 20 at 0: 64 conversions stand already, or the bytes do not fit" open "$plus" "$journal" 11 "$(nat 3)"
+    holds "$journal" "$converted"
+    answers_with "held 9 28" rollback "$plus" "$journal" 28
+    holds "$journal" "$opened"
+    answers_with "refused 19 at 0: no conversion stands" rollback "$plus" "$journal" 28
+    holds "$journal" "$opened"
+    (cd "$scratch" && "$corefun" open plus here 12 "$(nat 3)" > out 2> err) || true
+    status=0
+    if [ "$(cat "$scratch/out" "$scratch/err")" != ok ] || [ "$(hex "$scratch/here")" != "$opened" ]; then status=1; fi
+    verdict "a journal in the folder itself" "$status"
+    echo stale > "$journal.new"
+    answers_with "held 13 28" convert "$plus" "$journal" 0 28 "$(nat 2)"
+    status=0
+    if [ -e "$journal.new" ]; then status=1; fi
+    verdict "what a run that was cut off left beside is gone" "$status"
+}
+
+bad_journals() {
+    local plus=$scratch/plus word
+    for word in "" x -1 131073 99999999999999999999; do
+        complains "LENGTH is not a decimal number from 0 to 131072" open "$plus" "$scratch/j" "$word" 00
+    done
+    complains "RECORD is not hexadecimal" open "$plus" "$scratch/j" 64 0
+    complains "ANCILLAE is not hexadecimal" convert "$plus" "$scratch/j" 0 1 0
+    complains "FUNCTION is not a decimal number" convert "$plus" "$scratch/j" x 1 -
+    complains "FUEL is not a decimal number" convert "$plus" "$scratch/j" 0 x -
+    complains "FUEL is not a decimal number" rollback "$plus" "$scratch/j" 65536
+    complains "No such file or directory" convert "$plus" "$scratch/none" 0 1 -
+    complains "No such file or directory" rollback "$scratch/none" "$scratch/j" 1
+    complains "No such file or directory" open "$plus" "$scratch/none/j" 64 00
+    complains "Is a directory" rollback "$plus" "$scratch" 1
+    complains "usage: corefun check FILE" open "$plus" "$scratch/j" 64
+    complains "usage: corefun check FILE" convert "$plus" "$scratch/j" 0 1
+    complains "usage: corefun check FILE" rollback "$plus" "$scratch/j"
+    head -c 131073 /dev/zero > "$scratch/long"
+    complains "JOURNALFILE holds over 131072 bytes" rollback "$plus" "$scratch/long" 1
+    head -c 131072 /dev/zero > "$scratch/long"
+    answers_with "refused 18 at 0: the journal is malformed" rollback "$plus" "$scratch/long" 1
+    answers_with ok open "$plus" "$scratch/long" 131072 00
+}
+
+# A conversion, killed at each call that changes files or waits for them (cut/): the journal is whole, old or new, an answer is given only
+# with the new one, and the next run goes on from there.
+cut_off() {
+    local journal=$scratch/j at=0 ended=1 old=0 new=0 zeros
+    zeros=$(printf '%0128d' 0)
+    bytes "$opened${zeros:${#opened}}" "$scratch/before"
+    bytes "$converted${zeros:${#converted}}" "$scratch/after"
+    while [ "$ended" -ne 0 ] && [ "$at" -lt 40 ]; do
+        at=$((at + 1)) ended=0 status=0
+        cp "$scratch/before" "$journal"
+        {
+            CUT_AT=$at LD_PRELOAD=$PWD/tests/corefun/cut/target/release/libcut.so \
+                "$corefun" convert "$scratch/plus" "$journal" 0 28 "$(nat 2)" > "$scratch/out" 2> "$scratch/err" || ended=$?
+        } 2> /dev/null
+        if cmp -s "$journal" "$scratch/before"; then
+            old=$((old + 1))
+            [ ! -s "$scratch/out" ] || status=1
+            "$corefun" convert "$scratch/plus" "$journal" 0 28 "$(nat 2)" > /dev/null 2>&1 || status=1
+        else
+            new=$((new + 1))
+        fi
+        cmp -s "$journal" "$scratch/after" || status=1
+        verdict "a conversion cut off at call $at" "$status"
+    done
+    status=0
+    if [ "$ended" -ne 0 ] || [ "$old" -lt 4 ] || [ "$new" -lt 4 ]; then status=1; fi
+    verdict "cut off before the new name $old times, behind it $((new - 1)) times, then whole" "$status"
+}
+
+# Programs and values over a limit are answered by the engine.
+limits() {
+    head -c 32769 /dev/zero > "$scratch/long"
+    answers_with "refused 3 at 0: too many entries, parameters or bytes" check "$scratch/long"
+    head -c 5000000 /dev/zero > "$scratch/longer"
+    answers_with "refused 3 at 0: too many entries, parameters or bytes" check "$scratch/longer"
+    answers_with "refused 10 at 0: value bytes are malformed, over the limit or wrong in number" \
+        forward "$scratch/plus" 1 9 - "$(nat 20000)"
+    local zeros
+    zeros=$(head -c 131070 /dev/zero | tr '\0' 0)
+    answers_with "refused 10 at 0: value bytes are malformed, over the limit or wrong in number" \
+        forward "$scratch/plus" 1 9 "$zeros" 00
+}
+
+bad_arguments() {
+    local plus=$scratch/plus
+    complains "usage: corefun check FILE"
+    complains "usage: corefun check FILE" nothing
+    complains "usage: corefun check FILE" ""
+    complains "usage: corefun check FILE" check
+    complains "usage: corefun check FILE" check "$plus" more
+    complains "usage: corefun check FILE" forward "$plus" 0 1 -
+    complains "usage: corefun check FILE" backward "$plus" 0 1 - 00 00
+    complains "usage: corefun check FILE" batch more
+    complains "No such file or directory" check "$scratch/none"
+    complains "No such file or directory" check ""
+    complains "Is a directory" check "$scratch"
+    complains "File name too long" check "$(head -c 5000 /dev/zero | tr '\0' x)"
+    local word
+    for word in "" x 65536 -1 +1 1x 99999999999999999999 0x10; do
+        complains "FUNCTION is not a decimal number from 0 to 65535" forward "$plus" "$word" 0 - -
+        complains "FUEL is not a decimal number from 0 to 65535" backward "$plus" 0 "$word" - -
+    done
+    for word in "" 0 0g 000 -- "00 00"; do
+        complains "ANCILLAE is not hexadecimal" forward "$plus" 0 0 "$word" 00
+        complains "VALUE is not hexadecimal" backward "$plus" 0 0 - "$word"
+    done
+}
+
+# lines_with EXPECTED: standard input is answered so.
+lines_with() {
+    local status=0
+    "$corefun" batch > "$scratch/got" || status=$?
+    printf '%s' "$1" > "$scratch/expected"
+    if [ "$status" -eq 0 ]; then cmp -s "$scratch/got" "$scratch/expected" || status=1; fi
+    if [ "$status" -ne 0 ]; then cut -c1-200 "$scratch/got"; fi
+    verdict "the answers $(head -n 1 <<< "$1")" "$status"
+}
+
+bad_lines() {
+    local zeros long=$'error the line is longer than 262143 bytes\n'
+    zeros=$(head -c 262130 /dev/zero | tr '\0' 0)
+    lines_with $'error no call of this name\n' < <(printf '\n')
+    lines_with $'error word 2 is no bytes in hexadecimal\n' < <(printf 'check 32768 -\r\n')
+    lines_with $'error word 2 is no bytes in hexadecimal\n' < <(printf 'check 32768 \0\n')
+    lines_with $'error no call of this name\nerror too few or too many words\nerror word 1 is no number in its range\nok\n' \
+        < <(printf 'nothing\ncheck 32768\ncheck x -\ncheck 32768 -\n')
+    lines_with $'refused 3 0\nok\n' < <(printf 'check 999999 %s\ncheck 32768 -\n' "$zeros")
+    lines_with "$long"$'ok\n' < <(printf 'check 9999999 %s\ncheck 32768 -\n' "$zeros")
+    lines_with "$long"$'ok\n' < <(printf 'check 32768 %s%s%s\ncheck 32768 -' "$zeros" "$zeros" "$zeros")
+    lines_with "$long" < <(printf 'check 32768 %s%s%s' "$zeros" "$zeros" "$zeros")
+}
+
+# An output that takes nothing ends the run with a message.
+full_output() {
+    local status=0
+    "$corefun" check "$scratch/plus" > /dev/full 2> "$scratch/err" || status=$?
+    grep -qF "standard output: No space left on device" "$scratch/err" || status=1
+    verdict "check into a full device" "$status"
+    status=0
+    "$corefun" batch < "$calls" > /dev/full 2> "$scratch/err" || status=$?
+    [ "$(grep -cF "standard output: No space left on device" "$scratch/err")" = 1 ] || status=1
+    verdict "batch into a full device" "$status"
+}
+
+status=0
+rt check corefun > "$scratch/built" 2>&1 || status=$?
+if [ "$status" -ne 0 ]; then tail -n 20 "$scratch/built" | cut -c1-400; fi
+verdict "the program is proved, and answers its own standard input" "$status"
+status=0
+cargo build --quiet --release --offline --manifest-path tests/corefun/cut/Cargo.toml || status=$?
+verdict "the library that cuts a run off" "$status"
+batches
+singles
+cases
+journals
+bad_journals
+cut_off
+limits
+bad_arguments
+bad_lines
+full_output
+echo "$passed passed, $failed failed"
+[ "$failed" -eq 0 ]
