@@ -95,10 +95,27 @@ most=$most
 END
     cat << 'END'
 program() { od -An -v -tx1 "$1" | tr -d ' \n'; }
+
+# journal CALL FILE: puts the call, which ends with the journal, and keeps the journal that it leaves.
+journal() {
+    local answer
+    answer=$("$second" answer <<< "$1")
+    case $answer in
+        ok\ * | held\ *)
+            printf "$(sed 's/../\\x&/g' <<< "${answer##* }")" > "$2"
+            echo "${answer% *}"
+            ;;
+        *) echo "$answer" ;;
+    esac
+}
+
 case $1 in
-    check) echo "check $most $(program "$2")" ;;
-    forward | backward) echo "$1 $most 1024 $4 $3 $(program "$2") $5 $6" ;;
-esac | "$second" answer
+    open) journal "open $most $(program "$2") $5 $(printf '00%.0s' $(seq "$4"))" "$3" ;;
+    convert) journal "convert $most $5 $4 $(program "$2") $6 $(program "$3")" "$3" ;;
+    rollback) journal "rollback $most $4 $(program "$2") $(program "$3")" "$3" ;;
+    check) "$second" answer <<< "check $most $(program "$2")" ;;
+    forward | backward) "$second" answer <<< "$1 $most 1024 $4 $3 $(program "$2") $5 $6" ;;
+esac
 END
 }
 
