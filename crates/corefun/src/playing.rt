@@ -1,5 +1,4 @@
-// replay: a script of journal calls, played on a journal that begins with zeros and is not kept. Each call's answer is printed, then how
-// the playing ended.
+// replay: a script of journal calls, played on a journal that is not kept. Each call's answer is printed, then how the playing ended.
 use crate::files;
 use crate::files::Held;
 use crate::printing;
@@ -60,17 +59,31 @@ fn report_end(answer: ReplayAnswer) {
     printing::print(&out, n);
 }
 
-// A script, played and reported.
-fn replay_given(
-    journal: &mut [u8],
+// Plays a script on the front of the journal's buffer.
+fn play(
     program: &[u8],
     script: &[u8],
+    journal: &mut [u8],
     workspace: &mut [u8],
     answers: &mut [u8],
-) {
-    octets::clear(journal);
+) -> ReplayAnswer
+    requires { ⌜ 131072 ≤ length (now journal) ⌝ }
+{
+    replay::replay(program, script, workspace, &mut journal[..JOURNAL], answers)
+}
+
+// A script, played and reported.
+fn replay_given(
+    program: &[u8],
+    script: &[u8],
+    journal: &mut [u8],
+    workspace: &mut [u8],
+    answers: &mut [u8],
+)
+    requires { ⌜ 131072 ≤ length (now journal) ⌝ }
+{
     octets::clear(answers);
-    let answer = replay::replay(program, script, workspace, journal, answers);
+    let answer = play(program, script, journal, workspace, answers);
     if say_all(answers) {
         report_end(answer);
     }
@@ -89,13 +102,7 @@ fn replay_loaded(
     let Held::Bytes(s) = files::load_all(3, b"SCRIPT", word, script) else {
         return;
     };
-    replay_given(
-        &mut journal[..JOURNAL],
-        program,
-        &script[..s],
-        workspace,
-        answers,
-    );
+    replay_given(program, &script[..s], journal, workspace, answers);
 }
 
 // corefun replay PROGRAM SCRIPT
