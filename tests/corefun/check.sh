@@ -1,7 +1,7 @@
 #!/usr/bin/env bash
 # Runs the program corefun: on the calls of tests/calls, as a batch and one by one, against the second evaluator's answers; on the cases of
-# document 01, section 6; on scripts, against the plain book's answers; and on bad arguments, files and lines, each of which gets a message and no crash. A conversion that is cut off at
-# any call that changes files leaves the journal before it or after it.
+# document 01, section 6; on scripts, against the plain book's answers; and on bad arguments, files and lines, each of which gets a
+# message and no crash. A conversion that is cut off at any call that changes files leaves the journal before it or after it.
 # The last line is 'N passed, M failed'; the exit status is 0 only if M is 0.
 set -euo pipefail
 cd "$(dirname "$0")/../.."
@@ -253,7 +253,7 @@ scripts() {
     replays "malformed at 16: no call stands there" "$open" "${convert%00}"
     replays "too wide at 16: the call's buffer is longer than 131072 bytes" "$open" "$(rolls_back 131073 28)"
     replays "not opened: refused 20 at 0: 64 conversions stand already, or the bytes do not fit" "$(opens 11 "$(nat 3)")" "$convert"
-    replays $'ok\nheld 13 28\ncut at 36: the call\'s buffer would cut the journal\'s fields' "$open" "$convert" "$(rolls_back 31 28)"
+    replays $'ok\nheld 13 28\ncut at 34: the call\'s buffer would cut the journal\'s fields' "$open" "$convert" "$(rolls_back 31 28)"
     mkdir "$months"
     "$second" months 2 12 4 "$months" > "$scratch/tally"
     status=0
