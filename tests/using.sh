@@ -109,10 +109,39 @@ journal() {
     esac
 }
 
+# replay PROGRAM SCRIPT: puts the script's calls one by one, and keeps the journal between them.
+replay() {
+    local program script journal= call answer length count=0
+    program=$(program "$1") script=$(program "$2")
+    while [ -n "$script" ]; do
+        length=$((16#${script:2:8}))
+        journal+=$(printf '00%.0s' $(seq "$length"))
+        journal=${journal:0:2 * length}
+        case ${script:0:2} in
+            31)
+                length=$((2 * 16#${script:10:4}))
+                call="open $most $program ${script:14:length}" script=${script:14 + length}
+                ;;
+            32)
+                length=$((2 * 16#${script:18:4}))
+                call="convert $most $((16#${script:10:4})) $((16#${script:14:4})) $program ${script:22:length}"
+                script=${script:22 + length}
+                ;;
+            33) call="rollback $most $((16#${script:10:4})) $program" script=${script:14} ;;
+        esac
+        answer=$("$second" answer <<< "$call $journal")
+        case $answer in ok\ * | held\ *) journal=${answer##* } answer=${answer% *} ;; esac
+        echo "$answer"
+        count=$((count + 1))
+    done
+    echo "played $count"
+}
+
 case $1 in
     open) journal "open $most $(program "$2") $5 $(printf '00%.0s' $(seq "$4"))" "$3" ;;
     convert) journal "convert $most $5 $4 $(program "$2") $6 $(program "$3")" "$3" ;;
     rollback) journal "rollback $most $4 $(program "$2") $(program "$3")" "$3" ;;
+    replay) replay "$2" "$3" ;;
     check) "$second" answer <<< "check $most $(program "$2")" ;;
     forward | backward) "$second" answer <<< "$1 $most 1024 $4 $3 $(program "$2") $5 $6" ;;
 esac

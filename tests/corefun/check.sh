@@ -1,7 +1,7 @@
 #!/usr/bin/env bash
 # Runs the program corefun: on the calls of tests/calls, as a batch and one by one, against the second evaluator's answers; on the cases of
-# document 01, section 6; and on bad arguments, files and lines, each of which gets a message and no crash. A conversion that is cut off at
-# any call that changes files leaves the journal before it or after it.
+# document 01, section 6; on scripts, against the plain book's answers; and on bad arguments, files and lines, each of which gets a
+# message and no crash. A conversion that is cut off at any call that changes files leaves the journal before it or after it.
 # The last line is 'N passed, M failed'; the exit status is 0 only if M is 0.
 set -euo pipefail
 cd "$(dirname "$0")/../.."
@@ -11,6 +11,7 @@ failed=0
 corefun=$PWD/target/bin/corefun
 calls=$PWD/tests/calls/calls.txt
 answers=$PWD/tests/calls/answers.txt
+second=$PWD/tests/second/target/release/second
 scratch=$(mktemp -d)
 trap 'rm -rf "$scratch"' EXIT
 
@@ -207,6 +208,82 @@ bad_journals() {
     answers_with ok open "$plus" "$scratch/long" 131072 00
 }
 
+# number32 N, number16 N: a script's numbers (docs/USING.md, "Scripts").
+number32() { printf '%08x' "$1"; }
+number16() { printf '%04x' "$1"; }
+
+# The calls of a script, in hexadecimal: opens LENGTH RECORD, converts LENGTH FUEL FUNCTION ANCILLAE, rolls_back LENGTH FUEL.
+opens() { echo "31$(number32 "$1")$(number16 $((${#2} / 2)))$2"; }
+converts() { echo "32$(number32 "$1")$(number16 "$2")$(number16 "$3")$(number16 $((${#4} / 2)))$4"; }
+rolls_back() { echo "33$(number32 "$1")$(number16 "$2")"; }
+
+# replays TEXT CALL..: a script of these calls, played with plus and dup, is answered by these lines.
+replays() {
+    local text=$1
+    shift
+    printf '%s' "$@" | xxd -r -p > "$scratch/script"
+    answers_with "$text" replay "$scratch/plus" "$scratch/script"
+}
+
+# answer_lines FILE: seven bytes to a line, as a line of calls and answers has them.
+answer_lines() {
+    local bytes number detail
+    while read -r bytes; do
+        number=$((16#${bytes:2:4})) detail=$((16#${bytes:6:8}))
+        case ${bytes:0:2} in
+            41) echo ok ;;
+            42) echo "held $number $detail" ;;
+            43) echo "refused $number $detail" ;;
+        esac
+    done < <(xxd -p -c 7 "$1")
+}
+
+# P13 as a script, the ways in which a playing stops, and months of a machine, whose answers are the plain book's. The command lends the
+# workspace of the largest fuel, so these months have no call that is short of it.
+scripts() {
+    local open convert months=$scratch/months
+    open=$(opens 64 "$(nat 3)")
+    convert=$(converts 64 28 0 "$(nat 2)")
+    replays $'ok\nheld 13 28\nrefused 12 8\nheld 9 28\nrefused 19 0\nplayed 5' \
+        "$open" "$convert" "$(rolls_back 64 0)" "$(rolls_back 64 28)" "$(rolls_back 64 28)"
+    replays $'ok\nplayed 1' "$(opens 131072 "$(nat 3)")"
+    replays "malformed at 0: no call stands there" ""
+    replays "malformed at 0: no call stands there" "$convert"
+    replays "malformed at 16: no call stands there" "$open" 34
+    replays "malformed at 16: no call stands there" "$open" "${convert%00}"
+    replays "too wide at 16: the call's buffer is longer than 131072 bytes" "$open" "$(rolls_back 131073 28)"
+    replays "not opened: refused 20 at 0: 64 conversions stand already, or the bytes do not fit" "$(opens 11 "$(nat 3)")" "$convert"
+    replays $'ok\nheld 13 28\ncut at 34: the call\'s buffer would cut the journal\'s fields' "$open" "$convert" "$(rolls_back 31 28)"
+    mkdir "$months"
+    "$second" months 2 12 4 "$months" > "$scratch/tally"
+    status=0
+    if grep -qF '(1:' "$scratch/tally"; then status=1; fi
+    verdict "the months have no call that is short of workspace" "$status"
+    {
+        answer_lines "$months/answers"
+        echo "played $(($(stat -c %s "$months/answers") / 7))"
+    } > "$scratch/expected"
+    run replay "$months/program" "$months/script"
+    same "$(wc -l < "$scratch/expected") lines of the months of a machine" "$scratch/out" "$scratch/expected"
+}
+
+bad_scripts() {
+    local plus=$scratch/plus
+    complains "No such file or directory" replay "$plus" "$scratch/none"
+    complains "No such file or directory" replay "$scratch/none" "$plus"
+    complains "Is a directory" replay "$plus" "$scratch"
+    complains "usage: corefun check FILE" replay "$plus"
+    complains "usage: corefun check FILE" replay "$plus" "$plus" more
+    head -c 131073 /dev/zero > "$scratch/long"
+    complains "SCRIPT holds over 131072 bytes" replay "$plus" "$scratch/long"
+    head -c 131072 /dev/zero > "$scratch/long"
+    answers_with "malformed at 0: no call stands there" replay "$plus" "$scratch/long"
+    status=0
+    "$corefun" replay "$plus" "$scratch/script" > /dev/full 2> "$scratch/err" || status=$?
+    [ "$(grep -cF "standard output: No space left on device" "$scratch/err")" = 1 ] || status=1
+    verdict "replay into a full device" "$status"
+}
+
 # A conversion, killed at each call that changes files or waits for them (cut/): the journal is whole, old or new, an answer is given only
 # with the new one, and the next run goes on from there.
 cut_off() {
@@ -318,11 +395,16 @@ verdict "the program is proved, and answers its own standard input" "$status"
 status=0
 cargo build --quiet --release --offline --manifest-path tests/corefun/cut/Cargo.toml || status=$?
 verdict "the library that cuts a run off" "$status"
+status=0
+cargo build --quiet --release --offline --manifest-path tests/second/Cargo.toml || status=$?
+verdict "the second evaluator" "$status"
 batches
 singles
 cases
 journals
 bad_journals
+scripts
+bad_scripts
 cut_off
 limits
 bad_arguments

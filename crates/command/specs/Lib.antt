@@ -1,2 +1,3 @@
 -- What the commands report.
 pub mod Reports
+pub mod Plays

@@ -4,3 +4,5 @@
 pub mod reports;
 // the calls, made and reported
 pub mod single;
+// what playing a script answered, as text
+pub mod plays;

@@ -14,7 +14,7 @@ ghost use Rattle.wording.specs.Replies.{lengthOf};
 ghost use Rattle.command.specs.Reports.{refusedReport, checkReport, filledReport, heldText, heldReport};
 
 // A refusal: its number, its place and its meaning.
-fn refusal(r: Refusal, out: &mut [u8]) -> usize
+pub(crate) fn refusal(r: Refusal, out: &mut [u8]) -> usize
     requires { ⌜ 256 ≤ length (now out) ⌝ }
     ensures { λ end. ⌜ Wrote (now (out .entry)) (now (out .exit)) 0 end (refusedReport (numberOf r) (placeOf r)) ⌝ }
 {
@@ -45,7 +45,7 @@ pub fn run_report(answer: RunAnswer, output: &[u8], out: &mut [u8]) -> usize
 }
 
 // A number, which has at most 20 digits.
-fn put_figure(n: u64, out: &mut [u8], at: usize) -> usize
+pub(crate) fn put_figure(n: u64, out: &mut [u8], at: usize) -> usize
     requires { ⌜ at + 20 ≤ length (now out) ⌝ }
     ensures { λ end. ⌜ Wrote (now (out .entry)) (now (out .exit)) at end (decimalText n) × (end ≤ at + 20) ⌝ }
 {
@@ -53,7 +53,7 @@ fn put_figure(n: u64, out: &mut [u8], at: usize) -> usize
 }
 
 // The length of the held record, and the steps.
-fn held(len: u64, steps: u64, out: &mut [u8]) -> usize
+pub(crate) fn held(len: u64, steps: u64, out: &mut [u8]) -> usize
     requires { ⌜ 64 ≤ length (now out) ⌝ }
     ensures { λ end. ⌜ Wrote (now (out .entry)) (now (out .exit)) 0 end (heldText len steps) ⌝ }
 {

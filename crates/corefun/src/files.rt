@@ -77,8 +77,8 @@ pub(crate) fn load(i: usize, word: &mut [u8], into: &mut [u8]) -> Held
     load_named(&word[..n], into)
 }
 
-// The same of a file that the buffer has to hold, with a byte to spare.
-pub(crate) fn load_all(i: usize, word: &mut [u8], into: &mut [u8]) -> Held
+// The same of a file that the buffer has to hold, with a byte to spare. `subject` is the argument's name.
+pub(crate) fn load_all(i: usize, subject: &[u8], word: &mut [u8], into: &mut [u8]) -> Held
     ensures { λ r. ⌜ heldIn r ≤ length (now (into .exit)) ⌝ }
 {
     let held = load(i, word, into);
@@ -87,7 +87,7 @@ pub(crate) fn load_all(i: usize, word: &mut [u8], into: &mut [u8]) -> Held
             if n < into.len() {
                 return Held::Bytes(n);
             }
-            printing::complain(b"JOURNALFILE", b" holds over 131072 bytes\n");
+            printing::complain(subject, b" holds over 131072 bytes\n");
             Held::Not
         }
         Held::Not => Held::Not,

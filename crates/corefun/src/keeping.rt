@@ -173,7 +173,7 @@ fn convert_loaded(
 )
     requires { ⌜ length (now word) ≤ 2 * length (now ancillae) ⌝ }
 {
-    let Held::Bytes(j) = files::load_all(3, word, journal) else {
+    let Held::Bytes(j) = files::load_all(3, b"JOURNALFILE", word, journal) else {
         return;
     };
     convert_held(&mut journal[..j], program, word, ancillae, workspace);
@@ -205,7 +205,7 @@ fn rollback_held(journal: &mut [u8], program: &[u8], word: &mut [u8], workspace:
 }
 
 fn rollback_loaded(program: &[u8], word: &mut [u8], journal: &mut [u8], workspace: &mut [u8]) {
-    let Held::Bytes(j) = files::load_all(3, word, journal) else {
+    let Held::Bytes(j) = files::load_all(3, b"JOURNALFILE", word, journal) else {
         return;
     };
     rollback_held(&mut journal[..j], program, word, workspace);

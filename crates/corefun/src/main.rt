@@ -5,6 +5,7 @@ mod arguments;
 mod files;
 mod input;
 mod keeping;
+mod playing;
 mod printing;
 mod replacing;
 mod runs;
@@ -27,6 +28,7 @@ enum Command {
     Open,
     Convert,
     Rollback,
+    Replay,
     Unknown,
 }
 
@@ -42,6 +44,10 @@ fn journal_usage() {
     io::write_all(
         libc::STDERR_FILENO,
         b"       corefun rollback PROGRAM JOURNALFILE FUEL\n",
+    );
+    io::write_all(
+        libc::STDERR_FILENO,
+        b"       corefun replay PROGRAM SCRIPT\n",
     );
 }
 
@@ -59,7 +65,7 @@ fn usage() {
     journal_usage();
     io::write_all(
         libc::STDERR_FILENO,
-        b"FILE and PROGRAM hold a program, JOURNALFILE a journal. FUNCTION, FUEL and LENGTH are decimal, ANCILLAE, VALUE and RECORD hexadecimal, - for none.\n",
+        b"FILE and PROGRAM hold a program, JOURNALFILE a journal, SCRIPT a script of journal calls. FUNCTION, FUEL and LENGTH are decimal, ANCILLAE, VALUE and RECORD hexadecimal, - for none.\n",
     );
 }
 
@@ -78,6 +84,11 @@ fn journal_command_of(name: &[u8], given: usize) -> Command {
     if octets::equal(name, b"rollback") {
         if given == 5 {
             return Command::Rollback;
+        }
+    }
+    if octets::equal(name, b"replay") {
+        if given == 4 {
+            return Command::Replay;
         }
     }
     Command::Unknown
@@ -116,7 +127,7 @@ fn asked(word: &mut [u8]) -> Command {
 }
 
 // Carries the command out, in buffers that serve all of them: `word` an argument or a line, `program`, `ancillae` and `value` bytes; a
-// record stands in `ancillae`, a journal in `value`.
+// record or a script stands in `ancillae`, a journal in `value`, a script's answers in `out`.
 fn carry_out(
     word: &mut [u8; LINE],
     program: &mut [u8; HALF],
@@ -134,6 +145,7 @@ fn carry_out(
         Command::Open => keeping::open(word, program, ancillae, value, workspace),
         Command::Convert => keeping::convert(word, program, ancillae, value, workspace),
         Command::Rollback => keeping::rollback(word, program, value, workspace),
+        Command::Replay => playing::replay(word, program, ancillae, value, workspace, out),
         Command::Unknown => usage(),
     }
 }

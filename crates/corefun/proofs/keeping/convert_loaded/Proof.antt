@@ -5,6 +5,9 @@ use borrow.Author.Needs.{needs}
 use Rattle.corefun.proofs.keeping.convert_loaded.Statement.{statement}
 use Rattle.corefun.proofs.keeping.convert_loaded.Tie as tie
 
+slice-aggregate-load-all : tie.Need-slice-aggregate-load-all
+slice-aggregate-load-all c = search needs
+
 load-all-requires : tie.Need-load-all-requires
 load-all-requires c κs = search needs
 
@@ -51,6 +54,7 @@ pub convert-loaded-spec : {M : Type 1} → statement M
 convert-loaded-spec =
     tie.close
     (tie.spec
+    slice-aggregate-load-all
     load-all-requires
     enum-known-j
     enum-told

@@ -1,4 +1,4 @@
-use Rattle.corefun.proofs.Parts.{wrote-within}
+use Rattle.command.proofs.Behind.{wrote-within}
 use borrow.Author.Needs.{needs}
 use Rattle.corefun.proofs.keeping.report_open.Statement.{statement}
 use Rattle.corefun.proofs.keeping.report_open.Tie as tie

@@ -5,6 +5,9 @@ use borrow.Author.Needs.{needs}
 use Rattle.corefun.proofs.keeping.rollback_loaded.Statement.{statement}
 use Rattle.corefun.proofs.keeping.rollback_loaded.Tie as tie
 
+slice-aggregate-load-all : tie.Need-slice-aggregate-load-all
+slice-aggregate-load-all c = search needs
+
 load-all-requires : tie.Need-load-all-requires
 load-all-requires c κs = search needs
 
@@ -48,6 +51,7 @@ pub rollback-loaded-spec : {M : Type 1} → statement M
 rollback-loaded-spec =
     tie.close
     (tie.spec
+    slice-aggregate-load-all
     load-all-requires
     enum-known-j
     enum-told

@@ -1,0 +1,75 @@
+use mathlib.Core.Path.{ap}
+use Rattle.corefun.specs.Bounds.{heldIn}
+use Rattle.corefun.proofs.Parts.{counted, counted-within}
+use borrow.Author.Needs.{needs}
+use Rattle.corefun.proofs.playing.replay.Statement.{statement}
+use Rattle.corefun.proofs.playing.replay.Tie as tie
+
+load-requires : tie.Need-load-requires
+load-requires c κs = search needs
+
+enum-known-p : tie.Need-enum-known-p
+enum-known-p c = search needs
+
+enum-told : tie.Need-enum-told
+enum-told c = search needs
+
+same-length : tie.Need-same-length
+same-length c = search needs
+
+same-length-2 : tie.Need-same-length-2
+same-length-2 c = search needs
+
+returns : tie.Need-returns
+returns c = search needs
+
+slice-reshare-prefix-replay-loaded : tie.Need-slice-reshare-prefix-replay-loaded
+slice-reshare-prefix-replay-loaded c = counted-within (ap heldIn (c .before .p .given .1)) (c .before .before .before .before .before .before .before .load .ensures)
+
+slice-aggregate-replay-loaded : tie.Need-slice-aggregate-replay-loaded
+slice-aggregate-replay-loaded c = counted _ (ap heldIn (c .before .before .p .given .1)) (c .before .before .before .before .before .before .before .before .load .ensures)
+
+replay-loaded-requires : tie.Need-replay-loaded-requires
+replay-loaded-requires c κs = search needs
+
+same-length-3 : tie.Need-same-length-3
+same-length-3 c = search needs
+
+same-length-4 : tie.Need-same-length-4
+same-length-4 c = search needs
+
+same-length-5 : tie.Need-same-length-5
+same-length-5 c = search needs
+
+same-length-6 : tie.Need-same-length-6
+same-length-6 c = search needs
+
+same-length-7 : tie.Need-same-length-7
+same-length-7 c = search needs
+
+same-length-8 : tie.Need-same-length-8
+same-length-8 c = search needs
+
+returns-2 : tie.Need-returns-2
+returns-2 c = search needs
+
+pub replay-spec : {M : Type 1} → statement M
+replay-spec =
+    tie.close
+    (tie.spec
+    load-requires
+    enum-known-p
+    enum-told
+    same-length
+    same-length-2
+    returns
+    slice-reshare-prefix-replay-loaded
+    slice-aggregate-replay-loaded
+    replay-loaded-requires
+    same-length-3
+    same-length-4
+    same-length-5
+    same-length-6
+    same-length-7
+    same-length-8
+    returns-2)
