@@ -5,7 +5,7 @@ ghost use Rattle.rules.specs.Ty.{isUnit, sameTy};
 ghost use Rattle.types.specs.Codes.{code, treeIn, Sources, Known};
 use crate::codes;
 use crate::codes::Code;
-use crate::shapes;
+use crate::parts;
 
 // Is the type exactly unit?
 pub fn is_unit(p: &[u8], types: &[u16], ws: &[u8], top: u32, c: Code) -> bool
@@ -13,8 +13,8 @@ pub fn is_unit(p: &[u8], types: &[u16], ws: &[u8], top: u32, c: Code) -> bool
     requires { ⌜ Known (length (now types)) top c ⌝ }
     ensures { λ r. ⌜ r ≡ isUnit (treeIn (now (p .entry)) (now (types .entry)) (now (ws .entry)) c) ⌝ }
 {
-    let s = shapes::shape_of(p, types, ws, top, c);
-    s.kind == 0
+    let d = parts::settled(p, types, ws, top, c);
+    parts::kind_of(p, types, ws, top, d) == 0
 }
 
 // Are the types equal? At most as many nodes are looked at as the smaller tree has; of one code, none.
@@ -73,61 +73,56 @@ fn alike(
     if codes::identical(c, d) {
         return true;
     }
-    let v = shapes::shape_of(p, types, ws, top, c);
-    let w = shapes::shape_of(p, types, ws, top, d);
-    let kind = v.kind;
-    if kind != w.kind {
+    let v = parts::settled(p, types, ws, top, c);
+    let w = parts::settled(p, types, ws, top, d);
+    let kind = parts::kind_of(p, types, ws, top, v);
+    let kind2 = parts::kind_of(p, types, ws, top, w);
+    if kind != kind2 {
         return false;
     }
     if kind == 0 {
         return true;
     }
     if kind == 4 {
-        return v.variable == w.variable;
+        let n = parts::variable_of(p, types, ws, top, v);
+        let m = parts::variable_of(p, types, ws, top, w);
+        return n == m;
     }
-    if kind == 3 {
-        return alike(
-            p,
-            types,
-            ws,
-            top,
-            v.first.form,
-            v.first.depth,
-            v.first.at,
-            v.first.stands,
-            w.first.form,
-            w.first.depth,
-            w.first.at,
-            w.first.stands,
-        );
-    }
-    if alike(
+    let a = parts::first_of(p, types, ws, top, v, kind);
+    let b = parts::first_of(p, types, ws, top, w, kind);
+    let first = alike(
         p,
         types,
         ws,
         top,
-        v.first.form,
-        v.first.depth,
-        v.first.at,
-        v.first.stands,
-        w.first.form,
-        w.first.depth,
-        w.first.at,
-        w.first.stands,
-    ) {
+        a.form,
+        a.depth,
+        a.at,
+        a.stands,
+        b.form,
+        b.depth,
+        b.at,
+        b.stands,
+    );
+    if kind == 3 {
+        return first;
+    }
+    if first {
+        let e = parts::second_of(p, types, ws, top, v, kind);
+        let f = parts::second_of(p, types, ws, top, w, kind);
         return alike(
             p,
             types,
             ws,
             top,
-            v.second.form,
-            v.second.depth,
-            v.second.at,
-            v.second.stands,
-            w.second.form,
-            w.second.depth,
-            w.second.at,
-            w.second.stands,
+            e.form,
+            e.depth,
+            e.at,
+            e.stands,
+            f.form,
+            f.depth,
+            f.at,
+            f.stands,
         );
     }
     false
