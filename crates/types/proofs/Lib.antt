@@ -3,8 +3,12 @@
 pub mod Trees
 -- the outermost node of a code's tree, and its parts
 pub mod Outer
+-- the same, read off the entry or product that a settled code names
+pub mod Plain
 -- when two types are equal, by their outermost nodes
 pub mod Equal
+-- the same by settled codes
+pub mod Alike
 -- what a recursive entry unfolds to
 pub mod Unfold
 -- how many nodes a type has

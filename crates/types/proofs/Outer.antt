@@ -96,6 +96,9 @@ module _ {xs types : List ℕ} (R : Readable xs types) {n i at : ℕ} (l : n < l
   field-at : TypeField xs at
   field-at = subst (TypeField xs) (sym (f ∙ ap (λ i. getD types i 0) e)) (R .field n l)
 
+  pub few-at : kindAt xs at ≤ 4
+  few-at = few-kinds field-at
+
   pub kind-there : at + 4 ≤ length xs
   kind-there = type-kind-room field-at
 

@@ -16,9 +16,6 @@ use package.Rattle.types.specs.declared.codes.Code.{Code}
 ----------------------------------------------------------------
 -- Codes
 
-abbrev pub code : ℕ → ℕ → ℕ → ℕ → Code
-code form depth at stands = record { form = form; depth = depth; at = at; stands = stands }
-
 abbrev pub unitCode : Code
 unitCode = record { form = 0; depth = 0; at = 0; stands = 0 }
 

@@ -1,7 +1,7 @@
 -- The outermost node of a type, with the codes of its parts. Laws: proofs/Outer.
 use Prim.Native.Nat.{ℕ, zero, suc, _≤_}
 use mathlib.Core.Path.{_≡_}
-use mathlib.Core.Bool.{_&&_, cond}
+use mathlib.Core.Bool.{Bool, _&&_, cond}
 use mathlib.Core.List.{List, map}
 use lib.ListN.{length, getD}
 use lib.Dec.{eqb}
@@ -50,9 +50,31 @@ underShape xs types c =
 abbrev pub productShape : List ℕ → ℕ → Shape
 productShape heap k = node 1 0 (leftAt heap k) (rightAt heap k)
 
+-- the node by form, no variable standing for an entry
+unfoldable pub plainForm : List ℕ → List ℕ → List ℕ → ℕ → Code → Shape
+unfolding entryShape
+plainForm xs types heap zero c = leaf 0 0
+plainForm xs types heap (suc zero) c = entryShape (typeAt xs (getD types (c .at) 0)) c 0
+plainForm xs types heap (suc (suc zero)) c = entryShape (typeAt xs (getD types (c .at) 0)) c 1
+plainForm xs types heap (suc (suc (suc n))) c = productShape heap (c .at)
+
+abbrev pub plainShape : List ℕ → List ℕ → List ℕ → Code → Shape
+plainShape xs types heap c = plainForm xs types heap (c .form) c
+
+-- is the entry the variable that stands for an entry in the code `c`?
+unfoldable pub isVariable : List ℕ → List ℕ → Code → Bool
+unfolding entryShape
+isVariable xs types c =
+    eqb (entryShape (typeAt xs (getD types (c .at) 0)) c 1 .kind) 4 && eqb (entryShape (typeAt xs (getD types (c .at) 0)) c 1 .variable) (c .depth)
+
 -- The node is that of the code's tree, and its parts are known.
 pub record Shaped (xs types heap : List ℕ) (top : ℕ) (c : Code) (s : Shape) : Type 0 where
   pub tree : shapeTree (map (typeAt xs) types) heap s ≡ treeIn xs types heap c
   pub kind : s .kind ≤ 4
   pub first : Known (length types) top (s .first)
   pub second : Known (length types) top (s .second)
+
+-- The code `d`, which is known, has the type of `c`, and its node is plain.
+pub record Settled (xs types heap : List ℕ) (top : ℕ) (c d : Code) : Type 0 where
+  pub shaped : Shaped xs types heap top c (plainShape xs types heap d)
+  pub known : Known (length types) top d

@@ -2,10 +2,10 @@
 ghost use mathlib.Core.Path.{_≡_};
 ghost use lib.ListN.{length};
 ghost use Rattle.rules.specs.Ty.{isUnit, sameTy};
-ghost use Rattle.types.specs.Codes.{code, treeIn, Sources, Known};
+ghost use Rattle.types.specs.Codes.{treeIn, Sources, Known};
 use crate::codes;
 use crate::codes::Code;
-use crate::shapes;
+use crate::parts;
 
 // Is the type exactly unit?
 pub fn is_unit(p: &[u8], types: &[u16], ws: &[u8], top: u32, c: Code) -> bool
@@ -13,122 +13,45 @@ pub fn is_unit(p: &[u8], types: &[u16], ws: &[u8], top: u32, c: Code) -> bool
     requires { ⌜ Known (length (now types)) top c ⌝ }
     ensures { λ r. ⌜ r ≡ isUnit (treeIn (now (p .entry)) (now (types .entry)) (now (ws .entry)) c) ⌝ }
 {
-    let s = shapes::shape_of(p, types, ws, top, c);
-    s.kind == 0
+    let d = parts::settled(p, types, ws, top, c);
+    parts::kind_of(p, types, ws, top, d) == 0
 }
 
-// Are the types equal? At most as many nodes are looked at as the smaller tree has; of one code, none.
+// Are the types equal? At most as many nodes are looked at as the smaller tree has; of one code, none. Parts are read one by one, each only
+// where it is asked: a struct of all of them would be copied.
 pub fn same(p: &[u8], types: &[u16], ws: &[u8], top: u32, c: Code, d: Code) -> bool
     requires { ⌜ Sources (now p) (now types) (now ws) top ⌝ }
     requires { ⌜ Known (length (now types)) top c × Known (length (now types)) top d ⌝ }
     ensures { λ r. ⌜ r ≡ sameTy (treeIn (now (p .entry)) (now (types .entry)) (now (ws .entry)) c) (treeIn (now (p .entry)) (now (types .entry)) (now (ws .entry)) d) ⌝ }
 {
-    alike(
-        p,
-        types,
-        ws,
-        top,
-        c.form,
-        c.depth,
-        c.at,
-        c.stands,
-        d.form,
-        d.depth,
-        d.at,
-        d.stands,
-    )
-}
-
-// The same of codes in parts: numbers go from call to call in registers, where a struct would be copied.
-fn alike(
-    p: &[u8],
-    types: &[u16],
-    ws: &[u8],
-    top: u32,
-    form: u8,
-    depth: u8,
-    at: u16,
-    stands: u16,
-    form2: u8,
-    depth2: u8,
-    at2: u16,
-    stands2: u16,
-) -> bool
-    requires { ⌜ Sources (now p) (now types) (now ws) top ⌝ }
-    requires { ⌜ Known (length (now types)) top (code form depth at stands) × Known (length (now types)) top (code form2 depth2 at2 stands2) ⌝ }
-    ensures { λ r. ⌜ r ≡ sameTy (treeIn (now (p .entry)) (now (types .entry)) (now (ws .entry)) (code form depth at stands)) (treeIn (now (p .entry)) (now (types .entry)) (now (ws .entry)) (code form2 depth2 at2 stands2)) ⌝ }
-{
-    let c = Code {
-        form,
-        depth,
-        at,
-        stands,
-    };
-    let d = Code {
-        form: form2,
-        depth: depth2,
-        at: at2,
-        stands: stands2,
-    };
     if codes::identical(c, d) {
         return true;
     }
-    let v = shapes::shape_of(p, types, ws, top, c);
-    let w = shapes::shape_of(p, types, ws, top, d);
-    let kind = v.kind;
-    if kind != w.kind {
+    let v = parts::settled(p, types, ws, top, c);
+    let w = parts::settled(p, types, ws, top, d);
+    let kind = parts::kind_of(p, types, ws, top, v);
+    let kind2 = parts::kind_of(p, types, ws, top, w);
+    if kind != kind2 {
         return false;
     }
     if kind == 0 {
         return true;
     }
     if kind == 4 {
-        return v.variable == w.variable;
+        let n = parts::variable_of(p, types, ws, top, v);
+        let m = parts::variable_of(p, types, ws, top, w);
+        return n == m;
     }
+    let a = parts::first_of(p, types, ws, top, v, kind);
+    let b = parts::first_of(p, types, ws, top, w, kind);
+    let first = same(p, types, ws, top, a, b);
     if kind == 3 {
-        return alike(
-            p,
-            types,
-            ws,
-            top,
-            v.first.form,
-            v.first.depth,
-            v.first.at,
-            v.first.stands,
-            w.first.form,
-            w.first.depth,
-            w.first.at,
-            w.first.stands,
-        );
+        return first;
     }
-    if alike(
-        p,
-        types,
-        ws,
-        top,
-        v.first.form,
-        v.first.depth,
-        v.first.at,
-        v.first.stands,
-        w.first.form,
-        w.first.depth,
-        w.first.at,
-        w.first.stands,
-    ) {
-        return alike(
-            p,
-            types,
-            ws,
-            top,
-            v.second.form,
-            v.second.depth,
-            v.second.at,
-            v.second.stands,
-            w.second.form,
-            w.second.depth,
-            w.second.at,
-            w.second.stands,
-        );
+    if first {
+        let e = parts::second_of(p, types, ws, top, v, kind);
+        let f = parts::second_of(p, types, ws, top, w, kind);
+        return same(p, types, ws, top, e, f);
     }
     false
 }

@@ -2,6 +2,7 @@
 pub mod codes; // codes.rt: what a code is
 pub mod nodes; // nodes.rt: product nodes in lent bytes
 pub mod shapes; // shapes.rt: the outermost node of a type
+pub mod parts; // parts.rt: the same, one part at a time
 pub mod unfolding; // unfolding.rt: what a recursive entry unfolds to
 pub mod compare; // compare.rt: types compared
 pub mod counting; // counting.rt: the nodes of a type

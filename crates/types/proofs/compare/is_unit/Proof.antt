@@ -1,13 +1,16 @@
-use Rattle.types.proofs.Equal.{is-unit}
+use Rattle.types.proofs.Alike.{unit-by-kind}
 use borrow.Author.Needs.{needs}
 use Rattle.types.proofs.compare.is_unit.Statement.{statement}
 use Rattle.types.proofs.compare.is_unit.Tie as tie
 
-shape-of-requires : tie.Need-shape-of-requires
-shape-of-requires c κs = search needs
+settled-requires : tie.Need-settled-requires
+settled-requires c κs = search needs
+
+kind-of-requires : tie.Need-kind-of-requires
+kind-of-requires c κs = (c .before .before .before .before .pre .0, c .settled .ensures .known)
 
 returns : tie.Need-returns
-returns c = is-unit (c .before .shape-of .ensures)
+returns c = unit-by-kind (c .before .settled .ensures) (c .kind-of .ensures)
 
 pub is-unit-spec : {M : Type 1} → statement M
-is-unit-spec = tie.close (tie.spec shape-of-requires returns)
+is-unit-spec = tie.close (tie.spec settled-requires kind-of-requires returns)

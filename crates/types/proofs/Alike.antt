@@ -1,0 +1,80 @@
+-- When two types are equal as trees, by the plain nodes of the codes that their codes settle to: Equal's laws, over parts read one by one.
+use Prim.Native.Nat.{ℕ, _<_}
+use native.Mathlib.Omega.{arith}
+use mathlib.Core.Path.{_≡_, sym, ap, ap₂, subst, _∙_}
+use mathlib.Core.Bool.{Bool, true, false}
+use mathlib.Core.List.{List}
+use lib.ListN.{length}
+use lib.Dec.{eqb}
+use package.Rattle.rules.specs.Ty.{nodes, isUnit, sameTy}
+use package.Rattle.types.specs.declared.codes.Code.{Code}
+use package.Rattle.types.specs.Codes.{treeIn, Known}
+use package.Rattle.types.specs.Shapes.{plainShape, Settled}
+use package.Rattle.types.proofs.Equal.{is-unit, below-four, two-parts, less-first, less-second, kinds-differ, both-units, both-variables, both-recursive, first-differs, by-second}
+
+-- one type
+module _ {xs types heap : List ℕ} {top : ℕ} {c v : Code} (S : Settled xs types heap top c v) {kind : ℕ} (k : kind ≡ plainShape xs types heap v .kind) where
+  pub unit-by-kind : eqb kind 0 ≡ isUnit (treeIn xs types heap c)
+  unit-by-kind = ap (λ n. eqb n 0) k ∙ is-unit (S .shaped)
+
+  -- it has a first part
+  pub parted : ¬ (kind ≡ 4) → kind < 4
+  parted n = omega (arith, k, below-four (S .shaped) λ q. n (k ∙ q))
+
+  pub twice-parted : ¬ (kind ≡ 4) → ¬ (kind ≡ 3) → kind < 3
+  twice-parted n m = omega (arith, k, two-parts (S .shaped) (λ q. n (k ∙ q)) λ q. m (k ∙ q))
+
+  module _ {a : Code} (p : a ≡ plainShape xs types heap v .first) where
+    pub fewer-first : ¬ (kind ≡ 0) → kind < 4 → nodes (treeIn xs types heap a) < nodes (treeIn xs types heap c)
+    fewer-first z l =
+        subst (λ a. nodes (treeIn xs types heap a) < nodes (treeIn xs types heap c)) (sym p)
+        (less-first (S .shaped) (λ q. z (k ∙ q)) (omega (arith, k, l)))
+
+    pub known-first : Known (length types) top a
+    known-first = subst (Known (length types) top) (sym p) (S .shaped .first)
+
+  module _ {b : Code} (p : b ≡ plainShape xs types heap v .second) where
+    pub fewer-second : ¬ (kind ≡ 0) → kind < 3 → nodes (treeIn xs types heap b) < nodes (treeIn xs types heap c)
+    fewer-second z l =
+        subst (λ b. nodes (treeIn xs types heap b) < nodes (treeIn xs types heap c)) (sym p)
+        (less-second (S .shaped) (λ q. z (k ∙ q)) (omega (arith, k, l)))
+
+    pub known-second : Known (length types) top b
+    known-second = subst (Known (length types) top) (sym p) (S .shaped .second)
+
+-- two types
+module _ {xs types heap : List ℕ} {top : ℕ} {c d v w : Code} (S : Settled xs types heap top c v) (S′ : Settled xs types heap top d w)
+    {kind kind2 : ℕ} (k : kind ≡ plainShape xs types heap v .kind) (k′ : kind2 ≡ plainShape xs types heap w .kind) where
+  abbrev Same : Bool → Type 0
+  Same r = r ≡ sameTy (treeIn xs types heap c) (treeIn xs types heap d)
+
+  pub other-kinds : ¬ (kind ≡ kind2) → Same false
+  other-kinds n = kinds-differ (S .shaped) (S′ .shaped) λ q. n (k ∙ q ∙ sym k′)
+
+  module _ (e : kind ≡ kind2) where
+    one-kind : plainShape xs types heap v .kind ≡ plainShape xs types heap w .kind
+    one-kind = sym k ∙ e ∙ k′
+
+    pub units : kind ≡ 0 → Same true
+    units z = both-units (S .shaped) (S′ .shaped) one-kind (sym k ∙ z)
+
+    pub variables : {n m : ℕ} → kind ≡ 4 → n ≡ plainShape xs types heap v .variable → m ≡ plainShape xs types heap w .variable → Same (eqb n m)
+    variables z p q = ap₂ eqb p q ∙ both-variables (S .shaped) (S′ .shaped) one-kind (sym k ∙ z)
+
+    module _ {a b : Code} (p : a ≡ plainShape xs types heap v .first) (q : b ≡ plainShape xs types heap w .first)
+        {r : Bool} (h : r ≡ sameTy (treeIn xs types heap a) (treeIn xs types heap b)) where
+      firsts : r ≡ sameTy (treeIn xs types heap (plainShape xs types heap v .first)) (treeIn xs types heap (plainShape xs types heap w .first))
+      firsts = h ∙ ap₂ (λ a b. sameTy (treeIn xs types heap a) (treeIn xs types heap b)) p q
+
+      pub recursives : kind ≡ 3 → Same r
+      recursives z = firsts ∙ both-recursive (S .shaped) (S′ .shaped) one-kind (sym k ∙ z)
+
+      module _ (z : ¬ (kind ≡ 0)) (l : kind < 3) where
+        pub firsts-differ : r ≡ false → Same false
+        firsts-differ f = first-differs (S .shaped) (S′ .shaped) one-kind (λ q. z (k ∙ q)) (omega (arith, k, l)) (sym f ∙ firsts)
+
+        pub seconds : r ≡ true → {a′ b′ : Code} → a′ ≡ plainShape xs types heap v .second → b′ ≡ plainShape xs types heap w .second
+            → {r′ : Bool} → r′ ≡ sameTy (treeIn xs types heap a′) (treeIn xs types heap b′) → Same r′
+        seconds t p′ q′ h′ =
+            h′ ∙ ap₂ (λ a b. sameTy (treeIn xs types heap a) (treeIn xs types heap b)) p′ q′
+            ∙ by-second (S .shaped) (S′ .shaped) one-kind (λ q. z (k ∙ q)) (omega (arith, k, l)) (sym t ∙ firsts)
