@@ -5,23 +5,9 @@
 set -euo pipefail
 cd "$(dirname "$0")/.."
 
-passed=0
-failed=0
+. tests/counting.sh
 scratch=$(mktemp -d)
 trap 'rm -rf "$scratch"' EXIT
-
-# part NAME COMMAND..
-part() {
-    local name=$1
-    shift
-    if "$@"; then
-        passed=$((passed + 1))
-        echo "$name: ok"
-    else
-        failed=$((failed + 1))
-        echo "$name: FAILED"
-    fi
-}
 
 # Written anew only where a source is younger, since it proves the crate again.
 library() {

@@ -11,20 +11,9 @@ page=docs/USING.md
 second=$root/tests/second/target/release/second
 # The workspace of the largest fuel.
 most=2129888
-passed=0
-failed=0
+. tests/counting.sh
 scratch=$(mktemp -d)
 trap 'rm -rf "$scratch"' EXIT
-
-# verdict NAME STATUS
-verdict() {
-    if [ "$2" -eq 0 ]; then
-        passed=$((passed + 1))
-    else
-        failed=$((failed + 1))
-        echo "$1: FAILED"
-    fi
-}
 
 # listing FILE: the block of the page that says it is the file.
 listing() {

@@ -6,24 +6,13 @@
 set -euo pipefail
 cd "$(dirname "$0")/../.."
 
-passed=0
-failed=0
+. tests/counting.sh
 corefun=$PWD/target/bin/corefun
 calls=$PWD/tests/calls/calls.txt
 answers=$PWD/tests/calls/answers.txt
 second=$PWD/tests/second/target/release/second
 scratch=$(mktemp -d)
 trap 'rm -rf "$scratch"' EXIT
-
-# verdict NAME STATUS
-verdict() {
-    if [ "$2" -eq 0 ]; then
-        passed=$((passed + 1))
-    else
-        failed=$((failed + 1))
-        echo "$1: FAILED"
-    fi
-}
 
 # same NAME FILE FILE: the first lines that differ, cut to a readable length.
 same() {

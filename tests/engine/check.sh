@@ -9,21 +9,7 @@ random_calls=100000
 random_lists=2000
 random_scripts=2000
 seed=$(date +%s)
-passed=0
-failed=0
-
-# part NAME COMMAND..
-part() {
-    local name=$1
-    shift
-    if "$@"; then
-        passed=$((passed + 1))
-        echo "$name: ok"
-    else
-        failed=$((failed + 1))
-        echo "$name: FAILED"
-    fi
-}
+. ../counting.sh
 
 calls() {
     target/release/harness lines < ../calls/calls.txt

@@ -1,11 +1,8 @@
-//! The library's own functions (include/corefun.h), each called with the pointers and lengths of slices. That is all that they
-//! ask for, so that these calls are safe.
+//! The library's own functions (include/corefun.h), each called with the pointers and lengths of slices, and what they tell. That is all
+//! that they ask for, so that these calls are safe.
 
-use crate::{Done, Refusal, Stopped};
-
-/// What a call tells: the refusal's number or 0, its place, the value's length, the steps. Replay: how it ended, count or offset, a
-/// refusal's number and place.
-type Told = [u64; 4];
+/// What a call tells: number (0 accepted), place, length of the value, steps. Replay: how it ended, count or offset, number, place.
+pub type Told = [u64; 4];
 
 type RunFunction = unsafe extern "C" fn(
     program: *const u8,
@@ -110,6 +107,21 @@ extern "C" {
     );
 }
 
+/// What no call tells, so that a call that tells nothing is found out.
+const NOTHING: Told = [u64::MAX; 4];
+
+// SAFETY, for every call below: each pointer and length are one slice's, and the borrows keep what is written apart from all else. The
+// calls have no requirement of their own.
+
+pub fn check(program: &[u8], workspace: &mut [u8]) -> Told {
+    let mut told = NOTHING;
+    unsafe {
+        corefun_check(program.as_ptr(), program.len(), workspace.as_mut_ptr(), workspace.len(), &mut told);
+    }
+    told
+}
+
+/// What a run is given.
 pub struct Run<'a> {
     pub program: &'a [u8],
     pub function: u16,
@@ -118,26 +130,16 @@ pub struct Run<'a> {
     pub fuel: u16,
 }
 
-pub fn check(program: &[u8], workspace: &mut [u8]) -> Result<Done, Refusal> {
-    let mut told = [0; 4];
-    // SAFETY: each pointer and length are one slice's.
-    unsafe {
-        corefun_check(program.as_ptr(), program.len(), workspace.as_mut_ptr(), workspace.len(), &mut told);
-    }
-    read(told)
-}
-
-pub fn forward(run: &Run, workspace: &mut [u8], output: &mut [u8]) -> Result<Done, Refusal> {
+pub fn forward(run: &Run, workspace: &mut [u8], output: &mut [u8]) -> Told {
     carry(corefun_forward, run, workspace, output)
 }
 
-pub fn backward(run: &Run, workspace: &mut [u8], output: &mut [u8]) -> Result<Done, Refusal> {
+pub fn backward(run: &Run, workspace: &mut [u8], output: &mut [u8]) -> Told {
     carry(corefun_backward, run, workspace, output)
 }
 
-fn carry(function: RunFunction, run: &Run, workspace: &mut [u8], output: &mut [u8]) -> Result<Done, Refusal> {
-    let mut told = [0; 4];
-    // SAFETY: each pointer and length are one slice's, and the borrows keep them apart.
+fn carry(function: RunFunction, run: &Run, workspace: &mut [u8], output: &mut [u8]) -> Told {
+    let mut told = NOTHING;
     unsafe {
         function(
             run.program.as_ptr(),
@@ -155,12 +157,11 @@ fn carry(function: RunFunction, run: &Run, workspace: &mut [u8], output: &mut [u
             &mut told,
         );
     }
-    read(told)
+    told
 }
 
-pub fn open(program: &[u8], record: &[u8], workspace: &mut [u8], journal: &mut [u8]) -> Result<Done, Refusal> {
-    let mut told = [0; 4];
-    // SAFETY: each pointer and length are one slice's, and the borrows keep them apart.
+pub fn open(program: &[u8], record: &[u8], workspace: &mut [u8], journal: &mut [u8]) -> Told {
+    let mut told = NOTHING;
     unsafe {
         corefun_open(
             program.as_ptr(),
@@ -174,7 +175,7 @@ pub fn open(program: &[u8], record: &[u8], workspace: &mut [u8], journal: &mut [
             &mut told,
         );
     }
-    read(told)
+    told
 }
 
 pub fn convert(
@@ -184,9 +185,8 @@ pub fn convert(
     fuel: u16,
     workspace: &mut [u8],
     journal: &mut [u8],
-) -> Result<Done, Refusal> {
-    let mut told = [0; 4];
-    // SAFETY: each pointer and length are one slice's, and the borrows keep them apart.
+) -> Told {
+    let mut told = NOTHING;
     unsafe {
         corefun_convert(
             program.as_ptr(),
@@ -202,12 +202,11 @@ pub fn convert(
             &mut told,
         );
     }
-    read(told)
+    told
 }
 
-pub fn rollback(program: &[u8], fuel: u16, workspace: &mut [u8], journal: &mut [u8]) -> Result<Done, Refusal> {
-    let mut told = [0; 4];
-    // SAFETY: each pointer and length are one slice's, and the borrows keep them apart.
+pub fn rollback(program: &[u8], fuel: u16, workspace: &mut [u8], journal: &mut [u8]) -> Told {
+    let mut told = NOTHING;
     unsafe {
         corefun_rollback(
             program.as_ptr(),
@@ -220,7 +219,7 @@ pub fn rollback(program: &[u8], fuel: u16, workspace: &mut [u8], journal: &mut [
             &mut told,
         );
     }
-    read(told)
+    told
 }
 
 pub fn replay(
@@ -229,9 +228,8 @@ pub fn replay(
     workspace: &mut [u8],
     journal: &mut [u8],
     answers: &mut [u8],
-) -> Result<usize, Stopped> {
-    let mut told = [0; 4];
-    // SAFETY: each pointer and length are one slice's, and the borrows keep them apart.
+) -> Told {
+    let mut told = NOTHING;
     unsafe {
         corefun_replay(
             program.as_ptr(),
@@ -247,26 +245,5 @@ pub fn replay(
             &mut told,
         );
     }
-    ending(told)
-}
-
-/// Numbers are 0 to 20, places and steps under 2^32, by the library's contracts.
-fn read([number, place, length, steps]: Told) -> Result<Done, Refusal> {
-    match number {
-        0 => Ok(Done { length: length as usize, steps: steps as u32 }),
-        _ => Err(Refusal { number: number as u8, place: place as u32 }),
-    }
-}
-
-/// The endings are numbered as in include/corefun.h.
-fn ending([ending, at, number, place]: Told) -> Result<usize, Stopped> {
-    let at = at as usize;
-    match ending {
-        0 => Ok(at),
-        1 => Err(Stopped::Malformed(at)),
-        2 => Err(Stopped::TooWide(at)),
-        3 => Err(Stopped::ShortAnswers),
-        4 => Err(Stopped::Unopened(Refusal { number: number as u8, place: place as u32 })),
-        _ => Err(Stopped::Cut(at)),
-    }
+    told
 }

@@ -3,9 +3,11 @@
 //!
 //! The program format, and what to do about each refusal: docs/USING.md.
 
-mod foreign;
+pub mod foreign;
 mod refusal;
 mod stopped;
+
+use foreign::{Run, Told};
 
 pub use refusal::Refusal;
 pub use stopped::Stopped;
@@ -31,7 +33,7 @@ pub const fn workspace_bytes(fuel: u16) -> usize {
 
 /// Is the program accepted?
 pub fn check(program: &[u8], workspace: &mut [u8]) -> Result<(), Refusal> {
-    foreign::check(program, workspace).map(|_| ())
+    read(foreign::check(program, workspace)).map(|_| ())
 }
 
 /// Runs a function forward on a value, within so many steps.
@@ -44,8 +46,7 @@ pub fn forward(
     workspace: &mut [u8],
     output: &mut [u8],
 ) -> Result<Done, Refusal> {
-    let run = foreign::Run { program, function, ancillae, value, fuel };
-    foreign::forward(&run, workspace, output)
+    read(foreign::forward(&Run { program, function, ancillae, value, fuel }, workspace, output))
 }
 
 /// Runs a function backward: the output becomes the input that the function carries to the value.
@@ -58,13 +59,12 @@ pub fn backward(
     workspace: &mut [u8],
     output: &mut [u8],
 ) -> Result<Done, Refusal> {
-    let run = foreign::Run { program, function, ancillae, value, fuel };
-    foreign::backward(&run, workspace, output)
+    read(foreign::backward(&Run { program, function, ancillae, value, fuel }, workspace, output))
 }
 
 /// Opens a journal with a record: the buffer becomes the record's field and zeros.
 pub fn open(program: &[u8], record: &[u8], workspace: &mut [u8], journal: &mut [u8]) -> Result<(), Refusal> {
-    foreign::open(program, record, workspace, journal).map(|_| ())
+    read(foreign::open(program, record, workspace, journal)).map(|_| ())
 }
 
 /// Converts the held record by a function forward, and adds the conversion to those that stand.
@@ -76,12 +76,12 @@ pub fn convert(
     workspace: &mut [u8],
     journal: &mut [u8],
 ) -> Result<Done, Refusal> {
-    foreign::convert(program, function, ancillae, fuel, workspace, journal)
+    read(foreign::convert(program, function, ancillae, fuel, workspace, journal))
 }
 
 /// Rolls the newest standing conversion back.
 pub fn rollback(program: &[u8], fuel: u16, workspace: &mut [u8], journal: &mut [u8]) -> Result<Done, Refusal> {
-    foreign::rollback(program, fuel, workspace, journal)
+    read(foreign::rollback(program, fuel, workspace, journal))
 }
 
 /// Plays a script of open, convert and rollback calls on one journal (the form of scripts and answers: docs/USING.md): how many calls
@@ -93,5 +93,26 @@ pub fn replay(
     journal: &mut [u8],
     answers: &mut [u8],
 ) -> Result<usize, Stopped> {
-    foreign::replay(program, script, workspace, journal, answers)
+    ending(foreign::replay(program, script, workspace, journal, answers))
+}
+
+/// Numbers are 0 to 20, places and steps under 2^32, by the library's contracts.
+fn read([number, place, length, steps]: Told) -> Result<Done, Refusal> {
+    match number {
+        0 => Ok(Done { length: length as usize, steps: steps as u32 }),
+        _ => Err(Refusal { number: number as u8, place: place as u32 }),
+    }
+}
+
+/// The endings are numbered as in include/corefun.h.
+fn ending([ending, at, number, place]: Told) -> Result<usize, Stopped> {
+    let at = at as usize;
+    match ending {
+        0 => Ok(at),
+        1 => Err(Stopped::Malformed(at)),
+        2 => Err(Stopped::TooWide(at)),
+        3 => Err(Stopped::ShortAnswers),
+        4 => Err(Stopped::Unopened(Refusal { number: number as u8, place: place as u32 })),
+        _ => Err(Stopped::Cut(at)),
+    }
 }

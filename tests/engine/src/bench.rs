@@ -2,7 +2,8 @@
 //! which does all but the run; so it has its share of the workspace's clearing and of the value's bytes. The shortest of
 //! several timings stands for each.
 
-use crate::foreign;
+use crate::engine;
+use corefun::foreign;
 use second::bench::{best_of, largest_program, run_samples, Sample};
 use second::calls::{answer, Answer, Call, ConvertCall, Direction, RunCall};
 use second::limits::{workspace, FUEL, VALUE_BYTES};
@@ -100,7 +101,7 @@ fn bench_journal(program: &[u8]) {
 fn engine_time(call: &RunCall) -> f64 {
     let mut space = vec![0; call.workspace];
     let mut output = vec![0; call.output];
-    best_of(TIMES, || black_box(foreign::run(black_box(call), &mut space, &mut output))[1] != u64::MAX)
+    best_of(TIMES, || black_box(engine::run(black_box(call), &mut space, &mut output))[1] != u64::MAX)
 }
 
 fn second_time(call: &RunCall) -> f64 {

@@ -1,7 +1,7 @@
 //! The proved engine, linked as a static library, behind the second evaluator's own calls and answers.
 
-use crate::foreign::{self, Told};
-use second::calls::{Answer, Call, RunCall};
+use corefun::foreign::{self, Told};
+use second::calls::{Answer, Call, Direction, RunCall};
 use second::make::scripts::ScriptCall;
 use second::refusal::{Number, Refusal};
 use second::script::Ended;
@@ -33,7 +33,7 @@ pub fn answer(call: &Call) -> Result<Answer, String> {
 fn ran(call: &RunCall) -> Result<Answer, String> {
     let before = pattern(call.output);
     let mut output = before.clone();
-    let (told, refused) = with_workspace(call.workspace, |space| foreign::run(call, space, &mut output))?;
+    let (told, refused) = with_workspace(call.workspace, |space| run(call, space, &mut output))?;
     let length = if refused.is_none() { told[2] as usize } else { 0 };
     if length > output.len() || output[length..] != before[length..] {
         return Err("the rest of the output changed".to_string());
@@ -93,6 +93,16 @@ fn ending([way, at, number, place]: Told) -> Result<Ended, String> {
         (5, None) => Ok(Ended::Cut(at as usize)),
         _ => Err(format!("no ending: {:?}", [way, at, number, place])),
     }
+}
+
+/// The run of a call, in its direction.
+pub fn run(call: &RunCall, workspace: &mut [u8], output: &mut [u8]) -> Told {
+    let carry = match call.direction {
+        Direction::Forward => foreign::forward,
+        Direction::Backward => foreign::backward,
+    };
+    let RunCall { program, function, ancillae, value, fuel, .. } = call;
+    carry(&foreign::Run { program, function: *function, ancillae, value, fuel: *fuel }, workspace, output)
 }
 
 /// Bytes that no call writes by chance.

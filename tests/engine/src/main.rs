@@ -3,7 +3,6 @@
 mod bench;
 mod compare;
 mod engine;
-mod foreign;
 mod months;
 mod scripts;
 mod stack;
