@@ -6,7 +6,7 @@ use package.Rattle.rules.specs.Term.{Program}
 use package.Rattle.calls.specs.Answer.{Answer, accepted, refused, _>>=_}
 use package.Rattle.calls.specs.Load.{load}
 use package.Rattle.calls.specs.Conversions.{Turned}
-use package.Rattle.calls.specs.Book.{afterOpen, afterTurned}
+use package.Rattle.calls.specs.Book.{afterOpen}
 use package.Rattle.calls.proofs.Answer.{via, refused≢accepted}
 use package.Rattle.program.specs.declared.fields.Counts.{Counts}
 use package.Rattle.rows.specs.declared.answers.Refusal.{Refusal}
@@ -16,9 +16,10 @@ use package.Rattle.rows.specs.declared.answers.RunAnswer.{RunAnswer}
 use package.Rattle.rows.specs.declared.answers.RunAnswer.the-variants as runs
 use package.Rattle.rows.specs.declared.preparing.Prepared.{Prepared}
 use package.Rattle.rows.specs.declared.preparing.Prepared.the-variants.{Ready, Refused}
-use package.Rattle.rows.specs.Answers.{numberOf, placeOf, checkAnswer, openAnswer, heldAnswer}
+use package.Rattle.rows.specs.Answers.{numberOf, placeOf, checkAnswer, openAnswer}
 use package.Rattle.rows.specs.Calls.{Later, refuses, preparedOf, Begins, PrepareMeans, CheckMeans}
 use package.Rattle.turns.specs.Turns.{OpenMeans, TurnMeans, inFronts}
+use package.Rattle.turns.proofs.Values.{turn-refused as left-alone}
 
 ----------------------------------------------------------------
 -- Open
@@ -55,10 +56,6 @@ module _ {xs : List ℕ} {v : CheckAnswer} (C : CheckMeans v xs) (x : Answer (Li
 ----------------------------------------------------------------
 -- Convert and rollback
 
-refused-turn : {x : Answer Turned} (r : Refusal) (j : List ℕ) → x ≡ refused (numberOf r) (placeOf r) → 2 ≤ numberOf r → TurnMeans (runs.Refused r) x j j
-unfolding afterTurned
-refused-turn r j e l = rw e (record { answer = refl; later = refuses {n = numberOf r} l; journal = refl })
-
 module _ {xs types terms functions : List ℕ} {v : Prepared} (M : PrepareMeans v xs types terms functions) (turn : Program → Answer Turned) {j : List ℕ} where
   pub turn-ready : {c : Counts} → v ≡ Ready c → {r : RunAnswer} {j′ : List ℕ} → TurnMeans r (turn (inFronts c xs types terms functions)) j j′ → TurnMeans r (load xs >>= turn) j j′
   unfolding _>>=_
@@ -67,4 +64,5 @@ module _ {xs types terms functions : List ℕ} {v : Prepared} (M : PrepareMeans 
   pub turn-refused : {r : Refusal} → v ≡ Refused r → TurnMeans (runs.Refused r) (load xs >>= turn) j j
   unfolding _>>=_
   turn-refused {r} e =
-      refused-turn r j (ap (λ a. a >>= turn) (M .answer ∙ ap (λ v. preparedOf v xs types terms functions) e)) (subst (λ v. Begins v xs types terms functions) e (M .begins))
+      left-alone r j (ap (λ a. a >>= turn) (M .answer ∙ ap (λ v. preparedOf v xs types terms functions) e))
+      (refuses {n = numberOf r} (subst (λ v. Begins v xs types terms functions) e (M .begins)))
