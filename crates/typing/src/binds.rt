@@ -2,7 +2,6 @@
 // proofs/Binding, Branching.
 use crate::infer;
 use crate::outcomes;
-use crate::outcomes::Fault;
 use crate::outcomes::Out;
 use crate::outcomes::Scope;
 use crate::outcomes::Status;
@@ -41,7 +40,7 @@ pub fn let_one(
 {
     let n = sc.n;
     if n == MAX_VARIABLES {
-        return outcomes::refuse(top, Fault::Unscoped(t));
+        return outcomes::unscoped(top, t);
     }
     let bound = program::views::first(p, at);
     let body = program::views::second(p, at);
@@ -78,7 +77,7 @@ pub fn let_two(
 {
     let n = sc.n;
     if MAX_VARIABLES < n + 2 {
-        return outcomes::refuse(top, Fault::Unscoped(t));
+        return outcomes::unscoped(top, t);
     }
     let bound = program::views::first(p, at);
     let body = program::views::second(p, at);
@@ -90,7 +89,7 @@ pub fn let_two(
             let s = types::shapes::shape_of(p, types, ws, m, f.code);
             let form = s.kind;
             if form != 1 {
-                return outcomes::refuse(m, Fault::Differ(t));
+                return outcomes::differ(m, t);
             }
             let one = variables::bind(p, types, ws, vars, sc, m, s.first);
             let two = variables::bind(p, types, ws, vars, one, m, s.second);
@@ -121,7 +120,7 @@ pub fn choose(
 {
     let n = sc.n;
     if n == MAX_VARIABLES {
-        return outcomes::refuse(top, Fault::Unscoped(t));
+        return outcomes::unscoped(top, t);
     }
     let sum = program::views::first(p, at);
     let r = infer::infer(p, types, terms, functions, nodes, ws, vars, sc, top, sum);
@@ -132,7 +131,7 @@ pub fn choose(
             let s = types::shapes::shape_of(p, types, ws, m, f.code);
             let form = s.kind;
             if form != 2 {
-                return outcomes::refuse(m, Fault::Differ(t));
+                return outcomes::differ(m, t);
             }
             branches(
                 p,
@@ -192,7 +191,7 @@ fn branches(
                 let r2 = infer::infer(p, types, terms, functions, nodes, ws, vars, two, m, right);
                 return tests::meet(p, types, ws, r2, f, uses, n, d, sc.owed, t);
             }
-            outcomes::refuse(m, Fault::Misused(t))
+            outcomes::misused(m, t)
         }
         Status::Refused(_) => r,
     }

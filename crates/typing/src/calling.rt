@@ -2,7 +2,6 @@
 use crate::infer;
 use crate::leaves;
 use crate::outcomes;
-use crate::outcomes::Fault;
 use crate::outcomes::Out;
 use crate::outcomes::Scope;
 use crate::outcomes::Status;
@@ -72,7 +71,7 @@ fn arguments(
                     count,
                 );
             }
-            outcomes::refuse(m, Fault::Differ(t))
+            outcomes::differ(m, t)
         }
         Status::Refused(_) => r,
     }
@@ -102,7 +101,7 @@ pub fn call(
     let parameters = program::views::function_parameters(p, h);
     let own = parameters - 1;
     if count != own {
-        return outcomes::refuse(top, Fault::Differ(t));
+        return outcomes::differ(top, t);
     }
     let nobody = Uses::none();
     let barred = Scope {

@@ -120,10 +120,10 @@ fn finish(
 }
 
 // The offset of a term's field; 0 if there is no such term, as in the definition of a refusal's place.
-fn place(terms: &[u16], t: u16) -> usize
+fn place(terms: &[u16], t: u32) -> usize
     ensures { λ r. ⌜ r ≡ getD (now (terms .entry)) t 0 ⌝ }
 {
-    let k = octets::wide_index(t);
+    let k = t as usize;
     if k < terms.len() {
         return octets::wide_index(terms[k]);
     }

@@ -4,7 +4,6 @@ use crate::binds;
 use crate::calling;
 use crate::leaves;
 use crate::outcomes;
-use crate::outcomes::Fault;
 use crate::outcomes::Out;
 use crate::outcomes::Scope;
 use crate::outcomes::Status;
@@ -129,7 +128,7 @@ fn inject(
     let s = types::shapes::shape_of(p, types, ws, top, whole);
     let form = s.kind;
     if form != 2 {
-        return outcomes::refuse(top, Fault::Differ(t));
+        return outcomes::differ(top, t);
     }
     if kind == 2 {
         return demand(
@@ -237,7 +236,7 @@ fn roll(
                 t,
             )
         }
-        Body::Other => outcomes::refuse(top, Fault::Differ(t)),
+        Body::Other => outcomes::differ(top, t),
     }
 }
 
@@ -282,8 +281,8 @@ fn unroll(
                     t,
                 );
             }
-            outcomes::refuse(top, Fault::Differ(t))
+            outcomes::differ(top, t)
         }
-        Body::Other => outcomes::refuse(top, Fault::Differ(t)),
+        Body::Other => outcomes::differ(top, t),
     }
 }

@@ -2,6 +2,7 @@
 use types::codes::Code;
 use uses::Uses;
 ghost use mathlib.Core.Path.{_≡_};
+ghost use Rattle.typing.specs.declared.outcomes.Fault.the-variants.{Differ, Unscoped, Misused};
 ghost use Rattle.typing.specs.declared.outcomes.Status.the-variants.{Refused};
 
 // The variables in scope, n of them: the first q are ancilla parameters, those from q on and below lo are barred; `owed` are those that
@@ -19,11 +20,12 @@ pub struct Found {
     pub uses: Uses,
 }
 
-// Refusals 6 to 8 (section 4), each with its term.
+// Refusals 6 to 8 (section 4), each with its term. The term's number is as wide as the widest part of `Found`, so that both variants of a
+// status lie alike in memory: an outcome is then copied in the widths in which it was written.
 pub enum Fault {
-    Differ(u16),
-    Unscoped(u16),
-    Misused(u16),
+    Differ(u32),
+    Unscoped(u32),
+    Misused(u32),
 }
 
 pub enum Status {
@@ -37,11 +39,34 @@ pub struct Out {
     pub top: u32,
 }
 
-pub fn refuse(top: u32, why: Fault) -> Out
-    ensures { λ r. ⌜ (r .status ≡ Refused why) × (r .top ≡ top) ⌝ }
+// The refusals of term t.
+
+pub fn differ(top: u32, t: u16) -> Out
+    ensures { λ r. ⌜ (r .status ≡ Refused (Differ t)) × (r .top ≡ top) ⌝ }
 {
+    let term = octets::wide32(t);
     Out {
-        status: Status::Refused(why),
+        status: Status::Refused(Fault::Differ(term)),
+        top,
+    }
+}
+
+pub fn unscoped(top: u32, t: u16) -> Out
+    ensures { λ r. ⌜ (r .status ≡ Refused (Unscoped t)) × (r .top ≡ top) ⌝ }
+{
+    let term = octets::wide32(t);
+    Out {
+        status: Status::Refused(Fault::Unscoped(term)),
+        top,
+    }
+}
+
+pub fn misused(top: u32, t: u16) -> Out
+    ensures { λ r. ⌜ (r .status ≡ Refused (Misused t)) × (r .top ≡ top) ⌝ }
+{
+    let term = octets::wide32(t);
+    Out {
+        status: Status::Refused(Fault::Misused(term)),
         top,
     }
 }

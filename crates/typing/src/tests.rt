@@ -1,6 +1,5 @@
 // The tests that typing makes once a part is typed (section 4: "as soon as the parts it needs are typed"). A refusal of the part stands.
 use crate::outcomes;
-use crate::outcomes::Fault;
 use crate::outcomes::Found;
 use crate::outcomes::Out;
 use crate::outcomes::Status;
@@ -30,7 +29,7 @@ pub fn expect(p: &[u8], types: &[u16], ws: &[u8], out: Out, want: Code, answer: 
                     top,
                 };
             }
-            outcomes::refuse(top, Fault::Differ(t))
+            outcomes::differ(top, t)
         }
         Status::Refused(_) => out,
     }
@@ -82,7 +81,7 @@ pub fn close_one(
             if spent(p, types, ws, top, c, i, f.uses) {
                 return join(top, f, uses);
             }
-            outcomes::refuse(top, Fault::Misused(t))
+            outcomes::misused(top, t)
         }
         Status::Refused(_) => out,
     }
@@ -112,9 +111,9 @@ pub fn close_two(
                 if spent(p, types, ws, top, d, i + 1, f.uses) {
                     return join(top, f, uses);
                 }
-                return outcomes::refuse(top, Fault::Misused(t));
+                return outcomes::misused(top, t);
             }
-            outcomes::refuse(top, Fault::Misused(t))
+            outcomes::misused(top, t)
         }
         Status::Refused(_) => out,
     }
@@ -149,11 +148,11 @@ pub fn meet(
                         let code = left.code;
                         return join(top, Found { code, uses: both }, uses);
                     }
-                    return outcomes::refuse(top, Fault::Misused(t));
+                    return outcomes::misused(top, t);
                 }
-                return outcomes::refuse(top, Fault::Misused(t));
+                return outcomes::misused(top, t);
             }
-            outcomes::refuse(top, Fault::Differ(t))
+            outcomes::differ(top, t)
         }
         Status::Refused(_) => out,
     }
@@ -185,7 +184,7 @@ pub fn pair_up(
                 let uses = f.uses;
                 return join(top + 1, Found { code, uses }, left.uses);
             }
-            outcomes::refuse(top, Fault::Differ(t))
+            outcomes::differ(top, t)
         }
         Status::Refused(_) => out,
     }

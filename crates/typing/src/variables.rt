@@ -1,6 +1,5 @@
 // The types of the variables in scope, as codes in lent bytes, six bytes each: only this module knows the layout.
 use crate::outcomes;
-use crate::outcomes::Fault;
 use crate::outcomes::Found;
 use crate::outcomes::Out;
 use crate::outcomes::Scope;
@@ -48,13 +47,13 @@ pub fn variable(vars: &[u8], sc: Scope, top: u32, t: u16, i: u8) -> Out
     ensures { λ r. ⌜ Seen (now (vars .entry)) sc top t i r ⌝ }
 {
     if sc.n <= i {
-        return outcomes::refuse(top, Fault::Unscoped(t));
+        return outcomes::unscoped(top, t);
     }
     if i < sc.q {
         return named(vars, top, i);
     }
     if i < sc.lo {
-        return outcomes::refuse(top, Fault::Misused(t));
+        return outcomes::misused(top, t);
     }
     named(vars, top, i)
 }

@@ -31,10 +31,10 @@ use Rattle.typing.proofs.infer.unroll.Reads as infer·unroll
 use Rattle.typing.proofs.+binds-branches+binds-choose+binds-let_one+binds-let_two+calling-arguments+calling-call+infer-demand+infer-infer+infer-inject+infer-pair+infer-roll+infer-unroll.Lts-infer-unroll as infer·unroll-lts
 use Rattle.typing.proofs.+binds-branches+binds-choose+binds-let_one+binds-let_two+calling-arguments+calling-call+infer-demand+infer-infer+infer-inject+infer-pair+infer-roll+infer-unroll.Proof.Claims.{μ-binds·branches, μ-binds·choose, μ-binds·let-one, μ-binds·let-two, μ-calling·arguments, μ-calling·call, μ-infer·demand, μ-infer·infer, μ-infer·inject, μ-infer·pair, μ-infer·roll, μ-infer·unroll, binds·branches-at, binds·choose-at, binds·let-one-at, binds·let-two-at, calling·arguments-at, calling·call-at, infer·demand-at, infer·infer-at, infer·inject-at, infer·pair-at, infer·roll-at, infer·unroll-at, binds·branches-uses, binds·choose-uses, binds·let-one-uses, binds·let-two-uses, calling·arguments-uses, calling·call-uses, infer·demand-uses, infer·infer-uses, infer·inject-uses, infer·pair-uses, infer·roll-uses, infer·unroll-uses}
 use Rattle.typing.proofs.+binds-branches+binds-choose+binds-let_one+binds-let_two+calling-arguments+calling-call+infer-demand+infer-infer+infer-inject+infer-pair+infer-roll+infer-unroll.Proof.Entering.{infer·infer-offset-requires, infer·infer-kind-requires, infer·infer-variable-requires, infer·infer-variable-requires-2, infer·infer-unit-requires, infer·infer-inject-requires, infer·infer-inject-requires-2, infer·infer-pair-requires, infer·infer-let-one-requires, infer·infer-let-two-requires, infer·infer-choose-requires, infer·infer-call-requires, infer·infer-roll-requires, infer·infer-unroll-requires, infer·infer-same-length, infer·infer-returns, infer·infer-returns-2, infer·infer-same-length-2, infer·infer-same-length-3, infer·infer-returns-3, infer·infer-same-length-4, infer·infer-same-length-5, infer·infer-returns-4, infer·infer-same-length-6, infer·infer-same-length-7, infer·infer-returns-5, infer·infer-same-length-8, infer·infer-same-length-9, infer·infer-returns-6, infer·infer-same-length-10, infer·infer-same-length-11, infer·infer-returns-7, infer·infer-same-length-12, infer·infer-same-length-13, infer·infer-returns-8, infer·infer-same-length-14, infer·infer-same-length-15, infer·infer-returns-9, infer·infer-same-length-16, infer·infer-same-length-17, infer·infer-returns-10, infer·infer-same-length-18, infer·infer-same-length-19, infer·infer-returns-11}
-use Rattle.typing.proofs.+binds-branches+binds-choose+binds-let_one+binds-let_two+calling-arguments+calling-call+infer-demand+infer-infer+infer-inject+infer-pair+infer-roll+infer-unroll.Proof.Parts.{infer·demand-infer-requires, infer·demand-expect-requires, infer·demand-same-length, infer·demand-same-length-2, infer·demand-returns, infer·inject-first-requires, infer·inject-second-requires, infer·inject-entry-requires, infer·inject-shape-of-requires, infer·inject-refuse-requires, infer·inject-same-length, infer·inject-returns, infer·inject-demand-requires, infer·inject-same-length-2, infer·inject-same-length-3, infer·inject-returns-2, infer·inject-demand-requires-2, infer·inject-same-length-4, infer·inject-same-length-5, infer·inject-returns-3, infer·pair-first-requires, infer·pair-second-requires, infer·pair-infer-requires, infer·pair-enum-known-status, infer·pair-infer-requires-2, infer·pair-pair-up-requires, infer·pair-enum-told, infer·pair-same-length, infer·pair-same-length-2, infer·pair-returns, infer·pair-same-length-3, infer·pair-same-length-4, infer·pair-returns-2, infer·roll-first-requires, infer·roll-second-requires, infer·roll-unfolded-requires, infer·roll-enum-known-body, infer·roll-entry-requires, infer·roll-demand-requires, infer·roll-enum-told, infer·roll-refuse-requires, infer·roll-same-length, infer·roll-same-length-2, infer·roll-returns, infer·roll-returns-2, infer·unroll-first-requires, infer·unroll-second-requires, infer·unroll-unfolded-requires, infer·unroll-enum-known-body, infer·unroll-within-limit-requires, infer·unroll-entry-requires, infer·unroll-demand-requires, infer·unroll-same-length, infer·unroll-same-length-2, infer·unroll-returns, infer·unroll-refuse-requires, infer·unroll-enum-told, infer·unroll-refuse-requires-2, infer·unroll-same-length-3, infer·unroll-returns-2, infer·unroll-returns-3}
-use Rattle.typing.proofs.+binds-branches+binds-choose+binds-let_one+binds-let_two+calling-arguments+calling-call+infer-demand+infer-infer+infer-inject+infer-pair+infer-roll+infer-unroll.Proof.Lets.{binds·let-one-refuse-requires, binds·let-one-returns, binds·let-one-first-requires, binds·let-one-second-requires, binds·let-one-infer-requires, binds·let-one-enum-known-status, binds·let-one-bind-requires, binds·let-one-infer-requires-2, binds·let-one-close-one-requires, binds·let-one-enum-told, binds·let-one-same-length, binds·let-one-same-length-2, binds·let-one-returns-2, binds·let-one-same-length-3, binds·let-one-same-length-4, binds·let-one-returns-3, binds·let-two-add-if1, binds·let-two-refuse-requires, binds·let-two-returns, binds·let-two-first-requires, binds·let-two-second-requires, binds·let-two-infer-requires, binds·let-two-enum-known-status, binds·let-two-shape-of-requires, binds·let-two-refuse-requires-2, binds·let-two-same-length, binds·let-two-same-length-2, binds·let-two-returns-2, binds·let-two-bind-requires, binds·let-two-bind-requires-2, binds·let-two-infer-requires-2, binds·let-two-close-two-requires, binds·let-two-enum-told, binds·let-two-same-length-3, binds·let-two-same-length-4, binds·let-two-returns-3, binds·let-two-same-length-5, binds·let-two-same-length-6, binds·let-two-returns-4}
-use Rattle.typing.proofs.+binds-branches+binds-choose+binds-let_one+binds-let_two+calling-arguments+calling-call+infer-demand+infer-infer+infer-inject+infer-pair+infer-roll+infer-unroll.Proof.Cases.{binds·choose-refuse-requires, binds·choose-returns, binds·choose-first-requires, binds·choose-infer-requires, binds·choose-enum-known-status, binds·choose-shape-of-requires, binds·choose-refuse-requires-2, binds·choose-same-length, binds·choose-same-length-2, binds·choose-returns-2, binds·choose-branches-requires, binds·choose-enum-told, binds·choose-same-length-3, binds·choose-same-length-4, binds·choose-returns-3, binds·choose-same-length-5, binds·choose-same-length-6, binds·choose-returns-4, binds·branches-second-requires, binds·branches-third-requires, binds·branches-bind-requires, binds·branches-infer-requires, binds·branches-enum-known-status, binds·branches-spent-requires, binds·branches-bind-requires-2, binds·branches-infer-requires-2, binds·branches-meet-requires, binds·branches-same-length, binds·branches-same-length-2, binds·branches-returns, binds·branches-refuse-requires, binds·branches-enum-told, binds·branches-same-length-3, binds·branches-same-length-4, binds·branches-returns-2, binds·branches-same-length-5, binds·branches-same-length-6, binds·branches-returns-3}
-use Rattle.typing.proofs.+binds-branches+binds-choose+binds-let_one+binds-let_two+calling-arguments+calling-call+infer-demand+infer-infer+infer-inject+infer-pair+infer-roll+infer-unroll.Proof.Calls.{calling·arguments-unit-requires, calling·arguments-returns, calling·arguments-listed-requires, calling·arguments-infer-requires, calling·arguments-enum-known-status, calling·arguments-listed-requires-2, calling·arguments-entry-requires, calling·arguments-same-requires, calling·arguments-add-arguments, calling·arguments-arguments-requires, calling·arguments-same-length, calling·arguments-same-length-2, calling·arguments-returns-2, calling·arguments-refuse-requires, calling·arguments-enum-told, calling·arguments-same-length-3, calling·arguments-same-length-4, calling·arguments-returns-3, calling·arguments-same-length-5, calling·arguments-same-length-6, calling·arguments-returns-4, calling·call-first-requires, calling·call-offset-requires, calling·call-call-ancillae-requires, calling·call-function-parameters-requires, calling·call-sub-own, calling·call-refuse-requires, calling·call-returns, calling·call-none-requires, calling·call-arguments-requires, calling·call-enum-told, calling·call-listed-requires, calling·call-listed-requires-2, calling·call-entry-requires, calling·call-function-result-requires, calling·call-entry-requires-2, calling·call-demand-requires, calling·call-enum-told-2, calling·call-same-length, calling·call-same-length-2, calling·call-returns-2, calling·call-same-length-3, calling·call-same-length-4, calling·call-returns-3}
+use Rattle.typing.proofs.+binds-branches+binds-choose+binds-let_one+binds-let_two+calling-arguments+calling-call+infer-demand+infer-infer+infer-inject+infer-pair+infer-roll+infer-unroll.Proof.Parts.{infer·demand-infer-requires, infer·demand-expect-requires, infer·demand-same-length, infer·demand-same-length-2, infer·demand-returns, infer·inject-first-requires, infer·inject-second-requires, infer·inject-entry-requires, infer·inject-shape-of-requires, infer·inject-differ-requires, infer·inject-same-length, infer·inject-returns, infer·inject-demand-requires, infer·inject-same-length-2, infer·inject-same-length-3, infer·inject-returns-2, infer·inject-demand-requires-2, infer·inject-same-length-4, infer·inject-same-length-5, infer·inject-returns-3, infer·pair-first-requires, infer·pair-second-requires, infer·pair-infer-requires, infer·pair-enum-known-status, infer·pair-infer-requires-2, infer·pair-pair-up-requires, infer·pair-enum-told, infer·pair-same-length, infer·pair-same-length-2, infer·pair-returns, infer·pair-same-length-3, infer·pair-same-length-4, infer·pair-returns-2, infer·roll-first-requires, infer·roll-second-requires, infer·roll-unfolded-requires, infer·roll-enum-known-body, infer·roll-entry-requires, infer·roll-demand-requires, infer·roll-enum-told, infer·roll-differ-requires, infer·roll-same-length, infer·roll-same-length-2, infer·roll-returns, infer·roll-returns-2, infer·unroll-first-requires, infer·unroll-second-requires, infer·unroll-unfolded-requires, infer·unroll-enum-known-body, infer·unroll-within-limit-requires, infer·unroll-entry-requires, infer·unroll-demand-requires, infer·unroll-same-length, infer·unroll-same-length-2, infer·unroll-returns, infer·unroll-differ-requires, infer·unroll-enum-told, infer·unroll-differ-requires-2, infer·unroll-same-length-3, infer·unroll-returns-2, infer·unroll-returns-3}
+use Rattle.typing.proofs.+binds-branches+binds-choose+binds-let_one+binds-let_two+calling-arguments+calling-call+infer-demand+infer-infer+infer-inject+infer-pair+infer-roll+infer-unroll.Proof.Lets.{binds·let-one-unscoped-requires, binds·let-one-returns, binds·let-one-first-requires, binds·let-one-second-requires, binds·let-one-infer-requires, binds·let-one-enum-known-status, binds·let-one-bind-requires, binds·let-one-infer-requires-2, binds·let-one-close-one-requires, binds·let-one-enum-told, binds·let-one-same-length, binds·let-one-same-length-2, binds·let-one-returns-2, binds·let-one-same-length-3, binds·let-one-same-length-4, binds·let-one-returns-3, binds·let-two-add-if1, binds·let-two-unscoped-requires, binds·let-two-returns, binds·let-two-first-requires, binds·let-two-second-requires, binds·let-two-infer-requires, binds·let-two-enum-known-status, binds·let-two-shape-of-requires, binds·let-two-differ-requires, binds·let-two-same-length, binds·let-two-same-length-2, binds·let-two-returns-2, binds·let-two-bind-requires, binds·let-two-bind-requires-2, binds·let-two-infer-requires-2, binds·let-two-close-two-requires, binds·let-two-enum-told, binds·let-two-same-length-3, binds·let-two-same-length-4, binds·let-two-returns-3, binds·let-two-same-length-5, binds·let-two-same-length-6, binds·let-two-returns-4}
+use Rattle.typing.proofs.+binds-branches+binds-choose+binds-let_one+binds-let_two+calling-arguments+calling-call+infer-demand+infer-infer+infer-inject+infer-pair+infer-roll+infer-unroll.Proof.Cases.{binds·choose-unscoped-requires, binds·choose-returns, binds·choose-first-requires, binds·choose-infer-requires, binds·choose-enum-known-status, binds·choose-shape-of-requires, binds·choose-differ-requires, binds·choose-same-length, binds·choose-same-length-2, binds·choose-returns-2, binds·choose-branches-requires, binds·choose-enum-told, binds·choose-same-length-3, binds·choose-same-length-4, binds·choose-returns-3, binds·choose-same-length-5, binds·choose-same-length-6, binds·choose-returns-4, binds·branches-second-requires, binds·branches-third-requires, binds·branches-bind-requires, binds·branches-infer-requires, binds·branches-enum-known-status, binds·branches-spent-requires, binds·branches-bind-requires-2, binds·branches-infer-requires-2, binds·branches-meet-requires, binds·branches-same-length, binds·branches-same-length-2, binds·branches-returns, binds·branches-misused-requires, binds·branches-enum-told, binds·branches-same-length-3, binds·branches-same-length-4, binds·branches-returns-2, binds·branches-same-length-5, binds·branches-same-length-6, binds·branches-returns-3}
+use Rattle.typing.proofs.+binds-branches+binds-choose+binds-let_one+binds-let_two+calling-arguments+calling-call+infer-demand+infer-infer+infer-inject+infer-pair+infer-roll+infer-unroll.Proof.Calls.{calling·arguments-unit-requires, calling·arguments-returns, calling·arguments-listed-requires, calling·arguments-infer-requires, calling·arguments-enum-known-status, calling·arguments-listed-requires-2, calling·arguments-entry-requires, calling·arguments-same-requires, calling·arguments-add-arguments, calling·arguments-arguments-requires, calling·arguments-same-length, calling·arguments-same-length-2, calling·arguments-returns-2, calling·arguments-differ-requires, calling·arguments-enum-told, calling·arguments-same-length-3, calling·arguments-same-length-4, calling·arguments-returns-3, calling·arguments-same-length-5, calling·arguments-same-length-6, calling·arguments-returns-4, calling·call-first-requires, calling·call-offset-requires, calling·call-call-ancillae-requires, calling·call-function-parameters-requires, calling·call-sub-own, calling·call-differ-requires, calling·call-returns, calling·call-none-requires, calling·call-arguments-requires, calling·call-enum-told, calling·call-listed-requires, calling·call-listed-requires-2, calling·call-entry-requires, calling·call-function-result-requires, calling·call-entry-requires-2, calling·call-demand-requires, calling·call-enum-told-2, calling·call-same-length, calling·call-same-length-2, calling·call-returns-2, calling·call-same-length-3, calling·call-same-length-4, calling·call-returns-3}
 use Rattle.typing.proofs.+binds-branches+binds-choose+binds-let_one+binds-let_two+calling-arguments+calling-call+infer-demand+infer-infer+infer-inject+infer-pair+infer-roll+infer-unroll.{statement}
 use Rattle.typing.proofs.+binds-branches+binds-choose+binds-let_one+binds-let_two+calling-arguments+calling-call+infer-demand+infer-infer+infer-inject+infer-pair+infer-roll+infer-unroll.Tie.{close}
 
@@ -68,7 +68,7 @@ pub +binds·branches+binds·choose+binds·let-one+binds·let-two+calling·argume
     (binds·branches-same-length t)
     (binds·branches-same-length-2 t)
     (binds·branches-returns t)
-    (binds·branches-refuse-requires t)
+    (binds·branches-misused-requires t)
     (binds·branches-enum-told t)
     (binds·branches-same-length-3 t)
     (binds·branches-same-length-4 t)
@@ -79,13 +79,13 @@ pub +binds·branches+binds·choose+binds·let-one+binds·let-two+calling·argume
     (λ t. binds·choose-lts.spec (binds·choose-uses t)
     (binds·choose-at t)
     binds·choose.Post
-    (binds·choose-refuse-requires t)
+    (binds·choose-unscoped-requires t)
     (binds·choose-returns t)
     (binds·choose-first-requires t)
     (binds·choose-infer-requires t)
     (binds·choose-enum-known-status t)
     (binds·choose-shape-of-requires t)
-    (binds·choose-refuse-requires-2 t)
+    (binds·choose-differ-requires t)
     (binds·choose-same-length t)
     (binds·choose-same-length-2 t)
     (binds·choose-returns-2 t)
@@ -100,7 +100,7 @@ pub +binds·branches+binds·choose+binds·let-one+binds·let-two+calling·argume
     (λ t. binds·let-one-lts.spec (binds·let-one-uses t)
     (binds·let-one-at t)
     binds·let-one.Post
-    (binds·let-one-refuse-requires t)
+    (binds·let-one-unscoped-requires t)
     (binds·let-one-returns t)
     (binds·let-one-first-requires t)
     (binds·let-one-second-requires t)
@@ -120,14 +120,14 @@ pub +binds·branches+binds·choose+binds·let-one+binds·let-two+calling·argume
     (binds·let-two-at t)
     binds·let-two.Post
     (binds·let-two-add-if1 t)
-    (binds·let-two-refuse-requires t)
+    (binds·let-two-unscoped-requires t)
     (binds·let-two-returns t)
     (binds·let-two-first-requires t)
     (binds·let-two-second-requires t)
     (binds·let-two-infer-requires t)
     (binds·let-two-enum-known-status t)
     (binds·let-two-shape-of-requires t)
-    (binds·let-two-refuse-requires-2 t)
+    (binds·let-two-differ-requires t)
     (binds·let-two-same-length t)
     (binds·let-two-same-length-2 t)
     (binds·let-two-returns-2 t)
@@ -158,7 +158,7 @@ pub +binds·branches+binds·choose+binds·let-one+binds·let-two+calling·argume
     (calling·arguments-same-length t)
     (calling·arguments-same-length-2 t)
     (calling·arguments-returns-2 t)
-    (calling·arguments-refuse-requires t)
+    (calling·arguments-differ-requires t)
     (calling·arguments-enum-told t)
     (calling·arguments-same-length-3 t)
     (calling·arguments-same-length-4 t)
@@ -174,7 +174,7 @@ pub +binds·branches+binds·choose+binds·let-one+binds·let-two+calling·argume
     (calling·call-call-ancillae-requires t)
     (calling·call-function-parameters-requires t)
     (calling·call-sub-own t)
-    (calling·call-refuse-requires t)
+    (calling·call-differ-requires t)
     (calling·call-returns t)
     (calling·call-none-requires t)
     (calling·call-arguments-requires t)
@@ -254,7 +254,7 @@ pub +binds·branches+binds·choose+binds·let-one+binds·let-two+calling·argume
     (infer·inject-second-requires t)
     (infer·inject-entry-requires t)
     (infer·inject-shape-of-requires t)
-    (infer·inject-refuse-requires t)
+    (infer·inject-differ-requires t)
     (infer·inject-same-length t)
     (infer·inject-returns t)
     (infer·inject-demand-requires t)
@@ -291,7 +291,7 @@ pub +binds·branches+binds·choose+binds·let-one+binds·let-two+calling·argume
     (infer·roll-entry-requires t)
     (infer·roll-demand-requires t)
     (infer·roll-enum-told t)
-    (infer·roll-refuse-requires t)
+    (infer·roll-differ-requires t)
     (infer·roll-same-length t)
     (infer·roll-same-length-2 t)
     (infer·roll-returns t)
@@ -309,9 +309,9 @@ pub +binds·branches+binds·choose+binds·let-one+binds·let-two+calling·argume
     (infer·unroll-same-length t)
     (infer·unroll-same-length-2 t)
     (infer·unroll-returns t)
-    (infer·unroll-refuse-requires t)
+    (infer·unroll-differ-requires t)
     (infer·unroll-enum-told t)
-    (infer·unroll-refuse-requires-2 t)
+    (infer·unroll-differ-requires-2 t)
     (infer·unroll-same-length-3 t)
     (infer·unroll-returns-2 t)
     (infer·unroll-returns-3 t)

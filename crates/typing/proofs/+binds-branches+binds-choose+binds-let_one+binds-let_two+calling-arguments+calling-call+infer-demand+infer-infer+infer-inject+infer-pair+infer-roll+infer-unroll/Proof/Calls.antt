@@ -51,8 +51,8 @@ calling·arguments-same-length-2 t c = c .before .before .before .before .argume
 pub calling·arguments-returns-2 : (t : ℕ) → calling·arguments-lts.Need-returns-2 (calling·arguments-uses t) (calling·arguments-at t) calling·arguments.Post
 calling·arguments-returns-2 t c = args-done (c .before .before .before .before .before .before .before .before .before .before .before .before .before .before .before .before .before .before .before .before .before .before .before .before .before .before .before .before .before .before .before .pre .1 .0) (c .before .before .before .before .before .before .before .before .before .before .before .before .before .before .before .before .before .before .before .before .before .before .before .before .before .before .before .before .before .before .before .pre .1 .1) (c .before .before .before .before .before .before .before .before .before .before .before .before .before .before .before .before .before .before .before .before .before .before .before .if1 .left) (c .before .before .before .before .before .before .before .before .before .before .before .before .before .before .before .before .before .before .before .before .before .before .listed .ensures) (c .before .before .before .before .before .before .before .before .before .before .before .before .before .before .before .before .before .before .before .infer .ensures) (c .before .before .before .before .before .before .before .before .before .before .before .before .before .status .given .1) (c .before .before .before .before .before .before .before .before .before .before .before .listed2 .ensures) (c .before .before .before .before .before .before .before .before .before .before .entry .ensures) (c .before .before .before .before .before .before .before .before .same .ensures) (c .before .before .before .before .before .before .before .if2 .taken) (c .before .before .before .before .arguments .ensures)
 
-pub calling·arguments-refuse-requires : (t : ℕ) → calling·arguments-lts.Need-refuse-requires (calling·arguments-uses t) (calling·arguments-at t) calling·arguments.Post
-calling·arguments-refuse-requires t c κs = search needs
+pub calling·arguments-differ-requires : (t : ℕ) → calling·arguments-lts.Need-differ-requires (calling·arguments-uses t) (calling·arguments-at t) calling·arguments.Post
+calling·arguments-differ-requires t c κs = search needs
 
 pub calling·arguments-enum-told : (t : ℕ) → calling·arguments-lts.Need-enum-told (calling·arguments-uses t) (calling·arguments-at t) calling·arguments.Post
 calling·arguments-enum-told t c = search needs
@@ -64,7 +64,7 @@ pub calling·arguments-same-length-4 : (t : ℕ) → calling·arguments-lts.Need
 calling·arguments-same-length-4 t c = c .before .before .before .before .before .before .before .before .before .before .before .before .before .infer .kept .1 .1 .1 .1 .1 .1 .0
 
 pub calling·arguments-returns-3 : (t : ℕ) → calling·arguments-lts.Need-returns-3 (calling·arguments-uses t) (calling·arguments-at t) calling·arguments.Post
-calling·arguments-returns-3 t c = args-differ (c .before .before .before .before .before .before .before .before .before .before .before .before .before .before .before .before .before .before .before .before .before .before .before .before .before .pre .1 .0) (c .before .before .before .before .before .before .before .before .before .before .before .before .before .before .before .before .before .before .before .before .before .before .before .before .before .pre .1 .1) (c .before .before .before .before .before .before .before .before .before .before .before .before .before .before .before .before .before .if1 .left) (c .before .before .before .before .before .before .before .before .before .before .before .before .before .before .before .before .listed .ensures) (c .before .before .before .before .before .before .before .before .before .before .before .before .before .infer .ensures) (c .before .before .before .before .before .before .before .status .given .1) (c .before .before .before .before .before .listed2 .ensures) (c .before .before .before .before .entry .ensures) (c .before .before .same .ensures) (c .before .if2 .left) (c .refuse .ensures .0) (c .refuse .ensures .1)
+calling·arguments-returns-3 t c = args-differ (c .before .before .before .before .before .before .before .before .before .before .before .before .before .before .before .before .before .before .before .before .before .before .before .before .before .pre .1 .0) (c .before .before .before .before .before .before .before .before .before .before .before .before .before .before .before .before .before .before .before .before .before .before .before .before .before .pre .1 .1) (c .before .before .before .before .before .before .before .before .before .before .before .before .before .before .before .before .before .if1 .left) (c .before .before .before .before .before .before .before .before .before .before .before .before .before .before .before .before .listed .ensures) (c .before .before .before .before .before .before .before .before .before .before .before .before .before .infer .ensures) (c .before .before .before .before .before .before .before .status .given .1) (c .before .before .before .before .before .listed2 .ensures) (c .before .before .before .before .entry .ensures) (c .before .before .same .ensures) (c .before .if2 .left) (c .differ .ensures .0) (c .differ .ensures .1)
 
 pub calling·arguments-same-length-5 : (t : ℕ) → calling·arguments-lts.Need-same-length-5 (calling·arguments-uses t) (calling·arguments-at t) calling·arguments.Post
 calling·arguments-same-length-5 t c = c .before .before .before .before .before .before .infer .kept .1 .1 .1 .1 .1 .0
@@ -90,11 +90,11 @@ calling·call-function-parameters-requires t c κs = omega (arith, read-function
 pub calling·call-sub-own : (t : ℕ) → calling·call-lts.Need-sub-own (calling·call-uses t) (calling·call-at t) calling·call.Post
 calling·call-sub-own t c = omega (arith, c .function-parameters .ensures .0, some-parameters ((c .before .before .before .before .before .before .before .before .before .before .before .pre .1 .0) .entries) (call-function (c .before .before .before .before .before .before .before .before .before .before .before .pre .1 .0) (c .before .before .before .before .before .before .before .before .before .before .before .pre .1 .1) (c .before .before .before .first .ensures)) (c .before .before .offset .ensures) .0)
 
-pub calling·call-refuse-requires : (t : ℕ) → calling·call-lts.Need-refuse-requires (calling·call-uses t) (calling·call-at t) calling·call.Post
-calling·call-refuse-requires t c κs = search needs
+pub calling·call-differ-requires : (t : ℕ) → calling·call-lts.Need-differ-requires (calling·call-uses t) (calling·call-at t) calling·call.Post
+calling·call-differ-requires t c κs = search needs
 
 pub calling·call-returns : (t : ℕ) → calling·call-lts.Need-returns (calling·call-uses t) (calling·call-at t) calling·call.Post
-calling·call-returns t c = call-differ (c .before .before .before .before .before .before .before .before .before .before .before .before .before .pre .1 .0) (c .before .before .before .before .before .before .before .before .before .before .before .before .before .pre .1 .1) (c .before .before .before .before .before .first .ensures) (c .before .before .before .before .offset .ensures) (c .before .before .before .call-ancillae .ensures) (ap (λ n. n - 1) (c .before .before .function-parameters .ensures .0)) (c .before .if1 .taken) (c .refuse .ensures .0) (c .refuse .ensures .1)
+calling·call-returns t c = call-differ (c .before .before .before .before .before .before .before .before .before .before .before .before .before .pre .1 .0) (c .before .before .before .before .before .before .before .before .before .before .before .before .before .pre .1 .1) (c .before .before .before .before .before .first .ensures) (c .before .before .before .before .offset .ensures) (c .before .before .before .call-ancillae .ensures) (ap (λ n. n - 1) (c .before .before .function-parameters .ensures .0)) (c .before .if1 .taken) (c .differ .ensures .0) (c .differ .ensures .1)
 
 pub calling·call-none-requires : (t : ℕ) → calling·call-lts.Need-none-requires (calling·call-uses t) (calling·call-at t) calling·call.Post
 calling·call-none-requires t c κs = search needs

@@ -12,11 +12,11 @@ use Rattle.typing.proofs.binds.branches.Reads as binds·branches
 use Rattle.typing.proofs.+binds-branches+binds-choose+binds-let_one+binds-let_two+calling-arguments+calling-call+infer-demand+infer-infer+infer-inject+infer-pair+infer-roll+infer-unroll.Lts-binds-branches as binds·branches-lts
 use Rattle.typing.proofs.+binds-branches+binds-choose+binds-let_one+binds-let_two+calling-arguments+calling-call+infer-demand+infer-infer+infer-inject+infer-pair+infer-roll+infer-unroll.Proof.Claims.{binds·choose-at, binds·branches-at, binds·choose-uses, binds·branches-uses}
 
-pub binds·choose-refuse-requires : (t : ℕ) → binds·choose-lts.Need-refuse-requires (binds·choose-uses t) (binds·choose-at t) binds·choose.Post
-binds·choose-refuse-requires t c κs = search needs
+pub binds·choose-unscoped-requires : (t : ℕ) → binds·choose-lts.Need-unscoped-requires (binds·choose-uses t) (binds·choose-at t) binds·choose.Post
+binds·choose-unscoped-requires t c κs = search needs
 
 pub binds·choose-returns : (t : ℕ) → binds·choose-lts.Need-returns (binds·choose-uses t) (binds·choose-at t) binds·choose.Post
-binds·choose-returns t c = case-full (c .before .before .before .before .before .before .before .before .before .pre .1 .0) (c .before .before .before .before .before .before .before .before .before .pre .1 .1) (c .before .if1 .taken) (c .refuse .ensures .0) (c .refuse .ensures .1)
+binds·choose-returns t c = case-full (c .before .before .before .before .before .before .before .before .before .pre .1 .0) (c .before .before .before .before .before .before .before .before .before .pre .1 .1) (c .before .if1 .taken) (c .unscoped .ensures .0) (c .unscoped .ensures .1)
 
 pub binds·choose-first-requires : (t : ℕ) → binds·choose-lts.Need-first-requires (binds·choose-uses t) (binds·choose-at t) binds·choose.Post
 binds·choose-first-requires t c κs = omega (arith, read-case ((c .before .before .before .before .before .before .before .before .pre .1 .0) .entries) (c .before .before .before .before .before .before .before .before .pre .1 .1))
@@ -30,8 +30,8 @@ binds·choose-enum-known-status t c = search needs
 pub binds·choose-shape-of-requires : (t : ℕ) → binds·choose-lts.Need-shape-of-requires (binds·choose-uses t) (binds·choose-at t) binds·choose.Post
 binds·choose-shape-of-requires t c κs = (c .before .before .before .before .before .before .before .before .infer .ensures .kept .sources, c .before .before .before .before .before .before .before .before .infer .ensures .known _ (c .before .before .status .given .1))
 
-pub binds·choose-refuse-requires-2 : (t : ℕ) → binds·choose-lts.Need-refuse-requires-2 (binds·choose-uses t) (binds·choose-at t) binds·choose.Post
-binds·choose-refuse-requires-2 t c κs = search needs
+pub binds·choose-differ-requires : (t : ℕ) → binds·choose-lts.Need-differ-requires (binds·choose-uses t) (binds·choose-at t) binds·choose.Post
+binds·choose-differ-requires t c κs = search needs
 
 pub binds·choose-same-length : (t : ℕ) → binds·choose-lts.Need-same-length (binds·choose-uses t) (binds·choose-at t) binds·choose.Post
 binds·choose-same-length t c = c .before .before .before .before .before .before .before .before .before .before .before .infer .kept .1 .1 .1 .1 .1 .0
@@ -40,7 +40,7 @@ pub binds·choose-same-length-2 : (t : ℕ) → binds·choose-lts.Need-same-leng
 binds·choose-same-length-2 t c = c .before .before .before .before .before .before .before .before .before .before .before .infer .kept .1 .1 .1 .1 .1 .1 .0
 
 pub binds·choose-returns-2 : (t : ℕ) → binds·choose-lts.Need-returns-2 (binds·choose-uses t) (binds·choose-at t) binds·choose.Post
-binds·choose-returns-2 t c = case-no (c .before .before .before .before .before .before .before .before .before .before .before .before .before .before .before .before .before .before .before .before .before .before .before .pre .1 .0) (c .before .before .before .before .before .before .before .before .before .before .before .before .before .before .before .before .before .before .before .before .before .before .before .pre .1 .1) (c .before .before .before .before .before .before .before .before .before .before .before .before .before .before .before .if1 .left) (c .before .before .before .before .before .before .before .before .before .before .before .before .before .before .first .ensures) (c .before .before .before .before .before .before .before .before .before .before .before .infer .ensures) (c .before .before .before .before .before .status .given .1) (c .before .before .shape-of .ensures) (c .before .if2 .taken) (c .refuse2 .ensures .0) (c .refuse2 .ensures .1)
+binds·choose-returns-2 t c = case-no (c .before .before .before .before .before .before .before .before .before .before .before .before .before .before .before .before .before .before .before .before .before .before .before .pre .1 .0) (c .before .before .before .before .before .before .before .before .before .before .before .before .before .before .before .before .before .before .before .before .before .before .before .pre .1 .1) (c .before .before .before .before .before .before .before .before .before .before .before .before .before .before .before .if1 .left) (c .before .before .before .before .before .before .before .before .before .before .before .before .before .before .first .ensures) (c .before .before .before .before .before .before .before .before .before .before .before .infer .ensures) (c .before .before .before .before .before .status .given .1) (c .before .before .shape-of .ensures) (c .before .if2 .taken) (c .differ .ensures .0) (c .differ .ensures .1)
 
 pub binds·choose-branches-requires : (t : ℕ) → binds·choose-lts.Need-branches-requires (binds·choose-uses t) (binds·choose-at t) binds·choose.Post
 binds·choose-branches-requires t c κs = (omega (arith, c .before .before .before .before .before .before .before .before .before .before .before .before .before .before .before .before .before .before .before .before .before .before .before .before .pre .0), (case-later (c .before .before .before .before .before .before .before .before .before .before .before .before .before .before .before .before .before .before .before .before .before .before .before .before .pre .1 .0) (c .before .before .before .before .before .before .before .before .before .before .before .before .before .before .before .before .before .before .before .before .before .before .before .before .pre .1 .1) (c .before .before .before .before .before .before .before .before .before .before .before .before .before .before .before .before .if1 .left) (c .before .before .before .before .before .before .before .before .before .before .before .before .before .before .before .first .ensures) (c .before .before .before .before .before .before .before .before .before .before .before .before .infer .ensures), (((c .before .before .before .before .before .before .before .before .before .before .before .before .before .before .before .before .before .before .before .before .before .before .before .before .pre .1 .1), case-free (c .before .before .before .before .before .before .before .before .before .before .before .before .before .before .before .before .before .before .before .before .before .before .before .before .pre .1 .0) (c .before .before .before .before .before .before .before .before .before .before .before .before .before .before .before .before .before .before .before .before .before .before .before .before .pre .1 .1) (c .before .before .before .before .before .before .before .before .before .before .before .before .before .before .before .before .if1 .left) (c .before .before .before .before .before .before .before .before .before .before .before .before .before .before .before .first .ensures)), ((c .before .before .before .shape-of .ensures .first, c .before .before .before .shape-of .ensures .second), case-named (c .before .before .before .before .before .before .before .before .before .before .before .before .before .before .before .before .before .before .before .before .before .before .before .before .pre .1 .0) (c .before .before .before .before .before .before .before .before .before .before .before .before .before .before .before .before .before .before .before .before .before .before .before .before .pre .1 .1) (c .before .before .before .before .before .before .before .before .before .before .before .before .before .before .before .before .if1 .left) (c .before .before .before .before .before .before .before .before .before .before .before .before .before .before .before .first .ensures) (c .before .before .before .before .before .before .before .before .before .before .before .before .infer .ensures) (c .before .before .before .before .before .before .status .given .1) (c .before .before .before .shape-of .ensures)))))
@@ -102,8 +102,8 @@ binds·branches-same-length-2 t c = c .before .before .before .before .before .b
 pub binds·branches-returns : (t : ℕ) → binds·branches-lts.Need-returns (binds·branches-uses t) (binds·branches-at t) binds·branches.Post
 binds·branches-returns t c = branches-done (c .before .before .before .before .before .before .before .before .before .before .before .before .before .before .before .before .before .before .before .before .before .before .before .before .before .before .before .before .before .before .before .before .before .before .before .before .before .before .before .before .before .pre .1 .0) (c .before .before .before .before .before .before .before .before .before .before .before .before .before .before .before .before .before .before .before .before .before .before .before .before .before .before .before .before .before .before .before .before .before .before .before .before .before .before .before .before .before .pre .1 .1 .0 .0) (c .before .before .before .before .before .before .before .before .before .before .before .before .before .before .before .before .before .before .before .before .before .before .before .before .before .before .before .before .before .before .before .before .before .before .before .before .before .before .before .before .before .pre .1 .1 .0 .1) (c .before .before .before .before .before .before .before .before .before .before .before .before .before .before .before .before .before .before .before .before .before .before .before .before .before .before .before .before .before .before .before .before .before .before .before .before .before .before .before .before .before .pre .1 .1 .1 .0 .0) (c .before .before .before .before .before .before .before .before .before .before .before .before .before .before .before .before .before .before .before .before .before .before .before .before .before .before .before .before .before .before .before .before .before .before .before .before .before .before .before .before .before .pre .1 .1 .1 .0 .1) (c .before .before .before .before .before .before .before .before .before .before .before .before .before .before .before .before .before .before .before .before .before .before .before .before .before .before .before .before .before .before .before .before .before .before .before .before .before .before .before .before .before .pre .1 .1 .1 .1) (c .before .before .before .before .before .before .before .before .before .before .before .before .before .before .before .before .before .before .before .before .before .before .before .before .before .before .before .before .before .before .before .before .before .second .ensures) (c .before .before .before .before .before .before .before .before .before .before .before .before .before .before .before .before .before .before .before .before .before .before .before .before .before .before .before .before .before .before .before .before .third .ensures) (c .before .before .before .before .before .before .before .before .before .before .before .before .before .before .before .before .before .before .before .before .before .before .before .before .before .before .before .before .before .bind .ensures) (c .before .before .before .before .before .before .before .before .before .before .before .before .before .before .before .before .before .before .before .before .before .before .before .before .infer .ensures) (c .before .before .before .before .before .before .before .before .before .before .before .before .before .before .before .before .before .before .status .given .1) (c .before .before .before .before .before .before .before .before .before .before .before .before .before .before .before .spent .ensures) (c .before .before .before .before .before .before .before .before .before .before .before .before .before .before .if1 .taken) (c .before .before .before .before .before .before .before .before .before .before .before .bind2 .ensures) (c .before .before .before .before .before .before .infer2 .ensures) (c .meet .ensures)
 
-pub binds·branches-refuse-requires : (t : ℕ) → binds·branches-lts.Need-refuse-requires (binds·branches-uses t) (binds·branches-at t) binds·branches.Post
-binds·branches-refuse-requires t c κs = search needs
+pub binds·branches-misused-requires : (t : ℕ) → binds·branches-lts.Need-misused-requires (binds·branches-uses t) (binds·branches-at t) binds·branches.Post
+binds·branches-misused-requires t c κs = search needs
 
 pub binds·branches-enum-told : (t : ℕ) → binds·branches-lts.Need-enum-told (binds·branches-uses t) (binds·branches-at t) binds·branches.Post
 binds·branches-enum-told t c = search needs
@@ -115,7 +115,7 @@ pub binds·branches-same-length-4 : (t : ℕ) → binds·branches-lts.Need-same-
 binds·branches-same-length-4 t c = c .before .before .before .before .before .before .before .before .before .before .before .infer .kept .1 .1 .1 .1 .1 .1 .0 ∙ c .before .before .before .before .before .before .before .before .before .before .before .before .before .before .before .before .bind .kept .1 .1 .1 .0
 
 pub binds·branches-returns-2 : (t : ℕ) → binds·branches-lts.Need-returns-2 (binds·branches-uses t) (binds·branches-at t) binds·branches.Post
-binds·branches-returns-2 t c = left-unused (c .before .before .before .before .before .before .before .before .before .before .before .before .before .before .before .before .before .before .before .before .before .before .before .before .before .before .before .before .pre .1 .0) (c .before .before .before .before .before .before .before .before .before .before .before .before .before .before .before .before .before .before .before .before .before .before .before .before .before .before .before .before .pre .1 .1 .0 .0) (c .before .before .before .before .before .before .before .before .before .before .before .before .before .before .before .before .before .before .before .before .before .before .before .before .before .before .before .before .pre .1 .1 .0 .1) (c .before .before .before .before .before .before .before .before .before .before .before .before .before .before .before .before .before .before .before .before .before .before .before .before .before .before .before .before .pre .1 .1 .1 .0 .0) (c .before .before .before .before .before .before .before .before .before .before .before .before .before .before .before .before .before .before .before .before .before .before .before .before .before .before .before .before .pre .1 .1 .1 .0 .1) (c .before .before .before .before .before .before .before .before .before .before .before .before .before .before .before .before .before .before .before .before .before .before .before .before .before .before .before .before .pre .1 .1 .1 .1) (c .before .before .before .before .before .before .before .before .before .before .before .before .before .before .before .before .before .before .before .before .second .ensures) (c .before .before .before .before .before .before .before .before .before .before .before .before .before .before .before .before .before .before .before .third .ensures) (c .before .before .before .before .before .before .before .before .before .before .before .before .before .before .before .before .bind .ensures) (c .before .before .before .before .before .before .before .before .before .before .before .infer .ensures) (c .before .before .before .before .before .status .given .1) (c .before .before .spent .ensures) (c .before .if1 .left) (c .refuse .ensures .0) (c .refuse .ensures .1)
+binds·branches-returns-2 t c = left-unused (c .before .before .before .before .before .before .before .before .before .before .before .before .before .before .before .before .before .before .before .before .before .before .before .before .before .before .before .before .pre .1 .0) (c .before .before .before .before .before .before .before .before .before .before .before .before .before .before .before .before .before .before .before .before .before .before .before .before .before .before .before .before .pre .1 .1 .0 .0) (c .before .before .before .before .before .before .before .before .before .before .before .before .before .before .before .before .before .before .before .before .before .before .before .before .before .before .before .before .pre .1 .1 .0 .1) (c .before .before .before .before .before .before .before .before .before .before .before .before .before .before .before .before .before .before .before .before .before .before .before .before .before .before .before .before .pre .1 .1 .1 .0 .0) (c .before .before .before .before .before .before .before .before .before .before .before .before .before .before .before .before .before .before .before .before .before .before .before .before .before .before .before .before .pre .1 .1 .1 .0 .1) (c .before .before .before .before .before .before .before .before .before .before .before .before .before .before .before .before .before .before .before .before .before .before .before .before .before .before .before .before .pre .1 .1 .1 .1) (c .before .before .before .before .before .before .before .before .before .before .before .before .before .before .before .before .before .before .before .before .second .ensures) (c .before .before .before .before .before .before .before .before .before .before .before .before .before .before .before .before .before .before .before .third .ensures) (c .before .before .before .before .before .before .before .before .before .before .before .before .before .before .before .before .bind .ensures) (c .before .before .before .before .before .before .before .before .before .before .before .infer .ensures) (c .before .before .before .before .before .status .given .1) (c .before .before .spent .ensures) (c .before .if1 .left) (c .misused .ensures .0) (c .misused .ensures .1)
 
 pub binds·branches-same-length-5 : (t : ℕ) → binds·branches-lts.Need-same-length-5 (binds·branches-uses t) (binds·branches-at t) binds·branches.Post
 binds·branches-same-length-5 t c = c .before .before .before .before .before .before .infer .kept .1 .1 .1 .1 .1 .0

@@ -55,7 +55,9 @@ use Rattle.types.proofs.shapes.shape_of.Reads as shape-of-reads
 use Rattle.types.proofs.unfolding.unfolded.Reads as unfolded-reads
 use Rattle.typing.proofs.leaves.offset.Reads as offset-reads
 use Rattle.typing.proofs.leaves.unit.Reads as unit-reads
-use Rattle.typing.proofs.outcomes.refuse.Reads as refuse-reads
+use Rattle.typing.proofs.outcomes.differ.Reads as differ-reads
+use Rattle.typing.proofs.outcomes.unscoped.Reads as unscoped-reads
+use Rattle.typing.proofs.outcomes.misused.Reads as misused-reads
 use Rattle.typing.proofs.tests.close_one.Reads as close-one-reads
 use Rattle.typing.proofs.tests.close_two.Reads as close-two-reads
 use Rattle.typing.proofs.tests.expect.Reads as expect-reads
@@ -175,22 +177,22 @@ abbrev pub infer·unroll-below : ℕ → In 7 infer·unroll-kinds.ps
 infer·unroll-below t = and 7 infer·unroll-kinds.ps (falls 7 infer·unroll-kinds.ps _<_ μ-infer·unroll t) infer·unroll.Pre
 
 abbrev pub binds·branches-uses : ℕ → binds·branches-lts.Claims
-binds·branches-uses t = (second-reads.Asked, second-reads.Learnt, third-reads.Asked, third-reads.Learnt, bind-reads.Asked, bind-reads.Learnt, infer·infer-below t, infer·infer.Post, spent-reads.Asked, spent-reads.Learnt, meet-reads.Asked, meet-reads.Learnt, refuse-reads.Asked, refuse-reads.Learnt)
+binds·branches-uses t = (second-reads.Asked, second-reads.Learnt, third-reads.Asked, third-reads.Learnt, bind-reads.Asked, bind-reads.Learnt, infer·infer-below t, infer·infer.Post, spent-reads.Asked, spent-reads.Learnt, meet-reads.Asked, meet-reads.Learnt, misused-reads.Asked, misused-reads.Learnt)
 
 abbrev pub binds·choose-uses : ℕ → binds·choose-lts.Claims
-binds·choose-uses t = (refuse-reads.Asked, refuse-reads.Learnt, first-reads.Asked, first-reads.Learnt, infer·infer-below t, infer·infer.Post, shape-of-reads.Asked, shape-of-reads.Learnt, binds·branches-below t, binds·branches.Post)
+binds·choose-uses t = (unscoped-reads.Asked, unscoped-reads.Learnt, first-reads.Asked, first-reads.Learnt, infer·infer-below t, infer·infer.Post, shape-of-reads.Asked, shape-of-reads.Learnt, differ-reads.Asked, differ-reads.Learnt, binds·branches-below t, binds·branches.Post)
 
 abbrev pub binds·let-one-uses : ℕ → binds·let-one-lts.Claims
-binds·let-one-uses t = (refuse-reads.Asked, refuse-reads.Learnt, first-reads.Asked, first-reads.Learnt, second-reads.Asked, second-reads.Learnt, infer·infer-below t, infer·infer.Post, bind-reads.Asked, bind-reads.Learnt, close-one-reads.Asked, close-one-reads.Learnt)
+binds·let-one-uses t = (unscoped-reads.Asked, unscoped-reads.Learnt, first-reads.Asked, first-reads.Learnt, second-reads.Asked, second-reads.Learnt, infer·infer-below t, infer·infer.Post, bind-reads.Asked, bind-reads.Learnt, close-one-reads.Asked, close-one-reads.Learnt)
 
 abbrev pub binds·let-two-uses : ℕ → binds·let-two-lts.Claims
-binds·let-two-uses t = (refuse-reads.Asked, refuse-reads.Learnt, first-reads.Asked, first-reads.Learnt, second-reads.Asked, second-reads.Learnt, infer·infer-below t, infer·infer.Post, shape-of-reads.Asked, shape-of-reads.Learnt, bind-reads.Asked, bind-reads.Learnt, close-two-reads.Asked, close-two-reads.Learnt)
+binds·let-two-uses t = (unscoped-reads.Asked, unscoped-reads.Learnt, first-reads.Asked, first-reads.Learnt, second-reads.Asked, second-reads.Learnt, infer·infer-below t, infer·infer.Post, shape-of-reads.Asked, shape-of-reads.Learnt, differ-reads.Asked, differ-reads.Learnt, bind-reads.Asked, bind-reads.Learnt, close-two-reads.Asked, close-two-reads.Learnt)
 
 abbrev pub calling·arguments-uses : ℕ → calling·arguments-lts.Claims
-calling·arguments-uses t = (unit-reads.Asked, unit-reads.Learnt, listed-reads.Asked, listed-reads.Learnt, infer·infer-below t, infer·infer.Post, entry-reads.Asked, entry-reads.Learnt, same-reads.Asked, same-reads.Learnt, calling·arguments-below t, calling·arguments.Post, refuse-reads.Asked, refuse-reads.Learnt)
+calling·arguments-uses t = (unit-reads.Asked, unit-reads.Learnt, listed-reads.Asked, listed-reads.Learnt, infer·infer-below t, infer·infer.Post, entry-reads.Asked, entry-reads.Learnt, same-reads.Asked, same-reads.Learnt, calling·arguments-below t, calling·arguments.Post, differ-reads.Asked, differ-reads.Learnt)
 
 abbrev pub calling·call-uses : ℕ → calling·call-lts.Claims
-calling·call-uses t = (first-reads.Asked, first-reads.Learnt, offset-reads.Asked, offset-reads.Learnt, call-ancillae-reads.Asked, call-ancillae-reads.Learnt, function-parameters-reads.Asked, function-parameters-reads.Learnt, refuse-reads.Asked, refuse-reads.Learnt, none-reads.Asked, none-reads.Learnt, calling·arguments-below t, calling·arguments.Post, listed-reads.Asked, listed-reads.Learnt, entry-reads.Asked, entry-reads.Learnt, function-result-reads.Asked, function-result-reads.Learnt, infer·demand-below t, infer·demand.Post)
+calling·call-uses t = (first-reads.Asked, first-reads.Learnt, offset-reads.Asked, offset-reads.Learnt, call-ancillae-reads.Asked, call-ancillae-reads.Learnt, function-parameters-reads.Asked, function-parameters-reads.Learnt, differ-reads.Asked, differ-reads.Learnt, none-reads.Asked, none-reads.Learnt, calling·arguments-below t, calling·arguments.Post, listed-reads.Asked, listed-reads.Learnt, entry-reads.Asked, entry-reads.Learnt, function-result-reads.Asked, function-result-reads.Learnt, infer·demand-below t, infer·demand.Post)
 
 abbrev pub infer·demand-uses : ℕ → infer·demand-lts.Claims
 infer·demand-uses t = (infer·infer-below t, infer·infer.Post, expect-reads.Asked, expect-reads.Learnt)
@@ -199,13 +201,13 @@ abbrev pub infer·infer-uses : ℕ → infer·infer-lts.Claims
 infer·infer-uses t = (offset-reads.Asked, offset-reads.Learnt, kind-reads.Asked, kind-reads.Learnt, views-variable-reads.Asked, views-variable-reads.Learnt, variables-variable-reads.Asked, variables-variable-reads.Learnt, unit-reads.Asked, unit-reads.Learnt, infer·inject-below t, infer·inject.Post, infer·pair-below t, infer·pair.Post, binds·let-one-below t, binds·let-one.Post, binds·let-two-below t, binds·let-two.Post, binds·choose-below t, binds·choose.Post, calling·call-below t, calling·call.Post, infer·roll-below t, infer·roll.Post, infer·unroll-below t, infer·unroll.Post)
 
 abbrev pub infer·inject-uses : ℕ → infer·inject-lts.Claims
-infer·inject-uses t = (first-reads.Asked, first-reads.Learnt, second-reads.Asked, second-reads.Learnt, entry-reads.Asked, entry-reads.Learnt, shape-of-reads.Asked, shape-of-reads.Learnt, refuse-reads.Asked, refuse-reads.Learnt, infer·demand-below t, infer·demand.Post)
+infer·inject-uses t = (first-reads.Asked, first-reads.Learnt, second-reads.Asked, second-reads.Learnt, entry-reads.Asked, entry-reads.Learnt, shape-of-reads.Asked, shape-of-reads.Learnt, differ-reads.Asked, differ-reads.Learnt, infer·demand-below t, infer·demand.Post)
 
 abbrev pub infer·pair-uses : ℕ → infer·pair-lts.Claims
 infer·pair-uses t = (first-reads.Asked, first-reads.Learnt, second-reads.Asked, second-reads.Learnt, infer·infer-below t, infer·infer.Post, pair-up-reads.Asked, pair-up-reads.Learnt)
 
 abbrev pub infer·roll-uses : ℕ → infer·roll-lts.Claims
-infer·roll-uses t = (first-reads.Asked, first-reads.Learnt, second-reads.Asked, second-reads.Learnt, unfolded-reads.Asked, unfolded-reads.Learnt, entry-reads.Asked, entry-reads.Learnt, infer·demand-below t, infer·demand.Post, refuse-reads.Asked, refuse-reads.Learnt)
+infer·roll-uses t = (first-reads.Asked, first-reads.Learnt, second-reads.Asked, second-reads.Learnt, unfolded-reads.Asked, unfolded-reads.Learnt, entry-reads.Asked, entry-reads.Learnt, infer·demand-below t, infer·demand.Post, differ-reads.Asked, differ-reads.Learnt)
 
 abbrev pub infer·unroll-uses : ℕ → infer·unroll-lts.Claims
-infer·unroll-uses t = (first-reads.Asked, first-reads.Learnt, second-reads.Asked, second-reads.Learnt, unfolded-reads.Asked, unfolded-reads.Learnt, within-limit-reads.Asked, within-limit-reads.Learnt, entry-reads.Asked, entry-reads.Learnt, infer·demand-below t, infer·demand.Post, refuse-reads.Asked, refuse-reads.Learnt)
+infer·unroll-uses t = (first-reads.Asked, first-reads.Learnt, second-reads.Asked, second-reads.Learnt, unfolded-reads.Asked, unfolded-reads.Learnt, within-limit-reads.Asked, within-limit-reads.Learnt, entry-reads.Asked, entry-reads.Learnt, infer·demand-below t, infer·demand.Post, differ-reads.Asked, differ-reads.Learnt)

@@ -12,11 +12,11 @@ use Rattle.typing.proofs.binds.let_two.Reads as binds·let-two
 use Rattle.typing.proofs.+binds-branches+binds-choose+binds-let_one+binds-let_two+calling-arguments+calling-call+infer-demand+infer-infer+infer-inject+infer-pair+infer-roll+infer-unroll.Lts-binds-let_two as binds·let-two-lts
 use Rattle.typing.proofs.+binds-branches+binds-choose+binds-let_one+binds-let_two+calling-arguments+calling-call+infer-demand+infer-infer+infer-inject+infer-pair+infer-roll+infer-unroll.Proof.Claims.{binds·let-one-at, binds·let-two-at, binds·let-one-uses, binds·let-two-uses}
 
-pub binds·let-one-refuse-requires : (t : ℕ) → binds·let-one-lts.Need-refuse-requires (binds·let-one-uses t) (binds·let-one-at t) binds·let-one.Post
-binds·let-one-refuse-requires t c κs = search needs
+pub binds·let-one-unscoped-requires : (t : ℕ) → binds·let-one-lts.Need-unscoped-requires (binds·let-one-uses t) (binds·let-one-at t) binds·let-one.Post
+binds·let-one-unscoped-requires t c κs = search needs
 
 pub binds·let-one-returns : (t : ℕ) → binds·let-one-lts.Need-returns (binds·let-one-uses t) (binds·let-one-at t) binds·let-one.Post
-binds·let-one-returns t c = let-full (c .before .before .before .before .before .before .before .before .before .pre .1 .0) (c .before .before .before .before .before .before .before .before .before .pre .1 .1) (c .before .if1 .taken) (c .refuse .ensures .0) (c .refuse .ensures .1)
+binds·let-one-returns t c = let-full (c .before .before .before .before .before .before .before .before .before .pre .1 .0) (c .before .before .before .before .before .before .before .before .before .pre .1 .1) (c .before .if1 .taken) (c .unscoped .ensures .0) (c .unscoped .ensures .1)
 
 pub binds·let-one-first-requires : (t : ℕ) → binds·let-one-lts.Need-first-requires (binds·let-one-uses t) (binds·let-one-at t) binds·let-one.Post
 binds·let-one-first-requires t c κs = omega (arith, read-let ((c .before .before .before .before .before .before .before .before .pre .1 .0) .entries) (c .before .before .before .before .before .before .before .before .pre .1 .1))
@@ -63,11 +63,11 @@ binds·let-one-returns-3 t c = let-refused (c .before .before .before .before .b
 pub binds·let-two-add-if1 : (t : ℕ) → binds·let-two-lts.Need-add-if1 (binds·let-two-uses t) (binds·let-two-at t) binds·let-two.Post
 binds·let-two-add-if1 t c = omega (arith, (c .before .before .before .before .before .before .before .pre .1 .0) .scoped .few)
 
-pub binds·let-two-refuse-requires : (t : ℕ) → binds·let-two-lts.Need-refuse-requires (binds·let-two-uses t) (binds·let-two-at t) binds·let-two.Post
-binds·let-two-refuse-requires t c κs = search needs
+pub binds·let-two-unscoped-requires : (t : ℕ) → binds·let-two-lts.Need-unscoped-requires (binds·let-two-uses t) (binds·let-two-at t) binds·let-two.Post
+binds·let-two-unscoped-requires t c κs = search needs
 
 pub binds·let-two-returns : (t : ℕ) → binds·let-two-lts.Need-returns (binds·let-two-uses t) (binds·let-two-at t) binds·let-two.Post
-binds·let-two-returns t c = letp-full (c .before .before .before .before .before .before .before .before .before .pre .1 .0) (c .before .before .before .before .before .before .before .before .before .pre .1 .1) (c .before .if1 .taken) (c .refuse .ensures .0) (c .refuse .ensures .1)
+binds·let-two-returns t c = letp-full (c .before .before .before .before .before .before .before .before .before .pre .1 .0) (c .before .before .before .before .before .before .before .before .before .pre .1 .1) (c .before .if1 .taken) (c .unscoped .ensures .0) (c .unscoped .ensures .1)
 
 pub binds·let-two-first-requires : (t : ℕ) → binds·let-two-lts.Need-first-requires (binds·let-two-uses t) (binds·let-two-at t) binds·let-two.Post
 binds·let-two-first-requires t c κs = omega (arith, read-letp ((c .before .before .before .before .before .before .before .before .pre .1 .0) .entries) (c .before .before .before .before .before .before .before .before .pre .1 .1))
@@ -84,8 +84,8 @@ binds·let-two-enum-known-status t c = search needs
 pub binds·let-two-shape-of-requires : (t : ℕ) → binds·let-two-lts.Need-shape-of-requires (binds·let-two-uses t) (binds·let-two-at t) binds·let-two.Post
 binds·let-two-shape-of-requires t c κs = (c .before .before .before .before .before .before .before .before .infer .ensures .kept .sources, c .before .before .before .before .before .before .before .before .infer .ensures .known _ (c .before .before .status .given .1))
 
-pub binds·let-two-refuse-requires-2 : (t : ℕ) → binds·let-two-lts.Need-refuse-requires-2 (binds·let-two-uses t) (binds·let-two-at t) binds·let-two.Post
-binds·let-two-refuse-requires-2 t c κs = search needs
+pub binds·let-two-differ-requires : (t : ℕ) → binds·let-two-lts.Need-differ-requires (binds·let-two-uses t) (binds·let-two-at t) binds·let-two.Post
+binds·let-two-differ-requires t c κs = search needs
 
 pub binds·let-two-same-length : (t : ℕ) → binds·let-two-lts.Need-same-length (binds·let-two-uses t) (binds·let-two-at t) binds·let-two.Post
 binds·let-two-same-length t c = c .before .before .before .before .before .before .before .before .before .before .before .infer .kept .1 .1 .1 .1 .1 .0
@@ -94,7 +94,7 @@ pub binds·let-two-same-length-2 : (t : ℕ) → binds·let-two-lts.Need-same-le
 binds·let-two-same-length-2 t c = c .before .before .before .before .before .before .before .before .before .before .before .infer .kept .1 .1 .1 .1 .1 .1 .0
 
 pub binds·let-two-returns-2 : (t : ℕ) → binds·let-two-lts.Need-returns-2 (binds·let-two-uses t) (binds·let-two-at t) binds·let-two.Post
-binds·let-two-returns-2 t c = letp-no (c .before .before .before .before .before .before .before .before .before .before .before .before .before .before .before .before .before .before .before .before .before .before .before .before .pre .1 .0) (c .before .before .before .before .before .before .before .before .before .before .before .before .before .before .before .before .before .before .before .before .before .before .before .before .pre .1 .1) (c .before .before .before .before .before .before .before .before .before .before .before .before .before .before .before .before .if1 .left) (c .before .before .before .before .before .before .before .before .before .before .before .before .before .before .before .first .ensures) (c .before .before .before .before .before .before .before .before .before .before .before .before .before .before .second .ensures) (c .before .before .before .before .before .before .before .before .before .before .before .infer .ensures) (c .before .before .before .before .before .status .given .1) (c .before .before .shape-of .ensures) (c .before .if2 .taken) (c .refuse2 .ensures .0) (c .refuse2 .ensures .1)
+binds·let-two-returns-2 t c = letp-no (c .before .before .before .before .before .before .before .before .before .before .before .before .before .before .before .before .before .before .before .before .before .before .before .before .pre .1 .0) (c .before .before .before .before .before .before .before .before .before .before .before .before .before .before .before .before .before .before .before .before .before .before .before .before .pre .1 .1) (c .before .before .before .before .before .before .before .before .before .before .before .before .before .before .before .before .if1 .left) (c .before .before .before .before .before .before .before .before .before .before .before .before .before .before .before .first .ensures) (c .before .before .before .before .before .before .before .before .before .before .before .before .before .before .second .ensures) (c .before .before .before .before .before .before .before .before .before .before .before .infer .ensures) (c .before .before .before .before .before .status .given .1) (c .before .before .shape-of .ensures) (c .before .if2 .taken) (c .differ .ensures .0) (c .differ .ensures .1)
 
 pub binds·let-two-bind-requires : (t : ℕ) → binds·let-two-lts.Need-bind-requires (binds·let-two-uses t) (binds·let-two-at t) binds·let-two.Post
 binds·let-two-bind-requires t c κs = (letp-later (c .before .before .before .before .before .before .before .before .before .before .before .before .before .before .before .before .before .before .before .before .before .before .before .before .before .pre .1 .0) (c .before .before .before .before .before .before .before .before .before .before .before .before .before .before .before .before .before .before .before .before .before .before .before .before .before .pre .1 .1) (c .before .before .before .before .before .before .before .before .before .before .before .before .before .before .before .before .before .if1 .left) (c .before .before .before .before .before .before .before .before .before .before .before .before .before .before .before .before .first .ensures) (c .before .before .before .before .before .before .before .before .before .before .before .before .before .before .before .second .ensures) (c .before .before .before .before .before .before .before .before .before .before .before .before .infer .ensures) .scoped, (c .before .before .before .shape-of .ensures .first, omega (arith, c .before .before .before .before .before .before .before .before .before .before .before .before .before .before .before .before .before .if1 .left)))

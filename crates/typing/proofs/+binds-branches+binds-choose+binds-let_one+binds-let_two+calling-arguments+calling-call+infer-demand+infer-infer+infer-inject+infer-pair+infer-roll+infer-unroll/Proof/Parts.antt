@@ -46,14 +46,14 @@ infer·inject-entry-requires t c κs = search needs
 pub infer·inject-shape-of-requires : (t : ℕ) → infer·inject-lts.Need-shape-of-requires (infer·inject-uses t) (infer·inject-at t) infer·inject.Post
 infer·inject-shape-of-requires t c κs = ((c .before .before .before .before .before .before .before .before .before .before .before .pre .1 .0) .scoped .sources, inject-whole (c .before .before .before .before .before .before .before .before .before .before .before .pre .1 .0) ((c .before .before .before .before .before .before .before .before .before .before .before .pre .1 .1) .0) ((c .before .before .before .before .before .before .before .before .before .before .before .pre .1 .1) .1) ((c .before .before .before .before .before .before .before .before .before .before .before .pre .1 .1) .2) (c .before .before .before .first .ensures) (c .before .before .second .ensures) (c .before .entry .ensures))
 
-pub infer·inject-refuse-requires : (t : ℕ) → infer·inject-lts.Need-refuse-requires (infer·inject-uses t) (infer·inject-at t) infer·inject.Post
-infer·inject-refuse-requires t c κs = search needs
+pub infer·inject-differ-requires : (t : ℕ) → infer·inject-lts.Need-differ-requires (infer·inject-uses t) (infer·inject-at t) infer·inject.Post
+infer·inject-differ-requires t c κs = search needs
 
 pub infer·inject-same-length : (t : ℕ) → infer·inject-lts.Need-same-length (infer·inject-uses t) (infer·inject-at t) infer·inject.Post
 infer·inject-same-length t c = search needs
 
 pub infer·inject-returns : (t : ℕ) → infer·inject-lts.Need-returns (infer·inject-uses t) (infer·inject-at t) infer·inject.Post
-infer·inject-returns t c = inject-no (c .before .before .before .before .before .before .before .before .before .before .before .before .before .before .pre .1 .0) ((c .before .before .before .before .before .before .before .before .before .before .before .before .before .before .pre .1 .1) .0) ((c .before .before .before .before .before .before .before .before .before .before .before .before .before .before .pre .1 .1) .1) ((c .before .before .before .before .before .before .before .before .before .before .before .before .before .before .pre .1 .1) .2) (c .before .before .before .before .before .before .first .ensures) (c .before .before .before .before .before .second .ensures) (c .before .before .before .before .entry .ensures) (c .before .before .shape-of .ensures) (c .before .if1 .taken) (c .refuse .ensures .0) (c .refuse .ensures .1)
+infer·inject-returns t c = inject-no (c .before .before .before .before .before .before .before .before .before .before .before .before .before .before .pre .1 .0) ((c .before .before .before .before .before .before .before .before .before .before .before .before .before .before .pre .1 .1) .0) ((c .before .before .before .before .before .before .before .before .before .before .before .before .before .before .pre .1 .1) .1) ((c .before .before .before .before .before .before .before .before .before .before .before .before .before .before .pre .1 .1) .2) (c .before .before .before .before .before .before .first .ensures) (c .before .before .before .before .before .second .ensures) (c .before .before .before .before .entry .ensures) (c .before .before .shape-of .ensures) (c .before .if1 .taken) (c .differ .ensures .0) (c .differ .ensures .1)
 
 pub infer·inject-demand-requires : (t : ℕ) → infer·inject-lts.Need-demand-requires (infer·inject-uses t) (infer·inject-at t) infer·inject.Post
 infer·inject-demand-requires t c κs = (omega (arith, c .before .before .before .before .before .before .before .before .before .before .before .before .before .before .before .before .pre .0, inject-part (c .before .before .before .before .before .before .before .before .before .before .before .before .before .before .before .before .pre .1 .0) ((c .before .before .before .before .before .before .before .before .before .before .before .before .before .before .before .before .pre .1 .1) .0) ((c .before .before .before .before .before .before .before .before .before .before .before .before .before .before .before .before .pre .1 .1) .1) ((c .before .before .before .before .before .before .before .before .before .before .before .before .before .before .before .before .pre .1 .1) .2) (c .before .before .before .before .before .before .before .before .first .ensures) (c .before .before .before .before .before .before .before .second .ensures) (c .before .before .before .before .before .before .entry .ensures) .0), (inject-ready (c .before .before .before .before .before .before .before .before .before .before .before .before .before .before .before .before .pre .1 .0) ((c .before .before .before .before .before .before .before .before .before .before .before .before .before .before .before .before .pre .1 .1) .0) ((c .before .before .before .before .before .before .before .before .before .before .before .before .before .before .before .before .pre .1 .1) .1) ((c .before .before .before .before .before .before .before .before .before .before .before .before .before .before .before .before .pre .1 .1) .2) (c .before .before .before .before .before .before .before .before .first .ensures) (c .before .before .before .before .before .before .before .second .ensures) (c .before .before .before .before .before .before .entry .ensures), (inject-part (c .before .before .before .before .before .before .before .before .before .before .before .before .before .before .before .before .pre .1 .0) ((c .before .before .before .before .before .before .before .before .before .before .before .before .before .before .before .before .pre .1 .1) .0) ((c .before .before .before .before .before .before .before .before .before .before .before .before .before .before .before .before .pre .1 .1) .1) ((c .before .before .before .before .before .before .before .before .before .before .before .before .before .before .before .before .pre .1 .1) .2) (c .before .before .before .before .before .before .before .before .first .ensures) (c .before .before .before .before .before .before .before .second .ensures) (c .before .before .before .before .before .before .entry .ensures) .1, (c .before .before .before .before .shape-of .ensures .first, inject-whole (c .before .before .before .before .before .before .before .before .before .before .before .before .before .before .before .before .pre .1 .0) ((c .before .before .before .before .before .before .before .before .before .before .before .before .before .before .before .before .pre .1 .1) .0) ((c .before .before .before .before .before .before .before .before .before .before .before .before .before .before .before .before .pre .1 .1) .1) ((c .before .before .before .before .before .before .before .before .before .before .before .before .before .before .before .before .pre .1 .1) .2) (c .before .before .before .before .before .before .before .before .first .ensures) (c .before .before .before .before .before .before .before .second .ensures) (c .before .before .before .before .before .before .entry .ensures)))))
@@ -139,8 +139,8 @@ infer·roll-demand-requires t c κs = (omega (arith, c .before .before .before .
 pub infer·roll-enum-told : (t : ℕ) → infer·roll-lts.Need-enum-told (infer·roll-uses t) (infer·roll-at t) infer·roll.Post
 infer·roll-enum-told t c = search needs
 
-pub infer·roll-refuse-requires : (t : ℕ) → infer·roll-lts.Need-refuse-requires (infer·roll-uses t) (infer·roll-at t) infer·roll.Post
-infer·roll-refuse-requires t c κs = search needs
+pub infer·roll-differ-requires : (t : ℕ) → infer·roll-lts.Need-differ-requires (infer·roll-uses t) (infer·roll-at t) infer·roll.Post
+infer·roll-differ-requires t c κs = search needs
 
 pub infer·roll-same-length : (t : ℕ) → infer·roll-lts.Need-same-length (infer·roll-uses t) (infer·roll-at t) infer·roll.Post
 infer·roll-same-length t c = c .before .before .before .before .demand .kept .1 .1 .1 .1 .1 .0
@@ -152,7 +152,7 @@ pub infer·roll-returns : (t : ℕ) → infer·roll-lts.Need-returns (infer·rol
 infer·roll-returns t c = roll-done (c .before .before .before .before .before .before .before .before .before .before .before .before .before .before .before .before .before .before .before .before .before .pre .1 .0) (c .before .before .before .before .before .before .before .before .before .before .before .before .before .before .before .before .before .before .before .before .before .pre .1 .1) (c .before .before .before .before .before .before .before .before .before .before .before .before .before .first .ensures) (c .before .before .before .before .before .before .before .before .before .before .before .before .second .ensures) (c .before .before .before .before .before .before .before .before .before .before .before .unfolded .ensures) (c .before .before .before .before .before .before .before .before .before .body .given .1) (c .before .before .before .before .before .before .before .entry .ensures) (c .before .before .before .before .demand .ensures)
 
 pub infer·roll-returns-2 : (t : ℕ) → infer·roll-lts.Need-returns-2 (infer·roll-uses t) (infer·roll-at t) infer·roll.Post
-infer·roll-returns-2 t c = roll-no (c .before .before .before .before .before .before .before .before .before .before .before .before .before .pre .1 .0) (c .before .before .before .before .before .before .before .before .before .before .before .before .before .pre .1 .1) (c .before .before .before .before .before .first .ensures) (c .before .before .before .before .second .ensures) (c .before .before .before .unfolded .ensures) (c .before .enum-told .given .1) (c .refuse .ensures .0) (c .refuse .ensures .1)
+infer·roll-returns-2 t c = roll-no (c .before .before .before .before .before .before .before .before .before .before .before .before .before .pre .1 .0) (c .before .before .before .before .before .before .before .before .before .before .before .before .before .pre .1 .1) (c .before .before .before .before .before .first .ensures) (c .before .before .before .before .second .ensures) (c .before .before .before .unfolded .ensures) (c .before .enum-told .given .1) (c .differ .ensures .0) (c .differ .ensures .1)
 
 pub infer·unroll-first-requires : (t : ℕ) → infer·unroll-lts.Need-first-requires (infer·unroll-uses t) (infer·unroll-at t) infer·unroll.Post
 infer·unroll-first-requires t c κs = omega (arith, read-unroll ((c .before .before .before .before .before .before .before .pre .1 .0) .entries) (c .before .before .before .before .before .before .before .pre .1 .1))
@@ -184,20 +184,20 @@ infer·unroll-same-length-2 t c = c .before .before .before .before .demand .kep
 pub infer·unroll-returns : (t : ℕ) → infer·unroll-lts.Need-returns (infer·unroll-uses t) (infer·unroll-at t) infer·unroll.Post
 infer·unroll-returns t c = unroll-done (c .before .before .before .before .before .before .before .before .before .before .before .before .before .before .before .before .before .before .before .before .before .before .before .before .pre .1 .0) (c .before .before .before .before .before .before .before .before .before .before .before .before .before .before .before .before .before .before .before .before .before .before .before .before .pre .1 .1) (c .before .before .before .before .before .before .before .before .before .before .before .before .before .before .before .before .first .ensures) (c .before .before .before .before .before .before .before .before .before .before .before .before .before .before .before .second .ensures) (c .before .before .before .before .before .before .before .before .before .before .before .before .before .before .unfolded .ensures) (c .before .before .before .before .before .before .before .before .before .before .before .before .body .given .1) (c .before .before .before .before .before .before .before .before .before .within-limit .ensures) (c .before .before .before .before .before .before .before .before .if1 .taken) (c .before .before .before .before .before .before .before .entry .ensures) (c .before .before .before .before .demand .ensures)
 
-pub infer·unroll-refuse-requires : (t : ℕ) → infer·unroll-lts.Need-refuse-requires (infer·unroll-uses t) (infer·unroll-at t) infer·unroll.Post
-infer·unroll-refuse-requires t c κs = search needs
+pub infer·unroll-differ-requires : (t : ℕ) → infer·unroll-lts.Need-differ-requires (infer·unroll-uses t) (infer·unroll-at t) infer·unroll.Post
+infer·unroll-differ-requires t c κs = search needs
 
 pub infer·unroll-enum-told : (t : ℕ) → infer·unroll-lts.Need-enum-told (infer·unroll-uses t) (infer·unroll-at t) infer·unroll.Post
 infer·unroll-enum-told t c = search needs
 
-pub infer·unroll-refuse-requires-2 : (t : ℕ) → infer·unroll-lts.Need-refuse-requires-2 (infer·unroll-uses t) (infer·unroll-at t) infer·unroll.Post
-infer·unroll-refuse-requires-2 t c κs = search needs
+pub infer·unroll-differ-requires-2 : (t : ℕ) → infer·unroll-lts.Need-differ-requires-2 (infer·unroll-uses t) (infer·unroll-at t) infer·unroll.Post
+infer·unroll-differ-requires-2 t c κs = search needs
 
 pub infer·unroll-same-length-3 : (t : ℕ) → infer·unroll-lts.Need-same-length-3 (infer·unroll-uses t) (infer·unroll-at t) infer·unroll.Post
 infer·unroll-same-length-3 t c = search needs
 
 pub infer·unroll-returns-2 : (t : ℕ) → infer·unroll-lts.Need-returns-2 (infer·unroll-uses t) (infer·unroll-at t) infer·unroll.Post
-infer·unroll-returns-2 t c = unroll-large (c .before .before .before .before .before .before .before .before .before .before .before .before .before .before .before .before .before .pre .1 .0) (c .before .before .before .before .before .before .before .before .before .before .before .before .before .before .before .before .before .pre .1 .1) (c .before .before .before .before .before .before .before .before .before .first .ensures) (c .before .before .before .before .before .before .before .before .second .ensures) (c .before .before .before .before .before .before .before .unfolded .ensures) (c .before .before .before .before .before .body .given .1) (c .before .before .within-limit .ensures) (c .before .if1 .left) (c .refuse .ensures .0) (c .refuse .ensures .1)
+infer·unroll-returns-2 t c = unroll-large (c .before .before .before .before .before .before .before .before .before .before .before .before .before .before .before .before .before .pre .1 .0) (c .before .before .before .before .before .before .before .before .before .before .before .before .before .before .before .before .before .pre .1 .1) (c .before .before .before .before .before .before .before .before .before .first .ensures) (c .before .before .before .before .before .before .before .before .second .ensures) (c .before .before .before .before .before .before .before .unfolded .ensures) (c .before .before .before .before .before .body .given .1) (c .before .before .within-limit .ensures) (c .before .if1 .left) (c .differ .ensures .0) (c .differ .ensures .1)
 
 pub infer·unroll-returns-3 : (t : ℕ) → infer·unroll-lts.Need-returns-3 (infer·unroll-uses t) (infer·unroll-at t) infer·unroll.Post
-infer·unroll-returns-3 t c = unroll-no (c .before .before .before .before .before .before .before .before .before .before .before .before .before .pre .1 .0) (c .before .before .before .before .before .before .before .before .before .before .before .before .before .pre .1 .1) (c .before .before .before .before .before .first .ensures) (c .before .before .before .before .second .ensures) (c .before .before .before .unfolded .ensures) (c .before .enum-told .given .1) (c .refuse2 .ensures .0) (c .refuse2 .ensures .1)
+infer·unroll-returns-3 t c = unroll-no (c .before .before .before .before .before .before .before .before .before .before .before .before .before .pre .1 .0) (c .before .before .before .before .before .before .before .before .before .before .before .before .before .pre .1 .1) (c .before .before .before .before .before .first .ensures) (c .before .before .before .before .second .ensures) (c .before .before .before .unfolded .ensures) (c .before .enum-told .given .1) (c .differ2 .ensures .0) (c .differ2 .ensures .1)

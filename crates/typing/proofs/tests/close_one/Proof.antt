@@ -16,14 +16,14 @@ join-requires c κs = search needs
 returns : tie.Need-returns
 returns c = after-typed (c .before .before .before .before .status .given .1) (c .join .ensures .0) (picks-yes (sym (c .before .before .spent .ensures) ∙ c .before .if1 .taken) (c .join .ensures .1))
 
-refuse-requires : tie.Need-refuse-requires
-refuse-requires c κs = search needs
+misused-requires : tie.Need-misused-requires
+misused-requires c κs = search needs
 
 enum-told : tie.Need-enum-told
 enum-told c = search needs
 
 returns-2 : tie.Need-returns-2
-returns-2 c = after-typed (c .before .before .before .before .status .given .1) (c .refuse .ensures .1) (picks-no (sym (c .before .before .spent .ensures) ∙ c .before .if1 .left) (c .refuse .ensures .0))
+returns-2 c = after-typed (c .before .before .before .before .status .given .1) (c .misused .ensures .1) (picks-no (sym (c .before .before .spent .ensures) ∙ c .before .if1 .left) (c .misused .ensures .0))
 
 returns-3 : tie.Need-returns-3
 returns-3 c = after-refused (c .enum-told .given .1) refl
@@ -36,7 +36,7 @@ close-one-spec =
     spent-requires
     join-requires
     returns
-    refuse-requires
+    misused-requires
     enum-told
     returns-2
     returns-3)

@@ -22,20 +22,20 @@ join-requires c κs = search needs
 returns : tie.Need-returns
 returns c = after-typed (c .before .before .before .before .before .before .status .given .1) (c .join .ensures .0) (picks-yes (both-true _ _ (c .before .before .before .before .spent .ensures) (c .before .before .before .if1 .taken) (c .before .before .spent2 .ensures) (c .before .if2 .taken)) (c .join .ensures .1))
 
-refuse-requires : tie.Need-refuse-requires
-refuse-requires c κs = search needs
+misused-requires : tie.Need-misused-requires
+misused-requires c κs = search needs
 
 returns-2 : tie.Need-returns-2
-returns-2 c = after-typed (c .before .before .before .before .before .before .status .given .1) (c .refuse .ensures .1) (picks-no (second-false _ _ (c .before .before .before .before .spent .ensures) (c .before .before .before .if1 .taken) (c .before .before .spent2 .ensures) (c .before .if2 .left)) (c .refuse .ensures .0))
+returns-2 c = after-typed (c .before .before .before .before .before .before .status .given .1) (c .misused .ensures .1) (picks-no (second-false _ _ (c .before .before .before .before .spent .ensures) (c .before .before .before .if1 .taken) (c .before .before .spent2 .ensures) (c .before .if2 .left)) (c .misused .ensures .0))
 
-refuse-requires-2 : tie.Need-refuse-requires-2
-refuse-requires-2 c κs = search needs
+misused-requires-2 : tie.Need-misused-requires-2
+misused-requires-2 c κs = search needs
 
 enum-told : tie.Need-enum-told
 enum-told c = search needs
 
 returns-3 : tie.Need-returns-3
-returns-3 c = after-typed (c .before .before .before .before .status .given .1) (c .refuse2 .ensures .1) (picks-no (first-false _ _ (c .before .before .spent .ensures) (c .before .if1 .left)) (c .refuse2 .ensures .0))
+returns-3 c = after-typed (c .before .before .before .before .status .given .1) (c .misused2 .ensures .1) (picks-no (first-false _ _ (c .before .before .spent .ensures) (c .before .if1 .left)) (c .misused2 .ensures .0))
 
 returns-4 : tie.Need-returns-4
 returns-4 c = after-refused (c .enum-told .given .1) refl
@@ -50,9 +50,9 @@ close-two-spec =
     spent-requires-2
     join-requires
     returns
-    refuse-requires
+    misused-requires
     returns-2
-    refuse-requires-2
+    misused-requires-2
     enum-told
     returns-3
     returns-4)

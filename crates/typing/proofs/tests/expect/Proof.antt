@@ -13,14 +13,14 @@ same-requires c κs = (c .before .before .before .before .before .before .pre .0
 returns : tie.Need-returns
 returns c = after-typed (c .before .before .before .before .status .given .1) refl (picks-yes (sym (c .before .before .same .ensures) ∙ c .before .if1 .taken) refl)
 
-refuse-requires : tie.Need-refuse-requires
-refuse-requires c κs = search needs
+differ-requires : tie.Need-differ-requires
+differ-requires c κs = search needs
 
 enum-told : tie.Need-enum-told
 enum-told c = search needs
 
 returns-2 : tie.Need-returns-2
-returns-2 c = after-typed (c .before .before .before .before .status .given .1) (c .refuse .ensures .1) (picks-no (sym (c .before .before .same .ensures) ∙ c .before .if1 .left) (c .refuse .ensures .0))
+returns-2 c = after-typed (c .before .before .before .before .status .given .1) (c .differ .ensures .1) (picks-no (sym (c .before .before .same .ensures) ∙ c .before .if1 .left) (c .differ .ensures .0))
 
 returns-3 : tie.Need-returns-3
 returns-3 c = after-refused (c .enum-told .given .1) refl
@@ -32,7 +32,7 @@ expect-spec =
     enum-known-status
     same-requires
     returns
-    refuse-requires
+    differ-requires
     enum-told
     returns-2
     returns-3)

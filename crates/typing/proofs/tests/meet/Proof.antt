@@ -25,26 +25,26 @@ join-requires c κs = search needs
 returns : tie.Need-returns
 returns c = after-typed (c .before .before .before .before .before .before .before .before .before .before .before .status .given .1) (c .join .ensures .0) (meets-both (c .before .before .before .before .before .before .before .before .before .same .ensures) (c .before .before .before .before .before .before .before .before .if1 .taken) (c .before .before .before .before .before .before .before .spent .ensures) (c .before .before .before .before .before .before .if2 .taken) _ (c .before .before .before .before .agree-on .ensures) (c .before .before .before .if3 .taken) (c .before .before .union .ensures) (c .join .ensures .1))
 
-refuse-requires : tie.Need-refuse-requires
-refuse-requires c κs = search needs
+misused-requires : tie.Need-misused-requires
+misused-requires c κs = search needs
 
 returns-2 : tie.Need-returns-2
-returns-2 c = after-typed (c .before .before .before .before .before .before .before .before .before .status .given .1) (c .refuse .ensures .1) (meets-apart (c .before .before .before .before .before .before .before .same .ensures) (c .before .before .before .before .before .before .if1 .taken) (c .before .before .before .before .before .spent .ensures) (c .before .before .before .before .if2 .taken) _ (c .before .before .agree-on .ensures) (c .before .if3 .left) (c .refuse .ensures .0))
+returns-2 c = after-typed (c .before .before .before .before .before .before .before .before .before .status .given .1) (c .misused .ensures .1) (meets-apart (c .before .before .before .before .before .before .before .same .ensures) (c .before .before .before .before .before .before .if1 .taken) (c .before .before .before .before .before .spent .ensures) (c .before .before .before .before .if2 .taken) _ (c .before .before .agree-on .ensures) (c .before .if3 .left) (c .misused .ensures .0))
 
-refuse-requires-2 : tie.Need-refuse-requires-2
-refuse-requires-2 c κs = search needs
+misused-requires-2 : tie.Need-misused-requires-2
+misused-requires-2 c κs = search needs
 
 returns-3 : tie.Need-returns-3
-returns-3 c = after-typed (c .before .before .before .before .before .before .status .given .1) (c .refuse2 .ensures .1) (meets-unused (c .before .before .before .before .same .ensures) (c .before .before .before .if1 .taken) (c .before .before .spent .ensures) (c .before .if2 .left) (c .refuse2 .ensures .0))
+returns-3 c = after-typed (c .before .before .before .before .before .before .status .given .1) (c .misused2 .ensures .1) (meets-unused (c .before .before .before .before .same .ensures) (c .before .before .before .if1 .taken) (c .before .before .spent .ensures) (c .before .if2 .left) (c .misused2 .ensures .0))
 
-refuse-requires-3 : tie.Need-refuse-requires-3
-refuse-requires-3 c κs = search needs
+differ-requires : tie.Need-differ-requires
+differ-requires c κs = search needs
 
 enum-told : tie.Need-enum-told
 enum-told c = search needs
 
 returns-4 : tie.Need-returns-4
-returns-4 c = after-typed (c .before .before .before .before .status .given .1) (c .refuse3 .ensures .1) (meets-differ (c .before .before .same .ensures) (c .before .if1 .left) (c .refuse3 .ensures .0))
+returns-4 c = after-typed (c .before .before .before .before .status .given .1) (c .differ .ensures .1) (meets-differ (c .before .before .same .ensures) (c .before .if1 .left) (c .differ .ensures .0))
 
 returns-5 : tie.Need-returns-5
 returns-5 c = after-refused (c .enum-told .given .1) refl
@@ -60,11 +60,11 @@ meet-spec =
     union-requires
     join-requires
     returns
-    refuse-requires
+    misused-requires
     returns-2
-    refuse-requires-2
+    misused-requires-2
     returns-3
-    refuse-requires-3
+    differ-requires
     enum-told
     returns-4
     returns-5)

@@ -30,8 +30,8 @@ same-length c = search needs
 returns : tie.Need-returns
 returns c = pairs-made (c .before .before .before .before .before .before .before .before .before .status .given .1) (c .before .before .before .before .before .before .product .ensures) (c .before .before .before .if1 .taken) (c .join .ensures .0) (c .before .before .product2 .ensures) (c .join .ensures .1)
 
-refuse-requires : tie.Need-refuse-requires
-refuse-requires c κs = search needs
+differ-requires : tie.Need-differ-requires
+differ-requires c κs = search needs
 
 enum-told : tie.Need-enum-told
 enum-told c = search needs
@@ -40,7 +40,7 @@ same-length-2 : tie.Need-same-length-2
 same-length-2 c = search needs
 
 returns-2 : tie.Need-returns-2
-returns-2 c = pairs-large (c .before .before .before .before .before .before .before .status .given .1) (c .before .before .before .before .product .ensures) (c .before .if1 .left) (c .refuse .ensures .1) (c .refuse .ensures .0)
+returns-2 c = pairs-large (c .before .before .before .before .before .before .before .status .given .1) (c .before .before .before .before .product .ensures) (c .before .if1 .left) (c .differ .ensures .1) (c .differ .ensures .0)
 
 returns-3 : tie.Need-returns-3
 returns-3 c = pairs-refused (c .enum-told .given .1) refl
@@ -57,7 +57,7 @@ pair-up-spec =
     join-requires
     same-length
     returns
-    refuse-requires
+    differ-requires
     enum-told
     same-length-2
     returns-2

@@ -3,11 +3,11 @@ use borrow.Author.Needs.{needs}
 use Rattle.typing.proofs.variables.variable.Statement.{statement}
 use Rattle.typing.proofs.variables.variable.Tie as tie
 
-refuse-requires : tie.Need-refuse-requires
-refuse-requires c κs = search needs
+unscoped-requires : tie.Need-unscoped-requires
+unscoped-requires c κs = search needs
 
 returns : tie.Need-returns
-returns c = seen-outside _ _ _ _ (c .before .if1 .taken) (c .refuse .ensures .0) (c .refuse .ensures .1)
+returns c = seen-outside _ _ _ _ (c .before .if1 .taken) (c .unscoped .ensures .0) (c .unscoped .ensures .1)
 
 named-requires : tie.Need-named-requires
 named-requires c κs = search needs
@@ -15,11 +15,11 @@ named-requires c κs = search needs
 returns-2 : tie.Need-returns-2
 returns-2 c = seen-static _ _ _ _ (c .named .ensures) (c .before .before .before .if1 .left) (c .before .if2 .taken)
 
-refuse-requires-2 : tie.Need-refuse-requires-2
-refuse-requires-2 c κs = search needs
+misused-requires : tie.Need-misused-requires
+misused-requires c κs = search needs
 
 returns-3 : tie.Need-returns-3
-returns-3 c = seen-barred _ _ _ _ (c .before .before .before .before .before .if1 .left) (c .before .before .before .if2 .left) (c .before .if3 .taken) (c .refuse2 .ensures .0) (c .refuse2 .ensures .1)
+returns-3 c = seen-barred _ _ _ _ (c .before .before .before .before .before .if1 .left) (c .before .before .before .if2 .left) (c .before .if3 .taken) (c .misused .ensures .0) (c .misused .ensures .1)
 
 named-requires-2 : tie.Need-named-requires-2
 named-requires-2 c κs = search needs
@@ -31,11 +31,11 @@ pub variable-spec : {M : Type 1} → statement M
 variable-spec =
     tie.close
     (tie.spec
-    refuse-requires
+    unscoped-requires
     returns
     named-requires
     returns-2
-    refuse-requires-2
+    misused-requires
     returns-3
     named-requires-2
     returns-4)
