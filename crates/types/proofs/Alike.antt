@@ -10,7 +10,7 @@ use package.Rattle.rules.specs.Ty.{nodes, isUnit, sameTy}
 use package.Rattle.types.specs.declared.codes.Code.{Code}
 use package.Rattle.types.specs.Codes.{treeIn, Known}
 use package.Rattle.types.specs.Shapes.{plainShape, Settled}
-use package.Rattle.types.proofs.Equal.{is-unit, below-four, two-parts, less-first, less-second, kinds-differ, both-units, both-variables, both-recursive, first-differs, by-second}
+use package.Rattle.types.proofs.Equal.{is-unit, below-four, two-parts, less-first, less-second, one-node, kinds-differ, both-units, both-variables, both-recursive, first-differs, by-second}
 
 -- one type
 module _ {xs types heap : List ℕ} {top : ℕ} {c v : Code} (S : Settled xs types heap top c v) {kind : ℕ} (k : kind ≡ plainShape xs types heap v .kind) where
@@ -41,6 +41,11 @@ module _ {xs types heap : List ℕ} {top : ℕ} {c v : Code} (S : Settled xs typ
 
     pub known-second : Known (length types) top b
     known-second = subst (Known (length types) top) (sym p) (S .shaped .second)
+
+-- two types that have one code
+pub one-code : {xs types heap : List ℕ} {top : ℕ} {c d v w : Code} → Settled xs types heap top c v → Settled xs types heap top d w → v ≡ w
+    → true ≡ sameTy (treeIn xs types heap c) (treeIn xs types heap d)
+one-code {xs} {types} {heap} S S′ e = one-node (S .shaped) (S′ .shaped) (ap (plainShape xs types heap) e)
 
 -- two types
 module _ {xs types heap : List ℕ} {top : ℕ} {c d v w : Code} (S : Settled xs types heap top c v) (S′ : Settled xs types heap top d w)

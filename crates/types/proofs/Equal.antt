@@ -97,15 +97,15 @@ module _ {xs types heap : List ℕ} {top : ℕ} {c : Code} {v : Shape} (S : Shap
 ----------------------------------------------------------------
 -- Two types
 
-pub same-code : (xs types heap : List ℕ) {c d : Code} → c ≡ d → true ≡ sameTy (treeIn xs types heap c) (treeIn xs types heap d)
-same-code xs types heap {c} {d} e = rw e (sym (sameTy-refl (treeIn xs types heap d)))
-
 module _ {xs types heap : List ℕ} {top : ℕ} {c d : Code} {v w : Shape} (S : Shaped xs types heap top c v) (S′ : Shaped xs types heap top d w) where
   abbrev Same : Bool → Type 0
   Same r = r ≡ sameTy (treeIn xs types heap c) (treeIn xs types heap d)
 
   by-nodes : (r : Bool) → r ≡ sameTy (shapeTree (map (typeAt xs) types) heap v) (shapeTree (map (typeAt xs) types) heap w) → Same r
   by-nodes r e = e ∙ ap₂ sameTy (S .tree) (S′ .tree)
+
+  pub one-node : v ≡ w → Same true
+  one-node e = by-nodes true (rw e (sym (sameTy-refl (shapeTree (map (typeAt xs) types) heap w))))
 
   pub kinds-differ : ¬ (v .kind ≡ w .kind) → Same false
   unfolding shapeTree

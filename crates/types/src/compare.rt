@@ -17,18 +17,18 @@ pub fn is_unit(p: &[u8], types: &[u16], ws: &[u8], top: u32, c: Code) -> bool
     parts::kind_of(p, types, ws, top, d) == 0
 }
 
-// Are the types equal? At most as many nodes are looked at as the smaller tree has; of one code, none. Parts are read one by one, each only
-// where it is asked: a struct of all of them would be copied.
+// Are the types equal? At most as many nodes are looked at as the smaller tree has; of codes that settle alike, no part. Parts are read one by
+// one, each only where it is asked: a struct of all of them would be copied.
 pub fn same(p: &[u8], types: &[u16], ws: &[u8], top: u32, c: Code, d: Code) -> bool
     requires { ⌜ Sources (now p) (now types) (now ws) top ⌝ }
     requires { ⌜ Known (length (now types)) top c × Known (length (now types)) top d ⌝ }
     ensures { λ r. ⌜ r ≡ sameTy (treeIn (now (p .entry)) (now (types .entry)) (now (ws .entry)) c) (treeIn (now (p .entry)) (now (types .entry)) (now (ws .entry)) d) ⌝ }
 {
-    if codes::identical(c, d) {
-        return true;
-    }
     let v = parts::settled(p, types, ws, top, c);
     let w = parts::settled(p, types, ws, top, d);
+    if codes::identical(v, w) {
+        return true;
+    }
     let kind = parts::kind_of(p, types, ws, top, v);
     let kind2 = parts::kind_of(p, types, ws, top, w);
     if kind != kind2 {

@@ -1,6 +1,5 @@
 use Rattle.types.proofs.Trees.{decided}
-use Rattle.types.proofs.Equal.{same-code}
-use Rattle.types.proofs.Alike.{parted, twice-parted, fewer-first, known-first, fewer-second, known-second, other-kinds, units, variables, recursives, firsts-differ, seconds}
+use Rattle.types.proofs.Alike.{one-code, parted, twice-parted, fewer-first, known-first, fewer-second, known-second, other-kinds, units, variables, recursives, firsts-differ, seconds}
 use native.Mathlib.Omega.{arith}
 use mathlib.Core.Path.{sym, _∙_}
 use borrow.Author.Needs.{needs}
@@ -31,78 +30,78 @@ abbrev same-below : ℕ → In 3 same-kinds.ps
 same-below t = and 3 same-kinds.ps (falls 3 same-kinds.ps _<_ μ-same t) same.Pre
 
 abbrev same-uses : ℕ → same-lts.Claims
-same-uses t = (identical-reads.Asked, identical-reads.Learnt, settled-reads.Asked, settled-reads.Learnt, kind-of-reads.Asked, kind-of-reads.Learnt, variable-of-reads.Asked, variable-of-reads.Learnt, first-of-reads.Asked, first-of-reads.Learnt, same-below t, same.Post, second-of-reads.Asked, second-of-reads.Learnt)
+same-uses t = (settled-reads.Asked, settled-reads.Learnt, identical-reads.Asked, identical-reads.Learnt, kind-of-reads.Asked, kind-of-reads.Learnt, variable-of-reads.Asked, variable-of-reads.Learnt, first-of-reads.Asked, first-of-reads.Learnt, same-below t, same.Post, second-of-reads.Asked, second-of-reads.Learnt)
+
+same-settled-requires : (t : ℕ) → same-lts.Need-settled-requires (same-uses t) (same-at t) same.Post
+same-settled-requires t c κs = let a = c .before .before .before .pre .1 in (a .0, a .1 .0)
+
+same-settled-requires-2 : (t : ℕ) → same-lts.Need-settled-requires-2 (same-uses t) (same-at t) same.Post
+same-settled-requires-2 t c κs = let a = c .before .before .before .before .pre .1 in (a .0, a .1 .1)
 
 same-identical-requires : (t : ℕ) → same-lts.Need-identical-requires (same-uses t) (same-at t) same.Post
 same-identical-requires t c κs = search needs
 
 same-returns : (t : ℕ) → same-lts.Need-returns (same-uses t) (same-at t) same.Post
-same-returns t c = let a = c .before .before .before .before .before .args in same-code (a .p .now) (a .types .now) (a .ws .now) (decided (c .before .identical .result) (c .before .identical .ensures) (c .if1 .taken))
-
-same-settled-requires : (t : ℕ) → same-lts.Need-settled-requires (same-uses t) (same-at t) same.Post
-same-settled-requires t c κs = let a = c .before .before .before .before .before .pre .1 in (a .0, a .1 .0)
-
-same-settled-requires-2 : (t : ℕ) → same-lts.Need-settled-requires-2 (same-uses t) (same-at t) same.Post
-same-settled-requires-2 t c κs = let a = c .before .before .before .before .before .before .pre .1 in (a .0, a .1 .1)
+same-returns t c = one-code (c .before .before .before .settled .ensures) (c .before .before .settled2 .ensures) (decided (c .before .identical .result) (c .before .identical .ensures) (c .if1 .taken))
 
 same-kind-of-requires : (t : ℕ) → same-lts.Need-kind-of-requires (same-uses t) (same-at t) same.Post
-same-kind-of-requires t c κs = (c .before .before .before .before .before .before .before .pre .1 .0, c .before .settled .ensures .known)
+same-kind-of-requires t c κs = (c .before .before .before .before .before .before .before .pre .1 .0, c .before .before .before .settled .ensures .known)
 
 same-kind-of-requires-2 : (t : ℕ) → same-lts.Need-kind-of-requires-2 (same-uses t) (same-at t) same.Post
-same-kind-of-requires-2 t c κs = (c .before .before .before .before .before .before .before .before .pre .1 .0, c .before .settled2 .ensures .known)
+same-kind-of-requires-2 t c κs = (c .before .before .before .before .before .before .before .before .pre .1 .0, c .before .before .before .settled2 .ensures .known)
 
 same-returns-2 : (t : ℕ) → same-lts.Need-returns-2 (same-uses t) (same-at t) same.Post
-same-returns-2 t c = other-kinds (c .before .before .before .before .settled .ensures) (c .before .before .before .settled2 .ensures) (c .before .before .kind-of .ensures) (c .before .kind-of2 .ensures) (c .if2 .taken)
+same-returns-2 t c = other-kinds (c .before .before .before .before .before .before .settled .ensures) (c .before .before .before .before .before .settled2 .ensures) (c .before .before .kind-of .ensures) (c .before .kind-of2 .ensures) (c .if2 .taken)
 
 same-returns-3 : (t : ℕ) → same-lts.Need-returns-3 (same-uses t) (same-at t) same.Post
-same-returns-3 t c = units (c .before .before .before .before .before .settled .ensures) (c .before .before .before .before .settled2 .ensures) (c .before .before .before .kind-of .ensures) (c .before .before .kind-of2 .ensures) (c .before .if2 .left) (c .if3 .taken)
+same-returns-3 t c = units (c .before .before .before .before .before .before .before .settled .ensures) (c .before .before .before .before .before .before .settled2 .ensures) (c .before .before .before .kind-of .ensures) (c .before .before .kind-of2 .ensures) (c .before .if2 .left) (c .if3 .taken)
 
 same-variable-of-requires : (t : ℕ) → same-lts.Need-variable-of-requires (same-uses t) (same-at t) same.Post
-same-variable-of-requires t c κs = (c .before .before .before .before .before .before .before .before .before .before .before .before .pre .1 .0, (c .before .before .before .before .before .before .settled .ensures .known, sym (c .before .before .before .before .kind-of .ensures) ∙ c .if4 .taken))
+same-variable-of-requires t c κs = (c .before .before .before .before .before .before .before .before .before .before .before .before .pre .1 .0, (c .before .before .before .before .before .before .before .before .settled .ensures .known, sym (c .before .before .before .before .kind-of .ensures) ∙ c .if4 .taken))
 
 same-variable-of-requires-2 : (t : ℕ) → same-lts.Need-variable-of-requires-2 (same-uses t) (same-at t) same.Post
-same-variable-of-requires-2 t c κs = (c .before .before .before .before .before .before .before .before .before .before .before .before .before .pre .1 .0, (c .before .before .before .before .before .before .settled2 .ensures .known, sym (c .before .before .before .before .kind-of2 .ensures) ∙ sym (c .before .before .before .if2 .left) ∙ c .before .if4 .taken))
+same-variable-of-requires-2 t c κs = (c .before .before .before .before .before .before .before .before .before .before .before .before .before .pre .1 .0, (c .before .before .before .before .before .before .before .before .settled2 .ensures .known, sym (c .before .before .before .before .kind-of2 .ensures) ∙ sym (c .before .before .before .if2 .left) ∙ c .before .if4 .taken))
 
 same-returns-4 : (t : ℕ) → same-lts.Need-returns-4 (same-uses t) (same-at t) same.Post
-same-returns-4 t c = variables (c .before .before .before .before .before .before .before .before .settled .ensures) (c .before .before .before .before .before .before .before .settled2 .ensures) (c .before .before .before .before .before .before .kind-of .ensures) (c .before .before .before .before .before .kind-of2 .ensures) (c .before .before .before .before .if2 .left) (c .before .before .if4 .taken) (c .before .variable-of .ensures) (c .variable-of2 .ensures)
+same-returns-4 t c = variables (c .before .before .before .before .before .before .before .before .before .before .settled .ensures) (c .before .before .before .before .before .before .before .before .before .settled2 .ensures) (c .before .before .before .before .before .before .kind-of .ensures) (c .before .before .before .before .before .kind-of2 .ensures) (c .before .before .before .before .if2 .left) (c .before .before .if4 .taken) (c .before .variable-of .ensures) (c .variable-of2 .ensures)
 
 same-first-of-requires : (t : ℕ) → same-lts.Need-first-of-requires (same-uses t) (same-at t) same.Post
-same-first-of-requires t c κs = (c .before .before .before .before .before .before .before .before .before .before .before .before .pre .1 .0, (c .before .before .before .before .before .before .settled .ensures .known, (c .before .before .before .before .kind-of .ensures, c .before .if3 .left, (parted (c .before .before .before .before .before .before .settled .ensures) (c .before .before .before .before .kind-of .ensures) (c .if4 .left)))))
+same-first-of-requires t c κs = (c .before .before .before .before .before .before .before .before .before .before .before .before .pre .1 .0, (c .before .before .before .before .before .before .before .before .settled .ensures .known, (c .before .before .before .before .kind-of .ensures, c .before .if3 .left, (parted (c .before .before .before .before .before .before .before .before .settled .ensures) (c .before .before .before .before .kind-of .ensures) (c .if4 .left)))))
 
 same-first-of-requires-2 : (t : ℕ) → same-lts.Need-first-of-requires-2 (same-uses t) (same-at t) same.Post
-same-first-of-requires-2 t c κs = (c .before .before .before .before .before .before .before .before .before .before .before .before .before .pre .1 .0, (c .before .before .before .before .before .before .settled2 .ensures .known, (c .before .before .before .if2 .left ∙ c .before .before .before .before .kind-of2 .ensures, c .before .before .if3 .left, (parted (c .before .before .before .before .before .before .before .settled .ensures) (c .before .before .before .before .before .kind-of .ensures) (c .before .if4 .left)))))
+same-first-of-requires-2 t c κs = (c .before .before .before .before .before .before .before .before .before .before .before .before .before .pre .1 .0, (c .before .before .before .before .before .before .before .before .settled2 .ensures .known, (c .before .before .before .if2 .left ∙ c .before .before .before .before .kind-of2 .ensures, c .before .before .if3 .left, (parted (c .before .before .before .before .before .before .before .before .before .settled .ensures) (c .before .before .before .before .before .kind-of .ensures) (c .before .if4 .left)))))
 
 same-same-requires : (t : ℕ) → same-lts.Need-same-requires (same-uses t) (same-at t) same.Post
 same-same-requires t c κs = let a = c .before .before .before .before .before .before .before .before .before .before .before .before .before .before .pre in
-    (omega (arith, a .0, fewer-first (c .before .before .before .before .before .before .before .before .settled .ensures) (c .before .before .before .before .before .before .kind-of .ensures) (c .before .first-of .ensures) (c .before .before .before .if3 .left) (parted (c .before .before .before .before .before .before .before .before .settled .ensures) (c .before .before .before .before .before .before .kind-of .ensures) (c .before .before .if4 .left))), (a .1 .0, (known-first (c .before .before .before .before .before .before .before .before .settled .ensures) (c .before .before .before .before .before .before .kind-of .ensures) (c .before .first-of .ensures), known-first (c .before .before .before .before .before .before .before .settled2 .ensures) (c .before .before .before .before .before .kind-of2 .ensures) (c .first-of2 .ensures))))
+    (omega (arith, a .0, fewer-first (c .before .before .before .before .before .before .before .before .before .before .settled .ensures) (c .before .before .before .before .before .before .kind-of .ensures) (c .before .first-of .ensures) (c .before .before .before .if3 .left) (parted (c .before .before .before .before .before .before .before .before .before .before .settled .ensures) (c .before .before .before .before .before .before .kind-of .ensures) (c .before .before .if4 .left))), (a .1 .0, (known-first (c .before .before .before .before .before .before .before .before .before .before .settled .ensures) (c .before .before .before .before .before .before .kind-of .ensures) (c .before .first-of .ensures), known-first (c .before .before .before .before .before .before .before .before .before .settled2 .ensures) (c .before .before .before .before .before .kind-of2 .ensures) (c .first-of2 .ensures))))
 
 same-returns-5 : (t : ℕ) → same-lts.Need-returns-5 (same-uses t) (same-at t) same.Post
-same-returns-5 t c = recursives (c .before .before .before .before .before .before .before .before .before .before .settled .ensures) (c .before .before .before .before .before .before .before .before .before .settled2 .ensures) (c .before .before .before .before .before .before .before .before .kind-of .ensures) (c .before .before .before .before .before .before .before .kind-of2 .ensures) (c .before .before .before .before .before .before .if2 .left) (c .before .before .before .first-of .ensures) (c .before .before .first-of2 .ensures) (c .before .same .ensures) (c .if5 .taken)
+same-returns-5 t c = recursives (c .before .before .before .before .before .before .before .before .before .before .before .before .settled .ensures) (c .before .before .before .before .before .before .before .before .before .before .before .settled2 .ensures) (c .before .before .before .before .before .before .before .before .kind-of .ensures) (c .before .before .before .before .before .before .before .kind-of2 .ensures) (c .before .before .before .before .before .before .if2 .left) (c .before .before .before .first-of .ensures) (c .before .before .first-of2 .ensures) (c .before .same .ensures) (c .if5 .taken)
 
 same-second-of-requires : (t : ℕ) → same-lts.Need-second-of-requires (same-uses t) (same-at t) same.Post
-same-second-of-requires t c κs = (c .before .before .before .before .before .before .before .before .before .before .before .before .before .before .before .before .before .pre .1 .0, (c .before .before .before .before .before .before .before .before .before .before .before .settled .ensures .known, (c .before .before .before .before .before .before .before .before .before .kind-of .ensures, c .before .before .before .before .before .before .if3 .left, (twice-parted (c .before .before .before .before .before .before .before .before .before .before .before .settled .ensures) (c .before .before .before .before .before .before .before .before .before .kind-of .ensures) (c .before .before .before .before .before .if4 .left) (c .before .if5 .left)))))
+same-second-of-requires t c κs = (c .before .before .before .before .before .before .before .before .before .before .before .before .before .before .before .before .before .pre .1 .0, (c .before .before .before .before .before .before .before .before .before .before .before .before .before .settled .ensures .known, (c .before .before .before .before .before .before .before .before .before .kind-of .ensures, c .before .before .before .before .before .before .if3 .left, (twice-parted (c .before .before .before .before .before .before .before .before .before .before .before .before .before .settled .ensures) (c .before .before .before .before .before .before .before .before .before .kind-of .ensures) (c .before .before .before .before .before .if4 .left) (c .before .if5 .left)))))
 
 same-second-of-requires-2 : (t : ℕ) → same-lts.Need-second-of-requires-2 (same-uses t) (same-at t) same.Post
-same-second-of-requires-2 t c κs = (c .before .before .before .before .before .before .before .before .before .before .before .before .before .before .before .before .before .before .pre .1 .0, (c .before .before .before .before .before .before .before .before .before .before .before .settled2 .ensures .known, (c .before .before .before .before .before .before .before .before .if2 .left ∙ c .before .before .before .before .before .before .before .before .before .kind-of2 .ensures, c .before .before .before .before .before .before .before .if3 .left, (twice-parted (c .before .before .before .before .before .before .before .before .before .before .before .before .settled .ensures) (c .before .before .before .before .before .before .before .before .before .before .kind-of .ensures) (c .before .before .before .before .before .before .if4 .left) (c .before .before .if5 .left)))))
+same-second-of-requires-2 t c κs = (c .before .before .before .before .before .before .before .before .before .before .before .before .before .before .before .before .before .before .pre .1 .0, (c .before .before .before .before .before .before .before .before .before .before .before .before .before .settled2 .ensures .known, (c .before .before .before .before .before .before .before .before .if2 .left ∙ c .before .before .before .before .before .before .before .before .before .kind-of2 .ensures, c .before .before .before .before .before .before .before .if3 .left, (twice-parted (c .before .before .before .before .before .before .before .before .before .before .before .before .before .before .settled .ensures) (c .before .before .before .before .before .before .before .before .before .before .kind-of .ensures) (c .before .before .before .before .before .before .if4 .left) (c .before .before .if5 .left)))))
 
 same-same-requires-2 : (t : ℕ) → same-lts.Need-same-requires-2 (same-uses t) (same-at t) same.Post
 same-same-requires-2 t c κs = let a = c .before .before .before .before .before .before .before .before .before .before .before .before .before .before .before .before .before .before .before .pre in
-    (omega (arith, a .0, fewer-second (c .before .before .before .before .before .before .before .before .before .before .before .before .before .settled .ensures) (c .before .before .before .before .before .before .before .before .before .before .before .kind-of .ensures) (c .before .second-of .ensures) (c .before .before .before .before .before .before .before .before .if3 .left) (twice-parted (c .before .before .before .before .before .before .before .before .before .before .before .before .before .settled .ensures) (c .before .before .before .before .before .before .before .before .before .before .before .kind-of .ensures) (c .before .before .before .before .before .before .before .if4 .left) (c .before .before .before .if5 .left))), (a .1 .0, (known-second (c .before .before .before .before .before .before .before .before .before .before .before .before .before .settled .ensures) (c .before .before .before .before .before .before .before .before .before .before .before .kind-of .ensures) (c .before .second-of .ensures), known-second (c .before .before .before .before .before .before .before .before .before .before .before .before .settled2 .ensures) (c .before .before .before .before .before .before .before .before .before .before .kind-of2 .ensures) (c .second-of2 .ensures))))
+    (omega (arith, a .0, fewer-second (c .before .before .before .before .before .before .before .before .before .before .before .before .before .before .before .settled .ensures) (c .before .before .before .before .before .before .before .before .before .before .before .kind-of .ensures) (c .before .second-of .ensures) (c .before .before .before .before .before .before .before .before .if3 .left) (twice-parted (c .before .before .before .before .before .before .before .before .before .before .before .before .before .before .before .settled .ensures) (c .before .before .before .before .before .before .before .before .before .before .before .kind-of .ensures) (c .before .before .before .before .before .before .before .if4 .left) (c .before .before .before .if5 .left))), (a .1 .0, (known-second (c .before .before .before .before .before .before .before .before .before .before .before .before .before .before .before .settled .ensures) (c .before .before .before .before .before .before .before .before .before .before .before .kind-of .ensures) (c .before .second-of .ensures), known-second (c .before .before .before .before .before .before .before .before .before .before .before .before .before .before .settled2 .ensures) (c .before .before .before .before .before .before .before .before .before .before .kind-of2 .ensures) (c .second-of2 .ensures))))
 
 same-returns-6 : (t : ℕ) → same-lts.Need-returns-6 (same-uses t) (same-at t) same.Post
-same-returns-6 t c = seconds (c .before .before .before .before .before .before .before .before .before .before .before .before .before .before .settled .ensures) (c .before .before .before .before .before .before .before .before .before .before .before .before .before .settled2 .ensures) (c .before .before .before .before .before .before .before .before .before .before .before .before .kind-of .ensures) (c .before .before .before .before .before .before .before .before .before .before .before .kind-of2 .ensures) (c .before .before .before .before .before .before .before .before .before .before .if2 .left) (c .before .before .before .before .before .before .before .first-of .ensures) (c .before .before .before .before .before .before .first-of2 .ensures) (c .before .before .before .before .before .same .ensures) (c .before .before .before .before .before .before .before .before .before .if3 .left) (twice-parted (c .before .before .before .before .before .before .before .before .before .before .before .before .before .before .settled .ensures) (c .before .before .before .before .before .before .before .before .before .before .before .before .kind-of .ensures) (c .before .before .before .before .before .before .before .before .if4 .left) (c .before .before .before .before .if5 .left)) (c .before .before .before .if6 .taken) (c .before .before .second-of .ensures) (c .before .second-of2 .ensures) (c .same2 .ensures)
+same-returns-6 t c = seconds (c .before .before .before .before .before .before .before .before .before .before .before .before .before .before .before .before .settled .ensures) (c .before .before .before .before .before .before .before .before .before .before .before .before .before .before .before .settled2 .ensures) (c .before .before .before .before .before .before .before .before .before .before .before .before .kind-of .ensures) (c .before .before .before .before .before .before .before .before .before .before .before .kind-of2 .ensures) (c .before .before .before .before .before .before .before .before .before .before .if2 .left) (c .before .before .before .before .before .before .before .first-of .ensures) (c .before .before .before .before .before .before .first-of2 .ensures) (c .before .before .before .before .before .same .ensures) (c .before .before .before .before .before .before .before .before .before .if3 .left) (twice-parted (c .before .before .before .before .before .before .before .before .before .before .before .before .before .before .before .before .settled .ensures) (c .before .before .before .before .before .before .before .before .before .before .before .before .kind-of .ensures) (c .before .before .before .before .before .before .before .before .if4 .left) (c .before .before .before .before .if5 .left)) (c .before .before .before .if6 .taken) (c .before .before .second-of .ensures) (c .before .second-of2 .ensures) (c .same2 .ensures)
 
 same-returns-7 : (t : ℕ) → same-lts.Need-returns-7 (same-uses t) (same-at t) same.Post
-same-returns-7 t c = firsts-differ (c .before .before .before .before .before .before .before .before .before .before .before .settled .ensures) (c .before .before .before .before .before .before .before .before .before .before .settled2 .ensures) (c .before .before .before .before .before .before .before .before .before .kind-of .ensures) (c .before .before .before .before .before .before .before .before .kind-of2 .ensures) (c .before .before .before .before .before .before .before .if2 .left) (c .before .before .before .before .first-of .ensures) (c .before .before .before .first-of2 .ensures) (c .before .before .same .ensures) (c .before .before .before .before .before .before .if3 .left) (twice-parted (c .before .before .before .before .before .before .before .before .before .before .before .settled .ensures) (c .before .before .before .before .before .before .before .before .before .kind-of .ensures) (c .before .before .before .before .before .if4 .left) (c .before .if5 .left)) (c .if6 .left)
+same-returns-7 t c = firsts-differ (c .before .before .before .before .before .before .before .before .before .before .before .before .before .settled .ensures) (c .before .before .before .before .before .before .before .before .before .before .before .before .settled2 .ensures) (c .before .before .before .before .before .before .before .before .before .kind-of .ensures) (c .before .before .before .before .before .before .before .before .kind-of2 .ensures) (c .before .before .before .before .before .before .before .if2 .left) (c .before .before .before .before .first-of .ensures) (c .before .before .before .first-of2 .ensures) (c .before .before .same .ensures) (c .before .before .before .before .before .before .if3 .left) (twice-parted (c .before .before .before .before .before .before .before .before .before .before .before .before .before .settled .ensures) (c .before .before .before .before .before .before .before .before .before .kind-of .ensures) (c .before .before .before .before .before .if4 .left) (c .before .if5 .left)) (c .if6 .left)
 
 pub +same-spec : {M : Type 1} → statement M
 +same-spec = close μ-same λ t. same-lts.spec (same-uses t)
     (same-at t)
     same.Post
-    (same-identical-requires t)
-    (same-returns t)
     (same-settled-requires t)
     (same-settled-requires-2 t)
+    (same-identical-requires t)
+    (same-returns t)
     (same-kind-of-requires t)
     (same-kind-of-requires-2 t)
     (same-returns-2 t)
