@@ -1,22 +1,23 @@
 -- Laws of counting: what a type's nodes are by its outermost node, counting that stops one above the limit.
-use Prim.Native.Nat.{ℕ, zero, suc, _+_, _<_, _≤_, min}
+use Prim.Native.Nat.{ℕ, zero, suc, _+_, _*_, _<_, _≤_, min}
 use native.Mathlib.Omega.{arith}
 use native.Mathlib.Decide.{decLt}
 use mathlib.Core.Path.{_≡_, refl, sym, ap, _∙_}
+use mathlib.Core.Bool.{Bool, true, false, cond}
 use mathlib.Core.List.{List, map}
 use lib.ListN.{length, getD}
-use lib.Dec.{leb}
-use borrow.Author.Tests.{le-leb, lt-leb}
+use lib.Dec.{eqb, leb}
+use borrow.Author.Tests.{leb-true, le-leb, lt-leb}
 use package.Rattle.rules.specs.Limits.{maxNodes}
-use package.Rattle.rules.specs.Ty.{Ty, nodes}
-use package.Rattle.calls.specs.Entries.{typeAt}
+use package.Rattle.rules.specs.Ty.{Ty, one, prod, sum, mu, tyvar, plug, nodes}
+use package.Rattle.calls.specs.Entries.{typeAt, typeOf}
 use package.Rattle.calls.specs.Named.{ceiling}
 use package.Rattle.types.specs.declared.codes.Code.{Code}
 use package.Rattle.types.specs.declared.shapes.Shape.{Shape}
 use package.Rattle.types.specs.Codes.{countAt, treeIn, Known, Sources}
 use package.Rattle.types.specs.Shapes.{ofKind, shapeTree, Shaped}
-use package.Rattle.types.specs.Counts.{Counted}
-use package.Rattle.types.proofs.Trees.{tree-entry, tree-product}
+use package.Rattle.types.specs.Counts.{Counted, Held, Small}
+use package.Rattle.types.proofs.Trees.{tree-entry, tree-under, tree-product}
 
 ----------------------------------------------------------------
 -- Counting that stops
@@ -136,3 +137,54 @@ limit-decided n {m} e = go (decLt 1024 n)
     go : Dec (1024 < n) → leb m 1024 ≡ leb n 1024
     go (yes l) = lt-leb m 1024 (omega arith) ∙ sym (lt-leb n 1024 l)
     go (no l) = le-leb m 1024 (omega arith) ∙ sym (le-leb n 1024 (omega arith))
+
+-- what a variable stands for has few nodes: then no type grows by more
+plug-grows : (a : Ty) (n : ℕ) (b : Ty) → nodes a ≤ 32 → nodes (plug a n b) ≤ 32 * nodes b
+unfolding plug nodes
+plug-grows a n one h = omega arith
+plug-grows a n (prod b c) h = omega (arith, plug-grows a n b h, plug-grows a n c h)
+plug-grows a n (sum b c) h = omega (arith, plug-grows a n b h, plug-grows a n c h)
+plug-grows a n (mu b) h = omega (arith, plug-grows a (suc n) b h)
+plug-grows a n (tyvar m) h = go (eqb m n)
+  where
+    go : (r : Bool) → nodes (cond r a (tyvar m)) ≤ 32
+    go true = h
+    go false = omega arith
+
+-- a count that is small is the number of nodes
+few : (n : ℕ) {m : ℕ} → m ≡ min ceiling n → m ≤ 32 → n ≤ 32
+unfolding ceiling maxNodes
+few n e h = omega arith
+
+pub small-told : {counts : List ℕ} {c : Code} {i j : ℕ} → c .form ≡ 2 → i ≡ c .at → j ≡ c .stands → getD counts i 0 ≤ 32
+    → leb (getD counts j 0) 32 ≡ true → Small counts c
+small-told {counts} {c} {i} {j} f p q h l = record {
+  form = f;
+  entry = omega (arith, ap (λ i. getD counts i 0) p);
+  stands = omega (arith, leb-true (getD counts j 0) 32 l, ap (λ j. getD counts j 0) q);
+}
+
+module _ {xs types : List ℕ} {top : ℕ} (c : Code) (K : Known (length types) top c) {counts : List ℕ} (C : Counted xs types counts) where
+  pub counts-held : c .form ≡ 2 → Held counts c
+  counts-held f = record {
+    entry = omega (arith, C .held, K .entry (omega arith) (omega arith));
+    stands = omega (arith, C .held, K .stands f);
+  }
+
+  few-nodes : (i : ℕ) → i < length types → getD counts i 0 ≤ 32 → nodes (typeOf (map (typeAt xs) types) i) ≤ 32
+  few-nodes i h l = few (nodes (typeOf (map (typeAt xs) types) i)) (C .count i h) l
+
+  -- a small entry unfolds within the limit
+  small-nodes : (heap : List ℕ) → Small counts c → nodes (treeIn xs types heap c) ≤ 1024
+  small-nodes heap S =
+      omega (
+        arith,
+        ap nodes (tree-under (map (typeAt xs) types) heap c (S .form)),
+        plug-grows (typeOf (map (typeAt xs) types) (c .stands)) (c .depth) (typeOf (map (typeAt xs) types) (c .at))
+            (few-nodes (c .stands) (K .stands (S .form)) (S .stands)),
+        few-nodes (c .at) (omega (arith, K .entry (omega (arith, S .form)) (omega (arith, S .form)))) (S .entry),
+      )
+
+  pub small-within : (heap : List ℕ) → Small counts c → true ≡ leb (nodes (treeIn xs types heap c)) maxNodes
+  unfolding maxNodes
+  small-within heap S = sym (le-leb (nodes (treeIn xs types heap c)) 1024 (small-nodes heap S))

@@ -1,6 +1,7 @@
 // How many nodes a type has as a tree, as far as the limit of section 1 lets matter: counting stops one above it. Type entries are
 // counted already, and products keep their count, so that only an unfolded type is walked.
 ghost use mathlib.Core.Path.{_≡_};
+ghost use mathlib.Core.Bool.{true};
 ghost use Prim.Native.Nat.{_+_, _≤_, min};
 ghost use lib.ListN.{length};
 ghost use lib.Dec.{leb};
@@ -8,13 +9,16 @@ ghost use Rattle.rules.specs.Limits.{maxNodes};
 ghost use Rattle.rules.specs.Ty.{nodes};
 ghost use Rattle.calls.specs.Named.{ceiling};
 ghost use Rattle.types.specs.Codes.{treeIn, Sources, Known};
-ghost use Rattle.types.specs.Counts.{Counted};
+ghost use Rattle.types.specs.Counts.{Counted, Held, Small};
 use crate::codes::Code;
 use crate::nodes;
 use crate::shapes;
 
 // Section 1's limit on the nodes of a type.
 pub const MAX_NODES: u16 = 1024;
+
+// So many times itself is within the limit.
+const SMALL: u16 = 32;
 
 fn capped(n: u16) -> u16
     ensures { λ r. ⌜ r ≡ min ceiling n ⌝ }
@@ -77,6 +81,24 @@ pub fn node_count(p: &[u8], types: &[u16], counts: &[u16], ws: &[u8], top: u32, 
     add_nodes(p, types, counts, ws, top, c, 0)
 }
 
+// Is the type the unfolding of a small entry? Where a variable stands for an entry of so few nodes in one of so few, the limit is kept
+// without counting.
+fn surely_within(counts: &[u16], c: Code) -> bool
+    requires { ⌜ (c .form ≡ 2 → Held (now counts) c) ⌝ }
+    ensures { λ r. ⌜ (r ≡ true → Small (now (counts .entry)) c) ⌝ }
+{
+    let form = c.form;
+    if form == 2 {
+        let i = octets::wide_index(c.at);
+        let j = octets::wide_index(c.stands);
+        if SMALL < counts[i] {
+            return false;
+        }
+        return counts[j] <= SMALL;
+    }
+    false
+}
+
 // Has the type as few nodes as section 1 allows?
 pub fn within_limit(p: &[u8], types: &[u16], counts: &[u16], ws: &[u8], top: u32, c: Code) -> bool
     requires { ⌜ Sources (now p) (now types) (now ws) top ⌝ }
@@ -84,5 +106,8 @@ pub fn within_limit(p: &[u8], types: &[u16], counts: &[u16], ws: &[u8], top: u32
     requires { ⌜ Counted (now p) (now types) (now counts) ⌝ }
     ensures { λ r. ⌜ r ≡ leb (nodes (treeIn (now (p .entry)) (now (types .entry)) (now (ws .entry)) c)) maxNodes ⌝ }
 {
+    if surely_within(counts, c) {
+        return true;
+    }
     node_count(p, types, counts, ws, top, c) <= MAX_NODES
 }

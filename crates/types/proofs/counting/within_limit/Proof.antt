@@ -1,13 +1,19 @@
-use Rattle.types.proofs.Figures.{limit-decided}
+use Rattle.types.proofs.Figures.{counts-held, small-within, limit-decided}
 use borrow.Author.Needs.{needs}
 use Rattle.types.proofs.counting.within_limit.Statement.{statement}
 use Rattle.types.proofs.counting.within_limit.Tie as tie
 
+surely-within-requires : tie.Need-surely-within-requires
+surely-within-requires c κs = let a = c .before .before .before .before in counts-held (a .args .c) (a .pre .1 .0) (a .pre .1 .1)
+
+returns : tie.Need-returns
+returns c = let a = c .before .before .before .before .before .before in small-within (a .args .c) (a .pre .1 .0) (a .pre .1 .1) (a .args .ws .now) (c .before .surely-within .ensures (c .if1 .taken))
+
 node-count-requires : tie.Need-node-count-requires
 node-count-requires c κs = search needs
 
-returns : tie.Need-returns
-returns c = limit-decided _ (c .node-count .ensures)
+returns-2 : tie.Need-returns-2
+returns-2 c = limit-decided _ (c .node-count .ensures)
 
 pub within-limit-spec : {M : Type 1} → statement M
-within-limit-spec = tie.close (tie.spec node-count-requires returns)
+within-limit-spec = tie.close (tie.spec surely-within-requires returns node-count-requires returns-2)
