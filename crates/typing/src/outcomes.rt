@@ -39,34 +39,32 @@ pub struct Out {
     pub top: u32,
 }
 
+// The fault goes into the outcome as one piece, which keeps the copies of outcomes in wide pieces too.
+fn refuse(top: u32, why: Fault) -> Out
+    ensures { λ r. ⌜ (r .status ≡ Refused why) × (r .top ≡ top) ⌝ }
+{
+    Out {
+        status: Status::Refused(why),
+        top,
+    }
+}
+
 // The refusals of term t.
 
 pub fn differ(top: u32, t: u16) -> Out
     ensures { λ r. ⌜ (r .status ≡ Refused (Differ t)) × (r .top ≡ top) ⌝ }
 {
-    let term = octets::wide32(t);
-    Out {
-        status: Status::Refused(Fault::Differ(term)),
-        top,
-    }
+    refuse(top, Fault::Differ(octets::wide32(t)))
 }
 
 pub fn unscoped(top: u32, t: u16) -> Out
     ensures { λ r. ⌜ (r .status ≡ Refused (Unscoped t)) × (r .top ≡ top) ⌝ }
 {
-    let term = octets::wide32(t);
-    Out {
-        status: Status::Refused(Fault::Unscoped(term)),
-        top,
-    }
+    refuse(top, Fault::Unscoped(octets::wide32(t)))
 }
 
 pub fn misused(top: u32, t: u16) -> Out
     ensures { λ r. ⌜ (r .status ≡ Refused (Misused t)) × (r .top ≡ top) ⌝ }
 {
-    let term = octets::wide32(t);
-    Out {
-        status: Status::Refused(Fault::Misused(term)),
-        top,
-    }
+    refuse(top, Fault::Misused(octets::wide32(t)))
 }
