@@ -22,6 +22,17 @@ use package.Rattle.typing.specs.Ready.{termIn, Entered, Here}
 pub here : {p terms : List ℕ} {t at kind k : ℕ} → t < length terms → at ≡ getD terms t 0 → kind ≡ kindAt p at → kind ≡ k → Here p terms t at k
 here l e g q = record { there = l; place = e; form = sym g ∙ q }
 
+-- inl and inr, which one function takes
+injected : {p terms : List ℕ} {t at k : ℕ} → Here p terms t at k → 2 ≤ k → k ≤ 3
+    → Here p terms t at (kindAt p at) × (2 ≤ kindAt p at) × (kindAt p at ≤ 3)
+injected h lo hi = (record { there = h .there; place = h .place; form = refl }, omega (arith, h .form), omega (arith, h .form))
+
+pub here-inl : {p terms : List ℕ} {t at : ℕ} → Here p terms t at 2 → Here p terms t at (kindAt p at) × (2 ≤ kindAt p at) × (kindAt p at ≤ 3)
+here-inl h = injected h (omega arith) (omega arith)
+
+pub here-inr : {p terms : List ℕ} {t at : ℕ} → Here p terms t at 3 → Here p terms t at (kindAt p at) × (2 ≤ kindAt p at) × (kindAt p at ≤ 3)
+here-inr h = injected h (omega arith) (omega arith)
+
 -- none of the first ten is the eleventh
 pub from-five : {k : ℕ} → ¬ (k ≡ 0) → ¬ (k ≡ 1) → ¬ (k ≡ 2) → ¬ (k ≡ 3) → ¬ (k ≡ 4) → 5 ≤ k
 from-five a b c d e = omega arith

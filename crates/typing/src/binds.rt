@@ -75,8 +75,7 @@ pub fn let_two(
     requires { ⌜ Here (now p) (now terms) t at 6 ⌝ }
     ensures { λ r. ⌜ Inferred (termsIn (termIn (now (p .entry)) (now (types .entry)) (now (terms .entry)) t)) (termIn (now (p .entry)) (now (types .entry)) (now (terms .entry)) t) (now (p .entry)) (now (types .entry)) (now (ws .entry)) (now (ws .exit)) (sc .n) (now (vars .entry)) (now (vars .exit)) top r (typeIn (now (p .entry)) (now (types .entry)) (now (terms .entry)) (now (functions .entry)) (now (ws .entry)) (now (vars .entry)) sc t) ⌝ }
 {
-    let n = sc.n;
-    if MAX_VARIABLES < n + 2 {
+    if MAX_VARIABLES < sc.n + 2 {
         return outcomes::unscoped(top, t);
     }
     let bound = program::views::first(p, at);
@@ -94,7 +93,7 @@ pub fn let_two(
             let one = variables::bind(p, types, ws, vars, sc, m, s.first);
             let two = variables::bind(p, types, ws, vars, one, m, s.second);
             let r2 = infer::infer(p, types, terms, functions, nodes, ws, vars, two, m, body);
-            tests::close_two(p, types, ws, r2, f.uses, n, s.first, s.second, t)
+            tests::close_two(p, types, ws, r2, f.uses, sc.n, s.first, s.second, t)
         }
         Status::Refused(_) => r,
     }
@@ -177,7 +176,6 @@ fn branches(
     requires { ⌜ NamedBy uses (termIn (now p) (now types) (now terms) (first (now p) at)) ⌝ }
     ensures { λ r. ⌜ Inferred (termsIn (termIn (now (p .entry)) (now (types .entry)) (now (terms .entry)) (second (now (p .entry)) at)) + termsIn (termIn (now (p .entry)) (now (types .entry)) (now (terms .entry)) (third (now (p .entry)) at))) (termIn (now (p .entry)) (now (types .entry)) (now (terms .entry)) t) (now (p .entry)) (now (types .entry)) (now (ws .entry)) (now (ws .exit)) (sc .n) (now (vars .entry)) (now (vars .exit)) top r (branchesOf (now (p .entry)) (now (types .entry)) (now (terms .entry)) (now (functions .entry)) (contextIn (now (p .entry)) (now (types .entry)) (now (ws .entry)) (now (vars .entry)) sc) t (termIn (now (p .entry)) (now (types .entry)) (now (terms .entry)) (second (now (p .entry)) at)) (termIn (now (p .entry)) (now (types .entry)) (now (terms .entry)) (third (now (p .entry)) at)) (treeIn (now (p .entry)) (now (types .entry)) (now (ws .entry)) c) (treeIn (now (p .entry)) (now (types .entry)) (now (ws .entry)) d)) ⌝ }
 {
-    let n = sc.n;
     let left = program::views::second(p, at);
     let right = program::views::third(p, at);
     let one = variables::bind(p, types, ws, vars, sc, top, c);
@@ -186,10 +184,10 @@ fn branches(
     let m = r.top;
     match status {
         Status::Typed(f) => {
-            if tests::spent(p, types, ws, m, c, n, f.uses) {
+            if tests::spent(p, types, ws, m, c, sc.n, f.uses) {
                 let two = variables::bind(p, types, ws, vars, sc, m, d);
                 let r2 = infer::infer(p, types, terms, functions, nodes, ws, vars, two, m, right);
-                return tests::meet(p, types, ws, r2, f, uses, n, d, sc.owed, t);
+                return tests::meet(p, types, ws, r2, f, uses, sc.n, d, sc.owed, t);
             }
             outcomes::misused(m, t)
         }

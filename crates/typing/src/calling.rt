@@ -5,6 +5,7 @@ use crate::outcomes;
 use crate::outcomes::Out;
 use crate::outcomes::Scope;
 use crate::outcomes::Status;
+use crate::tests;
 use uses::Uses;
 ghost use Prim.Native.Nat.{_+_};
 ghost use Rattle.program.specs.Parts.{first};
@@ -35,19 +36,8 @@ fn arguments(
     if k == count {
         return leaves::unit(top);
     }
-    let argument = program::views::listed(p, at, k);
-    let r = infer::infer(
-        p,
-        types,
-        terms,
-        functions,
-        nodes,
-        ws,
-        vars,
-        sc,
-        top,
-        argument,
-    );
+    let part = program::views::listed(p, at, k);
+    let r = infer::infer(p, types, terms, functions, nodes, ws, vars, sc, top, part);
     let status = r.status;
     let m = r.top;
     match status {
@@ -133,21 +123,8 @@ pub fn call(
             let part = program::views::listed(p, at, count);
             let want = types::codes::entry(program::views::listed(p, h, count));
             let answer = types::codes::entry(program::views::function_result(p, h));
-            infer::demand(
-                p,
-                types,
-                terms,
-                functions,
-                nodes,
-                ws,
-                vars,
-                sc,
-                m,
-                part,
-                want,
-                answer,
-                t,
-            )
+            let r2 = infer::infer(p, types, terms, functions, nodes, ws, vars, sc, m, part);
+            tests::expect(p, types, ws, r2, want, answer, t)
         }
         Status::Refused(_) => r,
     }

@@ -9,14 +9,12 @@ use crate::outcomes::Scope;
 use crate::outcomes::Status;
 use crate::tests;
 use crate::variables;
-use types::codes::Code;
 use types::unfolding::Body;
 ghost use Prim.Native.Nat.{_≤_, _<_};
 ghost use lib.ListN.{length};
-ghost use Rattle.program.specs.Parts.{first, second};
-ghost use Rattle.types.specs.Codes.{treeIn, Known};
+ghost use Rattle.calls.specs.Fields.{kindAt};
 ghost use Rattle.typing.specs.Sizes.{termsIn};
-ghost use Rattle.typing.specs.Ready.{termIn, typeIn, demanded, Ready, Here, Inferred};
+ghost use Rattle.typing.specs.Ready.{termIn, typeIn, Ready, Here, Inferred};
 
 // Term t, in a scope.
 pub fn infer(
@@ -40,34 +38,8 @@ pub fn infer(
     match kind {
         0 => variables::variable(vars, sc, top, t, program::views::variable(p, at)),
         1 => leaves::unit(top),
-        2 => inject(
-            p,
-            types,
-            terms,
-            functions,
-            nodes,
-            ws,
-            vars,
-            sc,
-            top,
-            t,
-            at,
-            2,
-        ),
-        3 => inject(
-            p,
-            types,
-            terms,
-            functions,
-            nodes,
-            ws,
-            vars,
-            sc,
-            top,
-            t,
-            at,
-            3,
-        ),
+        2 => inject(p, types, terms, functions, nodes, ws, vars, sc, top, t, at),
+        3 => inject(p, types, terms, functions, nodes, ws, vars, sc, top, t, at),
         4 => pair(p, types, terms, functions, nodes, ws, vars, sc, top, t, at),
         5 => binds::let_one(p, types, terms, functions, nodes, ws, vars, sc, top, t, at),
         6 => binds::let_two(p, types, terms, functions, nodes, ws, vars, sc, top, t, at),
@@ -76,31 +48,6 @@ pub fn infer(
         9 => roll(p, types, terms, functions, nodes, ws, vars, sc, top, t, at),
         _ => unroll(p, types, terms, functions, nodes, ws, vars, sc, top, t, at),
     }
-}
-
-// A part of term t that has to have the type `want`; then the type of t is `answer`.
-pub fn demand(
-    p: &[u8],
-    types: &[u16],
-    terms: &[u16],
-    functions: &[u16],
-    nodes: &[u16],
-    ws: &mut [u8],
-    vars: &mut [u8],
-    sc: Scope,
-    top: u32,
-    part: u16,
-    want: Code,
-    answer: Code,
-    t: u16,
-) -> Out
-    requires { ⌜ Ready (termsIn (termIn (now p) (now types) (now terms) part)) (now p) (now types) (now terms) (now functions) (now nodes) (now ws) (now vars) sc top ⌝ }
-    requires { ⌜ part < length (now terms) ⌝ }
-    requires { ⌜ Known (length (now types)) top want × Known (length (now types)) top answer ⌝ }
-    ensures { λ r. ⌜ Inferred (termsIn (termIn (now (p .entry)) (now (types .entry)) (now (terms .entry)) part)) (termIn (now (p .entry)) (now (types .entry)) (now (terms .entry)) part) (now (p .entry)) (now (types .entry)) (now (ws .entry)) (now (ws .exit)) (sc .n) (now (vars .entry)) (now (vars .exit)) top r (demanded (typeIn (now (p .entry)) (now (types .entry)) (now (terms .entry)) (now (functions .entry)) (now (ws .entry)) (now (vars .entry)) sc part) (treeIn (now (p .entry)) (now (types .entry)) (now (ws .entry)) want) (treeIn (now (p .entry)) (now (types .entry)) (now (ws .entry)) answer) t) ⌝ }
-{
-    let r = infer(p, types, terms, functions, nodes, ws, vars, sc, top, part);
-    tests::expect(p, types, ws, r, want, answer, t)
 }
 
 // inl and inr, by their kind
@@ -116,10 +63,9 @@ fn inject(
     top: u32,
     t: u16,
     at: usize,
-    kind: u8,
 ) -> Out
     requires { ⌜ Ready (termsIn (termIn (now p) (now types) (now terms) t)) (now p) (now types) (now terms) (now functions) (now nodes) (now ws) (now vars) sc top ⌝ }
-    requires { ⌜ Here (now p) (now terms) t at kind × (2 ≤ kind) × (kind ≤ 3) ⌝ }
+    requires { ⌜ Here (now p) (now terms) t at (kindAt (now p) at) × (2 ≤ kindAt (now p) at) × (kindAt (now p) at ≤ 3) ⌝ }
     ensures { λ r. ⌜ Inferred (termsIn (termIn (now (p .entry)) (now (types .entry)) (now (terms .entry)) t)) (termIn (now (p .entry)) (now (types .entry)) (now (terms .entry)) t) (now (p .entry)) (now (types .entry)) (now (ws .entry)) (now (ws .exit)) (sc .n) (now (vars .entry)) (now (vars .exit)) top r (typeIn (now (p .entry)) (now (types .entry)) (now (terms .entry)) (now (functions .entry)) (now (ws .entry)) (now (vars .entry)) sc t) ⌝ }
 {
     let i = program::views::first(p, at);
@@ -130,38 +76,12 @@ fn inject(
     if form != 2 {
         return outcomes::differ(top, t);
     }
+    let r = infer(p, types, terms, functions, nodes, ws, vars, sc, top, part);
+    let kind = program::views::kind(p, at);
     if kind == 2 {
-        return demand(
-            p,
-            types,
-            terms,
-            functions,
-            nodes,
-            ws,
-            vars,
-            sc,
-            top,
-            part,
-            s.first,
-            whole,
-            t,
-        );
+        return tests::expect(p, types, ws, r, s.first, whole, t);
     }
-    demand(
-        p,
-        types,
-        terms,
-        functions,
-        nodes,
-        ws,
-        vars,
-        sc,
-        top,
-        part,
-        s.second,
-        whole,
-        t,
-    )
+    tests::expect(p, types, ws, r, s.second, whole, t)
 }
 
 // A pair: its type is a new product.
@@ -220,21 +140,8 @@ fn roll(
     match body {
         Body::Of(c) => {
             let whole = types::codes::entry(i);
-            demand(
-                p,
-                types,
-                terms,
-                functions,
-                nodes,
-                ws,
-                vars,
-                sc,
-                top,
-                part,
-                c,
-                whole,
-                t,
-            )
+            let r = infer(p, types, terms, functions, nodes, ws, vars, sc, top, part);
+            tests::expect(p, types, ws, r, c, whole, t)
         }
         Body::Other => outcomes::differ(top, t),
     }
@@ -265,21 +172,8 @@ fn unroll(
         Body::Of(c) => {
             if types::counting::within_limit(p, types, nodes, ws, top, c) {
                 let whole = types::codes::entry(i);
-                return demand(
-                    p,
-                    types,
-                    terms,
-                    functions,
-                    nodes,
-                    ws,
-                    vars,
-                    sc,
-                    top,
-                    part,
-                    whole,
-                    c,
-                    t,
-                );
+                let r = infer(p, types, terms, functions, nodes, ws, vars, sc, top, part);
+                return tests::expect(p, types, ws, r, whole, c, t);
             }
             outcomes::differ(top, t)
         }

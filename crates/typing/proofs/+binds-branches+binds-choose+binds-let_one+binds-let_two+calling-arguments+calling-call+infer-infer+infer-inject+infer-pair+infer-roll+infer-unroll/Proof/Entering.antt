@@ -2,11 +2,11 @@
 use Prim.Native.Nat.{ℕ}
 use native.Mathlib.Omega.{arith}
 use borrow.Author.Needs.{needs}
-use Rattle.typing.proofs.Trees.{here, from-five, last-kind, kind-there, read-var}
+use Rattle.typing.proofs.Trees.{here, here-inl, here-inr, from-five, last-kind, kind-there, read-var}
 use Rattle.typing.proofs.Steps.{var-done, unit-done}
 use Rattle.typing.proofs.infer.infer.Reads as infer·infer
-use Rattle.typing.proofs.+binds-branches+binds-choose+binds-let_one+binds-let_two+calling-arguments+calling-call+infer-demand+infer-infer+infer-inject+infer-pair+infer-roll+infer-unroll.Lts-infer-infer as infer·infer-lts
-use Rattle.typing.proofs.+binds-branches+binds-choose+binds-let_one+binds-let_two+calling-arguments+calling-call+infer-demand+infer-infer+infer-inject+infer-pair+infer-roll+infer-unroll.Proof.Claims.{infer·infer-at, infer·infer-uses}
+use Rattle.typing.proofs.+binds-branches+binds-choose+binds-let_one+binds-let_two+calling-arguments+calling-call+infer-infer+infer-inject+infer-pair+infer-roll+infer-unroll.Lts-infer-infer as infer·infer-lts
+use Rattle.typing.proofs.+binds-branches+binds-choose+binds-let_one+binds-let_two+calling-arguments+calling-call+infer-infer+infer-inject+infer-pair+infer-roll+infer-unroll.Proof.Claims.{infer·infer-at, infer·infer-uses}
 
 pub infer·infer-offset-requires : (t : ℕ) → infer·infer-lts.Need-offset-requires (infer·infer-uses t) (infer·infer-at t) infer·infer.Post
 infer·infer-offset-requires t c κs = (c .before .before .before .before .before .before .before .pre .1 .1)
@@ -24,10 +24,10 @@ pub infer·infer-unit-requires : (t : ℕ) → infer·infer-lts.Need-unit-requir
 infer·infer-unit-requires t c κs = search needs
 
 pub infer·infer-inject-requires : (t : ℕ) → infer·infer-lts.Need-inject-requires (infer·infer-uses t) (infer·infer-at t) infer·infer.Post
-infer·infer-inject-requires t c κs = (omega (arith, c .before .before .before .before .before .before .before .before .before .before .before .before .pre .0), ((c .before .before .before .before .before .before .before .before .before .before .before .before .pre .1 .0), (here (c .before .before .before .before .before .before .before .before .before .before .before .before .pre .1 .1) (c .before .before .before .before .offset .ensures) (c .before .before .before .kind .ensures) (c .before .before .match .keys3), omega arith, omega arith)))
+infer·infer-inject-requires t c κs = (omega (arith, c .before .before .before .before .before .before .before .before .before .before .before .before .pre .0), ((c .before .before .before .before .before .before .before .before .before .before .before .before .pre .1 .0), here-inl (here (c .before .before .before .before .before .before .before .before .before .before .before .before .pre .1 .1) (c .before .before .before .before .offset .ensures) (c .before .before .before .kind .ensures) (c .before .before .match .keys3))))
 
 pub infer·infer-inject-requires-2 : (t : ℕ) → infer·infer-lts.Need-inject-requires-2 (infer·infer-uses t) (infer·infer-at t) infer·infer.Post
-infer·infer-inject-requires-2 t c κs = (omega (arith, c .before .before .before .before .before .before .before .before .before .before .before .before .pre .0), ((c .before .before .before .before .before .before .before .before .before .before .before .before .pre .1 .0), (here (c .before .before .before .before .before .before .before .before .before .before .before .before .pre .1 .1) (c .before .before .before .before .offset .ensures) (c .before .before .before .kind .ensures) (c .before .before .match .keys4), omega arith, omega arith)))
+infer·infer-inject-requires-2 t c κs = (omega (arith, c .before .before .before .before .before .before .before .before .before .before .before .before .pre .0), ((c .before .before .before .before .before .before .before .before .before .before .before .before .pre .1 .0), here-inr (here (c .before .before .before .before .before .before .before .before .before .before .before .before .pre .1 .1) (c .before .before .before .before .offset .ensures) (c .before .before .before .kind .ensures) (c .before .before .match .keys4))))
 
 pub infer·infer-pair-requires : (t : ℕ) → infer·infer-lts.Need-pair-requires (infer·infer-uses t) (infer·infer-at t) infer·infer.Post
 infer·infer-pair-requires t c κs = (omega (arith, c .before .before .before .before .before .before .before .before .before .before .before .before .pre .0), ((c .before .before .before .before .before .before .before .before .before .before .before .before .pre .1 .0), here (c .before .before .before .before .before .before .before .before .before .before .before .before .pre .1 .1) (c .before .before .before .before .offset .ensures) (c .before .before .before .kind .ensures) (c .before .before .match .keys5)))

@@ -1,44 +1,41 @@
 -- The cycle of typing: the measure of each member, and what each may use of the others. Parts are lower entries, so the entry number falls;
--- the members at one term come in the order demand, term, kind, branches, arguments (by how many are left).
+-- the members at one term come in the order term, kind, branches, arguments (by how many are left).
 use Prim.Native.Nat.{ℕ, _+_, _-_, _*_, _<_}
 use borrow.Fn.Kinds.{In}
 use borrow.Fn.PlainCycle.{Measures, is, falls, and}
 use Rattle.typing.proofs.binds.branches.Reads as binds·branches
 use Rattle.typing.proofs.binds.branches.Kinds as binds·branches-kinds
-use Rattle.typing.proofs.+binds-branches+binds-choose+binds-let_one+binds-let_two+calling-arguments+calling-call+infer-demand+infer-infer+infer-inject+infer-pair+infer-roll+infer-unroll.Lts-binds-branches as binds·branches-lts
+use Rattle.typing.proofs.+binds-branches+binds-choose+binds-let_one+binds-let_two+calling-arguments+calling-call+infer-infer+infer-inject+infer-pair+infer-roll+infer-unroll.Lts-binds-branches as binds·branches-lts
 use Rattle.typing.proofs.binds.choose.Reads as binds·choose
 use Rattle.typing.proofs.binds.choose.Kinds as binds·choose-kinds
-use Rattle.typing.proofs.+binds-branches+binds-choose+binds-let_one+binds-let_two+calling-arguments+calling-call+infer-demand+infer-infer+infer-inject+infer-pair+infer-roll+infer-unroll.Lts-binds-choose as binds·choose-lts
+use Rattle.typing.proofs.+binds-branches+binds-choose+binds-let_one+binds-let_two+calling-arguments+calling-call+infer-infer+infer-inject+infer-pair+infer-roll+infer-unroll.Lts-binds-choose as binds·choose-lts
 use Rattle.typing.proofs.binds.let_one.Reads as binds·let-one
 use Rattle.typing.proofs.binds.let_one.Kinds as binds·let-one-kinds
-use Rattle.typing.proofs.+binds-branches+binds-choose+binds-let_one+binds-let_two+calling-arguments+calling-call+infer-demand+infer-infer+infer-inject+infer-pair+infer-roll+infer-unroll.Lts-binds-let_one as binds·let-one-lts
+use Rattle.typing.proofs.+binds-branches+binds-choose+binds-let_one+binds-let_two+calling-arguments+calling-call+infer-infer+infer-inject+infer-pair+infer-roll+infer-unroll.Lts-binds-let_one as binds·let-one-lts
 use Rattle.typing.proofs.binds.let_two.Reads as binds·let-two
 use Rattle.typing.proofs.binds.let_two.Kinds as binds·let-two-kinds
-use Rattle.typing.proofs.+binds-branches+binds-choose+binds-let_one+binds-let_two+calling-arguments+calling-call+infer-demand+infer-infer+infer-inject+infer-pair+infer-roll+infer-unroll.Lts-binds-let_two as binds·let-two-lts
+use Rattle.typing.proofs.+binds-branches+binds-choose+binds-let_one+binds-let_two+calling-arguments+calling-call+infer-infer+infer-inject+infer-pair+infer-roll+infer-unroll.Lts-binds-let_two as binds·let-two-lts
 use Rattle.typing.proofs.calling.arguments.Reads as calling·arguments
 use Rattle.typing.proofs.calling.arguments.Kinds as calling·arguments-kinds
-use Rattle.typing.proofs.+binds-branches+binds-choose+binds-let_one+binds-let_two+calling-arguments+calling-call+infer-demand+infer-infer+infer-inject+infer-pair+infer-roll+infer-unroll.Lts-calling-arguments as calling·arguments-lts
+use Rattle.typing.proofs.+binds-branches+binds-choose+binds-let_one+binds-let_two+calling-arguments+calling-call+infer-infer+infer-inject+infer-pair+infer-roll+infer-unroll.Lts-calling-arguments as calling·arguments-lts
 use Rattle.typing.proofs.calling.call.Reads as calling·call
 use Rattle.typing.proofs.calling.call.Kinds as calling·call-kinds
-use Rattle.typing.proofs.+binds-branches+binds-choose+binds-let_one+binds-let_two+calling-arguments+calling-call+infer-demand+infer-infer+infer-inject+infer-pair+infer-roll+infer-unroll.Lts-calling-call as calling·call-lts
-use Rattle.typing.proofs.infer.demand.Reads as infer·demand
-use Rattle.typing.proofs.infer.demand.Kinds as infer·demand-kinds
-use Rattle.typing.proofs.+binds-branches+binds-choose+binds-let_one+binds-let_two+calling-arguments+calling-call+infer-demand+infer-infer+infer-inject+infer-pair+infer-roll+infer-unroll.Lts-infer-demand as infer·demand-lts
+use Rattle.typing.proofs.+binds-branches+binds-choose+binds-let_one+binds-let_two+calling-arguments+calling-call+infer-infer+infer-inject+infer-pair+infer-roll+infer-unroll.Lts-calling-call as calling·call-lts
 use Rattle.typing.proofs.infer.infer.Reads as infer·infer
 use Rattle.typing.proofs.infer.infer.Kinds as infer·infer-kinds
-use Rattle.typing.proofs.+binds-branches+binds-choose+binds-let_one+binds-let_two+calling-arguments+calling-call+infer-demand+infer-infer+infer-inject+infer-pair+infer-roll+infer-unroll.Lts-infer-infer as infer·infer-lts
+use Rattle.typing.proofs.+binds-branches+binds-choose+binds-let_one+binds-let_two+calling-arguments+calling-call+infer-infer+infer-inject+infer-pair+infer-roll+infer-unroll.Lts-infer-infer as infer·infer-lts
 use Rattle.typing.proofs.infer.inject.Reads as infer·inject
 use Rattle.typing.proofs.infer.inject.Kinds as infer·inject-kinds
-use Rattle.typing.proofs.+binds-branches+binds-choose+binds-let_one+binds-let_two+calling-arguments+calling-call+infer-demand+infer-infer+infer-inject+infer-pair+infer-roll+infer-unroll.Lts-infer-inject as infer·inject-lts
+use Rattle.typing.proofs.+binds-branches+binds-choose+binds-let_one+binds-let_two+calling-arguments+calling-call+infer-infer+infer-inject+infer-pair+infer-roll+infer-unroll.Lts-infer-inject as infer·inject-lts
 use Rattle.typing.proofs.infer.pair.Reads as infer·pair
 use Rattle.typing.proofs.infer.pair.Kinds as infer·pair-kinds
-use Rattle.typing.proofs.+binds-branches+binds-choose+binds-let_one+binds-let_two+calling-arguments+calling-call+infer-demand+infer-infer+infer-inject+infer-pair+infer-roll+infer-unroll.Lts-infer-pair as infer·pair-lts
+use Rattle.typing.proofs.+binds-branches+binds-choose+binds-let_one+binds-let_two+calling-arguments+calling-call+infer-infer+infer-inject+infer-pair+infer-roll+infer-unroll.Lts-infer-pair as infer·pair-lts
 use Rattle.typing.proofs.infer.roll.Reads as infer·roll
 use Rattle.typing.proofs.infer.roll.Kinds as infer·roll-kinds
-use Rattle.typing.proofs.+binds-branches+binds-choose+binds-let_one+binds-let_two+calling-arguments+calling-call+infer-demand+infer-infer+infer-inject+infer-pair+infer-roll+infer-unroll.Lts-infer-roll as infer·roll-lts
+use Rattle.typing.proofs.+binds-branches+binds-choose+binds-let_one+binds-let_two+calling-arguments+calling-call+infer-infer+infer-inject+infer-pair+infer-roll+infer-unroll.Lts-infer-roll as infer·roll-lts
 use Rattle.typing.proofs.infer.unroll.Reads as infer·unroll
 use Rattle.typing.proofs.infer.unroll.Kinds as infer·unroll-kinds
-use Rattle.typing.proofs.+binds-branches+binds-choose+binds-let_one+binds-let_two+calling-arguments+calling-call+infer-demand+infer-infer+infer-inject+infer-pair+infer-roll+infer-unroll.Lts-infer-unroll as infer·unroll-lts
+use Rattle.typing.proofs.+binds-branches+binds-choose+binds-let_one+binds-let_two+calling-arguments+calling-call+infer-infer+infer-inject+infer-pair+infer-roll+infer-unroll.Lts-infer-unroll as infer·unroll-lts
 use Rattle.program.proofs.views.call_ancillae.Reads as call-ancillae-reads
 use Rattle.program.proofs.views.first.Reads as first-reads
 use Rattle.program.proofs.views.function_parameters.Reads as function-parameters-reads
@@ -85,9 +82,6 @@ abbrev pub μ-calling·arguments : Measures 7 calling·arguments-kinds.ps ℕ
 
 abbrev pub μ-calling·call : Measures 7 calling·call-kinds.ps ℕ
 μ-calling·call κs a = 16 * a .1 .1 .1 .1 .1 .1 .1 .1 .1 .0 + 13
-
-abbrev pub μ-infer·demand : Measures 7 infer·demand-kinds.ps ℕ
-μ-infer·demand κs a = 16 * a .1 .1 .1 .1 .1 .1 .1 .1 .1 .0 + 15
 
 abbrev pub μ-infer·infer : Measures 7 infer·infer-kinds.ps ℕ
 μ-infer·infer κs a = 16 * a .1 .1 .1 .1 .1 .1 .1 .1 .1 .0 + 14
@@ -140,12 +134,6 @@ calling·call-at t = and 7 calling·call-kinds.ps (is 7 calling·call-kinds.ps �
 abbrev pub calling·call-below : ℕ → In 7 calling·call-kinds.ps
 calling·call-below t = and 7 calling·call-kinds.ps (falls 7 calling·call-kinds.ps _<_ μ-calling·call t) calling·call.Pre
 
-abbrev pub infer·demand-at : ℕ → In 7 infer·demand-kinds.ps
-infer·demand-at t = and 7 infer·demand-kinds.ps (is 7 infer·demand-kinds.ps μ-infer·demand t) infer·demand.Pre
-
-abbrev pub infer·demand-below : ℕ → In 7 infer·demand-kinds.ps
-infer·demand-below t = and 7 infer·demand-kinds.ps (falls 7 infer·demand-kinds.ps _<_ μ-infer·demand t) infer·demand.Pre
-
 abbrev pub infer·infer-at : ℕ → In 7 infer·infer-kinds.ps
 infer·infer-at t = and 7 infer·infer-kinds.ps (is 7 infer·infer-kinds.ps μ-infer·infer t) infer·infer.Pre
 
@@ -192,22 +180,19 @@ abbrev pub calling·arguments-uses : ℕ → calling·arguments-lts.Claims
 calling·arguments-uses t = (unit-reads.Asked, unit-reads.Learnt, listed-reads.Asked, listed-reads.Learnt, infer·infer-below t, infer·infer.Post, entry-reads.Asked, entry-reads.Learnt, same-reads.Asked, same-reads.Learnt, calling·arguments-below t, calling·arguments.Post, differ-reads.Asked, differ-reads.Learnt)
 
 abbrev pub calling·call-uses : ℕ → calling·call-lts.Claims
-calling·call-uses t = (first-reads.Asked, first-reads.Learnt, offset-reads.Asked, offset-reads.Learnt, call-ancillae-reads.Asked, call-ancillae-reads.Learnt, function-parameters-reads.Asked, function-parameters-reads.Learnt, differ-reads.Asked, differ-reads.Learnt, none-reads.Asked, none-reads.Learnt, calling·arguments-below t, calling·arguments.Post, listed-reads.Asked, listed-reads.Learnt, entry-reads.Asked, entry-reads.Learnt, function-result-reads.Asked, function-result-reads.Learnt, infer·demand-below t, infer·demand.Post)
-
-abbrev pub infer·demand-uses : ℕ → infer·demand-lts.Claims
-infer·demand-uses t = (infer·infer-below t, infer·infer.Post, expect-reads.Asked, expect-reads.Learnt)
+calling·call-uses t = (first-reads.Asked, first-reads.Learnt, offset-reads.Asked, offset-reads.Learnt, call-ancillae-reads.Asked, call-ancillae-reads.Learnt, function-parameters-reads.Asked, function-parameters-reads.Learnt, differ-reads.Asked, differ-reads.Learnt, none-reads.Asked, none-reads.Learnt, calling·arguments-below t, calling·arguments.Post, listed-reads.Asked, listed-reads.Learnt, entry-reads.Asked, entry-reads.Learnt, function-result-reads.Asked, function-result-reads.Learnt, infer·infer-below t, infer·infer.Post, expect-reads.Asked, expect-reads.Learnt)
 
 abbrev pub infer·infer-uses : ℕ → infer·infer-lts.Claims
 infer·infer-uses t = (offset-reads.Asked, offset-reads.Learnt, kind-reads.Asked, kind-reads.Learnt, views-variable-reads.Asked, views-variable-reads.Learnt, variables-variable-reads.Asked, variables-variable-reads.Learnt, unit-reads.Asked, unit-reads.Learnt, infer·inject-below t, infer·inject.Post, infer·pair-below t, infer·pair.Post, binds·let-one-below t, binds·let-one.Post, binds·let-two-below t, binds·let-two.Post, binds·choose-below t, binds·choose.Post, calling·call-below t, calling·call.Post, infer·roll-below t, infer·roll.Post, infer·unroll-below t, infer·unroll.Post)
 
 abbrev pub infer·inject-uses : ℕ → infer·inject-lts.Claims
-infer·inject-uses t = (first-reads.Asked, first-reads.Learnt, second-reads.Asked, second-reads.Learnt, entry-reads.Asked, entry-reads.Learnt, shape-of-reads.Asked, shape-of-reads.Learnt, differ-reads.Asked, differ-reads.Learnt, infer·demand-below t, infer·demand.Post)
+infer·inject-uses t = (first-reads.Asked, first-reads.Learnt, second-reads.Asked, second-reads.Learnt, entry-reads.Asked, entry-reads.Learnt, shape-of-reads.Asked, shape-of-reads.Learnt, differ-reads.Asked, differ-reads.Learnt, infer·infer-below t, infer·infer.Post, kind-reads.Asked, kind-reads.Learnt, expect-reads.Asked, expect-reads.Learnt)
 
 abbrev pub infer·pair-uses : ℕ → infer·pair-lts.Claims
 infer·pair-uses t = (first-reads.Asked, first-reads.Learnt, second-reads.Asked, second-reads.Learnt, infer·infer-below t, infer·infer.Post, pair-up-reads.Asked, pair-up-reads.Learnt)
 
 abbrev pub infer·roll-uses : ℕ → infer·roll-lts.Claims
-infer·roll-uses t = (first-reads.Asked, first-reads.Learnt, second-reads.Asked, second-reads.Learnt, unfolded-reads.Asked, unfolded-reads.Learnt, entry-reads.Asked, entry-reads.Learnt, infer·demand-below t, infer·demand.Post, differ-reads.Asked, differ-reads.Learnt)
+infer·roll-uses t = (first-reads.Asked, first-reads.Learnt, second-reads.Asked, second-reads.Learnt, unfolded-reads.Asked, unfolded-reads.Learnt, entry-reads.Asked, entry-reads.Learnt, infer·infer-below t, infer·infer.Post, expect-reads.Asked, expect-reads.Learnt, differ-reads.Asked, differ-reads.Learnt)
 
 abbrev pub infer·unroll-uses : ℕ → infer·unroll-lts.Claims
-infer·unroll-uses t = (first-reads.Asked, first-reads.Learnt, second-reads.Asked, second-reads.Learnt, unfolded-reads.Asked, unfolded-reads.Learnt, within-limit-reads.Asked, within-limit-reads.Learnt, entry-reads.Asked, entry-reads.Learnt, infer·demand-below t, infer·demand.Post, differ-reads.Asked, differ-reads.Learnt)
+infer·unroll-uses t = (first-reads.Asked, first-reads.Learnt, second-reads.Asked, second-reads.Learnt, unfolded-reads.Asked, unfolded-reads.Learnt, within-limit-reads.Asked, within-limit-reads.Learnt, entry-reads.Asked, entry-reads.Learnt, infer·infer-below t, infer·infer.Post, expect-reads.Asked, expect-reads.Learnt, differ-reads.Asked, differ-reads.Learnt)

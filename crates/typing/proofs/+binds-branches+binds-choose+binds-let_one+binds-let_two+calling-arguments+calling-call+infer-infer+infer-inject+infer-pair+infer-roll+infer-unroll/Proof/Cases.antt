@@ -7,10 +7,10 @@ use Rattle.typing.proofs.Answers.{told, ready-opened}
 use Rattle.typing.proofs.Trees.{read-case}
 use Rattle.typing.proofs.Branching.{case-full, case-free, case-ready, case-part, case-refused, case-later, case-named, case-no, case-done, left-part, right-part, left-ready, left-refused, left-known, right-later, right-known, left-unused, meet-left, meet-bound, branches-done}
 use Rattle.typing.proofs.binds.choose.Reads as binds·choose
-use Rattle.typing.proofs.+binds-branches+binds-choose+binds-let_one+binds-let_two+calling-arguments+calling-call+infer-demand+infer-infer+infer-inject+infer-pair+infer-roll+infer-unroll.Lts-binds-choose as binds·choose-lts
+use Rattle.typing.proofs.+binds-branches+binds-choose+binds-let_one+binds-let_two+calling-arguments+calling-call+infer-infer+infer-inject+infer-pair+infer-roll+infer-unroll.Lts-binds-choose as binds·choose-lts
 use Rattle.typing.proofs.binds.branches.Reads as binds·branches
-use Rattle.typing.proofs.+binds-branches+binds-choose+binds-let_one+binds-let_two+calling-arguments+calling-call+infer-demand+infer-infer+infer-inject+infer-pair+infer-roll+infer-unroll.Lts-binds-branches as binds·branches-lts
-use Rattle.typing.proofs.+binds-branches+binds-choose+binds-let_one+binds-let_two+calling-arguments+calling-call+infer-demand+infer-infer+infer-inject+infer-pair+infer-roll+infer-unroll.Proof.Claims.{binds·choose-at, binds·branches-at, binds·choose-uses, binds·branches-uses}
+use Rattle.typing.proofs.+binds-branches+binds-choose+binds-let_one+binds-let_two+calling-arguments+calling-call+infer-infer+infer-inject+infer-pair+infer-roll+infer-unroll.Lts-binds-branches as binds·branches-lts
+use Rattle.typing.proofs.+binds-branches+binds-choose+binds-let_one+binds-let_two+calling-arguments+calling-call+infer-infer+infer-inject+infer-pair+infer-roll+infer-unroll.Proof.Claims.{binds·choose-at, binds·branches-at, binds·choose-uses, binds·branches-uses}
 
 pub binds·choose-unscoped-requires : (t : ℕ) → binds·choose-lts.Need-unscoped-requires (binds·choose-uses t) (binds·choose-at t) binds·choose.Post
 binds·choose-unscoped-requires t c κs = search needs
