@@ -12,42 +12,16 @@ use package.Rattle.calls.specs.Runs.{Ran, written}
 use package.Rattle.running.specs.Ended.{summary}
 use package.Rattle.rows.specs.Answers.{numberOf, placeOf, runAnswer}
 use package.Rattle.rows.specs.declared.answers.Refusal.{Refusal}
-use package.Rattle.rows.specs.declared.answers.Refusal.the-variants.{Workspace, Field, Limit, Reference, NamedType, Mismatch, Scope, Usage, Function, Values, ValueType, Fuel, Height, Long, FirstMatch, NoInput, Output, Journal, Standing, Full}
 use package.Rattle.rows.specs.declared.answers.RunAnswer.{RunAnswer}
 use package.Rattle.rows.specs.declared.answers.RunAnswer.the-variants.{Ran as Done, Refused}
 use package.Rattle.lines.specs.Answers.{valueLine}
-use package.Rattle.lines.specs.Text.{text}
-use package.Rattle.wording.specs.Meanings.{meaningOf}
 use package.Rattle.wording.specs.Replies.{lengthOf, whereText, refusalText}
-use package.Rattle.command.specs.Reports.{refusalNumbered, refusedReport, runReport, filledReport}
-
-meaning-numbered : (r : Refusal) → meaningOf r ≡ meaningOf (refusalNumbered (numberOf r))
-unfolding meaningOf refusalNumbered
-meaning-numbered Workspace = refl
-meaning-numbered (Field at) = refl
-meaning-numbered (Limit at) = refl
-meaning-numbered (Reference at) = refl
-meaning-numbered (NamedType at) = refl
-meaning-numbered (Mismatch at) = refl
-meaning-numbered (Scope at) = refl
-meaning-numbered (Usage at) = refl
-meaning-numbered Function = refl
-meaning-numbered Values = refl
-meaning-numbered ValueType = refl
-meaning-numbered (Fuel at) = refl
-meaning-numbered (Height at) = refl
-meaning-numbered (Long at) = refl
-meaning-numbered (FirstMatch at) = refl
-meaning-numbered (NoInput at) = refl
-meaning-numbered Output = refl
-meaning-numbered Journal = refl
-meaning-numbered Standing = refl
-meaning-numbered Full = refl
+use package.Rattle.command.specs.Reports.{refusedReport, runReport, filledReport}
 
 -- a refusal's text goes by its number and place
 pub refusal-reported : (r : Refusal) → refusalText r ≡ refusedReport (numberOf r) (placeOf r)
 unfolding refusalText refusedReport
-refusal-reported r = ap (λ m. whereText (numberOf r) (placeOf r) ++ m ++ text "\n") (meaning-numbered r)
+refusal-reported r = refl
 
 -- how many bytes of the output an answer says it filled
 filled : Answer (ℕ × ℕ) → ℕ

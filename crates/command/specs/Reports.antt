@@ -1,48 +1,20 @@
 -- What a call answered, as text. What is accepted reads as in a line of calls and answers (crate lines); a refusal has its meaning in
 -- words behind its number and place.
 use Prim.Native.Nat.{ℕ}
-use mathlib.Core.Bool.{cond}
 use mathlib.Core.List.{List, _++_}
 use lib.ListN.{take}
-use lib.Dec.{eqb}
 use package.Rattle.rules.specs.Val.{encode}
 use package.Rattle.calls.specs.Answer.{Answer, accepted, refused}
 use package.Rattle.calls.specs.Runs.{Ran}
-use package.Rattle.rows.specs.declared.answers.Refusal.{Refusal}
-use package.Rattle.rows.specs.declared.answers.Refusal.the-variants.{Workspace, Field, Limit, Reference, NamedType, Mismatch, Scope, Usage, Function, Values, ValueType, Fuel, Height, Long, FirstMatch, NoInput, Output, Journal, Standing, Full}
 use package.Rattle.lines.specs.Text.{text}
 use package.Rattle.lines.specs.Decimal.{decimalText}
 use package.Rattle.lines.specs.Answers.{valueLine}
 use package.Rattle.wording.specs.Meanings.{meaningOf}
 use package.Rattle.wording.specs.Replies.{whereText}
 
--- the refusal of a number in section 4's table, at place 0
-unfoldable pub refusalNumbered : ℕ → Refusal
-refusalNumbered n =
-    cond (eqb n 1) Workspace
-    (cond (eqb n 2) (Field 0)
-    (cond (eqb n 3) (Limit 0)
-    (cond (eqb n 4) (Reference 0)
-    (cond (eqb n 5) (NamedType 0)
-    (cond (eqb n 6) (Mismatch 0)
-    (cond (eqb n 7) (Scope 0)
-    (cond (eqb n 8) (Usage 0)
-    (cond (eqb n 9) Function
-    (cond (eqb n 10) Values
-    (cond (eqb n 11) ValueType
-    (cond (eqb n 12) (Fuel 0)
-    (cond (eqb n 13) (Height 0)
-    (cond (eqb n 14) (Long 0)
-    (cond (eqb n 15) (FirstMatch 0)
-    (cond (eqb n 16) (NoInput 0)
-    (cond (eqb n 17) Output
-    (cond (eqb n 18) Journal
-    (cond (eqb n 19) Standing Full))))))))))))))))))
-
 -- a refusal: its number, its place and its meaning
 unfoldable pub refusedReport : ℕ → ℕ → List ℕ
-unfolding refusalNumbered
-refusedReport number place = whereText number place ++ meaningOf (refusalNumbered number) ++ text "\n"
+refusedReport number place = whereText number place ++ meaningOf number ++ text "\n"
 
 -- what a check answers
 unfoldable pub checkReport : Answer (Unit {0}) → List ℕ

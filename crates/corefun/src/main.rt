@@ -20,16 +20,21 @@ const WORKSPACE: usize = 2129888;
 // A value has at most so many bytes (document 01, section 1).
 const OUTPUT: usize = 1024;
 
+// The commands on a journal are apart, so that each match has few arms: the check of a match grows faster than its arms.
 enum Command {
     Check,
     Forward,
     Backward,
     Batch,
+    OnJournal(JournalCommand),
+    Unknown,
+}
+
+enum JournalCommand {
     Open,
     Convert,
     Rollback,
     Replay,
-    Unknown,
 }
 
 fn journal_usage() {
@@ -73,22 +78,22 @@ fn usage() {
 fn journal_command_of(name: &[u8], given: usize) -> Command {
     if octets::equal(name, b"open") {
         if given == 6 {
-            return Command::Open;
+            return Command::OnJournal(JournalCommand::Open);
         }
     }
     if octets::equal(name, b"convert") {
         if given == 7 {
-            return Command::Convert;
+            return Command::OnJournal(JournalCommand::Convert);
         }
     }
     if octets::equal(name, b"rollback") {
         if given == 5 {
-            return Command::Rollback;
+            return Command::OnJournal(JournalCommand::Rollback);
         }
     }
     if octets::equal(name, b"replay") {
         if given == 4 {
-            return Command::Replay;
+            return Command::OnJournal(JournalCommand::Replay);
         }
     }
     Command::Unknown
@@ -126,8 +131,25 @@ fn asked(word: &mut [u8]) -> Command {
     command_of(&word[..n], given)
 }
 
-// Carries the command out, in buffers that serve all of them: `word` an argument or a line, `program`, `ancillae` and `value` bytes; a
-// record or a script stands in `ancillae`, a journal in `value`, a script's answers in `out`.
+// Carries a command on a journal out: a record or a script stands in `ancillae`, a journal in `value`, a script's answers in `out`.
+fn keep(
+    command: JournalCommand,
+    word: &mut [u8; LINE],
+    program: &mut [u8; HALF],
+    ancillae: &mut [u8; HALF],
+    value: &mut [u8; HALF],
+    workspace: &mut [u8; WORKSPACE],
+    out: &mut [u8; ANSWER],
+) {
+    match command {
+        JournalCommand::Open => keeping::open(word, program, ancillae, value, workspace),
+        JournalCommand::Convert => keeping::convert(word, program, ancillae, value, workspace),
+        JournalCommand::Rollback => keeping::rollback(word, program, value, workspace),
+        JournalCommand::Replay => playing::replay(word, program, ancillae, value, workspace, out),
+    }
+}
+
+// Carries the command out, in buffers that serve all of them: `word` an argument or a line, `program`, `ancillae` and `value` bytes.
 fn carry_out(
     word: &mut [u8; LINE],
     program: &mut [u8; HALF],
@@ -142,10 +164,9 @@ fn carry_out(
         Command::Forward => runs::run(false, word, program, ancillae, value, workspace),
         Command::Backward => runs::run(true, word, program, ancillae, value, workspace),
         Command::Batch => input::answer_all(word, program, ancillae, value, workspace, output, out),
-        Command::Open => keeping::open(word, program, ancillae, value, workspace),
-        Command::Convert => keeping::convert(word, program, ancillae, value, workspace),
-        Command::Rollback => keeping::rollback(word, program, value, workspace),
-        Command::Replay => playing::replay(word, program, ancillae, value, workspace, out),
+        Command::OnJournal(command) => {
+            keep(command, word, program, ancillae, value, workspace, out)
+        }
         Command::Unknown => usage(),
     }
 }

@@ -1,3 +1,3 @@
 -- Laws of refusals in words.
--- every meaning is short
+-- meanings by number: texts that are chosen, and all are short
 pub mod Short

@@ -42,4 +42,4 @@ whereText number place = text "refused " ++ decimalText number ++ text " at " ++
 
 unfoldable pub refusalText : Refusal → List ℕ
 unfolding whereText
-refusalText r = whereText (numberOf r) (placeOf r) ++ meaningOf r ++ text "\n"
+refusalText r = whereText (numberOf r) (placeOf r) ++ meaningOf (numberOf r) ++ text "\n"

@@ -1,4 +1,5 @@
 // Answers as text: a line of calls and answers each (crate lines), and a refusal with its meaning.
+use crate::meanings;
 use lines::answers;
 use lines::decimal;
 use rows::answers::CheckAnswer;
@@ -106,6 +107,7 @@ pub fn refusal_text(r: Refusal, out: &mut [u8]) -> usize
     ensures { λ end. ⌜ Wrote (now (out .entry)) (now (out .exit)) 0 end (refusalText r) ⌝ }
 {
     let told = put_where(r, out);
-    let meant = crate::put_meaning(r, out, told);
+    let n = crate::number(r);
+    let meant = meanings::put_meaning(n, out, told);
     answers::put(b"\n", out, meant)
 }

@@ -1,5 +1,7 @@
 use native.Mathlib.Omega.{arith}
-use Rattle.lines.proofs.Writing.{wrote-both}
+use mathlib.Core.Path.{ap}
+use Rattle.lines.proofs.Writing.{wrote-as, wrote-both}
+use Rattle.wording.specs.Meanings.{meaningOf}
 use Rattle.wording.specs.Replies.{refusalText}
 use Rattle.wording.proofs.Short.{meaning-short}
 use borrow.Author.Needs.{needs}
@@ -9,27 +11,31 @@ use Rattle.wording.proofs.replies.refusal_text.Tie as tie
 put-where-requires : tie.Need-put-where-requires
 put-where-requires c κs = search needs
 
+number-requires : tie.Need-number-requires
+number-requires c κs = search needs
+
 put-meaning-requires : tie.Need-put-meaning-requires
-put-meaning-requires c κs = omega (arith, c .before .before .before .put-where .ensures .1, c .before .before .before .put-where .ensures .0 .kept, c .before .before .before .before .before .before .pre)
+put-meaning-requires c κs = search needs
 
 slice-aggregate-put : tie.Need-slice-aggregate-put
 slice-aggregate-put c = search needs
 
 put-requires : tie.Need-put-requires
-put-requires c κs = omega (arith, c .before .before .before .before .before .before .before .before .put-where .ensures .1, c .before .before .before .before .before .before .before .before .put-where .ensures .0 .kept, c .before .before .before .before .put-meaning .ensures .ends, c .before .before .before .before .put-meaning .ensures .kept, meaning-short (c .before .before .before .before .before .before .before .before .before .before .before .args .r), c .before .before .before .before .before .before .before .before .before .before .before .pre)
+put-requires c κs = omega (arith, c .before .before .before .before .before .before .before .before .before .put-where .ensures .1, c .before .before .before .before .before .before .before .before .before .put-where .ensures .0 .kept, c .before .before .before .before .put-meaning .ensures .ends, c .before .before .before .before .put-meaning .ensures .kept, meaning-short (c .before .before .before .before .before .before .number .result), c .before .before .before .before .before .before .before .before .before .before .before .before .pre)
 
 same-length : tie.Need-same-length
-same-length c = let w = wrote-both (wrote-both (c .before .before .before .before .before .before .before .before .before .before .before .put-where .ensures .0) (c .before .before .before .before .before .before .before .put-meaning .ensures)) (c .before .before .put .ensures) in w .kept
+same-length c = search needs
 
 returns : tie.Need-returns
 unfolding refusalText
-returns c = wrote-both (wrote-both (c .before .before .before .before .before .before .before .before .before .before .before .put-where .ensures .0) (c .before .before .before .before .before .before .before .put-meaning .ensures)) (c .before .before .put .ensures)
+returns c = wrote-both (wrote-both (c .before .before .before .before .before .before .before .before .before .before .before .before .put-where .ensures .0) (wrote-as (c .before .before .before .before .before .before .before .put-meaning .ensures) (ap meaningOf (c .before .before .before .before .before .before .before .before .before .number .ensures)))) (c .before .before .put .ensures)
 
 pub refusal-text-spec : {M : Type 1} → statement M
 refusal-text-spec =
     tie.close
     (tie.spec
     put-where-requires
+    number-requires
     put-meaning-requires
     slice-aggregate-put
     put-requires
