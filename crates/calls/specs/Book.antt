@@ -1,11 +1,9 @@
 -- The plain book (section 5): what demand 3 is measured by. It is fed the arguments of each open, convert and rollback call, of the
 -- workspace and the journal's buffer the length alone, and nothing that the engine stores or answers.
-use Prim.Native.Nat.{ℕ, _+_, _-_, _≤_, _<_}
-use mathlib.Core.Path.{_≡_}
-use mathlib.Core.Bool.{Bool, true, false}
+use Prim.Native.Nat.{ℕ, _+_, _-_}
 use mathlib.Core.Option.{Option, none, some}
 use mathlib.Core.List.{List, [], _∷_, _++_}
-use lib.ListN.{length, take, drop, replicate}
+use lib.ListN.{length, take, replicate}
 use package.Rattle.rules.specs.Limits.{fits, maxHeight, maxFuel}
 use package.Rattle.rules.specs.Val.{Val, unit, size}
 use package.Rattle.rules.specs.Term.{Fun, Program, nth}
@@ -13,7 +11,7 @@ use package.Rattle.rules.specs.Machine.{runForward}
 use package.Rattle.calls.specs.Answer.{Answer, accepted, refused}
 use package.Rattle.calls.specs.Values.{value, ancillae}
 use package.Rattle.calls.specs.Runs.{Ran, ran}
-use package.Rattle.calls.specs.Journal.{Entry, Journal, fields, writeOut, readJournal}
+use package.Rattle.calls.specs.Journal.{Entry, Journal, writeOut}
 use package.Rattle.calls.specs.Conversions.{Turned, openCall, convertCall, rollbackCall}
 
 ----------------------------------------------------------------

@@ -1,8 +1,8 @@
 -- Section 6's cases on bytes, gathered in one proposition (P1 to P5 and P9 to P13), and P6 to P8 beside it.
-use Prim.Native.Nat.{ℕ, zero, suc}
+use Prim.Native.Nat.{ℕ}
 use mathlib.Core.Path.{_≡_}
 use mathlib.Core.List.{List, [], _∷_, _++_}
-use lib.ListN.{length, take, replicate}
+use lib.ListN.{length, replicate}
 use package.Rattle.octets.specs.Numbers.{bytes16}
 use package.Rattle.rules.specs.Val.{Val, unit, inl, inr, pair, encode}
 use package.Rattle.rules.specs.Cases.{num}

@@ -2,7 +2,7 @@
 use Prim.Native.Nat.{ℕ, _+_, _-_, _≤_, _<_}
 use mathlib.Core.Path.{_≡_}
 use mathlib.Core.Bool.{Bool}
-use mathlib.Core.Option.{Option, none, some}
+use mathlib.Core.Option.{none, some}
 use mathlib.Core.List.{List, [], _∷_, _++_}
 use mathlib.Core.Logic.{_↔_}
 use lib.ListN.{length, replicate}
@@ -12,7 +12,7 @@ use package.Rattle.rules.specs.Ty.{Ty, HasTy, HasTys}
 use package.Rattle.rules.specs.Term.{Fun, Program, nth}
 use package.Rattle.rules.specs.Typing.{WellTyped}
 use package.Rattle.rules.specs.Run.{ok}
-use package.Rattle.rules.specs.Machine.{runForward, runBackward}
+use package.Rattle.rules.specs.Machine.{runBackward}
 use package.Rattle.rules.specs.Claims.{Carries, Wider, OfTyped}
 use package.Rattle.calls.specs.Answer.{Answer, accepted, refused}
 use package.Rattle.calls.specs.Fields.{Layout, layout}
@@ -22,7 +22,7 @@ use package.Rattle.calls.specs.Load.{load}
 use package.Rattle.calls.specs.Values.{value, ancillae}
 use package.Rattle.calls.specs.Runs.{Ran, workspaceFor, checkCall, forwardCall, backwardCall}
 use package.Rattle.calls.specs.Journal.{Entry, Journal, fields, writeOut, readJournal}
-use package.Rattle.calls.specs.Conversions.{Turned, openCall, convertCall, rollbackCall}
+use package.Rattle.calls.specs.Conversions.{openCall, convertCall, rollbackCall}
 use package.Rattle.calls.specs.Book.{Call, opens, converts, rollsBack, buffer, Told, isOpen, holds, refuses, Row, Book, journalOf, bookRun, call, callRun, resized}
 
 ----------------------------------------------------------------

@@ -1,17 +1,16 @@
 -- Open, convert and rollback (sections 4 and 5): each call a function from its arguments to its answer, in the order of section 4's
 -- table. Open reads no byte of the journal, so of its buffer the length alone is an argument. After a refusal the journal is
 -- unchanged; the workspace after a call is given by `cleared` (Answer).
-use Prim.Native.Nat.{ℕ, suc}
-use mathlib.Core.Bool.{Bool, true, false}
+use Prim.Native.Nat.{ℕ}
 use mathlib.Core.Option.{Option, none, some}
 use mathlib.Core.List.{List, [], _∷_, _++_}
 use lib.ListN.{length}
 use lib.Dec.{eqb, ltb, leb}
 use package.Rattle.rules.specs.Limits.{maxConversions}
-use package.Rattle.rules.specs.Val.{Val, size}
-use package.Rattle.calls.specs.Answer.{Answer, accepted, refused, _>>=_, require, present}
+use package.Rattle.rules.specs.Val.{size}
+use package.Rattle.calls.specs.Answer.{Answer, accepted, _>>=_, require, present}
 use package.Rattle.calls.specs.Values.{value, ancillae}
-use package.Rattle.calls.specs.Runs.{Given, Ran, prepared, admit, goes, returns}
+use package.Rattle.calls.specs.Runs.{Ran, prepared, admit, goes, returns}
 use package.Rattle.calls.specs.Journal.{Entry, Journal, fields, writeOut, readJournal}
 
 -- what convert and rollback answer: the new held value's length and the steps; and the journal that they leave

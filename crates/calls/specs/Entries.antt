@@ -2,7 +2,7 @@
 -- recursion on a bound of its number; a reference that is absent is refused before any tree is asked for (Named).
 use Prim.Native.Nat.{ℕ, zero, suc, _+_, _*_, _-_, _/_}
 use mathlib.Core.List.{List, [], _∷_, map}
-use lib.ListN.{length, getD}
+use lib.ListN.{getD}
 use package.Rattle.octets.specs.Numbers.{get16}
 use package.Rattle.rules.specs.Ty.{Ty, one, prod, sum, mu, tyvar}
 use package.Rattle.rules.specs.Term.{Term, Terms, var, tunit, tinl, tinr, tpair, tlet, tletp, tcase, tcall, troll, tunroll, end, more, Fun, Program}

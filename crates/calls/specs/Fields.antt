@@ -4,10 +4,10 @@ use Prim.Native.Nat.{ℕ, zero, suc, _+_, _*_, _%_}
 use mathlib.Core.Bool.{Bool, true, false, _&&_, _||_, cond}
 use mathlib.Core.List.{List, [], _∷_, _++_}
 use lib.ListN.{length, getD}
-use lib.Dec.{eqb, ltb, leb}
+use lib.Dec.{eqb, leb}
 use package.Rattle.octets.specs.Numbers.{get16}
 use package.Rattle.rules.specs.Limits.{maxTypes, maxTerms, maxFunctions, maxParameters, maxProgramBytes}
-use package.Rattle.calls.specs.Answer.{Answer, accepted, refused, _>>=_, require}
+use package.Rattle.calls.specs.Answer.{Answer, accepted, _>>=_, require}
 
 ----------------------------------------------------------------
 -- One field, of the program `xs`, at offset `at`

@@ -7,7 +7,7 @@ use package.Rattle.rules.specs.Term.{Program}
 use package.Rattle.rules.specs.Check.{Site, term, function, Checked, good, bad, check}
 use package.Rattle.calls.specs.Answer.{Answer, accepted, refused, _>>=_}
 use package.Rattle.calls.specs.Fields.{Layout, layout}
-use package.Rattle.calls.specs.Entries.{Entries, entriesAt, programOf}
+use package.Rattle.calls.specs.Entries.{entriesAt, programOf}
 use package.Rattle.calls.specs.Named.{testEntries}
 
 -- the place of a typing refusal: the offset of the entry's field

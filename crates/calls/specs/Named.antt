@@ -1,12 +1,12 @@
 -- The tests on entries: types, then terms, then functions, then terms that nothing uses (section 4, row Entries: refusals 4 and 5).
 -- Of one entry, all of 4 goes before 5. A refusal's place is the offset of the field that names; of an unused term, its own.
-use Prim.Native.Nat.{ℕ, zero, suc, _+_, pred, min, max}
+use Prim.Native.Nat.{ℕ, suc, _+_, pred, min, max}
 use mathlib.Core.Bool.{Bool, true, false, _&&_, _||_, not}
 use mathlib.Core.List.{List, [], _∷_, _++_}
 use lib.ListN.{length, getD}
 use lib.Dec.{eqb, ltb, leb}
 use package.Rattle.rules.specs.Limits.{maxNodes}
-use package.Rattle.calls.specs.Answer.{Answer, accepted, refused, _>>=_, require}
+use package.Rattle.calls.specs.Answer.{Answer, accepted, _>>=_, require}
 use package.Rattle.calls.specs.Fields.{Layout}
 use package.Rattle.calls.specs.Entries.{TypeEntry, y-unit, y-prod, y-sum, y-mu, y-var, TermEntry, n-var, n-unit, n-inl, n-inr, n-roll, n-unroll, n-pair, n-let, n-letp, n-case, n-call, FunctionEntry, Entries}
 

@@ -1,8 +1,7 @@
 -- Sample calls of different kinds, with the answers that an evaluator written apart from these definitions gives them.
-use Prim.Native.Nat.{ℕ}
 use mathlib.Core.Path.{_≡_}
-use mathlib.Core.List.{List, [], _∷_}
-use package.Rattle.rules.specs.Val.{unit, inl, inr, pair, roll}
+use mathlib.Core.List.{[], _∷_}
+use package.Rattle.rules.specs.Val.{unit, inl, roll}
 use package.Rattle.calls.specs.Answer.{accepted, refused}
 use package.Rattle.calls.specs.Runs.{checkCall, forwardCall, backwardCall}
 use package.Rattle.calls.specs.Conversions.{openCall, convertCall, rollbackCall}

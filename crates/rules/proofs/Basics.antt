@@ -1,9 +1,9 @@
 -- Small laws of logic, options, Booleans and tests on numbers that the other files cite. Nothing here is about CoreFun.
-use Prim.Native.Nat.{ℕ, _≤_, _<_}
+use Prim.Native.Nat.{ℕ, _<_}
 use native.Mathlib.Omega.{arith}
 use mathlib.Core.Path.{_≡_, refl, sym, ap, _∙_}
-use mathlib.Core.Bool.{Bool, true, false, not, _&&_, _||_, false≢true, and-eq-true-iff}
-use mathlib.Core.Option.{Option, none, some}
+use mathlib.Core.Bool.{Bool, true, false, not, _&&_, _||_, and-eq-true-iff}
+use mathlib.Core.Option.{none, some}
 use mathlib.Core.Logic.{_⊎_, inl as left, inr as right}
 use lib.Dec.{eqb, eqb→eq, eqb-refl, T}
 

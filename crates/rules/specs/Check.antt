@@ -1,14 +1,14 @@
 -- Typing as a function, with its refusals (section 4, row Typing). A test that needs no typed part is made on entering the term,
 -- one that needs parts 1 to k right after part k; "numbers within one row as they stand" decides between tests of one point.
 -- That it accepts exactly what the rules of Typing type is proved: Claims.
-use Prim.Native.Nat.{ℕ, zero, suc, _+_}
+use Prim.Native.Nat.{ℕ, suc, _+_}
 use mathlib.Core.Bool.{Bool, true, false, not, _&&_, _||_, Bool·beq}
 use mathlib.Core.Option.{Option, none, some}
 use mathlib.Core.List.{List, [], _∷_}
 use lib.ListN.{length}
 use lib.Dec.{eqb, leb}
 use package.Rattle.rules.specs.Ty.{Ty, one, prod, sum, mu, tyvar, unfoldTy, nodes, isUnit, sameTy}
-use package.Rattle.rules.specs.Term.{Term, Terms, var, tunit, tinl, tinr, tpair, tlet, tletp, tcase, tcall, troll, tunroll, end, more, count, Fun, Program, nth, look, scope}
+use package.Rattle.rules.specs.Term.{Term, Terms, var, tunit, tinl, tinr, tpair, tlet, tletp, tcase, tcall, troll, tunroll, end, more, count, Fun, Program, nth, look}
 use package.Rattle.rules.specs.Typing.{Binding, static, dynamic, barred, Context, bar}
 
 ----------------------------------------------------------------

@@ -2,16 +2,15 @@
 -- forward evaluation in the state at hand. `r` is the height that is left.
 -- That they answer what the rules say, and refuse where the rules yield nothing, is proved: Claims.
 use Prim.Native.Nat.{ℕ, zero, suc}
-use mathlib.Core.Bool.{Bool, true, false, cond, not}
+use mathlib.Core.Bool.{Bool, cond, not}
 use mathlib.Core.Option.{Option, none, some}
 use mathlib.Core.List.{List, [], _∷_, map}
 use lib.ListN.{length}
 use lib.Dec.{eqb}
 use package.Rattle.rules.specs.Val.{Val, unit, inl, inr, pair, roll, same}
-use package.Rattle.rules.specs.Ty.{Ty}
 use package.Rattle.rules.specs.Term.{Term, Terms, var, tunit, tinl, tinr, tpair, tlet, tletp, tcase, tcall, troll, tunroll, end, more, Fun, Program, nth, entry, scope}
 use package.Rattle.rules.specs.Yield.{mayYield}
-use package.Rattle.rules.specs.Run.{Res, ok, stop, stuck, Run, after, _>>=_, give, refuse, lost, enter, test}
+use package.Rattle.rules.specs.Run.{Run, _>>=_, give, refuse, lost, enter, test}
 
 ----------------------------------------------------------------
 -- By the shape of a value: a wrong shape is stuck

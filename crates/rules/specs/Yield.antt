@@ -1,6 +1,5 @@
 -- May-yield (section 3): whether a term may yield a value, judged by the term's form alone. The source's PLVal, with section 3's
 -- reading of variables: an ancilla parameter yields its own value, every other variable anything.
-use Prim.Native.Nat.{ℕ}
 use mathlib.Core.Bool.{Bool, true, false, _&&_, _||_}
 use mathlib.Core.Option.{Option, none, some}
 use mathlib.Core.List.{List}
