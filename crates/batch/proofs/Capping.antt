@@ -11,13 +11,12 @@ use lib.Dec.{leb}
 use borrow.Author.Tests.{le-leb, lt-leb, leb-true, leb-false}
 use package.Rattle.rules.specs.Limits.{fits, maxValueBytes, workspaceBase, workspacePerFuel}
 use package.Rattle.rules.specs.Val.{Val, size}
-use package.Rattle.rules.specs.Term.{Program}
 use package.Rattle.rules.specs.Run.{Res, ok, stop, stuck}
 use package.Rattle.rules.proofs.Numbers.{Ends, answer-ends}
 use package.Rattle.calls.specs.Answer.{Answer, accepted, refused, _>>=_, require}
 use package.Rattle.calls.specs.Load.{load}
 use package.Rattle.calls.specs.Values.{value, ancillae}
-use package.Rattle.calls.specs.Runs.{workspaceFor, prepared, Given, admit, Ran, ran, goes, returns, checkCall, forwardCall, backwardCall}
+use package.Rattle.calls.specs.Runs.{workspaceFor, prepared, admit, Ran, ran, goes, returns, checkCall, forwardCall, backwardCall}
 use package.Rattle.calls.specs.Conversions.{openCall, convertCall, rollbackCall}
 use package.Rattle.calls.proofs.Answer.{refused≢accepted, accepted-inj, unbind, required}
 use package.Rattle.calls.proofs.Runs.Calls.{Direction, onward, back, directed}

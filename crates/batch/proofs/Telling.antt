@@ -3,8 +3,8 @@
 use Prim.Native.Nat.{ℕ, _≤_}
 use native.Mathlib.Omega.{arith}
 use mathlib.Core.Path.{_≡_, refl, sym, ap, ap₂, subst, _∙_}
-use mathlib.Core.List.{List, _++_}
-use lib.ListN.{take, drop}
+use mathlib.Core.List.{List}
+use lib.ListN.{drop}
 use lib.Seq.{take-at}
 use package.Rattle.rules.specs.Val.{size, encode}
 use package.Rattle.rules.proofs.Val.{length-encode}

@@ -1,11 +1,11 @@
 -- The laws of the reports: a refusal's meaning goes by its number, and a run's value is read back from the output.
-use Prim.Native.Nat.{ℕ, _+_, _≤_}
+use Prim.Native.Nat.{ℕ, _≤_}
 use native.Mathlib.Omega.{arith}
 use mathlib.Core.Path.{_≡_, refl, sym, ap, _∙_}
-use mathlib.Core.List.{List, _++_}
-use lib.ListN.{length, take, drop, length-append, length-drop}
+use mathlib.Core.List.{List}
+use lib.ListN.{length, drop, length-append}
 use lib.Seq.{take-at}
-use package.Rattle.rules.specs.Val.{Val, size, encode}
+use package.Rattle.rules.specs.Val.{size, encode}
 use package.Rattle.rules.proofs.Val.{length-encode}
 use package.Rattle.calls.specs.Answer.{Answer, accepted, refused}
 use package.Rattle.calls.specs.Runs.{Ran, written}
@@ -15,7 +15,7 @@ use package.Rattle.rows.specs.declared.answers.Refusal.{Refusal}
 use package.Rattle.rows.specs.declared.answers.RunAnswer.{RunAnswer}
 use package.Rattle.rows.specs.declared.answers.RunAnswer.the-variants.{Ran as Done, Refused}
 use package.Rattle.lines.specs.Answers.{valueLine}
-use package.Rattle.wording.specs.Replies.{lengthOf, whereText, refusalText}
+use package.Rattle.wording.specs.Replies.{lengthOf, refusalText}
 use package.Rattle.command.specs.Reports.{refusedReport, runReport, filledReport}
 
 -- a refusal's text goes by its number and place

@@ -10,7 +10,7 @@ use lib.Seq.{take-suc, take-suc-set, take-all, drop-cons, getD-take}
 use lib.Dec.{ltb}
 use borrow.Author.Tests.{lt-ltb}
 use package.Rattle.rules.proofs.Basics.{given}
-use package.Rattle.calls.specs.Answer.{accepted, refused, _>>=_, require}
+use package.Rattle.calls.specs.Answer.{refused, _>>=_, require}
 use package.Rattle.calls.specs.Entries.{TypeEntry, y-unit, y-prod, y-sum, y-mu, y-var, typeAt, references}
 use package.Rattle.calls.specs.Named.{ceiling, nodesOf, freeOf, figures, typesOfType, below, testTypes}
 use package.Rattle.calls.proofs.Answer.{refused≢accepted}

@@ -6,7 +6,7 @@ use mathlib.Core.List.{List, [], map}
 use lib.ListN.{length, take, replicate, length-replicate, getD-replicate, length-map}
 use lib.Dec.{ltb}
 use package.Rattle.rules.specs.Limits.{maxTypes, maxTerms}
-use package.Rattle.calls.specs.Answer.{Answer, accepted, refused, _>>=_}
+use package.Rattle.calls.specs.Answer.{Answer, refused, _>>=_}
 use package.Rattle.calls.specs.Entries.{typeAt, entriesAt}
 use package.Rattle.calls.specs.Named.{member, testEntries}
 use package.Rattle.calls.proofs.Answer.{refused≢accepted}

@@ -1,13 +1,13 @@
 -- The numbers and byte strings of a call's line, one after another (specs/Calls): each law takes what was read so far.
 use Prim.Native.Nat.{ℕ}
-use mathlib.Core.Path.{_≡_, refl}
+use mathlib.Core.Path.{_≡_}
 use mathlib.Core.Bool.{Bool}
-use mathlib.Core.Option.{Option, none, some}
+use mathlib.Core.Option.{none, some}
 use mathlib.Core.List.{List}
 use package.Rattle.lines.specs.Words.{wordAt}
 use package.Rattle.lines.specs.Decimal.{numberIn}
 use package.Rattle.lines.specs.Hexadecimal.{bytesIn}
-use package.Rattle.lines.specs.Calls.{Line, checkLine, runLine, openLine, convertLine, rollbackLine, noNumber, noBytes, withNumber, withBytes, mostLength, mostShort, readCheck, readRun, readOpen, readConvert, readRollback}
+use package.Rattle.lines.specs.Calls.{checkLine, runLine, openLine, convertLine, rollbackLine, noNumber, noBytes, withNumber, withBytes, mostLength, mostShort, readCheck, readRun, readOpen, readConvert, readRollback}
 
 module _ (line : List ℕ) where
   pub check-1 : numberIn mostLength (wordAt 1 line) ≡ none → noNumber 1 ≡ readCheck line

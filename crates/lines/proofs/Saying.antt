@@ -5,18 +5,15 @@ use mathlib.Core.Path.{_≡_, refl, sym, ap, subst, _∙_}
 use mathlib.Core.Bool.{Bool, true, false, _&&_}
 use mathlib.Core.Option.{Option, none, some}
 use mathlib.Core.List.{List, [], _∷_}
-use lib.ListN.{length, take, drop, length-take, length-drop}
+use lib.ListN.{length, take, length-take, length-drop}
 use lib.Dec.{eqb}
 use borrow.Author.Tests.{eq-eqb, ne-eqb, eqb-true}
 use package.Rattle.octets.specs.Runs.{Decides}
-use package.Rattle.bytes.specs.Bytes.{indexOf}
 use package.Rattle.lines.specs.Text.{text, sameBytes}
 use package.Rattle.lines.specs.Words.{first, behind, from, wordAt, spaces}
-use package.Rattle.lines.specs.Decimal.{numberIn}
-use package.Rattle.lines.specs.Hexadecimal.{bytesIn}
 use package.Rattle.lines.specs.Numbered.{numberOf, valueOf, Numbers}
 use package.Rattle.lines.specs.Decoded.{decodedOf, sizeOf, Decodes}
-use package.Rattle.lines.specs.Calls.{Line, checkLine, runLine, noCall, wordCount, noNumber, noBytes, withNumber, withBytes, mostLength, mostShort, readCheck, readRun, readOpen, readConvert, readRollback, nameOf, ofLength, readNamed, readLine}
+use package.Rattle.lines.specs.Calls.{Line, noCall, wordCount, readCheck, readRun, readOpen, readConvert, readRollback, nameOf, ofLength, readNamed, readLine}
 use package.Rattle.lines.specs.Parsed.{Parses}
 use package.Rattle.lines.specs.declared.decimal.Number.{Number}
 use package.Rattle.lines.specs.declared.decimal.Number.the-variants as number

@@ -1,8 +1,8 @@
 -- Laws of runs of bytes: one more zero, a whole copy.
-use Prim.Native.Nat.{ℕ, zero, suc, _+_, _<_, _≤_}
+use Prim.Native.Nat.{ℕ, suc, _+_, _<_, _≤_}
 use native.Mathlib.Omega.{arith}
-use mathlib.Core.Path.{_≡_, refl, sym, ap, _∙_}
-use mathlib.Core.List.{List, [], _∷_, _++_, append-nil}
+use mathlib.Core.Path.{_≡_, sym, ap, _∙_}
+use mathlib.Core.List.{List, _++_, append-nil}
 use lib.ListN.{length, getD, set, take, drop, replicate, length-replicate, drop-of-length-le, replicate-append-replicate}
 use lib.Seq.{drop-cons, set-at, append-snoc, paste, paste-suc, take-length}
 use package.Rattle.octets.specs.Runs.{pasted}

@@ -4,7 +4,6 @@ use mathlib.Core.Path.{_≡_, sym, ap, subst, _∙_}
 use mathlib.Core.List.{List}
 use package.Rattle.calls.specs.Answer.{accepted, _>>=_}
 use package.Rattle.rows.specs.Calls.{PrepareMeans, preparedOf, Begins, CheckMeans, accepts, refuses}
-use package.Rattle.rows.specs.declared.answers.CheckAnswer.{CheckAnswer}
 use package.Rattle.rows.specs.declared.answers.CheckAnswer.the-variants as checks
 use package.Rattle.rows.specs.declared.answers.Refusal.{Refusal}
 use package.Rattle.rows.specs.declared.preparing.Prepared.{Prepared}

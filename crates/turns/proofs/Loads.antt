@@ -16,7 +16,7 @@ use package.Rattle.rows.specs.declared.answers.RunAnswer.{RunAnswer}
 use package.Rattle.rows.specs.declared.answers.RunAnswer.the-variants as runs
 use package.Rattle.rows.specs.declared.preparing.Prepared.{Prepared}
 use package.Rattle.rows.specs.declared.preparing.Prepared.the-variants.{Ready, Refused}
-use package.Rattle.rows.specs.Answers.{numberOf, placeOf, checkAnswer, openAnswer}
+use package.Rattle.rows.specs.Answers.{numberOf, placeOf, checkAnswer}
 use package.Rattle.rows.specs.Calls.{Later, refuses, preparedOf, Begins, PrepareMeans, CheckMeans}
 use package.Rattle.turns.specs.Turns.{OpenMeans, TurnMeans, inFronts}
 use package.Rattle.turns.proofs.Values.{turn-refused as left-alone}

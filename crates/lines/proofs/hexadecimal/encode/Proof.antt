@@ -2,7 +2,7 @@
 use borrow.Author.Needs.{needs}
 use Prim.Native.Nat.{_+_, _-_, _≤_, _<_, _*_}
 use native.Mathlib.Omega.{arith}
-use mathlib.Core.Path.{_≡_, refl, ap, _∙_}
+use mathlib.Core.Path.{_≡_}
 use lib.ListN.{length, take, length-set}
 use Rattle.lines.specs.Wrote.{Wrote}
 use Rattle.lines.specs.Hexadecimal.{digitsOf}

@@ -2,7 +2,7 @@
 use borrow.Author.Needs.{needs}
 use Prim.Native.Nat.{_-_, _≤_, _*_}
 use native.Mathlib.Omega.{arith}
-use mathlib.Core.Path.{_≡_, refl, _∙_}
+use mathlib.Core.Path.{_≡_, refl}
 use lib.ListN.{length, length-set}
 use Rattle.lines.proofs.Digits.{Decoding, decoding, stops-odd, stops-high, stops-low, decodes-more, decoded}
 use Rattle.lines.proofs.hexadecimal.pairs.Statement.{statement}

@@ -1,9 +1,9 @@
 use borrow.Author.Needs.{needs}
 use Prim.Native.Nat.{_+_, _-_, _≤_}
 use native.Mathlib.Omega.{arith}
-use mathlib.Core.Path.{_≡_, refl, sym, ap, _∙_}
+use mathlib.Core.Path.{_≡_}
 use lib.ListN.{length, drop, getD}
-use Rattle.lines.specs.Words.{spaces, isSpace}
+use Rattle.lines.specs.Words.{spaces}
 use Rattle.lines.proofs.Spaces.{one-byte, at-most-one, all-spaces}
 use Rattle.lines.proofs.words.count_spaces.Statement.{statement}
 use Rattle.lines.proofs.words.count_spaces.Tie as tie
