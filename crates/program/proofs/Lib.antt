@@ -19,3 +19,5 @@ pub mod Lists
 pub mod Rows
 -- the functions of a program, by offsets
 pub mod Programs
+-- offsets in tables of fixed length
+pub mod Offsets

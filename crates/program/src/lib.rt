@@ -2,4 +2,5 @@
 pub mod fields;
 pub mod reader;
 pub mod signatures;
+pub mod tables;
 pub mod views;
