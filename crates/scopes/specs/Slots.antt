@@ -18,6 +18,10 @@ use Rattle.scopes.specs.declared.slots.Found.the-variants.{Node, Unknown
 unfoldable pub unknown : ℕ
 unknown = 4294967295
 
+-- how many slots there are: room for the variables of a run of the greatest height
+abbrev pub slotCount : ℕ
+slotCount = 8232
+
 -- what a slot's number says
 unfoldable pub found : ℕ → Found
 found node = elim (eqb node unknown) [ true ↦ Unknown | false ↦ Node node ]

@@ -11,19 +11,23 @@ add-known c = search needs
 mul-known : tie.Need-mul-known
 mul-known c = search needs
 
-shared-slice-read-known : tie.Need-shared-slice-read-known
-shared-slice-read-known c = search needs
+element-copy-out-known : tie.Need-element-copy-out-known
+element-copy-out-known c = search needs
 
 known-requires : tie.Need-known-requires
 known-requires c κs = search needs
 
 returns : tie.Need-returns
-returns c = c .known .ensures ∙ sym (slot-in (c .before .before .before .before .args .slots .now) (c .before .before .before .before .args .base) (c .before .before .before .before .args .n) (c .before .before .before .before .args .i) (omega arith))
+returns c =
+    let a = c .before .before .before .args in
+    c .known .ensures ∙ sym (slot-in (a .slots .now) (a .base) (a .n) (a .i) (omega arith))
 
 returns-2 : tie.Need-returns-2
-returns-2 c = sym (slot-out (c .before .before .args .slots .now) (c .before .before .args .base) (c .before .before .args .n) (c .before .before .args .i) (omega arith))
+returns-2 c =
+    let a = c .before .args in
+    sym (slot-out (a .slots .now) (a .base) (a .n) (a .i) (omega arith))
 
 pub find-spec : {M : Type 1} → statement M
 find-spec =
     tie.close
-    (tie.spec add-known mul-known shared-slice-read-known known-requires returns returns-2)
+    (tie.spec add-known mul-known element-copy-out-known known-requires returns returns-2)
