@@ -11,6 +11,7 @@ use package.Rattle.calls.specs.Entries.{TypeEntry, n-unit, termAt, termOf}
 use package.Rattle.calls.specs.Named.{termsOfTerm, below}
 use package.Rattle.program.specs.Parts.{TermField}
 use package.Rattle.values.specs.Nodes.{valueAt, Heap}
+use package.Rattle.scopes.specs.Slots.{slotCount}
 
 ----------------------------------------------------------------
 -- Ancilla values: the ancilla parameters are the first `q` variables of a function's scope
@@ -22,7 +23,7 @@ ancillaeAt heap slots base (suc q) = valueAt heap (getD slots (base + q) 0) ∷ 
 
 -- The slots are there, and each holds a node below `top`.
 pub record Ancillae (slots : List ℕ) (base q top : ℕ) : Type 0 where
-  pub there : base + q ≤ length slots
+  pub there : base + q ≤ slotCount
   pub known : (i : ℕ) → i < q → getD slots (base + i) 0 < top
 
 ----------------------------------------------------------------

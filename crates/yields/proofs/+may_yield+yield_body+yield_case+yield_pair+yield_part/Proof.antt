@@ -3,6 +3,7 @@ use Prim.Native.Nat.{ℕ, _+_, _*_, _<_}
 use native.Mathlib.Omega.{arith}
 use mathlib.Core.Path.{refl}
 use mathlib.Core.Logic.{inl as left, inr as right}
+use Rattle.program.proofs.Offsets.{placed-at, within-table}
 use Rattle.yields.proofs.Forms.{kind-read, form-is, node-read, variable-read, variable-answer, unit-answer, any-answer}
 use Rattle.yields.proofs.Forms.{part-read, part-fails, part-asks, part-yields, pair-read, pair-fails, left-asks, left-fails, right-asks, both-yield}
 use Rattle.yields.proofs.Forms.{body-read, body-asks, body-yields, case-read, first-asks, first-yields, second-asks, second-yields}
@@ -31,7 +32,7 @@ use Rattle.program.proofs.views.variable.Reads as variable-reads
 use Rattle.values.proofs.nodes.kind_of.Reads as kind-of-reads
 use Rattle.values.proofs.nodes.left_of.Reads as left-of-reads
 use Rattle.values.proofs.nodes.right_of.Reads as right-of-reads
-use Rattle.yields.proofs.offset.Reads as offset-reads
+use Rattle.program.proofs.tables.offset.Reads as offset-reads
 use Rattle.yields.proofs.yield_variable.Reads as yield-variable-reads
 use Rattle.yields.proofs.+may_yield+yield_body+yield_case+yield_pair+yield_part.{statement}
 use Rattle.yields.proofs.+may_yield+yield_body+yield_case+yield_pair+yield_part.Tie.{close}
@@ -106,73 +107,73 @@ abbrev yield-part-uses : ℕ → yield-part-lts.Claims
 yield-part-uses t = (kind-of-reads.Asked, kind-of-reads.Learnt, offset-reads.Asked, offset-reads.Learnt, second-reads.Asked, second-reads.Learnt, left-of-reads.Asked, left-of-reads.Learnt, may-yield-below t, may-yield.Post)
 
 may-yield-offset-requires : (t : ℕ) → may-yield-lts.Need-offset-requires (may-yield-uses t) (may-yield-at t) may-yield.Post
-may-yield-offset-requires t c κs = c .before .before .before .before .pre .1 .term
+may-yield-offset-requires t c κs = within-table (c .before .before .pre .1 .0) (c .before .before .pre .1 .1 .term)
 
 may-yield-kind-requires : (t : ℕ) → may-yield-lts.Need-kind-requires (may-yield-uses t) (may-yield-at t) may-yield.Post
-may-yield-kind-requires t c κs = kind-read (c .before .before .before .before .before .pre .1) (c .offset .ensures)
+may-yield-kind-requires t c κs = kind-read (c .before .before .before .pre .1 .1) (placed-at (c .before .before .before .pre .1 .0) (c .before .before .before .pre .1 .1 .term) (c .offset .ensures))
 
 may-yield-variable-requires : (t : ℕ) → may-yield-lts.Need-variable-requires (may-yield-uses t) (may-yield-at t) may-yield.Post
 may-yield-variable-requires t c κs =
-    let start = c .before .before .before .before .before .before .before in
-    variable-read (start .pre .1) (c .before .before .offset .ensures)
-    (form-is (start .pre .1) (c .before .before .offset .ensures) (c .before .kind .ensures) (c .match .keys1))
+    let start = c .before .before .before .before .before in
+    variable-read (start .pre .1 .1) (placed-at (start .pre .1 .0) (start .pre .1 .1 .term) (c .before .before .offset .ensures))
+    (form-is (start .pre .1 .1) (placed-at (start .pre .1 .0) (start .pre .1 .1 .term) (c .before .before .offset .ensures)) (c .before .kind .ensures) (c .match .keys1))
 
 may-yield-yield-variable-requires : (t : ℕ) → may-yield-lts.Need-yield-variable-requires (may-yield-uses t) (may-yield-at t) may-yield.Post
 may-yield-yield-variable-requires t c κs =
-    let start = c .before .before .before .before .before .before .before .before in
-    (start .pre .1 .graph, (start .pre .1 .ancillae, start .pre .1 .value))
+    let start = c .before .before .before .before .before .before in
+    (start .pre .1 .1 .graph, (start .pre .1 .1 .ancillae, start .pre .1 .1 .value))
 
 may-yield-kind-of-requires : (t : ℕ) → may-yield-lts.Need-kind-of-requires (may-yield-uses t) (may-yield-at t) may-yield.Post
-may-yield-kind-of-requires t c κs = node-read (c .before .before .before .before .before .before .before .pre .1)
+may-yield-kind-of-requires t c κs = node-read (c .before .before .before .before .before .pre .1 .1)
 
 may-yield-yield-part-requires : (t : ℕ) → may-yield-lts.Need-yield-part-requires (may-yield-uses t) (may-yield-at t) may-yield.Post
 may-yield-yield-part-requires t c κs =
-    let start = c .before .before .before .before .before .before .before in
-    (omega (arith, start .pre .0), (start .pre .1, left (form-is (start .pre .1) (c .before .before .offset .ensures) (c .before .kind .ensures) (c .match .keys3), refl)))
+    let start = c .before .before .before .before .before in
+    (omega (arith, start .pre .0), (start .pre .1 .0, (start .pre .1 .1, left (form-is (start .pre .1 .1) (placed-at (start .pre .1 .0) (start .pre .1 .1 .term) (c .before .before .offset .ensures)) (c .before .kind .ensures) (c .match .keys3), refl))))
 
 may-yield-yield-part-requires-2 : (t : ℕ) → may-yield-lts.Need-yield-part-requires-2 (may-yield-uses t) (may-yield-at t) may-yield.Post
 may-yield-yield-part-requires-2 t c κs =
-    let start = c .before .before .before .before .before .before .before in
-    (omega (arith, start .pre .0), (start .pre .1, right (left (form-is (start .pre .1) (c .before .before .offset .ensures) (c .before .kind .ensures) (c .match .keys4), refl))))
+    let start = c .before .before .before .before .before in
+    (omega (arith, start .pre .0), (start .pre .1 .0, (start .pre .1 .1, right (left (form-is (start .pre .1 .1) (placed-at (start .pre .1 .0) (start .pre .1 .1 .term) (c .before .before .offset .ensures)) (c .before .kind .ensures) (c .match .keys4), refl)))))
 
 may-yield-yield-pair-requires : (t : ℕ) → may-yield-lts.Need-yield-pair-requires (may-yield-uses t) (may-yield-at t) may-yield.Post
 may-yield-yield-pair-requires t c κs =
-    let start = c .before .before .before .before .before .before .before in
-    (omega (arith, start .pre .0), (start .pre .1, form-is (start .pre .1) (c .before .before .offset .ensures) (c .before .kind .ensures) (c .match .keys5)))
+    let start = c .before .before .before .before .before in
+    (omega (arith, start .pre .0), (start .pre .1 .0, (start .pre .1 .1, form-is (start .pre .1 .1) (placed-at (start .pre .1 .0) (start .pre .1 .1 .term) (c .before .before .offset .ensures)) (c .before .kind .ensures) (c .match .keys5))))
 
 may-yield-yield-body-requires : (t : ℕ) → may-yield-lts.Need-yield-body-requires (may-yield-uses t) (may-yield-at t) may-yield.Post
 may-yield-yield-body-requires t c κs =
-    let start = c .before .before .before .before .before .before .before in
-    (omega (arith, start .pre .0), (start .pre .1, left (form-is (start .pre .1) (c .before .before .offset .ensures) (c .before .kind .ensures) (c .match .keys6))))
+    let start = c .before .before .before .before .before in
+    (omega (arith, start .pre .0), (start .pre .1 .0, (start .pre .1 .1, left (form-is (start .pre .1 .1) (placed-at (start .pre .1 .0) (start .pre .1 .1 .term) (c .before .before .offset .ensures)) (c .before .kind .ensures) (c .match .keys6)))))
 
 may-yield-yield-body-requires-2 : (t : ℕ) → may-yield-lts.Need-yield-body-requires-2 (may-yield-uses t) (may-yield-at t) may-yield.Post
 may-yield-yield-body-requires-2 t c κs =
-    let start = c .before .before .before .before .before .before .before in
-    (omega (arith, start .pre .0), (start .pre .1, right (form-is (start .pre .1) (c .before .before .offset .ensures) (c .before .kind .ensures) (c .match .keys7))))
+    let start = c .before .before .before .before .before in
+    (omega (arith, start .pre .0), (start .pre .1 .0, (start .pre .1 .1, right (form-is (start .pre .1 .1) (placed-at (start .pre .1 .0) (start .pre .1 .1 .term) (c .before .before .offset .ensures)) (c .before .kind .ensures) (c .match .keys7)))))
 
 may-yield-yield-case-requires : (t : ℕ) → may-yield-lts.Need-yield-case-requires (may-yield-uses t) (may-yield-at t) may-yield.Post
 may-yield-yield-case-requires t c κs =
-    let start = c .before .before .before .before .before .before .before in
-    (omega (arith, start .pre .0), (start .pre .1, form-is (start .pre .1) (c .before .before .offset .ensures) (c .before .kind .ensures) (c .match .keys8)))
+    let start = c .before .before .before .before .before in
+    (omega (arith, start .pre .0), (start .pre .1 .0, (start .pre .1 .1, form-is (start .pre .1 .1) (placed-at (start .pre .1 .0) (start .pre .1 .1 .term) (c .before .before .offset .ensures)) (c .before .kind .ensures) (c .match .keys8))))
 
 may-yield-yield-part-requires-3 : (t : ℕ) → may-yield-lts.Need-yield-part-requires-3 (may-yield-uses t) (may-yield-at t) may-yield.Post
 may-yield-yield-part-requires-3 t c κs =
-    let start = c .before .before .before .before .before .before .before in
-    (omega (arith, start .pre .0), (start .pre .1, right (right (form-is (start .pre .1) (c .before .before .offset .ensures) (c .before .kind .ensures) (c .match .keys9), refl))))
+    let start = c .before .before .before .before .before in
+    (omega (arith, start .pre .0), (start .pre .1 .0, (start .pre .1 .1, right (right (form-is (start .pre .1 .1) (placed-at (start .pre .1 .0) (start .pre .1 .1 .term) (c .before .before .offset .ensures)) (c .before .kind .ensures) (c .match .keys9), refl)))))
 
 may-yield-returns : (t : ℕ) → may-yield-lts.Need-returns (may-yield-uses t) (may-yield-at t) may-yield.Post
 may-yield-returns t c =
     let at-kind = c .before .before .before in
     let at-offset = at-kind .before in
-    let start = at-offset .before .before .before .before .before in
-    variable-answer (start .pre .1) (form-is (start .pre .1) (at-offset .offset .ensures) (at-kind .kind .ensures) (c .before .before .match .keys1))
-    (at-offset .offset .ensures) (c .before .variable .ensures) (c .yield-variable .ensures)
+    let start = at-offset .before .before .before in
+    variable-answer (start .pre .1 .1) (form-is (start .pre .1 .1) (placed-at (start .pre .1 .0) (start .pre .1 .1 .term) (at-offset .offset .ensures)) (at-kind .kind .ensures) (c .before .before .match .keys1))
+    (placed-at (start .pre .1 .0) (start .pre .1 .1 .term) (at-offset .offset .ensures)) (c .before .variable .ensures) (c .yield-variable .ensures)
 
 may-yield-returns-2 : (t : ℕ) → may-yield-lts.Need-returns-2 (may-yield-uses t) (may-yield-at t) may-yield.Post
 may-yield-returns-2 t c =
     let at-offset = c .before .before .before in
-    let start = at-offset .before .before .before .before .before in
-    unit-answer (start .pre .1) (form-is (start .pre .1) (at-offset .offset .ensures) (c .before .before .kind .ensures) (c .before .match .keys2))
+    let start = at-offset .before .before .before in
+    unit-answer (start .pre .1 .1) (form-is (start .pre .1 .1) (placed-at (start .pre .1 .0) (start .pre .1 .1 .term) (at-offset .offset .ensures)) (c .before .before .kind .ensures) (c .before .match .keys2))
     (c .kind-of .ensures)
 
 may-yield-returns-3 : (t : ℕ) → may-yield-lts.Need-returns-3 (may-yield-uses t) (may-yield-at t) may-yield.Post
@@ -198,108 +199,108 @@ may-yield-returns-9 t c = c .yield-part3 .ensures
 
 may-yield-returns-10 : (t : ℕ) → may-yield-lts.Need-returns-10 (may-yield-uses t) (may-yield-at t) may-yield.Post
 may-yield-returns-10 t c =
-    let start = c .before .before .before .before .before .before .before in
-    any-answer (start .pre .1) (c .before .before .offset .ensures) (c .before .kind .ensures) (c .match .rest)
+    let start = c .before .before .before .before .before in
+    any-answer (start .pre .1 .1) (placed-at (start .pre .1 .0) (start .pre .1 .1 .term) (c .before .before .offset .ensures)) (c .before .kind .ensures) (c .match .rest)
 
 yield-body-offset-requires : (t : ℕ) → yield-body-lts.Need-offset-requires (yield-body-uses t) (yield-body-at t) yield-body.Post
-yield-body-offset-requires t c κs = c .before .before .before .before .pre .1 .0 .term
+yield-body-offset-requires t c κs = within-table (c .before .before .pre .1 .0) (c .before .before .pre .1 .1 .0 .term)
 
 yield-body-second-requires : (t : ℕ) → yield-body-lts.Need-second-requires (yield-body-uses t) (yield-body-at t) yield-body.Post
 yield-body-second-requires t c κs =
-    let start = c .before .before .before .before .before in
-    body-read (start .pre .1 .0) (start .pre .1 .1) (c .offset .ensures)
+    let start = c .before .before .before in
+    body-read (start .pre .1 .1 .0) (start .pre .1 .1 .1) (placed-at (start .pre .1 .0) (start .pre .1 .1 .0 .term) (c .offset .ensures))
 
 yield-body-may-yield-requires : (t : ℕ) → yield-body-lts.Need-may-yield-requires (yield-body-uses t) (yield-body-at t) yield-body.Post
 yield-body-may-yield-requires t c κs =
-    let start = c .before .before .before .before .before .before in
-    let lower = body-asks (start .pre .1 .0) (start .pre .1 .1) (c .before .offset .ensures) (c .second .ensures) in
-    (omega (arith, start .pre .0), lower .1)
+    let start = c .before .before .before .before in
+    let lower = body-asks (start .pre .1 .1 .0) (start .pre .1 .1 .1) (placed-at (start .pre .1 .0) (start .pre .1 .1 .0 .term) (c .before .offset .ensures)) (c .second .ensures) in
+    (omega (arith, start .pre .0), (start .pre .1 .0, lower .1))
 
 yield-body-returns : (t : ℕ) → yield-body-lts.Need-returns (yield-body-uses t) (yield-body-at t) yield-body.Post
 yield-body-returns t c =
-    let start = c .before .before .before .before .before .before .before in
-    body-yields (start .pre .1 .0) (start .pre .1 .1) (c .before .before .offset .ensures) (c .before .second .ensures) (c .may-yield .ensures)
+    let start = c .before .before .before .before .before in
+    body-yields (start .pre .1 .1 .0) (start .pre .1 .1 .1) (placed-at (start .pre .1 .0) (start .pre .1 .1 .0 .term) (c .before .before .offset .ensures)) (c .before .second .ensures) (c .may-yield .ensures)
 
 yield-case-offset-requires : (t : ℕ) → yield-case-lts.Need-offset-requires (yield-case-uses t) (yield-case-at t) yield-case.Post
-yield-case-offset-requires t c κs = c .before .before .before .before .pre .1 .0 .term
+yield-case-offset-requires t c κs = within-table (c .before .before .pre .1 .0) (c .before .before .pre .1 .1 .0 .term)
 
 yield-case-second-requires : (t : ℕ) → yield-case-lts.Need-second-requires (yield-case-uses t) (yield-case-at t) yield-case.Post
 yield-case-second-requires t c κs =
-    let start = c .before .before .before .before .before in
-    omega (arith, case-read (start .pre .1 .0) (start .pre .1 .1) (c .offset .ensures))
+    let start = c .before .before .before in
+    omega (arith, case-read (start .pre .1 .1 .0) (start .pre .1 .1 .1) (placed-at (start .pre .1 .0) (start .pre .1 .1 .0 .term) (c .offset .ensures)))
 
 yield-case-may-yield-requires : (t : ℕ) → yield-case-lts.Need-may-yield-requires (yield-case-uses t) (yield-case-at t) yield-case.Post
 yield-case-may-yield-requires t c κs =
-    let start = c .before .before .before .before .before .before in
-    let lower = first-asks (start .pre .1 .0) (start .pre .1 .1) (c .before .offset .ensures) (c .second .ensures) in
-    (omega (arith, start .pre .0), lower .1)
+    let start = c .before .before .before .before in
+    let lower = first-asks (start .pre .1 .1 .0) (start .pre .1 .1 .1) (placed-at (start .pre .1 .0) (start .pre .1 .1 .0 .term) (c .before .offset .ensures)) (c .second .ensures) in
+    (omega (arith, start .pre .0), (start .pre .1 .0, lower .1))
 
 yield-case-returns : (t : ℕ) → yield-case-lts.Need-returns (yield-case-uses t) (yield-case-at t) yield-case.Post
 yield-case-returns t c =
     let at-offset = c .before .before .before in
-    let start = at-offset .before .before .before .before .before in
-    first-yields (start .pre .1 .0) (start .pre .1 .1) (at-offset .offset .ensures) (c .before .before .second .ensures) (c .before .may-yield .ensures)
+    let start = at-offset .before .before .before in
+    first-yields (start .pre .1 .1 .0) (start .pre .1 .1 .1) (placed-at (start .pre .1 .0) (start .pre .1 .1 .0 .term) (at-offset .offset .ensures)) (c .before .before .second .ensures) (c .before .may-yield .ensures)
     (c .if1 .taken)
 
 yield-case-third-requires : (t : ℕ) → yield-case-lts.Need-third-requires (yield-case-uses t) (yield-case-at t) yield-case.Post
 yield-case-third-requires t c κs =
     let at-offset = c .before .before .before in
-    let start = at-offset .before .before .before .before .before in
-    case-read (start .pre .1 .0) (start .pre .1 .1) (at-offset .offset .ensures)
+    let start = at-offset .before .before .before in
+    case-read (start .pre .1 .1 .0) (start .pre .1 .1 .1) (placed-at (start .pre .1 .0) (start .pre .1 .1 .0 .term) (at-offset .offset .ensures))
 
 yield-case-may-yield-requires-2 : (t : ℕ) → yield-case-lts.Need-may-yield-requires-2 (yield-case-uses t) (yield-case-at t) yield-case.Post
 yield-case-may-yield-requires-2 t c κs =
     let at-second = c .before .before .before in
     let at-offset = at-second .before in
-    let start = at-offset .before .before .before .before .before in
-    let lower = second-asks (start .pre .1 .0) (start .pre .1 .1) (at-offset .offset .ensures) (at-second .second .ensures) (c .third .ensures) in
-    (omega (arith, start .pre .0), lower .1)
+    let start = at-offset .before .before .before in
+    let lower = second-asks (start .pre .1 .1 .0) (start .pre .1 .1 .1) (placed-at (start .pre .1 .0) (start .pre .1 .1 .0 .term) (at-offset .offset .ensures)) (at-second .second .ensures) (c .third .ensures) in
+    (omega (arith, start .pre .0), (start .pre .1 .0, lower .1))
 
 yield-case-returns-2 : (t : ℕ) → yield-case-lts.Need-returns-2 (yield-case-uses t) (yield-case-at t) yield-case.Post
 yield-case-returns-2 t c =
     let at-may-yield = c .before .before .before in
     let at-second = at-may-yield .before in
     let at-offset = at-second .before in
-    let start = at-offset .before .before .before .before .before in
-    second-yields (start .pre .1 .0) (start .pre .1 .1) (at-offset .offset .ensures) (at-second .second .ensures) (c .before .third .ensures)
+    let start = at-offset .before .before .before in
+    second-yields (start .pre .1 .1 .0) (start .pre .1 .1 .1) (placed-at (start .pre .1 .0) (start .pre .1 .1 .0 .term) (at-offset .offset .ensures)) (at-second .second .ensures) (c .before .third .ensures)
     (at-may-yield .may-yield .ensures) (c .before .before .if1 .left) (c .may-yield2 .ensures)
 
 yield-pair-kind-of-requires : (t : ℕ) → yield-pair-lts.Need-kind-of-requires (yield-pair-uses t) (yield-pair-at t) yield-pair.Post
-yield-pair-kind-of-requires t c κs = node-read (c .before .before .before .before .pre .1 .0)
+yield-pair-kind-of-requires t c κs = node-read (c .before .before .pre .1 .1 .0)
 
 yield-pair-returns : (t : ℕ) → yield-pair-lts.Need-returns (yield-pair-uses t) (yield-pair-at t) yield-pair.Post
 yield-pair-returns t c =
-    let start = c .before .before .before .before .before .before in
-    pair-fails (start .pre .1 .0) (start .pre .1 .1) (c .before .kind-of .ensures) (c .if1 .taken)
+    let start = c .before .before .before .before in
+    pair-fails (start .pre .1 .1 .0) (start .pre .1 .1 .1) (c .before .kind-of .ensures) (c .if1 .taken)
 
 yield-pair-offset-requires : (t : ℕ) → yield-pair-lts.Need-offset-requires (yield-pair-uses t) (yield-pair-at t) yield-pair.Post
-yield-pair-offset-requires t c κs = c .before .before .before .before .before .before .pre .1 .0 .term
+yield-pair-offset-requires t c κs = within-table (c .before .before .before .before .pre .1 .0) (c .before .before .before .before .pre .1 .1 .0 .term)
 
 yield-pair-first-requires : (t : ℕ) → yield-pair-lts.Need-first-requires (yield-pair-uses t) (yield-pair-at t) yield-pair.Post
 yield-pair-first-requires t c κs =
-    let start = c .before .before .before .before .before .before .before in
-    omega (arith, pair-read (start .pre .1 .0) (start .pre .1 .1) (c .offset .ensures))
+    let start = c .before .before .before .before .before in
+    omega (arith, pair-read (start .pre .1 .1 .0) (start .pre .1 .1 .1) (placed-at (start .pre .1 .0) (start .pre .1 .1 .0 .term) (c .offset .ensures)))
 
 yield-pair-left-of-requires : (t : ℕ) → yield-pair-lts.Need-left-of-requires (yield-pair-uses t) (yield-pair-at t) yield-pair.Post
-yield-pair-left-of-requires t c κs = node-read (c .before .before .before .before .before .before .before .before .pre .1 .0)
+yield-pair-left-of-requires t c κs = node-read (c .before .before .before .before .before .before .pre .1 .1 .0)
 
 yield-pair-may-yield-requires : (t : ℕ) → yield-pair-lts.Need-may-yield-requires (yield-pair-uses t) (yield-pair-at t) yield-pair.Post
 yield-pair-may-yield-requires t c κs =
     let at-if1 = c .before .before .before in
     let at-kind-of = at-if1 .before in
-    let start = at-kind-of .before .before .before .before .before in
-    let lower = left-asks (start .pre .1 .0) (start .pre .1 .1) (at-kind-of .kind-of .ensures) (at-if1 .if1 .left) (c .before .before .offset .ensures)
+    let start = at-kind-of .before .before .before in
+    let lower = left-asks (start .pre .1 .1 .0) (start .pre .1 .1 .1) (at-kind-of .kind-of .ensures) (at-if1 .if1 .left) (placed-at (start .pre .1 .0) (start .pre .1 .1 .0 .term) (c .before .before .offset .ensures))
     (c .before .first .ensures) (c .left-of .ensures) in
-    (omega (arith, start .pre .0), lower .1)
+    (omega (arith, start .pre .0), (start .pre .1 .0, lower .1))
 
 yield-pair-second-requires : (t : ℕ) → yield-pair-lts.Need-second-requires (yield-pair-uses t) (yield-pair-at t) yield-pair.Post
 yield-pair-second-requires t c κs =
     let at-offset = c .before .before .before .before in
-    let start = at-offset .before .before .before .before .before .before .before in
-    pair-read (start .pre .1 .0) (start .pre .1 .1) (at-offset .offset .ensures)
+    let start = at-offset .before .before .before .before .before in
+    pair-read (start .pre .1 .1 .0) (start .pre .1 .1 .1) (placed-at (start .pre .1 .0) (start .pre .1 .1 .0 .term) (at-offset .offset .ensures))
 
 yield-pair-right-of-requires : (t : ℕ) → yield-pair-lts.Need-right-of-requires (yield-pair-uses t) (yield-pair-at t) yield-pair.Post
-yield-pair-right-of-requires t c κs = node-read (c .before .before .before .before .before .before .before .before .before .before .before .before .pre .1 .0)
+yield-pair-right-of-requires t c κs = node-read (c .before .before .before .before .before .before .before .before .before .before .pre .1 .1 .0)
 
 yield-pair-may-yield-requires-2 : (t : ℕ) → yield-pair-lts.Need-may-yield-requires-2 (yield-pair-uses t) (yield-pair-at t) yield-pair.Post
 yield-pair-may-yield-requires-2 t c κs =
@@ -308,10 +309,10 @@ yield-pair-may-yield-requires-2 t c κs =
     let at-offset = at-first .before in
     let at-if1 = at-offset .before in
     let at-kind-of = at-if1 .before in
-    let start = at-kind-of .before .before .before .before .before in
-    let lower = right-asks (start .pre .1 .0) (start .pre .1 .1) (at-kind-of .kind-of .ensures) (at-if1 .if1 .left) (at-offset .offset .ensures)
+    let start = at-kind-of .before .before .before in
+    let lower = right-asks (start .pre .1 .1 .0) (start .pre .1 .1 .1) (at-kind-of .kind-of .ensures) (at-if1 .if1 .left) (placed-at (start .pre .1 .0) (start .pre .1 .1 .0 .term) (at-offset .offset .ensures))
     (at-first .first .ensures) (at-left-of .left-of .ensures) (c .before .second .ensures) (c .right-of .ensures) in
-    (omega (arith, start .pre .0), lower .1)
+    (omega (arith, start .pre .0), (start .pre .1 .0, lower .1))
 
 yield-pair-returns-2 : (t : ℕ) → yield-pair-lts.Need-returns-2 (yield-pair-uses t) (yield-pair-at t) yield-pair.Post
 yield-pair-returns-2 t c =
@@ -322,8 +323,8 @@ yield-pair-returns-2 t c =
     let at-offset = at-first .before in
     let at-if1 = at-offset .before in
     let at-kind-of = at-if1 .before in
-    let start = at-kind-of .before .before .before .before .before in
-    both-yield (start .pre .1 .0) (start .pre .1 .1) (at-kind-of .kind-of .ensures) (at-if1 .if1 .left) (at-offset .offset .ensures) (at-first .first .ensures)
+    let start = at-kind-of .before .before .before in
+    both-yield (start .pre .1 .1 .0) (start .pre .1 .1 .1) (at-kind-of .kind-of .ensures) (at-if1 .if1 .left) (placed-at (start .pre .1 .0) (start .pre .1 .1 .0 .term) (at-offset .offset .ensures)) (at-first .first .ensures)
     (at-left-of .left-of .ensures) (c .before .before .second .ensures) (c .before .right-of .ensures) (at-may-yield .may-yield .ensures) (at-if2 .if2 .taken)
     (c .may-yield2 .ensures)
 
@@ -333,45 +334,45 @@ yield-pair-returns-3 t c =
     let at-offset = at-first .before in
     let at-if1 = at-offset .before in
     let at-kind-of = at-if1 .before in
-    let start = at-kind-of .before .before .before .before .before in
-    left-fails (start .pre .1 .0) (start .pre .1 .1) (at-kind-of .kind-of .ensures) (at-if1 .if1 .left) (at-offset .offset .ensures) (at-first .first .ensures)
+    let start = at-kind-of .before .before .before in
+    left-fails (start .pre .1 .1 .0) (start .pre .1 .1 .1) (at-kind-of .kind-of .ensures) (at-if1 .if1 .left) (placed-at (start .pre .1 .0) (start .pre .1 .1 .0 .term) (at-offset .offset .ensures)) (at-first .first .ensures)
     (c .before .before .left-of .ensures) (c .before .may-yield .ensures) (c .if2 .left)
 
 yield-part-kind-of-requires : (t : ℕ) → yield-part-lts.Need-kind-of-requires (yield-part-uses t) (yield-part-at t) yield-part.Post
-yield-part-kind-of-requires t c κs = node-read (c .before .before .before .before .pre .1 .0)
+yield-part-kind-of-requires t c κs = node-read (c .before .before .pre .1 .1 .0)
 
 yield-part-returns : (t : ℕ) → yield-part-lts.Need-returns (yield-part-uses t) (yield-part-at t) yield-part.Post
 yield-part-returns t c =
-    let start = c .before .before .before .before .before .before in
-    part-fails (start .pre .1 .0) (start .pre .1 .1) (c .before .kind-of .ensures) (c .if1 .taken)
+    let start = c .before .before .before .before in
+    part-fails (start .pre .1 .1 .0) (start .pre .1 .1 .1) (c .before .kind-of .ensures) (c .if1 .taken)
 
 yield-part-offset-requires : (t : ℕ) → yield-part-lts.Need-offset-requires (yield-part-uses t) (yield-part-at t) yield-part.Post
-yield-part-offset-requires t c κs = c .before .before .before .before .before .before .pre .1 .0 .term
+yield-part-offset-requires t c κs = within-table (c .before .before .before .before .pre .1 .0) (c .before .before .before .before .pre .1 .1 .0 .term)
 
 yield-part-second-requires : (t : ℕ) → yield-part-lts.Need-second-requires (yield-part-uses t) (yield-part-at t) yield-part.Post
 yield-part-second-requires t c κs =
-    let start = c .before .before .before .before .before .before .before in
-    part-read (start .pre .1 .0) (start .pre .1 .1) (c .offset .ensures)
+    let start = c .before .before .before .before .before in
+    part-read (start .pre .1 .1 .0) (start .pre .1 .1 .1) (placed-at (start .pre .1 .0) (start .pre .1 .1 .0 .term) (c .offset .ensures))
 
 yield-part-left-of-requires : (t : ℕ) → yield-part-lts.Need-left-of-requires (yield-part-uses t) (yield-part-at t) yield-part.Post
-yield-part-left-of-requires t c κs = node-read (c .before .before .before .before .before .before .before .before .pre .1 .0)
+yield-part-left-of-requires t c κs = node-read (c .before .before .before .before .before .before .pre .1 .1 .0)
 
 yield-part-may-yield-requires : (t : ℕ) → yield-part-lts.Need-may-yield-requires (yield-part-uses t) (yield-part-at t) yield-part.Post
 yield-part-may-yield-requires t c κs =
     let at-if1 = c .before .before .before in
     let at-kind-of = at-if1 .before in
-    let start = at-kind-of .before .before .before .before .before in
-    let lower = part-asks (start .pre .1 .0) (start .pre .1 .1) (at-kind-of .kind-of .ensures) (at-if1 .if1 .left) (c .before .before .offset .ensures)
+    let start = at-kind-of .before .before .before in
+    let lower = part-asks (start .pre .1 .1 .0) (start .pre .1 .1 .1) (at-kind-of .kind-of .ensures) (at-if1 .if1 .left) (placed-at (start .pre .1 .0) (start .pre .1 .1 .0 .term) (c .before .before .offset .ensures))
     (c .before .second .ensures) (c .left-of .ensures) in
-    (omega (arith, start .pre .0), lower .1)
+    (omega (arith, start .pre .0), (start .pre .1 .0, lower .1))
 
 yield-part-returns-2 : (t : ℕ) → yield-part-lts.Need-returns-2 (yield-part-uses t) (yield-part-at t) yield-part.Post
 yield-part-returns-2 t c =
     let at-offset = c .before .before .before in
     let at-if1 = at-offset .before in
     let at-kind-of = at-if1 .before in
-    let start = at-kind-of .before .before .before .before .before in
-    part-yields (start .pre .1 .0) (start .pre .1 .1) (at-kind-of .kind-of .ensures) (at-if1 .if1 .left) (at-offset .offset .ensures)
+    let start = at-kind-of .before .before .before in
+    part-yields (start .pre .1 .1 .0) (start .pre .1 .1 .1) (at-kind-of .kind-of .ensures) (at-if1 .if1 .left) (placed-at (start .pre .1 .0) (start .pre .1 .1 .0 .term) (at-offset .offset .ensures))
     (c .before .before .second .ensures) (c .before .left-of .ensures) (c .may-yield .ensures)
 
 pub +may-yield+yield-body+yield-case+yield-pair+yield-part-spec : {M : Type 1} → statement M

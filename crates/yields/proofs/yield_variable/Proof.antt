@@ -18,7 +18,7 @@ unfolding unknown
 same-requires c κs =
     let at-known = c .before in
     let at-find = at-known .before .before in
-    let start = at-find .before .before .before in
+    let start = at-find .before .before in
     let slot = sym (at-find .find .ensures) ∙ at-known .known .given .1 in
     (start .pre .0, (slot-below (start .pre .1 .0) (omega arith) (start .args .i) slot, start .pre .1 .1))
 
@@ -30,7 +30,7 @@ unfolding unknown
 returns c =
     let at-known = c .before .before in
     let at-find = at-known .before .before in
-    let start = at-find .before .before .before in
+    let start = at-find .before .before in
     let slot = sym (at-find .find .ensures) ∙ at-known .known .given .1 in
     yields-own (start .pre .1 .0) (omega arith) (start .args .i) (start .args .ws .now) _ slot (c .same .ensures)
 
@@ -38,7 +38,7 @@ returns-2 : tie.Need-returns-2
 unfolding unknown
 returns-2 c =
     let at-find = c .before .before in
-    let start = at-find .before .before .before in
+    let start = at-find .before .before in
     let slot = sym (at-find .find .ensures) ∙ c .enum-told .given .1 in
     yields-any (start .pre .1 .0) (omega arith) (start .args .i) (start .args .ws .now) (valueAt (start .args .ws .now) (start .args .node)) slot
 
