@@ -19,22 +19,20 @@ use package.Rattle.calls.specs.Entries.{TypeEntry}
 use package.Rattle.program.specs.Parts.{first, second, third}
 use package.Rattle.values.specs.Nodes.{valueWithin, valueAt, ofKind, leftAt, rightAt, kindAt as nodeKind}
 use package.Rattle.values.proofs.Heaps.{value-inl, value-inr, value-pair}
-use package.Rattle.scopes.specs.Slots.{meaning as slotMeaning, stateAt, Slots}
+use package.Rattle.scopes.specs.Slots.{slotCount, meaning as slotMeaning, stateAt, Slots}
 use package.Rattle.scopes.proofs.Marks.{found-node}
 use package.Rattle.scopes.proofs.Scopes.{state-bind, slots-bind}
 use package.Rattle.yields.proofs.Ancillae.{ancillae-same}
 use package.Rattle.forward.specs.Code.{treeAt, programAt}
-use package.Rattle.forward.specs.Outcomes.{refusalOf}
+use package.Rattle.forward.specs.Outcomes.{Machine, Scope, Out, refusalOf}
 use package.Rattle.forward.specs.Ready.{Ready, Ran, CheckReady, Checks, ancillaeOf, stateOf, runOf, underOf, stepOf}
 use package.Rattle.forward.proofs.Trees.{tree-let, tree-letp, tree-case, parts-let, parts-letp, parts-case}
-use package.Rattle.forward.proofs.Runs.{ancillae-held, says, slack, stopped, part-refused, part-answered, fewer, later, ancillae-later, state-later, part}
+use package.Rattle.forward.proofs.Answers.{below-mark}
+use package.Rattle.forward.proofs.Runs.{ancillae-held, says, slack, halted, part-refused, part-answered, fewer, later, ancillae-later, state-later, part}
 use package.Rattle.forward.proofs.Steps.{stepped}
 use Rattle.forward.specs.declared.outcomes.Refusal.{Refusal}
 use Rattle.forward.specs.declared.outcomes.Refusal.the-variants.{Stuck}
 use Rattle.forward.specs.declared.outcomes.Status.the-variants.{Value, Refused}
-use Rattle.forward.specs.declared.outcomes.Machine.{Machine}
-use Rattle.forward.specs.declared.outcomes.Scope.{Scope}
-use Rattle.forward.specs.declared.outcomes.Out.{Out}
 
 ----------------------------------------------------------------
 -- A variable more
@@ -45,8 +43,8 @@ opened sc = record { base = sc .base; q = sc .q; n = sc .n + 1 }
 
 -- its slot is there
 pub bind-room : {k v : ℕ} {p terms functions heap slots : List ℕ} {st : Machine} {sc : Scope} {t room : ℕ} → Ready k (suc v) p terms functions heap slots st sc t room
-    → sc .base + sc .n < length slots
-bind-room rd = omega (arith, rd .variables)
+    → sc .base + sc .n < slotCount
+bind-room rd = omega (arith, rd .variables, rd .full)
 
 module _ {k v : ℕ} {p terms functions heap slots : List ℕ} {st : Machine} {sc : Scope} {t room : ℕ} (rd : Ready k (suc v) p terms functions heap slots st sc t room)
     (node : ℕ) (low : node < st .top) {slots₁ : List ℕ} (e : slots₁ ≡ set slots (sc .base + sc .n) node) where
@@ -65,12 +63,13 @@ module _ {k v : ℕ} {p terms functions heap slots : List ℕ} {st : Machine} {s
     term = rd .term;
     few = rd .few;
     graph = rd .graph;
-    held = subst (λ n. Slots slots₁ n (st .top)) (let z : suc m ≡ sc .base + (sc .n + 1) = omega arith in z) (rw e (slots-bind slots m (st .top) node (bind-room rd) (rd .held) (right low)));
+    held = subst (λ n. Slots slots₁ n (st .top)) (let z : suc m ≡ sc .base + (sc .n + 1) = omega arith in z) (rw e (slots-bind slots m (st .top) node (omega (arith, bind-room rd, rd .full)) (rd .held) (right low)));
     ancillae = λ i h. rw (← bound-below (sc .base + i) (omega (arith, rd .within))) (rd .ancillae i h);
     within = omega (arith, rd .within);
     nodes = rd .nodes;
     small = rd .small;
     variables = omega (arith, rd .variables, bound-length);
+    full = sym bound-length ∙ rd .full;
     tall = rd .tall;
   }
 
@@ -80,8 +79,8 @@ module _ {k v : ℕ} {p terms functions heap slots : List ℕ} {st : Machine} {s
   pub bound-state : stateOf heap slots₁ (opened sc) ≡ some (valueAt heap node) ∷ stateOf heap slots sc
   bound-state =
       ap₂ (λ (s : List ℕ) (n : ℕ). stateAt heap s (sc .base) n) e (add-one (sc .n))
-      ∙ state-bind heap slots (sc .base) (sc .n) node (bind-room rd)
-      ∙ ap (λ f. slotMeaning heap f ∷ stateOf heap slots sc) (found-node node (λ q. omega (arith, rd .small)))
+      ∙ state-bind heap slots (sc .base) (sc .n) node (omega (arith, bind-room rd, rd .full))
+      ∙ ap (λ f. slotMeaning heap f ∷ stateOf heap slots sc) (found-node node (λ q. omega (arith, rd .small, below-mark)))
 
   -- the term was run in that scope
   pub bound-done : {heap′ slots′ : List ℕ} {out : Out} → Ran 0 heap heap′ (sc .base + (sc .n + 1)) slots₁ slots′ st out (runOf p terms functions heap slots₁ st (opened sc) t room)
@@ -180,7 +179,7 @@ module _ {p terms functions heap slots : List ℕ} {st : Machine} {sc : Scope} {
         → ((ys : List TypeEntry) → next ys (valueAt heap₁ x) (r₁ .state .fuel) ≡ stuck) → (r : Out) → r .status ≡ Refused Stuck → r .state ≡ r₁ .state
         → Ran 1 heap heap₁ end slots slots₁ st r step
     unfolding refusalOf
-    shape-stuck next s e z r s₂ q = slack (part-answered d next s e (stopped (d .graph) end slots₁ r q s₂ z) (omega arith)) 1 (omega arith)
+    shape-stuck next s e z r s₂ q = slack (part-answered d next s e (halted (d .graph) end slots₁ r q s₂ z) (omega arith)) 1 (omega arith)
 
   ----------------------------------------------------------------
   -- let
@@ -315,7 +314,7 @@ module _ {p terms functions heap slots : List ℕ} {st : Machine} {sc : Scope} {
               is-left : valueAt heap₁ x ≡ inl (valueAt heap₁ y)
               is-left = rw qy (value-inl heap₁ (r₁ .state .top) (d .graph .right) x (d .node x s) k1 .0)
 
-          pub case-right : nodeKind heap₁ x ≡ 2 → b′ ≡ third p at → (r : Out) → Checks p terms heap₂ slots₂ sc t r₂ r → Ran 1 heap heap₂ end slots slots₂ st r step
+          pub case-right : nodeKind heap₁ x ≡ 2 → b′ ≡ third p at → (r : Out) → Checks p terms heap₂ slots₂ (sc .base) (sc .q) t r₂ r → Ran 1 heap heap₂ end slots slots₂ st r step
           unfolding onSum
           case-right k2 q′ r c = slack (part-answered d (case-next (second p at) (third p at)) s step-c checked (omega arith)) 1 (omega arith)
             where
@@ -342,7 +341,7 @@ module _ {p terms functions heap slots : List ℕ} {st : Machine} {sc : Scope} {
               }
 
           -- the left branch's form can be asked
-          pub case-check : CheckReady p terms heap₂ slots₂ sc t r₂
+          pub case-check : CheckReady p terms heap₂ slots₂ (sc .base) (sc .q) t r₂
           case-check = record {
             entries = rd .code .entries;
             term = rd .term;

@@ -2,17 +2,17 @@
 use Prim.Native.Nat.{ℕ, zero, suc, _+_, _*_, _≤_, _<_}
 use native.Mathlib.Omega.{arith}
 use mathlib.Core.Path.{_≡_, refl, sym, ap, subst, _∙_}
-use mathlib.Core.Logic.{⊎-elim}
+use mathlib.Core.Logic.{⊎-elim, inl as left, inr as right}
 use mathlib.Core.List.{List}
 use lib.ListN.{length, getD}
 use package.Rattle.calls.specs.Fields.{lengthAt, kindAt, parametersAt, termLengths}
 use package.Rattle.program.specs.Parts.{first, TermField}
 use package.Rattle.program.proofs.Rooms.{term-kind, term-kind-room, var-room, two-room, case-room, call-sized, call-room, function-room}
+use package.Rattle.scopes.specs.Slots.{slotCount, Slots}
 use package.Rattle.yields.specs.Yields.{Wraps}
+use package.Rattle.forward.specs.Outcomes.{Machine, Scope, stopped}
 use package.Rattle.forward.specs.Ready.{Ready, Calls}
 use package.Rattle.forward.proofs.Trees.{called-function}
-use Rattle.forward.specs.declared.outcomes.Machine.{Machine}
-use Rattle.forward.specs.declared.outcomes.Scope.{Scope}
 
 module _ {k v : ℕ} {p terms functions heap slots : List ℕ} {st : Machine} {sc : Scope} {t room : ℕ} (rd : Ready k v p terms functions heap slots st sc t room) where
   abbrev at : ℕ
@@ -31,8 +31,12 @@ module _ {k v : ℕ} {p terms functions heap slots : List ℕ} {st : Machine} {s
   pub kind-last : {i kind : ℕ} → i ≡ at → kind ≡ kindAt p i → 10 ≤ kind → 10 ≤ kindAt p at
   kind-last {i} {kind} e k h = subst (λ n. 10 ≤ n) (k ∙ ap (kindAt p) e) h
 
-  pub read-variable : kindAt p at ≡ 0 → (at + 5 ≤ length p) × (sc .base + sc .n ≤ length slots)
-  read-variable e = (var-room field e, omega (arith, rd .variables))
+  pub read-variable : kindAt p at ≡ 0 → (at + 5 ≤ length p) × (sc .base + sc .n ≤ slotCount)
+  read-variable e = (var-room field e, omega (arith, rd .variables, rd .full))
+
+  -- every node that a variable has is an answer
+  pub held-answers : Slots slots (sc .base + sc .n) stopped
+  held-answers = record { held = λ j h. ⊎-elim (λ e. left e) (λ l. right (omega (arith, rd .small))) (rd .held .held j h) }
 
   -- two terms
   two-terms : {n : ℕ} → kindAt p at ≡ n → getD termLengths n 0 ≡ 5 → (at + 6 ≤ length p) × (at + 8 ≤ length p)
@@ -93,6 +97,11 @@ ten-or-more (suc (suc (suc (suc (suc (suc (suc zero))))))) n = absurd (n .7 refl
 ten-or-more (suc (suc (suc (suc (suc (suc (suc (suc zero)))))))) n = absurd (n .8 refl)
 ten-or-more (suc (suc (suc (suc (suc (suc (suc (suc (suc zero))))))))) n = absurd (n .9 refl)
 ten-or-more (suc (suc (suc (suc (suc (suc (suc (suc (suc (suc k)))))))))) n = omega arith
+
+-- the same, as a match says it
+pub last-kind : {k : ℕ} → (((((((((Unit {0} × ¬ (k ≡ 0)) × ¬ (k ≡ 1)) × ¬ (k ≡ 2)) × ¬ (k ≡ 3)) × ¬ (k ≡ 4)) × ¬ (k ≡ 5)) × ¬ (k ≡ 6)) × ¬ (k ≡ 7)) × ¬ (k ≡ 8)) × ¬ (k ≡ 9) → 10 ≤ k
+last-kind {k} m =
+    ten-or-more k (m .0 .0 .0 .0 .0 .0 .0 .0 .0 .1, m .0 .0 .0 .0 .0 .0 .0 .0 .1, m .0 .0 .0 .0 .0 .0 .0 .1, m .0 .0 .0 .0 .0 .0 .1, m .0 .0 .0 .0 .0 .1, m .0 .0 .0 .0 .1, m .0 .0 .0 .1, m .0 .0 .1, m .0 .1, m .1)
 
 ----------------------------------------------------------------
 -- Small steps between bounds

@@ -19,17 +19,16 @@ use package.Rattle.values.specs.Nodes.{valueAt}
 use package.Rattle.scopes.specs.Slots.{unknown}
 use package.Rattle.yields.specs.Yields.{Ancillae}
 use package.Rattle.forward.specs.Code.{treeAt, programAt}
+use package.Rattle.forward.specs.Outcomes.{Machine, Scope, Out}
 use package.Rattle.forward.specs.Ready.{Ready, Ran, ancillaeOf, stateOf, runOf, stepOf, valuesAt, argumentsOf, Places, Calls}
 use package.Rattle.forward.proofs.Trees.{tree-call, called-function, called-tree, called-there}
+use package.Rattle.forward.proofs.Answers.{below-mark}
 use package.Rattle.forward.proofs.Runs.{meaning-refused, says, slack, then, held-later}
 use package.Rattle.forward.proofs.Steps.{stepped}
 use package.Rattle.forward.proofs.Starting.{argumentScope, run-of-function}
 use package.Rattle.forward.proofs.Placing.{arguments, placed-value, placed-refused, few-count, place-room}
 use Rattle.forward.specs.declared.outcomes.Refusal.{Refusal}
 use Rattle.forward.specs.declared.outcomes.Status.the-variants.{Value, Refused}
-use Rattle.forward.specs.declared.outcomes.Machine.{Machine}
-use Rattle.forward.specs.declared.outcomes.Scope.{Scope}
-use Rattle.forward.specs.declared.outcomes.Out.{Out}
 
 -- the scope of the function that is called: its arguments
 abbrev pub inner : Scope → ℕ → Scope
@@ -81,11 +80,11 @@ module _ {p terms functions heap slots : List ℕ} {st : Machine} {sc : Scope} {
     all-arguments = record { kind = C .kind; ancillae = C .ancillae; next = omega arith }
 
     small-nodes : r₁ .state .top ≤ unknown
-    small-nodes = omega (arith, rd .small, D .ran .owes)
+    small-nodes = omega (arith, rd .small, D .ran .owes, below-mark)
 
     arguments-held : Ancillae slots₁ m count (r₁ .state .top)
     arguments-held = record {
-      there = omega (arith, place-room rd all-arguments, D .ran .lengths);
+      there = omega (arith, place-room rd all-arguments);
       known = λ i h. D .held n s i (omega arith) (omega arith);
     }
 
@@ -108,6 +107,7 @@ module _ {p terms functions heap slots : List ℕ} {st : Machine} {sc : Scope} {
       nodes = omega (arith, rd .nodes, D .ran .owes, D .ran .agree .lengths);
       small = omega (arith, rd .small, D .ran .owes);
       variables = omega (arith, rd .variables, rd .tall, few-count rd C, D .ran .lengths);
+      full = sym (D .ran .lengths) ∙ rd .full;
       tall = omega arith;
     }
 

@@ -1,10 +1,14 @@
 -- Laws of the steps that have no parts to evaluate: what a variable's slot says, what a roll holds, and the test of first match.
 use Prim.Native.Nat.{ℕ, zero, suc, _+_, _≤_, _<_}
 use native.Mathlib.Omega.{arith}
+use native.Mathlib.Decide.{decLt}
 use mathlib.Core.Path.{_≡_, refl, sym, ap, _∙_}
 use mathlib.Core.Bool.{Bool, true, false, not}
+use mathlib.Core.Logic.{⊎-elim}
 use mathlib.Core.List.{List}
 use lib.ListN.{length, getD}
+use lib.Dec.{eqb}
+use borrow.Author.Tests.{eqb-true, eqb-false}
 use package.Rattle.rules.specs.Limits.{fits}
 use package.Rattle.rules.specs.Val.{Val, roll}
 use package.Rattle.rules.specs.Run.{stuck, Run, after, give, test}
@@ -18,32 +22,60 @@ use package.Rattle.program.proofs.Shapes.{term-case}
 use package.Rattle.program.proofs.Rooms.{case-room}
 use package.Rattle.values.specs.Nodes.{kindAt, leftAt, Room, ofKind, valueWithin, valueAt}
 use package.Rattle.values.proofs.Heaps.{value-roll}
+use package.Rattle.scopes.specs.Slots.{unknown, slotAt, Slots}
+use package.Rattle.scopes.proofs.Marks.{found-mark, found-node, slot-in, slot-out}
 use package.Rattle.scopes.specs.declared.slots.Found.{Found}
 use package.Rattle.scopes.specs.declared.slots.Found.the-variants.{Node, Unknown}
-use package.Rattle.yields.specs.Yields.{Yields, MayYield}
+use package.Rattle.yields.specs.Yields.{ancillaeAt, Yields, MayYield}
 use package.Rattle.yields.proofs.Entries.{second-lower}
 use package.Rattle.forward.specs.Code.{treeAt}
-use package.Rattle.forward.specs.Outcomes.{refusalOf, meaning, foundOut}
-use package.Rattle.forward.specs.Ready.{Graph, Unrolls, CheckReady, Checks, ancillaeOf}
+use package.Rattle.forward.specs.Outcomes.{Machine, Out, stopped, statusOf, refusalOf, meaning, foundOut, Finds}
+use package.Rattle.forward.specs.Ready.{Graph, Unrolls, Unrolled, CheckReady, Checks}
+use package.Rattle.forward.proofs.Answers.{is-value}
 use package.Rattle.forward.proofs.Runs.{meaning-value, meaning-refused, refusal-after}
 use package.Rattle.forward.proofs.Making.{test-true}
 use Rattle.forward.specs.declared.outcomes.Refusal.{Refusal}
 use Rattle.forward.specs.declared.outcomes.Refusal.the-variants.{FirstMatch, Stuck}
+use Rattle.forward.specs.declared.outcomes.Status.{Status}
 use Rattle.forward.specs.declared.outcomes.Status.the-variants.{Value, Refused}
-use Rattle.forward.specs.declared.outcomes.Machine.{Machine}
-use Rattle.forward.specs.declared.outcomes.Scope.{Scope}
-use Rattle.forward.specs.declared.outcomes.Out.{Out}
 
 ----------------------------------------------------------------
 -- Variables
 
-pub found-known : (st : Machine) {f : Found} {node : ℕ} → f ≡ Node node → record { status = Value node; state = st } ≡ foundOut f st
+-- a variable's node is one of the graph's
+pub slot-node : (slots : List ℕ) (base n i top : ℕ) {node : ℕ} → Slots slots (base + n) top → slotAt slots base n i ≡ Node node → node < top
+slot-node slots base n i top {node} S e = go (decLt i n)
+  where
+    none-there : slotAt slots base n i ≡ Unknown → node < top
+    none-there q = let z : _≡_ {A = ℕ} 0 1 = cc in absurd (omega arith)
+
+    there : i < n → (b : Bool) → eqb (getD slots (base + i) 0) unknown ≡ b → node < top
+    there l true q = none-there (slot-in slots base n i l ∙ found-mark _ (eqb-true _ unknown q))
+    there l false q =
+        let s : slotAt slots base n i ≡ Node (getD slots (base + i) 0) = slot-in slots base n i l ∙ found-node _ (eqb-false _ unknown q) in
+        let z : getD slots (base + i) 0 ≡ node = cc in
+        ⊎-elim (λ x. absurd (eqb-false _ unknown q x)) (λ below. rw (← z) below) (S .held (base + i) (omega arith))
+
+    go : Dec (i < n) → node < top
+    go (yes l) = there l (eqb (getD slots (base + i) 0) unknown) refl
+    go (no l) = none-there (slot-out slots base n i (omega arith))
+
+found-known : (st : Machine) {f : Found} {node : ℕ} → f ≡ Node node → record { status = Value node; state = st } ≡ foundOut f st
 unfolding foundOut
 found-known st e = rw e
 
-pub found-unknown : (st : Machine) {f : Found} → f ≡ Unknown → record { status = Refused Stuck; state = st } ≡ foundOut f st
+found-unknown : (st : Machine) {f : Found} → f ≡ Unknown → record { status = Refused Stuck; state = st } ≡ foundOut f st
 unfolding foundOut
 found-unknown st e = rw e
+
+-- the answer is the variable's node, or a refusal
+pub finds-node : (slots : List ℕ) (base n i : ℕ) {node : ℕ} → Slots slots (base + n) stopped → slotAt slots base n i ≡ Node node → Finds node (slotAt slots base n i)
+finds-node slots base n i S e = record {
+  is = λ st. ap (λ s. record { status = s; state = st }) (is-value (slot-node slots base n i stopped S e)) ∙ found-known st e;
+}
+
+pub finds-none : {f : Found} {r : ℕ} → f ≡ Unknown → statusOf r ≡ Refused Stuck → Finds r f
+finds-none e s = record { is = λ st. ap (λ s. record { status = s; state = st }) s ∙ found-unknown st e }
 
 ----------------------------------------------------------------
 -- Rolls
@@ -56,13 +88,17 @@ no-roll (suc (suc zero)) v w next fuel h = refl
 no-roll (suc (suc (suc zero))) v w next fuel h = refl
 no-roll (suc (suc (suc (suc n)))) v w next fuel h = absurd (omega arith)
 
-module _ {heap : List ℕ} (st : Machine) (G : Graph heap (st .top)) {node : ℕ} (low : node < st .top) where
-  pub node-there : Room heap (node + 1)
-  node-there = omega (arith, G .right .held)
+-- a node of the graph can be read
+pub node-there : {heap : List ℕ} {top node : ℕ} → Graph heap top → node < top → Room heap (node + 1)
+node-there G low = omega (arith, G .right .held)
 
-  pub roll-held : kindAt heap node ≡ 4 → (part : ℕ) → part ≡ leftAt heap node → Unrolls heap st node (record { status = Value part; state = st })
+module _ {heap : List ℕ} (st : Machine) (G : Graph heap (st .top)) {node : ℕ} (low : node < st .top) where
+  held-lower : kindAt heap node ≡ 4 → (part : ℕ) → part ≡ leftAt heap node → part < st .top
+  held-lower k part q = rw q (omega (arith, value-roll heap (st .top) (G .right) node low k .1))
+
+  unrolls-held : kindAt heap node ≡ 4 → (part : ℕ) → part ≡ leftAt heap node → Unrolls heap st node (record { status = Value part; state = st })
   unfolding onRoll
-  roll-held k part q = record {
+  unrolls-held k part q = record {
     state = refl;
     below = λ n e. let z : part ≡ n = cc in omega (arith, lower);
     answer = λ t. meaning-value heap (record { status = Value part; state = st }) refl
@@ -71,71 +107,84 @@ module _ {heap : List ℕ} (st : Machine) (G : Graph heap (st .top)) {node : ℕ
   }
     where
       lower : part < st .top
-      lower = rw q (omega (arith, value-roll heap (st .top) (G .right) node low k .1))
+      lower = held-lower k part q
 
       is-roll : valueAt heap node ≡ roll (valueAt heap part)
       is-roll = rw q (value-roll heap (st .top) (G .right) node low k .0)
 
-  pub roll-missing : ¬ (kindAt heap node ≡ 4) → Unrolls heap st node (record { status = Refused Stuck; state = st })
+  unrolls-missing : ¬ (kindAt heap node ≡ 4) → Unrolls heap st node (record { status = Refused Stuck; state = st })
   unfolding valueAt valueWithin refusalOf
-  roll-missing n = record {
+  unrolls-missing n = record {
     state = refl;
     below = λ n e. let z : _≡_ {A = ℕ} 0 1 = cc in absurd (omega arith);
     answer = λ t. meaning-refused heap (record { status = Refused Stuck; state = st }) refl
         ∙ sym (no-roll (kindAt heap node) _ _ (λ v. test (fits v) 14 t (give v)) (st .fuel) (omega (arith, G .right .node node low .kind)));
   }
 
+-- the answer is the node that a roll holds, or a refusal
+module _ {heap : List ℕ} {node : ℕ} where
+  as-status : (st : Machine) {a b : Status} → a ≡ b → Unrolls heap st node (record { status = b; state = st }) → Unrolls heap st node (record { status = a; state = st })
+  as-status st e u = rw e u
+
+  pub roll-held : kindAt heap node ≡ 4 → {part : ℕ} → part ≡ leftAt heap node → Unrolled heap node part
+  roll-held k {part} q = record {
+    is = λ st G low small. as-status st (is-value (omega (arith, held-lower st G low k part q))) (unrolls-held st G low k part q);
+  }
+
+  pub roll-missing : ¬ (kindAt heap node ≡ 4) → {r : ℕ} → statusOf r ≡ Refused Stuck → Unrolled heap node r
+  roll-missing n s = record { is = λ st G low small. as-status st s (unrolls-missing st G low n) }
+
 ----------------------------------------------------------------
 -- First match
 
-module _ {p terms heap slots : List ℕ} {sc : Scope} {t : ℕ} {out : Out} (C : CheckReady p terms heap slots sc t out) where
+module _ {p terms heap slots : List ℕ} {base q t : ℕ} {out : Out} (C : CheckReady p terms heap slots base q t out) where
   pub check-room : getD terms t 0 + 8 ≤ length p
   check-room = omega (arith, case-room (C .entries .field t (C .term)) (C .kind))
 
   -- how the case goes on with a value
   abbrev next : List TypeEntry → Val → Run Val
-  next ys w = test (not (mayYield (ancillaeOf heap slots sc) (treeAt p terms ys (second p (getD terms t 0))) w)) 15 t (give w)
+  next ys w = test (not (mayYield (ancillaeAt heap slots base q) (treeAt p terms ys (second p (getD terms t 0))) w)) 15 t (give w)
 
-  pub check-refused : {why : Refusal} → out .status ≡ Refused why → Checks p terms heap slots sc t out out
+  pub check-refused : {why : Refusal} → out .status ≡ Refused why → Checks p terms heap slots base q t out out
   check-refused {why} s = record {
     state = refl;
     node = λ n e. e;
     answer = λ ys. meaning-refused heap out s ∙ sym (refusal-after why (next ys)) ∙ ap (λ x. after x (next ys)) (sym (meaning-refused heap out s));
   }
 
-  module _ {node : ℕ} (s : out .status ≡ Value node) (b : ℕ) (q : b ≡ second p (getD terms t 0)) where
-    pub check-asks : Yields p terms heap slots (out .state .top) (sc .base) (sc .q) b node
+  module _ {node : ℕ} (s : out .status ≡ Value node) (b : ℕ) (e : b ≡ second p (getD terms t 0)) where
+    pub check-asks : Yields p terms heap slots (out .state .top) base q b node
     unfolding termsOfTerm
     check-asks = record {
       program = C .entries;
-      term = rw q (omega (arith, second-lower (C .entries) t (C .term) (term-case p (getD terms t 0) (C .kind)) refl, C .term));
+      term = rw e (omega (arith, second-lower (C .entries) t (C .term) (term-case p (getD terms t 0) (C .kind)) refl, C .term));
       graph = C .graph;
       value = C .node node s;
       ancillae = C .ancillae;
     }
 
-    module _ {r : Bool} (Y : MayYield p terms heap slots (sc .base) (sc .q) b node r) where
-      yields-said : (ys : List TypeEntry) → mayYield (ancillaeOf heap slots sc) (treeAt p terms ys (second p (getD terms t 0))) (valueAt heap node) ≡ r
-      yields-said ys = ap (λ b. mayYield (ancillaeOf heap slots sc) (treeAt p terms ys b) (valueAt heap node)) (sym q) ∙ sym (Y .answer ys)
+    module _ {r : Bool} (Y : MayYield p terms heap slots base q b node r) where
+      yields-said : (ys : List TypeEntry) → mayYield (ancillaeAt heap slots base q) (treeAt p terms ys (second p (getD terms t 0))) (valueAt heap node) ≡ r
+      yields-said ys = ap (λ b. mayYield (ancillaeAt heap slots base q) (treeAt p terms ys b) (valueAt heap node)) (sym e) ∙ sym (Y .answer ys)
 
       went-on : (ys : List TypeEntry) → after (meaning heap out) (next ys) ≡ test (not r) 15 t (give (valueAt heap node)) (out .state .fuel)
       went-on ys =
           via (next ys) (meaning-value heap out s) refl
           ∙ ap (λ b. test (not b) 15 t (give (valueAt heap node)) (out .state .fuel)) (yields-said ys)
 
-      pub check-passes : r ≡ false → Checks p terms heap slots sc t out out
+      pub check-passes : r ≡ false → Checks p terms heap slots base q t out out
       unfolding test
-      check-passes e = record {
+      check-passes f = record {
         state = refl;
         node = λ n e. e;
-        answer = λ ys. meaning-value heap out s ∙ sym (went-on ys ∙ ap (λ b. test (not b) 15 t (give (valueAt heap node)) (out .state .fuel)) e);
+        answer = λ ys. meaning-value heap out s ∙ sym (went-on ys ∙ ap (λ b. test (not b) 15 t (give (valueAt heap node)) (out .state .fuel)) f);
       }
 
-      pub check-yields : r ≡ true → Checks p terms heap slots sc t out (record { status = Refused (FirstMatch t); state = out .state })
+      pub check-yields : r ≡ true → {a : Status} → a ≡ Refused (FirstMatch t) → Checks p terms heap slots base q t out (record { status = a; state = out .state })
       unfolding test refusalOf
-      check-yields e = record {
+      check-yields f {a} s′ = record {
         state = refl;
         node = λ n e. let z : _≡_ {A = ℕ} 0 1 = cc in absurd (omega arith);
-        answer = λ ys. meaning-refused heap (record { status = Refused (FirstMatch t); state = out .state }) refl
-            ∙ sym (went-on ys ∙ ap (λ b. test (not b) 15 t (give (valueAt heap node)) (out .state .fuel)) e);
+        answer = λ ys. meaning-refused heap (record { status = a; state = out .state }) s′
+            ∙ sym (went-on ys ∙ ap (λ b. test (not b) 15 t (give (valueAt heap node)) (out .state .fuel)) f);
       }

@@ -3,6 +3,8 @@
 pub mod Trees
 -- what is read is inside the program
 pub mod Bounds
+-- answers as numbers
+pub mod Answers
 -- runs in code, one after another
 pub mod Runs
 -- new nodes

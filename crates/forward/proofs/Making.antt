@@ -12,11 +12,13 @@ use package.Rattle.rules.specs.Run.{give, test}
 use package.Rattle.values.specs.Nodes.{valueAt, Grown, Made}
 use package.Rattle.values.proofs.Heaps.{value-kept}
 use package.Rattle.values.proofs.Places.{agree-refl}
-use package.Rattle.forward.specs.Outcomes.{refusalOf, finished}
+use package.Rattle.forward.specs.Outcomes.{Machine, Out, stopped, statusOf, refusalOf, finished}
 use package.Rattle.forward.specs.Ready.{Graph, Makes}
+use package.Rattle.forward.proofs.Answers.{is-value}
 use package.Rattle.forward.proofs.Runs.{meaning-value, meaning-refused}
 use Rattle.forward.specs.declared.outcomes.Refusal.the-variants.{Long}
-use Rattle.forward.specs.declared.outcomes.Machine.{Machine}
+use Rattle.forward.specs.declared.outcomes.Status.{Status}
+use Rattle.forward.specs.declared.outcomes.Status.the-variants.{Refused}
 
 graph-grown : {heap heap′ : List ℕ} {top : ℕ} {v : Val} → Graph heap top → Grown heap heap′ top v → fits v ≡ true → Graph heap′ (top + 1)
 graph-grown {heap} {heap′} {top} {v} G g f = record { right = g .right; short = λ n h. ⊎-elim (λ e. ap fits (ap (valueAt heap′) e ∙ g .value) ∙ f) (λ l. older n l) (split n (omega arith)) }
@@ -36,7 +38,7 @@ unfolding test refusalOf
 test-false b n t v fuel e = rw e
 
 -- a new node of a value within the limit
-pub makes-new : {heap heap′ : List ℕ} {st : Machine} {v : Val} (t : ℕ) → Graph heap (st .top) → Grown heap heap′ (st .top) v → fits v ≡ true → Makes heap heap′ st (finished true st t) t v
+makes-new : {heap heap′ : List ℕ} {st : Machine} {v : Val} (t : ℕ) → Graph heap (st .top) → Grown heap heap′ (st .top) v → fits v ≡ true → Makes heap heap′ st (finished true st t) t v
 unfolding finished
 makes-new {heap} {heap′} {st} {v} t G g f = record {
   agree = g .agree;
@@ -64,3 +66,21 @@ makes-old {heap} {st} {v} t G f = record {
 pub makes : {heap heap′ : List ℕ} {st : Machine} {v : Val} (t : ℕ) (b : Bool) → Graph heap (st .top) → Made heap heap′ (st .top) v b → Makes heap heap′ st (finished b st t) t v
 makes t true G d = makes-new t G (d .new refl) (sym (d .answer))
 makes {heap} {heap′} {st} {v} t false G d = rw (d .old refl) (makes-old t G (sym (d .answer)))
+
+-- a number that finishes so
+module _ (st : Machine) {made : Bool} (t : ℕ) where
+  pub finish-new : made ≡ true → st .top < stopped → record { status = statusOf (st .top); state = record { top = st .top + 1; fuel = st .fuel } } ≡ finished made st t
+  unfolding finished
+  finish-new e l = rw (finished, e, is-value l)
+
+  pub finish-old : made ≡ false → {s : Status} → s ≡ Refused (Long t) → record { status = s; state = st } ≡ finished made st t
+  unfolding finished
+  finish-old e q = rw (finished, e, q)
+
+-- the same of an answer that is finished so
+module _ {heap heap′ : List ℕ} {st : Machine} {v : Val} {t : ℕ} {out : Out} where
+  pub makes-as : {b : Bool} → out ≡ finished b st t → Graph heap (st .top) → Made heap heap′ (st .top) v b → Makes heap heap′ st out t v
+  makes-as {b} e G d = rw e (makes t b G d)
+
+  pub makes-new-as : out ≡ finished true st t → Graph heap (st .top) → Grown heap heap′ (st .top) v → fits v ≡ true → Makes heap heap′ st out t v
+  makes-new-as e G g f = rw e (makes-new t G g f)

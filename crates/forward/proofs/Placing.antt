@@ -19,17 +19,15 @@ use package.Rattle.calls.specs.Entries.{TypeEntry, termTrees, references, callA
 use package.Rattle.program.specs.Parts.{listed}
 use package.Rattle.values.specs.Nodes.{valueAt}
 use package.Rattle.values.proofs.Heaps.{value-kept}
+use package.Rattle.scopes.specs.Slots.{slotCount}
 use package.Rattle.forward.specs.Code.{treeAt, programAt}
-use package.Rattle.forward.specs.Outcomes.{refusalOf}
+use package.Rattle.forward.specs.Outcomes.{Machine, Scope, Out, refusalOf}
 use package.Rattle.forward.specs.Ready.{Ready, Ran, ancillaeOf, stateOf, runOf, valuesAt, argumentsOf, placedOf, Places, Calls}
 use package.Rattle.forward.proofs.Trees.{few-ancillae, part-argument}
 use package.Rattle.forward.proofs.Runs.{refusal-after, answered, refused, says, then, fewer, ancillae-later, state-later, part}
 use Rattle.forward.specs.declared.outcomes.Refusal.{Refusal}
 use Rattle.forward.specs.declared.outcomes.Status.{Status}
 use Rattle.forward.specs.declared.outcomes.Status.the-variants.{Value, Refused}
-use Rattle.forward.specs.declared.outcomes.Machine.{Machine}
-use Rattle.forward.specs.declared.outcomes.Scope.{Scope}
-use Rattle.forward.specs.declared.outcomes.Out.{Out}
 
 ----------------------------------------------------------------
 -- Arguments one after the other
@@ -110,8 +108,8 @@ module _ {p terms functions heap slots : List ℕ} {st : Machine} {sc : Scope} {
   few-count = omega (arith, C .ancillae, few-ancillae (rd .code .entries) t (rd .term) (rd .few) (C .kind))
 
   -- the slot of argument `k` is there
-  pub place-room : m + k < length slots
-  place-room = omega (arith, rd .variables, rd .tall, few-count, C .next)
+  pub place-room : m + k < slotCount
+  place-room = omega (arith, rd .variables, rd .full, rd .tall, few-count, C .next)
 
   -- the next argument
   pub place-less : ¬ (k ≡ count) → k < count
@@ -177,7 +175,7 @@ module _ {p terms functions heap slots : List ℕ} {st : Machine} {sc : Scope} {
         }
           where
             here : getD slots₂ (m + k) 0 ≡ x
-            here = rw e₂ (getD-set-same slots₁ (m + k) x 0 (omega (arith, place-room, d .lengths)))
+            here = rw e₂ (getD-set-same slots₁ (m + k) x 0 (omega (arith, place-room, rd .full, d .lengths)))
 
             value-next : (next : List Val → Val → Run Val) (ys : List TypeEntry)
                 → after (go ys (treeAt p terms ys (listed p at count)) (st .fuel)) (next []) ≡ next [] (valueAt heap₁ x) (r₁ .state .fuel)
@@ -187,7 +185,7 @@ module _ {p terms functions heap slots : List ℕ} {st : Machine} {sc : Scope} {
         module _ (l : k < count) {heap₂ slots₂ : List ℕ} {r₂ : Out} (D : Places p terms functions heap₁ heap₂ slots₁ slots₂ (r₁ .state) sc t room (k + 1) count r₂)
             (slots₃ : List ℕ) (e₃ : slots₃ ≡ set slots₂ (m + k) x) where
           here : getD slots₃ (m + k) 0 ≡ x
-          here = rw e₃ (getD-set-same slots₂ (m + k) x 0 (omega (arith, place-room, d .lengths, D .ran .lengths)))
+          here = rw e₃ (getD-set-same slots₂ (m + k) x 0 (omega (arith, place-room, rd .full, d .lengths, D .ran .lengths)))
 
           elsewhere : (j : ℕ) → ¬ (j ≡ m + k) → getD slots₂ j 0 ≡ getD slots₃ j 0
           elsewhere j n = rw e₃ (sym (getD-set-other slots₂ (m + k) j x 0 n))

@@ -16,14 +16,11 @@ use package.Rattle.scopes.proofs.Scopes.{state-same, state-kept}
 use package.Rattle.yields.specs.Yields.{Ancillae}
 use package.Rattle.yields.proofs.Ancillae.{ancillae-same, ancillae-kept}
 use package.Rattle.forward.specs.Code.{treeAt, FewArguments}
-use package.Rattle.forward.specs.Outcomes.{refusalOf, answerOf, meaning}
+use package.Rattle.forward.specs.Outcomes.{Machine, Scope, Out, refusalOf, answerOf, meaning}
 use package.Rattle.forward.specs.Ready.{Graph, Ready, Ran, Makes, ancillaeOf, stateOf}
 use Rattle.forward.specs.declared.outcomes.Refusal.{Refusal}
 use Rattle.forward.specs.declared.outcomes.Refusal.the-variants.{Fuel, Height, Long, FirstMatch, Stuck}
 use Rattle.forward.specs.declared.outcomes.Status.the-variants.{Value, Refused}
-use Rattle.forward.specs.declared.outcomes.Machine.{Machine}
-use Rattle.forward.specs.declared.outcomes.Scope.{Scope}
-use Rattle.forward.specs.declared.outcomes.Out.{Out}
 
 ----------------------------------------------------------------
 -- What an outcome says
@@ -97,9 +94,9 @@ module _ {heap : List ℕ} {st : Machine} (G : Graph heap (st .top)) (m : ℕ) (
     answer = a;
   }
 
-  pub stopped : (out : Out) {w : Refusal} {res : List TypeEntry → Res Val} → out .state ≡ st → out .status ≡ Refused w
+  pub halted : (out : Out) {w : Refusal} {res : List TypeEntry → Res Val} → out .state ≡ st → out .status ≡ Refused w
       → ((ys : List TypeEntry) → res ys ≡ refusalOf w) → Ran 0 heap heap m slots slots st out res
-  stopped out e s a =
+  halted out e s a =
       still out e (λ n q. let z : _≡_ {A = ℕ} 0 1 = cc in absurd (omega arith)) (λ ys. meaning-refused heap out s ∙ sym (a ys))
 
 -- a node was made, or its value is too long
@@ -153,7 +150,7 @@ module _ {heap heap₁ : List ℕ} {m : ℕ} {slots slots₁ : List ℕ} {st : M
 
 module _ {k v : ℕ} {p terms functions heap slots : List ℕ} {st : Machine} {sc : Scope} {t room : ℕ} (rd : Ready k v p terms functions heap slots st sc t room) where
   pub ancillae-held : Ancillae slots (sc .base) (sc .q) (st .top)
-  ancillae-held = record { there = omega (arith, rd .variables, rd .within); known = rd .ancillae }
+  ancillae-held = record { there = omega (arith, rd .variables, rd .within, rd .full); known = rd .ancillae }
 
   -- with fewer variables to come
   pub fewer : (v′ : ℕ) → v′ ≤ v → Ready k v′ p terms functions heap slots st sc t room
@@ -168,6 +165,7 @@ module _ {k v : ℕ} {p terms functions heap slots : List ℕ} {st : Machine} {s
     nodes = rd .nodes;
     small = rd .small;
     variables = omega (arith, rd .variables);
+    full = rd .full;
     tall = rd .tall;
   }
 
@@ -189,6 +187,7 @@ module _ {k v : ℕ} {p terms functions heap slots : List ℕ} {st : Machine} {s
       nodes = omega (arith, rd .nodes, d .owes, d .agree .lengths);
       small = omega (arith, rd .small, d .owes);
       variables = omega (arith, rd .variables, d .lengths);
+      full = sym (d .lengths) ∙ rd .full;
       tall = rd .tall;
     }
 
@@ -216,5 +215,6 @@ part rd b q = record {
   nodes = omega (arith, rd .nodes);
   small = omega (arith, rd .small);
   variables = omega (arith, rd .variables, rd .tall);
+  full = rd .full;
   tall = omega arith;
 }

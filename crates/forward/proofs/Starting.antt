@@ -14,16 +14,15 @@ use package.Rattle.rules.specs.Machine.{forward, runForward}
 use package.Rattle.calls.specs.Entries.{TypeEntry}
 use package.Rattle.program.specs.Parts.{body}
 use package.Rattle.values.specs.Nodes.{nodeBytes, valueAt}
-use package.Rattle.scopes.specs.Slots.{unknown, meaning as slotMeaning, stateAt}
+use package.Rattle.scopes.specs.Slots.{unknown, slotCount, meaning as slotMeaning, stateAt}
 use package.Rattle.scopes.proofs.Marks.{found-node}
 use package.Rattle.scopes.proofs.Scopes.{state-front}
 use package.Rattle.yields.specs.Yields.{ancillaeAt, Ancillae}
 use package.Rattle.yields.proofs.Ancillae.{state-ancillae}
 use package.Rattle.forward.specs.Code.{treeAt, programAt, Code}
+use package.Rattle.forward.specs.Outcomes.{Machine, Scope, stopped}
 use package.Rattle.forward.specs.Ready.{Graph, Ready, runOf, valuesAt}
 use package.Rattle.forward.proofs.Trees.{called-tree, called-body}
-use Rattle.forward.specs.declared.outcomes.Machine.{Machine}
-use Rattle.forward.specs.declared.outcomes.Scope.{Scope}
 
 ----------------------------------------------------------------
 -- Arguments as a scope
@@ -74,9 +73,9 @@ module _ (p terms functions heap slots : List ℕ) (st : Machine) (base count : 
 
 -- The first function of a run has its arguments in the first slots.
 pub start-ready : {p terms functions heap slots : List ℕ} {st : Machine} {count g b room : ℕ} → Code p terms functions → g < length functions → b ≡ body p (getD functions g 0)
-    → Graph heap (st .top) → ((i : ℕ) → i ≤ count → getD slots i 0 < st .top) → nodeBytes * (st .top + st .fuel) ≤ length heap → st .top + st .fuel ≤ unknown
-    → count + 1 + 8 * room ≤ length slots → Ready 0 0 p terms functions heap slots st (argumentScope 0 count) b room
-start-ready {slots = slots} {st = st} {count = count} {g = g} K l q G low nodes small fit = record {
+    → Graph heap (st .top) → ((i : ℕ) → i ≤ count → getD slots i 0 < st .top) → nodeBytes * (st .top + st .fuel) ≤ length heap → st .top + st .fuel ≤ stopped
+    → count + 1 + 8 * room ≤ slotCount → length slots ≡ slotCount → Ready 0 0 p terms functions heap slots st (argumentScope 0 count) b room
+start-ready {slots = slots} {st = st} {count = count} {g = g} K l q G low nodes small fit full = record {
   code = K;
   term = rw q (K .function g l .there);
   few = rw q (K .function g l .few);
@@ -87,5 +86,6 @@ start-ready {slots = slots} {st = st} {count = count} {g = g} K l q G low nodes 
   nodes = omega arith;
   small = omega arith;
   variables = omega arith;
+  full = full;
   tall = omega arith;
 }

@@ -28,35 +28,15 @@ use package.Rattle.scopes.proofs.Marks.{found-mark, found-node, slot-in, slot-o
 use package.Rattle.scopes.proofs.Scopes.{known-state}
 use package.Rattle.yields.specs.Yields.{Wraps}
 use package.Rattle.forward.specs.Code.{treeAt, programAt}
-use package.Rattle.forward.specs.Outcomes.{refusalOf, meaning, foundOut}
+use package.Rattle.forward.specs.Outcomes.{Machine, Scope, Out, stopped, refusalOf, meaning, foundOut}
 use package.Rattle.forward.specs.Ready.{Ready, Ran, Makes, Unrolls, ancillaeOf, stateOf, runOf, stepOf}
 use package.Rattle.forward.proofs.Trees.{Part, tree-var, tree-unit, tree-inl, tree-inr, tree-pair, tree-roll, tree-unroll, tree-entry, part-inl, part-inr, part-roll, part-unroll, parts-pair}
-use package.Rattle.forward.proofs.Runs.{meaning-value, says, slack, still, stopped, one-node, part-refused, part-answered, fewer, ancillae-later, state-later, part}
+use package.Rattle.forward.proofs.Runs.{meaning-value, says, slack, still, halted, one-node, part-refused, part-answered, fewer, ancillae-later, state-later, part}
 use package.Rattle.forward.proofs.Making.{test-true}
+use package.Rattle.forward.proofs.Leaves.{slot-node}
 use Rattle.forward.specs.declared.outcomes.Refusal.{Refusal}
 use Rattle.forward.specs.declared.outcomes.Refusal.the-variants.{Fuel, Height}
 use Rattle.forward.specs.declared.outcomes.Status.the-variants.{Value, Refused}
-use Rattle.forward.specs.declared.outcomes.Machine.{Machine}
-use Rattle.forward.specs.declared.outcomes.Scope.{Scope}
-use Rattle.forward.specs.declared.outcomes.Out.{Out}
-
--- a variable's node is one of the graph's
-slot-node : (slots : List ℕ) (base n i top : ℕ) {node : ℕ} → Slots slots (base + n) top → slotAt slots base n i ≡ Node node → node < top
-slot-node slots base n i top {node} S e = go (decLt i n)
-  where
-    none-there : slotAt slots base n i ≡ Unknown → node < top
-    none-there q = let z : _≡_ {A = ℕ} 0 1 = cc in absurd (omega arith)
-
-    there : i < n → (b : Bool) → eqb (getD slots (base + i) 0) unknown ≡ b → node < top
-    there l true q = none-there (slot-in slots base n i l ∙ found-mark _ (eqb-true _ unknown q))
-    there l false q =
-        let s : slotAt slots base n i ≡ Node (getD slots (base + i) 0) = slot-in slots base n i l ∙ found-node _ (eqb-false _ unknown q) in
-        let z : getD slots (base + i) 0 ≡ node = cc in
-        ⊎-elim (λ x. absurd (eqb-false _ unknown q x)) (λ below. rw (← z) below) (S .held (base + i) (omega arith))
-
-    go : Dec (i < n) → node < top
-    go (yes l) = there l (eqb (getD slots (base + i) 0) unknown) refl
-    go (no l) = none-there (slot-out slots base n i (omega arith))
 
 ----------------------------------------------------------------
 -- A term is entered
@@ -86,14 +66,14 @@ module _ {p terms functions heap slots : List ℕ} {st : Machine} {sc : Scope} {
       → Ran 0 heap heap (sc .base + sc .n) slots slots st r (runOf p terms functions heap slots st sc t room)
   unfolding refusalOf
   term-spent r s q z =
-      stopped (rd .graph) _ slots r q s (λ ys. spent (programAt p terms functions ys) _ _ _ room (st .fuel) z ∙ ap (stop 12) (place ys))
+      halted (rd .graph) _ slots r q s (λ ys. spent (programAt p terms functions ys) _ _ _ room (st .fuel) z ∙ ap (stop 12) (place ys))
 
   module _ (some-fuel : ¬ (st .fuel ≡ 0)) where
     pub term-high : (r : Out) → r .status ≡ Refused (Height t) → r .state ≡ st → room ≡ 0
         → Ran 0 heap heap (sc .base + sc .n) slots slots st r (runOf p terms functions heap slots st sc t room)
     unfolding refusalOf
     term-high r s q z =
-        stopped (rd .graph) _ slots r q s
+        halted (rd .graph) _ slots r q s
         (λ ys. high (programAt p terms functions ys) _ _ _ room (st .fuel) z (pos-of-ne-zero some-fuel) ∙ ap (stop 13) (place ys))
 
     module _ (some-room : ¬ (room ≡ 0)) where
@@ -116,6 +96,7 @@ module _ {p terms functions heap slots : List ℕ} {st : Machine} {sc : Scope} {
             nodes = omega (arith, rd .nodes);
             small = omega (arith, rd .small);
             variables = rd .variables;
+            full = rd .full;
             tall = omega arith;
           }
 
@@ -164,7 +145,7 @@ module _ {p terms functions heap slots : List ℕ} {st : Machine} {sc : Scope} {
       ap₂ (λ a σ. forward fits (programAt p terms functions ys) (room - 1) a σ (treeAt p terms ys b) (r₁ .state .fuel)) (sym (ancillae-later rd d)) (sym (state-later rd d))
 
   -- room for one node
-  pub node-room : Room heap (st .top + 1) × (st .top < unknown)
+  pub node-room : Room heap (st .top + 1) × (st .top < stopped)
   node-room = (omega (arith, rd .nodes), omega (arith, rd .small))
 
   ----------------------------------------------------------------
@@ -193,7 +174,7 @@ module _ {p terms functions heap slots : List ℕ} {st : Machine} {sc : Scope} {
             ∙ sym (test-true (fits (valueAt heap node)) 14 t (valueAt heap node) (st .fuel) (rd .graph .short node below))
             ∙ sym (step-var ys ∙ ap (λ f. onSome (slotMeaning heap f) (λ v. test (fits v) 14 t (give v)) (st .fuel)) q))
         go Unknown q =
-            stopped (rd .graph) m slots r (ap (λ (r : Out). r .state) (read q)) (ap (λ (r : Out). r .status) (read q))
+            halted (rd .graph) m slots r (ap (λ (r : Out). r .state) (read q)) (ap (λ (r : Out). r .status) (read q))
             (λ ys. step-var ys ∙ ap (λ f. onSome (slotMeaning heap f) (λ v. test (fits v) 14 t (give v)) (st .fuel)) q)
 
   module _ (kind : kindAt p at ≡ 1) where

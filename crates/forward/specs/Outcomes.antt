@@ -1,7 +1,11 @@
--- What the outcome of a run in code means: an answer of rules/specs/Run, with document 01's numbers of refusals (section 4).
-use Prim.Native.Nat.{ℕ, _+_}
+-- What a run in code has and answers, by the numbers that the code holds, and what an answer means: an answer of rules/specs/Run, with
+-- document 01's numbers of refusals (section 4). Laws: proofs/Answers, Runs.
+use Prim.Native.Nat.{ℕ, _+_, _-_, _*_, _/_, _%_}
+use mathlib.Core.Path.{_≡_}
 use mathlib.Core.Bool.{Bool, true, false}
 use mathlib.Core.List.{List}
+use lib.ListN.{getD}
+use lib.Dec.{eqb, ltb}
 use package.Rattle.rules.specs.Val.{Val}
 use package.Rattle.rules.specs.Run.{Res, ok, stop, stuck}
 use package.Rattle.values.specs.Nodes.{valueAt}
@@ -11,8 +15,66 @@ use Rattle.forward.specs.declared.outcomes.Refusal.{Refusal}
 use Rattle.forward.specs.declared.outcomes.Refusal.the-variants.{Fuel, Height, Long, FirstMatch, Stuck}
 use Rattle.forward.specs.declared.outcomes.Status.{Status}
 use Rattle.forward.specs.declared.outcomes.Status.the-variants.{Value, Refused}
-use Rattle.forward.specs.declared.outcomes.Machine.{Machine}
-use Rattle.forward.specs.declared.outcomes.Out.{Out}
+
+----------------------------------------------------------------
+-- What a run has
+
+-- the nodes below `top`, and fuel
+pub record Machine : Type 0 where
+  pub top : ℕ
+  pub fuel : ℕ
+
+-- the scope of the function at hand: variable i is slot base + i, `n` of them, the ancilla parameters the first `q`
+pub record Scope : Type 0 where
+  pub base : ℕ
+  pub q : ℕ
+  pub n : ℕ
+
+-- a machine as it is lent, two numbers
+abbrev pub machineOf : List ℕ → Machine
+machineOf m = record { top = getD m 0 0; fuel = getD m 1 0 }
+
+abbrev pub scopeOf : ℕ → ℕ → ℕ → Scope
+scopeOf base q n = record { base = base; q = q; n = n }
+
+----------------------------------------------------------------
+-- Answers
+
+-- An answer below this number is a node. From here on it is a refusal: its number, of which the place is 65536, and its term.
+abbrev pub stopped : ℕ
+stopped = 2147483648
+
+-- a refusal by its number; no number of section 4 is a value of wrong shape
+unfoldable pub refusalIn : ℕ → ℕ → Refusal
+refusalIn number t = elim (eqb number 12) [
+  | true ↦ Fuel t
+  | false ↦ elim (eqb number 13) [
+    | true ↦ Height t
+    | false ↦ elim (eqb number 14) [
+      | true ↦ Long t
+      | false ↦ elim (eqb number 15) [ true ↦ FirstMatch t | false ↦ Stuck ]
+    ]
+  ]
+]
+
+unfoldable pub statusOf : ℕ → Status
+statusOf r = elim (ltb r stopped) [ true ↦ Value r | false ↦ Refused (refusalIn ((r - stopped) / 65536) ((r - stopped) % 65536)) ]
+
+-- the answer that is this refusal
+pub record Stops (r number t : ℕ) : Type 0 where
+  pub is : r ≡ stopped + 65536 * number + t
+  pub status : statusOf r ≡ Refused (refusalIn number t)
+
+-- an answer, with the machine that is left
+pub record Out : Type 0 where
+  pub status : Status
+  pub state : Machine
+
+abbrev pub outOf : ℕ → List ℕ → Out
+outOf r m = record { status = statusOf r; state = machineOf m }
+
+----------------------------------------------------------------
+-- What an answer means
 
 -- the number of a refusal, and its place
 unfoldable pub refusalOf : {A : Type 0} → Refusal → Res A
@@ -41,3 +103,7 @@ finished made st t = elim made [
 unfoldable pub foundOut : Found → Machine → Out
 foundOut (Node node) st = record { status = Value node; state = st }
 foundOut Unknown st = record { status = Refused Stuck; state = st }
+
+-- The answer `r` is what was found, whatever the machine is.
+pub record Finds (r : ℕ) (f : Found) : Type 0 where
+  pub is : (st : Machine) → record { status = statusOf r; state = st } ≡ foundOut f st

@@ -15,15 +15,12 @@ use package.Rattle.calls.specs.Fields.{kindAt, lengthAt}
 use package.Rattle.calls.specs.Entries.{TypeEntry, termTrees, references, callAncillae}
 use package.Rattle.program.specs.Parts.{second, listed}
 use package.Rattle.values.specs.Nodes.{nodeBytes, valueAt, Agree, Heap}
-use package.Rattle.scopes.specs.Slots.{unknown, stateAt, Slots}
+use package.Rattle.scopes.specs.Slots.{slotCount, stateAt, Slots}
 use package.Rattle.yields.specs.Yields.{ancillaeAt, Ancillae, AcceptedTerms}
 use package.Rattle.forward.specs.Code.{treeAt, programAt, FewArguments, Code}
-use package.Rattle.forward.specs.Outcomes.{refusalOf, meaning}
+use package.Rattle.forward.specs.Outcomes.{Machine, Scope, Out, stopped, statusOf, refusalOf, meaning}
 use Rattle.forward.specs.declared.outcomes.Status.{Status}
 use Rattle.forward.specs.declared.outcomes.Status.the-variants.{Value, Refused}
-use Rattle.forward.specs.declared.outcomes.Machine.{Machine}
-use Rattle.forward.specs.declared.outcomes.Scope.{Scope}
-use Rattle.forward.specs.declared.outcomes.Out.{Out}
 
 ----------------------------------------------------------------
 -- The value graph in a run
@@ -37,7 +34,7 @@ pub record Graph (heap : List ℕ) (top : ℕ) : Type 0 where
 -- Before
 
 -- Term `t` can be evaluated in a scope, with height `room` left: there is room for a node for each unit of fuel and `k` nodes more, and
--- for `v` variables more than the height says. No node has the number that marks a variable as not known.
+-- for `v` variables more than the height says. Every node is an answer, so none has the number that marks a variable as not known.
 pub record Ready (k v : ℕ) (p terms functions heap slots : List ℕ) (st : Machine) (sc : Scope) (t room : ℕ) : Type 0 where
   pub code : Code p terms functions
   pub term : t < length terms
@@ -47,8 +44,9 @@ pub record Ready (k v : ℕ) (p terms functions heap slots : List ℕ) (st : Mac
   pub ancillae : (i : ℕ) → i < sc .q → getD slots (sc .base + i) 0 < st .top
   pub within : sc .q ≤ sc .n
   pub nodes : nodeBytes * (st .top + st .fuel + k) ≤ length heap
-  pub small : st .top + st .fuel + k ≤ unknown
+  pub small : st .top + st .fuel + k ≤ stopped
   pub variables : sc .base + sc .n + v + 8 * room ≤ length slots
+  pub full : length slots ≡ slotCount
   pub tall : k ≤ room
 
 ----------------------------------------------------------------
@@ -148,18 +146,22 @@ pub record Unrolls (heap : List ℕ) (st : Machine) (node : ℕ) (r : Out) : Typ
   pub below : (n : ℕ) → r .status ≡ Value n → n < st .top
   pub answer : (t : ℕ) → meaning heap r ≡ onRoll (valueAt heap node) (λ v. test (fits v) 14 t (give v)) (st .fuel)
 
--- The right branch of case `t` gave `out`, and the left branch's form can be asked about it.
-pub record CheckReady (p terms heap slots : List ℕ) (sc : Scope) (t : ℕ) (out : Out) : Type 0 where
+-- The same of the answer `r`, whatever the machine is that the node is of.
+pub record Unrolled (heap : List ℕ) (node r : ℕ) : Type 0 where
+  pub is : (st : Machine) → Graph heap (st .top) → node < st .top → st .top ≤ stopped → Unrolls heap st node (record { status = statusOf r; state = st })
+
+-- The right branch of case `t` gave `out`, and the left branch's form can be asked about it; `base` and `q` say where the ancillae are.
+pub record CheckReady (p terms heap slots : List ℕ) (base q t : ℕ) (out : Out) : Type 0 where
   pub entries : AcceptedTerms p terms
   pub term : t < length terms
   pub kind : kindAt p (getD terms t 0) ≡ 7
   pub graph : Heap heap (out .state .top)
-  pub ancillae : Ancillae slots (sc .base) (sc .q) (out .state .top)
+  pub ancillae : Ancillae slots base q (out .state .top)
   pub node : (n : ℕ) → out .status ≡ Value n → n < out .state .top
 
 -- The right branch of case `t` gave `out`; `r` is the answer, with the left branch's form asked whether it may yield it (15).
-pub record Checks (p terms heap slots : List ℕ) (sc : Scope) (t : ℕ) (out r : Out) : Type 0 where
+pub record Checks (p terms heap slots : List ℕ) (base q t : ℕ) (out r : Out) : Type 0 where
   pub state : r .state ≡ out .state
   pub node : (n : ℕ) → r .status ≡ Value n → out .status ≡ Value n
   pub answer : (ys : List TypeEntry) → meaning heap r
-      ≡ after (meaning heap out) (λ w. test (not (mayYield (ancillaeOf heap slots sc) (treeAt p terms ys (second p (getD terms t 0))) w)) 15 t (give w))
+      ≡ after (meaning heap out) (λ w. test (not (mayYield (ancillaeAt heap slots base q) (treeAt p terms ys (second p (getD terms t 0))) w)) 15 t (give w))

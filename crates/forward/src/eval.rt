@@ -1,364 +1,517 @@
 // Forward evaluation. `eval` tests fuel and height, takes one unit of fuel, and hands the term to the function of its kind; each of these
 // evaluates the term's parts in the written order. A function that is called has its slots behind those of its caller, so nothing is copied.
-// Evaluating in a scope leaves the slots of the scope as they are. Laws of each kind: proofs/Steps, Binds, Placing, Calling.
+// Evaluating in a scope leaves the slots of the scope as they are. A scope is `n` variables from slot `base` on, the ancilla parameters the
+// first `q`; the machine `m` is the first free node and the fuel. Laws of each kind: proofs/Steps, Binds, Placing, Calling.
 use crate::outcomes;
-use crate::outcomes::Machine;
-use crate::outcomes::Out;
-use crate::outcomes::Refusal;
-use crate::outcomes::Scope;
-use crate::outcomes::Status;
+use crate::outcomes::FUEL;
+use crate::outcomes::HEIGHT;
+use crate::outcomes::STOPPED;
+use crate::outcomes::STUCK;
 use crate::parts;
+use program::tables;
+use program::tables::FUNCTIONS;
+use program::tables::TERMS;
+use scopes::slots::SLOTS;
 ghost use mathlib.Core.Path.{_≡_};
 ghost use Prim.Native.Nat.{_+_, _≤_, _<_};
 ghost use lib.ListN.{getD};
 ghost use Rattle.calls.specs.Fields.{kindAt};
+ghost use Rattle.program.specs.Tables.{termPlaces, functionPlaces, Tables};
 ghost use Rattle.yields.specs.Yields.{Wraps};
+ghost use Rattle.forward.specs.Outcomes.{machineOf, scopeOf, outOf};
 ghost use Rattle.forward.specs.Ready.{Ready, Ran, runOf, underOf, stepOf, Places, Calls};
 
 // Term t, in a scope, with height `room` left.
 pub fn eval(
     p: &[u8],
-    terms: &[u16],
-    functions: &[u16],
+    terms: &[u16; TERMS],
+    functions: &[u16; FUNCTIONS],
     ws: &mut [u8],
-    slots: &mut [u32],
-    st: Machine,
-    sc: Scope,
+    slots: &mut [u32; SLOTS],
+    m: &mut [u32; 2],
+    base: usize,
+    q: usize,
+    n: usize,
     t: u16,
     room: u16,
-) -> Out
-    requires { ⌜ Ready 0 0 (now p) (now terms) (now functions) (now ws) (now slots) st sc t room ⌝ }
-    ensures { λ r. ⌜ Ran 0 (now (ws .entry)) (now (ws .exit)) (sc .base + sc .n) (now (slots .entry)) (now (slots .exit)) st r (runOf (now (p .entry)) (now (terms .entry)) (now (functions .entry)) (now (ws .entry)) (now (slots .entry)) st sc t room) ⌝ }
+) -> u32
+    requires { ⌜ Tables (now p) (now terms) (now functions) ⌝ }
+    requires { ⌜ Ready 0 0 (now p) (termPlaces (now p)) (functionPlaces (now p)) (now ws) (now slots) (machineOf (now m)) (scopeOf base q n) t room ⌝ }
+    ensures { λ r. ⌜ Ran 0 (now (ws .entry)) (now (ws .exit)) (base + n) (now (slots .entry)) (now (slots .exit)) (machineOf (now (m .entry))) (outOf r (now (m .exit))) (runOf (now (p .entry)) (termPlaces (now (p .entry))) (functionPlaces (now (p .entry))) (now (ws .entry)) (now (slots .entry)) (machineOf (now (m .entry))) (scopeOf base q n) t room) ⌝ }
 {
-    let fuel = st.fuel;
-    let top = st.top;
+    let fuel = m[1];
     if fuel == 0 {
-        return outcomes::refuse(st, Refusal::Fuel(t));
+        return outcomes::refuse(FUEL, t);
     }
     if room == 0 {
-        return outcomes::refuse(st, Refusal::Height(t));
+        return outcomes::refuse(HEIGHT, t);
     }
-    let s = Machine {
-        top: top,
-        fuel: fuel - 1,
-    };
-    let kind = program::views::kind(p, parts::offset(terms, t));
-    match kind {
-        0 => outcomes::variable(p, terms, slots, s, sc, t),
-        1 => outcomes::make_unit(ws, s, t),
-        2 => wrap(p, terms, functions, ws, slots, s, sc, t, room, 1),
-        3 => wrap(p, terms, functions, ws, slots, s, sc, t, room, 2),
-        4 => pair(p, terms, functions, ws, slots, s, sc, t, room),
-        5 => let_one(p, terms, functions, ws, slots, s, sc, t, room),
-        6 => let_two(p, terms, functions, ws, slots, s, sc, t, room),
-        7 => choose(p, terms, functions, ws, slots, s, sc, t, room),
-        8 => call(p, terms, functions, ws, slots, s, sc, t, room),
-        9 => wrap(p, terms, functions, ws, slots, s, sc, t, room, 4),
-        _ => unroll(p, terms, functions, ws, slots, s, sc, t, room),
+    *m = [m[0], fuel - 1];
+    match program::views::kind(p, tables::offset(terms, t)) {
+        0 => outcomes::variable(p, terms, slots, base, n, t),
+        1 => outcomes::make_unit(ws, m, t),
+        2 => wrap(p, terms, functions, ws, slots, m, base, q, n, t, room, 1),
+        3 => wrap(p, terms, functions, ws, slots, m, base, q, n, t, room, 2),
+        4 => pair(p, terms, functions, ws, slots, m, base, q, n, t, room),
+        5 => let_one(p, terms, functions, ws, slots, m, base, q, n, t, room),
+        6 => let_two(p, terms, functions, ws, slots, m, base, q, n, t, room),
+        7 => choose(p, terms, functions, ws, slots, m, base, q, n, t, room),
+        8 => call(p, terms, functions, ws, slots, m, base, q, n, t, room),
+        9 => wrap(p, terms, functions, ws, slots, m, base, q, n, t, room, 4),
+        _ => unroll(p, terms, functions, ws, slots, m, base, q, n, t, room),
     }
 }
 
 // Term t in the scope with one variable more.
 fn under(
     p: &[u8],
-    terms: &[u16],
-    functions: &[u16],
+    terms: &[u16; TERMS],
+    functions: &[u16; FUNCTIONS],
     ws: &mut [u8],
-    slots: &mut [u32],
-    st: Machine,
-    sc: Scope,
+    slots: &mut [u32; SLOTS],
+    m: &mut [u32; 2],
+    base: usize,
+    q: usize,
+    n: usize,
     node: u32,
     t: u16,
     room: u16,
-) -> Out
-    requires { ⌜ Ready 0 1 (now p) (now terms) (now functions) (now ws) (now slots) st sc t room ⌝ }
-    requires { ⌜ node < st .top ⌝ }
-    ensures { λ r. ⌜ Ran 0 (now (ws .entry)) (now (ws .exit)) (sc .base + sc .n) (now (slots .entry)) (now (slots .exit)) st r (underOf (now (p .entry)) (now (terms .entry)) (now (functions .entry)) (now (ws .entry)) (now (slots .entry)) st sc node t room) ⌝ }
+) -> u32
+    requires { ⌜ Tables (now p) (now terms) (now functions) ⌝ }
+    requires { ⌜ Ready 0 1 (now p) (termPlaces (now p)) (functionPlaces (now p)) (now ws) (now slots) (machineOf (now m)) (scopeOf base q n) t room ⌝ }
+    requires { ⌜ node < machineOf (now m) .top ⌝ }
+    ensures { λ r. ⌜ Ran 0 (now (ws .entry)) (now (ws .exit)) (base + n) (now (slots .entry)) (now (slots .exit)) (machineOf (now (m .entry))) (outOf r (now (m .exit))) (underOf (now (p .entry)) (termPlaces (now (p .entry))) (functionPlaces (now (p .entry))) (now (ws .entry)) (now (slots .entry)) (machineOf (now (m .entry))) (scopeOf base q n) node t room) ⌝ }
 {
-    let at = sc.base + sc.n;
+    let at = base + n;
     scopes::slots::bind(slots, at, node);
-    let inner = Scope {
-        base: sc.base,
-        q: sc.q,
-        n: sc.n + 1,
-    };
-    eval(p, terms, functions, ws, slots, st, inner, t, room)
+    eval(p, terms, functions, ws, slots, m, base, q, n + 1, t, room)
 }
 
 // inl, inr and roll, by the kind of node that they make.
 fn wrap(
     p: &[u8],
-    terms: &[u16],
-    functions: &[u16],
+    terms: &[u16; TERMS],
+    functions: &[u16; FUNCTIONS],
     ws: &mut [u8],
-    slots: &mut [u32],
-    st: Machine,
-    sc: Scope,
+    slots: &mut [u32; SLOTS],
+    m: &mut [u32; 2],
+    base: usize,
+    q: usize,
+    n: usize,
     t: u16,
     room: u16,
     kind: u8,
-) -> Out
-    requires { ⌜ Ready 1 0 (now p) (now terms) (now functions) (now ws) (now slots) st sc t room ⌝ }
-    requires { ⌜ Wraps (kindAt (now p) (getD (now terms) t 0)) kind ⌝ }
-    ensures { λ r. ⌜ Ran 1 (now (ws .entry)) (now (ws .exit)) (sc .base + sc .n) (now (slots .entry)) (now (slots .exit)) st r (stepOf (now (p .entry)) (now (terms .entry)) (now (functions .entry)) (now (ws .entry)) (now (slots .entry)) st sc t room) ⌝ }
+) -> u32
+    requires { ⌜ Tables (now p) (now terms) (now functions) ⌝ }
+    requires { ⌜ Ready 1 0 (now p) (termPlaces (now p)) (functionPlaces (now p)) (now ws) (now slots) (machineOf (now m)) (scopeOf base q n) t room ⌝ }
+    requires { ⌜ Wraps (kindAt (now p) (getD (termPlaces (now p)) t 0)) kind ⌝ }
+    ensures { λ r. ⌜ Ran 1 (now (ws .entry)) (now (ws .exit)) (base + n) (now (slots .entry)) (now (slots .exit)) (machineOf (now (m .entry))) (outOf r (now (m .exit))) (stepOf (now (p .entry)) (termPlaces (now (p .entry))) (functionPlaces (now (p .entry))) (now (ws .entry)) (now (slots .entry)) (machineOf (now (m .entry))) (scopeOf base q n) t room) ⌝ }
 {
     let part = parts::second_of(p, terms, t);
-    let r = eval(p, terms, functions, ws, slots, st, sc, part, room - 1);
-    let status = r.status;
-    let m = r.state;
-    match status {
-        Status::Value(x) => outcomes::make_single(ws, m, t, kind, x),
-        Status::Refused(_) => r,
+    let r = eval(
+        p,
+        terms,
+        functions,
+        ws,
+        slots,
+        m,
+        base,
+        q,
+        n,
+        part,
+        room - 1,
+    );
+    if STOPPED <= r {
+        return r;
     }
+    outcomes::make_single(ws, m, t, kind, r)
 }
 
 fn pair(
     p: &[u8],
-    terms: &[u16],
-    functions: &[u16],
+    terms: &[u16; TERMS],
+    functions: &[u16; FUNCTIONS],
     ws: &mut [u8],
-    slots: &mut [u32],
-    st: Machine,
-    sc: Scope,
+    slots: &mut [u32; SLOTS],
+    m: &mut [u32; 2],
+    base: usize,
+    q: usize,
+    n: usize,
     t: u16,
     room: u16,
-) -> Out
-    requires { ⌜ Ready 1 0 (now p) (now terms) (now functions) (now ws) (now slots) st sc t room ⌝ }
-    requires { ⌜ kindAt (now p) (getD (now terms) t 0) ≡ 4 ⌝ }
-    ensures { λ r. ⌜ Ran 1 (now (ws .entry)) (now (ws .exit)) (sc .base + sc .n) (now (slots .entry)) (now (slots .exit)) st r (stepOf (now (p .entry)) (now (terms .entry)) (now (functions .entry)) (now (ws .entry)) (now (slots .entry)) st sc t room) ⌝ }
+) -> u32
+    requires { ⌜ Tables (now p) (now terms) (now functions) ⌝ }
+    requires { ⌜ Ready 1 0 (now p) (termPlaces (now p)) (functionPlaces (now p)) (now ws) (now slots) (machineOf (now m)) (scopeOf base q n) t room ⌝ }
+    requires { ⌜ kindAt (now p) (getD (termPlaces (now p)) t 0) ≡ 4 ⌝ }
+    ensures { λ r. ⌜ Ran 1 (now (ws .entry)) (now (ws .exit)) (base + n) (now (slots .entry)) (now (slots .exit)) (machineOf (now (m .entry))) (outOf r (now (m .exit))) (stepOf (now (p .entry)) (termPlaces (now (p .entry))) (functionPlaces (now (p .entry))) (now (ws .entry)) (now (slots .entry)) (machineOf (now (m .entry))) (scopeOf base q n) t room) ⌝ }
 {
     let left = parts::first_of(p, terms, t);
     let right = parts::second_of(p, terms, t);
-    let r = eval(p, terms, functions, ws, slots, st, sc, left, room - 1);
-    let status = r.status;
-    let m = r.state;
-    match status {
-        Status::Value(x) => {
-            let r2 = eval(p, terms, functions, ws, slots, m, sc, right, room - 1);
-            let status2 = r2.status;
-            let m2 = r2.state;
-            match status2 {
-                Status::Value(y) => outcomes::make_pair(ws, m2, t, x, y),
-                Status::Refused(_) => r2,
-            }
-        }
-        Status::Refused(_) => r,
+    let r = eval(
+        p,
+        terms,
+        functions,
+        ws,
+        slots,
+        m,
+        base,
+        q,
+        n,
+        left,
+        room - 1,
+    );
+    if STOPPED <= r {
+        return r;
     }
+    let r2 = eval(
+        p,
+        terms,
+        functions,
+        ws,
+        slots,
+        m,
+        base,
+        q,
+        n,
+        right,
+        room - 1,
+    );
+    if STOPPED <= r2 {
+        return r2;
+    }
+    outcomes::make_pair(ws, m, t, r, r2)
 }
 
 // let x = e in b
 fn let_one(
     p: &[u8],
-    terms: &[u16],
-    functions: &[u16],
+    terms: &[u16; TERMS],
+    functions: &[u16; FUNCTIONS],
     ws: &mut [u8],
-    slots: &mut [u32],
-    st: Machine,
-    sc: Scope,
+    slots: &mut [u32; SLOTS],
+    m: &mut [u32; 2],
+    base: usize,
+    q: usize,
+    n: usize,
     t: u16,
     room: u16,
-) -> Out
-    requires { ⌜ Ready 1 0 (now p) (now terms) (now functions) (now ws) (now slots) st sc t room ⌝ }
-    requires { ⌜ kindAt (now p) (getD (now terms) t 0) ≡ 5 ⌝ }
-    ensures { λ r. ⌜ Ran 1 (now (ws .entry)) (now (ws .exit)) (sc .base + sc .n) (now (slots .entry)) (now (slots .exit)) st r (stepOf (now (p .entry)) (now (terms .entry)) (now (functions .entry)) (now (ws .entry)) (now (slots .entry)) st sc t room) ⌝ }
+) -> u32
+    requires { ⌜ Tables (now p) (now terms) (now functions) ⌝ }
+    requires { ⌜ Ready 1 0 (now p) (termPlaces (now p)) (functionPlaces (now p)) (now ws) (now slots) (machineOf (now m)) (scopeOf base q n) t room ⌝ }
+    requires { ⌜ kindAt (now p) (getD (termPlaces (now p)) t 0) ≡ 5 ⌝ }
+    ensures { λ r. ⌜ Ran 1 (now (ws .entry)) (now (ws .exit)) (base + n) (now (slots .entry)) (now (slots .exit)) (machineOf (now (m .entry))) (outOf r (now (m .exit))) (stepOf (now (p .entry)) (termPlaces (now (p .entry))) (functionPlaces (now (p .entry))) (now (ws .entry)) (now (slots .entry)) (machineOf (now (m .entry))) (scopeOf base q n) t room) ⌝ }
 {
     let bound = parts::first_of(p, terms, t);
     let body = parts::second_of(p, terms, t);
-    let r = eval(p, terms, functions, ws, slots, st, sc, bound, room - 1);
-    let status = r.status;
-    let m = r.state;
-    match status {
-        Status::Value(x) => under(p, terms, functions, ws, slots, m, sc, x, body, room - 1),
-        Status::Refused(_) => r,
+    let r = eval(
+        p,
+        terms,
+        functions,
+        ws,
+        slots,
+        m,
+        base,
+        q,
+        n,
+        bound,
+        room - 1,
+    );
+    if STOPPED <= r {
+        return r;
     }
+    under(
+        p,
+        terms,
+        functions,
+        ws,
+        slots,
+        m,
+        base,
+        q,
+        n,
+        r,
+        body,
+        room - 1,
+    )
 }
 
 // let (x, y) = e in b
 fn let_two(
     p: &[u8],
-    terms: &[u16],
-    functions: &[u16],
+    terms: &[u16; TERMS],
+    functions: &[u16; FUNCTIONS],
     ws: &mut [u8],
-    slots: &mut [u32],
-    st: Machine,
-    sc: Scope,
+    slots: &mut [u32; SLOTS],
+    m: &mut [u32; 2],
+    base: usize,
+    q: usize,
+    n: usize,
     t: u16,
     room: u16,
-) -> Out
-    requires { ⌜ Ready 1 0 (now p) (now terms) (now functions) (now ws) (now slots) st sc t room ⌝ }
-    requires { ⌜ kindAt (now p) (getD (now terms) t 0) ≡ 6 ⌝ }
-    ensures { λ r. ⌜ Ran 1 (now (ws .entry)) (now (ws .exit)) (sc .base + sc .n) (now (slots .entry)) (now (slots .exit)) st r (stepOf (now (p .entry)) (now (terms .entry)) (now (functions .entry)) (now (ws .entry)) (now (slots .entry)) st sc t room) ⌝ }
+) -> u32
+    requires { ⌜ Tables (now p) (now terms) (now functions) ⌝ }
+    requires { ⌜ Ready 1 0 (now p) (termPlaces (now p)) (functionPlaces (now p)) (now ws) (now slots) (machineOf (now m)) (scopeOf base q n) t room ⌝ }
+    requires { ⌜ kindAt (now p) (getD (termPlaces (now p)) t 0) ≡ 6 ⌝ }
+    ensures { λ r. ⌜ Ran 1 (now (ws .entry)) (now (ws .exit)) (base + n) (now (slots .entry)) (now (slots .exit)) (machineOf (now (m .entry))) (outOf r (now (m .exit))) (stepOf (now (p .entry)) (termPlaces (now (p .entry))) (functionPlaces (now (p .entry))) (now (ws .entry)) (now (slots .entry)) (machineOf (now (m .entry))) (scopeOf base q n) t room) ⌝ }
 {
     let bound = parts::first_of(p, terms, t);
     let body = parts::second_of(p, terms, t);
-    let r = eval(p, terms, functions, ws, slots, st, sc, bound, room - 1);
-    let status = r.status;
-    let m = r.state;
-    match status {
-        Status::Value(x) => {
-            let kind = values::nodes::kind_of(ws, x);
-            if kind != 3 {
-                return outcomes::refuse(m, Refusal::Stuck);
-            }
-            let left = values::nodes::left_of(ws, x);
-            let right = values::nodes::right_of(ws, x);
-            let at = sc.base + sc.n;
-            scopes::slots::bind(slots, at, left);
-            let inner = Scope {
-                base: sc.base,
-                q: sc.q,
-                n: sc.n + 1,
-            };
-            under(
-                p,
-                terms,
-                functions,
-                ws,
-                slots,
-                m,
-                inner,
-                right,
-                body,
-                room - 1,
-            )
-        }
-        Status::Refused(_) => r,
+    let r = eval(
+        p,
+        terms,
+        functions,
+        ws,
+        slots,
+        m,
+        base,
+        q,
+        n,
+        bound,
+        room - 1,
+    );
+    if STOPPED <= r {
+        return r;
     }
+    let kind = values::nodes::kind_of(ws, r);
+    if kind != 3 {
+        return outcomes::refuse(STUCK, 0);
+    }
+    let left = values::nodes::left_of(ws, r);
+    let right = values::nodes::right_of(ws, r);
+    let at = base + n;
+    scopes::slots::bind(slots, at, left);
+    under(
+        p,
+        terms,
+        functions,
+        ws,
+        slots,
+        m,
+        base,
+        q,
+        n + 1,
+        right,
+        body,
+        room - 1,
+    )
 }
 
 // case e of inl x ⇒ b, inr y ⇒ b′
 fn choose(
     p: &[u8],
-    terms: &[u16],
-    functions: &[u16],
+    terms: &[u16; TERMS],
+    functions: &[u16; FUNCTIONS],
     ws: &mut [u8],
-    slots: &mut [u32],
-    st: Machine,
-    sc: Scope,
+    slots: &mut [u32; SLOTS],
+    m: &mut [u32; 2],
+    base: usize,
+    q: usize,
+    n: usize,
     t: u16,
     room: u16,
-) -> Out
-    requires { ⌜ Ready 1 0 (now p) (now terms) (now functions) (now ws) (now slots) st sc t room ⌝ }
-    requires { ⌜ kindAt (now p) (getD (now terms) t 0) ≡ 7 ⌝ }
-    ensures { λ r. ⌜ Ran 1 (now (ws .entry)) (now (ws .exit)) (sc .base + sc .n) (now (slots .entry)) (now (slots .exit)) st r (stepOf (now (p .entry)) (now (terms .entry)) (now (functions .entry)) (now (ws .entry)) (now (slots .entry)) st sc t room) ⌝ }
+) -> u32
+    requires { ⌜ Tables (now p) (now terms) (now functions) ⌝ }
+    requires { ⌜ Ready 1 0 (now p) (termPlaces (now p)) (functionPlaces (now p)) (now ws) (now slots) (machineOf (now m)) (scopeOf base q n) t room ⌝ }
+    requires { ⌜ kindAt (now p) (getD (termPlaces (now p)) t 0) ≡ 7 ⌝ }
+    ensures { λ r. ⌜ Ran 1 (now (ws .entry)) (now (ws .exit)) (base + n) (now (slots .entry)) (now (slots .exit)) (machineOf (now (m .entry))) (outOf r (now (m .exit))) (stepOf (now (p .entry)) (termPlaces (now (p .entry))) (functionPlaces (now (p .entry))) (now (ws .entry)) (now (slots .entry)) (machineOf (now (m .entry))) (scopeOf base q n) t room) ⌝ }
 {
     let sum = parts::first_of(p, terms, t);
-    let r = eval(p, terms, functions, ws, slots, st, sc, sum, room - 1);
-    let status = r.status;
-    let m = r.state;
-    match status {
-        Status::Value(x) => {
-            let kind = values::nodes::kind_of(ws, x);
-            let part = values::nodes::left_of(ws, x);
-            if kind == 1 {
-                let left = parts::second_of(p, terms, t);
-                return under(p, terms, functions, ws, slots, m, sc, part, left, room - 1);
-            }
-            if kind == 2 {
-                let right = parts::third_of(p, terms, t);
-                let out = under(p, terms, functions, ws, slots, m, sc, part, right, room - 1);
-                return outcomes::first_match(p, terms, ws, slots, out, sc, t);
-            }
-            outcomes::refuse(m, Refusal::Stuck)
-        }
-        Status::Refused(_) => r,
+    let r = eval(p, terms, functions, ws, slots, m, base, q, n, sum, room - 1);
+    if STOPPED <= r {
+        return r;
     }
+    let kind = values::nodes::kind_of(ws, r);
+    let part = values::nodes::left_of(ws, r);
+    if kind == 1 {
+        let left = parts::second_of(p, terms, t);
+        return under(
+            p,
+            terms,
+            functions,
+            ws,
+            slots,
+            m,
+            base,
+            q,
+            n,
+            part,
+            left,
+            room - 1,
+        );
+    }
+    if kind == 2 {
+        let right = parts::third_of(p, terms, t);
+        let out = under(
+            p,
+            terms,
+            functions,
+            ws,
+            slots,
+            m,
+            base,
+            q,
+            n,
+            part,
+            right,
+            room - 1,
+        );
+        return outcomes::first_match(p, terms, ws, slots, m, out, base, q, t);
+    }
+    outcomes::refuse(STUCK, 0)
 }
 
 fn unroll(
     p: &[u8],
-    terms: &[u16],
-    functions: &[u16],
+    terms: &[u16; TERMS],
+    functions: &[u16; FUNCTIONS],
     ws: &mut [u8],
-    slots: &mut [u32],
-    st: Machine,
-    sc: Scope,
+    slots: &mut [u32; SLOTS],
+    m: &mut [u32; 2],
+    base: usize,
+    q: usize,
+    n: usize,
     t: u16,
     room: u16,
-) -> Out
-    requires { ⌜ Ready 1 0 (now p) (now terms) (now functions) (now ws) (now slots) st sc t room ⌝ }
-    requires { ⌜ 10 ≤ kindAt (now p) (getD (now terms) t 0) ⌝ }
-    ensures { λ r. ⌜ Ran 1 (now (ws .entry)) (now (ws .exit)) (sc .base + sc .n) (now (slots .entry)) (now (slots .exit)) st r (stepOf (now (p .entry)) (now (terms .entry)) (now (functions .entry)) (now (ws .entry)) (now (slots .entry)) st sc t room) ⌝ }
+) -> u32
+    requires { ⌜ Tables (now p) (now terms) (now functions) ⌝ }
+    requires { ⌜ Ready 1 0 (now p) (termPlaces (now p)) (functionPlaces (now p)) (now ws) (now slots) (machineOf (now m)) (scopeOf base q n) t room ⌝ }
+    requires { ⌜ 10 ≤ kindAt (now p) (getD (termPlaces (now p)) t 0) ⌝ }
+    ensures { λ r. ⌜ Ran 1 (now (ws .entry)) (now (ws .exit)) (base + n) (now (slots .entry)) (now (slots .exit)) (machineOf (now (m .entry))) (outOf r (now (m .exit))) (stepOf (now (p .entry)) (termPlaces (now (p .entry))) (functionPlaces (now (p .entry))) (now (ws .entry)) (now (slots .entry)) (machineOf (now (m .entry))) (scopeOf base q n) t room) ⌝ }
 {
     let part = parts::second_of(p, terms, t);
-    let r = eval(p, terms, functions, ws, slots, st, sc, part, room - 1);
-    let status = r.status;
-    let m = r.state;
-    match status {
-        Status::Value(x) => outcomes::unrolled(ws, m, x),
-        Status::Refused(_) => r,
+    let r = eval(
+        p,
+        terms,
+        functions,
+        ws,
+        slots,
+        m,
+        base,
+        q,
+        n,
+        part,
+        room - 1,
+    );
+    if STOPPED <= r {
+        return r;
     }
+    outcomes::unrolled(ws, r)
 }
 
 // The arguments of call t from number k of `count` on, the dynamic one last: each is evaluated in the caller's scope, and placed behind it once
 // the others are, since their evaluation has its own variables there.
 fn place(
     p: &[u8],
-    terms: &[u16],
-    functions: &[u16],
+    terms: &[u16; TERMS],
+    functions: &[u16; FUNCTIONS],
     ws: &mut [u8],
-    slots: &mut [u32],
-    st: Machine,
-    sc: Scope,
+    slots: &mut [u32; SLOTS],
+    m: &mut [u32; 2],
+    base: usize,
+    q: usize,
+    n: usize,
     t: u16,
     room: u16,
     k: usize,
     count: usize,
-) -> Out
-    requires { ⌜ Ready 1 0 (now p) (now terms) (now functions) (now ws) (now slots) st sc t room ⌝ }
-    requires { ⌜ Calls (now p) (now terms) t k count ⌝ }
-    ensures { λ r. ⌜ Places (now (p .entry)) (now (terms .entry)) (now (functions .entry)) (now (ws .entry)) (now (ws .exit)) (now (slots .entry)) (now (slots .exit)) st sc t room k count r ⌝ }
+) -> u32
+    requires { ⌜ Tables (now p) (now terms) (now functions) ⌝ }
+    requires { ⌜ Ready 1 0 (now p) (termPlaces (now p)) (functionPlaces (now p)) (now ws) (now slots) (machineOf (now m)) (scopeOf base q n) t room ⌝ }
+    requires { ⌜ Calls (now p) (termPlaces (now p)) t k count ⌝ }
+    ensures { λ r. ⌜ Places (now (p .entry)) (termPlaces (now (p .entry))) (functionPlaces (now (p .entry))) (now (ws .entry)) (now (ws .exit)) (now (slots .entry)) (now (slots .exit)) (machineOf (now (m .entry))) (scopeOf base q n) t room k count (outOf r (now (m .exit))) ⌝ }
 {
     let argument = parts::argument_of(p, terms, t, k);
-    let r = eval(p, terms, functions, ws, slots, st, sc, argument, room - 1);
-    let status = r.status;
-    let m = r.state;
-    match status {
-        Status::Value(x) => {
-            let at = sc.base + sc.n + k;
-            if k == count {
-                scopes::slots::bind(slots, at, x);
-                return r;
-            }
-            let others = place(p, terms, functions, ws, slots, m, sc, t, room, k + 1, count);
-            scopes::slots::bind(slots, at, x);
-            others
-        }
-        Status::Refused(_) => r,
+    let r = eval(
+        p,
+        terms,
+        functions,
+        ws,
+        slots,
+        m,
+        base,
+        q,
+        n,
+        argument,
+        room - 1,
+    );
+    if STOPPED <= r {
+        return r;
     }
+    let at = base + n + k;
+    if k == count {
+        scopes::slots::bind(slots, at, r);
+        return r;
+    }
+    let others = place(
+        p,
+        terms,
+        functions,
+        ws,
+        slots,
+        m,
+        base,
+        q,
+        n,
+        t,
+        room,
+        k + 1,
+        count,
+    );
+    scopes::slots::bind(slots, at, r);
+    others
 }
 
 // A call: its arguments are the scope of the function's body.
 fn call(
     p: &[u8],
-    terms: &[u16],
-    functions: &[u16],
+    terms: &[u16; TERMS],
+    functions: &[u16; FUNCTIONS],
     ws: &mut [u8],
-    slots: &mut [u32],
-    st: Machine,
-    sc: Scope,
+    slots: &mut [u32; SLOTS],
+    m: &mut [u32; 2],
+    base: usize,
+    q: usize,
+    n: usize,
     t: u16,
     room: u16,
-) -> Out
-    requires { ⌜ Ready 1 0 (now p) (now terms) (now functions) (now ws) (now slots) st sc t room ⌝ }
-    requires { ⌜ kindAt (now p) (getD (now terms) t 0) ≡ 8 ⌝ }
-    ensures { λ r. ⌜ Ran 1 (now (ws .entry)) (now (ws .exit)) (sc .base + sc .n) (now (slots .entry)) (now (slots .exit)) st r (stepOf (now (p .entry)) (now (terms .entry)) (now (functions .entry)) (now (ws .entry)) (now (slots .entry)) st sc t room) ⌝ }
+) -> u32
+    requires { ⌜ Tables (now p) (now terms) (now functions) ⌝ }
+    requires { ⌜ Ready 1 0 (now p) (termPlaces (now p)) (functionPlaces (now p)) (now ws) (now slots) (machineOf (now m)) (scopeOf base q n) t room ⌝ }
+    requires { ⌜ kindAt (now p) (getD (termPlaces (now p)) t 0) ≡ 8 ⌝ }
+    ensures { λ r. ⌜ Ran 1 (now (ws .entry)) (now (ws .exit)) (base + n) (now (slots .entry)) (now (slots .exit)) (machineOf (now (m .entry))) (outOf r (now (m .exit))) (stepOf (now (p .entry)) (termPlaces (now (p .entry))) (functionPlaces (now (p .entry))) (now (ws .entry)) (now (slots .entry)) (machineOf (now (m .entry))) (scopeOf base q n) t room) ⌝ }
 {
     let count = parts::ancillae_of(p, terms, t);
-    let r = place(p, terms, functions, ws, slots, st, sc, t, room, 0, count);
-    let status = r.status;
-    let m = r.state;
-    match status {
-        Status::Value(_) => {
-            let g = parts::first_of(p, terms, t);
-            let body = parts::body_of(p, functions, g);
-            let inner = Scope {
-                base: sc.base + sc.n,
-                q: count,
-                n: count + 1,
-            };
-            eval(p, terms, functions, ws, slots, m, inner, body, room - 1)
-        }
-        Status::Refused(_) => r,
+    let r = place(
+        p,
+        terms,
+        functions,
+        ws,
+        slots,
+        m,
+        base,
+        q,
+        n,
+        t,
+        room,
+        0,
+        count,
+    );
+    if STOPPED <= r {
+        return r;
     }
+    let g = parts::first_of(p, terms, t);
+    let body = parts::body_of(p, functions, g);
+    eval(
+        p,
+        terms,
+        functions,
+        ws,
+        slots,
+        m,
+        base + n,
+        count,
+        count + 1,
+        body,
+        room - 1,
+    )
 }

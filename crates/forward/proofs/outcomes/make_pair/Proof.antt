@@ -1,7 +1,10 @@
-use Rattle.forward.proofs.Making.{makes}
 use borrow.Author.Needs.{needs}
+use Rattle.forward.proofs.Making.{makes-as}
 use Rattle.forward.proofs.outcomes.make_pair.Statement.{statement}
 use Rattle.forward.proofs.outcomes.make_pair.Tie as tie
+
+element-copy-out-pair : tie.Need-element-copy-out-pair
+element-copy-out-pair c = search needs
 
 pair-requires : tie.Need-pair-requires
 pair-requires c κs = search needs
@@ -13,7 +16,10 @@ same-length : tie.Need-same-length
 same-length c = search needs
 
 returns : tie.Need-returns
-returns c = rw (c .finish .ensures) (makes _ _ (c .before .before .before .before .before .before .pre .0) (c .before .before .before .pair .ensures))
+returns c =
+    let at-pair = c .before .before .before .before in
+    let start = at-pair .before .before .before .before in
+    makes-as (c .finish .ensures) (start .pre .0) (at-pair .pair .ensures)
 
 pub make-pair-spec : {M : Type 1} → statement M
-make-pair-spec = tie.close (tie.spec pair-requires finish-requires same-length returns)
+make-pair-spec = tie.close (tie.spec element-copy-out-pair pair-requires finish-requires same-length returns)

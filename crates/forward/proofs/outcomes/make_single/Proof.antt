@@ -1,7 +1,10 @@
-use Rattle.forward.proofs.Making.{makes}
 use borrow.Author.Needs.{needs}
+use Rattle.forward.proofs.Making.{makes-as}
 use Rattle.forward.proofs.outcomes.make_single.Statement.{statement}
 use Rattle.forward.proofs.outcomes.make_single.Tie as tie
+
+element-copy-out-single : tie.Need-element-copy-out-single
+element-copy-out-single c = search needs
 
 single-requires : tie.Need-single-requires
 single-requires c κs = search needs
@@ -13,7 +16,10 @@ same-length : tie.Need-same-length
 same-length c = search needs
 
 returns : tie.Need-returns
-returns c = rw (c .finish .ensures) (makes _ _ (c .before .before .before .before .before .before .pre .0) (c .before .before .before .single .ensures))
+returns c =
+    let at-single = c .before .before .before .before in
+    let start = at-single .before .before .before .before in
+    makes-as (c .finish .ensures) (start .pre .0) (at-single .single .ensures)
 
 pub make-single-spec : {M : Type 1} → statement M
-make-single-spec = tie.close (tie.spec single-requires finish-requires same-length returns)
+make-single-spec = tie.close (tie.spec element-copy-out-single single-requires finish-requires same-length returns)

@@ -1,6 +1,7 @@
 -- The cycle of evaluation: the measure of each member, and what each may use of the others. Fuel falls at every term that is entered; the
 -- members at one term come in the order kind, placing (by arguments left), scope, term.
 use Prim.Native.Nat.{ℕ, _+_, _-_, _*_, _<_}
+use lib.ListN.{getD}
 use borrow.Fn.Kinds.{In}
 use borrow.Fn.PlainCycle.{Measures, is, falls, and}
 use Rattle.forward.proofs.eval.call.Reads as call
@@ -37,7 +38,6 @@ use Rattle.forward.proofs.parts.ancillae_of.Reads as ancillae-of-reads
 use Rattle.forward.proofs.parts.argument_of.Reads as argument-of-reads
 use Rattle.forward.proofs.parts.body_of.Reads as body-of-reads
 use Rattle.forward.proofs.parts.first_of.Reads as first-of-reads
-use Rattle.forward.proofs.parts.offset.Reads as offset-reads
 use Rattle.forward.proofs.parts.second_of.Reads as second-of-reads
 use Rattle.forward.proofs.parts.third_of.Reads as third-of-reads
 use Rattle.forward.proofs.outcomes.first_match.Reads as first-match-reads
@@ -47,101 +47,102 @@ use Rattle.forward.proofs.outcomes.make_unit.Reads as make-unit-reads
 use Rattle.forward.proofs.outcomes.refuse.Reads as refuse-reads
 use Rattle.forward.proofs.outcomes.unrolled.Reads as unrolled-reads
 use Rattle.forward.proofs.outcomes.variable.Reads as variable-reads
+use Rattle.program.proofs.tables.offset.Reads as offset-reads
 use Rattle.program.proofs.views.kind.Reads as kind-reads
 use Rattle.scopes.proofs.slots.bind.Reads as bind-reads
 use Rattle.values.proofs.nodes.kind_of.Reads as kind-of-reads
 use Rattle.values.proofs.nodes.left_of.Reads as left-of-reads
 use Rattle.values.proofs.nodes.right_of.Reads as right-of-reads
 
-abbrev pub μ-call : Measures 5 call-kinds.ps ℕ
-μ-call κs a = 16 * a .1 .1 .1 .1 .1 .0 .fuel + 10
+abbrev pub μ-call : Measures 6 call-kinds.ps ℕ
+μ-call κs a = 16 * getD (a .1 .1 .1 .1 .1 .0 .now) 1 0 + 10
 
-abbrev pub μ-choose : Measures 5 choose-kinds.ps ℕ
-μ-choose κs a = 16 * a .1 .1 .1 .1 .1 .0 .fuel + 10
+abbrev pub μ-choose : Measures 6 choose-kinds.ps ℕ
+μ-choose κs a = 16 * getD (a .1 .1 .1 .1 .1 .0 .now) 1 0 + 10
 
-abbrev pub μ-eval : Measures 5 eval-kinds.ps ℕ
-μ-eval κs a = 16 * a .1 .1 .1 .1 .1 .0 .fuel
+abbrev pub μ-eval : Measures 6 eval-kinds.ps ℕ
+μ-eval κs a = 16 * getD (a .1 .1 .1 .1 .1 .0 .now) 1 0
 
-abbrev pub μ-let-one : Measures 5 let-one-kinds.ps ℕ
-μ-let-one κs a = 16 * a .1 .1 .1 .1 .1 .0 .fuel + 10
+abbrev pub μ-let-one : Measures 6 let-one-kinds.ps ℕ
+μ-let-one κs a = 16 * getD (a .1 .1 .1 .1 .1 .0 .now) 1 0 + 10
 
-abbrev pub μ-let-two : Measures 5 let-two-kinds.ps ℕ
-μ-let-two κs a = 16 * a .1 .1 .1 .1 .1 .0 .fuel + 10
+abbrev pub μ-let-two : Measures 6 let-two-kinds.ps ℕ
+μ-let-two κs a = 16 * getD (a .1 .1 .1 .1 .1 .0 .now) 1 0 + 10
 
-abbrev pub μ-pair : Measures 5 pair-kinds.ps ℕ
-μ-pair κs a = 16 * a .1 .1 .1 .1 .1 .0 .fuel + 10
+abbrev pub μ-pair : Measures 6 pair-kinds.ps ℕ
+μ-pair κs a = 16 * getD (a .1 .1 .1 .1 .1 .0 .now) 1 0 + 10
 
-abbrev pub μ-place : Measures 5 place-kinds.ps ℕ
-μ-place κs a = 16 * a .1 .1 .1 .1 .1 .0 .fuel + (8 - a .1 .1 .1 .1 .1 .1 .1 .1 .1 .0)
+abbrev pub μ-place : Measures 6 place-kinds.ps ℕ
+μ-place κs a = 16 * getD (a .1 .1 .1 .1 .1 .0 .now) 1 0 + (8 - a .1 .1 .1 .1 .1 .1 .1 .1 .1 .1 .1 .0)
 
-abbrev pub μ-under : Measures 5 under-kinds.ps ℕ
-μ-under κs a = 16 * a .1 .1 .1 .1 .1 .0 .fuel + 1
+abbrev pub μ-under : Measures 6 under-kinds.ps ℕ
+μ-under κs a = 16 * getD (a .1 .1 .1 .1 .1 .0 .now) 1 0 + 1
 
-abbrev pub μ-unroll : Measures 5 unroll-kinds.ps ℕ
-μ-unroll κs a = 16 * a .1 .1 .1 .1 .1 .0 .fuel + 10
+abbrev pub μ-unroll : Measures 6 unroll-kinds.ps ℕ
+μ-unroll κs a = 16 * getD (a .1 .1 .1 .1 .1 .0 .now) 1 0 + 10
 
-abbrev pub μ-wrap : Measures 5 wrap-kinds.ps ℕ
-μ-wrap κs a = 16 * a .1 .1 .1 .1 .1 .0 .fuel + 10
+abbrev pub μ-wrap : Measures 6 wrap-kinds.ps ℕ
+μ-wrap κs a = 16 * getD (a .1 .1 .1 .1 .1 .0 .now) 1 0 + 10
 
-abbrev pub call-at : ℕ → In 5 call-kinds.ps
-call-at t = and 5 call-kinds.ps (is 5 call-kinds.ps μ-call t) call.Pre
+abbrev pub call-at : ℕ → In 6 call-kinds.ps
+call-at t = and 6 call-kinds.ps (is 6 call-kinds.ps μ-call t) call.Pre
 
-abbrev pub call-below : ℕ → In 5 call-kinds.ps
-call-below t = and 5 call-kinds.ps (falls 5 call-kinds.ps _<_ μ-call t) call.Pre
+abbrev pub call-below : ℕ → In 6 call-kinds.ps
+call-below t = and 6 call-kinds.ps (falls 6 call-kinds.ps _<_ μ-call t) call.Pre
 
-abbrev pub choose-at : ℕ → In 5 choose-kinds.ps
-choose-at t = and 5 choose-kinds.ps (is 5 choose-kinds.ps μ-choose t) choose.Pre
+abbrev pub choose-at : ℕ → In 6 choose-kinds.ps
+choose-at t = and 6 choose-kinds.ps (is 6 choose-kinds.ps μ-choose t) choose.Pre
 
-abbrev pub choose-below : ℕ → In 5 choose-kinds.ps
-choose-below t = and 5 choose-kinds.ps (falls 5 choose-kinds.ps _<_ μ-choose t) choose.Pre
+abbrev pub choose-below : ℕ → In 6 choose-kinds.ps
+choose-below t = and 6 choose-kinds.ps (falls 6 choose-kinds.ps _<_ μ-choose t) choose.Pre
 
-abbrev pub eval-at : ℕ → In 5 eval-kinds.ps
-eval-at t = and 5 eval-kinds.ps (is 5 eval-kinds.ps μ-eval t) eval.Pre
+abbrev pub eval-at : ℕ → In 6 eval-kinds.ps
+eval-at t = and 6 eval-kinds.ps (is 6 eval-kinds.ps μ-eval t) eval.Pre
 
-abbrev pub eval-below : ℕ → In 5 eval-kinds.ps
-eval-below t = and 5 eval-kinds.ps (falls 5 eval-kinds.ps _<_ μ-eval t) eval.Pre
+abbrev pub eval-below : ℕ → In 6 eval-kinds.ps
+eval-below t = and 6 eval-kinds.ps (falls 6 eval-kinds.ps _<_ μ-eval t) eval.Pre
 
-abbrev pub let-one-at : ℕ → In 5 let-one-kinds.ps
-let-one-at t = and 5 let-one-kinds.ps (is 5 let-one-kinds.ps μ-let-one t) let-one.Pre
+abbrev pub let-one-at : ℕ → In 6 let-one-kinds.ps
+let-one-at t = and 6 let-one-kinds.ps (is 6 let-one-kinds.ps μ-let-one t) let-one.Pre
 
-abbrev pub let-one-below : ℕ → In 5 let-one-kinds.ps
-let-one-below t = and 5 let-one-kinds.ps (falls 5 let-one-kinds.ps _<_ μ-let-one t) let-one.Pre
+abbrev pub let-one-below : ℕ → In 6 let-one-kinds.ps
+let-one-below t = and 6 let-one-kinds.ps (falls 6 let-one-kinds.ps _<_ μ-let-one t) let-one.Pre
 
-abbrev pub let-two-at : ℕ → In 5 let-two-kinds.ps
-let-two-at t = and 5 let-two-kinds.ps (is 5 let-two-kinds.ps μ-let-two t) let-two.Pre
+abbrev pub let-two-at : ℕ → In 6 let-two-kinds.ps
+let-two-at t = and 6 let-two-kinds.ps (is 6 let-two-kinds.ps μ-let-two t) let-two.Pre
 
-abbrev pub let-two-below : ℕ → In 5 let-two-kinds.ps
-let-two-below t = and 5 let-two-kinds.ps (falls 5 let-two-kinds.ps _<_ μ-let-two t) let-two.Pre
+abbrev pub let-two-below : ℕ → In 6 let-two-kinds.ps
+let-two-below t = and 6 let-two-kinds.ps (falls 6 let-two-kinds.ps _<_ μ-let-two t) let-two.Pre
 
-abbrev pub pair-at : ℕ → In 5 pair-kinds.ps
-pair-at t = and 5 pair-kinds.ps (is 5 pair-kinds.ps μ-pair t) pair.Pre
+abbrev pub pair-at : ℕ → In 6 pair-kinds.ps
+pair-at t = and 6 pair-kinds.ps (is 6 pair-kinds.ps μ-pair t) pair.Pre
 
-abbrev pub pair-below : ℕ → In 5 pair-kinds.ps
-pair-below t = and 5 pair-kinds.ps (falls 5 pair-kinds.ps _<_ μ-pair t) pair.Pre
+abbrev pub pair-below : ℕ → In 6 pair-kinds.ps
+pair-below t = and 6 pair-kinds.ps (falls 6 pair-kinds.ps _<_ μ-pair t) pair.Pre
 
-abbrev pub place-at : ℕ → In 5 place-kinds.ps
-place-at t = and 5 place-kinds.ps (is 5 place-kinds.ps μ-place t) place.Pre
+abbrev pub place-at : ℕ → In 6 place-kinds.ps
+place-at t = and 6 place-kinds.ps (is 6 place-kinds.ps μ-place t) place.Pre
 
-abbrev pub place-below : ℕ → In 5 place-kinds.ps
-place-below t = and 5 place-kinds.ps (falls 5 place-kinds.ps _<_ μ-place t) place.Pre
+abbrev pub place-below : ℕ → In 6 place-kinds.ps
+place-below t = and 6 place-kinds.ps (falls 6 place-kinds.ps _<_ μ-place t) place.Pre
 
-abbrev pub under-at : ℕ → In 5 under-kinds.ps
-under-at t = and 5 under-kinds.ps (is 5 under-kinds.ps μ-under t) under.Pre
+abbrev pub under-at : ℕ → In 6 under-kinds.ps
+under-at t = and 6 under-kinds.ps (is 6 under-kinds.ps μ-under t) under.Pre
 
-abbrev pub under-below : ℕ → In 5 under-kinds.ps
-under-below t = and 5 under-kinds.ps (falls 5 under-kinds.ps _<_ μ-under t) under.Pre
+abbrev pub under-below : ℕ → In 6 under-kinds.ps
+under-below t = and 6 under-kinds.ps (falls 6 under-kinds.ps _<_ μ-under t) under.Pre
 
-abbrev pub unroll-at : ℕ → In 5 unroll-kinds.ps
-unroll-at t = and 5 unroll-kinds.ps (is 5 unroll-kinds.ps μ-unroll t) unroll.Pre
+abbrev pub unroll-at : ℕ → In 6 unroll-kinds.ps
+unroll-at t = and 6 unroll-kinds.ps (is 6 unroll-kinds.ps μ-unroll t) unroll.Pre
 
-abbrev pub unroll-below : ℕ → In 5 unroll-kinds.ps
-unroll-below t = and 5 unroll-kinds.ps (falls 5 unroll-kinds.ps _<_ μ-unroll t) unroll.Pre
+abbrev pub unroll-below : ℕ → In 6 unroll-kinds.ps
+unroll-below t = and 6 unroll-kinds.ps (falls 6 unroll-kinds.ps _<_ μ-unroll t) unroll.Pre
 
-abbrev pub wrap-at : ℕ → In 5 wrap-kinds.ps
-wrap-at t = and 5 wrap-kinds.ps (is 5 wrap-kinds.ps μ-wrap t) wrap.Pre
+abbrev pub wrap-at : ℕ → In 6 wrap-kinds.ps
+wrap-at t = and 6 wrap-kinds.ps (is 6 wrap-kinds.ps μ-wrap t) wrap.Pre
 
-abbrev pub wrap-below : ℕ → In 5 wrap-kinds.ps
-wrap-below t = and 5 wrap-kinds.ps (falls 5 wrap-kinds.ps _<_ μ-wrap t) wrap.Pre
+abbrev pub wrap-below : ℕ → In 6 wrap-kinds.ps
+wrap-below t = and 6 wrap-kinds.ps (falls 6 wrap-kinds.ps _<_ μ-wrap t) wrap.Pre
 
 abbrev pub call-uses : ℕ → call-lts.Claims
 call-uses t = (ancillae-of-reads.Asked, ancillae-of-reads.Learnt, place-below t, place.Post, first-of-reads.Asked, first-of-reads.Learnt, body-of-reads.Asked, body-of-reads.Learnt, eval-below t, eval.Post)
