@@ -25,7 +25,7 @@ ghost use Rattle.forward.specs.Ready.{Ready, Ran, runOf, underOf, stepOf
 pub fn eval(
     p: &[u8],
     terms: &[u16; TERMS],
-    functions: &[u16; FUNCTIONS],
+    funs: &[u16; FUNCTIONS],
     ws: &mut [u8],
     slots: &mut [u32; SLOTS],
     m: &mut [u32; 2],
@@ -35,7 +35,7 @@ pub fn eval(
     t: u16,
     room: u16,
 ) -> u32
-    requires { ⌜ Tables (now p) (now terms) (now functions) ⌝ }
+    requires { ⌜ Tables (now p) (now terms) (now funs) ⌝ }
     requires { ⌜ Ready 0 0 (now p) (termPlaces (now p)) (functionPlaces (now p)) (now ws) (now slots) (machineOf (now m)) (scopeOf base q n) t room ⌝ }
     ensures { λ r. ⌜ Ran 0 (now (ws .entry)) (now (ws .exit)) (base + n) (now (slots .entry)) (now (slots .exit)) (machineOf (now (m .entry))) (outOf r (now (m .exit))) (runOf (now (p .entry)) (termPlaces (now (p .entry))) (functionPlaces (now (p .entry))) (now (ws .entry)) (now (slots .entry)) (machineOf (now (m .entry))) (scopeOf base q n) t room) ⌝ }
 {
@@ -50,15 +50,15 @@ pub fn eval(
     match program::views::kind(p, tables::offset(terms, t)) {
         0 => outcomes::variable(p, terms, slots, base, n, t),
         1 => outcomes::make_unit(ws, m, t),
-        2 => wrap(p, terms, functions, ws, slots, m, base, q, n, t, room, 1),
-        3 => wrap(p, terms, functions, ws, slots, m, base, q, n, t, room, 2),
-        4 => pair(p, terms, functions, ws, slots, m, base, q, n, t, room),
-        5 => let_one(p, terms, functions, ws, slots, m, base, q, n, t, room),
-        6 => let_two(p, terms, functions, ws, slots, m, base, q, n, t, room),
-        7 => choose(p, terms, functions, ws, slots, m, base, q, n, t, room),
-        8 => call(p, terms, functions, ws, slots, m, base, q, n, t, room),
-        9 => wrap(p, terms, functions, ws, slots, m, base, q, n, t, room, 4),
-        _ => unroll(p, terms, functions, ws, slots, m, base, q, n, t, room),
+        2 => wrap(p, terms, funs, ws, slots, m, base, q, n, t, room, 1),
+        3 => wrap(p, terms, funs, ws, slots, m, base, q, n, t, room, 2),
+        4 => pair(p, terms, funs, ws, slots, m, base, q, n, t, room),
+        5 => let_one(p, terms, funs, ws, slots, m, base, q, n, t, room),
+        6 => let_two(p, terms, funs, ws, slots, m, base, q, n, t, room),
+        7 => choose(p, terms, funs, ws, slots, m, base, q, n, t, room),
+        8 => call(p, terms, funs, ws, slots, m, base, q, n, t, room),
+        9 => wrap(p, terms, funs, ws, slots, m, base, q, n, t, room, 4),
+        _ => unroll(p, terms, funs, ws, slots, m, base, q, n, t, room),
     }
 }
 
@@ -66,7 +66,7 @@ pub fn eval(
 fn under(
     p: &[u8],
     terms: &[u16; TERMS],
-    functions: &[u16; FUNCTIONS],
+    funs: &[u16; FUNCTIONS],
     ws: &mut [u8],
     slots: &mut [u32; SLOTS],
     m: &mut [u32; 2],
@@ -77,21 +77,21 @@ fn under(
     t: u16,
     room: u16,
 ) -> u32
-    requires { ⌜ Tables (now p) (now terms) (now functions) ⌝ }
+    requires { ⌜ Tables (now p) (now terms) (now funs) ⌝ }
     requires { ⌜ Ready 0 1 (now p) (termPlaces (now p)) (functionPlaces (now p)) (now ws) (now slots) (machineOf (now m)) (scopeOf base q n) t room ⌝ }
     requires { ⌜ node < machineOf (now m) .top ⌝ }
     ensures { λ r. ⌜ Ran 0 (now (ws .entry)) (now (ws .exit)) (base + n) (now (slots .entry)) (now (slots .exit)) (machineOf (now (m .entry))) (outOf r (now (m .exit))) (underOf (now (p .entry)) (termPlaces (now (p .entry))) (functionPlaces (now (p .entry))) (now (ws .entry)) (now (slots .entry)) (machineOf (now (m .entry))) (scopeOf base q n) node t room) ⌝ }
 {
     let at = base + n;
     scopes::slots::bind(slots, at, node);
-    eval(p, terms, functions, ws, slots, m, base, q, n + 1, t, room)
+    eval(p, terms, funs, ws, slots, m, base, q, n + 1, t, room)
 }
 
 // inl, inr and roll, by the kind of node that they make.
 fn wrap(
     p: &[u8],
     terms: &[u16; TERMS],
-    functions: &[u16; FUNCTIONS],
+    funs: &[u16; FUNCTIONS],
     ws: &mut [u8],
     slots: &mut [u32; SLOTS],
     m: &mut [u32; 2],
@@ -102,25 +102,13 @@ fn wrap(
     room: u16,
     kind: u8,
 ) -> u32
-    requires { ⌜ Tables (now p) (now terms) (now functions) ⌝ }
+    requires { ⌜ Tables (now p) (now terms) (now funs) ⌝ }
     requires { ⌜ Ready 1 0 (now p) (termPlaces (now p)) (functionPlaces (now p)) (now ws) (now slots) (machineOf (now m)) (scopeOf base q n) t room ⌝ }
     requires { ⌜ Wraps (kindAt (now p) (getD (termPlaces (now p)) t 0)) kind ⌝ }
     ensures { λ r. ⌜ Ran 1 (now (ws .entry)) (now (ws .exit)) (base + n) (now (slots .entry)) (now (slots .exit)) (machineOf (now (m .entry))) (outOf r (now (m .exit))) (stepOf (now (p .entry)) (termPlaces (now (p .entry))) (functionPlaces (now (p .entry))) (now (ws .entry)) (now (slots .entry)) (machineOf (now (m .entry))) (scopeOf base q n) t room) ⌝ }
 {
     let part = parts::second_of(p, terms, t);
-    let r = eval(
-        p,
-        terms,
-        functions,
-        ws,
-        slots,
-        m,
-        base,
-        q,
-        n,
-        part,
-        room - 1,
-    );
+    let r = eval(p, terms, funs, ws, slots, m, base, q, n, part, room - 1);
     if STOPPED <= r {
         return r;
     }
@@ -130,7 +118,7 @@ fn wrap(
 fn pair(
     p: &[u8],
     terms: &[u16; TERMS],
-    functions: &[u16; FUNCTIONS],
+    funs: &[u16; FUNCTIONS],
     ws: &mut [u8],
     slots: &mut [u32; SLOTS],
     m: &mut [u32; 2],
@@ -140,42 +128,18 @@ fn pair(
     t: u16,
     room: u16,
 ) -> u32
-    requires { ⌜ Tables (now p) (now terms) (now functions) ⌝ }
+    requires { ⌜ Tables (now p) (now terms) (now funs) ⌝ }
     requires { ⌜ Ready 1 0 (now p) (termPlaces (now p)) (functionPlaces (now p)) (now ws) (now slots) (machineOf (now m)) (scopeOf base q n) t room ⌝ }
     requires { ⌜ kindAt (now p) (getD (termPlaces (now p)) t 0) ≡ 4 ⌝ }
     ensures { λ r. ⌜ Ran 1 (now (ws .entry)) (now (ws .exit)) (base + n) (now (slots .entry)) (now (slots .exit)) (machineOf (now (m .entry))) (outOf r (now (m .exit))) (stepOf (now (p .entry)) (termPlaces (now (p .entry))) (functionPlaces (now (p .entry))) (now (ws .entry)) (now (slots .entry)) (machineOf (now (m .entry))) (scopeOf base q n) t room) ⌝ }
 {
     let left = parts::first_of(p, terms, t);
     let right = parts::second_of(p, terms, t);
-    let r = eval(
-        p,
-        terms,
-        functions,
-        ws,
-        slots,
-        m,
-        base,
-        q,
-        n,
-        left,
-        room - 1,
-    );
+    let r = eval(p, terms, funs, ws, slots, m, base, q, n, left, room - 1);
     if STOPPED <= r {
         return r;
     }
-    let r2 = eval(
-        p,
-        terms,
-        functions,
-        ws,
-        slots,
-        m,
-        base,
-        q,
-        n,
-        right,
-        room - 1,
-    );
+    let r2 = eval(p, terms, funs, ws, slots, m, base, q, n, right, room - 1);
     if STOPPED <= r2 {
         return r2;
     }
@@ -186,7 +150,7 @@ fn pair(
 fn let_one(
     p: &[u8],
     terms: &[u16; TERMS],
-    functions: &[u16; FUNCTIONS],
+    funs: &[u16; FUNCTIONS],
     ws: &mut [u8],
     slots: &mut [u32; SLOTS],
     m: &mut [u32; 2],
@@ -196,50 +160,25 @@ fn let_one(
     t: u16,
     room: u16,
 ) -> u32
-    requires { ⌜ Tables (now p) (now terms) (now functions) ⌝ }
+    requires { ⌜ Tables (now p) (now terms) (now funs) ⌝ }
     requires { ⌜ Ready 1 0 (now p) (termPlaces (now p)) (functionPlaces (now p)) (now ws) (now slots) (machineOf (now m)) (scopeOf base q n) t room ⌝ }
     requires { ⌜ kindAt (now p) (getD (termPlaces (now p)) t 0) ≡ 5 ⌝ }
     ensures { λ r. ⌜ Ran 1 (now (ws .entry)) (now (ws .exit)) (base + n) (now (slots .entry)) (now (slots .exit)) (machineOf (now (m .entry))) (outOf r (now (m .exit))) (stepOf (now (p .entry)) (termPlaces (now (p .entry))) (functionPlaces (now (p .entry))) (now (ws .entry)) (now (slots .entry)) (machineOf (now (m .entry))) (scopeOf base q n) t room) ⌝ }
 {
     let bound = parts::first_of(p, terms, t);
     let body = parts::second_of(p, terms, t);
-    let r = eval(
-        p,
-        terms,
-        functions,
-        ws,
-        slots,
-        m,
-        base,
-        q,
-        n,
-        bound,
-        room - 1,
-    );
+    let r = eval(p, terms, funs, ws, slots, m, base, q, n, bound, room - 1);
     if STOPPED <= r {
         return r;
     }
-    under(
-        p,
-        terms,
-        functions,
-        ws,
-        slots,
-        m,
-        base,
-        q,
-        n,
-        r,
-        body,
-        room - 1,
-    )
+    under(p, terms, funs, ws, slots, m, base, q, n, r, body, room - 1)
 }
 
 // let (x, y) = e in b
 fn let_two(
     p: &[u8],
     terms: &[u16; TERMS],
-    functions: &[u16; FUNCTIONS],
+    funs: &[u16; FUNCTIONS],
     ws: &mut [u8],
     slots: &mut [u32; SLOTS],
     m: &mut [u32; 2],
@@ -249,26 +188,15 @@ fn let_two(
     t: u16,
     room: u16,
 ) -> u32
-    requires { ⌜ Tables (now p) (now terms) (now functions) ⌝ }
+    requires { ⌜ Tables (now p) (now terms) (now funs) ⌝ }
     requires { ⌜ Ready 1 0 (now p) (termPlaces (now p)) (functionPlaces (now p)) (now ws) (now slots) (machineOf (now m)) (scopeOf base q n) t room ⌝ }
     requires { ⌜ kindAt (now p) (getD (termPlaces (now p)) t 0) ≡ 6 ⌝ }
     ensures { λ r. ⌜ Ran 1 (now (ws .entry)) (now (ws .exit)) (base + n) (now (slots .entry)) (now (slots .exit)) (machineOf (now (m .entry))) (outOf r (now (m .exit))) (stepOf (now (p .entry)) (termPlaces (now (p .entry))) (functionPlaces (now (p .entry))) (now (ws .entry)) (now (slots .entry)) (machineOf (now (m .entry))) (scopeOf base q n) t room) ⌝ }
 {
     let bound = parts::first_of(p, terms, t);
     let body = parts::second_of(p, terms, t);
-    let r = eval(
-        p,
-        terms,
-        functions,
-        ws,
-        slots,
-        m,
-        base,
-        q,
-        n,
-        bound,
-        room - 1,
-    );
+    let below = room - 1;
+    let r = eval(p, terms, funs, ws, slots, m, base, q, n, bound, below);
     if STOPPED <= r {
         return r;
     }
@@ -276,31 +204,18 @@ fn let_two(
     if kind != 3 {
         return outcomes::refuse(STUCK, 0);
     }
-    let left = values::nodes::left_of(ws, r);
-    let right = values::nodes::right_of(ws, r);
+    let x = values::nodes::left_of(ws, r);
+    let y = values::nodes::right_of(ws, r);
     let at = base + n;
-    scopes::slots::bind(slots, at, left);
-    under(
-        p,
-        terms,
-        functions,
-        ws,
-        slots,
-        m,
-        base,
-        q,
-        n + 1,
-        right,
-        body,
-        room - 1,
-    )
+    scopes::slots::bind(slots, at, x);
+    under(p, terms, funs, ws, slots, m, base, q, n + 1, y, body, below)
 }
 
 // case e of inl x ⇒ b, inr y ⇒ b′
 fn choose(
     p: &[u8],
     terms: &[u16; TERMS],
-    functions: &[u16; FUNCTIONS],
+    funs: &[u16; FUNCTIONS],
     ws: &mut [u8],
     slots: &mut [u32; SLOTS],
     m: &mut [u32; 2],
@@ -310,13 +225,14 @@ fn choose(
     t: u16,
     room: u16,
 ) -> u32
-    requires { ⌜ Tables (now p) (now terms) (now functions) ⌝ }
+    requires { ⌜ Tables (now p) (now terms) (now funs) ⌝ }
     requires { ⌜ Ready 1 0 (now p) (termPlaces (now p)) (functionPlaces (now p)) (now ws) (now slots) (machineOf (now m)) (scopeOf base q n) t room ⌝ }
     requires { ⌜ kindAt (now p) (getD (termPlaces (now p)) t 0) ≡ 7 ⌝ }
     ensures { λ r. ⌜ Ran 1 (now (ws .entry)) (now (ws .exit)) (base + n) (now (slots .entry)) (now (slots .exit)) (machineOf (now (m .entry))) (outOf r (now (m .exit))) (stepOf (now (p .entry)) (termPlaces (now (p .entry))) (functionPlaces (now (p .entry))) (now (ws .entry)) (now (slots .entry)) (machineOf (now (m .entry))) (scopeOf base q n) t room) ⌝ }
 {
     let sum = parts::first_of(p, terms, t);
-    let r = eval(p, terms, functions, ws, slots, m, base, q, n, sum, room - 1);
+    let below = room - 1;
+    let r = eval(p, terms, funs, ws, slots, m, base, q, n, sum, below);
     if STOPPED <= r {
         return r;
     }
@@ -324,37 +240,11 @@ fn choose(
     let part = values::nodes::left_of(ws, r);
     if kind == 1 {
         let left = parts::second_of(p, terms, t);
-        return under(
-            p,
-            terms,
-            functions,
-            ws,
-            slots,
-            m,
-            base,
-            q,
-            n,
-            part,
-            left,
-            room - 1,
-        );
+        return under(p, terms, funs, ws, slots, m, base, q, n, part, left, below);
     }
     if kind == 2 {
         let right = parts::third_of(p, terms, t);
-        let out = under(
-            p,
-            terms,
-            functions,
-            ws,
-            slots,
-            m,
-            base,
-            q,
-            n,
-            part,
-            right,
-            room - 1,
-        );
+        let out = under(p, terms, funs, ws, slots, m, base, q, n, part, right, below);
         return outcomes::first_match(p, terms, ws, slots, m, out, base, q, t);
     }
     outcomes::refuse(STUCK, 0)
@@ -363,7 +253,7 @@ fn choose(
 fn unroll(
     p: &[u8],
     terms: &[u16; TERMS],
-    functions: &[u16; FUNCTIONS],
+    funs: &[u16; FUNCTIONS],
     ws: &mut [u8],
     slots: &mut [u32; SLOTS],
     m: &mut [u32; 2],
@@ -373,37 +263,25 @@ fn unroll(
     t: u16,
     room: u16,
 ) -> u32
-    requires { ⌜ Tables (now p) (now terms) (now functions) ⌝ }
+    requires { ⌜ Tables (now p) (now terms) (now funs) ⌝ }
     requires { ⌜ Ready 1 0 (now p) (termPlaces (now p)) (functionPlaces (now p)) (now ws) (now slots) (machineOf (now m)) (scopeOf base q n) t room ⌝ }
     requires { ⌜ 10 ≤ kindAt (now p) (getD (termPlaces (now p)) t 0) ⌝ }
     ensures { λ r. ⌜ Ran 1 (now (ws .entry)) (now (ws .exit)) (base + n) (now (slots .entry)) (now (slots .exit)) (machineOf (now (m .entry))) (outOf r (now (m .exit))) (stepOf (now (p .entry)) (termPlaces (now (p .entry))) (functionPlaces (now (p .entry))) (now (ws .entry)) (now (slots .entry)) (machineOf (now (m .entry))) (scopeOf base q n) t room) ⌝ }
 {
     let part = parts::second_of(p, terms, t);
-    let r = eval(
-        p,
-        terms,
-        functions,
-        ws,
-        slots,
-        m,
-        base,
-        q,
-        n,
-        part,
-        room - 1,
-    );
+    let r = eval(p, terms, funs, ws, slots, m, base, q, n, part, room - 1);
     if STOPPED <= r {
         return r;
     }
     outcomes::unrolled(ws, r)
 }
 
-// The arguments of call t from number k of `count` on, the dynamic one last: each is evaluated in the caller's scope, and placed behind it once
+// The arguments of call t from number k to number `end`, which is the dynamic one: each is evaluated in the caller's scope, and placed behind it once
 // the others are, since their evaluation has its own variables there.
 fn place(
     p: &[u8],
     terms: &[u16; TERMS],
-    functions: &[u16; FUNCTIONS],
+    funs: &[u16; FUNCTIONS],
     ws: &mut [u8],
     slots: &mut [u32; SLOTS],
     m: &mut [u32; 2],
@@ -413,50 +291,25 @@ fn place(
     t: u16,
     room: u16,
     k: usize,
-    count: usize,
+    end: usize,
 ) -> u32
-    requires { ⌜ Tables (now p) (now terms) (now functions) ⌝ }
+    requires { ⌜ Tables (now p) (now terms) (now funs) ⌝ }
     requires { ⌜ Ready 1 0 (now p) (termPlaces (now p)) (functionPlaces (now p)) (now ws) (now slots) (machineOf (now m)) (scopeOf base q n) t room ⌝ }
-    requires { ⌜ Calls (now p) (termPlaces (now p)) t k count ⌝ }
-    ensures { λ r. ⌜ Places (now (p .entry)) (termPlaces (now (p .entry))) (functionPlaces (now (p .entry))) (now (ws .entry)) (now (ws .exit)) (now (slots .entry)) (now (slots .exit)) (machineOf (now (m .entry))) (scopeOf base q n) t room k count (outOf r (now (m .exit))) ⌝ }
+    requires { ⌜ Calls (now p) (termPlaces (now p)) t k end ⌝ }
+    ensures { λ r. ⌜ Places (now (p .entry)) (termPlaces (now (p .entry))) (functionPlaces (now (p .entry))) (now (ws .entry)) (now (ws .exit)) (now (slots .entry)) (now (slots .exit)) (machineOf (now (m .entry))) (scopeOf base q n) t room k end (outOf r (now (m .exit))) ⌝ }
 {
     let argument = parts::argument_of(p, terms, t, k);
-    let r = eval(
-        p,
-        terms,
-        functions,
-        ws,
-        slots,
-        m,
-        base,
-        q,
-        n,
-        argument,
-        room - 1,
-    );
+    let r = eval(p, terms, funs, ws, slots, m, base, q, n, argument, room - 1);
     if STOPPED <= r {
         return r;
     }
     let at = base + n + k;
-    if k == count {
+    if k == end {
         scopes::slots::bind(slots, at, r);
         return r;
     }
-    let others = place(
-        p,
-        terms,
-        functions,
-        ws,
-        slots,
-        m,
-        base,
-        q,
-        n,
-        t,
-        room,
-        k + 1,
-        count,
-    );
+    let next = k + 1;
+    let others = place(p, terms, funs, ws, slots, m, base, q, n, t, room, next, end);
     scopes::slots::bind(slots, at, r);
     others
 }
@@ -465,7 +318,7 @@ fn place(
 fn call(
     p: &[u8],
     terms: &[u16; TERMS],
-    functions: &[u16; FUNCTIONS],
+    funs: &[u16; FUNCTIONS],
     ws: &mut [u8],
     slots: &mut [u32; SLOTS],
     m: &mut [u32; 2],
@@ -475,36 +328,22 @@ fn call(
     t: u16,
     room: u16,
 ) -> u32
-    requires { ⌜ Tables (now p) (now terms) (now functions) ⌝ }
+    requires { ⌜ Tables (now p) (now terms) (now funs) ⌝ }
     requires { ⌜ Ready 1 0 (now p) (termPlaces (now p)) (functionPlaces (now p)) (now ws) (now slots) (machineOf (now m)) (scopeOf base q n) t room ⌝ }
     requires { ⌜ kindAt (now p) (getD (termPlaces (now p)) t 0) ≡ 8 ⌝ }
     ensures { λ r. ⌜ Ran 1 (now (ws .entry)) (now (ws .exit)) (base + n) (now (slots .entry)) (now (slots .exit)) (machineOf (now (m .entry))) (outOf r (now (m .exit))) (stepOf (now (p .entry)) (termPlaces (now (p .entry))) (functionPlaces (now (p .entry))) (now (ws .entry)) (now (slots .entry)) (machineOf (now (m .entry))) (scopeOf base q n) t room) ⌝ }
 {
     let count = parts::ancillae_of(p, terms, t);
-    let r = place(
-        p,
-        terms,
-        functions,
-        ws,
-        slots,
-        m,
-        base,
-        q,
-        n,
-        t,
-        room,
-        0,
-        count,
-    );
+    let r = place(p, terms, funs, ws, slots, m, base, q, n, t, room, 0, count);
     if STOPPED <= r {
         return r;
     }
     let g = parts::first_of(p, terms, t);
-    let body = parts::body_of(p, functions, g);
+    let body = parts::body_of(p, funs, g);
     eval(
         p,
         terms,
-        functions,
+        funs,
         ws,
         slots,
         m,

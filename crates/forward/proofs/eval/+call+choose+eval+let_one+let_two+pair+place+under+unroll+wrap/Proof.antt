@@ -29,11 +29,11 @@ use Rattle.forward.proofs.eval.+call+choose+eval+let_one+let_two+pair+p
 use Rattle.scopes.proofs.slots.bind.Reads as bind-reads
 use Rattle.forward.proofs.eval.+call+choose+eval+let_one+let_two+pair+place+under+unroll+wrap.Proof.Claims.{μ-call, μ-choose, μ-eval, μ-let-one, μ-let-two, μ-pair, μ-place, μ-under, μ-unroll, μ-wrap, call-at, choose-at, eval-at, eval-below, let-one-at, let-two-at, pair-at, place-at, under-at, unroll-at, wrap-at, call-uses, choose-uses, eval-uses, let-one-uses, let-two-uses, pair-uses, place-uses, unroll-uses, wrap-uses}
 use Rattle.forward.proofs.eval.+call+choose+eval+let_one+let_two+pair+place+under+unroll+wrap.Proof.Calls.{call-ancillae-of-requires, call-place-requires, call-same-length, call-returns, call-first-of-requires, call-body-of-requires, call-add-eval, call-add-eval-2, call-sub-eval, call-eval-requires, call-same-length-2, call-returns-2}
-use Rattle.forward.proofs.eval.+call+choose+eval+let_one+let_two+pair+place+under+unroll+wrap.Proof.Cases.{choose-first-of-requires, choose-sub-eval, choose-eval-requires, choose-same-length, choose-returns, choose-kind-of-requires, choose-left-of-requires, choose-second-of-requires, choose-sub-under, choose-under-requires, choose-same-length-2, choose-returns-2, choose-third-of-requires, choose-sub-under-2, choose-under-requires-2, choose-first-match-requires, choose-same-length-3, choose-returns-3, choose-refuse-requires, choose-same-length-4, choose-returns-4}
+use Rattle.forward.proofs.eval.+call+choose+eval+let_one+let_two+pair+place+under+unroll+wrap.Proof.Cases.{choose-first-of-requires, choose-sub-below, choose-eval-requires, choose-same-length, choose-returns, choose-kind-of-requires, choose-left-of-requires, choose-second-of-requires, choose-under-requires, choose-same-length-2, choose-returns-2, choose-third-of-requires, choose-under-requires-2, choose-first-match-requires, choose-same-length-3, choose-returns-3, choose-refuse-requires, choose-same-length-4, choose-returns-4}
 use Rattle.forward.proofs.eval.+call+choose+eval+let_one+let_two+pair+place+under+unroll+wrap.Proof.Entering.{eval-element-copy-out-fuel, eval-refuse-requires, eval-returns, eval-refuse-requires-2, eval-returns-2, eval-element-copy-out-t15, eval-sub-t19, eval-offset-requires, eval-kind-requires, eval-variable-requires, eval-make-unit-requires, eval-wrap-requires, eval-wrap-requires-2, eval-pair-requires, eval-let-one-requires, eval-let-two-requires, eval-choose-requires, eval-call-requires, eval-wrap-requires-3, eval-unroll-requires, eval-returns-3, eval-same-length, eval-returns-4, eval-same-length-2, eval-returns-5, eval-same-length-3, eval-returns-6, eval-same-length-4, eval-returns-7, eval-same-length-5, eval-returns-8, eval-same-length-6, eval-returns-9, eval-same-length-7, eval-returns-10, eval-same-length-8, eval-returns-11, eval-same-length-9, eval-returns-12, eval-same-length-10, eval-returns-13}
-use Rattle.forward.proofs.eval.+call+choose+eval+let_one+let_two+pair+place+under+unroll+wrap.Proof.Lets.{let-one-first-of-requires, let-one-second-of-requires, let-one-sub-eval, let-one-eval-requires, let-one-same-length, let-one-returns, let-one-sub-under, let-one-under-requires, let-one-same-length-2, let-one-returns-2, let-two-first-of-requires, let-two-second-of-requires, let-two-sub-eval, let-two-eval-requires, let-two-same-length, let-two-returns, let-two-kind-of-requires, let-two-refuse-requires, let-two-same-length-2, let-two-returns-2, let-two-left-of-requires, let-two-right-of-requires, let-two-add-at, let-two-bind-requires, let-two-add-under, let-two-sub-under, let-two-under-requires, let-two-same-length-3, let-two-returns-3}
+use Rattle.forward.proofs.eval.+call+choose+eval+let_one+let_two+pair+place+under+unroll+wrap.Proof.Lets.{let-one-first-of-requires, let-one-second-of-requires, let-one-sub-eval, let-one-eval-requires, let-one-same-length, let-one-returns, let-one-sub-under, let-one-under-requires, let-one-same-length-2, let-one-returns-2, let-two-first-of-requires, let-two-second-of-requires, let-two-sub-below, let-two-eval-requires, let-two-same-length, let-two-returns, let-two-kind-of-requires, let-two-refuse-requires, let-two-same-length-2, let-two-returns-2, let-two-left-of-requires, let-two-right-of-requires, let-two-add-at, let-two-bind-requires, let-two-add-under, let-two-under-requires, let-two-same-length-3, let-two-returns-3}
 use Rattle.forward.proofs.eval.+call+choose+eval+let_one+let_two+pair+place+under+unroll+wrap.Proof.Parts.{pair-first-of-requires, pair-second-of-requires, pair-sub-eval, pair-eval-requires, pair-same-length, pair-returns, pair-sub-eval-2, pair-eval-requires-2, pair-same-length-2, pair-returns-2, pair-make-pair-requires, pair-same-length-3, pair-returns-3, unroll-second-of-requires, unroll-sub-eval, unroll-eval-requires, unroll-same-length, unroll-returns, unroll-unrolled-requires, unroll-same-length-2, unroll-returns-2, wrap-second-of-requires, wrap-sub-eval, wrap-eval-requires, wrap-same-length, wrap-returns, wrap-make-single-requires, wrap-same-length-2, wrap-returns-2}
-use Rattle.forward.proofs.eval.+call+choose+eval+let_one+let_two+pair+place+under+unroll+wrap.Proof.Scopes.{place-argument-of-requires, place-sub-eval, place-eval-requires, place-same-length, place-returns, place-add-at, place-add-at-2, place-bind-requires, place-same-length-2, place-returns-2, place-add-place, place-place-requires, place-bind-requires-2, place-same-length-3, place-returns-3, under-add-at, under-bind-requires, under-add-eval, under-eval-requires, under-same-length, under-returns}
+use Rattle.forward.proofs.eval.+call+choose+eval+let_one+let_two+pair+place+under+unroll+wrap.Proof.Scopes.{place-argument-of-requires, place-sub-eval, place-eval-requires, place-same-length, place-returns, place-add-at, place-add-at-2, place-bind-requires, place-same-length-2, place-returns-2, place-add-next, place-place-requires, place-bind-requires-2, place-same-length-3, place-returns-3, under-add-at, under-bind-requires, under-add-eval, under-eval-requires, under-same-length, under-returns}
 use Rattle.forward.proofs.eval.+call+choose+eval+let_one+let_two+pair+place+under+unroll+wrap.{statement}
 use Rattle.forward.proofs.eval.+call+choose+eval+let_one+let_two+pair+place+under+unroll+wrap.Tie.{close}
 
@@ -72,19 +72,17 @@ pub +call+choose+eval+let-one+let-two+pair+place+under+unroll+wrap-spec :
     (choose-at t)
     choose.Post
     (choose-first-of-requires t)
-    (choose-sub-eval t)
+    (choose-sub-below t)
     (choose-eval-requires t)
     (choose-same-length t)
     (choose-returns t)
     (choose-kind-of-requires t)
     (choose-left-of-requires t)
     (choose-second-of-requires t)
-    (choose-sub-under t)
     (choose-under-requires t)
     (choose-same-length-2 t)
     (choose-returns-2 t)
     (choose-third-of-requires t)
-    (choose-sub-under-2 t)
     (choose-under-requires-2 t)
     (choose-first-match-requires t)
     (choose-same-length-3 t)
@@ -157,7 +155,7 @@ pub +call+choose+eval+let-one+let-two+pair+place+under+unroll+wrap-spec :
     let-two.Post
     (let-two-first-of-requires t)
     (let-two-second-of-requires t)
-    (let-two-sub-eval t)
+    (let-two-sub-below t)
     (let-two-eval-requires t)
     (let-two-same-length t)
     (let-two-returns t)
@@ -170,7 +168,6 @@ pub +call+choose+eval+let-one+let-two+pair+place+under+unroll+wrap-spec :
     (let-two-add-at t)
     (let-two-bind-requires t)
     (let-two-add-under t)
-    (let-two-sub-under t)
     (let-two-under-requires t)
     (let-two-same-length-3 t)
     (let-two-returns-3 t))
@@ -205,7 +202,7 @@ pub +call+choose+eval+let-one+let-two+pair+place+under+unroll+wrap-spec :
     (place-bind-requires t)
     (place-same-length-2 t)
     (place-returns-2 t)
-    (place-add-place t)
+    (place-add-next t)
     (place-place-requires t)
     (place-bind-requires-2 t)
     (place-same-length-3 t)

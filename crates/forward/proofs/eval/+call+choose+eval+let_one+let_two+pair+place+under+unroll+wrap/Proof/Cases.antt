@@ -18,9 +18,9 @@ choose-first-of-requires t c κs =
     let start = c .before .before in
     (start .pre .1 .0 .ofTerms, (start .pre .1 .1 .0 .term, read-case (start .pre .1 .1 .0) (start .pre .1 .1 .1) .0))
 
-pub choose-sub-eval : (t : ℕ) → choose-lts.Need-sub-eval (choose-uses t) (choose-at t) choose.Post
-choose-sub-eval t c =
-    let start = c .before .before .before .before .before .before in
+pub choose-sub-below : (t : ℕ) → choose-lts.Need-sub-below (choose-uses t) (choose-at t) choose.Post
+choose-sub-below t c =
+    let start = c .before .before .before in
     omega (arith, start .pre .1 .1 .0 .tall)
 
 pub choose-eval-requires : (t : ℕ) → choose-lts.Need-eval-requires (choose-uses t) (choose-at t) choose.Post
@@ -51,11 +51,6 @@ pub choose-second-of-requires : (t : ℕ) → choose-lts.Need-second-of-requires
 choose-second-of-requires t c κs =
     let start = c .before .before .before .before .before .before .before .before .before .before .before .before .before .before .before in
     (start .pre .1 .0 .ofTerms, (start .pre .1 .1 .0 .term, read-case (start .pre .1 .1 .0) (start .pre .1 .1 .1) .1))
-
-pub choose-sub-under : (t : ℕ) → choose-lts.Need-sub-under (choose-uses t) (choose-at t) choose.Post
-choose-sub-under t c =
-    let start = c .before .before .before .before .before .before .before .before .before .before .before .before .before .before .before .before .before .before .before in
-    omega (arith, start .pre .1 .1 .0 .tall)
 
 pub choose-under-requires : (t : ℕ) → choose-lts.Need-under-requires (choose-uses t) (choose-at t) choose.Post
 choose-under-requires t c κs =
@@ -88,11 +83,6 @@ pub choose-third-of-requires : (t : ℕ) → choose-lts.Need-third-of-requires (
 choose-third-of-requires t c κs =
     let start = c .before .before .before .before .before .before .before .before .before .before .before .before .before .before .before .before in
     (start .pre .1 .0 .ofTerms, (start .pre .1 .1 .0 .term, read-case (start .pre .1 .1 .0) (start .pre .1 .1 .1) .2))
-
-pub choose-sub-under-2 : (t : ℕ) → choose-lts.Need-sub-under-2 (choose-uses t) (choose-at t) choose.Post
-choose-sub-under-2 t c =
-    let start = c .before .before .before .before .before .before .before .before .before .before .before .before .before .before .before .before .before .before .before .before in
-    omega (arith, start .pre .1 .1 .0 .tall)
 
 pub choose-under-requires-2 : (t : ℕ) → choose-lts.Need-under-requires-2 (choose-uses t) (choose-at t) choose.Post
 choose-under-requires-2 t c κs =

@@ -82,9 +82,9 @@ let-two-second-of-requires t c κs =
     let start = c .before .before .before in
     (start .pre .1 .0 .ofTerms, (start .pre .1 .1 .0 .term, read-letp (start .pre .1 .1 .0) (start .pre .1 .1 .1) .1))
 
-pub let-two-sub-eval : (t : ℕ) → let-two-lts.Need-sub-eval (let-two-uses t) (let-two-at t) let-two.Post
-let-two-sub-eval t c =
-    let start = c .before .before .before .before .before .before .before in
+pub let-two-sub-below : (t : ℕ) → let-two-lts.Need-sub-below (let-two-uses t) (let-two-at t) let-two.Post
+let-two-sub-below t c =
+    let start = c .before .before .before .before in
     omega (arith, start .pre .1 .1 .0 .tall)
 
 pub let-two-eval-requires : (t : ℕ) → let-two-lts.Need-eval-requires (let-two-uses t) (let-two-at t) let-two.Post
@@ -153,11 +153,6 @@ pub let-two-add-under : (t : ℕ) → let-two-lts.Need-add-under (let-two-uses t
 let-two-add-under t c =
     let start = c .before .before .before .before .before .before .before .before .before .before .before .before .before .before .before .before .before .before .before .before .before .before .before in
     omega (arith, start .pre .1 .1 .0 .variables, start .pre .1 .1 .0 .full)
-
-pub let-two-sub-under : (t : ℕ) → let-two-lts.Need-sub-under (let-two-uses t) (let-two-at t) let-two.Post
-let-two-sub-under t c =
-    let start = c .before .before .before .before .before .before .before .before .before .before .before .before .before .before .before .before .before .before .before .before .before .before .before in
-    omega (arith, start .pre .1 .1 .0 .tall)
 
 pub let-two-under-requires : (t : ℕ) → let-two-lts.Need-under-requires (let-two-uses t) (let-two-at t) let-two.Post
 let-two-under-requires t c κs =

@@ -64,10 +64,10 @@ place-returns-2 t c =
     let start = at-argument-of .before .before .before in
     place-last (start .pre .1 .1 .0) (start .pre .1 .1 .1) _ (at-argument-of .argument-of .ensures) (at-eval .eval .ensures) (is-value (c .before .before .before .if1 .left)) (c .before .before .if2 .taken) _ (c .bind .ensures)
 
-pub place-add-place : (t : ℕ) → place-lts.Need-add-place (place-uses t) (place-at t) place.Post
-place-add-place t c =
-    let start = c .before .before .before .before .before .before .before .before .before .before .before .before .before .before in
-    omega (arith, place-less (start .pre .1 .1 .0) (start .pre .1 .1 .1) (c .before .before .before .if2 .left))
+pub place-add-next : (t : ℕ) → place-lts.Need-add-next (place-uses t) (place-at t) place.Post
+place-add-next t c =
+    let start = c .before .before .before .before .before .before .before .before .before .before .before in
+    omega (arith, place-less (start .pre .1 .1 .0) (start .pre .1 .1 .1) (c .if2 .left))
 
 pub place-place-requires : (t : ℕ) → place-lts.Need-place-requires (place-uses t) (place-at t) place.Post
 place-place-requires t c κs =
