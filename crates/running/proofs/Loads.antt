@@ -22,6 +22,7 @@ use package.Rattle.values.proofs.Heaps.{value-kept}
 use package.Rattle.reading.specs.Ends.{firstOf, valueIn, valuesIn}
 use package.Rattle.reading.proofs.Whole.{whole-of, first-whole}
 use package.Rattle.reading.proofs.Walks.{Begins, walk-start, walk-done, walk-more, walk-first, walk-next}
+use package.Rattle.scopes.specs.Slots.{slotCount}
 use package.Rattle.forward.specs.Ready.{Graph, valuesAt}
 use package.Rattle.running.specs.declared.begin.Start.{Start}
 use package.Rattle.running.specs.Begun.{startNodes, Enough, Beginning, AncillaeLoaded, Begun}
@@ -115,8 +116,11 @@ module _ {heap₀ slots₀ heap slots anc : List ℕ} {k at top : ℕ} (L : Load
     there : k < length (valuesIn anc)
     there = walk-more (L .begins) more
 
-    pub loading-bind : k < length slots
-    loading-bind = omega (arith, there, L .enough .few, L .enough .slots-there, L .slots-length)
+    pub loading-bind : k < slotCount
+    loading-bind = omega (arith, there, L .enough .few)
+
+    slot-there : k < length slots
+    slot-there = omega (arith, there, L .enough .few, L .enough .slots-there, L .slots-length)
 
     reads : read (length anc - at) (drop at anc) ≡ got (getD (valuesIn anc) k unit) (encodeAll (drop (suc k) (valuesIn anc)))
     reads = read-at anc at ∙ walk-first (L .begins) there
@@ -132,7 +136,7 @@ module _ {heap₀ slots₀ heap slots anc : List ℕ} {k at top : ℕ} (L : Load
       counted = omega (arith, there);
       inside = d .placed .inside;
       place = omega (arith, d .placed .bytes, d .placed .nodes, L .place);
-      nodes = held-more (L .nodes) (d .agree) loading-bind (d .placed .right) (omega (arith, d .placed .nodes)) (d .placed .node) is;
+      nodes = held-more (L .nodes) (d .agree) slot-there (d .placed .right) (omega (arith, d .placed .nodes)) (d .placed .node) is;
       heap-length = L .heap-length ∙ d .agree .lengths;
       slots-length = L .slots-length ∙ sym (length-set slots k (placed .node));
     })
@@ -191,8 +195,11 @@ module _ {heap slots anc bytes : List ℕ} (B : Beginning heap slots anc bytes) 
     pub begun-bad : {heap′ : List ℕ} → LoadDone heap₁ heap′ (start .top) bytes 0 Malformed → ⊥
     begun-bad d = malformed≢got (sym (d .gave) ∙ value-reads)
 
-    pub begun-bind : start .count < length slots₁
-    begun-bind = omega (arith, A .count, B .for-ancillae .few, B .for-ancillae .slots-there, A .slots-length)
+    pub begun-bind : start .count < slotCount
+    begun-bind = omega (arith, A .count, B .for-ancillae .few)
+
+    last-there : start .count < length slots₁
+    last-there = omega (arith, A .count, B .for-ancillae .few, B .for-ancillae .slots-there, A .slots-length)
 
     -- the values in order, the dynamic one last
     abbrev all : List Val
@@ -220,7 +227,7 @@ module _ {heap slots anc bytes : List ℕ} (B : Beginning heap slots anc bytes) 
       is = got-value (sym (d .gave) ∙ value-reads)
 
       now : Held heap′ slots′ all (suc (start .count)) (placed .top)
-      now = held-more earlier (d .agree) begun-bind (d .placed .right) (omega (arith, d .placed .nodes)) (d .placed .node) (is ∙ sym all-last)
+      now = held-more earlier (d .agree) last-there (d .placed .right) (omega (arith, d .placed .nodes)) (d .placed .node) (is ∙ sym all-last)
 
       begun-set : Begun heap heap′ slots (set slots₁ (start .count) (placed .node)) anc bytes (record { count = start .count; top = placed .top })
       unfolding startNodes maxValueBytes

@@ -14,14 +14,15 @@ use package.Rattle.calls.specs.Runs.{ran, goes}
 use package.Rattle.calls.proofs.Runs.Calls.{onward}
 use package.Rattle.program.specs.Parts.{body}
 use package.Rattle.program.specs.Programs.{programIn, functionIn}
+use package.Rattle.program.specs.Tables.{termPlaces, functionPlaces}
+use package.Rattle.program.proofs.Offsets.{term-places, function-places}
 use package.Rattle.values.specs.Nodes.{valueAt}
 use package.Rattle.values.proofs.Heaps.{heap-down}
+use package.Rattle.scopes.specs.Slots.{slotCount}
 use package.Rattle.yields.specs.Yields.{Ancillae}
-use package.Rattle.forward.specs.declared.outcomes.Machine.{Machine}
-use package.Rattle.forward.specs.declared.outcomes.Out.{Out}
 use package.Rattle.forward.specs.declared.outcomes.Refusal.{Refusal}
 use package.Rattle.forward.specs.declared.outcomes.Status.the-variants.{Value, Refused}
-use package.Rattle.forward.specs.Outcomes.{meaning}
+use package.Rattle.forward.specs.Outcomes.{Machine, Out, meaning}
 use package.Rattle.forward.specs.Ready.{Ready, Ran, runOf}
 use package.Rattle.forward.proofs.Runs.{meaning-value, meaning-refused}
 use package.Rattle.forward.proofs.Starting.{argumentScope, run-of-function, start-ready}
@@ -34,7 +35,7 @@ use package.Rattle.running.specs.declared.ended.Ended.{Ended}
 use package.Rattle.running.specs.Begun.{Begun}
 use package.Rattle.running.specs.Ended.{Shaped, Means, Gives}
 use package.Rattle.running.specs.Ahead.{Runnable, Evaluated, Goes}
-use package.Rattle.running.proofs.Starts.{admits, code, there, few-arguments, nodes-room, nodes-small, shaped-of}
+use package.Rattle.running.proofs.Starts.{admits, code, there, few-arguments, nodes-room, nodes-small, nodes-answer, shaped-of}
 use package.Rattle.reading.specs.Ends.{valueIn, valuesIn}
 
 ----------------------------------------------------------------
@@ -46,12 +47,17 @@ module _ {xs terms functions heap : List ℕ} {g : ℕ} {anc bytes : List ℕ} {
   abbrev st : Machine
   st = record { top = start .top; fuel = f }
 
-  pub eval-ready : 8232 ≤ length slots′ → Ready 0 0 xs terms functions heap′ slots′ (record { top = start .top; fuel = f }) (argumentScope 0 (start .count)) b 1024
-  eval-ready long = start-ready {st = st} {g = g} (code R) (there R) q (B .graph) (B .held) (omega (arith, nodes-room R B)) (omega (arith, nodes-small R B (omega arith))) (omega (arith, few-arguments R B))
+  pub eval-ready : length slots′ ≡ slotCount → Ready 0 0 xs (termPlaces xs) (functionPlaces xs) heap′ slots′ (record { top = start .top; fuel = f }) (argumentScope 0 (start .count)) b 1024
+  eval-ready full =
+      rw (term-places (R .loaded .read), function-places (R .loaded .read))
+      (start-ready {st = st} {g = g} (code R) (there R) q (B .graph) (B .held) (omega (arith, nodes-room R B)) (omega (arith, nodes-answer R B (omega arith))) (omega (arith, few-arguments R B)) full)
 
   module _ {heap″ slots″ : List ℕ} {m : ℕ} {out : Out}
-      (d : Ran 0 heap′ heap″ m slots′ slots″ (record { top = start .top; fuel = f }) out (runOf xs terms functions heap′ slots′ (record { top = start .top; fuel = f }) (argumentScope 0 (start .count)) b 1024))
-      (long : 8232 ≤ length slots′) where
+      (ran : Ran 0 heap′ heap″ m slots′ slots″ (record { top = start .top; fuel = f }) out
+      (runOf xs (termPlaces xs) (functionPlaces xs) heap′ slots′ (record { top = start .top; fuel = f }) (argumentScope 0 (start .count)) b 1024)) where
+    d : Ran 0 heap′ heap″ m slots′ slots″ st out (runOf xs terms functions heap′ slots′ st (argumentScope 0 (start .count)) b 1024)
+    d = rw (term-places (R .loaded .read), function-places (R .loaded .read)) at ran
+
     abbrev count : ℕ
     count = start .count
 

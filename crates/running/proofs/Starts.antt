@@ -4,7 +4,7 @@ use native.Mathlib.Omega.{arith}
 use mathlib.Core.Path.{_≡_, refl}
 use mathlib.Core.List.{List, map}
 use lib.ListN.{length, getD, length-map}
-use package.Rattle.rules.specs.Limits.{maxVariables, maxNodes, maxParameters, workspaceBase, workspacePerFuel}
+use package.Rattle.rules.specs.Limits.{maxVariables, maxNodes, maxTerms, maxFunctions, maxParameters, workspaceBase, workspacePerFuel}
 use package.Rattle.rules.specs.Val.{Val}
 use package.Rattle.rules.specs.Ty.{Ty}
 use package.Rattle.rules.specs.Term.{Fun}
@@ -16,10 +16,15 @@ use package.Rattle.calls.specs.Values.{value, ancillae}
 use package.Rattle.calls.specs.Runs.{workspaceFor}
 use package.Rattle.calls.proofs.Trees.{entries-good}
 use package.Rattle.calls.proofs.Runs.Parts.{Admits, admit-iff}
+use package.Rattle.program.specs.Parts.{body}
+use package.Rattle.program.specs.Tables.{functionPlaces, Table, Tables}
 use package.Rattle.program.proofs.Rooms.{function-room}
+use package.Rattle.program.proofs.Inside.{formed}
+use package.Rattle.program.proofs.Offsets.{term-places, function-places}
 use package.Rattle.values.specs.Nodes.{nodeBytes}
 use package.Rattle.scopes.specs.Slots.{unknown}
 use package.Rattle.forward.specs.Code.{Code}
+use package.Rattle.forward.specs.Outcomes.{stopped}
 use package.Rattle.forward.proofs.Accepted.{accepted-code}
 use package.Rattle.forward.proofs.Trees.{called-only}
 use package.Rattle.backward.specs.declared.outcomes.Refusal.{Refusal}
@@ -52,6 +57,25 @@ module _ {side : Fun → Ty} {xs terms functions heap : List ℕ} {g : ℕ} {anc
   pub body-room : getD functions g 0 + 8 + 2 * parametersAt xs (getD functions g 0) ≤ length xs
   body-room = function-room (code .function g there .field)
 
+  -- The program's offsets fit the tables, and tables that were filled with them are the program's.
+  pub few-terms : length terms ≤ 1024
+  unfolding maxTerms
+  few-terms = formed xs (R .loaded .read .read) .few-terms
+
+  pub few-functions : length functions ≤ 64
+  unfolding maxFunctions
+  few-functions = formed xs (R .loaded .read .read) .few-functions
+
+  pub filled : {places bodies : List ℕ} → Table places terms 1024 → Table bodies functions 64 → Tables xs places bodies
+  filled t f = record { ofTerms = rw (term-places (R .loaded .read)) t; ofFunctions = rw (function-places (R .loaded .read)) f }
+
+  -- the same of the function that is called
+  pub body-there : (g < length (functionPlaces xs)) × (getD (functionPlaces xs) g 0 + 8 + 2 * parametersAt xs (getD (functionPlaces xs) g 0) ≤ length xs)
+  body-there = rw (function-places (R .loaded .read)) (there, body-room)
+
+  pub body-is : {b : ℕ} → b ≡ body xs (getD (functionPlaces xs) g 0) → b ≡ body xs (getD functions g 0)
+  body-is e = rw (function-places (R .loaded .read)) at e
+
   -- an ancilla for each parameter but the last
   pub as-many : length (valuesIn anc) + 1 ≡ arityAt xs functions g
   unfolding functionOf
@@ -82,6 +106,11 @@ module _ {side : Fun → Ty} {xs terms functions heap : List ℕ} {g : ℕ} {anc
     pub nodes-room : nodeBytes * (start .top + fuel) ≤ length heap′
     unfolding startNodes workspaceFor workspaceBase workspacePerFuel
     nodes-room = omega (arith, R .enough, B .few, B .heap-length)
+
+    -- every node is an answer
+    pub nodes-answer : fuel < 65536 → start .top + fuel ≤ stopped
+    unfolding startNodes
+    nodes-answer l = omega (arith, B .few)
 
     pub nodes-small : fuel < 65536 → start .top + fuel ≤ unknown
     unfolding startNodes unknown

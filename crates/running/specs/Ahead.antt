@@ -18,8 +18,7 @@ use package.Rattle.calls.specs.Runs.{workspaceFor, admit, goes}
 use package.Rattle.program.specs.Places.{placesOf, Placed}
 use package.Rattle.program.specs.Programs.{programIn, functionIn}
 use package.Rattle.forward.specs.declared.outcomes.Status.the-variants.{Value}
-use package.Rattle.forward.specs.declared.outcomes.Out.{Out}
-use package.Rattle.forward.specs.Outcomes.{meaning}
+use package.Rattle.forward.specs.Outcomes.{Out, meaning}
 use package.Rattle.forward.specs.Ready.{Graph}
 use package.Rattle.admission.specs.Given.{givenIn}
 use package.Rattle.running.specs.declared.ended.Ended.{Ended}

@@ -2,47 +2,48 @@
 use crate::begin;
 use crate::ended;
 use crate::ended::Ended;
-use forward::outcomes::Machine;
-use forward::outcomes::Out;
-use forward::outcomes::Scope;
 use forward::outcomes::Status;
+use program::tables;
+use program::tables::FUNCTIONS;
+use program::tables::TERMS;
+use scopes::slots::SLOTS;
+ghost use Rattle.forward.specs.Outcomes.{outOf};
 ghost use Rattle.running.specs.Ahead.{Runnable, Evaluated, Goes};
 
-// The body of a function, with the given values.
+// The body of a function, with the given values: the answer, and in `m` the machine that is left.
 fn evaluate(
     p: &[u8],
     terms: &[u16],
     functions: &[u16],
     ws: &mut [u8],
+    m: &mut [u32; 2],
     function: u16,
     ancillae: &[u8],
     value: &[u8],
     fuel: u16,
-) -> Out
+) -> u32
     requires { ⌜ Runnable (now p) (now terms) (now functions) (now ws) function (now ancillae) (now value) fuel ⌝ }
-    ensures { λ r. ⌜ Evaluated (now (p .entry)) (now (terms .entry)) (now (functions .entry)) (now (ws .entry)) (now (ws .exit)) function (now (ancillae .entry)) (now (value .entry)) fuel r ⌝ }
+    ensures { λ r. ⌜ Evaluated (now (p .entry)) (now (terms .entry)) (now (functions .entry)) (now (ws .entry)) (now (ws .exit)) function (now (ancillae .entry)) (now (value .entry)) fuel (outOf r (now (m .exit))) ⌝ }
 {
-    let mut slots = [0u32; begin::SLOTS];
+    let mut slots = [0u32; SLOTS];
+    let mut places = [0u16; TERMS];
+    tables::fill(&mut places, terms);
+    let mut bodies = [0u16; FUNCTIONS];
+    tables::fill(&mut bodies, functions);
     let start = begin::begin(ws, &mut slots, ancillae, value);
     let count = start.count;
-    let st = Machine {
-        top: start.top,
-        fuel: octets::wide32(fuel),
-    };
-    let sc = Scope {
-        base: 0,
-        q: count,
-        n: count + 1,
-    };
-    let body = forward::parts::body_of(p, functions, function);
+    *m = [start.top, octets::wide32(fuel)];
+    let body = forward::parts::body_of(p, &bodies, function);
     forward::eval::eval(
         p,
-        terms,
-        functions,
+        &places,
+        &bodies,
         ws,
         &mut slots,
-        st,
-        sc,
+        m,
+        0,
+        count,
+        count + 1,
         body,
         begin::MAX_HEIGHT,
     )
@@ -63,11 +64,20 @@ pub fn run(
     requires { ⌜ Runnable (now p) (now terms) (now functions) (now ws) function (now ancillae) (now value) fuel ⌝ }
     ensures { λ r. ⌜ Goes r (now (p .entry)) (now (terms .entry)) (now (functions .entry)) function (now (ancillae .entry)) (now (value .entry)) fuel (now (out .entry)) (now (out .exit)) ⌝ }
 {
-    let r = evaluate(p, terms, functions, ws, function, ancillae, value, fuel);
-    let status = r.status;
-    let m = r.state;
-    match status {
-        Status::Value(node) => ended::give(ws, node, fuel, m.fuel, out),
+    let mut m = [0u32; 2];
+    let answer = evaluate(
+        p,
+        terms,
+        functions,
+        ws,
+        &mut m,
+        function,
+        ancillae,
+        value,
+        fuel,
+    );
+    match forward::outcomes::status_of(answer) {
+        Status::Value(node) => ended::give(ws, node, fuel, m[1], out),
         Status::Refused(why) => {
             let refusal = backward::outcomes::carry(why);
             ended::refuse(refusal, fuel, out)

@@ -1,10 +1,8 @@
 // Where a run begins, forward or back: its values stand in the workspace as nodes, the unit first, then the ancillae in order, then the
 // value; the first slots hold the nodes of the ancillae, and the slot behind them that of the value.
+use scopes::slots::SLOTS;
 use values::nodes;
 ghost use Rattle.running.specs.Begun.{Enough, Beginning, AncillaeLoaded, Begun};
-
-// Room for the variables of a run of the greatest height.
-pub const SLOTS: usize = 8232;
 
 // Section 1's limit of a run's height.
 pub const MAX_HEIGHT: u16 = 1024;
@@ -15,7 +13,7 @@ pub struct Start {
     pub top: u32,
 }
 
-fn load_ancillae(ws: &mut [u8], slots: &mut [u32], bytes: &[u8]) -> Start
+fn load_ancillae(ws: &mut [u8], slots: &mut [u32; SLOTS], bytes: &[u8]) -> Start
     requires { ⌜ Enough (now ws) (now slots) (now bytes) ⌝ }
     ensures { λ r. ⌜ AncillaeLoaded (now (ws .entry)) (now (ws .exit)) (now (slots .entry)) (now (slots .exit)) (now (bytes .entry)) r ⌝ }
 {
@@ -37,7 +35,7 @@ fn load_ancillae(ws: &mut [u8], slots: &mut [u32], bytes: &[u8]) -> Start
     Start { count, top }
 }
 
-pub fn begin(ws: &mut [u8], slots: &mut [u32], ancillae: &[u8], value: &[u8]) -> Start
+pub fn begin(ws: &mut [u8], slots: &mut [u32; SLOTS], ancillae: &[u8], value: &[u8]) -> Start
     requires { ⌜ Beginning (now ws) (now slots) (now ancillae) (now value) ⌝ }
     ensures { λ r. ⌜ Begun (now (ws .entry)) (now (ws .exit)) (now (slots .entry)) (now (slots .exit)) (now (ancillae .entry)) (now (value .entry)) r ⌝ }
 {

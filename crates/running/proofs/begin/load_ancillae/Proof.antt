@@ -1,7 +1,7 @@
+use borrow.Author.Needs.{needs}
 use Prim.Native.Nat.{_-_}
 use mathlib.Core.Path.{sym, _∙_}
 use lib.ListN.{length}
-use borrow.Author.Needs.{needs}
 use Rattle.values.proofs.Heaps.{heap-empty}
 use Rattle.running.specs.Begun.{startNodes}
 use Rattle.running.proofs.Loads.{Loading, loading-start, loading-ready, loading-bad, loading-bind, loading-next, loading-less, loading-small, loading-done}
@@ -16,10 +16,14 @@ abbrev μ-loop : tie.MeasureT-loop
 
 unit-requires : tie.Need-unit-requires Inv-loop μ-loop
 unfolding startNodes
-unit-requires c κs = (heap-empty _, (let h = c .before .before .before .before .pre .nodes-there in search needs))
+unit-requires c κs =
+    let start = c .before .before .before in
+    (heap-empty _, (let h = start .pre .nodes-there in search needs))
 
 loop-holds : tie.Need-loop-holds Inv-loop μ-loop
-loop-holds c = loading-start (c .before .before .before .before .before .before .before .pre) (c .before .before .unit .ensures)
+loop-holds c =
+    let start = c .before .before .before .before .before .before in
+    loading-start (start .pre) (c .before .before .unit .ensures)
 
 load-requires : tie.Need-load-requires Inv-loop μ-loop
 load-requires c κs = loading-ready (c .before .before .loop .inv) (c .before .loop-test .taken)
@@ -31,34 +35,54 @@ enum-told : tie.Need-enum-told Inv-loop μ-loop
 enum-told c = search needs
 
 same-length : tie.Need-same-length Inv-loop μ-loop
-same-length c = c .before .before .before .before .load .kept .0 ∙ sym (c .before .before .before .before .before .before .before .loop .inv .heap-length) ∙ c .before .before .before .before .before .before .before .before .before .before .unit .kept .0
-
-same-length-2 : tie.Need-same-length-2 Inv-loop μ-loop
-same-length-2 c = sym (c .before .before .before .before .before .before .before .loop .inv .slots-length)
+same-length c =
+    let at-load = c .before .before .before .before in
+    let at-loop = at-load .before .before .before in
+    let at-unit = at-loop .before .before .before in
+    at-load .load .kept .0 ∙ sym (at-loop .loop .inv .heap-length) ∙ at-unit .unit .kept .0
 
 returns : tie.Need-returns Inv-loop μ-loop
-returns c = absurd (loading-bad (c .before .before .before .before .before .before .before .loop .inv) (c .before .before .before .before .before .before .loop-test .taken) (rw (c .enum-told .given .1) at (c .before .before .before .before .load .ensures)))
+returns c =
+    let at-load = c .before .before .before .before in
+    let at-loop-test = at-load .before .before in
+    let at-loop = at-loop-test .before in
+    absurd (loading-bad (at-loop .loop .inv) (at-loop-test .loop-test .taken) (rw (c .enum-told .given .1) at (at-load .load .ensures)))
 
 bind-requires : tie.Need-bind-requires Inv-loop μ-loop
-bind-requires c κs = loading-bind (c .before .before .before .before .before .before .before .before .before .loop .inv) (c .before .before .before .before .before .before .before .before .loop-test .taken)
+bind-requires c κs =
+    let at-loop-test = c .before .before .before .before .before .before .before .before in
+    let at-loop = at-loop-test .before in
+    loading-bind (at-loop .loop .inv) (at-loop-test .loop-test .taken)
 
 add-count : tie.Need-add-count Inv-loop μ-loop
-add-count c = let h = loading-small (c .before .before .before .before .before .before .before .before .before .before .before .before .loop .inv) (c .before .before .before .before .before .before .before .before .before .before .before .loop-test .taken) in search needs
+add-count c =
+    let at-loop-test = c .before .before .before .before .before .before .before .before .before in
+    let at-loop = at-loop-test .before in
+    let h = loading-small (at-loop .loop .inv) (at-loop-test .loop-test .taken) in search needs
 
 loop-less : tie.Need-loop-less Inv-loop μ-loop
-loop-less c = let h = loading-less (c .before .before .before .before .before .before .before .before .before .before .before .before .loop .inv) (c .before .before .before .before .before .before .before .before .before .before .before .loop-test .taken) (rw (c .before .before .before .before .before .loaded .given .1) at (c .before .before .before .before .before .before .before .before .before .load .ensures)) in search needs
+loop-less c =
+    let at-load = c .before .before .before .before .before .before .before in
+    let at-loop-test = at-load .before .before in
+    let at-loop = at-loop-test .before in
+    let h = loading-less (at-loop .loop .inv) (at-loop-test .loop-test .taken) (rw (c .before .before .before .loaded .given .1) at (at-load .load .ensures)) in search needs
 
 loop-again : tie.Need-loop-again Inv-loop μ-loop
-loop-again c = loading-next (c .before .before .before .before .before .before .before .before .before .before .before .before .loop .inv) (c .before .before .before .before .before .before .before .before .before .before .before .loop-test .taken) (rw (c .before .before .before .before .before .loaded .given .1) at (c .before .before .before .before .before .before .before .before .before .load .ensures)) (c .before .before .bind .ensures)
+loop-again c =
+    let at-load = c .before .before .before .before .before .before .before in
+    let at-loop-test = at-load .before .before in
+    let at-loop = at-loop-test .before in
+    loading-next (at-loop .loop .inv) (at-loop-test .loop-test .taken) (rw (c .before .before .before .loaded .given .1) at (at-load .load .ensures)) (c .bind .ensures)
 
-same-length-3 : tie.Need-same-length-3 Inv-loop μ-loop
-same-length-3 c = sym (c .before .loop .inv .heap-length) ∙ c .before .before .before .before .unit .kept .0
-
-same-length-4 : tie.Need-same-length-4 Inv-loop μ-loop
-same-length-4 c = sym (c .before .loop .inv .slots-length)
+same-length-2 : tie.Need-same-length-2 Inv-loop μ-loop
+same-length-2 c =
+    let at-unit = c .before .before .before .before in
+    sym (c .before .loop .inv .heap-length) ∙ at-unit .unit .kept .0
 
 returns-2 : tie.Need-returns-2 Inv-loop μ-loop
-returns-2 c = loading-done (c .before .loop .inv) (c .loop-test .left) (sym (c .before .before .before .before .unit .kept .0))
+returns-2 c =
+    let at-unit = c .before .before .before .before in
+    loading-done (c .before .loop .inv) (c .loop-test .left) (sym (at-unit .unit .kept .0))
 
 pub load-ancillae-spec : {M : Type 1} → statement M
 load-ancillae-spec =
@@ -72,12 +96,10 @@ load-ancillae-spec =
     enum-known-loaded
     enum-told
     same-length
-    same-length-2
     returns
     bind-requires
     add-count
     loop-less
     loop-again
-    same-length-3
-    same-length-4
+    same-length-2
     returns-2)
