@@ -1,7 +1,7 @@
 -- Laws of answers, which are numbers: a node, or a refusal by its number and its term.
 use Prim.Native.Nat.{ℕ, _+_, _-_, _*_, _/_, _%_, _≤_, _<_}
 use native.Mathlib.Omega.{arith}
-use mathlib.Core.Path.{_≡_, refl, ap₂, _∙_}
+use mathlib.Core.Path.{_≡_, ap₂, _∙_}
 use lib.Dec.{lit<}
 use borrow.Author.Tests.{ne-eqb, lt-ltb, le-ltb}
 use package.Rattle.scopes.specs.Slots.{unknown}

@@ -3,14 +3,10 @@
 use Prim.Native.Nat.{ℕ, zero, suc, _+_, _-_, _≤_, _<_}
 use native.Mathlib.Omega.{arith}
 use native.Mathlib.Nat.{pos-of-ne-zero}
-use native.Mathlib.Decide.{decLt}
 use mathlib.Core.Path.{_≡_, refl, sym, ap, ap₂, _∙_}
-use mathlib.Core.Bool.{Bool, true, false}
 use mathlib.Core.Logic.{⊎-elim, inl as left, inr as right}
 use mathlib.Core.List.{List}
 use lib.ListN.{getD}
-use lib.Dec.{eqb}
-use borrow.Author.Tests.{eqb-true, eqb-false}
 use package.Rattle.rules.specs.Limits.{fits}
 use package.Rattle.rules.specs.Val.{Val, unit, pair}
 use package.Rattle.rules.specs.Term.{Term, Program, entry}
@@ -21,10 +17,9 @@ use package.Rattle.calls.specs.Entries.{TypeEntry}
 use package.Rattle.program.specs.Parts.{variable, first, second}
 use package.Rattle.values.specs.Nodes.{Room, ofKind, Single, valueAt}
 use package.Rattle.values.proofs.Heaps.{value-kept}
-use package.Rattle.scopes.specs.Slots.{unknown, slotAt, Slots, meaning as slotMeaning}
+use package.Rattle.scopes.specs.Slots.{slotAt, meaning as slotMeaning}
 use package.Rattle.scopes.specs.declared.slots.Found.{Found}
 use package.Rattle.scopes.specs.declared.slots.Found.the-variants.{Node, Unknown}
-use package.Rattle.scopes.proofs.Marks.{found-mark, found-node, slot-in, slot-out}
 use package.Rattle.scopes.proofs.Scopes.{known-state}
 use package.Rattle.yields.specs.Yields.{Wraps}
 use package.Rattle.forward.specs.Code.{treeAt, programAt}

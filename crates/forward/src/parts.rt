@@ -6,7 +6,7 @@ use program::tables::TERMS;
 ghost use mathlib.Core.Path.{_≡_};
 ghost use Prim.Native.Nat.{_+_, _*_, _≤_, _<_};
 ghost use lib.ListN.{length, getD};
-ghost use Rattle.calls.specs.Fields.{kindAt, lengthAt, parametersAt};
+ghost use Rattle.calls.specs.Fields.{lengthAt, parametersAt};
 ghost use Rattle.calls.specs.Entries.{callAncillae};
 ghost use Rattle.program.specs.Parts.{first, second, third, listed, body};
 ghost use Rattle.program.specs.Tables.{termPlaces, functionPlaces, Table};

@@ -1,13 +1,12 @@
 -- Laws of offsets in tables: a program whose fields are read has the offsets of its layout; a table that is filled from the front.
-use Prim.Native.Nat.{ℕ, suc, _+_, _≤_, _<_}
+use Prim.Native.Nat.{ℕ, _+_, _<_}
 use native.Mathlib.Omega.{arith}
 use native.Mathlib.Decide.{decLt}
-use mathlib.Core.Path.{_≡_, refl, sym, ap, _∙_}
+use mathlib.Core.Path.{_≡_, ap, _∙_}
 use mathlib.Core.List.{List}
 use lib.ListN.{length, getD, set}
 use lib.Seq.{getD-set-same, getD-set-other}
-use package.Rattle.calls.specs.Fields.{layout}
-use package.Rattle.program.specs.Places.{placesOf, Placed}
+use package.Rattle.program.specs.Places.{Placed}
 use package.Rattle.program.specs.Tables.{placesIn, termPlaces, functionPlaces, Table}
 
 ----------------------------------------------------------------

@@ -6,6 +6,7 @@ use backward::outcomes::Inner;
 use backward::outcomes::Status;
 use forward::outcomes::Machine;
 use scopes::bindings::Bindings;
+use scopes::slots::SLOTS;
 use scopes::slots::UNKNOWN;
 ghost use Prim.Native.Nat.{_≤_};
 ghost use lib.ListN.{length};
@@ -42,7 +43,7 @@ fn undo(
     requires { ⌜ Returnable (now p) (now terms) (now functions) (now ws) function (now ancillae) (now value) fuel ⌝ }
     ensures { λ r. ⌜ Undone (now (p .entry)) (now (terms .entry)) (now (functions .entry)) (now (ws .exit)) function (now (ancillae .entry)) (now (value .entry)) fuel r ⌝ }
 {
-    let mut slots = [0u32; begin::SLOTS];
+    let mut slots = [0u32; SLOTS];
     let start = begin::begin(ws, &mut slots, ancillae, value);
     let count = start.count;
     let st = Machine {

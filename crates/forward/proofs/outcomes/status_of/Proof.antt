@@ -1,5 +1,4 @@
 use borrow.Author.Needs.{needs}
-use native.Mathlib.Omega.{arith}
 use mathlib.Core.Path.{sym, ap, _∙_}
 use Rattle.forward.proofs.Answers.{is-value, is-refused}
 use Rattle.forward.specs.declared.outcomes.Status.the-variants.{Refused}
