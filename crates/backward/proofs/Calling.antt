@@ -17,28 +17,25 @@ use package.Rattle.program.specs.Parts.{first, listed, body}
 use package.Rattle.values.specs.Nodes.{valueAt}
 use package.Rattle.values.proofs.Heaps.{value-kept}
 use package.Rattle.scopes.specs.Slots.{unknown, stateAt}
-use package.Rattle.scopes.specs.Bindings.{stateOf}
-use package.Rattle.scopes.specs.declared.bindings.Bindings.{Bindings}
+use package.Rattle.scopes.specs.Bindings.{View, stateOf}
 use package.Rattle.yields.specs.Yields.{ancillaeAt}
 use package.Rattle.yields.proofs.Ancillae.{state-ancillae}
+use package.Rattle.forward.specs.Outcomes.{Machine}
 use package.Rattle.forward.specs.Code.{treeAt, programAt}
 use package.Rattle.forward.specs.Ready.{Calls}
 use package.Rattle.forward.proofs.Trees.{tree-call, part-argument, called-function, called-tree, called-there, called-body, few-ancillae}
-use package.Rattle.forward.specs.declared.outcomes.Machine.{Machine}
 use package.Rattle.backward.specs.Scoped.{ScopedAt, arityAt}
+use package.Rattle.backward.specs.Outcomes.{Done, Refused, Outcome, Inner}
 use package.Rattle.backward.specs.Ready.{Ready, Held, Follows, Moves, Ran, RanUnder, ancillaeOf, runOf, underOf, stepOf}
 use package.Rattle.backward.specs.Calls.{Collected, argumentsOf, Arguments}
-use package.Rattle.backward.proofs.Runs.{meaning-refused, not-done, bound-up, follows-same, ancillae-held, ancillae-later, state-later, moves-then, held-later, held-less, small-top, says, slack, under-refused, under-done}
-use package.Rattle.backward.proofs.Parts.{later, owing-none, part, scoped-call}
+use package.Rattle.backward.proofs.Runs.{meaning-refused, not-done, ancillae-held, state-later, moves-then, held-later, held-less, small-top, says, slack, under-refused, under-done}
+use package.Rattle.backward.proofs.Parts.{later, ancillae-after, owing-none, part, scoped-call}
 use package.Rattle.backward.proofs.Steps.{go, stepped}
 use package.Rattle.backward.proofs.Gathering.{gathered-done, gathered-refused}
 use Rattle.backward.specs.declared.outcomes.Refusal.{Refusal}
-use Rattle.backward.specs.declared.outcomes.Status.the-variants.{Done, Refused}
-use Rattle.backward.specs.declared.outcomes.Out.{Out}
-use Rattle.backward.specs.declared.outcomes.Inner.{Inner}
 
 -- what went before a run
-before-run : {k : ℕ} {heap heap₁ heap₂ slots slots₁ slots₂ : List ℕ} {st st₁ : Machine} {b : Bindings} {out : Out} {res : List TypeEntry → Res State}
+before-run : {k : ℕ} {heap heap₁ heap₂ slots slots₁ slots₂ : List ℕ} {st st₁ : Machine} {b : View} {out : Outcome} {res : List TypeEntry → Res State}
     → Moves 0 heap heap₁ slots slots₁ st st₁ → Ran k heap₁ heap₂ slots₁ slots₂ st₁ b out res → Ran k heap heap₂ slots slots₂ st b out res
 before-run M d = record { moves = moves-then M (d .moves); follows = d .follows; answer = d .answer }
 
@@ -49,7 +46,7 @@ all-arguments C = record { kind = C .kind; ancillae = C .ancillae; next = omega 
 ----------------------------------------------------------------
 -- The arguments as a scope
 
-module _ {args : Bindings} {count top : ℕ} (K : Collected args count top) (small : top ≤ unknown) (heap : List ℕ) where
+module _ {args : View} {count top : ℕ} (K : Collected args count top) (small : top ≤ unknown) (heap : List ℕ) where
   -- all is known
   pub arguments-state : map some (ancillaeAt heap (args .slots) 0 count) ≡ stateOf heap args
   unfolding stateOf
@@ -58,7 +55,7 @@ module _ {args : Bindings} {count top : ℕ} (K : Collected args count top) (sma
       ∙ ap (stateAt heap (args .slots) 0) (sym (K .all))
 
 -- The body of function `g` can be run with the arguments known.
-pub body-ready : {p terms functions heap slots : List ℕ} {st : Machine} {args : Bindings} {count g u room : ℕ} → Held 0 p terms functions heap slots st room
+pub body-ready : {p terms functions heap slots : List ℕ} {st : Machine} {args : View} {count g u room : ℕ} → Held 0 p terms functions heap slots st room
     → Collected args count (st .top) → g < length functions → count + 1 ≡ arityAt p functions g → u ≡ body p (getD functions g 0)
     → Ready 0 0 p terms functions heap slots st args count (args .len + 1) u room
 body-ready {p} {terms} {functions} {args = args} {g = g} {u = u} H K l e q = record {
@@ -73,9 +70,9 @@ body-ready {p} {terms} {functions} {args = args} {g = g} {u = u} H K l e q = rec
 ----------------------------------------------------------------
 -- The call
 
-module _ {p terms functions heap slots : List ℕ} {st : Machine} {b : Bindings} {q t room : ℕ} (rd : Ready 1 1 p terms functions heap slots st b q (b .len) t room)
+module _ {p terms functions heap slots : List ℕ} {st : Machine} {b : View} {q t room : ℕ} (rd : Ready 1 1 p terms functions heap slots st b q (b .len) t room)
     {node : ℕ} (low : node < st .top) {count : ℕ} (C : Calls p terms t 0 count)
-    {heap₁ slots₁ : List ℕ} {made : Out} (D : Arguments p terms functions heap heap₁ slots slots₁ st b q t room count made) where
+    {heap₁ slots₁ : List ℕ} {made : Outcome} (D : Arguments p terms functions heap heap₁ slots slots₁ st b q t room count made) where
   abbrev at : ℕ
   at = getD terms t 0
 
@@ -126,7 +123,7 @@ module _ {p terms functions heap slots : List ℕ} {st : Machine} {b : Bindings}
   }) 1 (omega arith)
 
   module _ (s : made .status ≡ Done) {g u : ℕ} (qg : g ≡ first p at) (qu : u ≡ body p (getD functions g 0)) where
-    abbrev args : Bindings
+    abbrev args : View
     args = made .bindings
 
     known : Collected args count (made .state .top)
@@ -160,23 +157,21 @@ module _ {p terms functions heap slots : List ℕ} {st : Machine} {b : Bindings}
       pub call-refused-2 : {why : Refusal} → r .out .status ≡ Refused why → Ran 1 heap heap₂ slots slots₂ st b (r .out) step
       call-refused-2 s₂ = slack (before-run (D .moves) (under-refused d call-next s₂ from-body)) 1 (omega arith)
 
-      all-moves : Moves 0 heap heap₂ slots slots₂ st (r .out .state)
+      pub all-moves : Moves 0 heap heap₂ slots slots₂ st (r .out .state)
       all-moves = moves-then (D .moves) (d .moves)
 
-      as-before : Follows b b (r .out .state .top)
-      as-before = follows-same (bound-up (r .out .state .top) (rd .binds .bound) (all-moves .grows))
-
-      module _ {w : ℕ} (qw : w ≡ listed p at count) where
+      -- the bindings as they were, in slots of which those of the scope are the same
+      module _ {b′ : View} (F : Follows b b′ (r .out .state .top)) (same : stateOf heap₂ b ≡ stateOf heap₂ b′) {w : ℕ} (qw : w ≡ listed p at count) where
         -- the dynamic term
-        pub call-dynamic : Ready 0 0 p terms functions heap₂ slots₂ (r .out .state) b q (b .len) w (room - 1)
+        pub call-dynamic : Ready 0 0 p terms functions heap₂ slots₂ (r .out .state) b′ q (b .len) w (room - 1)
         call-dynamic = rw (qw, C .ancillae)
-            (owing-none (later (part rd (listed p at ancillae) (b .len) (part-argument (rd .machine .code .entries) t (rd .term) (rd .few) (C .kind) ancillae (omega arith)) (scoped-call rd (C .kind) .1)) all-moves as-before))
+            (owing-none (later (part rd (listed p at ancillae) (b .len) (part-argument (rd .machine .code .entries) t (rd .term) (rd .few) (C .kind) ancillae (omega arith)) (scoped-call rd (C .kind) .1)) all-moves F))
 
-        pub call-done : r .out .status ≡ Done → {heap₃ slots₃ : List ℕ} {r₂ : Out}
-            → Ran 0 heap₂ heap₃ slots₂ slots₃ (r .out .state) b r₂ (runOf p terms functions heap₂ (r .out .state) b q w (valueAt heap₂ (r .newest)) (room - 1))
+        pub call-done : r .out .status ≡ Done → {heap₃ slots₃ : List ℕ} {r₂ : Outcome}
+            → Ran 0 heap₂ heap₃ slots₂ slots₃ (r .out .state) b′ r₂ (runOf p terms functions heap₂ (r .out .state) b′ q w (valueAt heap₂ (r .newest)) (room - 1))
             → Ran 1 heap heap₃ slots slots₃ st b r₂ step
         call-done s₂ d₂ =
             slack (before-run (D .moves) (under-done d call-next s₂ from-body (says d₂ (λ ys.
             ap₂ (λ a σ. backward fits (programAt p terms functions ys) (room - 1) a σ (treeAt p terms ys w) (valueAt heap₂ (r .newest)) (r .out .state .fuel))
-            (sym (ancillae-later (rd .machine .graph) (all-moves .agree) b q (rd .binds))) (sym (state-later (rd .machine .graph) (all-moves .agree) b (rd .binds .bound)))
-            ∙ ap (λ w. go rd low ys (stateOf heap b) w (valueAt heap₂ (r .newest)) (r .out .state .fuel)) qw)) as-before)) 1 (omega arith)
+            (sym (ancillae-after rd all-moves F)) (sym (state-later (rd .machine .graph) (all-moves .agree) b (rd .binds .bound) ∙ same))
+            ∙ ap (λ w. go rd low ys (stateOf heap b) w (valueAt heap₂ (r .newest)) (r .out .state .fuel)) qw)) F)) 1 (omega arith)

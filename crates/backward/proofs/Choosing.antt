@@ -17,26 +17,23 @@ use package.Rattle.calls.specs.Fields.{kindAt}
 use package.Rattle.calls.specs.Entries.{TypeEntry}
 use package.Rattle.program.specs.Parts.{first, second, third}
 use package.Rattle.values.specs.Nodes.{ofKind, Single, valueAt}
-use package.Rattle.scopes.specs.Bindings.{stateOf}
-use package.Rattle.scopes.specs.declared.bindings.Bindings.{Bindings}
+use package.Rattle.scopes.specs.Bindings.{View, stateOf}
 use package.Rattle.yields.specs.Yields.{Yields, MayYield}
+use package.Rattle.forward.specs.Outcomes.{Machine}
 use package.Rattle.forward.specs.Code.{treeAt, programAt}
 use package.Rattle.forward.proofs.Trees.{tree-case, parts-case}
-use package.Rattle.forward.specs.declared.outcomes.Machine.{Machine}
+use package.Rattle.backward.specs.Outcomes.{Done, Refused, Outcome, Inner}
 use package.Rattle.backward.specs.Ready.{Ready, Ran, RanUnder, ancillaeOf, runOf, underOf, stepOf}
 use package.Rattle.backward.proofs.Runs.{says, slack, ancillae-held, under-refused, under-done}
 use package.Rattle.backward.proofs.Parts.{later, ancillae-after, owing-none, in-scope, part, scoped-case}
 use package.Rattle.backward.proofs.Steps.{go, stepped}
 use Rattle.backward.specs.declared.outcomes.Refusal.{Refusal}
-use Rattle.backward.specs.declared.outcomes.Status.the-variants.{Done, Refused}
-use Rattle.backward.specs.declared.outcomes.Out.{Out}
-use Rattle.backward.specs.declared.outcomes.Inner.{Inner}
 
 pub side-single : (l : Bool) {side : ℕ} → side ≡ cond l 1 2 → Single side
 side-single true e = left e
 side-single false e = right (left e)
 
-module _ {p terms functions heap slots : List ℕ} {st : Machine} {b : Bindings} {q t room : ℕ} (rd : Ready 1 1 p terms functions heap slots st b q (b .len) t room)
+module _ {p terms functions heap slots : List ℕ} {st : Machine} {b : View} {q t room : ℕ} (rd : Ready 1 1 p terms functions heap slots st b q (b .len) t room)
     {node : ℕ} (low : node < st .top) (kind : kindAt p (getD terms t 0) ≡ 7) where
   abbrev at : ℕ
   at = getD terms t 0
@@ -102,7 +99,7 @@ module _ {p terms functions heap slots : List ℕ} {st : Machine} {b : Bindings}
         case-sum = in-scope (r .out .bindings .len) (sym (d .follows s .len))
             (rw qu (later (part rd (first p at) (b .len) (parts-case (rd .machine .code .entries) t (rd .term) (rd .few) kind .0) (scoped-case rd kind .1)) (d .moves) (d .follows s)))
 
-        pub case-done : {heap₂ slots₂ : List ℕ} {r₂ : Out} → Ran 1 heap₁ heap₂ slots₁ slots₂ (r .out .state) (r .out .bindings) r₂
+        pub case-done : {heap₂ slots₂ : List ℕ} {r₂ : Outcome} → Ran 1 heap₁ heap₂ slots₁ slots₂ (r .out .state) (r .out .bindings) r₂
             (runOf p terms functions heap₁ (r .out .state) (r .out .bindings) q u (ofKind side (valueAt heap₁ (r .newest)) (valueAt heap₁ (r .newest))) (room - 1))
             → Ran 1 heap heap₂ slots slots₂ st b r₂ step
         case-done d₂ =

@@ -21,27 +21,23 @@ use package.Rattle.values.specs.Nodes.{Room, valueAt, Grown, Made}
 use package.Rattle.values.proofs.Heaps.{value-kept}
 use package.Rattle.values.proofs.Places.{agree-trans, agree-down}
 use package.Rattle.scopes.specs.Slots.{unknown, meaning as slotMeaning}
-use package.Rattle.scopes.specs.Bindings.{stateOf, Opens}
-use package.Rattle.scopes.specs.declared.bindings.Bindings.{Bindings}
-use package.Rattle.scopes.specs.declared.bindings.Left.{Left}
+use package.Rattle.scopes.specs.Bindings.{View, Left, stateOf, Opens}
 use package.Rattle.scopes.proofs.Marks.{found-mark}
 use package.Rattle.scopes.proofs.Bound.{opens-state}
 use package.Rattle.yields.proofs.Ancillae.{ancillae-same}
 use package.Rattle.forward.specs.Code.{treeAt, programAt}
-use package.Rattle.forward.specs.Outcomes.{finished}
+use package.Rattle.forward.specs.Outcomes.{Machine, finished}
 use package.Rattle.forward.specs.Ready.{Graph}
+use package.Rattle.forward.proofs.Answers.{below-mark}
 use package.Rattle.forward.proofs.Trees.{tree-entry}
 use package.Rattle.forward.proofs.Making.{makes}
-use package.Rattle.forward.specs.declared.outcomes.Machine.{Machine}
 use package.Rattle.backward.specs.Scoped.{ScopedAt}
-use package.Rattle.backward.specs.Outcomes.{refusalOf, tooLong}
+use package.Rattle.backward.specs.Outcomes.{Done, Refused, Outcome, refusalOf, tooLong}
 use package.Rattle.backward.specs.Ready.{Ready, Binds, Ran, RanUnder, Goes, ancillaeOf, runOf, underOf, stepOf}
 use package.Rattle.backward.proofs.Runs.{meaning-done, meaning-refused, refusal-after, not-done, left-done, left-refused, binds-up, ancillae-later, state-later, held-later, refuses, slack}
 use package.Rattle.backward.proofs.Leaves.{opened-binds, goes-node, goes-state, goes-follows}
 use Rattle.backward.specs.declared.outcomes.Refusal.{Refusal}
 use Rattle.backward.specs.declared.outcomes.Refusal.the-variants.{Fuel, Height}
-use Rattle.backward.specs.declared.outcomes.Status.the-variants.{Done, Refused}
-use Rattle.backward.specs.declared.outcomes.Out.{Out}
 
 ----------------------------------------------------------------
 -- The tests
@@ -76,7 +72,7 @@ module _ (P : Program) (a : List Val) (σ : State) (T : Term) (v : Val) where
 ----------------------------------------------------------------
 -- A term is entered with the value at a node
 
-module _ {p terms functions heap slots : List ℕ} {st : Machine} {b : Bindings} {q t room : ℕ} (rd : Ready 0 0 p terms functions heap slots st b q (b .len) t room)
+module _ {p terms functions heap slots : List ℕ} {st : Machine} {b : View} {q t room : ℕ} (rd : Ready 0 0 p terms functions heap slots st b q (b .len) t room)
     {node : ℕ} (low : node < st .top) where
   abbrev place : (ys : List TypeEntry) → entry (treeAt p terms ys t) ≡ t
   place ys = tree-entry (rd .machine .code .entries) t (rd .term) ys
@@ -84,12 +80,12 @@ module _ {p terms functions heap slots : List ℕ} {st : Machine} {b : Bindings}
   abbrev run : List TypeEntry → Res State
   run = runOf p terms functions heap st b q t (valueAt heap node) room
 
-  pub term-spent : (r : Out) → r .status ≡ Refused (Fuel t) → r .state ≡ st → st .fuel ≡ 0 → Ran 0 heap heap slots slots st b r run
+  pub term-spent : (r : Outcome) → r .status ≡ Refused (Fuel t) → r .state ≡ st → st .fuel ≡ 0 → Ran 0 heap heap slots slots st b r run
   unfolding refusalOf
   term-spent r s e z = refuses r (rd .machine .graph) s e (λ ys. spent (programAt p terms functions ys) _ _ _ _ room (st .fuel) z ∙ ap (stop 12) (place ys))
 
   module _ (some-fuel : ¬ (st .fuel ≡ 0)) where
-    pub term-high : (r : Out) → r .status ≡ Refused (Height t) → r .state ≡ st → room ≡ 0 → Ran 0 heap heap slots slots st b r run
+    pub term-high : (r : Outcome) → r .status ≡ Refused (Height t) → r .state ≡ st → room ≡ 0 → Ran 0 heap heap slots slots st b r run
     unfolding refusalOf
     term-high r s e z =
         refuses r (rd .machine .graph) s e (λ ys. high (programAt p terms functions ys) _ _ _ _ room (st .fuel) z (pos-of-ne-zero some-fuel) ∙ ap (stop 13) (place ys))
@@ -113,6 +109,7 @@ module _ {p terms functions heap slots : List ℕ} {st : Machine} {b : Bindings}
               nodes = omega (arith, rd .machine .nodes);
               small = omega (arith, rd .machine .small);
               variables = rd .machine .variables;
+              all = rd .machine .all;
             };
             binds = rd .binds;
             term = rd .term;
@@ -121,7 +118,7 @@ module _ {p terms functions heap slots : List ℕ} {st : Machine} {b : Bindings}
             tall = omega arith;
           }
 
-      pub term-done : {heap′ slots′ : List ℕ} {r : Out} → Ran 1 heap heap′ slots slots′ taken b r (stepOf p terms functions heap taken b q t (valueAt heap node) room)
+      pub term-done : {heap′ slots′ : List ℕ} {r : Outcome} → Ran 1 heap heap′ slots slots′ taken b r (stepOf p terms functions heap taken b q t (valueAt heap node) room)
           → Ran 0 heap heap′ slots slots′ st b r run
       term-done d =
           let pos = pos-of-ne-zero some-fuel in
@@ -142,12 +139,12 @@ module _ {p terms functions heap slots : List ℕ} {st : Machine} {b : Bindings}
 ----------------------------------------------------------------
 -- A value is made for the term
 
-module _ {p terms functions heap slots : List ℕ} {st : Machine} {b : Bindings} {q t room : ℕ} (rd : Ready 1 0 p terms functions heap slots st b q (b .len) t room) where
+module _ {p terms functions heap slots : List ℕ} {st : Machine} {b : View} {q t room : ℕ} (rd : Ready 1 0 p terms functions heap slots st b q (b .len) t room) where
   pub node-room : Room heap (st .top + 1)
   node-room = omega (arith, rd .machine .nodes)
 
   pub next-node : st .top + 1 ≤ unknown
-  next-node = omega (arith, rd .machine .small)
+  next-node = omega (arith, rd .machine .small, below-mark)
 
   module _ {v : Val} {heap₁ : List ℕ} {made : Bool} (M : Made heap heap₁ (st .top) v made) where
     -- with the node
@@ -173,6 +170,7 @@ module _ {p terms functions heap slots : List ℕ} {st : Machine} {b : Bindings}
           nodes = omega (arith, rd .machine .nodes, grows .agree .lengths);
           small = omega (arith, rd .machine .small);
           variables = rd .machine .variables;
+          all = rd .machine .all;
         };
         binds = binds-up (st .top + 1) (rd .binds) (omega arith);
         term = rd .term;
@@ -181,7 +179,7 @@ module _ {p terms functions heap slots : List ℕ} {st : Machine} {b : Bindings}
         tall = omega arith;
       }
 
-      pub over-done : {heap₂ slots₂ : List ℕ} {r : Out} → Ran 0 heap₁ heap₂ slots slots₂ grown b r (runOf p terms functions heap₁ grown b q t (valueAt heap₁ (st .top)) room)
+      pub over-done : {heap₂ slots₂ : List ℕ} {r : Outcome} → Ran 0 heap₁ heap₂ slots slots₂ grown b r (runOf p terms functions heap₁ grown b q t (valueAt heap₁ (st .top)) room)
           → Ran 1 heap heap₂ slots slots₂ st b r (runOf p terms functions heap st b q t v room)
       over-done d = record {
         moves = record {
@@ -199,7 +197,7 @@ module _ {p terms functions heap slots : List ℕ} {st : Machine} {b : Bindings}
             ∙ ap (λ v. runOf p terms functions heap st b q t v room ys) (grows .value);
       }
 
-    pub over-long : made ≡ false → (r : Out) → r .status ≡ Refused (tooLong (st .fuel) room t) → r .state ≡ st
+    pub over-long : made ≡ false → (r : Outcome) → r .status ≡ Refused (tooLong (st .fuel) room t) → r .state ≡ st
         → Ran 1 heap heap₁ slots slots st b r (runOf p terms functions heap st b q t v room)
     over-long e r s q′ = rw (M .old e)
         (slack (refuses r (rd .machine .graph) s q′ (λ ys. too-long (programAt p terms functions ys) _ _ _ v room (st .fuel) (sym (M .answer) ∙ e)
@@ -208,7 +206,7 @@ module _ {p terms functions heap slots : List ℕ} {st : Machine} {b : Bindings}
 ----------------------------------------------------------------
 -- A variable more, of which nothing is known
 
-module _ {b : Bindings} {q top : ℕ} (B : Binds b q top) (space : b .len < 32) {b₁ : Bindings} (O : Opens b unknown b₁) (heap : List ℕ) where
+module _ {b : View} {q top : ℕ} (B : Binds b q top) (space : b .len < 32) {b₁ : View} (O : Opens b unknown b₁) (heap : List ℕ) where
   pub inner-state : stateOf heap b₁ ≡ none ∷ stateOf heap b
   inner-state = opens-state heap b unknown top b₁ O (B .bound) space ∙ ap (λ f. slotMeaning heap f ∷ stateOf heap b) (found-mark unknown refl)
 
@@ -217,8 +215,8 @@ module _ {b : Bindings} {q top : ℕ} (B : Binds b q top) (space : b .len < 32) 
       ancillae-same heap (b₁ .slots) (b .slots) 0 q
       (λ j h. ap (λ (l : List ℕ). getD l j 0) (O .slots) ∙ getD-set-other (b .slots) (b .len) j unknown 0 (λ e. omega (arith, B .within)))
 
-module _ {p terms functions heap slots : List ℕ} {st : Machine} {b : Bindings} {q t room : ℕ} (rd : Ready 0 0 p terms functions heap slots st b q (b .len + 1) t room)
-    (space : b .len < 32) {b₁ : Bindings} (O : Opens b unknown b₁) where
+module _ {p terms functions heap slots : List ℕ} {st : Machine} {b : View} {q t room : ℕ} (rd : Ready 0 0 p terms functions heap slots st b q (b .len + 1) t room)
+    (space : b .len < 32) {b₁ : View} (O : Opens b unknown b₁) where
   pub inner-ready : Ready 0 0 p terms functions heap slots st b₁ q (b₁ .len) t room
   inner-ready = record {
     machine = rd .machine;
@@ -232,15 +230,16 @@ module _ {p terms functions heap slots : List ℕ} {st : Machine} {b : Bindings}
   inner-run : (v : Val) (ys : List TypeEntry) → runOf p terms functions heap st b₁ q t v room ys ≡ underOf p terms functions heap st b q t v room ys
   inner-run v ys = ap₂ (λ a σ. backward fits (programAt p terms functions ys) room a σ (treeAt p terms ys t) v (st .fuel)) (inner-ancillae (rd .binds) space O heap) (inner-state (rd .binds) space O heap)
 
-  module _ {node : ℕ} (low : node < st .top) {heap₁ slots₁ : List ℕ} {r : Out} (d : Ran 0 heap heap₁ slots slots₁ st b₁ r (runOf p terms functions heap st b₁ q t (valueAt heap node) room)) where
-    pub inner-stopped : {w : Refusal} → r .status ≡ Refused w → RanUnder heap heap₁ slots slots₁ st b (record { out = r; newest = 0 }) (underOf p terms functions heap st b q t (valueAt heap node) room)
-    inner-stopped {w} s = record {
+  module _ {node : ℕ} (low : node < st .top) {heap₁ slots₁ : List ℕ} {r : Outcome} (d : Ran 0 heap heap₁ slots slots₁ st b₁ r (runOf p terms functions heap st b₁ q t (valueAt heap node) room)) where
+    pub inner-stopped : {w : Refusal} → r .status ≡ Refused w → (l : Left)
+        → RanUnder heap heap₁ slots slots₁ st b (record { out = record { status = r .status; state = r .state; bindings = l .state }; newest = l .newest }) (underOf p terms functions heap st b q t (valueAt heap node) room)
+    inner-stopped {w} s l = record {
       moves = d .moves;
       follows = λ n. absurd (not-done s n);
       there = λ n. absurd (not-done s n);
       answer = λ ys next.
           ap (λ x. after x (λ σ. leave σ next)) (sym (inner-run (valueAt heap node) ys) ∙ sym (d .answer ys) ∙ meaning-refused heap₁ r s)
-          ∙ refusal-after w (λ σ. leave σ next) ∙ sym (left-refused heap₁ (r .bindings) 0 (r .state .fuel) next s);
+          ∙ refusal-after w (λ σ. leave σ next) ∙ sym (left-refused heap₁ (l .state) (l .newest) (r .state .fuel) next s);
     }
 
     module _ (s : r .status ≡ Done) where
@@ -249,7 +248,7 @@ module _ {p terms functions heap slots : List ℕ} {st : Machine} {b : Bindings}
       inner-some = (omega (arith, d .follows s .len, O .len), d .follows s .bound .few)
 
       pub inner-done : {l : Left} → Goes (r .bindings) l
-          → RanUnder heap heap₁ slots slots₁ st b (record { out = record { status = Done; state = r .state; bindings = l .state }; newest = l .newest }) (underOf p terms functions heap st b q t (valueAt heap node) room)
+          → RanUnder heap heap₁ slots slots₁ st b (record { out = record { status = r .status; state = r .state; bindings = l .state }; newest = l .newest }) (underOf p terms functions heap st b q t (valueAt heap node) room)
       inner-done {l} L = record {
         moves = d .moves;
         follows = λ n. goes-follows L (d .follows s .bound) (inner-some .0) O (rd .binds .bound .full) (d .follows s);
@@ -257,5 +256,5 @@ module _ {p terms functions heap slots : List ℕ} {st : Machine} {b : Bindings}
         answer = λ ys next.
             via (λ σ. leave σ next) (sym (inner-run (valueAt heap node) ys) ∙ sym (d .answer ys) ∙ meaning-done heap₁ r s)
             (goes-state L (d .follows s .bound) (inner-some .0) heap₁ (held-later (rd .machine) (d .moves) .unit-there) next (r .state .fuel))
-            ∙ sym (left-done heap₁ (l .state) (l .newest) (r .state .fuel) next refl);
+            ∙ sym (left-done heap₁ (l .state) (l .newest) (r .state .fuel) next s);
       }

@@ -1,13 +1,12 @@
--- The ancilla arguments of a call: one after the other they are evaluated forward, in slots that hold the binding state, and are the first
--- variables of the function that is called.
+-- The ancilla arguments of a call: one after the other they are evaluated forward, in the scope at hand, and are placed behind it, where they
+-- are the first variables of the function that is called.
 use Prim.Native.Nat.{ℕ, suc, _+_, _*_, _-_, _≤_, _<_}
 use native.Mathlib.Omega.{arith}
-use native.Mathlib.Numerals.{add-one}
 use native.Mathlib.Decide.{decLt}
-use mathlib.Core.Path.{_≡_, refl, sym, ap, ap₂, subst, _∙_}
-use mathlib.Core.Logic.{inr as right}
+use mathlib.Core.Path.{_≡_, refl, sym, ap, ap₂, _∙_}
+use mathlib.Core.Logic.{_⊎_, inr as right}
 use mathlib.Core.List.{List, [], _∷_}
-use lib.ListN.{length, getD, set}
+use lib.ListN.{length, getD, set, length-set}
 use lib.Seq.{getD-set-same, getD-set-other}
 use package.Rattle.octets.specs.Numbers.{get16}
 use package.Rattle.rules.specs.Limits.{fits}
@@ -18,41 +17,28 @@ use package.Rattle.rules.specs.Machine.{State, each, forward}
 use package.Rattle.rules.proofs.Run.{after-after}
 use package.Rattle.calls.specs.Entries.{TypeEntry, termTrees, references}
 use package.Rattle.program.specs.Parts.{listed}
+use package.Rattle.program.specs.Tables.{termPlaces, functionPlaces}
 use package.Rattle.values.specs.Nodes.{valueAt}
-use package.Rattle.scopes.specs.Bindings.{stateOf, noneBound, Opens}
+use package.Rattle.values.proofs.Heaps.{value-kept}
+use package.Rattle.scopes.specs.Slots.{unknown}
+use package.Rattle.scopes.specs.Bindings.{View, viewOf, stateOf}
 use package.Rattle.scopes.specs.declared.bindings.Bindings.{Bindings}
-use package.Rattle.scopes.proofs.Scopes.{state-same}
+use package.Rattle.scopes.proofs.Views.{view-at, view-bound, view-state}
 use package.Rattle.yields.specs.Yields.{ancillaeAt}
-use package.Rattle.yields.proofs.Ancillae.{ancillae-bind, ancillae-same}
 use package.Rattle.forward.specs.Code.{treeAt, programAt}
-use package.Rattle.forward.specs.Ready.{Ready as ForwardReady, Ran as ForwardRan, Calls, runOf as forwardRun, ancillaeOf as forwardAncillae, stateOf as forwardState}
-use package.Rattle.forward.proofs.Runs.{answered, refused, ancillae-later as forward-ancillae, state-later as forward-state}
-use package.Rattle.forward.proofs.Placing.{place-less, few-count}
-use package.Rattle.forward.specs.declared.outcomes.Machine.{Machine}
-use package.Rattle.forward.specs.declared.outcomes.Scope.{Scope}
-use package.Rattle.forward.specs.declared.outcomes.Out.{Out as ForwardOut}
+use package.Rattle.forward.specs.Outcomes.{Machine, Scope, Out as ForwardOut, machineOf, scopeOf}
+use package.Rattle.forward.specs.Ready.{Ready as ForwardReady, Ran as ForwardRan, Calls, valuesAt, runOf as forwardRun, ancillaeOf as forwardAncillae, stateOf as forwardState}
 use package.Rattle.forward.specs.declared.outcomes.Status.the-variants.{Value, Refused as ForwardRefused}
 use package.Rattle.forward.specs.declared.outcomes.Refusal.{Refusal as Carried}
-use package.Rattle.backward.specs.Outcomes.{refusalOf, carried}
-use package.Rattle.backward.specs.Ready.{Ready, Moves, ancillaeOf}
-use package.Rattle.backward.specs.Calls.{Spilled, Collected, gatheredOf, Gathers, Arguments}
-use package.Rattle.backward.proofs.Runs.{refusal-after, carried-means, not-done, bound-up, ancillae-later, moves-none, moves-then}
-use package.Rattle.backward.proofs.Leaves.{opened-bound}
+use package.Rattle.forward.proofs.Runs.{answered, refused, ancillae-later as forward-ancillae, state-later as forward-state}
+use package.Rattle.forward.proofs.Placing.{place-room, place-less, few-count, values-same, values-none, values-front}
+use package.Rattle.forward.proofs.Starting.{arguments-ancillae}
+use package.Rattle.backward.specs.Outcomes.{Status, Done, Refused, refusalOf, carried, statusOf, outcomeOf}
+use package.Rattle.backward.specs.Ready.{Moves, Prepared, ancillaeOf}
+use package.Rattle.backward.specs.Calls.{Collected, gatheredOf, listedOf, gatherOf, Gathers, Gathered, Arguments}
+use package.Rattle.backward.proofs.Runs.{refusal-after, carried-means, not-done, moves-none, moves-then}
+use package.Rattle.backward.proofs.Frames.{view-ancillae}
 use Rattle.backward.specs.declared.outcomes.Refusal.{Refusal}
-use Rattle.backward.specs.declared.outcomes.Status.{Status}
-use Rattle.backward.specs.declared.outcomes.Status.the-variants.{Done, Refused}
-use Rattle.backward.specs.declared.outcomes.Out.{Out}
-
-----------------------------------------------------------------
--- The binding state in slots
-
-pub spilled-more : (slots known : List ℕ) (i : ℕ) → i < length slots → ((j : ℕ) → j < i → getD slots j 0 ≡ getD known j 0)
-    → (j : ℕ) → j < i + 1 → getD (set slots i (getD known i 0)) j 0 ≡ getD known j 0
-spilled-more slots known i l same j h = go (decLt j i)
-  where
-    go : Dec (j < i) → getD (set slots i (getD known i 0)) j 0 ≡ getD known j 0
-    go (yes x) = getD-set-other slots i j (getD known i 0) 0 (λ e. omega arith) ∙ same j x
-    go (no x) = rw (let z : j ≡ i = omega arith in z) (getD-set-same slots i (getD known i 0) 0 l)
 
 ----------------------------------------------------------------
 -- Terms one after the other
@@ -89,181 +75,198 @@ module _ (go : Term → Run Val) (tree : ℕ → Term) (xs : List ℕ) where
         ∙ ap (λ x. after x next) (refusal-after why (λ v. onward v (each go (termTrees tree (references xs (i + 2) n′)))))
         ∙ refusal-after why next
 
-pub gathered-done : (heap : List ℕ) (args : Bindings) (count fuel : ℕ) {s : Status} (next : List Val → Run State) → s ≡ Done
+pub gathered-done : (heap : List ℕ) (args : View) (count fuel : ℕ) {s : Status} (next : List Val → Run State) → s ≡ Done
     → gatheredOf heap args count fuel s next ≡ next (ancillaeAt heap (args .slots) 0 count) fuel
 unfolding gatheredOf
 gathered-done heap args count fuel next e = ap (λ s. gatheredOf heap args count fuel s next) e
 
-pub gathered-refused : (heap : List ℕ) (args : Bindings) (count fuel : ℕ) {s : Status} {why : Refusal} (next : List Val → Run State) → s ≡ Refused why
+pub gathered-refused : (heap : List ℕ) (args : View) (count fuel : ℕ) {s : Status} {why : Refusal} (next : List Val → Run State) → s ≡ Refused why
     → gatheredOf heap args count fuel s next ≡ refusalOf why
 unfolding gatheredOf
 gathered-refused heap args count fuel next e = ap (λ s. gatheredOf heap args count fuel s next) e
 
+pub listed-done : (heap slots : List ℕ) (from n fuel : ℕ) {s : Status} (next : List Val → Run State) → s ≡ Done → listedOf heap slots from n fuel s next ≡ next (valuesAt heap slots from n) fuel
+unfolding listedOf
+listed-done heap slots from n fuel next e = ap (λ s. listedOf heap slots from n fuel s next) e
+
+pub listed-refused : (heap slots : List ℕ) (from n fuel : ℕ) {s : Status} {why : Refusal} (next : List Val → Run State) → s ≡ Refused why → listedOf heap slots from n fuel s next ≡ refusalOf why
+unfolding listedOf
+listed-refused heap slots from n fuel next e = ap (λ s. listedOf heap slots from n fuel s next) e
+
 ----------------------------------------------------------------
--- Arguments are collected
+-- Arguments are placed
 
 -- a forward run
 pub moves-forward : {heap heap₁ slots slots₁ : List ℕ} {m : ℕ} {st : Machine} {r : ForwardOut} {res : List TypeEntry → Res Val}
     → ForwardRan 0 heap heap₁ m slots slots₁ st r res → Moves 0 heap heap₁ slots slots₁ st (r .state)
 moves-forward d = record { agree = d .agree; graph = d .graph; lengths = d .lengths; grows = d .grows; spends = d .spends; owes = d .owes }
 
-pub none-collected : {b : Bindings} (top : ℕ) → b ≡ noneBound → Collected b 0 top
-unfolding noneBound
-none-collected top e = rw e record {
-  binds = record {
-    bound = record { full = refl; few = omega arith; held = record { held = λ j h. absurd (omega arith) } };
-    within = omega arith;
-    ancillae = λ i h. absurd (omega arith);
-  };
-  all = refl;
-}
-
-module _ {args args₁ : Bindings} {x : ℕ} (O : Opens args x args₁) {k top top′ : ℕ} (A : Collected args k top) (le : top ≤ top′) (low : x < top′) (few : k < 32) where
-  here : getD (args₁ .slots) k 0 ≡ x
-  here = ap (λ (l : List ℕ). getD l k 0) (O .slots) ∙ ap (λ n. getD (set (args .slots) n x) k 0) (A .all) ∙ getD-set-same (args .slots) k x 0 (omega (arith, A .binds .bound .full))
-
-  before : (i : ℕ) → i < k → getD (args₁ .slots) i 0 ≡ getD (args .slots) i 0
-  before i h = ap (λ (l : List ℕ). getD l i 0) (O .slots) ∙ getD-set-other (args .slots) (args .len) i x 0 (λ e. omega (arith, A .all))
-
-  pub collected-more : Collected args₁ (k + 1) top′
-  collected-more = record {
-    binds = record {
-      bound = opened-bound O (bound-up top′ (A .binds .bound) le) (omega (arith, A .all)) (right low);
-      within = omega (arith, O .len, A .all);
-      ancillae = λ i h. at i h (decLt i k);
-    };
-    all = omega (arith, O .len, A .all);
-  }
-    where
-      at : (i : ℕ) → i < k + 1 → Dec (i < k) → getD (args₁ .slots) i 0 < top′
-      at i h (yes l) = rw (before i l) (omega (arith, A .binds .ancillae i l))
-      at i h (no l) = rw (let z : i ≡ k = omega arith in z, here) low
-
-  pub ancillae-more : (heap : List ℕ) → valueAt heap x ∷ ancillaeAt heap (args .slots) 0 k ≡ ancillaeAt heap (args₁ .slots) 0 (k + 1)
-  ancillae-more heap =
-      sym (ap₂ (λ (l : List ℕ) n. ancillaeAt heap l 0 n) (O .slots ∙ ap (λ n. set (args .slots) n x) (A .all ∙ (let z : k ≡ 0 + k = omega arith in z))) (add-one k)
-      ∙ ancillae-bind heap (args .slots) 0 k x (omega (arith, A .binds .bound .full)))
-
 module _ {p terms functions heap slots : List ℕ} {st : Machine} {sc : Scope} {t room : ℕ} (rd : ForwardReady 1 0 p terms functions heap slots st sc t room)
-    {k count : ℕ} (C : Calls p terms t k count) {args : Bindings} (A : Collected args k (st .top)) where
+    {k count : ℕ} (C : Calls p terms t k count) where
   abbrev at : ℕ
   at = getD terms t 0
+
+  abbrev m : ℕ
+  m = sc .base + sc .n
 
   abbrev go : List TypeEntry → Term → Run Val
   go ys = forward fits (programAt p terms functions ys) (room - 1) (forwardAncillae heap slots sc) (forwardState heap slots sc)
 
   -- there are no more
-  pub gather-end : k ≡ count → Gathers p terms functions heap heap slots slots st sc t room k count args (record { status = Done; state = st; bindings = args })
-  unfolding scope
-  gather-end e = record {
-    moves = moves-none (rd .graph) refl;
-    collected = λ s. subst (λ n. Collected args n (st .top)) e A;
+  pub gather-end : k ≡ count → {s : Status} → s ≡ Done → Gathers p terms functions heap heap slots slots st sc t room k count s st
+  gather-end e {s} d = record {
+    moves = moves-none (rd .graph) refl refl;
+    below = λ j h. refl;
+    held = λ _ j low high. absurd (omega arith);
     answer = λ ys next.
-        each-none (go ys) (treeAt p terms ys) p (at + 6 + 2 * k) (count - k) (st .fuel) (λ vs. next (scope vs (ancillaeAt heap (args .slots) 0 k))) (omega arith)
-        ∙ ap (λ n. next (ancillaeAt heap (args .slots) 0 n) (st .fuel)) e
-        ∙ sym (gathered-done heap args count (st .fuel) next refl);
+        each-none (go ys) (treeAt p terms ys) p (at + 6 + 2 * k) (count - k) (st .fuel) next (omega arith)
+        ∙ ap (λ vs. next vs (st .fuel)) (sym (values-none heap slots (m + k) (count - k) (omega arith)))
+        ∙ sym (listed-done heap slots (m + k) (count - k) (st .fuel) next d);
   }
 
-  module _ (more : ¬ (k ≡ count)) where
-    pub gather-room : k < 32
-    gather-room = omega (arith, few-count rd C, place-less rd C more)
+  module _ (more : ¬ (k ≡ count)) (b : ℕ) (q : b ≡ listed p at k) {heap₁ slots₁ : List ℕ} {r₁ : ForwardOut}
+      (d : ForwardRan 0 heap heap₁ m slots slots₁ st r₁ (forwardRun p terms functions heap slots st sc b (room - 1))) where
+    at-place : (ys : List TypeEntry) → go ys (treeAt p terms ys (get16 p (at + 6 + 2 * k))) (st .fuel) ≡ forwardRun p terms functions heap slots st sc b (room - 1) ys
+    at-place ys = ap (λ b. forwardRun p terms functions heap slots st sc b (room - 1) ys) (sym q)
 
-    module _ (b : ℕ) (q : b ≡ listed p at k) {heap₁ slots₁ : List ℕ} {r₁ : ForwardOut}
-        (d : ForwardRan 0 heap heap₁ (sc .base + sc .n) slots slots₁ st r₁ (forwardRun p terms functions heap slots st sc b (room - 1))) where
-      at-place : (ys : List TypeEntry) → go ys (treeAt p terms ys (get16 p (at + 6 + 2 * k))) (st .fuel) ≡ forwardRun p terms functions heap slots st sc b (room - 1) ys
-      at-place ys = ap (λ b. forwardRun p terms functions heap slots st sc b (room - 1) ys) (sym q)
+    pub gather-refused : {w : Carried} → r₁ .status ≡ ForwardRefused w → {s : Status} → s ≡ Refused (carried w)
+        → Gathers p terms functions heap heap₁ slots slots₁ st sc t room k count s (r₁ .state)
+    gather-refused {w} e {s} c = record {
+      moves = moves-forward d;
+      below = d .below;
+      held = λ n. absurd (not-done c n);
+      answer = λ ys next.
+          each-refused (go ys) (treeAt p terms ys) p (at + 6 + 2 * k) (count - k) (count - (k + 1)) (st .fuel) next
+          (omega (arith, place-less rd C more)) (carried w) (at-place ys ∙ refused d e ys ∙ carried-means w)
+          ∙ sym (listed-refused heap₁ slots₁ (m + k) (count - k) (r₁ .state .fuel) next c);
+    }
 
-      pub gather-refused : {w : Carried} → r₁ .status ≡ ForwardRefused w → {why : Refusal} → why ≡ carried w → (out : Out) → out .status ≡ Refused why → out .state ≡ r₁ .state
-          → Gathers p terms functions heap heap₁ slots slots₁ st sc t room k count args out
-      gather-refused {w} s {why} c out s′ e = record {
-        moves = subst (λ (m : Machine). Moves 0 heap heap₁ slots slots₁ st m) (sym e) (moves-forward d);
-        collected = λ n. absurd (not-done s′ n);
+    -- an argument, and the others behind it
+    module _ {x : ℕ} (e : r₁ .status ≡ Value x) {heap₂ slots₂ : List ℕ} {s₂ : Status} {st₂ : Machine} (D : Gathers p terms functions heap₁ heap₂ slots₁ slots₂ (r₁ .state) sc t room (k + 1) count s₂ st₂)
+        (slots₃ : List ℕ) (e₃ : slots₃ ≡ set slots₂ (m + k) x) where
+      less : k < count
+      less = place-less rd C more
+
+      here : getD slots₃ (m + k) 0 ≡ x
+      here = rw e₃ (getD-set-same slots₂ (m + k) x 0 (omega (arith, place-room rd C, rd .full, d .lengths, D .moves .lengths)))
+
+      elsewhere : (j : ℕ) → ¬ (j ≡ m + k) → getD slots₂ j 0 ≡ getD slots₃ j 0
+      elsewhere j n = rw e₃ (sym (getD-set-other slots₂ (m + k) j x 0 n))
+
+      values : valueAt heap₁ x ∷ valuesAt heap₂ slots₂ (m + (k + 1)) (count - (k + 1)) ≡ valuesAt heap₂ slots₃ (m + k) (count - k)
+      values =
+          ap₂ _∷_ (value-kept heap₁ heap₂ (r₁ .state .top) (d .graph .right) (D .moves .agree) x (d .node x e) ∙ ap (valueAt heap₂) (sym here))
+          (values-same heap₂ slots₂ slots₃ (m + (k + 1)) (count - (k + 1)) (λ j h. elsewhere j (λ q. omega arith))
+          ∙ ap (λ i. valuesAt heap₂ slots₃ i (count - (k + 1))) (let z : m + (k + 1) ≡ m + k + 1 = omega arith in z))
+          ∙ sym (values-front heap₂ slots₃ (m + k) (count - k) (count - (k + 1)) (omega (arith, less)))
+
+      -- where the others were placed, this one is too
+      one-more : (next : List Val → Run State) (s : Status)
+          → listedOf heap₂ slots₂ (m + (k + 1)) (count - (k + 1)) (st₂ .fuel) s (λ vs. next (valueAt heap₁ x ∷ vs)) ≡ listedOf heap₂ slots₃ (m + k) (count - k) (st₂ .fuel) s next
+      unfolding listedOf
+      one-more next Done = ap (λ vs. next vs (st₂ .fuel)) values
+      one-more next (Refused why) = refl
+
+      -- the others, in the scope as it was
+      others : (ys : List TypeEntry) (next : List Val → Run State)
+          → run-each (go ys) (treeAt p terms ys) p (at + 6 + 2 * k + 2) (count - (k + 1)) (r₁ .state .fuel) next
+          ≡ gatherOf p terms functions heap₁ slots₁ (r₁ .state) sc t room (k + 1) count ys next
+      others ys next =
+          ap₂ (λ (G : Term → Run Val) i. run-each G (treeAt p terms ys) p i (count - (k + 1)) (r₁ .state .fuel) next)
+          (ap₂ (λ a σ. forward fits (programAt p terms functions ys) (room - 1) a σ) (forward-ancillae rd d) (forward-state rd d))
+          (let z : at + 6 + 2 * k + 2 ≡ at + 6 + 2 * (k + 1) = omega arith in z)
+
+      pub gather-more : Gathers p terms functions heap heap₂ slots slots₃ st sc t room k count s₂ st₂
+      gather-more = record {
+        moves = moves-then (moves-forward d) (record {
+          agree = D .moves .agree;
+          graph = D .moves .graph;
+          lengths = D .moves .lengths ∙ rw e₃ (sym (length-set slots₂ (m + k) x));
+          grows = D .moves .grows;
+          spends = D .moves .spends;
+          owes = D .moves .owes;
+        });
+        below = λ j h. d .below j h ∙ D .below j h ∙ elsewhere j (λ q. omega arith);
+        held = λ n j low high. slot n j low high (decLt k j);
         answer = λ ys next.
-            each-refused (go ys) (treeAt p terms ys) p (at + 6 + 2 * k) (count - k) (count - (k + 1)) (st .fuel) (λ vs. next (scope vs (ancillaeAt heap (args .slots) 0 k)))
-            (omega (arith, place-less rd C more)) (carried w) (at-place ys ∙ refused d s ys ∙ carried-means w)
-            ∙ ap refusalOf (sym c) ∙ sym (gathered-refused heap₁ (out .bindings) count (out .state .fuel) next s′);
+            each-more (go ys) (treeAt p terms ys) p (at + 6 + 2 * k) (count - k) (count - (k + 1)) (st .fuel) next (omega (arith, less))
+            (at-place ys ∙ answered d e ys)
+            ∙ others ys (λ vs. next (valueAt heap₁ x ∷ vs))
+            ∙ D .answer ys (λ vs. next (valueAt heap₁ x ∷ vs))
+            ∙ one-more next s₂;
       }
-
-      module _ {x : ℕ} (s : r₁ .status ≡ Value x) {args₁ : Bindings} (O : Opens args x args₁) where
-        pub gather-more-args : Collected args₁ (k + 1) (r₁ .state .top)
-        gather-more-args = collected-more O A (d .grows) (d .node x s) gather-room
-
-        values : valueAt heap₁ x ∷ ancillaeAt heap (args .slots) 0 k ≡ ancillaeAt heap₁ (args₁ .slots) 0 (k + 1)
-        values =
-            ap (λ (l : List Val). valueAt heap₁ x ∷ l) (ancillae-later (rd .graph) (d .agree) args k (A .binds))
-            ∙ ancillae-more O A (d .grows) (d .node x s) gather-room heap₁
-
-        pub gather-more : {heap₂ slots₂ : List ℕ} {out : Out} → Gathers p terms functions heap₁ heap₂ slots₁ slots₂ (r₁ .state) sc t room (k + 1) count args₁ out
-            → Gathers p terms functions heap heap₂ slots slots₂ st sc t room k count args out
-        unfolding scope
-        gather-more D = record {
-          moves = moves-then (moves-forward d) (D .moves);
-          collected = D .collected;
-          answer = λ ys next.
-              each-more (go ys) (treeAt p terms ys) p (at + 6 + 2 * k) (count - k) (count - (k + 1)) (st .fuel) (λ vs. next (scope vs (ancillaeAt heap (args .slots) 0 k)))
-              (omega (arith, place-less rd C more)) (at-place ys ∙ answered d s ys)
-              ∙ ap₂ (λ (G : Term → Run Val) i. run-each G (treeAt p terms ys) p i (count - (k + 1)) (r₁ .state .fuel) (λ vs. next (scope vs (valueAt heap₁ x ∷ ancillaeAt heap (args .slots) 0 k))))
-              (ap₂ (λ a σ. forward fits (programAt p terms functions ys) (room - 1) a σ) (forward-ancillae rd d) (forward-state rd d))
-              (let z : at + 6 + 2 * k + 2 ≡ at + 6 + 2 * (k + 1) = omega arith in z)
-              ∙ ap (λ (l : List Val). after (each (forward fits (programAt p terms functions ys) (room - 1) (forwardAncillae heap₁ slots₁ sc) (forwardState heap₁ slots₁ sc))
-              (termTrees (treeAt p terms ys) (references p (at + 6 + 2 * (k + 1)) (count - (k + 1)))) (r₁ .state .fuel)) (λ vs. next (scope vs l))) values
-              ∙ D .answer ys next;
-        }
+        where
+          slot : s₂ ≡ Done → (j : ℕ) → k ≤ j → j < count → Dec (k < j) → getD slots₃ (m + j) 0 < st₂ .top
+          slot n j low high (yes h) = rw (← elsewhere (m + j) (λ z. omega arith)) (D .held n j (omega arith) high)
+          slot n j low high (no h) = rw (let z : m + j ≡ m + k = omega arith in z, here) (omega (arith, d .node x e, D .moves .grows))
 
 ----------------------------------------------------------------
 -- In the state at hand
 
--- the scope of the binding state
-abbrev pub scopeOf : Bindings → ℕ → Scope
-scopeOf b q = record { base = 0; q = q; n = b .len }
-
-module _ {p terms functions heap slots : List ℕ} {st : Machine} {b : Bindings} {q t room : ℕ} (rd : Ready 1 1 p terms functions heap slots st b q (b .len) t room)
-    {slots₁ : List ℕ} (S : Spilled b slots slots₁) where
-  abbrev at′ : ℕ
-  at′ = getD terms t 0
-
-  in-slots : (j : ℕ) → j < b .len → getD slots₁ j 0 ≡ getD (b .slots) j 0
-  in-slots j h = S .written j (omega (arith, rd .binds .bound .few))
-
-  pub spilled-ready : ForwardReady 1 0 p terms functions heap slots₁ st (scopeOf b q) t room
-  spilled-ready = record {
-    code = rd .machine .code;
-    term = rd .term;
-    few = rd .few;
-    graph = rd .machine .graph;
-    held = record { held = λ j h. rw (in-slots j (omega arith)) (rd .binds .bound .held .held j (omega arith)) };
-    ancillae = λ i h. rw (let z : 0 + i ≡ i = omega arith in z, in-slots i (omega (arith, rd .binds .within))) (rd .binds .ancillae i h);
-    within = rd .binds .within;
-    nodes = rd .machine .nodes;
-    small = rd .machine .small;
-    variables = omega (arith, rd .machine .variables, S .lengths, rd .binds .bound .few);
-    tall = rd .tall;
+module _ {p heap slots ms : List ℕ} {b : Bindings} {base q n t room : ℕ} (P : Prepared 1 1 p heap slots ms b base q n n t room) where
+  -- the slots say what the state says
+  pub scope-ready : ForwardReady 1 0 p (termPlaces p) (functionPlaces p) heap slots (machineOf ms) (scopeOf base q n) t room
+  scope-ready = record {
+    code = P .ready .machine .code;
+    term = P .ready .term;
+    few = P .ready .few;
+    graph = P .ready .machine .graph;
+    held = record { held = λ j h. slot j h (decLt j base) };
+    ancillae = λ i h. rw (← view-at slots base i (omega (arith, P .ready .binds .within, P .ready .binds .bound .few))) (P .ready .binds .ancillae i h);
+    within = P .ready .binds .within;
+    nodes = P .ready .machine .nodes;
+    small = P .ready .machine .small;
+    variables = omega (arith, P .space, P .ready .machine .all);
+    full = P .ready .machine .all;
+    tall = P .ready .tall;
   }
+    where
+      slot : (j : ℕ) → j < base + n → Dec (j < base) → (getD slots j 0 ≡ unknown) ⊎ (getD slots j 0 < machineOf ms .top)
+      slot j h (yes l) = P .older .held j l
+      slot j h (no l) =
+          let z : j ≡ base + (j - base) = omega arith in
+          rw (z, ← view-at slots base (j - base) (omega (arith, P .ready .binds .bound .few))) (P .ready .binds .bound .held .held (j - base) (omega arith))
 
-  spilled-state : forwardState heap slots₁ (scopeOf b q) ≡ stateOf heap b
-  unfolding stateOf
-  spilled-state = state-same heap slots₁ (b .slots) 0 (b .len) (λ j h. in-slots j (omega arith))
+  module _ {count : ℕ} (C : Calls p (termPlaces p) t 0 count) {heap₁ slots₁ ms₁ : List ℕ} {s : ℕ} (D : Gathered p heap heap₁ slots slots₁ ms ms₁ base q n t room 0 count s) where
+    abbrev at′ : ℕ
+    at′ = getD (termPlaces p) t 0
 
-  spilled-ancillae : forwardAncillae heap slots₁ (scopeOf b q) ≡ ancillaeOf heap b q
-  spilled-ancillae = ancillae-same heap slots₁ (b .slots) 0 q (λ j h. in-slots j (omega (arith, rd .binds .within)))
+    few : count ≤ 32
+    few = omega (arith, few-count scope-ready C)
 
-  pub arguments-done : {count : ℕ} {none : Bindings} {heap₂ slots₂ : List ℕ} {out : Out} → Gathers p terms functions heap heap₂ slots₁ slots₂ st (scopeOf b q) t room 0 count none out
-      → Arguments p terms functions heap heap₂ slots slots₂ st b q t room count out
-  unfolding ancillaeAt
-  arguments-done {count} {none} D = record {
-    moves = record {
-      agree = D .moves .agree;
-      graph = D .moves .graph;
-      lengths = S .lengths ∙ D .moves .lengths;
-      grows = D .moves .grows;
-      spends = D .moves .spends;
-      owes = D .moves .owes;
-    };
-    collected = D .collected;
-    answer = λ ys next.
-        ap₂ (λ i n. run-each (forward fits (programAt p terms functions ys) (room - 1) (ancillaeOf heap b q) (stateOf heap b)) (treeAt p terms ys) p i n (st .fuel) (λ vs. next (scope vs [])))
-        (let z : at′ + 6 ≡ at′ + 6 + 2 * 0 = omega arith in z) (let z : count ≡ count - 0 = omega arith in z)
-        ∙ ap₂ (λ a σ. run-each (forward fits (programAt p terms functions ys) (room - 1) a σ) (treeAt p terms ys) p (at′ + 6 + 2 * 0) (count - 0) (st .fuel) (λ vs. next (scope vs [])))
-        (sym spilled-ancillae) (sym spilled-state)
-        ∙ D .answer ys next;
-  }
+    pub placed : statusOf s ≡ Done → (i : ℕ) → i < count → getD slots₁ (base + n + i) 0 < machineOf ms₁ .top
+    placed e i l = D .gathers .held e i (omega arith) l
+
+    -- the arguments, as a scope behind the caller's
+    all-known : statusOf s ≡ Done → Collected (viewOf slots₁ (base + n) count) count (machineOf ms₁ .top)
+    all-known e = record {
+      binds = record {
+        bound = view-bound slots₁ (base + n) count (machineOf ms₁ .top) few (λ i l. right (placed e i l));
+        within = omega arith;
+        ancillae = λ i l. rw (view-at slots₁ (base + n) i (omega (arith, few))) (placed e i l);
+      };
+      all = refl;
+    }
+
+    as-listed : (next : List Val → Run State) (st : Status)
+        → listedOf heap₁ slots₁ (base + n + 0) (count - 0) (machineOf ms₁ .fuel) st (λ vs. next (scope vs [])) ≡ gatheredOf heap₁ (viewOf slots₁ (base + n) count) count (machineOf ms₁ .fuel) st next
+    unfolding listedOf gatheredOf
+    as-listed next Done =
+        ap (λ ρ. next ρ (machineOf ms₁ .fuel))
+        (ap₂ (λ i n. scope (valuesAt heap₁ slots₁ i n) []) (let z : base + n + 0 ≡ base + n = omega arith in z) (let z : count - 0 ≡ count = omega arith in z)
+        ∙ arguments-ancillae heap₁ slots₁ (base + n) count ∙ sym (view-ancillae heap₁ slots₁ (base + n) count few))
+    as-listed next (Refused why) = refl
+
+    pub arguments-done : Arguments p (termPlaces p) (functionPlaces p) heap heap₁ slots slots₁ (machineOf ms) (viewOf slots base n) q t room count (outcomeOf s slots₁ ms₁ (base + n) count)
+    arguments-done = record {
+      moves = D .gathers .moves;
+      collected = all-known;
+      answer = λ ys next.
+          ap₂ (λ i c. run-each (forward fits (programAt p (termPlaces p) (functionPlaces p) ys) (room - 1) (ancillaeOf heap (viewOf slots base n) q) (stateOf heap (viewOf slots base n)))
+          (treeAt p (termPlaces p) ys) p i c (machineOf ms .fuel) (λ vs. next (scope vs [])))
+          (let z : at′ + 6 ≡ at′ + 6 + 2 * 0 = omega arith in z) (let z : count ≡ count - 0 = omega arith in z)
+          ∙ ap₂ (λ a σ. run-each (forward fits (programAt p (termPlaces p) (functionPlaces p) ys) (room - 1) a σ) (treeAt p (termPlaces p) ys) p (at′ + 6 + 2 * 0) (count - 0) (machineOf ms .fuel) (λ vs. next (scope vs [])))
+          (view-ancillae heap slots base q (omega (arith, P .ready .binds .within, P .ready .binds .bound .few))) (view-state heap slots base n (P .ready .binds .bound .few))
+          ∙ D .gathers .answer ys (λ vs. next (scope vs []))
+          ∙ as-listed next (statusOf s);
+    }

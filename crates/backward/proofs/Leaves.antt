@@ -1,5 +1,5 @@
 -- Laws of the steps that have no parts to run: refusals on entering, variables, the unit, and a variable that leaves the scope.
-use Prim.Native.Nat.{ℕ, zero, suc, _-_, _≤_, _<_}
+use Prim.Native.Nat.{ℕ, zero, suc, _+_, _-_, _≤_, _<_}
 use native.Mathlib.Omega.{arith}
 use native.Mathlib.Decide.{decLt}
 use mathlib.Core.Path.{_≡_, refl, sym, ap, subst, _∙_}
@@ -13,23 +13,24 @@ use borrow.Author.Tests.{eq-eqb, ne-eqb, eqb-true, eqb-false}
 use package.Rattle.rules.specs.Val.{Val, unit}
 use package.Rattle.rules.specs.Run.{stuck, Run, give}
 use package.Rattle.rules.specs.Machine.{State, meet, leave, onUnit}
+use package.Rattle.rules.proofs.Basics.{given}
 use package.Rattle.values.specs.Nodes.{kindAt, ofKind, valueWithin, valueAt}
 use package.Rattle.values.proofs.Heaps.{value-unit}
 use package.Rattle.scopes.specs.Slots.{unknown, found, meaning as slotMeaning, Slots}
-use package.Rattle.scopes.specs.Bindings.{stateOf, Bound, Opens, Meets, Leaves}
+use package.Rattle.scopes.specs.Bindings.{View, Left, slotsFrom, viewOf, stateOf, Bound, Opens, Meets, Leaves, Meetable, MeetsIn}
 use package.Rattle.scopes.specs.declared.bindings.Bindings.{Bindings}
 use package.Rattle.scopes.specs.declared.bindings.Met.{Met}
-use package.Rattle.scopes.specs.declared.bindings.Left.{Left}
 use package.Rattle.scopes.proofs.Marks.{found-mark, found-node}
 use package.Rattle.scopes.proofs.Scopes.{slots-bind}
 use package.Rattle.scopes.proofs.Bound.{meet-bound, leaves-state}
+use package.Rattle.scopes.proofs.Views.{view-at}
+use package.Rattle.forward.specs.Outcomes.{Machine}
 use package.Rattle.forward.specs.Ready.{Graph}
-use package.Rattle.forward.specs.declared.outcomes.Machine.{Machine}
-use package.Rattle.backward.specs.Outcomes.{refusalOf, tooLong, against, mismatch, nodeOr}
-use package.Rattle.backward.specs.Ready.{Binds, Follows, Stays, Goes}
+use package.Rattle.backward.specs.Outcomes.{Status, Done, Refused, statusOf, refusalOf, tooLong, against, mismatch, nodeOr}
+use package.Rattle.backward.specs.Ready.{Binds, Follows, Stays, Goes, Variable, UnitMet}
 use package.Rattle.backward.proofs.Runs.{meaning-done, meaning-refused, not-done, follows-same}
+use Rattle.backward.specs.declared.outcomes.Out.{Out}
 use Rattle.backward.specs.declared.outcomes.Refusal.the-variants.{Fuel, Height, Long, NoInput, Stuck}
-use Rattle.backward.specs.declared.outcomes.Status.the-variants.{Done, Refused}
 
 ----------------------------------------------------------------
 -- Refusals
@@ -81,50 +82,63 @@ choice-right y e q = rw e q
 ----------------------------------------------------------------
 -- Variables
 
-pub lt-same : {i v n : ℕ} → i ≡ v → v < n → i < n
-lt-same e h = omega arith
+pub meetable-same : {slots : List ℕ} {b : Bindings} {base i v top : ℕ} → i ≡ v → Meetable slots b base v top → Meetable slots b base i top
+meetable-same e M = rw e M
+
+-- what the code met, as the outcome says it
+met-as : {heap slots slots′ : List ℕ} {b : Bindings} {base i node : ℕ} {r : Met} → MeetsIn heap slots slots′ b base i node r → (agrees : Bool) → agrees ≡ r .agrees
+    → MeetsIn heap slots slots′ b base i node (record { agrees = agrees; state = r .state })
+met-as M agrees e = record {
+  binds = λ u. given (M .binds u) λ (a, state, slots). (e ∙ a, state, slots);
+  compares = λ u. given (M .compares u) λ (a, state, slots). (e ∙ a, state, slots);
+}
+
+module _ {heap slots slots′ : List ℕ} {b : Bindings} {base i v node : ℕ} {r : Met} (M : MeetsIn heap slots slots′ b base i node r) (q : i ≡ v) (t : ℕ) where
+  pub agrees-out : r .agrees ≡ true → Variable heap slots slots′ b base v node t (record { stop = 0; state = r .state })
+  agrees-out e = rw (← q) (record { met = met-as M (eqb 0 0) (eq-eqb 0 0 refl ∙ sym e); differs = λ n. absurd (n refl) })
+
+  pub differs-out : r .agrees ≡ false → statusOf (t + 1) ≡ Refused (NoInput t) → Variable heap slots slots′ b base v node t (record { stop = t + 1; state = r .state })
+  differs-out e w = rw (← q) (record { met = met-as M (eqb (t + 1) 0) (ne-eqb (t + 1) 0 (λ z. omega arith) ∙ sym e); differs = λ _. w })
 
 -- meeting keeps what is known
-pub meets-follows : (heap : List ℕ) (b : Bindings) (i node top : ℕ) (r : Met) → Meets heap b i node r → Bound b top → i < b .len → node < top → Follows b (r .state) top
-meets-follows heap b i node top r M B l low = go (eqb (getD (b .slots) i 0) unknown) refl
+pub meets-follows : (heap : List ℕ) (b : View) (i node top : ℕ) (agrees : Bool) (r : View) → Meets heap b i node agrees r → Bound b top → i < b .len → node < top → Follows b r top
+meets-follows heap b i node top agrees r M B l low = go (eqb (getD (b .slots) i 0) unknown) refl
   where
     bound-slot : (slots : List ℕ) → slots ≡ set (b .slots) i node → (j : ℕ) → Dec (j < i) → Dec (i < j) → j < b .len → (getD slots j 0 ≡ unknown) ⊎ (getD slots j 0 < top)
     bound-slot slots e j (yes x) d h = rw (e, getD-set-other (b .slots) i j node 0 (λ q. omega arith)) (B .held .held j h)
     bound-slot slots e j (no x) (yes y) h = rw (e, getD-set-other (b .slots) i j node 0 (λ q. omega arith)) (B .held .held j h)
     bound-slot slots e j (no x) (no y) h = let z : j ≡ i = omega arith in rw (e, z, getD-set-same (b .slots) i node 0 (omega (arith, B .full, B .few))) (right low)
 
-    bound : getD (b .slots) i 0 ≡ unknown → (r .state .slots ≡ set (b .slots) i node) → (r .state .len ≡ b .len) → Follows b (r .state) top
+    bound : getD (b .slots) i 0 ≡ unknown → (r .slots ≡ set (b .slots) i node) → (r .len ≡ b .len) → Follows b r top
     bound u s n = record {
       bound = record {
         full = rw s (length-set (b .slots) i node ∙ B .full);
         few = omega (arith, n, B .few);
-        held = record { held = λ j h. bound-slot (r .state .slots) s j (decLt j i) (decLt i j) (omega arith) };
+        held = record { held = λ j h. bound-slot (r .slots) s j (decLt j i) (decLt i j) (omega arith) };
       };
       len = n;
       kept = λ j h d. ap (λ (l : List ℕ). getD l j 0) s ∙ getD-set-other (b .slots) i j node 0 (λ q. d (ap (λ j. getD (b .slots) j 0) q ∙ u));
     }
 
-    go : (e : Bool) → eqb (getD (b .slots) i 0) unknown ≡ e → Follows b (r .state) top
+    go : (e : Bool) → eqb (getD (b .slots) i 0) unknown ≡ e → Follows b r top
     go true e = let u = eqb-true (getD (b .slots) i 0) unknown e in bound u (M .binds u .1) (M .binds u .2)
-    go false e = let u = eqb-false (getD (b .slots) i 0) unknown e in subst (λ (c : Bindings). Follows b c top) (sym (M .compares u .1)) (follows-same B)
+    go false e = let u = eqb-false (getD (b .slots) i 0) unknown e in subst (λ (c : View). Follows b c top) (sym (M .compares u .1)) (follows-same B)
 
-module _ {heap : List ℕ} {st : Machine} {b : Bindings} {i node : ℕ} {r : Met} (M : Meets heap b i node r) (B : Bound b (st .top)) (small : st .top ≤ unknown) (l : i < b .len)
-    (low : node < st .top) (t v : ℕ) (q : i ≡ v) where
-  pub variable-met : r .agrees ≡ true → Stays heap st b (record { status = Done; state = st; bindings = r .state }) (meet t (stateOf heap b) v (valueAt heap node) (st .fuel))
-  variable-met e = record {
+module _ {heap : List ℕ} {st : Machine} {b : View} {i node : ℕ} {agrees : Bool} {r : View} (M : Meets heap b i node agrees r) (B : Bound b (st .top)) (small : st .top ≤ unknown) (l : i < b .len)
+    (low : node < st .top) (t : ℕ) {s : Status} where
+  pub variable-met : agrees ≡ true → s ≡ Done → Stays heap st b (record { status = s; state = st; bindings = r }) (meet t (stateOf heap b) i (valueAt heap node) (st .fuel))
+  variable-met e d = record {
     state = refl;
-    follows = λ d. meets-follows heap b i node (st .top) r M B l low;
-    answer = meaning-done heap (record { status = Done; state = st; bindings = r .state }) refl
-        ∙ sym (meet-bound heap b i node (st .top) t (st .fuel) r M B l (λ z. omega arith) .0 e) ∙ ap (λ i. meet t (stateOf heap b) i (valueAt heap node) (st .fuel)) q;
+    follows = λ _. meets-follows heap b i node (st .top) agrees r M B l low;
+    answer = meaning-done heap (record { status = s; state = st; bindings = r }) d ∙ sym (meet-bound heap b i node (st .top) t (st .fuel) agrees r M B l (λ z. omega arith) .0 e);
   }
 
-  pub variable-differs : r .agrees ≡ false → Stays heap st b (record { status = Refused (NoInput t); state = st; bindings = b }) (meet t (stateOf heap b) v (valueAt heap node) (st .fuel))
+  pub variable-differs : agrees ≡ false → s ≡ Refused (NoInput t) → Stays heap st b (record { status = s; state = st; bindings = r }) (meet t (stateOf heap b) i (valueAt heap node) (st .fuel))
   unfolding refusalOf
-  variable-differs e = record {
+  variable-differs e w = record {
     state = refl;
-    follows = λ d. absurd (not-done refl d);
-    answer = meaning-refused heap (record { status = Refused (NoInput t); state = st; bindings = b }) refl
-        ∙ sym (meet-bound heap b i node (st .top) t (st .fuel) r M B l (λ z. omega arith) .1 e) ∙ ap (λ i. meet t (stateOf heap b) i (valueAt heap node) (st .fuel)) q;
+    follows = λ d. absurd (not-done w d);
+    answer = meaning-refused heap (record { status = s; state = st; bindings = r }) w ∙ sym (meet-bound heap b i node (st .top) t (st .fuel) agrees r M B l (λ z. omega arith) .1 e);
   }
 
 ----------------------------------------------------------------
@@ -138,24 +152,28 @@ no-unit (suc (suc zero)) v w m fuel d = refl
 no-unit (suc (suc (suc zero))) v w m fuel d = refl
 no-unit (suc (suc (suc (suc n)))) v w m fuel d = refl
 
-module _ {heap : List ℕ} (st : Machine) (G : Graph heap (st .top)) {b : Bindings} (B : Bound b (st .top)) (node : ℕ) where
-  pub unit-met : kindAt heap node ≡ 0 → Stays heap st b (record { status = Done; state = st; bindings = b }) (onUnit (valueAt heap node) (give (stateOf heap b)) (st .fuel))
+module _ {heap : List ℕ} (st : Machine) (G : Graph heap (st .top)) {b : View} (B : Bound b (st .top)) (node : ℕ) {s : Status} where
+  pub unit-met : kindAt heap node ≡ 0 → s ≡ Done → Stays heap st b (record { status = s; state = st; bindings = b }) (onUnit (valueAt heap node) (give (stateOf heap b)) (st .fuel))
   unfolding onUnit
-  unit-met e = record {
+  unit-met e d = record {
     state = refl;
-    follows = λ d. follows-same B;
-    answer = meaning-done heap (record { status = Done; state = st; bindings = b }) refl
-        ∙ sym (ap (λ v. onUnit v (give (stateOf heap b)) (st .fuel)) (value-unit heap (st .top) (G .right) node e));
+    follows = λ _. follows-same B;
+    answer = meaning-done heap (record { status = s; state = st; bindings = b }) d ∙ sym (ap (λ v. onUnit v (give (stateOf heap b)) (st .fuel)) (value-unit heap (st .top) (G .right) node e));
   }
 
-  pub unit-stuck : ¬ (kindAt heap node ≡ 0) → Stays heap st b (record { status = Refused Stuck; state = st; bindings = b }) (onUnit (valueAt heap node) (give (stateOf heap b)) (st .fuel))
+  pub unit-stuck : ¬ (kindAt heap node ≡ 0) → s ≡ Refused Stuck → Stays heap st b (record { status = s; state = st; bindings = b }) (onUnit (valueAt heap node) (give (stateOf heap b)) (st .fuel))
   unfolding refusalOf valueAt valueWithin
-  unit-stuck n = record {
+  unit-stuck n w = record {
     state = refl;
-    follows = λ d. absurd (not-done refl d);
-    answer = meaning-refused heap (record { status = Refused Stuck; state = st; bindings = b }) refl
-        ∙ sym (no-unit (kindAt heap node) _ _ (give (stateOf heap b)) (st .fuel) n);
+    follows = λ d. absurd (not-done w d);
+    answer = meaning-refused heap (record { status = s; state = st; bindings = b }) w ∙ sym (no-unit (kindAt heap node) _ _ (give (stateOf heap b)) (st .fuel) n);
   }
+
+pub unit-there : {heap : List ℕ} (b : Bindings) (node : ℕ) → kindAt heap node ≡ 0 → UnitMet heap b node (record { stop = 0; state = b })
+unit-there b node e = record { met = λ _. refl; differs = λ n. absurd (n e); state = refl }
+
+pub unit-missing : {heap : List ℕ} (b : Bindings) (node : ℕ) {r : Out} → ¬ (kindAt heap node ≡ 0) → statusOf (r .stop) ≡ Refused Stuck → r .state ≡ b → UnitMet heap b node r
+unit-missing b node n e s = record { met = λ k. absurd (n k); differs = λ _. e; state = s }
 
 ----------------------------------------------------------------
 -- A variable comes into scope, not known, and leaves it
@@ -168,14 +186,15 @@ pub node-known : (node : ℕ) → ¬ (node ≡ unknown) → node ≡ nodeOr node
 unfolding nodeOr
 node-known node n = rw (nodeOr, ne-eqb node unknown n)
 
-pub goes : {b : Bindings} {r r′ : Left} → Leaves b r → r′ .newest ≡ nodeOr (r .newest) → r′ .state ≡ r .state → Goes b r′
-goes {b} L e s = record {
-  newest = e ∙ ap nodeOr (L .newest);
-  slots = ap (λ (c : Bindings). c .slots) s ∙ L .slots;
-  len = ap (λ (c : Bindings). c .len) s ∙ L .len;
+-- the newest of the variables that stand in slots from `base` on
+pub view-goes : (slots : List ℕ) (base n : ℕ) → n < 32 → Goes (viewOf slots base (n + 1)) (record { newest = nodeOr (getD slots (base + n) 0); state = viewOf slots base n })
+view-goes slots base n l = record {
+  newest = ap nodeOr (sym (ap (λ j. getD (slotsFrom slots base 32) j 0) (let z : n + 1 - 1 ≡ n = omega arith in z) ∙ view-at slots base n l));
+  slots = refl;
+  len = let z : n ≡ n + 1 - 1 = omega arith in z;
 }
 
-module _ {b : Bindings} {r : Left} (L : Goes b r) {top : ℕ} (B : Bound b top) (some : 0 < b .len) where
+module _ {b : View} {r : Left} (L : Goes b r) {top : ℕ} (B : Bound b top) (some : 0 < b .len) where
   pub goes-node : 0 < top → r .newest < top
   goes-node pos = go (eqb (getD (b .slots) (b .len - 1) 0) unknown) refl
     where
@@ -208,7 +227,7 @@ module _ {b : Bindings} {r : Left} (L : Goes b r) {top : ℕ} (B : Bound b top) 
           ∙ ap (λ v. next v (stateOf heap (r .state)) fuel) (ap (valueAt heap) (node-known _ n ∙ sym (L .newest)))
 
   -- an outer state that `b` follows, with one variable more
-  pub goes-follows : {c c₁ : Bindings} → Opens c unknown c₁ → length (c .slots) ≡ 32 → Follows c₁ b top → Follows c (r .state) top
+  pub goes-follows : {c c₁ : View} → Opens c unknown c₁ → length (c .slots) ≡ 32 → Follows c₁ b top → Follows c (r .state) top
   goes-follows {c} {c₁} O full F = record {
     bound = record {
       full = ap length (L .slots) ∙ B .full;
@@ -224,7 +243,7 @@ module _ {b : Bindings} {r : Left} (L : Goes b r) {top : ℕ} (B : Bound b top) 
       same : (i : ℕ) → i < c .len → getD (c₁ .slots) i 0 ≡ getD (c .slots) i 0
       same i h = ap (λ (l : List ℕ). getD l i 0) (O .slots) ∙ getD-set-other (c .slots) (c .len) i unknown 0 (λ q. omega arith)
 
-module _ {c c₁ : Bindings} {node : ℕ} (O : Opens c node c₁) {top : ℕ} (B : Bound c top) (room : c .len < 32) (low : (node ≡ unknown) ⊎ (node < top)) where
+module _ {c c₁ : View} {node : ℕ} (O : Opens c node c₁) {top : ℕ} (B : Bound c top) (room : c .len < 32) (low : (node ≡ unknown) ⊎ (node < top)) where
   pub opened-bound : Bound c₁ top
   opened-bound = record {
     full = ap length (O .slots) ∙ length-set (c .slots) (c .len) node ∙ B .full;

@@ -15,13 +15,12 @@ use package.Rattle.calls.specs.Entries.{TypeEntry}
 use package.Rattle.program.specs.Parts.{first, second}
 use package.Rattle.values.specs.Nodes.{valueAt}
 use package.Rattle.scopes.specs.Slots.{unknown}
-use package.Rattle.scopes.specs.Bindings.{stateOf, Opens}
-use package.Rattle.scopes.specs.declared.bindings.Bindings.{Bindings}
-use package.Rattle.scopes.specs.declared.bindings.Left.{Left}
+use package.Rattle.scopes.specs.Bindings.{View, Left, stateOf, Opens}
+use package.Rattle.forward.specs.Outcomes.{Machine}
 use package.Rattle.forward.specs.Code.{treeAt, programAt}
 use package.Rattle.forward.proofs.Trees.{tree-let, tree-letp, parts-let, parts-letp}
-use package.Rattle.forward.specs.declared.outcomes.Machine.{Machine}
 use package.Rattle.backward.specs.Scoped.{ScopedAt}
+use package.Rattle.backward.specs.Outcomes.{Done, Refused, Outcome, Inner}
 use package.Rattle.backward.specs.Ready.{Ready, Follows, Ran, RanUnder, Goes, runOf, underOf, stepOf}
 use package.Rattle.backward.proofs.Runs.{says, slack, held-later, under-refused, under-done}
 use package.Rattle.backward.proofs.Leaves.{opened-binds, goes-node, goes-state, goes-follows}
@@ -29,11 +28,8 @@ use package.Rattle.backward.proofs.Parts.{later, ancillae-after, owing-
 use package.Rattle.backward.proofs.Entering.{inner-state, inner-ancillae}
 use package.Rattle.backward.proofs.Steps.{go, stepped}
 use Rattle.backward.specs.declared.outcomes.Refusal.{Refusal}
-use Rattle.backward.specs.declared.outcomes.Status.the-variants.{Done, Refused}
-use Rattle.backward.specs.declared.outcomes.Out.{Out}
-use Rattle.backward.specs.declared.outcomes.Inner.{Inner}
 
-module _ {p terms functions heap slots : List ℕ} {st : Machine} {b : Bindings} {q t room : ℕ} (rd : Ready 1 1 p terms functions heap slots st b q (b .len) t room)
+module _ {p terms functions heap slots : List ℕ} {st : Machine} {b : View} {q t room : ℕ} (rd : Ready 1 1 p terms functions heap slots st b q (b .len) t room)
     {node : ℕ} (low : node < st .top) where
   abbrev at : ℕ
   at = getD terms t 0
@@ -70,7 +66,7 @@ module _ {p terms functions heap slots : List ℕ} {st : Machine} {b : Bindings}
         let-bound = in-scope (r .out .bindings .len) (sym (d .follows s .len))
             (rw qu (owing-none (later (part rd (first p at) (b .len) (parts-let (rd .machine .code .entries) t (rd .term) (rd .few) kind .0) (scoped-let rd kind .1)) (d .moves) (d .follows s))))
 
-        pub let-done : {heap₂ slots₂ : List ℕ} {r₂ : Out}
+        pub let-done : {heap₂ slots₂ : List ℕ} {r₂ : Outcome}
             → Ran 0 heap₁ heap₂ slots₁ slots₂ (r .out .state) (r .out .bindings) r₂ (runOf p terms functions heap₁ (r .out .state) (r .out .bindings) q u (valueAt heap₁ (r .newest)) (room - 1))
             → Ran 1 heap heap₂ slots slots₂ st b r₂ step
         let-done d₂ =
@@ -89,7 +85,7 @@ module _ {p terms functions heap slots : List ℕ} {st : Machine} {b : Bindings}
     two-more : Ready 0 0 p terms functions heap slots st b q (b .len + 1 + 1) u′ (room - 1)
     two-more = rw qu′ (owing-none (part rd (second p at) (b .len + 1 + 1) (parts-letp (rd .machine .code .entries) t (rd .term) (rd .few) kind .1) (scoped-letp rd kind .2)))
 
-    module _ {b₁ : Bindings} (O : Opens b unknown b₁) where
+    module _ {b₁ : View} (O : Opens b unknown b₁) where
       pub letp-body : Ready 0 0 p terms functions heap slots st b₁ q (b₁ .len + 1) u′ (room - 1)
       letp-body = record {
         machine = two-more .machine;
@@ -134,7 +130,7 @@ module _ {p terms functions heap slots : List ℕ} {st : Machine} {b : Bindings}
             pub letp-nodes : (l .newest < r .out .state .top) × (r .newest < r .out .state .top)
             letp-nodes = (goes-node L (d .follows s .bound) (letp-some .0) (held-later (rd .machine) (d .moves) .some), d .there s)
 
-            pub letp-done : {heap₂ slots₂ : List ℕ} {r₂ : Out} → Ran 1 heap₁ heap₂ slots₁ slots₂ (r .out .state) (l .state) r₂
+            pub letp-done : {heap₂ slots₂ : List ℕ} {r₂ : Outcome} → Ran 1 heap₁ heap₂ slots₁ slots₂ (r .out .state) (l .state) r₂
                 (runOf p terms functions heap₁ (r .out .state) (l .state) q u (pair (valueAt heap₁ (l .newest)) (valueAt heap₁ (r .newest))) (room - 1))
                 → Ran 1 heap heap₂ slots slots₂ st b r₂ step
             letp-done d₂ =

@@ -1,6 +1,10 @@
 -- Laws that the proofs of backward evaluation cite.
--- runs in code, one after another
+-- runs, one after another
 pub mod Runs
+-- the number that stops a run
+pub mod Stops
+-- from the code's slots and state to views
+pub mod Frames
 -- steps that have no parts to run
 pub mod Leaves
 -- the ancilla arguments of a call
@@ -17,6 +21,12 @@ pub mod Lets
 pub mod Choosing
 -- calls
 pub mod Calling
+-- a term is entered, in code
+pub mod Arriving
+-- a scope with one variable more, in code
+pub mod Opening
+-- a call in code
+pub mod Called
 -- the run of a function
 pub mod Starting
 -- accepted programs

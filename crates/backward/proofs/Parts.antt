@@ -11,12 +11,12 @@ use package.Rattle.calls.specs.Fields.{kindAt, lengthAt}
 use package.Rattle.calls.specs.Entries.{callAncillae}
 use package.Rattle.program.specs.Parts.{variable, first, second, third, listed}
 use package.Rattle.program.proofs.Lists.{count-trees}
-use package.Rattle.scopes.specs.declared.bindings.Bindings.{Bindings}
+use package.Rattle.scopes.specs.Bindings.{View}
 use package.Rattle.yields.specs.Yields.{Wraps}
+use package.Rattle.forward.specs.Outcomes.{Machine}
 use package.Rattle.forward.specs.Code.{treeAt, FewArguments}
 use package.Rattle.forward.specs.Ready.{Ready as ForwardReady}
 use package.Rattle.forward.proofs.Trees.{tree-var, tree-inl, tree-inr, tree-pair, tree-let, tree-letp, tree-case, tree-call, tree-roll, tree-unroll}
-use package.Rattle.forward.specs.declared.outcomes.Machine.{Machine}
 use package.Rattle.backward.specs.Scoped.{Scoped, arityAt, ScopedAt}
 use package.Rattle.backward.specs.Ready.{Ready, Follows, Moves, ancillaeOf}
 use package.Rattle.backward.proofs.Runs.{binds-follow, ancillae-follow, ancillae-later, held-later, held-less, small-top}
@@ -24,8 +24,8 @@ use package.Rattle.backward.proofs.Runs.{binds-follow, ancillae-follow,
 ----------------------------------------------------------------
 -- What stays ready
 
-module _ {k h : ℕ} {p terms functions heap slots : List ℕ} {st : Machine} {b : Bindings} {q n t room : ℕ} (rd : Ready k h p terms functions heap slots st b q n t room)
-    {heap′ slots′ : List ℕ} {st′ : Machine} (M : Moves 0 heap heap′ slots slots′ st st′) {b′ : Bindings} (F : Follows b b′ (st′ .top)) where
+module _ {k h : ℕ} {p terms functions heap slots : List ℕ} {st : Machine} {b : View} {q n t room : ℕ} (rd : Ready k h p terms functions heap slots st b q n t room)
+    {heap′ slots′ : List ℕ} {st′ : Machine} (M : Moves 0 heap heap′ slots slots′ st st′) {b′ : View} (F : Follows b b′ (st′ .top)) where
   pub later : Ready k h p terms functions heap′ slots′ st′ b′ q n t room
   later = record {
     machine = held-later (rd .machine) M;
@@ -42,7 +42,7 @@ module _ {k h : ℕ} {p terms functions heap slots : List ℕ} {st : Machine} {b
       ∙ ancillae-follow (rd .binds) F (M .grows) (small-top (rd .machine)) heap′
 
 -- with no node owed
-pub owing-none : {k h : ℕ} {p terms functions heap slots : List ℕ} {st : Machine} {b : Bindings} {q n t room : ℕ} → Ready k h p terms functions heap slots st b q n t room
+pub owing-none : {k h : ℕ} {p terms functions heap slots : List ℕ} {st : Machine} {b : View} {q n t room : ℕ} → Ready k h p terms functions heap slots st b q n t room
     → Ready 0 0 p terms functions heap slots st b q n t room
 owing-none {room = room} rd = record {
   machine = held-less (rd .machine) 0 room (omega arith) (omega arith);
@@ -54,7 +54,7 @@ owing-none {room = room} rd = record {
 }
 
 -- with as many variables in scope
-pub in-scope : {k h : ℕ} {p terms functions heap slots : List ℕ} {st : Machine} {b : Bindings} {q n t room : ℕ} (m : ℕ) → n ≡ m → Ready k h p terms functions heap slots st b q n t room
+pub in-scope : {k h : ℕ} {p terms functions heap slots : List ℕ} {st : Machine} {b : View} {q n t room : ℕ} (m : ℕ) → n ≡ m → Ready k h p terms functions heap slots st b q n t room
     → Ready k h p terms functions heap slots st b q m t room
 in-scope {p = p} {terms = terms} {functions = functions} {t = t} m e rd = record {
   machine = rd .machine;
@@ -66,7 +66,7 @@ in-scope {p = p} {terms = terms} {functions = functions} {t = t} m e rd = record
 }
 
 -- a part of the term
-pub part : {p terms functions heap slots : List ℕ} {st : Machine} {b : Bindings} {q n t room : ℕ} → Ready 1 1 p terms functions heap slots st b q n t room
+pub part : {p terms functions heap slots : List ℕ} {st : Machine} {b : View} {q n t room : ℕ} → Ready 1 1 p terms functions heap slots st b q n t room
     → (u m : ℕ) → (u < length terms) × FewArguments (treeAt p terms [] u) → ScopedAt p terms functions m u → Ready 1 0 p terms functions heap slots st b q m u (room - 1)
 part {room = room} rd u m P S = record {
   machine = held-less (rd .machine) 1 (room - 1) (omega arith) (omega arith);
@@ -81,7 +81,7 @@ part {room = room} rd u m P S = record {
 -- What is read of the program
 
 -- As forward evaluation reads the program, with no variables in scope: its laws say that what is read is inside (forward/proofs/Bounds).
-pub as-forward : {k h : ℕ} {p terms functions heap slots : List ℕ} {st : Machine} {b : Bindings} {q n t room : ℕ} → Ready k h p terms functions heap slots st b q n t room
+pub as-forward : {k h : ℕ} {p terms functions heap slots : List ℕ} {st : Machine} {b : View} {q n t room : ℕ} → Ready k h p terms functions heap slots st b q n t room
     → ForwardReady 0 0 p terms functions heap slots st (record { base = 0; q = 0; n = 0 }) t room
 as-forward rd = record {
   code = rd .machine .code;
@@ -94,13 +94,14 @@ as-forward rd = record {
   nodes = omega (arith, rd .machine .nodes);
   small = omega (arith, rd .machine .small);
   variables = omega (arith, rd .machine .variables);
+  full = rd .machine .all;
   tall = omega arith;
 }
 
 ----------------------------------------------------------------
 -- Variables of the parts, by kind
 
-module _ {k h : ℕ} {p terms functions heap slots : List ℕ} {st : Machine} {b : Bindings} {q n t room : ℕ} (rd : Ready k h p terms functions heap slots st b q n t room) where
+module _ {k h : ℕ} {p terms functions heap slots : List ℕ} {st : Machine} {b : View} {q n t room : ℕ} (rd : Ready k h p terms functions heap slots st b q n t room) where
   abbrev at : ℕ
   at = getD terms t 0
 

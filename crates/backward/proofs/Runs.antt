@@ -4,7 +4,7 @@ use native.Mathlib.Omega.{arith}
 use mathlib.Core.Path.{_≡_, refl, sym, ap, subst, _∙_}
 use mathlib.Core.Logic.{⊎-elim, inl as left, inr as right}
 use mathlib.Core.List.{List}
-use lib.ListN.{getD}
+use lib.ListN.{length, getD}
 use package.Rattle.rules.specs.Val.{Val}
 use package.Rattle.rules.specs.Run.{Res, ok, Run, after}
 use package.Rattle.rules.specs.Machine.{State, leave}
@@ -14,33 +14,28 @@ use package.Rattle.values.specs.Nodes.{valueAt, Agree}
 use package.Rattle.values.proofs.Heaps.{value-kept}
 use package.Rattle.values.proofs.Places.{agree-refl, agree-trans, agree-down}
 use package.Rattle.scopes.specs.Slots.{unknown, Slots}
-use package.Rattle.scopes.specs.Bindings.{stateOf, Bound}
-use package.Rattle.scopes.specs.declared.bindings.Bindings.{Bindings}
+use package.Rattle.scopes.specs.Bindings.{View, stateOf, Bound}
 use package.Rattle.scopes.proofs.Scopes.{state-kept}
 use package.Rattle.yields.specs.Yields.{Ancillae}
 use package.Rattle.yields.proofs.Ancillae.{ancillae-same, ancillae-kept}
-use package.Rattle.forward.specs.Outcomes.{refusalOf as carriedRefusal}
+use package.Rattle.forward.specs.Outcomes.{Machine, refusalOf as carriedRefusal}
 use package.Rattle.forward.specs.Ready.{Graph}
-use package.Rattle.forward.specs.declared.outcomes.Machine.{Machine}
+use package.Rattle.forward.proofs.Answers.{below-mark}
 use package.Rattle.forward.specs.declared.outcomes.Refusal.{Refusal as Carried}
 use package.Rattle.forward.specs.declared.outcomes.Refusal.the-variants.{Fuel as cFuel, Height as cHeight, Long as cLong, FirstMatch as cFirstMatch, Stuck as cStuck}
-use package.Rattle.backward.specs.Outcomes.{refusalOf, answerOf, meaning, leftWith, carried}
+use package.Rattle.backward.specs.Outcomes.{Status, Done, Refused, Outcome, Inner, refusalOf, answerOf, meaning, leftWith, carried}
 use package.Rattle.backward.specs.Ready.{Held, Binds, Follows, Moves, Ran, Stays, RanUnder, ancillaeOf}
 use Rattle.backward.specs.declared.outcomes.Refusal.{Refusal}
 use Rattle.backward.specs.declared.outcomes.Refusal.the-variants.{Fuel, Height, Long, FirstMatch, NoInput, Stuck}
-use Rattle.backward.specs.declared.outcomes.Status.{Status}
-use Rattle.backward.specs.declared.outcomes.Status.the-variants.{Done, Refused}
-use Rattle.backward.specs.declared.outcomes.Out.{Out}
-use Rattle.backward.specs.declared.outcomes.Inner.{Inner}
 
 ----------------------------------------------------------------
 -- What an outcome says
 
-pub meaning-done : (heap : List ℕ) (out : Out) → out .status ≡ Done → meaning heap out ≡ ok (stateOf heap (out .bindings)) (out .state .fuel)
+pub meaning-done : (heap : List ℕ) (out : Outcome) → out .status ≡ Done → meaning heap out ≡ ok (stateOf heap (out .bindings)) (out .state .fuel)
 unfolding answerOf
 meaning-done heap out e = ap (answerOf heap (out .bindings) (out .state .fuel)) e
 
-pub meaning-refused : (heap : List ℕ) (out : Out) {w : Refusal} → out .status ≡ Refused w → meaning heap out ≡ refusalOf w
+pub meaning-refused : (heap : List ℕ) (out : Outcome) {w : Refusal} → out .status ≡ Refused w → meaning heap out ≡ refusalOf w
 unfolding answerOf
 meaning-refused heap out e = ap (answerOf heap (out .bindings) (out .state .fuel)) e
 
@@ -66,40 +61,40 @@ carried-means cStuck = refl
 pub not-done : {s : Status} {w : Refusal} → s ≡ Refused w → s ≡ Done → ⊥
 not-done p q = let z : _≡_ {A = ℕ} 0 1 = cc in omega arith
 
-pub left-done : (heap : List ℕ) (b : Bindings) (newest fuel : ℕ) {s : Status} (next : Val → State → Run State) → s ≡ Done
+pub left-done : (heap : List ℕ) (b : View) (newest fuel : ℕ) {s : Status} (next : Val → State → Run State) → s ≡ Done
     → leftWith heap b newest fuel s next ≡ next (valueAt heap newest) (stateOf heap b) fuel
 unfolding leftWith
 left-done heap b newest fuel next e = ap (λ s. leftWith heap b newest fuel s next) e
 
-pub left-refused : (heap : List ℕ) (b : Bindings) (newest fuel : ℕ) {s : Status} {w : Refusal} (next : Val → State → Run State) → s ≡ Refused w
+pub left-refused : (heap : List ℕ) (b : View) (newest fuel : ℕ) {s : Status} {w : Refusal} (next : Val → State → Run State) → s ≡ Refused w
     → leftWith heap b newest fuel s next ≡ refusalOf w
 unfolding leftWith
 left-refused heap b newest fuel next e = ap (λ s. leftWith heap b newest fuel s next) e
 
 ----------------------------------------------------------------
--- Bindings that follow
+-- View that follow
 
-pub bound-up : {b : Bindings} {top : ℕ} (top′ : ℕ) → Bound b top → top ≤ top′ → Bound b top′
+pub bound-up : {b : View} {top : ℕ} (top′ : ℕ) → Bound b top → top ≤ top′ → Bound b top′
 bound-up top′ B le = record {
   full = B .full;
   few = B .few;
   held = record { held = λ j h. ⊎-elim (λ e. left e) (λ l. right (omega arith)) (B .held .held j h) };
 }
 
-pub follows-same : {b : Bindings} {top : ℕ} → Bound b top → Follows b b top
+pub follows-same : {b : View} {top : ℕ} → Bound b top → Follows b b top
 follows-same B = record { bound = B; len = refl; kept = λ i h n. refl }
 
-pub follows-then : {b c d : Bindings} {top top′ : ℕ} → Follows b c top → Follows c d top′ → Follows b d top′
+pub follows-then : {b c d : View} {top top′ : ℕ} → Follows b c top → Follows c d top′ → Follows b d top′
 follows-then {b} {c} {d} F G = record {
   bound = G .bound;
   len = G .len ∙ F .len;
   kept = λ i h n. G .kept i (omega (arith, F .len)) (λ e. n (sym (F .kept i h n) ∙ e)) ∙ F .kept i h n;
 }
 
-pub binds-up : {b : Bindings} {q top : ℕ} (top′ : ℕ) → Binds b q top → top ≤ top′ → Binds b q top′
+pub binds-up : {b : View} {q top : ℕ} (top′ : ℕ) → Binds b q top → top ≤ top′ → Binds b q top′
 binds-up top′ B le = record { bound = bound-up top′ (B .bound) le; within = B .within; ancillae = λ i h. omega (arith, B .ancillae i h) }
 
-module _ {b b′ : Bindings} {q top top′ : ℕ} (B : Binds b q top) (F : Follows b b′ top′) (le : top ≤ top′) (small : top ≤ unknown) where
+module _ {b b′ : View} {q top top′ : ℕ} (B : Binds b q top) (F : Follows b b′ top′) (le : top ≤ top′) (small : top ≤ unknown) where
   ancilla-kept : (i : ℕ) → i < q → getD (b′ .slots) i 0 ≡ getD (b .slots) i 0
   ancilla-kept i h = F .kept i (omega (arith, B .within)) (λ e. omega (arith, B .ancillae i h))
 
@@ -113,7 +108,7 @@ module _ {b b′ : Bindings} {q top top′ : ℕ} (B : Binds b q top) (F : Follo
   pub ancillae-follow : (heap : List ℕ) → ancillaeOf heap b q ≡ ancillaeOf heap b′ q
   ancillae-follow heap = ancillae-same heap (b .slots) (b′ .slots) 0 q (λ j h. sym (ancilla-kept j (omega arith)))
 
-pub ancillae-held : {b : Bindings} {q top : ℕ} → Binds b q top → Ancillae (b .slots) 0 q top
+pub ancillae-held : {b : View} {q top : ℕ} → Binds b q top → Ancillae (b .slots) 0 q top
 ancillae-held B = record {
   there = omega (arith, B .within, B .bound .full, B .bound .few);
   known = λ i h. rw (let z : 0 + i ≡ i = omega arith in z) (B .ancillae i h);
@@ -123,21 +118,21 @@ ancillae-held B = record {
 -- A heap that has grown
 
 module _ {heap heap′ : List ℕ} {top : ℕ} (G : Graph heap top) (A : Agree top heap heap′) where
-  pub state-later : (b : Bindings) → Bound b top → stateOf heap b ≡ stateOf heap′ b
+  pub state-later : (b : View) → Bound b top → stateOf heap b ≡ stateOf heap′ b
   unfolding stateOf
   state-later b B = state-kept heap heap′ (b .slots) 0 (b .len) top (G .right) A (subst (λ n. Slots (b .slots) n top) (let z : b .len ≡ 0 + b .len = omega arith in z) (B .held))
 
-  pub ancillae-later : (b : Bindings) (q : ℕ) → Binds b q top → ancillaeOf heap b q ≡ ancillaeOf heap′ b q
+  pub ancillae-later : (b : View) (q : ℕ) → Binds b q top → ancillaeOf heap b q ≡ ancillaeOf heap′ b q
   ancillae-later b q B = ancillae-kept heap heap′ (b .slots) 0 q top (G .right) A (ancillae-held B)
 
 ----------------------------------------------------------------
 -- Moves
 
-pub moves-none : {heap slots : List ℕ} {st st′ : Machine} → Graph heap (st .top) → st′ ≡ st → Moves 0 heap heap slots slots st st′
-moves-none {heap} G e = record {
+pub moves-none : {heap slots slots′ : List ℕ} {st st′ : Machine} → Graph heap (st .top) → length slots ≡ length slots′ → st′ ≡ st → Moves 0 heap heap slots slots′ st st′
+moves-none {heap} G l e = record {
   agree = agree-refl _ heap;
   graph = rw e G;
-  lengths = refl;
+  lengths = l;
   grows = rw e (omega arith);
   spends = rw e (omega arith);
   owes = rw e (omega arith);
@@ -178,6 +173,7 @@ module _ {k : ℕ} {p terms functions heap slots : List ℕ} {st : Machine} {roo
     nodes = omega (arith, H .nodes, M .owes, M .agree .lengths);
     small = omega (arith, H .small, M .owes);
     variables = omega (arith, H .variables, M .lengths);
+    all = sym (M .lengths) ∙ H .all;
   }
 
   -- with fewer nodes owed, and less height
@@ -191,33 +187,69 @@ module _ {k : ℕ} {p terms functions heap slots : List ℕ} {st : Machine} {roo
     nodes = omega (arith, H .nodes);
     small = omega (arith, H .small);
     variables = omega (arith, H .variables);
+    all = H .all;
+  }
+
+  -- with other slots, as many
+  pub held-slots : {slots′ : List ℕ} → length slots ≡ length slots′ → Held k p terms functions heap slots′ st room
+  held-slots e = record {
+    code = H .code;
+    bodies = H .bodies;
+    graph = H .graph;
+    some = H .some;
+    unit-there = H .unit-there;
+    nodes = H .nodes;
+    small = H .small;
+    variables = omega (arith, H .variables);
+    all = sym e ∙ H .all;
   }
 
   pub small-top : st .top ≤ unknown
-  small-top = omega (arith, H .small)
+  small-top = omega (arith, H .small, below-mark)
 
 ----------------------------------------------------------------
 -- Runs
 
 -- a step without parts
-pub stays : {heap slots : List ℕ} {st : Machine} {b : Bindings} {out : Out} {res : Res State} {res′ : List TypeEntry → Res State} → Graph heap (st .top) → Stays heap st b out res
-    → ((ys : List TypeEntry) → res ≡ res′ ys) → Ran 0 heap heap slots slots st b out res′
-stays {b = b} {out = out} G S e = record {
-  moves = moves-none G (S .state);
+pub stays : {heap slots slots′ : List ℕ} {st : Machine} {b : View} {out : Outcome} {res : Res State} {res′ : List TypeEntry → Res State} → Graph heap (st .top) → length slots ≡ length slots′
+    → Stays heap st b out res → ((ys : List TypeEntry) → res ≡ res′ ys) → Ran 0 heap heap slots slots′ st b out res′
+stays {b = b} {out = out} G l S e = record {
+  moves = moves-none G l (S .state);
   follows = λ d. subst (λ (s : Machine). Follows b (out .bindings) (s .top)) (sym (S .state)) (S .follows d);
   answer = λ ys. S .answer ∙ e ys;
 }
 
 -- a refusal on the spot
-pub refuses : {heap slots : List ℕ} {st : Machine} {b : Bindings} {w : Refusal} {res : List TypeEntry → Res State} (out : Out) → Graph heap (st .top)
+pub refuses : {heap slots : List ℕ} {st : Machine} {b : View} {w : Refusal} {res : List TypeEntry → Res State} (out : Outcome) → Graph heap (st .top)
     → out .status ≡ Refused w → out .state ≡ st → ((ys : List TypeEntry) → res ys ≡ refusalOf w) → Ran 0 heap heap slots slots st b out res
 refuses {heap} out G s q e = record {
-  moves = moves-none G q;
+  moves = moves-none G refl q;
   follows = λ d. absurd (not-done s d);
   answer = λ ys. meaning-refused heap out s ∙ sym (e ys);
 }
 
-module _ {k : ℕ} {heap heap₁ slots slots₁ : List ℕ} {st : Machine} {b : Bindings} {r : Out} {res₁ : List TypeEntry → Res State} (d : Ran k heap heap₁ slots slots₁ st b r res₁) where
+-- a refusal says nothing of the bindings
+pub refused-with : {k : ℕ} {heap heap₁ slots slots₁ : List ℕ} {st : Machine} {b c : View} {r : Outcome} {w : Refusal} {res : List TypeEntry → Res State}
+    → Ran k heap heap₁ slots slots₁ st b r res → r .status ≡ Refused w → (d : View) → Ran k heap heap₁ slots slots₁ st c (record { status = r .status; state = r .state; bindings = d }) res
+refused-with {heap₁ = heap₁} {r = r} R s d = record {
+  moves = R .moves;
+  follows = λ n. absurd (not-done s n);
+  answer = λ ys. meaning-refused heap₁ (record { status = r .status; state = r .state; bindings = d }) s ∙ sym (meaning-refused heap₁ r s) ∙ R .answer ys;
+}
+
+-- slots that were written before
+pub moves-from : {k : ℕ} {heap heap₁ slots₀ slots₁ : List ℕ} {st st₁ : Machine} (slots : List ℕ) → length slots ≡ length slots₀ → Moves k heap heap₁ slots₀ slots₁ st st₁ → Moves k heap heap₁ slots slots₁ st st₁
+moves-from slots e M = record { agree = M .agree; graph = M .graph; lengths = e ∙ M .lengths; grows = M .grows; spends = M .spends; owes = M .owes }
+
+pub ran-from : {k : ℕ} {heap heap₁ slots₀ slots₁ : List ℕ} {st : Machine} {b : View} {r : Outcome} {res : List TypeEntry → Res State} (slots : List ℕ) → length slots ≡ length slots₀
+    → Ran k heap heap₁ slots₀ slots₁ st b r res → Ran k heap heap₁ slots slots₁ st b r res
+ran-from slots e R = record { moves = moves-from slots e (R .moves); follows = R .follows; answer = R .answer }
+
+pub under-from : {heap heap₁ slots₀ slots₁ : List ℕ} {st : Machine} {b : View} {r : Inner} {res : List TypeEntry → Res State} (slots : List ℕ) → length slots ≡ length slots₀
+    → RanUnder heap heap₁ slots₀ slots₁ st b r res → RanUnder heap heap₁ slots slots₁ st b r res
+under-from slots e R = record { moves = moves-from slots e (R .moves); follows = R .follows; there = R .there; answer = R .answer }
+
+module _ {k : ℕ} {heap heap₁ slots slots₁ : List ℕ} {st : Machine} {b : View} {r : Outcome} {res₁ : List TypeEntry → Res State} (d : Ran k heap heap₁ slots slots₁ st b r res₁) where
   -- the same run, said to give another thing that is equal
   pub says : {res : List TypeEntry → Res State} → ((ys : List TypeEntry) → res₁ ys ≡ res ys) → Ran k heap heap₁ slots slots₁ st b r res
   says e = record { moves = d .moves; follows = d .follows; answer = λ ys. d .answer ys ∙ e ys }
@@ -225,7 +257,7 @@ module _ {k : ℕ} {heap heap₁ slots slots₁ : List ℕ} {st : Machine} {b : 
   pub slack : (k′ : ℕ) → k ≤ k′ → Ran k′ heap heap₁ slots slots₁ st b r res₁
   slack k′ le = record { moves = moves-slack k′ (d .moves) le; follows = d .follows; answer = d .answer }
 
-module _ {heap heap₁ slots slots₁ : List ℕ} {st : Machine} {b : Bindings} {r : Out} {res₁ : List TypeEntry → Res State} (d : Ran 0 heap heap₁ slots slots₁ st b r res₁) where
+module _ {heap heap₁ slots slots₁ : List ℕ} {st : Machine} {b : View} {r : Outcome} {res₁ : List TypeEntry → Res State} (d : Ran 0 heap heap₁ slots slots₁ st b r res₁) where
   -- a part was refused, and so is the whole
   pub part-refused : {w : Refusal} {res : List TypeEntry → Res State} (next : List TypeEntry → State → Run State) → r .status ≡ Refused w
       → ((ys : List TypeEntry) → res ys ≡ after (res₁ ys) (next ys)) → Ran 0 heap heap₁ slots slots₁ st b r res
@@ -235,7 +267,7 @@ module _ {heap heap₁ slots slots₁ : List ℕ} {st : Machine} {b : Bindings} 
   -- a part was run, and the run goes on
   pub part-done : {res : List TypeEntry → Res State} (next : List TypeEntry → State → Run State) → r .status ≡ Done
       → ((ys : List TypeEntry) → res ys ≡ after (res₁ ys) (next ys))
-      → {k : ℕ} {heap₂ slots₂ : List ℕ} {out : Out} → Ran k heap₁ heap₂ slots₁ slots₂ (r .state) (r .bindings) out (λ ys. next ys (stateOf heap₁ (r .bindings)) (r .state .fuel))
+      → {k : ℕ} {heap₂ slots₂ : List ℕ} {out : Outcome} → Ran k heap₁ heap₂ slots₁ slots₂ (r .state) (r .bindings) out (λ ys. next ys (stateOf heap₁ (r .bindings)) (r .state .fuel))
       → Ran k heap heap₂ slots slots₂ st b out res
   part-done next s e b₂ = record {
     moves = moves-then (d .moves) (b₂ .moves);
@@ -246,8 +278,8 @@ module _ {heap heap₁ slots slots₁ : List ℕ} {st : Machine} {b : Bindings} 
 ----------------------------------------------------------------
 -- Runs under one variable more
 
-module _ {heap heap₁ slots slots₁ : List ℕ} {st : Machine} {b : Bindings} {r : Inner} {res₁ : List TypeEntry → Res State} (d : RanUnder heap heap₁ slots slots₁ st b r res₁) where
-  pub under-refused : {w : Refusal} {c : Bindings} {res : List TypeEntry → Res State} (next : List TypeEntry → Val → State → Run State) → r .out .status ≡ Refused w
+module _ {heap heap₁ slots slots₁ : List ℕ} {st : Machine} {b : View} {r : Inner} {res₁ : List TypeEntry → Res State} (d : RanUnder heap heap₁ slots slots₁ st b r res₁) where
+  pub under-refused : {w : Refusal} {c : View} {res : List TypeEntry → Res State} (next : List TypeEntry → Val → State → Run State) → r .out .status ≡ Refused w
       → ((ys : List TypeEntry) → res ys ≡ after (res₁ ys) (λ σ. leave σ (next ys))) → Ran 0 heap heap₁ slots slots₁ st c (r .out) res
   under-refused {w} next s e = record {
     moves = d .moves;
@@ -255,9 +287,9 @@ module _ {heap heap₁ slots slots₁ : List ℕ} {st : Machine} {b : Bindings} 
     answer = λ ys. meaning-refused heap₁ (r .out) s ∙ sym (left-refused heap₁ (r .out .bindings) (r .newest) (r .out .state .fuel) (next ys) s) ∙ sym (d .answer ys (next ys)) ∙ sym (e ys);
   }
 
-  pub under-done : {c c₁ : Bindings} {res : List TypeEntry → Res State} (next : List TypeEntry → Val → State → Run State) → r .out .status ≡ Done
+  pub under-done : {c c₁ : View} {res : List TypeEntry → Res State} (next : List TypeEntry → Val → State → Run State) → r .out .status ≡ Done
       → ((ys : List TypeEntry) → res ys ≡ after (res₁ ys) (λ σ. leave σ (next ys)))
-      → {k : ℕ} {heap₂ slots₂ : List ℕ} {out : Out}
+      → {k : ℕ} {heap₂ slots₂ : List ℕ} {out : Outcome}
       → Ran k heap₁ heap₂ slots₁ slots₂ (r .out .state) c₁ out (λ ys. next ys (valueAt heap₁ (r .newest)) (stateOf heap₁ (r .out .bindings)) (r .out .state .fuel))
       → Follows c c₁ (r .out .state .top) → Ran k heap heap₂ slots slots₂ st c out res
   under-done next s e b₂ F = record {

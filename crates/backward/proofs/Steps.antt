@@ -4,7 +4,7 @@ use native.Mathlib.Omega.{arith}
 use mathlib.Core.Path.{_≡_, refl, sym, ap, ap₂, _∙_}
 use mathlib.Core.Logic.{⊎-elim, inr as right}
 use mathlib.Core.List.{List}
-use lib.ListN.{getD}
+use lib.ListN.{length, getD}
 use package.Rattle.rules.specs.Limits.{fits}
 use package.Rattle.rules.specs.Val.{Val, inl, inr, pair, roll}
 use package.Rattle.rules.specs.Term.{Term}
@@ -15,22 +15,19 @@ use package.Rattle.calls.specs.Entries.{TypeEntry}
 use package.Rattle.program.specs.Parts.{variable, first, second}
 use package.Rattle.values.specs.Nodes.{Room, ofKind, Single, valueWithin, valueAt, leftAt, rightAt, kindAt as nodeKind}
 use package.Rattle.values.proofs.Heaps.{value-inl, value-inr, value-pair, value-roll, value-kept}
-use package.Rattle.scopes.specs.Bindings.{stateOf}
-use package.Rattle.scopes.specs.declared.bindings.Bindings.{Bindings}
+use package.Rattle.scopes.specs.Bindings.{View, stateOf}
 use package.Rattle.yields.specs.Yields.{Wraps}
+use package.Rattle.forward.specs.Outcomes.{Machine}
 use package.Rattle.forward.specs.Code.{treeAt, programAt}
 use package.Rattle.forward.proofs.Trees.{Part, tree-var, tree-unit, tree-inl, tree-inr, tree-pair, tree-roll, tree-unroll, part-inl, part-inr, part-roll, part-unroll, parts-pair}
-use package.Rattle.forward.specs.declared.outcomes.Machine.{Machine}
 use package.Rattle.forward.proofs.Binds.{no-pair}
-use package.Rattle.backward.specs.Outcomes.{refusalOf, mismatch}
+use package.Rattle.backward.specs.Outcomes.{Done, Refused, Outcome, refusalOf, mismatch}
 use package.Rattle.backward.specs.Ready.{Ready, Ran, Stays, ancillaeOf, runOf, stepOf}
 use package.Rattle.backward.proofs.Runs.{stays, refuses, says, slack, part-refused, part-done}
 use package.Rattle.backward.proofs.Leaves.{against-other, against-none, mismatch-left, mismatch-right, mismatch-none}
 use package.Rattle.backward.proofs.Parts.{later, ancillae-after, owing-none, in-scope, part, scoped-wrap, scoped-pair, scoped-unroll}
 use Rattle.backward.specs.declared.outcomes.Refusal.{Refusal}
 use Rattle.backward.specs.declared.outcomes.Refusal.the-variants.{Stuck}
-use Rattle.backward.specs.declared.outcomes.Status.the-variants.{Done, Refused}
-use Rattle.backward.specs.declared.outcomes.Out.{Out}
 
 ----------------------------------------------------------------
 -- Values of another kind
@@ -63,7 +60,7 @@ other-roll (suc (suc (suc (suc n)))) v w go t fuel l d = absurd (d (omega arith)
 ----------------------------------------------------------------
 -- By kind
 
-module _ {p terms functions heap slots : List ℕ} {st : Machine} {b : Bindings} {q t room : ℕ} (rd : Ready 1 1 p terms functions heap slots st b q (b .len) t room)
+module _ {p terms functions heap slots : List ℕ} {st : Machine} {b : View} {q t room : ℕ} (rd : Ready 1 1 p terms functions heap slots st b q (b .len) t room)
     {node : ℕ} (low : node < st .top) where
   abbrev at : ℕ
   at = getD terms t 0
@@ -93,13 +90,13 @@ module _ {p terms functions heap slots : List ℕ} {st : Machine} {b : Bindings}
   ----------------------------------------------------------------
   -- Variables and unit
 
-  pub var-done : kindAt p at ≡ 0 → {r : Out} → Stays heap st b r (meet t (stateOf heap b) (variable p at) value (st .fuel)) → Ran 1 heap heap slots slots st b r step
+  pub var-done : kindAt p at ≡ 0 → {slots′ : List ℕ} → length slots ≡ length slots′ → {r : Outcome} → Stays heap st b r (meet t (stateOf heap b) (variable p at) value (st .fuel)) → Ran 1 heap heap slots slots′ st b r step
   unfolding backwardStep
-  var-done kind S = slack (stays (rd .machine .graph) S (λ ys. sym (stepped ys (tree-var (rd .machine .code .entries) t (rd .term) ys kind)))) 1 (omega arith)
+  var-done kind l S = slack (stays (rd .machine .graph) l S (λ ys. sym (stepped ys (tree-var (rd .machine .code .entries) t (rd .term) ys kind)))) 1 (omega arith)
 
-  pub unit-done : kindAt p at ≡ 1 → {r : Out} → Stays heap st b r (onUnit value (give (stateOf heap b)) (st .fuel)) → Ran 1 heap heap slots slots st b r step
+  pub unit-done : kindAt p at ≡ 1 → {r : Outcome} → Stays heap st b r (onUnit value (give (stateOf heap b)) (st .fuel)) → Ran 1 heap heap slots slots st b r step
   unfolding backwardStep
-  unit-done kind S = slack (stays (rd .machine .graph) S (λ ys. sym (stepped ys (tree-unit (rd .machine .code .entries) t (rd .term) ys kind)))) 1 (omega arith)
+  unit-done kind S = slack (stays (rd .machine .graph) refl S (λ ys. sym (stepped ys (tree-unit (rd .machine .code .entries) t (rd .term) ys kind)))) 1 (omega arith)
 
   ----------------------------------------------------------------
   -- One part: inl, inr, roll
@@ -145,7 +142,7 @@ module _ {p terms functions heap slots : List ℕ} {st : Machine} {b : Bindings}
         pub unwrap-ready : Ready 0 0 p terms functions heap slots st b q (b .len) u (room - 1)
         unwrap-ready = rw qu (owing-none (part rd (second p at) (b .len) wrap-part (scoped-wrap rd w)))
 
-        pub unwrap-done : {heap₁ slots₁ : List ℕ} {r : Out} → Ran 0 heap heap₁ slots slots₁ st b r (runOf p terms functions heap st b q u (valueAt heap x) (room - 1))
+        pub unwrap-done : {heap₁ slots₁ : List ℕ} {r : Outcome} → Ran 0 heap heap₁ slots slots₁ st b r (runOf p terms functions heap st b q u (valueAt heap x) (room - 1))
             → Ran 1 heap heap₁ slots slots₁ st b r step
         unwrap-done d = slack (says d (λ ys. ap (λ u. go ys (stateOf heap b) u (valueAt heap x) (st .fuel)) qu ∙ sym (step-same ys))) 1 (omega arith)
 
@@ -163,7 +160,7 @@ module _ {p terms functions heap slots : List ℕ} {st : Machine} {b : Bindings}
         ∙ other-roll (nodeKind heap node) _ _ (go ys (stateOf heap b) (second p at)) t (st .fuel) (rd .machine .graph .right .node node low .kind) (λ e. n (e ∙ sym (z .1))))) y) w
 
     pub unwrap-differs : {found : ℕ} → found ≡ nodeKind heap node → ¬ (found ≡ kind) → {why : Refusal} → why ≡ mismatch kind found t
-        → (r : Out) → r .status ≡ Refused why → r .state ≡ st → Ran 1 heap heap slots slots st b r step
+        → (r : Outcome) → r .status ≡ Refused why → r .state ≡ st → Ran 1 heap heap slots slots st b r step
     unwrap-differs {found} f n {why} m r s e =
         slack (refuses r (rd .machine .graph) s e (λ ys. step-differs (λ z. n (f ∙ z)) ys ∙ ap (λ k. refusalOf (mismatch kind k t)) (sym f) ∙ ap refusalOf (sym m))) 1 (omega arith)
 
@@ -171,7 +168,7 @@ module _ {p terms functions heap slots : List ℕ} {st : Machine} {b : Bindings}
   -- Pair
 
   module _ (kind : kindAt p at ≡ 4) where
-    pub pair-stuck : {found : ℕ} → found ≡ nodeKind heap node → ¬ (found ≡ 3) → (r : Out) → r .status ≡ Refused Stuck → r .state ≡ st → Ran 1 heap heap slots slots st b r step
+    pub pair-stuck : {found : ℕ} → found ≡ nodeKind heap node → ¬ (found ≡ 3) → (r : Outcome) → r .status ≡ Refused Stuck → r .state ≡ st → Ran 1 heap heap slots slots st b r step
     unfolding backwardStep valueAt valueWithin refusalOf
     pair-stuck f n r s e =
         slack (refuses r (rd .machine .graph) s e (λ ys. stepped ys (tree-pair (rd .machine .code .entries) t (rd .term) ys kind)
@@ -200,7 +197,7 @@ module _ {p terms functions heap slots : List ℕ} {st : Machine} {b : Bindings}
         pub pair-first : Ready 0 0 p terms functions heap slots st b q (b .len) u (room - 1)
         pair-first = rw qu (owing-none (part rd (first p at) (b .len) (parts-pair (rd .machine .code .entries) t (rd .term) (rd .few) kind .0) (scoped-pair rd kind .0)))
 
-        module _ {heap₁ slots₁ : List ℕ} {r : Out} (d : Ran 0 heap heap₁ slots slots₁ st b r (runOf p terms functions heap st b q u (valueAt heap x) (room - 1))) where
+        module _ {heap₁ slots₁ : List ℕ} {r : Outcome} (d : Ran 0 heap heap₁ slots slots₁ st b r (runOf p terms functions heap st b q u (valueAt heap x) (room - 1))) where
           pub pair-refused : {why : Refusal} → r .status ≡ Refused why → Ran 1 heap heap₁ slots slots₁ st b r step
           pair-refused s = slack (part-refused d second-part s step-pair) 1 (omega arith)
 
@@ -209,7 +206,7 @@ module _ {p terms functions heap slots : List ℕ} {st : Machine} {b : Bindings}
             pair-second = in-scope (r .bindings .len) (sym (d .follows s .len))
                 (rw qu′ (owing-none (later (part rd (second p at) (b .len) (parts-pair (rd .machine .code .entries) t (rd .term) (rd .few) kind .1) (scoped-pair rd kind .1)) (d .moves) (d .follows s))))
 
-            pub pair-done : {heap₂ slots₂ : List ℕ} {r₂ : Out}
+            pub pair-done : {heap₂ slots₂ : List ℕ} {r₂ : Outcome}
                 → Ran 0 heap₁ heap₂ slots₁ slots₂ (r .state) (r .bindings) r₂ (runOf p terms functions heap₁ (r .state) (r .bindings) q u′ (valueAt heap₁ y) (room - 1))
                 → Ran 1 heap heap₂ slots slots₂ st b r₂ step
             pair-done d₂ =
@@ -224,7 +221,7 @@ module _ {p terms functions heap slots : List ℕ} {st : Machine} {b : Bindings}
     pub unroll-ready : Ready 1 0 p terms functions heap slots st b q (b .len) u (room - 1)
     unroll-ready = rw qu (part rd (second p at) (b .len) (part-unroll (rd .machine .code .entries) t (rd .term) (rd .few) kind) (scoped-unroll rd kind))
 
-    pub unroll-done : {heap₁ slots₁ : List ℕ} {r : Out} → Ran 1 heap heap₁ slots slots₁ st b r (runOf p terms functions heap st b q u (ofKind 4 value value) (room - 1))
+    pub unroll-done : {heap₁ slots₁ : List ℕ} {r : Outcome} → Ran 1 heap heap₁ slots slots₁ st b r (runOf p terms functions heap st b q u (ofKind 4 value value) (room - 1))
         → Ran 1 heap heap₁ slots slots₁ st b r step
     unfolding backwardStep ofKind
     unroll-done d = says d (λ ys. ap (λ u. go ys (stateOf heap b) u (roll value) (st .fuel)) qu ∙ sym (stepped ys (tree-unroll (rd .machine .code .entries) t (rd .term) ys kind)))

@@ -1,22 +1,62 @@
--- What the outcome of a backward run in code means: an answer of rules/specs/Run, with document 01's numbers of refusals (section 4).
-use Prim.Native.Nat.{ℕ, zero, suc}
+-- What the outcome of a backward run in code means: an answer of rules/specs/Run, with document 01's numbers of refusals (section 4). In code
+-- the outcome is one number, with the binding state beside it. Laws: proofs/Stops, Runs.
+use Prim.Native.Nat.{ℕ, zero, suc, _-_, _/_, _%_}
 use mathlib.Core.Bool.{true, false}
 use mathlib.Core.List.{List}
-use lib.Dec.{eqb}
+use lib.Dec.{eqb, ltb}
 use package.Rattle.rules.specs.Val.{Val}
 use package.Rattle.rules.specs.Run.{Res, ok, stop, stuck, Run}
 use package.Rattle.rules.specs.Machine.{State}
 use package.Rattle.values.specs.Nodes.{valueAt}
 use package.Rattle.scopes.specs.Slots.{unknown}
-use package.Rattle.scopes.specs.Bindings.{stateOf}
-use package.Rattle.scopes.specs.declared.bindings.Bindings.{Bindings}
+use package.Rattle.scopes.specs.Bindings.{View, viewOf, stateOf}
+use package.Rattle.forward.specs.Outcomes.{Machine, machineOf, stopped, refusalIn}
 use package.Rattle.forward.specs.declared.outcomes.Refusal.{Refusal as Carried}
 use package.Rattle.forward.specs.declared.outcomes.Refusal.the-variants.{Fuel as cFuel, Height as cHeight, Long as cLong, FirstMatch as cFirstMatch, Stuck as cStuck}
 use Rattle.backward.specs.declared.outcomes.Refusal.{Refusal}
 use Rattle.backward.specs.declared.outcomes.Refusal.the-variants.{Fuel, Height, Long, FirstMatch, NoInput, Stuck}
-use Rattle.backward.specs.declared.outcomes.Status.{Status}
-use Rattle.backward.specs.declared.outcomes.Status.the-variants.{Done, Refused}
 use Rattle.backward.specs.declared.outcomes.Out.{Out}
+
+----------------------------------------------------------------
+-- Outcomes
+
+pub data Status : Type 0 where
+  Done : Status
+  Refused : Refusal → Status
+
+-- a status, with the machine that is left and the view of the bindings
+pub record Outcome : Type 0 where
+  pub status : Status
+  pub state : Machine
+  pub bindings : View
+
+-- an outcome, with the node of a variable that has left the scope
+pub record Inner : Type 0 where
+  pub out : Outcome
+  pub newest : ℕ
+
+-- a refusal of an ancilla term, which is run forward
+unfoldable pub carried : Carried → Refusal
+carried (cFuel t) = Fuel t
+carried (cHeight t) = Height t
+carried (cLong t) = Long t
+carried (cFirstMatch t) = FirstMatch t
+carried cStuck = Stuck
+
+-- A number that stops a run: from `stopped` on a refusal as forward has it, below it the term, and one more, that has no input (16).
+unfoldable pub whyOf : ℕ → Refusal
+whyOf s = elim (ltb s stopped) [ true ↦ NoInput (s - 1) | false ↦ carried (refusalIn ((s - stopped) / 65536) ((s - stopped) % 65536)) ]
+
+-- 0 stops nothing
+unfoldable pub statusOf : ℕ → Status
+statusOf s = elim (eqb s 0) [ true ↦ Done | false ↦ Refused (whyOf s) ]
+
+-- the outcome that the code has, in the scope of `n` variables from slot `base` on
+abbrev pub outcomeOf : ℕ → List ℕ → List ℕ → ℕ → ℕ → Outcome
+outcomeOf s slots m base n = record { status = statusOf s; state = machineOf m; bindings = viewOf slots base n }
+
+----------------------------------------------------------------
+-- What an outcome means
 
 -- the number of a refusal, and its place
 unfoldable pub refusalOf : {A : Type 0} → Refusal → Res A
@@ -28,25 +68,17 @@ refusalOf (NoInput t) = stop 16 t
 refusalOf Stuck = stuck
 
 -- a status, with the bindings and the fuel that is left, on the heap that their nodes are in
-unfoldable pub answerOf : List ℕ → Bindings → ℕ → Status → Res State
+unfoldable pub answerOf : List ℕ → View → ℕ → Status → Res State
 answerOf heap b fuel Done = ok (stateOf heap b) fuel
 answerOf heap b fuel (Refused why) = refusalOf why
 
-abbrev pub meaning : List ℕ → Out → Res State
+abbrev pub meaning : List ℕ → Outcome → Res State
 meaning heap out = answerOf heap (out .bindings) (out .state .fuel) (out .status)
 
 -- how a run goes on with the node of a variable that has left the scope, and the other bindings
-unfoldable pub leftWith : List ℕ → Bindings → ℕ → ℕ → Status → (Val → State → Run State) → Res State
+unfoldable pub leftWith : List ℕ → View → ℕ → ℕ → Status → (Val → State → Run State) → Res State
 leftWith heap b newest fuel Done next = next (valueAt heap newest) (stateOf heap b) fuel
 leftWith heap b newest fuel (Refused why) next = refusalOf why
-
--- a refusal of an ancilla term, which is run forward
-unfoldable pub carried : Carried → Refusal
-carried (cFuel t) = Fuel t
-carried (cHeight t) = Height t
-carried (cLong t) = Long t
-carried (cFirstMatch t) = FirstMatch t
-carried cStuck = Stuck
 
 -- Term `t` is entered with a value that is too long: 14 is met after 12 and 13.
 unfoldable pub tooLong : ℕ → ℕ → ℕ → Refusal

@@ -1,23 +1,26 @@
 // Outcomes of backward evaluation, and the steps that have no parts to run: variables, the unit, refusals, and which branch of a case is run.
 // specs/Outcomes says what an outcome means.
-use forward::outcomes::Machine;
+use forward::outcomes::FUEL;
+use forward::outcomes::HEIGHT;
+use forward::outcomes::LONG;
+use forward::outcomes::STUCK;
 use forward::parts;
+use program::tables;
+use program::tables::TERMS;
 use scopes::bindings::Bindings;
-use scopes::bindings::Left;
+use scopes::slots::SLOTS;
 ghost use mathlib.Core.Path.{_≡_};
 ghost use mathlib.Core.Bool.{cond};
 ghost use Prim.Native.Nat.{_+_, _≤_, _<_};
 ghost use lib.ListN.{length, getD};
-ghost use Rattle.rules.specs.Run.{give};
-ghost use Rattle.rules.specs.Machine.{meet, onUnit};
 ghost use Rattle.program.specs.Parts.{variable, second, third};
-ghost use Rattle.values.specs.Nodes.{valueAt};
-ghost use Rattle.scopes.specs.Slots.{unknown};
-ghost use Rattle.scopes.specs.Bindings.{stateOf, Bound};
-ghost use Rattle.yields.specs.Yields.{Yields, MayYield};
-ghost use Rattle.forward.specs.Ready.{Graph};
-ghost use Rattle.backward.specs.Outcomes.{carried, tooLong, against, mismatch};
-ghost use Rattle.backward.specs.Ready.{Stays, Goes};
+ghost use Rattle.program.specs.Tables.{termPlaces, Table};
+ghost use Rattle.values.specs.Nodes.{Heap, Room};
+ghost use Rattle.scopes.specs.Slots.{slotCount};
+ghost use Rattle.scopes.specs.Bindings.{Tells, Meetable};
+ghost use Rattle.forward.specs.Outcomes.{refusalIn};
+ghost use Rattle.backward.specs.Outcomes.{Refused, carried, statusOf, tooLong, against, mismatch, nodeOr};
+ghost use Rattle.backward.specs.Ready.{Variable, UnitMet};
 
 // Refusals 12 to 16 (section 4), each with its term; and a value of wrong shape, which no checked program meets.
 pub enum Refusal {
@@ -29,30 +32,30 @@ pub enum Refusal {
     Stuck,
 }
 
-pub enum Status {
-    Done,
-    Refused(Refusal),
-}
-
+// What stopped the run, 0 if nothing did, and the bindings.
 pub struct Out {
-    pub status: Status,
-    pub state: Machine,
-    pub bindings: Bindings,
+    pub stop: u32,
+    pub state: Bindings,
 }
 
-// An outcome, with the node of a variable that has left the scope.
-pub struct Inner {
-    pub out: Out,
-    pub newest: u32,
-}
-
-pub fn refuse(st: Machine, b: Bindings, why: Refusal) -> Out
-    ensures { λ r. ⌜ (r .status ≡ Status.Refused why) × (r .state ≡ st) ⌝ }
+// A refusal that forward evaluation has too.
+pub fn refuse(b: Bindings, number: u32, t: u16) -> Out
+    requires { ⌜ number ≤ 16 ⌝ }
+    ensures { λ r. ⌜ (statusOf (r .stop) ≡ Refused (carried (refusalIn number t))) × (r .state ≡ b) ⌝ }
 {
     Out {
-        status: Status::Refused(why),
-        state: st,
-        bindings: b,
+        stop: forward::outcomes::refuse(number, t),
+        state: b,
+    }
+}
+
+// Term t has no input (16).
+fn no_input(b: Bindings, t: u16) -> Out
+    ensures { λ r. ⌜ (statusOf (r .stop) ≡ Refused (Refusal.NoInput t)) × (r ≡ record { stop = t + 1; state = b }) ⌝ }
+{
+    Out {
+        stop: octets::wide32(t) + 1,
+        state: b,
     }
 }
 
@@ -70,148 +73,99 @@ pub fn carry(why: forward::outcomes::Refusal) -> Refusal
 }
 
 // Term t is entered with a value over the limit: 14, after 12 and 13 ("backward it is met on entering that term, after 13", section 4).
-pub fn long(st: Machine, b: Bindings, t: u16, room: u16) -> Out
-    ensures { λ r. ⌜ (r .status ≡ Status.Refused (tooLong (st .fuel) room t)) × (r .state ≡ st) ⌝ }
+pub fn long(b: Bindings, fuel: u32, t: u16, room: u16) -> Out
+    ensures { λ r. ⌜ statusOf (r .stop) ≡ Refused (tooLong fuel room t) ⌝ }
 {
-    let fuel = st.fuel;
     if fuel == 0 {
-        return Out {
-            status: Status::Refused(Refusal::Fuel(t)),
-            state: st,
-            bindings: b,
-        };
+        return refuse(b, FUEL, t);
     }
     if room == 0 {
-        return Out {
-            status: Status::Refused(Refusal::Height(t)),
-            state: st,
-            bindings: b,
-        };
+        return refuse(b, HEIGHT, t);
     }
-    Out {
-        status: Status::Refused(Refusal::Long(t)),
-        state: st,
-        bindings: b,
-    }
+    refuse(b, LONG, t)
 }
 
 // Term t makes values of one kind, and its value is of another: inl against inr has no input (16).
-pub fn differ(kind: u8, found: u8, t: u16) -> Refusal
-    ensures { λ r. ⌜ r ≡ mismatch kind found t ⌝ }
+pub fn differ(b: Bindings, kind: u8, found: u8, t: u16) -> Out
+    ensures { λ r. ⌜ statusOf (r .stop) ≡ Refused (mismatch kind found t) ⌝ }
 {
     if kind == 1 {
-        return clash(2, found, t);
+        return clash(b, 2, found, t);
     }
     if kind == 2 {
-        return clash(1, found, t);
+        return clash(b, 1, found, t);
     }
-    Refusal::Stuck
+    refuse(b, STUCK, t)
 }
 
-fn clash(other: u8, found: u8, t: u16) -> Refusal
-    ensures { λ r. ⌜ r ≡ against other found t ⌝ }
+fn clash(b: Bindings, other: u8, found: u8, t: u16) -> Out
+    ensures { λ r. ⌜ statusOf (r .stop) ≡ Refused (against other found t) ⌝ }
 {
     if found == other {
-        return Refusal::NoInput(t);
+        return no_input(b, t);
     }
-    Refusal::Stuck
+    refuse(b, STUCK, t)
 }
 
 // A variable is met with the node's value: it is bound, or compared (16).
 pub fn variable(
     p: &[u8],
-    terms: &[u16],
+    terms: &[u16; TERMS],
     ws: &[u8],
-    st: Machine,
+    slots: &mut [u32; SLOTS],
+    top: u32,
     b: Bindings,
+    base: usize,
     t: u16,
     node: u32,
 ) -> Out
-    requires { ⌜ (t < length (now terms)) × (getD (now terms) t 0 + 5 ≤ length (now p)) ⌝ }
-    requires { ⌜ Graph (now ws) (st .top) ⌝ }
-    requires { ⌜ Bound b (st .top) × (st .top ≤ unknown) ⌝ }
-    requires { ⌜ (variable (now p) (getD (now terms) t 0) < b .len) × (node < st .top) ⌝ }
-    ensures { λ r. ⌜ Stays (now (ws .entry)) st b r (meet t (stateOf (now (ws .entry)) b) (variable (now (p .entry)) (getD (now (terms .entry)) t 0)) (valueAt (now (ws .entry)) node) (st .fuel)) ⌝ }
+    requires { ⌜ Table (now terms) (termPlaces (now p)) 1024 ⌝ }
+    requires { ⌜ (t < length (termPlaces (now p))) × (getD (termPlaces (now p)) t 0 + 5 ≤ length (now p)) ⌝ }
+    requires { ⌜ Heap (now ws) top ⌝ }
+    requires { ⌜ Meetable (now slots) b base (variable (now p) (getD (termPlaces (now p)) t 0)) top ⌝ }
+    requires { ⌜ node < top ⌝ }
+    ensures { λ r. ⌜ Variable (now (ws .entry)) (now (slots .entry)) (now (slots .exit)) b base (variable (now (p .entry)) (getD (termPlaces (now (p .entry))) t 0)) node t r ⌝ }
 {
-    let i = program::views::variable(p, parts::offset(terms, t));
-    let met = b.meet(i, node, ws, st.top);
+    let i = program::views::variable(p, tables::offset(terms, t));
+    let met = b.meet(slots, base, i, node, ws, top);
     let agrees = met.agrees;
     let c = met.state;
     if agrees {
-        return Out {
-            status: Status::Done,
-            state: st,
-            bindings: c,
-        };
+        return Out { stop: 0, state: c };
     }
-    Out {
-        status: Status::Refused(Refusal::NoInput(t)),
-        state: st,
-        bindings: b,
-    }
+    no_input(c, t)
 }
 
 // The unit binds nothing.
-pub fn unit(ws: &[u8], st: Machine, b: Bindings, node: u32) -> Out
-    requires { ⌜ Graph (now ws) (st .top) ⌝ }
-    requires { ⌜ Bound b (st .top) × (node < st .top) ⌝ }
-    ensures { λ r. ⌜ Stays (now (ws .entry)) st b r (onUnit (valueAt (now (ws .entry)) node) (give (stateOf (now (ws .entry)) b)) (st .fuel)) ⌝ }
+pub fn unit(ws: &[u8], b: Bindings, node: u32, t: u16) -> Out
+    requires { ⌜ Room (now ws) (node + 1) ⌝ }
+    ensures { λ r. ⌜ UnitMet (now (ws .entry)) b node r ⌝ }
 {
     let kind = values::nodes::kind_of(ws, node);
     if kind == 0 {
-        return Out {
-            status: Status::Done,
-            state: st,
-            bindings: b,
-        };
+        return Out { stop: 0, state: b };
     }
-    Out {
-        status: Status::Refused(Refusal::Stuck),
-        state: st,
-        bindings: b,
-    }
+    refuse(b, STUCK, t)
 }
 
-// The newest variable leaves the scope: its node, or node 0, the unit, if it was never met.
-pub fn leave(b: Bindings) -> Left
-    requires { ⌜ (0 < b .len) × (b .len ≤ 32) ⌝ }
-    ensures { λ r. ⌜ Goes b r ⌝ }
+// Variable n, the newest, leaves the scope from slot `base` on: its node, or node 0, the unit, if it was never met.
+pub fn leave(slots: &[u32; SLOTS], b: Bindings, base: usize, n: usize) -> u32
+    requires { ⌜ (n < 32) × (base + n < slotCount) ⌝ }
+    requires { ⌜ Tells (now slots) b base (n + 1) ⌝ }
+    ensures { λ r. ⌜ r ≡ nodeOr (getD (now (slots .entry)) (base + n) 0) ⌝ }
 {
-    let left = b.leave();
-    let newest = left.newest;
-    let state = left.state;
-    if newest == scopes::slots::UNKNOWN {
-        return Left {
-            newest: 0,
-            state: state,
-        };
+    if b.knows(n as u8) {
+        return slots[base + n];
     }
-    left
-}
-
-// May the left branch of a case, term `left`, yield the value at `node`?
-pub fn left_yields(
-    p: &[u8],
-    terms: &[u16],
-    ws: &[u8],
-    st: Machine,
-    b: Bindings,
-    q: usize,
-    left: u16,
-    node: u32,
-) -> bool
-    requires { ⌜ Yields (now p) (now terms) (now ws) (b .slots) (st .top) 0 q left node ⌝ }
-    ensures { λ r. ⌜ MayYield (now (p .entry)) (now (terms .entry)) (now (ws .entry)) (b .slots) 0 q left node r ⌝ }
-{
-    let known = b.slots;
-    yields::may_yield(p, terms, ws, st.top, &known, 0, q, left, node)
+    0
 }
 
 // The branch of case t that is run: the left exactly if it may yield the value (section 3).
-pub fn branch_of(p: &[u8], terms: &[u16], t: u16, left: bool) -> u16
-    requires { ⌜ t < length (now terms) ⌝ }
-    requires { ⌜ getD (now terms) t 0 + 10 ≤ length (now p) ⌝ }
-    ensures { λ r. ⌜ r ≡ cond left (second (now (p .entry)) (getD (now (terms .entry)) t 0)) (third (now (p .entry)) (getD (now (terms .entry)) t 0)) ⌝ }
+pub fn branch_of(p: &[u8], terms: &[u16; TERMS], t: u16, left: bool) -> u16
+    requires { ⌜ Table (now terms) (termPlaces (now p)) 1024 ⌝ }
+    requires { ⌜ t < length (termPlaces (now p)) ⌝ }
+    requires { ⌜ getD (termPlaces (now p)) t 0 + 10 ≤ length (now p) ⌝ }
+    ensures { λ r. ⌜ r ≡ cond left (second (now (p .entry)) (getD (termPlaces (now (p .entry))) t 0)) (third (now (p .entry)) (getD (termPlaces (now (p .entry))) t 0)) ⌝ }
 {
     if left {
         return parts::second_of(p, terms, t);

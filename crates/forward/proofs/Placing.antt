@@ -67,16 +67,16 @@ module _ (go : Term → Run Val) (tree : ℕ → Term) (xs : List ℕ) (last : T
 ----------------------------------------------------------------
 -- Values in slots
 
-values-same : (heap slots slots′ : List ℕ) (from n : ℕ) → ((j : ℕ) → from ≤ j → getD slots j 0 ≡ getD slots′ j 0) → valuesAt heap slots from n ≡ valuesAt heap slots′ from n
+pub values-same : (heap slots slots′ : List ℕ) (from n : ℕ) → ((j : ℕ) → from ≤ j → getD slots j 0 ≡ getD slots′ j 0) → valuesAt heap slots from n ≡ valuesAt heap slots′ from n
 unfolding valuesAt
 values-same heap slots slots′ from zero s = refl
 values-same heap slots slots′ from (suc n) s = ap₂ _∷_ (ap (valueAt heap) (s from (omega arith))) (values-same heap slots slots′ (from + 1) n λ j h. s j (omega arith))
 
-values-none : (heap slots : List ℕ) (from n : ℕ) → n ≡ 0 → valuesAt heap slots from n ≡ []
+pub values-none : (heap slots : List ℕ) (from n : ℕ) → n ≡ 0 → valuesAt heap slots from n ≡ []
 unfolding valuesAt
 values-none heap slots from n e = rw e
 
-values-front : (heap slots : List ℕ) (from n n′ : ℕ) → n ≡ suc n′ → valuesAt heap slots from n ≡ valueAt heap (getD slots from 0) ∷ valuesAt heap slots (from + 1) n′
+pub values-front : (heap slots : List ℕ) (from n n′ : ℕ) → n ≡ suc n′ → valuesAt heap slots from n ≡ valueAt heap (getD slots from 0) ∷ valuesAt heap slots (from + 1) n′
 unfolding valuesAt
 values-front heap slots from n n′ e = rw e
 

@@ -1,4 +1,4 @@
--- Laws of the binding state: what opening, meeting and leaving do to the rules' state.
+-- Laws of views: what opening, meeting and leaving do to the rules' state.
 use Prim.Native.Nat.{ℕ, zero, suc, _+_, _-_, _<_, _≤_}
 use native.Mathlib.Omega.{arith}
 use native.Mathlib.Decide.{decLt}
@@ -17,29 +17,11 @@ use package.Rattle.rules.specs.Machine.{State, bindOr, meet}
 use package.Rattle.rules.proofs.Basics.{given, eqb-yes, eqb-no}
 use package.Rattle.values.specs.Nodes.{valueAt}
 use package.Rattle.scopes.specs.Slots.{unknown, found, meaning, stateAt, Slots}
-use package.Rattle.scopes.specs.Bindings.{stateOf, noneBound, Bound, Opens, Meets, Leaves}
+use package.Rattle.scopes.specs.Bindings.{View, stateOf, Bound, Opens, Meets, Left, Leaves}
 use package.Rattle.scopes.proofs.Marks.{found-mark, found-node}
 use package.Rattle.scopes.proofs.Scopes.{length-state, state-front, state-same, state-bind, slots-bind}
 use Rattle.scopes.specs.declared.slots.Found.{Found}
 use Rattle.scopes.specs.declared.slots.Found.the-variants.{Node, Unknown}
-use Rattle.scopes.specs.declared.bindings.Bindings.{Bindings}
-use Rattle.scopes.specs.declared.bindings.Met.{Met}
-use Rattle.scopes.specs.declared.bindings.Left.{Left}
-
-----------------------------------------------------------------
--- What the code does
-
--- a variable that is known is a node
-pub held-node : {b : Bindings} {top : ℕ} (i : ℕ) → Bound b top → i < b .len → (getD (b .slots) i 0 ≡ unknown → ⊥) → getD (b .slots) i 0 < top
-held-node i B l d = ⊎-elim (λ e. absurd (d e)) (λ h. h) (B .held .held i l)
-
-pub meets-binding : (heap : List ℕ) (b : Bindings) (i node : ℕ) → getD (b .slots) i 0 ≡ unknown
-    → Meets heap b i node (record { agrees = true; state = record { slots = set (b .slots) i node; len = b .len } })
-meets-binding heap b i node e = record { binds = λ _. (refl, refl, refl); compares = λ d. absurd (d e) }
-
-pub meets-comparing : (heap : List ℕ) (b : Bindings) (i node : ℕ) (agrees : Bool) → (getD (b .slots) i 0 ≡ unknown → ⊥)
-    → agrees ≡ same (valueAt heap (getD (b .slots) i 0)) (valueAt heap node) → Meets heap b i node (record { agrees = agrees; state = b })
-meets-comparing heap b i node agrees d e = record { binds = λ u. absurd (d u); compares = λ _. (e, refl) }
 
 ----------------------------------------------------------------
 -- Meeting a variable, as the rules have it
@@ -113,18 +95,18 @@ meet-state heap slots (suc n) i node k f l m d = go (decLt i n) (λ l. meet-stat
         ∙ ap (λ j. met heap slots (suc n) n node k (found (getD slots j 0)) f) (zero-plus n)))
 
 -- what the code's meeting says, as the rules have it: the state that it hands back, or 16
-pub meet-bound : (heap : List ℕ) (b : Bindings) (i node top k f : ℕ) (r : Met) → Meets heap b i node r → Bound b top → i < b .len → (node ≡ unknown → ⊥)
-    → (r .agrees ≡ true → meet k (stateOf heap b) i (valueAt heap node) f ≡ ok (stateOf heap (r .state)) f)
-    × (r .agrees ≡ false → meet k (stateOf heap b) i (valueAt heap node) f ≡ stop 16 k)
+pub meet-bound : (heap : List ℕ) (b : View) (i node top k f : ℕ) (agrees : Bool) (r : View) → Meets heap b i node agrees r → Bound b top → i < b .len → (node ≡ unknown → ⊥)
+    → (agrees ≡ true → meet k (stateOf heap b) i (valueAt heap node) f ≡ ok (stateOf heap r) f)
+    × (agrees ≡ false → meet k (stateOf heap b) i (valueAt heap node) f ≡ stop 16 k)
 unfolding stateOf
-meet-bound heap b i node top k f r M B l d = go (eqb (getD (b .slots) i 0) unknown) refl
+meet-bound heap b i node top k f agrees r M B l d = go (eqb (getD (b .slots) i 0) unknown) refl
   where
     start : meet k (stateAt heap (b .slots) 0 (b .len)) i (valueAt heap node) f ≡ met heap (b .slots) (b .len) i node k (found (getD (b .slots) i 0)) f
     start = meet-state heap (b .slots) (b .len) i node k f l (omega (arith, B .full, B .few)) d
 
     go : (e : Bool) → eqb (getD (b .slots) i 0) unknown ≡ e
-        → (r .agrees ≡ true → meet k (stateAt heap (b .slots) 0 (b .len)) i (valueAt heap node) f ≡ ok (stateAt heap (r .state .slots) 0 (r .state .len)) f)
-        × (r .agrees ≡ false → meet k (stateAt heap (b .slots) 0 (b .len)) i (valueAt heap node) f ≡ stop 16 k)
+        → (agrees ≡ true → meet k (stateAt heap (b .slots) 0 (b .len)) i (valueAt heap node) f ≡ ok (stateAt heap (r .slots) 0 (r .len)) f)
+        × (agrees ≡ false → meet k (stateAt heap (b .slots) 0 (b .len)) i (valueAt heap node) f ≡ stop 16 k)
     go true e =
         given (eqb-true (getD (b .slots) i 0) unknown e) λ u. given (M .binds u) λ (yes-it, slots, len). (
           λ _. start ∙ ap (λ x. met heap (b .slots) (b .len) i node k x f) (found-mark _ u) ∙ ap₂ (λ s n. ok (stateAt heap s 0 n) f) (sym slots) (sym len),
@@ -133,7 +115,7 @@ meet-bound heap b i node top k f r M B l d = go (eqb (getD (b .slots) i 0) unkno
     go false e =
         given (eqb-false (getD (b .slots) i 0) unknown e) λ u. given (M .compares u) λ (same-is, state). (
           λ y. start ∙ ap (λ x. met heap (b .slots) (b .len) i node k x f) (found-node _ u) ∙ ap (λ b′. test b′ 16 k (give (stateAt heap (b .slots) 0 (b .len))) f) (sym same-is ∙ y)
-              ∙ passes ∙ ap (λ (c : Bindings). ok (stateAt heap (c .slots) 0 (c .len)) f) (sym state),
+              ∙ passes ∙ ap (λ (c : View). ok (stateAt heap (c .slots) 0 (c .len)) f) (sym state),
           λ n. start ∙ ap (λ x. met heap (b .slots) (b .len) i node k x f) (found-node _ u) ∙ ap (λ b′. test b′ 16 k (give (stateAt heap (b .slots) 0 (b .len))) f) (sym same-is ∙ n) ∙ fails,
         )
       where
@@ -146,7 +128,7 @@ meet-bound heap b i node top k f r M B l d = go (eqb (getD (b .slots) i 0) unkno
 ----------------------------------------------------------------
 -- Variables come and go
 
-pub opens-state : (heap : List ℕ) (b : Bindings) (node top : ℕ) (r : Bindings) → Opens b node r → Bound b top → b .len < 32
+pub opens-state : (heap : List ℕ) (b : View) (node top : ℕ) (r : View) → Opens b node r → Bound b top → b .len < 32
     → stateOf heap r ≡ meaning heap (found node) ∷ stateOf heap b
 unfolding stateOf
 opens-state heap b node top r O B l =
@@ -154,7 +136,7 @@ opens-state heap b node top r O B l =
     ∙ subst (λ j. stateAt heap (set (b .slots) j node) 0 (suc (b .len)) ≡ meaning heap (found node) ∷ stateAt heap (b .slots) 0 (b .len)) (zero-plus (b .len))
     (state-bind heap (b .slots) 0 (b .len) node (omega (arith, zero-plus (b .len), B .full)))
 
-pub leaves-state : (heap : List ℕ) (b : Bindings) (r : Left) → Leaves b r → 0 < b .len → stateOf heap b ≡ meaning heap (found (r .newest)) ∷ stateOf heap (r .state)
+pub leaves-state : (heap : List ℕ) (b : View) (r : Left) → Leaves b r → 0 < b .len → stateOf heap b ≡ meaning heap (found (r .newest)) ∷ stateOf heap (r .state)
 unfolding stateOf
 leaves-state heap b r L l =
     ap (stateAt heap (b .slots) 0) (let z : b .len ≡ suc (b .len - 1) = omega arith in z) ∙ state-front heap (b .slots) 0 (b .len - 1)

@@ -3,5 +3,7 @@
 pub mod Marks
 -- the scope that slots hold
 pub mod Scopes
--- the binding state
+-- the binding state: views, and what opening, meeting and leaving do to the rules' state
 pub mod Bound
+-- from the state in code to its view
+pub mod Views

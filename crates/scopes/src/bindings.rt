@@ -1,16 +1,16 @@
-// The binding state of a backward run, by value: what is known of each variable in scope. "A variable met again backward must have the
-// same value" (section 2): meeting a variable binds it, or compares, and hands the state back.
-use crate::slots;
+// The binding state of a backward run, by value: which variables in scope are bound. Their nodes stand in the lent slots (crate::slots), where
+// a variable that is not bound has the mark. "A variable met again backward must have the same value" (section 2): meeting a variable binds
+// it, or compares, as the state says, and hands the state back.
+use crate::slots::SLOTS;
+use uses::Uses;
 ghost use mathlib.Core.Path.{_≡_};
-ghost use Prim.Native.Nat.{_+_, _-_, _≤_, _<_};
+ghost use Prim.Native.Nat.{_<_};
+ghost use Rattle.uses.specs.Sets.{has, Holds, firsts, below};
 ghost use Rattle.values.specs.Nodes.{Heap};
-ghost use Rattle.scopes.specs.Slots.{found};
-ghost use Rattle.scopes.specs.Bindings.{noneBound, Bound, Opens, Meets, Leaves};
+ghost use Rattle.scopes.specs.Bindings.{Meetable, MeetsIn};
 
-// Variable i is slot i; len variables are in scope.
 pub struct Bindings {
-    pub slots: [u32; 32],
-    pub len: usize,
+    pub bound: Uses,
 }
 
 pub struct Met {
@@ -18,70 +18,67 @@ pub struct Met {
     pub state: Bindings,
 }
 
-pub struct Left {
-    pub newest: u32,
-    pub state: Bindings,
-}
-
 impl Bindings {
-    // No variable is in scope.
-    pub fn new() -> Self
-        ensures { λ r. ⌜ r ≡ noneBound ⌝ }
+    // The first n variables are bound, and no other.
+    pub fn first(n: u8) -> Self
+        requires { ⌜ n < 32 ⌝ }
+        ensures { λ r. ⌜ Holds (r .bound) (firsts n) ⌝ }
     {
         Self {
-            slots: [slots::UNKNOWN; 32],
-            len: 0,
+            bound: Uses::first(n),
         }
     }
 
-    // A variable comes into scope, known by its node, or marked as not known.
-    pub fn opened(self, node: u32) -> Bindings
-        requires { ⌜ self .len < 32 ⌝ }
-        ensures { λ r. ⌜ Opens self node r ⌝ }
+    // Is variable i bound?
+    pub fn knows(self, i: u8) -> bool
+        requires { ⌜ i < 32 ⌝ }
+        ensures { λ r. ⌜ r ≡ has (self .bound) i ⌝ }
     {
-        let mut b = self;
-        let i = b.len;
-        b.slots[i] = node;
-        b.len = i + 1;
-        b
+        let bound = self.bound;
+        bound.contains(i)
     }
 
-    // Variable i is met with a node's value: it is bound, or compared.
-    pub fn meet(self, i: u8, node: u32, ws: &[u8], top: u32) -> Met
+    // Variable i of the scope from slot `base` on is met with a node's value: it is bound, or compared.
+    pub fn meet(
+        self,
+        slots: &mut [u32; SLOTS],
+        base: usize,
+        i: u8,
+        node: u32,
+        ws: &[u8],
+        top: u32,
+    ) -> Met
         requires { ⌜ Heap (now ws) top ⌝ }
-        requires { ⌜ Bound self top ⌝ }
-        requires { ⌜ (i < self .len) × (node < top) ⌝ }
-        ensures { λ r. ⌜ Meets (now (ws .entry)) self i node r ⌝ }
+        requires { ⌜ Meetable (now slots) self base i top ⌝ }
+        requires { ⌜ node < top ⌝ }
+        ensures { λ r. ⌜ MeetsIn (now (ws .entry)) (now (slots .entry)) (now (slots .exit)) self base i node r ⌝ }
     {
-        let v = i as usize;
-        let old = self.slots[v];
-        if old == slots::UNKNOWN {
-            let mut b = self;
-            b.slots[v] = node;
+        let at = base + i as usize;
+        let bound = self.bound;
+        if bound.contains(i) {
+            let agrees = values::nodes::same(ws, top, slots[at], node);
             return Met {
-                agrees: true,
-                state: b,
+                agrees: agrees,
+                state: self,
             };
         }
-        let agrees = values::nodes::same(ws, top, old, node);
+        slots[at] = node;
         Met {
-            agrees: agrees,
-            state: self,
+            agrees: true,
+            state: Bindings {
+                bound: bound.union(Uses::only(i)),
+            },
         }
     }
 
-    // The newest variable leaves the scope: its node, or the mark if it was never met.
-    pub fn leave(self) -> Left
-        requires { ⌜ (0 < self .len) × (self .len ≤ 32) ⌝ }
-        ensures { λ r. ⌜ Leaves self r ⌝ }
+    // Variable n, the newest, leaves the scope: the others are bound as they were.
+    pub fn left(self, n: u8) -> Bindings
+        requires { ⌜ n < 32 ⌝ }
+        ensures { λ r. ⌜ Holds (r .bound) (below n (has (self .bound))) ⌝ }
     {
-        let mut b = self;
-        let i = b.len - 1;
-        let newest = b.slots[i];
-        b.len = i;
-        Left {
-            newest: newest,
-            state: b,
+        let bound = self.bound;
+        Bindings {
+            bound: bound.among_first(n),
         }
     }
 }

@@ -1,14 +1,14 @@
--- Bits of numbers: of or, and, xor, of a power of two, and of a number whose bits are all clear.
+-- Bits of numbers: of or, and, xor, of a power of two and the number below it, and of a number whose bits are all clear.
 use Prim.Native.Nat.{ℕ, zero, suc, _+_, _-_, _*_, _/_, _%_, _^_, _<_, _≤_, min, max}
 use native.Mathlib.Omega.{arith}
 use native.Mathlib.Decide.{decLt}
 use native.Mathlib.Nat.{two-pow-succ}
 use mathlib.Core.Path.{_≡_, refl, sym, ap, ap₂, _∙_}
 use mathlib.Core.Bool.{Bool, true, false, _||_, _&&_, Bool·beq, not}
-use lib.Dec.{eqb}
+use lib.Dec.{eqb, ltb}
 use lib.Bits.{bitAnd, bitOr, bitXor, differ, and-step, or-step, xor-step, and-shr, or-shr, xor-shr}
-use lib.Pow.{pow-add, pow-lt, shr-le, shr-shr, shl-shr, high}
-use borrow.Author.Tests.{eqb-false, eq-eqb, ne-eqb}
+use lib.Pow.{pow-pos, pow-add, pow-lt, shr-le, shr-shr, shl-shr, high}
+use borrow.Author.Tests.{eqb-false, eq-eqb, ne-eqb, lt-ltb, le-ltb}
 
 -- bit `i` of a number
 abbrev pub bit : ℕ → ℕ → Bool
@@ -111,3 +111,16 @@ bit-power i j = go (decLt i j) (decLt j i)
         ap (λ k. bit (2 ^ k) j) (let z : i ≡ suc (i - suc j) + j = omega arith in z) ∙ ap (λ n. eqb n 1) (power-above (i - suc j) j) ∙ sym (ne-eqb j i (λ e. omega arith))
     go (no l) (no l′) = let e : j ≡ i = omega arith in
         ap (λ k. bit (2 ^ i) k) e ∙ ap (λ n. eqb (n % 2) 1) (ap (λ n. n / 2 ^ i) (let z : 2 ^ i ≡ 1 * 2 ^ i = omega arith in z) ∙ shl-shr 1 i) ∙ sym (eq-eqb j i e)
+
+-- the number below a power of two has all bits below it
+pub bit-ones : (n i : ℕ) → bit (2 ^ n - 1) i ≡ ltb i n
+bit-ones zero i = bit-zero i ∙ sym (le-ltb i 0 (omega arith))
+bit-ones (suc n) zero =
+    ap (λ m. eqb (m % 2) 1) (let z : (2 ^ suc n - 1) / 2 ^ 0 ≡ 2 ^ suc n - 1 = omega arith in z)
+    ∙ ap (λ m. eqb m 1) (let z : (2 ^ suc n - 1) % 2 ≡ 1 = omega (arith, two-pow-succ n, pow-pos n) in z) ∙ sym (lt-ltb 0 (suc n) (omega arith))
+bit-ones (suc n) (suc i) =
+    sym (bit-half (2 ^ suc n - 1) i) ∙ ap (λ m. bit m i) (let z : (2 ^ suc n - 1) / 2 ≡ 2 ^ n - 1 = omega (arith, two-pow-succ n, pow-pos n) in z) ∙ bit-ones n i ∙ shifted (decLt i n)
+  where
+    shifted : Dec (i < n) → ltb i n ≡ ltb (suc i) (suc n)
+    shifted (yes l) = lt-ltb i n l ∙ sym (lt-ltb (suc i) (suc n) (omega arith))
+    shifted (no l) = le-ltb i n (omega arith) ∙ sym (le-ltb (suc i) (suc n) (omega arith))

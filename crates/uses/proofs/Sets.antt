@@ -1,25 +1,43 @@
 -- What the operations on sets hold.
-use Prim.Native.Nat.{ℕ, _+_, _*_, _%_, _^_, _<_, _≤_}
+use Prim.Native.Nat.{ℕ, _+_, _-_, _*_, _%_, _^_, _<_, _≤_}
 use native.Mathlib.Omega.{arith}
 use mathlib.Core.Path.{_≡_, refl, sym, ap, ap₂, _∙_}
 use mathlib.Core.Bool.{Bool, true, false, _||_, _&&_, Bool·beq, not}
 use lib.Dec.{eqb}
 use lib.Bits.{bitAnd, bitOr, bitXor, and-le-r}
-use lib.Pow.{shl-exact}
+use lib.Pow.{pow-pos, shl-exact}
 use borrow.Author.Tests.{eqb-true, eqb-false}
-use package.Rattle.uses.specs.Sets.{has, Holds, nobody, alone, joined, AgreeOn}
+use package.Rattle.uses.specs.Sets.{has, Holds, nobody, alone, firsts, joined, below, AgreeOn}
 use package.Rattle.octets.specs.Runs.{Decides}
-use package.Rattle.uses.proofs.Bits.{bit, bit-or, bit-and, bit-xor, bit-zero, bit-power, all-clear}
+use package.Rattle.uses.proofs.Bits.{bit, bit-or, bit-and, bit-xor, bit-zero, bit-power, bit-ones, all-clear}
 use Rattle.uses.specs.declared.Uses.{Uses}
 
 pub holds-none : Holds (record { bits = 0 }) nobody
 unfolding has
 holds-none = record { each = λ i l. bit-zero i }
 
+-- a power of two that a number holds
+power : (i : ℕ) → i < 32 → 1 * 2 ^ i % 4294967296 ≡ 2 ^ i
+power i l = shl-exact {a = 1} 1 i 32 (omega arith) (omega arith) ∙ (let z : 1 * 2 ^ i ≡ 2 ^ i = omega arith in z)
+
+pub power-some : (i : ℕ) → i < 32 → 1 ≤ 1 * 2 ^ i % 4294967296
+power-some i l = omega (arith, power i l, pow-pos i)
+
 pub holds-only : (i : ℕ) → i < 32 → Holds (record { bits = 1 * 2 ^ i % 4294967296 }) (alone i)
 unfolding has
 holds-only i l = record {
-  each = λ j h. ap (λ n. bit n j) (shl-exact {a = 1} 1 i 32 (omega arith) (omega arith) ∙ (let z : 1 * 2 ^ i ≡ 2 ^ i = omega arith in z)) ∙ bit-power i j;
+  each = λ j h. ap (λ n. bit n j) (power i l) ∙ bit-power i j;
+}
+
+pub holds-first : (n : ℕ) → n < 32 → Holds (record { bits = 1 * 2 ^ n % 4294967296 - 1 }) (firsts n)
+unfolding has
+holds-first n l = record { each = λ i h. ap (λ m. bit (m - 1) i) (power n l) ∙ bit-ones n i }
+
+pub holds-below : (u : Uses) (n : ℕ) → n < 32 → Holds (record { bits = bitAnd (u .bits) (1 * 2 ^ n % 4294967296 - 1) }) (below n (has u))
+unfolding has
+holds-below u n l = record {
+  each = λ i h.
+      bit-and (u .bits) (1 * 2 ^ n % 4294967296 - 1) i ∙ ap (λ b. bit (u .bits) i && b) (ap (λ m. bit (m - 1) i) (power n l) ∙ bit-ones n i);
 }
 
 pub holds-union : (u v : Uses) → Holds (record { bits = bitOr (u .bits) (v .bits) }) (joined (has u) (has v))

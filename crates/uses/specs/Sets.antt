@@ -1,8 +1,8 @@
 -- Sets of variables as the code has them, and what they hold. Laws: proofs/Bits.
 use Prim.Native.Nat.{ℕ, _/_, _%_, _^_, _<_}
 use mathlib.Core.Path.{_≡_}
-use mathlib.Core.Bool.{Bool, true, false, _||_}
-use lib.Dec.{eqb}
+use mathlib.Core.Bool.{Bool, true, false, _||_, _&&_}
+use lib.Dec.{eqb, ltb}
 use Rattle.uses.specs.declared.Uses.{Uses}
 
 -- Is variable `i` in the set?
@@ -19,8 +19,16 @@ nobody i = false
 abbrev pub alone : ℕ → ℕ → Bool
 alone i j = eqb j i
 
+-- the first `n` variables
+abbrev pub firsts : ℕ → ℕ → Bool
+firsts n i = ltb i n
+
 abbrev pub joined : (ℕ → Bool) → (ℕ → Bool) → ℕ → Bool
 joined S S′ i = S i || S′ i
+
+-- those of a set that are among the first `n` variables
+abbrev pub below : ℕ → (ℕ → Bool) → ℕ → Bool
+below n S i = S i && ltb i n
 
 -- two sets have the same variables among those of a third
 abbrev pub AgreeOn : Uses → Uses → Uses → Type 0

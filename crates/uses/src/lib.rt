@@ -2,7 +2,7 @@
 // larger scope changes this crate alone.
 ghost use mathlib.Core.Path.{_≡_};
 ghost use Prim.Native.Nat.{_<_};
-ghost use Rattle.uses.specs.Sets.{Holds, nobody, alone, joined, has, AgreeOn};
+ghost use Rattle.uses.specs.Sets.{Holds, nobody, alone, firsts, joined, below, has, AgreeOn};
 ghost use Rattle.octets.specs.Runs.{Decides};
 
 pub struct Uses {
@@ -24,11 +24,31 @@ impl Uses {
         Self { bits: 1 << i }
     }
 
+    // The first n variables.
+    pub fn first(n: u8) -> Self
+        requires { ⌜ n < 32 ⌝ }
+        ensures { λ r. ⌜ Holds r (firsts n) ⌝ }
+    {
+        let power: u32 = 1 << n;
+        Self { bits: power - 1 }
+    }
+
     pub fn union(self, other: Uses) -> Uses
         ensures { λ r. ⌜ Holds r (joined (has self) (has other)) ⌝ }
     {
         Uses {
             bits: self.bits | other.bits,
+        }
+    }
+
+    // Those of the set that are among the first n variables.
+    pub fn among_first(self, n: u8) -> Uses
+        requires { ⌜ n < 32 ⌝ }
+        ensures { λ r. ⌜ Holds r (below n (has self)) ⌝ }
+    {
+        let power: u32 = 1 << n;
+        Uses {
+            bits: self.bits & (power - 1),
         }
     }
 

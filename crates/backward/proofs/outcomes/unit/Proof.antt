@@ -1,5 +1,7 @@
-use mathlib.Core.Path.{sym, _∙_}
-use Rattle.backward.proofs.Leaves.{unit-met, unit-stuck}
+use mathlib.Core.Path.{sym, ap, _∙_}
+use Rattle.backward.specs.Outcomes.{Refused}
+use Rattle.backward.proofs.Stops.{number-stuck}
+use Rattle.backward.proofs.Leaves.{unit-there, unit-missing}
 use borrow.Author.Needs.{needs}
 use Rattle.backward.proofs.outcomes.unit.Statement.{statement}
 use Rattle.backward.proofs.outcomes.unit.Tie as tie
@@ -8,10 +10,13 @@ kind-of-requires : tie.Need-kind-of-requires
 kind-of-requires c κs = search needs
 
 returns : tie.Need-returns
-returns c = unit-met (c .before .before .before .args .st) (c .before .before .before .pre .0) (c .before .before .before .pre .1 .0) _ (sym (c .before .kind-of .ensures) ∙ c .if1 .taken)
+returns c = unit-there (c .before .before .before .args .b) (c .before .before .before .args .node) (sym (c .before .kind-of .ensures) ∙ c .if1 .taken)
+
+refuse-requires : tie.Need-refuse-requires
+refuse-requires c κs = search needs
 
 returns-2 : tie.Need-returns-2
-returns-2 c = unit-stuck (c .before .before .before .args .st) (c .before .before .before .pre .0) (c .before .before .before .pre .1 .0) _ (λ e. c .if1 .left (c .before .kind-of .ensures ∙ e))
+returns-2 c = unit-missing (c .before .before .before .before .args .b) (c .before .before .before .before .args .node) (λ e. c .before .if1 .left (c .before .before .kind-of .ensures ∙ e)) (c .refuse .ensures .0 ∙ ap Refused (number-stuck _)) (c .refuse .ensures .1)
 
 pub unit-spec : {M : Type 1} → statement M
-unit-spec = tie.close (tie.spec kind-of-requires returns returns-2)
+unit-spec = tie.close (tie.spec kind-of-requires returns refuse-requires returns-2)

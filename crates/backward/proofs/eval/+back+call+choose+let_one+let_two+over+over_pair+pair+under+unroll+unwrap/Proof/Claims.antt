@@ -1,6 +1,7 @@
 -- The cycle of backward evaluation: the measure of each member, and what each may use of the others. Fuel falls at every term that is entered;
 -- the members at one term come in the order kind, value or scope, term.
 use Prim.Native.Nat.{ℕ, _+_, _*_, _<_}
+use lib.ListN.{getD}
 use borrow.Fn.Kinds.{In}
 use borrow.Fn.PlainCycle.{Measures, is, falls, and}
 use Rattle.backward.proofs.eval.back.Reads as back
@@ -36,11 +37,10 @@ use Rattle.backward.proofs.eval.+back+call+choose+let_one+let_two+over+
 use Rattle.backward.proofs.eval.unwrap.Reads as unwrap
 use Rattle.backward.proofs.eval.unwrap.Kinds as unwrap-kinds
 use Rattle.backward.proofs.eval.+back+call+choose+let_one+let_two+over+over_pair+pair+under+unroll+unwrap.Lts-unwrap as unwrap-lts
-use Rattle.backward.proofs.arguments.arguments.Reads as arguments-reads
+use Rattle.backward.proofs.arguments.gather.Reads as gather-reads
 use Rattle.backward.proofs.outcomes.branch_of.Reads as branch-of-reads
 use Rattle.backward.proofs.outcomes.differ.Reads as differ-reads
 use Rattle.backward.proofs.outcomes.leave.Reads as leave-reads
-use Rattle.backward.proofs.outcomes.left_yields.Reads as left-yields-reads
 use Rattle.backward.proofs.outcomes.long.Reads as long-reads
 use Rattle.backward.proofs.outcomes.refuse.Reads as refuse-reads
 use Rattle.backward.proofs.outcomes.side_of.Reads as side-of-reads
@@ -50,130 +50,133 @@ use Rattle.forward.proofs.parts.ancillae_of.Reads as ancillae-of-reads
 use Rattle.forward.proofs.parts.argument_of.Reads as argument-of-reads
 use Rattle.forward.proofs.parts.body_of.Reads as body-of-reads
 use Rattle.forward.proofs.parts.first_of.Reads as first-of-reads
-use Rattle.forward.proofs.parts.offset.Reads as offset-reads
 use Rattle.forward.proofs.parts.second_of.Reads as second-of-reads
+use Rattle.program.proofs.tables.offset.Reads as offset-reads
 use Rattle.program.proofs.views.kind.Reads as kind-reads
-use Rattle.scopes.proofs.bindings.Bindings.opened.Reads as opened-reads
+use Rattle.scopes.proofs.bindings.Bindings.first.Reads as first-reads
+use Rattle.scopes.proofs.bindings.Bindings.left.Reads as left-reads
+use Rattle.scopes.proofs.slots.bind.Reads as bind-reads
 use Rattle.values.proofs.nodes.kind_of.Reads as kind-of-reads
 use Rattle.values.proofs.nodes.left_of.Reads as left-of-reads
 use Rattle.values.proofs.nodes.pair.Reads as pair-reads
 use Rattle.values.proofs.nodes.right_of.Reads as right-of-reads
 use Rattle.values.proofs.nodes.single.Reads as single-reads
+use Rattle.yields.proofs.may_yield.Reads as may-yield-reads
 
-abbrev pub μ-back : Measures 5 back-kinds.ps ℕ
-μ-back κs a = 16 * a .1 .1 .1 .1 .1 .0 .fuel
+abbrev pub μ-back : Measures 6 back-kinds.ps ℕ
+μ-back κs a = 16 * getD (a .1 .1 .1 .1 .1 .0 .now) 1 0
 
-abbrev pub μ-call : Measures 5 call-kinds.ps ℕ
-μ-call κs a = 16 * a .1 .1 .1 .1 .1 .0 .fuel + 10
+abbrev pub μ-call : Measures 6 call-kinds.ps ℕ
+μ-call κs a = 16 * getD (a .1 .1 .1 .1 .1 .0 .now) 1 0 + 10
 
-abbrev pub μ-choose : Measures 5 choose-kinds.ps ℕ
-μ-choose κs a = 16 * a .1 .1 .1 .1 .1 .0 .fuel + 10
+abbrev pub μ-choose : Measures 6 choose-kinds.ps ℕ
+μ-choose κs a = 16 * getD (a .1 .1 .1 .1 .1 .0 .now) 1 0 + 10
 
-abbrev pub μ-let-one : Measures 5 let-one-kinds.ps ℕ
-μ-let-one κs a = 16 * a .1 .1 .1 .1 .1 .0 .fuel + 10
+abbrev pub μ-let-one : Measures 6 let-one-kinds.ps ℕ
+μ-let-one κs a = 16 * getD (a .1 .1 .1 .1 .1 .0 .now) 1 0 + 10
 
-abbrev pub μ-let-two : Measures 5 let-two-kinds.ps ℕ
-μ-let-two κs a = 16 * a .1 .1 .1 .1 .1 .0 .fuel + 10
+abbrev pub μ-let-two : Measures 6 let-two-kinds.ps ℕ
+μ-let-two κs a = 16 * getD (a .1 .1 .1 .1 .1 .0 .now) 1 0 + 10
 
-abbrev pub μ-over : Measures 5 over-kinds.ps ℕ
-μ-over κs a = 16 * a .1 .1 .1 .1 .1 .0 .fuel + 5
+abbrev pub μ-over : Measures 6 over-kinds.ps ℕ
+μ-over κs a = 16 * getD (a .1 .1 .1 .1 .1 .0 .now) 1 0 + 5
 
-abbrev pub μ-over-pair : Measures 5 over-pair-kinds.ps ℕ
-μ-over-pair κs a = 16 * a .1 .1 .1 .1 .1 .0 .fuel + 5
+abbrev pub μ-over-pair : Measures 6 over-pair-kinds.ps ℕ
+μ-over-pair κs a = 16 * getD (a .1 .1 .1 .1 .1 .0 .now) 1 0 + 5
 
-abbrev pub μ-pair : Measures 5 pair-kinds.ps ℕ
-μ-pair κs a = 16 * a .1 .1 .1 .1 .1 .0 .fuel + 10
+abbrev pub μ-pair : Measures 6 pair-kinds.ps ℕ
+μ-pair κs a = 16 * getD (a .1 .1 .1 .1 .1 .0 .now) 1 0 + 10
 
-abbrev pub μ-under : Measures 5 under-kinds.ps ℕ
-μ-under κs a = 16 * a .1 .1 .1 .1 .1 .0 .fuel + 5
+abbrev pub μ-under : Measures 6 under-kinds.ps ℕ
+μ-under κs a = 16 * getD (a .1 .1 .1 .1 .1 .0 .now) 1 0 + 5
 
-abbrev pub μ-unroll : Measures 5 unroll-kinds.ps ℕ
-μ-unroll κs a = 16 * a .1 .1 .1 .1 .1 .0 .fuel + 10
+abbrev pub μ-unroll : Measures 6 unroll-kinds.ps ℕ
+μ-unroll κs a = 16 * getD (a .1 .1 .1 .1 .1 .0 .now) 1 0 + 10
 
-abbrev pub μ-unwrap : Measures 5 unwrap-kinds.ps ℕ
-μ-unwrap κs a = 16 * a .1 .1 .1 .1 .1 .0 .fuel + 10
+abbrev pub μ-unwrap : Measures 6 unwrap-kinds.ps ℕ
+μ-unwrap κs a = 16 * getD (a .1 .1 .1 .1 .1 .0 .now) 1 0 + 10
 
-abbrev pub back-at : ℕ → In 5 back-kinds.ps
-back-at t = and 5 back-kinds.ps (is 5 back-kinds.ps μ-back t) back.Pre
+abbrev pub back-at : ℕ → In 6 back-kinds.ps
+back-at t = and 6 back-kinds.ps (is 6 back-kinds.ps μ-back t) back.Pre
 
-abbrev pub back-below : ℕ → In 5 back-kinds.ps
-back-below t = and 5 back-kinds.ps (falls 5 back-kinds.ps _<_ μ-back t) back.Pre
+abbrev pub back-below : ℕ → In 6 back-kinds.ps
+back-below t = and 6 back-kinds.ps (falls 6 back-kinds.ps _<_ μ-back t) back.Pre
 
-abbrev pub call-at : ℕ → In 5 call-kinds.ps
-call-at t = and 5 call-kinds.ps (is 5 call-kinds.ps μ-call t) call.Pre
+abbrev pub call-at : ℕ → In 6 call-kinds.ps
+call-at t = and 6 call-kinds.ps (is 6 call-kinds.ps μ-call t) call.Pre
 
-abbrev pub call-below : ℕ → In 5 call-kinds.ps
-call-below t = and 5 call-kinds.ps (falls 5 call-kinds.ps _<_ μ-call t) call.Pre
+abbrev pub call-below : ℕ → In 6 call-kinds.ps
+call-below t = and 6 call-kinds.ps (falls 6 call-kinds.ps _<_ μ-call t) call.Pre
 
-abbrev pub choose-at : ℕ → In 5 choose-kinds.ps
-choose-at t = and 5 choose-kinds.ps (is 5 choose-kinds.ps μ-choose t) choose.Pre
+abbrev pub choose-at : ℕ → In 6 choose-kinds.ps
+choose-at t = and 6 choose-kinds.ps (is 6 choose-kinds.ps μ-choose t) choose.Pre
 
-abbrev pub choose-below : ℕ → In 5 choose-kinds.ps
-choose-below t = and 5 choose-kinds.ps (falls 5 choose-kinds.ps _<_ μ-choose t) choose.Pre
+abbrev pub choose-below : ℕ → In 6 choose-kinds.ps
+choose-below t = and 6 choose-kinds.ps (falls 6 choose-kinds.ps _<_ μ-choose t) choose.Pre
 
-abbrev pub let-one-at : ℕ → In 5 let-one-kinds.ps
-let-one-at t = and 5 let-one-kinds.ps (is 5 let-one-kinds.ps μ-let-one t) let-one.Pre
+abbrev pub let-one-at : ℕ → In 6 let-one-kinds.ps
+let-one-at t = and 6 let-one-kinds.ps (is 6 let-one-kinds.ps μ-let-one t) let-one.Pre
 
-abbrev pub let-one-below : ℕ → In 5 let-one-kinds.ps
-let-one-below t = and 5 let-one-kinds.ps (falls 5 let-one-kinds.ps _<_ μ-let-one t) let-one.Pre
+abbrev pub let-one-below : ℕ → In 6 let-one-kinds.ps
+let-one-below t = and 6 let-one-kinds.ps (falls 6 let-one-kinds.ps _<_ μ-let-one t) let-one.Pre
 
-abbrev pub let-two-at : ℕ → In 5 let-two-kinds.ps
-let-two-at t = and 5 let-two-kinds.ps (is 5 let-two-kinds.ps μ-let-two t) let-two.Pre
+abbrev pub let-two-at : ℕ → In 6 let-two-kinds.ps
+let-two-at t = and 6 let-two-kinds.ps (is 6 let-two-kinds.ps μ-let-two t) let-two.Pre
 
-abbrev pub let-two-below : ℕ → In 5 let-two-kinds.ps
-let-two-below t = and 5 let-two-kinds.ps (falls 5 let-two-kinds.ps _<_ μ-let-two t) let-two.Pre
+abbrev pub let-two-below : ℕ → In 6 let-two-kinds.ps
+let-two-below t = and 6 let-two-kinds.ps (falls 6 let-two-kinds.ps _<_ μ-let-two t) let-two.Pre
 
-abbrev pub over-at : ℕ → In 5 over-kinds.ps
-over-at t = and 5 over-kinds.ps (is 5 over-kinds.ps μ-over t) over.Pre
+abbrev pub over-at : ℕ → In 6 over-kinds.ps
+over-at t = and 6 over-kinds.ps (is 6 over-kinds.ps μ-over t) over.Pre
 
-abbrev pub over-below : ℕ → In 5 over-kinds.ps
-over-below t = and 5 over-kinds.ps (falls 5 over-kinds.ps _<_ μ-over t) over.Pre
+abbrev pub over-below : ℕ → In 6 over-kinds.ps
+over-below t = and 6 over-kinds.ps (falls 6 over-kinds.ps _<_ μ-over t) over.Pre
 
-abbrev pub over-pair-at : ℕ → In 5 over-pair-kinds.ps
-over-pair-at t = and 5 over-pair-kinds.ps (is 5 over-pair-kinds.ps μ-over-pair t) over-pair.Pre
+abbrev pub over-pair-at : ℕ → In 6 over-pair-kinds.ps
+over-pair-at t = and 6 over-pair-kinds.ps (is 6 over-pair-kinds.ps μ-over-pair t) over-pair.Pre
 
-abbrev pub over-pair-below : ℕ → In 5 over-pair-kinds.ps
+abbrev pub over-pair-below : ℕ → In 6 over-pair-kinds.ps
 over-pair-below t =
-    and 5 over-pair-kinds.ps (falls 5 over-pair-kinds.ps _<_ μ-over-pair t) over-pair.Pre
+    and 6 over-pair-kinds.ps (falls 6 over-pair-kinds.ps _<_ μ-over-pair t) over-pair.Pre
 
-abbrev pub pair-at : ℕ → In 5 pair-kinds.ps
-pair-at t = and 5 pair-kinds.ps (is 5 pair-kinds.ps μ-pair t) pair.Pre
+abbrev pub pair-at : ℕ → In 6 pair-kinds.ps
+pair-at t = and 6 pair-kinds.ps (is 6 pair-kinds.ps μ-pair t) pair.Pre
 
-abbrev pub pair-below : ℕ → In 5 pair-kinds.ps
-pair-below t = and 5 pair-kinds.ps (falls 5 pair-kinds.ps _<_ μ-pair t) pair.Pre
+abbrev pub pair-below : ℕ → In 6 pair-kinds.ps
+pair-below t = and 6 pair-kinds.ps (falls 6 pair-kinds.ps _<_ μ-pair t) pair.Pre
 
-abbrev pub under-at : ℕ → In 5 under-kinds.ps
-under-at t = and 5 under-kinds.ps (is 5 under-kinds.ps μ-under t) under.Pre
+abbrev pub under-at : ℕ → In 6 under-kinds.ps
+under-at t = and 6 under-kinds.ps (is 6 under-kinds.ps μ-under t) under.Pre
 
-abbrev pub under-below : ℕ → In 5 under-kinds.ps
-under-below t = and 5 under-kinds.ps (falls 5 under-kinds.ps _<_ μ-under t) under.Pre
+abbrev pub under-below : ℕ → In 6 under-kinds.ps
+under-below t = and 6 under-kinds.ps (falls 6 under-kinds.ps _<_ μ-under t) under.Pre
 
-abbrev pub unroll-at : ℕ → In 5 unroll-kinds.ps
-unroll-at t = and 5 unroll-kinds.ps (is 5 unroll-kinds.ps μ-unroll t) unroll.Pre
+abbrev pub unroll-at : ℕ → In 6 unroll-kinds.ps
+unroll-at t = and 6 unroll-kinds.ps (is 6 unroll-kinds.ps μ-unroll t) unroll.Pre
 
-abbrev pub unroll-below : ℕ → In 5 unroll-kinds.ps
-unroll-below t = and 5 unroll-kinds.ps (falls 5 unroll-kinds.ps _<_ μ-unroll t) unroll.Pre
+abbrev pub unroll-below : ℕ → In 6 unroll-kinds.ps
+unroll-below t = and 6 unroll-kinds.ps (falls 6 unroll-kinds.ps _<_ μ-unroll t) unroll.Pre
 
-abbrev pub unwrap-at : ℕ → In 5 unwrap-kinds.ps
-unwrap-at t = and 5 unwrap-kinds.ps (is 5 unwrap-kinds.ps μ-unwrap t) unwrap.Pre
+abbrev pub unwrap-at : ℕ → In 6 unwrap-kinds.ps
+unwrap-at t = and 6 unwrap-kinds.ps (is 6 unwrap-kinds.ps μ-unwrap t) unwrap.Pre
 
-abbrev pub unwrap-below : ℕ → In 5 unwrap-kinds.ps
-unwrap-below t = and 5 unwrap-kinds.ps (falls 5 unwrap-kinds.ps _<_ μ-unwrap t) unwrap.Pre
+abbrev pub unwrap-below : ℕ → In 6 unwrap-kinds.ps
+unwrap-below t = and 6 unwrap-kinds.ps (falls 6 unwrap-kinds.ps _<_ μ-unwrap t) unwrap.Pre
 
 abbrev pub back-uses : ℕ → back-lts.Claims
 back-uses t = (refuse-reads.Asked, refuse-reads.Learnt, offset-reads.Asked, offset-reads.Learnt, kind-reads.Asked, kind-reads.Learnt, variable-reads.Asked, variable-reads.Learnt, unit-reads.Asked, unit-reads.Learnt, unwrap-below t, unwrap.Post, pair-below t, pair.Post, let-one-below t, let-one.Post, let-two-below t, let-two.Post, choose-below t, choose.Post, call-below t, call.Post, unroll-below t, unroll.Post)
 
 abbrev pub call-uses : ℕ → call-lts.Claims
-call-uses t = (ancillae-of-reads.Asked, ancillae-of-reads.Learnt, arguments-reads.Asked, arguments-reads.Learnt, first-of-reads.Asked, first-of-reads.Learnt, body-of-reads.Asked, body-of-reads.Learnt, under-below t, under.Post, argument-of-reads.Asked, argument-of-reads.Learnt, back-below t, back.Post)
+call-uses t = (ancillae-of-reads.Asked, ancillae-of-reads.Learnt, gather-reads.Asked, gather-reads.Learnt, first-of-reads.Asked, first-of-reads.Learnt, body-of-reads.Asked, body-of-reads.Learnt, first-reads.Asked, first-reads.Learnt, under-below t, under.Post, leave-reads.Asked, leave-reads.Learnt, argument-of-reads.Asked, argument-of-reads.Learnt, back-below t, back.Post)
 
 abbrev pub choose-uses : ℕ → choose-lts.Claims
-choose-uses t = (first-of-reads.Asked, first-of-reads.Learnt, second-of-reads.Asked, second-of-reads.Learnt, left-yields-reads.Asked, left-yields-reads.Learnt, branch-of-reads.Asked, branch-of-reads.Learnt, side-of-reads.Asked, side-of-reads.Learnt, under-below t, under.Post, over-below t, over.Post)
+choose-uses t = (first-of-reads.Asked, first-of-reads.Learnt, second-of-reads.Asked, second-of-reads.Learnt, may-yield-reads.Asked, may-yield-reads.Learnt, branch-of-reads.Asked, branch-of-reads.Learnt, side-of-reads.Asked, side-of-reads.Learnt, under-below t, under.Post, leave-reads.Asked, leave-reads.Learnt, left-reads.Asked, left-reads.Learnt, over-below t, over.Post)
 
 abbrev pub let-one-uses : ℕ → let-one-lts.Claims
-let-one-uses t = (first-of-reads.Asked, first-of-reads.Learnt, second-of-reads.Asked, second-of-reads.Learnt, under-below t, under.Post, back-below t, back.Post)
+let-one-uses t = (first-of-reads.Asked, first-of-reads.Learnt, second-of-reads.Asked, second-of-reads.Learnt, under-below t, under.Post, leave-reads.Asked, leave-reads.Learnt, left-reads.Asked, left-reads.Learnt, back-below t, back.Post)
 
 abbrev pub let-two-uses : ℕ → let-two-lts.Claims
-let-two-uses t = (first-of-reads.Asked, first-of-reads.Learnt, second-of-reads.Asked, second-of-reads.Learnt, opened-reads.Asked, opened-reads.Learnt, under-below t, under.Post, leave-reads.Asked, leave-reads.Learnt, over-pair-below t, over-pair.Post)
+let-two-uses t = (first-of-reads.Asked, first-of-reads.Learnt, second-of-reads.Asked, second-of-reads.Learnt, bind-reads.Asked, bind-reads.Learnt, under-below t, under.Post, leave-reads.Asked, leave-reads.Learnt, left-reads.Asked, left-reads.Learnt, over-pair-below t, over-pair.Post)
 
 abbrev pub over-uses : ℕ → over-lts.Claims
 over-uses t = (single-reads.Asked, single-reads.Learnt, back-below t, back.Post, long-reads.Asked, long-reads.Learnt)
@@ -185,10 +188,10 @@ abbrev pub pair-uses : ℕ → pair-lts.Claims
 pair-uses t = (kind-of-reads.Asked, kind-of-reads.Learnt, refuse-reads.Asked, refuse-reads.Learnt, first-of-reads.Asked, first-of-reads.Learnt, second-of-reads.Asked, second-of-reads.Learnt, left-of-reads.Asked, left-of-reads.Learnt, right-of-reads.Asked, right-of-reads.Learnt, back-below t, back.Post)
 
 abbrev pub under-uses : ℕ → under-lts.Claims
-under-uses t = (opened-reads.Asked, opened-reads.Learnt, back-below t, back.Post, leave-reads.Asked, leave-reads.Learnt)
+under-uses t = (bind-reads.Asked, bind-reads.Learnt, back-below t, back.Post)
 
 abbrev pub unroll-uses : ℕ → unroll-lts.Claims
 unroll-uses t = (second-of-reads.Asked, second-of-reads.Learnt, over-below t, over.Post)
 
 abbrev pub unwrap-uses : ℕ → unwrap-lts.Claims
-unwrap-uses t = (kind-of-reads.Asked, kind-of-reads.Learnt, second-of-reads.Asked, second-of-reads.Learnt, left-of-reads.Asked, left-of-reads.Learnt, back-below t, back.Post, differ-reads.Asked, differ-reads.Learnt, refuse-reads.Asked, refuse-reads.Learnt)
+unwrap-uses t = (kind-of-reads.Asked, kind-of-reads.Learnt, second-of-reads.Asked, second-of-reads.Learnt, left-of-reads.Asked, left-of-reads.Learnt, back-below t, back.Post, differ-reads.Asked, differ-reads.Learnt)
