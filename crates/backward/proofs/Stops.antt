@@ -36,10 +36,19 @@ pub is-no-input : (t : ℕ) → t < 65536 → statusOf (t + 1) ≡ Refused (NoIn
 unfolding whyOf
 is-no-input t l =
     is-stopped (λ q. omega arith)
-    ∙ ap Refused (rw (whyOf, lt-ltb (t + 1) stopped (omega arith)) (ap NoInput (let z : t + 1 - 1 ≡ t = omega arith in z)))
+    ∙ ap Refused (rw (whyOf, lt-ltb (t + 1) stopped (omega arith)) (ap NoInput (let z : (t + 1 - 1) % 65536 ≡ t = omega arith in z)))
 
 pub stops-there : {x t : ℕ} → x ≡ t → x < 65536 → statusOf (x + 1) ≡ Refused (NoInput t)
 stops-there e l = rw e (is-no-input _ (omega arith))
+
+-- why, by the number
+pub why-here : (s : ℕ) → s < stopped → NoInput ((s - 1) % 65536) ≡ whyOf s
+unfolding whyOf
+why-here s l = rw (whyOf, lt-ltb s stopped l)
+
+pub why-forward : (s : ℕ) → stopped ≤ s → {w : Carried} → w ≡ refusalIn ((s - stopped) / 65536) ((s - stopped) % 65536) → carried w ≡ whyOf s
+unfolding whyOf
+why-forward s l e = rw (whyOf, le-ltb s stopped l) (ap carried e)
 
 ----------------------------------------------------------------
 -- By number

@@ -45,7 +45,7 @@ carried cStuck = Stuck
 
 -- A number that stops a run: from `stopped` on a refusal as forward has it, below it the term, and one more, that has no input (16).
 unfoldable pub whyOf : ℕ → Refusal
-whyOf s = elim (ltb s stopped) [ true ↦ NoInput (s - 1) | false ↦ carried (refusalIn ((s - stopped) / 65536) ((s - stopped) % 65536)) ]
+whyOf s = elim (ltb s stopped) [ true ↦ NoInput ((s - 1) % 65536) | false ↦ carried (refusalIn ((s - stopped) / 65536) ((s - stopped) % 65536)) ]
 
 -- 0 stops nothing
 unfoldable pub statusOf : ℕ → Status

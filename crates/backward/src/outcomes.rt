@@ -3,6 +3,8 @@
 use forward::outcomes::FUEL;
 use forward::outcomes::HEIGHT;
 use forward::outcomes::LONG;
+use forward::outcomes::PLACE;
+use forward::outcomes::STOPPED;
 use forward::outcomes::STUCK;
 use forward::parts;
 use program::tables;
@@ -19,7 +21,7 @@ ghost use Rattle.values.specs.Nodes.{Heap, Room};
 ghost use Rattle.scopes.specs.Slots.{slotCount};
 ghost use Rattle.scopes.specs.Bindings.{Tells, Meetable};
 ghost use Rattle.forward.specs.Outcomes.{refusalIn};
-ghost use Rattle.backward.specs.Outcomes.{Refused, carried, statusOf, tooLong, against, mismatch, nodeOr};
+ghost use Rattle.backward.specs.Outcomes.{Refused, carried, whyOf, statusOf, tooLong, against, mismatch, nodeOr};
 ghost use Rattle.backward.specs.Ready.{Variable, UnitMet};
 
 // Refusals 12 to 16 (section 4), each with its term; and a value of wrong shape, which no checked program meets.
@@ -70,6 +72,20 @@ pub fn carry(why: forward::outcomes::Refusal) -> Refusal
         forward::outcomes::Refusal::FirstMatch(t) => Refusal::FirstMatch(t),
         forward::outcomes::Refusal::Stuck => Refusal::Stuck,
     }
+}
+
+// What a number that stopped a run says.
+pub fn why(stop: u32) -> Refusal
+    requires { ⌜ 0 < stop ⌝ }
+    ensures { λ r. ⌜ r ≡ whyOf stop ⌝ }
+{
+    if stop < STOPPED {
+        let t = (stop - 1) % PLACE;
+        return Refusal::NoInput(t as u16);
+    }
+    let s = stop - STOPPED;
+    let t = s % PLACE;
+    carry(forward::outcomes::refusal_of(s / PLACE, t as u16))
 }
 
 // Term t is entered with a value over the limit: 14, after 12 and 13 ("backward it is met on entering that term, after 13", section 4).

@@ -1,8 +1,8 @@
 -- A backward run of a call that was admitted: the outcome of evaluation is the rules' run of the function, which does not stick.
 use Prim.Native.Nat.{ℕ, _+_, _≤_, _<_}
 use native.Mathlib.Omega.{arith}
-use mathlib.Core.Path.{_≡_, sym, ap, ap₂, subst, _∙_}
-use mathlib.Core.List.{List, map}
+use mathlib.Core.Path.{_≡_, refl, sym, ap, ap₂, subst, _∙_}
+use mathlib.Core.List.{List, [], _∷_, map}
 use mathlib.Core.Logic.{inr as right}
 use lib.ListN.{length, getD}
 use package.Rattle.rules.specs.Limits.{fits, maxHeight, maxVariables, maxNodes}
@@ -13,53 +13,36 @@ use package.Rattle.calls.specs.Entries.{typeAt, entriesAt}
 use package.Rattle.calls.specs.Values.{value, ancillae}
 use package.Rattle.calls.specs.Runs.{ran, returns}
 use package.Rattle.calls.proofs.Runs.Calls.{back}
+use package.Rattle.program.proofs.Offsets.{term-places, function-places}
 use package.Rattle.values.specs.Nodes.{valueAt}
 use package.Rattle.values.proofs.Heaps.{heap-down}
-use package.Rattle.scopes.specs.declared.bindings.Bindings.{Bindings}
-use package.Rattle.forward.specs.declared.outcomes.Machine.{Machine}
+use package.Rattle.scopes.specs.Slots.{slotCount}
+use package.Rattle.scopes.specs.Bindings.{slotsFrom, viewOf}
+use package.Rattle.scopes.proofs.Views.{view-at, view-bound}
+use package.Rattle.forward.specs.Outcomes.{Machine, machineOf}
 use package.Rattle.forward.specs.Ready.{valuesAt}
 use package.Rattle.backward.specs.declared.outcomes.Refusal.{Refusal}
-use package.Rattle.backward.specs.declared.outcomes.Status.the-variants.{Done, Refused}
-use package.Rattle.backward.specs.declared.outcomes.Inner.{Inner}
-use package.Rattle.backward.specs.Outcomes.{refusalOf}
+use package.Rattle.backward.specs.declared.start.Input.{Input}
+use package.Rattle.backward.specs.Outcomes.{Status, Done, Refused, statusOf, outcomeOf, refusalOf}
 use package.Rattle.backward.specs.Scoped.{Bodies}
-use package.Rattle.backward.specs.Calls.{Collected, Starts, returned, Returns as Ran}
+use package.Rattle.backward.specs.Calls.{Collected, Starts, returned, Returns as Ran, StartsIn, ReturnsIn}
 use package.Rattle.backward.proofs.Accepted.{accepted-bodies}
 use package.Rattle.admission.specs.Given.{givenIn}
 use package.Rattle.running.specs.declared.begin.Start.{Start}
 use package.Rattle.running.specs.declared.ended.Ended.{Ended}
 use package.Rattle.running.specs.Begun.{Begun}
 use package.Rattle.running.specs.Ended.{Shaped, Means, Gives}
-use package.Rattle.running.specs.Back.{Returnable, Known, inputOf, Undone, Returns}
+use package.Rattle.running.specs.Back.{Returnable, inputOf, Undone, Returns}
 use package.Rattle.running.proofs.Loads.{values-same}
-use package.Rattle.running.proofs.Starts.{admits, code, there, as-many, few-arguments, nodes-room, nodes-small, shaped-of}
+use package.Rattle.running.proofs.Starts.{admits, code, there, as-many, few-arguments, nodes-room, nodes-answer, shaped-of}
 use package.Rattle.program.specs.Programs.{programIn, functionIn}
 use package.Rattle.reading.specs.Ends.{valueIn, valuesIn}
-
-----------------------------------------------------------------
--- The ancillae
-
-known-collected : {slots : List ℕ} {count top : ℕ} {b : Bindings} → Known slots count b → count ≤ 32 → ((i : ℕ) → i < count → getD slots i 0 < top) → Collected b count top
-known-collected {slots} {count} {top} {b} K l held = record {
-  binds = record {
-    bound = record { full = K .full; few = omega (arith, K .len); held = record { held = λ j h. right (low j (omega (arith, K .len))) } };
-    within = omega (arith, K .len);
-    ancillae = low;
-  };
-  all = K .len;
-}
-  where
-    low : (i : ℕ) → i < count → getD (b .slots) i 0 < top
-    low i h = rw (K .same i h) (held i h)
 
 ----------------------------------------------------------------
 -- Evaluation
 
 module _ {xs terms functions heap : List ℕ} {g : ℕ} {anc bytes : List ℕ} {fuel : ℕ} (R : Returnable xs terms functions heap g anc bytes fuel)
     {heap′ slots slots′ : List ℕ} {start : Start} (B : Begun heap heap′ slots slots′ anc bytes start) where
-  pub known-ready : 8232 ≤ length slots′ → (start .count ≤ 7) × (8 ≤ length slots′)
-  known-ready long = (few-arguments R B, omega arith)
-
   pub value-slot : start .count < 8232
   value-slot = omega (arith, few-arguments R B)
 
@@ -67,12 +50,23 @@ module _ {xs terms functions heap : List ℕ} {g : ℕ} {anc bytes : List ℕ} {
   unfolding maxVariables
   bodies = accepted-bodies (R .loaded .read) maxVariables maxNodes (omega arith) (R .loaded .typed)
 
-  module _ {f : ℕ} (e : f ≡ fuel) (l : f < 65536) {args : Bindings} (K : Known slots′ (start .count) args) {node : ℕ} (q : node ≡ getD slots′ (start .count) 0) where
-    abbrev st : Machine
-    st = record { top = start .top; fuel = f }
+  low : (i : ℕ) → i ≤ start .count → getD slots′ (0 + i) 0 < start .top
+  low i h = subst (λ i. getD slots′ i 0 < start .top) (let z : i ≡ 0 + i = omega arith in z) (B .held i h)
 
-    pub undo-ready : 8232 ≤ length slots′ → Starts xs terms functions heap′ slots′ (record { top = start .top; fuel = f }) args (start .count) g node 1024
-    undo-ready long = record {
+  -- the ancillae are known
+  known : Collected (viewOf slots′ 0 (start .count)) (start .count) (start .top)
+  known = record {
+    binds = record {
+      bound = view-bound slots′ 0 (start .count) (start .top) (omega (arith, few-arguments R B)) (λ i h. right (low i (omega arith)));
+      within = omega arith;
+      ancillae = λ i h. rw (view-at slots′ 0 i (omega (arith, few-arguments R B))) (low i (omega arith));
+    };
+    all = refl;
+  }
+
+  module _ {f : ℕ} (e : f ≡ fuel) (l : f < 65536) {node : ℕ} (q : node ≡ getD slots′ (start .count) 0) where
+    starts : length slots′ ≡ slotCount → Starts xs terms functions heap′ slots′ (machineOf (start .top ∷ f ∷ [])) (viewOf slots′ 0 (start .count)) (start .count) g node 1024
+    starts full = record {
       machine = record {
         code = code R;
         bodies = bodies;
@@ -80,23 +74,36 @@ module _ {xs terms functions heap : List ℕ} {g : ℕ} {anc bytes : List ℕ} {
         some = B .unit-there .0;
         unit-there = B .unit-there .1;
         nodes = omega (arith, nodes-room R B);
-        small = omega (arith, nodes-small R B (omega arith));
+        small = omega (arith, nodes-answer R B (omega arith));
         variables = omega arith;
+        all = full;
       };
       function = there R;
-      arguments = known-collected K (omega (arith, few-arguments R B)) (λ i h. B .held i (omega arith));
+      arguments = known;
       parameters = omega (arith, as-many R, B .count);
       value = rw q (B .held (start .count) (omega arith));
     }
 
-    module _ {heap″ slots″ : List ℕ} {r : Inner} (d : Ran xs terms functions heap′ heap″ slots′ slots″ (record { top = start .top; fuel = f }) args (start .count) g node 1024 r) where
-      values : valuesAt heap′ (args .slots) 0 (start .count) ≡ valuesIn anc
-      values = values-same heap′ (args .slots) slots′ 0 (start .count) (λ i h h′. K .same i (omega arith)) ∙ B .values
+    pub undo-ready : length slots′ ≡ slotCount → StartsIn xs heap′ slots′ (start .top ∷ f ∷ []) (start .count) g node 1024
+    undo-ready full = record {
+      starts = rw (term-places (R .loaded .read), function-places (R .loaded .read)) (starts full);
+      space = omega (arith, few-arguments R B);
+    }
+
+    module _ {heap″ slots″ m′ : List ℕ} {r : Input} (D : ReturnsIn xs heap′ heap″ slots′ slots″ (start .top ∷ f ∷ []) m′ (start .count) g node 1024 r) where
+      d : Ran xs terms functions heap′ heap″ slots′ slots″ (machineOf (start .top ∷ f ∷ [])) (viewOf slots′ 0 (start .count)) (start .count) g node 1024
+          (record { out = outcomeOf (r .stop) slots″ m′ 0 (start .count); newest = r .node })
+      d = rw (term-places (R .loaded .read), function-places (R .loaded .read)) at (D .returns)
+
+      values : valuesAt heap′ (slotsFrom slots′ 0 32) 0 (start .count) ≡ valuesIn anc
+      values =
+          values-same heap′ (slotsFrom slots′ 0 32) slots′ 0 (start .count)
+          (λ i h h′. view-at slots′ 0 i (omega (arith, few-arguments R B)) ∙ ap (λ j. getD slots′ j 0) (let z : 0 + i ≡ i = omega arith in z)) ∙ B .values
 
       value-is : valueAt heap′ node ≡ valueIn bytes
       value-is = ap (valueAt heap′) q ∙ B .last
 
-      answers : (types : List ℕ) → inputOf heap″ r
+      answers : (types : List ℕ) → inputOf heap″ (statusOf (r .stop)) (r .node) (machineOf m′)
           ≡ runBackward fits (programIn xs types terms functions) maxHeight (functionIn xs types terms (getD functions g 0)) (valuesIn anc) (valueIn bytes) fuel
       unfolding maxHeight entriesAt
       answers types =
@@ -104,10 +111,10 @@ module _ {xs terms functions heap : List ℕ} {g : ℕ} {anc bytes : List ℕ} {
           ∙ ap₂ (λ vs v. runBackward fits (programIn xs types terms functions) 1024 (functionIn xs types terms (getD functions g 0)) vs v f) values value-is
           ∙ ap (runBackward fits (programIn xs types terms functions) 1024 (functionIn xs types terms (getD functions g 0)) (valuesIn anc) (valueIn bytes)) e
 
-      pub undone : Undone xs terms functions heap″ g anc bytes fuel r
+      pub undone : Undone xs terms functions heap″ g anc bytes fuel (statusOf (r .stop)) (r .node) (machineOf m′)
       undone = record {
         graph = d .moves .graph;
-        node = d .there;
+        there = d .there;
         spends = omega (arith, d .moves .spends);
         answer = answers;
         shaped = λ s. back .safe (programIn xs (R .types) terms functions) g (ancillae anc) (value bytes) (givenIn xs (R .types) terms functions g anc bytes) fuel
@@ -117,28 +124,28 @@ module _ {xs terms functions heap : List ℕ} {g : ℕ} {anc bytes : List ℕ} {
 ----------------------------------------------------------------
 -- The answer
 
-module _ {xs terms functions heap′ : List ℕ} {g : ℕ} {anc bytes : List ℕ} {fuel : ℕ} {r : Inner} (U : Undone xs terms functions heap′ g anc bytes fuel r) where
-  is-done : r .out .status ≡ Done → inputOf heap′ r ≡ ok (valueAt heap′ (r .newest)) (r .out .state .fuel)
+module _ {xs terms functions heap′ : List ℕ} {g : ℕ} {anc bytes : List ℕ} {fuel : ℕ} {s : Status} {node : ℕ} {st : Machine} (U : Undone xs terms functions heap′ g anc bytes fuel s node st) where
+  done : s ≡ Done → inputOf heap′ s node st ≡ ok (valueAt heap′ node) (st .fuel)
   unfolding returned
-  is-done e = ap (returned heap′ (r .newest) (r .out .state .fuel)) e
+  done e = ap (returned heap′ node (st .fuel)) e
 
-  is-refused : {w : Refusal} → r .out .status ≡ Refused w → inputOf heap′ r ≡ refusalOf w
+  refused : {w : Refusal} → s ≡ Refused w → inputOf heap′ s node st ≡ refusalOf w
   unfolding returned
-  is-refused e = ap (returned heap′ (r .newest) (r .out .state .fuel)) e
+  refused e = ap (returned heap′ node (st .fuel)) e
 
-  pub gives : r .out .status ≡ Done → Gives heap′ (r .newest) fuel (r .out .state .fuel)
-  gives e = record { right = heap-down (r .newest + 1) (omega (arith, U .node e)) (U .graph .right); less = U .spends }
+  pub gives : s ≡ Done → Gives heap′ node fuel (st .fuel)
+  gives e = record { right = heap-down (node + 1) (omega (arith, U .there e)) (U .graph .right); less = U .spends }
 
-  pub shaped : {w : Refusal} → r .out .status ≡ Refused w → Shaped w
-  shaped {w} e = shaped-of w λ s. U .shaped (is-refused e ∙ s)
+  pub shaped : {w : Refusal} → s ≡ Refused w → Shaped w
+  shaped {w} e = shaped-of w λ z. U .shaped (refused e ∙ z)
 
   module _ {a : Ended} {out out′ : List ℕ} where
-    returns-as : {x : Res Val} → inputOf heap′ r ≡ x → Means a out out′ (ran fuel x) → Returns a xs terms functions g anc bytes fuel out out′
+    returns-as : {x : Res Val} → inputOf heap′ s node st ≡ x → Means a out out′ (ran fuel x) → Returns a xs terms functions g anc bytes fuel out out′
     unfolding returns
     returns-as e m = record { means = λ types. subst (λ x. Means a out out′ (ran fuel x)) (sym e ∙ U .answer types) m }
 
-    pub returns-value : r .out .status ≡ Done → Means a out out′ (ran fuel (ok (valueAt heap′ (r .newest)) (r .out .state .fuel))) → Returns a xs terms functions g anc bytes fuel out out′
-    returns-value e m = returns-as (is-done e) m
+    pub returns-value : s ≡ Done → Means a out out′ (ran fuel (ok (valueAt heap′ node) (st .fuel))) → Returns a xs terms functions g anc bytes fuel out out′
+    returns-value e m = returns-as (done e) m
 
-    pub returns-refused : {w : Refusal} → r .out .status ≡ Refused w → Means a out out′ (ran fuel (refusalOf w)) → Returns a xs terms functions g anc bytes fuel out out′
-    returns-refused e m = returns-as (is-refused e) m
+    pub returns-refused : {w : Refusal} → s ≡ Refused w → Means a out out′ (ran fuel (refusalOf w)) → Returns a xs terms functions g anc bytes fuel out out′
+    returns-refused e m = returns-as (refused e) m

@@ -8,10 +8,9 @@ use package.Rattle.rules.specs.Val.{Val}
 use package.Rattle.rules.specs.Run.{Res, stuck}
 use package.Rattle.rules.specs.Machine.{runBackward}
 use package.Rattle.calls.specs.Runs.{returns}
-use package.Rattle.scopes.specs.declared.bindings.Bindings.{Bindings}
+use package.Rattle.forward.specs.Outcomes.{Machine}
 use package.Rattle.forward.specs.Ready.{Graph}
-use package.Rattle.backward.specs.declared.outcomes.Status.the-variants.{Done}
-use package.Rattle.backward.specs.declared.outcomes.Inner.{Inner}
+use package.Rattle.backward.specs.Outcomes.{Status, Done}
 use package.Rattle.backward.specs.Calls.{returned}
 use package.Rattle.admission.specs.Given.{givenIn}
 use package.Rattle.running.specs.declared.ended.Ended.{Ended}
@@ -24,24 +23,18 @@ use package.Rattle.reading.specs.Ends.{valueIn, valuesIn}
 abbrev pub Returnable : (xs terms functions heap : List ℕ) (g : ℕ) (anc bytes : List ℕ) (fuel : ℕ) → Type 0
 Returnable = Admitted (λ h. h .result)
 
--- the nodes in the first `count` slots are those of the variables in scope
-pub record Known (slots : List ℕ) (count : ℕ) (b : Bindings) : Type 0 where
-  pub full : length (b .slots) ≡ 32
-  pub len : b .len ≡ count
-  pub same : (i : ℕ) → i < count → getD (b .slots) i 0 ≡ getD slots i 0
-
 -- the input's node, or the refusal
-abbrev pub inputOf : List ℕ → Inner → Res Val
-inputOf heap r = returned heap (r .newest) (r .out .state .fuel) (r .out .status)
+abbrev pub inputOf : List ℕ → Status → ℕ → Machine → Res Val
+inputOf heap s node st = returned heap node (st .fuel) s
 
 -- the outcome is the rules' run of the function, and does not stick
-pub record Undone (xs terms functions heap′ : List ℕ) (g : ℕ) (anc bytes : List ℕ) (fuel : ℕ) (r : Inner) : Type 0 where
-  pub graph : Graph heap′ (r .out .state .top)
-  pub node : r .out .status ≡ Done → r .newest < r .out .state .top
-  pub spends : r .out .state .fuel ≤ fuel
-  pub answer : (types : List ℕ) → inputOf heap′ r
+pub record Undone (xs terms functions heap′ : List ℕ) (g : ℕ) (anc bytes : List ℕ) (fuel : ℕ) (s : Status) (node : ℕ) (st : Machine) : Type 0 where
+  pub graph : Graph heap′ (st .top)
+  pub there : s ≡ Done → node < st .top
+  pub spends : st .fuel ≤ fuel
+  pub answer : (types : List ℕ) → inputOf heap′ s node st
       ≡ runBackward fits (programIn xs types terms functions) maxHeight (functionIn xs types terms (getD functions g 0)) (valuesIn anc) (valueIn bytes) fuel
-  pub shaped : inputOf heap′ r ≡ stuck → ⊥
+  pub shaped : inputOf heap′ s node st ≡ stuck → ⊥
 
 -- The run as the definition has it (calls/specs/Runs, `returns`), with row Output.
 pub record Returns (r : Ended) (xs terms functions : List ℕ) (g : ℕ) (anc bytes : List ℕ) (fuel : ℕ) (out out′ : List ℕ) : Type 0 where

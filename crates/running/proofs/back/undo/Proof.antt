@@ -1,57 +1,80 @@
-use Prim.Native.Nat.{_≤_, _<_}
-use mathlib.Core.Path.{refl, _∙_}
+use mathlib.Core.Path.{refl, sym, _∙_}
 use lib.Dec.{lit≤}
+use Rattle.running.proofs.Starts.{few-terms, few-functions, filled, beginning}
+use Rattle.running.proofs.Homeward.{value-slot, undo-ready, undone}
 use borrow.Author.Needs.{needs}
-use Rattle.running.proofs.Starts.{beginning, long-slots}
-use Rattle.running.proofs.Homeward.{known-ready, value-slot, undo-ready, undone}
 use Rattle.running.proofs.back.undo.Statement.{statement}
 use Rattle.running.proofs.back.undo.Tie as tie
 
-slice-aggregate-begin : tie.Need-slice-aggregate-begin
-slice-aggregate-begin c = search needs
+slice-aggregate-fill : tie.Need-slice-aggregate-fill
+slice-aggregate-fill c = search needs
+
+fill-requires : tie.Need-fill-requires
+fill-requires c κs =
+    let start = c .before .before .before .before .before .before .before in
+    few-terms (start .pre)
+
+slice-aggregate-fill-2 : tie.Need-slice-aggregate-fill-2
+slice-aggregate-fill-2 c = search needs
+
+fill-requires-2 : tie.Need-fill-requires-2
+fill-requires-2 c κs =
+    let start = c .before .before .before .before .before .before .before .before .before .before in
+    few-functions (start .pre)
 
 begin-requires : tie.Need-begin-requires
-begin-requires c κs = beginning (c .before .before .before .before .before .before .before .before .pre) (lit≤ tt)
+begin-requires c κs =
+    let start = c .before .before .before .before .before .before .before .before .before .before .before .before .before .before in
+    beginning (start .pre) (lit≤ tt)
 
 wide32-requires : tie.Need-wide32-requires
 wide32-requires c κs = search needs
 
-slice-aggregate-known : tie.Need-slice-aggregate-known
-slice-aggregate-known c = search needs
-
-known-requires : tie.Need-known-requires
-known-requires c κs = known-ready (c .before .before .before .before .before .before .before .before .before .before .before .before .before .before .pre) (c .before .before .before .before .before .begin .ensures) (long-slots (c .before .before .before .before .before .begin .kept .1 .0) (lit≤ tt))
-
 mul-node : tie.Need-mul-node
-mul-node c = let h = value-slot (c .before .before .before .before .before .before .before .before .before .before .before .before .before .before .before .pre) (c .before .before .before .before .before .before .begin .ensures) in search needs
+mul-node c =
+    let at-begin = c .before .before .before .before in
+    let start = at-begin .before .before .before .before .before .before .before .before .before .before .before .before .before .before .before in
+    let h = value-slot (start .pre) (at-begin .begin .ensures) in search needs
 
 array-read-node : tie.Need-array-read-node
-array-read-node c = value-slot (c .before .before .before .before .before .before .before .before .before .before .before .before .before .before .before .pre) (c .before .before .before .before .before .before .begin .ensures)
-
-slice-aggregate-run : tie.Need-slice-aggregate-run
-slice-aggregate-run c = search needs
+array-read-node c =
+    let at-begin = c .before .before .before .before in
+    let start = at-begin .before .before .before .before .before .before .before .before .before .before .before .before .before .before .before in
+    value-slot (start .pre) (at-begin .begin .ensures)
 
 run-requires : tie.Need-run-requires
-run-requires c κs = undo-ready (c .before .before .before .before .before .before .before .before .before .before .before .before .before .before .before .before .before .pre) (c .before .before .before .before .before .before .before .before .begin .ensures) (c .before .before .before .before .wide32 .ensures .0) (c .before .before .before .before .wide32 .ensures .1) (c .before .before .known .ensures) refl (long-slots (c .before .before .before .before .before .before .before .before .begin .kept .1 .0) (lit≤ tt))
+run-requires c κs =
+    let at-wide32 = c .before .before .before .before .before .before in
+    let at-begin = at-wide32 .before .before .before in
+    let at-fill2 = at-begin .before .before .before .before in
+    let at-fill = at-fill2 .before .before .before in
+    let start = at-fill .before .before .before .before .before .before .before .before in
+    (filled (start .pre) (at-fill .fill .ensures) (at-fill2 .fill2 .ensures), undo-ready (start .pre) (at-begin .begin .ensures) (at-wide32 .wide32 .ensures .0) (at-wide32 .wide32 .ensures .1) refl (sym (at-begin .begin .ensures .slots-length)))
 
 same-length : tie.Need-same-length
-same-length c = c .before .before .before .run .kept .1 .1 .1 .0 ∙ c .before .before .before .before .before .before .before .before .before .before .before .before .begin .kept .0
+same-length c =
+    let at-begin = c .before .before .before .before .before .before .before .before .before .before .before .before in
+    c .before .before .run .kept .1 .1 .1 .0 ∙ at-begin .begin .kept .0
 
 returns : tie.Need-returns
-returns c = undone (c .before .before .before .before .before .before .before .before .before .before .before .before .before .before .before .before .before .before .before .before .before .pre) (c .before .before .before .before .before .before .before .before .before .before .before .before .begin .ensures) (c .before .before .before .before .before .before .before .before .wide32 .ensures .0) (c .before .before .before .before .before .before .before .before .wide32 .ensures .1) (c .before .before .before .before .before .before .known .ensures) refl (c .before .before .before .run .ensures)
+returns c =
+    let at-wide32 = c .before .before .before .before .before .before .before .before .before in
+    let at-begin = at-wide32 .before .before .before in
+    let start = at-begin .before .before .before .before .before .before .before .before .before .before .before .before .before .before .before in
+    undone (start .pre) (at-begin .begin .ensures) (at-wide32 .wide32 .ensures .0) (at-wide32 .wide32 .ensures .1) refl (c .before .before .run .ensures)
 
 pub undo-spec : {M : Type 1} → statement M
 undo-spec =
     tie.close
     (tie.spec
-    slice-aggregate-begin
+    slice-aggregate-fill
+    fill-requires
+    slice-aggregate-fill-2
+    fill-requires-2
     begin-requires
     wide32-requires
-    slice-aggregate-known
-    known-requires
     mul-node
     array-read-node
-    slice-aggregate-run
     run-requires
     same-length
     returns)
