@@ -116,10 +116,6 @@ module _ {side : Fun → Ty} {xs terms functions heap : List ℕ} {g : ℕ} {anc
     unfolding startNodes unknown
     nodes-small l = omega (arith, B .few)
 
--- slots are as many after a call
-pub long-slots : {m n : ℕ} → m ≡ n → 8232 ≤ n → 8232 ≤ m
-long-slots e l = omega arith
-
 ----------------------------------------------------------------
 -- The answer
 
