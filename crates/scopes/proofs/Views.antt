@@ -87,10 +87,6 @@ view-state heap slots base n few =
 pub view-opens : (slots : List ℕ) (base n x : ℕ) → n < 32 → base + n < length slots → Opens (viewOf slots base n) x (viewOf (set slots (base + n) x) base (n + 1))
 view-opens slots base n x l h = record { slots = view-set slots base n x l h; len = refl }
 
--- a set that lies within the first `n` variables does not have the next
-not-yet : {slots : List ℕ} {b : Bindings} {base n : ℕ} → Tells slots b base n → (i : ℕ) → i < 32 → n ≤ i → has (b .bound) i ≡ true → ⊥
-not-yet T i l h e = omega (arith, T .within i l e)
-
 pub tells-opened : (slots : List ℕ) {b : Bindings} (base n : ℕ) → Tells slots b base n → n < 32 → base + n < length slots → Tells (set slots (base + n) unknown) b base (n + 1)
 tells-opened slots {b} base n T l h = record {
   within = λ i m e. omega (arith, T .within i m e);
