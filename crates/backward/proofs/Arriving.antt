@@ -1,5 +1,5 @@
 -- A term is entered, in code: a unit of fuel is taken, a node is made; and the kinds without parts, a variable and the unit.
-use Prim.Native.Nat.{ℕ, _+_, _-_, _*_, _≤_, _<_}
+use Prim.Native.Nat.{ℕ, _+_, _-_, _≤_, _<_}
 use native.Mathlib.Omega.{arith}
 use mathlib.Core.Path.{_≡_, refl, sym}
 use mathlib.Core.Bool.{Bool, true, false}
@@ -15,8 +15,8 @@ use package.Rattle.calls.specs.Fields.{kindAt}
 use package.Rattle.program.specs.Parts.{variable}
 use package.Rattle.program.specs.Tables.{termPlaces}
 use package.Rattle.values.specs.Nodes.{Made, valueAt, kindAt as nodeKind}
-use package.Rattle.scopes.specs.Slots.{unknown, slotCount}
-use package.Rattle.scopes.specs.Bindings.{viewOf, Meetable, MeetsIn}
+use package.Rattle.scopes.specs.Slots.{unknown}
+use package.Rattle.scopes.specs.Bindings.{Meetable, MeetsIn}
 use package.Rattle.scopes.specs.declared.bindings.Bindings.{Bindings}
 use package.Rattle.scopes.specs.declared.bindings.Met.{Met}
 use package.Rattle.scopes.proofs.Views.{view-meets, tells-met, meetable}

@@ -1,28 +1,28 @@
 -- A call in code: its ancilla values stand behind the scope, where the function that is called has its own; then the scope is as it was.
-use Prim.Native.Nat.{ℕ, _+_, _-_, _*_, _≤_, _<_}
+use Prim.Native.Nat.{ℕ, _+_, _-_, _≤_, _<_}
 use native.Mathlib.Omega.{arith}
-use mathlib.Core.Path.{_≡_, refl, sym, ap, _∙_}
+use mathlib.Core.Path.{_≡_, _∙_}
 use mathlib.Core.List.{List}
-use lib.ListN.{length, getD}
+use lib.ListN.{getD}
 use package.Rattle.uses.specs.Sets.{Holds, firsts}
 use package.Rattle.program.specs.Parts.{first, listed, body}
 use package.Rattle.program.specs.Tables.{termPlaces, functionPlaces}
 use package.Rattle.values.specs.Nodes.{valueAt}
-use package.Rattle.scopes.specs.Slots.{unknown, slotCount, Slots}
-use package.Rattle.scopes.specs.Bindings.{viewOf, stateOf}
+use package.Rattle.scopes.specs.Slots.{slotCount}
+use package.Rattle.scopes.specs.Bindings.{viewOf}
 use package.Rattle.scopes.specs.declared.bindings.Bindings.{Bindings}
 use package.Rattle.scopes.proofs.Views.{tells-first}
 use package.Rattle.forward.specs.Outcomes.{machineOf}
 use package.Rattle.forward.specs.Ready.{Calls}
 use package.Rattle.forward.proofs.Placing.{few-count}
-use package.Rattle.backward.specs.Outcomes.{outcomeOf, nodeOr}
-use package.Rattle.backward.specs.Ready.{Ready, Follows, Ran, Prepared, Gone, GoneUnder, runIn, underIn, stepIn}
+use package.Rattle.backward.specs.Outcomes.{nodeOr}
+use package.Rattle.backward.specs.Ready.{Follows, Prepared, Gone, GoneUnder, runIn, underIn, stepIn}
 use package.Rattle.backward.specs.Calls.{Gathered}
-use package.Rattle.backward.proofs.Runs.{refused-with, held-later, small-top, moves-then}
+use package.Rattle.backward.proofs.Runs.{refused-with, held-later, small-top}
 use package.Rattle.backward.proofs.Stops.{is-done, is-stopped}
 use package.Rattle.backward.proofs.Frames.{older-later, tells-stay, follows-stay, state-stays}
 use package.Rattle.backward.proofs.Gathering.{scope-ready, placed, arguments-done}
-use package.Rattle.backward.proofs.Calling.{call-refused, call-body, call-space, call-node, call-refused-2, all-moves, call-dynamic, call-done}
+use package.Rattle.backward.proofs.Calling.{call-refused, call-body, call-space, call-node, call-refused-2, call-dynamic, call-done}
 use Rattle.backward.specs.declared.outcomes.Out.{Out}
 
 module _ {p heap slots m : List ℕ} {b : Bindings} {base q n t room : ℕ} (P : Prepared 1 1 p heap slots m b base q n n t room) {node : ℕ} (low : node < machineOf m .top)

@@ -1,26 +1,24 @@
 -- From the code's slots and state to views: a scope that stays, what is prepared beside it and after a run, and runs one after another.
 use Prim.Native.Nat.{ℕ, zero, suc, _+_, _*_, _≤_, _<_}
 use native.Mathlib.Omega.{arith}
-use native.Mathlib.Decide.{decLt}
 use mathlib.Core.Path.{_≡_, refl, sym, ap, ap₂, _∙_}
 use mathlib.Core.Logic.{⊎-elim, inl as left, inr as right}
 use mathlib.Core.Bool.{Bool}
 use mathlib.Core.List.{List, _∷_, map}
-use lib.ListN.{length, getD, set, length-set}
-use lib.Seq.{getD-set-other}
+use lib.ListN.{getD}
 use package.Rattle.rules.specs.Run.{Res}
 use package.Rattle.rules.specs.Machine.{State}
 use package.Rattle.rules.specs.Yield.{mayYield}
 use package.Rattle.calls.specs.Entries.{TypeEntry, termAt, termOf}
 use package.Rattle.program.specs.Tables.{termPlaces, functionPlaces}
 use package.Rattle.values.specs.Nodes.{valueAt}
-use package.Rattle.scopes.specs.Slots.{unknown, slotCount, Slots}
+use package.Rattle.scopes.specs.Slots.{slotCount, Slots}
 use package.Rattle.scopes.specs.Bindings.{slotsFrom, viewOf, stateOf, Bound, Tells}
 use package.Rattle.scopes.specs.declared.bindings.Bindings.{Bindings}
 use package.Rattle.scopes.proofs.Scopes.{state-same}
 use package.Rattle.scopes.proofs.Views.{view-at, view-bound, view-state, tells-same}
-use package.Rattle.yields.specs.Yields.{ancillaeAt, Ancillae, Yields, MayYield}
-use package.Rattle.forward.specs.Outcomes.{Machine, machineOf}
+use package.Rattle.yields.specs.Yields.{ancillaeAt, Yields, MayYield}
+use package.Rattle.forward.specs.Outcomes.{machineOf}
 use package.Rattle.backward.specs.Outcomes.{Refused, outcomeOf, statusOf}
 use package.Rattle.backward.specs.Ready.{Ready, Follows, Moves, Ran, Prepared, Gone}
 use package.Rattle.backward.proofs.Runs.{not-done}

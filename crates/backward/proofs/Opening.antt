@@ -1,7 +1,7 @@
 -- A scope with one variable more, in code: the slot is marked and the term is run; then the variable leaves.
 use Prim.Native.Nat.{ℕ, _+_, _-_, _*_, _≤_, _<_}
 use native.Mathlib.Omega.{arith}
-use mathlib.Core.Path.{_≡_, refl, sym, ap, subst, _∙_}
+use mathlib.Core.Path.{_≡_, refl, sym, _∙_}
 use mathlib.Core.Bool.{Bool, true, false}
 use mathlib.Core.List.{List}
 use lib.ListN.{length, getD, set, length-set}
@@ -14,7 +14,7 @@ use package.Rattle.rules.specs.Machine.{State}
 use package.Rattle.calls.specs.Entries.{TypeEntry}
 use package.Rattle.program.specs.Tables.{termPlaces, functionPlaces}
 use package.Rattle.values.specs.Nodes.{valueAt}
-use package.Rattle.scopes.specs.Slots.{unknown, slotCount, Slots}
+use package.Rattle.scopes.specs.Slots.{unknown, slotCount}
 use package.Rattle.scopes.specs.Bindings.{viewOf, Opens, Tells}
 use package.Rattle.scopes.specs.declared.bindings.Bindings.{Bindings}
 use package.Rattle.scopes.proofs.Views.{view-opens, tells-opened, tells-left}

@@ -1,10 +1,10 @@
 -- Laws of the number that stops a run: what status it says.
-use Prim.Native.Nat.{ℕ, _+_, _-_, _*_, _/_, _%_, _≤_, _<_}
+use Prim.Native.Nat.{ℕ, _+_, _-_, _/_, _%_, _≤_, _<_}
 use native.Mathlib.Omega.{arith}
 use native.Mathlib.Decide.{decLt}
-use mathlib.Core.Path.{_≡_, refl, sym, ap, _∙_}
+use mathlib.Core.Path.{_≡_, refl, ap, _∙_}
 use borrow.Author.Tests.{eq-eqb, ne-eqb, lt-ltb, le-ltb}
-use package.Rattle.forward.specs.Outcomes.{stopped, refusalIn, Stops, statusOf as forwardStatus}
+use package.Rattle.forward.specs.Outcomes.{stopped, refusalIn, statusOf as forwardStatus}
 use package.Rattle.forward.specs.declared.outcomes.Refusal.{Refusal as Carried}
 use package.Rattle.forward.specs.declared.outcomes.Status.the-variants.{Value, Refused as ForwardRefused}
 use package.Rattle.forward.proofs.Answers.{is-value, is-refused}

@@ -15,7 +15,6 @@ use package.Rattle.forward.specs.declared.outcomes.Refusal.{Refusal as Carried}
 use package.Rattle.forward.specs.declared.outcomes.Refusal.the-variants.{Fuel as cFuel, Height as cHeight, Long as cLong, FirstMatch as cFirstMatch, Stuck as cStuck}
 use Rattle.backward.specs.declared.outcomes.Refusal.{Refusal}
 use Rattle.backward.specs.declared.outcomes.Refusal.the-variants.{Fuel, Height, Long, FirstMatch, NoInput, Stuck}
-use Rattle.backward.specs.declared.outcomes.Out.{Out}
 
 ----------------------------------------------------------------
 -- Outcomes

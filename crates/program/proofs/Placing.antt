@@ -1,5 +1,5 @@
 -- Laws of placing one field: the layout and its counts with a field more, and the buffers that hold it.
-use Prim.Native.Nat.{ℕ, suc, _+_, _<_, _≤_}
+use Prim.Native.Nat.{ℕ, _+_, _<_, _≤_}
 use native.Mathlib.Omega.{arith}
 use native.Mathlib.Numerals.{add-one}
 use mathlib.Core.Path.{_≡_, refl, sym, ap, _∙_}
@@ -9,10 +9,10 @@ use lib.ListN.{length, take, set, length-append}
 use lib.Seq.{length-take-le, take-suc-set}
 use lib.Dec.{eqb, leb}
 use borrow.Author.Tests.{le-leb, lt-leb, ne-eqb}
-use package.Rattle.rules.specs.Limits.{maxTypes, maxTerms, maxFunctions, maxParameters}
-use package.Rattle.calls.specs.Fields.{Layout, tagAt, parametersAt, withField, withinCounts}
+use package.Rattle.rules.specs.Limits.{maxTypes, maxTerms, maxFunctions}
+use package.Rattle.calls.specs.Fields.{tagAt, parametersAt, withField, withinCounts}
 use package.Rattle.program.specs.declared.fields.Counts.{Counts}
-use package.Rattle.program.specs.Places.{placesOf, frontsOf, Within, Buffers, Placeable, Added, parametersWithin}
+use package.Rattle.program.specs.Places.{placesOf, frontsOf, Buffers, Placeable, Added, parametersWithin}
 
 ----------------------------------------------------------------
 -- Fronts

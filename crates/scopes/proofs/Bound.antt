@@ -4,22 +4,21 @@ use native.Mathlib.Omega.{arith}
 use native.Mathlib.Decide.{decLt}
 use mathlib.Core.Path.{_≡_, refl, sym, ap, ap₂, subst, _∙_}
 use mathlib.Core.Bool.{Bool, true, false, true≢false}
-use mathlib.Core.Option.{Option, none, some}
-use mathlib.Core.List.{List, [], _∷_}
-use mathlib.Core.Logic.{_⊎_, ⊎-elim}
-use lib.ListN.{length, getD, set, length-set}
-use lib.Seq.{getD-set-same, getD-set-other}
+use mathlib.Core.Option.{Option, some}
+use mathlib.Core.List.{List, _∷_}
+use lib.ListN.{length, getD, set}
+use lib.Seq.{getD-set-other}
 use lib.Dec.{eqb}
 use borrow.Author.Tests.{eqb-true, eqb-false}
 use package.Rattle.rules.specs.Val.{Val, same}
-use package.Rattle.rules.specs.Run.{Res, ok, stop, Run, after, test, give}
+use package.Rattle.rules.specs.Run.{ok, stop, Run, after, test, give}
 use package.Rattle.rules.specs.Machine.{State, bindOr, meet}
 use package.Rattle.rules.proofs.Basics.{given, eqb-yes, eqb-no}
 use package.Rattle.values.specs.Nodes.{valueAt}
-use package.Rattle.scopes.specs.Slots.{unknown, found, meaning, stateAt, Slots}
+use package.Rattle.scopes.specs.Slots.{unknown, found, meaning, stateAt}
 use package.Rattle.scopes.specs.Bindings.{View, stateOf, Bound, Opens, Meets, Left, Leaves}
 use package.Rattle.scopes.proofs.Marks.{found-mark, found-node}
-use package.Rattle.scopes.proofs.Scopes.{length-state, state-front, state-same, state-bind, slots-bind}
+use package.Rattle.scopes.proofs.Scopes.{length-state, state-front, state-bind}
 use Rattle.scopes.specs.declared.slots.Found.{Found}
 use Rattle.scopes.specs.declared.slots.Found.the-variants.{Node, Unknown}
 

@@ -1,10 +1,8 @@
 -- Laws of slots: what a slot's number says, and which slot a variable has.
 use Prim.Native.Nat.{ℕ, _+_, _<_, _≤_}
-use mathlib.Core.Path.{_≡_, refl, ap}
-use mathlib.Core.Bool.{Bool, true, false}
+use mathlib.Core.Path.{_≡_}
 use mathlib.Core.List.{List}
 use lib.ListN.{getD}
-use lib.Dec.{eqb, ltb}
 use borrow.Author.Tests.{eq-eqb, ne-eqb, lt-ltb, le-ltb}
 use package.Rattle.scopes.specs.Slots.{unknown, found, slotAt}
 use Rattle.scopes.specs.declared.slots.Found.the-variants.{Node, Unknown}

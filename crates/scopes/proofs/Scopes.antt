@@ -1,18 +1,18 @@
 -- Laws of the scope that slots hold: what is known of a variable, how a scope grows, and what leaves it as it is.
-use Prim.Native.Nat.{ℕ, zero, suc, _+_, _<_, _≤_}
+use Prim.Native.Nat.{ℕ, zero, suc, _+_, _<_}
 use native.Mathlib.Omega.{arith}
 use native.Mathlib.Decide.{decLt}
-use mathlib.Core.Path.{_≡_, refl, sym, ap, ap₂, subst, _∙_}
+use mathlib.Core.Path.{_≡_, refl, sym, ap, ap₂, _∙_}
 use mathlib.Core.Bool.{Bool, true, false}
-use mathlib.Core.Option.{Option, none, some}
-use mathlib.Core.List.{List, [], _∷_}
+use mathlib.Core.Option.{Option, some}
+use mathlib.Core.List.{List, _∷_}
 use mathlib.Core.Logic.{_⊎_, inl as left, inr as right}
 use lib.ListN.{length, getD, set}
 use lib.Dec.{eqb}
 use lib.Seq.{getD-set-same, getD-set-other}
 use borrow.Author.Tests.{eqb-true, eqb-false}
 use package.Rattle.rules.specs.Val.{Val}
-use package.Rattle.rules.specs.Machine.{State, known}
+use package.Rattle.rules.specs.Machine.{known}
 use package.Rattle.rules.proofs.Known.{known-new, known-skip, known-none}
 use package.Rattle.values.specs.Nodes.{valueAt, Heap, Agree}
 use package.Rattle.values.proofs.Heaps.{value-kept}

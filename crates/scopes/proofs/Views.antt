@@ -3,9 +3,9 @@
 use Prim.Native.Nat.{ℕ, zero, suc, _+_, _-_, _<_, _≤_}
 use native.Mathlib.Omega.{arith}
 use native.Mathlib.Decide.{decLt}
-use mathlib.Core.Path.{_≡_, refl, sym, ap, ap₂, subst, _∙_}
+use mathlib.Core.Path.{_≡_, refl, sym, ap, ap₂, _∙_}
 use mathlib.Core.Bool.{Bool, true, false, true≢false, _||_, _&&_}
-use mathlib.Core.List.{List, [], _∷_}
+use mathlib.Core.List.{List, _∷_}
 use mathlib.Core.Logic.{_⊎_, ⊎-elim, inl as left, inr as right}
 use lib.ListN.{length, getD, set, length-set}
 use lib.Seq.{getD-set-same, getD-set-other, ext-getD}
@@ -16,8 +16,8 @@ use package.Rattle.uses.specs.declared.Uses.{Uses}
 use package.Rattle.rules.specs.Val.{same}
 use package.Rattle.rules.proofs.Basics.{given}
 use package.Rattle.values.specs.Nodes.{valueAt}
-use package.Rattle.scopes.specs.Slots.{unknown, slotCount, found, meaning, stateAt, Slots}
-use package.Rattle.scopes.specs.Bindings.{View, slotsFrom, viewOf, stateOf, Bound, Opens, Meets, Tells, Meetable, MeetsIn}
+use package.Rattle.scopes.specs.Slots.{unknown, slotCount, found, meaning, stateAt}
+use package.Rattle.scopes.specs.Bindings.{slotsFrom, viewOf, stateOf, Bound, Opens, Meets, Tells, Meetable, MeetsIn}
 use Rattle.scopes.specs.declared.bindings.Bindings.{Bindings}
 use Rattle.scopes.specs.declared.bindings.Met.{Met}
 

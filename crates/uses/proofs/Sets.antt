@@ -1,8 +1,8 @@
 -- What the operations on sets hold.
-use Prim.Native.Nat.{ℕ, _+_, _-_, _*_, _%_, _^_, _<_, _≤_}
+use Prim.Native.Nat.{ℕ, _-_, _*_, _%_, _^_, _<_, _≤_}
 use native.Mathlib.Omega.{arith}
-use mathlib.Core.Path.{_≡_, refl, sym, ap, ap₂, _∙_}
-use mathlib.Core.Bool.{Bool, true, false, _||_, _&&_, Bool·beq, not}
+use mathlib.Core.Path.{_≡_, refl, sym, ap, _∙_}
+use mathlib.Core.Bool.{Bool, true, false, _&&_, Bool·beq, not}
 use lib.Dec.{eqb}
 use lib.Bits.{bitAnd, bitOr, bitXor, and-le-r}
 use lib.Pow.{pow-pos, shl-exact}

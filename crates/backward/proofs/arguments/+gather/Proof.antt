@@ -1,7 +1,6 @@
 use Prim.Native.Nat.{ℕ, _-_, _<_}
 use native.Mathlib.Omega.{arith}
 use mathlib.Core.Path.{refl, _∙_}
-use borrow.Author.Needs.{needs}
 use Rattle.forward.proofs.Answers.{is-value, is-refused}
 use Rattle.forward.proofs.Bounds.{read-argument}
 use Rattle.forward.proofs.Runs.{later}

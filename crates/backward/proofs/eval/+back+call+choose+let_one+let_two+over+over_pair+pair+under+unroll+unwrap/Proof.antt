@@ -1,4 +1,3 @@
-use Prim.Native.Nat.{ℕ}
 use Rattle.backward.proofs.eval.back.Reads as back
 use Rattle.backward.proofs.eval.+back+call+choose+let_one+let_two+over+over_pair+pair+under+unroll+unwrap.Lts-back as back-lts
 use Rattle.backward.proofs.eval.call.Reads as call

@@ -1,4 +1,3 @@
-use native.Mathlib.Omega.{arith}
 use mathlib.Core.Path.{_∙_}
 use Rattle.backward.proofs.Stops.{why-here, why-forward}
 use borrow.Author.Needs.{needs}
