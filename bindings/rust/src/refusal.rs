@@ -59,8 +59,7 @@ mod tests {
 
     #[test]
     fn every_meaning_is_the_engine_s_own_text() {
-        let wording = include_str!("../../../crates/wording/src/lib.rt");
-        let mut rest = wording.split_once("pub fn put_meaning").expect("the engine's texts").1;
+        let mut rest = include_str!("../../../crates/wording/src/meanings.rt");
         for meaning in MEANINGS {
             let text = format!("b\"{meaning}\"");
             rest = rest.split_once(&text).unwrap_or_else(|| panic!("{text} is not next")).1;
