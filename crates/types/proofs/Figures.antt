@@ -3,11 +3,12 @@ use Prim.Native.Nat.{ℕ, zero, suc, _+_, _*_, _<_, _≤_, min}
 use native.Mathlib.Omega.{arith}
 use native.Mathlib.Decide.{decLt}
 use mathlib.Core.Path.{_≡_, refl, sym, ap, _∙_}
-use mathlib.Core.Bool.{Bool, true, false, cond}
+use mathlib.Core.Bool.{Bool, true, false, cond, false≢true}
 use mathlib.Core.List.{List, map}
 use lib.ListN.{length, getD}
 use lib.Dec.{eqb, leb}
-use borrow.Author.Tests.{leb-true, le-leb, lt-leb}
+use borrow.Author.Tests.{leb-true, leb-false, le-leb, lt-leb}
+use package.Rattle.octets.specs.Runs.{Decides}
 use package.Rattle.rules.specs.Limits.{maxNodes}
 use package.Rattle.rules.specs.Ty.{Ty, one, prod, sum, mu, tyvar, plug, nodes}
 use package.Rattle.calls.specs.Entries.{typeAt, typeOf}
@@ -156,13 +157,26 @@ few : (n : ℕ) {m : ℕ} → m ≡ min ceiling n → m ≤ 32 → n ≤ 32
 unfolding ceiling maxNodes
 few n e h = omega arith
 
-pub small-told : {counts : List ℕ} {c : Code} {i j : ℕ} → c .form ≡ 2 → i ≡ c .at → j ≡ c .stands → getD counts i 0 ≤ 32
-    → leb (getD counts j 0) 32 ≡ true → Small counts c
-small-told {counts} {c} {i} {j} f p q h l = record {
-  form = f;
-  entry = omega (arith, ap (λ i. getD counts i 0) p);
-  stands = omega (arith, leb-true (getD counts j 0) 32 l, ap (λ j. getD counts j 0) q);
-}
+-- whether the type is small is told by its second entry, where the first is
+pub small-decided : (counts : List ℕ) (c : Code) {i j : ℕ} → c .form ≡ 2 → i ≡ c .at → j ≡ c .stands → getD counts i 0 ≤ 32
+    → Decides (leb (getD counts j 0) 32) (Small counts c)
+small-decided counts c {i} {j} f p q h = go (leb (getD counts j 0) 32) refl
+  where
+    go : (b : Bool) → leb (getD counts j 0) 32 ≡ b → Decides b (Small counts c)
+    go true l = record {
+      form = f;
+      entry = omega (arith, ap (λ i. getD counts i 0) p);
+      stands = omega (arith, leb-true (getD counts j 0) 32 l, ap (λ j. getD counts j 0) q);
+    }
+    go false l = λ s. omega (arith, leb-false (getD counts j 0) 32 l, ap (λ j. getD counts j 0) q, s .stands)
+
+pub large-entry : {counts : List ℕ} {c : Code} {i : ℕ} → i ≡ c .at → 32 < getD counts i 0 → Small counts c → ⊥
+large-entry {counts} p h s = omega (arith, ap (λ i. getD counts i 0) p, s .entry)
+
+-- what is decided to hold
+pub told : {P : Type 0} (b : Bool) → Decides b P → b ≡ true → P
+told true d e = d
+told false d e = absurd (false≢true e)
 
 module _ {xs types : List ℕ} {top : ℕ} (c : Code) (K : Known (length types) top c) {counts : List ℕ} (C : Counted xs types counts) where
   pub counts-held : c .form ≡ 2 → Held counts c

@@ -1,10 +1,10 @@
 // How many nodes a type has as a tree, as far as the limit of section 1 lets matter: counting stops one above it. Type entries are
 // counted already, and products keep their count, so that only an unfolded type is walked.
 ghost use mathlib.Core.Path.{_≡_};
-ghost use mathlib.Core.Bool.{true};
 ghost use Prim.Native.Nat.{_+_, _≤_, min};
 ghost use lib.ListN.{length};
 ghost use lib.Dec.{leb};
+ghost use Rattle.octets.specs.Runs.{Decides};
 ghost use Rattle.rules.specs.Limits.{maxNodes};
 ghost use Rattle.rules.specs.Ty.{nodes};
 ghost use Rattle.calls.specs.Named.{ceiling};
@@ -85,7 +85,7 @@ pub fn node_count(p: &[u8], types: &[u16], counts: &[u16], ws: &[u8], top: u32, 
 // without counting.
 fn surely_within(counts: &[u16], c: Code) -> bool
     requires { ⌜ (c .form ≡ 2 → Held (now counts) c) ⌝ }
-    ensures { λ r. ⌜ (r ≡ true → Small (now (counts .entry)) c) ⌝ }
+    ensures { λ r. ⌜ Decides r (Small (now (counts .entry)) c) ⌝ }
 {
     let form = c.form;
     if form == 2 {

@@ -1,4 +1,4 @@
-use Rattle.types.proofs.Figures.{counts-held, small-within, limit-decided}
+use Rattle.types.proofs.Figures.{counts-held, small-within, limit-decided, told}
 use borrow.Author.Needs.{needs}
 use Rattle.types.proofs.counting.within_limit.Statement.{statement}
 use Rattle.types.proofs.counting.within_limit.Tie as tie
@@ -7,7 +7,7 @@ surely-within-requires : tie.Need-surely-within-requires
 surely-within-requires c κs = let a = c .before .before .before .before in counts-held (a .args .c) (a .pre .1 .0) (a .pre .1 .1)
 
 returns : tie.Need-returns
-returns c = let a = c .before .before .before .before .before .before in small-within (a .args .c) (a .pre .1 .0) (a .pre .1 .1) (a .args .ws .now) (c .before .surely-within .ensures (c .if1 .taken))
+returns c = let a = c .before .before .before .before .before .before in small-within (a .args .c) (a .pre .1 .0) (a .pre .1 .1) (a .args .ws .now) (told _ (c .before .surely-within .ensures) (c .if1 .taken))
 
 node-count-requires : tie.Need-node-count-requires
 node-count-requires c κs = search needs
