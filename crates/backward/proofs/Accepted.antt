@@ -1,6 +1,6 @@
 -- What backward evaluation asks of a program's variables holds of one that is accepted: typing counts the variables in scope, and the
 -- arguments of each call.
-use Prim.Native.Nat.{ℕ, zero, suc, _+_, _-_, _≤_, _<_}
+use Prim.Native.Nat.{ℕ, zero, suc, _+_, _≤_, _<_}
 use native.Mathlib.Omega.{arith}
 use native.Mathlib.Numerals.{add-one}
 use mathlib.Core.Path.{_≡_, refl, sym, ap, subst, _∙_}
@@ -11,18 +11,21 @@ use package.Rattle.rules.specs.Ty.{Ty}
 use package.Rattle.rules.specs.Term.{Term, count, Fun, Program, nth}
 use package.Rattle.rules.specs.Typing.{Context, Vars, Subject, _∶_, arguments, Types, t-var1, t-var2, t-unit, t-unit-elm, t-inl, t-inr, t-prod, t-let1, t-let2, t-sum, t-app1, t-app2, t-app2-end, t-roll, t-unroll, WellTyped}
 use package.Rattle.rules.specs.Check.{statics}
+use package.Rattle.rules.specs.Limits.{maxParameters}
 use package.Rattle.rules.proofs.Basics.{given}
 use package.Rattle.rules.proofs.Scope.{look-lt}
 use package.Rattle.rules.proofs.Typing.Functions.{length-parameters, body-typed}
 use package.Rattle.calls.specs.Fields.{parametersAt}
-use package.Rattle.calls.specs.Entries.{TypeEntry, typeAt, typeOf, TermEntry, n-var, n-unit, n-inl, n-inr, n-roll, n-unroll, n-pair, n-let, n-letp, n-case, n-call, termAt, termTrees, termTree, termBelow, termOf, functionAt, functionOf, entriesAt, programOf}
-use package.Rattle.program.specs.Parts.{body, FunctionField}
+use package.Rattle.calls.specs.Entries.{TypeEntry, typeAt, typeOf, TermEntry, n-var, n-unit, n-inl, n-inr, n-roll, n-unroll, n-pair, n-let, n-letp, n-case, n-call, termTrees, termTree, termBelow, termOf, functionAt, functionOf, entriesAt, programOf}
+use package.Rattle.program.specs.Parts.{FunctionField}
 use package.Rattle.program.specs.Places.{placesOf, Placed}
 use package.Rattle.program.proofs.Inside.{formed}
 use package.Rattle.program.proofs.Lists.{ancillae-count}
-use package.Rattle.forward.specs.Code.{programAt}
-use package.Rattle.forward.proofs.Trees.{called-tree, called-there, called-body, called-only}
-use package.Rattle.backward.specs.Scoped.{Scoped, arityAt, ScopedAt, Bodies}
+use package.Rattle.decoded.specs.Decoding.{Decodes, FunctionRow}
+use package.Rattle.decoded.specs.Rows.{bodyIn, functionCount, parametersIn, programIn, termsIn}
+use package.Rattle.decoded.proofs.Trees.{called-body, called-only, called-there, called-tree}
+use package.Rattle.decoded.proofs.Accepted.{decoded-program}
+use package.Rattle.backward.specs.Scoped.{Scoped, ScopedAt, Bodies}
 
 ----------------------------------------------------------------
 -- Typed terms are in scope
@@ -93,35 +96,53 @@ module _ (arity : ℕ → ℕ) where
 -- Accepted programs
 
 -- the dynamic parameter comes after the ancilla parameters
-parameter-count : {p : List ℕ} {at : ℕ} (ys : List TypeEntry) (ts : List TermEntry) → FunctionField p at → length (functionOf ys ts (functionAt p at) .ancillae) + 1 ≡ parametersAt p at
+parameter-count : {p : List ℕ} {at : ℕ} (ys : List TypeEntry) (ts : List TermEntry) → FunctionField p at
+    → length (functionOf ys ts (functionAt p at) .ancillae) + 1 ≡ parametersAt p at
 unfolding functionOf
 parameter-count {p} {at} ys ts F =
     omega (arith, F .some, length-map (functionAt p at .ancillae) (typeOf ys), ancillae-count p at)
 
 module _ {p types terms functions : List ℕ} (read : Placed p types terms functions) (variables most : ℕ) (most-variables : variables ≤ 32)
-    (typed : WellTyped variables most (programOf (entriesAt p (placesOf types terms functions)))) where
+    (typed : WellTyped variables most (programOf (entriesAt p (placesOf types terms functions)))) {code : List ℕ} (D : Decodes code p terms functions) where
   abbrev types-read : List TypeEntry
   types-read = map (typeAt p) types
 
-  parameters : (g : ℕ) (h : Fun) → nth (programAt p terms functions types-read) g ≡ some h → length (h .ancillae) + 1 ≡ arityAt p functions g
-  parameters g h e =
-      given (called-only p terms functions types-read g e) λ (l, same).
-      subst (λ (h : Fun). length (h .ancillae) + 1 ≡ arityAt p functions g) same (parameter-count types-read (map (termAt p) terms) (formed p (read .read) .functions g l))
+  abbrev program : Program
+  program = programIn code types-read
 
-  scoped-body : (g : ℕ) → g < length functions → ScopedAt p terms functions (arityAt p functions g) (body p (getD functions g 0))
+  program-typed : WellTyped variables most program
   unfolding entriesAt
+  program-typed = subst (WellTyped variables most) (sym (decoded-program D types-read)) typed
+
+  field : (g : ℕ) → g < functionCount code → FunctionField p (getD functions g 0)
+  field g l = formed p (read .read) .functions g (omega (arith, D .as-many-functions))
+
+  row : (g : ℕ) → g < functionCount code → FunctionRow code g p (getD functions g 0)
+  row g l = D .function g (omega (arith, D .as-many-functions))
+
+  -- what a function's row says of its parameters is what the program has
+  parameters-are : (g : ℕ) → g < functionCount code → length (called-tree code types-read g .ancillae) + 1 ≡ parametersIn code g
+  parameters-are g l =
+      ap (λ x. length (functionOf types-read (termsIn code) x .ancillae) + 1) (row g l .entry)
+      ∙ parameter-count types-read (termsIn code) (field g l) ∙ sym (row g l .parameters)
+
+  parameters : (g : ℕ) (h : Fun) → nth program g ≡ some h → length (h .ancillae) + 1 ≡ parametersIn code g
+  parameters g h e =
+      given (called-only code types-read g e) λ (l, same).
+      subst (λ (h : Fun). length (h .ancillae) + 1 ≡ parametersIn code g) same (parameters-are g l)
+
+  scoped-body : (g : ℕ) → g < functionCount code → ScopedAt code (parametersIn code g) (bodyIn code g)
   scoped-body g l =
-      scoped-any (arityAt p functions) types-read [] (map (termAt p) terms) (arityAt p functions g) (body p (getD functions g 0))
-      (subst (λ T. Scoped (arityAt p functions) (arityAt p functions g) T) (called-body p terms functions types-read g)
-      (subst (λ n. Scoped (arityAt p functions) n (h .body)) (let z : suc (length (statics (h .ancillae) [])) ≡ arityAt p functions g = omega (arith, length-parameters (h .ancillae), parameters g h there) in z)
-      (scopes variables most most-variables (programAt p terms functions types-read) (arityAt p functions) parameters
-      (body-typed variables most (programAt p terms functions types-read) (typed g h there)))))
+      scoped-any (parametersIn code) types-read [] (termsIn code) (parametersIn code g) (bodyIn code g)
+      (subst (λ T. Scoped (parametersIn code) (parametersIn code g) T) (called-body code types-read g)
+      (subst (λ n. Scoped (parametersIn code) n (h .body)) (let z : suc (length (statics (h .ancillae) [])) ≡ parametersIn code g = omega
+      (arith, length-parameters (h .ancillae), parameters-are g l) in z)
+      (scopes variables most most-variables program (parametersIn code) parameters
+      (body-typed variables most program (program-typed g h (called-there code types-read g l))))))
     where
       h : Fun
-      h = called-tree p terms functions types-read g
+      h = called-tree code types-read g
 
-      there : nth (programAt p terms functions types-read) g ≡ some h
-      there = called-there p terms functions types-read g l
-
-  pub accepted-bodies : Bodies p terms functions
-  accepted-bodies = record { scoped = scoped-body }
+  pub accepted-bodies : Bodies code
+  unfolding maxParameters
+  accepted-bodies = record { few = λ g l. rw (row g l .parameters) (omega (arith, field g l .few)); scoped = scoped-body }

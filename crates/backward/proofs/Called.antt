@@ -5,89 +5,115 @@ use mathlib.Core.Path.{_≡_, _∙_}
 use mathlib.Core.List.{List}
 use lib.ListN.{getD}
 use package.Rattle.uses.specs.Sets.{Holds, firsts}
-use package.Rattle.program.specs.Parts.{first, listed, body}
-use package.Rattle.program.specs.Tables.{termPlaces, functionPlaces}
+use package.Rattle.decoded.specs.Rows.{argumentIn, bodyIn, firstIn}
 use package.Rattle.values.specs.Nodes.{valueAt}
-use package.Rattle.scopes.specs.Slots.{slotCount}
-use package.Rattle.scopes.specs.Bindings.{viewOf}
+use package.Rattle.scopes.specs.Slots.{slotCount, Machine, Scope}
+use package.Rattle.scopes.specs.Bindings.{stateOf}
 use package.Rattle.scopes.specs.declared.bindings.Bindings.{Bindings}
 use package.Rattle.scopes.proofs.Views.{tells-first}
-use package.Rattle.forward.specs.Outcomes.{machineOf}
 use package.Rattle.forward.specs.Ready.{Calls}
 use package.Rattle.forward.proofs.Placing.{few-count}
-use package.Rattle.backward.specs.Outcomes.{nodeOr}
-use package.Rattle.backward.specs.Ready.{Follows, Prepared, Gone, GoneUnder, runIn, underIn, stepIn}
-use package.Rattle.backward.specs.Calls.{Gathered}
+use package.Rattle.backward.specs.Outcomes.{nodeOr, scopeView}
+use package.Rattle.backward.specs.Ready.{Follows, Prepared, Gone, GoneUnder, Leavable, runAt, stepAt, underAt}
+use package.Rattle.backward.specs.Calls.{Gathers}
 use package.Rattle.backward.proofs.Runs.{refused-with, held-later, small-top}
 use package.Rattle.backward.proofs.Stops.{is-done, is-stopped}
 use package.Rattle.backward.proofs.Frames.{older-later, tells-stay, follows-stay, state-stays}
-use package.Rattle.backward.proofs.Gathering.{scope-ready, placed, arguments-done}
+use package.Rattle.backward.proofs.Gathering.{scope-ready, placed, arguments-done, callee}
 use package.Rattle.backward.proofs.Calling.{call-refused, call-body, call-space, call-node, call-refused-2, call-dynamic, call-done}
 use Rattle.backward.specs.declared.outcomes.Out.{Out}
 
-module _ {p heap slots m : List ℕ} {b : Bindings} {base q n t room : ℕ} (P : Prepared 1 1 p heap slots m b base q n n t room) {node : ℕ} (low : node < machineOf m .top)
-    {k : ℕ} (C : Calls p (termPlaces p) t 0 k) {heap₁ slots₁ m₁ : List ℕ} {stop : ℕ} (D : Gathered p heap heap₁ slots slots₁ m m₁ base q n t room 0 k stop) where
+module _ {code heap slots : List ℕ} {m : Machine} {b : Bindings} {sc : Scope} {t room : ℕ}
+    (P : Prepared 1 1 code heap slots m b sc (sc .n) t room) {node : ℕ} (low : node < m .top)
+    {k : ℕ} (C : Calls code t 0 k) {heap₁ slots₁ : List ℕ} {m₁ : Machine} {stop : ℕ} (D : Gathers code heap heap₁ slots slots₁ m sc t room 0 k stop m₁) where
+  abbrev Stepped : List ℕ → List ℕ → Machine → Out → Type 0
+  Stepped heap′ slots′ m′ r = Gone 1 heap heap′ slots slots′ m m′ sc r (stepAt code heap slots m sc t (valueAt heap node) room)
+
   -- the ancilla terms were refused
-  pub called-refused : ¬ (stop ≡ 0) → Gone 1 heap heap₁ slots slots₁ m m₁ base n (record { stop = stop; state = b }) (stepIn p heap slots m base q n t (valueAt heap node) room)
+  pub called-refused : ¬ (stop ≡ 0) → Stepped heap₁ slots₁ m₁ (record { stop = stop; state = b })
   called-refused d = record {
-    ran = refused-with (call-refused (P .ready) low C (arguments-done P C D) (is-stopped d)) (is-stopped d) (viewOf slots₁ base n);
-    below = λ j l. D .gathers .below j (omega arith);
+    ran = refused-with (call-refused (P .ready) low C (arguments-done P C D) (is-stopped d)) (is-stopped d) (scopeView slots₁ sc);
+    below = λ j l. D .below j (omega arith);
     tells = λ e. absurd (d e);
   }
 
-  module _ (e : stop ≡ 0) {g u : ℕ} (qg : g ≡ first p (getD (termPlaces p) t 0)) (qu : u ≡ body p (getD (functionPlaces p) g 0)) where
+  module _ (e : stop ≡ 0) {g u : ℕ} (qg : g ≡ firstIn code t) (qu : u ≡ bodyIn code g) where
     pub called-space : k < 32
     called-space = call-space (P .ready) low C (arguments-done P C D) (is-done e) qg qu
 
-    pub called-there : base + n + k < slotCount
-    called-there = omega (arith, P .space, P .ready .tall, few-count (scope-ready P) C)
+    there : sc .base + sc .n + k < slotCount
+    there = omega (arith, P .space, P .ready .tall, few-count (scope-ready P) C)
 
-    -- the body, with the arguments known
-    pub called-prepared : {args : Bindings} → Holds (args .bound) (firsts k) → Prepared 0 0 p heap₁ slots₁ m₁ args (base + n) k k (k + 1) u (room - 1)
-    called-prepared H = record {
-      ready = call-body (P .ready) low C (arguments-done P C D) (is-done e) qg qu;
-      tells = tells-first slots₁ (base + n) k (machineOf m₁ .top) (omega (arith, called-space)) H (placed P C D (is-done e)) (small-top (held-later (P .ready .machine) (D .gathers .moves)));
-      older = older-later (scope-ready P .held) (D .gathers .below) (D .gathers .moves .grows);
-      space = omega (arith, P .space, P .ready .tall, few-count (scope-ready P) C);
-    }
-
-    pub called-node : node < machineOf m₁ .top
+    pub called-node : node < m₁ .top
     called-node = call-node (P .ready) low C (arguments-done P C D) (is-done e) qg qu
 
-    module _ {heap₂ slots₂ m₂ : List ℕ} {r : Out} (G : GoneUnder heap₁ heap₂ slots₁ slots₂ m₁ m₂ (base + n) k r (underIn p heap₁ slots₁ m₁ (base + n) k k u (valueAt heap₁ node) (room - 1))) where
-      -- the scope is as it was
-      pub scope-stays : (j : ℕ) → j < base + n → getD slots j 0 ≡ getD slots₂ j 0
-      scope-stays j l = D .gathers .below j l ∙ G .below j l
+    -- the scope of the function
+    module _ {end : ℕ} (qe : end ≡ sc .base + sc .n) {sc₁ : Scope} (ws : sc₁ ≡ record { base = end; q = k; n = k }) where
+      w : sc₁ ≡ record { base = sc .base + sc .n; q = k; n = k }
+      w = rw qe at ws
 
-      pub called-stops : ¬ (r .stop ≡ 0) → Gone 1 heap heap₂ slots slots₂ m m₂ base n r (stepIn p heap slots m base q n t (valueAt heap node) room)
-      called-stops d = record {
-        ran = refused-with (call-refused-2 (P .ready) low C (arguments-done P C D) (is-done e) qg qu (G .ran) (is-stopped d)) (is-stopped d) (viewOf slots₂ base n);
-        below = λ j l. scope-stays j (omega arith);
-        tells = λ z. absurd (d z);
-      }
+      -- the body, with the arguments known
+      pub called-prepared : {args : Bindings} → Holds (args .bound) (firsts k) → Prepared 0 0 code heap₁ slots₁ m₁ args sc₁ (sc₁ .n + 1) u (room - 1)
+      called-prepared H = rw w (record {
+        ready = call-body (P .ready) low C (arguments-done P C D) (is-done e) qg qu;
+        tells = tells-first slots₁ (sc .base + sc .n) k (m₁ .top) (omega (arith, called-space)) H (placed P C D (is-done e))
+            (small-top (held-later (P .ready .machine) (D .moves)));
+        older = older-later (scope-ready P .held) (D .below) (D .moves .grows);
+        space = omega (arith, P .space, P .ready .tall, few-count (scope-ready P) C);
+      })
 
-      grows : machineOf m .top ≤ machineOf m₂ .top
-      grows = omega (arith, D .gathers .moves .grows, G .ran .moves .grows)
+      pub called-few : sc₁ .n < 32
+      called-few = rw w called-space
 
-      follows : Follows (viewOf slots base n) (viewOf slots₂ base n) (machineOf m₂ .top)
-      follows = follows-stay slots slots₂ base n scope-stays (P .ready .binds .bound) (machineOf m₂ .top) grows
+      module _ {heap₂ slots₂ : List ℕ} {m₂ : Machine} {r : Out}
+          (G : GoneUnder heap₁ heap₂ slots₁ slots₂ m₁ m₂ sc₁ r (underAt code heap₁ slots₁ m₁ sc₁ u (valueAt heap₁ node) (room - 1))) where
+        here : GoneUnder heap₁ heap₂ slots₁ slots₂ m₁ m₂ (callee P C D) r (underAt code heap₁ slots₁ m₁ (callee P C D) u (valueAt heap₁ node) (room - 1))
+        here = rw w at G
 
-      module _ {w : ℕ} (qw : w ≡ listed p (getD (termPlaces p) t 0) k) where
-        -- the dynamic term
-        pub called-dynamic : Prepared 0 0 p heap₂ slots₂ m₂ b base q n n w (room - 1)
-        called-dynamic = record {
-          ready = call-dynamic (P .ready) low C (arguments-done P C D) (is-done e) qg qu (G .ran) follows (state-stays slots slots₂ base n scope-stays (P .ready .binds .bound) heap₂) qw;
-          tells = tells-stay slots slots₂ base n scope-stays (P .tells);
-          older = older-later (P .older) (λ j l. scope-stays j (omega arith)) grows;
-          space = omega (arith, P .space);
+        -- the caller's scope is as it was
+        scope-stays : (j : ℕ) → j < sc .base + sc .n → getD slots j 0 ≡ getD slots₂ j 0
+        scope-stays j l = D .below j l ∙ here .below j l
+
+        pub called-stops : ¬ (r .stop ≡ 0) → Stepped heap₂ slots₂ m₂ r
+        called-stops d = record {
+          ran = refused-with (call-refused-2 (P .ready) low C (arguments-done P C D) (is-done e) qg qu (here .ran) (is-stopped d)) (is-stopped d)
+              (scopeView slots₂ sc);
+          below = λ j l. scope-stays j (omega arith);
+          tells = λ z. absurd (d z);
         }
 
-        pub called-done : r .stop ≡ 0 → {x : ℕ} → x ≡ nodeOr (getD slots₂ (base + n + k) 0) → {heap₃ slots₃ m₃ : List ℕ} {r₂ : Out}
-            → Gone 0 heap₂ heap₃ slots₂ slots₃ m₂ m₃ base n r₂ (runIn p heap₂ slots₂ m₂ base q n w (valueAt heap₂ x) (room - 1))
-            → Gone 1 heap heap₃ slots slots₃ m m₃ base n r₂ (stepIn p heap slots m base q n t (valueAt heap node) room)
-        called-done d qx E = record {
-          ran = call-done (P .ready) low C (arguments-done P C D) (is-done e) qg qu (G .ran) follows (state-stays slots slots₂ base n scope-stays (P .ready .binds .bound) heap₂) qw (is-done d)
-              (rw qx at (E .ran));
-          below = λ j l. scope-stays j (omega arith) ∙ E .below j l;
-          tells = E .tells;
-        }
+        module _ (d : r .stop ≡ 0) where
+          pub called-leaves : Leavable slots₂ (r .state) sc₁
+          called-leaves = rw w (record { few = called-space; there = there; tells = here .tells d })
+
+          grows : m .top ≤ m₂ .top
+          grows = omega (arith, D .moves .grows, here .ran .moves .grows)
+
+          follows : Follows (scopeView slots sc) (scopeView slots₂ sc) (m₂ .top)
+          follows = follows-stay slots slots₂ (sc .base) (sc .n) scope-stays (P .ready .binds .bound) (m₂ .top) grows
+
+          same : stateOf heap₂ (scopeView slots sc) ≡ stateOf heap₂ (scopeView slots₂ sc)
+          same = state-stays slots slots₂ (sc .base) (sc .n) scope-stays (P .ready .binds .bound) heap₂
+
+          module _ {v : ℕ} (qv : v ≡ argumentIn code t k) where
+            -- the dynamic term
+            pub called-dynamic : Prepared 0 0 code heap₂ slots₂ m₂ b sc (sc .n) v (room - 1)
+            called-dynamic = record {
+              ready = call-dynamic (P .ready) low C (arguments-done P C D) (is-done e) qg qu (here .ran) follows same qv;
+              tells = tells-stay slots slots₂ (sc .base) (sc .n) scope-stays (P .tells);
+              older = older-later (P .older) (λ j l. scope-stays j (omega arith)) grows;
+              space = omega (arith, P .space);
+            }
+
+            module _ {x : ℕ} (qx : x ≡ nodeOr (getD slots₂ (sc₁ .base + sc₁ .n) 0)) where
+              pub called-input : x < m₂ .top
+              called-input = rw (qx, w) (here .ran .there (is-done d))
+
+              pub called-done : {heap₃ slots₃ : List ℕ} {m₃ : Machine} {r₂ : Out}
+                  → Gone 0 heap₂ heap₃ slots₂ slots₃ m₂ m₃ sc r₂ (runAt code heap₂ slots₂ m₂ sc v (valueAt heap₂ x) (room - 1))
+                  → Stepped heap₃ slots₃ m₃ r₂
+              called-done E = record {
+                ran = call-done (P .ready) low C (arguments-done P C D) (is-done e) qg qu (here .ran) follows same qv (is-done d) (rw (qx, w) at (E .ran));
+                below = λ j l. scope-stays j (omega arith) ∙ E .below j l;
+                tells = E .tells;
+              }

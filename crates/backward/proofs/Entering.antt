@@ -17,19 +17,19 @@ use package.Rattle.rules.specs.Run.{Res, stop, after, enter, test}
 use package.Rattle.rules.specs.Machine.{State, leave, forward, backwardStep, backward}
 use package.Rattle.rules.proofs.Run.{via}
 use package.Rattle.calls.specs.Entries.{TypeEntry}
+use package.Rattle.decoded.specs.Rows.{programIn, treeIn}
+use package.Rattle.decoded.proofs.Trees.{tree-entry}
 use package.Rattle.values.specs.Nodes.{Room, valueAt, Grown, Made}
 use package.Rattle.values.proofs.Heaps.{value-kept}
 use package.Rattle.values.proofs.Places.{agree-trans, agree-down}
-use package.Rattle.scopes.specs.Slots.{unknown, meaning as slotMeaning}
+use package.Rattle.scopes.specs.Slots.{unknown, meaning as slotMeaning, Machine}
 use package.Rattle.scopes.specs.Bindings.{View, Left, stateOf, Opens}
 use package.Rattle.scopes.proofs.Marks.{found-mark}
 use package.Rattle.scopes.proofs.Bound.{opens-state}
 use package.Rattle.yields.proofs.Ancillae.{ancillae-same}
-use package.Rattle.forward.specs.Code.{treeAt, programAt}
-use package.Rattle.forward.specs.Outcomes.{Machine, finished}
+use package.Rattle.forward.specs.Outcomes.{finished}
 use package.Rattle.forward.specs.Ready.{Graph}
 use package.Rattle.forward.proofs.Answers.{below-mark}
-use package.Rattle.forward.proofs.Trees.{tree-entry}
 use package.Rattle.forward.proofs.Making.{makes}
 use package.Rattle.backward.specs.Scoped.{ScopedAt}
 use package.Rattle.backward.specs.Outcomes.{Done, Refused, Outcome, refusalOf, tooLong}
@@ -72,36 +72,36 @@ module _ (P : Program) (a : List Val) (σ : State) (T : Term) (v : Val) where
 ----------------------------------------------------------------
 -- A term is entered with the value at a node
 
-module _ {p terms functions heap slots : List ℕ} {st : Machine} {b : View} {q t room : ℕ} (rd : Ready 0 0 p terms functions heap slots st b q (b .len) t room)
+module _ {code heap slots : List ℕ} {st : Machine} {b : View} {q t room : ℕ} (rd : Ready 0 0 code heap slots st b q (b .len) t room)
     {node : ℕ} (low : node < st .top) where
-  abbrev place : (ys : List TypeEntry) → entry (treeAt p terms ys t) ≡ t
-  place ys = tree-entry (rd .machine .code .entries) t (rd .term) ys
+  abbrev place : (ys : List TypeEntry) → entry (treeIn code ys t) ≡ t
+  place ys = tree-entry (rd .machine .rows) t (rd .term) ys
 
   abbrev run : List TypeEntry → Res State
-  run = runOf p terms functions heap st b q t (valueAt heap node) room
+  run = runOf code heap st b q t (valueAt heap node) room
 
   pub term-spent : (r : Outcome) → r .status ≡ Refused (Fuel t) → r .state ≡ st → st .fuel ≡ 0 → Ran 0 heap heap slots slots st b r run
   unfolding refusalOf
-  term-spent r s e z = refuses r (rd .machine .graph) s e (λ ys. spent (programAt p terms functions ys) _ _ _ _ room (st .fuel) z ∙ ap (stop 12) (place ys))
+  term-spent r s e z = refuses r (rd .machine .graph) s e (λ ys. spent (programIn code ys) _ _ _ _ room (st .fuel) z ∙ ap (stop 12) (place ys))
 
   module _ (some-fuel : ¬ (st .fuel ≡ 0)) where
     pub term-high : (r : Outcome) → r .status ≡ Refused (Height t) → r .state ≡ st → room ≡ 0 → Ran 0 heap heap slots slots st b r run
     unfolding refusalOf
     term-high r s e z =
-        refuses r (rd .machine .graph) s e (λ ys. high (programAt p terms functions ys) _ _ _ _ room (st .fuel) z (pos-of-ne-zero some-fuel) ∙ ap (stop 13) (place ys))
+        refuses r (rd .machine .graph) s e (λ ys. high (programIn code ys) _ _ _ _ room (st .fuel) z (pos-of-ne-zero some-fuel) ∙ ap (stop 13) (place ys))
 
     module _ (some-room : ¬ (room ≡ 0)) where
       -- one unit of fuel is taken
       abbrev taken : Machine
       taken = record { top = st .top; fuel = st .fuel - 1 }
 
-      pub term-ready : Ready 1 1 p terms functions heap slots taken b q (b .len) t room
+      pub term-ready : Ready 1 1 code heap slots taken b q (b .len) t room
       term-ready =
           let pos = pos-of-ne-zero some-fuel in
           let tall = pos-of-ne-zero some-room in
           record {
             machine = record {
-              code = rd .machine .code;
+              rows = rd .machine .rows;
               bodies = rd .machine .bodies;
               graph = rd .machine .graph;
               some = rd .machine .some;
@@ -113,12 +113,11 @@ module _ {p terms functions heap slots : List ℕ} {st : Machine} {b : View} {q 
             };
             binds = rd .binds;
             term = rd .term;
-            few = rd .few;
             scoped = rd .scoped;
             tall = omega arith;
           }
 
-      pub term-done : {heap′ slots′ : List ℕ} {r : Outcome} → Ran 1 heap heap′ slots slots′ taken b r (stepOf p terms functions heap taken b q t (valueAt heap node) room)
+      pub term-done : {heap′ slots′ : List ℕ} {r : Outcome} → Ran 1 heap heap′ slots slots′ taken b r (stepOf code heap taken b q t (valueAt heap node) room)
           → Ran 0 heap heap′ slots slots′ st b r run
       term-done d =
           let pos = pos-of-ne-zero some-fuel in
@@ -133,13 +132,13 @@ module _ {p terms functions heap slots : List ℕ} {st : Machine} {b : View} {q 
             };
             follows = d .follows;
             answer = λ ys. d .answer ys
-                ∙ sym (entered (programAt p terms functions ys) _ _ _ _ room (st .fuel) (pos-of-ne-zero some-room) pos (rd .machine .graph .short node low));
+                ∙ sym (entered (programIn code ys) _ _ _ _ room (st .fuel) (pos-of-ne-zero some-room) pos (rd .machine .graph .short node low));
           }
 
 ----------------------------------------------------------------
 -- A value is made for the term
 
-module _ {p terms functions heap slots : List ℕ} {st : Machine} {b : View} {q t room : ℕ} (rd : Ready 1 0 p terms functions heap slots st b q (b .len) t room) where
+module _ {code heap slots : List ℕ} {st : Machine} {b : View} {q t room : ℕ} (rd : Ready 1 0 code heap slots st b q (b .len) t room) where
   pub node-room : Room heap (st .top + 1)
   node-room = omega (arith, rd .machine .nodes)
 
@@ -159,10 +158,10 @@ module _ {p terms functions heap slots : List ℕ} {st : Machine} {b : View} {q 
       unfolding finished
       new-graph = makes {st = st} t true (rd .machine .graph) (subst (λ m. Made heap heap₁ (st .top) v m) e M) .graph
 
-      pub over-ready : Ready 0 0 p terms functions heap₁ slots grown b q (b .len) t room
+      pub over-ready : Ready 0 0 code heap₁ slots grown b q (b .len) t room
       over-ready = record {
         machine = record {
-          code = rd .machine .code;
+          rows = rd .machine .rows;
           bodies = rd .machine .bodies;
           graph = new-graph;
           some = omega arith;
@@ -174,13 +173,13 @@ module _ {p terms functions heap slots : List ℕ} {st : Machine} {b : View} {q 
         };
         binds = binds-up (st .top + 1) (rd .binds) (omega arith);
         term = rd .term;
-        few = rd .few;
         scoped = rd .scoped;
         tall = omega arith;
       }
 
-      pub over-done : {heap₂ slots₂ : List ℕ} {r : Outcome} → Ran 0 heap₁ heap₂ slots slots₂ grown b r (runOf p terms functions heap₁ grown b q t (valueAt heap₁ (st .top)) room)
-          → Ran 1 heap heap₂ slots slots₂ st b r (runOf p terms functions heap st b q t v room)
+      pub over-done : {heap₂ slots₂ : List ℕ} {r : Outcome} → Ran 0 heap₁ heap₂ slots slots₂ grown b r
+          (runOf code heap₁ grown b q t (valueAt heap₁ (st .top)) room)
+          → Ran 1 heap heap₂ slots slots₂ st b r (runOf code heap st b q t v room)
       over-done d = record {
         moves = record {
           agree = agree-trans (grows .agree) (agree-down (st .top) (omega arith) (d .moves .agree));
@@ -192,16 +191,17 @@ module _ {p terms functions heap slots : List ℕ} {st : Machine} {b : View} {q 
         };
         follows = d .follows;
         answer = λ ys. d .answer ys
-            ∙ ap₂ (λ a σ. backward fits (programAt p terms functions ys) room a σ (treeAt p terms ys t) (valueAt heap₁ (st .top)) (st .fuel))
-            (sym (ancillae-later (rd .machine .graph) (grows .agree) b q (rd .binds))) (sym (state-later (rd .machine .graph) (grows .agree) b (rd .binds .bound)))
-            ∙ ap (λ v. runOf p terms functions heap st b q t v room ys) (grows .value);
+            ∙ ap₂ (λ a σ. backward fits (programIn code ys) room a σ (treeIn code ys t) (valueAt heap₁ (st .top)) (st .fuel))
+            (sym (ancillae-later (rd .machine .graph) (grows .agree) b q (rd .binds)))
+            (sym (state-later (rd .machine .graph) (grows .agree) b (rd .binds .bound)))
+            ∙ ap (λ v. runOf code heap st b q t v room ys) (grows .value);
       }
 
     pub over-long : made ≡ false → (r : Outcome) → r .status ≡ Refused (tooLong (st .fuel) room t) → r .state ≡ st
-        → Ran 1 heap heap₁ slots slots st b r (runOf p terms functions heap st b q t v room)
+        → Ran 1 heap heap₁ slots slots st b r (runOf code heap st b q t v room)
     over-long e r s q′ = rw (M .old e)
-        (slack (refuses r (rd .machine .graph) s q′ (λ ys. too-long (programAt p terms functions ys) _ _ _ v room (st .fuel) (sym (M .answer) ∙ e)
-        ∙ ap (λ k. refusalOf (tooLong (st .fuel) room k)) (tree-entry (rd .machine .code .entries) t (rd .term) ys))) 1 (omega arith))
+        (slack (refuses r (rd .machine .graph) s q′ (λ ys. too-long (programIn code ys) _ _ _ v room (st .fuel) (sym (M .answer) ∙ e)
+        ∙ ap (λ k. refusalOf (tooLong (st .fuel) room k)) (tree-entry (rd .machine .rows) t (rd .term) ys))) 1 (omega arith))
 
 ----------------------------------------------------------------
 -- A variable more, of which nothing is known
@@ -215,24 +215,26 @@ module _ {b : View} {q top : ℕ} (B : Binds b q top) (space : b .len < 32) {b�
       ancillae-same heap (b₁ .slots) (b .slots) 0 q
       (λ j h. ap (λ (l : List ℕ). getD l j 0) (O .slots) ∙ getD-set-other (b .slots) (b .len) j unknown 0 (λ e. omega (arith, B .within)))
 
-module _ {p terms functions heap slots : List ℕ} {st : Machine} {b : View} {q t room : ℕ} (rd : Ready 0 0 p terms functions heap slots st b q (b .len + 1) t room)
+module _ {code heap slots : List ℕ} {st : Machine} {b : View} {q t room : ℕ} (rd : Ready 0 0 code heap slots st b q (b .len + 1) t room)
     (space : b .len < 32) {b₁ : View} (O : Opens b unknown b₁) where
-  pub inner-ready : Ready 0 0 p terms functions heap slots st b₁ q (b₁ .len) t room
+  pub inner-ready : Ready 0 0 code heap slots st b₁ q (b₁ .len) t room
   inner-ready = record {
     machine = rd .machine;
     binds = opened-binds O (rd .binds .bound) space (left refl) (rd .binds);
     term = rd .term;
-    few = rd .few;
-    scoped = subst (λ n. ScopedAt p terms functions n t) (sym (O .len)) (rd .scoped);
+    scoped = subst (λ n. ScopedAt code n t) (sym (O .len)) (rd .scoped);
     tall = omega arith;
   }
 
-  inner-run : (v : Val) (ys : List TypeEntry) → runOf p terms functions heap st b₁ q t v room ys ≡ underOf p terms functions heap st b q t v room ys
-  inner-run v ys = ap₂ (λ a σ. backward fits (programAt p terms functions ys) room a σ (treeAt p terms ys t) v (st .fuel)) (inner-ancillae (rd .binds) space O heap) (inner-state (rd .binds) space O heap)
+  inner-run : (v : Val) (ys : List TypeEntry) → runOf code heap st b₁ q t v room ys ≡ underOf code heap st b q t v room ys
+  inner-run v ys = ap₂ (λ a σ. backward fits (programIn code ys) room a σ (treeIn code ys t) v (st .fuel)) (inner-ancillae (rd .binds) space O heap)
+      (inner-state (rd .binds) space O heap)
 
-  module _ {node : ℕ} (low : node < st .top) {heap₁ slots₁ : List ℕ} {r : Outcome} (d : Ran 0 heap heap₁ slots slots₁ st b₁ r (runOf p terms functions heap st b₁ q t (valueAt heap node) room)) where
+  module _ {node : ℕ} (low : node < st .top) {heap₁ slots₁ : List ℕ} {r : Outcome}
+      (d : Ran 0 heap heap₁ slots slots₁ st b₁ r (runOf code heap st b₁ q t (valueAt heap node) room)) where
     pub inner-stopped : {w : Refusal} → r .status ≡ Refused w → (l : Left)
-        → RanUnder heap heap₁ slots slots₁ st b (record { out = record { status = r .status; state = r .state; bindings = l .state }; newest = l .newest }) (underOf p terms functions heap st b q t (valueAt heap node) room)
+        → RanUnder heap heap₁ slots slots₁ st b (record { out = record { status = r .status; state = r .state; bindings = l .state }; newest = l .newest })
+        (underOf code heap st b q t (valueAt heap node) room)
     inner-stopped {w} s l = record {
       moves = d .moves;
       follows = λ n. absurd (not-done s n);
@@ -248,7 +250,8 @@ module _ {p terms functions heap slots : List ℕ} {st : Machine} {b : View} {q 
       inner-some = (omega (arith, d .follows s .len, O .len), d .follows s .bound .few)
 
       pub inner-done : {l : Left} → Goes (r .bindings) l
-          → RanUnder heap heap₁ slots slots₁ st b (record { out = record { status = r .status; state = r .state; bindings = l .state }; newest = l .newest }) (underOf p terms functions heap st b q t (valueAt heap node) room)
+          → RanUnder heap heap₁ slots slots₁ st b (record { out = record { status = r .status; state = r .state; bindings = l .state }; newest = l .newest })
+          (underOf code heap st b q t (valueAt heap node) room)
       inner-done {l} L = record {
         moves = d .moves;
         follows = λ n. goes-follows L (d .follows s .bound) (inner-some .0) O (rd .binds .bound .full) (d .follows s);

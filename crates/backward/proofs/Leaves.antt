@@ -10,24 +10,24 @@ use lib.ListN.{length, getD, set, length-set}
 use lib.Seq.{getD-set-same, getD-set-other}
 use lib.Dec.{eqb}
 use borrow.Author.Tests.{eq-eqb, ne-eqb, eqb-true, eqb-false}
+use package.Rattle.uses.specs.Sets.{has}
 use package.Rattle.rules.specs.Val.{Val, unit}
 use package.Rattle.rules.specs.Run.{stuck, Run, give}
 use package.Rattle.rules.specs.Machine.{State, meet, leave, onUnit}
 use package.Rattle.rules.proofs.Basics.{given}
 use package.Rattle.values.specs.Nodes.{kindAt, ofKind, valueWithin, valueAt}
 use package.Rattle.values.proofs.Heaps.{value-unit}
-use package.Rattle.scopes.specs.Slots.{unknown, found, meaning as slotMeaning, Slots}
-use package.Rattle.scopes.specs.Bindings.{View, Left, slotsFrom, viewOf, stateOf, Bound, Opens, Meets, Leaves, Meetable, MeetsIn}
+use package.Rattle.scopes.specs.Slots.{unknown, found, meaning as slotMeaning, Slots, Machine, Scope}
+use package.Rattle.scopes.specs.Bindings.{View, Left, slotsFrom, viewOf, stateOf, Bound, Opens, Meets, Leaves, Meetable, MeetsAt}
 use package.Rattle.scopes.specs.declared.bindings.Bindings.{Bindings}
 use package.Rattle.scopes.specs.declared.bindings.Met.{Met}
 use package.Rattle.scopes.proofs.Marks.{found-mark, found-node}
 use package.Rattle.scopes.proofs.Scopes.{slots-bind}
 use package.Rattle.scopes.proofs.Bound.{meet-bound, leaves-state}
 use package.Rattle.scopes.proofs.Views.{view-at}
-use package.Rattle.forward.specs.Outcomes.{Machine}
 use package.Rattle.forward.specs.Ready.{Graph}
 use package.Rattle.backward.specs.Outcomes.{Status, Done, Refused, statusOf, refusalOf, tooLong, against, mismatch, nodeOr}
-use package.Rattle.backward.specs.Ready.{Binds, Follows, Stays, Goes, Variable, UnitMet}
+use package.Rattle.backward.specs.Ready.{Binds, Follows, Stays, Goes, Leavable, Variable, UnitMet}
 use package.Rattle.backward.proofs.Runs.{meaning-done, meaning-refused, not-done, follows-same}
 use Rattle.backward.specs.declared.outcomes.Out.{Out}
 use Rattle.backward.specs.declared.outcomes.Refusal.the-variants.{Fuel, Height, Long, NoInput, Stuck}
@@ -82,32 +82,42 @@ choice-right y e q = rw e q
 ----------------------------------------------------------------
 -- Variables
 
-pub meetable-same : {slots : List ℕ} {b : Bindings} {base i v top : ℕ} → i ≡ v → Meetable slots b base v top → Meetable slots b base i top
-meetable-same e M = rw e M
+pub meetable-same : {slots : List ℕ} {b : Bindings} {base base′ i i′ top : ℕ} → base ≡ base′ → i ≡ i′ → Meetable slots b base′ i′ top
+    → Meetable slots b base i top
+meetable-same p q M = rw (p, q) M
 
 -- what the code met, as the outcome says it
-met-as : {heap slots slots′ : List ℕ} {b : Bindings} {base i node : ℕ} {r : Met} → MeetsIn heap slots slots′ b base i node r → (agrees : Bool) → agrees ≡ r .agrees
-    → MeetsIn heap slots slots′ b base i node (record { agrees = agrees; state = r .state })
+met-as : {heap st st′ : List ℕ} {b : Bindings} {base i node : ℕ} {r : Met} → MeetsAt heap st st′ b base i node r → (agrees : Bool) → agrees ≡ r .agrees
+    → MeetsAt heap st st′ b base i node (record { agrees = agrees; state = r .state })
 met-as M agrees e = record {
-  binds = λ u. given (M .binds u) λ (a, state, slots). (e ∙ a, state, slots);
-  compares = λ u. given (M .compares u) λ (a, state, slots). (e ∙ a, state, slots);
+  lengths = M .lengths;
+  machine = M .machine;
+  met = record {
+    binds = λ u. given (M .met .binds u) λ (a, state, slots). (e ∙ a, state, slots);
+    compares = λ u. given (M .met .compares u) λ (a, state, slots). (e ∙ a, state, slots);
+  };
 }
 
-module _ {heap slots slots′ : List ℕ} {b : Bindings} {base i v node : ℕ} {r : Met} (M : MeetsIn heap slots slots′ b base i node r) (q : i ≡ v) (t : ℕ) where
-  pub agrees-out : r .agrees ≡ true → Variable heap slots slots′ b base v node t (record { stop = 0; state = r .state })
-  agrees-out e = rw (← q) (record { met = met-as M (eqb 0 0) (eq-eqb 0 0 refl ∙ sym e); differs = λ n. absurd (n refl) })
+module _ {heap st st′ : List ℕ} {b : Bindings} {base base′ i i′ node : ℕ} {r : Met} (M : MeetsAt heap st st′ b base i node r) (p : base ≡ base′) (q : i ≡ i′)
+    (t : ℕ) where
+  pub agrees-out : r .agrees ≡ true → Variable heap st st′ b base′ i′ node t (record { stop = 0; state = r .state })
+  agrees-out e = rw (← p, ← q) (record { met = met-as M (eqb 0 0) (eq-eqb 0 0 refl ∙ sym e); differs = λ n. absurd (n refl) })
 
-  pub differs-out : r .agrees ≡ false → statusOf (t + 1) ≡ Refused (NoInput t) → Variable heap slots slots′ b base v node t (record { stop = t + 1; state = r .state })
-  differs-out e w = rw (← q) (record { met = met-as M (eqb (t + 1) 0) (ne-eqb (t + 1) 0 (λ z. omega arith) ∙ sym e); differs = λ _. w })
+  pub differs-out : r .agrees ≡ false → statusOf (t + 1) ≡ Refused (NoInput t)
+      → Variable heap st st′ b base′ i′ node t (record { stop = t + 1; state = r .state })
+  differs-out e w = rw (← p, ← q) (record { met = met-as M (eqb (t + 1) 0) (ne-eqb (t + 1) 0 (λ z. omega arith) ∙ sym e); differs = λ _. w })
 
 -- meeting keeps what is known
-pub meets-follows : (heap : List ℕ) (b : View) (i node top : ℕ) (agrees : Bool) (r : View) → Meets heap b i node agrees r → Bound b top → i < b .len → node < top → Follows b r top
+pub meets-follows : (heap : List ℕ) (b : View) (i node top : ℕ) (agrees : Bool) (r : View) → Meets heap b i node agrees r → Bound b top → i < b .len
+    → node < top → Follows b r top
 meets-follows heap b i node top agrees r M B l low = go (eqb (getD (b .slots) i 0) unknown) refl
   where
-    bound-slot : (slots : List ℕ) → slots ≡ set (b .slots) i node → (j : ℕ) → Dec (j < i) → Dec (i < j) → j < b .len → (getD slots j 0 ≡ unknown) ⊎ (getD slots j 0 < top)
+    bound-slot : (slots : List ℕ) → slots ≡ set (b .slots) i node → (j : ℕ) → Dec (j < i) → Dec (i < j) → j < b .len
+        → (getD slots j 0 ≡ unknown) ⊎ (getD slots j 0 < top)
     bound-slot slots e j (yes x) d h = rw (e, getD-set-other (b .slots) i j node 0 (λ q. omega arith)) (B .held .held j h)
     bound-slot slots e j (no x) (yes y) h = rw (e, getD-set-other (b .slots) i j node 0 (λ q. omega arith)) (B .held .held j h)
-    bound-slot slots e j (no x) (no y) h = let z : j ≡ i = omega arith in rw (e, z, getD-set-same (b .slots) i node 0 (omega (arith, B .full, B .few))) (right low)
+    bound-slot slots e j (no x) (no y) h = let z : j ≡ i = omega arith in rw (e, z, getD-set-same (b .slots) i node 0 (omega (arith, B .full, B .few)))
+        (right low)
 
     bound : getD (b .slots) i 0 ≡ unknown → (r .slots ≡ set (b .slots) i node) → (r .len ≡ b .len) → Follows b r top
     bound u s n = record {
@@ -124,21 +134,26 @@ meets-follows heap b i node top agrees r M B l low = go (eqb (getD (b .slots) i 
     go true e = let u = eqb-true (getD (b .slots) i 0) unknown e in bound u (M .binds u .1) (M .binds u .2)
     go false e = let u = eqb-false (getD (b .slots) i 0) unknown e in subst (λ (c : View). Follows b c top) (sym (M .compares u .1)) (follows-same B)
 
-module _ {heap : List ℕ} {st : Machine} {b : View} {i node : ℕ} {agrees : Bool} {r : View} (M : Meets heap b i node agrees r) (B : Bound b (st .top)) (small : st .top ≤ unknown) (l : i < b .len)
+module _ {heap : List ℕ} {st : Machine} {b : View} {i node : ℕ} {agrees : Bool} {r : View} (M : Meets heap b i node agrees r) (B : Bound b (st .top))
+    (small : st .top ≤ unknown) (l : i < b .len)
     (low : node < st .top) (t : ℕ) {s : Status} where
-  pub variable-met : agrees ≡ true → s ≡ Done → Stays heap st b (record { status = s; state = st; bindings = r }) (meet t (stateOf heap b) i (valueAt heap node) (st .fuel))
+  pub variable-met : agrees ≡ true → s ≡ Done → Stays heap st b (record { status = s; state = st; bindings = r })
+      (meet t (stateOf heap b) i (valueAt heap node) (st .fuel))
   variable-met e d = record {
     state = refl;
     follows = λ _. meets-follows heap b i node (st .top) agrees r M B l low;
-    answer = meaning-done heap (record { status = s; state = st; bindings = r }) d ∙ sym (meet-bound heap b i node (st .top) t (st .fuel) agrees r M B l (λ z. omega arith) .0 e);
+    answer = meaning-done heap (record { status = s; state = st; bindings = r }) d
+        ∙ sym (meet-bound heap b i node (st .top) t (st .fuel) agrees r M B l (λ z. omega arith) .0 e);
   }
 
-  pub variable-differs : agrees ≡ false → s ≡ Refused (NoInput t) → Stays heap st b (record { status = s; state = st; bindings = r }) (meet t (stateOf heap b) i (valueAt heap node) (st .fuel))
+  pub variable-differs : agrees ≡ false → s ≡ Refused (NoInput t)
+      → Stays heap st b (record { status = s; state = st; bindings = r }) (meet t (stateOf heap b) i (valueAt heap node) (st .fuel))
   unfolding refusalOf
   variable-differs e w = record {
     state = refl;
     follows = λ d. absurd (not-done w d);
-    answer = meaning-refused heap (record { status = s; state = st; bindings = r }) w ∙ sym (meet-bound heap b i node (st .top) t (st .fuel) agrees r M B l (λ z. omega arith) .1 e);
+    answer = meaning-refused heap (record { status = s; state = st; bindings = r }) w
+        ∙ sym (meet-bound heap b i node (st .top) t (st .fuel) agrees r M B l (λ z. omega arith) .1 e);
   }
 
 ----------------------------------------------------------------
@@ -153,26 +168,31 @@ no-unit (suc (suc (suc zero))) v w m fuel d = refl
 no-unit (suc (suc (suc (suc n)))) v w m fuel d = refl
 
 module _ {heap : List ℕ} (st : Machine) (G : Graph heap (st .top)) {b : View} (B : Bound b (st .top)) (node : ℕ) {s : Status} where
-  pub unit-met : kindAt heap node ≡ 0 → s ≡ Done → Stays heap st b (record { status = s; state = st; bindings = b }) (onUnit (valueAt heap node) (give (stateOf heap b)) (st .fuel))
+  pub unit-met : kindAt heap node ≡ 0 → s ≡ Done → Stays heap st b (record { status = s; state = st; bindings = b })
+      (onUnit (valueAt heap node) (give (stateOf heap b)) (st .fuel))
   unfolding onUnit
   unit-met e d = record {
     state = refl;
     follows = λ _. follows-same B;
-    answer = meaning-done heap (record { status = s; state = st; bindings = b }) d ∙ sym (ap (λ v. onUnit v (give (stateOf heap b)) (st .fuel)) (value-unit heap (st .top) (G .right) node e));
+    answer = meaning-done heap (record { status = s; state = st; bindings = b }) d
+        ∙ sym (ap (λ v. onUnit v (give (stateOf heap b)) (st .fuel)) (value-unit heap (st .top) (G .right) node e));
   }
 
-  pub unit-stuck : ¬ (kindAt heap node ≡ 0) → s ≡ Refused Stuck → Stays heap st b (record { status = s; state = st; bindings = b }) (onUnit (valueAt heap node) (give (stateOf heap b)) (st .fuel))
+  pub unit-stuck : ¬ (kindAt heap node ≡ 0) → s ≡ Refused Stuck
+      → Stays heap st b (record { status = s; state = st; bindings = b }) (onUnit (valueAt heap node) (give (stateOf heap b)) (st .fuel))
   unfolding refusalOf valueAt valueWithin
   unit-stuck n w = record {
     state = refl;
     follows = λ d. absurd (not-done w d);
-    answer = meaning-refused heap (record { status = s; state = st; bindings = b }) w ∙ sym (no-unit (kindAt heap node) _ _ (give (stateOf heap b)) (st .fuel) n);
+    answer = meaning-refused heap (record { status = s; state = st; bindings = b }) w
+        ∙ sym (no-unit (kindAt heap node) _ _ (give (stateOf heap b)) (st .fuel) n);
   }
 
 pub unit-there : {heap : List ℕ} (b : Bindings) (node : ℕ) → kindAt heap node ≡ 0 → UnitMet heap b node (record { stop = 0; state = b })
 unit-there b node e = record { met = λ _. refl; differs = λ n. absurd (n e); state = refl }
 
-pub unit-missing : {heap : List ℕ} (b : Bindings) (node : ℕ) {r : Out} → ¬ (kindAt heap node ≡ 0) → statusOf (r .stop) ≡ Refused Stuck → r .state ≡ b → UnitMet heap b node r
+pub unit-missing : {heap : List ℕ} (b : Bindings) (node : ℕ) {r : Out} → ¬ (kindAt heap node ≡ 0) → statusOf (r .stop) ≡ Refused Stuck → r .state ≡ b
+    → UnitMet heap b node r
 unit-missing b node n e s = record { met = λ k. absurd (n k); differs = λ _. e; state = s }
 
 ----------------------------------------------------------------
@@ -186,8 +206,17 @@ pub node-known : (node : ℕ) → ¬ (node ≡ unknown) → node ≡ nodeOr node
 unfolding nodeOr
 node-known node n = rw (nodeOr, ne-eqb node unknown n)
 
+-- as the state says it
+module _ {slots : List ℕ} {b : Bindings} {sc : Scope} (L : Leavable slots b sc) {n : ℕ} (q : n ≡ sc .n) where
+  pub leaves-node : has (b .bound) n ≡ true → {at x : ℕ} → at ≡ sc .base + sc .n → x ≡ getD slots at 0 → x ≡ nodeOr (getD slots (sc .base + sc .n) 0)
+  leaves-node h e f = f ∙ ap (λ at. getD slots at 0) e ∙ node-known _ (L .tells .bound (sc .n) (omega arith) (rw q at h))
+
+  pub leaves-unit : has (b .bound) n ≡ false → 0 ≡ nodeOr (getD slots (sc .base + sc .n) 0)
+  leaves-unit h = node-mark _ (L .tells .marked (sc .n) (omega arith) (rw q at h))
+
 -- the newest of the variables that stand in slots from `base` on
-pub view-goes : (slots : List ℕ) (base n : ℕ) → n < 32 → Goes (viewOf slots base (n + 1)) (record { newest = nodeOr (getD slots (base + n) 0); state = viewOf slots base n })
+pub view-goes : (slots : List ℕ) (base n : ℕ) → n < 32 → Goes (viewOf slots base (n + 1))
+    (record { newest = nodeOr (getD slots (base + n) 0); state = viewOf slots base n })
 view-goes slots base n l = record {
   newest = ap nodeOr (sym (ap (λ j. getD (slotsFrom slots base 32) j 0) (let z : n + 1 - 1 ≡ n = omega arith in z) ∙ view-at slots base n l));
   slots = refl;
@@ -216,7 +245,8 @@ module _ {b : View} {r : Left} (L : Goes b r) {top : ℕ} (B : Bound b top) (som
       front : stateOf heap b ≡ slotMeaning heap (found (getD (b .slots) (b .len - 1) 0)) ∷ stateOf heap (r .state)
       front = leaves-state heap b (record { newest = getD (b .slots) (b .len - 1) 0; state = r .state }) as-left some
 
-      go : (e : Bool) → eqb (getD (b .slots) (b .len - 1) 0) unknown ≡ e → leave (stateOf heap b) next fuel ≡ next (valueAt heap (r .newest)) (stateOf heap (r .state)) fuel
+      go : (e : Bool) → eqb (getD (b .slots) (b .len - 1) 0) unknown ≡ e
+          → leave (stateOf heap b) next fuel ≡ next (valueAt heap (r .newest)) (stateOf heap (r .state)) fuel
       go true e =
           let m = eqb-true (getD (b .slots) (b .len - 1) 0) unknown e in
           ap (λ σ. leave σ next fuel) (front ∙ ap (λ f. slotMeaning heap f ∷ stateOf heap (r .state)) (found-mark _ m))
@@ -256,5 +286,6 @@ module _ {c c₁ : View} {node : ℕ} (O : Opens c node c₁) {top : ℕ} (B : B
   opened-binds {q} D = record {
     bound = opened-bound;
     within = omega (arith, D .within, O .len);
-    ancillae = λ i h. rw (ap (λ (l : List ℕ). getD l i 0) (O .slots) ∙ getD-set-other (c .slots) (c .len) i node 0 (λ e. omega (arith, D .within))) (D .ancillae i h);
+    ancillae = λ i h. rw (ap (λ (l : List ℕ). getD l i 0) (O .slots) ∙ getD-set-other (c .slots) (c .len) i node 0 (λ e. omega (arith, D .within)))
+        (D .ancillae i h);
   }

@@ -25,6 +25,10 @@ pub mod Calling
 pub mod Arriving
 -- a scope with one variable more, in code
 pub mod Opening
+-- the kinds that bind nothing, in code
+pub mod Stepping
+-- let, let pair and case, in code
+pub mod Scoping
 -- a call in code
 pub mod Called
 -- the run of a function

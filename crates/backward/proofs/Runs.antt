@@ -1,5 +1,5 @@
 -- Laws of backward runs in code: what an outcome says, one run after another, and what stays ready after a run.
-use Prim.Native.Nat.{ℕ, _+_, _-_, _≤_, _<_}
+use Prim.Native.Nat.{ℕ, _+_, _≤_, _<_}
 use native.Mathlib.Omega.{arith}
 use mathlib.Core.Path.{_≡_, refl, sym, ap, subst, _∙_}
 use mathlib.Core.Logic.{⊎-elim, inl as left, inr as right}
@@ -13,16 +13,16 @@ use package.Rattle.calls.specs.Entries.{TypeEntry}
 use package.Rattle.values.specs.Nodes.{valueAt, Agree}
 use package.Rattle.values.proofs.Heaps.{value-kept}
 use package.Rattle.values.proofs.Places.{agree-refl, agree-trans, agree-down}
-use package.Rattle.scopes.specs.Slots.{unknown, Slots}
+use package.Rattle.scopes.specs.Slots.{unknown, Slots, Machine}
 use package.Rattle.scopes.specs.Bindings.{View, stateOf, Bound}
 use package.Rattle.scopes.proofs.Scopes.{state-kept}
 use package.Rattle.yields.specs.Yields.{Ancillae}
 use package.Rattle.yields.proofs.Ancillae.{ancillae-same, ancillae-kept}
-use package.Rattle.forward.specs.Outcomes.{Machine, refusalOf as carriedRefusal}
+use package.Rattle.forward.specs.Outcomes.{refusalOf as carriedRefusal}
 use package.Rattle.forward.specs.Ready.{Graph}
-use package.Rattle.forward.proofs.Answers.{below-mark}
 use package.Rattle.forward.specs.declared.outcomes.Refusal.{Refusal as Carried}
 use package.Rattle.forward.specs.declared.outcomes.Refusal.the-variants.{Fuel as cFuel, Height as cHeight, Long as cLong, FirstMatch as cFirstMatch, Stuck as cStuck}
+use package.Rattle.forward.proofs.Answers.{below-mark}
 use package.Rattle.backward.specs.Outcomes.{Status, Done, Refused, Outcome, Inner, refusalOf, answerOf, meaning, leftWith, carried}
 use package.Rattle.backward.specs.Ready.{Held, Binds, Follows, Moves, Ran, Stays, RanUnder, ancillaeOf}
 use Rattle.backward.specs.declared.outcomes.Refusal.{Refusal}
@@ -120,7 +120,8 @@ ancillae-held B = record {
 module _ {heap heap′ : List ℕ} {top : ℕ} (G : Graph heap top) (A : Agree top heap heap′) where
   pub state-later : (b : View) → Bound b top → stateOf heap b ≡ stateOf heap′ b
   unfolding stateOf
-  state-later b B = state-kept heap heap′ (b .slots) 0 (b .len) top (G .right) A (subst (λ n. Slots (b .slots) n top) (let z : b .len ≡ 0 + b .len = omega arith in z) (B .held))
+  state-later b B = state-kept heap heap′ (b .slots) 0 (b .len) top (G .right) A
+      (subst (λ n. Slots (b .slots) n top) (let z : b .len ≡ 0 + b .len = omega arith in z) (B .held))
 
   pub ancillae-later : (b : View) (q : ℕ) → Binds b q top → ancillaeOf heap b q ≡ ancillaeOf heap′ b q
   ancillae-later b q B = ancillae-kept heap heap′ (b .slots) 0 q top (G .right) A (ancillae-held B)
@@ -128,7 +129,8 @@ module _ {heap heap′ : List ℕ} {top : ℕ} (G : Graph heap top) (A : Agree t
 ----------------------------------------------------------------
 -- Moves
 
-pub moves-none : {heap slots slots′ : List ℕ} {st st′ : Machine} → Graph heap (st .top) → length slots ≡ length slots′ → st′ ≡ st → Moves 0 heap heap slots slots′ st st′
+pub moves-none : {heap slots slots′ : List ℕ} {st st′ : Machine} → Graph heap (st .top) → length slots ≡ length slots′ → st′ ≡ st
+    → Moves 0 heap heap slots slots′ st st′
 moves-none {heap} G l e = record {
   agree = agree-refl _ heap;
   graph = rw e G;
@@ -149,7 +151,8 @@ moves-then a b = record {
   owes = omega (arith, a .owes, b .owes);
 }
 
-pub moves-slack : {k : ℕ} {heap heap₁ slots slots₁ : List ℕ} {st st₁ : Machine} (k′ : ℕ) → Moves k heap heap₁ slots slots₁ st st₁ → k ≤ k′ → Moves k′ heap heap₁ slots slots₁ st st₁
+pub moves-slack : {k : ℕ} {heap heap₁ slots slots₁ : List ℕ} {st st₁ : Machine} (k′ : ℕ) → Moves k heap heap₁ slots slots₁ st st₁ → k ≤ k′
+    → Moves k′ heap heap₁ slots slots₁ st st₁
 moves-slack k′ a le = record {
   agree = a .agree;
   graph = a .graph;
@@ -162,10 +165,10 @@ moves-slack k′ a le = record {
 ----------------------------------------------------------------
 -- What stays
 
-module _ {k : ℕ} {p terms functions heap slots : List ℕ} {st : Machine} {room : ℕ} (H : Held k p terms functions heap slots st room) where
-  pub held-later : {heap′ slots′ : List ℕ} {st′ : Machine} → Moves 0 heap heap′ slots slots′ st st′ → Held k p terms functions heap′ slots′ st′ room
+module _ {k : ℕ} {code heap slots : List ℕ} {st : Machine} {room : ℕ} (H : Held k code heap slots st room) where
+  pub held-later : {heap′ slots′ : List ℕ} {st′ : Machine} → Moves 0 heap heap′ slots slots′ st st′ → Held k code heap′ slots′ st′ room
   held-later {heap′} M = record {
-    code = H .code;
+    rows = H .rows;
     bodies = H .bodies;
     graph = M .graph;
     some = omega (arith, H .some, M .grows);
@@ -177,9 +180,9 @@ module _ {k : ℕ} {p terms functions heap slots : List ℕ} {st : Machine} {roo
   }
 
   -- with fewer nodes owed, and less height
-  pub held-less : (k′ room′ : ℕ) → k′ ≤ k → room′ ≤ room → Held k′ p terms functions heap slots st room′
+  pub held-less : (k′ room′ : ℕ) → k′ ≤ k → room′ ≤ room → Held k′ code heap slots st room′
   held-less k′ room′ le le′ = record {
-    code = H .code;
+    rows = H .rows;
     bodies = H .bodies;
     graph = H .graph;
     some = H .some;
@@ -191,9 +194,9 @@ module _ {k : ℕ} {p terms functions heap slots : List ℕ} {st : Machine} {roo
   }
 
   -- with other slots, as many
-  pub held-slots : {slots′ : List ℕ} → length slots ≡ length slots′ → Held k p terms functions heap slots′ st room
+  pub held-slots : {slots′ : List ℕ} → length slots ≡ length slots′ → Held k code heap slots′ st room
   held-slots e = record {
-    code = H .code;
+    rows = H .rows;
     bodies = H .bodies;
     graph = H .graph;
     some = H .some;
@@ -211,7 +214,8 @@ module _ {k : ℕ} {p terms functions heap slots : List ℕ} {st : Machine} {roo
 -- Runs
 
 -- a step without parts
-pub stays : {heap slots slots′ : List ℕ} {st : Machine} {b : View} {out : Outcome} {res : Res State} {res′ : List TypeEntry → Res State} → Graph heap (st .top) → length slots ≡ length slots′
+pub stays : {heap slots slots′ : List ℕ} {st : Machine} {b : View} {out : Outcome} {res : Res State} {res′ : List TypeEntry → Res State}
+    → Graph heap (st .top) → length slots ≡ length slots′
     → Stays heap st b out res → ((ys : List TypeEntry) → res ≡ res′ ys) → Ran 0 heap heap slots slots′ st b out res′
 stays {b = b} {out = out} G l S e = record {
   moves = moves-none G l (S .state);
@@ -230,7 +234,8 @@ refuses {heap} out G s q e = record {
 
 -- a refusal says nothing of the bindings
 pub refused-with : {k : ℕ} {heap heap₁ slots slots₁ : List ℕ} {st : Machine} {b c : View} {r : Outcome} {w : Refusal} {res : List TypeEntry → Res State}
-    → Ran k heap heap₁ slots slots₁ st b r res → r .status ≡ Refused w → (d : View) → Ran k heap heap₁ slots slots₁ st c (record { status = r .status; state = r .state; bindings = d }) res
+    → Ran k heap heap₁ slots slots₁ st b r res → r .status ≡ Refused w → (d : View)
+    → Ran k heap heap₁ slots slots₁ st c (record { status = r .status; state = r .state; bindings = d }) res
 refused-with {heap₁ = heap₁} {r = r} R s d = record {
   moves = R .moves;
   follows = λ n. absurd (not-done s n);
@@ -238,18 +243,22 @@ refused-with {heap₁ = heap₁} {r = r} R s d = record {
 }
 
 -- slots that were written before
-pub moves-from : {k : ℕ} {heap heap₁ slots₀ slots₁ : List ℕ} {st st₁ : Machine} (slots : List ℕ) → length slots ≡ length slots₀ → Moves k heap heap₁ slots₀ slots₁ st st₁ → Moves k heap heap₁ slots slots₁ st st₁
+pub moves-from : {k : ℕ} {heap heap₁ slots₀ slots₁ : List ℕ} {st st₁ : Machine} (slots : List ℕ) → length slots ≡ length slots₀
+    → Moves k heap heap₁ slots₀ slots₁ st st₁ → Moves k heap heap₁ slots slots₁ st st₁
 moves-from slots e M = record { agree = M .agree; graph = M .graph; lengths = e ∙ M .lengths; grows = M .grows; spends = M .spends; owes = M .owes }
 
-pub ran-from : {k : ℕ} {heap heap₁ slots₀ slots₁ : List ℕ} {st : Machine} {b : View} {r : Outcome} {res : List TypeEntry → Res State} (slots : List ℕ) → length slots ≡ length slots₀
+pub ran-from : {k : ℕ} {heap heap₁ slots₀ slots₁ : List ℕ} {st : Machine} {b : View} {r : Outcome} {res : List TypeEntry → Res State} (slots : List ℕ)
+    → length slots ≡ length slots₀
     → Ran k heap heap₁ slots₀ slots₁ st b r res → Ran k heap heap₁ slots slots₁ st b r res
 ran-from slots e R = record { moves = moves-from slots e (R .moves); follows = R .follows; answer = R .answer }
 
-pub under-from : {heap heap₁ slots₀ slots₁ : List ℕ} {st : Machine} {b : View} {r : Inner} {res : List TypeEntry → Res State} (slots : List ℕ) → length slots ≡ length slots₀
+pub under-from : {heap heap₁ slots₀ slots₁ : List ℕ} {st : Machine} {b : View} {r : Inner} {res : List TypeEntry → Res State} (slots : List ℕ)
+    → length slots ≡ length slots₀
     → RanUnder heap heap₁ slots₀ slots₁ st b r res → RanUnder heap heap₁ slots slots₁ st b r res
 under-from slots e R = record { moves = moves-from slots e (R .moves); follows = R .follows; there = R .there; answer = R .answer }
 
-module _ {k : ℕ} {heap heap₁ slots slots₁ : List ℕ} {st : Machine} {b : View} {r : Outcome} {res₁ : List TypeEntry → Res State} (d : Ran k heap heap₁ slots slots₁ st b r res₁) where
+module _ {k : ℕ} {heap heap₁ slots slots₁ : List ℕ} {st : Machine} {b : View} {r : Outcome} {res₁ : List TypeEntry → Res State}
+    (d : Ran k heap heap₁ slots slots₁ st b r res₁) where
   -- the same run, said to give another thing that is equal
   pub says : {res : List TypeEntry → Res State} → ((ys : List TypeEntry) → res₁ ys ≡ res ys) → Ran k heap heap₁ slots slots₁ st b r res
   says e = record { moves = d .moves; follows = d .follows; answer = λ ys. d .answer ys ∙ e ys }
@@ -257,17 +266,20 @@ module _ {k : ℕ} {heap heap₁ slots slots₁ : List ℕ} {st : Machine} {b : 
   pub slack : (k′ : ℕ) → k ≤ k′ → Ran k′ heap heap₁ slots slots₁ st b r res₁
   slack k′ le = record { moves = moves-slack k′ (d .moves) le; follows = d .follows; answer = d .answer }
 
-module _ {heap heap₁ slots slots₁ : List ℕ} {st : Machine} {b : View} {r : Outcome} {res₁ : List TypeEntry → Res State} (d : Ran 0 heap heap₁ slots slots₁ st b r res₁) where
+module _ {heap heap₁ slots slots₁ : List ℕ} {st : Machine} {b : View} {r : Outcome} {res₁ : List TypeEntry → Res State}
+    (d : Ran 0 heap heap₁ slots slots₁ st b r res₁) where
   -- a part was refused, and so is the whole
   pub part-refused : {w : Refusal} {res : List TypeEntry → Res State} (next : List TypeEntry → State → Run State) → r .status ≡ Refused w
       → ((ys : List TypeEntry) → res ys ≡ after (res₁ ys) (next ys)) → Ran 0 heap heap₁ slots slots₁ st b r res
   part-refused {w} next s e =
-      says d (λ ys. sym (d .answer ys) ∙ meaning-refused heap₁ r s ∙ sym (refusal-after w (next ys)) ∙ sym (ap (λ x. after x (next ys)) (sym (d .answer ys) ∙ meaning-refused heap₁ r s)) ∙ sym (e ys))
+      says d (λ ys. sym (d .answer ys) ∙ meaning-refused heap₁ r s ∙ sym (refusal-after w (next ys))
+      ∙ sym (ap (λ x. after x (next ys)) (sym (d .answer ys) ∙ meaning-refused heap₁ r s)) ∙ sym (e ys))
 
   -- a part was run, and the run goes on
   pub part-done : {res : List TypeEntry → Res State} (next : List TypeEntry → State → Run State) → r .status ≡ Done
       → ((ys : List TypeEntry) → res ys ≡ after (res₁ ys) (next ys))
-      → {k : ℕ} {heap₂ slots₂ : List ℕ} {out : Outcome} → Ran k heap₁ heap₂ slots₁ slots₂ (r .state) (r .bindings) out (λ ys. next ys (stateOf heap₁ (r .bindings)) (r .state .fuel))
+      → {k : ℕ} {heap₂ slots₂ : List ℕ} {out : Outcome} → Ran k heap₁ heap₂ slots₁ slots₂ (r .state) (r .bindings) out
+      (λ ys. next ys (stateOf heap₁ (r .bindings)) (r .state .fuel))
       → Ran k heap heap₂ slots slots₂ st b out res
   part-done next s e b₂ = record {
     moves = moves-then (d .moves) (b₂ .moves);
@@ -278,22 +290,26 @@ module _ {heap heap₁ slots slots₁ : List ℕ} {st : Machine} {b : View} {r :
 ----------------------------------------------------------------
 -- Runs under one variable more
 
-module _ {heap heap₁ slots slots₁ : List ℕ} {st : Machine} {b : View} {r : Inner} {res₁ : List TypeEntry → Res State} (d : RanUnder heap heap₁ slots slots₁ st b r res₁) where
+module _ {heap heap₁ slots slots₁ : List ℕ} {st : Machine} {b : View} {r : Inner} {res₁ : List TypeEntry → Res State}
+    (d : RanUnder heap heap₁ slots slots₁ st b r res₁) where
   pub under-refused : {w : Refusal} {c : View} {res : List TypeEntry → Res State} (next : List TypeEntry → Val → State → Run State) → r .out .status ≡ Refused w
       → ((ys : List TypeEntry) → res ys ≡ after (res₁ ys) (λ σ. leave σ (next ys))) → Ran 0 heap heap₁ slots slots₁ st c (r .out) res
   under-refused {w} next s e = record {
     moves = d .moves;
     follows = λ q. absurd (not-done s q);
-    answer = λ ys. meaning-refused heap₁ (r .out) s ∙ sym (left-refused heap₁ (r .out .bindings) (r .newest) (r .out .state .fuel) (next ys) s) ∙ sym (d .answer ys (next ys)) ∙ sym (e ys);
+    answer = λ ys. meaning-refused heap₁ (r .out) s ∙ sym (left-refused heap₁ (r .out .bindings) (r .newest) (r .out .state .fuel) (next ys) s)
+        ∙ sym (d .answer ys (next ys)) ∙ sym (e ys);
   }
 
   pub under-done : {c c₁ : View} {res : List TypeEntry → Res State} (next : List TypeEntry → Val → State → Run State) → r .out .status ≡ Done
       → ((ys : List TypeEntry) → res ys ≡ after (res₁ ys) (λ σ. leave σ (next ys)))
       → {k : ℕ} {heap₂ slots₂ : List ℕ} {out : Outcome}
-      → Ran k heap₁ heap₂ slots₁ slots₂ (r .out .state) c₁ out (λ ys. next ys (valueAt heap₁ (r .newest)) (stateOf heap₁ (r .out .bindings)) (r .out .state .fuel))
+      → Ran k heap₁ heap₂ slots₁ slots₂ (r .out .state) c₁ out
+      (λ ys. next ys (valueAt heap₁ (r .newest)) (stateOf heap₁ (r .out .bindings)) (r .out .state .fuel))
       → Follows c c₁ (r .out .state .top) → Ran k heap heap₂ slots slots₂ st c out res
   under-done next s e b₂ F = record {
     moves = moves-then (d .moves) (b₂ .moves);
     follows = λ q. follows-then F (b₂ .follows q);
-    answer = λ ys. b₂ .answer ys ∙ sym (left-done heap₁ (r .out .bindings) (r .newest) (r .out .state .fuel) (next ys) s) ∙ sym (d .answer ys (next ys)) ∙ sym (e ys);
+    answer = λ ys. b₂ .answer ys ∙ sym (left-done heap₁ (r .out .bindings) (r .newest) (r .out .state .fuel) (next ys) s) ∙ sym (d .answer ys (next ys))
+        ∙ sym (e ys);
   }

@@ -4,22 +4,20 @@ use native.Mathlib.Omega.{arith}
 use mathlib.Core.Path.{_≡_, refl, sym, ap, ap₂, _∙_}
 use mathlib.Core.Logic.{⊎-elim, inr as right}
 use mathlib.Core.List.{List}
-use lib.ListN.{length, getD}
+use lib.ListN.{length}
 use package.Rattle.rules.specs.Limits.{fits}
 use package.Rattle.rules.specs.Val.{Val, inl, inr, pair, roll}
 use package.Rattle.rules.specs.Term.{Term}
 use package.Rattle.rules.specs.Run.{Res, Run, after, give, refuse}
 use package.Rattle.rules.specs.Machine.{State, meet, onSum, onPair, onRoll, onUnit, forward, backwardStep, backward}
-use package.Rattle.calls.specs.Fields.{kindAt}
 use package.Rattle.calls.specs.Entries.{TypeEntry}
-use package.Rattle.program.specs.Parts.{variable, first, second}
+use package.Rattle.decoded.specs.Rows.{firstIn, kindIn, programIn, secondIn, treeIn}
+use package.Rattle.decoded.proofs.Trees.{part-inl, part-inr, part-roll, part-unroll, parts-pair, tree-inl, tree-inr, tree-pair, tree-roll, tree-unit, tree-unroll, tree-var}
 use package.Rattle.values.specs.Nodes.{Room, ofKind, Single, valueWithin, valueAt, leftAt, rightAt, kindAt as nodeKind}
 use package.Rattle.values.proofs.Heaps.{value-inl, value-inr, value-pair, value-roll, value-kept}
 use package.Rattle.scopes.specs.Bindings.{View, stateOf}
+use package.Rattle.scopes.specs.Slots.{Machine}
 use package.Rattle.yields.specs.Yields.{Wraps}
-use package.Rattle.forward.specs.Outcomes.{Machine}
-use package.Rattle.forward.specs.Code.{treeAt, programAt}
-use package.Rattle.forward.proofs.Trees.{Part, tree-var, tree-unit, tree-inl, tree-inr, tree-pair, tree-roll, tree-unroll, part-inl, part-inr, part-roll, part-unroll, parts-pair}
 use package.Rattle.forward.proofs.Binds.{no-pair}
 use package.Rattle.backward.specs.Outcomes.{Done, Refused, Outcome, refusalOf, mismatch}
 use package.Rattle.backward.specs.Ready.{Ready, Ran, Stays, ancillaeOf, runOf, stepOf}
@@ -38,7 +36,8 @@ other-inl zero v w go t fuel d = ap refusalOf (against-none 2 0 t (λ e. omega a
 other-inl (suc zero) v w go t fuel d = absurd (d refl)
 other-inl (suc (suc zero)) v w go t fuel d = ap refusalOf (against-other 2 2 t refl ∙ mismatch-left 1 2 t refl)
 other-inl (suc (suc (suc zero))) v w go t fuel d = ap refusalOf (against-none 2 3 t (λ e. omega arith) ∙ mismatch-left 1 3 t refl)
-other-inl (suc (suc (suc (suc n)))) v w go t fuel d = ap refusalOf (against-none 2 (suc (suc (suc (suc n)))) t (λ e. omega arith) ∙ mismatch-left 1 (suc (suc (suc (suc n)))) t refl)
+other-inl (suc (suc (suc (suc n)))) v w go t fuel d = ap refusalOf (against-none 2 (suc (suc (suc (suc n)))) t (λ e. omega arith)
+    ∙ mismatch-left 1 (suc (suc (suc (suc n)))) t refl)
 
 other-inr : (n : ℕ) (v w : Val) (go : Val → Run State) (t fuel : ℕ) → ¬ (n ≡ 2) → onSum (ofKind n v w) (λ w. refuse 16 t) go fuel ≡ refusalOf (mismatch 2 n t)
 unfolding onSum ofKind refusalOf
@@ -60,28 +59,25 @@ other-roll (suc (suc (suc (suc n)))) v w go t fuel l d = absurd (d (omega arith)
 ----------------------------------------------------------------
 -- By kind
 
-module _ {p terms functions heap slots : List ℕ} {st : Machine} {b : View} {q t room : ℕ} (rd : Ready 1 1 p terms functions heap slots st b q (b .len) t room)
+module _ {code heap slots : List ℕ} {st : Machine} {b : View} {q t room : ℕ} (rd : Ready 1 1 code heap slots st b q (b .len) t room)
     {node : ℕ} (low : node < st .top) where
-  abbrev at : ℕ
-  at = getD terms t 0
-
   abbrev value : Val
   value = valueAt heap node
 
   abbrev step : List TypeEntry → Res State
-  step = stepOf p terms functions heap st b q t value room
+  step = stepOf code heap st b q t value room
 
   -- a part, from a state on
   abbrev pub go : List TypeEntry → State → ℕ → Val → Run State
-  go ys σ u w = backward fits (programAt p terms functions ys) (room - 1) (ancillaeOf heap b q) σ (treeAt p terms ys u) w
+  go ys σ u w = backward fits (programIn code ys) (room - 1) (ancillaeOf heap b q) σ (treeIn code ys u) w
 
   -- the step of a term whose tree is known
-  pub stepped : (ys : List TypeEntry) {x : Term} → treeAt p terms ys t ≡ x
-      → step ys ≡ backwardStep fits (programAt p terms functions ys) (forward fits (programAt p terms functions ys) (room - 1))
-      (backward fits (programAt p terms functions ys) (room - 1)) (ancillaeOf heap b q) (stateOf heap b) x value (st .fuel)
+  pub stepped : (ys : List TypeEntry) {x : Term} → treeIn code ys t ≡ x
+      → step ys ≡ backwardStep fits (programIn code ys) (forward fits (programIn code ys) (room - 1))
+      (backward fits (programIn code ys) (room - 1)) (ancillaeOf heap b q) (stateOf heap b) x value (st .fuel)
   stepped ys e =
-      ap (λ x. backwardStep fits (programAt p terms functions ys) (forward fits (programAt p terms functions ys) (room - 1))
-      (backward fits (programAt p terms functions ys) (room - 1)) (ancillaeOf heap b q) (stateOf heap b) x value (st .fuel)) e
+      ap (λ x. backwardStep fits (programIn code ys) (forward fits (programIn code ys) (room - 1))
+      (backward fits (programIn code ys) (room - 1)) (ancillaeOf heap b q) (stateOf heap b) x value (st .fuel)) e
 
   -- the value's node is there
   pub node-there : Room heap (node + 1)
@@ -90,22 +86,24 @@ module _ {p terms functions heap slots : List ℕ} {st : Machine} {b : View} {q 
   ----------------------------------------------------------------
   -- Variables and unit
 
-  pub var-done : kindAt p at ≡ 0 → {slots′ : List ℕ} → length slots ≡ length slots′ → {r : Outcome} → Stays heap st b r (meet t (stateOf heap b) (variable p at) value (st .fuel)) → Ran 1 heap heap slots slots′ st b r step
+  pub var-done : kindIn code t ≡ 0 → {slots′ : List ℕ} → length slots ≡ length slots′ → {r : Outcome}
+      → Stays heap st b r (meet t (stateOf heap b) (firstIn code t) value (st .fuel)) → Ran 1 heap heap slots slots′ st b r step
   unfolding backwardStep
-  var-done kind l S = slack (stays (rd .machine .graph) l S (λ ys. sym (stepped ys (tree-var (rd .machine .code .entries) t (rd .term) ys kind)))) 1 (omega arith)
+  var-done kind l S = slack (stays (rd .machine .graph) l S (λ ys. sym (stepped ys (tree-var (rd .machine .rows) t (rd .term) ys kind)))) 1 (omega arith)
 
-  pub unit-done : kindAt p at ≡ 1 → {r : Outcome} → Stays heap st b r (onUnit value (give (stateOf heap b)) (st .fuel)) → Ran 1 heap heap slots slots st b r step
+  pub unit-done : kindIn code t ≡ 1 → {r : Outcome} → Stays heap st b r (onUnit value (give (stateOf heap b)) (st .fuel))
+      → Ran 1 heap heap slots slots st b r step
   unfolding backwardStep
-  unit-done kind S = slack (stays (rd .machine .graph) refl S (λ ys. sym (stepped ys (tree-unit (rd .machine .code .entries) t (rd .term) ys kind)))) 1 (omega arith)
+  unit-done kind S = slack (stays (rd .machine .graph) refl S (λ ys. sym (stepped ys (tree-unit (rd .machine .rows) t (rd .term) ys kind)))) 1 (omega arith)
 
   ----------------------------------------------------------------
   -- One part: inl, inr, roll
 
-  module _ {kind : ℕ} (w : Wraps (kindAt p at) kind) where
-    wrap-part : Part (rd .machine .code .entries) t (rd .term) (second p at)
+  module _ {kind : ℕ} (w : Wraps (kindIn code t) kind) where
+    wrap-part : secondIn code t < t
     wrap-part =
-        ⊎-elim (λ x. part-inl (rd .machine .code .entries) t (rd .term) (rd .few) (x .0))
-        (λ y. ⊎-elim (λ x. part-inr (rd .machine .code .entries) t (rd .term) (rd .few) (x .0)) (λ x. part-roll (rd .machine .code .entries) t (rd .term) (rd .few) (x .0)) y) w
+        ⊎-elim (λ x. part-inl (rd .machine .rows) t (rd .term) (x .0))
+        (λ y. ⊎-elim (λ x. part-inr (rd .machine .rows) t (rd .term) (x .0)) (λ x. part-roll (rd .machine .rows) t (rd .term) (x .0)) y) w
 
     -- the value is of that kind
     module _ (here : nodeKind heap node ≡ kind) {x : ℕ} (qx : x ≡ leftAt heap node) where
@@ -118,17 +116,17 @@ module _ {p terms functions heap slots : List ℕ} {st : Machine} {b : View} {q 
       is-roll : kind ≡ 4 → valueAt heap node ≡ roll (valueAt heap x)
       is-roll e = rw qx (value-roll heap (st .top) (rd .machine .graph .right) node low (here ∙ e) .0)
 
-      step-same : (ys : List TypeEntry) → step ys ≡ go ys (stateOf heap b) (second p at) (valueAt heap x) (st .fuel)
+      step-same : (ys : List TypeEntry) → step ys ≡ go ys (stateOf heap b) (secondIn code t) (valueAt heap x) (st .fuel)
       unfolding backwardStep onSum onRoll
       step-same ys =
           ⊎-elim
-          (λ z. stepped ys (tree-inl (rd .machine .code .entries) t (rd .term) ys (z .0))
-          ∙ ap (λ v. onSum v (go ys (stateOf heap b) (second p at)) (λ w. refuse 16 t) (st .fuel)) (is-inl (z .1)))
+          (λ z. stepped ys (tree-inl (rd .machine .rows) t (rd .term) ys (z .0))
+          ∙ ap (λ v. onSum v (go ys (stateOf heap b) (secondIn code t)) (λ w. refuse 16 t) (st .fuel)) (is-inl (z .1)))
           (λ y. ⊎-elim
-          (λ z. stepped ys (tree-inr (rd .machine .code .entries) t (rd .term) ys (z .0))
-          ∙ ap (λ v. onSum v (λ w. refuse 16 t) (go ys (stateOf heap b) (second p at)) (st .fuel)) (is-inr (z .1)))
-          (λ z. stepped ys (tree-roll (rd .machine .code .entries) t (rd .term) ys (z .0))
-          ∙ ap (λ v. onRoll v (go ys (stateOf heap b) (second p at)) (st .fuel)) (is-roll (z .1))) y) w
+          (λ z. stepped ys (tree-inr (rd .machine .rows) t (rd .term) ys (z .0))
+          ∙ ap (λ v. onSum v (λ w. refuse 16 t) (go ys (stateOf heap b) (secondIn code t)) (st .fuel)) (is-inr (z .1)))
+          (λ z. stepped ys (tree-roll (rd .machine .rows) t (rd .term) ys (z .0))
+          ∙ ap (λ v. onRoll v (go ys (stateOf heap b) (secondIn code t)) (st .fuel)) (is-roll (z .1))) y) w
 
       pub unwrap-node : x < st .top
       unwrap-node =
@@ -138,11 +136,11 @@ module _ {p terms functions heap slots : List ℕ} {st : Machine} {b : View} {q 
           (λ z. omega (arith, value-inr heap (st .top) (rd .machine .graph .right) node low (here ∙ z .1) .1))
           (λ z. omega (arith, value-roll heap (st .top) (rd .machine .graph .right) node low (here ∙ z .1) .1)) y) w)
 
-      module _ {u : ℕ} (qu : u ≡ second p at) where
-        pub unwrap-ready : Ready 0 0 p terms functions heap slots st b q (b .len) u (room - 1)
-        unwrap-ready = rw qu (owing-none (part rd (second p at) (b .len) wrap-part (scoped-wrap rd w)))
+      module _ {u : ℕ} (qu : u ≡ secondIn code t) where
+        pub unwrap-ready : Ready 0 0 code heap slots st b q (b .len) u (room - 1)
+        unwrap-ready = rw qu (owing-none (part rd (secondIn code t) (b .len) wrap-part (scoped-wrap rd w)))
 
-        pub unwrap-done : {heap₁ slots₁ : List ℕ} {r : Outcome} → Ran 0 heap heap₁ slots slots₁ st b r (runOf p terms functions heap st b q u (valueAt heap x) (room - 1))
+        pub unwrap-done : {heap₁ slots₁ : List ℕ} {r : Outcome} → Ran 0 heap heap₁ slots slots₁ st b r (runOf code heap st b q u (valueAt heap x) (room - 1))
             → Ran 1 heap heap₁ slots slots₁ st b r step
         unwrap-done d = slack (says d (λ ys. ap (λ u. go ys (stateOf heap b) u (valueAt heap x) (st .fuel)) qu ∙ sym (step-same ys))) 1 (omega arith)
 
@@ -151,80 +149,89 @@ module _ {p terms functions heap slots : List ℕ} {st : Machine} {b : View} {q 
     unfolding backwardStep valueAt valueWithin
     step-differs n ys =
         ⊎-elim
-        (λ z. rw (z .1) (stepped ys (tree-inl (rd .machine .code .entries) t (rd .term) ys (z .0))
-        ∙ other-inl (nodeKind heap node) _ _ (go ys (stateOf heap b) (second p at)) t (st .fuel) (λ e. n (e ∙ sym (z .1)))))
+        (λ z. rw (z .1) (stepped ys (tree-inl (rd .machine .rows) t (rd .term) ys (z .0))
+        ∙ other-inl (nodeKind heap node) _ _ (go ys (stateOf heap b) (secondIn code t)) t (st .fuel) (λ e. n (e ∙ sym (z .1)))))
         (λ y. ⊎-elim
-        (λ z. rw (z .1) (stepped ys (tree-inr (rd .machine .code .entries) t (rd .term) ys (z .0))
-        ∙ other-inr (nodeKind heap node) _ _ (go ys (stateOf heap b) (second p at)) t (st .fuel) (λ e. n (e ∙ sym (z .1)))))
-        (λ z. rw (z .1) (stepped ys (tree-roll (rd .machine .code .entries) t (rd .term) ys (z .0))
-        ∙ other-roll (nodeKind heap node) _ _ (go ys (stateOf heap b) (second p at)) t (st .fuel) (rd .machine .graph .right .node node low .kind) (λ e. n (e ∙ sym (z .1))))) y) w
+        (λ z. rw (z .1) (stepped ys (tree-inr (rd .machine .rows) t (rd .term) ys (z .0))
+        ∙ other-inr (nodeKind heap node) _ _ (go ys (stateOf heap b) (secondIn code t)) t (st .fuel) (λ e. n (e ∙ sym (z .1)))))
+        (λ z. rw (z .1) (stepped ys (tree-roll (rd .machine .rows) t (rd .term) ys (z .0))
+        ∙ other-roll (nodeKind heap node) _ _ (go ys (stateOf heap b) (secondIn code t)) t (st .fuel) (rd .machine .graph .right .node node low .kind)
+        (λ e. n (e ∙ sym (z .1))))) y) w
 
     pub unwrap-differs : {found : ℕ} → found ≡ nodeKind heap node → ¬ (found ≡ kind) → {why : Refusal} → why ≡ mismatch kind found t
         → (r : Outcome) → r .status ≡ Refused why → r .state ≡ st → Ran 1 heap heap slots slots st b r step
     unwrap-differs {found} f n {why} m r s e =
-        slack (refuses r (rd .machine .graph) s e (λ ys. step-differs (λ z. n (f ∙ z)) ys ∙ ap (λ k. refusalOf (mismatch kind k t)) (sym f) ∙ ap refusalOf (sym m))) 1 (omega arith)
+        slack (refuses r (rd .machine .graph) s e (λ ys. step-differs (λ z. n (f ∙ z)) ys ∙ ap (λ k. refusalOf (mismatch kind k t)) (sym f)
+        ∙ ap refusalOf (sym m))) 1 (omega arith)
 
   ----------------------------------------------------------------
   -- Pair
 
-  module _ (kind : kindAt p at ≡ 4) where
-    pub pair-stuck : {found : ℕ} → found ≡ nodeKind heap node → ¬ (found ≡ 3) → (r : Outcome) → r .status ≡ Refused Stuck → r .state ≡ st → Ran 1 heap heap slots slots st b r step
+  module _ (kind : kindIn code t ≡ 4) where
+    pub pair-stuck : {found : ℕ} → found ≡ nodeKind heap node → ¬ (found ≡ 3) → (r : Outcome) → r .status ≡ Refused Stuck → r .state ≡ st
+        → Ran 1 heap heap slots slots st b r step
     unfolding backwardStep valueAt valueWithin refusalOf
     pair-stuck f n r s e =
-        slack (refuses r (rd .machine .graph) s e (λ ys. stepped ys (tree-pair (rd .machine .code .entries) t (rd .term) ys kind)
+        slack (refuses r (rd .machine .graph) s e (λ ys. stepped ys (tree-pair (rd .machine .rows) t (rd .term) ys kind)
         ∙ no-pair (nodeKind heap node) _ _ _ (st .fuel) (λ z. n (f ∙ z)))) 1 (omega arith)
 
     module _ (here : nodeKind heap node ≡ 3) {x y : ℕ} (qx : x ≡ leftAt heap node) (qy : y ≡ rightAt heap node) where
       pub pair-nodes : (x < st .top) × (y < st .top)
-      pair-nodes =
-          (rw qx (omega (arith, value-pair heap (st .top) (rd .machine .graph .right) node low here .1)), rw qy (omega (arith, value-pair heap (st .top) (rd .machine .graph .right) node low here .2)))
+      pair-nodes = (
+        rw qx (omega (arith, value-pair heap (st .top) (rd .machine .graph .right) node low here .1)),
+        rw qy
+            (omega (arith, value-pair heap (st .top) (rd .machine .graph .right) node low here .2)),
+      )
 
       is-pair : valueAt heap node ≡ pair (valueAt heap x) (valueAt heap y)
       is-pair = rw (qx, qy) (value-pair heap (st .top) (rd .machine .graph .right) node low here .0)
 
-      module _ {u u′ : ℕ} (qu : u ≡ first p at) (qu′ : u′ ≡ second p at) where
+      module _ {u u′ : ℕ} (qu : u ≡ firstIn code t) (qu′ : u′ ≡ secondIn code t) where
         abbrev second-part : List TypeEntry → State → Run State
         second-part ys σ = go ys σ u′ (valueAt heap y)
 
-        step-pair : (ys : List TypeEntry) → step ys ≡ after (runOf p terms functions heap st b q u (valueAt heap x) (room - 1) ys) (second-part ys)
+        step-pair : (ys : List TypeEntry) → step ys ≡ after (runOf code heap st b q u (valueAt heap x) (room - 1) ys) (second-part ys)
         unfolding backwardStep onPair
         step-pair ys =
-            stepped ys (tree-pair (rd .machine .code .entries) t (rd .term) ys kind)
-            ∙ ap (λ v. onPair v (λ w w′ fuel. after (go ys (stateOf heap b) (first p at) w fuel) (λ σ. go ys σ (second p at) w′)) (st .fuel))
+            stepped ys (tree-pair (rd .machine .rows) t (rd .term) ys kind)
+            ∙ ap (λ v. onPair v (λ w w′ fuel. after (go ys (stateOf heap b) (firstIn code t) w fuel) (λ σ. go ys σ (secondIn code t) w′)) (st .fuel))
             is-pair
             ∙ ap₂ (λ u u′. after (go ys (stateOf heap b) u (valueAt heap x) (st .fuel)) (λ σ. go ys σ u′ (valueAt heap y))) (sym qu) (sym qu′)
 
-        pub pair-first : Ready 0 0 p terms functions heap slots st b q (b .len) u (room - 1)
-        pair-first = rw qu (owing-none (part rd (first p at) (b .len) (parts-pair (rd .machine .code .entries) t (rd .term) (rd .few) kind .0) (scoped-pair rd kind .0)))
+        pub pair-first : Ready 0 0 code heap slots st b q (b .len) u (room - 1)
+        pair-first = rw qu (owing-none (part rd (firstIn code t) (b .len) (parts-pair (rd .machine .rows) t (rd .term) kind .0) (scoped-pair rd kind .0)))
 
-        module _ {heap₁ slots₁ : List ℕ} {r : Outcome} (d : Ran 0 heap heap₁ slots slots₁ st b r (runOf p terms functions heap st b q u (valueAt heap x) (room - 1))) where
+        module _ {heap₁ slots₁ : List ℕ} {r : Outcome} (d : Ran 0 heap heap₁ slots slots₁ st b r (runOf code heap st b q u (valueAt heap x) (room - 1))) where
           pub pair-refused : {why : Refusal} → r .status ≡ Refused why → Ran 1 heap heap₁ slots slots₁ st b r step
           pair-refused s = slack (part-refused d second-part s step-pair) 1 (omega arith)
 
           module _ (s : r .status ≡ Done) where
-            pub pair-second : Ready 0 0 p terms functions heap₁ slots₁ (r .state) (r .bindings) q (r .bindings .len) u′ (room - 1)
+            pub pair-second : Ready 0 0 code heap₁ slots₁ (r .state) (r .bindings) q (r .bindings .len) u′ (room - 1)
             pair-second = in-scope (r .bindings .len) (sym (d .follows s .len))
-                (rw qu′ (owing-none (later (part rd (second p at) (b .len) (parts-pair (rd .machine .code .entries) t (rd .term) (rd .few) kind .1) (scoped-pair rd kind .1)) (d .moves) (d .follows s))))
+                (rw qu′ (owing-none (later (part rd (secondIn code t) (b .len) (parts-pair (rd .machine .rows) t (rd .term) kind .1)
+                (scoped-pair rd kind .1)) (d .moves) (d .follows s))))
 
             pub pair-done : {heap₂ slots₂ : List ℕ} {r₂ : Outcome}
-                → Ran 0 heap₁ heap₂ slots₁ slots₂ (r .state) (r .bindings) r₂ (runOf p terms functions heap₁ (r .state) (r .bindings) q u′ (valueAt heap₁ y) (room - 1))
+                → Ran 0 heap₁ heap₂ slots₁ slots₂ (r .state) (r .bindings) r₂ (runOf code heap₁ (r .state) (r .bindings) q u′ (valueAt heap₁ y) (room - 1))
                 → Ran 1 heap heap₂ slots slots₂ st b r₂ step
             pair-done d₂ =
                 slack (part-done d second-part s step-pair (says d₂ (λ ys.
-                ap₂ (λ a v. backward fits (programAt p terms functions ys) (room - 1) a (stateOf heap₁ (r .bindings)) (treeAt p terms ys u′) v (r .state .fuel))
-                (sym (ancillae-after rd (d .moves) (d .follows s))) (sym (value-kept heap heap₁ (st .top) (rd .machine .graph .right) (d .moves .agree) y (pair-nodes .1)))))) 1 (omega arith)
+                ap₂ (λ a v. backward fits (programIn code ys) (room - 1) a (stateOf heap₁ (r .bindings)) (treeIn code ys u′) v (r .state .fuel))
+                (sym (ancillae-after rd (d .moves) (d .follows s)))
+                (sym (value-kept heap heap₁ (st .top) (rd .machine .graph .right) (d .moves .agree) y (pair-nodes .1)))))) 1 (omega arith)
 
   ----------------------------------------------------------------
   -- Unroll
 
-  module _ (kind : 10 ≤ kindAt p at) {u : ℕ} (qu : u ≡ second p at) where
-    pub unroll-ready : Ready 1 0 p terms functions heap slots st b q (b .len) u (room - 1)
-    unroll-ready = rw qu (part rd (second p at) (b .len) (part-unroll (rd .machine .code .entries) t (rd .term) (rd .few) kind) (scoped-unroll rd kind))
+  module _ (kind : kindIn code t ≡ 10) {u : ℕ} (qu : u ≡ secondIn code t) where
+    pub unroll-ready : Ready 1 0 code heap slots st b q (b .len) u (room - 1)
+    unroll-ready = rw qu (part rd (secondIn code t) (b .len) (part-unroll (rd .machine .rows) t (rd .term) kind) (scoped-unroll rd kind))
 
-    pub unroll-done : {heap₁ slots₁ : List ℕ} {r : Outcome} → Ran 1 heap heap₁ slots slots₁ st b r (runOf p terms functions heap st b q u (ofKind 4 value value) (room - 1))
+    pub unroll-done : {heap₁ slots₁ : List ℕ} {r : Outcome} → Ran 1 heap heap₁ slots slots₁ st b r (runOf code heap st b q u (ofKind 4 value value) (room - 1))
         → Ran 1 heap heap₁ slots slots₁ st b r step
     unfolding backwardStep ofKind
-    unroll-done d = says d (λ ys. ap (λ u. go ys (stateOf heap b) u (roll value) (st .fuel)) qu ∙ sym (stepped ys (tree-unroll (rd .machine .code .entries) t (rd .term) ys kind)))
+    unroll-done d = says d (λ ys. ap (λ u. go ys (stateOf heap b) u (roll value) (st .fuel)) qu
+        ∙ sym (stepped ys (tree-unroll (rd .machine .rows) t (rd .term) ys kind)))
 
 pub roll-single : Single 4
 roll-single = right (right refl)

@@ -1,16 +1,17 @@
 -- What the outcome of a backward run in code means: an answer of rules/specs/Run, with document 01's numbers of refusals (section 4). In code
 -- the outcome is one number, with the binding state beside it. Laws: proofs/Stops, Runs.
-use Prim.Native.Nat.{ℕ, zero, suc, _-_, _/_, _%_}
+use Prim.Native.Nat.{ℕ, zero, suc, _+_, _-_, _/_, _%_}
 use mathlib.Core.Bool.{true, false}
 use mathlib.Core.List.{List}
+use lib.ListN.{getD}
 use lib.Dec.{eqb, ltb}
 use package.Rattle.rules.specs.Val.{Val}
 use package.Rattle.rules.specs.Run.{Res, ok, stop, stuck, Run}
 use package.Rattle.rules.specs.Machine.{State}
 use package.Rattle.values.specs.Nodes.{valueAt}
-use package.Rattle.scopes.specs.Slots.{unknown}
+use package.Rattle.scopes.specs.Slots.{unknown, Machine, Scope}
 use package.Rattle.scopes.specs.Bindings.{View, viewOf, stateOf}
-use package.Rattle.forward.specs.Outcomes.{Machine, machineOf, stopped, refusalIn}
+use package.Rattle.forward.specs.Outcomes.{stopped, refusalIn}
 use package.Rattle.forward.specs.declared.outcomes.Refusal.{Refusal as Carried}
 use package.Rattle.forward.specs.declared.outcomes.Refusal.the-variants.{Fuel as cFuel, Height as cHeight, Long as cLong, FirstMatch as cFirstMatch, Stuck as cStuck}
 use Rattle.backward.specs.declared.outcomes.Refusal.{Refusal}
@@ -50,9 +51,13 @@ whyOf s = elim (ltb s stopped) [ true ↦ NoInput ((s - 1) % 65536) | false ↦ 
 unfoldable pub statusOf : ℕ → Status
 statusOf s = elim (eqb s 0) [ true ↦ Done | false ↦ Refused (whyOf s) ]
 
--- the outcome that the code has, in the scope of `n` variables from slot `base` on
-abbrev pub outcomeOf : ℕ → List ℕ → List ℕ → ℕ → ℕ → Outcome
-outcomeOf s slots m base n = record { status = statusOf s; state = machineOf m; bindings = viewOf slots base n }
+-- what the slots of a scope hold
+abbrev pub scopeView : List ℕ → Scope → View
+scopeView slots sc = viewOf slots (sc .base) (sc .n)
+
+-- the outcome that the number `s` says, with the machine that is left and the slots of a scope
+abbrev pub outcomeOf : ℕ → List ℕ → Machine → Scope → Outcome
+outcomeOf s slots m sc = record { status = statusOf s; state = m; bindings = scopeView slots sc }
 
 ----------------------------------------------------------------
 -- What an outcome means
@@ -98,3 +103,7 @@ mismatch kind found t = elim (eqb kind 1) [
 -- The node of a variable that leaves the scope: node 0 is the unit, which a variable never met is.
 unfoldable pub nodeOr : ℕ → ℕ
 nodeOr node = elim (eqb node unknown) [ true ↦ 0 | false ↦ node ]
+
+-- the outcome of a run in the scope with one variable more, which then leaves it
+abbrev pub innerOf : ℕ → List ℕ → Machine → Scope → Inner
+innerOf s slots m sc = record { out = outcomeOf s slots m sc; newest = nodeOr (getD slots (sc .base + sc .n) 0) }

@@ -1,44 +1,38 @@
 -- What backward evaluation asks for, and what it ensures. A run has the value graph up to `top` and fuel; what is bound is a view of the
--- scope's slots and the binding state, of which the first `q` variables are the ancilla parameters. The last section ties views to the
--- slots and the state that the code has. Laws: proofs/Runs; proofs/Frames of the last section.
+-- scope's slots and the binding state, of which the first `q` variables are the ancilla parameters. The last two sections tie views to the
+-- slots and the state that the code has, and both to the numbers that it is lent. Laws: proofs/Runs; proofs/Frames of the last sections.
 use Prim.Native.Nat.{ℕ, _+_, _*_, _-_, _≤_, _<_}
 use mathlib.Core.Path.{_≡_}
 use mathlib.Core.Option.{none}
-use mathlib.Core.List.{List, [], _∷_}
+use mathlib.Core.List.{List, _∷_}
 use lib.ListN.{length, getD}
 use lib.Dec.{eqb}
 use package.Rattle.rules.specs.Limits.{fits}
-use package.Rattle.rules.specs.Val.{Val, unit}
+use package.Rattle.rules.specs.Val.{Val, unit, pair}
 use package.Rattle.rules.specs.Run.{Res, Run, after}
 use package.Rattle.rules.specs.Machine.{State, leave, forward, backwardStep, backward}
-use package.Rattle.calls.specs.Fields.{kindAt}
 use package.Rattle.calls.specs.Entries.{TypeEntry}
-use package.Rattle.values.specs.Nodes.{nodeBytes, valueAt, Agree, kindAt as nodeKind}
-use package.Rattle.program.specs.Tables.{termPlaces, functionPlaces}
-use package.Rattle.scopes.specs.Slots.{unknown, slotCount, Slots}
-use package.Rattle.scopes.specs.Bindings.{View, viewOf, stateOf, Bound, Left, Tells, MeetsIn}
+use package.Rattle.decoded.specs.Rows.{termCount, treeIn, programIn, Rows}
+use package.Rattle.values.specs.Nodes.{nodeBytes, ofKind, valueAt, Agree, kindAt as nodeKind}
+use package.Rattle.scopes.specs.Slots.{unknown, slotCount, stateCount, Machine, Scope, machineOf, slotsOf, scopeIn, Slots}
+use package.Rattle.scopes.specs.Bindings.{View, stateOf, Bound, Left, Tells, MeetsAt}
 use package.Rattle.scopes.specs.declared.bindings.Bindings.{Bindings}
 use package.Rattle.yields.specs.Yields.{ancillaeAt}
-use package.Rattle.forward.specs.Code.{treeAt, programAt, FewArguments, Code}
 use package.Rattle.forward.specs.Ready.{Graph}
-use package.Rattle.forward.specs.Outcomes.{Machine, machineOf, stopped}
+use package.Rattle.forward.specs.Outcomes.{stopped}
 use package.Rattle.backward.specs.Scoped.{ScopedAt, Bodies}
-use package.Rattle.backward.specs.Outcomes.{Done, Refused, Outcome, Inner, statusOf, outcomeOf, meaning, leftWith, nodeOr}
+use package.Rattle.backward.specs.Outcomes.{Done, Refused, Outcome, Inner, statusOf, scopeView, outcomeOf, innerOf, meaning, leftWith, nodeOr}
 use Rattle.backward.specs.declared.outcomes.Refusal.the-variants.{NoInput, Stuck}
 use Rattle.backward.specs.declared.outcomes.Out.{Out}
-
--- the kind of term entry `t` (section 1)
-abbrev pub kindOf : List ℕ → ℕ → ℕ
-kindOf p t = kindAt p (getD (termPlaces p) t 0)
 
 ----------------------------------------------------------------
 -- Before
 
 -- The program, the value graph and the lent slots: node 0 is the unit, for variables that are never met; there is room for a node for each
 -- unit of fuel and `k` nodes more, and in the slots for the variables of heights up to `room`. Every node is an answer.
-pub record Held (k : ℕ) (p terms functions heap slots : List ℕ) (st : Machine) (room : ℕ) : Type 0 where
-  pub code : Code p terms functions
-  pub bodies : Bodies p terms functions
+pub record Held (k : ℕ) (code heap slots : List ℕ) (st : Machine) (room : ℕ) : Type 0 where
+  pub rows : Rows code
+  pub bodies : Bodies code
   pub graph : Graph heap (st .top)
   pub some : 0 < st .top
   pub unit-there : valueAt heap 0 ≡ unit
@@ -54,12 +48,11 @@ pub record Binds (b : View) (q top : ℕ) : Type 0 where
   pub ancillae : (i : ℕ) → i < q → getD (b .slots) i 0 < top
 
 -- Term `t` can be run with these bindings and `n` variables in scope, with height `room` left, at least `h`.
-pub record Ready (k h : ℕ) (p terms functions heap slots : List ℕ) (st : Machine) (b : View) (q n t room : ℕ) : Type 0 where
-  pub machine : Held k p terms functions heap slots st room
+pub record Ready (k h : ℕ) (code heap slots : List ℕ) (st : Machine) (b : View) (q n t room : ℕ) : Type 0 where
+  pub machine : Held k code heap slots st room
   pub binds : Binds b q (st .top)
-  pub term : t < length terms
-  pub few : FewArguments (treeAt p terms [] t)
-  pub scoped : ScopedAt p terms functions n t
+  pub term : t < termCount code
+  pub scoped : ScopedAt code n t
   pub tall : h ≤ room
 
 ----------------------------------------------------------------
@@ -114,47 +107,103 @@ abbrev pub ancillaeOf : List ℕ → View → ℕ → List Val
 ancillaeOf heap b q = ancillaeAt heap (b .slots) 0 q
 
 -- term `t` with value `v`, from its entering on, with height `room`
-abbrev pub runOf : (p terms functions heap : List ℕ) → Machine → View → ℕ → ℕ → Val → ℕ → List TypeEntry → Res State
-runOf p terms functions heap st b q t v room ys =
-    backward fits (programAt p terms functions ys) room (ancillaeOf heap b q) (stateOf heap b) (treeAt p terms ys t) v (st .fuel)
+abbrev pub runOf : (code heap : List ℕ) → Machine → View → ℕ → ℕ → Val → ℕ → List TypeEntry → Res State
+runOf code heap st b q t v room ys =
+    backward fits (programIn code ys) room (ancillaeOf heap b q) (stateOf heap b) (treeIn code ys t) v (st .fuel)
 
 -- the same in a scope with one variable more, of which nothing is known
-abbrev pub underOf : (p terms functions heap : List ℕ) → Machine → View → ℕ → ℕ → Val → ℕ → List TypeEntry → Res State
-underOf p terms functions heap st b q t v room ys =
-    backward fits (programAt p terms functions ys) room (ancillaeOf heap b q) (none ∷ stateOf heap b) (treeAt p terms ys t) v (st .fuel)
+abbrev pub underOf : (code heap : List ℕ) → Machine → View → ℕ → ℕ → Val → ℕ → List TypeEntry → Res State
+underOf code heap st b q t v room ys =
+    backward fits (programIn code ys) room (ancillaeOf heap b q) (none ∷ stateOf heap b) (treeIn code ys t) v (st .fuel)
 
 -- the same, once the term is entered
-abbrev pub stepOf : (p terms functions heap : List ℕ) → Machine → View → ℕ → ℕ → Val → ℕ → List TypeEntry → Res State
-stepOf p terms functions heap st b q t v room ys =
-    backwardStep fits (programAt p terms functions ys) (forward fits (programAt p terms functions ys) (room - 1))
-    (backward fits (programAt p terms functions ys) (room - 1)) (ancillaeOf heap b q) (stateOf heap b) (treeAt p terms ys t) v (st .fuel)
+abbrev pub stepOf : (code heap : List ℕ) → Machine → View → ℕ → ℕ → Val → ℕ → List TypeEntry → Res State
+stepOf code heap st b q t v room ys =
+    backwardStep fits (programIn code ys) (forward fits (programIn code ys) (room - 1))
+    (backward fits (programIn code ys) (room - 1)) (ancillaeOf heap b q) (stateOf heap b) (treeIn code ys t) v (st .fuel)
 
 ----------------------------------------------------------------
--- In code
+-- Slots and state
 
--- The state `b` and the slots from `base` on hold a scope of `n` variables, with the callers' scopes below it and room for what is above; term
--- `t` can be run in a scope of `s` variables from there on.
-pub record Prepared (k h : ℕ) (p heap slots m : List ℕ) (b : Bindings) (base q n s t room : ℕ) : Type 0 where
-  pub ready : Ready k h p (termPlaces p) (functionPlaces p) heap slots (machineOf m) (viewOf slots base n) q s t room
-  pub tells : Tells slots b base n
-  pub older : Slots slots base (machineOf m .top)
-  pub space : base + s + 8 * room ≤ slotCount
+-- The state `b` and the slots of a scope agree, with the callers' scopes below and room for what is above; term `t` can be run in the scope of
+-- `s` variables from there on.
+pub record Prepared (k h : ℕ) (code heap slots : List ℕ) (m : Machine) (b : Bindings) (sc : Scope) (s t room : ℕ) : Type 0 where
+  pub ready : Ready k h code heap slots m (scopeView slots sc) (sc .q) s t room
+  pub tells : Tells slots b (sc .base) (sc .n)
+  pub older : Slots slots (sc .base) (m .top)
+  pub space : sc .base + s + 8 * room ≤ slotCount
 
--- A run in the scope of `n` variables from slot `base` on, which leaves the slots below as they were.
-pub record Gone (k : ℕ) (heap heap′ slots slots′ m m′ : List ℕ) (base n : ℕ) (r : Out) (res : List TypeEntry → Res State) : Type 0 where
-  pub ran : Ran k heap heap′ slots slots′ (machineOf m) (viewOf slots base n) (outcomeOf (r .stop) slots′ m′ base n) res
-  pub below : (j : ℕ) → j < base → getD slots j 0 ≡ getD slots′ j 0
-  pub tells : r .stop ≡ 0 → Tells slots′ (r .state) base n
+-- A run in a scope, which leaves the slots below as they were.
+pub record Gone (k : ℕ) (heap heap′ slots slots′ : List ℕ) (m m′ : Machine) (sc : Scope) (r : Out) (res : List TypeEntry → Res State) : Type 0 where
+  pub ran : Ran k heap heap′ slots slots′ m (scopeView slots sc) (outcomeOf (r .stop) slots′ m′ sc) res
+  pub below : (j : ℕ) → j < sc .base → getD slots j 0 ≡ getD slots′ j 0
+  pub tells : r .stop ≡ 0 → Tells slots′ (r .state) (sc .base) (sc .n)
 
 -- The same in the scope with one variable more, which is there to leave it.
-pub record GoneUnder (heap heap′ slots slots′ m m′ : List ℕ) (base n : ℕ) (r : Out) (res : List TypeEntry → Res State) : Type 0 where
-  pub ran : RanUnder heap heap′ slots slots′ (machineOf m) (viewOf slots base n) (record { out = outcomeOf (r .stop) slots′ m′ base n; newest = nodeOr (getD slots′ (base + n) 0) }) res
-  pub below : (j : ℕ) → j < base → getD slots j 0 ≡ getD slots′ j 0
-  pub tells : r .stop ≡ 0 → Tells slots′ (r .state) base (n + 1)
+pub record GoneUnder (heap heap′ slots slots′ : List ℕ) (m m′ : Machine) (sc : Scope) (r : Out) (res : List TypeEntry → Res State) : Type 0 where
+  pub ran : RanUnder heap heap′ slots slots′ m (scopeView slots sc) (innerOf (r .stop) slots′ m′ sc) res
+  pub below : (j : ℕ) → j < sc .base → getD slots j 0 ≡ getD slots′ j 0
+  pub tells : r .stop ≡ 0 → Tells slots′ (r .state) (sc .base) (sc .n + 1)
+
+-- The newest variable, the one above scope `sc`, can leave.
+pub record Leavable (slots : List ℕ) (b : Bindings) (sc : Scope) : Type 0 where
+  pub few : sc .n < 32
+  pub there : sc .base + sc .n < slotCount
+  pub tells : Tells slots b (sc .base) (sc .n + 1)
+
+-- what is run, by the slots of a scope
+abbrev pub runAt : (code heap slots : List ℕ) → Machine → Scope → ℕ → Val → ℕ → List TypeEntry → Res State
+runAt code heap slots m sc t v room = runOf code heap m (scopeView slots sc) (sc .q) t v room
+
+abbrev pub underAt : (code heap slots : List ℕ) → Machine → Scope → ℕ → Val → ℕ → List TypeEntry → Res State
+underAt code heap slots m sc t v room = underOf code heap m (scopeView slots sc) (sc .q) t v room
+
+abbrev pub stepAt : (code heap slots : List ℕ) → Machine → Scope → ℕ → Val → ℕ → List TypeEntry → Res State
+stepAt code heap slots m sc t v room = stepOf code heap m (scopeView slots sc) (sc .q) t v room
+
+----------------------------------------------------------------
+-- In code: the numbers that a run is lent, and a scope in one number
+
+-- Term `t` can be run in the scope; in the scope with one variable more.
+pub record PreparedIn (k h : ℕ) (code heap st : List ℕ) (b : Bindings) (scope t room : ℕ) : Type 0 where
+  pub full : length st ≡ stateCount
+  pub prepared : Prepared k h code heap (slotsOf st) (machineOf st) b (scopeIn scope) (scopeIn scope .n) t room
+
+pub record PreparedUnder (code heap st : List ℕ) (b : Bindings) (scope t room : ℕ) : Type 0 where
+  pub full : length st ≡ stateCount
+  pub prepared : Prepared 0 0 code heap (slotsOf st) (machineOf st) b (scopeIn scope) (scopeIn scope .n + 1) t room
+
+abbrev pub GoneIn : ℕ → (heap heap′ st st′ : List ℕ) → ℕ → Out → (List TypeEntry → Res State) → Type 0
+GoneIn k heap heap′ st st′ scope r res = Gone k heap heap′ (slotsOf st) (slotsOf st′) (machineOf st) (machineOf st′) (scopeIn scope) r res
+
+-- Term `t` was run with the value at `node`; with the value `v`, made for it; from its entering on; and in the scope with one variable more.
+pub record RunsBack (code heap heap′ st st′ : List ℕ) (scope t node room : ℕ) (r : Out) : Type 0 where
+  pub lengths : length st′ ≡ length st
+  pub gone : GoneIn 0 heap heap′ st st′ scope r (runAt code heap (slotsOf st) (machineOf st) (scopeIn scope) t (valueAt heap node) room)
+
+pub record RunsOver (code heap heap′ st st′ : List ℕ) (scope t : ℕ) (v : Val) (room : ℕ) (r : Out) : Type 0 where
+  pub lengths : length st′ ≡ length st
+  pub gone : GoneIn 1 heap heap′ st st′ scope r (runAt code heap (slotsOf st) (machineOf st) (scopeIn scope) t v room)
+
+abbrev pub RunsSingle : (code heap heap′ st st′ : List ℕ) → ℕ → ℕ → ℕ → ℕ → ℕ → Out → Type 0
+RunsSingle code heap heap′ st st′ scope t kind part room r = RunsOver code heap heap′ st st′ scope t
+    (ofKind kind (valueAt heap part) (valueAt heap part)) room r
+
+abbrev pub RunsPair : (code heap heap′ st st′ : List ℕ) → ℕ → ℕ → ℕ → ℕ → ℕ → Out → Type 0
+RunsPair code heap heap′ st st′ scope t left right room r = RunsOver code heap heap′ st st′ scope t (pair (valueAt heap left) (valueAt heap right)) room r
+
+pub record StepsBack (code heap heap′ st st′ : List ℕ) (scope t node room : ℕ) (r : Out) : Type 0 where
+  pub lengths : length st′ ≡ length st
+  pub gone : GoneIn 1 heap heap′ st st′ scope r (stepAt code heap (slotsOf st) (machineOf st) (scopeIn scope) t (valueAt heap node) room)
+
+pub record RunsUnder (code heap heap′ st st′ : List ℕ) (scope t node room : ℕ) (r : Out) : Type 0 where
+  pub lengths : length st′ ≡ length st
+  pub gone : GoneUnder heap heap′ (slotsOf st) (slotsOf st′) (machineOf st) (machineOf st′) (scopeIn scope) r
+      (underAt code heap (slotsOf st) (machineOf st) (scopeIn scope) t (valueAt heap node) room)
 
 -- Variable `i` was met at term `t`: 16 where the values differ.
-pub record Variable (heap slots slots′ : List ℕ) (b : Bindings) (base i node t : ℕ) (r : Out) : Type 0 where
-  pub met : MeetsIn heap slots slots′ b base i node (record { agrees = eqb (r .stop) 0; state = r .state })
+pub record Variable (heap st st′ : List ℕ) (b : Bindings) (base i node t : ℕ) (r : Out) : Type 0 where
+  pub met : MeetsAt heap st st′ b base i node (record { agrees = eqb (r .stop) 0; state = r .state })
   pub differs : (r .stop ≡ 0 → ⊥) → statusOf (r .stop) ≡ Refused (NoInput t)
 
 -- The unit was met with a value.
@@ -162,13 +211,3 @@ pub record UnitMet (heap : List ℕ) (b : Bindings) (node : ℕ) (r : Out) : Typ
   pub met : nodeKind heap node ≡ 0 → r .stop ≡ 0
   pub differs : (nodeKind heap node ≡ 0 → ⊥) → statusOf (r .stop) ≡ Refused Stuck
   pub state : r .state ≡ b
-
--- what is run, by what the code has
-abbrev pub runIn : (p heap slots m : List ℕ) → ℕ → ℕ → ℕ → ℕ → Val → ℕ → List TypeEntry → Res State
-runIn p heap slots m base q n t v room = runOf p (termPlaces p) (functionPlaces p) heap (machineOf m) (viewOf slots base n) q t v room
-
-abbrev pub underIn : (p heap slots m : List ℕ) → ℕ → ℕ → ℕ → ℕ → Val → ℕ → List TypeEntry → Res State
-underIn p heap slots m base q n t v room = underOf p (termPlaces p) (functionPlaces p) heap (machineOf m) (viewOf slots base n) q t v room
-
-abbrev pub stepIn : (p heap slots m : List ℕ) → ℕ → ℕ → ℕ → ℕ → Val → ℕ → List TypeEntry → Res State
-stepIn p heap slots m base q n t v room = stepOf p (termPlaces p) (functionPlaces p) heap (machineOf m) (viewOf slots base n) q t v room

@@ -1,400 +1,332 @@
-// Backward evaluation. `back` tests fuel and height, takes one unit of fuel, and hands the term to the function of its kind, which runs the
-// term's parts and hands the binding state on. Every value is a node; `over` and `over_pair` make new ones. The variables' nodes stand in the
-// lent slots, the scope's from `base` on; a function that is called has its scope behind its caller's. Laws: proofs/Entering to Calling.
+// Backward evaluation of a decoded program. `back` tests fuel and height, takes one unit of fuel, and hands the term to the function of its
+// kind, which runs the term's parts and hands the binding state on. Every value is a node; `over` and `over_pair` make new ones. The variables'
+// nodes stand in the lent numbers `st`, behind the machine; a function that is called has its scope behind its caller's. Laws: proofs/Entering
+// to Calling, in code proofs/Arriving to Called.
 use crate::arguments;
 use crate::outcomes;
 use crate::outcomes::Out;
+use decoded::rows;
+use decoded::rows::CODE;
 use forward::outcomes::FUEL;
 use forward::outcomes::HEIGHT;
 use forward::outcomes::STUCK;
-use forward::parts;
-use program::tables;
-use program::tables::FUNCTIONS;
-use program::tables::TERMS;
 use scopes::bindings::Bindings;
-use scopes::slots::SLOTS;
+use scopes::slots;
 use scopes::slots::UNKNOWN;
+use scopes::state;
+use scopes::state::STATE;
 ghost use mathlib.Core.Path.{_≡_};
-ghost use Prim.Native.Nat.{_+_, _≤_, _<_};
-ghost use Rattle.rules.specs.Val.{pair};
-ghost use Rattle.program.specs.Tables.{Tables};
-ghost use Rattle.values.specs.Nodes.{ofKind, Single, valueAt};
+ghost use Prim.Native.Nat.{_<_};
+ghost use Rattle.values.specs.Nodes.{Single};
+ghost use Rattle.decoded.specs.Rows.{kindIn};
+ghost use Rattle.scopes.specs.Slots.{machineOf, scopeIn};
 ghost use Rattle.yields.specs.Yields.{Wraps};
-ghost use Rattle.forward.specs.Outcomes.{machineOf};
-ghost use Rattle.backward.specs.Ready.{kindOf, Prepared, Gone, GoneUnder, runIn, underIn, stepIn};
+ghost use Rattle.backward.specs.Ready.{PreparedIn, PreparedUnder, RunsBack, RunsUnder, StepsBack, RunsSingle, RunsPair};
 
-// Term t with the value at `node`, with height `room` left; n variables are in scope, and the first q of them are the ancilla parameters.
+// Term t with the value at `node`, in a scope, with height `room` left.
 pub fn back(
-    p: &[u8],
-    terms: &[u16; TERMS],
-    fns: &[u16; FUNCTIONS],
+    code: &[u16; CODE],
     ws: &mut [u8],
-    slots: &mut [u32; SLOTS],
-    m: &mut [u32; 2],
+    st: &mut [u32; STATE],
     b: Bindings,
-    base: usize,
-    q: usize,
-    n: usize,
+    scope: u64,
     t: u16,
     node: u32,
     room: u16,
 ) -> Out
-    requires { ⌜ Tables (now p) (now terms) (now fns) ⌝ }
-    requires { ⌜ Prepared 0 0 (now p) (now ws) (now slots) (now m) b base q n n t room ⌝ }
-    requires { ⌜ node < machineOf (now m) .top ⌝ }
-    ensures { λ r. ⌜ Gone 0 (now (ws .entry)) (now (ws .exit)) (now (slots .entry)) (now (slots .exit)) (now (m .entry)) (now (m .exit)) base n r (runIn (now (p .entry)) (now (ws .entry)) (now (slots .entry)) (now (m .entry)) base q n t (valueAt (now (ws .entry)) node) room) ⌝ }
+    requires { ⌜ PreparedIn 0 0 (now code) (now ws) (now st) b scope t room ⌝ }
+    requires { ⌜ node < machineOf (now st) .top ⌝ }
+    ensures { λ r. ⌜ RunsBack (now (code .entry)) (now (ws .entry)) (now (ws .exit)) (now (st .entry)) (now (st .exit)) scope t node room r ⌝ }
 {
-    let fuel = m[1];
-    if fuel == 0 {
+    if state::fuel(st) == 0 {
         return outcomes::refuse(b, FUEL, t);
     }
     if room == 0 {
         return outcomes::refuse(b, HEIGHT, t);
     }
-    *m = [m[0], fuel - 1];
-    match program::views::kind(p, tables::offset(terms, t)) {
-        0 => outcomes::variable(p, terms, ws, slots, m[0], b, base, t, node),
+    state::spend(st);
+    match rows::kind_of(code, t) {
+        0 => outcomes::variable(code, ws, st, b, scope, t, node),
         1 => outcomes::unit(ws, b, node, t),
-        2 => unwrap(p, terms, fns, ws, slots, m, b, base, q, n, t, node, room, 1),
-        3 => unwrap(p, terms, fns, ws, slots, m, b, base, q, n, t, node, room, 2),
-        4 => pair(p, terms, fns, ws, slots, m, b, base, q, n, t, node, room),
-        5 => let_one(p, terms, fns, ws, slots, m, b, base, q, n, t, node, room),
-        6 => let_two(p, terms, fns, ws, slots, m, b, base, q, n, t, node, room),
-        7 => choose(p, terms, fns, ws, slots, m, b, base, q, n, t, node, room),
-        8 => call(p, terms, fns, ws, slots, m, b, base, q, n, t, node, room),
-        9 => unwrap(p, terms, fns, ws, slots, m, b, base, q, n, t, node, room, 4),
-        _ => unroll(p, terms, fns, ws, slots, m, b, base, q, n, t, node, room),
+        2 => unwrap(code, ws, st, b, scope, t, node, room, 1),
+        3 => unwrap(code, ws, st, b, scope, t, node, room, 2),
+        4 => pair(code, ws, st, b, scope, t, node, room),
+        5 => let_one(code, ws, st, b, scope, t, node, room),
+        6 => let_two(code, ws, st, b, scope, t, node, room),
+        7 => choose(code, ws, st, b, scope, t, node, room),
+        8 => call(code, ws, st, b, scope, t, node, room),
+        9 => unwrap(code, ws, st, b, scope, t, node, room, 4),
+        10 => unroll(code, ws, st, b, scope, t, node, room),
+        // never met: there is no other kind
+        _ => outcomes::refuse(b, STUCK, t),
     }
 }
 
 // Term t with inl, inr or roll of the value at `part`, by the kind of node.
 fn over(
-    p: &[u8],
-    terms: &[u16; TERMS],
-    fns: &[u16; FUNCTIONS],
+    code: &[u16; CODE],
     ws: &mut [u8],
-    slots: &mut [u32; SLOTS],
-    m: &mut [u32; 2],
+    st: &mut [u32; STATE],
     b: Bindings,
-    base: usize,
-    q: usize,
-    n: usize,
+    scope: u64,
     t: u16,
     part: u32,
     room: u16,
     kind: u8,
 ) -> Out
-    requires { ⌜ Tables (now p) (now terms) (now fns) ⌝ }
-    requires { ⌜ Prepared 1 0 (now p) (now ws) (now slots) (now m) b base q n n t room ⌝ }
-    requires { ⌜ (part < machineOf (now m) .top) × Single kind ⌝ }
-    ensures { λ r. ⌜ Gone 1 (now (ws .entry)) (now (ws .exit)) (now (slots .entry)) (now (slots .exit)) (now (m .entry)) (now (m .exit)) base n r (runIn (now (p .entry)) (now (ws .entry)) (now (slots .entry)) (now (m .entry)) base q n t (ofKind kind (valueAt (now (ws .entry)) part) (valueAt (now (ws .entry)) part)) room) ⌝ }
+    requires { ⌜ PreparedIn 1 0 (now code) (now ws) (now st) b scope t room ⌝ }
+    requires { ⌜ (part < machineOf (now st) .top) × Single kind ⌝ }
+    ensures { λ r. ⌜ RunsSingle (now (code .entry)) (now (ws .entry)) (now (ws .exit)) (now (st .entry)) (now (st .exit)) scope t kind part room r ⌝ }
 {
-    let top = m[0];
+    let top = state::top(st);
     let made = values::nodes::single(ws, top, kind, part);
     if made {
-        *m = [top + 1, m[1]];
-        return back(p, terms, fns, ws, slots, m, b, base, q, n, t, top, room);
+        state::grow(st);
+        return back(code, ws, st, b, scope, t, top, room);
     }
-    outcomes::long(b, m[1], t, room)
+    outcomes::long(b, state::fuel(st), t, room)
 }
 
 // Term t with the pair of two values.
 fn over_pair(
-    p: &[u8],
-    terms: &[u16; TERMS],
-    fns: &[u16; FUNCTIONS],
+    code: &[u16; CODE],
     ws: &mut [u8],
-    slots: &mut [u32; SLOTS],
-    m: &mut [u32; 2],
+    st: &mut [u32; STATE],
     b: Bindings,
-    base: usize,
-    q: usize,
-    n: usize,
+    scope: u64,
     t: u16,
     left: u32,
     right: u32,
     room: u16,
 ) -> Out
-    requires { ⌜ Tables (now p) (now terms) (now fns) ⌝ }
-    requires { ⌜ Prepared 1 0 (now p) (now ws) (now slots) (now m) b base q n n t room ⌝ }
-    requires { ⌜ (left < machineOf (now m) .top) × (right < machineOf (now m) .top) ⌝ }
-    ensures { λ r. ⌜ Gone 1 (now (ws .entry)) (now (ws .exit)) (now (slots .entry)) (now (slots .exit)) (now (m .entry)) (now (m .exit)) base n r (runIn (now (p .entry)) (now (ws .entry)) (now (slots .entry)) (now (m .entry)) base q n t (pair (valueAt (now (ws .entry)) left) (valueAt (now (ws .entry)) right)) room) ⌝ }
+    requires { ⌜ PreparedIn 1 0 (now code) (now ws) (now st) b scope t room ⌝ }
+    requires { ⌜ (left < machineOf (now st) .top) × (right < machineOf (now st) .top) ⌝ }
+    ensures { λ r. ⌜ RunsPair (now (code .entry)) (now (ws .entry)) (now (ws .exit)) (now (st .entry)) (now (st .exit)) scope t left right room r ⌝ }
 {
-    let top = m[0];
+    let top = state::top(st);
     let made = values::nodes::pair(ws, top, left, right);
     if made {
-        *m = [top + 1, m[1]];
-        return back(p, terms, fns, ws, slots, m, b, base, q, n, t, top, room);
+        state::grow(st);
+        return back(code, ws, st, b, scope, t, top, room);
     }
-    outcomes::long(b, m[1], t, room)
+    outcomes::long(b, state::fuel(st), t, room)
 }
 
 // Term t in the scope with one variable more, which is not bound yet. It is still in scope in the state that is handed back.
 pub fn under(
-    p: &[u8],
-    terms: &[u16; TERMS],
-    fns: &[u16; FUNCTIONS],
+    code: &[u16; CODE],
     ws: &mut [u8],
-    slots: &mut [u32; SLOTS],
-    m: &mut [u32; 2],
+    st: &mut [u32; STATE],
     b: Bindings,
-    base: usize,
-    q: usize,
-    n: usize,
+    scope: u64,
     t: u16,
     node: u32,
     room: u16,
 ) -> Out
-    requires { ⌜ Tables (now p) (now terms) (now fns) ⌝ }
-    requires { ⌜ Prepared 0 0 (now p) (now ws) (now slots) (now m) b base q n (n + 1) t room ⌝ }
-    requires { ⌜ (node < machineOf (now m) .top) × (n < 32) ⌝ }
-    ensures { λ r. ⌜ GoneUnder (now (ws .entry)) (now (ws .exit)) (now (slots .entry)) (now (slots .exit)) (now (m .entry)) (now (m .exit)) base n r (underIn (now (p .entry)) (now (ws .entry)) (now (slots .entry)) (now (m .entry)) base q n t (valueAt (now (ws .entry)) node) room) ⌝ }
+    requires { ⌜ PreparedUnder (now code) (now ws) (now st) b scope t room ⌝ }
+    requires { ⌜ (node < machineOf (now st) .top) × (scopeIn scope .n < 32) ⌝ }
+    ensures { λ r. ⌜ RunsUnder (now (code .entry)) (now (ws .entry)) (now (ws .exit)) (now (st .entry)) (now (st .exit)) scope t node room r ⌝ }
 {
-    scopes::slots::bind(slots, base + n, UNKNOWN);
-    let s = n + 1;
-    back(p, terms, fns, ws, slots, m, b, base, q, s, t, node, room)
+    slots::bind(st, state::end_of(scope), UNKNOWN);
+    back(code, ws, st, b, state::wider(scope), t, node, room)
 }
 
 // inl, inr and roll, by the kind of node that they take apart.
 fn unwrap(
-    p: &[u8],
-    terms: &[u16; TERMS],
-    fns: &[u16; FUNCTIONS],
+    code: &[u16; CODE],
     ws: &mut [u8],
-    slots: &mut [u32; SLOTS],
-    m: &mut [u32; 2],
+    st: &mut [u32; STATE],
     b: Bindings,
-    base: usize,
-    q: usize,
-    n: usize,
+    scope: u64,
     t: u16,
     node: u32,
     room: u16,
     kind: u8,
 ) -> Out
-    requires { ⌜ Tables (now p) (now terms) (now fns) ⌝ }
-    requires { ⌜ Prepared 1 1 (now p) (now ws) (now slots) (now m) b base q n n t room ⌝ }
-    requires { ⌜ (node < machineOf (now m) .top) × Wraps (kindOf (now p) t) kind ⌝ }
-    ensures { λ r. ⌜ Gone 1 (now (ws .entry)) (now (ws .exit)) (now (slots .entry)) (now (slots .exit)) (now (m .entry)) (now (m .exit)) base n r (stepIn (now (p .entry)) (now (ws .entry)) (now (slots .entry)) (now (m .entry)) base q n t (valueAt (now (ws .entry)) node) room) ⌝ }
+    requires { ⌜ PreparedIn 1 1 (now code) (now ws) (now st) b scope t room ⌝ }
+    requires { ⌜ (node < machineOf (now st) .top) × Wraps (kindIn (now code) t) kind ⌝ }
+    ensures { λ r. ⌜ StepsBack (now (code .entry)) (now (ws .entry)) (now (ws .exit)) (now (st .entry)) (now (st .exit)) scope t node room r ⌝ }
 {
     let found = values::nodes::kind_of(ws, node);
     if found == kind {
-        let part = parts::second_of(p, terms, t);
+        let part = rows::second_of(code, t);
         let x = values::nodes::left_of(ws, node);
-        let h = room - 1;
-        return back(p, terms, fns, ws, slots, m, b, base, q, n, part, x, h);
+        return back(code, ws, st, b, scope, part, x, room - 1);
     }
     outcomes::differ(b, kind, found, t)
 }
 
 // The left part, then the right.
 fn pair(
-    p: &[u8],
-    terms: &[u16; TERMS],
-    fns: &[u16; FUNCTIONS],
+    code: &[u16; CODE],
     ws: &mut [u8],
-    slots: &mut [u32; SLOTS],
-    m: &mut [u32; 2],
+    st: &mut [u32; STATE],
     b: Bindings,
-    base: usize,
-    q: usize,
-    n: usize,
+    scope: u64,
     t: u16,
     node: u32,
     room: u16,
 ) -> Out
-    requires { ⌜ Tables (now p) (now terms) (now fns) ⌝ }
-    requires { ⌜ Prepared 1 1 (now p) (now ws) (now slots) (now m) b base q n n t room ⌝ }
-    requires { ⌜ (node < machineOf (now m) .top) × (kindOf (now p) t ≡ 4) ⌝ }
-    ensures { λ r. ⌜ Gone 1 (now (ws .entry)) (now (ws .exit)) (now (slots .entry)) (now (slots .exit)) (now (m .entry)) (now (m .exit)) base n r (stepIn (now (p .entry)) (now (ws .entry)) (now (slots .entry)) (now (m .entry)) base q n t (valueAt (now (ws .entry)) node) room) ⌝ }
+    requires { ⌜ PreparedIn 1 1 (now code) (now ws) (now st) b scope t room ⌝ }
+    requires { ⌜ (node < machineOf (now st) .top) × (kindIn (now code) t ≡ 4) ⌝ }
+    ensures { λ r. ⌜ StepsBack (now (code .entry)) (now (ws .entry)) (now (ws .exit)) (now (st .entry)) (now (st .exit)) scope t node room r ⌝ }
 {
     let found = values::nodes::kind_of(ws, node);
     if found != 3 {
         return outcomes::refuse(b, STUCK, t);
     }
-    let first = parts::first_of(p, terms, t);
-    let second = parts::second_of(p, terms, t);
+    let first = rows::first_of(code, t);
+    let second = rows::second_of(code, t);
     let x = values::nodes::left_of(ws, node);
     let y = values::nodes::right_of(ws, node);
     let h = room - 1;
-    let r = back(p, terms, fns, ws, slots, m, b, base, q, n, first, x, h);
+    let r = back(code, ws, st, b, scope, first, x, h);
     let c = r.state;
     if r.stop != 0 {
         return r;
     }
-    back(p, terms, fns, ws, slots, m, c, base, q, n, second, y, h)
+    back(code, ws, st, c, scope, second, y, h)
 }
 
 // let x = e in b: the body, then the bound term.
 fn let_one(
-    p: &[u8],
-    terms: &[u16; TERMS],
-    fns: &[u16; FUNCTIONS],
+    code: &[u16; CODE],
     ws: &mut [u8],
-    slots: &mut [u32; SLOTS],
-    m: &mut [u32; 2],
+    st: &mut [u32; STATE],
     b: Bindings,
-    base: usize,
-    q: usize,
-    n: usize,
+    scope: u64,
     t: u16,
     node: u32,
     room: u16,
 ) -> Out
-    requires { ⌜ Tables (now p) (now terms) (now fns) ⌝ }
-    requires { ⌜ Prepared 1 1 (now p) (now ws) (now slots) (now m) b base q n n t room ⌝ }
-    requires { ⌜ (node < machineOf (now m) .top) × (kindOf (now p) t ≡ 5) ⌝ }
-    ensures { λ r. ⌜ Gone 1 (now (ws .entry)) (now (ws .exit)) (now (slots .entry)) (now (slots .exit)) (now (m .entry)) (now (m .exit)) base n r (stepIn (now (p .entry)) (now (ws .entry)) (now (slots .entry)) (now (m .entry)) base q n t (valueAt (now (ws .entry)) node) room) ⌝ }
+    requires { ⌜ PreparedIn 1 1 (now code) (now ws) (now st) b scope t room ⌝ }
+    requires { ⌜ (node < machineOf (now st) .top) × (kindIn (now code) t ≡ 5) ⌝ }
+    ensures { λ r. ⌜ StepsBack (now (code .entry)) (now (ws .entry)) (now (ws .exit)) (now (st .entry)) (now (st .exit)) scope t node room r ⌝ }
 {
-    let bound = parts::first_of(p, terms, t);
-    let body = parts::second_of(p, terms, t);
+    let bound = rows::first_of(code, t);
+    let body = rows::second_of(code, t);
     let h = room - 1;
-    let r = under(p, terms, fns, ws, slots, m, b, base, q, n, body, node, h);
+    let r = under(code, ws, st, b, scope, body, node, h);
     let inner = r.state;
     if r.stop != 0 {
         return r;
     }
-    let x = outcomes::leave(slots, inner, base, n);
-    let c = inner.left(n as u8);
-    back(p, terms, fns, ws, slots, m, c, base, q, n, bound, x, h)
+    let x = outcomes::leave(st, inner, scope);
+    let c = outcomes::outer(inner, scope);
+    back(code, ws, st, c, scope, bound, x, h)
 }
 
 // let (x, y) = e in b
 fn let_two(
-    p: &[u8],
-    terms: &[u16; TERMS],
-    fns: &[u16; FUNCTIONS],
+    code: &[u16; CODE],
     ws: &mut [u8],
-    slots: &mut [u32; SLOTS],
-    m: &mut [u32; 2],
+    st: &mut [u32; STATE],
     b: Bindings,
-    base: usize,
-    q: usize,
-    n: usize,
+    scope: u64,
     t: u16,
     node: u32,
     room: u16,
 ) -> Out
-    requires { ⌜ Tables (now p) (now terms) (now fns) ⌝ }
-    requires { ⌜ Prepared 1 1 (now p) (now ws) (now slots) (now m) b base q n n t room ⌝ }
-    requires { ⌜ (node < machineOf (now m) .top) × (kindOf (now p) t ≡ 6) ⌝ }
-    ensures { λ r. ⌜ Gone 1 (now (ws .entry)) (now (ws .exit)) (now (slots .entry)) (now (slots .exit)) (now (m .entry)) (now (m .exit)) base n r (stepIn (now (p .entry)) (now (ws .entry)) (now (slots .entry)) (now (m .entry)) base q n t (valueAt (now (ws .entry)) node) room) ⌝ }
+    requires { ⌜ PreparedIn 1 1 (now code) (now ws) (now st) b scope t room ⌝ }
+    requires { ⌜ (node < machineOf (now st) .top) × (kindIn (now code) t ≡ 6) ⌝ }
+    ensures { λ r. ⌜ StepsBack (now (code .entry)) (now (ws .entry)) (now (ws .exit)) (now (st .entry)) (now (st .exit)) scope t node room r ⌝ }
 {
-    let bound = parts::first_of(p, terms, t);
-    let body = parts::second_of(p, terms, t);
+    let bound = rows::first_of(code, t);
+    let body = rows::second_of(code, t);
     let h = room - 1;
-    scopes::slots::bind(slots, base + n, UNKNOWN);
-    let s = n + 1;
-    let r = under(p, terms, fns, ws, slots, m, b, base, q, s, body, node, h);
+    slots::bind(st, state::end_of(scope), UNKNOWN);
+    let wide = state::wider(scope);
+    let r = under(code, ws, st, b, wide, body, node, h);
     let inner = r.state;
     if r.stop != 0 {
         return r;
     }
-    let y = outcomes::leave(slots, inner, base, s);
-    let one = inner.left(s as u8);
-    let x = outcomes::leave(slots, one, base, n);
-    let c = one.left(n as u8);
-    over_pair(p, terms, fns, ws, slots, m, c, base, q, n, bound, x, y, h)
+    let y = outcomes::leave(st, inner, wide);
+    let one = outcomes::outer(inner, wide);
+    let x = outcomes::leave(st, one, scope);
+    let c = outcomes::outer(one, scope);
+    over_pair(code, ws, st, c, scope, bound, x, y, h)
 }
 
 // case e of inl x ⇒ b, inr y ⇒ b′: a branch, then the scrutinee.
 fn choose(
-    p: &[u8],
-    terms: &[u16; TERMS],
-    fns: &[u16; FUNCTIONS],
+    code: &[u16; CODE],
     ws: &mut [u8],
-    slots: &mut [u32; SLOTS],
-    m: &mut [u32; 2],
+    st: &mut [u32; STATE],
     b: Bindings,
-    base: usize,
-    q: usize,
-    n: usize,
+    scope: u64,
     t: u16,
     node: u32,
     room: u16,
 ) -> Out
-    requires { ⌜ Tables (now p) (now terms) (now fns) ⌝ }
-    requires { ⌜ Prepared 1 1 (now p) (now ws) (now slots) (now m) b base q n n t room ⌝ }
-    requires { ⌜ (node < machineOf (now m) .top) × (kindOf (now p) t ≡ 7) ⌝ }
-    ensures { λ r. ⌜ Gone 1 (now (ws .entry)) (now (ws .exit)) (now (slots .entry)) (now (slots .exit)) (now (m .entry)) (now (m .exit)) base n r (stepIn (now (p .entry)) (now (ws .entry)) (now (slots .entry)) (now (m .entry)) base q n t (valueAt (now (ws .entry)) node) room) ⌝ }
+    requires { ⌜ PreparedIn 1 1 (now code) (now ws) (now st) b scope t room ⌝ }
+    requires { ⌜ (node < machineOf (now st) .top) × (kindIn (now code) t ≡ 7) ⌝ }
+    ensures { λ r. ⌜ StepsBack (now (code .entry)) (now (ws .entry)) (now (ws .exit)) (now (st .entry)) (now (st .exit)) scope t node room r ⌝ }
 {
-    let sum = parts::first_of(p, terms, t);
-    let first = parts::second_of(p, terms, t);
-    let left = yields::may_yield(p, terms, ws, m[0], slots, base, q, first, node);
-    let branch = outcomes::branch_of(p, terms, t, left);
+    let sum = rows::first_of(code, t);
+    let first = rows::second_of(code, t);
+    let left = yields::yields(code, ws, st, scope, first, node);
+    let branch = outcomes::branch_of(code, t, left);
     let side = outcomes::side_of(left);
     let h = room - 1;
-    let r = under(p, terms, fns, ws, slots, m, b, base, q, n, branch, node, h);
+    let r = under(code, ws, st, b, scope, branch, node, h);
     let inner = r.state;
     if r.stop != 0 {
         return r;
     }
-    let x = outcomes::leave(slots, inner, base, n);
-    let c = inner.left(n as u8);
-    over(p, terms, fns, ws, slots, m, c, base, q, n, sum, x, h, side)
+    let x = outcomes::leave(st, inner, scope);
+    let c = outcomes::outer(inner, scope);
+    over(code, ws, st, c, scope, sum, x, h, side)
 }
 
 // A call: its ancilla terms forward; the function's body, its dynamic parameter not known; the dynamic term in the state at hand.
 fn call(
-    p: &[u8],
-    terms: &[u16; TERMS],
-    fns: &[u16; FUNCTIONS],
+    code: &[u16; CODE],
     ws: &mut [u8],
-    slots: &mut [u32; SLOTS],
-    m: &mut [u32; 2],
+    st: &mut [u32; STATE],
     b: Bindings,
-    base: usize,
-    q: usize,
-    n: usize,
+    scope: u64,
     t: u16,
     node: u32,
     room: u16,
 ) -> Out
-    requires { ⌜ Tables (now p) (now terms) (now fns) ⌝ }
-    requires { ⌜ Prepared 1 1 (now p) (now ws) (now slots) (now m) b base q n n t room ⌝ }
-    requires { ⌜ (node < machineOf (now m) .top) × (kindOf (now p) t ≡ 8) ⌝ }
-    ensures { λ r. ⌜ Gone 1 (now (ws .entry)) (now (ws .exit)) (now (slots .entry)) (now (slots .exit)) (now (m .entry)) (now (m .exit)) base n r (stepIn (now (p .entry)) (now (ws .entry)) (now (slots .entry)) (now (m .entry)) base q n t (valueAt (now (ws .entry)) node) room) ⌝ }
+    requires { ⌜ PreparedIn 1 1 (now code) (now ws) (now st) b scope t room ⌝ }
+    requires { ⌜ (node < machineOf (now st) .top) × (kindIn (now code) t ≡ 8) ⌝ }
+    ensures { λ r. ⌜ StepsBack (now (code .entry)) (now (ws .entry)) (now (ws .exit)) (now (st .entry)) (now (st .exit)) scope t node room r ⌝ }
 {
-    let k = parts::ancillae_of(p, terms, t);
-    let stop = arguments::gather(p, terms, fns, ws, slots, m, base, q, n, t, room, 0, k);
+    let k = octets::wide_index(rows::third_of(code, t));
+    let stop = arguments::gather(code, ws, st, scope, t, room, 0, k);
     if stop != 0 {
         return Out { stop, state: b };
     }
-    let body = parts::body_of(p, fns, parts::first_of(p, terms, t));
+    let body = rows::body_of(code, rows::first_of(code, t));
     let args = Bindings::first(k as u8);
-    let at = base + n;
+    let callee = state::scope(state::end_of(scope), k, k);
     let h = room - 1;
-    let r = under(p, terms, fns, ws, slots, m, args, at, k, k, body, node, h);
+    let r = under(code, ws, st, args, callee, body, node, h);
     let inner = r.state;
     if r.stop != 0 {
         return r;
     }
-    let x = outcomes::leave(slots, inner, at, k);
-    let dynamic = parts::argument_of(p, terms, t, k);
-    back(p, terms, fns, ws, slots, m, b, base, q, n, dynamic, x, h)
+    let x = outcomes::leave(st, inner, callee);
+    let dynamic = rows::argument_of(code, t, k);
+    back(code, ws, st, b, scope, dynamic, x, h)
 }
 
 fn unroll(
-    p: &[u8],
-    terms: &[u16; TERMS],
-    fns: &[u16; FUNCTIONS],
+    code: &[u16; CODE],
     ws: &mut [u8],
-    slots: &mut [u32; SLOTS],
-    m: &mut [u32; 2],
+    st: &mut [u32; STATE],
     b: Bindings,
-    base: usize,
-    q: usize,
-    n: usize,
+    scope: u64,
     t: u16,
     node: u32,
     room: u16,
 ) -> Out
-    requires { ⌜ Tables (now p) (now terms) (now fns) ⌝ }
-    requires { ⌜ Prepared 1 1 (now p) (now ws) (now slots) (now m) b base q n n t room ⌝ }
-    requires { ⌜ (node < machineOf (now m) .top) × (10 ≤ kindOf (now p) t) ⌝ }
-    ensures { λ r. ⌜ Gone 1 (now (ws .entry)) (now (ws .exit)) (now (slots .entry)) (now (slots .exit)) (now (m .entry)) (now (m .exit)) base n r (stepIn (now (p .entry)) (now (ws .entry)) (now (slots .entry)) (now (m .entry)) base q n t (valueAt (now (ws .entry)) node) room) ⌝ }
+    requires { ⌜ PreparedIn 1 1 (now code) (now ws) (now st) b scope t room ⌝ }
+    requires { ⌜ (node < machineOf (now st) .top) × (kindIn (now code) t ≡ 10) ⌝ }
+    ensures { λ r. ⌜ StepsBack (now (code .entry)) (now (ws .entry)) (now (ws .exit)) (now (st .entry)) (now (st .exit)) scope t node room r ⌝ }
 {
-    let part = parts::second_of(p, terms, t);
-    let h = room - 1;
-    over(p, terms, fns, ws, slots, m, b, base, q, n, part, node, h, 4)
+    let part = rows::second_of(code, t);
+    over(code, ws, st, b, scope, part, node, room - 1, 4)
 }

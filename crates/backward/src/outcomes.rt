@@ -1,28 +1,29 @@
 // Outcomes of backward evaluation, and the steps that have no parts to run: variables, the unit, refusals, and which branch of a case is run.
 // specs/Outcomes says what an outcome means.
+use decoded::rows;
+use decoded::rows::CODE;
 use forward::outcomes::FUEL;
 use forward::outcomes::HEIGHT;
 use forward::outcomes::LONG;
 use forward::outcomes::PLACE;
 use forward::outcomes::STOPPED;
 use forward::outcomes::STUCK;
-use forward::parts;
-use program::tables;
-use program::tables::TERMS;
 use scopes::bindings::Bindings;
-use scopes::slots::SLOTS;
+use scopes::slots;
+use scopes::state;
+use scopes::state::STATE;
 ghost use mathlib.Core.Path.{_≡_};
 ghost use mathlib.Core.Bool.{cond};
 ghost use Prim.Native.Nat.{_+_, _≤_, _<_};
 ghost use lib.ListN.{length, getD};
-ghost use Rattle.program.specs.Parts.{variable, second, third};
-ghost use Rattle.program.specs.Tables.{termPlaces, Table};
+ghost use Rattle.uses.specs.Sets.{has, Holds, below};
+ghost use Rattle.decoded.specs.Rows.{firstIn, secondIn, thirdIn};
 ghost use Rattle.values.specs.Nodes.{Heap, Room};
-ghost use Rattle.scopes.specs.Slots.{slotCount};
-ghost use Rattle.scopes.specs.Bindings.{Tells, Meetable};
+ghost use Rattle.scopes.specs.Slots.{stateCount, machineOf, slotsOf, scopeIn};
+ghost use Rattle.scopes.specs.Bindings.{Meetable};
 ghost use Rattle.forward.specs.Outcomes.{refusalIn};
 ghost use Rattle.backward.specs.Outcomes.{Refused, carried, whyOf, statusOf, tooLong, against, mismatch, nodeOr};
-ghost use Rattle.backward.specs.Ready.{Variable, UnitMet};
+ghost use Rattle.backward.specs.Ready.{Variable, UnitMet, Leavable};
 
 // Refusals 12 to 16 (section 4), each with its term; and a value of wrong shape, which no checked program meets.
 pub enum Refusal {
@@ -125,25 +126,23 @@ fn clash(b: Bindings, other: u8, found: u8, t: u16) -> Out
 
 // A variable is met with the node's value: it is bound, or compared (16).
 pub fn variable(
-    p: &[u8],
-    terms: &[u16; TERMS],
+    code: &[u16; CODE],
     ws: &[u8],
-    slots: &mut [u32; SLOTS],
-    top: u32,
+    st: &mut [u32; STATE],
     b: Bindings,
-    base: usize,
+    scope: u64,
     t: u16,
     node: u32,
 ) -> Out
-    requires { ⌜ Table (now terms) (termPlaces (now p)) 1024 ⌝ }
-    requires { ⌜ (t < length (termPlaces (now p))) × (getD (termPlaces (now p)) t 0 + 5 ≤ length (now p)) ⌝ }
-    requires { ⌜ Heap (now ws) top ⌝ }
-    requires { ⌜ Meetable (now slots) b base (variable (now p) (getD (termPlaces (now p)) t 0)) top ⌝ }
-    requires { ⌜ node < top ⌝ }
-    ensures { λ r. ⌜ Variable (now (ws .entry)) (now (slots .entry)) (now (slots .exit)) b base (variable (now (p .entry)) (getD (termPlaces (now (p .entry))) t 0)) node t r ⌝ }
+    requires { ⌜ (length (now st) ≡ stateCount) × (t < 1024) ⌝ }
+    requires { ⌜ Heap (now ws) (machineOf (now st) .top) ⌝ }
+    requires { ⌜ Meetable (slotsOf (now st)) b (scopeIn scope .base) (firstIn (now code) t) (machineOf (now st) .top) ⌝ }
+    requires { ⌜ node < machineOf (now st) .top ⌝ }
+    ensures { λ r. ⌜ Variable (now (ws .entry)) (now (st .entry)) (now (st .exit)) b (scopeIn scope .base) (firstIn (now (code .entry)) t) node t r ⌝ }
 {
-    let i = program::views::variable(p, tables::offset(terms, t));
-    let met = b.meet(slots, base, i, node, ws, top);
+    let i = rows::first_of(code, t);
+    let base = state::base_in(scope);
+    let met = b.meet(st, base, i as u8, node, ws);
     let agrees = met.agrees;
     let c = met.state;
     if agrees {
@@ -164,29 +163,36 @@ pub fn unit(ws: &[u8], b: Bindings, node: u32, t: u16) -> Out
     refuse(b, STUCK, t)
 }
 
-// Variable n, the newest, leaves the scope from slot `base` on: its node, or node 0, the unit, if it was never met.
-pub fn leave(slots: &[u32; SLOTS], b: Bindings, base: usize, n: usize) -> u32
-    requires { ⌜ (n < 32) × (base + n < slotCount) ⌝ }
-    requires { ⌜ Tells (now slots) b base (n + 1) ⌝ }
-    ensures { λ r. ⌜ r ≡ nodeOr (getD (now (slots .entry)) (base + n) 0) ⌝ }
+// The newest variable of a scope, the one above `scope`, leaves it: its node, or node 0, the unit, if it was never met.
+pub fn leave(st: &[u32; STATE], b: Bindings, scope: u64) -> u32
+    requires { ⌜ Leavable (slotsOf (now st)) b (scopeIn scope) ⌝ }
+    ensures { λ r. ⌜ r ≡ nodeOr (getD (slotsOf (now (st .entry))) (scopeIn scope .base + scopeIn scope .n) 0) ⌝ }
 {
+    let n = state::count_in(scope);
     if b.knows(n as u8) {
-        return slots[base + n];
+        return slots::at(st, state::end_of(scope));
     }
     0
 }
 
+// The state of the variables of `scope`, once the one above has left.
+pub fn outer(b: Bindings, scope: u64) -> Bindings
+    requires { ⌜ scopeIn scope .n < 32 ⌝ }
+    ensures { λ r. ⌜ Holds (r .bound) (below (scopeIn scope .n) (has (b .bound))) ⌝ }
+{
+    let n = state::count_in(scope);
+    b.left(n as u8)
+}
+
 // The branch of case t that is run: the left exactly if it may yield the value (section 3).
-pub fn branch_of(p: &[u8], terms: &[u16; TERMS], t: u16, left: bool) -> u16
-    requires { ⌜ Table (now terms) (termPlaces (now p)) 1024 ⌝ }
-    requires { ⌜ t < length (termPlaces (now p)) ⌝ }
-    requires { ⌜ getD (termPlaces (now p)) t 0 + 10 ≤ length (now p) ⌝ }
-    ensures { λ r. ⌜ r ≡ cond left (second (now (p .entry)) (getD (termPlaces (now (p .entry))) t 0)) (third (now (p .entry)) (getD (termPlaces (now (p .entry))) t 0)) ⌝ }
+pub fn branch_of(code: &[u16; CODE], t: u16, left: bool) -> u16
+    requires { ⌜ t < 1024 ⌝ }
+    ensures { λ r. ⌜ r ≡ cond left (secondIn (now (code .entry)) t) (thirdIn (now (code .entry)) t) ⌝ }
 {
     if left {
-        return parts::second_of(p, terms, t);
+        return rows::second_of(code, t);
     }
-    parts::third_of(p, terms, t)
+    rows::third_of(code, t)
 }
 
 // The kind of the scrutinee's value: inl for the left branch, else inr.

@@ -14,25 +14,23 @@ use package.Rattle.rules.specs.Val.{Val, inl, inr, pair}
 use package.Rattle.rules.specs.Run.{Res, stuck, Run, after, give, test}
 use package.Rattle.rules.specs.Yield.{mayYield}
 use package.Rattle.rules.specs.Machine.{State, onSum, onPair, forwardStep, forward}
-use package.Rattle.calls.specs.Fields.{kindAt}
 use package.Rattle.calls.specs.Entries.{TypeEntry}
-use package.Rattle.program.specs.Parts.{first, second, third}
 use package.Rattle.values.specs.Nodes.{valueWithin, valueAt, ofKind, leftAt, rightAt, kindAt as nodeKind}
 use package.Rattle.values.proofs.Heaps.{value-inl, value-inr, value-pair}
-use package.Rattle.scopes.specs.Slots.{slotCount, meaning as slotMeaning, stateAt, Slots}
+use package.Rattle.scopes.specs.Slots.{slotCount, meaning as slotMeaning, stateAt, Slots, Machine, Scope}
 use package.Rattle.scopes.proofs.Marks.{found-node}
 use package.Rattle.scopes.proofs.Scopes.{state-bind, slots-bind}
 use package.Rattle.yields.proofs.Ancillae.{ancillae-same}
-use package.Rattle.forward.specs.Code.{treeAt, programAt}
-use package.Rattle.forward.specs.Outcomes.{Machine, Scope, Out, refusalOf}
+use package.Rattle.forward.specs.Outcomes.{Out, refusalOf}
 use package.Rattle.forward.specs.Ready.{Ready, Ran, CheckReady, Checks, ancillaeOf, stateOf, runOf, underOf, stepOf}
-use package.Rattle.forward.proofs.Trees.{tree-let, tree-letp, tree-case, parts-let, parts-letp, parts-case}
 use package.Rattle.forward.proofs.Answers.{below-mark}
 use package.Rattle.forward.proofs.Runs.{ancillae-held, says, slack, halted, part-refused, part-answered, fewer, later, ancillae-later, state-later, part}
 use package.Rattle.forward.proofs.Steps.{stepped}
 use Rattle.forward.specs.declared.outcomes.Refusal.{Refusal}
 use Rattle.forward.specs.declared.outcomes.Refusal.the-variants.{Stuck}
 use Rattle.forward.specs.declared.outcomes.Status.the-variants.{Value, Refused}
+use package.Rattle.decoded.specs.Rows.{firstIn, kindIn, programIn, secondIn, thirdIn, treeIn}
+use package.Rattle.decoded.proofs.Trees.{parts-case, parts-let, parts-letp, tree-case, tree-let, tree-letp}
 
 ----------------------------------------------------------------
 -- A variable more
@@ -42,11 +40,11 @@ abbrev pub opened : Scope → Scope
 opened sc = record { base = sc .base; q = sc .q; n = sc .n + 1 }
 
 -- its slot is there
-pub bind-room : {k v : ℕ} {p terms functions heap slots : List ℕ} {st : Machine} {sc : Scope} {t room : ℕ} → Ready k (suc v) p terms functions heap slots st sc t room
+pub bind-room : {k v : ℕ} {code heap slots : List ℕ} {st : Machine} {sc : Scope} {t room : ℕ} → Ready k (suc v) code heap slots st sc t room
     → sc .base + sc .n < slotCount
 bind-room rd = omega (arith, rd .variables, rd .full)
 
-module _ {k v : ℕ} {p terms functions heap slots : List ℕ} {st : Machine} {sc : Scope} {t room : ℕ} (rd : Ready k (suc v) p terms functions heap slots st sc t room)
+module _ {k v : ℕ} {code heap slots : List ℕ} {st : Machine} {sc : Scope} {t room : ℕ} (rd : Ready k (suc v) code heap slots st sc t room)
     (node : ℕ) (low : node < st .top) {slots₁ : List ℕ} (e : slots₁ ≡ set slots (sc .base + sc .n) node) where
   abbrev m : ℕ
   m = sc .base + sc .n
@@ -57,13 +55,13 @@ module _ {k v : ℕ} {p terms functions heap slots : List ℕ} {st : Machine} {s
   pub bound-length : length slots ≡ length slots₁
   bound-length = rw e (sym (length-set slots m node))
 
-  pub bound-ready : Ready k v p terms functions heap slots₁ st (opened sc) t room
+  pub bound-ready : Ready k v code heap slots₁ st (opened sc) t room
   bound-ready = record {
-    code = rd .code;
+    rows = rd .rows;
     term = rd .term;
-    few = rd .few;
     graph = rd .graph;
-    held = subst (λ n. Slots slots₁ n (st .top)) (let z : suc m ≡ sc .base + (sc .n + 1) = omega arith in z) (rw e (slots-bind slots m (st .top) node (omega (arith, bind-room rd, rd .full)) (rd .held) (right low)));
+    held = subst (λ n. Slots slots₁ n (st .top)) (let z : suc m ≡ sc .base + (sc .n + 1) = omega arith in z)
+        (rw e (slots-bind slots m (st .top) node (omega (arith, bind-room rd, rd .full)) (rd .held) (right low)));
     ancillae = λ i h. rw (← bound-below (sc .base + i) (omega (arith, rd .within))) (rd .ancillae i h);
     within = omega (arith, rd .within);
     nodes = rd .nodes;
@@ -83,8 +81,9 @@ module _ {k v : ℕ} {p terms functions heap slots : List ℕ} {st : Machine} {s
       ∙ ap (λ f. slotMeaning heap f ∷ stateOf heap slots sc) (found-node node (λ q. omega (arith, rd .small, below-mark)))
 
   -- the term was run in that scope
-  pub bound-done : {heap′ slots′ : List ℕ} {out : Out} → Ran 0 heap heap′ (sc .base + (sc .n + 1)) slots₁ slots′ st out (runOf p terms functions heap slots₁ st (opened sc) t room)
-      → Ran 0 heap heap′ m slots slots′ st out (underOf p terms functions heap slots st sc node t room)
+  pub bound-done : {heap′ slots′ : List ℕ} {out : Out} → Ran 0 heap heap′ (sc .base + (sc .n + 1)) slots₁ slots′ st out
+      (runOf code heap slots₁ st (opened sc) t room)
+      → Ran 0 heap heap′ m slots slots′ st out (underOf code heap slots st sc node t room)
   bound-done d = record {
     agree = d .agree;
     graph = d .graph;
@@ -94,14 +93,14 @@ module _ {k v : ℕ} {p terms functions heap slots : List ℕ} {st : Machine} {s
     spends = d .spends;
     owes = d .owes;
     node = d .node;
-    answer = λ ys. d .answer ys ∙ ap₂ (λ a σ. forward fits (programAt p terms functions ys) room a σ (treeAt p terms ys t) (st .fuel)) bound-ancillae bound-state;
+    answer = λ ys. d .answer ys ∙ ap₂ (λ a σ. forward fits (programIn code ys) room a σ (treeIn code ys t) (st .fuel)) bound-ancillae bound-state;
   }
 
   -- the term was run in the scope with another variable besides
   pub bound-twice : {heap′ slots′ : List ℕ} {out : Out} (node₂ : ℕ)
-      → Ran 0 heap heap′ (sc .base + (sc .n + 1)) slots₁ slots′ st out (underOf p terms functions heap slots₁ st (opened sc) node₂ t room)
-      → Ran 0 heap heap′ m slots slots′ st out (λ ys. forward fits (programAt p terms functions ys) room (ancillaeOf heap slots sc)
-      (some (valueAt heap node₂) ∷ some (valueAt heap node) ∷ stateOf heap slots sc) (treeAt p terms ys t) (st .fuel))
+      → Ran 0 heap heap′ (sc .base + (sc .n + 1)) slots₁ slots′ st out (underOf code heap slots₁ st (opened sc) node₂ t room)
+      → Ran 0 heap heap′ m slots slots′ st out (λ ys. forward fits (programIn code ys) room (ancillaeOf heap slots sc)
+      (some (valueAt heap node₂) ∷ some (valueAt heap node) ∷ stateOf heap slots sc) (treeIn code ys t) (st .fuel))
   bound-twice node₂ d = record {
     agree = d .agree;
     graph = d .graph;
@@ -112,7 +111,7 @@ module _ {k v : ℕ} {p terms functions heap slots : List ℕ} {st : Machine} {s
     owes = d .owes;
     node = d .node;
     answer = λ ys. d .answer ys
-        ∙ ap₂ (λ a σ. forward fits (programAt p terms functions ys) room a (some (valueAt heap node₂) ∷ σ) (treeAt p terms ys t) (st .fuel)) bound-ancillae bound-state;
+        ∙ ap₂ (λ a σ. forward fits (programIn code ys) room a (some (valueAt heap node₂) ∷ σ) (treeIn code ys t) (st .fuel)) bound-ancillae bound-state;
   }
 
 ----------------------------------------------------------------
@@ -146,22 +145,19 @@ module _ (heap : List ℕ) (node fuel : ℕ) where
 ----------------------------------------------------------------
 -- By kind
 
-module _ {p terms functions heap slots : List ℕ} {st : Machine} {sc : Scope} {t room : ℕ} (rd : Ready 1 0 p terms functions heap slots st sc t room) where
-  abbrev at : ℕ
-  at = getD terms t 0
-
+module _ {code heap slots : List ℕ} {st : Machine} {sc : Scope} {t room : ℕ} (rd : Ready 1 0 code heap slots st sc t room) where
   abbrev end : ℕ
   end = sc .base + sc .n
 
   abbrev run : ℕ → List TypeEntry → Res Val
-  run b = runOf p terms functions heap slots st sc b (room - 1)
+  run b = runOf code heap slots st sc b (room - 1)
 
   abbrev step : List TypeEntry → Res Val
-  step = stepOf p terms functions heap slots st sc t room
+  step = stepOf code heap slots st sc t room
 
   -- a part in the scope with more variables
   abbrev within : ℕ → List TypeEntry → State → Run Val
-  within b ys more = forward fits (programAt p terms functions ys) (room - 1) (ancillaeOf heap slots sc) more (treeAt p terms ys b)
+  within b ys more = forward fits (programIn code ys) (room - 1) (ancillaeOf heap slots sc) more (treeIn code ys b)
 
   abbrev state : State
   state = stateOf heap slots sc
@@ -169,9 +165,9 @@ module _ {p terms functions heap slots : List ℕ} {st : Machine} {sc : Scope} {
   module _ {heap₁ slots₁ : List ℕ} {r₁ : Out} {res : List TypeEntry → Res Val} (d : Ran 0 heap heap₁ end slots slots₁ st r₁ res) where
     -- the same, once another part was run
     under-later : (node b : ℕ) (ys : List TypeEntry)
-        → underOf p terms functions heap₁ slots₁ (r₁ .state) sc node b (room - 1) ys ≡ within b ys (some (valueAt heap₁ node) ∷ state) (r₁ .state .fuel)
+        → underOf code heap₁ slots₁ (r₁ .state) sc node b (room - 1) ys ≡ within b ys (some (valueAt heap₁ node) ∷ state) (r₁ .state .fuel)
     under-later node b ys =
-        ap₂ (λ a σ. forward fits (programAt p terms functions ys) (room - 1) a (some (valueAt heap₁ node) ∷ σ) (treeAt p terms ys b) (r₁ .state .fuel))
+        ap₂ (λ a σ. forward fits (programIn code ys) (room - 1) a (some (valueAt heap₁ node) ∷ σ) (treeIn code ys b) (r₁ .state .fuel))
         (sym (ancillae-later rd d)) (sym (state-later rd d))
 
     -- a value of wrong shape
@@ -184,21 +180,22 @@ module _ {p terms functions heap slots : List ℕ} {st : Machine} {sc : Scope} {
   ----------------------------------------------------------------
   -- let
 
-  module _ (kind : kindAt p at ≡ 5) where
+  module _ (kind : kindIn code t ≡ 5) where
     abbrev let-next : ℕ → List TypeEntry → Val → Run Val
     let-next b ys v = within b ys (some v ∷ state)
 
-    step-let : (ys : List TypeEntry) → step ys ≡ after (run (first p at) ys) (let-next (second p at) ys)
+    step-let : (ys : List TypeEntry) → step ys ≡ after (run (firstIn code t) ys) (let-next (secondIn code t) ys)
     unfolding forwardStep
-    step-let ys = stepped rd ys (tree-let (rd .code .entries) t (rd .term) ys kind)
+    step-let ys = stepped rd ys (tree-let (rd .rows) t (rd .term) ys kind)
 
-    pub let-first : (b : ℕ) → b ≡ first p at → Ready 0 0 p terms functions heap slots st sc b (room - 1)
-    let-first b q = rw q (fewer (part rd (first p at) (parts-let (rd .code .entries) t (rd .term) (rd .few) kind .0)) 0 (omega arith))
+    pub let-first : (b : ℕ) → b ≡ firstIn code t → Ready 0 0 code heap slots st sc b (room - 1)
+    let-first b q = rw q (fewer (part rd (firstIn code t) (parts-let (rd .rows) t (rd .term) kind .0)) 0 (omega arith))
 
-    pub let-second : (b : ℕ) → b ≡ second p at → Ready 0 1 p terms functions heap slots st sc b (room - 1)
-    let-second b q = rw q (fewer (part rd (second p at) (parts-let (rd .code .entries) t (rd .term) (rd .few) kind .1)) 1 (omega arith))
+    pub let-second : (b : ℕ) → b ≡ secondIn code t → Ready 0 1 code heap slots st sc b (room - 1)
+    let-second b q = rw q (fewer (part rd (secondIn code t) (parts-let (rd .rows) t (rd .term) kind .1)) 1 (omega arith))
 
-    module _ (b b′ : ℕ) (q : b ≡ first p at) (q′ : b′ ≡ second p at) {heap₁ slots₁ : List ℕ} {r₁ : Out} (d : Ran 0 heap heap₁ end slots slots₁ st r₁ (run b)) where
+    module _ (b b′ : ℕ) (q : b ≡ firstIn code t) (q′ : b′ ≡ secondIn code t) {heap₁ slots₁ : List ℕ} {r₁ : Out}
+        (d : Ran 0 heap heap₁ end slots slots₁ st r₁ (run b)) where
       step-l : (ys : List TypeEntry) → step ys ≡ after (run b ys) (let-next b′ ys)
       step-l ys = step-let ys ∙ ap₂ (λ b b′. after (run b ys) (let-next b′ ys)) (sym q) (sym q′)
 
@@ -206,31 +203,32 @@ module _ {p terms functions heap slots : List ℕ} {st : Machine} {sc : Scope} {
       let-refused s = slack (part-refused d (let-next b′) s step-l) 1 (omega arith)
 
       pub let-done : {x : ℕ} → r₁ .status ≡ Value x → {heap₂ slots₂ : List ℕ} {r₂ : Out}
-          → Ran 0 heap₁ heap₂ end slots₁ slots₂ (r₁ .state) r₂ (underOf p terms functions heap₁ slots₁ (r₁ .state) sc x b′ (room - 1))
+          → Ran 0 heap₁ heap₂ end slots₁ slots₂ (r₁ .state) r₂ (underOf code heap₁ slots₁ (r₁ .state) sc x b′ (room - 1))
           → Ran 1 heap heap₂ end slots slots₂ st r₂ step
       let-done {x} s d₂ = slack (part-answered d (let-next b′) s step-l (says d₂ (under-later d x b′)) (omega arith)) 1 (omega arith)
 
   ----------------------------------------------------------------
   -- let pair
 
-  module _ (kind : kindAt p at ≡ 6) where
+  module _ (kind : kindIn code t ≡ 6) where
     abbrev both-next : ℕ → List TypeEntry → Val → Val → Run Val
     both-next b ys v w = within b ys (some w ∷ some v ∷ state)
 
     abbrev letp-next : ℕ → List TypeEntry → Val → Run Val
     letp-next b ys v = onPair v (both-next b ys)
 
-    step-letp : (ys : List TypeEntry) → step ys ≡ after (run (first p at) ys) (letp-next (second p at) ys)
+    step-letp : (ys : List TypeEntry) → step ys ≡ after (run (firstIn code t) ys) (letp-next (secondIn code t) ys)
     unfolding forwardStep
-    step-letp ys = stepped rd ys (tree-letp (rd .code .entries) t (rd .term) ys kind)
+    step-letp ys = stepped rd ys (tree-letp (rd .rows) t (rd .term) ys kind)
 
-    pub letp-first : (b : ℕ) → b ≡ first p at → Ready 0 0 p terms functions heap slots st sc b (room - 1)
-    letp-first b q = rw q (fewer (part rd (first p at) (parts-letp (rd .code .entries) t (rd .term) (rd .few) kind .0)) 0 (omega arith))
+    pub letp-first : (b : ℕ) → b ≡ firstIn code t → Ready 0 0 code heap slots st sc b (room - 1)
+    letp-first b q = rw q (fewer (part rd (firstIn code t) (parts-letp (rd .rows) t (rd .term) kind .0)) 0 (omega arith))
 
-    pub letp-second : (b : ℕ) → b ≡ second p at → Ready 0 2 p terms functions heap slots st sc b (room - 1)
-    letp-second b q = rw q (fewer (part rd (second p at) (parts-letp (rd .code .entries) t (rd .term) (rd .few) kind .1)) 2 (omega arith))
+    pub letp-second : (b : ℕ) → b ≡ secondIn code t → Ready 0 2 code heap slots st sc b (room - 1)
+    letp-second b q = rw q (fewer (part rd (secondIn code t) (parts-letp (rd .rows) t (rd .term) kind .1)) 2 (omega arith))
 
-    module _ (b b′ : ℕ) (q : b ≡ first p at) (q′ : b′ ≡ second p at) {heap₁ slots₁ : List ℕ} {r₁ : Out} (d : Ran 0 heap heap₁ end slots slots₁ st r₁ (run b)) where
+    module _ (b b′ : ℕ) (q : b ≡ firstIn code t) (q′ : b′ ≡ secondIn code t) {heap₁ slots₁ : List ℕ} {r₁ : Out}
+        (d : Ran 0 heap heap₁ end slots slots₁ st r₁ (run b)) where
       step-lp : (ys : List TypeEntry) → step ys ≡ after (run b ys) (letp-next b′ ys)
       step-lp ys = step-letp ys ∙ ap₂ (λ b b′. after (run b ys) (letp-next b′ ys)) (sym q) (sym q′)
 
@@ -242,8 +240,8 @@ module _ {p terms functions heap slots : List ℕ} {st : Machine} {sc : Scope} {
         letp-stuck n = shape-stuck d (letp-next b′) s step-lp (λ ys. node-no-pair heap₁ x (r₁ .state .fuel) (both-next b′ ys) n)
 
         pub letp-done : nodeKind heap₁ x ≡ 3 → (y z : ℕ) → y ≡ leftAt heap₁ x → z ≡ rightAt heap₁ x → {heap₂ slots₂ : List ℕ} {r₂ : Out}
-            → Ran 0 heap₁ heap₂ end slots₁ slots₂ (r₁ .state) r₂ (λ ys. forward fits (programAt p terms functions ys) (room - 1) (ancillaeOf heap₁ slots₁ sc)
-            (some (valueAt heap₁ z) ∷ some (valueAt heap₁ y) ∷ stateOf heap₁ slots₁ sc) (treeAt p terms ys b′) (r₁ .state .fuel))
+            → Ran 0 heap₁ heap₂ end slots₁ slots₂ (r₁ .state) r₂ (λ ys. forward fits (programIn code ys) (room - 1) (ancillaeOf heap₁ slots₁ sc)
+            (some (valueAt heap₁ z) ∷ some (valueAt heap₁ y) ∷ stateOf heap₁ slots₁ sc) (treeIn code ys b′) (r₁ .state .fuel))
             → Ran 1 heap heap₂ end slots slots₂ st r₂ step
         unfolding onPair
         letp-done k3 y z qy qz d₂ = slack (part-answered d (letp-next b′) s step-lp (says d₂ same) (omega arith)) 1 (omega arith)
@@ -251,23 +249,25 @@ module _ {p terms functions heap slots : List ℕ} {st : Machine} {sc : Scope} {
             is-pair : valueAt heap₁ x ≡ pair (valueAt heap₁ y) (valueAt heap₁ z)
             is-pair = rw (qy, qz) (value-pair heap₁ (r₁ .state .top) (d .graph .right) x (d .node x s) k3 .0)
 
-            same : (ys : List TypeEntry) → forward fits (programAt p terms functions ys) (room - 1) (ancillaeOf heap₁ slots₁ sc)
-                (some (valueAt heap₁ z) ∷ some (valueAt heap₁ y) ∷ stateOf heap₁ slots₁ sc) (treeAt p terms ys b′) (r₁ .state .fuel) ≡ letp-next b′ ys (valueAt heap₁ x) (r₁ .state .fuel)
+            same : (ys : List TypeEntry) → forward fits (programIn code ys) (room - 1) (ancillaeOf heap₁ slots₁ sc)
+                (some (valueAt heap₁ z) ∷ some (valueAt heap₁ y) ∷ stateOf heap₁ slots₁ sc) (treeIn code ys b′) (r₁ .state .fuel) ≡ letp-next b′ ys
+                (valueAt heap₁ x) (r₁ .state .fuel)
             same ys =
-                ap₂ (λ a σ. forward fits (programAt p terms functions ys) (room - 1) a (some (valueAt heap₁ z) ∷ some (valueAt heap₁ y) ∷ σ) (treeAt p terms ys b′) (r₁ .state .fuel))
+                ap₂ (λ a σ. forward fits (programIn code ys) (room - 1) a (some (valueAt heap₁ z) ∷ some (valueAt heap₁ y) ∷ σ) (treeIn code ys b′)
+                (r₁ .state .fuel))
                 (sym (ancillae-later rd d)) (sym (state-later rd d))
                 ∙ sym (ap (λ v. letp-next b′ ys v (r₁ .state .fuel)) is-pair)
 
   ----------------------------------------------------------------
   -- case
 
-  module _ (kind : kindAt p at ≡ 7) where
+  module _ (kind : kindIn code t ≡ 7) where
     abbrev left-next : ℕ → List TypeEntry → Val → Run Val
     left-next b ys v = within b ys (some v ∷ state)
 
     -- the left branch's form is asked about the right one's value
     abbrev first-match : ℕ → List TypeEntry → Val → Run Val
-    first-match b ys w = test (not (mayYield (ancillaeOf heap slots sc) (treeAt p terms ys b) w)) 15 t (give w)
+    first-match b ys w = test (not (mayYield (ancillaeOf heap slots sc) (treeIn code ys b) w)) 15 t (give w)
 
     abbrev right-next : ℕ → ℕ → List TypeEntry → Val → Run Val
     right-next b b′ ys v fuel = after (within b′ ys (some v ∷ state) fuel) (first-match b ys)
@@ -275,48 +275,49 @@ module _ {p terms functions heap slots : List ℕ} {st : Machine} {sc : Scope} {
     abbrev case-next : ℕ → ℕ → List TypeEntry → Val → Run Val
     case-next b b′ ys s = onSum s (left-next b ys) (right-next b b′ ys)
 
-    step-case : (ys : List TypeEntry) → step ys ≡ after (run (first p at) ys) (case-next (second p at) (third p at) ys)
+    step-case : (ys : List TypeEntry) → step ys ≡ after (run (firstIn code t) ys) (case-next (secondIn code t) (thirdIn code t) ys)
     unfolding forwardStep
-    step-case ys = stepped rd ys (tree-case (rd .code .entries) t (rd .term) ys kind)
+    step-case ys = stepped rd ys (tree-case (rd .rows) t (rd .term) ys kind)
 
-    pub case-first : (b : ℕ) → b ≡ first p at → Ready 0 0 p terms functions heap slots st sc b (room - 1)
-    case-first b q = rw q (fewer (part rd (first p at) (parts-case (rd .code .entries) t (rd .term) (rd .few) kind .0)) 0 (omega arith))
+    pub case-first : (b : ℕ) → b ≡ firstIn code t → Ready 0 0 code heap slots st sc b (room - 1)
+    case-first b q = rw q (fewer (part rd (firstIn code t) (parts-case (rd .rows) t (rd .term) kind .0)) 0 (omega arith))
 
-    pub case-second : (b : ℕ) → b ≡ second p at → Ready 0 1 p terms functions heap slots st sc b (room - 1)
-    case-second b q = rw q (fewer (part rd (second p at) (parts-case (rd .code .entries) t (rd .term) (rd .few) kind .1)) 1 (omega arith))
+    pub case-second : (b : ℕ) → b ≡ secondIn code t → Ready 0 1 code heap slots st sc b (room - 1)
+    case-second b q = rw q (fewer (part rd (secondIn code t) (parts-case (rd .rows) t (rd .term) kind .1)) 1 (omega arith))
 
-    pub case-third : (b : ℕ) → b ≡ third p at → Ready 0 1 p terms functions heap slots st sc b (room - 1)
-    case-third b q = rw q (fewer (part rd (third p at) (parts-case (rd .code .entries) t (rd .term) (rd .few) kind .2)) 1 (omega arith))
+    pub case-third : (b : ℕ) → b ≡ thirdIn code t → Ready 0 1 code heap slots st sc b (room - 1)
+    case-third b q = rw q (fewer (part rd (thirdIn code t) (parts-case (rd .rows) t (rd .term) kind .2)) 1 (omega arith))
 
-    module _ (b : ℕ) (q : b ≡ first p at) {heap₁ slots₁ : List ℕ} {r₁ : Out} (d : Ran 0 heap heap₁ end slots slots₁ st r₁ (run b)) where
-      step-c : (ys : List TypeEntry) → step ys ≡ after (run b ys) (case-next (second p at) (third p at) ys)
-      step-c ys = step-case ys ∙ ap (λ b. after (run b ys) (case-next (second p at) (third p at) ys)) (sym q)
+    module _ (b : ℕ) (q : b ≡ firstIn code t) {heap₁ slots₁ : List ℕ} {r₁ : Out} (d : Ran 0 heap heap₁ end slots slots₁ st r₁ (run b)) where
+      step-c : (ys : List TypeEntry) → step ys ≡ after (run b ys) (case-next (secondIn code t) (thirdIn code t) ys)
+      step-c ys = step-case ys ∙ ap (λ b. after (run b ys) (case-next (secondIn code t) (thirdIn code t) ys)) (sym q)
 
       pub case-refused : {why : Refusal} → r₁ .status ≡ Refused why → Ran 1 heap heap₁ end slots slots₁ st r₁ step
-      case-refused s = slack (part-refused d (case-next (second p at) (third p at)) s step-c) 1 (omega arith)
+      case-refused s = slack (part-refused d (case-next (secondIn code t) (thirdIn code t)) s step-c) 1 (omega arith)
 
       module _ {x : ℕ} (s : r₁ .status ≡ Value x) where
         pub case-stuck : ¬ (nodeKind heap₁ x ≡ 1) → ¬ (nodeKind heap₁ x ≡ 2) → (r : Out) → r .status ≡ Refused Stuck → r .state ≡ r₁ .state
             → Ran 1 heap heap₁ end slots slots₁ st r step
         case-stuck n n′ =
-            shape-stuck d (case-next (second p at) (third p at)) s step-c
-            (λ ys. node-no-sum heap₁ x (r₁ .state .fuel) (left-next (second p at) ys) (right-next (second p at) (third p at) ys) n n′)
+            shape-stuck d (case-next (secondIn code t) (thirdIn code t)) s step-c
+            (λ ys. node-no-sum heap₁ x (r₁ .state .fuel) (left-next (secondIn code t) ys) (right-next (secondIn code t) (thirdIn code t) ys) n n′)
 
         module _ (y : ℕ) (qy : y ≡ leftAt heap₁ x) (b′ : ℕ) {heap₂ slots₂ : List ℕ} {r₂ : Out}
-            (d₂ : Ran 0 heap₁ heap₂ end slots₁ slots₂ (r₁ .state) r₂ (underOf p terms functions heap₁ slots₁ (r₁ .state) sc y b′ (room - 1))) where
-          pub case-left : nodeKind heap₁ x ≡ 1 → b′ ≡ second p at → Ran 1 heap heap₂ end slots slots₂ st r₂ step
+            (d₂ : Ran 0 heap₁ heap₂ end slots₁ slots₂ (r₁ .state) r₂ (underOf code heap₁ slots₁ (r₁ .state) sc y b′ (room - 1))) where
+          pub case-left : nodeKind heap₁ x ≡ 1 → b′ ≡ secondIn code t → Ran 1 heap heap₂ end slots slots₂ st r₂ step
           unfolding onSum
           case-left k1 q′ =
-              slack (part-answered d (case-next (second p at) (third p at)) s step-c
+              slack (part-answered d (case-next (secondIn code t) (thirdIn code t)) s step-c
               (says d₂ (λ ys. under-later d y b′ ys ∙ ap (λ b. left-next b ys (valueAt heap₁ y) (r₁ .state .fuel)) q′
-              ∙ sym (ap (λ v. case-next (second p at) (third p at) ys v (r₁ .state .fuel)) is-left))) (omega arith)) 1 (omega arith)
+              ∙ sym (ap (λ v. case-next (secondIn code t) (thirdIn code t) ys v (r₁ .state .fuel)) is-left))) (omega arith)) 1 (omega arith)
             where
               is-left : valueAt heap₁ x ≡ inl (valueAt heap₁ y)
               is-left = rw qy (value-inl heap₁ (r₁ .state .top) (d .graph .right) x (d .node x s) k1 .0)
 
-          pub case-right : nodeKind heap₁ x ≡ 2 → b′ ≡ third p at → (r : Out) → Checks p terms heap₂ slots₂ (sc .base) (sc .q) t r₂ r → Ran 1 heap heap₂ end slots slots₂ st r step
+          pub case-right : nodeKind heap₁ x ≡ 2 → b′ ≡ thirdIn code t → (r : Out) → Checks code heap₂ slots₂ (sc .base) (sc .q) t r₂ r
+              → Ran 1 heap heap₂ end slots slots₂ st r step
           unfolding onSum
-          case-right k2 q′ r c = slack (part-answered d (case-next (second p at) (third p at)) s step-c checked (omega arith)) 1 (omega arith)
+          case-right k2 q′ r c = slack (part-answered d (case-next (secondIn code t) (thirdIn code t)) s step-c checked (omega arith)) 1 (omega arith)
             where
               is-right : valueAt heap₁ x ≡ inr (valueAt heap₁ y)
               is-right = rw qy (value-inr heap₁ (r₁ .state .top) (d .graph .right) x (d .node x s) k2 .0)
@@ -324,7 +325,8 @@ module _ {p terms functions heap slots : List ℕ} {st : Machine} {sc : Scope} {
               ancillae-two : ancillaeOf heap₂ slots₂ sc ≡ ancillaeOf heap slots sc
               ancillae-two = sym (ancillae-later rd d ∙ ancillae-later (later rd d) d₂)
 
-              checked : Ran 0 heap₁ heap₂ end slots₁ slots₂ (r₁ .state) r (λ ys. case-next (second p at) (third p at) ys (valueAt heap₁ x) (r₁ .state .fuel))
+              checked : Ran 0 heap₁ heap₂ end slots₁ slots₂ (r₁ .state) r
+                  (λ ys. case-next (secondIn code t) (thirdIn code t) ys (valueAt heap₁ x) (r₁ .state .fuel))
               checked = record {
                 agree = d₂ .agree;
                 graph = rw (c .state) (d₂ .graph);
@@ -335,18 +337,7 @@ module _ {p terms functions heap slots : List ℕ} {st : Machine} {sc : Scope} {
                 owes = rw (c .state) (d₂ .owes);
                 node = λ n e. rw (c .state) (d₂ .node n (c .node n e));
                 answer = λ ys. c .answer ys
-                    ∙ ap₂ (λ x a. after x (λ w. test (not (mayYield a (treeAt p terms ys (second p at)) w)) 15 t (give w)))
+                    ∙ ap₂ (λ x a. after x (λ w. test (not (mayYield a (treeIn code ys (secondIn code t)) w)) 15 t (give w)))
                     (d₂ .answer ys ∙ under-later d y b′ ys ∙ ap (λ b. within b ys (some (valueAt heap₁ y) ∷ state) (r₁ .state .fuel)) q′) ancillae-two
-                    ∙ sym (ap (λ v. case-next (second p at) (third p at) ys v (r₁ .state .fuel)) is-right);
+                    ∙ sym (ap (λ v. case-next (secondIn code t) (thirdIn code t) ys v (r₁ .state .fuel)) is-right);
               }
-
-          -- the left branch's form can be asked
-          pub case-check : CheckReady p terms heap₂ slots₂ (sc .base) (sc .q) t r₂
-          case-check = record {
-            entries = rd .code .entries;
-            term = rd .term;
-            kind = kind;
-            graph = d₂ .graph .right;
-            ancillae = ancillae-held (later (later rd d) d₂);
-            node = d₂ .node;
-          }

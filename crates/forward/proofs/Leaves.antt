@@ -1,12 +1,12 @@
 -- Laws of the steps that have no parts to evaluate: what a variable's slot says, what a roll holds, and the test of first match.
-use Prim.Native.Nat.{ℕ, zero, suc, _+_, _≤_, _<_}
+use Prim.Native.Nat.{ℕ, zero, suc, _+_, _<_}
 use native.Mathlib.Omega.{arith}
 use native.Mathlib.Decide.{decLt}
 use mathlib.Core.Path.{_≡_, refl, sym, ap, _∙_}
 use mathlib.Core.Bool.{Bool, true, false, not}
 use mathlib.Core.Logic.{⊎-elim}
 use mathlib.Core.List.{List}
-use lib.ListN.{length, getD}
+use lib.ListN.{getD}
 use lib.Dec.{eqb}
 use borrow.Author.Tests.{eqb-true, eqb-false}
 use package.Rattle.rules.specs.Limits.{fits}
@@ -16,20 +16,14 @@ use package.Rattle.rules.specs.Yield.{mayYield}
 use package.Rattle.rules.specs.Machine.{onRoll}
 use package.Rattle.rules.proofs.Run.{via}
 use package.Rattle.calls.specs.Entries.{TypeEntry}
-use package.Rattle.calls.specs.Named.{termsOfTerm}
-use package.Rattle.program.specs.Parts.{second}
-use package.Rattle.program.proofs.Shapes.{term-case}
-use package.Rattle.program.proofs.Rooms.{case-room}
 use package.Rattle.values.specs.Nodes.{kindAt, leftAt, Room, ofKind, valueWithin, valueAt}
 use package.Rattle.values.proofs.Heaps.{value-roll}
-use package.Rattle.scopes.specs.Slots.{unknown, slotAt, Slots}
+use package.Rattle.scopes.specs.Slots.{unknown, slotAt, Slots, Machine, machineOf, scopeIn, slotsOf}
 use package.Rattle.scopes.proofs.Marks.{found-mark, found-node, slot-in, slot-out}
 use package.Rattle.scopes.specs.declared.slots.Found.{Found}
 use package.Rattle.scopes.specs.declared.slots.Found.the-variants.{Node, Unknown}
-use package.Rattle.yields.specs.Yields.{ancillaeAt, Yields, MayYield}
-use package.Rattle.yields.proofs.Entries.{second-lower}
-use package.Rattle.forward.specs.Code.{treeAt}
-use package.Rattle.forward.specs.Outcomes.{Machine, Out, stopped, statusOf, refusalOf, meaning, foundOut, Finds}
+use package.Rattle.yields.specs.Yields.{ancillaeIn, MayYield, Asks}
+use package.Rattle.forward.specs.Outcomes.{Out, stopped, statusOf, refusalOf, meaning, foundOut, Finds, outOf}
 use package.Rattle.forward.specs.Ready.{Graph, Unrolls, Unrolled, CheckReady, Checks}
 use package.Rattle.forward.proofs.Answers.{is-value}
 use package.Rattle.forward.proofs.Runs.{meaning-value, meaning-refused, refusal-after}
@@ -38,6 +32,8 @@ use Rattle.forward.specs.declared.outcomes.Refusal.{Refusal}
 use Rattle.forward.specs.declared.outcomes.Refusal.the-variants.{FirstMatch, Stuck}
 use Rattle.forward.specs.declared.outcomes.Status.{Status}
 use Rattle.forward.specs.declared.outcomes.Status.the-variants.{Value, Refused}
+use package.Rattle.decoded.proofs.Trees.{parts-case}
+use package.Rattle.decoded.specs.Rows.{secondIn, treeIn}
 
 ----------------------------------------------------------------
 -- Variables
@@ -69,7 +65,8 @@ unfolding foundOut
 found-unknown st e = rw e
 
 -- the answer is the variable's node, or a refusal
-pub finds-node : (slots : List ℕ) (base n i : ℕ) {node : ℕ} → Slots slots (base + n) stopped → slotAt slots base n i ≡ Node node → Finds node (slotAt slots base n i)
+pub finds-node : (slots : List ℕ) (base n i : ℕ) {node : ℕ} → Slots slots (base + n) stopped → slotAt slots base n i ≡ Node node
+    → Finds node (slotAt slots base n i)
 finds-node slots base n i S e = record {
   is = λ st. ap (λ s. record { status = s; state = st }) (is-value (slot-node slots base n i stopped S e)) ∙ found-known st e;
 }
@@ -123,7 +120,8 @@ module _ {heap : List ℕ} (st : Machine) (G : Graph heap (st .top)) {node : ℕ
 
 -- the answer is the node that a roll holds, or a refusal
 module _ {heap : List ℕ} {node : ℕ} where
-  as-status : (st : Machine) {a b : Status} → a ≡ b → Unrolls heap st node (record { status = b; state = st }) → Unrolls heap st node (record { status = a; state = st })
+  as-status : (st : Machine) {a b : Status} → a ≡ b → Unrolls heap st node (record { status = b; state = st })
+      → Unrolls heap st node (record { status = a; state = st })
   as-status st e u = rw e u
 
   pub roll-held : kindAt heap node ≡ 4 → {part : ℕ} → part ≡ leftAt heap node → Unrolled heap node part
@@ -137,54 +135,60 @@ module _ {heap : List ℕ} {node : ℕ} where
 ----------------------------------------------------------------
 -- First match
 
-module _ {p terms heap slots : List ℕ} {base q t : ℕ} {out : Out} (C : CheckReady p terms heap slots base q t out) where
-  pub check-room : getD terms t 0 + 8 ≤ length p
-  check-room = omega (arith, case-room (C .entries .field t (C .term)) (C .kind))
+module _ {code heap st : List ℕ} {scope t out : ℕ} (C : CheckReady code heap st scope t out) where
+  abbrev before : Out
+  before = outOf out st
 
   -- how the case goes on with a value
   abbrev next : List TypeEntry → Val → Run Val
-  next ys w = test (not (mayYield (ancillaeAt heap slots base q) (treeAt p terms ys (second p (getD terms t 0))) w)) 15 t (give w)
+  next ys w = test (not (mayYield (ancillaeIn heap st scope) (treeIn code ys (secondIn code t)) w)) 15 t (give w)
 
-  pub check-refused : {why : Refusal} → out .status ≡ Refused why → Checks p terms heap slots base q t out out
+  abbrev Checked : Out → Type 0
+  Checked r = Checks code heap (slotsOf st) (scopeIn scope .base) (scopeIn scope .q) t before r
+
+  pub check-row : t < 1024
+  check-row = omega (arith, C .term, C .rows .few-terms)
+
+  pub check-refused : {why : Refusal} → statusOf out ≡ Refused why → Checked before
   check-refused {why} s = record {
     state = refl;
     node = λ n e. e;
-    answer = λ ys. meaning-refused heap out s ∙ sym (refusal-after why (next ys)) ∙ ap (λ x. after x (next ys)) (sym (meaning-refused heap out s));
+    answer = λ ys. meaning-refused heap before s ∙ sym (refusal-after why (next ys)) ∙ ap (λ x. after x (next ys)) (sym (meaning-refused heap before s));
   }
 
-  module _ {node : ℕ} (s : out .status ≡ Value node) (b : ℕ) (e : b ≡ second p (getD terms t 0)) where
-    pub check-asks : Yields p terms heap slots (out .state .top) base q b node
-    unfolding termsOfTerm
+  module _ {node : ℕ} (s : statusOf out ≡ Value node) (b : ℕ) (e : b ≡ secondIn code t) where
+    pub check-asks : Asks code heap st scope b node
     check-asks = record {
-      program = C .entries;
-      term = rw e (omega (arith, second-lower (C .entries) t (C .term) (term-case p (getD terms t 0) (C .kind)) refl, C .term));
+      rows = C .rows;
+      term = rw e (omega (arith, parts-case (C .rows) t (C .term) (C .kind) .1, C .term));
       graph = C .graph;
       value = C .node node s;
+      small = C .small;
       ancillae = C .ancillae;
     }
 
-    module _ {r : Bool} (Y : MayYield p terms heap slots base q b node r) where
-      yields-said : (ys : List TypeEntry) → mayYield (ancillaeAt heap slots base q) (treeAt p terms ys (second p (getD terms t 0))) (valueAt heap node) ≡ r
-      yields-said ys = ap (λ b. mayYield (ancillaeAt heap slots base q) (treeAt p terms ys b) (valueAt heap node)) (sym e) ∙ sym (Y .answer ys)
+    module _ {r : Bool} (Y : MayYield code heap st scope b node r) where
+      yields-said : (ys : List TypeEntry) → mayYield (ancillaeIn heap st scope) (treeIn code ys (secondIn code t)) (valueAt heap node) ≡ r
+      yields-said ys = ap (λ b. mayYield (ancillaeIn heap st scope) (treeIn code ys b) (valueAt heap node)) (sym e) ∙ sym (Y .answer ys)
 
-      went-on : (ys : List TypeEntry) → after (meaning heap out) (next ys) ≡ test (not r) 15 t (give (valueAt heap node)) (out .state .fuel)
+      went-on : (ys : List TypeEntry) → after (meaning heap before) (next ys) ≡ test (not r) 15 t (give (valueAt heap node)) (machineOf st .fuel)
       went-on ys =
-          via (next ys) (meaning-value heap out s) refl
-          ∙ ap (λ b. test (not b) 15 t (give (valueAt heap node)) (out .state .fuel)) (yields-said ys)
+          via (next ys) (meaning-value heap before s) refl
+          ∙ ap (λ b. test (not b) 15 t (give (valueAt heap node)) (machineOf st .fuel)) (yields-said ys)
 
-      pub check-passes : r ≡ false → Checks p terms heap slots base q t out out
+      pub check-passes : r ≡ false → Checked before
       unfolding test
       check-passes f = record {
         state = refl;
         node = λ n e. e;
-        answer = λ ys. meaning-value heap out s ∙ sym (went-on ys ∙ ap (λ b. test (not b) 15 t (give (valueAt heap node)) (out .state .fuel)) f);
+        answer = λ ys. meaning-value heap before s ∙ sym (went-on ys ∙ ap (λ b. test (not b) 15 t (give (valueAt heap node)) (machineOf st .fuel)) f);
       }
 
-      pub check-yields : r ≡ true → {a : Status} → a ≡ Refused (FirstMatch t) → Checks p terms heap slots base q t out (record { status = a; state = out .state })
+      pub check-yields : r ≡ true → {a : Status} → a ≡ Refused (FirstMatch t) → Checked (record { status = a; state = machineOf st })
       unfolding test refusalOf
       check-yields f {a} s′ = record {
         state = refl;
         node = λ n e. let z : _≡_ {A = ℕ} 0 1 = cc in absurd (omega arith);
-        answer = λ ys. meaning-refused heap (record { status = a; state = out .state }) s′
-            ∙ sym (went-on ys ∙ ap (λ b. test (not b) 15 t (give (valueAt heap node)) (out .state .fuel)) f);
+        answer = λ ys. meaning-refused heap (record { status = a; state = machineOf st }) s′
+            ∙ sym (went-on ys ∙ ap (λ b. test (not b) 15 t (give (valueAt heap node)) (machineOf st .fuel)) f);
       }

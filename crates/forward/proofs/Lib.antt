@@ -1,6 +1,4 @@
 -- Laws that the proofs of forward evaluation cite.
--- the trees of entries, by kind
-pub mod Trees
 -- what is read is inside the program
 pub mod Bounds
 -- answers as numbers
@@ -21,5 +19,5 @@ pub mod Starting
 pub mod Placing
 -- calls
 pub mod Calling
--- accepted programs
-pub mod Accepted
+-- the numbers that a run is lent
+pub mod Lending

@@ -12,16 +12,21 @@ use package.Rattle.rules.specs.Run.{give, test}
 use package.Rattle.values.specs.Nodes.{valueAt, Grown, Made}
 use package.Rattle.values.proofs.Heaps.{value-kept}
 use package.Rattle.values.proofs.Places.{agree-refl}
-use package.Rattle.forward.specs.Outcomes.{Machine, Out, stopped, statusOf, refusalOf, finished}
+use package.Rattle.forward.specs.Outcomes.{Out, stopped, statusOf, refusalOf, finished}
 use package.Rattle.forward.specs.Ready.{Graph, Makes}
 use package.Rattle.forward.proofs.Answers.{is-value}
 use package.Rattle.forward.proofs.Runs.{meaning-value, meaning-refused}
 use Rattle.forward.specs.declared.outcomes.Refusal.the-variants.{Long}
 use Rattle.forward.specs.declared.outcomes.Status.{Status}
 use Rattle.forward.specs.declared.outcomes.Status.the-variants.{Refused}
+use package.Rattle.scopes.specs.Slots.{Machine}
 
 graph-grown : {heap heap′ : List ℕ} {top : ℕ} {v : Val} → Graph heap top → Grown heap heap′ top v → fits v ≡ true → Graph heap′ (top + 1)
-graph-grown {heap} {heap′} {top} {v} G g f = record { right = g .right; short = λ n h. ⊎-elim (λ e. ap fits (ap (valueAt heap′) e ∙ g .value) ∙ f) (λ l. older n l) (split n (omega arith)) }
+graph-grown {heap} {heap′} {top} {v} G g f = record {
+  right = g .right;
+  short = λ n h. ⊎-elim (λ e. ap fits (ap (valueAt heap′) e ∙ g .value) ∙ f)
+      (λ l. older n l) (split n (omega arith));
+}
   where
     split : (n : ℕ) → n ≤ top → (n ≡ top) ⊎ (n < top)
     split n le = eq-or-lt-of-le le
@@ -38,7 +43,8 @@ unfolding test refusalOf
 test-false b n t v fuel e = rw e
 
 -- a new node of a value within the limit
-makes-new : {heap heap′ : List ℕ} {st : Machine} {v : Val} (t : ℕ) → Graph heap (st .top) → Grown heap heap′ (st .top) v → fits v ≡ true → Makes heap heap′ st (finished true st t) t v
+makes-new : {heap heap′ : List ℕ} {st : Machine} {v : Val} (t : ℕ) → Graph heap (st .top) → Grown heap heap′ (st .top) v → fits v ≡ true
+    → Makes heap heap′ st (finished true st t) t v
 unfolding finished
 makes-new {heap} {heap′} {st} {v} t G g f = record {
   agree = g .agree;
@@ -63,13 +69,15 @@ makes-old {heap} {st} {v} t G f = record {
 }
 
 -- what the value graph answers, finished
-pub makes : {heap heap′ : List ℕ} {st : Machine} {v : Val} (t : ℕ) (b : Bool) → Graph heap (st .top) → Made heap heap′ (st .top) v b → Makes heap heap′ st (finished b st t) t v
+pub makes : {heap heap′ : List ℕ} {st : Machine} {v : Val} (t : ℕ) (b : Bool) → Graph heap (st .top) → Made heap heap′ (st .top) v b
+    → Makes heap heap′ st (finished b st t) t v
 makes t true G d = makes-new t G (d .new refl) (sym (d .answer))
 makes {heap} {heap′} {st} {v} t false G d = rw (d .old refl) (makes-old t G (sym (d .answer)))
 
 -- a number that finishes so
 module _ (st : Machine) {made : Bool} (t : ℕ) where
-  pub finish-new : made ≡ true → st .top < stopped → record { status = statusOf (st .top); state = record { top = st .top + 1; fuel = st .fuel } } ≡ finished made st t
+  pub finish-new : made ≡ true → st .top < stopped → record { status = statusOf (st .top); state = record { top = st .top + 1; fuel = st .fuel } } ≡ finished
+      made st t
   unfolding finished
   finish-new e l = rw (finished, e, is-value l)
 

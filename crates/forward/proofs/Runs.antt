@@ -3,20 +3,18 @@ use Prim.Native.Nat.{ℕ, _+_, _-_, _≤_, _<_}
 use native.Mathlib.Omega.{arith}
 use mathlib.Core.Path.{_≡_, refl, sym, ap, _∙_}
 use mathlib.Core.Logic.{⊎-elim, inl as left, inr as right}
-use mathlib.Core.List.{List, []}
-use lib.ListN.{length}
+use mathlib.Core.List.{List}
 use package.Rattle.rules.specs.Val.{Val}
 use package.Rattle.rules.specs.Run.{Res, ok, Run, after}
 use package.Rattle.rules.proofs.Run.{via}
 use package.Rattle.calls.specs.Entries.{TypeEntry}
 use package.Rattle.values.specs.Nodes.{valueAt}
 use package.Rattle.values.proofs.Places.{agree-refl, agree-trans, agree-down}
-use package.Rattle.scopes.specs.Slots.{Slots}
+use package.Rattle.scopes.specs.Slots.{Slots, Machine, Scope}
 use package.Rattle.scopes.proofs.Scopes.{state-same, state-kept}
 use package.Rattle.yields.specs.Yields.{Ancillae}
 use package.Rattle.yields.proofs.Ancillae.{ancillae-same, ancillae-kept}
-use package.Rattle.forward.specs.Code.{treeAt, FewArguments}
-use package.Rattle.forward.specs.Outcomes.{Machine, Scope, Out, refusalOf, answerOf, meaning}
+use package.Rattle.forward.specs.Outcomes.{Out, refusalOf, answerOf, meaning}
 use package.Rattle.forward.specs.Ready.{Graph, Ready, Ran, Makes, ancillaeOf, stateOf}
 use Rattle.forward.specs.declared.outcomes.Refusal.{Refusal}
 use Rattle.forward.specs.declared.outcomes.Refusal.the-variants.{Fuel, Height, Long, FirstMatch, Stuck}
@@ -42,7 +40,8 @@ refusal-after (Long t) k = refl
 refusal-after (FirstMatch t) k = refl
 refusal-after Stuck k = refl
 
-module _ {k : ℕ} {heap heap′ : List ℕ} {m : ℕ} {slots slots′ : List ℕ} {st : Machine} {out : Out} {res : List TypeEntry → Res Val} (d : Ran k heap heap′ m slots slots′ st out res) where
+module _ {k : ℕ} {heap heap′ : List ℕ} {m : ℕ} {slots slots′ : List ℕ} {st : Machine} {out : Out} {res : List TypeEntry → Res Val}
+    (d : Ran k heap heap′ m slots slots′ st out res) where
   pub answered : {x : ℕ} → out .status ≡ Value x → (ys : List TypeEntry) → res ys ≡ ok (valueAt heap′ x) (out .state .fuel)
   answered e ys = sym (d .answer ys) ∙ meaning-value heap′ out e
 
@@ -100,7 +99,8 @@ module _ {heap : List ℕ} {st : Machine} (G : Graph heap (st .top)) (m : ℕ) (
       still out e (λ n q. let z : _≡_ {A = ℕ} 0 1 = cc in absurd (omega arith)) (λ ys. meaning-refused heap out s ∙ sym (a ys))
 
 -- a node was made, or its value is too long
-pub one-node : {heap heap′ : List ℕ} {st : Machine} {out : Out} {t : ℕ} {v : Val} (m : ℕ) (slots : List ℕ) {res : List TypeEntry → Res Val} → Makes heap heap′ st out t v
+pub one-node : {heap heap′ : List ℕ} {st : Machine} {out : Out} {t : ℕ} {v : Val} (m : ℕ) (slots : List ℕ) {res : List TypeEntry → Res Val}
+    → Makes heap heap′ st out t v
     → ((ys : List TypeEntry) → meaning heap′ out ≡ res ys) → Ran 1 heap heap′ m slots slots st out res
 one-node m slots d e = record {
   agree = d .agree;
@@ -117,7 +117,8 @@ one-node m slots d e = record {
 ----------------------------------------------------------------
 -- One run after another
 
-module _ {heap heap₁ : List ℕ} {m : ℕ} {slots slots₁ : List ℕ} {st : Machine} {r : Out} {res₁ : List TypeEntry → Res Val} (d : Ran 0 heap heap₁ m slots slots₁ st r res₁) where
+module _ {heap heap₁ : List ℕ} {m : ℕ} {slots slots₁ : List ℕ} {st : Machine} {r : Out} {res₁ : List TypeEntry → Res Val}
+    (d : Ran 0 heap heap₁ m slots slots₁ st r res₁) where
   pub then : {k : ℕ} {heap₂ : List ℕ} {m′ : ℕ} {slots₂ : List ℕ} {out : Out} {res : List TypeEntry → Res Val}
       → Ran k heap₁ heap₂ m′ slots₁ slots₂ (r .state) out res → m ≤ m′ → Ran k heap heap₂ m slots slots₂ st out res
   then b le = record {
@@ -141,23 +142,23 @@ module _ {heap heap₁ : List ℕ} {m : ℕ} {slots slots₁ : List ℕ} {st : M
   -- a part was answered, and the run goes on
   pub part-answered : {x : ℕ} {res : List TypeEntry → Res Val} (next : List TypeEntry → Val → Run Val) → r .status ≡ Value x
       → ((ys : List TypeEntry) → res ys ≡ after (res₁ ys) (next ys))
-      → {k : ℕ} {heap₂ : List ℕ} {m′ : ℕ} {slots₂ : List ℕ} {out : Out} → Ran k heap₁ heap₂ m′ slots₁ slots₂ (r .state) out (λ ys. next ys (valueAt heap₁ x) (r .state .fuel))
+      → {k : ℕ} {heap₂ : List ℕ} {m′ : ℕ} {slots₂ : List ℕ} {out : Out}
+      → Ran k heap₁ heap₂ m′ slots₁ slots₂ (r .state) out (λ ys. next ys (valueAt heap₁ x) (r .state .fuel))
       → m ≤ m′ → Ran k heap heap₂ m slots slots₂ st out res
   part-answered next s e b le = then (says b (λ ys. sym (via (next ys) (answered d s ys) refl) ∙ sym (e ys))) le
 
 ----------------------------------------------------------------
 -- What stays ready
 
-module _ {k v : ℕ} {p terms functions heap slots : List ℕ} {st : Machine} {sc : Scope} {t room : ℕ} (rd : Ready k v p terms functions heap slots st sc t room) where
+module _ {k v : ℕ} {code heap slots : List ℕ} {st : Machine} {sc : Scope} {t room : ℕ} (rd : Ready k v code heap slots st sc t room) where
   pub ancillae-held : Ancillae slots (sc .base) (sc .q) (st .top)
   ancillae-held = record { there = omega (arith, rd .variables, rd .within, rd .full); known = rd .ancillae }
 
   -- with fewer variables to come
-  pub fewer : (v′ : ℕ) → v′ ≤ v → Ready k v′ p terms functions heap slots st sc t room
+  pub fewer : (v′ : ℕ) → v′ ≤ v → Ready k v′ code heap slots st sc t room
   fewer v′ le = record {
-    code = rd .code;
+    rows = rd .rows;
     term = rd .term;
-    few = rd .few;
     graph = rd .graph;
     held = rd .held;
     ancillae = rd .ancillae;
@@ -175,11 +176,10 @@ module _ {k v : ℕ} {p terms functions heap slots : List ℕ} {st : Machine} {s
       held = λ j h. rw (← d .below j h) (⊎-elim (λ e. left e) (λ l. right (omega (arith, d .grows))) (rd .held .held j h));
     }
 
-    pub later : Ready k v p terms functions heap′ slots′ (out .state) sc t room
+    pub later : Ready k v code heap′ slots′ (out .state) sc t room
     later = record {
-      code = rd .code;
+      rows = rd .rows;
       term = rd .term;
-      few = rd .few;
       graph = d .graph;
       held = held-later;
       ancillae = λ i h. rw (← d .below (sc .base + i) (omega (arith, rd .within))) (omega (arith, rd .ancillae i h, d .grows));
@@ -202,12 +202,11 @@ module _ {k v : ℕ} {p terms functions heap slots : List ℕ} {st : Machine} {s
         ∙ state-same heap′ slots slots′ (sc .base) (sc .n) (d .below)
 
 -- a part of the term, in its scope
-pub part : {v : ℕ} {p terms functions heap slots : List ℕ} {st : Machine} {sc : Scope} {t room : ℕ} → Ready 1 v p terms functions heap slots st sc t room
-    → (b : ℕ) → (b < length terms) × FewArguments (treeAt p terms [] b) → Ready 0 8 p terms functions heap slots st sc b (room - 1)
+pub part : {v : ℕ} {code heap slots : List ℕ} {st : Machine} {sc : Scope} {t room : ℕ} → Ready 1 v code heap slots st sc t room
+    → (b : ℕ) → b < t → Ready 0 8 code heap slots st sc b (room - 1)
 part rd b q = record {
-  code = rd .code;
-  term = q .0;
-  few = q .1;
+  rows = rd .rows;
+  term = omega (arith, rd .term);
   graph = rd .graph;
   held = rd .held;
   ancillae = rd .ancillae;

@@ -12,17 +12,16 @@ use package.Rattle.rules.specs.Val.{Val}
 use package.Rattle.rules.specs.Term.{Term, scope}
 use package.Rattle.rules.specs.Machine.{forward, runForward}
 use package.Rattle.calls.specs.Entries.{TypeEntry}
-use package.Rattle.program.specs.Parts.{body}
 use package.Rattle.values.specs.Nodes.{nodeBytes, valueAt}
-use package.Rattle.scopes.specs.Slots.{unknown, slotCount, meaning as slotMeaning, stateAt}
+use package.Rattle.scopes.specs.Slots.{unknown, slotCount, meaning as slotMeaning, stateAt, Machine, Scope}
 use package.Rattle.scopes.proofs.Marks.{found-node}
 use package.Rattle.scopes.proofs.Scopes.{state-front}
 use package.Rattle.yields.specs.Yields.{ancillaeAt, Ancillae}
 use package.Rattle.yields.proofs.Ancillae.{state-ancillae}
-use package.Rattle.forward.specs.Code.{treeAt, programAt, Code}
-use package.Rattle.forward.specs.Outcomes.{Machine, Scope, stopped}
+use package.Rattle.forward.specs.Outcomes.{stopped}
 use package.Rattle.forward.specs.Ready.{Graph, Ready, runOf, valuesAt}
-use package.Rattle.forward.proofs.Trees.{called-tree, called-body}
+use package.Rattle.decoded.specs.Rows.{Rows, bodyIn, functionCount, programIn, treeIn}
+use package.Rattle.decoded.proofs.Trees.{called-body, called-tree}
 
 ----------------------------------------------------------------
 -- Arguments as a scope
@@ -32,7 +31,8 @@ unfolding ancillaeAt
 ancillae-front heap slots base q = refl
 
 -- parameters bound in order, after `q` others
-scope-values : (heap slots : List ℕ) (base q n : ℕ) → scope (valuesAt heap slots (base + q) n) (ancillaeAt heap slots base q) ≡ ancillaeAt heap slots base (q + n)
+scope-values : (heap slots : List ℕ) (base q n : ℕ) → scope (valuesAt heap slots (base + q) n) (ancillaeAt heap slots base q) ≡ ancillaeAt heap slots base
+    (q + n)
 unfolding valuesAt scope
 scope-values heap slots base q zero = ap (ancillaeAt heap slots base) (let z : q ≡ q + 0 = omega arith in z)
 scope-values heap slots base q (suc n) =
@@ -60,25 +60,27 @@ arguments-state heap slots base count top A low small =
 abbrev pub argumentScope : ℕ → ℕ → Scope
 argumentScope base count = record { base = base; q = count; n = count + 1 }
 
-module _ (p terms functions heap slots : List ℕ) (st : Machine) (base count : ℕ) (A : Ancillae slots base count (st .top)) (low : getD slots (base + count) 0 < st .top) (small : st .top ≤ unknown)
-    (g b : ℕ) (q : b ≡ body p (getD functions g 0)) (room : ℕ) where
+module _ (code heap slots : List ℕ) (st : Machine) (base count : ℕ) (A : Ancillae slots base count (st .top)) (low : getD slots (base + count) 0 < st .top)
+    (small : st .top ≤ unknown)
+    (g b : ℕ) (q : b ≡ bodyIn code g) (room : ℕ) where
   pub run-of-function : (ys : List TypeEntry)
-      → runForward fits (programAt p terms functions ys) room (called-tree p terms functions ys g) (valuesAt heap slots base count) (valueAt heap (getD slots (base + count) 0)) (st .fuel)
-      ≡ runOf p terms functions heap slots st (argumentScope base count) b room ys
+      → runForward fits (programIn code ys) room (called-tree code ys g) (valuesAt heap slots base count) (valueAt heap (getD slots (base + count) 0))
+      (st .fuel)
+      ≡ runOf code heap slots st (argumentScope base count) b room ys
   unfolding runForward
   run-of-function ys =
-      ap₂ (λ a (T : Term). forward fits (programAt p terms functions ys) room a (some (valueAt heap (getD slots (base + count) 0)) ∷ map some a) T (st .fuel))
-      (arguments-ancillae heap slots base count) (called-body p terms functions ys g ∙ ap (treeAt p terms ys) (sym q))
-      ∙ ap (λ σ. forward fits (programAt p terms functions ys) room (ancillaeAt heap slots base count) σ (treeAt p terms ys b) (st .fuel)) (arguments-state heap slots base count (st .top) A low small)
+      ap₂ (λ a (T : Term). forward fits (programIn code ys) room a (some (valueAt heap (getD slots (base + count) 0)) ∷ map some a) T (st .fuel))
+      (arguments-ancillae heap slots base count) (called-body code ys g ∙ ap (treeIn code ys) (sym q))
+      ∙ ap (λ σ. forward fits (programIn code ys) room (ancillaeAt heap slots base count) σ (treeIn code ys b) (st .fuel))
+      (arguments-state heap slots base count (st .top) A low small)
 
 -- The first function of a run has its arguments in the first slots.
-pub start-ready : {p terms functions heap slots : List ℕ} {st : Machine} {count g b room : ℕ} → Code p terms functions → g < length functions → b ≡ body p (getD functions g 0)
+pub start-ready : {code heap slots : List ℕ} {st : Machine} {count g b room : ℕ} → Rows code → g < functionCount code → b ≡ bodyIn code g
     → Graph heap (st .top) → ((i : ℕ) → i ≤ count → getD slots i 0 < st .top) → nodeBytes * (st .top + st .fuel) ≤ length heap → st .top + st .fuel ≤ stopped
-    → count + 1 + 8 * room ≤ slotCount → length slots ≡ slotCount → Ready 0 0 p terms functions heap slots st (argumentScope 0 count) b room
+    → count + 1 + 8 * room ≤ slotCount → length slots ≡ slotCount → Ready 0 0 code heap slots st (argumentScope 0 count) b room
 start-ready {slots = slots} {st = st} {count = count} {g = g} K l q G low nodes small fit full = record {
-  code = K;
-  term = rw q (K .function g l .there);
-  few = rw q (K .function g l .few);
+  rows = K;
+  term = rw q (K .bodies g l);
   graph = G;
   held = record { held = λ j h. right (low j (omega arith)) };
   ancillae = λ i h. rw (let z : 0 + i ≡ i = omega arith in z) (low i (omega arith));

@@ -4,38 +4,17 @@ use Prim.Native.Nat.{ℕ, _+_, _-_, _*_, _/_, _%_}
 use mathlib.Core.Path.{_≡_}
 use mathlib.Core.Bool.{Bool, true, false}
 use mathlib.Core.List.{List}
-use lib.ListN.{getD}
 use lib.Dec.{eqb, ltb}
 use package.Rattle.rules.specs.Val.{Val}
 use package.Rattle.rules.specs.Run.{Res, ok, stop, stuck}
 use package.Rattle.values.specs.Nodes.{valueAt}
+use package.Rattle.scopes.specs.Slots.{Machine, machineOf}
 use package.Rattle.scopes.specs.declared.slots.Found.{Found}
 use package.Rattle.scopes.specs.declared.slots.Found.the-variants.{Node, Unknown}
 use Rattle.forward.specs.declared.outcomes.Refusal.{Refusal}
 use Rattle.forward.specs.declared.outcomes.Refusal.the-variants.{Fuel, Height, Long, FirstMatch, Stuck}
 use Rattle.forward.specs.declared.outcomes.Status.{Status}
 use Rattle.forward.specs.declared.outcomes.Status.the-variants.{Value, Refused}
-
-----------------------------------------------------------------
--- What a run has
-
--- the nodes below `top`, and fuel
-pub record Machine : Type 0 where
-  pub top : ℕ
-  pub fuel : ℕ
-
--- the scope of the function at hand: variable i is slot base + i, `n` of them, the ancilla parameters the first `q`
-pub record Scope : Type 0 where
-  pub base : ℕ
-  pub q : ℕ
-  pub n : ℕ
-
--- a machine as it is lent, two numbers
-abbrev pub machineOf : List ℕ → Machine
-machineOf m = record { top = getD m 0 0; fuel = getD m 1 0 }
-
-abbrev pub scopeOf : ℕ → ℕ → ℕ → Scope
-scopeOf base q n = record { base = base; q = q; n = n }
 
 ----------------------------------------------------------------
 -- Answers
@@ -70,8 +49,9 @@ pub record Out : Type 0 where
   pub status : Status
   pub state : Machine
 
+-- the same of the numbers that a run leaves
 abbrev pub outOf : ℕ → List ℕ → Out
-outOf r m = record { status = statusOf r; state = machineOf m }
+outOf r st = record { status = statusOf r; state = machineOf st }
 
 ----------------------------------------------------------------
 -- What an answer means

@@ -1,202 +1,164 @@
 // Forward evaluation. `eval` tests fuel and height, takes one unit of fuel, and hands the term to the function of its kind; each of these
 // evaluates the term's parts in the written order. A function that is called has its slots behind those of its caller, so nothing is copied.
-// Evaluating in a scope leaves the slots of the scope as they are. A scope is `n` variables from slot `base` on, the ancilla parameters the
-// first `q`; the machine `m` is the first free node and the fuel. Laws of each kind: proofs/Steps, Binds, Placing, Calling.
+// Evaluating in a scope leaves the slots of the scope as they are. `code` is the decoded program, `ws` the value graph; `st` has the machine, which
+// is the first free node and the fuel, and the slots; `scope` is the scope in one number (scopes::state). Laws of each kind: proofs/Steps, Binds,
+// Placing, Calling.
 use crate::outcomes;
 use crate::outcomes::FUEL;
 use crate::outcomes::HEIGHT;
 use crate::outcomes::STOPPED;
 use crate::outcomes::STUCK;
-use crate::parts;
-use program::tables;
-use program::tables::FUNCTIONS;
-use program::tables::TERMS;
-use scopes::slots::SLOTS;
+use decoded::rows;
+use decoded::rows::CODE;
+use scopes::slots;
+use scopes::state;
+use scopes::state::STATE;
 ghost use mathlib.Core.Path.{_≡_};
 ghost use Prim.Native.Nat.{_+_, _≤_, _<_};
-ghost use lib.ListN.{getD};
-ghost use Rattle.calls.specs.Fields.{kindAt};
-ghost use Rattle.program.specs.Tables.{termPlaces, functionPlaces, Tables};
+ghost use Rattle.decoded.specs.Rows.{kindIn};
+ghost use Rattle.scopes.specs.Slots.{machineOf};
 ghost use Rattle.yields.specs.Yields.{Wraps};
-ghost use Rattle.forward.specs.Outcomes.{machineOf, scopeOf, outOf};
-ghost use Rattle.forward.specs.Ready.{Ready, Ran, runOf, underOf, stepOf, Places, Calls};
+ghost use Rattle.forward.specs.Ready.{ReadyIn, Evaluates, EvaluatesUnder, Steps, PlacesIn, Calls};
 
 // Term t, in a scope, with height `room` left.
 pub fn eval(
-    p: &[u8],
-    terms: &[u16; TERMS],
-    funs: &[u16; FUNCTIONS],
+    code: &[u16; CODE],
     ws: &mut [u8],
-    slots: &mut [u32; SLOTS],
-    m: &mut [u32; 2],
-    base: usize,
-    q: usize,
-    n: usize,
+    st: &mut [u32; STATE],
+    scope: u64,
     t: u16,
     room: u16,
 ) -> u32
-    requires { ⌜ Tables (now p) (now terms) (now funs) ⌝ }
-    requires { ⌜ Ready 0 0 (now p) (termPlaces (now p)) (functionPlaces (now p)) (now ws) (now slots) (machineOf (now m)) (scopeOf base q n) t room ⌝ }
-    ensures { λ r. ⌜ Ran 0 (now (ws .entry)) (now (ws .exit)) (base + n) (now (slots .entry)) (now (slots .exit)) (machineOf (now (m .entry))) (outOf r (now (m .exit))) (runOf (now (p .entry)) (termPlaces (now (p .entry))) (functionPlaces (now (p .entry))) (now (ws .entry)) (now (slots .entry)) (machineOf (now (m .entry))) (scopeOf base q n) t room) ⌝ }
+    requires { ⌜ ReadyIn 0 0 (now code) (now ws) (now st) scope t room ⌝ }
+    ensures { λ r. ⌜ Evaluates (now (code .entry)) (now (ws .entry)) (now (ws .exit)) (now (st .entry)) (now (st .exit)) scope t room r ⌝ }
 {
-    let fuel = m[1];
-    if fuel == 0 {
+    if state::fuel(st) == 0 {
         return outcomes::refuse(FUEL, t);
     }
     if room == 0 {
         return outcomes::refuse(HEIGHT, t);
     }
-    *m = [m[0], fuel - 1];
-    match program::views::kind(p, tables::offset(terms, t)) {
-        0 => outcomes::variable(p, terms, slots, base, n, t),
-        1 => outcomes::make_unit(ws, m, t),
-        2 => wrap(p, terms, funs, ws, slots, m, base, q, n, t, room, 1),
-        3 => wrap(p, terms, funs, ws, slots, m, base, q, n, t, room, 2),
-        4 => pair(p, terms, funs, ws, slots, m, base, q, n, t, room),
-        5 => let_one(p, terms, funs, ws, slots, m, base, q, n, t, room),
-        6 => let_two(p, terms, funs, ws, slots, m, base, q, n, t, room),
-        7 => choose(p, terms, funs, ws, slots, m, base, q, n, t, room),
-        8 => call(p, terms, funs, ws, slots, m, base, q, n, t, room),
-        9 => wrap(p, terms, funs, ws, slots, m, base, q, n, t, room, 4),
-        _ => unroll(p, terms, funs, ws, slots, m, base, q, n, t, room),
+    state::spend(st);
+    match rows::kind_of(code, t) {
+        0 => outcomes::variable(st, scope, rows::first_of(code, t)),
+        1 => outcomes::make_unit(ws, st, t),
+        2 => wrap(code, ws, st, scope, t, room, 1),
+        3 => wrap(code, ws, st, scope, t, room, 2),
+        4 => pair(code, ws, st, scope, t, room),
+        5 => let_one(code, ws, st, scope, t, room),
+        6 => let_two(code, ws, st, scope, t, room),
+        7 => choose(code, ws, st, scope, t, room),
+        8 => call(code, ws, st, scope, t, room),
+        9 => wrap(code, ws, st, scope, t, room, 4),
+        10 => unroll(code, ws, st, scope, t, room),
+        // never met: there is no other kind
+        _ => outcomes::refuse(STUCK, 0),
     }
 }
 
 // Term t in the scope with one variable more.
 fn under(
-    p: &[u8],
-    terms: &[u16; TERMS],
-    funs: &[u16; FUNCTIONS],
+    code: &[u16; CODE],
     ws: &mut [u8],
-    slots: &mut [u32; SLOTS],
-    m: &mut [u32; 2],
-    base: usize,
-    q: usize,
-    n: usize,
+    st: &mut [u32; STATE],
+    scope: u64,
     node: u32,
     t: u16,
     room: u16,
 ) -> u32
-    requires { ⌜ Tables (now p) (now terms) (now funs) ⌝ }
-    requires { ⌜ Ready 0 1 (now p) (termPlaces (now p)) (functionPlaces (now p)) (now ws) (now slots) (machineOf (now m)) (scopeOf base q n) t room ⌝ }
-    requires { ⌜ node < machineOf (now m) .top ⌝ }
-    ensures { λ r. ⌜ Ran 0 (now (ws .entry)) (now (ws .exit)) (base + n) (now (slots .entry)) (now (slots .exit)) (machineOf (now (m .entry))) (outOf r (now (m .exit))) (underOf (now (p .entry)) (termPlaces (now (p .entry))) (functionPlaces (now (p .entry))) (now (ws .entry)) (now (slots .entry)) (machineOf (now (m .entry))) (scopeOf base q n) node t room) ⌝ }
+    requires { ⌜ ReadyIn 0 1 (now code) (now ws) (now st) scope t room ⌝ }
+    requires { ⌜ node < machineOf (now st) .top ⌝ }
+    ensures { λ r. ⌜ EvaluatesUnder (now (code .entry)) (now (ws .entry)) (now (ws .exit)) (now (st .entry)) (now (st .exit)) scope node t room r ⌝ }
 {
-    let at = base + n;
-    scopes::slots::bind(slots, at, node);
-    eval(p, terms, funs, ws, slots, m, base, q, n + 1, t, room)
+    slots::bind(st, state::end_of(scope), node);
+    eval(code, ws, st, state::wider(scope), t, room)
 }
 
 // inl, inr and roll, by the kind of node that they make.
 fn wrap(
-    p: &[u8],
-    terms: &[u16; TERMS],
-    funs: &[u16; FUNCTIONS],
+    code: &[u16; CODE],
     ws: &mut [u8],
-    slots: &mut [u32; SLOTS],
-    m: &mut [u32; 2],
-    base: usize,
-    q: usize,
-    n: usize,
+    st: &mut [u32; STATE],
+    scope: u64,
     t: u16,
     room: u16,
     kind: u8,
 ) -> u32
-    requires { ⌜ Tables (now p) (now terms) (now funs) ⌝ }
-    requires { ⌜ Ready 1 0 (now p) (termPlaces (now p)) (functionPlaces (now p)) (now ws) (now slots) (machineOf (now m)) (scopeOf base q n) t room ⌝ }
-    requires { ⌜ Wraps (kindAt (now p) (getD (termPlaces (now p)) t 0)) kind ⌝ }
-    ensures { λ r. ⌜ Ran 1 (now (ws .entry)) (now (ws .exit)) (base + n) (now (slots .entry)) (now (slots .exit)) (machineOf (now (m .entry))) (outOf r (now (m .exit))) (stepOf (now (p .entry)) (termPlaces (now (p .entry))) (functionPlaces (now (p .entry))) (now (ws .entry)) (now (slots .entry)) (machineOf (now (m .entry))) (scopeOf base q n) t room) ⌝ }
+    requires { ⌜ ReadyIn 1 0 (now code) (now ws) (now st) scope t room ⌝ }
+    requires { ⌜ Wraps (kindIn (now code) t) kind ⌝ }
+    ensures { λ r. ⌜ Steps (now (code .entry)) (now (ws .entry)) (now (ws .exit)) (now (st .entry)) (now (st .exit)) scope t room r ⌝ }
 {
-    let part = parts::second_of(p, terms, t);
-    let r = eval(p, terms, funs, ws, slots, m, base, q, n, part, room - 1);
+    let part = rows::second_of(code, t);
+    let r = eval(code, ws, st, scope, part, room - 1);
     if STOPPED <= r {
         return r;
     }
-    outcomes::make_single(ws, m, t, kind, r)
+    outcomes::make_single(ws, st, t, kind, r)
 }
 
 fn pair(
-    p: &[u8],
-    terms: &[u16; TERMS],
-    funs: &[u16; FUNCTIONS],
+    code: &[u16; CODE],
     ws: &mut [u8],
-    slots: &mut [u32; SLOTS],
-    m: &mut [u32; 2],
-    base: usize,
-    q: usize,
-    n: usize,
+    st: &mut [u32; STATE],
+    scope: u64,
     t: u16,
     room: u16,
 ) -> u32
-    requires { ⌜ Tables (now p) (now terms) (now funs) ⌝ }
-    requires { ⌜ Ready 1 0 (now p) (termPlaces (now p)) (functionPlaces (now p)) (now ws) (now slots) (machineOf (now m)) (scopeOf base q n) t room ⌝ }
-    requires { ⌜ kindAt (now p) (getD (termPlaces (now p)) t 0) ≡ 4 ⌝ }
-    ensures { λ r. ⌜ Ran 1 (now (ws .entry)) (now (ws .exit)) (base + n) (now (slots .entry)) (now (slots .exit)) (machineOf (now (m .entry))) (outOf r (now (m .exit))) (stepOf (now (p .entry)) (termPlaces (now (p .entry))) (functionPlaces (now (p .entry))) (now (ws .entry)) (now (slots .entry)) (machineOf (now (m .entry))) (scopeOf base q n) t room) ⌝ }
+    requires { ⌜ ReadyIn 1 0 (now code) (now ws) (now st) scope t room ⌝ }
+    requires { ⌜ kindIn (now code) t ≡ 4 ⌝ }
+    ensures { λ r. ⌜ Steps (now (code .entry)) (now (ws .entry)) (now (ws .exit)) (now (st .entry)) (now (st .exit)) scope t room r ⌝ }
 {
-    let left = parts::first_of(p, terms, t);
-    let right = parts::second_of(p, terms, t);
-    let r = eval(p, terms, funs, ws, slots, m, base, q, n, left, room - 1);
+    let left = rows::first_of(code, t);
+    let r = eval(code, ws, st, scope, left, room - 1);
     if STOPPED <= r {
         return r;
     }
-    let r2 = eval(p, terms, funs, ws, slots, m, base, q, n, right, room - 1);
+    let right = rows::second_of(code, t);
+    let r2 = eval(code, ws, st, scope, right, room - 1);
     if STOPPED <= r2 {
         return r2;
     }
-    outcomes::make_pair(ws, m, t, r, r2)
+    outcomes::make_pair(ws, st, t, r, r2)
 }
 
 // let x = e in b
 fn let_one(
-    p: &[u8],
-    terms: &[u16; TERMS],
-    funs: &[u16; FUNCTIONS],
+    code: &[u16; CODE],
     ws: &mut [u8],
-    slots: &mut [u32; SLOTS],
-    m: &mut [u32; 2],
-    base: usize,
-    q: usize,
-    n: usize,
+    st: &mut [u32; STATE],
+    scope: u64,
     t: u16,
     room: u16,
 ) -> u32
-    requires { ⌜ Tables (now p) (now terms) (now funs) ⌝ }
-    requires { ⌜ Ready 1 0 (now p) (termPlaces (now p)) (functionPlaces (now p)) (now ws) (now slots) (machineOf (now m)) (scopeOf base q n) t room ⌝ }
-    requires { ⌜ kindAt (now p) (getD (termPlaces (now p)) t 0) ≡ 5 ⌝ }
-    ensures { λ r. ⌜ Ran 1 (now (ws .entry)) (now (ws .exit)) (base + n) (now (slots .entry)) (now (slots .exit)) (machineOf (now (m .entry))) (outOf r (now (m .exit))) (stepOf (now (p .entry)) (termPlaces (now (p .entry))) (functionPlaces (now (p .entry))) (now (ws .entry)) (now (slots .entry)) (machineOf (now (m .entry))) (scopeOf base q n) t room) ⌝ }
+    requires { ⌜ ReadyIn 1 0 (now code) (now ws) (now st) scope t room ⌝ }
+    requires { ⌜ kindIn (now code) t ≡ 5 ⌝ }
+    ensures { λ r. ⌜ Steps (now (code .entry)) (now (ws .entry)) (now (ws .exit)) (now (st .entry)) (now (st .exit)) scope t room r ⌝ }
 {
-    let bound = parts::first_of(p, terms, t);
-    let body = parts::second_of(p, terms, t);
-    let r = eval(p, terms, funs, ws, slots, m, base, q, n, bound, room - 1);
+    let bound = rows::first_of(code, t);
+    let r = eval(code, ws, st, scope, bound, room - 1);
     if STOPPED <= r {
         return r;
     }
-    under(p, terms, funs, ws, slots, m, base, q, n, r, body, room - 1)
+    let body = rows::second_of(code, t);
+    under(code, ws, st, scope, r, body, room - 1)
 }
 
 // let (x, y) = e in b
 fn let_two(
-    p: &[u8],
-    terms: &[u16; TERMS],
-    funs: &[u16; FUNCTIONS],
+    code: &[u16; CODE],
     ws: &mut [u8],
-    slots: &mut [u32; SLOTS],
-    m: &mut [u32; 2],
-    base: usize,
-    q: usize,
-    n: usize,
+    st: &mut [u32; STATE],
+    scope: u64,
     t: u16,
     room: u16,
 ) -> u32
-    requires { ⌜ Tables (now p) (now terms) (now funs) ⌝ }
-    requires { ⌜ Ready 1 0 (now p) (termPlaces (now p)) (functionPlaces (now p)) (now ws) (now slots) (machineOf (now m)) (scopeOf base q n) t room ⌝ }
-    requires { ⌜ kindAt (now p) (getD (termPlaces (now p)) t 0) ≡ 6 ⌝ }
-    ensures { λ r. ⌜ Ran 1 (now (ws .entry)) (now (ws .exit)) (base + n) (now (slots .entry)) (now (slots .exit)) (machineOf (now (m .entry))) (outOf r (now (m .exit))) (stepOf (now (p .entry)) (termPlaces (now (p .entry))) (functionPlaces (now (p .entry))) (now (ws .entry)) (now (slots .entry)) (machineOf (now (m .entry))) (scopeOf base q n) t room) ⌝ }
+    requires { ⌜ ReadyIn 1 0 (now code) (now ws) (now st) scope t room ⌝ }
+    requires { ⌜ kindIn (now code) t ≡ 6 ⌝ }
+    ensures { λ r. ⌜ Steps (now (code .entry)) (now (ws .entry)) (now (ws .exit)) (now (st .entry)) (now (st .exit)) scope t room r ⌝ }
 {
-    let bound = parts::first_of(p, terms, t);
-    let body = parts::second_of(p, terms, t);
+    let bound = rows::first_of(code, t);
     let below = room - 1;
-    let r = eval(p, terms, funs, ws, slots, m, base, q, n, bound, below);
+    let r = eval(code, ws, st, scope, bound, below);
     if STOPPED <= r {
         return r;
     }
@@ -206,151 +168,115 @@ fn let_two(
     }
     let x = values::nodes::left_of(ws, r);
     let y = values::nodes::right_of(ws, r);
-    let at = base + n;
-    scopes::slots::bind(slots, at, x);
-    under(p, terms, funs, ws, slots, m, base, q, n + 1, y, body, below)
+    slots::bind(st, state::end_of(scope), x);
+    let body = rows::second_of(code, t);
+    under(code, ws, st, state::wider(scope), y, body, below)
 }
 
 // case e of inl x ⇒ b, inr y ⇒ b′
 fn choose(
-    p: &[u8],
-    terms: &[u16; TERMS],
-    funs: &[u16; FUNCTIONS],
+    code: &[u16; CODE],
     ws: &mut [u8],
-    slots: &mut [u32; SLOTS],
-    m: &mut [u32; 2],
-    base: usize,
-    q: usize,
-    n: usize,
+    st: &mut [u32; STATE],
+    scope: u64,
     t: u16,
     room: u16,
 ) -> u32
-    requires { ⌜ Tables (now p) (now terms) (now funs) ⌝ }
-    requires { ⌜ Ready 1 0 (now p) (termPlaces (now p)) (functionPlaces (now p)) (now ws) (now slots) (machineOf (now m)) (scopeOf base q n) t room ⌝ }
-    requires { ⌜ kindAt (now p) (getD (termPlaces (now p)) t 0) ≡ 7 ⌝ }
-    ensures { λ r. ⌜ Ran 1 (now (ws .entry)) (now (ws .exit)) (base + n) (now (slots .entry)) (now (slots .exit)) (machineOf (now (m .entry))) (outOf r (now (m .exit))) (stepOf (now (p .entry)) (termPlaces (now (p .entry))) (functionPlaces (now (p .entry))) (now (ws .entry)) (now (slots .entry)) (machineOf (now (m .entry))) (scopeOf base q n) t room) ⌝ }
+    requires { ⌜ ReadyIn 1 0 (now code) (now ws) (now st) scope t room ⌝ }
+    requires { ⌜ kindIn (now code) t ≡ 7 ⌝ }
+    ensures { λ r. ⌜ Steps (now (code .entry)) (now (ws .entry)) (now (ws .exit)) (now (st .entry)) (now (st .exit)) scope t room r ⌝ }
 {
-    let sum = parts::first_of(p, terms, t);
+    let sum = rows::first_of(code, t);
     let below = room - 1;
-    let r = eval(p, terms, funs, ws, slots, m, base, q, n, sum, below);
+    let r = eval(code, ws, st, scope, sum, below);
     if STOPPED <= r {
         return r;
     }
     let kind = values::nodes::kind_of(ws, r);
     let part = values::nodes::left_of(ws, r);
     if kind == 1 {
-        let left = parts::second_of(p, terms, t);
-        return under(p, terms, funs, ws, slots, m, base, q, n, part, left, below);
+        let left = rows::second_of(code, t);
+        return under(code, ws, st, scope, part, left, below);
     }
     if kind == 2 {
-        let right = parts::third_of(p, terms, t);
-        let out = under(p, terms, funs, ws, slots, m, base, q, n, part, right, below);
-        return outcomes::first_match(p, terms, ws, slots, m, out, base, q, t);
+        let right = rows::third_of(code, t);
+        let out = under(code, ws, st, scope, part, right, below);
+        return outcomes::first_match(code, ws, st, scope, t, out);
     }
     outcomes::refuse(STUCK, 0)
 }
 
 fn unroll(
-    p: &[u8],
-    terms: &[u16; TERMS],
-    funs: &[u16; FUNCTIONS],
+    code: &[u16; CODE],
     ws: &mut [u8],
-    slots: &mut [u32; SLOTS],
-    m: &mut [u32; 2],
-    base: usize,
-    q: usize,
-    n: usize,
+    st: &mut [u32; STATE],
+    scope: u64,
     t: u16,
     room: u16,
 ) -> u32
-    requires { ⌜ Tables (now p) (now terms) (now funs) ⌝ }
-    requires { ⌜ Ready 1 0 (now p) (termPlaces (now p)) (functionPlaces (now p)) (now ws) (now slots) (machineOf (now m)) (scopeOf base q n) t room ⌝ }
-    requires { ⌜ 10 ≤ kindAt (now p) (getD (termPlaces (now p)) t 0) ⌝ }
-    ensures { λ r. ⌜ Ran 1 (now (ws .entry)) (now (ws .exit)) (base + n) (now (slots .entry)) (now (slots .exit)) (machineOf (now (m .entry))) (outOf r (now (m .exit))) (stepOf (now (p .entry)) (termPlaces (now (p .entry))) (functionPlaces (now (p .entry))) (now (ws .entry)) (now (slots .entry)) (machineOf (now (m .entry))) (scopeOf base q n) t room) ⌝ }
+    requires { ⌜ ReadyIn 1 0 (now code) (now ws) (now st) scope t room ⌝ }
+    requires { ⌜ kindIn (now code) t ≡ 10 ⌝ }
+    ensures { λ r. ⌜ Steps (now (code .entry)) (now (ws .entry)) (now (ws .exit)) (now (st .entry)) (now (st .exit)) scope t room r ⌝ }
 {
-    let part = parts::second_of(p, terms, t);
-    let r = eval(p, terms, funs, ws, slots, m, base, q, n, part, room - 1);
+    let part = rows::second_of(code, t);
+    let r = eval(code, ws, st, scope, part, room - 1);
     if STOPPED <= r {
         return r;
     }
     outcomes::unrolled(ws, r)
 }
 
-// The arguments of call t from number k to number `end`, which is the dynamic one: each is evaluated in the caller's scope, and placed behind it once
-// the others are, since their evaluation has its own variables there.
+// The arguments of call t from number k to number `end`, which is the dynamic one: each is evaluated in the caller's scope, and placed behind it
+// once the others are, since their evaluation has its own variables there.
 fn place(
-    p: &[u8],
-    terms: &[u16; TERMS],
-    funs: &[u16; FUNCTIONS],
+    code: &[u16; CODE],
     ws: &mut [u8],
-    slots: &mut [u32; SLOTS],
-    m: &mut [u32; 2],
-    base: usize,
-    q: usize,
-    n: usize,
+    st: &mut [u32; STATE],
+    scope: u64,
     t: u16,
     room: u16,
     k: usize,
     end: usize,
 ) -> u32
-    requires { ⌜ Tables (now p) (now terms) (now funs) ⌝ }
-    requires { ⌜ Ready 1 0 (now p) (termPlaces (now p)) (functionPlaces (now p)) (now ws) (now slots) (machineOf (now m)) (scopeOf base q n) t room ⌝ }
-    requires { ⌜ Calls (now p) (termPlaces (now p)) t k end ⌝ }
-    ensures { λ r. ⌜ Places (now (p .entry)) (termPlaces (now (p .entry))) (functionPlaces (now (p .entry))) (now (ws .entry)) (now (ws .exit)) (now (slots .entry)) (now (slots .exit)) (machineOf (now (m .entry))) (scopeOf base q n) t room k end (outOf r (now (m .exit))) ⌝ }
+    requires { ⌜ ReadyIn 1 0 (now code) (now ws) (now st) scope t room ⌝ }
+    requires { ⌜ Calls (now code) t k end ⌝ }
+    ensures { λ r. ⌜ PlacesIn (now (code .entry)) (now (ws .entry)) (now (ws .exit)) (now (st .entry)) (now (st .exit)) scope t room k end r ⌝ }
 {
-    let argument = parts::argument_of(p, terms, t, k);
-    let r = eval(p, terms, funs, ws, slots, m, base, q, n, argument, room - 1);
+    let argument = rows::argument_of(code, t, k);
+    let r = eval(code, ws, st, scope, argument, room - 1);
     if STOPPED <= r {
         return r;
     }
-    let at = base + n + k;
+    let at = state::end_of(scope) + k;
     if k == end {
-        scopes::slots::bind(slots, at, r);
+        slots::bind(st, at, r);
         return r;
     }
     let next = k + 1;
-    let others = place(p, terms, funs, ws, slots, m, base, q, n, t, room, next, end);
-    scopes::slots::bind(slots, at, r);
+    let others = place(code, ws, st, scope, t, room, next, end);
+    slots::bind(st, at, r);
     others
 }
 
 // A call: its arguments are the scope of the function's body.
 fn call(
-    p: &[u8],
-    terms: &[u16; TERMS],
-    funs: &[u16; FUNCTIONS],
+    code: &[u16; CODE],
     ws: &mut [u8],
-    slots: &mut [u32; SLOTS],
-    m: &mut [u32; 2],
-    base: usize,
-    q: usize,
-    n: usize,
+    st: &mut [u32; STATE],
+    scope: u64,
     t: u16,
     room: u16,
 ) -> u32
-    requires { ⌜ Tables (now p) (now terms) (now funs) ⌝ }
-    requires { ⌜ Ready 1 0 (now p) (termPlaces (now p)) (functionPlaces (now p)) (now ws) (now slots) (machineOf (now m)) (scopeOf base q n) t room ⌝ }
-    requires { ⌜ kindAt (now p) (getD (termPlaces (now p)) t 0) ≡ 8 ⌝ }
-    ensures { λ r. ⌜ Ran 1 (now (ws .entry)) (now (ws .exit)) (base + n) (now (slots .entry)) (now (slots .exit)) (machineOf (now (m .entry))) (outOf r (now (m .exit))) (stepOf (now (p .entry)) (termPlaces (now (p .entry))) (functionPlaces (now (p .entry))) (now (ws .entry)) (now (slots .entry)) (machineOf (now (m .entry))) (scopeOf base q n) t room) ⌝ }
+    requires { ⌜ ReadyIn 1 0 (now code) (now ws) (now st) scope t room ⌝ }
+    requires { ⌜ kindIn (now code) t ≡ 8 ⌝ }
+    ensures { λ r. ⌜ Steps (now (code .entry)) (now (ws .entry)) (now (ws .exit)) (now (st .entry)) (now (st .exit)) scope t room r ⌝ }
 {
-    let count = parts::ancillae_of(p, terms, t);
-    let r = place(p, terms, funs, ws, slots, m, base, q, n, t, room, 0, count);
+    let count = octets::wide_index(rows::third_of(code, t));
+    let r = place(code, ws, st, scope, t, room, 0, count);
     if STOPPED <= r {
         return r;
     }
-    let g = parts::first_of(p, terms, t);
-    let body = parts::body_of(p, funs, g);
-    eval(
-        p,
-        terms,
-        funs,
-        ws,
-        slots,
-        m,
-        base + n,
-        count,
-        count + 1,
-        body,
-        room - 1,
-    )
+    let body = rows::body_of(code, rows::first_of(code, t));
+    let inner = state::scope(state::end_of(scope), count, count + 1);
+    eval(code, ws, st, inner, body, room - 1)
 }

@@ -1,4 +1,3 @@
 // Forward evaluation (section 2): the value of a term, or the refusal that it meets, by the rules' `forward`.
 pub mod eval;
 pub mod outcomes;
-pub mod parts;

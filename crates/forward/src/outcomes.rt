@@ -1,21 +1,19 @@
 // Answers of evaluation, and the steps that have no parts to evaluate: new nodes, variables, what a roll holds, and the test of first match.
 // An answer is one number, a node or a refusal (specs/Outcomes), and the machine, the first free node and the fuel, is lent: so a step
 // hands back nothing that has to be copied.
-use crate::parts;
-use program::tables;
-use program::tables::TERMS;
+use decoded::rows;
+use decoded::rows::CODE;
 use scopes::slots::Found;
-use scopes::slots::SLOTS;
+use scopes::state;
+use scopes::state::STATE;
 ghost use mathlib.Core.Path.{_≡_};
 ghost use Prim.Native.Nat.{_+_, _≤_, _<_};
-ghost use lib.ListN.{length, getD};
+ghost use lib.ListN.{length};
 ghost use Rattle.rules.specs.Val.{unit, pair};
-ghost use Rattle.program.specs.Parts.{variable};
-ghost use Rattle.program.specs.Tables.{termPlaces, Table};
 ghost use Rattle.values.specs.Nodes.{Room, ofKind, Single, valueAt};
-ghost use Rattle.scopes.specs.Slots.{slotCount, slotAt, Slots};
-ghost use Rattle.forward.specs.Outcomes.{machineOf, stopped, refusalIn, statusOf, Stops, outOf, finished, Finds};
-ghost use Rattle.forward.specs.Ready.{Graph, Makes, Unrolled, CheckReady, Checks};
+ghost use Rattle.scopes.specs.Slots.{slotCount, stateCount, machineOf, slotsOf, scopeIn, slotAt, Slots};
+ghost use Rattle.forward.specs.Outcomes.{stopped, refusalIn, statusOf, Stops, Finds};
+ghost use Rattle.forward.specs.Ready.{endOf, Finishes, MakeReady, MakesIn, Unrolled, CheckReady, ChecksIn};
 
 // An answer below this number is a node; a refusal is its number, in this place above its term, from here on.
 pub const STOPPED: u32 = 2147483648;
@@ -87,67 +85,54 @@ pub fn status_of(answer: u32) -> Status
 // New nodes.
 
 // The node at top is the answer, if it was made; else its value is too long.
-fn finish(made: bool, m: &mut [u32; 2], t: u16) -> u32
-    requires { ⌜ machineOf (now m) .top < stopped ⌝ }
-    ensures { λ r. ⌜ outOf r (now (m .exit)) ≡ finished made (machineOf (now (m .entry))) t ⌝ }
+fn finish(made: bool, st: &mut [u32; STATE], t: u16) -> u32
+    requires { ⌜ (length (now st) ≡ stateCount) × (machineOf (now st) .top < stopped) ⌝ }
+    ensures { λ r. ⌜ Finishes made (now (st .entry)) (now (st .exit)) t r ⌝ }
 {
     if made {
-        let top = m[0];
-        *m = [top + 1, m[1]];
+        let top = state::top(st);
+        state::grow(st);
         return top;
     }
     refuse(LONG, t)
 }
 
-pub fn make_unit(ws: &mut [u8], m: &mut [u32; 2], t: u16) -> u32
-    requires { ⌜ Graph (now ws) (machineOf (now m) .top) ⌝ }
-    requires { ⌜ Room (now ws) (machineOf (now m) .top + 1) × (machineOf (now m) .top < stopped) ⌝ }
-    ensures { λ r. ⌜ Makes (now (ws .entry)) (now (ws .exit)) (machineOf (now (m .entry))) (outOf r (now (m .exit))) t unit ⌝ }
+pub fn make_unit(ws: &mut [u8], st: &mut [u32; STATE], t: u16) -> u32
+    requires { ⌜ MakeReady (now ws) (now st) ⌝ }
+    ensures { λ r. ⌜ MakesIn (now (ws .entry)) (now (ws .exit)) (now (st .entry)) (now (st .exit)) r t unit ⌝ }
 {
-    values::nodes::unit(ws, m[0]);
-    finish(true, m, t)
+    values::nodes::unit(ws, state::top(st));
+    finish(true, st, t)
 }
 
 // inl, inr and roll, by the kind of node (values::nodes).
-pub fn make_single(ws: &mut [u8], m: &mut [u32; 2], t: u16, kind: u8, part: u32) -> u32
-    requires { ⌜ Graph (now ws) (machineOf (now m) .top) ⌝ }
-    requires { ⌜ Room (now ws) (machineOf (now m) .top + 1) × (machineOf (now m) .top < stopped) ⌝ }
-    requires { ⌜ (part < machineOf (now m) .top) × Single kind ⌝ }
-    ensures { λ r. ⌜ Makes (now (ws .entry)) (now (ws .exit)) (machineOf (now (m .entry))) (outOf r (now (m .exit))) t (ofKind kind (valueAt (now (ws .entry)) part) (valueAt (now (ws .entry)) part)) ⌝ }
+pub fn make_single(ws: &mut [u8], st: &mut [u32; STATE], t: u16, kind: u8, part: u32) -> u32
+    requires { ⌜ MakeReady (now ws) (now st) ⌝ }
+    requires { ⌜ (part < machineOf (now st) .top) × Single kind ⌝ }
+    ensures { λ r. ⌜ MakesIn (now (ws .entry)) (now (ws .exit)) (now (st .entry)) (now (st .exit)) r t (ofKind kind (valueAt (now (ws .entry)) part) (valueAt (now (ws .entry)) part)) ⌝ }
 {
-    let made = values::nodes::single(ws, m[0], kind, part);
-    finish(made, m, t)
+    let made = values::nodes::single(ws, state::top(st), kind, part);
+    finish(made, st, t)
 }
 
-pub fn make_pair(ws: &mut [u8], m: &mut [u32; 2], t: u16, left: u32, right: u32) -> u32
-    requires { ⌜ Graph (now ws) (machineOf (now m) .top) ⌝ }
-    requires { ⌜ Room (now ws) (machineOf (now m) .top + 1) × (machineOf (now m) .top < stopped) ⌝ }
-    requires { ⌜ (left < machineOf (now m) .top) × (right < machineOf (now m) .top) ⌝ }
-    ensures { λ r. ⌜ Makes (now (ws .entry)) (now (ws .exit)) (machineOf (now (m .entry))) (outOf r (now (m .exit))) t (pair (valueAt (now (ws .entry)) left) (valueAt (now (ws .entry)) right)) ⌝ }
+pub fn make_pair(ws: &mut [u8], st: &mut [u32; STATE], t: u16, left: u32, right: u32) -> u32
+    requires { ⌜ MakeReady (now ws) (now st) ⌝ }
+    requires { ⌜ (left < machineOf (now st) .top) × (right < machineOf (now st) .top) ⌝ }
+    ensures { λ r. ⌜ MakesIn (now (ws .entry)) (now (ws .exit)) (now (st .entry)) (now (st .exit)) r t (pair (valueAt (now (ws .entry)) left) (valueAt (now (ws .entry)) right)) ⌝ }
 {
-    let made = values::nodes::pair(ws, m[0], left, right);
-    finish(made, m, t)
+    let made = values::nodes::pair(ws, state::top(st), left, right);
+    finish(made, st, t)
 }
 
 // Steps without parts.
 
-// A variable is its node, if it is known.
-pub fn variable(
-    p: &[u8],
-    terms: &[u16; TERMS],
-    slots: &[u32; SLOTS],
-    base: usize,
-    n: usize,
-    t: u16,
-) -> u32
-    requires { ⌜ Table (now terms) (termPlaces (now p)) 1024 ⌝ }
-    requires { ⌜ t < length (termPlaces (now p)) ⌝ }
-    requires { ⌜ (getD (termPlaces (now p)) t 0 + 5 ≤ length (now p)) × (base + n ≤ slotCount) ⌝ }
-    requires { ⌜ Slots (now slots) (base + n) stopped ⌝ }
-    ensures { λ r. ⌜ Finds r (slotAt (now (slots .entry)) base n (variable (now (p .entry)) (getD (termPlaces (now (p .entry))) t 0))) ⌝ }
+// Variable i is its node, if it is known.
+pub fn variable(st: &[u32; STATE], scope: u64, i: u16) -> u32
+    requires { ⌜ endOf scope ≤ slotCount ⌝ }
+    requires { ⌜ Slots (slotsOf (now st)) (endOf scope) stopped ⌝ }
+    ensures { λ r. ⌜ Finds r (slotAt (slotsOf (now (st .entry))) (scopeIn scope .base) (scopeIn scope .n) i) ⌝ }
 {
-    let i = program::views::variable(p, tables::offset(terms, t));
-    match scopes::slots::find(slots, base, n, i) {
+    match scopes::slots::find(st, state::base_in(scope), state::count_in(scope), i) {
         Found::Node(node) => node,
         Found::Unknown => refuse(STUCK, 0),
     }
@@ -167,25 +152,21 @@ pub fn unrolled(ws: &[u8], node: u32) -> u32
 
 // The answer of case t, whose right branch gave `out`: if the left branch may yield the value, the case cannot be run back (15).
 pub fn first_match(
-    p: &[u8],
-    terms: &[u16; TERMS],
+    code: &[u16; CODE],
     ws: &[u8],
-    slots: &[u32; SLOTS],
-    m: &[u32; 2],
-    out: u32,
-    base: usize,
-    q: usize,
+    st: &[u32; STATE],
+    scope: u64,
     t: u16,
+    out: u32,
 ) -> u32
-    requires { ⌜ Table (now terms) (termPlaces (now p)) 1024 ⌝ }
-    requires { ⌜ CheckReady (now p) (termPlaces (now p)) (now ws) (now slots) base q t (outOf out (now m)) ⌝ }
-    ensures { λ r. ⌜ Checks (now (p .entry)) (termPlaces (now (p .entry))) (now (ws .entry)) (now (slots .entry)) base q t (outOf out (now (m .entry))) (outOf r (now (m .entry))) ⌝ }
+    requires { ⌜ CheckReady (now code) (now ws) (now st) scope t out ⌝ }
+    ensures { λ r. ⌜ ChecksIn (now (code .entry)) (now (ws .entry)) (now (st .entry)) scope t out r ⌝ }
 {
     if STOPPED <= out {
         return out;
     }
-    let left = parts::second_of(p, terms, t);
-    if yields::may_yield(p, terms, ws, m[0], slots, base, q, left, out) {
+    let left = rows::second_of(code, t);
+    if yields::yields(code, ws, st, scope, left, out) {
         return refuse(FIRST_MATCH, t);
     }
     out

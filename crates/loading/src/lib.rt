@@ -8,6 +8,7 @@ ghost use Prim.Native.Nat.{_*_, _≤_};
 ghost use lib.ListN.{length};
 ghost use Rattle.rules.specs.Limits.{maxTerms};
 ghost use Rattle.program.specs.Places.{Placed, Buffers};
+ghost use Rattle.program.specs.Signatures.{SignaturesAre};
 ghost use Rattle.types.specs.Codes.{nodeBytes};
 ghost use Rattle.typing.specs.Checked.{Typeable};
 ghost use Rattle.loading.specs.Loading.{Examined, LoadMeans};
@@ -31,13 +32,15 @@ fn infer(
     types: &[u16],
     terms: &[u16],
     functions: &[u16],
+    table: &[[u16; 8]; 64],
     nodes: &[u16],
     ws: &mut [u8],
 ) -> Loaded
     requires { ⌜ Typeable (now p) (now types) (now terms) (now functions) (now nodes) (now ws) ⌝ }
+    requires { ⌜ SignaturesAre (now p) (now functions) (now table) ⌝ }
     ensures { λ r. ⌜ Examined r counts (now (p .entry)) (now (types .entry)) (now (terms .entry)) (now (functions .entry)) ⌝ }
 {
-    let v = functions::check_functions(p, types, terms, functions, nodes, ws);
+    let v = functions::check_functions(p, types, terms, functions, table, nodes, ws);
     match v {
         functions::Verdict::Typed => Loaded::Ready(counts),
         functions::Verdict::Differ(at) => Loaded::Differ(at),
@@ -53,16 +56,18 @@ fn examine(
     types: &[u16],
     terms: &[u16],
     functions: &[u16],
+    table: &[[u16; 8]; 64],
     ws: &mut [u8],
 ) -> Loaded
     requires { ⌜ Placed (now p) (now types) (now terms) (now functions) ⌝ }
     requires { ⌜ nodeBytes * maxTerms ≤ length (now ws) ⌝ }
+    requires { ⌜ SignaturesAre (now p) (now functions) (now table) ⌝ }
     ensures { λ r. ⌜ Examined r counts (now (p .entry)) (now (types .entry)) (now (terms .entry)) (now (functions .entry)) ⌝ }
 {
     let mut nodes = [0u16; 256];
     let v = testing::test_entries(p, types, terms, functions, &mut nodes);
     match v {
-        testing::Verdict::Sound => infer(p, counts, types, terms, functions, &nodes, ws),
+        testing::Verdict::Sound => infer(p, counts, types, terms, functions, table, &nodes, ws),
         testing::Verdict::BadReference(at) => Loaded::BadReference(at),
         testing::Verdict::BadType(at) => Loaded::BadType(at),
     }
@@ -80,13 +85,22 @@ pub fn load(
     requires { ⌜ nodeBytes * maxTerms ≤ length (now ws) ⌝ }
     ensures { λ r. ⌜ LoadMeans r (now (p .entry)) (now (types .exit)) (now (terms .exit)) (now (functions .exit)) ⌝ }
 {
-    let v = fields::layout(p, types, terms, functions);
+    let mut table = [[0u16; 8]; 64];
+    let v = fields::layout(p, types, terms, functions, &mut table);
     match v {
         fields::Fields::Read(counts) => {
             let i = counts.types;
             let j = counts.terms;
             let k = counts.functions;
-            examine(p, counts, &types[..i], &terms[..j], &functions[..k], ws)
+            examine(
+                p,
+                counts,
+                &types[..i],
+                &terms[..j],
+                &functions[..k],
+                &table,
+                ws,
+            )
         }
         fields::Fields::Malformed(at) => Loaded::Malformed(at),
         fields::Fields::Over(at) => Loaded::Over(at),

@@ -3,6 +3,8 @@
 pub mod Numbers
 -- runs of bytes: zeros, copies
 pub mod Runs
+-- runs of zeros, byte by byte and block by block
+pub mod Zeros
 -- numbers put into bytes
 pub mod Puts
 -- runs put into bytes

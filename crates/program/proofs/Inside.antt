@@ -85,6 +85,13 @@ counted xs at L e =
           (leb-sound _ _ x, leb-sound _ _ y);
     }
 
+-- a function's field that was accepted
+pub function-field : (xs : List ℕ) (at last : ℕ) (L : Layout) → wellFormed xs at last ≡ true → withinCounts xs at (withField xs at L) ≡ true
+    → eqb (tagAt xs at) 3 ≡ true → FunctionField xs at
+function-field xs at last L w n t =
+    given (well-formed xs at last w) λ (inside, fits).
+    given (counted xs at (withField xs at L) n .parameters t) λ (x, y). record { inside = inside; sized = fits-function xs at fits t; some = x; few = y }
+
 formed-more : (xs : List ℕ) (at last : ℕ) (L : Layout) → wellFormed xs at last ≡ true → withinCounts xs at (withField xs at L) ≡ true → Formed xs L
     → Formed xs (withField xs at L)
 unfolding withField
@@ -94,7 +101,7 @@ formed-more xs at last L w n F =
       types = holds-more (TypeField xs) (eqb (tagAt xs at) 1) (L .types) at (λ t. record { inside = inside; sized = fits-type xs at fits t }) (F .types);
       terms = holds-more (TermField xs) (eqb (tagAt xs at) 2) (L .terms) at (λ t. record { inside = inside; sized = fits-term xs at fits t }) (F .terms);
       functions = holds-more (FunctionField xs) (eqb (tagAt xs at) 3) (L .functions) at
-          (λ t. record { inside = inside; sized = fits-function xs at fits t; some = N .parameters t .0; few = N .parameters t .1 }) (F .functions);
+          (function-field xs at last L w n) (F .functions);
       few-types = N .few-types;
       few-terms = N .few-terms;
       few-functions = N .few-functions;

@@ -17,7 +17,7 @@ pub mod Reading
 pub mod Lists
 -- the table of signatures: its rows, and how they are stored
 pub mod Rows
+-- the table while the fields are read
+pub mod Signing
 -- the functions of a program, by offsets
 pub mod Programs
--- offsets in tables of fixed length
-pub mod Offsets

@@ -40,7 +40,7 @@ module _ (xs : List ℕ) (at : ℕ) where
   ----------------------------------------------------------------
   -- Terms
 
-  term-by : {k : ℕ} → kindAt xs at ≡ k
+  pub term-by : {k : ℕ} → kindAt xs at ≡ k
       → termAt xs at ≡ termOfKind k (first xs at) (second xs at) (third xs at) (variable xs at) (references xs (at + 6) (callAncillae (lengthAt xs at))) (listed xs at (callAncillae (lengthAt xs at)))
   unfolding termAt
   term-by e =

@@ -1,8 +1,6 @@
 -- What the code says of programs. The modules in reading order:
 -- where the fields of a program's entries stand
 pub mod Places
--- the offsets that a program has, in tables of fixed length
-pub mod Tables
 -- what reading one field answers
 pub mod Found
 -- the parts of an entry's field, and fields that are well-formed

@@ -2,9 +2,11 @@
 use Prim.Native.Nat.{ℕ, _≤_, _<_}
 use mathlib.Core.Path.{_≡_}
 use mathlib.Core.List.{List, [], _∷_, _++_}
-use lib.ListN.{length, getD, replicate}
+use lib.ListN.{length, getD, set, take, replicate}
 use package.Rattle.rules.specs.Limits.{maxFunctions}
 use package.Rattle.calls.specs.Entries.{FunctionEntry, functionAt}
+use package.Rattle.program.specs.declared.fields.Fields.{Fields}
+use package.Rattle.program.specs.declared.fields.Fields.the-variants.{Read, Malformed, Over}
 use package.Rattle.program.specs.Parts.{FunctionField}
 
 -- the parameter types of a function in order, the dynamic one last
@@ -22,8 +24,24 @@ pub record FunctionFields (xs functions : List ℕ) : Type 0 where
   pub few : length functions ≤ maxFunctions
   pub each : (g : ℕ) → g < length functions → FunctionField xs (getD functions g 0)
 
+-- a function's field, whose number the table has a row for; of another field nothing is asked
+pub record Signable (xs : List ℕ) (at tag g : ℕ) : Type 0 where
+  pub field : tag ≡ 3 → FunctionField xs at
+  pub few : tag ≡ 3 → g < 64
+
+-- the row of a function's field is in the table, which is else as it was
+pub record Signs (xs : List ℕ) (at tag g : ℕ) (table table′ : List (List ℕ)) : Type 0 where
+  pub written : tag ≡ 3 → (row : List ℕ) × SignatureIs (functionAt xs at) row × (table′ ≡ set table g row)
+  pub kept : (tag ≡ 3 → ⊥) → table′ ≡ table
+
 -- The table: a row for each function, rows of zeros after them.
 pub record SignaturesAre (xs functions : List ℕ) (table : List (List ℕ)) : Type 0 where
   pub sized : length table ≡ 64
   pub rows : (g : ℕ) → g < length functions → SignatureIs (functionAt xs (getD functions g 0)) (getD table g [])
   pub beyond : (g : ℕ) → length functions ≤ g → g < 64 → getD table g [] ≡ replicate 8 0
+
+-- what reading the fields leaves in the table
+abbrev pub Tabulated : Fields → List ℕ → List ℕ → List (List ℕ) → Type 0
+Tabulated (Read c) xs functions table = SignaturesAre xs (take (c .functions) functions) table
+Tabulated (Malformed at) xs functions table = Unit {0}
+Tabulated (Over at) xs functions table = Unit {0}

@@ -2,11 +2,13 @@
 // The functions on one field equal the definitions of calls/specs/Fields; a definition reads 0 past the end, and so does `byte_at`.
 ghost use mathlib.Core.Path.{_≡_};
 ghost use Prim.Native.Nat.{_+_, _≤_};
-ghost use lib.ListN.{length, getD};
+ghost use lib.ListN.{length, getD, replicate};
 ghost use Rattle.calls.specs.Fields.{tagAt, lengthAt, nextAt, kindAt, parametersAt, typeLengths, termLengths, callLength, typeLength, termLength, functionLength, bodyFits, wellFormed};
 ghost use Rattle.program.specs.Places.{parametersWithin, frontsOf, Placeable, PlacingMeans, Buffers, FieldsMean};
+ghost use Rattle.program.specs.Signatures.{Signable, Signs, Tabulated};
 use crate::reader;
 use crate::reader::Field;
+use crate::signatures;
 
 // The body length of each kind of type, then of term; a call's (8) is by its own rule.
 const TYPE_LENGTHS: [u16; 5] = [1, 5, 5, 3, 2];
@@ -248,11 +250,31 @@ fn place(
     Placing::More(counts)
 }
 
-// The fields of a program, in one pass. The offset of each entry goes into the buffer of its tag; a program over the byte limit
-// is refused before its fields are read, so that an offset has two bytes.
-pub fn layout(p: &[u8], types: &mut [u16], terms: &mut [u16], functions: &mut [u16]) -> Fields
+// The row of a function's field goes into the table of signatures, at the function's number.
+fn sign(p: &[u8], at: usize, tag: u8, g: usize, table: &mut [[u16; 8]; 64])
+    requires { ⌜ Signable (now p) at tag g ⌝ }
+    ensures { λ _. ⌜ Signs (now (p .entry)) at tag g (now (table .entry)) (now (table .exit)) ⌝ }
+{
+    if tag != 3 {
+        return;
+    }
+    let row = signatures::signature(p, at);
+    table[g] = row;
+}
+
+// The fields of a program, in one pass. The offset of each entry goes into the buffer of its tag, the signature of each function into
+// the table; a program over the byte limit is refused before its fields are read, so that an offset has two bytes.
+pub fn layout(
+    p: &[u8],
+    types: &mut [u16],
+    terms: &mut [u16],
+    functions: &mut [u16],
+    table: &mut [[u16; 8]; 64],
+) -> Fields
     requires { ⌜ Buffers (now types) (now terms) (now functions) ⌝ }
-    ensures { λ r. ⌜ FieldsMean r (now (p .entry)) (now (types .exit)) (now (terms .exit)) (now (functions .exit)) ⌝ }
+    requires { ⌜ now table ≡ replicate 64 (replicate 8 0) ⌝ }
+    ensures fields { λ r. ⌜ FieldsMean r (now (p .entry)) (now (types .exit)) (now (terms .exit)) (now (functions .exit)) ⌝ }
+    ensures signed { λ r. ⌜ Tabulated r (now (p .entry)) (now (functions .exit)) (now (table .exit)) ⌝ }
 {
     if MAX_PROGRAM_BYTES < p.len() {
         return Fields::Over(0);
@@ -271,6 +293,7 @@ pub fn layout(p: &[u8], types: &mut [u16], terms: &mut [u16], functions: &mut [u
         let Placing::More(more) = place(p, at, counts, types, terms, functions) else {
             return Fields::Over(at);
         };
+        sign(p, at, tag, counts.functions, table);
         counts = more;
         last = tag;
         at = next;

@@ -2,5 +2,4 @@
 pub mod fields;
 pub mod reader;
 pub mod signatures;
-pub mod tables;
 pub mod views;

@@ -1,8 +1,9 @@
 // The signatures of a program's functions: a table of functions by parameter positions (document 01, section 1), 64 rows of eight
-// parameter type numbers, by value. specs/Signatures says what a row is.
+// parameter type numbers. The pass over the fields fills it while it reads the functions (fields::layout). specs/Signatures says what a
+// row is.
 ghost use Rattle.calls.specs.Entries.{functionAt};
 ghost use Rattle.program.specs.Parts.{FunctionField};
-ghost use Rattle.program.specs.Signatures.{SignatureIs, FunctionFields, SignaturesAre};
+ghost use Rattle.program.specs.Signatures.{SignatureIs};
 use crate::views;
 
 // The row of the function whose field is at `at`.
@@ -19,19 +20,4 @@ pub fn signature(p: &[u8], at: usize) -> [u16; 8]
         k += 1;
     }
     row
-}
-
-// The table of the functions whose fields are at these offsets.
-pub fn signatures(p: &[u8], functions: &[u16]) -> [[u16; 8]; 64]
-    requires { ⌜ FunctionFields (now p) (now functions) ⌝ }
-    ensures { λ r. ⌜ SignaturesAre (now (p .entry)) (now (functions .entry)) r ⌝ }
-{
-    let mut table = [[0u16; 8]; 64];
-    let mut g = 0;
-    while g < functions.len() {
-        let row = signature(p, octets::wide_index(functions[g]));
-        table[g] = row;
-        g += 1;
-    }
-    table
 }

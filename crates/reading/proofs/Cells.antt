@@ -5,8 +5,8 @@ use native.Mathlib.Decide.{decLt}
 use mathlib.Core.Path.{_≡_, refl, sym, ap, subst, _∙_}
 use mathlib.Core.Bool.{true}
 use mathlib.Core.List.{List, [], _∷_}
-use lib.ListN.{length, getD, set, take}
-use lib.Seq.{getD-set-same, take-set-le, take-take}
+use lib.ListN.{length, getD, set}
+use lib.Seq.{getD-set-same, take-set-le}
 use borrow.Author.Tests.{ltb-true}
 use package.Rattle.rules.specs.Ty.{Ty, one}
 use package.Rattle.calls.specs.Fields.{kindAt}
@@ -216,9 +216,3 @@ module _ (xs os binders outer : List ℕ) (top cell entry : ℕ) (C : Cells xs o
       ∙ ap (λ i. typeUnder (entriesOf xs os) binders⁺ outer⁺ cell i ∷ scopeOf (entriesOf xs os) binders⁺ outer⁺ cell) new-binder
       ∙ ap (λ c. c ∷ scopeOf (entriesOf xs os) binders⁺ outer⁺ cell) (under-kept xs os binders outer binders⁺ outer⁺ top C binders-push outer-push cell entry (B .within))
       ∙ ap (λ σ. typeUnder (entriesOf xs os) binders outer cell entry ∷ σ) (same-scope xs os binders outer binders⁺ outer⁺ top C binders-push outer-push cell (B .within))
-
--- what is kept up to the new cell is kept up to the one before
-pub kept-push : (l l′ : List ℕ) (top x : ℕ) → Kept (top + 1) (set l (top + 1) x) l′ → Kept top l l′
-kept-push l l′ top x k =
-    sym (take-take (suc top) (suc (top + 1)) l′ (omega arith)) ∙ ap (take (suc top)) k ∙ take-take (suc top) (suc (top + 1)) (set l (top + 1) x) (omega arith)
-    ∙ take-set-le (suc top) l (top + 1) x (omega arith)

@@ -17,9 +17,19 @@ pub mod Scopes
 pub mod Trees
 -- cells: what a variable names, cells that are kept, one cell more
 pub mod Cells
--- a value taken apart, and its type
-pub mod Apart
--- one step of the test of a value's type
-pub mod Steps
+-- bytes read by pending types
+pub mod Turns
 -- the test as callers ask it
 pub mod Asked
+-- a walk over a value's bytes with a stack of pending types
+pub mod Walking
+-- the stack: one type taken, one more, one more cell
+pub mod Stack
+-- the parts of a value by the entry of its type
+pub mod Split
+-- one byte of a value: what is pending behind it
+pub mod Advancing
+-- the parts that a first byte promises, case by case
+pub mod Promised
+-- a pair's components in their parts of its bytes
+pub mod Components

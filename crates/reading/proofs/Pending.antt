@@ -58,7 +58,7 @@ unfolding behind then more
 behind-under c a s (got v xs) n = more-more a (size v) (size (c v)) (bytesOf xs n) (sym (s v))
 behind-under c a s malformed n = refl
 
-read-shorter : (k : ℕ) (xs : List ℕ) {v : Val} {ys : List ℕ} → read k xs ≡ got v ys → length xs ≡ size v + length ys
+pub read-shorter : (k : ℕ) (xs : List ℕ) {v : Val} {ys : List ℕ} → read k xs ≡ got v ys → length xs ≡ size v + length ys
 read-shorter k xs {v} {ys} e = ap length (read-sound k xs e) ∙ length-encode-append v ys
 
 -- the two values of a pair; `rest` is the law for the second
@@ -118,7 +118,7 @@ bytes-over (suc (suc (suc zero))) xs n h = absurd (omega arith)
 bytes-over (suc (suc (suc (suc zero)))) xs n h = absurd (omega arith)
 bytes-over (suc (suc (suc (suc (suc k))))) xs n h = refl
 
-more-some : (a : ℕ) (x : Option ℕ) {m : ℕ} → more a x ≡ some m → a ≤ m
+pub more-some : (a : ℕ) (x : Option ℕ) {m : ℕ} → more a x ≡ some m → a ≤ m
 unfolding more
 more-some a none e = absurd (none≢some e)
 more-some a (some n) {m} e = let z : a + n ≡ m = some-inj e in omega arith

@@ -20,13 +20,6 @@ getD-map f [] a b i h = absurd (omega arith)
 getD-map f (x ∷ l) a b zero h = refl
 getD-map f (x ∷ l) a b (suc i) h = getD-map f l a b i (omega arith)
 
--- the last kind below a variable's
-pub last-kind : (k : ℕ) → k < 4 → (k ≡ 0 → ⊥) → (k ≡ 1 → ⊥) → (k ≡ 2 → ⊥) → k ≡ 3
-last-kind zero h a b c = absurd (a refl)
-last-kind (suc zero) h a b c = absurd (b refl)
-last-kind (suc (suc zero)) h a b c = absurd (c refl)
-last-kind (suc (suc (suc k))) h a b c = omega arith
-
 module _ (xs os : List ℕ) (T : Table xs os) (i : ℕ) (l : i < length os) where
   entry-at : getD (entriesOf xs os) i y-unit ≡ typeAt xs (getD os i 0)
   entry-at = getD-map (typeAt xs) os 0 y-unit i l

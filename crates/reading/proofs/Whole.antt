@@ -115,13 +115,6 @@ rest-is l at e d =
     ∙ ap (drop (size (d .value))) (read-sound (length (drop at l)) (drop at l) (d .is))
     ∙ drop-at (encode (d .value)) (d .rest) (size (d .value)) (length-encode (d .value))
 
--- the bytes up to the end are the value's
-pub value-part : (l : List ℕ) (at e : ℕ) (d : Ended at e (firstOf (drop at l))) → take (e - at) (drop at l) ≡ encode (d .value)
-value-part l at e d =
-    ap (λ n. take n (drop at l)) (let z : e - at ≡ size (d .value) = omega (arith, d .place) in z)
-    ∙ ap (take (size (d .value))) (read-sound (length (drop at l)) (drop at l) (d .is))
-    ∙ take-at (encode (d .value)) (d .rest) (size (d .value)) (length-encode (d .value))
-
 pub end-within : (l : List ℕ) (at e : ℕ) → Ended at e (firstOf (drop at l)) → (at < e) × (e ≤ length l)
 end-within l at e d =
     let long : length (drop at l) ≡ size (d .value) + length (d .rest) =

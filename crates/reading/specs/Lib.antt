@@ -5,3 +5,5 @@ pub mod Ends
 pub mod Scopes
 -- what the test of a value's type is given, and what it answers
 pub mod Typing
+-- a value's bytes read by types: the parts that a byte promises, and the types that are pending
+pub mod Stack

@@ -1,11 +1,11 @@
 -- What the test whether a value is of a type is given, and what it answers (section 4, row Call: refusal 11).
-use Prim.Native.Nat.{ℕ, suc, _+_, _≤_, _<_}
+use Prim.Native.Nat.{ℕ, _+_, _≤_, _<_}
 use mathlib.Core.Path.{_≡_}
 use mathlib.Core.Bool.{Bool, true, false, _&&_}
 use mathlib.Core.Option.{Option, none, some}
 use mathlib.Core.List.{List, map}
-use lib.ListN.{length, getD, take}
-use package.Rattle.rules.specs.Limits.{maxValueBytes, fits}
+use lib.ListN.{length, getD}
+use package.Rattle.rules.specs.Limits.{fits}
 use package.Rattle.rules.specs.Val.{Val, size}
 use package.Rattle.rules.specs.Ty.{Ty}
 use package.Rattle.calls.specs.Fields.{kindAt}
@@ -17,7 +17,6 @@ use package.Rattle.program.specs.Parts.{TypeField}
 use package.Rattle.reading.specs.declared.typed.Scoped.{Scoped}
 use package.Rattle.reading.specs.declared.typed.Step.{Step}
 use package.Rattle.reading.specs.declared.typed.Step.the-variants as step
-use package.Rattle.reading.specs.Ends.{isValue}
 use package.Rattle.reading.specs.Scopes.{scopeOf, typeUnder}
 
 ----------------------------------------------------------------
@@ -34,6 +33,10 @@ pub record Table (xs os : List ℕ) : Type 0 where
 
 ----------------------------------------------------------------
 -- Cells
+
+-- room for cells, and for pending types: one at the start, and one more for each byte of a value
+abbrev pub room : ℕ
+room = 1025
 
 -- cell `e` has a recursive entry that is closed under lower cells
 pub record Cell (xs os binders outer : List ℕ) (e : ℕ) : Type 0 where
@@ -61,16 +64,6 @@ pub record Resolved (xs os binders outer : List ℕ) (t r : Scoped) : Type 0 whe
 ----------------------------------------------------------------
 -- The test
 
--- what the test is given; each byte of the value may add a cell
-pub record Ready (xs os binders outer s : List ℕ) (top : ℕ) (t : Scoped) : Type 0 where
-  pub table : Table xs os
-  pub cells : Cells xs os binders outer top
-  pub bound : Bound xs os binders outer top (t .cell) (t .entry)
-  pub whole : isValue s ≡ true
-  pub room : top + length s ≤ maxValueBytes
-  pub binders-long : maxValueBytes ≤ length binders
-  pub outer-long : maxValueBytes ≤ length outer
-
 -- Is it a value, and of the type?
 unfoldable pub valueHas : Option Val → Ty → Bool
 valueHas none c = false
@@ -84,9 +77,3 @@ nextIf false n = step.Other
 unfoldable pub nextOf : ℕ → Read → Ty → Step
 nextOf at (got v xs) c = nextIf (fits v && hasTy v c) (at + size v)
 nextOf at malformed c = step.Other
-
--- the answer; the cells up to `top` are as they were
-pub record Told (xs os binders outer binders′ outer′ s : List ℕ) (top : ℕ) (t : Scoped) (r : Bool) : Type 0 where
-  pub says : r ≡ valueHas (value s) (typeUnder (entriesOf xs os) binders outer (t .cell) (t .entry))
-  pub binders-kept : take (suc top) binders′ ≡ take (suc top) binders
-  pub outer-kept : take (suc top) outer′ ≡ take (suc top) outer

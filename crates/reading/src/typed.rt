@@ -1,24 +1,48 @@
-// Whether a value is of a type that a program names (document 01, section 1; section 4, row Call: refusal 11). The value is taken apart
-// in the caller's bytes. An entry inside a recursive one has variables: the recursive entries that enclose it stand in cells, so
-// that nothing is unfolded (specs/Scopes). Each recursion has a shorter value, so the depth is at most the limit on values.
+// Whether a value is of a type that a program names (document 01, section 1; section 4, row Call: refusal 11). One pass over the
+// value's bytes, without recursion: the types of the parts that are still to come are pending, the next one last. A byte takes one of
+// them and leaves those of the parts that it promises (specs/Stack). An entry inside a recursive one has variables: the recursive
+// entries that enclose it stand in cells, so that nothing is unfolded (specs/Scopes).
 use crate::scan;
+use program::views;
 ghost use mathlib.Core.Path.{_≡_};
 ghost use mathlib.Core.Bool.{true};
-ghost use Prim.Native.Nat.{ℕ, _+_, _≤_, _<_};
-ghost use lib.ListN.{length, getD, drop};
+ghost use Prim.Native.Nat.{ℕ, suc, _+_, _<_};
+ghost use lib.ListN.{length, getD, drop, set};
 ghost use Rattle.calls.specs.Fields.{kindAt};
-ghost use Rattle.calls.specs.Entries.{typeOf};
+ghost use Rattle.calls.specs.Entries.{typeAt, typeOf};
 ghost use Rattle.calls.specs.Named.{plain};
 ghost use Rattle.calls.specs.Values.{value};
-ghost use Rattle.program.specs.Parts.{variable, first, second};
+ghost use Rattle.program.specs.Parts.{variable, TypeField};
 ghost use Rattle.reading.specs.Ends.{firstOf, isValue};
-ghost use Rattle.reading.specs.Scopes.{outward};
-ghost use Rattle.reading.specs.Typing.{entriesOf, Table, Cells, Bound, Resolved, Ready, Told, valueHas, nextOf};
+ghost use Rattle.reading.specs.Scopes.{outward, typeUnder};
+ghost use Rattle.reading.specs.Typing.{entriesOf, Table, room, Cells, Bound, Resolved, valueHas, nextOf};
+ghost use Rattle.reading.specs.Stack.{partsOf, Stack, Turned};
+
+// Room for cells, and for pending types: the one at the start, and one more for each byte of a value.
+const ROOM: usize = 1025;
 
 // A type entry under the recursive entries that enclose it: the cell of the nearest, or 0.
 pub struct Scoped {
     pub entry: u16,
     pub cell: u16,
+}
+
+// The parts of a value, by its first byte and its type: the entries of the parts' types, in order.
+pub enum Parts {
+    // of unit
+    Nothing,
+    One(u16),
+    Two(u16, u16),
+    // of a recursive type, which then encloses the part's
+    Body(u16),
+    // no value of the type begins with the byte
+    Wrong,
+}
+
+// How many cells, and how many types are pending, behind a byte.
+pub enum Turn {
+    Pending(u16, usize),
+    Wrong,
 }
 
 // Where the next value starts, behind one of the type that was asked for.
@@ -36,39 +60,47 @@ fn field(types: &[u16], entry: u16) -> usize
     octets::wide_index(types[i])
 }
 
-// What the field of a type entry says.
-
-fn kind_of(program: &[u8], types: &[u16], entry: u16) -> u8
-    requires { ⌜ (entry < length (now types)) × (getD (now types) entry 0 + 4 ≤ length (now program)) ⌝ }
-    ensures { λ r. ⌜ r ≡ kindAt (now (program .entry)) (getD (now (types .entry)) entry 0) ⌝ }
+// What the field of a type entry and the first byte of a value say of the value's parts.
+fn parts_of(program: &[u8], at: usize, b: u8) -> Parts
+    requires { ⌜ TypeField (now program) at ⌝ }
+    ensures { λ r. ⌜ r ≡ partsOf b (typeAt (now (program .entry)) at) ⌝ }
 {
-    program::views::kind(program, field(types, entry))
-}
-
-fn variable_of(program: &[u8], types: &[u16], entry: u16) -> u8
-    requires { ⌜ (entry < length (now types)) × (getD (now types) entry 0 + 5 ≤ length (now program)) ⌝ }
-    ensures { λ r. ⌜ r ≡ variable (now (program .entry)) (getD (now (types .entry)) entry 0) ⌝ }
-{
-    program::views::variable(program, field(types, entry))
-}
-
-fn first_of(program: &[u8], types: &[u16], entry: u16) -> u16
-    requires { ⌜ (entry < length (now types)) × (getD (now types) entry 0 + 6 ≤ length (now program)) ⌝ }
-    ensures { λ r. ⌜ r ≡ first (now (program .entry)) (getD (now (types .entry)) entry 0) ⌝ }
-{
-    program::views::first(program, field(types, entry))
-}
-
-fn second_of(program: &[u8], types: &[u16], entry: u16) -> u16
-    requires { ⌜ (entry < length (now types)) × (getD (now types) entry 0 + 8 ≤ length (now program)) ⌝ }
-    ensures { λ r. ⌜ r ≡ second (now (program .entry)) (getD (now (types .entry)) entry 0) ⌝ }
-{
-    program::views::second(program, field(types, entry))
+    let kind = views::kind(program, at);
+    match kind {
+        0 => {
+            if b == 0 {
+                return Parts::Nothing;
+            }
+            Parts::Wrong
+        }
+        1 => {
+            if b == 3 {
+                return Parts::Two(views::first(program, at), views::second(program, at));
+            }
+            Parts::Wrong
+        }
+        2 => {
+            if b == 1 {
+                return Parts::One(views::first(program, at));
+            }
+            if b == 2 {
+                return Parts::One(views::second(program, at));
+            }
+            Parts::Wrong
+        }
+        3 => {
+            if b == 4 {
+                return Parts::Body(views::first(program, at));
+            }
+            Parts::Wrong
+        }
+        _ => Parts::Wrong,
+    }
 }
 
 // The cell that `k` cells are skipped to, outward from a cell.
-fn enclosing(outer: &[u16], cell: u16, k: u8) -> u16
-    requires { ⌜ ((n : ℕ) → n < k → outward n (now outer) cell < length (now outer)) ⌝ }
+fn enclosing(outer: &[u16; ROOM], cell: u16, k: u8) -> u16
+    requires { ⌜ ((n : ℕ) → n < k → outward n (now outer) cell < room) ⌝ }
     ensures { λ r. ⌜ r ≡ outward k (now (outer .entry)) cell ⌝ }
 {
     let mut e = cell;
@@ -82,20 +114,27 @@ fn enclosing(outer: &[u16], cell: u16, k: u8) -> u16
 }
 
 // The same type by an entry that is no variable.
-fn resolve(program: &[u8], types: &[u16], binders: &[u16], outer: &[u16], t: Scoped) -> Scoped
+fn resolve(
+    program: &[u8],
+    types: &[u16],
+    binders: &[u16; ROOM],
+    outer: &[u16; ROOM],
+    t: Scoped,
+) -> Scoped
     requires { ⌜ Table (now program) (now types) ⌝ }
     requires { ⌜ Cells (now program) (now types) (now binders) (now outer) (t .cell) ⌝ }
     requires { ⌜ Bound (now program) (now types) (now binders) (now outer) (t .cell) (t .cell) (t .entry) ⌝ }
-    requires { ⌜ (t .cell < length (now binders)) × (t .cell < length (now outer)) ⌝ }
+    requires { ⌜ t .cell < room ⌝ }
     ensures { λ r. ⌜ Resolved (now (program .entry)) (now (types .entry)) (now (binders .entry)) (now (outer .entry)) t r ⌝ }
 {
     let entry = t.entry;
     let cell = t.cell;
-    let kind = kind_of(program, types, entry);
+    let at = field(types, entry);
+    let kind = views::kind(program, at);
     if kind < 4 {
         return t;
     }
-    let k = variable_of(program, types, entry);
+    let k = views::variable(program, at);
     let e = octets::wide_index(enclosing(outer, cell, k));
     Scoped {
         entry: binders[e],
@@ -103,130 +142,163 @@ fn resolve(program: &[u8], types: &[u16], binders: &[u16], outer: &[u16], t: Sco
     }
 }
 
-// Is the value of the type?
-fn typed(
+// An entry under a cell, at a place of two tables.
+fn put(entries: &mut [u16; ROOM], cells: &mut [u16; ROOM], n: usize, entry: u16, cell: u16)
+    requires { ⌜ n < room ⌝ }
+    ensures entries { λ _. ⌜ now (entries .exit) ≡ set (now (entries .entry)) n entry ⌝ }
+    ensures cells { λ _. ⌜ now (cells .exit) ≡ set (now (cells .entry)) n cell ⌝ }
+{
+    entries[n] = entry;
+    cells[n] = cell;
+}
+
+// One byte of a value: the type that is pending last, with `n` before it, is taken, and those of the parts are pending instead.
+fn advance(
     program: &[u8],
     types: &[u16],
-    binders: &mut [u16],
-    outer: &mut [u16],
+    binders: &mut [u16; ROOM],
+    outer: &mut [u16; ROOM],
+    entries: &mut [u16; ROOM],
+    cells: &mut [u16; ROOM],
     top: u16,
-    t: Scoped,
-    s: &[u8],
-) -> bool
-    requires { ⌜ Ready (now program) (now types) (now binders) (now outer) (now s) top t ⌝ }
-    ensures { λ r. ⌜ Told (now (program .entry)) (now (types .entry)) (now (binders .entry)) (now (outer .entry)) (now (binders .exit)) (now (outer .exit)) (now (s .entry)) top t r ⌝ }
+    n: usize,
+    b: u8,
+) -> Turn
+    requires { ⌜ Stack (now program) (now types) (now binders) (now outer) (now entries) (now cells) top (suc n) ⌝ }
+    requires { ⌜ (top + 1 < room) × (n + 1 < room) ⌝ }
+    ensures { λ r. ⌜ Turned (now (program .entry)) (now (types .entry)) (now (binders .entry)) (now (outer .entry)) (now (entries .entry)) (now (cells .entry)) (now (binders .exit)) (now (outer .exit)) (now (entries .exit)) (now (cells .exit)) top n b r ⌝ }
 {
+    let t = Scoped {
+        entry: entries[n],
+        cell: cells[n],
+    };
     let u = resolve(program, types, binders, outer, t);
     let entry = u.entry;
-    let kind = kind_of(program, types, entry);
-    match kind {
-        0 => s[0] == 0,
-        1 => pair(program, types, binders, outer, top, u, s),
-        2 => sum(program, types, binders, outer, top, u, s),
-        _ => roll(program, types, binders, outer, top, u, s),
+    let cell = u.cell;
+    let parts = parts_of(program, field(types, entry), b);
+    match parts {
+        Parts::Nothing => Turn::Pending(top, n),
+        Parts::One(i) => {
+            put(entries, cells, n, i, cell);
+            Turn::Pending(top, n + 1)
+        }
+        Parts::Two(i, j) => {
+            put(entries, cells, n, j, cell);
+            put(entries, cells, n + 1, i, cell);
+            Turn::Pending(top, n + 2)
+        }
+        Parts::Body(i) => {
+            let next = top + 1;
+            put(binders, outer, octets::wide_index(next), entry, cell);
+            put(entries, cells, n, i, next);
+            Turn::Pending(next, n + 1)
+        }
+        Parts::Wrong => Turn::Wrong,
     }
 }
 
-// By a product.
-fn pair(
+// The value that starts at `at`, of the type that is pending alone: where it ends. One over the limit is not read to its end.
+fn walk(
     program: &[u8],
     types: &[u16],
-    binders: &mut [u16],
-    outer: &mut [u16],
-    top: u16,
-    t: Scoped,
+    binders: &mut [u16; ROOM],
+    outer: &mut [u16; ROOM],
+    entries: &mut [u16; ROOM],
+    cells: &mut [u16; ROOM],
     s: &[u8],
-) -> bool
-    requires { ⌜ Ready (now program) (now types) (now binders) (now outer) (now s) top t ⌝ }
-    requires { ⌜ kindAt (now program) (getD (now types) (t .entry) 0) ≡ 1 ⌝ }
-    ensures { λ r. ⌜ Told (now (program .entry)) (now (types .entry)) (now (binders .entry)) (now (outer .entry)) (now (binders .exit)) (now (outer .exit)) (now (s .entry)) top t r ⌝ }
+    at: usize,
+) -> Step
+    requires { ⌜ Stack (now program) (now types) (now binders) (now outer) (now entries) (now cells) 0 1 ⌝ }
+    ensures { λ r. ⌜ r ≡ nextOf at (firstOf (drop at (now (s .entry)))) (typeUnder (entriesOf (now (program .entry)) (now (types .entry))) (now (binders .entry)) (now (outer .entry)) (getD (now (cells .entry)) 0 0) (getD (now (entries .entry)) 0 0)) ⌝ }
+{
+    let mut top: u16 = 0;
+    let mut n: usize = 1;
+    let mut i = at;
+    while 0 < n {
+        if s.len() <= i {
+            return Step::Other;
+        }
+        if scan::MAX_VALUE_BYTES <= i - at {
+            return Step::Other;
+        }
+        let turned = advance(
+            program,
+            types,
+            binders,
+            outer,
+            entries,
+            cells,
+            top,
+            n - 1,
+            s[i],
+        );
+        let Turn::Pending(t, k) = turned else {
+            return Step::Other;
+        };
+        top = t;
+        n = k;
+        i += 1;
+    }
+    Step::Next(i)
+}
+
+// Is the value at a place of bytes, as ancillae are, of the type that an entry is? Of the type, it says where the next value starts.
+pub fn has_type_at(program: &[u8], types: &[u16], entry: u16, s: &[u8], at: usize) -> Step
+    requires { ⌜ Table (now program) (now types) ⌝ }
+    requires { ⌜ (entry < length (now types)) × (plain (entriesOf (now program) (now types)) entry ≡ true) ⌝ }
+    ensures { λ r. ⌜ r ≡ nextOf at (firstOf (drop at (now (s .entry)))) (typeOf (entriesOf (now (program .entry)) (now (types .entry))) entry) ⌝ }
+{
+    let mut binders = [0u16; ROOM];
+    let mut outer = [0u16; ROOM];
+    let mut entries = [0u16; ROOM];
+    let mut cells = [0u16; ROOM];
+    put(&mut entries, &mut cells, 0, entry, 0);
+    walk(
+        program,
+        types,
+        &mut binders,
+        &mut outer,
+        &mut entries,
+        &mut cells,
+        s,
+        at,
+    )
+}
+
+// Is the value that the bytes are of the type that an entry is?
+fn is_of(program: &[u8], types: &[u16], entry: u16, s: &[u8]) -> bool
+    requires { ⌜ Table (now program) (now types) ⌝ }
+    requires { ⌜ (entry < length (now types)) × (plain (entriesOf (now program) (now types)) entry ≡ true) ⌝ }
+    requires { ⌜ isValue (now s) ≡ true ⌝ }
+    ensures { λ r. ⌜ r ≡ valueHas (value (now (s .entry))) (typeOf (entriesOf (now (program .entry)) (now (types .entry))) entry) ⌝ }
+{
+    match has_type_at(program, types, entry, s, 0) {
+        Step::Next(_) => true,
+        Step::Other => false,
+    }
+}
+
+// The same by a product, whose components are tested each in its part of the bytes.
+fn are_of(program: &[u8], types: &[u16], entry: u16, s: &[u8]) -> bool
+    requires { ⌜ Table (now program) (now types) ⌝ }
+    requires { ⌜ (entry < length (now types)) × (plain (entriesOf (now program) (now types)) entry ≡ true) ⌝ }
+    requires { ⌜ isValue (now s) ≡ true ⌝ }
+    requires { ⌜ kindAt (now program) (getD (now types) entry 0) ≡ 1 ⌝ }
+    ensures { λ r. ⌜ r ≡ valueHas (value (now (s .entry))) (typeOf (entriesOf (now (program .entry)) (now (types .entry))) entry) ⌝ }
 {
     if s[0] != 3 {
         return false;
     }
-    let entry = t.entry;
-    let cell = t.cell;
-    let a = Scoped {
-        entry: first_of(program, types, entry),
-        cell,
-    };
-    let b = Scoped {
-        entry: second_of(program, types, entry),
-        cell,
-    };
+    let at = field(types, entry);
+    let a = views::first(program, at);
+    let b = views::second(program, at);
     let left = scan::component(s, false);
-    let ok = typed(program, types, binders, outer, top, a, left);
+    let ok = is_of(program, types, a, left);
     if ok {
         let right = scan::component(s, true);
-        return typed(program, types, binders, outer, top, b, right);
+        return is_of(program, types, b, right);
     }
     false
-}
-
-// By a sum.
-fn sum(
-    program: &[u8],
-    types: &[u16],
-    binders: &mut [u16],
-    outer: &mut [u16],
-    top: u16,
-    t: Scoped,
-    s: &[u8],
-) -> bool
-    requires { ⌜ Ready (now program) (now types) (now binders) (now outer) (now s) top t ⌝ }
-    requires { ⌜ kindAt (now program) (getD (now types) (t .entry) 0) ≡ 2 ⌝ }
-    ensures { λ r. ⌜ Told (now (program .entry)) (now (types .entry)) (now (binders .entry)) (now (outer .entry)) (now (binders .exit)) (now (outer .exit)) (now (s .entry)) top t r ⌝ }
-{
-    let entry = t.entry;
-    let cell = t.cell;
-    let tag = s[0];
-    let rest = &s[1..];
-    if tag == 1 {
-        let a = Scoped {
-            entry: first_of(program, types, entry),
-            cell,
-        };
-        return typed(program, types, binders, outer, top, a, rest);
-    }
-    if tag == 2 {
-        let b = Scoped {
-            entry: second_of(program, types, entry),
-            cell,
-        };
-        return typed(program, types, binders, outer, top, b, rest);
-    }
-    false
-}
-
-// By a recursive type, which then encloses its body.
-fn roll(
-    program: &[u8],
-    types: &[u16],
-    binders: &mut [u16],
-    outer: &mut [u16],
-    top: u16,
-    t: Scoped,
-    s: &[u8],
-) -> bool
-    requires { ⌜ Ready (now program) (now types) (now binders) (now outer) (now s) top t ⌝ }
-    requires { ⌜ kindAt (now program) (getD (now types) (t .entry) 0) ≡ 3 ⌝ }
-    ensures { λ r. ⌜ Told (now (program .entry)) (now (types .entry)) (now (binders .entry)) (now (outer .entry)) (now (binders .exit)) (now (outer .exit)) (now (s .entry)) top t r ⌝ }
-{
-    if s[0] != 4 {
-        return false;
-    }
-    let entry = t.entry;
-    let cell = t.cell;
-    let next = top + 1;
-    let i = octets::wide_index(next);
-    binders[i] = entry;
-    outer[i] = cell;
-    let body = Scoped {
-        entry: first_of(program, types, entry),
-        cell: next,
-    };
-    let rest = &s[1..];
-    typed(program, types, binders, outer, next, body, rest)
 }
 
 // Is the value that the bytes are of the type that an entry is?
@@ -236,26 +308,9 @@ pub fn has_type(program: &[u8], types: &[u16], entry: u16, s: &[u8]) -> bool
     requires { ⌜ isValue (now s) ≡ true ⌝ }
     ensures { λ r. ⌜ r ≡ valueHas (value (now (s .entry))) (typeOf (entriesOf (now (program .entry)) (now (types .entry))) entry) ⌝ }
 {
-    let mut binders = [0u16; scan::MAX_VALUE_BYTES];
-    let mut outer = [0u16; scan::MAX_VALUE_BYTES];
-    let t = Scoped { entry, cell: 0 };
-    typed(program, types, &mut binders, &mut outer, 0, t, s)
-}
-
-// The same of the value at a place of more bytes, as ancillae are: of the type, it says where the next value starts.
-pub fn has_type_at(program: &[u8], types: &[u16], entry: u16, s: &[u8], at: usize) -> Step
-    requires { ⌜ Table (now program) (now types) ⌝ }
-    requires { ⌜ (entry < length (now types)) × (plain (entriesOf (now program) (now types)) entry ≡ true) ⌝ }
-    ensures { λ r. ⌜ r ≡ nextOf at (firstOf (drop at (now (s .entry)))) (typeOf (entriesOf (now (program .entry)) (now (types .entry))) entry) ⌝ }
-{
-    let end = scan::value_end(s, at);
-    let scan::End::At(e) = end else {
-        return Step::Other;
-    };
-    let v = &s[at..e];
-    let ok = has_type(program, types, entry, v);
-    if ok {
-        return Step::Next(e);
+    let kind = views::kind(program, field(types, entry));
+    if kind == 1 {
+        return are_of(program, types, entry, s);
     }
-    Step::Other
+    is_of(program, types, entry, s)
 }

@@ -1,27 +1,26 @@
--- Values loaded as nodes: the unit, the ancillae one after another, then the value.
+-- Values loaded as nodes: the unit, the ancillae, whose nodes are then put into slots one after another, and the value.
 use Prim.Native.Nat.{ℕ, zero, suc, _+_, _-_, _≤_, _<_, _^_}
 use native.Mathlib.Omega.{arith}
 use native.Mathlib.Decide.{decLt}
 use native.Mathlib.Numerals.{add-one}
 use mathlib.Core.Path.{_≡_, refl, sym, ap, ap₂, subst, _∙_}
-use mathlib.Core.List.{List, [], _∷_, _++_}
-use lib.ListN.{length, getD, set, drop, length-set, length-drop, List·getD-append}
+use mathlib.Core.List.{List, [], _∷_, _++_, append-nil}
+use lib.ListN.{length, getD, set, drop, length-set, List·getD-append}
 use lib.Seq.{getD-set-same, getD-set-other, getD-append-seam}
 use package.Rattle.rules.specs.Limits.{fits, maxValueBytes}
-use package.Rattle.rules.specs.Val.{Val, unit, size}
+use package.Rattle.rules.specs.Val.{Val, unit, size, encode}
 use package.Rattle.rules.proofs.Basics.{given}
 use package.Rattle.rules.proofs.Val.{length-encode}
 use package.Rattle.rules.proofs.Typing.Tests.{leb-sound}
-use package.Rattle.calls.specs.Values.{got, read, value, encodeAll}
-use package.Rattle.calls.proofs.Values.{size-positive, value-sound, got-value, malformed≢got}
-use package.Rattle.values.specs.Nodes.{Agree, valueAt, Heap, Grown}
-use package.Rattle.values.specs.Loads.{LoadReady, LoadDone}
-use package.Rattle.values.specs.declared.nodes.Placed.{Placed}
-use package.Rattle.values.specs.declared.nodes.Loaded.the-variants.{Node, Malformed}
+use package.Rattle.calls.specs.Values.{encodeAll}
+use package.Rattle.calls.proofs.Values.{read-sound, size-positive, value-sound, ancillae-sound}
+use package.Rattle.values.specs.Nodes.{Agree, lengthAt, Room, valueAt, Heap, Grown}
+use package.Rattle.values.specs.Loads.{LoadReady, LoadedFrom}
+use package.Rattle.values.proofs.Places.{agree-refl}
 use package.Rattle.values.proofs.Heaps.{value-kept}
-use package.Rattle.reading.specs.Ends.{firstOf, valueIn, valuesIn}
-use package.Rattle.reading.proofs.Whole.{whole-of, first-whole}
-use package.Rattle.reading.proofs.Walks.{Begins, walk-start, walk-done, walk-more, walk-first, walk-next}
+use package.Rattle.values.proofs.Loading.{loaded-value}
+use package.Rattle.reading.specs.Ends.{valueIn, valuesIn}
+use package.Rattle.reading.proofs.Walks.{Begins, walk-start, walk-done, walk-more, walk-first, walk-inside, walk-next}
 use package.Rattle.scopes.specs.Slots.{slotCount}
 use package.Rattle.forward.specs.Ready.{Graph, valuesAt}
 use package.Rattle.running.specs.declared.begin.Start.{Start}
@@ -30,10 +29,6 @@ use package.Rattle.running.specs.Begun.{startNodes, Enough, Beginning, A
 -- every node of a heap that is right has a value within the limit
 graph-of : {heap : List ℕ} {top : ℕ} → Heap heap top → Graph heap top
 graph-of h = record { right = h; short = λ n l. h .node n l .fit }
-
--- what is read at a place, as loading and reading say it
-read-at : (xs : List ℕ) (at : ℕ) → read (length xs - at) (drop at xs) ≡ firstOf (drop at xs)
-read-at xs at = ap (λ n. read n (drop at xs)) (sym (length-drop at xs))
 
 ----------------------------------------------------------------
 -- One value more
@@ -53,7 +48,8 @@ module _ {heap heap′ slots : List ℕ} {vs : List Val} {k top : ℕ} (h : Held
     right = right;
     unit-there = (omega (arith, h .unit-there .0), sym (value-kept heap heap′ top (h .right) agree 0 (h .unit-there .0)) ∙ h .unit-there .1);
     held = λ i l. at-slot (λ i n. n < top′) (λ i l. omega (arith, h .held i l)) low i l;
-    values = λ i l. at-slot (λ i n. valueAt heap′ n ≡ getD vs i unit) (λ i l. sym (value-kept heap heap′ top (h .right) agree _ (h .held i l)) ∙ h .values i l) v i l;
+    values = λ i l. at-slot (λ i n. valueAt heap′ n ≡ getD vs i unit)
+        (λ i l. sym (value-kept heap heap′ top (h .right) agree _ (h .held i l)) ∙ h .values i l) v i l;
   }
     where
       at-slot : (P : ℕ → ℕ → Type 0) → ((i : ℕ) → i < k → P i (getD slots i 0)) → P k node → (i : ℕ) → i < suc k → P i (getD (set slots k node) i 0)
@@ -66,89 +62,130 @@ module _ {heap heap′ slots : List ℕ} {vs : List Val} {k top : ℕ} (h : Held
 ----------------------------------------------------------------
 -- Ancillae, one after another
 
--- `k` ancillae are loaded, the next begins at `at`
-pub record Loading (heap₀ slots₀ heap slots anc : List ℕ) (k at top : ℕ) : Type 0 where
-  pub enough : Enough heap₀ slots₀ anc
-  pub begins : Begins anc (valuesIn anc) k at
-  pub counted : k ≤ length (valuesIn anc)
-  pub inside : at ≤ length anc
-  pub place : top ≡ 1 + at
-  pub nodes : Held heap slots (valuesIn anc) k top
-  pub heap-length : length heap₀ ≡ length heap
-  pub slots-length : length slots₀ ≡ length slots
+module _ {heap slots anc : List ℕ} (E : Enough heap slots anc) where
+  ancillae-short : length anc ≤ maxValueBytes
+  ancillae-short = walk-start anc (E .read) .short
 
-pub loading-start : {heap heap′ slots anc : List ℕ} → Enough heap slots anc → Grown heap heap′ 0 unit → Loading heap′ slots heap′ slots anc 0 0 1
-loading-start {anc = anc} E g = record {
-  enough = record { read = E .read; few = E .few; slots-there = E .slots-there; nodes-there = omega (arith, E .nodes-there, g .agree .lengths) };
-  begins = walk-start anc (E .read);
-  counted = omega arith;
-  inside = omega arith;
-  place = omega arith;
-  nodes = record { right = g .right; unit-there = (omega arith, g .value); held = λ i l. absurd (omega arith); values = λ i l. absurd (omega arith) };
-  heap-length = refl;
-  slots-length = refl;
-}
-
-module _ {heap₀ slots₀ heap slots anc : List ℕ} {k at top : ℕ} (L : Loading heap₀ slots₀ heap slots anc k at top) where
-  pub loading-done : length anc ≤ at → {before : List ℕ} → length before ≡ length heap₀ → AncillaeLoaded before heap slots₀ slots anc (record { count = k; top = top })
-  loading-done h e = record {
-    graph = graph-of (L .nodes .right);
-    nodes = omega (arith, L .place, L .inside);
-    count = omega (arith, walk-done (L .begins) h, L .counted);
-    unit-there = L .nodes .unit-there .1;
-    held = L .nodes .held;
-    values = L .nodes .values;
-    heap-length = e ∙ L .heap-length;
-    slots-length = L .slots-length;
-  }
-
-  module _ (more : at < length anc) where
-    pub loading-ready : LoadReady heap top anc at
+  module _ {heap₁ : List ℕ} (g : Grown heap heap₁ 0 unit) where
+    pub ancillae-ready : LoadReady heap₁ 1 anc
     unfolding startNodes maxValueBytes
-    loading-ready = record {
-      right = L .nodes .right;
-      inside = L .inside;
-      short = L .begins .short;
-      room = omega (arith, L .place, L .inside, L .begins .short, L .enough .nodes-there, L .heap-length);
-      small = omega (arith, L .place, L .inside, L .begins .short);
+    ancillae-ready = record {
+      right = g .right;
+      values = valuesIn anc;
+      whole = ancillae-sound anc (E .read) .0;
+      short = ancillae-short;
+      room = omega (arith, ancillae-short, E .nodes-there, g .agree .lengths);
+      small = omega (arith, ancillae-short);
     }
 
+-- `k` ancillae have their slots; the next one is at `node`, where 0 stands for none
+pub record Named (heap slots₀ slots anc : List ℕ) (k node top : ℕ) : Type 0 where
+  pub enough : Enough heap slots₀ anc
+  pub before : List ℕ
+  pub loaded : LoadedFrom before heap 1 anc 0 top
+  pub inside : node ≤ length anc
+  pub begins : Begins anc (valuesIn anc) k (length anc - node)
+  pub counted : k ≤ length (valuesIn anc)
+  pub nodes : Held heap slots (valuesIn anc) k top
+  pub slots-length : length slots₀ ≡ length slots
+
+module _ {heap slots anc heap₁ heap₂ : List ℕ} {top : ℕ} (E : Enough heap slots anc) (g : Grown heap heap₁ 0 unit)
+    (L : LoadedFrom heap₁ heap₂ 1 anc 0 top) where
+  pub named-start : Named heap₂ slots slots anc 0 (top - 1) top
+  named-start = record {
+    enough = record {
+      read = E .read;
+      few = E .few;
+      slots-there = E .slots-there;
+      nodes-there = omega (arith, E .nodes-there, g .agree .lengths, L .agree .lengths);
+    };
+    before = heap₁;
+    loaded = L;
+    inside = omega (arith, L .nodes);
+    begins = let z : 0 ≡ length anc - (top - 1) = omega (arith, L .nodes) in
+        subst (λ (at : ℕ). Begins anc (valuesIn anc) 0 at) z (walk-start anc (E .read));
+    counted = omega arith;
+    nodes = record {
+      right = L .right;
+      unit-there = (omega (arith, L .nodes), sym (value-kept heap₁ heap₂ 1 (g .right) (L .agree) 0 (omega arith)) ∙ g .value);
+      held = λ i l. absurd (omega arith);
+      values = λ i l. absurd (omega arith);
+    };
+    slots-length = refl;
+  }
+
+module _ {heap slots₀ slots anc : List ℕ} {k node top : ℕ} (N : Named heap slots₀ slots anc k node top) where
+  pub named-done : node ≤ 0 → {before : List ℕ} → length before ≡ length heap → AncillaeLoaded before heap slots₀ slots anc (record { count = k; top = top })
+  named-done h e = record {
+    graph = graph-of (N .nodes .right);
+    nodes = omega (arith, N .loaded .nodes);
+    count = omega (arith, walk-done (N .begins) (omega arith), N .counted);
+    unit-there = N .nodes .unit-there .1;
+    held = N .nodes .held;
+    values = N .nodes .values;
+    heap-length = e;
+    slots-length = N .slots-length;
+  }
+
+  module _ (more : 0 < node) where
+    at : ℕ
+    at = length anc - node
+
+    at-inside : at < length anc
+    unfolding at
+    at-inside = omega (arith, N .inside)
+
     there : k < length (valuesIn anc)
-    there = walk-more (L .begins) more
+    unfolding at
+    there = walk-more (N .begins) at-inside
 
-    pub loading-bind : k < slotCount
-    loading-bind = omega (arith, there, L .enough .few)
+    abbrev here : Val
+    here = getD (valuesIn anc) k unit
 
-    slot-there : k < length slots
-    slot-there = omega (arith, there, L .enough .few, L .enough .slots-there, L .slots-length)
+    is : valueAt heap node ≡ here
+    unfolding at
+    is =
+        let z : 1 + (length anc - (length anc - node + 1)) ≡ node = omega (arith, N .inside) in
+        ap (valueAt heap) (sym z)
+        ∙ loaded-value (N .loaded) at here (encodeAll (drop (suc k) (valuesIn anc))) at-inside (read-sound _ _ (walk-first (N .begins) there))
 
-    reads : read (length anc - at) (drop at anc) ≡ got (getD (valuesIn anc) k unit) (encodeAll (drop (suc k) (valuesIn anc)))
-    reads = read-at anc at ∙ walk-first (L .begins) there
+    pub named-low : node < top
+    named-low = omega (arith, N .loaded .nodes, N .inside)
 
-    pub loading-bad : {heap′ : List ℕ} → LoadDone heap heap′ top anc at Malformed → ⊥
-    loading-bad d = malformed≢got (sym (d .gave) ∙ reads)
+    pub named-room : Room heap (node + 1)
+    named-room = omega (arith, N .loaded .right .held, named-low)
 
-    pub loading-next : {heap′ slots′ : List ℕ} {placed : Placed} → LoadDone heap heap′ top anc at (Node placed) → slots′ ≡ set slots k (placed .node)
-        → Loading heap₀ slots₀ heap′ slots′ anc (k + 1) (placed .next) (placed .top)
-    loading-next {heap′} {placed = placed} d s = rw (s, add-one k) (record {
-      enough = L .enough;
-      begins = walk-next (L .begins) there (d .placed .bytes ∙ ap (λ v. at + size v) is);
+    -- so many nodes has the ancilla, and no more than there are
+    long : lengthAt heap node ≡ size here
+    long = N .loaded .right .node node named-low .len ∙ ap size is
+
+    pub named-length : lengthAt heap node ≤ node
+    unfolding at
+    named-length = omega (arith, long, walk-inside (N .begins) there, N .inside)
+
+    pub named-less : (n : ℕ) → n ≡ lengthAt heap node → node - n < node
+    named-less n e = omega (arith, long, size-positive here)
+
+    pub named-bind : k < slotCount
+    named-bind = omega (arith, there, N .enough .few)
+
+    pub named-small : k + 1 < 2 ^ 16
+    named-small = omega (arith, there, N .enough .few)
+
+    pub named-next : {n : ℕ} {slots′ : List ℕ} → slots′ ≡ set slots k node → n ≡ lengthAt heap node
+        → Named heap slots₀ slots′ anc (k + 1) (node - n) top
+    unfolding at
+    named-next {n} s e = rw (s, add-one k) (record {
+      enough = N .enough;
+      before = N .before;
+      loaded = N .loaded;
+      inside = omega (arith, N .inside);
+      begins = walk-next (N .begins) there (omega (arith, e, long, named-length, N .inside));
       counted = omega (arith, there);
-      inside = d .placed .inside;
-      place = omega (arith, d .placed .bytes, d .placed .nodes, L .place);
-      nodes = held-more (L .nodes) (d .agree) slot-there (d .placed .right) (omega (arith, d .placed .nodes)) (d .placed .node) is;
-      heap-length = L .heap-length ∙ d .agree .lengths;
-      slots-length = L .slots-length ∙ sym (length-set slots k (placed .node));
+      nodes = held-more (N .nodes) (agree-refl top heap) (omega (arith, there, N .enough .few, N .enough .slots-there, N .slots-length)) (N .nodes .right)
+          (omega arith) named-low is;
+      slots-length = N .slots-length ∙ sym (length-set slots k node);
     })
-      where
-        is : valueAt heap′ (placed .node) ≡ getD (valuesIn anc) k unit
-        is = got-value (sym (d .gave) ∙ reads)
-
-    pub loading-less : {heap′ : List ℕ} {placed : Placed} → LoadDone heap heap′ top anc at (Node placed) → (at < placed .next) × (placed .next ≤ length anc)
-    loading-less {heap′} {placed} d = (omega (arith, d .placed .bytes, size-positive (valueAt heap′ (placed .node))), d .placed .inside)
-
-    pub loading-small : k + 1 < 2 ^ 16
-    loading-small = omega (arith, there, L .enough .few)
 
 ----------------------------------------------------------------
 -- The value behind them
@@ -159,7 +196,8 @@ unfolding valuesAt
 values-are heap slots [] from e = refl
 values-are heap slots (v ∷ vs) from e =
     ap₂ _∷_ (ap (λ i. valueAt heap (getD slots i 0)) (let z : from ≡ from + 0 = omega arith in z) ∙ e 0 (omega arith))
-    (values-are heap slots vs (from + 1) λ i l. ap (λ i. valueAt heap (getD slots i 0)) (let z : from + 1 + i ≡ from + suc i = omega arith in z) ∙ e (suc i) (omega arith))
+    (values-are heap slots vs (from + 1) λ i l.
+    ap (λ i. valueAt heap (getD slots i 0)) (let z : from + 1 + i ≡ from + suc i = omega arith in z) ∙ e (suc i) (omega arith))
 
 -- the values are those of slots that hold the same nodes
 pub values-same : (heap slots slots′ : List ℕ) (from n : ℕ) → ((j : ℕ) → from ≤ j → j < from + n → getD slots j 0 ≡ getD slots′ j 0)
@@ -173,30 +211,26 @@ module _ {heap slots anc bytes : List ℕ} (B : Beginning heap slots anc bytes) 
   -- the value's bytes are within the limit
   value-short : length bytes ≤ maxValueBytes
   unfolding fits
-  value-short = given (value-sound bytes (B .read)) λ (e, f). omega (arith, ap length e, length-encode (valueIn bytes), leb-sound (size (valueIn bytes)) maxValueBytes f)
+  value-short = given (value-sound bytes (B .read)) λ (e, f).
+      omega (arith, ap length e, length-encode (valueIn bytes), leb-sound (size (valueIn bytes)) maxValueBytes f)
 
-  ancillae-short : length anc ≤ maxValueBytes
-  ancillae-short = walk-start anc (B .for-ancillae .read) .short
+  few-bytes : length anc ≤ maxValueBytes
+  few-bytes = ancillae-short (B .for-ancillae)
 
-  value-reads : read (length bytes - 0) (drop 0 bytes) ≡ got (valueIn bytes) []
-  value-reads = read-at bytes 0 ∙ given (value-sound bytes (B .read)) λ (e, f). first-whole (whole-of e f)
+  value-bytes : bytes ≡ encode (valueIn bytes) ++ []
+  value-bytes = value-sound bytes (B .read) .0 ∙ sym (append-nil (encode (valueIn bytes)))
 
   module _ {heap₁ slots₁ : List ℕ} {start : Start} (A : AncillaeLoaded heap heap₁ slots slots₁ anc start) where
-    pub begun-ready : LoadReady heap₁ (start .top) bytes 0
-    unfolding startNodes maxValueBytes
+    pub begun-ready : LoadReady heap₁ (start .top) bytes
+    unfolding startNodes maxValueBytes encodeAll
     begun-ready = record {
       right = A .graph .right;
-      inside = omega arith;
+      values = valueIn bytes ∷ [];
+      whole = value-bytes;
       short = value-short;
-      room = omega (arith, A .nodes, value-short, ancillae-short, B .for-ancillae .nodes-there, A .heap-length);
-      small = omega (arith, A .nodes, value-short, ancillae-short);
+      room = omega (arith, A .nodes, value-short, few-bytes, B .for-ancillae .nodes-there, A .heap-length);
+      small = omega (arith, A .nodes, value-short, few-bytes);
     }
-
-    pub begun-bad : {heap′ : List ℕ} → LoadDone heap₁ heap′ (start .top) bytes 0 Malformed → ⊥
-    begun-bad d = malformed≢got (sym (d .gave) ∙ value-reads)
-
-    pub begun-bind : start .count < slotCount
-    begun-bind = omega (arith, A .count, B .for-ancillae .few)
 
     last-there : start .count < length slots₁
     last-there = omega (arith, A .count, B .for-ancillae .few, B .for-ancillae .slots-there, A .slots-length)
@@ -219,21 +253,26 @@ module _ {heap slots anc bytes : List ℕ} (B : Beginning heap slots anc bytes) 
       values = λ i l. A .values i l ∙ sym (all-before i l);
     }
 
-    module _ {heap′ : List ℕ} {placed : Placed} (d : LoadDone heap₁ heap′ (start .top) bytes 0 (Node placed)) where
+    module _ {heap′ : List ℕ} {top : ℕ} (d : LoadedFrom heap₁ heap′ (start .top) bytes 0 top) where
+      some : 0 < length bytes
+      some = omega (arith, ap length (value-sound bytes (B .read) .0), length-encode (valueIn bytes), size-positive (valueIn bytes))
+
       abbrev slots′ : List ℕ
-      slots′ = set slots₁ (start .count) (placed .node)
+      slots′ = set slots₁ (start .count) (top - 1)
 
-      is : valueAt heap′ (placed .node) ≡ valueIn bytes
-      is = got-value (sym (d .gave) ∙ value-reads)
+      is-value : valueAt heap′ (top - 1) ≡ valueIn bytes
+      is-value =
+          let z : top - 1 ≡ start .top + (length bytes - (0 + 1)) = omega (arith, d .nodes, some) in
+          ap (valueAt heap′) z ∙ loaded-value d 0 (valueIn bytes) [] some value-bytes
 
-      now : Held heap′ slots′ all (suc (start .count)) (placed .top)
-      now = held-more earlier (d .agree) last-there (d .placed .right) (omega (arith, d .placed .nodes)) (d .placed .node) (is ∙ sym all-last)
+      now : Held heap′ slots′ all (suc (start .count)) top
+      now = held-more earlier (d .agree) last-there (d .right) (omega (arith, d .nodes)) (omega (arith, d .nodes, some)) (is-value ∙ sym all-last)
 
-      begun-set : Begun heap heap′ slots (set slots₁ (start .count) (placed .node)) anc bytes (record { count = start .count; top = placed .top })
+      begun-set : Begun heap heap′ slots slots′ anc bytes (record { count = start .count; top = top })
       unfolding startNodes maxValueBytes
       begun-set = record {
         graph = graph-of (now .right);
-        few = omega (arith, A .nodes, ancillae-short, d .placed .nodes, d .placed .bytes, d .placed .inside, value-short);
+        few = omega (arith, A .nodes, few-bytes, d .nodes, value-short);
         count = A .count;
         unit-there = now .unit-there;
         held = λ i l. now .held i (omega arith);
@@ -242,9 +281,9 @@ module _ {heap slots anc bytes : List ℕ} (B : Beginning heap slots anc bytes) 
             ∙ now .values i (omega (arith, A .count)) ∙ all-before i (omega (arith, A .count));
         last = now .values (start .count) (omega arith) ∙ all-last;
         heap-length = A .heap-length ∙ d .agree .lengths;
-        slots-length = A .slots-length ∙ sym (length-set slots₁ (start .count) (placed .node));
+        slots-length = A .slots-length ∙ sym (length-set slots₁ (start .count) (top - 1));
       }
 
-      pub begun : {slots₂ : List ℕ} → slots₂ ≡ set slots₁ (start .count) (placed .node)
-          → Begun heap heap′ slots slots₂ anc bytes (record { count = start .count; top = placed .top })
+      pub begun : {slots₂ : List ℕ} → slots₂ ≡ set slots₁ (start .count) (top - 1)
+          → Begun heap heap′ slots slots₂ anc bytes (record { count = start .count; top = top })
       begun s = rw s begun-set

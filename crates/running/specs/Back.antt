@@ -8,7 +8,7 @@ use package.Rattle.rules.specs.Val.{Val}
 use package.Rattle.rules.specs.Run.{Res, stuck}
 use package.Rattle.rules.specs.Machine.{runBackward}
 use package.Rattle.calls.specs.Runs.{returns}
-use package.Rattle.forward.specs.Outcomes.{Machine}
+use package.Rattle.scopes.specs.Slots.{Machine}
 use package.Rattle.forward.specs.Ready.{Graph}
 use package.Rattle.backward.specs.Outcomes.{Status, Done}
 use package.Rattle.backward.specs.Calls.{returned}

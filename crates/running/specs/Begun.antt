@@ -7,6 +7,7 @@ use lib.ListN.{length, getD}
 use package.Rattle.rules.specs.Val.{unit}
 use package.Rattle.calls.specs.Values.{value, ancillae}
 use package.Rattle.values.specs.Nodes.{nodeBytes, valueAt}
+use package.Rattle.scopes.specs.Slots.{slotsOf}
 use package.Rattle.forward.specs.Ready.{Graph, valuesAt}
 use package.Rattle.running.specs.declared.begin.Start.{Start}
 use package.Rattle.reading.specs.Ends.{valueIn, valuesIn}
@@ -49,3 +50,14 @@ pub record Begun (heap heap′ slots slots′ anc bytes : List ℕ) (r : Start) 
   pub last : valueAt heap′ (getD slots′ (r .count) 0) ≡ valueIn bytes
   pub heap-length : length heap ≡ length heap′
   pub slots-length : length slots ≡ length slots′
+
+----------------------------------------------------------------
+-- In code: the slots of the numbers that a run is lent
+
+pub record AncillaeIn (heap heap′ st st′ anc : List ℕ) (r : Start) : Type 0 where
+  pub lengths : length st′ ≡ length st
+  pub loaded : AncillaeLoaded heap heap′ (slotsOf st) (slotsOf st′) anc r
+
+pub record BegunIn (heap heap′ st st′ anc bytes : List ℕ) (r : Start) : Type 0 where
+  pub lengths : length st′ ≡ length st
+  pub begun : Begun heap heap′ (slotsOf st) (slotsOf st′) anc bytes r

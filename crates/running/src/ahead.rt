@@ -2,11 +2,12 @@
 use crate::begin;
 use crate::ended;
 use crate::ended::Ended;
+use decoded::decode;
+use decoded::rows;
+use decoded::rows::CODE;
 use forward::outcomes::Status;
-use program::tables;
-use program::tables::FUNCTIONS;
-use program::tables::TERMS;
-use scopes::slots::SLOTS;
+use scopes::state;
+use scopes::state::STATE;
 ghost use Rattle.forward.specs.Outcomes.{outOf};
 ghost use Rattle.running.specs.Ahead.{Runnable, Evaluated, Goes};
 
@@ -25,28 +26,17 @@ fn evaluate(
     requires { ⌜ Runnable (now p) (now terms) (now functions) (now ws) function (now ancillae) (now value) fuel ⌝ }
     ensures { λ r. ⌜ Evaluated (now (p .entry)) (now (terms .entry)) (now (functions .entry)) (now (ws .entry)) (now (ws .exit)) function (now (ancillae .entry)) (now (value .entry)) fuel (outOf r (now (m .exit))) ⌝ }
 {
-    let mut slots = [0u32; SLOTS];
-    let mut places = [0u16; TERMS];
-    tables::fill(&mut places, terms);
-    let mut bodies = [0u16; FUNCTIONS];
-    tables::fill(&mut bodies, functions);
-    let start = begin::begin(ws, &mut slots, ancillae, value);
+    let mut code = [0u16; CODE];
+    decode::decode(&mut code, p, terms, functions);
+    let mut st = [0u32; STATE];
+    let start = begin::begin(ws, &mut st, ancillae, value);
     let count = start.count;
-    *m = [start.top, octets::wide32(fuel)];
-    let body = forward::parts::body_of(p, &bodies, function);
-    forward::eval::eval(
-        p,
-        &places,
-        &bodies,
-        ws,
-        &mut slots,
-        m,
-        0,
-        count,
-        count + 1,
-        body,
-        begin::MAX_HEIGHT,
-    )
+    state::begin(&mut st, start.top, octets::wide32(fuel));
+    let body = rows::body_of(&code, function);
+    let scope = state::scope(0, count, count + 1);
+    let answer = forward::eval::eval(&code, ws, &mut st, scope, body, begin::MAX_HEIGHT);
+    *m = [state::top(&st), state::fuel(&st)];
+    answer
 }
 
 // The call's function, which was admitted, run forward on its values.

@@ -3,11 +3,12 @@ use crate::begin;
 use crate::ended;
 use crate::ended::Ended;
 use backward::start::Input;
-use program::tables;
-use program::tables::FUNCTIONS;
-use program::tables::TERMS;
-use scopes::slots::SLOTS;
-ghost use Rattle.forward.specs.Outcomes.{machineOf};
+use decoded::decode;
+use decoded::rows::CODE;
+use scopes::slots;
+use scopes::state;
+use scopes::state::STATE;
+ghost use Rattle.scopes.specs.Slots.{machineOf};
 ghost use Rattle.backward.specs.Outcomes.{statusOf};
 ghost use Rattle.running.specs.Back.{Returnable, Undone, Returns};
 
@@ -26,27 +27,16 @@ fn undo(
     requires { ⌜ Returnable (now p) (now terms) (now functions) (now ws) function (now ancillae) (now value) fuel ⌝ }
     ensures { λ r. ⌜ Undone (now (p .entry)) (now (terms .entry)) (now (functions .entry)) (now (ws .exit)) function (now (ancillae .entry)) (now (value .entry)) fuel (statusOf (r .stop)) (r .node) (machineOf (now (m .exit))) ⌝ }
 {
-    let mut slots = [0u32; SLOTS];
-    let mut places = [0u16; TERMS];
-    tables::fill(&mut places, terms);
-    let mut bodies = [0u16; FUNCTIONS];
-    tables::fill(&mut bodies, functions);
-    let start = begin::begin(ws, &mut slots, ancillae, value);
+    let mut code = [0u16; CODE];
+    decode::decode(&mut code, p, terms, functions);
+    let mut st = [0u32; STATE];
+    let start = begin::begin(ws, &mut st, ancillae, value);
     let count = start.count;
-    *m = [start.top, octets::wide32(fuel)];
-    let node = slots[count];
-    backward::start::run(
-        p,
-        &places,
-        &bodies,
-        ws,
-        &mut slots,
-        m,
-        count,
-        function,
-        node,
-        begin::MAX_HEIGHT,
-    )
+    state::begin(&mut st, start.top, octets::wide32(fuel));
+    let node = slots::at(&st, count);
+    let input = backward::start::run(&code, ws, &mut st, count, function, node, begin::MAX_HEIGHT);
+    *m = [state::top(&st), state::fuel(&st)];
+    input
 }
 
 // The call's function, which was admitted, run backward on its values.

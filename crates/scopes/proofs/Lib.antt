@@ -7,3 +7,5 @@ pub mod Scopes
 pub mod Bound
 -- from the state in code to its view
 pub mod Views
+-- the numbers that a run is lent
+pub mod Lent

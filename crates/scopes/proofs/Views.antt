@@ -16,8 +16,8 @@ use package.Rattle.uses.specs.declared.Uses.{Uses}
 use package.Rattle.rules.specs.Val.{same}
 use package.Rattle.rules.proofs.Basics.{given}
 use package.Rattle.values.specs.Nodes.{valueAt}
-use package.Rattle.scopes.specs.Slots.{unknown, slotCount, found, meaning, stateAt}
-use package.Rattle.scopes.specs.Bindings.{slotsFrom, viewOf, stateOf, Bound, Opens, Meets, Tells, Meetable, MeetsIn}
+use package.Rattle.scopes.specs.Slots.{unknown, slotCount, found, meaning, stateAt, slotsOf, Written}
+use package.Rattle.scopes.specs.Bindings.{slotsFrom, viewOf, stateOf, Bound, Opens, Meets, Tells, Meetable, MeetsIn, MeetsAt}
 use Rattle.scopes.specs.declared.bindings.Bindings.{Bindings}
 use Rattle.scopes.specs.declared.bindings.Met.{Met}
 
@@ -231,4 +231,18 @@ tells-same slots′ T same = record {
   within = T .within;
   bound = λ i l e u. T .bound i l e (same i l ∙ u);
   marked = λ i l e. sym (same i l) ∙ T .marked i l e;
+}
+
+-- The same of the numbers that a run is lent.
+
+pub at-comparing : (heap st : List ℕ) (b : Bindings) (base i node : ℕ) (agrees : Bool) → has (b .bound) i ≡ true
+    → agrees ≡ same (valueAt heap (getD (slotsOf st) (base + i) 0)) (valueAt heap node) → MeetsAt heap st st b base i node (record { agrees = agrees; state = b })
+at-comparing heap st b base i node agrees k e = record { lengths = refl; machine = refl; met = in-comparing heap (slotsOf st) b base i node agrees k e }
+
+pub at-binding : (heap st st′ : List ℕ) (b : Bindings) (base i node : ℕ) {only all : Uses} → has (b .bound) i ≡ false → Holds only (alone i) → Holds all (joined (has (b .bound)) (has only))
+    → Written st st′ (base + i) node → MeetsAt heap st st′ b base i node (record { agrees = true; state = record { bound = all } })
+at-binding heap st st′ b base i node k O H W = record {
+  lengths = W .lengths;
+  machine = W .machine;
+  met = rw (W .slots) (in-binding heap (slotsOf st) b base i node k O H);
 }

@@ -10,7 +10,7 @@ use package.Rattle.uses.specs.Sets.{has, Holds, alone, joined}
 use package.Rattle.rules.specs.Val.{same}
 use package.Rattle.rules.specs.Machine.{State}
 use package.Rattle.values.specs.Nodes.{valueAt}
-use package.Rattle.scopes.specs.Slots.{unknown, slotCount, stateAt, Slots}
+use package.Rattle.scopes.specs.Slots.{unknown, slotCount, machineOf, slotsOf, stateAt, Slots}
 use Rattle.scopes.specs.declared.bindings.Bindings.{Bindings}
 use Rattle.scopes.specs.declared.bindings.Met.{Met}
 
@@ -79,3 +79,9 @@ pub record Meetable (slots : List ℕ) (b : Bindings) (base i top : ℕ) : Type 
 pub record MeetsIn (heap slots slots′ : List ℕ) (b : Bindings) (base i node : ℕ) (r : Met) : Type 0 where
   pub binds : has (b .bound) i ≡ false → (r .agrees ≡ true) × Holds (r .state .bound) (joined (has (b .bound)) (alone i)) × (slots′ ≡ set slots (base + i) node)
   pub compares : has (b .bound) i ≡ true → (r .agrees ≡ same (valueAt heap (getD slots (base + i) 0)) (valueAt heap node)) × (r .state ≡ b) × (slots′ ≡ slots)
+
+-- The same of the numbers that a run is lent: the machine is as it was.
+pub record MeetsAt (heap st st′ : List ℕ) (b : Bindings) (base i node : ℕ) (r : Met) : Type 0 where
+  pub lengths : length st′ ≡ length st
+  pub machine : machineOf st′ ≡ machineOf st
+  pub met : MeetsIn heap (slotsOf st) (slotsOf st′) b base i node r

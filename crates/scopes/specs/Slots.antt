@@ -1,12 +1,12 @@
 -- Scopes in slots: slot base + i holds variable i's node, or a mark if the variable is not known. A scope is the state that the rules'
 -- runs have (rules/specs/Machine). Laws: proofs/Scopes.
-use Prim.Native.Nat.{ℕ, zero, suc, _+_, _<_}
+use Prim.Native.Nat.{ℕ, zero, suc, _+_, _<_, _/_, _%_}
 use mathlib.Core.Path.{_≡_}
 use mathlib.Core.Bool.{true, false}
 use mathlib.Core.Option.{Option, none, some}
 use mathlib.Core.List.{List, [], _∷_}
 use mathlib.Core.Logic.{_⊎_}
-use lib.ListN.{getD}
+use lib.ListN.{length, getD, set, drop}
 use lib.Dec.{eqb, ltb}
 use package.Rattle.rules.specs.Val.{Val}
 use package.Rattle.rules.specs.Machine.{State}
@@ -21,6 +21,49 @@ unknown = 4294967295
 -- how many slots there are: room for the variables of a run of the greatest height
 abbrev pub slotCount : ℕ
 slotCount = 8232
+
+-- all numbers that a run is lent: the machine, then the slots
+abbrev pub stateCount : ℕ
+stateCount = 8234
+
+----------------------------------------------------------------
+-- The machine, and scopes as numbers
+
+-- the nodes below `top`, and fuel
+pub record Machine : Type 0 where
+  pub top : ℕ
+  pub fuel : ℕ
+
+-- the scope of the function at hand: variable i is slot base + i, `n` of them, the ancilla parameters the first `q`
+pub record Scope : Type 0 where
+  pub base : ℕ
+  pub q : ℕ
+  pub n : ℕ
+
+abbrev pub machineOf : List ℕ → Machine
+machineOf st = record { top = getD st 0 0; fuel = getD st 1 0 }
+
+abbrev pub slotsOf : List ℕ → List ℕ
+slotsOf st = drop 2 st
+
+-- a scope in one number
+abbrev pub scopeIn : ℕ → Scope
+scopeIn x = record { base = x / 65536 / 65536; q = x / 65536 % 65536; n = x % 65536 }
+
+-- the machine is another one, and the slots are as they were
+pub record Moved (st st′ : List ℕ) (m : Machine) : Type 0 where
+  pub lengths : length st′ ≡ length st
+  pub slots : slotsOf st′ ≡ slotsOf st
+  pub machine : machineOf st′ ≡ m
+
+-- a slot is written, and the machine is as it was
+pub record Written (st st′ : List ℕ) (at node : ℕ) : Type 0 where
+  pub lengths : length st′ ≡ length st
+  pub slots : slotsOf st′ ≡ set (slotsOf st) at node
+  pub machine : machineOf st′ ≡ machineOf st
+
+----------------------------------------------------------------
+-- Slots
 
 -- what a slot's number says
 unfoldable pub found : ℕ → Found

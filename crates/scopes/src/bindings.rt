@@ -1,13 +1,17 @@
 // The binding state of a backward run, by value: which variables in scope are bound. Their nodes stand in the lent slots (crate::slots), where
 // a variable that is not bound has the mark. "A variable met again backward must have the same value" (section 2): meeting a variable binds
 // it, or compares, as the state says, and hands the state back.
-use crate::slots::SLOTS;
+use crate::slots;
+use crate::state;
+use crate::state::STATE;
 use uses::Uses;
 ghost use mathlib.Core.Path.{_≡_};
 ghost use Prim.Native.Nat.{_<_};
 ghost use Rattle.uses.specs.Sets.{has, Holds, firsts, below};
 ghost use Rattle.values.specs.Nodes.{Heap};
-ghost use Rattle.scopes.specs.Bindings.{Meetable, MeetsIn};
+ghost use lib.ListN.{length};
+ghost use Rattle.scopes.specs.Slots.{stateCount, machineOf, slotsOf};
+ghost use Rattle.scopes.specs.Bindings.{Meetable, MeetsAt};
 
 pub struct Bindings {
     pub bound: Uses,
@@ -39,30 +43,23 @@ impl Bindings {
     }
 
     // Variable i of the scope from slot `base` on is met with a node's value: it is bound, or compared.
-    pub fn meet(
-        self,
-        slots: &mut [u32; SLOTS],
-        base: usize,
-        i: u8,
-        node: u32,
-        ws: &[u8],
-        top: u32,
-    ) -> Met
-        requires { ⌜ Heap (now ws) top ⌝ }
-        requires { ⌜ Meetable (now slots) self base i top ⌝ }
-        requires { ⌜ node < top ⌝ }
-        ensures { λ r. ⌜ MeetsIn (now (ws .entry)) (now (slots .entry)) (now (slots .exit)) self base i node r ⌝ }
+    pub fn meet(self, st: &mut [u32; STATE], base: usize, i: u8, node: u32, ws: &[u8]) -> Met
+        requires { ⌜ length (now st) ≡ stateCount ⌝ }
+        requires { ⌜ Heap (now ws) (machineOf (now st) .top) ⌝ }
+        requires { ⌜ Meetable (slotsOf (now st)) self base i (machineOf (now st) .top) ⌝ }
+        requires { ⌜ node < machineOf (now st) .top ⌝ }
+        ensures { λ r. ⌜ MeetsAt (now (ws .entry)) (now (st .entry)) (now (st .exit)) self base i node r ⌝ }
     {
         let at = base + i as usize;
         let bound = self.bound;
         if bound.contains(i) {
-            let agrees = values::nodes::same(ws, top, slots[at], node);
+            let agrees = values::nodes::same(ws, state::top(st), slots::at(st, at), node);
             return Met {
                 agrees: agrees,
                 state: self,
             };
         }
-        slots[at] = node;
+        slots::bind(st, at, node);
         Met {
             agrees: true,
             state: Bindings {

@@ -1,6 +1,6 @@
 // The functions of a program, typed in order (document 01, section 4, row Typing: refusals 6 to 8), against rules/specs/Check. The
-// parameters' types come from the table of signatures; product nodes of one function are not needed by the next, so each function has
-// all the room for them.
+// parameters' types come from the table of signatures, which was filled when the functions were read; product nodes of one function are
+// not needed by the next, so each function has all the room for them.
 use crate::infer;
 use crate::outcomes::Fault;
 use crate::outcomes::Scope;
@@ -15,7 +15,7 @@ ghost use Prim.Native.Nat.{_*_, _-_, _≤_, _<_};
 ghost use lib.ListN.{length, getD};
 ghost use Rattle.calls.specs.Fields.{parametersAt};
 ghost use Rattle.calls.specs.Entries.{functionAt};
-ghost use Rattle.program.specs.Signatures.{SignatureIs};
+ghost use Rattle.program.specs.Signatures.{SignatureIs, SignaturesAre};
 ghost use Rattle.types.specs.Codes.{treeIn, Sources, Known};
 ghost use Rattle.uses.specs.Sets.{has};
 ghost use Rattle.typing.specs.Ready.{variableBytes};
@@ -180,19 +180,21 @@ fn check_function(
     }
 }
 
-// The functions of a program whose entries are tested, in order. `nodes` has the nodes of each type entry; product nodes stand in `ws`.
+// The functions of a program whose entries are tested, in order. The table has their signatures, `nodes` the
+// nodes of each type entry; product nodes stand in `ws`.
 pub fn check_functions(
     p: &[u8],
     types: &[u16],
     terms: &[u16],
     functions: &[u16],
+    table: &[[u16; 8]; 64],
     nodes: &[u16],
     ws: &mut [u8],
 ) -> Verdict
     requires { ⌜ Typeable (now p) (now types) (now terms) (now functions) (now nodes) (now ws) ⌝ }
+    requires { ⌜ SignaturesAre (now p) (now functions) (now table) ⌝ }
     ensures { λ r. ⌜ verdictOf r ≡ typingAnswer (now (p .entry)) (now (types .entry)) (now (terms .entry)) (now (functions .entry)) ⌝ }
 {
-    let table = program::signatures::signatures(p, functions);
     let mut g = 0;
     while g < functions.len() {
         let row = table[g];

@@ -7,14 +7,11 @@ use mathlib.Core.Logic.{_⊎_, ⊎-elim, inl as left, inr as right}
 use mathlib.Core.Bool.{true}
 use mathlib.Core.List.{List}
 use package.Rattle.rules.specs.Limits.{fits}
-use package.Rattle.rules.specs.Val.{Val, unit, inl, inr, pair, roll, size}
-use package.Rattle.values.specs.Nodes.{kindAt, leftAt, rightAt, putNode, Agree, ofKind, valueWithin, valueAt, Right, Heap, NodeReady, Grown}
-use package.Rattle.values.proofs.Places.{length-put, kind-put, len-put, left-put, right-put, agree-kind, agree-len, agree-left, agree-right, agree-put}
-
--- a unit's parts mean nothing
-unit-parts : (k : ℕ) (v w v′ w′ : Val) → k ≡ 0 → ofKind k v w ≡ ofKind k v′ w′
-unfolding ofKind
-unit-parts k v w v′ w′ e = rw e
+use package.Rattle.rules.specs.Val.{unit, inl, inr, pair, roll, size}
+use package.Rattle.values.specs.Nodes.{kindAt, leftAt, rightAt, putNode, Agree, fingerprint, ofKind, valueWithin, valueAt, Right, Heap, NodeReady, Grown}
+use package.Rattle.values.proofs.Places.{length-put, agree-put, kind-put, print-put, len-put, left-put, right-put}
+use package.Rattle.values.proofs.Places.{agree-kind, agree-print, agree-len, agree-left, agree-right}
+use package.Rattle.values.proofs.Shapes.{unit-parts}
 
 ----------------------------------------------------------------
 -- A node's value, from its parts'
@@ -100,6 +97,7 @@ module _ (heap heap′ : List ℕ) (top : ℕ) (h : Heap heap top) (p : Agree to
       record {
         parts = ⊎-elim (λ z. left (sym (agree-kind p n t) ∙ z)) (λ lr. right (rw (← agree-left p n t) (lr .0), rw (← agree-right p n t) (lr .1))) (o .parts);
         kind = rw (← agree-kind p n t) (o .kind);
+        print = sym (agree-print p n t) ∙ o .print ∙ ap fingerprint (value-kept n t);
         len = sym (agree-len p n t) ∙ o .len ∙ ap size (value-kept n t);
         fit = rw (← value-kept n t) (o .fit);
       }
@@ -117,18 +115,19 @@ heap-down low le h = record { held = omega (arith, h .held); node = λ n t. h .n
 ----------------------------------------------------------------
 -- A new node
 
-module _ (heap : List ℕ) (top k n a b : ℕ) (w : NodeReady heap top k n a b) (f : fits (ofKind k (valueAt heap a) (valueAt heap b)) ≡ true) (n16 : n < 2 ^ 16) (a32 : a < 2 ^ 32) (b32 : b < 2 ^ 32) where
+module _ (heap : List ℕ) (top k p n a b : ℕ) (w : NodeReady heap top k p n a b) (f : fits (ofKind k (valueAt heap a) (valueAt heap b)) ≡ true)
+    (n16 : n < 2 ^ 16) (a32 : a < 2 ^ 32) (b32 : b < 2 ^ 32) where
   new : List ℕ
-  new = putNode heap top k n a b
+  new = putNode heap top k p n a b
 
   new-agree : Agree top heap new
   unfolding new
-  new-agree = agree-put heap top k n a b
+  new-agree = agree-put heap top k p n a b
 
   new-value : valueAt new top ≡ ofKind k (valueAt heap a) (valueAt heap b)
   unfolding new valueAt valueWithin
   new-value =
-      rw (kind-put heap top k n a b (w .room), left-put heap top k n a b (w .room) a32, right-put heap top k n a b (w .room) b32)
+      rw (kind-put heap top k p n a b (w .room), left-put heap top k p n a b (w .room) a32, right-put heap top k p n a b (w .room) b32)
       (⊎-elim
       (λ z. unit-parts _ _ _ _ _ z)
       (λ ab. cc (
@@ -144,20 +143,21 @@ module _ (heap : List ℕ) (top k n a b : ℕ) (w : NodeReady heap top k n a b) 
   new-node =
       record {
         parts = ⊎-elim
-            (λ z. left (kind-put heap top k n a b (w .room) ∙ z))
-            (λ ab. right (rw (left-put heap top k n a b (w .room) a32) (ab .0), rw (right-put heap top k n a b (w .room) b32) (ab .1)))
+            (λ z. left (kind-put heap top k p n a b (w .room) ∙ z))
+            (λ ab. right (rw (left-put heap top k p n a b (w .room) a32) (ab .0), rw (right-put heap top k p n a b (w .room) b32) (ab .1)))
             (w .parts);
-        kind = rw (kind-put heap top k n a b (w .room)) (w .kind);
-        len = len-put heap top k n a b (w .room) n16 ∙ w .len ∙ ap size (sym new-value);
+        kind = rw (kind-put heap top k p n a b (w .room)) (w .kind);
+        print = print-put heap top k p n a b (w .room) ∙ w .print ∙ ap fingerprint (sym new-value);
+        len = len-put heap top k p n a b (w .room) n16 ∙ w .len ∙ ap size (sym new-value);
         fit = rw new-value f;
       }
 
-  pub grown : Grown heap (putNode heap top k n a b) top (ofKind k (valueAt heap a) (valueAt heap b))
+  pub grown : Grown heap (putNode heap top k p n a b) top (ofKind k (valueAt heap a) (valueAt heap b))
   unfolding new
   grown =
       record {
         right = record {
-          held = omega (arith, w .room, length-put heap top k n a b);
+          held = omega (arith, w .room, length-put heap top k p n a b);
           node = λ m t. ⊎-elim
               (λ e. subst (λ (m : ℕ). Right new m) (sym e) new-node)
               (λ lt. node-kept heap new top (w .right) new-agree m lt)

@@ -1,295 +1,252 @@
--- Laws that loading cites: what calls' `read` finds at a position, from the byte there and what it finds behind; and, for each answer
--- of `load`, that the nodes made so far are right.
+-- Laws that loading cites: in bytes that are values one after another a value begins at every byte; and, of each turn of `load`, that the new
+-- node has the value that begins at its byte.
 use Prim.Native.Nat.{ℕ, zero, suc, _+_, _-_, _<_, _≤_}
 use native.Mathlib.Omega.{arith}
+use native.Mathlib.Decide.{ℕ-discrete, decLt}
+use native.Mathlib.Numerals.{add-one}
 use mathlib.Core.Path.{_≡_, refl, sym, ap, subst, _∙_}
-use mathlib.Core.Logic.{inl as left, inr as right}
-use mathlib.Core.List.{List, [], _∷_, _++_}
-use lib.ListN.{length, getD, drop, length-drop, drop-of-length-le}
-use lib.Seq.{drop-cons}
-use package.Rattle.rules.specs.Limits.{maxValueBytes}
-use package.Rattle.rules.specs.Val.{Val, unit, pair, size, encode}
-use package.Rattle.calls.specs.Values.{Read, got, malformed, then, read}
-use package.Rattle.calls.proofs.Values.{read-encode, read-sound, length-encode-append}
-use package.Rattle.values.specs.Nodes.{Agree, ofKind, Single, valueAt, Grown}
-use package.Rattle.values.specs.Loads.{above, PlaceReady, PlaceDone, LoadReady, PlacedFrom, told, PlacedRight, LoadDone}
-use package.Rattle.values.specs.declared.nodes.Placed.{Placed}
-use package.Rattle.values.specs.declared.nodes.Loaded.{Loaded}
-use package.Rattle.values.specs.declared.nodes.Loaded.the-variants.{Node, Malformed}
+use mathlib.Core.Bool.{Bool}
+use mathlib.Core.List.{List, [], _∷_, _++_, append-assoc}
+use lib.ListN.{length, getD, drop, length-drop}
+use lib.Seq.{drop-cons, drop-at, drop-drop}
+use package.Rattle.rules.specs.Limits.{fits}
+use package.Rattle.rules.specs.Val.{Val, unit, inl, inr, pair, roll, size, encode}
+use package.Rattle.rules.proofs.Basics.{given}
+use package.Rattle.rules.proofs.Val.{length-encode}
+use package.Rattle.calls.specs.Values.{got, read, encodeAll}
+use package.Rattle.calls.proofs.Values.{read-encode, size-positive, length-encode-append}
+use package.Rattle.values.specs.Nodes.{lengthAt, ofKind, Single, valueAt, Grown, Made}
+use package.Rattle.values.specs.Loads.{firstBelow, secondBelow, overLast, PlaceReady, LoadReady, nodeOf, BeginWith, LoadedFrom}
 use package.Rattle.values.proofs.Places.{agree-refl, agree-trans, agree-down}
+use package.Rattle.values.proofs.Shapes.{single-part, kind-single, encode-single, encode-pair}
 use package.Rattle.values.proofs.Heaps.{value-kept}
-use package.Rattle.values.proofs.Making.{fits-true, size-single, size-pair}
+use package.Rattle.values.proofs.Making.{fits-true}
 
 ----------------------------------------------------------------
--- Reading
+-- A value at every byte
 
-read-nil : (n : ℕ) → read n [] ≡ malformed
-unfolding read
-read-nil zero = refl
-read-nil (suc n) = refl
+-- values without their first byte: the parts of the first stand in its place
+opened : List Val → List Val
+opened [] = []
+opened (unit ∷ vs) = vs
+opened (inl v ∷ vs) = v ∷ vs
+opened (inr v ∷ vs) = v ∷ vs
+opened (pair v w ∷ vs) = v ∷ w ∷ vs
+opened (roll v ∷ vs) = v ∷ vs
 
--- a bound that is enough is as good as another
-read-enough : (n m : ℕ) (xs : List ℕ) → length xs ≤ n → length xs ≤ m → read n xs ≡ read m xs
-read-enough n m xs h h′ = go (read n xs) (read m xs) refl refl
+drop-opened : (vs : List Val) → drop 1 (encodeAll vs) ≡ encodeAll (opened vs)
+unfolding encodeAll encode opened
+drop-opened [] = refl
+drop-opened (unit ∷ vs) = refl
+drop-opened (inl v ∷ vs) = refl
+drop-opened (inr v ∷ vs) = refl
+drop-opened (pair v w ∷ vs) = append-assoc (encode v) (encode w) (encodeAll vs)
+drop-opened (roll v ∷ vs) = refl
+
+-- from any byte on, the bytes are values
+values-from : (i : ℕ) (vs : List Val) → (ws : List Val) × (drop i (encodeAll vs) ≡ encodeAll ws)
+values-from zero vs = (vs, refl)
+values-from (suc i) vs = given (values-from i (opened vs)) λ (ws, e).
+    (ws, ap (λ n. drop n (encodeAll vs)) (let z : suc i ≡ 1 + i = omega arith in z) ∙ sym (drop-drop i 1 (encodeAll vs)) ∙ ap (drop i) (drop-opened vs) ∙ e)
+
+value-here : (xs : List ℕ) (vs : List Val) → xs ≡ encodeAll vs → (i : ℕ) → i < length xs → (v : Val) × (ys : List ℕ) × (drop i xs ≡ encode v ++ ys)
+unfolding encodeAll
+value-here xs vs e i l = given (values-from i vs) λ (ws, q). go ws (ap (drop i) e ∙ q)
   where
-    again : (k k′ : ℕ) (v : Val) (ys : List ℕ) → length xs ≤ k′ → read k xs ≡ got v ys → read k′ xs ≡ got v ys
-    again k k′ v ys l e =
-        let s = read-sound k xs e in
-        ap (read k′) s ∙ read-encode v k′ ys (omega (arith, ap length s, length-encode-append v ys))
+    go : (ws : List Val) → drop i xs ≡ encodeAll ws → (v : Val) × (ys : List ℕ) × (drop i xs ≡ encode v ++ ys)
+    go [] q = absurd (omega (arith, ap length q, length-drop i xs))
+    go (v ∷ ws) q = (v, encodeAll ws, q)
 
-    go : (r r′ : Read) → read n xs ≡ r → read m xs ≡ r′ → read n xs ≡ read m xs
-    go (got v ys) r′ e e′ = e ∙ sym (again n m v ys h′ e)
-    go malformed (got v ys) e e′ = again m n v ys h e′ ∙ sym e′
-    go malformed malformed e e′ = e ∙ sym e′
+-- bytes begin with one value only
+one-value : (v v′ : Val) (ys ys′ : List ℕ) → encode v ++ ys ≡ encode v′ ++ ys′ → (v ≡ v′) × (ys ≡ ys′)
+one-value v v′ ys ys′ e =
+    let q : got v ys ≡ got v′ ys′ =
+    sym (read-encode v (size v + size v′) ys (omega arith)) ∙ ap (read (size v + size v′)) e ∙ read-encode v′ (size v + size v′) ys′ (omega arith) in
+    (cc, cc)
 
--- the byte at a position, and the rest
-read-at : (xs : List ℕ) (at : ℕ) → at < length xs
-    → read (length xs - at) (drop at xs) ≡ read (suc (length xs - (at + 1))) (getD xs at 0 ∷ drop (at + 1) xs)
-read-at xs at h =
-    let n : length xs - at ≡ suc (length xs - (at + 1)) = omega arith in
-    let m : suc at ≡ at + 1 = omega arith in
-    rw (drop-cons xs at 0 h, m, n)
+begin-of : (xs : List ℕ) (v : Val) (ys : List ℕ) → xs ≡ encode v ++ ys → BeginWith xs v
+begin-of xs v ys e = e ∙ ap (λ r. encode v ++ r) (sym (ap (drop (size v)) e ∙ drop-at (encode v) ys (size v) (length-encode v)))
 
-read-bad : (k n : ℕ) (ys : List ℕ) → 4 < k → read (suc n) (k ∷ ys) ≡ malformed
-unfolding read
-read-bad zero n ys h = absurd (omega arith)
-read-bad (suc zero) n ys h = absurd (omega arith)
-read-bad (suc (suc zero)) n ys h = absurd (omega arith)
-read-bad (suc (suc (suc zero))) n ys h = absurd (omega arith)
-read-bad (suc (suc (suc (suc zero)))) n ys h = absurd (omega arith)
-read-bad (suc (suc (suc (suc (suc k))))) n ys h = refl
+begin-length : (xs : List ℕ) (v : Val) → BeginWith xs v → length xs ≡ size v + length (drop (size v) xs)
+begin-length xs v b = ap length b ∙ length-encode-append v (drop (size v) xs)
 
-read-unit : (k n : ℕ) (ys : List ℕ) → k ≡ 0 → read (suc n) (k ∷ ys) ≡ got unit ys
-unfolding read
-read-unit k n ys e = rw e
+-- what stands behind a byte at which a value begins
+record Behind (k : ℕ) (rest : List ℕ) : Type 0 where
+  kind : k ≤ 4
+  first : ¬ (k ≡ 0) → (v : Val) × (ys : List ℕ) × (rest ≡ encode v ++ ys)
+  second : k ≡ 3 → (v : Val) × (w : Val) × (ys : List ℕ) × (rest ≡ encode v ++ (encode w ++ ys))
 
-read-one : (k n : ℕ) (ys : List ℕ) → Single k → read (suc n) (k ∷ ys) ≡ then (read n ys) (λ v zs. got (ofKind k v v) zs)
-unfolding read ofKind
-read-one k n ys (left e) = rw e
-read-one k n ys (right (left e)) = rw e
-read-one k n ys (right (right e)) = rw e
+behind : {k : ℕ} {rest : List ℕ} (u : Val) (ys : List ℕ) → k ∷ rest ≡ encode u ++ ys → Behind k rest
+unfolding encode
+behind {k} {rest} u ys e = go u e
+  where
+    single : (v : Val) → ¬ (k ≡ 3) → k ≤ 4 → rest ≡ encode v ++ ys → Behind k rest
+    single v nt le q = record { kind = le; first = λ some. (v, ys, q); second = λ three. absurd (nt three) }
 
-read-two : (k n : ℕ) (ys : List ℕ) → k ≡ 3 → read (suc n) (k ∷ ys) ≡ then (read n ys) (λ v zs. then (read n zs) (λ w us. got (pair v w) us))
-unfolding read
-read-two k n ys e = rw e
-
-pub kind-single : (k : ℕ) → ¬ (k ≡ 0) → k ≤ 4 → ¬ (k ≡ 3) → Single k
-kind-single zero z h t = absurd (z refl)
-kind-single (suc zero) z h t = left refl
-kind-single (suc (suc zero)) z h t = right (left refl)
-kind-single (suc (suc (suc zero))) z h t = absurd (t refl)
-kind-single (suc (suc (suc (suc zero)))) z h t = right (right refl)
-kind-single (suc (suc (suc (suc (suc k))))) z h t = absurd (omega arith)
-
--- a value of several parts is none where its first part is none
-read-first-bad : (k n : ℕ) (ys : List ℕ) → ¬ (k ≡ 0) → k ≤ 4 → read n ys ≡ malformed → read (suc n) (k ∷ ys) ≡ malformed
-unfolding read then
-read-first-bad zero n ys z h e = absurd (z refl)
-read-first-bad (suc zero) n ys z h e = rw e
-read-first-bad (suc (suc zero)) n ys z h e = rw e
-read-first-bad (suc (suc (suc zero))) n ys z h e = rw e
-read-first-bad (suc (suc (suc (suc zero)))) n ys z h e = rw e
-read-first-bad (suc (suc (suc (suc (suc k))))) n ys z h e = refl
-
-----------------------------------------------------------------
--- Answers with no value behind the byte
-
-module _ (heap : List ℕ) (top : ℕ) (xs : List ℕ) (at : ℕ) where
-  none-here : read (length xs - at) (drop at xs) ≡ malformed → LoadDone heap heap top xs at Malformed
-  none-here e = record { gave = e; agree = agree-refl top heap; placed = tt }
-
-  pub load-end : length xs ≤ at → LoadDone heap heap top xs at Malformed
-  load-end h = none-here (rw (drop-of-length-le xs h) (read-nil (length xs - at)))
-
-  pub load-bad : at < length xs → 4 < getD xs at 0 → LoadDone heap heap top xs at Malformed
-  load-bad h b = none-here (read-at xs at h ∙ read-bad (getD xs at 0) (length xs - (at + 1)) (drop (at + 1) xs) b)
-
-  pub load-unit : {heap′ : List ℕ} → at < length xs → getD xs at 0 ≡ 0 → Grown heap heap′ top unit
-      → LoadDone heap heap′ top xs at (Node (record { node = top; next = at + 1; top = top + 1 }))
-  unfolding size
-  load-unit {heap′} h z g =
-      record {
-        gave = read-at xs at h ∙ read-unit (getD xs at 0) (length xs - (at + 1)) (drop (at + 1) xs) z ∙ ap (λ v. got v (drop (at + 1) xs)) (sym (g .value));
-        agree = g .agree;
-        placed = record { node = omega arith; bytes = rw (g .value); nodes = rw (g .value); inside = omega arith; right = g .right };
-      }
+    go : (u : Val) → k ∷ rest ≡ encode u ++ ys → Behind k rest
+    go unit e = let z : k ≡ 0 = cc in record { kind = omega arith; first = λ some. absurd (some z); second = λ three. absurd (omega arith) }
+    go (inl v) e = let z : k ≡ 1 = cc in single v (λ three. omega arith) (omega arith) (cc)
+    go (inr v) e = let z : k ≡ 2 = cc in single v (λ three. omega arith) (omega arith) (cc)
+    go (pair v w) e =
+        let z : k ≡ 3 = cc in
+        let q : rest ≡ (encode v ++ encode w) ++ ys = cc in
+        let q′ = q ∙ append-assoc (encode v) (encode w) ys in
+        record { kind = omega arith; first = λ some. (v, encode w ++ ys, q′); second = λ three. (v, w, ys, q′) }
+    go (roll v) e = let z : k ≡ 4 = cc in single v (λ three. omega arith) (omega arith) (cc)
 
 ----------------------------------------------------------------
 -- One node more
 
--- a node over the value that was placed last ends a value that `read` finds
-finish : {heap heap′ heap″ : List ℕ} {top at : ℕ} {xs : List ℕ} {placed : Placed} (last : Placed) (v : Val) → placed ≡ above last
-    → read (length xs - at) (drop at xs) ≡ got v (drop (last .next) xs)
-    → Agree top heap heap′ → Grown heap′ heap″ (last .top) v → top ≤ last .top
-    → last .next ≡ at + size v → last .top + 1 ≡ top + size v → last .next ≤ length xs
-    → LoadDone heap heap″ top xs at (Node placed)
-finish {heap} {heap′} {heap″} {top} {at} {xs} {placed} last v e q p g le b n i =
-    subst (λ (r : Placed). LoadDone heap heap″ top xs at (Node r)) (sym e)
-    (record {
-      gave = q ∙ ap (λ v. got v (drop (last .next) xs)) (sym (g .value));
-      agree = agree-trans p (agree-down top le (g .agree));
-      placed = record { node = omega arith; bytes = rw (g .value) b; nodes = rw (g .value) n; inside = i; right = g .right };
-    })
+module _ {heap : List ℕ} {top k : ℕ} (w : PlaceReady heap top k) where
+  pub place-unit : {heap′ : List ℕ} → k ≡ 0 → Grown heap heap′ top unit → Grown heap heap′ top (overLast heap top k)
+  unfolding ofKind
+  place-unit z g = rw z g
 
--- at a byte that begins a value of one part or two
-pub record Begins (heap : List ℕ) (top : ℕ) (xs : List ℕ) (at : ℕ) : Type 0 where
-  pub ready : LoadReady heap top xs at
-  pub inside : at < length xs
-  pub some : ¬ (getD xs at 0 ≡ 0)
-  pub kind : getD xs at 0 ≤ 4
+  -- what is within the limit is made
+  made-fit : {heap′ : List ℕ} {v : Val} {ok : Bool} → v ≡ overLast heap top k → Made heap heap′ top v ok → Grown heap heap′ top (overLast heap top k)
+  made-fit {heap′} {v} e m = subst (λ (u : Val). Grown heap heap′ top u) e (m .new (m .answer ∙ ap fits e ∙ w .fit))
 
-pub first-ready : {heap : List ℕ} {top : ℕ} {xs : List ℕ} {at : ℕ} → Begins heap top xs at → LoadReady heap top xs (at + 1)
-first-ready w =
-    let h = w .ready in
-    record { right = h .right; inside = omega (arith, w .inside); short = h .short; room = omega (arith, h .room, w .inside); small = omega (arith, h .small, w .inside) }
+  pub place-pair : {heap′ : List ℕ} {n : ℕ} {ok : Bool} → k ≡ 3 → n ≡ lengthAt heap (firstBelow top)
+      → Made heap heap′ top (pair (valueAt heap (firstBelow top)) (valueAt heap (firstBelow top - n))) ok → Grown heap heap′ top (overLast heap top k)
+  unfolding ofKind
+  place-pair three e m = made-fit (rw (three, e)) m
 
-pub load-first-bad : {heap heap′ : List ℕ} {top : ℕ} {xs : List ℕ} {at : ℕ} → Begins heap top xs at
-    → LoadDone heap heap′ top xs (at + 1) Malformed → LoadDone heap heap′ top xs at Malformed
-load-first-bad {xs = xs} {at} w d = record { gave = read-at xs at (w .inside) ∙ read-first-bad _ _ _ (w .some) (w .kind) (d .gave); agree = d .agree; placed = tt }
+  pub place-single : {heap′ : List ℕ} {ok : Bool} → Single k
+      → Made heap heap′ top (ofKind k (valueAt heap (firstBelow top)) (valueAt heap (firstBelow top))) ok → Grown heap heap′ top (overLast heap top k)
+  place-single s m = made-fit (single-part k _ _ _ s) m
 
--- the first part is loaded
-pub record First (heap heap′ : List ℕ) (top : ℕ) (xs : List ℕ) (at : ℕ) (first : Placed) : Type 0 where
-  pub begins : Begins heap top xs at
-  pub done : LoadDone heap heap′ top xs (at + 1) (Node first)
+----------------------------------------------------------------
+-- A turn of `load`
 
-module _ {heap heap′ : List ℕ} {top : ℕ} {xs : List ℕ} {at : ℕ} {first : Placed} (f : First heap heap′ top xs at first) where
-  -- inl, inr and roll
-  module _ (nt : ¬ (getD xs at 0 ≡ 3)) where
-    one-size : size (ofKind (getD xs at 0) (valueAt heap′ (first .node)) (valueAt heap′ (first .node))) ≡ size (valueAt heap′ (first .node)) + 1
-    one-size = size-single (getD xs at 0) (valueAt heap′ (first .node)) (valueAt heap′ (first .node)) (kind-single (getD xs at 0) (f .begins .some) (f .begins .kind) nt)
+-- the bytes behind byte `i` are loaded
+pub record Turn (heap₀ heap : List ℕ) (top : ℕ) (xs : List ℕ) (i free : ℕ) : Type 0 where
+  pub ready : LoadReady heap₀ top xs
+  pub loaded : LoadedFrom heap₀ heap top xs (i + 1) free
 
-    pub one-ready : PlaceReady heap′ (getD xs at 0) at (first .node) first
-    unfolding maxValueBytes
-    one-ready =
-        let w = f .done .placed in
-        record {
-          node = record {
-            right = w .right;
-            room = omega (arith, f .begins .ready .room, f .done .agree .lengths);
-            parts = right (w .node, w .node);
-            kind = f .begins .kind;
-            len = omega (arith, one-size);
-          };
-          fit = fits-true _ (omega (arith, f .begins .ready .short, one-size));
-          behind = omega arith;
-          short = omega (arith, f .begins .ready .short);
-          small = omega (arith, f .begins .ready .small);
-        }
+pub turn : {heap₀ heap : List ℕ} {top : ℕ} {xs : List ℕ} {i free : ℕ} → LoadReady heap₀ top xs → LoadedFrom heap₀ heap top xs i free → 0 < i
+    → Turn heap₀ heap top xs (i - 1) free
+turn {heap₀} {heap} {top} {xs} {i} {free} L T p =
+    let z : i ≡ i - 1 + 1 = omega arith in record { ready = L; loaded = subst (λ (i : ℕ). LoadedFrom heap₀ heap top xs i free) z T }
 
-    pub load-one : {heap″ : List ℕ} {placed : Placed} → PlaceDone heap′ heap″ (getD xs at 0) (first .node) first placed
-        → LoadDone heap heap″ top xs at (Node placed)
-    unfolding then
-    load-one p =
-        let w = f .done .placed in
-        finish
-        first
-        (ofKind (getD xs at 0) (valueAt heap′ (first .node)) (valueAt heap′ (first .node)))
-        (p .answer)
-        (read-at xs at (f .begins .inside)
-        ∙ read-one (getD xs at 0) (length xs - (at + 1)) (drop (at + 1) xs) (kind-single (getD xs at 0) (f .begins .some) (f .begins .kind) nt)
-        ∙ ap (λ r. then r (λ v zs. got (ofKind (getD xs at 0) v v) zs)) (f .done .gave))
-        (f .done .agree)
-        (p .grown)
-        (omega arith)
-        (omega (arith, one-size))
-        (omega (arith, one-size))
-        (w .inside)
+module _ {heap₀ heap : List ℕ} {top : ℕ} {xs : List ℕ} {i free : ℕ} (t : Turn heap₀ heap top xs i free) where
+  L : LoadReady heap₀ top xs
+  L = t .ready
 
-  pub second-ready : LoadReady heap′ (first .top) xs (first .next)
-  second-ready =
-      let w = f .done .placed in
-      record {
-        right = w .right;
-        inside = w .inside;
-        short = f .begins .ready .short;
-        room = omega (arith, f .begins .ready .room, f .done .agree .lengths);
-        small = omega (arith, f .begins .ready .small);
-      }
+  T : LoadedFrom heap₀ heap top xs (i + 1) free
+  T = t .loaded
 
-  -- pairs
-  module _ (three : getD xs at 0 ≡ 3) where
-    -- what is read of a pair, from what is read behind its first part
-    read-pair : {r : Read} → read (length xs - first .next) (drop (first .next) xs) ≡ r
-        → read (length xs - at) (drop at xs) ≡ then r (λ w us. got (pair (valueAt heap′ (first .node)) w) us)
-    unfolding then
-    read-pair e =
-        let w = f .done .placed in
-        read-at xs at (f .begins .inside)
-        ∙ read-two (getD xs at 0) (length xs - (at + 1)) (drop (at + 1) xs) three
-        ∙ ap (λ r. then r (λ v zs. then (read (length xs - (at + 1)) zs) (λ w us. got (pair v w) us))) (f .done .gave)
-        ∙ ap (λ r. then r (λ w us. got (pair (valueAt heap′ (first .node)) w) us))
-        (read-enough (length xs - (at + 1)) (length xs - first .next) (drop (first .next) xs)
-        (omega (arith, length-drop (first .next) xs))
-        (omega (arith, length-drop (first .next) xs))
-        ∙ e)
+  abbrev byte : ℕ
+  byte = getD xs i 0
 
-    both-agree : {heap″ : List ℕ} {r : Loaded} → LoadDone heap′ heap″ (first .top) xs (first .next) r → Agree top heap heap″
-    both-agree d′ = let w = f .done .placed in agree-trans (f .done .agree) (agree-down top (omega arith) (d′ .agree))
+  abbrev rest : List ℕ
+  rest = drop (i + 1) xs
 
-    pub load-second-bad : {heap″ : List ℕ} → LoadDone heap′ heap″ (first .top) xs (first .next) Malformed → LoadDone heap heap″ top xs at Malformed
-    unfolding then
-    load-second-bad d′ = record { gave = read-pair (d′ .gave); agree = both-agree d′; placed = tt }
+  abbrev first : Val
+  first = valueAt heap (firstBelow free)
 
-    module _ {heap″ : List ℕ} {second : Placed} (d′ : LoadDone heap′ heap″ (first .top) xs (first .next) (Node second)) where
-      kept : valueAt heap′ (first .node) ≡ valueAt heap″ (first .node)
-      kept = let w = f .done .placed in value-kept heap′ heap″ (first .top) (w .right) (d′ .agree) (first .node) (w .node)
+  abbrev second : Val
+  second = valueAt heap (secondBelow heap free)
 
-      two-size : size (ofKind 3 (valueAt heap″ (first .node)) (valueAt heap″ (second .node)))
-          ≡ size (valueAt heap′ (first .node)) + size (valueAt heap″ (second .node)) + 1
-      two-size = rw kept (size-pair (valueAt heap″ (first .node)) (valueAt heap″ (second .node)))
+  cut : drop i xs ≡ byte ∷ rest
+  cut = drop-cons xs i 0 (omega (arith, T .inside)) ∙ ap (λ n. byte ∷ drop n xs) (sym (add-one i))
 
-      pub two-ready : PlaceReady heap″ 3 at (first .node) second
-      unfolding maxValueBytes
-      two-ready =
-          let w = f .done .placed in
-          let w′ = d′ .placed in
-          record {
-            node = record {
-              right = w′ .right;
-              room = omega (arith, f .begins .ready .room, f .done .agree .lengths, d′ .agree .lengths);
-              parts = right (omega arith, w′ .node);
-              kind = omega arith;
-              len = omega (arith, two-size);
-            };
-            fit = fits-true _ (omega (arith, f .begins .ready .short, two-size));
-            behind = omega arith;
-            short = omega (arith, f .begins .ready .short);
-            small = omega (arith, f .begins .ready .small);
-          }
+  here : Behind byte rest
+  here = given (value-here xs (L .values) (L .whole) i (omega (arith, T .inside))) λ (u, ys, e). behind u ys (sym cut ∙ e)
 
-      pub load-two : {heap‴ : List ℕ} {placed : Placed} → PlaceDone heap″ heap‴ 3 (first .node) second placed
-          → LoadDone heap heap‴ top xs at (Node placed)
-      unfolding then ofKind
-      load-two p =
-          let w = f .done .placed in
-          let w′ = d′ .placed in
-          finish
-          second
-          (ofKind 3 (valueAt heap″ (first .node)) (valueAt heap″ (second .node)))
-          (p .answer)
-          (read-pair (d′ .gave) ∙ ap (λ v. got (pair v (valueAt heap″ (second .node))) (drop (second .next) xs)) kept)
-          (both-agree d′)
-          (p .grown)
-          (omega arith)
-          (omega (arith, two-size))
-          (omega (arith, two-size))
-          (w′ .inside)
+  module _ (some : ¬ (byte ≡ 0)) where
+    first-there : i + 1 < length xs
+    first-there = given (here .first some) λ (v, ys, e). omega (arith, ap length e, length-encode-append v ys, size-positive v, length-drop (i + 1) xs)
+
+    first-begin : BeginWith rest first
+    first-begin =
+        let z : nodeOf top xs (i + 1) ≡ firstBelow free = omega (arith, T .nodes, first-there) in
+        subst (λ (n : ℕ). BeginWith rest (valueAt heap n)) z (T .begins (i + 1) (omega arith) first-there)
+
+    first-size : lengthAt heap (firstBelow free) ≡ size first
+    first-size = T .right .node (firstBelow free) (omega (arith, T .nodes, first-there)) .len
+
+  module _ (three : byte ≡ 3) where
+    some : ¬ (byte ≡ 0)
+    some z = omega (arith, three)
+
+    -- the second value begins behind the first
+    second-at : (w : Val) × (ys : List ℕ) × (drop (size first) rest ≡ encode w ++ ys)
+    second-at = given (here .second three) λ (v, w, ys, e). (w, ys, one-value first v (drop (size first) rest) (encode w ++ ys) (sym (first-begin some) ∙ e) .1)
+
+    second-there : i + 1 + size first < length xs
+    second-there = given second-at λ (w, ys, e).
+        omega (arith, ap length e, length-encode-append w ys, size-positive w, length-drop (size first) rest, length-drop (i + 1) xs)
+
+    second-begin : BeginWith (drop (i + 1 + size first) xs) second
+    second-begin =
+        let z : nodeOf top xs (i + 1 + size first) ≡ secondBelow heap free = omega (arith, T .nodes, second-there, first-size some) in
+        subst (λ (n : ℕ). BeginWith (drop (i + 1 + size first) xs) (valueAt heap n)) z (T .begins (i + 1 + size first) (omega arith) second-there)
+
+    pair-begin : BeginWith (drop i xs) (ofKind 3 first second)
+    pair-begin = begin-of (drop i xs) (ofKind 3 first second) (drop (size second) (drop (i + 1 + size first) xs)) (
+        cut ∙ ap (λ r. byte ∷ r) (first-begin some ∙ ap (λ r. encode first ++ r) (drop-drop (size first) (i + 1) xs ∙ second-begin)
+        ∙ sym (append-assoc (encode first) (encode second) (drop (size second) (drop (i + 1 + size first) xs))))
+        ∙ rw (three, encode-pair first second))
+
+  new-begin : BeginWith (drop i xs) (overLast heap free byte)
+  unfolding ofKind encode
+  new-begin = by (ℕ-discrete byte 0) (ℕ-discrete byte 3)
+    where
+      by : Dec (byte ≡ 0) → Dec (byte ≡ 3) → BeginWith (drop i xs) (overLast heap free byte)
+      by (yes z) three = begin-of (drop i xs) (overLast heap free byte) rest (cut ∙ rw z)
+      by (no some) (yes three) = rw three (pair-begin three)
+      by (no some) (no nt) = begin-of (drop i xs) (overLast heap free byte) (drop (size first) rest) (
+          cut ∙ ap (λ r. byte ∷ r) (first-begin some)
+          ∙ ap (λ l. l ++ drop (size first) rest) (sym (encode-single byte first second (kind-single byte some (here .kind) nt))))
+
+  pub turn-ready : PlaceReady heap free byte
+  turn-ready = record {
+    right = T .right;
+    room = omega (arith, L .room, T .nodes, T .inside, T .agree .lengths);
+    kind = here .kind;
+    first = λ some. omega (arith, T .nodes, first-there some);
+    second = λ three. omega (arith, T .nodes, second-there three, first-size (λ z. omega (arith, three)));
+    fit = fits-true _ (omega (arith, L .short, begin-length (drop i xs) (overLast heap free byte) new-begin, length-drop i xs));
+  }
+
+  pub turn-small : free + 1 ≤ top + length xs
+  turn-small = omega (arith, T .nodes, T .inside)
+
+  pub turn-next : {heap′ : List ℕ} → Grown heap heap′ free (overLast heap free byte) → LoadedFrom heap₀ heap′ top xs i (free + 1)
+  turn-next {heap′} g = record {
+    inside = omega (arith, T .inside);
+    nodes = omega (arith, T .nodes, T .inside);
+    right = g .right;
+    agree = agree-trans (T .agree) (agree-down top (omega (arith, T .nodes)) (g .agree));
+    begins = λ j l h. by j l h (decLt i j);
+  }
+    where
+      by : (j : ℕ) → i ≤ j → j < length xs → Dec (i < j) → BeginWith (drop j xs) (valueAt heap′ (nodeOf top xs j))
+      by j l h (yes p) = subst (λ (v : Val). BeginWith (drop j xs) v)
+          (value-kept heap heap′ free (T .right) (g .agree) (nodeOf top xs j) (omega (arith, T .nodes)))
+          (T .begins j (omega arith) h)
+      by j l h (no p) =
+          let z : i ≡ j = omega arith in
+          let y : free ≡ nodeOf top xs i = omega (arith, T .nodes, T .inside) in
+          subst (λ (j : ℕ). BeginWith (drop j xs) (valueAt heap′ (nodeOf top xs j))) z
+          (subst (λ (n : ℕ). BeginWith (drop i xs) (valueAt heap′ n)) y (rw (g .value) new-begin))
+
+pub load-start : {heap : List ℕ} {top : ℕ} {xs : List ℕ} → LoadReady heap top xs → LoadedFrom heap heap top xs (length xs) top
+load-start {heap} {top} {xs} L = record {
+  inside = omega arith;
+  nodes = omega arith;
+  right = L .right;
+  agree = agree-refl top heap;
+  begins = λ j l h. absurd (omega arith);
+}
+
+pub load-done : {heap heap′ : List ℕ} {top : ℕ} {xs : List ℕ} {i free : ℕ} → LoadedFrom heap heap′ top xs i free → i ≤ 0 → LoadedFrom heap heap′ top xs 0 free
+load-done {heap} {heap′} {top} {xs} {i} {free} T l = let z : i ≡ 0 = omega arith in subst (λ (i : ℕ). LoadedFrom heap heap′ top xs i free) z T
 
 ----------------------------------------------------------------
 -- For callers
 
--- where the bytes are those of a value, that value is loaded
-pub load-encoded : {heap heap′ : List ℕ} {top : ℕ} {xs : List ℕ} {at : ℕ} {answer : Loaded} (v : Val) (ys : List ℕ) → drop at xs ≡ encode v ++ ys
-    → LoadDone heap heap′ top xs at answer
-    → (p : Placed) × (answer ≡ Node p) × (valueAt heap′ (p .node) ≡ v) × PlacedFrom heap′ top at (length xs) p
-load-encoded {heap} {heap′} {top} {xs} {at} {answer} v ys e d =
-    go answer
-    (sym (d .gave)
-    ∙ ap (read (length xs - at)) e
-    ∙ read-encode v (length xs - at) ys (omega (arith, length-drop at xs, ap length e, length-encode-append v ys)))
-    (d .placed)
-  where
-    go : (r : Loaded) → told heap′ xs r ≡ got v ys → PlacedRight heap′ top at (length xs) r
-        → (p : Placed) × (r ≡ Node p) × (valueAt heap′ (p .node) ≡ v) × PlacedFrom heap′ top at (length xs) p
-    go (Node p) q w = (p, refl, cc, w)
-    go Malformed q w = absurd (let z : _≡_ {A = ℕ} 0 1 = cc in omega arith)
+-- the value that begins at a byte is at the byte's node
+pub loaded-value : {heap heap′ : List ℕ} {top : ℕ} {xs : List ℕ} {free : ℕ} → LoadedFrom heap heap′ top xs 0 free
+    → (i : ℕ) (v : Val) (ys : List ℕ) → i < length xs → drop i xs ≡ encode v ++ ys → valueAt heap′ (nodeOf top xs i) ≡ v
+loaded-value T i v ys l e = one-value _ v _ ys (sym (T .begins i (omega arith) l) ∙ e) .0

@@ -1,14 +1,15 @@
 -- Laws that the making of nodes cites: lengths of new values, and the two answers.
 use Prim.Native.Nat.{ℕ, _+_, _<_, _≤_}
 use native.Mathlib.Omega.{arith}
-use mathlib.Core.Path.{_≡_, refl, sym}
-use mathlib.Core.Logic.{_⊎_, ⊎-elim, inl as left, inr as right}
+use mathlib.Core.Path.{_≡_, refl, sym, ap, ap₂, _∙_}
+use mathlib.Core.Logic.{inl as left, inr as right}
 use mathlib.Core.Bool.{true, false, false≢true}
 use mathlib.Core.List.{List}
 use borrow.Author.Tests.{le-leb, lt-leb}
 use package.Rattle.rules.specs.Limits.{fits, maxValueBytes}
 use package.Rattle.rules.specs.Val.{Val, size}
-use package.Rattle.values.specs.Nodes.{lengthAt, Room, ofKind, Single, valueAt, Heap, NodeReady, Grown, Made}
+use package.Rattle.values.specs.Nodes.{printAt, lengthAt, Room, unitPrint, mixed, ofKind, Single, valueAt, Heap, NodeReady, Grown, Made}
+use package.Rattle.values.proofs.Shapes.{single-kind, size-unit, size-single, size-pair, print-unit, print-single, print-pair}
 
 ----------------------------------------------------------------
 -- The two answers
@@ -30,45 +31,42 @@ made-old heap top v h = record { answer = sym (fits-false v h); new = λ e. absu
 ----------------------------------------------------------------
 -- Nodes that may be put
 
-pub size-single : (k : ℕ) (v w : Val) → Single k → size (ofKind k v w) ≡ size v + 1
-unfolding ofKind size
-size-single k v w s = ⊎-elim (λ e. rw e (omega arith)) (λ s′. ⊎-elim (λ e. rw e (omega arith)) (λ e. rw e (omega arith)) s′) s
-
-pub single-kind : (k : ℕ) → Single k → k ≤ 4
-single-kind k s = ⊎-elim (λ e. omega arith) (λ s′. ⊎-elim (λ e. omega arith) (λ e. omega arith) s′) s
-
-pub size-pair : (v w : Val) → size (ofKind 3 v w) ≡ size v + size w + 1
-unfolding ofKind size
-size-pair v w = omega arith
-
-pub size-unit : (v w : Val) → size (ofKind 0 v w) ≡ 1
-unfolding ofKind size
-size-unit v w = refl
-
 module _ (heap : List ℕ) (top : ℕ) (h : Heap heap top) (room : Room heap (top + 1)) where
-  pub unit-ready : NodeReady heap top 0 1 0 0
-  unit-ready = record { right = h; room = room; parts = left refl; kind = omega arith; len = sym (size-unit (valueAt heap 0) (valueAt heap 0)) }
+  pub unit-ready : NodeReady heap top 0 unitPrint 1 0 0
+  unit-ready =
+      record {
+        right = h;
+        room = room;
+        parts = left refl;
+        kind = omega arith;
+        print = sym (print-unit (valueAt heap 0) (valueAt heap 0));
+        len = sym (size-unit (valueAt heap 0) (valueAt heap 0));
+      }
 
   pub unit-fits : fits (ofKind 0 (valueAt heap 0) (valueAt heap 0)) ≡ true
   unfolding maxValueBytes
   unit-fits = fits-true (ofKind 0 (valueAt heap 0) (valueAt heap 0)) (omega (arith, size-unit (valueAt heap 0) (valueAt heap 0)))
 
-  pub single-ready : (k n a : ℕ) → a < top → Single k → n ≡ lengthAt heap a → NodeReady heap top k (n + 1) a a
-  single-ready k n a t s e =
+  pub single-ready : {k p q n a : ℕ} → a < top → Single k → q ≡ printAt heap a → p ≡ mixed k q 0 → n ≡ lengthAt heap a
+      → NodeReady heap top k p (n + 1) a a
+  single-ready {k} {p} {q} {n} {a} t s pq pk e =
       record {
         right = h;
         room = room;
         parts = right (t, t);
         kind = single-kind k s;
+        print = pk ∙ ap (λ r. mixed k r 0) (pq ∙ h .node a t .print) ∙ sym (print-single k (valueAt heap a) (valueAt heap a) s);
         len = omega (arith, h .node a t .len, size-single k (valueAt heap a) (valueAt heap a) s);
       }
 
-  pub pair-ready : (n m a b : ℕ) → a < top → b < top → n ≡ lengthAt heap a → m ≡ lengthAt heap b → NodeReady heap top 3 (n + m + 1) a b
-  pair-ready n m a b t u e f =
+  pub pair-ready : {p q q′ n m a b : ℕ} → a < top → b < top → q ≡ printAt heap a → q′ ≡ printAt heap b → p ≡ mixed 3 q q′
+      → n ≡ lengthAt heap a → m ≡ lengthAt heap b → NodeReady heap top 3 p (n + m + 1) a b
+  pair-ready {p} {q} {q′} {n} {m} {a} {b} t u pq pq′ pk e f =
       record {
         right = h;
         room = room;
         parts = right (t, u);
         kind = omega arith;
+        print = pk ∙ ap₂ (mixed 3) (pq ∙ h .node a t .print) (pq′ ∙ h .node b u .print) ∙ sym (print-pair (valueAt heap a) (valueAt heap b));
         len = omega (arith, h .node a t .len, h .node b u .len, size-pair (valueAt heap a) (valueAt heap b));
       }

@@ -3,45 +3,82 @@ use Prim.Native.Nat.{ℕ, _+_, _*_, _^_, _<_, _≤_}
 use native.Mathlib.Omega.{arith}
 use mathlib.Core.Path.{_≡_, refl, sym, _∙_}
 use mathlib.Core.List.{List}
-use lib.ListN.{length, set, length-set}
+use lib.ListN.{length, getD, set, length-set}
 use lib.Seq.{getD-set-same}
-use package.Rattle.octets.specs.Numbers.{put16, put32}
+use package.Rattle.octets.specs.Numbers.{get16, get32, put16, put32}
 use package.Rattle.octets.proofs.Puts.{length-put16, length-put32, set-low, put16-low, put32-low, get16-same, get32-same, get16-put16, get32-put32}
-use package.Rattle.values.specs.Nodes.{nodeBytes, kindAt, lengthAt, leftAt, rightAt, putNode, Room, Agree}
+use package.Rattle.values.specs.Nodes.{nodeBytes, kindAt, printAt, lengthAt, headAt, leftAt, rightAt, putNode, Room, Agree}
 
 ----------------------------------------------------------------
 -- A node that is put
 
-pub length-put : (heap : List ℕ) (n kind len left right : ℕ) → length (putNode heap n kind len left right) ≡ length heap
+pub length-put : (heap : List ℕ) (n kind print len left right : ℕ) → length (putNode heap n kind print len left right) ≡ length heap
 unfolding putNode
-length-put heap n kind len left right = simp (length-put32, length-put16, length-set)
+length-put heap n kind print len left right = simp (length-put32, length-put16, length-set)
 
-module _ (heap : List ℕ) (n kind len left right : ℕ) (room : Room heap (n + 1)) where
-  pub kind-put : kindAt (putNode heap n kind len left right) n ≡ kind
-  unfolding kindAt putNode
-  kind-put =
-      put32-low _ (nodeBytes * n + 8) right (nodeBytes * n) (omega arith)
-      ∙ put32-low _ (nodeBytes * n + 4) left (nodeBytes * n) (omega arith)
-      ∙ put16-low _ (nodeBytes * n + 2) len (nodeBytes * n) (omega arith)
-      ∙ getD-set-same heap (nodeBytes * n) kind 0 (omega arith)
+module _ (heap : List ℕ) (n kind print len left right : ℕ) where
+  -- the node as it stands once its first two bytes, or its first four, are put
+  begun : List ℕ
+  begun = set (set heap (nodeBytes * n) kind) (nodeBytes * n + 1) print
 
-  pub len-put : len < 2 ^ 16 → lengthAt (putNode heap n kind len left right) n ≡ len
-  unfolding lengthAt putNode
-  len-put small =
-      get16-same _ (put16 (set heap (nodeBytes * n) kind) (nodeBytes * n + 2) len) (nodeBytes * n + 2)
-      (λ j h. put32-low _ (nodeBytes * n + 8) right j (omega arith) ∙ put32-low _ (nodeBytes * n + 4) left j (omega arith))
-      ∙ get16-put16 _ (nodeBytes * n + 2) len (simp length-set (omega arith)) small
+  headed : List ℕ
+  headed = put16 begun (nodeBytes * n + 2) len
 
-  pub left-put : left < 2 ^ 32 → leftAt (putNode heap n kind len left right) n ≡ left
-  unfolding leftAt putNode
-  left-put small =
-      get32-same _ (put32 (put16 (set heap (nodeBytes * n) kind) (nodeBytes * n + 2) len) (nodeBytes * n + 4) left) (nodeBytes * n + 4)
-      (λ j h. put32-low _ (nodeBytes * n + 8) right j (omega arith))
-      ∙ get32-put32 _ (nodeBytes * n + 4) left (simp (length-put16, length-set) (omega arith)) small
+  -- what is put later does not change them
+  begun-kept : (i : ℕ) → i < nodeBytes * n + 2 → getD (putNode heap n kind print len left right) i 0 ≡ getD begun i 0
+  unfolding putNode begun
+  begun-kept i h =
+      put32-low _ (nodeBytes * n + 8) right i (omega arith)
+      ∙ put32-low _ (nodeBytes * n + 4) left i (omega arith)
+      ∙ put16-low _ (nodeBytes * n + 2) len i h
 
-  pub right-put : right < 2 ^ 32 → rightAt (putNode heap n kind len left right) n ≡ right
-  unfolding rightAt putNode
-  right-put small = get32-put32 _ (nodeBytes * n + 8) right (simp (length-put32, length-put16, length-set) (omega arith)) small
+  pub agree-put : Agree n heap (putNode heap n kind print len left right)
+  unfolding begun
+  agree-put =
+      record {
+        same = λ i h.
+            sym
+            (begun-kept i (omega arith)
+            ∙ set-low (set heap (nodeBytes * n) kind) (nodeBytes * n + 1) i print (omega arith)
+            ∙ set-low heap (nodeBytes * n) i kind (omega arith));
+        lengths = sym (length-put heap n kind print len left right);
+      }
+
+  module _ (room : Room heap (n + 1)) where
+    pub kind-put : kindAt (putNode heap n kind print len left right) n ≡ kind
+    unfolding kindAt begun
+    kind-put =
+        begun-kept (nodeBytes * n) (omega arith)
+        ∙ set-low (set heap (nodeBytes * n) kind) (nodeBytes * n + 1) (nodeBytes * n) print (omega arith)
+        ∙ getD-set-same heap (nodeBytes * n) kind 0 (omega arith)
+
+    pub print-put : printAt (putNode heap n kind print len left right) n ≡ print
+    unfolding printAt begun
+    print-put =
+        begun-kept (nodeBytes * n + 1) (omega arith)
+        ∙ getD-set-same (set heap (nodeBytes * n) kind) (nodeBytes * n + 1) print 0 (simp length-set (omega arith))
+
+    pub len-put : len < 2 ^ 16 → lengthAt (putNode heap n kind print len left right) n ≡ len
+    unfolding lengthAt putNode headed begun
+    len-put small =
+        get16-same _ headed (nodeBytes * n + 2)
+        (λ j h. put32-low _ (nodeBytes * n + 8) right j (omega arith) ∙ put32-low _ (nodeBytes * n + 4) left j (omega arith))
+        ∙ get16-put16 _ (nodeBytes * n + 2) len (simp length-set (omega arith)) small
+
+    pub left-put : left < 2 ^ 32 → leftAt (putNode heap n kind print len left right) n ≡ left
+    unfolding leftAt putNode headed begun
+    left-put small =
+        get32-same _ (put32 headed (nodeBytes * n + 4) left) (nodeBytes * n + 4) (λ j h. put32-low _ (nodeBytes * n + 8) right j (omega arith))
+        ∙ get32-put32 _ (nodeBytes * n + 4) left (simp (length-put16, length-set) (omega arith)) small
+
+    pub right-put : right < 2 ^ 32 → rightAt (putNode heap n kind print len left right) n ≡ right
+    unfolding rightAt putNode
+    right-put small = get32-put32 _ (nodeBytes * n + 8) right (simp (length-put32, length-put16, length-set) (omega arith)) small
+
+-- kind, fingerprint and length make the head
+pub head-is : (heap : List ℕ) (n : ℕ) → headAt heap n ≡ (kindAt heap n * 256 + printAt heap n) * 65536 + lengthAt heap n
+unfolding headAt kindAt printAt lengthAt get32 get16
+head-is heap n = refl
 
 ----------------------------------------------------------------
 -- Heaps that agree
@@ -55,23 +92,14 @@ agree-trans p q = record { same = λ i h. p .same i h ∙ q .same i h; lengths =
 pub agree-down : {top : ℕ} (low : ℕ) {heap heap′ : List ℕ} → low ≤ top → Agree top heap heap′ → Agree low heap heap′
 agree-down low le p = record { same = λ i h. p .same i (omega arith); lengths = p .lengths }
 
-pub agree-put : (heap : List ℕ) (n kind len left right : ℕ) → Agree n heap (putNode heap n kind len left right)
-unfolding putNode
-agree-put heap n kind len left right =
-    record {
-      same = λ i h.
-          sym
-          (put32-low _ (nodeBytes * n + 8) right i (omega arith)
-          ∙ put32-low _ (nodeBytes * n + 4) left i (omega arith)
-          ∙ put16-low _ (nodeBytes * n + 2) len i (omega arith)
-          ∙ set-low heap (nodeBytes * n) i kind (omega arith));
-      lengths = sym (length-put heap n kind len left right);
-    }
-
 module _ {top : ℕ} {heap heap′ : List ℕ} (p : Agree top heap heap′) (n : ℕ) (below : n < top) where
   pub agree-kind : kindAt heap n ≡ kindAt heap′ n
   unfolding kindAt
   agree-kind = p .same _ (omega arith)
+
+  pub agree-print : printAt heap n ≡ printAt heap′ n
+  unfolding printAt
+  agree-print = p .same _ (omega arith)
 
   pub agree-len : lengthAt heap n ≡ lengthAt heap′ n
   unfolding lengthAt

@@ -1,64 +1,60 @@
--- What loading must do: the value that calls' `read` finds in bytes (section 1) stands in new nodes, one for each of its bytes.
+-- What loading must do: bytes that are values one after another (section 1) stand in new nodes, one for each byte and the last byte's
+-- first, so that the node of a byte has the value that begins at that byte.
 use Prim.Native.Nat.{ℕ, _+_, _-_, _<_, _≤_, _^_}
 use mathlib.Core.Path.{_≡_}
 use mathlib.Core.Bool.{true}
-use mathlib.Core.List.{List}
+use mathlib.Core.List.{List, _++_}
 use lib.ListN.{length, drop}
-use package.Rattle.rules.specs.Val.{size}
+use package.Rattle.rules.specs.Val.{Val, size, encode}
 use package.Rattle.rules.specs.Limits.{fits, maxValueBytes}
-use package.Rattle.calls.specs.Values.{Read, got, malformed, read}
-use package.Rattle.values.specs.Nodes.{Room, Agree, ofKind, valueAt, Heap, NodeReady, Grown}
-use package.Rattle.values.specs.declared.nodes.Placed.{Placed}
-use package.Rattle.values.specs.declared.nodes.Loaded.{Loaded}
-use package.Rattle.values.specs.declared.nodes.Loaded.the-variants.{Node, Malformed}
+use package.Rattle.calls.specs.Values.{encodeAll}
+use package.Rattle.values.specs.Nodes.{lengthAt, Room, Agree, ofKind, valueAt, Heap}
 
 ----------------------------------------------------------------
--- One node more, over the value that was placed last
+-- One node more, over those of the bytes behind its own
 
-pub record PlaceReady (heap : List ℕ) (kind at left : ℕ) (last : Placed) : Type 0 where
-  pub node : NodeReady heap (last .top) kind (last .next - at) left (last .node)
-  pub fit : fits (ofKind kind (valueAt heap left) (valueAt heap (last .node))) ≡ true
-  pub behind : at ≤ last .next
-  pub short : last .next - at < 2 ^ 16
-  pub small : last .top + 1 < 2 ^ 32
+-- The first part of such a value is at the node before, and the second below all the nodes of the first.
+abbrev pub firstBelow : ℕ → ℕ
+firstBelow top = top - 1
 
-abbrev pub above : Placed → Placed
-above last = record { node = last .top; next = last .next; top = last .top + 1 }
+abbrev pub secondBelow : List ℕ → ℕ → ℕ
+secondBelow heap top = firstBelow top - lengthAt heap (firstBelow top)
 
-pub record PlaceDone (heap heap′ : List ℕ) (kind left : ℕ) (last placed : Placed) : Type 0 where
-  pub grown : Grown heap heap′ (last .top) (ofKind kind (valueAt heap left) (valueAt heap (last .node)))
-  pub answer : placed ≡ above last
+abbrev pub overLast : List ℕ → ℕ → ℕ → Val
+overLast heap top k = ofKind k (valueAt heap (firstBelow top)) (valueAt heap (secondBelow heap top))
 
-----------------------------------------------------------------
--- A whole value
-
--- the bytes `xs` from `at` on can be loaded: they are no more than a value may have, and there is a node for each
-pub record LoadReady (heap : List ℕ) (top : ℕ) (xs : List ℕ) (at : ℕ) : Type 0 where
+pub record PlaceReady (heap : List ℕ) (top k : ℕ) : Type 0 where
   pub right : Heap heap top
-  pub inside : at ≤ length xs
+  pub room : Room heap (top + 1)
+  pub kind : k ≤ 4
+  pub first : ¬ (k ≡ 0) → 0 < top
+  pub second : k ≡ 3 → lengthAt heap (firstBelow top) ≤ firstBelow top
+  pub fit : fits (overLast heap top k) ≡ true
+
+----------------------------------------------------------------
+-- Values one after another
+
+-- the bytes can be loaded: they are values, no more than one value may have, and there is a node for each
+pub record LoadReady (heap : List ℕ) (top : ℕ) (xs : List ℕ) : Type 0 where
+  pub right : Heap heap top
+  pub values : List Val
+  pub whole : xs ≡ encodeAll values
   pub short : length xs ≤ maxValueBytes
-  pub room : Room heap (top + (length xs - at))
-  pub small : top + (length xs - at) < 2 ^ 32
+  pub room : Room heap (top + length xs)
+  pub small : top + length xs < 2 ^ 32
 
--- a value that was placed has its node below the new top, and as many nodes as bytes
-pub record PlacedFrom (heap : List ℕ) (top at most : ℕ) (placed : Placed) : Type 0 where
-  pub node : placed .node < placed .top
-  pub bytes : placed .next ≡ at + size (valueAt heap (placed .node))
-  pub nodes : placed .top ≡ top + size (valueAt heap (placed .node))
-  pub inside : placed .next ≤ most
-  pub right : Heap heap (placed .top)
+-- the node of byte `i`
+abbrev pub nodeOf : ℕ → List ℕ → ℕ → ℕ
+nodeOf top xs i = top + (length xs - (i + 1))
 
--- what an answer says was read: the node's value, and the bytes behind it
-abbrev pub told : List ℕ → List ℕ → Loaded → Read
-told heap xs (Node placed) = got (valueAt heap (placed .node)) (drop (placed .next) xs)
-told heap xs Malformed = malformed
+-- the bytes begin with those of the value
+abbrev pub BeginWith : List ℕ → Val → Type 0
+BeginWith xs v = xs ≡ encode v ++ drop (size v) xs
 
--- where the answer is a node, it was placed right
-abbrev pub PlacedRight : List ℕ → ℕ → ℕ → ℕ → Loaded → Type 0
-PlacedRight heap top at most (Node placed) = PlacedFrom heap top at most placed
-PlacedRight heap top at most Malformed = Unit {0}
-
-pub record LoadDone (heap heap′ : List ℕ) (top : ℕ) (xs : List ℕ) (at : ℕ) (answer : Loaded) : Type 0 where
-  pub gave : read (length xs - at) (drop at xs) ≡ told heap′ xs answer
+-- the bytes from `i` on are loaded, and `free` is the next node
+pub record LoadedFrom (heap heap′ : List ℕ) (top : ℕ) (xs : List ℕ) (i free : ℕ) : Type 0 where
+  pub inside : i ≤ length xs
+  pub nodes : free ≡ top + (length xs - i)
+  pub right : Heap heap′ free
   pub agree : Agree top heap heap′
-  pub placed : PlacedRight heap′ top at (length xs) answer
+  pub begins : (j : ℕ) → i ≤ j → j < length xs → BeginWith (drop j xs) (valueAt heap′ (nodeOf top xs j))

@@ -1,17 +1,19 @@
--- The value graph: values (section 1) as nodes in bytes. A node has a kind, the length of its value in bytes, and two parts, which are
--- lower nodes. Nodes are appended and never changed, so values share what they have in common. Laws: proofs/Places, proofs/Heaps.
-use Prim.Native.Nat.{ℕ, zero, suc, _+_, _*_, _<_, _≤_}
+-- The value graph: values (section 1) as nodes in bytes. A node has a kind, the fingerprint of its value, the value's length in bytes, and
+-- two parts, which are lower nodes. Nodes are appended and never changed, so values share what they have in common.
+-- Laws: proofs/Places, proofs/Shapes, proofs/Heaps.
+use Prim.Native.Nat.{ℕ, zero, suc, _+_, _*_, _%_, _<_, _≤_}
 use mathlib.Core.Path.{_≡_}
 use mathlib.Core.Logic.{_⊎_}
 use mathlib.Core.Bool.{Bool, true, false}
 use mathlib.Core.List.{List}
 use lib.ListN.{length, getD, set}
+use lib.Dec.{eqb, ltb}
 use package.Rattle.octets.specs.Numbers.{get16, get32, put16, put32}
 use package.Rattle.rules.specs.Val.{Val, unit, inl, inr, pair, roll, size}
 use package.Rattle.rules.specs.Limits.{fits}
 
 ----------------------------------------------------------------
--- The layout: kind, a spare byte, the value's length (2 bytes), left part and right part (4 bytes each)
+-- The layout: kind, fingerprint, the value's length (2 bytes), left part and right part (4 bytes each)
 
 abbrev pub nodeBytes : ℕ
 nodeBytes = 12
@@ -19,8 +21,15 @@ nodeBytes = 12
 unfoldable pub kindAt : List ℕ → ℕ → ℕ
 kindAt heap n = getD heap (nodeBytes * n) 0
 
+unfoldable pub printAt : List ℕ → ℕ → ℕ
+printAt heap n = getD heap (nodeBytes * n + 1) 0
+
 unfoldable pub lengthAt : List ℕ → ℕ → ℕ
 lengthAt heap n = get16 heap (nodeBytes * n + 2)
+
+-- kind, fingerprint and length, as one number
+unfoldable pub headAt : List ℕ → ℕ → ℕ
+headAt heap n = get32 heap (nodeBytes * n)
 
 unfoldable pub leftAt : List ℕ → ℕ → ℕ
 leftAt heap n = get32 heap (nodeBytes * n + 4)
@@ -28,9 +37,19 @@ leftAt heap n = get32 heap (nodeBytes * n + 4)
 unfoldable pub rightAt : List ℕ → ℕ → ℕ
 rightAt heap n = get32 heap (nodeBytes * n + 8)
 
-unfoldable pub putNode : List ℕ → ℕ → ℕ → ℕ → ℕ → ℕ → List ℕ
-putNode heap n kind len left right =
-    put32 (put32 (put16 (set heap (nodeBytes * n) kind) (nodeBytes * n + 2) len) (nodeBytes * n + 4) left) (nodeBytes * n + 8) right
+-- the left part of a pair, or the right one
+unfoldable pub partAt : List ℕ → ℕ → Bool → ℕ
+partAt heap n true = leftAt heap n
+partAt heap n false = rightAt heap n
+
+-- Is the left part of a pair shorter than the right one?
+unfoldable pub leftShorter : List ℕ → ℕ → Bool
+leftShorter heap n = ltb (lengthAt heap (leftAt heap n)) (lengthAt heap (rightAt heap n))
+
+unfoldable pub putNode : List ℕ → ℕ → ℕ → ℕ → ℕ → ℕ → ℕ → List ℕ
+putNode heap n kind print len left right =
+    put32 (put32 (put16 (set (set heap (nodeBytes * n) kind) (nodeBytes * n + 1) print)
+    (nodeBytes * n + 2) len) (nodeBytes * n + 4) left) (nodeBytes * n + 8) right
 
 -- the bytes hold so many nodes
 abbrev pub Room : List ℕ → ℕ → Type 0
@@ -40,6 +59,38 @@ Room heap n = nodeBytes * n ≤ length heap
 pub record Agree (top : ℕ) (heap heap′ : List ℕ) : Type 0 where
   pub same : (i : ℕ) → i < nodeBytes * top → getD heap i 0 ≡ getD heap′ i 0
   pub lengths : length heap ≡ length heap′
+
+----------------------------------------------------------------
+-- Fingerprints: a byte that is a function of the value, by which most values that differ are told apart without a walk
+
+unfoldable pub unitPrint : ℕ
+unitPrint = 17
+
+-- Every factor is odd, so that no two bytes have the same product with it modulo 256: values that differ in one place have different
+-- fingerprints.
+unfoldable pub kindFactor : ℕ
+kindFactor = 59
+
+unfoldable pub leftFactor : ℕ
+leftFactor = 141
+
+unfoldable pub rightFactor : ℕ
+rightFactor = 101
+
+-- a kind and the fingerprints of two parts, mixed
+unfoldable pub mixed : ℕ → ℕ → ℕ → ℕ
+mixed kind left right = (kindFactor * kind + leftFactor * left + rightFactor * right) % 256
+
+unfoldable pub fingerprint : Val → ℕ
+fingerprint unit = unitPrint
+fingerprint (inl v) = mixed 1 (fingerprint v) 0
+fingerprint (inr v) = mixed 2 (fingerprint v) 0
+fingerprint (pair v w) = mixed 3 (fingerprint v) (fingerprint w)
+fingerprint (roll v) = mixed 4 (fingerprint v) 0
+
+-- Do two nodes agree in kind, fingerprint and length? Nodes of equal values do (proofs/Equal).
+unfoldable pub alikeAt : List ℕ → ℕ → ℕ → Bool
+alikeAt heap a b = eqb (headAt heap a) (headAt heap b)
 
 ----------------------------------------------------------------
 -- Values at nodes
@@ -66,10 +117,12 @@ valueWithin (suc depth) heap n =
 unfoldable pub valueAt : List ℕ → ℕ → Val
 valueAt heap n = valueWithin (suc n) heap n
 
--- The node is a unit or names lower nodes; its length is its value's; and its value is within the limit on values (section 1).
+-- The node is a unit or names lower nodes; its fingerprint and its length are its value's; and its value is within the limit on values
+-- (section 1).
 pub record Right (heap : List ℕ) (n : ℕ) : Type 0 where
   pub parts : (kindAt heap n ≡ 0) ⊎ ((leftAt heap n < n) × (rightAt heap n < n))
   pub kind : kindAt heap n ≤ 4
+  pub print : printAt heap n ≡ fingerprint (valueAt heap n)
   pub len : lengthAt heap n ≡ size (valueAt heap n)
   pub fit : fits (valueAt heap n) ≡ true
 
@@ -81,12 +134,14 @@ pub record Heap (heap : List ℕ) (top : ℕ) : Type 0 where
 ----------------------------------------------------------------
 -- A new node
 
--- A node of the kind `k` and the length `n` over the nodes `a` and `b` may stand at `top`, if its value is within the limit.
-pub record NodeReady (heap : List ℕ) (top k n a b : ℕ) : Type 0 where
+-- A node of the kind `k`, the fingerprint `p` and the length `n` over the nodes `a` and `b` may stand at `top`, if its value is within the
+-- limit.
+pub record NodeReady (heap : List ℕ) (top k p n a b : ℕ) : Type 0 where
   pub right : Heap heap top
   pub room : Room heap (top + 1)
   pub parts : (k ≡ 0) ⊎ ((a < top) × (b < top))
   pub kind : k ≤ 4
+  pub print : p ≡ fingerprint (ofKind k (valueAt heap a) (valueAt heap b))
   pub len : n ≡ size (ofKind k (valueAt heap a) (valueAt heap b))
 
 -- The node at `top` is new and has the value; all below is as it was.

@@ -17,7 +17,8 @@ use package.Rattle.values.proofs.Heaps.{value-kept}
 use package.Rattle.scopes.specs.Slots.{unknown, slotAt, meaning, stateAt}
 use package.Rattle.scopes.proofs.Marks.{found-node, slot-in, slot-out}
 use package.Rattle.scopes.specs.declared.slots.Found.the-variants.{Node, Unknown}
-use package.Rattle.yields.specs.Yields.{ancillaeAt, Ancillae}
+use package.Rattle.yields.proofs.Judging.{judged-yes, judged-as}
+use package.Rattle.yields.specs.Yields.{Judges, ancillaeAt, Ancillae}
 
 ----------------------------------------------------------------
 -- What each variable has
@@ -80,14 +81,14 @@ module _ {slots : List ℕ} {base q top : ℕ} (A : Ancillae slots base q top) (
 
   -- an ancilla parameter yields its own value, another variable any
   module _ (heap : List ℕ) (v : Val) where
-    pub yields-own : {node : ℕ} {r : Bool} → slotAt slots base q i ≡ Node node → r ≡ same (valueAt heap node) v
-        → r ≡ mayBe (look (ancillaeAt heap slots base q) i) v
+    pub yields-own : {node r : ℕ} {exact : Bool} → slotAt slots base q i ≡ Node node → Judges exact r (same (valueAt heap node) v)
+        → Judges exact r (mayBe (look (ancillaeAt heap slots base q) i) v)
     unfolding mayBe
-    yields-own e p = p ∙ sym (ap (λ o. mayBe o v) (look-slot heap ∙ ap (meaning heap) e))
+    yields-own e p = judged-as p (sym (ap (λ o. mayBe o v) (look-slot heap ∙ ap (meaning heap) e)))
 
-    pub yields-any : slotAt slots base q i ≡ Unknown → true ≡ mayBe (look (ancillaeAt heap slots base q) i) v
+    pub yields-any : {exact : Bool} → slotAt slots base q i ≡ Unknown → Judges exact 2 (mayBe (look (ancillaeAt heap slots base q) i) v)
     unfolding mayBe
-    yields-any e = sym (ap (λ o. mayBe o v) (look-slot heap ∙ ap (meaning heap) e))
+    yields-any e = judged-yes (ap (λ o. mayBe o v) (look-slot heap ∙ ap (meaning heap) e))
 
 ----------------------------------------------------------------
 -- Scopes

@@ -1,4 +1,4 @@
--- May-yield by numbers of kinds: a form yields values of one kind alone; a call and an unroll are the forms left; tests in order.
+-- May-yield by numbers of kinds: a form yields values of one kind alone.
 use Prim.Native.Nat.{ℕ, zero, suc, _<_, _≤_}
 use native.Mathlib.Omega.{arith}
 use mathlib.Core.Path.{_≡_, refl}
@@ -54,36 +54,3 @@ module _ (a : List Val) (k : ℕ) (v w : Val) where
   roll-only c e (suc (suc zero)) d h = refl
   roll-only c e (suc (suc (suc zero))) d h = refl
   roll-only c e (suc (suc (suc (suc n)))) d h = absurd (d (omega arith))
-
-----------------------------------------------------------------
--- The forms that are left
-
--- none of the kinds of variable, unit, inl, inr, pair, let, let pair, case, roll
-abbrev pub Others : ℕ → Type 0
-Others k =
-    ((((((((Unit {0} × ¬ (k ≡ 0)) × ¬ (k ≡ 1)) × ¬ (k ≡ 2)) × ¬ (k ≡ 3)) × ¬ (k ≡ 4)) × ¬ (k ≡ 5)) × ¬ (k ≡ 6)) × ¬ (k ≡ 7)) × ¬ (k ≡ 9)
-
-above-pair : (k : ℕ) → ¬ (k ≡ 0) → ¬ (k ≡ 1) → ¬ (k ≡ 2) → ¬ (k ≡ 3) → ¬ (k ≡ 4) → 5 ≤ k
-above-pair k a b c d e = omega arith
-
-only-call : (k : ℕ) → 5 ≤ k → ¬ (k ≡ 5) → ¬ (k ≡ 6) → ¬ (k ≡ 7) → ¬ (k ≡ 9) → k < 10 → k ≡ 8
-only-call k l a b c d h = omega arith
-
--- a call, unless it is an unroll
-pub others : (k : ℕ) → Others k → k < 10 → k ≡ 8
-others k (((((((((u, a), b), c), d), e), f), g), h), i) = only-call k (above-pair k a b c d e) f g h i
-
-----------------------------------------------------------------
--- Tests in order
-
-pub and-no : (b c : Bool) → b ≡ false → false ≡ (b && c)
-and-no b c e = rw e
-
-pub and-yes : (b c : Bool) → b ≡ true → c ≡ (b && c)
-and-yes b c e = rw e
-
-pub or-yes : (b c : Bool) → b ≡ true → true ≡ (b || c)
-or-yes b c e = rw e
-
-pub or-no : (b c : Bool) → b ≡ false → c ≡ (b || c)
-or-no b c e = rw e

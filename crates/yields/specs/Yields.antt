@@ -1,17 +1,16 @@
--- May-yield of a term of a program in bytes, and of a value in the value graph (section 3; rules/specs/Yield). Laws: proofs/.
+-- May-yield of a term of a decoded program, and of a value in the value graph (section 3; rules/specs/Yield). Laws: proofs/.
 use Prim.Native.Nat.{ℕ, zero, suc, _+_, _≤_, _<_}
 use mathlib.Core.Path.{_≡_}
 use mathlib.Core.Logic.{_⊎_}
-use mathlib.Core.Bool.{Bool, true}
-use mathlib.Core.List.{List, [], _∷_, map}
-use lib.ListN.{length, getD}
+use mathlib.Core.Bool.{Bool, true, false}
+use mathlib.Core.List.{List, [], _∷_}
+use lib.ListN.{getD}
 use package.Rattle.rules.specs.Val.{Val}
 use package.Rattle.rules.specs.Yield.{mayYield}
-use package.Rattle.calls.specs.Entries.{TypeEntry, n-unit, termAt, termOf}
-use package.Rattle.calls.specs.Named.{termsOfTerm, below}
-use package.Rattle.program.specs.Parts.{TermField}
+use package.Rattle.calls.specs.Entries.{TypeEntry}
 use package.Rattle.values.specs.Nodes.{valueAt, Heap}
-use package.Rattle.scopes.specs.Slots.{slotCount}
+use package.Rattle.scopes.specs.Slots.{unknown, slotCount, slotsOf, machineOf, scopeIn}
+use package.Rattle.decoded.specs.Rows.{termCount, treeIn, Rows}
 
 ----------------------------------------------------------------
 -- Ancilla values: the ancilla parameters are the first `q` variables of a function's scope
@@ -26,25 +25,38 @@ pub record Ancillae (slots : List ℕ) (base q top : ℕ) : Type 0 where
   pub there : base + q ≤ slotCount
   pub known : (i : ℕ) → i < q → getD slots (base + i) 0 < top
 
+-- the same of the numbers that a run is lent
+abbrev pub ancillaeIn : List ℕ → List ℕ → ℕ → List Val
+ancillaeIn heap st scope = ancillaeAt heap (slotsOf st) (scopeIn scope .base) (scopeIn scope .q)
+
+abbrev pub AncillaeIn : List ℕ → ℕ → Type 0
+AncillaeIn st scope = Ancillae (slotsOf st) (scopeIn scope .base) (scopeIn scope .q) (machineOf st .top)
+
 ----------------------------------------------------------------
 -- Terms
 
--- The fields of the terms at these offsets are well-formed, and each term names lower ones. So it is in an accepted program (proofs/Entries).
-pub record AcceptedTerms (p terms : List ℕ) : Type 0 where
-  pub field : (k : ℕ) → k < length terms → TermField p (getD terms k 0)
-  pub lower : (k : ℕ) → below k (termsOfTerm (getD (map (termAt p) terms) k n-unit)) ≡ true
+-- Whether term `t` may yield the value at `node` can be asked. No node has the number that marks a variable as not known.
+pub record Asks (code heap st : List ℕ) (scope t node : ℕ) : Type 0 where
+  pub rows : Rows code
+  pub term : t < termCount code
+  pub graph : Heap heap (machineOf st .top)
+  pub value : node < machineOf st .top
+  pub small : machineOf st .top ≤ unknown
+  pub ancillae : AncillaeIn st scope
 
--- Whether term `t` may yield the value at `node` can be asked.
-pub record Yields (p terms heap slots : List ℕ) (top base q t node : ℕ) : Type 0 where
-  pub program : AcceptedTerms p terms
-  pub term : t < length terms
-  pub graph : Heap heap top
-  pub value : node < top
-  pub ancillae : Ancillae slots base q top
+-- The answer `r` to a question whose answer is `b`: 0 no, 2 yes, and 1, unless it is exact, perhaps.
+pub record Judges (exact : Bool) (r : ℕ) (b : Bool) : Type 0 where
+  pub never : r ≡ 0 → b ≡ false
+  pub surely : r ≡ 2 → b ≡ true
+  pub most : r ≤ 2
+  pub exactly : exact ≡ true → r ≡ 1 → ⊥
 
--- The answer is the rules'. May-yield looks at no type, so it is the answer whatever the type entries are.
-pub record MayYield (p terms heap slots : List ℕ) (base q t node : ℕ) (r : Bool) : Type 0 where
-  pub answer : (ys : List TypeEntry) → r ≡ mayYield (ancillaeAt heap slots base q) (termOf ys (map (termAt p) terms) t) (valueAt heap node)
+-- May-yield looks at no type, so the rules' answer is the same whatever the type entries are.
+pub record YieldsIn (code heap st : List ℕ) (scope t node : ℕ) (exact : Bool) (r : ℕ) : Type 0 where
+  pub judges : (ys : List TypeEntry) → Judges exact r (mayYield (ancillaeIn heap st scope) (treeIn code ys t) (valueAt heap node))
+
+pub record MayYield (code heap st : List ℕ) (scope t node : ℕ) (r : Bool) : Type 0 where
+  pub answer : (ys : List TypeEntry) → r ≡ mayYield (ancillaeIn heap st scope) (treeIn code ys t) (valueAt heap node)
 
 ----------------------------------------------------------------
 -- Kinds

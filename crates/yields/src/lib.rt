@@ -1,178 +1,219 @@
-// May-yield (document 01, section 3): whether a term may yield a value, judged by the term's form alone.
-// `p` is the program and `terms` the table of its terms' offsets; `ws` is the value graph, of `top` nodes; slot base + i holds the node
-// of variable i, and the ancilla parameters are the first `q` variables (specs/Yields). Terms name lower terms, so the recursion ends.
+// May-yield (document 01, section 3): whether a term may yield a value, judged by the term's form alone. `code` is the decoded program; `ws` is
+// the value graph; the lent numbers `st` hold the ancilla parameters' nodes, the first variables of the scope (specs/Yields). Terms name lower
+// terms, so the recursion ends. An ancilla's value is compared in two ways: at a glance, by what nodes hold, which never calls equal values
+// unequal, and exactly. A term is asked at a glance first: no value is walked where that says no, or yes without a comparison.
 ghost use mathlib.Core.Path.{_≡_};
-ghost use Prim.Native.Nat.{_<_};
-ghost use lib.ListN.{getD};
+ghost use mathlib.Core.Bool.{cond};
+ghost use Prim.Native.Nat.{_<_, _≤_};
+ghost use Rattle.rules.specs.Val.{same};
 ghost use Rattle.rules.specs.Term.{look};
 ghost use Rattle.rules.specs.Yield.{mayBe};
-ghost use Rattle.calls.specs.Fields.{kindAt};
-ghost use Rattle.program.specs.Tables.{termPlaces, Table};
 ghost use Rattle.values.specs.Nodes.{valueAt, Heap};
-ghost use Rattle.yields.specs.Yields.{ancillaeAt, Ancillae, Yields, MayYield, Wraps, Binds};
-use program::tables;
-use program::tables::TERMS;
-use program::views;
+ghost use Rattle.scopes.specs.Slots.{unknown, machineOf};
+ghost use Rattle.decoded.specs.Rows.{kindIn};
+ghost use Rattle.yields.specs.Yields.{ancillaeIn, AncillaeIn, Judges, Asks, MayYield, YieldsIn, Wraps, Binds};
+use decoded::rows;
+use decoded::rows::CODE;
 use scopes::slots::Found;
-use scopes::slots::SLOTS;
+use scopes::state;
+use scopes::state::STATE;
 use values::nodes;
 
+// Answers: no; perhaps, at a glance; yes.
+const NO: u8 = 0;
+
+const PERHAPS: u8 = 1;
+
+const YES: u8 = 2;
+
 // Variable i: an ancilla parameter has its own value, every other variable may have any.
-fn yield_variable(
-    ws: &[u8],
-    top: u32,
-    slots: &[u32; SLOTS],
-    base: usize,
-    q: usize,
-    i: u8,
-    node: u32,
-) -> bool
-    requires { ⌜ Heap (now ws) top ⌝ }
-    requires { ⌜ Ancillae (now slots) base q top ⌝ }
-    requires { ⌜ node < top ⌝ }
-    ensures { λ r. ⌜ r ≡ mayBe (look (ancillaeAt (now (ws .entry)) (now (slots .entry)) base q) i) (valueAt (now (ws .entry)) node) ⌝ }
+fn yield_variable(ws: &[u8], st: &[u32; STATE], scope: u64, i: u16, node: u32, exact: bool) -> u8
+    requires { ⌜ Heap (now ws) (machineOf (now st) .top) ⌝ }
+    requires { ⌜ AncillaeIn (now st) scope ⌝ }
+    requires { ⌜ (node < machineOf (now st) .top) × (machineOf (now st) .top ≤ unknown) ⌝ }
+    ensures { λ r. ⌜ Judges exact r (mayBe (look (ancillaeIn (now (ws .entry)) (now (st .entry)) scope) i) (valueAt (now (ws .entry)) node)) ⌝ }
 {
-    match scopes::slots::find(slots, base, q, i) {
-        Found::Node(known) => nodes::same(ws, top, known, node),
-        Found::Unknown => true,
+    let base = state::base_in(scope);
+    let q = state::ancillae_in(scope);
+    match scopes::slots::find(st, base, q, i) {
+        Found::Node(known) => agree(ws, st, known, node, exact),
+        Found::Unknown => YES,
     }
+}
+
+// Do two nodes have the same value, exactly or at a glance?
+fn agree(ws: &[u8], st: &[u32; STATE], known: u32, node: u32, exact: bool) -> u8
+    requires { ⌜ Heap (now ws) (machineOf (now st) .top) ⌝ }
+    requires { ⌜ (known < machineOf (now st) .top) × (node < machineOf (now st) .top) ⌝ }
+    ensures { λ r. ⌜ Judges exact r (same (valueAt (now (ws .entry)) known) (valueAt (now (ws .entry)) node)) ⌝ }
+{
+    if exact {
+        return surely(nodes::same(ws, state::top(st), known, node));
+    }
+    if nodes::alike(ws, known, node) {
+        return PERHAPS;
+    }
+    NO
+}
+
+// An answer that is known.
+fn surely(yes: bool) -> u8
+    ensures { λ r. ⌜ r ≡ cond yes 2 0 ⌝ }
+{
+    if yes {
+        return YES;
+    }
+    NO
 }
 
 // May term t yield the value at `node`? By its kind (section 1): 0 variable, 1 unit, 2 inl, 3 inr, 4 pair, 5 let, 6 let pair, 7 case,
 // 9 roll; a call (8) and an unroll (10) may yield any value.
-pub fn may_yield(
-    p: &[u8],
-    terms: &[u16; TERMS],
+fn may_yield(
+    code: &[u16; CODE],
     ws: &[u8],
-    top: u32,
-    slots: &[u32; SLOTS],
-    base: usize,
-    q: usize,
+    st: &[u32; STATE],
+    scope: u64,
     t: u16,
     node: u32,
-) -> bool
-    requires { ⌜ Table (now terms) (termPlaces (now p)) 1024 ⌝ }
-    requires { ⌜ Yields (now p) (termPlaces (now p)) (now ws) (now slots) top base q t node ⌝ }
-    ensures { λ r. ⌜ MayYield (now (p .entry)) (termPlaces (now (p .entry))) (now (ws .entry)) (now (slots .entry)) base q t node r ⌝ }
+    exact: bool,
+) -> u8
+    requires { ⌜ Asks (now code) (now ws) (now st) scope t node ⌝ }
+    ensures { λ r. ⌜ YieldsIn (now (code .entry)) (now (ws .entry)) (now (st .entry)) scope t node exact r ⌝ }
 {
-    let at = tables::offset(terms, t);
-    let form = views::kind(p, at);
-    match form {
-        0 => yield_variable(ws, top, slots, base, q, views::variable(p, at), node),
-        1 => nodes::kind_of(ws, node) == 0,
-        2 => yield_part(p, terms, ws, top, slots, base, q, t, 1, node),
-        3 => yield_part(p, terms, ws, top, slots, base, q, t, 2, node),
-        4 => yield_pair(p, terms, ws, top, slots, base, q, t, node),
-        5 => yield_body(p, terms, ws, top, slots, base, q, t, node),
-        6 => yield_body(p, terms, ws, top, slots, base, q, t, node),
-        7 => yield_case(p, terms, ws, top, slots, base, q, t, node),
-        9 => yield_part(p, terms, ws, top, slots, base, q, t, 4, node),
-        _ => true,
+    match rows::kind_of(code, t) {
+        0 => yield_variable(ws, st, scope, rows::first_of(code, t), node, exact),
+        1 => surely(nodes::kind_of(ws, node) == 0),
+        2 => yield_part(code, ws, st, scope, t, node, exact, 1),
+        3 => yield_part(code, ws, st, scope, t, node, exact, 2),
+        4 => yield_pair(code, ws, st, scope, t, node, exact),
+        5 => yield_body(code, ws, st, scope, t, node, exact),
+        6 => yield_body(code, ws, st, scope, t, node, exact),
+        7 => yield_case(code, ws, st, scope, t, node, exact),
+        8 => YES,
+        9 => yield_part(code, ws, st, scope, t, node, exact, 4),
+        10 => YES,
+        // never met: there is no other kind
+        _ => NO,
     }
 }
 
 // inl, inr, roll: the value is of the kind that the term makes, and the term's part may yield the value's part.
 fn yield_part(
-    p: &[u8],
-    terms: &[u16; TERMS],
+    code: &[u16; CODE],
     ws: &[u8],
-    top: u32,
-    slots: &[u32; SLOTS],
-    base: usize,
-    q: usize,
+    st: &[u32; STATE],
+    scope: u64,
     t: u16,
-    kind: u8,
     node: u32,
-) -> bool
-    requires { ⌜ Table (now terms) (termPlaces (now p)) 1024 ⌝ }
-    requires { ⌜ Yields (now p) (termPlaces (now p)) (now ws) (now slots) top base q t node ⌝ }
-    requires { ⌜ Wraps (kindAt (now p) (getD (termPlaces (now p)) t 0)) kind ⌝ }
-    ensures { λ r. ⌜ MayYield (now (p .entry)) (termPlaces (now (p .entry))) (now (ws .entry)) (now (slots .entry)) base q t node r ⌝ }
+    exact: bool,
+    kind: u8,
+) -> u8
+    requires { ⌜ Asks (now code) (now ws) (now st) scope t node ⌝ }
+    requires { ⌜ Wraps (kindIn (now code) t) kind ⌝ }
+    ensures { λ r. ⌜ YieldsIn (now (code .entry)) (now (ws .entry)) (now (st .entry)) scope t node exact r ⌝ }
 {
     let found = nodes::kind_of(ws, node);
     if found != kind {
-        return false;
+        return NO;
     }
-    let part = views::second(p, tables::offset(terms, t));
+    let part = rows::second_of(code, t);
     let below = nodes::left_of(ws, node);
-    may_yield(p, terms, ws, top, slots, base, q, part, below)
+    may_yield(code, ws, st, scope, part, below, exact)
 }
 
 // Each part of a pair may yield the value's part on its side.
 fn yield_pair(
-    p: &[u8],
-    terms: &[u16; TERMS],
+    code: &[u16; CODE],
     ws: &[u8],
-    top: u32,
-    slots: &[u32; SLOTS],
-    base: usize,
-    q: usize,
+    st: &[u32; STATE],
+    scope: u64,
     t: u16,
     node: u32,
-) -> bool
-    requires { ⌜ Table (now terms) (termPlaces (now p)) 1024 ⌝ }
-    requires { ⌜ Yields (now p) (termPlaces (now p)) (now ws) (now slots) top base q t node ⌝ }
-    requires { ⌜ kindAt (now p) (getD (termPlaces (now p)) t 0) ≡ 4 ⌝ }
-    ensures { λ r. ⌜ MayYield (now (p .entry)) (termPlaces (now (p .entry))) (now (ws .entry)) (now (slots .entry)) base q t node r ⌝ }
+    exact: bool,
+) -> u8
+    requires { ⌜ Asks (now code) (now ws) (now st) scope t node ⌝ }
+    requires { ⌜ kindIn (now code) t ≡ 4 ⌝ }
+    ensures { λ r. ⌜ YieldsIn (now (code .entry)) (now (ws .entry)) (now (st .entry)) scope t node exact r ⌝ }
 {
     let found = nodes::kind_of(ws, node);
     if found != 3 {
-        return false;
+        return NO;
     }
-    let at = tables::offset(terms, t);
-    let left = views::first(p, at);
+    let left = rows::first_of(code, t);
     let below = nodes::left_of(ws, node);
-    if may_yield(p, terms, ws, top, slots, base, q, left, below) {
-        let right = views::second(p, at);
-        let beside = nodes::right_of(ws, node);
-        return may_yield(p, terms, ws, top, slots, base, q, right, beside);
+    let first = may_yield(code, ws, st, scope, left, below, exact);
+    if first == NO {
+        return NO;
     }
-    false
+    let right = rows::second_of(code, t);
+    let beside = nodes::right_of(ws, node);
+    let second = may_yield(code, ws, st, scope, right, beside, exact);
+    if second < first {
+        return second;
+    }
+    first
 }
 
 // let, let pair: the body may yield the value.
 fn yield_body(
-    p: &[u8],
-    terms: &[u16; TERMS],
+    code: &[u16; CODE],
     ws: &[u8],
-    top: u32,
-    slots: &[u32; SLOTS],
-    base: usize,
-    q: usize,
+    st: &[u32; STATE],
+    scope: u64,
     t: u16,
     node: u32,
-) -> bool
-    requires { ⌜ Table (now terms) (termPlaces (now p)) 1024 ⌝ }
-    requires { ⌜ Yields (now p) (termPlaces (now p)) (now ws) (now slots) top base q t node ⌝ }
-    requires { ⌜ Binds (kindAt (now p) (getD (termPlaces (now p)) t 0)) ⌝ }
-    ensures { λ r. ⌜ MayYield (now (p .entry)) (termPlaces (now (p .entry))) (now (ws .entry)) (now (slots .entry)) base q t node r ⌝ }
+    exact: bool,
+) -> u8
+    requires { ⌜ Asks (now code) (now ws) (now st) scope t node ⌝ }
+    requires { ⌜ Binds (kindIn (now code) t) ⌝ }
+    ensures { λ r. ⌜ YieldsIn (now (code .entry)) (now (ws .entry)) (now (st .entry)) scope t node exact r ⌝ }
 {
-    let body = views::second(p, tables::offset(terms, t));
-    may_yield(p, terms, ws, top, slots, base, q, body, node)
+    let body = rows::second_of(code, t);
+    may_yield(code, ws, st, scope, body, node, exact)
 }
 
 // Either branch of a case may yield the value.
 fn yield_case(
-    p: &[u8],
-    terms: &[u16; TERMS],
+    code: &[u16; CODE],
     ws: &[u8],
-    top: u32,
-    slots: &[u32; SLOTS],
-    base: usize,
-    q: usize,
+    st: &[u32; STATE],
+    scope: u64,
+    t: u16,
+    node: u32,
+    exact: bool,
+) -> u8
+    requires { ⌜ Asks (now code) (now ws) (now st) scope t node ⌝ }
+    requires { ⌜ kindIn (now code) t ≡ 7 ⌝ }
+    ensures { λ r. ⌜ YieldsIn (now (code .entry)) (now (ws .entry)) (now (st .entry)) scope t node exact r ⌝ }
+{
+    let left = rows::second_of(code, t);
+    let first = may_yield(code, ws, st, scope, left, node, exact);
+    if first == YES {
+        return YES;
+    }
+    let right = rows::third_of(code, t);
+    let second = may_yield(code, ws, st, scope, right, node, exact);
+    if first < second {
+        return second;
+    }
+    first
+}
+
+// May term t yield the value at `node`? At a glance, and exactly where that says perhaps.
+pub fn yields(
+    code: &[u16; CODE],
+    ws: &[u8],
+    st: &[u32; STATE],
+    scope: u64,
     t: u16,
     node: u32,
 ) -> bool
-    requires { ⌜ Table (now terms) (termPlaces (now p)) 1024 ⌝ }
-    requires { ⌜ Yields (now p) (termPlaces (now p)) (now ws) (now slots) top base q t node ⌝ }
-    requires { ⌜ kindAt (now p) (getD (termPlaces (now p)) t 0) ≡ 7 ⌝ }
-    ensures { λ r. ⌜ MayYield (now (p .entry)) (termPlaces (now (p .entry))) (now (ws .entry)) (now (slots .entry)) base q t node r ⌝ }
+    requires { ⌜ Asks (now code) (now ws) (now st) scope t node ⌝ }
+    ensures { λ r. ⌜ MayYield (now (code .entry)) (now (ws .entry)) (now (st .entry)) scope t node r ⌝ }
 {
-    let at = tables::offset(terms, t);
-    let left = views::second(p, at);
-    if may_yield(p, terms, ws, top, slots, base, q, left, node) {
-        return true;
+    let glance = may_yield(code, ws, st, scope, t, node, false);
+    if glance == PERHAPS {
+        return may_yield(code, ws, st, scope, t, node, true) == YES;
     }
-    let right = views::third(p, at);
-    may_yield(p, terms, ws, top, slots, base, q, right, node)
+    glance == YES
 }

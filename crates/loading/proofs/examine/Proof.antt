@@ -18,7 +18,8 @@ slice-aggregate-infer : tie.Need-slice-aggregate-infer
 slice-aggregate-infer c = search needs
 
 infer-requires : tie.Need-infer-requires
-infer-requires c κs = examine-sound (c .before .before .before .before .before .before .before .before .before .before .before .before .pre .0) _ (c .before .before .before .before .before .test-entries .ensures) (c .before .before .enum-told .given .1) (search needs) _ (c .before .before .before .before .before .before .before .before .before .before .before .before .pre .1)
+infer-requires c κs = let p = c .before .before .before .before .before .before .before .before .before .before .before .before .pre in
+    (examine-sound (p .0) _ (c .before .before .before .before .before .test-entries .ensures) (c .before .before .enum-told .given .1) (search needs) _ (p .1 .0), p .1 .1)
 
 enum-known-v : tie.Need-enum-known-v
 enum-known-v c = search needs

@@ -1,4 +1,4 @@
-use mathlib.Core.Path.{sym}
+use mathlib.Core.Path.{refl, sym}
 use lib.Seq.{length-take-le}
 use Rattle.loading.proofs.Loading.{fields-placed, types-inside, terms-inside, functions-inside, load-read, load-malformed, load-over}
 use borrow.Author.Needs.{needs}
@@ -6,31 +6,34 @@ use Rattle.loading.proofs.load.Statement.{statement}
 use Rattle.loading.proofs.load.Tie as tie
 
 layout-requires : tie.Need-layout-requires
-layout-requires c κs = search needs
+layout-requires c κs = (c .before .before .before .before .before .before .before .before .before .pre .0, refl)
 
 enum-known-v : tie.Need-enum-known-v
 enum-known-v c = search needs
 
 slice-reshare-prefix-examine : tie.Need-slice-reshare-prefix-examine
-slice-reshare-prefix-examine c = types-inside _ (c .before .before .before .before .before .before .before .before .before .layout .ensures) _ (c .before .v .given .1)
+slice-reshare-prefix-examine c = types-inside _ (c .before .before .before .before .before .before .before .before .before .layout .ensures .0) _ (c .before .v .given .1)
 
 slice-aggregate-examine : tie.Need-slice-aggregate-examine
-slice-aggregate-examine c = sym (length-take-le _ _ (types-inside _ (c .before .before .before .before .before .before .before .before .before .before .layout .ensures) _ (c .before .before .v .given .1)))
+slice-aggregate-examine c = sym (length-take-le _ _ (types-inside _ (c .before .before .before .before .before .before .before .before .before .before .layout .ensures .0) _ (c .before .before .v .given .1)))
 
 slice-reshare-prefix-examine-2 : tie.Need-slice-reshare-prefix-examine-2
-slice-reshare-prefix-examine-2 c = terms-inside _ (c .before .before .before .before .before .before .before .before .before .before .layout .ensures) _ (c .before .before .v .given .1)
+slice-reshare-prefix-examine-2 c = terms-inside _ (c .before .before .before .before .before .before .before .before .before .before .layout .ensures .0) _ (c .before .before .v .given .1)
 
 slice-aggregate-examine-2 : tie.Need-slice-aggregate-examine-2
-slice-aggregate-examine-2 c = sym (length-take-le _ _ (terms-inside _ (c .before .before .before .before .before .before .before .before .before .before .before .layout .ensures) _ (c .before .before .before .v .given .1)))
+slice-aggregate-examine-2 c = sym (length-take-le _ _ (terms-inside _ (c .before .before .before .before .before .before .before .before .before .before .before .layout .ensures .0) _ (c .before .before .before .v .given .1)))
 
 slice-reshare-prefix-examine-3 : tie.Need-slice-reshare-prefix-examine-3
-slice-reshare-prefix-examine-3 c = functions-inside _ (c .before .before .before .before .before .before .before .before .before .before .before .layout .ensures) _ (c .before .before .before .v .given .1)
+slice-reshare-prefix-examine-3 c = functions-inside _ (c .before .before .before .before .before .before .before .before .before .before .before .layout .ensures .0) _ (c .before .before .before .v .given .1)
 
 slice-aggregate-examine-3 : tie.Need-slice-aggregate-examine-3
-slice-aggregate-examine-3 c = sym (length-take-le _ _ (functions-inside _ (c .before .before .before .before .before .before .before .before .before .before .before .before .layout .ensures) _ (c .before .before .before .before .v .given .1)))
+slice-aggregate-examine-3 c = sym (length-take-le _ _ (functions-inside _ (c .before .before .before .before .before .before .before .before .before .before .before .before .layout .ensures .0) _ (c .before .before .before .before .v .given .1)))
 
 examine-requires : tie.Need-examine-requires
-examine-requires c κs = (fields-placed _ (c .before .before .before .before .before .before .before .before .before .before .before .before .before .layout .ensures) _ (c .before .before .before .before .before .v .given .1), c .before .before .before .before .before .before .before .before .before .before .before .before .before .before .before .before .before .before .before .before .before .before .pre .1)
+examine-requires c κs =
+    let read = c .before .before .before .before .before .before .before .before .before .before .before .before .before .before .layout .ensures in
+    let counted = c .before .before .before .before .before .before .v .given .1 in
+    (fields-placed _ (read .0) _ counted, (c .before .before .before .before .before .before .before .before .before .before .before .before .before .before .before .before .before .before .before .before .before .before .before .before .pre .1, rw counted at (read .1)))
 
 enum-known-v-2 : tie.Need-enum-known-v-2
 enum-known-v-2 c = search needs
@@ -51,7 +54,7 @@ same-length-4 : tie.Need-same-length-4
 same-length-4 c = search needs
 
 returns : tie.Need-returns
-returns c = load-read _ (c .before .before .before .before .before .before .before .before .before .before .before .before .before .before .before .before .layout .ensures) _ (c .before .before .before .before .before .before .before .before .v .given .1) _ (c .before .before .examine .ensures)
+returns c = load-read _ (c .before .before .before .before .before .before .before .before .before .before .before .before .before .before .before .before .before .layout .ensures .0) _ (c .before .before .before .before .before .before .before .before .before .v .given .1) _ (c .before .before .examine .ensures)
 
 same-length-5 : tie.Need-same-length-5
 same-length-5 c = search needs
@@ -63,7 +66,7 @@ same-length-7 : tie.Need-same-length-7
 same-length-7 c = search needs
 
 returns-2 : tie.Need-returns-2
-returns-2 c = load-malformed _ (c .before .before .before .before .before .before .before .before .before .layout .ensures) _ (c .before .v2 .given .1)
+returns-2 c = load-malformed _ (c .before .before .before .before .before .before .before .before .before .layout .ensures .0) _ (c .before .v2 .given .1)
 
 same-length-8 : tie.Need-same-length-8
 same-length-8 c = search needs
@@ -75,7 +78,7 @@ same-length-10 : tie.Need-same-length-10
 same-length-10 c = search needs
 
 returns-3 : tie.Need-returns-3
-returns-3 c = load-over _ (c .before .before .before .before .before .before .before .before .before .layout .ensures) _ (c .before .v3 .given .1)
+returns-3 c = load-over _ (c .before .before .before .before .before .before .before .before .before .layout .ensures .0) _ (c .before .v3 .given .1)
 
 pub load-spec : {M : Type 1} → statement M
 load-spec =

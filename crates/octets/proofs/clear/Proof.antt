@@ -1,9 +1,10 @@
 use Prim.Native.Nat.{_-_, _≤_}
 use native.Mathlib.Omega.{arith}
 use mathlib.Core.Path.{_≡_, _∙_}
-use lib.ListN.{length, length-set}
+use lib.ListN.{length}
 use borrow.Author.Needs.{needs}
-use Rattle.octets.proofs.Runs.{zeroed, zeroed-suc, zeroed-all}
+use Rattle.octets.proofs.Runs.{zeroed, zeroed-all}
+use Rattle.octets.proofs.Zeros.{zeroed-part, part-length}
 use Rattle.octets.proofs.clear.Statement.{statement}
 use Rattle.octets.proofs.clear.Tie as tie
 
@@ -16,23 +17,43 @@ abbrev μ-loop : tie.MeasureT-loop
 loop-holds : tie.Need-loop-holds Inv-loop μ-loop
 loop-holds c = search needs
 
-slice-write-s : tie.Need-slice-write-s Inv-loop μ-loop
-slice-write-s c = search needs
+block-end-requires : tie.Need-block-end-requires Inv-loop μ-loop
+block-end-requires c κs = search needs
 
-add-i : tie.Need-add-i Inv-loop μ-loop
-add-i c = search needs
+sub-clear-block : tie.Need-sub-clear-block Inv-loop μ-loop
+sub-clear-block c = search needs
+
+part-clear-block-start : tie.Need-part-clear-block-start Inv-loop μ-loop
+part-clear-block-start c = search needs
+
+part-clear-block-end : tie.Need-part-clear-block-end Inv-loop μ-loop
+part-clear-block-end c = search needs
+
+clear-block-requires : tie.Need-clear-block-requires Inv-loop μ-loop
+clear-block-requires c κs = search needs
 
 loop-less : tie.Need-loop-less Inv-loop μ-loop
-loop-less c = simp length-set (omega arith)
+loop-less c = let t = c .before .before .before .before in
+    let l = t .before .before .loop in
+    let k = c .before .before .clear-block in
+    let xs = t .before .before .before .before .args .s .now in
+    omega (arith, part-length xs (l .i) (t .block-end .result) (l .s) (k .last .0) (l .inv .1) (k .ensures) (omega arith) (omega arith))
 
 loop-again : tie.Need-loop-again Inv-loop μ-loop
-loop-again c = (search needs, zeroed-suc _ _ _ (c .before .loop .inv .1) (omega arith), simp length-set (c .before .loop .inv .2))
+loop-again c = let t = c .before .before .before .before in
+    let l = t .before .before .loop in
+    let k = c .before .before .clear-block in
+    let xs = t .before .before .before .before .args .s .now in (
+      omega arith,
+      zeroed-part xs (l .i) (t .block-end .result) (l .s) (k .last .0) (l .inv .1) (k .ensures) (omega arith) (omega arith),
+      part-length xs (l .i) (t .block-end .result) (l .s) (k .last .0) (l .inv .1) (k .ensures) (omega arith) (omega arith),
+    )
 
 same-length : tie.Need-same-length Inv-loop μ-loop
 same-length c = search needs
 
 returns : tie.Need-returns Inv-loop μ-loop
-returns c = c .before .loop .inv .1 ∙ zeroed-all (c .before .before .args .s .now) (c .before .loop .i) (omega arith)
+returns c = c .before .loop .inv .1 ∙ zeroed-all (c .before .before .before .args .s .now) (c .before .loop .i) (omega arith)
 
 pub clear-spec : {M : Type 1} → statement M
 clear-spec =
@@ -41,8 +62,11 @@ clear-spec =
     Inv-loop
     μ-loop
     loop-holds
-    slice-write-s
-    add-i
+    block-end-requires
+    sub-clear-block
+    part-clear-block-start
+    part-clear-block-end
+    clear-block-requires
     loop-less
     loop-again
     same-length

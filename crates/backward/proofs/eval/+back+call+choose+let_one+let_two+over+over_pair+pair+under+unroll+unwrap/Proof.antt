@@ -1,3 +1,12 @@
+-- The functions meet their contracts: the answers of Proof/, put together.
+mod Claims
+mod Entering
+mod Values
+mod Parts
+mod Lets
+mod Cases
+mod Calls
+use Prim.Native.Nat.{_+_}
 use Rattle.backward.proofs.eval.back.Reads as back
 use Rattle.backward.proofs.eval.+back+call+choose+let_one+let_two+over+over_pair+pair+under+unroll+unwrap.Lts-back as back-lts
 use Rattle.backward.proofs.eval.call.Reads as call
@@ -20,22 +29,16 @@ use Rattle.backward.proofs.eval.unroll.Reads as unroll
 use Rattle.backward.proofs.eval.+back+call+choose+let_one+let_two+over+over_pair+pair+under+unroll+unwrap.Lts-unroll as unroll-lts
 use Rattle.backward.proofs.eval.unwrap.Reads as unwrap
 use Rattle.backward.proofs.eval.+back+call+choose+let_one+let_two+over+over_pair+pair+under+unroll+unwrap.Lts-unwrap as unwrap-lts
-use Rattle.backward.proofs.eval.+back+call+choose+let_one+let_two+over+over_pair+pair+under+unroll+unwrap.Proof.Claims.{μ-back, μ-call, μ-choose, μ-let-one, μ-let-two, μ-over, μ-over-pair, μ-pair, μ-under, μ-unroll, μ-unwrap, back-at, call-at, choose-at, let-one-at, let-two-at, over-at, over-pair-at, pair-at, under-at, unroll-at, unwrap-at, back-uses, call-uses, choose-uses, let-one-uses, let-two-uses, over-uses, over-pair-uses, pair-uses, under-uses, unroll-uses, unwrap-uses}
-use Rattle.backward.proofs.eval.+back+call+choose+let_one+let_two+over+over_pair+pair+under+unroll+unwrap.Proof.Entering.{back-element-copy-out-fuel, back-refuse-requires, back-returns, back-refuse-requires-2, back-returns-2, back-element-copy-out-t17, back-sub-t21, back-offset-requires, back-kind-requires, back-element-copy-out-variable, back-variable-requires, back-unit-requires, back-unwrap-requires, back-unwrap-requires-2, back-pair-requires, back-let-one-requires, back-let-two-requires, back-choose-requires, back-call-requires, back-unwrap-requires-3, back-unroll-requires, back-same-length, back-returns-3, back-same-length-2, back-returns-4, back-same-length-3, back-returns-5, back-same-length-4, back-returns-6, back-same-length-5, back-returns-7, back-same-length-6, back-returns-8, back-same-length-7, back-returns-9, back-same-length-8, back-returns-10, back-same-length-9, back-returns-11, back-same-length-10, back-returns-12, back-same-length-11, back-returns-13}
-use Rattle.backward.proofs.eval.+back+call+choose+let_one+let_two+over+over_pair+pair+under+unroll+unwrap.Proof.Values.{over-element-copy-out-top, over-single-requires, over-add-t23, over-element-copy-out-t26, over-back-requires, over-same-length, over-returns, over-element-copy-out-long, over-long-requires, over-same-length-2, over-returns-2, over-pair-element-copy-out-top, over-pair-pair-requires, over-pair-add-t23, over-pair-element-copy-out-t26, over-pair-back-requires, over-pair-same-length, over-pair-returns, over-pair-element-copy-out-long, over-pair-long-requires, over-pair-same-length-2, over-pair-returns-2, under-add-bind, under-bind-requires, under-add-s, under-back-requires, under-same-length, under-returns}
-use Rattle.backward.proofs.eval.+back+call+choose+let_one+let_two+over+over_pair+pair+under+unroll+unwrap.Proof.Parts.{pair-kind-of-requires, pair-refuse-requires, pair-same-length, pair-returns, pair-first-of-requires, pair-second-of-requires, pair-left-of-requires, pair-right-of-requires, pair-sub-h, pair-back-requires, pair-same-length-2, pair-returns-2, pair-back-requires-2, pair-same-length-3, pair-returns-3, unroll-second-of-requires, unroll-sub-h, unroll-over-requires, unroll-same-length, unroll-returns, unwrap-kind-of-requires, unwrap-second-of-requires, unwrap-left-of-requires, unwrap-sub-h, unwrap-back-requires, unwrap-same-length, unwrap-returns, unwrap-differ-requires, unwrap-same-length-2, unwrap-returns-2}
-use Rattle.backward.proofs.eval.+back+call+choose+let_one+let_two+over+over_pair+pair+under+unroll+unwrap.Proof.Lets.{let-one-first-of-requires, let-one-second-of-requires, let-one-sub-h, let-one-under-requires, let-one-same-length, let-one-returns, let-one-leave-requires, let-one-cast-left, let-one-left-requires, let-one-back-requires, let-one-same-length-2, let-one-returns-2, let-two-first-of-requires, let-two-second-of-requires, let-two-sub-h, let-two-add-bind, let-two-bind-requires, let-two-add-s, let-two-under-requires, let-two-same-length, let-two-returns, let-two-leave-requires, let-two-cast-left, let-two-left-requires, let-two-leave-requires-2, let-two-cast-left-2, let-two-left-requires-2, let-two-over-pair-requires, let-two-same-length-2, let-two-returns-2}
-use Rattle.backward.proofs.eval.+back+call+choose+let_one+let_two+over+over_pair+pair+under+unroll+unwrap.Proof.Cases.{choose-first-of-requires, choose-second-of-requires, choose-element-copy-out-may-yield, choose-may-yield-requires, choose-branch-of-requires, choose-side-of-requires, choose-sub-h, choose-under-requires, choose-same-length, choose-returns, choose-leave-requires, choose-cast-left, choose-left-requires, choose-over-requires, choose-same-length-2, choose-returns-2}
-use Rattle.backward.proofs.eval.+back+call+choose+let_one+let_two+over+over_pair+pair+under+unroll+unwrap.Proof.Calls.{call-ancillae-of-requires, call-gather-requires, call-same-length, call-returns, call-first-of-requires, call-body-of-requires, call-cast-first, call-first-requires, call-add-at, call-sub-h, call-under-requires, call-same-length-2, call-returns-2, call-leave-requires, call-argument-of-requires, call-back-requires, call-same-length-3, call-returns-3}
+use Rattle.decoded.proofs.rows.second_of.Reads as second-of-reads
 use Rattle.backward.proofs.eval.+back+call+choose+let_one+let_two+over+over_pair+pair+under+unroll+unwrap.{statement}
 use Rattle.backward.proofs.eval.+back+call+choose+let_one+let_two+over+over_pair+pair+under+unroll+unwrap.Tie.{close}
-mod Claims
-mod Entering
-mod Values
-mod Parts
-mod Lets
-mod Cases
-mod Calls
+use Rattle.backward.proofs.eval.+back+call+choose+let_one+let_two+over+over_pair+pair+under+unroll+unwrap.Proof.Claims.{μ-back, μ-call, μ-choose, μ-let-one, μ-let-two, μ-over, μ-over-pair, μ-pair, μ-under, μ-unroll, μ-unwrap, back-at, call-at, choose-at, let-one-at, let-two-at, over-at, over-below, over-pair-at, pair-at, under-at, unroll-at, unwrap-at, back-uses, call-uses, choose-uses, let-one-uses, let-two-uses, over-uses, over-pair-uses, pair-uses, under-uses, unwrap-uses}
+use Rattle.backward.proofs.eval.+back+call+choose+let_one+let_two+over+over_pair+pair+under+unroll+unwrap.Proof.Entering.{back-fuel-requires, back-refuse-requires, back-returns, back-refuse-requires-2, back-returns-2, back-spend-requires, back-kind-of-requires, back-variable-requires, back-unit-requires, back-unwrap-requires, back-unwrap-requires-2, back-pair-requires, back-let-one-requires, back-let-two-requires, back-choose-requires, back-call-requires, back-unwrap-requires-3, back-unroll-requires, back-refuse-requires-3, back-same-length, back-returns-3, back-same-length-2, back-returns-4, back-same-length-3, back-returns-5, back-same-length-4, back-returns-6, back-same-length-5, back-returns-7, back-same-length-6, back-returns-8, back-same-length-7, back-returns-9, back-same-length-8, back-returns-10, back-same-length-9, back-returns-11, back-same-length-10, back-returns-12, back-same-length-11, back-returns-13, back-returns-14}
+use Rattle.backward.proofs.eval.+back+call+choose+let_one+let_two+over+over_pair+pair+under+unroll+unwrap.Proof.Values.{over-top-requires, over-single-requires, over-grow-requires, over-back-requires, over-same-length, over-returns, over-fuel-requires, over-long-requires, over-same-length-2, over-returns-2, over-pair-top-requires, over-pair-pair-requires, over-pair-grow-requires, over-pair-back-requires, over-pair-same-length, over-pair-returns, over-pair-fuel-requires, over-pair-long-requires, over-pair-same-length-2, over-pair-returns-2, under-end-of-requires, under-bind-requires, under-wider-requires, under-back-requires, under-same-length, under-returns}
+use Rattle.backward.proofs.eval.+back+call+choose+let_one+let_two+over+over_pair+pair+under+unroll+unwrap.Proof.Parts.{unwrap-kind-of-requires, unwrap-second-of-requires, unwrap-left-of-requires, unwrap-sub-back, unwrap-back-requires, unwrap-same-length, unwrap-returns, unwrap-differ-requires, unwrap-same-length-2, unwrap-returns-2, pair-kind-of-requires, pair-refuse-requires, pair-same-length, pair-returns, pair-first-of-requires, pair-second-of-requires, pair-left-of-requires, pair-right-of-requires, pair-sub-h, pair-back-requires, pair-same-length-2, pair-returns-2, pair-back-requires-2, pair-same-length-3, pair-returns-3, unroll-second-of-requires, unroll-sub-over, unroll-over-requires, unroll-same-length, unroll-returns}
+use Rattle.backward.proofs.eval.+back+call+choose+let_one+let_two+over+over_pair+pair+under+unroll+unwrap.Proof.Lets.{let-one-first-of-requires, let-one-second-of-requires, let-one-sub-h, let-one-under-requires, let-one-same-length, let-one-returns, let-one-leave-requires, let-one-outer-requires, let-one-back-requires, let-one-same-length-2, let-one-returns-2, let-two-first-of-requires, let-two-second-of-requires, let-two-sub-h, let-two-end-of-requires, let-two-bind-requires, let-two-wider-requires, let-two-under-requires, let-two-same-length, let-two-returns, let-two-leave-requires, let-two-outer-requires, let-two-leave-requires-2, let-two-outer-requires-2, let-two-over-pair-requires, let-two-same-length-2, let-two-returns-2}
+use Rattle.backward.proofs.eval.+back+call+choose+let_one+let_two+over+over_pair+pair+under+unroll+unwrap.Proof.Cases.{choose-first-of-requires, choose-second-of-requires, choose-yields-requires, choose-branch-of-requires, choose-side-of-requires, choose-sub-h, choose-under-requires, choose-same-length, choose-returns, choose-leave-requires, choose-outer-requires, choose-over-requires, choose-same-length-2, choose-returns-2}
+use Rattle.backward.proofs.eval.+back+call+choose+let_one+let_two+over+over_pair+pair+under+unroll+unwrap.Proof.Calls.{call-third-of-requires, call-wide-index-requires, call-gather-requires, call-same-length, call-returns, call-first-of-requires, call-body-of-requires, call-cast-first, call-first-requires, call-end-of-requires, call-scope-requires, call-sub-h, call-under-requires, call-same-length-2, call-returns-2, call-leave-requires, call-argument-of-requires, call-back-requires, call-same-length-3, call-returns-3}
 
 pub +back+call+choose+let-one+let-two+over+over-pair+pair+under+unroll+unwrap-spec :
     {M : Type 1} → statement M
@@ -55,16 +58,13 @@ pub +back+call+choose+let-one+let-two+over+over-pair+pair+under+unroll+unwrap-sp
     (λ t. back-lts.spec (back-uses t)
     (back-at t)
     back.Post
-    (back-element-copy-out-fuel t)
+    (back-fuel-requires t)
     (back-refuse-requires t)
     (back-returns t)
     (back-refuse-requires-2 t)
     (back-returns-2 t)
-    (back-element-copy-out-t17 t)
-    (back-sub-t21 t)
-    (back-offset-requires t)
-    (back-kind-requires t)
-    (back-element-copy-out-variable t)
+    (back-spend-requires t)
+    (back-kind-of-requires t)
     (back-variable-requires t)
     (back-unit-requires t)
     (back-unwrap-requires t)
@@ -76,6 +76,7 @@ pub +back+call+choose+let-one+let-two+over+over-pair+pair+under+unroll+unwrap-sp
     (back-call-requires t)
     (back-unwrap-requires-3 t)
     (back-unroll-requires t)
+    (back-refuse-requires-3 t)
     (back-same-length t)
     (back-returns-3 t)
     (back-same-length-2 t)
@@ -97,11 +98,13 @@ pub +back+call+choose+let-one+let-two+over+over-pair+pair+under+unroll+unwrap-sp
     (back-same-length-10 t)
     (back-returns-12 t)
     (back-same-length-11 t)
-    (back-returns-13 t))
+    (back-returns-13 t)
+    (back-returns-14 t))
     (λ t. call-lts.spec (call-uses t)
     (call-at t)
     call.Post
-    (call-ancillae-of-requires t)
+    (call-third-of-requires t)
+    (call-wide-index-requires t)
     (call-gather-requires t)
     (call-same-length t)
     (call-returns t)
@@ -109,7 +112,8 @@ pub +back+call+choose+let-one+let-two+over+over-pair+pair+under+unroll+unwrap-sp
     (call-body-of-requires t)
     (call-cast-first t)
     (call-first-requires t)
-    (call-add-at t)
+    (call-end-of-requires t)
+    (call-scope-requires t)
     (call-sub-h t)
     (call-under-requires t)
     (call-same-length-2 t)
@@ -124,8 +128,7 @@ pub +back+call+choose+let-one+let-two+over+over-pair+pair+under+unroll+unwrap-sp
     choose.Post
     (choose-first-of-requires t)
     (choose-second-of-requires t)
-    (choose-element-copy-out-may-yield t)
-    (choose-may-yield-requires t)
+    (choose-yields-requires t)
     (choose-branch-of-requires t)
     (choose-side-of-requires t)
     (choose-sub-h t)
@@ -133,8 +136,7 @@ pub +back+call+choose+let-one+let-two+over+over-pair+pair+under+unroll+unwrap-sp
     (choose-same-length t)
     (choose-returns t)
     (choose-leave-requires t)
-    (choose-cast-left t)
-    (choose-left-requires t)
+    (choose-outer-requires t)
     (choose-over-requires t)
     (choose-same-length-2 t)
     (choose-returns-2 t))
@@ -148,8 +150,7 @@ pub +back+call+choose+let-one+let-two+over+over-pair+pair+under+unroll+unwrap-sp
     (let-one-same-length t)
     (let-one-returns t)
     (let-one-leave-requires t)
-    (let-one-cast-left t)
-    (let-one-left-requires t)
+    (let-one-outer-requires t)
     (let-one-back-requires t)
     (let-one-same-length-2 t)
     (let-one-returns-2 t))
@@ -159,46 +160,42 @@ pub +back+call+choose+let-one+let-two+over+over-pair+pair+under+unroll+unwrap-sp
     (let-two-first-of-requires t)
     (let-two-second-of-requires t)
     (let-two-sub-h t)
-    (let-two-add-bind t)
+    (let-two-end-of-requires t)
     (let-two-bind-requires t)
-    (let-two-add-s t)
+    (let-two-wider-requires t)
     (let-two-under-requires t)
     (let-two-same-length t)
     (let-two-returns t)
     (let-two-leave-requires t)
-    (let-two-cast-left t)
-    (let-two-left-requires t)
+    (let-two-outer-requires t)
     (let-two-leave-requires-2 t)
-    (let-two-cast-left-2 t)
-    (let-two-left-requires-2 t)
+    (let-two-outer-requires-2 t)
     (let-two-over-pair-requires t)
     (let-two-same-length-2 t)
     (let-two-returns-2 t))
     (λ t. over-lts.spec (over-uses t)
     (over-at t)
     over.Post
-    (over-element-copy-out-top t)
+    (over-top-requires t)
     (over-single-requires t)
-    (over-add-t23 t)
-    (over-element-copy-out-t26 t)
+    (over-grow-requires t)
     (over-back-requires t)
     (over-same-length t)
     (over-returns t)
-    (over-element-copy-out-long t)
+    (over-fuel-requires t)
     (over-long-requires t)
     (over-same-length-2 t)
     (over-returns-2 t))
     (λ t. over-pair-lts.spec (over-pair-uses t)
     (over-pair-at t)
     over-pair.Post
-    (over-pair-element-copy-out-top t)
+    (over-pair-top-requires t)
     (over-pair-pair-requires t)
-    (over-pair-add-t23 t)
-    (over-pair-element-copy-out-t26 t)
+    (over-pair-grow-requires t)
     (over-pair-back-requires t)
     (over-pair-same-length t)
     (over-pair-returns t)
-    (over-pair-element-copy-out-long t)
+    (over-pair-fuel-requires t)
     (over-pair-long-requires t)
     (over-pair-same-length-2 t)
     (over-pair-returns-2 t))
@@ -223,17 +220,18 @@ pub +back+call+choose+let-one+let-two+over+over-pair+pair+under+unroll+unwrap-sp
     (λ t. under-lts.spec (under-uses t)
     (under-at t)
     under.Post
-    (under-add-bind t)
+    (under-end-of-requires t)
     (under-bind-requires t)
-    (under-add-s t)
+    (under-wider-requires t)
     (under-back-requires t)
     (under-same-length t)
     (under-returns t))
-    (λ t. unroll-lts.spec (unroll-uses t)
+    (λ t. unroll-lts.spec
+    (second-of-reads.Asked, second-of-reads.Learnt, over-below t, over.Post)
     (unroll-at t)
     unroll.Post
     (unroll-second-of-requires t)
-    (unroll-sub-h t)
+    (unroll-sub-over t)
     (unroll-over-requires t)
     (unroll-same-length t)
     (unroll-returns t))
@@ -243,7 +241,7 @@ pub +back+call+choose+let-one+let-two+over+over-pair+pair+under+unroll+unwrap-sp
     (unwrap-kind-of-requires t)
     (unwrap-second-of-requires t)
     (unwrap-left-of-requires t)
-    (unwrap-sub-h t)
+    (unwrap-sub-back t)
     (unwrap-back-requires t)
     (unwrap-same-length t)
     (unwrap-returns t)

@@ -1,39 +1,46 @@
-use mathlib.Core.Path.{sym, _∙_}
 use native.Mathlib.Omega.{arith}
-use Rattle.backward.proofs.Leaves.{node-known, node-mark}
+use mathlib.Core.Path.{sym, _∙_}
 use borrow.Author.Needs.{needs}
+use Rattle.backward.proofs.Leaves.{leaves-node, leaves-unit}
 use Rattle.backward.proofs.outcomes.leave.Statement.{statement}
 use Rattle.backward.proofs.outcomes.leave.Tie as tie
 
+count-in-requires : tie.Need-count-in-requires
+count-in-requires c κs = search needs
+
 cast-knows : tie.Need-cast-knows
-cast-knows c = search needs
+cast-knows c = let e = c .count-in .ensures in omega (arith, c .before .pre .few)
 
 knows-requires : tie.Need-knows-requires
-knows-requires c κs = search needs
+knows-requires c κs = let e = c .count-in .ensures in omega (arith, c .before .pre .few)
 
-add-result : tie.Need-add-result
-add-result c = search needs
+end-of-requires : tie.Need-end-of-requires
+end-of-requires c κs = search needs
 
-mul-result : tie.Need-mul-result
-mul-result c = search needs
-
-element-copy-out-result : tie.Need-element-copy-out-result
-element-copy-out-result c = search needs
+at-requires : tie.Need-at-requires
+at-requires c κs =
+    let start = c .before .before .before .before in
+    let e = c .end-of .ensures in omega (arith, start .pre .there)
 
 returns : tie.Need-returns
-returns c = node-known _ (c .before .before .before .pre .1 .bound (c .before .before .before .args .n) (omega arith) (sym (c .before .before .knows .ensures) ∙ c .before .if1 .taken))
+returns c =
+    let at-count-in = c .before .before .before .before in
+    let start = at-count-in .before in
+    leaves-node (start .pre) (at-count-in .count-in .ensures) (sym (c .before .before .before .knows .ensures) ∙ c .before .before .if1 .taken)
+    (c .before .end-of .ensures) (c .at .ensures)
 
 returns-2 : tie.Need-returns-2
-returns-2 c = node-mark _ (c .before .before .pre .1 .marked (c .before .before .args .n) (omega arith) (sym (c .before .knows .ensures) ∙ c .if1 .left))
+returns-2 c =
+    leaves-unit (c .before .before .before .pre) (c .before .before .count-in .ensures) (sym (c .before .knows .ensures) ∙ c .if1 .left)
 
 pub leave-spec : {M : Type 1} → statement M
 leave-spec =
     tie.close
     (tie.spec
+    count-in-requires
     cast-knows
     knows-requires
-    add-result
-    mul-result
-    element-copy-out-result
+    end-of-requires
+    at-requires
     returns
     returns-2)

@@ -16,7 +16,8 @@ refuse-requires : tie.Need-refuse-requires
 refuse-requires c κs = search needs
 
 returns-2 : tie.Need-returns-2
-returns-2 c = unit-missing (c .before .before .before .before .args .b) (c .before .before .before .before .args .node) (λ e. c .before .if1 .left (c .before .before .kind-of .ensures ∙ e)) (c .refuse .ensures .0 ∙ ap Refused (number-stuck _)) (c .refuse .ensures .1)
+returns-2 c = unit-missing (c .before .before .before .before .args .b) (c .before .before .before .before .args .node)
+    (λ e. c .before .if1 .left (c .before .before .kind-of .ensures ∙ e)) (c .refuse .ensures .0 ∙ ap Refused (number-stuck _)) (c .refuse .ensures .1)
 
 pub unit-spec : {M : Type 1} → statement M
 unit-spec = tie.close (tie.spec kind-of-requires returns refuse-requires returns-2)

@@ -1,36 +1,76 @@
 use native.Mathlib.Omega.{arith}
 use mathlib.Core.Path.{sym}
-use Rattle.backward.proofs.Starting.{start-reads, begin-space, begin-there, begin-prepared, begin-done, begin-stopped}
 use borrow.Author.Needs.{needs}
+use Rattle.backward.proofs.Starting.{start-reads, begin-space, begin-few, begin-prepared, begin-leaves, input-there, input-missing}
 use Rattle.backward.proofs.start.run.Statement.{statement}
 use Rattle.backward.proofs.start.run.Tie as tie
 
 body-of-requires : tie.Need-body-of-requires
-body-of-requires c κs = ((c .before .before .pre .0) .ofFunctions, start-reads ((c .before .before .pre .1) .starts))
+body-of-requires c κs = start-reads (c .before .pre .starts)
 
 cast-first : tie.Need-cast-first
-cast-first c = omega (arith, begin-space (c .before .before .before .pre .1))
+cast-first c = omega (arith, begin-space (c .before .before .pre))
 
 first-requires : tie.Need-first-requires
-first-requires c κs = begin-space (c .before .before .before .pre .1)
+first-requires c κs = begin-space (c .before .before .pre)
+
+scope-requires : tie.Need-scope-requires
+scope-requires c κs = let few = begin-space (c .before .before .before .pre) in (omega arith, omega arith, omega arith)
 
 under-requires : tie.Need-under-requires
-under-requires c κs = ((c .before .before .before .before .before .before .before .pre .0), (begin-prepared (c .before .before .before .before .before .before .before .pre .1) (c .before .before .before .before .body-of .ensures) (c .before .before .before .first .ensures), ((c .before .before .before .before .before .before .before .pre .1) .starts .value, begin-space (c .before .before .before .before .before .before .before .pre .1))))
+under-requires c κs =
+    let at-scope = c .before .before in
+    let at-body-of = at-scope .before .before in
+    let start = at-body-of .before .before in (
+      record {
+        full = start .pre .full;
+        prepared = begin-prepared (start .pre) (at-scope .scope .ensures) (at-body-of .body-of .ensures)
+            (c .before .before .before .first .ensures);
+      },
+      (
+        start .pre .starts .value,
+        begin-few (start .pre) (at-scope .scope .ensures)
+            (at-body-of .body-of .ensures),
+      ),
+    )
 
 same-length : tie.Need-same-length
 same-length c = search needs
 
 returns : tie.Need-returns
-returns c = begin-stopped (c .before .before .before .before .before .before .before .before .before .before .before .pre .1) (c .before .before .before .before .before .before .before .before .body-of .ensures) (c .before .before .before .under .ensures) (c .if1 .taken)
+returns c =
+    let at-under = c .before .before .before in
+    let at-scope = at-under .before .before .before in
+    let at-body-of = at-scope .before .before in
+    let start = at-body-of .before .before in
+    record {
+      lengths = at-under .under .ensures .lengths;
+      returns = input-missing (start .pre) (at-scope .scope .ensures) (at-body-of .body-of .ensures)
+          (at-under .under .ensures .gone) (c .if1 .taken);
+    }
 
 leave-requires : tie.Need-leave-requires
-leave-requires c κs = ((begin-space (c .before .before .before .before .before .before .before .before .before .before .before .before .pre .1), begin-there (c .before .before .before .before .before .before .before .before .before .before .before .before .pre .1)), c .before .before .before .before .under .ensures .tells (c .before .if1 .left))
+leave-requires c κs =
+    let at-under = c .before .before .before .before in
+    let at-scope = at-under .before .before .before in
+    let at-body-of = at-scope .before .before in
+    let start = at-body-of .before .before in
+    begin-leaves (start .pre) (at-scope .scope .ensures) (at-body-of .body-of .ensures) (at-under .under .ensures .gone) (c .before .if1 .left)
 
 same-length-2 : tie.Need-same-length-2
 same-length-2 c = search needs
 
 returns-2 : tie.Need-returns-2
-returns-2 c = begin-done (c .before .before .before .before .before .before .before .before .before .before .before .before .before .pre .1) (c .before .before .before .before .before .before .before .before .before .before .body-of .ensures) (c .before .before .before .before .before .under .ensures) (c .leave .ensures) (sym (c .before .before .if1 .left))
+returns-2 c =
+    let at-under = c .before .before .before .before .before in
+    let at-scope = at-under .before .before .before in
+    let at-body-of = at-scope .before .before in
+    let start = at-body-of .before .before in
+    record {
+      lengths = at-under .under .ensures .lengths;
+      returns = input-there (start .pre) (at-scope .scope .ensures) (at-body-of .body-of .ensures)
+          (at-under .under .ensures .gone) (c .leave .ensures) (sym (c .before .before .if1 .left));
+    }
 
 pub run-spec : {M : Type 1} → statement M
 run-spec =
@@ -39,6 +79,7 @@ run-spec =
     body-of-requires
     cast-first
     first-requires
+    scope-requires
     under-requires
     same-length
     returns

@@ -1,29 +1,34 @@
+use Prim.Native.Nat.{_+_}
 use borrow.Author.Needs.{needs}
 use native.Mathlib.Omega.{arith}
+use mathlib.Core.Path.{refl, ap, sym, _∙_}
+use Rattle.scopes.specs.Slots.{machineOf}
+use Rattle.forward.specs.Outcomes.{statusOf}
 use Rattle.forward.proofs.Making.{finish-new, finish-old}
 use Rattle.forward.proofs.Answers.{is-long}
 use Rattle.forward.proofs.outcomes.finish.Statement.{statement}
 use Rattle.forward.proofs.outcomes.finish.Tie as tie
 
-element-copy-out-top : tie.Need-element-copy-out-top
-element-copy-out-top c = search needs
+top-requires : tie.Need-top-requires
+top-requires c κs = search needs
 
-add-t8 : tie.Need-add-t8
-add-t8 c = omega arith
-
-element-copy-out-t11 : tie.Need-element-copy-out-t11
-element-copy-out-t11 c = search needs
+grow-requires : tie.Need-grow-requires
+grow-requires c κs = (c .before .before .before .before .pre .0, omega (arith, c .before .before .before .before .pre .1))
 
 returns : tie.Need-returns
-returns c =
-    let start = c .before .before .before .before in
-    finish-new _ _ (c .before .before .before .if1 .taken) (start .pre)
+returns c = let start = c .before .before .before .before .before in
+    let g = c .grow .ensures in
+    record {
+      lengths = g .lengths;
+      slots = g .slots;
+      out = ap (λ m. record { status = statusOf (c .before .before .top .result); state = m }) (g .machine) ∙ ap (λ n. record { status = statusOf n; state = record { top = machineOf (start .args .st .now) .top + 1; fuel = machineOf (start .args .st .now) .fuel } }) (c .before .before .top .ensures) ∙ finish-new (machineOf (start .args .st .now)) _ (c .before .before .before .before .if1 .taken) (start .pre .1);
+    }
 
 refuse-requires : tie.Need-refuse-requires
 refuse-requires c κs = search needs
 
 returns-2 : tie.Need-returns-2
-returns-2 c = finish-old _ _ (c .before .if1 .left) (is-long (c .refuse .ensures))
+returns-2 c = record { lengths = refl; slots = refl; out = finish-old (machineOf (c .before .before .args .st .now)) _ (c .before .if1 .left) (is-long (c .refuse .ensures)) }
 
 pub finish-spec : {M : Type 1} → statement M
-finish-spec = tie.close (tie.spec element-copy-out-top add-t8 element-copy-out-t11 returns refuse-requires returns-2)
+finish-spec = tie.close (tie.spec top-requires grow-requires returns refuse-requires returns-2)

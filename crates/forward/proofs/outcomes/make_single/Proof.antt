@@ -1,25 +1,26 @@
 use borrow.Author.Needs.{needs}
-use Rattle.forward.proofs.Making.{makes-as}
+use mathlib.Core.Path.{_∙_}
+use Rattle.calls.proofs.Runs.Calls.{unit-fits}
+use Rattle.forward.proofs.Making.{makes-as, makes-new-as}
 use Rattle.forward.proofs.outcomes.make_single.Statement.{statement}
 use Rattle.forward.proofs.outcomes.make_single.Tie as tie
 
-element-copy-out-single : tie.Need-element-copy-out-single
-element-copy-out-single c = search needs
+top-requires : tie.Need-top-requires
+top-requires c κs = search needs
 
 single-requires : tie.Need-single-requires
-single-requires c κs = search needs
+single-requires c κs = let start = c .before .before .before .before in let top = c .top .ensures in (rw top (start .pre .0 .graph .right), (rw top (start .pre .0 .room), rw top (start .pre .1)))
 
 finish-requires : tie.Need-finish-requires
-finish-requires c κs = search needs
+finish-requires c κs = let start = c .before .before .before .before .before .before .before .before in (start .pre .0 .full, start .pre .0 .small)
 
 same-length : tie.Need-same-length
 same-length c = search needs
 
 returns : tie.Need-returns
-returns c =
-    let at-single = c .before .before .before .before in
-    let start = at-single .before .before .before .before in
-    makes-as (c .finish .ensures) (start .pre .0) (at-single .single .ensures)
+returns c = let start = c .before .before .before .before .before .before .before .before .before in
+    record { lengths = c .finish .ensures .lengths; slots = c .finish .ensures .slots; makes = makes-as (c .finish .ensures .out) (start .pre .0 .graph) (rw (c .before .before .before .before .before .top .ensures) at (c .before .before .before .before .single .ensures)) }
 
 pub make-single-spec : {M : Type 1} → statement M
-make-single-spec = tie.close (tie.spec element-copy-out-single single-requires finish-requires same-length returns)
+make-single-spec =
+    tie.close (tie.spec top-requires single-requires finish-requires same-length returns)

@@ -1,28 +1,19 @@
 use borrow.Author.Needs.{needs}
 use native.Mathlib.Omega.{arith}
-use mathlib.Core.Path.{sym, ap, _∙_}
-use Rattle.program.specs.Parts.{variable}
-use Rattle.program.proofs.Offsets.{placed-at, within-table}
-use Rattle.scopes.specs.Slots.{slotAt}
+use mathlib.Core.Path.{_≡_, sym, _∙_}
 use Rattle.forward.proofs.Leaves.{finds-node, finds-none}
 use Rattle.forward.proofs.Answers.{is-stuck}
 use Rattle.forward.proofs.outcomes.variable.Statement.{statement}
 use Rattle.forward.proofs.outcomes.variable.Tie as tie
 
-offset-requires : tie.Need-offset-requires
-offset-requires c κs =
-    let start = c .before in
-    within-table (start .pre .0) (start .pre .1 .0)
+base-in-requires : tie.Need-base-in-requires
+base-in-requires c κs = search needs
 
-variable-requires : tie.Need-variable-requires
-variable-requires c κs =
-    let start = c .before .before in
-    omega (arith, placed-at (start .pre .0) (start .pre .1 .0) (c .offset .ensures), start .pre .1 .1 .0 .0)
+count-in-requires : tie.Need-count-in-requires
+count-in-requires c κs = search needs
 
 find-requires : tie.Need-find-requires
-find-requires c κs =
-    let start = c .before .before .before in
-    start .pre .1 .1 .0 .1
+find-requires c κs = let b = c .before .base-in .ensures in let n = c .count-in .ensures in omega (arith, c .before .before .pre .0)
 
 enum-known-node : tie.Need-enum-known-node
 enum-known-node c = search needs
@@ -34,18 +25,20 @@ refuse-requires : tie.Need-refuse-requires
 refuse-requires c κs = search needs
 
 returns : tie.Need-returns
-returns c =
-    let at-variable = c .before .before .before .before in
-    let at-offset = at-variable .before in
-    let start = at-offset .before .before in
-    finds-node _ _ _ _ (start .pre .1 .1 .1) (sym (c .before .before .before .find .ensures ∙ ap (slotAt (start .args .slots .now) (start .args .base) (start .args .n)) (at-variable .variable .ensures ∙ ap (variable (start .args .p .now)) (placed-at (start .pre .0) (start .pre .1 .0) (at-offset .offset .ensures)))) ∙ c .before .node .given .1)
+returns c = finds-node _ _ _ _ (c .before .before .before .before .before .before .pre .1) (rw (c .before .before .before .before .before .base-in .ensures, c .before .before .before .before .count-in .ensures) at (sym (c .before .before .before .find .ensures) ∙ c .before .node .given .1))
 
 returns-2 : tie.Need-returns-2
-returns-2 c =
-    let at-variable = c .before .before .before .before in
-    let at-offset = at-variable .before in
-    let start = at-offset .before .before in
-    finds-none (sym (c .before .before .before .find .ensures ∙ ap (slotAt (start .args .slots .now) (start .args .base) (start .args .n)) (at-variable .variable .ensures ∙ ap (variable (start .args .p .now)) (placed-at (start .pre .0) (start .pre .1 .0) (at-offset .offset .ensures)))) ∙ c .before .enum-told .given .1) (is-stuck (c .refuse .ensures))
+returns-2 c = finds-none (rw (c .before .before .before .before .before .base-in .ensures, c .before .before .before .before .count-in .ensures) at (sym (c .before .before .before .find .ensures) ∙ c .before .enum-told .given .1)) (is-stuck (c .refuse .ensures))
 
 pub variable-spec : {M : Type 1} → statement M
-variable-spec = tie.close (tie.spec offset-requires variable-requires find-requires enum-known-node enum-told refuse-requires returns returns-2)
+variable-spec =
+    tie.close
+    (tie.spec
+    base-in-requires
+    count-in-requires
+    find-requires
+    enum-known-node
+    enum-told
+    refuse-requires
+    returns
+    returns-2)

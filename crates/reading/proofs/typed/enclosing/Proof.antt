@@ -22,8 +22,10 @@ wide-index-requires c κs = search needs
 mul-e : tie.Need-mul-e Inv-loop μ-loop
 mul-e c = search needs
 
-shared-slice-read-e : tie.Need-shared-slice-read-e Inv-loop μ-loop
-shared-slice-read-e c = let v = c .before .before .before .loop .inv in omega (arith, c .before .wide-index .ensures .0, v .1, c .before .before .before .before .before .pre (c .before .before .before .loop .n) (c .before .before .loop-test .taken))
+element-copy-out-e : tie.Need-element-copy-out-e Inv-loop μ-loop
+element-copy-out-e c =
+    let l = c .before .before in
+    omega (arith, c .wide-index .ensures .0, l .loop .inv .1, l .before .pre (l .loop .n) (c .before .loop-test .taken))
 
 add-n : tie.Need-add-n Inv-loop μ-loop
 add-n c = search needs
@@ -35,7 +37,9 @@ loop-again : tie.Need-loop-again Inv-loop μ-loop
 loop-again c = (search needs, outward-turn _ _ _ _ _ (c .before .before .before .loop .inv .1) (c .before .wide-index .ensures .0))
 
 returns : tie.Need-returns Inv-loop μ-loop
-returns c = c .before .loop .inv .1 ∙ ap (λ n. outward n (c .before .before .before .args .outer .now) (c .before .before .before .args .cell)) (let z : c .before .loop .n ≡ c .before .before .before .args .k = omega arith in z)
+returns c =
+    let l = c .before in
+    l .loop .inv .1 ∙ ap (λ n. outward n (l .before .args .outer .now) (l .before .args .cell)) (let z : l .loop .n ≡ l .before .args .k = omega arith in z)
 
 pub enclosing-spec : {M : Type 1} → statement M
 enclosing-spec =
@@ -46,7 +50,7 @@ enclosing-spec =
     loop-holds
     wide-index-requires
     mul-e
-    shared-slice-read-e
+    element-copy-out-e
     add-n
     loop-less
     loop-again

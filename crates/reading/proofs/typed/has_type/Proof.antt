@@ -1,23 +1,32 @@
-use lib.Dec.{lit≤}
-use Rattle.rules.specs.Limits.{maxValueBytes}
-use Rattle.reading.proofs.Asked.{ready-start, told-start}
-use borrow.Author.Needs.{needs}
+use native.Mathlib.Omega.{arith}
+use mathlib.Core.Path.{sym, ap, _∙_}
+use Rattle.calls.specs.Fields.{kindAt}
+use Rattle.program.proofs.Rooms.{type-kind-room}
 use Rattle.reading.proofs.typed.has_type.Statement.{statement}
 use Rattle.reading.proofs.typed.has_type.Tie as tie
 
-slice-aggregate-typed : tie.Need-slice-aggregate-typed
-slice-aggregate-typed c = search needs
+field-requires : tie.Need-field-requires
+field-requires c κs = c .before .before .before .pre .1 .0 .0
 
-slice-aggregate-typed-2 : tie.Need-slice-aggregate-typed-2
-slice-aggregate-typed-2 c = search needs
+kind-requires : tie.Need-kind-requires
+kind-requires c κs = let p = c .before .before .before .before .pre in omega (arith, c .field .ensures .0, type-kind-room (p .0 .field _ (p .1 .0 .0)))
 
-typed-requires : tie.Need-typed-requires
-unfolding maxValueBytes
-typed-requires c κs = let p = c .before .before .before .before .before .pre in ready-start _ _ (p .0) _ (p .1 .0 .0) (p .1 .0 .1) _ _ _ (p .1 .1) (lit≤ tt) (lit≤ tt)
+are-of-requires : tie.Need-are-of-requires
+are-of-requires c κs =
+    let start = c .before .before .before .before .before .before in
+    let p = start .pre in
+    (p .0, (p .1 .0, (p .1 .1, sym (c .before .kind .ensures ∙ ap (kindAt (start .args .program .now)) (c .before .before .field .ensures .0)) ∙ c .if1 .taken)))
 
 returns : tie.Need-returns
-returns c = let p = c .before .before .before .before .before .before .before .before .pre in told-start _ _ (p .0) _ (p .1 .0 .0) (p .1 .0 .1) (c .before .before .typed .ensures)
+returns c = c .are-of .ensures
+
+is-of-requires : tie.Need-is-of-requires
+is-of-requires c κs = c .before .before .before .before .before .before .pre
+
+returns-2 : tie.Need-returns-2
+returns-2 c = c .is-of .ensures
 
 pub has-type-spec : {M : Type 1} → statement M
 has-type-spec =
-    tie.close (tie.spec slice-aggregate-typed slice-aggregate-typed-2 typed-requires returns)
+    tie.close
+    (tie.spec field-requires kind-requires are-of-requires returns is-of-requires returns-2)

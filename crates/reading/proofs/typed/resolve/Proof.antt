@@ -7,95 +7,104 @@ use Rattle.program.specs.Parts.{variable}
 use Rattle.program.proofs.Rooms.{type-kind, type-kind-room, tyvar-room}
 use Rattle.reading.specs.Scopes.{outward}
 use Rattle.reading.proofs.Cells.{variable-within, resolved-shown, resolved}
-use borrow.Author.Needs.{needs}
 use Rattle.reading.proofs.typed.resolve.Statement.{statement}
 use Rattle.reading.proofs.typed.resolve.Tie as tie
+use borrow.Author.Needs.{needs}
 
--- the kind in the entry's field, and the cell that its variable names
+-- the kind in the entry's field, its variable, and the cell that is so many cells outward
 abbrev kind-at : tie.Start → ℕ
 kind-at a = kindAt (a .args .program .now) (getD (a .args .types .now) (a .args .t .entry) 0)
 
-abbrev named-cell : tie.Start → ℕ
-named-cell a = outward (variable (a .args .program .now) (getD (a .args .types .now) (a .args .t .entry) 0)) (a .args .outer .now) (a .args .t .cell)
+abbrev variable-at : tie.Start → ℕ
+variable-at a = variable (a .args .program .now) (getD (a .args .types .now) (a .args .t .entry) 0)
 
-is-variable : (c : tie.Else1) → 4 ≤ kind-at (c .before .before .before .before .before .before)
-is-variable c = omega (arith, c .before .kind-of .ensures, c .if1 .left)
+abbrev cell-at : tie.Start → ℕ → ℕ
+cell-at a n = outward n (a .args .outer .now) (a .args .t .cell)
 
-cell-is : (c : tie.After-wide-index) → c .wide-index .result ≡ named-cell (c .before .before .before .before .before .before .before .before .before)
-cell-is c =
-    let start = c .before .before .before .before .before .before .before .before .before in
-    c .wide-index .ensures .0 ∙ c .before .enclosing .ensures ∙ ap (λ k. outward k (start .args .outer .now) (start .args .t .cell)) (c .before .before .variable-of .ensures)
+-- the entry of the function, from where the variable is known and from where its cell is
+abbrev start-of : tie.After-variable → tie.Start
+start-of c = c .before .before .before .before .before .before
 
-cell-within : (c : tie.After-wide-index) → c .wide-index .result ≤ c .before .before .before .before .before .before .before .before .before .args .t .cell
-cell-within c =
-    let named = c .before .before in
-    let start = c .before .before .before .before .before .before .before .before .before in
-    let p = start .pre in
-    omega (
-      arith,
-      c .wide-index .ensures .0,
-      c .before .enclosing .ensures,
-      variable-within _ _ _ _ (start .args .t) (p .0) (p .1 .0) (p .1 .1 .0) _ (named .variable-of .ensures) (is-variable (named .before)) (named .variable-of .result) (omega arith) .1,
-    )
+abbrev start-from : tie.After-wide-index → tie.Start
+start-from c = start-of (c .before .before)
 
-kind-of-requires : tie.Need-kind-of-requires
-kind-of-requires c κs =
-    let start = c .before .before .before .before in
-    let p = start .pre in (p .1 .1 .0 .known, type-kind-room (p .0 .field _ (p .1 .1 .0 .known)))
+-- what the views of the field say of the entry
+kind-is : (c : tie.After-kind) → c .kind .result ≡ kind-at (c .before .before .before .before)
+kind-is c = c .kind .ensures ∙ ap (kindAt (c .before .before .before .before .args .program .now)) (c .before .field .ensures .0)
+
+is-variable : (c : tie.Else1) → 4 ≤ kind-at (c .before .before .before .before .before)
+is-variable c = omega (arith, kind-is (c .before), c .if1 .left)
+
+variable-is : (c : tie.After-variable) → c .variable .result ≡ variable-at (start-of c)
+variable-is c = c .variable .ensures ∙ ap (variable (start-of c .args .program .now)) (c .before .before .before .field .ensures .0)
+
+cell-is : (c : tie.After-wide-index) → c .wide-index .result ≡ cell-at (start-from c) (variable-at (start-from c))
+cell-is c = c .wide-index .ensures .0 ∙ c .before .enclosing .ensures ∙ ap (cell-at (start-from c)) (variable-is (c .before .before))
+
+-- the cells on the way outward are not above the entry's
+within : (c : tie.After-variable) (n : ℕ) → n ≤ c .variable .result → cell-at (start-of c) n ≤ start-of c .args .t .cell
+within c n h =
+    let p = start-of c .pre in
+    variable-within _ _ _ _ (start-of c .args .t) (p .0) (p .1 .0) (p .1 .1 .0) _ (variable-is c) (is-variable (c .before)) n h .1
+
+cell-within : (c : tie.After-wide-index) → c .wide-index .result ≤ start-from c .args .t .cell
+cell-within c = omega (arith, c .wide-index .ensures .0, c .before .enclosing .ensures, within (c .before .before) (c .before .before .variable .result) (omega arith))
+
+field-requires : tie.Need-field-requires
+field-requires c κs = c .before .before .pre .1 .1 .0 .known
+
+kind-requires : tie.Need-kind-requires
+kind-requires c κs =
+    let p = c .before .before .before .pre in
+    omega (arith, c .field .ensures .0, type-kind-room (p .0 .field _ (p .1 .1 .0 .known)))
 
 returns : tie.Need-returns
 returns c =
-    let start = c .before .before .before .before .before .before in
-    let p = start .pre in resolved-shown _ _ _ _ _ (p .0) (p .1 .0) (p .1 .1 .0) (omega (arith, c .before .kind-of .ensures, c .if1 .taken))
+    let p = c .before .before .before .before .before .pre in
+    resolved-shown _ _ _ _ _ (p .0) (p .1 .0) (p .1 .1 .0) (omega (arith, kind-is (c .before), c .if1 .taken))
 
-variable-of-requires : tie.Need-variable-of-requires
-variable-of-requires c κs =
-    let start = c .before .before .before .before .before .before in
-    let p = start .pre in
-    let known = p .1 .1 .0 .known in
-    (known, tyvar-room (p .0 .field _ known) (omega (arith, c .before .kind-of .ensures, c .if1 .left, type-kind (p .0 .field _ known))))
+variable-requires : tie.Need-variable-requires
+variable-requires c κs =
+    let p = c .before .before .before .before .before .pre in
+    let f = p .0 .field _ (p .1 .1 .0 .known) in
+    omega (arith, c .before .before .field .ensures .0, tyvar-room f (omega (arith, is-variable c, type-kind f)))
 
 enclosing-requires : tie.Need-enclosing-requires
-enclosing-requires c κs =
-    let start = c .before .before .before .before .before .before .before in
-    λ n h. let p = start .pre in
-    omega (arith, p .1 .1 .1 .1, variable-within _ _ _ _ (start .args .t) (p .0) (p .1 .0) (p .1 .1 .0) _ (c .variable-of .ensures) (is-variable (c .before)) n (omega arith) .1)
+enclosing-requires c κs = λ n h. omega (arith, c .before .before .before .before .before .before .pre .1 .1 .1, within c n (omega arith))
 
 wide-index-requires : tie.Need-wide-index-requires
 wide-index-requires c κs = search needs
 
-mul-t13 : tie.Need-mul-t13
-mul-t13 c = search needs
+mul-t14 : tie.Need-mul-t14
+mul-t14 c = search needs
 
-shared-slice-read-t12 : tie.Need-shared-slice-read-t12
-shared-slice-read-t12 c =
-    let start = c .before .before .before .before .before .before .before .before .before .before in
-    omega (arith, cell-within (c .before), start .pre .1 .1 .1 .0)
+element-copy-out-t13 : tie.Need-element-copy-out-t13
+element-copy-out-t13 c = omega (arith, cell-within c, c .before .before .before .before .before .before .before .before .pre .1 .1 .1)
 
-mul-t15 : tie.Need-mul-t15
-mul-t15 c = search needs
+mul-t17 : tie.Need-mul-t17
+mul-t17 c = search needs
 
-shared-slice-read-t17 : tie.Need-shared-slice-read-t17
-shared-slice-read-t17 c =
-    let start = c .before .before .before .before .before .before .before .before .before .before .before in
-    omega (arith, cell-within (c .before .before), start .pre .1 .1 .1 .1)
+element-copy-out-t20 : tie.Need-element-copy-out-t20
+element-copy-out-t20 c = omega (arith, cell-within (c .before), c .before .before .before .before .before .before .before .before .before .pre .1 .1 .1)
 
 returns-2 : tie.Need-returns-2
 returns-2 c =
-    let start = c .before .before .before .before .before .before .before .before .before .before .before in
-    let p = start .pre in resolved _ _ _ _ _ (p .0) (p .1 .0) (p .1 .1 .0) (is-variable (c .before .before .before .before .before)) _ (cell-is (c .before .before))
+    let w = c .before .before in
+    let p = w .before .before .before .before .before .before .before .before .pre in
+    resolved _ _ _ _ _ (p .0) (p .1 .0) (p .1 .1 .0) (is-variable (w .before .before .before)) _ (cell-is w)
 
 pub resolve-spec : {M : Type 1} → statement M
 resolve-spec =
     tie.close
     (tie.spec
-    kind-of-requires
+    field-requires
+    kind-requires
     returns
-    variable-of-requires
+    variable-requires
     enclosing-requires
     wide-index-requires
-    mul-t13
-    shared-slice-read-t12
-    mul-t15
-    shared-slice-read-t17
+    mul-t14
+    element-copy-out-t13
+    mul-t17
+    element-copy-out-t20
     returns-2)

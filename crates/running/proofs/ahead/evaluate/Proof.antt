@@ -1,83 +1,66 @@
-use borrow.Author.Needs.{needs}
-use mathlib.Core.Path.{sym, _∙_}
+use Prim.Native.Nat.{_+_}
+use native.Mathlib.Omega.{arith}
+use mathlib.Core.Path.{refl, _∙_}
 use lib.Dec.{lit≤}
-use Rattle.running.proofs.Starts.{few-terms, few-functions, filled, body-there, body-is, beginning, few-arguments}
-use Rattle.running.proofs.Onward.{eval-ready, evaluated}
+use borrow.Author.Needs.{needs}
+use Rattle.running.proofs.Starts.{decode-asks, beginning, rows, in-rows, few-arguments}
+use Rattle.running.proofs.Onward.{eval-ready, eval-told}
 use Rattle.running.proofs.ahead.evaluate.Statement.{statement}
 use Rattle.running.proofs.ahead.evaluate.Tie as tie
 
-slice-aggregate-fill : tie.Need-slice-aggregate-fill
-slice-aggregate-fill c = search needs
-
-fill-requires : tie.Need-fill-requires
-fill-requires c κs =
-    let start = c .before .before .before .before .before .before .before in
-    few-terms (start .pre)
-
-slice-aggregate-fill-2 : tie.Need-slice-aggregate-fill-2
-slice-aggregate-fill-2 c = search needs
-
-fill-requires-2 : tie.Need-fill-requires-2
-fill-requires-2 c κs =
-    let start = c .before .before .before .before .before .before .before .before .before .before in
-    few-functions (start .pre)
+decode-requires : tie.Need-decode-requires
+decode-requires c κs = (refl, decode-asks (c .before .before .before .before .before .before .before .pre))
 
 begin-requires : tie.Need-begin-requires
-begin-requires c κs =
-    let start = c .before .before .before .before .before .before .before .before .before .before .before .before .before .before in
-    beginning (start .pre) (lit≤ tt)
+begin-requires c κs = (refl, beginning (c .before .before .before .before .before .before .before .before .before .before .pre) (c .before .before .decode .ensures) (lit≤ tt))
 
 wide32-requires : tie.Need-wide32-requires
 wide32-requires c κs = search needs
 
-body-of-requires : tie.Need-body-of-requires
-body-of-requires c κs =
-    let at-fill2 = c .before .before .before .before .before .before .before .before .before in
-    let at-fill = at-fill2 .before .before .before in
-    let start = at-fill .before .before .before .before .before .before .before .before in
-    ((filled (start .pre) (at-fill .fill .ensures) (at-fill2 .fill2 .ensures)) .ofFunctions, body-there (start .pre))
+begin-requires-2 : tie.Need-begin-requires-2
+begin-requires-2 c κs = c .before .before .before .before .begin .ensures .lengths
 
-add-eval : tie.Need-add-eval
-add-eval c =
-    let at-begin = c .before .before .before .before .before .before .before .before .before .before .before in
-    let start = at-begin .before .before .before .before .before .before .before .before .before .before .before .before .before .before .before in
-    let h = few-arguments (start .pre) (at-begin .begin .ensures) in search needs
+body-of-requires : tie.Need-body-of-requires
+body-of-requires c κs = omega (arith, in-rows (c .before .before .before .before .before .before .before .before .before .before .before .before .before .before .before .before .before .pre) (c .before .before .before .before .before .before .before .before .before .decode .ensures), rows (c .before .before .before .before .before .before .before .before .before .before .before .before .before .before .before .before .before .pre) (c .before .before .before .before .before .before .before .before .before .decode .ensures) .few-functions)
+
+add-scope : tie.Need-add-scope
+add-scope c = let h = few-arguments (c .before .before .before .before .before .before .before .before .before .before .before .before .before .before .before .before .before .before .pre) (c .before .before .before .before .before .before .before .before .before .before .decode .ensures) (c .before .before .before .before .before .before .before .begin .ensures .begun) in search needs
+
+scope-requires : tie.Need-scope-requires
+scope-requires c κs = let h = few-arguments (c .before .before .before .before .before .before .before .before .before .before .before .before .before .before .before .before .before .before .pre) (c .before .before .before .before .before .before .before .before .before .before .decode .ensures) (c .before .before .before .before .before .before .before .begin .ensures .begun) in (omega arith, omega arith, omega arith)
 
 eval-requires : tie.Need-eval-requires
-eval-requires c κs =
-    let at-body-of = c .before .before .before .before .before in
-    let at-wide32 = at-body-of .before .before .before in
-    let at-begin = at-wide32 .before .before .before in
-    let at-fill2 = at-begin .before .before .before .before in
-    let at-fill = at-fill2 .before .before .before in
-    let start = at-fill .before .before .before .before .before .before .before .before in
-    (filled (start .pre) (at-fill .fill .ensures) (at-fill2 .fill2 .ensures), eval-ready (start .pre) (at-begin .begin .ensures) (at-wide32 .wide32 .ensures .0) (at-wide32 .wide32 .ensures .1) (body-is (start .pre) (at-body-of .body-of .ensures)) (sym (at-begin .begin .ensures .slots-length)))
+eval-requires c κs = let fuel = c .before .before .before .before .before .before .before .wide32 .ensures in
+    eval-ready (c .before .before .before .before .before .before .before .before .before .before .before .before .before .before .before .before .before .before .before .before .before .before .pre) (c .before .before .before .before .before .before .before .before .before .before .before .before .before .before .decode .ensures) (c .before .before .before .before .before .before .before .before .before .before .before .begin .ensures) (fuel .0) (fuel .1) (c .before .before .before .before .before .before .begin2 .ensures) refl (c .before .before .before .before .body-of .ensures) _ (c .before .before .before .scope .ensures)
+
+top-requires : tie.Need-top-requires
+top-requires c κs = search needs
+
+fuel-requires : tie.Need-fuel-requires
+fuel-requires c κs = search needs
 
 same-length : tie.Need-same-length
-same-length c =
-    let at-begin = c .before .before .before .before .before .before .before .before .before .before .before .before .before .before in
-    c .before .before .eval .kept .1 .1 .1 .0 ∙ at-begin .begin .kept .0
+same-length c = c .before .before .before .before .before .before .before .eval .kept .1 .0 ∙ c .before .before .before .before .before .before .before .before .before .before .before .before .before .before .before .before .before .before .before .begin .kept .0
 
 returns : tie.Need-returns
-returns c =
-    let at-body-of = c .before .before .before .before .before .before .before .before in
-    let at-wide32 = at-body-of .before .before .before in
-    let at-begin = at-wide32 .before .before .before in
-    let start = at-begin .before .before .before .before .before .before .before .before .before .before .before .before .before .before .before in
-    evaluated (start .pre) (at-begin .begin .ensures) (at-wide32 .wide32 .ensures .0) (at-wide32 .wide32 .ensures .1) (body-is (start .pre) (at-body-of .body-of .ensures)) (c .before .before .eval .ensures)
+returns c = let start = c .before .before .before .before .before .before .before .before .before .before .before .before .before .before .before .before .before .before .before .before .before .before .before .before .before .before .before .before .before .before in
+    let fuel = c .before .before .before .before .before .before .before .before .before .before .before .before .before .before .before .wide32 .ensures in
+    eval-told (start .pre) (c .before .before .before .before .before .before .before .before .before .before .before .before .before .before .before .before .before .before .before .before .before .before .decode .ensures) (c .before .before .before .before .before .before .before .before .before .before .before .before .before .before .before .before .before .before .before .begin .ensures) (fuel .0) (fuel .1) (c .before .before .before .before .before .before .before .before .before .before .before .before .before .before .begin2 .ensures) refl (c .before .before .before .before .before .before .before .before .before .before .before .before .body-of .ensures) _ (c .before .before .before .before .before .before .before .before .before .before .before .scope .ensures) (c .before .before .before .before .before .before .before .eval .ensures)
+    (c .before .before .before .top .ensures) (c .before .fuel .ensures)
 
 pub evaluate-spec : {M : Type 1} → statement M
 evaluate-spec =
     tie.close
     (tie.spec
-    slice-aggregate-fill
-    fill-requires
-    slice-aggregate-fill-2
-    fill-requires-2
+    decode-requires
     begin-requires
     wide32-requires
+    begin-requires-2
     body-of-requires
-    add-eval
+    add-scope
+    scope-requires
     eval-requires
+    top-requires
+    fuel-requires
     same-length
     returns)

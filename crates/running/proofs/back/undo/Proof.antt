@@ -1,80 +1,55 @@
-use mathlib.Core.Path.{refl, sym, _∙_}
+use native.Mathlib.Omega.{arith}
+use mathlib.Core.Path.{refl, _∙_}
 use lib.Dec.{lit≤}
-use Rattle.running.proofs.Starts.{few-terms, few-functions, filled, beginning}
-use Rattle.running.proofs.Homeward.{value-slot, undo-ready, undone}
 use borrow.Author.Needs.{needs}
+use Rattle.running.proofs.Starts.{decode-asks, beginning}
+use Rattle.running.proofs.Homeward.{value-slot, undo-ready, undo-told}
 use Rattle.running.proofs.back.undo.Statement.{statement}
 use Rattle.running.proofs.back.undo.Tie as tie
 
-slice-aggregate-fill : tie.Need-slice-aggregate-fill
-slice-aggregate-fill c = search needs
-
-fill-requires : tie.Need-fill-requires
-fill-requires c κs =
-    let start = c .before .before .before .before .before .before .before in
-    few-terms (start .pre)
-
-slice-aggregate-fill-2 : tie.Need-slice-aggregate-fill-2
-slice-aggregate-fill-2 c = search needs
-
-fill-requires-2 : tie.Need-fill-requires-2
-fill-requires-2 c κs =
-    let start = c .before .before .before .before .before .before .before .before .before .before in
-    few-functions (start .pre)
+decode-requires : tie.Need-decode-requires
+decode-requires c κs = (refl, decode-asks (c .before .before .before .before .before .before .before .pre))
 
 begin-requires : tie.Need-begin-requires
-begin-requires c κs =
-    let start = c .before .before .before .before .before .before .before .before .before .before .before .before .before .before in
-    beginning (start .pre) (lit≤ tt)
+begin-requires c κs = (refl, beginning (c .before .before .before .before .before .before .before .before .before .before .pre) (c .before .before .decode .ensures) (lit≤ tt))
 
 wide32-requires : tie.Need-wide32-requires
 wide32-requires c κs = search needs
 
-mul-node : tie.Need-mul-node
-mul-node c =
-    let at-begin = c .before .before .before .before in
-    let start = at-begin .before .before .before .before .before .before .before .before .before .before .before .before .before .before .before in
-    let h = value-slot (start .pre) (at-begin .begin .ensures) in search needs
+begin-requires-2 : tie.Need-begin-requires-2
+begin-requires-2 c κs = c .before .before .before .before .begin .ensures .lengths
 
-array-read-node : tie.Need-array-read-node
-array-read-node c =
-    let at-begin = c .before .before .before .before in
-    let start = at-begin .before .before .before .before .before .before .before .before .before .before .before .before .before .before .before in
-    value-slot (start .pre) (at-begin .begin .ensures)
+at-requires : tie.Need-at-requires
+at-requires c κs = value-slot (c .before .before .before .before .before .before .before .before .before .before .before .before .before .before .before .before .before .pre) (c .before .before .before .before .before .before .before .before .before .decode .ensures) (c .before .before .before .before .before .before .begin .ensures .begun)
 
 run-requires : tie.Need-run-requires
-run-requires c κs =
-    let at-wide32 = c .before .before .before .before .before .before in
-    let at-begin = at-wide32 .before .before .before in
-    let at-fill2 = at-begin .before .before .before .before in
-    let at-fill = at-fill2 .before .before .before in
-    let start = at-fill .before .before .before .before .before .before .before .before in
-    (filled (start .pre) (at-fill .fill .ensures) (at-fill2 .fill2 .ensures), undo-ready (start .pre) (at-begin .begin .ensures) (at-wide32 .wide32 .ensures .0) (at-wide32 .wide32 .ensures .1) refl (sym (at-begin .begin .ensures .slots-length)))
+run-requires c κs = let fuel = c .before .before .before .before .before .before .wide32 .ensures in
+    undo-ready (c .before .before .before .before .before .before .before .before .before .before .before .before .before .before .before .before .before .before .before .before .before .pre) (c .before .before .before .before .before .before .before .before .before .before .before .before .before .decode .ensures) (c .before .before .before .before .before .before .before .before .before .before .begin .ensures) (fuel .0) (fuel .1) (c .before .before .before .before .before .begin2 .ensures) refl (c .before .before .before .at .ensures)
+
+top-requires : tie.Need-top-requires
+top-requires c κs = search needs
+
+fuel-requires : tie.Need-fuel-requires
+fuel-requires c κs = search needs
 
 same-length : tie.Need-same-length
-same-length c =
-    let at-begin = c .before .before .before .before .before .before .before .before .before .before .before .before in
-    c .before .before .run .kept .1 .1 .1 .0 ∙ at-begin .begin .kept .0
+same-length c = c .before .before .before .before .before .before .before .run .kept .1 .0 ∙ c .before .before .before .before .before .before .before .before .before .before .before .before .before .before .before .before .before .before .begin .kept .0
 
 returns : tie.Need-returns
-returns c =
-    let at-wide32 = c .before .before .before .before .before .before .before .before .before in
-    let at-begin = at-wide32 .before .before .before in
-    let start = at-begin .before .before .before .before .before .before .before .before .before .before .before .before .before .before .before in
-    undone (start .pre) (at-begin .begin .ensures) (at-wide32 .wide32 .ensures .0) (at-wide32 .wide32 .ensures .1) refl (c .before .before .run .ensures)
+returns c = let fuel = c .before .before .before .before .before .before .before .before .before .before .before .before .before .before .wide32 .ensures in
+    undo-told (c .before .before .before .before .before .before .before .before .before .before .before .before .before .before .before .before .before .before .before .before .before .before .before .before .before .before .before .before .before .pre) (c .before .before .before .before .before .before .before .before .before .before .before .before .before .before .before .before .before .before .before .before .before .decode .ensures) (c .before .before .before .before .before .before .before .before .before .before .before .before .before .before .before .before .before .before .begin .ensures) (fuel .0) (fuel .1) (c .before .before .before .before .before .before .before .before .before .before .before .before .before .begin2 .ensures) refl (c .before .before .before .before .before .before .before .before .before .before .before .at .ensures) (c .before .before .before .before .before .before .before .run .ensures) (c .before .before .before .top .ensures) (c .before .fuel .ensures)
 
 pub undo-spec : {M : Type 1} → statement M
 undo-spec =
     tie.close
     (tie.spec
-    slice-aggregate-fill
-    fill-requires
-    slice-aggregate-fill-2
-    fill-requires-2
+    decode-requires
     begin-requires
     wide32-requires
-    mul-node
-    array-read-node
+    begin-requires-2
+    at-requires
     run-requires
+    top-requires
+    fuel-requires
     same-length
     returns)

@@ -1,88 +1,61 @@
-use borrow.Author.Needs.{needs}
-use Prim.Native.Nat.{_-_}
-use mathlib.Core.Path.{sym, _∙_}
+use native.Mathlib.Omega.{arith}
+use mathlib.Core.Path.{_≡_, refl, sym, _∙_}
 use lib.ListN.{length}
+use borrow.Author.Needs.{needs}
 use Rattle.values.proofs.Heaps.{heap-empty}
+use Rattle.scopes.specs.Slots.{stateCount, slotsOf}
 use Rattle.running.specs.Begun.{startNodes}
-use Rattle.running.proofs.Loads.{Loading, loading-start, loading-ready, loading-bad, loading-bind, loading-next, loading-less, loading-small, loading-done}
+use Rattle.running.proofs.Loads.{Named, ancillae-ready, named-start, named-room, named-length, named-less, named-bind, named-small}
+use Rattle.running.proofs.Loads.{named-next, named-done}
 use Rattle.running.proofs.begin.load_ancillae.Statement.{statement}
 use Rattle.running.proofs.begin.load_ancillae.Tie as tie
 
 abbrev Inv-loop : tie.InvT-loop
-Inv-loop ws₀ slots₀ bytes at₀ count₀ top₀ ws slots at count top = Loading ws₀ slots₀ ws slots bytes count at top
+Inv-loop ws st₀ bytes top node₀ count₀ st node count = (length st ≡ stateCount) × (length st ≡ length st₀) × Named ws (slotsOf st₀) (slotsOf st) bytes count node top
 
 abbrev μ-loop : tie.MeasureT-loop
-μ-loop ws₀ slots₀ bytes at₀ count₀ top₀ ws slots at count top = length bytes - at
+μ-loop ws st₀ bytes top node₀ count₀ st node count = node
 
 unit-requires : tie.Need-unit-requires Inv-loop μ-loop
 unfolding startNodes
-unit-requires c κs =
-    let start = c .before .before .before in
-    (heap-empty _, (let h = start .pre .nodes-there in search needs))
-
-loop-holds : tie.Need-loop-holds Inv-loop μ-loop
-loop-holds c =
-    let start = c .before .before .before .before .before .before in
-    loading-start (start .pre) (c .before .before .unit .ensures)
+unit-requires c κs = (heap-empty _, omega (arith, c .before .before .before .pre .1 .nodes-there))
 
 load-requires : tie.Need-load-requires Inv-loop μ-loop
-load-requires c κs = loading-ready (c .before .before .loop .inv) (c .before .loop-test .taken)
+load-requires c κs = ancillae-ready (c .before .before .before .before .before .before .before .pre .1) (c .before .before .before .unit .ensures)
 
-enum-known-loaded : tie.Need-enum-known-loaded Inv-loop μ-loop
-enum-known-loaded c = search needs
+sub-node : tie.Need-sub-node Inv-loop μ-loop
+sub-node c = omega (arith, c .before .before .load .ensures .nodes)
 
-enum-told : tie.Need-enum-told Inv-loop μ-loop
-enum-told c = search needs
-
-same-length : tie.Need-same-length Inv-loop μ-loop
-same-length c =
-    let at-load = c .before .before .before .before in
-    let at-loop = at-load .before .before .before in
-    let at-unit = at-loop .before .before .before in
-    at-load .load .kept .0 ∙ sym (at-loop .loop .inv .heap-length) ∙ at-unit .unit .kept .0
-
-returns : tie.Need-returns Inv-loop μ-loop
-returns c =
-    let at-load = c .before .before .before .before in
-    let at-loop-test = at-load .before .before in
-    let at-loop = at-loop-test .before in
-    absurd (loading-bad (at-loop .loop .inv) (at-loop-test .loop-test .taken) (rw (c .enum-told .given .1) at (at-load .load .ensures)))
+loop-holds : tie.Need-loop-holds Inv-loop μ-loop
+loop-holds c = (c .before .before .before .before .before .before .before .before .before .before .pre .0, refl, named-start (c .before .before .before .before .before .before .before .before .before .before .pre .1) (c .before .before .before .before .before .before .unit .ensures) (c .before .before .load .ensures))
 
 bind-requires : tie.Need-bind-requires Inv-loop μ-loop
-bind-requires c κs =
-    let at-loop-test = c .before .before .before .before .before .before .before .before in
-    let at-loop = at-loop-test .before in
-    loading-bind (at-loop .loop .inv) (at-loop-test .loop-test .taken)
+bind-requires c κs = (c .before .before .loop .inv .0, named-bind (c .before .before .loop .inv .2) (c .before .loop-test .taken))
+
+length-of-requires : tie.Need-length-of-requires Inv-loop μ-loop
+length-of-requires c κs = named-room (c .before .before .before .before .loop .inv .2) (c .before .before .before .loop-test .taken)
+
+wide32-requires : tie.Need-wide32-requires Inv-loop μ-loop
+wide32-requires c κs = search needs
+
+sub-node-2 : tie.Need-sub-node-2 Inv-loop μ-loop
+sub-node-2 c = omega (arith, named-length (c .before .before .before .before .before .before .loop .inv .2) (c .before .before .before .before .before .loop-test .taken), c .wide32 .ensures .0, c .before .length-of .ensures)
 
 add-count : tie.Need-add-count Inv-loop μ-loop
-add-count c =
-    let at-loop-test = c .before .before .before .before .before .before .before .before .before in
-    let at-loop = at-loop-test .before in
-    let h = loading-small (at-loop .loop .inv) (at-loop-test .loop-test .taken) in search needs
+add-count c = omega (arith, named-small (c .before .before .before .before .before .before .loop .inv .2) (c .before .before .before .before .before .loop-test .taken))
 
 loop-less : tie.Need-loop-less Inv-loop μ-loop
-loop-less c =
-    let at-load = c .before .before .before .before .before .before .before in
-    let at-loop-test = at-load .before .before in
-    let at-loop = at-loop-test .before in
-    let h = loading-less (at-loop .loop .inv) (at-loop-test .loop-test .taken) (rw (c .before .before .before .loaded .given .1) at (at-load .load .ensures)) in search needs
+loop-less c = named-less (c .before .before .before .before .before .before .loop .inv .2) (c .before .before .before .before .before .loop-test .taken) _ (c .wide32 .ensures .0 ∙ c .before .length-of .ensures)
 
 loop-again : tie.Need-loop-again Inv-loop μ-loop
-loop-again c =
-    let at-load = c .before .before .before .before .before .before .before in
-    let at-loop-test = at-load .before .before in
-    let at-loop = at-loop-test .before in
-    loading-next (at-loop .loop .inv) (at-loop-test .loop-test .taken) (rw (c .before .before .before .loaded .given .1) at (at-load .load .ensures)) (c .bind .ensures)
+loop-again c = let b = c .before .before .before .bind .ensures in
+    (b .lengths ∙ c .before .before .before .before .before .before .loop .inv .0, b .lengths ∙ c .before .before .before .before .before .before .loop .inv .1, named-next (c .before .before .before .before .before .before .loop .inv .2) (c .before .before .before .before .before .loop-test .taken) (b .slots) (c .wide32 .ensures .0 ∙ c .before .length-of .ensures))
 
-same-length-2 : tie.Need-same-length-2 Inv-loop μ-loop
-same-length-2 c =
-    let at-unit = c .before .before .before .before in
-    sym (c .before .loop .inv .heap-length) ∙ at-unit .unit .kept .0
+same-length : tie.Need-same-length Inv-loop μ-loop
+same-length c = c .before .before .before .before .load .kept .0 ∙ c .before .before .before .before .before .before .before .before .unit .kept .0
 
-returns-2 : tie.Need-returns-2 Inv-loop μ-loop
-returns-2 c =
-    let at-unit = c .before .before .before .before in
-    loading-done (c .before .loop .inv) (c .loop-test .left) (sym (at-unit .unit .kept .0))
+returns : tie.Need-returns Inv-loop μ-loop
+returns c = record { lengths = c .before .loop .inv .1; loaded = named-done (c .before .loop .inv .2) (c .loop-test .left) (sym (c .before .before .before .before .load .kept .0 ∙ c .before .before .before .before .before .before .before .before .unit .kept .0)) }
 
 pub load-ancillae-spec : {M : Type 1} → statement M
 load-ancillae-spec =
@@ -91,15 +64,15 @@ load-ancillae-spec =
     Inv-loop
     μ-loop
     unit-requires
-    loop-holds
     load-requires
-    enum-known-loaded
-    enum-told
-    same-length
-    returns
+    sub-node
+    loop-holds
     bind-requires
+    length-of-requires
+    wide32-requires
+    sub-node-2
     add-count
     loop-less
     loop-again
-    same-length-2
-    returns-2)
+    same-length
+    returns)

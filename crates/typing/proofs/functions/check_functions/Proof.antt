@@ -11,27 +11,24 @@ use Rattle.typing.proofs.functions.check_functions.Statement.{statement
 use Rattle.typing.proofs.functions.check_functions.Tie as tie
 
 abbrev Inv-loop : tie.InvT-loop
-Inv-loop p types terms functions nodes ws₀ table g₀ ws g = (g ≤ length functions) × (length ws ≡ length ws₀) × (typingAnswer p types terms functions ≡ fromFunction p types terms functions g)
+Inv-loop p types terms functions table nodes ws₀ g₀ ws g = (g ≤ length functions) × (length ws ≡ length ws₀) × (typingAnswer p types terms functions ≡ fromFunction p types terms functions g)
 
 abbrev μ-loop : tie.MeasureT-loop
-μ-loop p types terms functions nodes ws₀ table g₀ ws g = length functions - g
-
-signatures-requires : tie.Need-signatures-requires Inv-loop μ-loop
-signatures-requires c κs = function-fields (c .before .before .before .before .before .before .pre .read)
+μ-loop p types terms functions table nodes ws₀ g₀ ws g = length functions - g
 
 loop-holds : tie.Need-loop-holds Inv-loop μ-loop
 loop-holds c = (omega arith, refl, from-first _ _ _ _)
 
 mul-row : tie.Need-mul-row Inv-loop μ-loop
 unfolding maxFunctions
-mul-row c = omega (arith, function-fields (c .before .before .before .before .before .before .before .before .before .pre .read) .few)
+mul-row c = omega (arith, function-fields (c .before .before .before .before .before .before .before .before .pre .0 .read) .few)
 
-array-copy-out-row : tie.Need-array-copy-out-row Inv-loop μ-loop
+element-copy-out-row : tie.Need-element-copy-out-row Inv-loop μ-loop
 unfolding maxFunctions
-array-copy-out-row c = omega (arith, function-fields (c .before .before .before .before .before .before .before .before .before .pre .read) .few)
+element-copy-out-row c = omega (arith, function-fields (c .before .before .before .before .before .before .before .before .pre .0 .read) .few)
 
 check-function-requires : tie.Need-check-function-requires Inv-loop μ-loop
-check-function-requires c κs = (typeable-kept (c .before .before .before .loop .inv .1) (c .before .before .before .before .before .before .before .before .before .before .before .pre), (c .before .before .loop-test .taken, c .before .before .before .before .signatures .ensures .rows _ (c .before .before .loop-test .taken)))
+check-function-requires c κs = (typeable-kept (c .before .before .before .loop .inv .1) (c .before .before .before .before .before .before .before .before .before .before .pre .0), (c .before .before .loop-test .taken, c .before .before .before .before .before .before .before .before .before .before .pre .1 .rows _ (c .before .before .loop-test .taken)))
 
 enum-told : tie.Need-enum-told Inv-loop μ-loop
 enum-told c = search needs
@@ -84,10 +81,9 @@ check-functions-spec =
     (tie.spec
     Inv-loop
     μ-loop
-    signatures-requires
     loop-holds
     mul-row
-    array-copy-out-row
+    element-copy-out-row
     check-function-requires
     enum-told
     add-g

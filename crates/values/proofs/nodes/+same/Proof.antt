@@ -1,15 +1,21 @@
--- `same` ends, since the first node falls. What it has read at a place is a record of proofs/Equal, and each answer is a law of it.
+-- `same` ends, since the first node falls, in calls as in turns. What it has read at a place is a record of proofs/Equal, and each answer is
+-- a law of it.
 use Prim.Native.Nat.{ℕ, _<_}
 use native.Mathlib.Omega.{arith}
+use mathlib.Core.Path.{sym, _∙_}
+use borrow.Author.Tests.{not-true, not-false}
 use borrow.Fn.Kinds.{In}
 use borrow.Fn.PlainCycle.{Measures, is, falls, and}
-use Rattle.values.proofs.Equal.{Kinds, Lefts, one-node, kinds-differ, both-units, lefts-lower, lefts-differ, one-part, rights-lower, two-parts}
+use Rattle.values.proofs.Equal.{Comparing, Alike, PartRead, compare-start, compare-rooms, compare-done, compare-apart, both-units}
+use Rattle.values.proofs.Equal.{compare-one, parts-rooms, part-below, part-differs, compare-other}
 use Rattle.values.proofs.nodes.same.Reads as same
 use Rattle.values.proofs.nodes.same.Kinds as same-kinds
 use Rattle.values.proofs.nodes.+same.Lts-same as same-lts
+use Rattle.values.proofs.nodes.alike.Reads as alike-reads
 use Rattle.values.proofs.nodes.kind_of.Reads as kind-of-reads
 use Rattle.values.proofs.nodes.left_of.Reads as left-of-reads
-use Rattle.values.proofs.nodes.right_of.Reads as right-of-reads
+use Rattle.values.proofs.nodes.left_shorter.Reads as left-shorter-reads
+use Rattle.values.proofs.nodes.part_of.Reads as part-of-reads
 use Rattle.values.proofs.nodes.+same.{statement}
 use Rattle.values.proofs.nodes.+same.Tie.{close}
 
@@ -22,106 +28,170 @@ same-at t = and 1 same-kinds.ps (is 1 same-kinds.ps μ-same t) same.Pre
 abbrev same-below : ℕ → In 1 same-kinds.ps
 same-below t = and 1 same-kinds.ps (falls 1 same-kinds.ps _<_ μ-same t) same.Pre
 
+abbrev same-Inv-loop : same-lts.InvT-loop
+same-Inv-loop ws top a b x₀ y₀ x y = Comparing ws top a b x y
+
+abbrev same-μ-loop : same-lts.MeasureT-loop
+same-μ-loop ws top a b x₀ y₀ x y = x
+
 abbrev same-uses : ℕ → same-lts.Claims
-same-uses t = (kind-of-reads.Asked, kind-of-reads.Learnt, left-of-reads.Asked, left-of-reads.Learnt, same-below t, same.Post, right-of-reads.Asked, right-of-reads.Learnt)
+same-uses t = (
+  alike-reads.Asked,
+  alike-reads.Learnt,
+  kind-of-reads.Asked,
+  kind-of-reads.Learnt,
+  left-of-reads.Asked,
+  left-of-reads.Learnt,
+  left-shorter-reads.Asked,
+  left-shorter-reads.Learnt,
+  part-of-reads.Asked,
+  part-of-reads.Learnt,
+  same-below t,
+  same.Post,
+)
 
--- the kinds, as they were read
-kinds-at : (t : ℕ) (c : same-lts.After-kind-of2 (same-uses t) (same-at t) same.Post)
-    → let start = c .before .before .before .before in
-    Kinds (start .args .ws .now) (start .args .top) (start .args .a) (start .args .b) (c .before .kind-of .result) (c .kind-of2 .result)
-kinds-at t c =
-    let start = c .before .before .before .before in
-    record { right = start .pre .1 .0; below = start .pre .1 .1; kind = c .before .kind-of .ensures; kind′ = c .kind-of2 .ensures }
-
--- and the left parts
-lefts-at : (t : ℕ) (c : same-lts.After-left-of2 (same-uses t) (same-at t) same.Post)
-    → let kinds = c .before .before .before .before in
-    let start = kinds .before .before .before .before in
-    Lefts (start .args .ws .now) (start .args .top) (start .args .a) (start .args .b) (kinds .before .kind-of .result) (kinds .kind-of2 .result) (c .before .left-of .result) (c .left-of2 .result)
-lefts-at t c =
+-- two nodes that are alike, and their kind
+alike-at : (t : ℕ) (c : same-lts.After-kind-of (same-uses t) (same-at t) same.Post same-Inv-loop same-μ-loop)
+    → let at-loop = c .before .before .before .before in
+    let start = at-loop .before .before in
+    Alike (start .args .ws .now) (start .args .top) (start .args .a) (start .args .b) (at-loop .loop .x) (at-loop .loop .y) (c .kind-of .result)
+alike-at t c =
     record {
-      kinds = kinds-at t (c .before .before .before .before);
-      one = c .before .before .before .if2 .left;
-      some = c .before .before .if3 .left;
-      left = c .before .left-of .ensures;
-      left′ = c .left-of2 .ensures;
+      comparing = c .before .before .before .before .loop .inv;
+      alike = sym (c .before .before .alike .ensures) ∙ not-false _ (c .before .if1 .left);
+      kind = c .kind-of .ensures;
     }
 
-same-returns : (t : ℕ) → same-lts.Need-returns (same-uses t) (same-at t) same.Post
-same-returns t c = one-node _ _ _ (c .if1 .taken)
+-- the parts that a call compares
+part-at : (t : ℕ) (c : same-lts.After-part-of2 (same-uses t) (same-at t) same.Post same-Inv-loop same-μ-loop)
+    → let at-shorter = c .before .before in
+    let at-kind = at-shorter .before .before .before in
+    let at-loop = at-kind .before .before .before .before in
+    let start = at-loop .before .before in
+    PartRead (start .args .ws .now) (start .args .top) (start .args .a) (start .args .b) (at-loop .loop .x) (at-loop .loop .y) (at-kind .kind-of .result)
+    (at-shorter .left-shorter .result) (c .before .part-of .result) (c .part-of2 .result)
+part-at t c =
+    record {
+      node = alike-at t (c .before .before .before .before .before);
+      three = c .before .before .before .if3 .left;
+      part = c .before .part-of .ensures;
+      part′ = c .part-of2 .ensures;
+    }
 
-same-kind-of-requires : (t : ℕ) → same-lts.Need-kind-of-requires (same-uses t) (same-at t) same.Post
-same-kind-of-requires t c κs = omega (arith, c .before .before .pre .1 .0 .held, c .before .before .pre .1 .1)
+same-loop-holds : (t : ℕ) → same-lts.Need-loop-holds (same-uses t) (same-at t) same.Post same-Inv-loop same-μ-loop
+same-loop-holds t c =
+    let start = c .before in
+    compare-start (start .pre .1 .0) (start .pre .1 .1)
 
-same-kind-of-requires-2 : (t : ℕ) → same-lts.Need-kind-of-requires-2 (same-uses t) (same-at t) same.Post
-same-kind-of-requires-2 t c κs = omega (arith, c .before .before .before .pre .1 .0 .held, c .before .before .before .pre .1 .1)
+same-alike-requires : (t : ℕ) → same-lts.Need-alike-requires (same-uses t) (same-at t) same.Post same-Inv-loop same-μ-loop
+same-alike-requires t c κs = omega (arith, compare-rooms (c .before .loop .inv))
 
-same-returns-2 : (t : ℕ) → same-lts.Need-returns-2 (same-uses t) (same-at t) same.Post
-same-returns-2 t c = kinds-differ (kinds-at t (c .before)) (c .if2 .taken)
+same-returns : (t : ℕ) → same-lts.Need-returns (same-uses t) (same-at t) same.Post same-Inv-loop same-μ-loop
+same-returns t c =
+    let at-alike = c .before in
+    let at-loop = at-alike .before .before in
+    compare-apart (at-loop .loop .inv) (at-alike .alike .ensures) (not-true _ (c .if1 .taken))
 
-same-returns-3 : (t : ℕ) → same-lts.Need-returns-3 (same-uses t) (same-at t) same.Post
-same-returns-3 t c = both-units (kinds-at t (c .before .before)) (c .before .if2 .left) (c .if3 .taken)
+same-kind-of-requires : (t : ℕ) → same-lts.Need-kind-of-requires (same-uses t) (same-at t) same.Post same-Inv-loop same-μ-loop
+same-kind-of-requires t c κs = omega (arith, compare-rooms (c .before .before .before .loop .inv))
 
-same-left-of-requires : (t : ℕ) → same-lts.Need-left-of-requires (same-uses t) (same-at t) same.Post
-same-left-of-requires t c κs =
-    let start = c .before .before .before .before .before .before in
-    omega (arith, start .pre .1 .0 .held, start .pre .1 .1)
+same-returns-2 : (t : ℕ) → same-lts.Need-returns-2 (same-uses t) (same-at t) same.Post same-Inv-loop same-μ-loop
+same-returns-2 t c = both-units (alike-at t (c .before)) (c .if2 .taken)
 
-same-left-of-requires-2 : (t : ℕ) → same-lts.Need-left-of-requires-2 (same-uses t) (same-at t) same.Post
-same-left-of-requires-2 t c κs =
-    let start = c .before .before .before .before .before .before .before in
-    omega (arith, start .pre .1 .0 .held, start .pre .1 .1)
+same-left-of-requires : (t : ℕ) → same-lts.Need-left-of-requires (same-uses t) (same-at t) same.Post same-Inv-loop same-μ-loop
+same-left-of-requires t c κs = omega (arith, compare-rooms ((alike-at t (c .before .before)) .comparing))
 
-same-same-requires : (t : ℕ) → same-lts.Need-same-requires (same-uses t) (same-at t) same.Post
+same-left-of-requires-2 : (t : ℕ) → same-lts.Need-left-of-requires-2 (same-uses t) (same-at t) same.Post same-Inv-loop same-μ-loop
+same-left-of-requires-2 t c κs = omega (arith, compare-rooms ((alike-at t (c .before .before .before)) .comparing))
+
+same-loop-less : (t : ℕ) → same-lts.Need-loop-less (same-uses t) (same-at t) same.Post same-Inv-loop same-μ-loop
+same-loop-less t c =
+    let at-left-of = c .before in
+    let at-if3 = at-left-of .before in
+    let at-if2 = at-if3 .before in
+    let at-kind-of = at-if2 .before in
+    compare-one (alike-at t at-kind-of) (at-if2 .if2 .left) (at-if3 .if3 .taken) (at-left-of .left-of .ensures) (c .left-of2 .ensures) .1
+
+same-loop-again : (t : ℕ) → same-lts.Need-loop-again (same-uses t) (same-at t) same.Post same-Inv-loop same-μ-loop
+same-loop-again t c =
+    let at-left-of = c .before in
+    let at-if3 = at-left-of .before in
+    let at-if2 = at-if3 .before in
+    let at-kind-of = at-if2 .before in
+    compare-one (alike-at t at-kind-of) (at-if2 .if2 .left) (at-if3 .if3 .taken) (at-left-of .left-of .ensures) (c .left-of2 .ensures) .0
+
+same-left-shorter-requires : (t : ℕ) → same-lts.Need-left-shorter-requires (same-uses t) (same-at t) same.Post same-Inv-loop same-μ-loop
+same-left-shorter-requires t c κs =
+    let at-if2 = c .before in
+    let at-kind-of = at-if2 .before in
+    let w = alike-at t at-kind-of in
+    (compare-rooms (w .comparing) .0, parts-rooms w (at-if2 .if2 .left))
+
+same-part-of-requires : (t : ℕ) → same-lts.Need-part-of-requires (same-uses t) (same-at t) same.Post same-Inv-loop same-μ-loop
+same-part-of-requires t c κs = omega (arith, compare-rooms ((alike-at t (c .before .before .before)) .comparing))
+
+same-part-of-requires-2 : (t : ℕ) → same-lts.Need-part-of-requires-2 (same-uses t) (same-at t) same.Post same-Inv-loop same-μ-loop
+same-part-of-requires-2 t c κs = omega (arith, compare-rooms ((alike-at t (c .before .before .before .before)) .comparing))
+
+same-same-requires : (t : ℕ) → same-lts.Need-same-requires (same-uses t) (same-at t) same.Post same-Inv-loop same-μ-loop
 same-same-requires t c κs =
-    let start = c .before .before .before .before .before .before .before .before in
-    let w = lefts-lower (lefts-at t c) in
-    (omega (arith, start .pre .0, w .0), (start .pre .1 .0, w .1))
-
-same-right-of-requires : (t : ℕ) → same-lts.Need-right-of-requires (same-uses t) (same-at t) same.Post
-same-right-of-requires t c κs =
     let start = c .before .before .before .before .before .before .before .before .before .before .before in
-    omega (arith, start .pre .1 .0 .held, start .pre .1 .1)
-
-same-right-of-requires-2 : (t : ℕ) → same-lts.Need-right-of-requires-2 (same-uses t) (same-at t) same.Post
-same-right-of-requires-2 t c κs =
-    let start = c .before .before .before .before .before .before .before .before .before .before .before .before in
-    omega (arith, start .pre .1 .0 .held, start .pre .1 .1)
-
-same-same-requires-2 : (t : ℕ) → same-lts.Need-same-requires-2 (same-uses t) (same-at t) same.Post
-same-same-requires-2 t c κs =
-    let start = c .before .before .before .before .before .before .before .before .before .before .before .before .before in
-    let w = rights-lower (lefts-at t (c .before .before .before .before .before)) (c .before .right-of .ensures) (c .right-of2 .ensures) in
+    let w = part-below (part-at t c) in
     (omega (arith, start .pre .0, w .0), (start .pre .1 .0, w .1))
 
-same-returns-4 : (t : ℕ) → same-lts.Need-returns-4 (same-uses t) (same-at t) same.Post
-same-returns-4 t c =
-    two-parts (lefts-at t (c .before .before .before .before .before .before)) (c .before .before .right-of .ensures)
-    (c .before .right-of2 .ensures) (c .before .before .before .before .before .same .ensures)
-    (c .before .before .before .before .if4 .taken) (c .before .before .before .if5 .taken) (c .same2 .ensures)
+same-returns-3 : (t : ℕ) → same-lts.Need-returns-3 (same-uses t) (same-at t) same.Post same-Inv-loop same-μ-loop
+same-returns-3 t c =
+    let at-same = c .before in
+    let at-part-of2 = at-same .before in
+    part-differs (part-at t at-part-of2) (at-same .same .ensures) (not-true _ (c .if4 .taken))
 
-same-returns-5 : (t : ℕ) → same-lts.Need-returns-5 (same-uses t) (same-at t) same.Post
-same-returns-5 t c =
-    one-part (lefts-at t (c .before .before .before)) (c .before .before .same .ensures) (c .before .if4 .taken) (c .if5 .left)
+same-part-of-requires-3 : (t : ℕ) → same-lts.Need-part-of-requires-3 (same-uses t) (same-at t) same.Post same-Inv-loop same-μ-loop
+same-part-of-requires-3 t c κs = omega (arith, compare-rooms ((part-at t (c .before .before)) .node .comparing))
 
-same-returns-6 : (t : ℕ) → same-lts.Need-returns-6 (same-uses t) (same-at t) same.Post
-same-returns-6 t c = lefts-differ (lefts-at t (c .before .before)) (c .before .same .ensures) (c .if4 .left)
+same-part-of-requires-4 : (t : ℕ) → same-lts.Need-part-of-requires-4 (same-uses t) (same-at t) same.Post same-Inv-loop same-μ-loop
+same-part-of-requires-4 t c κs = omega (arith, compare-rooms ((part-at t (c .before .before .before)) .node .comparing))
+
+same-loop-less-2 : (t : ℕ) → same-lts.Need-loop-less-2 (same-uses t) (same-at t) same.Post same-Inv-loop same-μ-loop
+same-loop-less-2 t c =
+    let at-part-of3 = c .before in
+    let at-if4 = at-part-of3 .before in
+    let at-same = at-if4 .before in
+    let at-part-of2 = at-same .before in
+    compare-other (part-at t at-part-of2) (at-same .same .ensures) (not-false _ (at-if4 .if4 .left)) (at-part-of3 .part-of3 .ensures) (c .part-of4 .ensures) .1
+
+same-loop-again-2 : (t : ℕ) → same-lts.Need-loop-again-2 (same-uses t) (same-at t) same.Post same-Inv-loop same-μ-loop
+same-loop-again-2 t c =
+    let at-part-of3 = c .before in
+    let at-if4 = at-part-of3 .before in
+    let at-same = at-if4 .before in
+    let at-part-of2 = at-same .before in
+    compare-other (part-at t at-part-of2) (at-same .same .ensures) (not-false _ (at-if4 .if4 .left)) (at-part-of3 .part-of3 .ensures) (c .part-of4 .ensures) .0
+
+same-returns-4 : (t : ℕ) → same-lts.Need-returns-4 (same-uses t) (same-at t) same.Post same-Inv-loop same-μ-loop
+same-returns-4 t c = compare-done (c .before .loop .inv) (c .loop-test .left)
 
 pub +same-spec : {M : Type 1} → statement M
 +same-spec = close μ-same λ t. same-lts.spec (same-uses t)
     (same-at t)
     same.Post
+    same-Inv-loop
+    same-μ-loop
+    (same-loop-holds t)
+    (same-alike-requires t)
     (same-returns t)
     (same-kind-of-requires t)
-    (same-kind-of-requires-2 t)
     (same-returns-2 t)
-    (same-returns-3 t)
     (same-left-of-requires t)
     (same-left-of-requires-2 t)
+    (same-loop-less t)
+    (same-loop-again t)
+    (same-left-shorter-requires t)
+    (same-part-of-requires t)
+    (same-part-of-requires-2 t)
     (same-same-requires t)
-    (same-right-of-requires t)
-    (same-right-of-requires-2 t)
-    (same-same-requires-2 t)
+    (same-returns-3 t)
+    (same-part-of-requires-3 t)
+    (same-part-of-requires-4 t)
+    (same-loop-less-2 t)
+    (same-loop-again-2 t)
     (same-returns-4 t)
-    (same-returns-5 t)
-    (same-returns-6 t)

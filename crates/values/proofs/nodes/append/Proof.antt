@@ -12,8 +12,9 @@ same-length c = search needs
 
 returns : tie.Need-returns
 returns c =
-    rw (c .before .before .put-node .ensures)
-    (grown _ _ _ _ _ _ (c .before .before .before .before .before .pre .0) (c .before .before .before .before .before .pre .1) (omega arith) (omega arith) (omega arith))
+    let at-put-node = c .before .before in
+    let start = at-put-node .before .before .before in
+    rw (at-put-node .put-node .ensures) (grown _ _ _ _ _ _ _ (start .pre .0) (start .pre .1) (omega arith) (omega arith) (omega arith))
 
 pub append-spec : {M : Type 1} → statement M
 append-spec = tie.close (tie.spec put-node-requires same-length returns)

@@ -1,7 +1,7 @@
 use mathlib.Core.Path.{_∙_}
-use borrow.Author.Needs.{needs}
 use Rattle.values.specs.Nodes.{ofKind}
 use Rattle.values.proofs.Making.{pair-ready}
+use borrow.Author.Needs.{needs}
 use Rattle.values.proofs.nodes.pair.Statement.{statement}
 use Rattle.values.proofs.nodes.pair.Tie as tie
 
@@ -17,6 +17,15 @@ length-of-requires-2 c κs = search needs
 wide32-requires-2 : tie.Need-wide32-requires-2
 wide32-requires-2 c κs = search needs
 
+print-of-requires : tie.Need-print-of-requires
+print-of-requires c κs = search needs
+
+print-of-requires-2 : tie.Need-print-of-requires-2
+print-of-requires-2 c κs = search needs
+
+mix-requires : tie.Need-mix-requires
+mix-requires c κs = search needs
+
 add-append-short : tie.Need-add-append-short
 add-append-short c = search needs
 
@@ -24,8 +33,18 @@ add-append-short-2 : tie.Need-add-append-short-2
 add-append-short-2 c = search needs
 
 append-short-requires : tie.Need-append-short-requires
-append-short-requires c κs = let a = c .before .before .before .before .before .before .before .before .pre in
-    pair-ready _ _ (a .0) (a .1 .0) _ _ _ _ (a .1 .1 .0) (a .1 .1 .1) (c .before .before .before .before .wide32 .ensures .0 ∙ c .before .before .before .before .before .length-of .ensures) (c .before .wide322 .ensures .0 ∙ c .before .before .length-of2 .ensures)
+append-short-requires c κs =
+    let at-mix = c .before in
+    let at-print-of2 = at-mix .before in
+    let at-print-of = at-print-of2 .before .before in
+    let at-wide322 = at-print-of .before .before in
+    let at-length-of2 = at-wide322 .before in
+    let at-wide32 = at-length-of2 .before .before in
+    let at-length-of = at-wide32 .before in
+    let start = at-length-of .before .before .before in
+    let a = start .pre in
+    pair-ready _ _ (a .0) (a .1 .0) (a .1 .1 .0) (a .1 .1 .1) (at-print-of .print-of .ensures) (at-print-of2 .print-of2 .ensures) (at-mix .mix .ensures)
+    (at-wide32 .wide32 .ensures .0 ∙ at-length-of .length-of .ensures) (at-wide322 .wide322 .ensures .0 ∙ at-length-of2 .length-of2 .ensures)
 
 same-length : tie.Need-same-length
 same-length c = search needs
@@ -42,6 +61,9 @@ pair-spec =
     wide32-requires
     length-of-requires-2
     wide32-requires-2
+    print-of-requires
+    print-of-requires-2
+    mix-requires
     add-append-short
     add-append-short-2
     append-short-requires

@@ -2,9 +2,9 @@ use Prim.Native.Nat.{_+_, _*_}
 use native.Mathlib.Omega.{arith}
 use mathlib.Core.Path.{ap, _∙_}
 use lib.ListN.{length-set}
-use borrow.Author.Needs.{needs}
 use Rattle.octets.specs.Numbers.{put32}
 use Rattle.values.specs.Nodes.{nodeBytes, putNode}
+use borrow.Author.Needs.{needs}
 use Rattle.values.proofs.nodes.put_node.Statement.{statement}
 use Rattle.values.proofs.nodes.put_node.Tie as tie
 
@@ -13,6 +13,15 @@ mul-ws c = search needs
 
 slice-write-ws : tie.Need-slice-write-ws
 slice-write-ws c = search needs
+
+mul-ws-2 : tie.Need-mul-ws-2
+mul-ws-2 c = search needs
+
+add-ws : tie.Need-add-ws
+add-ws c = search needs
+
+slice-write-ws-2 : tie.Need-slice-write-ws-2
+slice-write-ws-2 c = simp length-set (omega arith)
 
 mul-write16 : tie.Need-mul-write16
 mul-write16 c = search needs
@@ -40,14 +49,16 @@ add-write32-2 c = search needs
 
 write32-requires-2 : tie.Need-write32-requires-2
 write32-requires-2 c κs =
-    let d = c .before .before .before in
-    omega (arith, d .write32 .kept .0, simp length-set at (d .before .before .before .before .write16 .kept .0))
+    let at-write32 = c .before .before .before in
+    let at-write16 = at-write32 .before .before .before .before in
+    omega (arith, at-write32 .write32 .kept .0, simp length-set at (at-write16 .write16 .kept .0))
 
 same-length : tie.Need-same-length
 same-length c =
-    let d = c .before .before in
-    let e = d .before .before .before .before in
-    omega (arith, d .write322 .kept .0, e .write32 .kept .0, simp length-set at (e .before .before .before .before .write16 .kept .0))
+    let at-write322 = c .before .before in
+    let at-write32 = at-write322 .before .before .before .before in
+    let at-write16 = at-write32 .before .before .before .before in
+    omega (arith, at-write322 .write322 .kept .0, at-write32 .write32 .kept .0, simp length-set at (at-write16 .write16 .kept .0))
 
 returns : tie.Need-returns
 unfolding putNode
@@ -67,6 +78,9 @@ put-node-spec =
     (tie.spec
     mul-ws
     slice-write-ws
+    mul-ws-2
+    add-ws
+    slice-write-ws-2
     mul-write16
     add-write16
     write16-requires

@@ -1,13 +1,15 @@
 use borrow.Author.Needs.{needs}
-use Rattle.values.specs.Nodes.{ofKind}
+use Rattle.values.specs.Nodes.{unitPrint, ofKind}
 use Rattle.values.proofs.Making.{unit-fits}
 use Rattle.values.proofs.Making.{unit-ready}
 use Rattle.values.proofs.nodes.unit.Statement.{statement}
 use Rattle.values.proofs.nodes.unit.Tie as tie
 
 append-requires : tie.Need-append-requires
+unfolding unitPrint
 append-requires c κs =
-    (unit-ready _ _ (c .before .before .pre .0) (c .before .before .pre .1), unit-fits _ _ (c .before .before .pre .0) (c .before .before .pre .1))
+    let start = c .before .before in
+    (unit-ready _ _ (start .pre .0) (start .pre .1), unit-fits _ _ (start .pre .0) (start .pre .1))
 
 same-length : tie.Need-same-length
 same-length c = search needs

@@ -1,0 +1,19 @@
+use native.Mathlib.Omega.{arith}
+use borrow.Author.Needs.{needs}
+use Rattle.backward.proofs.outcomes.outer.Statement.{statement}
+use Rattle.backward.proofs.outcomes.outer.Tie as tie
+
+count-in-requires : tie.Need-count-in-requires
+count-in-requires c κs = search needs
+
+cast-left : tie.Need-cast-left
+cast-left c = let e = c .count-in .ensures in omega (arith, c .before .pre)
+
+left-requires : tie.Need-left-requires
+left-requires c κs = let e = c .count-in .ensures in omega (arith, c .before .pre)
+
+returns : tie.Need-returns
+returns c = rw (c .before .count-in .ensures) at (c .left .ensures)
+
+pub outer-spec : {M : Type 1} → statement M
+outer-spec = tie.close (tie.spec count-in-requires cast-left left-requires returns)

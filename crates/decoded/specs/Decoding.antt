@@ -1,0 +1,95 @@
+-- What decoding asks for, and what it does: the rows are the program's entries, by one equation for the terms and one for the functions.
+-- Laws: proofs/Decoding.
+use Prim.Native.Nat.{ℕ, _+_, _*_, _≤_, _<_}
+use mathlib.Core.Path.{_≡_}
+use mathlib.Core.Logic.{_⊎_}
+use mathlib.Core.List.{List, map}
+use lib.ListN.{length, getD}
+use package.Rattle.octets.specs.Numbers.{get16}
+use package.Rattle.calls.specs.Fields.{kindAt, lengthAt, parametersAt}
+use package.Rattle.calls.specs.Entries.{callAncillae, termAt, functionAt}
+use package.Rattle.program.specs.Parts.{TermField, FunctionField}
+use package.Rattle.decoded.specs.Rows.{rowNumbers, functionRows, roomFor, kindIn, firstIn, secondIn, thirdIn, argumentIn, parametersIn, entryIn, functionIn, termsIn, functionsIn, termCount, functionCount}
+
+----------------------------------------------------------------
+-- Before
+
+-- the field of a term whose row has room for its ancilla terms
+pub record Row (p : List ℕ) (at : ℕ) : Type 0 where
+  pub field : TermField p at
+  pub few : kindAt p at ≡ 8 → callAncillae (lengthAt p at) ≤ roomFor
+
+-- The fields of the terms at these offsets are well-formed, with room for every call, and they are as many as section 1 allows.
+pub record Terms (p terms : List ℕ) : Type 0 where
+  pub row : (t : ℕ) → t < length terms → Row p (getD terms t 0)
+  pub few : length terms ≤ 1024
+
+pub record Functions (p functions : List ℕ) : Type 0 where
+  pub field : (g : ℕ) → g < length functions → FunctionField p (getD functions g 0)
+  pub few : length functions ≤ 64
+
+----------------------------------------------------------------
+-- One row
+
+-- the numbers outside row `r` are as they were
+pub record Beside (code code′ : List ℕ) (r : ℕ) : Type 0 where
+  pub kept : (j : ℕ) → (j < rowNumbers * r) ⊎ (rowNumbers * r + rowNumbers ≤ j) → getD code′ j 0 ≡ getD code j 0
+
+-- the first four numbers of row `r` are these, and all others as they were
+pub record Heads (code code′ : List ℕ) (r kind a b c : ℕ) : Type 0 where
+  pub lengths : length code′ ≡ length code
+  pub kind-is : kindIn code′ r ≡ kind
+  pub first-is : firstIn code′ r ≡ a
+  pub second-is : secondIn code′ r ≡ b
+  pub third-is : thirdIn code′ r ≡ c
+  pub others : (j : ℕ) → (j < rowNumbers * r) ⊎ (rowNumbers * r + 4 ≤ j) → getD code′ j 0 ≡ getD code j 0
+
+-- the numbers of row `r` from the fifth on are `n` references from place `i` of the program, and all others as they were
+pub record Listed (code code′ : List ℕ) (r : ℕ) (p : List ℕ) (i n : ℕ) : Type 0 where
+  pub lengths : length code′ ≡ length code
+  pub arguments : (k : ℕ) → k < n → argumentIn code′ r k ≡ get16 p (i + 2 * k)
+  pub others : (j : ℕ) → (j < rowNumbers * r + 4) ⊎ (rowNumbers * r + 4 + n ≤ j) → getD code′ j 0 ≡ getD code j 0
+
+-- row `t` says what the field at `at` says
+pub record TermRow (code : List ℕ) (t : ℕ) (p : List ℕ) (at : ℕ) : Type 0 where
+  pub entry : entryIn code t ≡ termAt p at
+  pub kind : kindIn code t ≡ kindAt p at
+  pub few : kindIn code t ≡ 8 → thirdIn code t ≤ roomFor
+
+pub record TermPut (code code′ : List ℕ) (t : ℕ) (p : List ℕ) (at : ℕ) : Type 0 where
+  pub lengths : length code′ ≡ length code
+  pub row : TermRow code′ t p at
+  pub beside : Beside code code′ t
+
+-- the row of function `g` says what the field at `at` says
+pub record FunctionRow (code : List ℕ) (g : ℕ) (p : List ℕ) (at : ℕ) : Type 0 where
+  pub entry : functionIn code g ≡ functionAt p at
+  pub parameters : parametersIn code g ≡ parametersAt p at
+
+pub record FunctionPut (code code′ : List ℕ) (g : ℕ) (p : List ℕ) (at : ℕ) : Type 0 where
+  pub lengths : length code′ ≡ length code
+  pub row : FunctionRow code′ g p at
+  pub beside : Beside code code′ (functionRows + g)
+
+----------------------------------------------------------------
+-- All rows
+
+-- the first `n` terms have their rows
+pub record TermRows (code code′ p terms : List ℕ) (n : ℕ) : Type 0 where
+  pub lengths : length code′ ≡ length code
+  pub row : (t : ℕ) → t < n → TermRow code′ t p (getD terms t 0)
+
+-- the first `n` functions have theirs, and those of the terms are as they were
+pub record FunctionRows (code code′ p functions : List ℕ) (n : ℕ) : Type 0 where
+  pub lengths : length code′ ≡ length code
+  pub row : (g : ℕ) → g < n → FunctionRow code′ g p (getD functions g 0)
+  pub before : (j : ℕ) → j < rowNumbers * functionRows → getD code′ j 0 ≡ getD code j 0
+
+-- the rows are the program's entries
+pub record Decodes (code p terms functions : List ℕ) : Type 0 where
+  pub terms-are : termsIn code ≡ map (termAt p) terms
+  pub functions-are : functionsIn code ≡ map (functionAt p) functions
+  pub as-many-terms : termCount code ≡ length terms
+  pub as-many-functions : functionCount code ≡ length functions
+  pub row : (t : ℕ) → t < length terms → TermRow code t p (getD terms t 0)
+  pub function : (g : ℕ) → g < length functions → FunctionRow code g p (getD functions g 0)

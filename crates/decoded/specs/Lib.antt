@@ -1,0 +1,5 @@
+-- A program decoded into rows of numbers. The modules in reading order:
+-- rows and what they say; the program that they are
+pub mod Rows
+-- what decoding asks for, and what it does
+pub mod Decoding

@@ -1,0 +1,121 @@
+-- A program decoded: a row of twelve numbers for each term, and behind them one for each function, in one array; last, how many terms and
+-- functions there are. A run reads these and no byte of the program. A row says what the entry's field says (section 1): its first number is
+-- the kind, then come the references (of a variable, its number), or of a call its function and how many ancilla terms it has; from the fifth
+-- number on stand a call's terms, the dynamic one last. Of a function: how many parameters, body, result type, and the parameters' types.
+-- Laws: proofs/Agreeing, proofs/Trees.
+use Prim.Native.Nat.{ℕ, zero, suc, _+_, _*_, _-_, _≤_, _<_, min}
+use mathlib.Core.Path.{_≡_}
+use mathlib.Core.Bool.{true}
+use mathlib.Core.List.{List, [], _∷_}
+use lib.ListN.{getD}
+use package.Rattle.rules.specs.Term.{Term, Program}
+use package.Rattle.calls.specs.Entries.{TypeEntry, TermEntry, termOfKind, termOf, FunctionEntry, programOf}
+use package.Rattle.calls.specs.Named.{termsOfTerm, functionsOfTerm, below}
+
+----------------------------------------------------------------
+-- The numbers of a row
+
+-- how many numbers a row has, and where the rows of functions and the counts begin
+abbrev pub rowNumbers : ℕ
+rowNumbers = 12
+
+abbrev pub functionRows : ℕ
+functionRows = 1024
+
+abbrev pub countsAt : ℕ
+countsAt = 13056
+
+-- all numbers
+abbrev pub codeNumbers : ℕ
+codeNumbers = 13058
+
+unfoldable pub kindIn : List ℕ → ℕ → ℕ
+kindIn code t = getD code (rowNumbers * t) 0
+
+unfoldable pub firstIn : List ℕ → ℕ → ℕ
+firstIn code t = getD code (rowNumbers * t + 1) 0
+
+unfoldable pub secondIn : List ℕ → ℕ → ℕ
+secondIn code t = getD code (rowNumbers * t + 2) 0
+
+unfoldable pub thirdIn : List ℕ → ℕ → ℕ
+thirdIn code t = getD code (rowNumbers * t + 3) 0
+
+-- the numbers from the fifth on, eight of them
+unfoldable pub argumentIn : List ℕ → ℕ → ℕ → ℕ
+argumentIn code t k = getD code (rowNumbers * t + 4 + k) 0
+
+-- `n` of them, from number `k` on
+unfoldable pub argumentsIn : List ℕ → ℕ → ℕ → ℕ → List ℕ
+argumentsIn code t k zero = []
+argumentsIn code t k (suc n) = argumentIn code t k ∷ argumentsIn code t (k + 1) n
+
+-- how many ancilla terms a row has room for
+abbrev pub roomFor : ℕ
+roomFor = 7
+
+-- the ancilla terms of a call's row
+unfoldable pub ancillaeIn : List ℕ → ℕ → ℕ
+ancillaeIn code t = min roomFor (thirdIn code t)
+
+-- how many parameters a function's row says; the last is dynamic
+unfoldable pub parametersIn : List ℕ → ℕ → ℕ
+parametersIn code g = kindIn code (functionRows + g)
+
+unfoldable pub bodyIn : List ℕ → ℕ → ℕ
+bodyIn code g = firstIn code (functionRows + g)
+
+unfoldable pub termCount : List ℕ → ℕ
+termCount code = getD code countsAt 0
+
+unfoldable pub functionCount : List ℕ → ℕ
+functionCount code = getD code (countsAt + 1) 0
+
+----------------------------------------------------------------
+-- The program that the rows are
+
+-- the term entry that row `t` says
+unfoldable pub entryIn : List ℕ → ℕ → TermEntry
+entryIn code t = termOfKind (kindIn code t) (firstIn code t) (secondIn code t) (thirdIn code t) (firstIn code t)
+    (argumentsIn code t 0 (ancillaeIn code t)) (argumentIn code t (ancillaeIn code t))
+
+-- the function entry that the row of function `g` says
+unfoldable pub functionIn : List ℕ → ℕ → FunctionEntry
+functionIn code g = record {
+  result = secondIn code (functionRows + g);
+  ancillae = argumentsIn code (functionRows + g) 0 (min roomFor (parametersIn code g - 1));
+  dynamic = argumentIn code (functionRows + g) (min roomFor (parametersIn code g - 1));
+  body = bodyIn code g;
+}
+
+-- what `f` says of `n` numbers, from `i` on
+unfoldable pub listed : {A : Type 0} → (ℕ → A) → ℕ → ℕ → List A
+listed f i zero = []
+listed f i (suc n) = f i ∷ listed f (i + 1) n
+
+unfoldable pub termsIn : List ℕ → List TermEntry
+termsIn code = listed (entryIn code) 0 (termCount code)
+
+unfoldable pub functionsIn : List ℕ → List FunctionEntry
+functionsIn code = listed (functionIn code) 0 (functionCount code)
+
+-- the tree of term `t`, and the program, whatever the type entries are: a run looks at no type
+abbrev pub treeIn : List ℕ → List TypeEntry → ℕ → Term
+treeIn code ys t = termOf ys (termsIn code) t
+
+abbrev pub programIn : List ℕ → List TypeEntry → Program
+programIn code ys = programOf (record { types = ys; terms = termsIn code; functions = functionsIn code })
+
+----------------------------------------------------------------
+-- Rows of an accepted program
+
+-- A term names lower terms and functions that are there, by a kind of section 1; a call has as many ancilla terms as a row has room for; a
+-- function's body is a term that is there.
+pub record Rows (code : List ℕ) : Type 0 where
+  pub few-terms : termCount code ≤ 1024
+  pub few-functions : functionCount code ≤ 64
+  pub known : (t : ℕ) → t < termCount code → kindIn code t < 11
+  pub few : (t : ℕ) → t < termCount code → kindIn code t ≡ 8 → thirdIn code t ≤ roomFor
+  pub lower : (t : ℕ) → t < termCount code → below t (termsOfTerm (entryIn code t)) ≡ true
+  pub called : (t : ℕ) → t < termCount code → below (functionCount code) (functionsOfTerm (entryIn code t)) ≡ true
+  pub bodies : (g : ℕ) → g < functionCount code → bodyIn code g < termCount code

@@ -1,0 +1,67 @@
+// The rows of a decoded program, read: term t has row t, and function g the row behind those of the terms. A kind is one of section 1's.
+ghost use mathlib.Core.Path.{_≡_};
+ghost use Prim.Native.Nat.{_+_, _<_, _≤_};
+ghost use Rattle.decoded.specs.Rows.{kindIn, firstIn, secondIn, thirdIn, argumentIn, bodyIn};
+
+// Numbers in a row, the row of function 0, and where the counts of terms and functions stand.
+pub const ROW: usize = 12;
+
+pub const FUNCTIONS_FROM: usize = 1024;
+
+pub const COUNTS: usize = 13056;
+
+// All numbers of a decoded program.
+pub const CODE: usize = 13058;
+
+// The kind of term t (section 1).
+pub fn kind_of(code: &[u16; CODE], t: u16) -> u16
+    requires { ⌜ t < 1024 ⌝ }
+    ensures { λ r. ⌜ r ≡ kindIn (now (code .entry)) t ⌝ }
+{
+    let row = octets::wide_index(t);
+    code[ROW * row]
+}
+
+// The references of term t by position; the first of a variable is its number, of a call its function.
+pub fn first_of(code: &[u16; CODE], t: u16) -> u16
+    requires { ⌜ t < 1024 ⌝ }
+    ensures { λ r. ⌜ r ≡ firstIn (now (code .entry)) t ⌝ }
+{
+    let row = octets::wide_index(t);
+    code[ROW * row + 1]
+}
+
+pub fn second_of(code: &[u16; CODE], t: u16) -> u16
+    requires { ⌜ t < 1024 ⌝ }
+    ensures { λ r. ⌜ r ≡ secondIn (now (code .entry)) t ⌝ }
+{
+    let row = octets::wide_index(t);
+    code[ROW * row + 2]
+}
+
+// The third of a call is how many ancilla terms it has.
+pub fn third_of(code: &[u16; CODE], t: u16) -> u16
+    requires { ⌜ t < 1024 ⌝ }
+    ensures { λ r. ⌜ r ≡ thirdIn (now (code .entry)) t ⌝ }
+{
+    let row = octets::wide_index(t);
+    code[ROW * row + 3]
+}
+
+// Term k of call t; the dynamic term comes after the ancilla terms.
+pub fn argument_of(code: &[u16; CODE], t: u16, k: usize) -> u16
+    requires { ⌜ (t < 1024) × (k ≤ 7) ⌝ }
+    ensures { λ r. ⌜ r ≡ argumentIn (now (code .entry)) t k ⌝ }
+{
+    let row = octets::wide_index(t);
+    code[ROW * row + 4 + k]
+}
+
+// The body of function g.
+pub fn body_of(code: &[u16; CODE], g: u16) -> u16
+    requires { ⌜ g < 64 ⌝ }
+    ensures { λ r. ⌜ r ≡ bodyIn (now (code .entry)) g ⌝ }
+{
+    let row = FUNCTIONS_FROM + octets::wide_index(g);
+    code[ROW * row + 1]
+}
