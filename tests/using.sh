@@ -85,19 +85,6 @@ END
     cat << 'END'
 program() { od -An -v -tx1 "$1" | tr -d ' \n'; }
 
-# journal CALL FILE: puts the call, which ends with the journal, and keeps the journal that it leaves.
-journal() {
-    local answer
-    answer=$("$second" answer <<< "$1")
-    case $answer in
-        ok\ * | held\ *)
-            printf "$(sed 's/../\\x&/g' <<< "${answer##* }")" > "$2"
-            echo "${answer% *}"
-            ;;
-        *) echo "$answer" ;;
-    esac
-}
-
 # replay PROGRAM SCRIPT: puts the script's calls one by one, and keeps the journal between them.
 replay() {
     local program script journal= call answer length count=0
@@ -127,9 +114,6 @@ replay() {
 }
 
 case $1 in
-    open) journal "open $most $(program "$2") $5 $(printf '00%.0s' $(seq "$4"))" "$3" ;;
-    convert) journal "convert $most $5 $4 $(program "$2") $6 $(program "$3")" "$3" ;;
-    rollback) journal "rollback $most $4 $(program "$2") $(program "$3")" "$3" ;;
     replay) replay "$2" "$3" ;;
     check) "$second" answer <<< "check $most $(program "$2")" ;;
     forward | backward) "$second" answer <<< "$1 $most 1024 $4 $3 $(program "$2") $5 $6" ;;

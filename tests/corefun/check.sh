@@ -1,7 +1,7 @@
 #!/usr/bin/env bash
 # Runs the program corefun: on the calls of tests/calls, as a batch and one by one, against the second evaluator's answers; on the cases of
 # document 01, section 6; on scripts, against the plain book's answers; and on bad arguments, files and lines, each of which gets a
-# message and no crash. A conversion that is cut off at any call that changes files leaves the journal before it or after it.
+# message and no crash.
 # The last line is 'N passed, M failed'; the exit status is 0 only if M is 0.
 set -euo pipefail
 cd "$(dirname "$0")/../.."
@@ -56,11 +56,6 @@ bytes() {
     if [ "$1" = - ]; then : > "$2"; else xxd -r -p <<< "$1" > "$2"; fi
 }
 
-# hex FILE; no bytes are '-'.
-hex() {
-    if [ -s "$1" ]; then xxd -p "$1" | tr -d '\n'; else echo -; fi
-}
-
 # nat N: a number in ones (document 01, section 6).
 nat() {
     local text=
@@ -79,32 +74,22 @@ batches() {
     same "batch of no calls" "$scratch/got" /dev/null
 }
 
-# one CALL: a call of tests/calls as a command, with its answer as a line. The command lends as much workspace and output as any call
-# needs, so calls that are short of them (1, 17) are left out by the caller.
+# one CALL: a check or a run of tests/calls as a command, with its answer as a line. The command lends as much workspace and output as any
+# call needs, so calls that are short of them (1, 17) are left out by the caller.
 one() {
-    local name ws a b c d e f journal=$scratch/journal
+    local name ws a b c d e f
     read -r name ws a b c d e f <<< "$1"
     case $name in
-        check) bytes "$a" "$scratch/program" ;;
-        forward | backward) bytes "$d" "$scratch/program" ;;
-        open) bytes "$a" "$scratch/program" && bytes "$c" "$journal" ;;
-        convert) bytes "$c" "$scratch/program" && bytes "$e" "$journal" ;;
-        rollback) bytes "$b" "$scratch/program" && bytes "$c" "$journal" ;;
-    esac
-    case $name in
-        check) "$corefun" check "$scratch/program" ;;
-        forward | backward) "$corefun" "$name" "$scratch/program" "$c" "$b" "$e" "$f" ;;
-        open) "$corefun" open "$scratch/program" "$journal" "$(stat -c %s "$journal")" "$b" ;;
-        convert) "$corefun" convert "$scratch/program" "$journal" "$b" "$a" "$d" ;;
-        rollback) "$corefun" rollback "$scratch/program" "$journal" "$a" ;;
+        check)
+            bytes "$a" "$scratch/program"
+            "$corefun" check "$scratch/program"
+            ;;
+        forward | backward)
+            bytes "$d" "$scratch/program"
+            "$corefun" "$name" "$scratch/program" "$c" "$b" "$e" "$f"
+            ;;
     esac > "$scratch/line" 2>&1 || true
-    case $name in open | convert | rollback) kept "$journal" ;; esac
     sed 's/^\(refused [0-9]*\) at \([0-9]*\): .*/\1 \2/' "$scratch/line"
-}
-
-# kept JOURNAL: an accepted call's line has the journal's bytes behind it.
-kept() {
-    if grep -qE '^(ok|held)' "$scratch/line"; then echo "$(cat "$scratch/line") $(hex "$1")" > "$scratch/line"; fi
 }
 
 singles() {
@@ -112,6 +97,7 @@ singles() {
     : > "$scratch/got"
     : > "$scratch/expected"
     while IFS='|' read -r call answer; do
+        case $call in open* | convert* | rollback*) continue ;; esac
         case $answer in 'refused 1 '* | 'refused 17 '*) continue ;; esac
         one "$call" >> "$scratch/got"
         echo "$answer" >> "$scratch/expected"
@@ -134,67 +120,6 @@ cases() {
     answers_with "refused 9 at 0: there is no such function" forward "$plus" 2 0 - -
     : > "$scratch/empty"
     answers_with ok check "$scratch/empty"
-}
-
-# holds JOURNAL HEX: the file has these bytes, and zeros up to 64.
-holds() {
-    local zeros status=0
-    zeros=$(printf '%0128d' 0)
-    [ "$(hex "$1")" = "$2${zeros:${#2}}" ] || status=1
-    verdict "the journal $2" "$status"
-}
-
-# P13, and calls that change nothing. What the journal holds is written out in document 01. Without fuel 12 is met at the function's body,
-# which is term 8 in this program.
-journals() {
-    local plus=$scratch/plus journal=$scratch/j
-    opened=210009$(nat 3)
-    converted=21000d$(nat 5)22000d00000000001c$(nat 2)
-    answers_with ok open "$plus" "$journal" 64 "$(nat 3)"
-    holds "$journal" "$opened"
-    answers_with "held 13 28" convert "$plus" "$journal" 0 28 "$(nat 2)"
-    holds "$journal" "$converted"
-    answers_with "refused 12 at 8: the fuel is spent" rollback "$plus" "$journal" 0
-    answers_with "refused 10 at 0: value bytes are malformed, over the limit or wrong in number" convert "$plus" "$journal" 0 28 -
-    answers_with "refused 20 at 0: 64 conversions stand already, or the bytes do not fit" open "$plus" "$journal" 11 "$(nat 3)"
-    holds "$journal" "$converted"
-    answers_with "held 9 28" rollback "$plus" "$journal" 28
-    holds "$journal" "$opened"
-    answers_with "refused 19 at 0: no conversion stands" rollback "$plus" "$journal" 28
-    holds "$journal" "$opened"
-    (cd "$scratch" && "$corefun" open plus here 12 "$(nat 3)" > out 2> err) || true
-    status=0
-    if [ "$(cat "$scratch/out" "$scratch/err")" != ok ] || [ "$(hex "$scratch/here")" != "$opened" ]; then status=1; fi
-    verdict "a journal in the folder itself" "$status"
-    echo stale > "$journal.new"
-    answers_with "held 13 28" convert "$plus" "$journal" 0 28 "$(nat 2)"
-    status=0
-    if [ -e "$journal.new" ]; then status=1; fi
-    verdict "what a run that was cut off left beside is gone" "$status"
-}
-
-bad_journals() {
-    local plus=$scratch/plus word
-    for word in "" x -1 131073 99999999999999999999; do
-        complains "LENGTH is not a decimal number from 0 to 131072" open "$plus" "$scratch/j" "$word" 00
-    done
-    complains "RECORD is not hexadecimal" open "$plus" "$scratch/j" 64 0
-    complains "ANCILLAE is not hexadecimal" convert "$plus" "$scratch/j" 0 1 0
-    complains "FUNCTION is not a decimal number" convert "$plus" "$scratch/j" x 1 -
-    complains "FUEL is not a decimal number" convert "$plus" "$scratch/j" 0 x -
-    complains "FUEL is not a decimal number" rollback "$plus" "$scratch/j" 65536
-    complains "No such file or directory" convert "$plus" "$scratch/none" 0 1 -
-    complains "No such file or directory" rollback "$scratch/none" "$scratch/j" 1
-    complains "No such file or directory" open "$plus" "$scratch/none/j" 64 00
-    complains "Is a directory" rollback "$plus" "$scratch" 1
-    complains "usage: corefun check FILE" open "$plus" "$scratch/j" 64
-    complains "usage: corefun check FILE" convert "$plus" "$scratch/j" 0 1
-    complains "usage: corefun check FILE" rollback "$plus" "$scratch/j"
-    head -c 131073 /dev/zero > "$scratch/long"
-    complains "JOURNALFILE holds over 131072 bytes" rollback "$plus" "$scratch/long" 1
-    head -c 131072 /dev/zero > "$scratch/long"
-    answers_with "refused 18 at 0: the journal is malformed" rollback "$plus" "$scratch/long" 1
-    answers_with ok open "$plus" "$scratch/long" 131072 00
 }
 
 # number32 N, number16 N: a script's numbers (docs/USING.md, "Scripts").
@@ -271,35 +196,6 @@ bad_scripts() {
     "$corefun" replay "$plus" "$scratch/script" > /dev/full 2> "$scratch/err" || status=$?
     [ "$(grep -cF "standard output: No space left on device" "$scratch/err")" = 1 ] || status=1
     verdict "replay into a full device" "$status"
-}
-
-# A conversion, killed at each call that changes files or waits for them (cut/): the journal is whole, old or new, an answer is given only
-# with the new one, and the next run goes on from there.
-cut_off() {
-    local journal=$scratch/j at=0 ended=1 old=0 new=0 zeros
-    zeros=$(printf '%0128d' 0)
-    bytes "$opened${zeros:${#opened}}" "$scratch/before"
-    bytes "$converted${zeros:${#converted}}" "$scratch/after"
-    while [ "$ended" -ne 0 ] && [ "$at" -lt 40 ]; do
-        at=$((at + 1)) ended=0 status=0
-        cp "$scratch/before" "$journal"
-        {
-            CUT_AT=$at LD_PRELOAD=$PWD/tests/corefun/cut/target/release/libcut.so \
-                "$corefun" convert "$scratch/plus" "$journal" 0 28 "$(nat 2)" > "$scratch/out" 2> "$scratch/err" || ended=$?
-        } 2> /dev/null
-        if cmp -s "$journal" "$scratch/before"; then
-            old=$((old + 1))
-            [ ! -s "$scratch/out" ] || status=1
-            "$corefun" convert "$scratch/plus" "$journal" 0 28 "$(nat 2)" > /dev/null 2>&1 || status=1
-        else
-            new=$((new + 1))
-        fi
-        cmp -s "$journal" "$scratch/after" || status=1
-        verdict "a conversion cut off at call $at" "$status"
-    done
-    status=0
-    if [ "$ended" -ne 0 ] || [ "$old" -lt 4 ] || [ "$new" -lt 4 ]; then status=1; fi
-    verdict "cut off before the new name $old times, behind it $((new - 1)) times, then whole" "$status"
 }
 
 # Programs and values over a limit are answered by the engine.
@@ -382,19 +278,13 @@ rt check corefun > "$scratch/built" 2>&1 || status=$?
 if [ "$status" -ne 0 ]; then tail -n 20 "$scratch/built" | cut -c1-400; fi
 verdict "the program is proved, and answers its own standard input" "$status"
 status=0
-cargo build --quiet --release --offline --manifest-path tests/corefun/cut/Cargo.toml || status=$?
-verdict "the library that cuts a run off" "$status"
-status=0
 cargo build --quiet --release --offline --manifest-path tests/second/Cargo.toml || status=$?
 verdict "the second evaluator" "$status"
 batches
 singles
 cases
-journals
-bad_journals
 scripts
 bad_scripts
-cut_off
 limits
 bad_arguments
 bad_lines

@@ -34,8 +34,3 @@ filledReport (refused n p) output = refusedReport n p
 -- what convert and rollback answer: the length of the held record, and the steps
 unfoldable pub heldText : ℕ → ℕ → List ℕ
 heldText length steps = text "held " ++ decimalText length ++ text " " ++ decimalText steps ++ text "\n"
-
-unfoldable pub heldReport : Answer (ℕ × ℕ) → List ℕ
-unfolding heldText
-heldReport (accepted a) = heldText (a .0) (a .1)
-heldReport (refused n p) = refusedReport n p

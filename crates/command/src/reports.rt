@@ -11,7 +11,7 @@ ghost use Rattle.rows.specs.Answers.{numberOf, placeOf, checkAnswer, runAnswer}
 ghost use Rattle.lines.specs.Decimal.{decimalText};
 ghost use Rattle.lines.specs.Wrote.{Wrote};
 ghost use Rattle.wording.specs.Replies.{lengthOf};
-ghost use Rattle.command.specs.Reports.{refusedReport, checkReport, filledReport, heldText, heldReport};
+ghost use Rattle.command.specs.Reports.{refusedReport, checkReport, filledReport, heldText};
 
 // A refusal: its number, its place and its meaning.
 pub(crate) fn refusal(r: Refusal, out: &mut [u8]) -> usize
@@ -62,15 +62,4 @@ pub(crate) fn held(len: u64, steps: u64, out: &mut [u8]) -> usize
     let spaced = answers::put(b" ", out, counted);
     let stepped = put_figure(steps, out, spaced);
     answers::put(b"\n", out, stepped)
-}
-
-// What convert and rollback answered.
-pub fn held_report(answer: RunAnswer, out: &mut [u8]) -> usize
-    requires { ⌜ 256 ≤ length (now out) ⌝ }
-    ensures { λ end. ⌜ Wrote (now (out .entry)) (now (out .exit)) 0 end (heldReport (runAnswer answer)) ⌝ }
-{
-    match answer {
-        RunAnswer::Ran(d) => held(d.len as u64, d.steps as u64, out),
-        RunAnswer::Refused(r) => refusal(r, out),
-    }
 }

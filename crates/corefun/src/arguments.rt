@@ -12,8 +12,6 @@ ghost use Rattle.lines.specs.Decoded.{sizeOf};
 // Fuel and function have two bytes.
 const MOST_SHORT: u64 = 65535;
 
-const MOST_JOURNAL: u64 = 131072;
-
 // Argument i as a number of two bytes.
 pub(crate) fn short(i: usize, name: &[u8], word: &mut [u8]) -> Number
     ensures { λ r. ⌜ valueOf r ≤ 65535 ⌝ }
@@ -24,21 +22,6 @@ pub(crate) fn short(i: usize, name: &[u8], word: &mut [u8]) -> Number
         Number::Is(k) => Number::Is(k),
         Number::Not => {
             printing::complain(name, b" is not a decimal number from 0 to 65535\n");
-            Number::Not
-        }
-    }
-}
-
-// Argument i as the length of a journal's buffer. No journal needs more than 67,139 bytes.
-pub(crate) fn journal_length(i: usize, word: &mut [u8]) -> Number
-    ensures { λ r. ⌜ valueOf r ≤ 131072 ⌝ }
-{
-    let n = os::arg(i, word);
-    let number = decimal::read_number(&word[..n], MOST_JOURNAL);
-    match number {
-        Number::Is(k) => Number::Is(k),
-        Number::Not => {
-            printing::complain(b"LENGTH", b" is not a decimal number from 0 to 131072\n");
             Number::Not
         }
     }

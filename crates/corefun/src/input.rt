@@ -9,7 +9,7 @@ ghost use Rattle.corefun.specs.Bounds.{Fits};
 // The longest line that is answered, with the byte that ends it.
 pub(crate) const LINE: usize = 262144;
 
-// The bytes that the hexadecimal words of such a line can be; and a byte more than a journal's file may have.
+// The bytes that the hexadecimal words of such a line can be; and a byte more than a script may have.
 pub(crate) const HALF: usize = 131073;
 
 // The longest answer: a journal in hexadecimal, and the numbers in front of it.
