@@ -57,6 +57,21 @@ c_example() {
         diff "$scratch/got" "$scratch/$1"
 }
 
+# What the header itself does, with assertions and without them; and that C++ takes it, where there is a C++ compiler.
+c_header() {
+    local flags=(-O2 -Wall -Wextra -pedantic -Werror -I include) archive=target/staticlib/libexports.a
+    if "$compiler" -x c++ -fsyntax-only /dev/null 2> /dev/null; then
+        "$compiler" -std=c++11 "${flags[@]}" -x c++ -fsyntax-only tests/c/slices.c || return 1
+    fi
+    "$compiler" -std=c99 "${flags[@]}" tests/c/slices.c "$archive" -o "$scratch/slices" &&
+        "$compiler" -std=c99 -DNDEBUG "${flags[@]}" tests/c/slices.c "$archive" -o "$scratch/slices-unchecked" &&
+        "$scratch/slices" > "$scratch/got" &&
+        diff "$scratch/got" <(printf '%s\n' accepted "the workspace is too short" "there is no such function" \
+            "value bytes are malformed, over the limit or wrong in number" "the journal is malformed") &&
+        "$scratch/slices-unchecked" overlapping | grep -qx "not caught" &&
+        ! (ulimit -c 0; "$scratch/slices" overlapping) > /dev/null 2>&1
+}
+
 # rust_example NAME
 rust_example() {
     cargo run --quiet --release --offline --manifest-path bindings/rust/Cargo.toml --example "$1" "$scratch/plus.cf" > "$scratch/got" &&
@@ -74,6 +89,7 @@ for name in plus journal; do
     fi
     part "Rust example $name" rust_example "$name"
 done
+if [ -n "$compiler" ]; then part "C, the header's own part" c_header; fi
 part "Rust, a refusal's words are the engine's" cargo test --quiet --release --offline --manifest-path bindings/rust/Cargo.toml --lib
 
 echo "$passed passed, $failed failed"

@@ -16,7 +16,7 @@ fn main() -> Result<(), Box<dyn std::error::Error>> {
 
     match open(&program, &nat(3), &mut workspace, &mut journal) {
         Ok(()) => println!("ok {}", hexadecimal(&journal)),
-        Err(refusal) => println!("refused {} {}", refusal.number, refusal.place),
+        Err(refusal) => println!("refused {} {}", refusal.number(), refusal.place()),
     }
     let answer = convert(&program, PLUS, &nat(2), FUEL, &mut workspace, &mut journal);
     print(answer, &journal);
@@ -47,7 +47,7 @@ fn nat(n: usize) -> Vec<u8> {
 fn print(answer: Result<Done, Refusal>, journal: &[u8]) {
     match answer {
         Ok(done) => println!("held {} {} {}", done.length, done.steps, hexadecimal(journal)),
-        Err(refusal) => println!("refused {} {}", refusal.number, refusal.place),
+        Err(refusal) => println!("refused {} {}", refusal.number(), refusal.place()),
     }
 }
 

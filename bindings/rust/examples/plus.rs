@@ -20,7 +20,7 @@ fn main() -> Result<(), Box<dyn std::error::Error>> {
 
     match check(&program, &mut workspace) {
         Ok(()) => println!("ok"),
-        Err(refusal) => println!("refused {} {}", refusal.number, refusal.place),
+        Err(refusal) => println!("refused {} {}", refusal.number(), refusal.place()),
     }
     for fuel in [28, 27] {
         let answer = forward(&program, PLUS, &nat(2), &nat(3), fuel, &mut workspace, &mut output);
@@ -45,6 +45,6 @@ fn print(answer: Result<Done, Refusal>, output: &[u8]) {
             let digits: String = output[..done.length].iter().map(|byte| format!("{byte:02x}")).collect();
             println!("value {digits} {}", done.steps);
         }
-        Err(refusal) => println!("refused {} {}", refusal.number, refusal.place),
+        Err(refusal) => println!("refused {} {}", refusal.number(), refusal.place()),
     }
 }
