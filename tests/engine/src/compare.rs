@@ -25,7 +25,7 @@ impl Tally {
     }
 
     /// Compares the engine's answer with the one expected, and hands it back.
-    fn compare(&mut self, call: &Call, expected: &Answer) -> Option<Answer> {
+    pub fn compare(&mut self, call: &Call, expected: &Answer) -> Option<Answer> {
         let got = engine::answer(call);
         let same = got.as_ref().is_ok_and(|got| got == expected);
         let said = || got.as_ref().map_or_else(String::clone, write_answer);

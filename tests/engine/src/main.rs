@@ -5,6 +5,7 @@ mod compare;
 mod engine;
 mod months;
 mod scripts;
+mod slow;
 mod stack;
 
 use compare::Tally;
@@ -17,7 +18,8 @@ usage: harness lines < CALLS         both answer each call, and are compared
        harness scripts SEED COUNT    COUNT scripts of journal calls, played whole
        harness months SEED WEEKS STROKES
                                      the months of a machine with STROKES a day, call by call and as one script
-       harness bench                 ns a step forward and backward, ns a term for check, us a journal call, as ratios
+       harness slow SEED COUNT WORK  COUNT calls that ask for much, each with fuel to compare some WORK bytes; the slowest is told
+       harness bench                 a table of times: engine, second evaluator, ratio
        harness stack                 the stack that the deepest calls need";
 
 fn main() -> ExitCode {
@@ -36,6 +38,8 @@ fn main() -> ExitCode {
         }
         ["months", seed, weeks, strokes] => number(seed)
             .and_then(|seed| months::compare_months(seed, number(weeks)? as usize, number(strokes)? as usize)),
+        ["slow", seed, count, work] => number(seed)
+            .and_then(|seed| report(slow::compare_slow(seed, number(count)? as usize, number(work)? as usize))),
         ["bench"] => bench::bench(),
         ["stack"] => stack::report(),
         ["deep", group, kilobytes] => number(group).and_then(|group| stack::deep(group, number(kilobytes)?)),

@@ -8,6 +8,7 @@ use crate::value::{Kind, NodeId};
 impl Machine<'_> {
     pub fn backward(&mut self, entry: u16, value: NodeId, frame: Frame, height: u32) -> Run<()> {
         self.enter(entry, height)?;
+        self.note(entry, height, Some(value));
         if !self.heap.fits(value) {
             return Err(self.stop(Number::Size, entry));
         }

@@ -4,7 +4,9 @@ use crate::calls::{answer, arguments, Answer, Call, ConvertCall, Direction};
 use crate::draft::{boolean, Draft};
 use crate::limits::{self, FUEL};
 use crate::run::{run, Start};
-use crate::samples::{library, list_bytes, map, nat_bytes, not, reverse, snoc};
+use crate::samples::{
+    beside_ancillae, doubled, lets, library, list_bytes, map, nat_bytes, not, reverse, snoc, tuple_bytes, turned,
+};
 use crate::typing::check;
 use crate::value::Heap;
 use std::hint::black_box;
@@ -14,33 +16,89 @@ const PLUS: u16 = 0;
 const MAP: u16 = 3;
 const REVERSE: u16 = 5;
 
-/// A run to measure: a function of `samples::library`, its ancillae and its value.
+/// A run to measure.
 pub struct Sample {
-    pub name: &'static str,
+    pub name: String,
+    pub program: Vec<u8>,
     pub function: u16,
     pub ancillae: Vec<u8>,
     pub value: Vec<u8>,
 }
 
-pub fn run_samples() -> [Sample; 3] {
-    let bits = |count: usize| list_bytes(&(0..count).map(|n| vec![1 + (n % 3 / 2) as u8, 0]).collect::<Vec<_>>());
-    let of_list = |name, function, count| Sample { name, function, ancillae: Vec::new(), value: bits(count) };
-    let plus = Sample { name: "plus 0 of 255", function: PLUS, ancillae: nat_bytes(0), value: nat_bytes(255) };
-    [plus, of_list("reverse of a list of 92", REVERSE, 92), of_list("map over a list of 125", MAP, 125)]
+pub fn run_samples() -> Vec<Sample> {
+    vec![
+        plus_sample(0, 255),
+        plus_sample(2, 100),
+        list_sample("reverse of 92", REVERSE, 92),
+        list_sample("map over 125", MAP, 125),
+        lets_sample(27),
+        ancillae_sample(7, 200),
+    ]
+}
+
+pub fn plus_sample(ancilla: usize, dynamic: usize) -> Sample {
+    Sample {
+        name: format!("plus {ancilla} of {dynamic}"),
+        program: library().bytes(),
+        function: PLUS,
+        ancillae: nat_bytes(ancilla),
+        value: nat_bytes(dynamic),
+    }
+}
+
+fn list_sample(name: &str, function: u16, count: usize) -> Sample {
+    let bits: Vec<Vec<u8>> = (0..count).map(|n| vec![1 + (n % 3 / 2) as u8, 0]).collect();
+    let (name, program) = (name.to_string(), library().bytes());
+    Sample { name, program, function, ancillae: Vec::new(), value: list_bytes(&bits) }
+}
+
+/// Calls to a function of few steps are doubled so often that its steps are most of the call.
+const DOUBLINGS: usize = 5;
+
+fn lets_sample(count: usize) -> Sample {
+    Sample {
+        name: format!("{count} nested lets"),
+        program: doubled(lets(count), DOUBLINGS).bytes(),
+        function: DOUBLINGS as u16,
+        ancillae: Vec::new(),
+        value: vec![1, 0],
+    }
+}
+
+fn ancillae_sample(count: usize, dynamic: usize) -> Sample {
+    Sample {
+        name: format!("{count} ancillae beside {dynamic}"),
+        program: Draft { functions: vec![beside_ancillae(0, count)] }.bytes(),
+        function: 0,
+        ancillae: [2, 0].repeat(count),
+        value: nat_bytes(dynamic),
+    }
+}
+
+/// About so many variables in one scope. `limits::VARIABLES` may have to be lifted for its program to be accepted.
+pub fn scope_sample(variables: usize) -> Sample {
+    let let_pairs = variables / 2;
+    Sample {
+        name: format!("{} variables in scope", 2 * let_pairs + 1),
+        program: doubled(turned(let_pairs), DOUBLINGS).bytes(),
+        function: DOUBLINGS as u16,
+        ancillae: Vec::new(),
+        value: tuple_bytes(let_pairs),
+    }
 }
 
 pub fn bench() {
-    let program = library().bytes();
     for sample in run_samples() {
-        bench_run(sample.name, &program, sample.function, &sample.ancillae, &sample.value);
+        bench_run(&sample);
     }
     bench_check();
-    bench_journal(&program);
+    bench_journal(&library().bytes());
 }
 
-fn bench_run(name: &str, program: &[u8], function: u16, ancillae: &[u8], value: &[u8]) {
-    let forward = measure_run(program, function, ancillae, value, Direction::Forward);
-    let backward = measure_run(program, function, ancillae, &forward.result, Direction::Backward);
+fn bench_run(sample: &Sample) {
+    let Sample { name, program, function, ancillae, value } = sample;
+    let forward = measure_run(program, *function, ancillae, value, Direction::Forward);
+    let backward = measure_run(program, *function, ancillae, &forward.result, Direction::Backward);
     println!(
         "{name}: {} steps, forward {:.1} ns a step, backward {:.1} ns a step",
         forward.steps, forward.nanoseconds, backward.nanoseconds
@@ -126,7 +184,7 @@ fn bench_journal(program: &[u8]) {
 }
 
 /// The shortest of several timings, in nanoseconds.
-pub fn best_of(times: usize, mut work: impl FnMut() -> bool) -> f64 {
+fn best_of(times: usize, mut work: impl FnMut() -> bool) -> f64 {
     let mut best = f64::MAX;
     for _ in 0..times {
         let start = Instant::now();

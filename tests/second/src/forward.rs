@@ -9,6 +9,14 @@ use crate::value::{Kind, NodeId, UNIT};
 impl Machine<'_> {
     pub fn forward(&mut self, entry: u16, frame: Frame, height: u32) -> Run<NodeId> {
         self.enter(entry, height)?;
+        let noted = self.note(entry, height, None);
+        let value = self.forward_term(entry, frame, height)?;
+        self.gave(noted, value);
+        Ok(value)
+    }
+
+    #[inline]
+    fn forward_term(&mut self, entry: u16, frame: Frame, height: u32) -> Run<NodeId> {
         match self.program.terms[entry as usize] {
             Term::Variable(variable) => Ok(*self.slot(frame, variable)),
             Term::Unit => Ok(UNIT),

@@ -7,6 +7,7 @@ use second::lines::{read_call, write_answer, write_call};
 use second::make::{lists::book_list, Maker};
 use second::months::months;
 use second::rng::Rng;
+use second::slow::slow_calls;
 use second::tally::Tally;
 use std::io::{self, BufRead, BufWriter, Write};
 use std::path::Path;
@@ -19,6 +20,7 @@ usage: second answer < CALLS       one answer a line
        second book SEED COUNT      COUNT lists of calls, a line each: CALL = the plain book's ANSWER
        second months SEED WEEKS STROKES FOLDER
                                    the months of a machine, STROKES a day, as files: program, script, answers, journal
+       second slow SEED COUNT WORK COUNT calls that ask for much, each with fuel to compare some WORK bytes
        second tally < CALLS        how often each answer is met, by call and kind of place
        second bench                time per step, per term and per journal call";
 
@@ -31,6 +33,7 @@ fn main() -> ExitCode {
         ["make", seed, count] => number(seed).and_then(|seed| make(seed, number(count)?)),
         ["book", seed, count] => number(seed).and_then(|seed| book(seed, number(count)?)),
         ["months", seed, weeks, strokes, folder] => write_months(seed, weeks, strokes, Path::new(folder)),
+        ["slow", seed, count, work] => write_slow(seed, count, work),
         ["tally"] => tally(),
         ["bench"] => {
             bench();
@@ -67,6 +70,11 @@ fn write_calls(calls: impl IntoIterator<Item = Call>) -> Result<(), String> {
         output.line(&write_call(&call))?;
     }
     output.finish()
+}
+
+fn write_slow(seed: &str, count: &str, work: &str) -> Result<(), String> {
+    let (count, work) = (number(count)? as usize, number(work)? as usize);
+    write_calls(slow_calls(number(seed)?).take(count).map(|slow| Call::Run(slow.call(slow.fuel(work)))))
 }
 
 fn book(seed: u64, count: u64) -> Result<(), String> {

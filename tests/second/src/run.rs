@@ -26,6 +26,18 @@ pub(crate) struct Machine<'a> {
     pub stack: Vec<NodeId>,
     fuel: u32,
     refusal: Refusal,
+    /// Terms that are higher are not noted; 0 notes none.
+    depth: u32,
+    seen: Vec<Seen>,
+}
+
+/// A term that was entered. Its value is what it gave forward, none where the run stopped in it, and what it was given backward.
+#[derive(Clone, Copy, Debug)]
+pub struct Seen {
+    pub entry: u16,
+    pub height: u32,
+    pub backward: bool,
+    pub value: Option<NodeId>,
 }
 
 /// A value and the steps that it took.
@@ -50,11 +62,23 @@ pub struct Start<'a> {
 }
 
 pub fn run(start: &Start, direction: Direction, fuel: u16, heap: &mut Heap) -> Result<Outcome, Refusal> {
+    watched(start, direction, fuel, heap, 0).0
+}
+
+/// A run with the terms that it entered, in their order, up to a height.
+pub fn watched(
+    start: &Start,
+    direction: Direction,
+    fuel: u16,
+    heap: &mut Heap,
+    depth: u32,
+) -> (Result<Outcome, Refusal>, Vec<Seen>) {
     let body = start.program.functions[start.function as usize].body;
     let frame = Frame { base: 0, ancillae: start.ancillae.len() as u32 };
     let stack = start.ancillae.to_vec();
     let refusal = Number::Fuel.plain();
-    let mut machine = Machine { program: start.program, heap, stack, fuel: fuel as u32, refusal };
+    let (program, seen) = (start.program, Vec::new());
+    let mut machine = Machine { program, heap, stack, fuel: fuel as u32, refusal, depth, seen };
     let run = match direction {
         Direction::Forward => {
             machine.stack.push(start.value);
@@ -65,10 +89,11 @@ pub fn run(start: &Start, direction: Direction, fuel: u16, heap: &mut Heap) -> R
             machine.backward(body, start.value, frame, 1).map(|()| machine.leave())
         }
     };
-    match run {
+    let outcome = match run {
         Ok(value) => Ok(Outcome { value, steps: fuel as u32 - machine.fuel }),
         Err(Stopped) => Err(machine.refusal),
-    }
+    };
+    (outcome, machine.seen)
 }
 
 impl Machine<'_> {
@@ -83,6 +108,24 @@ impl Machine<'_> {
             return Err(self.stop(Number::Height, entry));
         }
         Ok(())
+    }
+
+    /// Notes a term that is entered; where it was noted, if it was.
+    #[inline]
+    pub fn note(&mut self, entry: u16, height: u32, given: Option<NodeId>) -> Option<usize> {
+        if height > self.depth {
+            return None;
+        }
+        self.seen.push(Seen { entry, height, backward: given.is_some(), value: given });
+        Some(self.seen.len() - 1)
+    }
+
+    /// Notes the value that a term gave.
+    #[inline]
+    pub fn gave(&mut self, noted: Option<usize>, value: NodeId) {
+        if let Some(seen) = noted.and_then(|at| self.seen.get_mut(at)) {
+            seen.value = Some(value);
+        }
     }
 
     #[cold]

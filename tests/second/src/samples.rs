@@ -139,3 +139,56 @@ pub fn library() -> Draft {
         ],
     }
 }
+
+/// A function of one parameter and the functions that call it 2, 4, 8 times and so on, the last one `doublings` times doubled.
+pub fn doubled(function: Function, doublings: usize) -> Draft {
+    let ty = function.result.clone();
+    let mut functions = vec![function];
+    for number in 0..doublings {
+        let body = call(number, vec![call(number, vec![variable(0)])]);
+        functions.push(Function { parameters: vec![ty.clone()], result: ty.clone(), body });
+    }
+    Draft { functions }
+}
+
+/// So many lets, each bound to the variable before it.
+pub fn lets(count: usize) -> Function {
+    let body = (0..count).rev().fold(variable(count), |body, bound| let_one(variable(bound), body));
+    Function { parameters: vec![boolean()], result: boolean(), body }
+}
+
+/// A Nat handed on, successor by successor, by calls with so many ancillae.
+pub fn beside_ancillae(itself: usize, ancillae: usize) -> Function {
+    let zero = roll(&nat(), inl(&unfold(&nat()), variable(ancillae + 1)));
+    let arguments = (0..ancillae).chain([ancillae + 1]).map(variable).collect();
+    let mut parameters = vec![boolean(); ancillae];
+    parameters.push(nat());
+    Function {
+        parameters,
+        result: nat(),
+        body: case(unroll(&nat(), variable(ancillae)), zero, successor(call(itself, arguments))),
+    }
+}
+
+/// A tuple of booleans turned round. So many let pairs take it apart and leave twice as many variables and one in scope;
+/// backward all of its parts are met before the first is left.
+pub fn turned(let_pairs: usize) -> Function {
+    // Let pair k binds variable 2 k + 1, a part, and 2 k + 2, what is left of the tuple.
+    let part = |k: usize| variable(2 * k + 1);
+    let parts = (1..let_pairs).fold(part(0), |behind, k| pair(part(k), behind));
+    let around = pair(variable(2 * let_pairs), parts);
+    let ty = (0..let_pairs).fold(boolean(), |ty, _| product(&boolean(), &ty));
+    Function {
+        parameters: vec![ty.clone()],
+        result: ty,
+        body: (0..let_pairs).rev().fold(around, |body, k| let_pair(variable(2 * k), body)),
+    }
+}
+
+/// Bytes of a tuple that `turned` takes.
+pub fn tuple_bytes(let_pairs: usize) -> Vec<u8> {
+    let part = |k: usize| [1 + (k % 3 / 2) as u8, 0];
+    let mut bytes: Vec<u8> = (0..let_pairs).flat_map(|k| [&[3], &part(k)[..]].concat()).collect();
+    bytes.extend(part(let_pairs));
+    bytes
+}

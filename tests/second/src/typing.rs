@@ -8,6 +8,7 @@ use crate::limits::VARIABLES;
 use crate::program::{Function, Program, Term};
 use crate::refusal::{Number, Refusal};
 use crate::types::{Shape, TypeId, Types};
+use crate::uses::Uses;
 
 /// A program that the check accepts, with what the calls need of its types.
 pub struct Checked {
@@ -59,9 +60,7 @@ struct Binding {
     dynamic: bool,
 }
 
-/// The dynamic variables that a term uses, bit n for variable n.
-type Uses = u32;
-
+/// A term's type, and the dynamic variables that it uses.
 type Typed = Result<(TypeId, Uses), Refusal>;
 
 struct Typing<'a> {
@@ -91,7 +90,7 @@ impl Typing<'_> {
         let offset = self.program.term_offsets[entry as usize];
         match self.program.terms[entry as usize] {
             Term::Variable(variable) => self.variable(variable, barrier, offset),
-            Term::Unit => Ok((self.unit, 0)),
+            Term::Unit => Ok((self.unit, Uses::default())),
             Term::Inl(named, part) => {
                 let (left, _) = self.sum(self.tree(named)).ok_or(Number::Mismatch.at(offset))?;
                 self.constructed(part, left, self.tree(named), barrier, offset)
@@ -126,7 +125,7 @@ impl Typing<'_> {
         let number = variable as usize;
         let binding = *self.scope.get(number).ok_or(Number::Scope.at(offset))?;
         require(!binding.dynamic || number >= barrier, Number::Use, offset)?;
-        Ok((binding.ty, if binding.dynamic { 1 << number } else { 0 }))
+        Ok((binding.ty, if binding.dynamic { Uses::only(number) } else { Uses::default() }))
     }
 
     /// A term of one part whose type must be `expected`, and then has type `result`.
@@ -141,7 +140,7 @@ impl Typing<'_> {
         let (second, second_uses) = self.term(right, barrier)?;
         let product = self.types.intern(Shape::Product(first, second));
         require(self.types.within_limit(product), Number::Mismatch, offset)?;
-        Ok((product, first_uses | second_uses))
+        Ok((product, first_uses.with(second_uses)))
     }
 
     fn let_one(&mut self, bound: u16, body: u16, barrier: usize, offset: u32) -> Typed {
@@ -149,7 +148,7 @@ impl Typing<'_> {
         let (ty, bound_uses) = self.term(bound, barrier)?;
         let (result, body_uses, left) = self.binder(&[ty], body, barrier)?;
         require(left, Number::Use, offset)?;
-        Ok((result, bound_uses | body_uses))
+        Ok((result, bound_uses.with(body_uses)))
     }
 
     fn let_pair(&mut self, bound: u16, body: u16, barrier: usize, offset: u32) -> Typed {
@@ -160,7 +159,7 @@ impl Typing<'_> {
         };
         let (result, body_uses, left) = self.binder(&[first, second], body, barrier)?;
         require(left, Number::Use, offset)?;
-        Ok((result, bound_uses | body_uses))
+        Ok((result, bound_uses.with(body_uses)))
     }
 
     /// T-SUM as section 3 reads it: the branches' own uses are compared, whatever the scrutinee uses.
@@ -174,14 +173,14 @@ impl Typing<'_> {
         require(left_type == right_type, Number::Mismatch, offset)?;
         let agree = self.without_units(left_uses) == self.without_units(right_uses);
         require(right_used && agree, Number::Use, offset)?;
-        Ok((left_type, scrutinee_uses | left_uses | right_uses))
+        Ok((left_type, scrutinee_uses.with(left_uses).with(right_uses)))
     }
 
     fn call(&mut self, function: u16, terms: &[u16], barrier: usize, offset: u32) -> Typed {
         let signature = &self.signatures[function as usize];
         let ancillae = signature.ancillae().len();
         require(terms.len() == ancillae + 1, Number::Mismatch, offset)?;
-        let mut dynamic_uses = 0;
+        let mut dynamic_uses = Uses::default();
         for (position, (&term, &parameter)) in terms.iter().zip(&signature.parameters).enumerate() {
             let inner_barrier = if position < ancillae { self.scope.len() } else { barrier };
             let (ty, uses) = self.term(term, inner_barrier)?;
@@ -198,19 +197,21 @@ impl Typing<'_> {
         let outer = self.scope.len();
         self.scope.extend(bound.iter().map(|&ty| Binding { ty, dynamic: true }));
         let (ty, uses) = self.term(body, barrier)?;
-        let left = (outer..self.scope.len()).all(|variable| self.may_leave(variable, uses));
+        let mut new = outer..self.scope.len();
+        let older = new.clone().fold(uses, Uses::without);
+        let left = new.all(|variable| self.may_leave(variable, uses));
         self.scope.truncate(outer);
-        Ok((ty, uses & !(Uses::MAX << outer), left))
+        Ok((ty, older, left))
     }
 
     /// T-UNIT-ELM, narrowed: a dynamic variable is used, or its type is exactly unit.
     fn may_leave(&self, variable: usize, uses: Uses) -> bool {
-        uses & (1 << variable) != 0 || self.scope[variable].ty == self.unit
+        uses.has(variable) || self.scope[variable].ty == self.unit
     }
 
     fn without_units(&self, uses: Uses) -> Uses {
         let units = self.scope.iter().enumerate().filter(|(_, binding)| binding.ty == self.unit);
-        units.fold(uses, |uses, (variable, _)| uses & !(1 << variable))
+        units.fold(uses, |uses, (variable, _)| uses.without(variable))
     }
 
     fn room_for(&self, variables: usize, offset: u32) -> Result<(), Refusal> {
