@@ -1,0 +1,79 @@
+#!/usr/bin/env bash
+# Holds the documents to the repository: what they link to or name as a path is there, modules that they name as CRATE/specs/X or CRATE/proofs/X too,
+# so are the edits that docs/CLAIMS.md names; the map of docs/ARCHITECTURE.md has the crates of crates.txt; no file names a folder of one machine.
+# The last line is 'N passed, M failed'; the exit status is 0 only if M is 0.
+set -uo pipefail
+cd "$(dirname "$0")/.."
+. tests/counting.sh
+
+documents() { find . -name target -prune -o -name '*.md' -print | sed 's|^\./||' | LC_ALL=C sort; }
+
+# named FILE PATTERN: the texts of a document that a pattern finds, without what ends a sentence.
+named() { grep -oE "$2" "$1" | sed -E 's/[.,:;)]+$//' | LC_ALL=C sort -u; }
+
+# there PATH..: is one of the paths there?
+there() {
+    local path
+    for path in "$@"; do
+        if [ -e "$path" ]; then return 0; fi
+    done
+    return 1
+}
+
+links() {
+    local target
+    while IFS= read -r target; do
+        there "$(dirname "$1")/$target"
+        verdict "$1 links to $target" $?
+    done < <(grep -oE '\]\([A-Za-z][^):#]*\)' "$1" | sed -E 's/^\]\(//; s/\)$//' | LC_ALL=C sort -u)
+}
+
+paths() {
+    local path
+    while IFS= read -r path; do
+        case $path in
+        */target/* | *NAME* | *WHAT*) continue ;;
+        esac
+        there "$path" "$path.antt" "$path.rt" "$(dirname "$1")/$path"
+        verdict "$1 names $path" $?
+    done < <(named "$1" '\b(crates|docs|tests|tools|examples|include|bindings)/[A-Za-z0-9_][A-Za-z0-9_./+-]*')
+}
+
+modules() {
+    local path crate
+    while IFS= read -r path; do
+        crate=${path%%/*}
+        if [ ! -d "crates/$crate" ]; then continue; fi
+        there "crates/$path" "crates/$path.antt"
+        verdict "$1 names $path" $?
+    done < <(named "$1" '\b[a-z]+/(specs|proofs)/[A-Z][A-Za-z0-9/]*')
+}
+
+edits() {
+    local name
+    while IFS= read -r name; do
+        there crates/*/must-fail/"$name".edit
+        verdict "docs/CLAIMS.md names the edit $name" $?
+    done < <(grep -oE '`[a-z0-9]+(_[a-z0-9]+)+`' docs/CLAIMS.md | tr -d '`' | LC_ALL=C sort -u)
+}
+
+# The first column of the map, and the crates.
+map() {
+    diff <(sed -n '/^| crate | stands on/,/^$/p' docs/ARCHITECTURE.md | sed -nE 's/^\| ([a-z]+) \|.*/\1/p' | grep -v '^crate$' | LC_ALL=C sort) \
+        <(sed -nE 's/^([a-z]+):.*/\1/p' crates.txt | LC_ALL=C sort)
+}
+
+no_folder_of_a_machine() {
+    ! grep -rnIE --exclude-dir=target --exclude-dir=.git '(^|[^A-Za-z0-9_.])/(home|root|work)/[a-z]' .
+}
+
+while IFS= read -r document; do
+    links "$document"
+    paths "$document"
+    modules "$document"
+done < <(documents)
+edits
+part "the map has the crates of crates.txt" map
+part "no folder of one machine" no_folder_of_a_machine
+echo "$passed passed, $failed failed"
+[ "$failed" -eq 0 ]
