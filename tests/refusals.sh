@@ -1,6 +1,7 @@
 #!/usr/bin/env bash
-# Reads what the prover said of every must-fail edit (rt ci leaves it under target/must-fail) and fails on an edit that was refused for something else
-# than the fact that it changes: a name that is not in scope, code that does not compile, a proof that has another shape than the code.
+# Reads what the prover said of every must-fail edit (rt ci leaves it under target/must-fail) and fails where the first error is about a name that is not
+# in scope, code that does not compile, or a proof of another shape than the code. It knows these by the texts below: an error of another text passes, so
+# it does not show that an edit was refused for the fact that it changes.
 # The last line is 'N passed, M failed', an edit each; the exit status is 0 only if M is 0.
 set -uo pipefail
 cd "$(dirname "$0")/.."
