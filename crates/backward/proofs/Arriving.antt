@@ -8,30 +8,29 @@ use mathlib.Core.List.{List}
 use lib.ListN.{length, getD, set, length-set}
 use lib.Seq.{getD-set-other}
 use lib.Dec.{eqb}
-use borrow.Author.Tests.{eqb-true, eqb-false}
-use package.Rattle.uses.specs.Sets.{has}
-use package.Rattle.rules.specs.Val.{Val}
+use borrow.Author.Tests.{eq-eqb, eqb-true, eqb-false}
+use package.Rattle.rules.specs.Val.{Val, same}
 use package.Rattle.rules.specs.Run.{give}
 use package.Rattle.rules.specs.Machine.{meet, onUnit}
-use package.Rattle.rules.proofs.Basics.{given}
 use package.Rattle.decoded.specs.Rows.{firstIn, kindIn}
 use package.Rattle.decoded.proofs.Trees.{NoKind, none-left}
 use package.Rattle.values.specs.Nodes.{Made, valueAt, kindAt as nodeKind}
-use package.Rattle.scopes.specs.Slots.{unknown, Machine, Scope, machineOf, scopeIn, Moved}
-use package.Rattle.scopes.specs.Bindings.{Meetable, MeetsIn, stateOf}
+use package.Rattle.scopes.specs.Slots.{unknown, found, Slot, Machine, Scope, machineOf, scopeIn, Moved}
+use package.Rattle.scopes.specs.Cells.{Linked}
+use package.Rattle.scopes.specs.declared.slots.Found.the-variants.{Node}
+use package.Rattle.scopes.specs.Bindings.{slotsFrom, stateOf, seen, Meets, Meetable}
 use package.Rattle.scopes.specs.declared.bindings.Bindings.{Bindings}
-use package.Rattle.scopes.specs.declared.bindings.Met.{Met}
-use package.Rattle.scopes.proofs.Views.{view-meets, tells-met, meetable}
+use package.Rattle.scopes.proofs.Views.{view-at, binds-view, compares-view, tells-later, tells-bound, told-seen, by-slot}
 use package.Rattle.forward.specs.Outcomes.{refusalIn}
 use package.Rattle.backward.specs.Ready.{Prepared, Gone, Variable, UnitMet, Stays, runAt, stepAt, PreparedIn, RunsBack, StepsBack}
 use package.Rattle.backward.specs.Outcomes.{Refused, carried, outcomeOf, scopeView, statusOf, tooLong}
 use package.Rattle.backward.proofs.Runs.{small-top}
 use package.Rattle.backward.proofs.Stops.{is-done, number-height, number-fuel}
-use package.Rattle.backward.proofs.Frames.{older-later, gone-refused}
-use package.Rattle.backward.proofs.Leaves.{variable-met, variable-differs, unit-met, unit-stuck}
+use package.Rattle.backward.proofs.Frames.{older-later, few-ancillae, gone-refused}
+use package.Rattle.backward.proofs.Leaves.{variable-met, variable-differs, variable-bound, unit-met, unit-stuck}
 use package.Rattle.backward.proofs.Parts.{scoped-var}
 use package.Rattle.backward.proofs.Entering.{term-ready, term-done, over-ready, over-done, over-long, term-high, term-spent}
-use package.Rattle.backward.proofs.Steps.{var-done, unit-done}
+use package.Rattle.backward.proofs.Steps.{var-done, var-bound, unit-done}
 use Rattle.backward.specs.declared.outcomes.Out.{Out}
 use Rattle.backward.specs.declared.outcomes.Refusal.the-variants.{NoInput}
 
@@ -50,7 +49,7 @@ module _ {code heap slots : List ℕ} {m : Machine} {b : Bindings} {sc : Scope} 
     height-gone e z = gone-refused e (term-high (P .ready) low some-fuel _ (e ∙ ap Refused (number-height t)) refl z)
 
     module _ (some-room : ¬ (room ≡ 0)) {slots₁ : List ℕ} (es : slots₁ ≡ slots) {m₁ : Machine} (em : m₁ ≡ record { top = m .top; fuel = m .fuel - 1 }) where
-      pub taken-prepared : Prepared 1 1 code heap slots₁ m₁ b sc (sc .n) t room
+      pub taken-prepared : Prepared 2 1 code heap slots₁ m₁ b sc (sc .n) t room
       taken-prepared = rw (es, em) (record { ready = term-ready (P .ready) low some-fuel some-room; tells = P .tells; older = P .older; space = P .space })
 
       pub taken-node : node < m₁ .top
@@ -60,11 +59,11 @@ module _ {code heap slots : List ℕ} {m : Machine} {b : Bindings} {sc : Scope} 
       taken-fuel = rw em (omega (arith, pos-of-ne-zero some-fuel))
 
       pub taken-done : {heap′ slots′ : List ℕ} {m′ : Machine} {r : Out}
-          → Gone 1 heap heap′ slots₁ slots′ m₁ m′ sc r (stepAt code heap slots₁ m₁ sc t (valueAt heap node) room)
+          → Gone 2 heap heap′ slots₁ slots′ m₁ m′ sc r (stepAt code heap slots₁ m₁ sc t (valueAt heap node) room)
           → Gone 0 heap heap′ slots slots′ m m′ sc r (runAt code heap slots m sc t (valueAt heap node) room)
       taken-done {heap′} {slots′} {m′} {r} G = from (rw (es, em) at G)
         where
-          from : Gone 1 heap heap′ slots slots′ (record { top = m .top; fuel = m .fuel - 1 }) m′ sc r
+          from : Gone 2 heap heap′ slots slots′ (record { top = m .top; fuel = m .fuel - 1 }) m′ sc r
               (stepAt code heap slots (record { top = m .top; fuel = m .fuel - 1 }) sc t (valueAt heap node) room)
               → Gone 0 heap heap′ slots slots′ m m′ sc r (runAt code heap slots m sc t (valueAt heap node) room)
           from G = record { ran = term-done (P .ready) low some-fuel some-room (G .ran); below = G .below; tells = G .tells }
@@ -82,8 +81,8 @@ module _ {code heap slots : List ℕ} {m : Machine} {b : Bindings} {sc : Scope} 
     pub made-prepared : Prepared 0 0 code heap₁ slots₁ m₁ b sc (sc .n) t room
     made-prepared = rw (es, em) (record {
       ready = over-ready (P .ready) M e;
-      tells = P .tells;
-      older = older-later (P .older) (λ j l. refl) (omega arith);
+      tells = tells-later slots (m .top + 1) (P .tells) (M .new e .agree) (omega arith) (λ i l. refl);
+      older = older-later (m .top + 1) (P .older) (λ j l. refl) (M .new e .agree) (omega arith);
       space = P .space;
     })
 
@@ -107,73 +106,83 @@ module _ {code heap slots : List ℕ} {m : Machine} {b : Bindings} {sc : Scope} 
 ----------------------------------------------------------------
 -- A variable
 
--- slots that a meeting leaves
-module _ {heap slots slots′ : List ℕ} {b : Bindings} {base i node : ℕ} {r : Met} (M : MeetsIn heap slots slots′ b base i node r) where
-  written : {P : Type 0} → (slots′ ≡ set slots (base + i) node → P) → (slots′ ≡ slots → P) → P
-  written {P} f g = go (has (b .bound) i) refl
-    where
-      go : (k : Bool) → has (b .bound) i ≡ k → P
-      go true e = given (M .compares e) λ (agrees, state, s). g s
-      go false e = given (M .binds e) λ (agrees, state, s). f s
-
-  met-lengths : length slots ≡ length slots′
-  met-lengths = written (λ s. rw s (sym (length-set slots (base + i) node))) (λ s. rw s)
-
-  met-below : (j : ℕ) → j < base → getD slots j 0 ≡ getD slots′ j 0
-  met-below j l = written (λ s. rw s (sym (getD-set-other slots (base + i) j node 0 (λ z. omega arith)))) (λ s. rw s)
-
 module _ {code heap slots : List ℕ} {m : Machine} {b : Bindings} {sc : Scope} {t room : ℕ}
-    (P : Prepared 1 1 code heap slots m b sc (sc .n) t room) {node : ℕ} (low : node < m .top) where
+    (P : Prepared 2 1 code heap slots m b sc (sc .n) t room) {node : ℕ} (low : node < m .top) where
   module _ (kind : kindIn code t ≡ 0) where
     in-scope : firstIn code t < sc .n
     in-scope = scoped-var (P .ready) kind
 
-    pub variable-meetable : Meetable slots b (sc .base) (firstIn code t) (m .top)
-    variable-meetable = meetable (firstIn code t) (P .tells) (P .ready .binds .bound) in-scope (omega (arith, P .space))
+    few : sc .n ≤ 32
+    few = P .ready .binds .bound .few
 
-    met-gone : {slots′ : List ℕ} {m′ : Machine} {r : Out} → m′ ≡ m
-        → MeetsIn heap slots slots′ b (sc .base) (firstIn code t) node (record { agrees = eqb (r .stop) 0; state = r .state })
-        → ((r .stop ≡ 0 → ⊥) → statusOf (r .stop) ≡ Refused (NoInput t))
-        → Gone 1 heap heap slots slots′ m m′ sc r (stepAt code heap slots m sc t (valueAt heap node) room)
-    met-gone {slots′} {m′} {r} em M differs = rw em (go (eqb (r .stop) 0) refl)
+    here : getD (slotsFrom slots (sc .base) 32) (firstIn code t) 0 ≡ getD slots (sc .base + firstIn code t) 0
+    here = view-at slots (sc .base) (firstIn code t) (omega (arith, in-scope, few))
+
+    pub variable-slot : Slot heap (getD slots (sc .base + firstIn code t) 0) (m .top)
+    variable-slot = rw (← here) (P .ready .binds .bound .held .held (firstIn code t) in-scope)
+
+    there : sc .base + firstIn code t < length slots
+    there = omega (arith, P .space, P .ready .machine .all, in-scope)
+
+    small : m .top + 1 ≤ unknown
+    unfolding unknown
+    small = omega (arith, P .ready .machine .small)
+
+    -- what the state says is what the slot says
+    pub variable-told : seen heap b (getD slots (sc .base + firstIn code t) 0) ≡ found heap (getD slots (sc .base + firstIn code t) 0)
+    variable-told = told-seen (P .tells) (omega (arith, small))
+        (λ j l. rw (← view-at slots (sc .base) j (omega (arith, few-ancillae P))) (P .ready .binds .ancillae j l)) (firstIn code t) in-scope
+
+    abbrev Stepped : (heap′ slots′ : List ℕ) → Machine → Out → Type 0
+    Stepped heap′ slots′ m′ r = Gone 2 heap heap′ slots slots′ m m′ sc r (stepAt code heap slots m sc t (valueAt heap node) room)
+
+    -- it was bound before
+    pub compared-gone : {r : Out} {old : ℕ} → (getD slots (sc .base + firstIn code t) 0 ≡ unknown → ⊥)
+        → found heap (getD slots (sc .base + firstIn code t) 0) ≡ Node old → eqb (r .stop) 0 ≡ same (valueAt heap old) (valueAt heap node)
+        → r .state ≡ b → ((r .stop ≡ 0 → ⊥) → statusOf (r .stop) ≡ Refused (NoInput t)) → Stepped heap slots m r
+    compared-gone {r} {old} known f agrees same-state differs = go (eqb (r .stop) 0) refl
       where
-        few : sc .n ≤ 32
-        few = P .ready .binds .bound .few
+        met : Meets heap (scopeView slots sc) (firstIn code t) node node (eqb (r .stop) 0) (scopeView slots sc)
+        met = compares-view slots (sc .base) (firstIn code t) (sc .n) in-scope few heap node node known f agrees
 
-        there : sc .base + firstIn code t < length slots
-        there = omega (arith, P .space, P .ready .machine .all, in-scope)
+        gone : Stays heap m (scopeView slots sc) (outcomeOf (r .stop) slots m sc)
+            (meet t (stateOf heap (scopeView slots sc)) (firstIn code t) (valueAt heap node) (m .fuel)) → Stepped heap slots m r
+        gone S = record { ran = var-done (P .ready) low kind refl S; below = λ j l. refl; tells = λ _. rw same-state (P .tells) }
 
-        small : m .top ≤ unknown
-        small = small-top (P .ready .machine)
+        go : (stops : Bool) → eqb (r .stop) 0 ≡ stops → Stepped heap slots m r
+        go true e = gone (variable-met met (P .ready .binds .bound) (omega (arith, small)) in-scope low t e (is-done (eqb-true (r .stop) 0 e)))
+        go false e = gone (variable-differs met (P .ready .binds .bound) (omega (arith, small)) in-scope low t e (differs (eqb-false (r .stop) 0 e)))
 
-        gone : Stays heap m (scopeView slots sc) (outcomeOf (r .stop) slots′ m sc)
-            (meet t (stateOf heap (scopeView slots sc)) (firstIn code t) (valueAt heap node) (m .fuel))
-            → Gone 1 heap heap slots slots′ m m sc r (stepAt code heap slots m sc t (valueAt heap node) room)
-        gone S = record {
-          ran = var-done (P .ready) low kind (met-lengths M) S;
-          below = met-below M;
-          tells = λ _. tells-met M (P .tells) few in-scope there (λ z. omega (arith, small));
-        }
+    -- it was not
+    pub assigned-gone : {heap′ slots′ : List ℕ} {m′ : Machine} {r : Out} → getD slots (sc .base + firstIn code t) 0 ≡ unknown → r .stop ≡ 0
+        → Linked heap heap′ (m .top) node (firstIn code t) (b .head) → slots′ ≡ set slots (sc .base + firstIn code t) (unknown + m .top)
+        → m′ ≡ record { top = m .top + 1; fuel = m .fuel } → r .state .head ≡ m .top → Stepped heap′ slots′ m′ r
+    assigned-gone {heap′} {slots′} {m′} {r} none-known e C s em eh = rw em (record {
+      ran = var-bound (P .ready) low kind (variable-bound slots slots′ m (P .ready .machine .graph) C met (P .ready .binds .bound) small in-scope low
+          lengths t (eq-eqb (r .stop) 0 e) (is-done e));
+      below = λ j l. rw s (sym (getD-set-other slots (sc .base + firstIn code t) j (unknown + m .top) 0 (λ z. omega arith)));
+      tells = λ _. tells-bound (P .tells) in-scope C low (omega (arith, small)) (omega (arith, P .ready .machine .small)) there s eh;
+    })
+      where
+        met : Meets heap′ (scopeView slots sc) (firstIn code t) node (unknown + m .top) (eqb (r .stop) 0) (scopeView slots′ sc)
+        met = binds-view slots (sc .base) (firstIn code t) (sc .n) in-scope few heap′ node there none-known (eq-eqb (r .stop) 0 e) s
 
-        go : (stops : Bool) → eqb (r .stop) 0 ≡ stops → Gone 1 heap heap slots slots′ m m sc r (stepAt code heap slots m sc t (valueAt heap node) room)
-        go true e = gone (variable-met (view-meets M (P .tells) few in-scope there) (P .ready .binds .bound) small in-scope low t e
-            (is-done (eqb-true (r .stop) 0 e)))
-        go false e = gone (variable-differs (view-meets M (P .tells) few in-scope there) (P .ready .binds .bound) small in-scope low t e
-            (differs (eqb-false (r .stop) 0 e)))
+        lengths : length slots ≡ length slots′
+        lengths = rw s (sym (length-set slots (sc .base + firstIn code t) (unknown + m .top)))
 
   ----------------------------------------------------------------
   -- The unit
 
   pub unit-gone : kindIn code t ≡ 1 → {r : Out} → UnitMet heap b node r
-      → Gone 1 heap heap slots slots m m sc r (stepAt code heap slots m sc t (valueAt heap node) room)
+      → Gone 2 heap heap slots slots m m sc r (stepAt code heap slots m sc t (valueAt heap node) room)
   unit-gone kind {r} U = go (eqb (nodeKind heap node) 0) refl
     where
       gone : Stays heap m (scopeView slots sc) (outcomeOf (r .stop) slots m sc)
           (onUnit (valueAt heap node) (give (stateOf heap (scopeView slots sc))) (m .fuel))
-          → Gone 1 heap heap slots slots m m sc r (stepAt code heap slots m sc t (valueAt heap node) room)
+          → Gone 2 heap heap slots slots m m sc r (stepAt code heap slots m sc t (valueAt heap node) room)
       gone S = record { ran = unit-done (P .ready) low kind S; below = λ j l. refl; tells = λ _. rw (U .state) (P .tells) }
 
-      go : (u : Bool) → eqb (nodeKind heap node) 0 ≡ u → Gone 1 heap heap slots slots m m sc r (stepAt code heap slots m sc t (valueAt heap node) room)
+      go : (u : Bool) → eqb (nodeKind heap node) 0 ≡ u → Gone 2 heap heap slots slots m m sc r (stepAt code heap slots m sc t (valueAt heap node) room)
       go true e =
           let u = eqb-true (nodeKind heap node) 0 e in
           gone (unit-met m (P .ready .machine .graph) (P .ready .binds .bound) node u (is-done (U .met u)))
@@ -188,12 +197,41 @@ module _ {code heap slots : List ℕ} {m : Machine} {b : Bindings} {sc : Scope} 
 ----------------------------------------------------------------
 -- By the numbers that a run is lent
 
-pub variable-step : {code heap st st′ : List ℕ} {b : Bindings} {scope t room : ℕ} → PreparedIn 1 1 code heap st b scope t room → {node : ℕ}
-    → node < machineOf st .top → kindIn code t ≡ 0
-    → {r : Out} → Variable heap st st′ b (scopeIn scope .base) (firstIn code t) node t r → StepsBack code heap heap st st′ scope t node room r
-variable-step Q low kind E = record { lengths = E .met .lengths; gone = met-gone (Q .prepared) low kind (E .met .machine) (E .met .met) (E .differs) }
+-- the variable can be met
+pub variable-meetable : {code heap st : List ℕ} {b : Bindings} {scope t room : ℕ} → PreparedIn 2 1 code heap st b scope t room → kindIn code t ≡ 0
+    → {node : ℕ} → node < machineOf st .top → Meetable heap st b (scopeIn scope .base) (firstIn code t)
+variable-meetable Q kind low = let P = Q .prepared in record {
+  cell = record {
+    full = Q .full;
+    graph = P .ready .machine .graph .right;
+    room = omega (arith, P .ready .machine .nodes);
+    small = omega (arith, P .ready .machine .small);
+    within = P .tells .within;
+    few = omega (arith, P .ready .binds .bound .few, scoped-var (P .ready) kind);
+  };
+  there = omega (arith, P .space, scoped-var (P .ready) kind);
+  slot = variable-slot P low kind;
+}
 
-pub unit-step : {code heap st : List ℕ} {b : Bindings} {scope t room : ℕ} → PreparedIn 1 1 code heap st b scope t room → {node : ℕ}
+pub variable-step : {code heap heap′ st st′ : List ℕ} {b : Bindings} {scope t room : ℕ} → PreparedIn 2 1 code heap st b scope t room → {node : ℕ}
+    → node < machineOf st .top → kindIn code t ≡ 0
+    → {r : Out} → Variable heap heap′ st st′ b (scopeIn scope .base) (firstIn code t) node t r → StepsBack code heap heap′ st st′ scope t node room r
+variable-step {code} {heap} {heap′} {st} {st′} {b} {scope} {t} {room} Q {node} low kind {r} E =
+    let P = Q .prepared in
+    by-slot (E .met) (variable-told P low kind) (variable-slot P low kind) (small-top (P .ready .machine))
+    (λ u A. record {
+      lengths = A .lengths;
+      gone = assigned-gone P low kind u (eqb-true (r .stop) 0 (A .agrees)) (A .linked) (A .slots) (A .machine) (A .head);
+    })
+    (λ old d f C. step-same (C .heap-same) (C .numbers-same) (record {
+      lengths = refl;
+      gone = compared-gone P low kind d f (C .agrees) (C .state-same) (E .differs);
+    }))
+  where
+    step-same : heap′ ≡ heap → st′ ≡ st → StepsBack code heap heap st st scope t node room r → StepsBack code heap heap′ st st′ scope t node room r
+    step-same p q R = rw (p, q) R
+
+pub unit-step : {code heap st : List ℕ} {b : Bindings} {scope t room : ℕ} → PreparedIn 2 1 code heap st b scope t room → {node : ℕ}
     → node < machineOf st .top → kindIn code t ≡ 1
     → {r : Out} → UnitMet heap b node r → StepsBack code heap heap st st scope t node room r
 unit-step Q low kind U = record { lengths = refl; gone = unit-gone (Q .prepared) low kind U }
@@ -206,7 +244,7 @@ module _ {code heap st : List ℕ} {b : Bindings} {scope t room : ℕ} (Q : Prep
   fuel-there : ¬ (machineOf st .fuel ≡ 0)
   fuel-there e = some-fuel (qf ∙ e)
 
-  pub entered : PreparedIn 1 1 code heap st₁ b scope t room
+  pub entered : PreparedIn 2 1 code heap st₁ b scope t room
   entered = record { full = S .lengths ∙ Q .full; prepared = taken-prepared (Q .prepared) low fuel-there some-room (S .slots) (S .machine) }
 
   pub entered-node : node < machineOf st₁ .top
@@ -214,7 +252,7 @@ module _ {code heap st : List ℕ} {b : Bindings} {scope t room : ℕ} (Q : Prep
 
   -- what the function of its kind is asked, which is `K` of the term
   pub handed : {bound : ℕ} → 16 * machineOf st .fuel ≡ bound → {K : Type 0} → K
-      → (16 * machineOf st₁ .fuel + 10 < bound) × (PreparedIn 1 1 code heap st₁ b scope t room × ((node < machineOf st₁ .top) × K))
+      → (16 * machineOf st₁ .fuel + 10 < bound) × (PreparedIn 2 1 code heap st₁ b scope t room × ((node < machineOf st₁ .top) × K))
   handed e k = (omega (arith, taken-fuel (Q .prepared) low fuel-there some-room (S .slots) (S .machine)), (entered, (entered-node, k)))
 
   -- and what it gives back

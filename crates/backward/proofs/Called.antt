@@ -1,33 +1,34 @@
 -- A call in code: its ancilla values stand behind the scope, where the function that is called has its own; then the scope is as it was.
 use Prim.Native.Nat.{ℕ, _+_, _-_, _≤_, _<_}
 use native.Mathlib.Omega.{arith}
-use mathlib.Core.Path.{_≡_, _∙_}
+use mathlib.Core.Path.{_≡_, refl, ap, _∙_}
 use mathlib.Core.List.{List}
 use lib.ListN.{getD}
-use package.Rattle.uses.specs.Sets.{Holds, firsts}
 use package.Rattle.decoded.specs.Rows.{argumentIn, bodyIn, firstIn}
-use package.Rattle.values.specs.Nodes.{valueAt}
-use package.Rattle.scopes.specs.Slots.{slotCount, Machine, Scope}
+use package.Rattle.values.specs.Nodes.{valueAt, Agree}
+use package.Rattle.values.proofs.Places.{agree-trans, agree-down}
+use package.Rattle.scopes.specs.Slots.{slotCount, Machine, Scope, found, nodeOr}
 use package.Rattle.scopes.specs.Bindings.{stateOf}
 use package.Rattle.scopes.specs.declared.bindings.Bindings.{Bindings}
 use package.Rattle.scopes.proofs.Views.{tells-first}
 use package.Rattle.forward.specs.Ready.{Calls}
 use package.Rattle.forward.proofs.Placing.{few-count}
-use package.Rattle.backward.specs.Outcomes.{nodeOr, scopeView}
-use package.Rattle.backward.specs.Ready.{Follows, Prepared, Gone, GoneUnder, Leavable, runAt, stepAt, underAt}
+use package.Rattle.backward.specs.Outcomes.{scopeView}
+use package.Rattle.backward.specs.Ready.{Held, Follows, Prepared, Gone, GoneUnder, Leavable, runAt, stepAt, underAt}
 use package.Rattle.backward.specs.Calls.{Gathers}
-use package.Rattle.backward.proofs.Runs.{refused-with, held-later, small-top}
+use package.Rattle.backward.proofs.Runs.{refused-with, held-later}
+use package.Rattle.backward.proofs.Leaving.{held-under, looked}
 use package.Rattle.backward.proofs.Stops.{is-done, is-stopped}
 use package.Rattle.backward.proofs.Frames.{older-later, tells-stay, follows-stay, state-stays}
-use package.Rattle.backward.proofs.Gathering.{scope-ready, placed, arguments-done, callee}
+use package.Rattle.backward.proofs.Gathering.{scope-ready, arguments-done, callee}
 use package.Rattle.backward.proofs.Calling.{call-refused, call-body, call-space, call-node, call-refused-2, call-dynamic, call-done}
 use Rattle.backward.specs.declared.outcomes.Out.{Out}
 
 module _ {code heap slots : List ℕ} {m : Machine} {b : Bindings} {sc : Scope} {t room : ℕ}
-    (P : Prepared 1 1 code heap slots m b sc (sc .n) t room) {node : ℕ} (low : node < m .top)
+    (P : Prepared 2 1 code heap slots m b sc (sc .n) t room) {node : ℕ} (low : node < m .top)
     {k : ℕ} (C : Calls code t 0 k) {heap₁ slots₁ : List ℕ} {m₁ : Machine} {stop : ℕ} (D : Gathers code heap heap₁ slots slots₁ m sc t room 0 k stop m₁) where
   abbrev Stepped : List ℕ → List ℕ → Machine → Out → Type 0
-  Stepped heap′ slots′ m′ r = Gone 1 heap heap′ slots slots′ m m′ sc r (stepAt code heap slots m sc t (valueAt heap node) room)
+  Stepped heap′ slots′ m′ r = Gone 2 heap heap′ slots slots′ m m′ sc r (stepAt code heap slots m sc t (valueAt heap node) room)
 
   -- the ancilla terms were refused
   pub called-refused : ¬ (stop ≡ 0) → Stepped heap₁ slots₁ m₁ (record { stop = stop; state = b })
@@ -53,12 +54,11 @@ module _ {code heap slots : List ℕ} {m : Machine} {b : Bindings} {sc : Scope} 
       w = rw qe at ws
 
       -- the body, with the arguments known
-      pub called-prepared : {args : Bindings} → Holds (args .bound) (firsts k) → Prepared 0 0 code heap₁ slots₁ m₁ args sc₁ (sc₁ .n + 1) u (room - 1)
-      called-prepared H = rw w (record {
+      pub called-prepared : {args : Bindings} → args .head ≡ 0 → Prepared 0 0 code heap₁ slots₁ m₁ args sc₁ (sc₁ .n + 1) u (room - 1)
+      called-prepared none-bound = rw w (record {
         ready = call-body (P .ready) low C (arguments-done P C D) (is-done e) qg qu;
-        tells = tells-first slots₁ (sc .base + sc .n) k (m₁ .top) (omega (arith, called-space)) H (placed P C D (is-done e))
-            (small-top (held-later (P .ready .machine) (D .moves)));
-        older = older-later (scope-ready P .held) (D .below) (D .moves .grows);
+        tells = tells-first heap₁ slots₁ (sc .base + sc .n) k (m₁ .top) none-bound (omega (arith, P .ready .machine .some, D .moves .grows));
+        older = older-later (m₁ .top) (scope-ready P .held) (D .below) (D .moves .agree) (D .moves .grows);
         space = omega (arith, P .space, P .ready .tall, few-count (scope-ready P) C);
       })
 
@@ -83,14 +83,21 @@ module _ {code heap slots : List ℕ} {m : Machine} {b : Bindings} {sc : Scope} 
         }
 
         module _ (d : r .stop ≡ 0) where
-          pub called-leaves : Leavable slots₂ (r .state) sc₁
-          called-leaves = rw w (record { few = called-space; there = there; tells = here .tells d })
+          H : Held 2 code heap₂ slots₂ m₂ room
+          H = held-under (held-later (P .ready .machine) 2 (omega arith) (D .moves)) refl here
+
+          pub called-leaves : Leavable heap₂ slots₂ (r .state) sc₁ (m₂ .top)
+          called-leaves = looked H here d k (omega arith) (omega arith) there (here .slot d)
+              (ap (λ (sc : Scope). sc .base) w) (ap (λ (sc : Scope). sc .n) w)
+
+          agree : Agree (m .top) heap heap₂
+          agree = agree-trans (D .moves .agree) (agree-down (m .top) (D .moves .grows) (here .ran .moves .agree))
 
           grows : m .top ≤ m₂ .top
           grows = omega (arith, D .moves .grows, here .ran .moves .grows)
 
-          follows : Follows (scopeView slots sc) (scopeView slots₂ sc) (m₂ .top)
-          follows = follows-stay slots slots₂ (sc .base) (sc .n) scope-stays (P .ready .binds .bound) (m₂ .top) grows
+          follows : Follows heap₂ (scopeView slots sc) (scopeView slots₂ sc) (m₂ .top)
+          follows = follows-stay slots slots₂ (sc .base) (sc .n) scope-stays (P .ready .binds .bound) (m₂ .top) agree grows
 
           same : stateOf heap₂ (scopeView slots sc) ≡ stateOf heap₂ (scopeView slots₂ sc)
           same = state-stays slots slots₂ (sc .base) (sc .n) scope-stays (P .ready .binds .bound) heap₂
@@ -100,12 +107,12 @@ module _ {code heap slots : List ℕ} {m : Machine} {b : Bindings} {sc : Scope} 
             pub called-dynamic : Prepared 0 0 code heap₂ slots₂ m₂ b sc (sc .n) v (room - 1)
             called-dynamic = record {
               ready = call-dynamic (P .ready) low C (arguments-done P C D) (is-done e) qg qu (here .ran) follows same qv;
-              tells = tells-stay slots slots₂ (sc .base) (sc .n) scope-stays (P .tells);
-              older = older-later (P .older) (λ j l. scope-stays j (omega arith)) grows;
+              tells = tells-stay slots slots₂ (sc .base) (sc .n) scope-stays (m₂ .top) (P .tells) agree grows;
+              older = older-later (m₂ .top) (P .older) (λ j l. scope-stays j (omega arith)) agree grows;
               space = omega (arith, P .space);
             }
 
-            module _ {x : ℕ} (qx : x ≡ nodeOr (getD slots₂ (sc₁ .base + sc₁ .n) 0)) where
+            module _ {x : ℕ} (qx : x ≡ nodeOr (found heap₂ (getD slots₂ (sc₁ .base + sc₁ .n) 0))) where
               pub called-input : x < m₂ .top
               called-input = rw (qx, w) (here .ran .there (is-done d))
 

@@ -33,7 +33,7 @@ use Rattle.backward.specs.declared.outcomes.Refusal.{Refusal}
 -- what went before a run
 before-run : {k : ℕ} {heap heap₁ heap₂ slots slots₁ slots₂ : List ℕ} {st st₁ : Machine} {b : View} {out : Outcome} {res : List TypeEntry → Res State}
     → Moves 0 heap heap₁ slots slots₁ st st₁ → Ran k heap₁ heap₂ slots₁ slots₂ st₁ b out res → Ran k heap heap₂ slots slots₂ st b out res
-before-run M d = record { moves = moves-then M (d .moves); follows = d .follows; answer = d .answer }
+before-run M d = record { moves = moves-then _ (omega arith) M (d .moves); follows = d .follows; answer = d .answer }
 
 -- all ancilla terms were run, and the dynamic one is next
 pub all-arguments : {code : List ℕ} {t count : ℕ} → Calls code t 0 count → Calls code t count count
@@ -42,7 +42,7 @@ all-arguments C = record { kind = C .kind; ancillae = C .ancillae; next = omega 
 ----------------------------------------------------------------
 -- The arguments as a scope
 
-module _ {args : View} {count top : ℕ} (K : Collected args count top) (small : top ≤ unknown) (heap : List ℕ) where
+module _ {heap : List ℕ} {args : View} {count top : ℕ} (K : Collected heap args count top) (small : top ≤ unknown) where
   -- all is known
   pub arguments-state : map some (ancillaeAt heap (args .slots) 0 count) ≡ stateOf heap args
   unfolding stateOf
@@ -52,7 +52,7 @@ module _ {args : View} {count top : ℕ} (K : Collected args count top) (small :
 
 -- The body of function `g` can be run with the arguments known.
 pub body-ready : {code heap slots : List ℕ} {st : Machine} {args : View} {count g u room : ℕ} → Held 0 code heap slots st room
-    → Collected args count (st .top) → g < functionCount code → count + 1 ≡ parametersIn code g → u ≡ bodyIn code g
+    → Collected heap args count (st .top) → g < functionCount code → count + 1 ≡ parametersIn code g → u ≡ bodyIn code g
     → Ready 0 0 code heap slots st args count (args .len + 1) u room
 body-ready {code} {args = args} {g = g} {u = u} H K l e q = record {
   machine = H;
@@ -66,7 +66,7 @@ body-ready {code} {args = args} {g = g} {u = u} H K l e q = record {
 ----------------------------------------------------------------
 -- The call
 
-module _ {code heap slots : List ℕ} {st : Machine} {b : View} {q t room : ℕ} (rd : Ready 1 1 code heap slots st b q (b .len) t room)
+module _ {code heap slots : List ℕ} {st : Machine} {b : View} {q t room : ℕ} (rd : Ready 2 1 code heap slots st b q (b .len) t room)
     {node : ℕ} (low : node < st .top) {count : ℕ} (C : Calls code t 0 count)
     {heap₁ slots₁ : List ℕ} {made : Outcome} (D : Arguments code heap heap₁ slots slots₁ st b q t room count made) where
   abbrev step : List TypeEntry → Res State
@@ -108,19 +108,19 @@ module _ {code heap slots : List ℕ} {st : Machine} {b : View} {q t room : ℕ}
   from-arguments : (ys : List TypeEntry) → step ys ≡ argumentsOf code heap st b q t room count ys (callee (function ys) ys)
   from-arguments ys = step-call ys (function ys) (called-there code ys (firstIn code t) called)
 
-  pub call-refused : {why : Refusal} → made .status ≡ Refused why → Ran 1 heap heap₁ slots slots₁ st b made step
+  pub call-refused : {why : Refusal} → made .status ≡ Refused why → Ran 2 heap heap₁ slots slots₁ st b made step
   call-refused s = slack (record {
     moves = D .moves;
     follows = λ n. absurd (not-done s n);
     answer = λ ys. meaning-refused heap₁ made s ∙ sym (gathered-refused heap₁ (made .bindings) count (made .state .fuel) (callee (function ys) ys) s)
         ∙ sym (D .answer ys (callee (function ys) ys)) ∙ sym (from-arguments ys);
-  }) 1 (omega arith)
+  }) 2 (omega arith)
 
   module _ (s : made .status ≡ Done) {g u : ℕ} (qg : g ≡ firstIn code t) (qu : u ≡ bodyIn code g) where
     abbrev args : View
     args = made .bindings
 
-    known : Collected args count (made .state .top)
+    known : Collected heap₁ args count (made .state .top)
     known = D .collected s
 
     parameters : count + 1 ≡ parametersIn code g
@@ -128,7 +128,7 @@ module _ {code heap slots : List ℕ} {st : Machine} {b : View} {q t room : ℕ}
 
     -- the body
     pub call-body : Ready 0 0 code heap₁ slots₁ (made .state) args count (args .len + 1) u (room - 1)
-    call-body = body-ready (held-less (held-later (rd .machine) (D .moves)) 0 (room - 1) (omega arith) (omega arith)) known (rw qg called) parameters qu
+    call-body = body-ready (held-less (held-later (rd .machine) 2 (omega arith) (D .moves)) 0 (room - 1) (omega arith) (omega arith)) known (rw qg called) parameters qu
 
     pub call-space : args .len < 32
     call-space = omega (arith, known .all, C .ancillae, rd .machine .rows .few t (rd .term) (C .kind))
@@ -143,32 +143,32 @@ module _ {code heap slots : List ℕ} {st : Machine} {b : View} {q t room : ℕ}
         from-arguments ys ∙ D .answer ys (callee (function ys) ys) ∙ gathered-done heap₁ args count (made .state .fuel) (callee (function ys) ys) s
         ∙ ap₂ (λ σ (T : Term). after (backward fits (programIn code ys) (room - 1) (ancillaeOf heap₁ args count) (none ∷ σ) T (valueAt heap node)
         (made .state .fuel)) (λ σ. leave σ (call-next ys)))
-        (arguments-state known (small-top (held-later (rd .machine) (D .moves))) heap₁) (called-body code ys (firstIn code t)
+        (arguments-state known (small-top (held-later (rd .machine) 2 (omega arith) (D .moves)))) (called-body code ys (firstIn code t)
         ∙ ap (treeIn code ys) (sym (rw qg at qu)))
         ∙ ap (λ v. after (underOf code heap₁ (made .state) args count u v (room - 1) ys) (λ σ. leave σ (call-next ys)))
         (value-kept heap heap₁ (st .top) (rd .machine .graph .right) (D .moves .agree) node low)
 
     module _ {heap₂ slots₂ : List ℕ} {r : Inner}
-        (d : RanUnder heap₁ heap₂ slots₁ slots₂ (made .state) args r (underOf code heap₁ (made .state) args count u (valueAt heap₁ node) (room - 1))) where
-      pub call-refused-2 : {why : Refusal} → r .out .status ≡ Refused why → Ran 1 heap heap₂ slots slots₂ st b (r .out) step
-      call-refused-2 s₂ = slack (before-run (D .moves) (under-refused d call-next s₂ from-body)) 1 (omega arith)
+        (d : RanUnder 0 heap₁ heap₂ slots₁ slots₂ (made .state) args r (underOf code heap₁ (made .state) args count u (valueAt heap₁ node) (room - 1))) where
+      pub call-refused-2 : {why : Refusal} → r .out .status ≡ Refused why → Ran 2 heap heap₂ slots slots₂ st b (r .out) step
+      call-refused-2 s₂ = slack (before-run (D .moves) (under-refused d call-next s₂ from-body)) 2 (omega arith)
 
       pub all-moves : Moves 0 heap heap₂ slots slots₂ st (r .out .state)
-      all-moves = moves-then (D .moves) (d .moves)
+      all-moves = moves-then 0 (omega arith) (D .moves) (d .moves)
 
       -- the bindings as they were, in slots of which those of the scope are the same
-      module _ {b′ : View} (F : Follows b b′ (r .out .state .top)) (same : stateOf heap₂ b ≡ stateOf heap₂ b′) {w : ℕ} (qw : w ≡ argumentIn code t count) where
+      module _ {b′ : View} (F : Follows heap₂ b b′ (r .out .state .top)) (same : stateOf heap₂ b ≡ stateOf heap₂ b′) {w : ℕ} (qw : w ≡ argumentIn code t count) where
         -- the dynamic term
         pub call-dynamic : Ready 0 0 code heap₂ slots₂ (r .out .state) b′ q (b .len) w (room - 1)
         call-dynamic = rw (qw, C .ancillae)
             (owing-none (later (part rd (argumentIn code t ancillae) (b .len)
-            (part-argument (rd .machine .rows) t (rd .term) (C .kind) ancillae (omega arith)) (scoped-call rd (C .kind) .1)) all-moves F))
+            (part-argument (rd .machine .rows) t (rd .term) (C .kind) ancillae (omega arith)) (scoped-call rd (C .kind) .1)) all-moves F 2 (omega arith)))
 
         pub call-done : r .out .status ≡ Done → {heap₃ slots₃ : List ℕ} {r₂ : Outcome}
             → Ran 0 heap₂ heap₃ slots₂ slots₃ (r .out .state) b′ r₂ (runOf code heap₂ (r .out .state) b′ q w (valueAt heap₂ (r .newest)) (room - 1))
-            → Ran 1 heap heap₃ slots slots₃ st b r₂ step
+            → Ran 2 heap heap₃ slots slots₃ st b r₂ step
         call-done s₂ d₂ =
-            slack (before-run (D .moves) (under-done d call-next s₂ from-body (says d₂ (λ ys.
+            slack (before-run (D .moves) (under-done d call-next s₂ from-body 0 (omega arith) (says d₂ (λ ys.
             ap₂ (λ a σ. backward fits (programIn code ys) (room - 1) a σ (treeIn code ys w) (valueAt heap₂ (r .newest)) (r .out .state .fuel))
-            (sym (ancillae-after rd all-moves F)) (sym (state-later (rd .machine .graph) (all-moves .agree) b (rd .binds .bound) ∙ same))
-            ∙ ap (λ w. go rd low ys (stateOf heap b) w (valueAt heap₂ (r .newest)) (r .out .state .fuel)) qw)) F)) 1 (omega arith)
+            (sym (ancillae-after rd all-moves F)) (sym (state-later (rd .machine .graph) (all-moves .agree) b (rd .binds .bound) (small-top (rd .machine)) ∙ same))
+            ∙ ap (λ w. go rd low ys (stateOf heap b) w (valueAt heap₂ (r .newest)) (r .out .state .fuel)) qw)) F)) 2 (omega arith)

@@ -1,6 +1,6 @@
 -- case: the branch that is run, by what the left one may yield; then the scrutinee, with inl or inr of the value that the branch's variable
 -- was met with.
-use Prim.Native.Nat.{ℕ, _+_, _-_, _<_}
+use Prim.Native.Nat.{ℕ, _+_, _-_, _≤_, _<_}
 use native.Mathlib.Omega.{arith}
 use mathlib.Core.Path.{_≡_, sym, ap, ap₂, _∙_}
 use mathlib.Core.Bool.{Bool, true, false, cond}
@@ -29,7 +29,7 @@ pub side-single : (l : Bool) {side : ℕ} → side ≡ cond l 1 2 → Single sid
 side-single true e = left e
 side-single false e = right (left e)
 
-module _ {code heap slots : List ℕ} {st : Machine} {b : View} {q t room : ℕ} (rd : Ready 1 1 code heap slots st b q (b .len) t room)
+module _ {code heap slots : List ℕ} {st : Machine} {b : View} {q t room : ℕ} (rd : Ready 2 1 code heap slots st b q (b .len) t room)
     {node : ℕ} (low : node < st .top) (kind : kindIn code t ≡ 7) where
   abbrev step : List TypeEntry → Res State
   step = stepOf code heap st b q t (valueAt heap node) room
@@ -77,21 +77,21 @@ module _ {code heap slots : List ℕ} {st : Machine} {b : View} {q t room : ℕ}
             ap₂ (λ v side. after (underOf code heap st b q v (valueAt heap node) (room - 1) ys)
             (λ σ. leave σ (λ w σ. go rd low ys σ (firstIn code t) (ofKind side w w)))) (sym e) (sym e′)
 
-    module _ {heap₁ slots₁ : List ℕ} {r : Inner} (d : RanUnder heap heap₁ slots slots₁ st b r (underOf code heap st b q v (valueAt heap node) (room - 1))) where
-      pub case-refused : {why : Refusal} → r .out .status ≡ Refused why → Ran 1 heap heap₁ slots slots₁ st b (r .out) step
-      case-refused s = slack (under-refused d case-next s step-case) 1 (omega arith)
+    module _ {j : ℕ} {heap₁ slots₁ : List ℕ} {r : Inner} (d : RanUnder j heap heap₁ slots slots₁ st b r (underOf code heap st b q v (valueAt heap node) (room - 1))) where
+      pub case-refused : j ≤ 1 → {why : Refusal} → r .out .status ≡ Refused why → Ran 2 heap heap₁ slots slots₁ st b (r .out) step
+      case-refused few s = slack (under-refused d case-next s step-case) 2 (omega arith)
 
-      module _ (s : r .out .status ≡ Done) where
+      module _ (few : j ≤ 1) (s : r .out .status ≡ Done) where
         pub case-sum : Ready 1 0 code heap₁ slots₁ (r .out .state) (r .out .bindings) q (r .out .bindings .len) u (room - 1)
         case-sum = in-scope (r .out .bindings .len) (sym (d .follows s .len))
             (rw qu (later (part rd (firstIn code t) (b .len) (parts-case (rd .machine .rows) t (rd .term) kind .0) (scoped-case rd kind .1)) (d .moves)
-            (d .follows s)))
+            (d .follows s) 1 (omega arith)))
 
         pub case-done : {heap₂ slots₂ : List ℕ} {r₂ : Outcome} → Ran 1 heap₁ heap₂ slots₁ slots₂ (r .out .state) (r .out .bindings) r₂
             (runOf code heap₁ (r .out .state) (r .out .bindings) q u (ofKind side (valueAt heap₁ (r .newest)) (valueAt heap₁ (r .newest))) (room - 1))
-            → Ran 1 heap heap₂ slots slots₂ st b r₂ step
+            → Ran 2 heap heap₂ slots slots₂ st b r₂ step
         case-done d₂ =
-            under-done d case-next s step-case (says d₂ (λ ys.
+            under-done d case-next s step-case 2 (omega arith) (says d₂ (λ ys.
             ap (λ a. backward fits (programIn code ys) (room - 1) a (stateOf heap₁ (r .out .bindings)) (treeIn code ys u)
             (ofKind side (valueAt heap₁ (r .newest)) (valueAt heap₁ (r .newest))) (r .out .state .fuel))
             (sym (ancillae-after rd (d .moves) (d .follows s))))) (d .follows s)

@@ -29,12 +29,11 @@ use package.Rattle.scopes.proofs.Bound.{opens-state}
 use package.Rattle.yields.proofs.Ancillae.{ancillae-same}
 use package.Rattle.forward.specs.Outcomes.{finished}
 use package.Rattle.forward.specs.Ready.{Graph}
-use package.Rattle.forward.proofs.Answers.{below-mark}
 use package.Rattle.forward.proofs.Making.{makes}
 use package.Rattle.backward.specs.Scoped.{ScopedAt}
 use package.Rattle.backward.specs.Outcomes.{Done, Refused, Outcome, refusalOf, tooLong}
-use package.Rattle.backward.specs.Ready.{Ready, Binds, Ran, RanUnder, Goes, ancillaeOf, runOf, underOf, stepOf}
-use package.Rattle.backward.proofs.Runs.{meaning-done, meaning-refused, refusal-after, not-done, left-done, left-refused, binds-up, ancillae-later, state-later, held-later, refuses, slack}
+use package.Rattle.backward.specs.Ready.{Ready, Held, Binds, Ran, RanUnder, Goes, ancillaeOf, runOf, underOf, stepOf}
+use package.Rattle.backward.proofs.Runs.{meaning-done, meaning-refused, refusal-after, not-done, left-done, left-refused, binds-later, ancillae-later, state-later, held-later, small-top, refuses, slack}
 use package.Rattle.backward.proofs.Leaves.{opened-binds, goes-node, goes-state, goes-follows}
 use Rattle.backward.specs.declared.outcomes.Refusal.{Refusal}
 use Rattle.backward.specs.declared.outcomes.Refusal.the-variants.{Fuel, Height}
@@ -95,7 +94,7 @@ module _ {code heap slots : List ℕ} {st : Machine} {b : View} {q t room : ℕ}
       abbrev taken : Machine
       taken = record { top = st .top; fuel = st .fuel - 1 }
 
-      pub term-ready : Ready 1 1 code heap slots taken b q (b .len) t room
+      pub term-ready : Ready 2 1 code heap slots taken b q (b .len) t room
       term-ready =
           let pos = pos-of-ne-zero some-fuel in
           let tall = pos-of-ne-zero some-room in
@@ -117,7 +116,7 @@ module _ {code heap slots : List ℕ} {st : Machine} {b : View} {q t room : ℕ}
             tall = omega arith;
           }
 
-      pub term-done : {heap′ slots′ : List ℕ} {r : Outcome} → Ran 1 heap heap′ slots slots′ taken b r (stepOf code heap taken b q t (valueAt heap node) room)
+      pub term-done : {heap′ slots′ : List ℕ} {r : Outcome} → Ran 2 heap heap′ slots slots′ taken b r (stepOf code heap taken b q t (valueAt heap node) room)
           → Ran 0 heap heap′ slots slots′ st b r run
       term-done d =
           let pos = pos-of-ne-zero some-fuel in
@@ -143,7 +142,8 @@ module _ {code heap slots : List ℕ} {st : Machine} {b : View} {q t room : ℕ}
   node-room = omega (arith, rd .machine .nodes)
 
   pub next-node : st .top + 1 ≤ unknown
-  next-node = omega (arith, rd .machine .small, below-mark)
+  unfolding unknown
+  next-node = omega (arith, rd .machine .small)
 
   module _ {v : Val} {heap₁ : List ℕ} {made : Bool} (M : Made heap heap₁ (st .top) v made) where
     -- with the node
@@ -171,7 +171,7 @@ module _ {code heap slots : List ℕ} {st : Machine} {b : View} {q t room : ℕ}
           variables = rd .machine .variables;
           all = rd .machine .all;
         };
-        binds = binds-up (st .top + 1) (rd .binds) (omega arith);
+        binds = binds-later (st .top + 1) (rd .binds) (grows .agree) (omega arith);
         term = rd .term;
         scoped = rd .scoped;
         tall = omega arith;
@@ -193,7 +193,7 @@ module _ {code heap slots : List ℕ} {st : Machine} {b : View} {q t room : ℕ}
         answer = λ ys. d .answer ys
             ∙ ap₂ (λ a σ. backward fits (programIn code ys) room a σ (treeIn code ys t) (valueAt heap₁ (st .top)) (st .fuel))
             (sym (ancillae-later (rd .machine .graph) (grows .agree) b q (rd .binds)))
-            (sym (state-later (rd .machine .graph) (grows .agree) b (rd .binds .bound)))
+            (sym (state-later (rd .machine .graph) (grows .agree) b (rd .binds .bound) (small-top (rd .machine))))
             ∙ ap (λ v. runOf code heap st b q t v room ys) (grows .value);
       }
 
@@ -206,9 +206,9 @@ module _ {code heap slots : List ℕ} {st : Machine} {b : View} {q t room : ℕ}
 ----------------------------------------------------------------
 -- A variable more, of which nothing is known
 
-module _ {b : View} {q top : ℕ} (B : Binds b q top) (space : b .len < 32) {b₁ : View} (O : Opens b unknown b₁) (heap : List ℕ) where
+module _ {heap : List ℕ} {b : View} {q top : ℕ} (B : Binds heap b q top) (space : b .len < 32) {b₁ : View} (O : Opens b unknown b₁) where
   pub inner-state : stateOf heap b₁ ≡ none ∷ stateOf heap b
-  inner-state = opens-state heap b unknown top b₁ O (B .bound) space ∙ ap (λ f. slotMeaning heap f ∷ stateOf heap b) (found-mark unknown refl)
+  inner-state = opens-state heap b unknown top b₁ O (B .bound) space ∙ ap (λ f. slotMeaning heap f ∷ stateOf heap b) (found-mark heap unknown refl)
 
   pub inner-ancillae : ancillaeOf heap b₁ q ≡ ancillaeOf heap b q
   inner-ancillae =
@@ -227,13 +227,13 @@ module _ {code heap slots : List ℕ} {st : Machine} {b : View} {q t room : ℕ}
   }
 
   inner-run : (v : Val) (ys : List TypeEntry) → runOf code heap st b₁ q t v room ys ≡ underOf code heap st b q t v room ys
-  inner-run v ys = ap₂ (λ a σ. backward fits (programIn code ys) room a σ (treeIn code ys t) v (st .fuel)) (inner-ancillae (rd .binds) space O heap)
-      (inner-state (rd .binds) space O heap)
+  inner-run v ys = ap₂ (λ a σ. backward fits (programIn code ys) room a σ (treeIn code ys t) v (st .fuel)) (inner-ancillae (rd .binds) space O)
+      (inner-state (rd .binds) space O)
 
   module _ {node : ℕ} (low : node < st .top) {heap₁ slots₁ : List ℕ} {r : Outcome}
       (d : Ran 0 heap heap₁ slots slots₁ st b₁ r (runOf code heap st b₁ q t (valueAt heap node) room)) where
     pub inner-stopped : {w : Refusal} → r .status ≡ Refused w → (l : Left)
-        → RanUnder heap heap₁ slots slots₁ st b (record { out = record { status = r .status; state = r .state; bindings = l .state }; newest = l .newest })
+        → RanUnder 0 heap heap₁ slots slots₁ st b (record { out = record { status = r .status; state = r .state; bindings = l .state }; newest = l .newest })
         (underOf code heap st b q t (valueAt heap node) room)
     inner-stopped {w} s l = record {
       moves = d .moves;
@@ -245,19 +245,22 @@ module _ {code heap slots : List ℕ} {st : Machine} {b : View} {q t room : ℕ}
     }
 
     module _ (s : r .status ≡ Done) where
+      after-it : Held 0 code heap₁ slots₁ (r .state) room
+      after-it = held-later (rd .machine) 0 (omega arith) (d .moves)
+
       -- there is one to leave
       pub inner-some : (0 < r .bindings .len) × (r .bindings .len ≤ 32)
       inner-some = (omega (arith, d .follows s .len, O .len), d .follows s .bound .few)
 
-      pub inner-done : {l : Left} → Goes (r .bindings) l
-          → RanUnder heap heap₁ slots slots₁ st b (record { out = record { status = r .status; state = r .state; bindings = l .state }; newest = l .newest })
+      pub inner-done : {l : Left} → Goes heap₁ (r .bindings) l
+          → RanUnder 0 heap heap₁ slots slots₁ st b (record { out = record { status = r .status; state = r .state; bindings = l .state }; newest = l .newest })
           (underOf code heap st b q t (valueAt heap node) room)
       inner-done {l} L = record {
         moves = d .moves;
         follows = λ n. goes-follows L (d .follows s .bound) (inner-some .0) O (rd .binds .bound .full) (d .follows s);
-        there = λ n. goes-node L (d .follows s .bound) (inner-some .0) (held-later (rd .machine) (d .moves) .some);
+        there = λ n. goes-node L (d .follows s .bound) (inner-some .0) (after-it .some) (small-top after-it);
         answer = λ ys next.
             via (λ σ. leave σ next) (sym (inner-run (valueAt heap node) ys) ∙ sym (d .answer ys) ∙ meaning-done heap₁ r s)
-            (goes-state L (d .follows s .bound) (inner-some .0) heap₁ (held-later (rd .machine) (d .moves) .unit-there) next (r .state .fuel))
+            (goes-state L (d .follows s .bound) (inner-some .0) (after-it .unit-there) (small-top after-it) next (r .state .fuel))
             ∙ sym (left-done heap₁ (l .state) (l .newest) (r .state .fuel) next s);
       }

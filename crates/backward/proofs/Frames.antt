@@ -2,7 +2,6 @@
 use Prim.Native.Nat.{ℕ, zero, suc, _+_, _*_, _≤_, _<_}
 use native.Mathlib.Omega.{arith}
 use mathlib.Core.Path.{_≡_, refl, sym, ap, ap₂, _∙_}
-use mathlib.Core.Logic.{⊎-elim, inl as left, inr as right}
 use mathlib.Core.Bool.{Bool}
 use mathlib.Core.List.{List, _∷_}
 use lib.ListN.{getD}
@@ -11,15 +10,16 @@ use package.Rattle.rules.specs.Machine.{State}
 use package.Rattle.rules.specs.Yield.{mayYield}
 use package.Rattle.calls.specs.Entries.{TypeEntry}
 use package.Rattle.decoded.specs.Rows.{treeIn}
-use package.Rattle.values.specs.Nodes.{valueAt}
+use package.Rattle.values.specs.Nodes.{valueAt, Agree}
 use package.Rattle.scopes.specs.Slots.{Slots, Machine, Scope, scopeIn, slotsOf}
 use package.Rattle.scopes.specs.Bindings.{slotsFrom, viewOf, stateOf, Bound, Tells}
 use package.Rattle.scopes.specs.declared.bindings.Bindings.{Bindings}
+use package.Rattle.scopes.proofs.Marks.{slot-later}
 use package.Rattle.scopes.proofs.Scopes.{state-same}
-use package.Rattle.scopes.proofs.Views.{view-at, view-bound, view-state, tells-same}
+use package.Rattle.scopes.proofs.Views.{view-at, view-bound, view-state, tells-later}
 use package.Rattle.yields.specs.Yields.{ancillaeAt, MayYield}
 use package.Rattle.backward.specs.Outcomes.{Refused, outcomeOf, statusOf, scopeView}
-use package.Rattle.backward.specs.Ready.{Ready, Follows, Moves, Ran, Prepared, Gone, ancillaeOf}
+use package.Rattle.backward.specs.Ready.{Ready, Follows, Moves, Ran, Prepared, Gone, GoneUnder, ancillaeOf}
 use package.Rattle.backward.proofs.Runs.{not-done}
 use package.Rattle.backward.proofs.Stops.{is-done}
 use Rattle.backward.specs.declared.outcomes.Refusal.{Refusal}
@@ -46,24 +46,25 @@ view-yields {code} {heap} {st} {scope} {t} {node} M few ys =
 -- A scope that stays
 
 -- callers' scopes, of which the slots are as they were
-pub older-later : {slots slots′ : List ℕ} {base top top′ : ℕ} → Slots slots base top → ((j : ℕ) → j < base → getD slots j 0 ≡ getD slots′ j 0) → top ≤ top′
-    → Slots slots′ base top′
-older-later S same le = record { held = λ j l. rw (← same j l) (⊎-elim (λ e. left e) (λ h. right (omega arith)) (S .held j l)) }
+pub older-later : {heap heap′ slots slots′ : List ℕ} {base top : ℕ} (top′ : ℕ) → Slots heap slots base top
+    → ((j : ℕ) → j < base → getD slots j 0 ≡ getD slots′ j 0) → Agree top heap heap′ → top ≤ top′ → Slots heap′ slots′ base top′
+older-later top′ S same A le = record { held = λ j l. rw (← same j l) (slot-later A top′ le (S .held j l)) }
 
 module _ (slots slots′ : List ℕ) (base n : ℕ) (same : (j : ℕ) → j < base + n → getD slots j 0 ≡ getD slots′ j 0) where
-  pub tells-stay : {b : Bindings} → Tells slots b base n → Tells slots′ b base n
-  tells-stay T = tells-same slots′ T (λ i l. same (base + i) (omega arith))
+  pub tells-stay : {heap heap′ : List ℕ} {b : Bindings} {q top : ℕ} (top′ : ℕ) → Tells heap slots b base q n top → Agree top heap heap′ → top ≤ top′
+      → Tells heap′ slots′ b base q n top′
+  tells-stay top′ T A le = tells-later slots′ top′ T A le (λ i l. same (base + i) (omega arith))
 
-  module _ {top : ℕ} (B : Bound (viewOf slots base n) top) where
+  module _ {heap : List ℕ} {top : ℕ} (B : Bound heap (viewOf slots base n) top) where
     in-view : (i : ℕ) → i < n → getD (slotsFrom slots′ base 32) i 0 ≡ getD (slotsFrom slots base 32) i 0
     in-view i l =
         view-at slots′ base i (omega (arith, B .few)) ∙ sym (same (base + i) (omega arith)) ∙ sym (view-at slots base i (omega (arith, B .few)))
 
-    pub follows-stay : (top′ : ℕ) → top ≤ top′ → Follows (viewOf slots base n) (viewOf slots′ base n) top′
-    follows-stay top′ le = record {
-      bound = view-bound slots′ base n top′ (B .few) (λ i l.
+    pub follows-stay : {heap′ : List ℕ} (top′ : ℕ) → Agree top heap heap′ → top ≤ top′ → Follows heap′ (viewOf slots base n) (viewOf slots′ base n) top′
+    follows-stay {heap′} top′ A le = record {
+      bound = view-bound heap′ slots′ base n top′ (B .few) (λ i l.
           rw (← same (base + i) (omega arith), ← view-at slots base i (omega (arith, B .few)))
-          (⊎-elim (λ e. left e) (λ h. right (omega arith)) (B .held .held i l)));
+          (slot-later A top′ le (B .held .held i l)));
       len = refl;
       kept = λ i l d. in-view i l;
     }
@@ -90,11 +91,11 @@ module _ {k h : ℕ} {code heap slots : List ℕ} {m : Machine} {b : Bindings} {
   beside rd le = record { ready = rd; tells = P .tells; older = P .older; space = omega (arith, P .space) }
 
   -- and after a run
-  pub onward : {k′ h′ s′ u room′ : ℕ} {heap′ slots′ : List ℕ} {m′ : Machine} {b′ : Bindings} → Moves 0 heap heap′ slots slots′ m m′
-      → ((j : ℕ) → j < sc .base → getD slots j 0 ≡ getD slots′ j 0) → Tells slots′ b′ (sc .base) (sc .n)
+  pub onward : {j k′ h′ s′ u room′ : ℕ} {heap′ slots′ : List ℕ} {m′ : Machine} {b′ : Bindings} → Moves j heap heap′ slots slots′ m m′
+      → ((j : ℕ) → j < sc .base → getD slots j 0 ≡ getD slots′ j 0) → Tells heap′ slots′ b′ (sc .base) (sc .q) (sc .n) (m′ .top)
       → Ready k′ h′ code heap′ slots′ m′ (scopeView slots′ sc) (sc .q) s′ u room′ → s′ + 8 * room′ ≤ s + 8 * room
       → Prepared k′ h′ code heap′ slots′ m′ b′ sc s′ u room′
-  onward M same T rd le = record { ready = rd; tells = T; older = older-later (P .older) same (M .grows); space = omega (arith, P .space) }
+  onward M same T rd le = record { ready = rd; tells = T; older = older-later _ (P .older) same (M .agree) (M .grows); space = omega (arith, P .space) }
 
 ----------------------------------------------------------------
 -- Runs
@@ -117,3 +118,9 @@ pub gone-then : {k k′ : ℕ} {heap heap₁ heap₂ slots slots₁ slots₂ : L
     → ((j : ℕ) → j < sc .base → getD slots j 0 ≡ getD slots₁ j 0) → Gone k′ heap₁ heap₂ slots₁ slots₂ m₁ m₂ sc r res₁
     → Ran k heap heap₂ slots slots₂ m (scopeView slots sc) (outcomeOf (r .stop) slots₂ m₂ sc) res → Gone k heap heap₂ slots slots₂ m m₂ sc r res
 gone-then same G R = record { ran = R; below = λ j l. same j l ∙ G .below j l; tells = G .tells }
+
+-- a run under one variable more, which was stopped
+pub stops-under : {heap heap₁ slots slots₁ : List ℕ} {m m₁ : Machine} {sc : Scope} {r : Out} {res : List TypeEntry → Res State}
+    → GoneUnder heap heap₁ slots slots₁ m m₁ sc r res → ¬ (r .stop ≡ 0) → {k : ℕ} {res′ : List TypeEntry → Res State}
+    → Ran k heap heap₁ slots slots₁ m (scopeView slots sc) (outcomeOf (r .stop) slots₁ m₁ sc) res′ → Gone k heap heap₁ slots slots₁ m m₁ sc r res′
+stops-under G d R = record { ran = R; below = G .below; tells = λ e. absurd (d e) }

@@ -4,7 +4,7 @@ use Prim.Native.Nat.{ℕ, suc, _+_, _-_, _≤_, _<_}
 use native.Mathlib.Omega.{arith}
 use native.Mathlib.Decide.{decLt}
 use mathlib.Core.Path.{_≡_, refl, sym, ap, ap₂, _∙_}
-use mathlib.Core.Logic.{_⊎_, inr as right}
+use mathlib.Core.Logic.{inl as left, inr as right}
 use mathlib.Core.List.{List, [], _∷_}
 use lib.ListN.{getD, set, length-set}
 use lib.Seq.{getD-set-same, getD-set-other}
@@ -18,7 +18,7 @@ use package.Rattle.calls.specs.Entries.{TypeEntry, termTrees}
 use package.Rattle.decoded.specs.Rows.{argumentIn, argumentsIn, programIn, treeIn}
 use package.Rattle.values.specs.Nodes.{valueAt}
 use package.Rattle.values.proofs.Heaps.{value-kept}
-use package.Rattle.scopes.specs.Slots.{unknown, Machine, Scope}
+use package.Rattle.scopes.specs.Slots.{Slot, Machine, Scope}
 use package.Rattle.scopes.specs.Bindings.{View, stateOf}
 use package.Rattle.scopes.specs.declared.bindings.Bindings.{Bindings}
 use package.Rattle.scopes.proofs.Views.{view-at, view-bound, view-state}
@@ -99,7 +99,7 @@ listed-refused heap slots from n fuel next e = ap (λ s. listedOf heap slots fro
 -- a forward run
 pub moves-forward : {heap heap₁ slots slots₁ : List ℕ} {m : ℕ} {st : Machine} {r : ForwardOut} {res : List TypeEntry → Res Val}
     → ForwardRan 0 heap heap₁ m slots slots₁ st r res → Moves 0 heap heap₁ slots slots₁ st (r .state)
-moves-forward d = record { agree = d .agree; graph = d .graph; lengths = d .lengths; grows = d .grows; spends = d .spends; owes = d .owes }
+moves-forward d = record { agree = d .agree; graph = d .graph; lengths = d .lengths; grows = d .grows; spends = d .spends; owes = omega (arith, d .owes, d .spends) }
 
 module _ {code heap slots : List ℕ} {st : Machine} {sc : Scope} {t room : ℕ} (rd : ForwardReady 1 0 code heap slots st sc t room)
     {k count : ℕ} (C : Calls code t k count) where
@@ -176,7 +176,7 @@ module _ {code heap slots : List ℕ} {st : Machine} {sc : Scope} {t room : ℕ}
 
       gather-more : Gathers code heap heap₂ slots slots₃ st sc t room k count s₂ st₂
       gather-more = record {
-        moves = moves-then (moves-forward d) (record {
+        moves = moves-then 0 (omega arith) (moves-forward d) (record {
           agree = D .moves .agree;
           graph = D .moves .graph;
           lengths = D .moves .lengths ∙ rw e₃ (sym (length-set slots₂ (m + k) x));
@@ -208,7 +208,7 @@ module _ {code heap slots : List ℕ} {st : Machine} {sc : Scope} {t room : ℕ}
 ----------------------------------------------------------------
 -- In the state at hand
 
-module _ {code heap slots : List ℕ} {m : Machine} {b : Bindings} {sc : Scope} {t room : ℕ} (P : Prepared 1 1 code heap slots m b sc (sc .n) t room) where
+module _ {code heap slots : List ℕ} {m : Machine} {b : Bindings} {sc : Scope} {t room : ℕ} (P : Prepared 2 1 code heap slots m b sc (sc .n) t room) where
   -- the slots say what the state says
   pub scope-ready : ForwardReady 1 0 code heap slots m sc t room
   scope-ready = record {
@@ -218,14 +218,14 @@ module _ {code heap slots : List ℕ} {m : Machine} {b : Bindings} {sc : Scope} 
     held = record { held = λ j h. slot j h (decLt j (sc .base)) };
     ancillae = λ i h. rw (← view-at slots (sc .base) i (omega (arith, few-ancillae P))) (P .ready .binds .ancillae i h);
     within = P .ready .binds .within;
-    nodes = P .ready .machine .nodes;
-    small = P .ready .machine .small;
+    nodes = omega (arith, P .ready .machine .nodes);
+    small = omega (arith, P .ready .machine .small);
     variables = omega (arith, P .space, P .ready .machine .all);
     full = P .ready .machine .all;
     tall = P .ready .tall;
   }
     where
-      slot : (j : ℕ) → j < sc .base + sc .n → Dec (j < sc .base) → (getD slots j 0 ≡ unknown) ⊎ (getD slots j 0 < m .top)
+      slot : (j : ℕ) → j < sc .base + sc .n → Dec (j < sc .base) → Slot heap (getD slots j 0) (m .top)
       slot j h (yes l) = P .older .held j l
       slot j h (no l) =
           let z : j ≡ sc .base + (j - sc .base) = omega arith in
@@ -245,10 +245,10 @@ module _ {code heap slots : List ℕ} {m : Machine} {b : Bindings} {sc : Scope} 
     placed e i l = D .held e i (omega arith) l
 
     -- the arguments, as a scope behind the caller's
-    all-known : statusOf s ≡ Done → Collected (scopeView slots₁ callee) count (m₁ .top)
+    all-known : statusOf s ≡ Done → Collected heap₁ (scopeView slots₁ callee) count (m₁ .top)
     all-known e = record {
       binds = record {
-        bound = view-bound slots₁ (sc .base + sc .n) count (m₁ .top) few (λ i l. right (placed e i l));
+        bound = view-bound heap₁ slots₁ (sc .base + sc .n) count (m₁ .top) few (λ i l. right (left (placed e i l)));
         within = omega arith;
         ancillae = λ i l. rw (view-at slots₁ (sc .base + sc .n) i (omega (arith, few))) (placed e i l);
       };

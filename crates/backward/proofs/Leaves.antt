@@ -1,34 +1,33 @@
 -- Laws of the steps that have no parts to run: refusals on entering, variables, the unit, and a variable that leaves the scope.
 use Prim.Native.Nat.{ℕ, zero, suc, _+_, _-_, _≤_, _<_}
 use native.Mathlib.Omega.{arith}
-use native.Mathlib.Decide.{decLt}
-use mathlib.Core.Path.{_≡_, refl, sym, ap, subst, _∙_}
+use mathlib.Core.Path.{_≡_, refl, sym, ap, ap₂, subst, _∙_}
 use mathlib.Core.Bool.{Bool, true, false, cond}
-use mathlib.Core.Logic.{_⊎_, ⊎-elim, inr as right}
+use mathlib.Core.Logic.{inl as left, inr as right}
 use mathlib.Core.List.{List, _∷_}
 use lib.ListN.{length, getD, set, length-set}
 use lib.Seq.{getD-set-same, getD-set-other}
 use lib.Dec.{eqb}
 use borrow.Author.Tests.{eq-eqb, ne-eqb, eqb-true, eqb-false}
-use package.Rattle.uses.specs.Sets.{has}
 use package.Rattle.rules.specs.Val.{Val, unit}
 use package.Rattle.rules.specs.Run.{stuck, Run, give}
 use package.Rattle.rules.specs.Machine.{State, meet, leave, onUnit}
-use package.Rattle.rules.proofs.Basics.{given}
 use package.Rattle.values.specs.Nodes.{kindAt, ofKind, valueWithin, valueAt}
-use package.Rattle.values.proofs.Heaps.{value-unit}
-use package.Rattle.scopes.specs.Slots.{unknown, found, meaning as slotMeaning, Slots, Machine, Scope}
+use package.Rattle.values.proofs.Heaps.{value-unit, value-kept}
+use package.Rattle.scopes.specs.Slots.{unknown, found, nodeOr, meaning as slotMeaning, Slot, Slots, Machine}
+use package.Rattle.scopes.specs.Cells.{Linked}
+use package.Rattle.scopes.specs.declared.slots.Found.the-variants.{Node, Unknown}
 use package.Rattle.scopes.specs.Bindings.{View, Left, slotsFrom, viewOf, stateOf, Bound, Opens, Meets, Leaves, Meetable, MeetsAt}
 use package.Rattle.scopes.specs.declared.bindings.Bindings.{Bindings}
 use package.Rattle.scopes.specs.declared.bindings.Met.{Met}
-use package.Rattle.scopes.proofs.Marks.{found-mark, found-node}
+use package.Rattle.scopes.proofs.Marks.{found-mark, found-node, found-below, node-or, node-none}
 use package.Rattle.scopes.proofs.Scopes.{slots-bind}
 use package.Rattle.scopes.proofs.Bound.{meet-bound, leaves-state}
-use package.Rattle.scopes.proofs.Views.{view-at}
+use package.Rattle.scopes.proofs.Views.{view-at, new-found}
 use package.Rattle.forward.specs.Ready.{Graph}
-use package.Rattle.backward.specs.Outcomes.{Status, Done, Refused, statusOf, refusalOf, tooLong, against, mismatch, nodeOr}
-use package.Rattle.backward.specs.Ready.{Binds, Follows, Stays, Goes, Leavable, Variable, UnitMet}
-use package.Rattle.backward.proofs.Runs.{meaning-done, meaning-refused, not-done, follows-same}
+use package.Rattle.backward.specs.Outcomes.{Status, Done, Refused, statusOf, refusalOf, tooLong, against, mismatch}
+use package.Rattle.backward.specs.Ready.{Binds, Follows, Ran, Stays, Goes, Variable, UnitMet}
+use package.Rattle.backward.proofs.Runs.{meaning-done, meaning-refused, not-done, bound-later, follows-same, state-later}
 use Rattle.backward.specs.declared.outcomes.Out.{Out}
 use Rattle.backward.specs.declared.outcomes.Refusal.the-variants.{Fuel, Height, Long, NoInput, Stuck}
 
@@ -82,68 +81,58 @@ choice-right y e q = rw e q
 ----------------------------------------------------------------
 -- Variables
 
-pub meetable-same : {slots : List ℕ} {b : Bindings} {base base′ i i′ top : ℕ} → base ≡ base′ → i ≡ i′ → Meetable slots b base′ i′ top
-    → Meetable slots b base i top
+pub meetable-same : {heap st : List ℕ} {b : Bindings} {base base′ i i′ : ℕ} → base ≡ base′ → i ≡ i′ → Meetable heap st b base′ i′
+    → Meetable heap st b base i
 meetable-same p q M = rw (p, q) M
 
 -- what the code met, as the outcome says it
-met-as : {heap st st′ : List ℕ} {b : Bindings} {base i node : ℕ} {r : Met} → MeetsAt heap st st′ b base i node r → (agrees : Bool) → agrees ≡ r .agrees
-    → MeetsAt heap st st′ b base i node (record { agrees = agrees; state = r .state })
-met-as M agrees e = record {
-  lengths = M .lengths;
-  machine = M .machine;
-  met = record {
-    binds = λ u. given (M .met .binds u) λ (a, state, slots). (e ∙ a, state, slots);
-    compares = λ u. given (M .met .compares u) λ (a, state, slots). (e ∙ a, state, slots);
-  };
-}
+met-as : {heap heap′ st st′ : List ℕ} {b : Bindings} {base i node : ℕ} {r : Met} → MeetsAt heap heap′ st st′ b base i node r → (agrees : Bool)
+    → agrees ≡ r .agrees → MeetsAt heap heap′ st st′ b base i node (record { agrees = agrees; state = r .state })
+met-as M agrees e = rw e M
 
-module _ {heap st st′ : List ℕ} {b : Bindings} {base base′ i i′ node : ℕ} {r : Met} (M : MeetsAt heap st st′ b base i node r) (p : base ≡ base′) (q : i ≡ i′)
-    (t : ℕ) where
-  pub agrees-out : r .agrees ≡ true → Variable heap st st′ b base′ i′ node t (record { stop = 0; state = r .state })
+module _ {heap heap′ st st′ : List ℕ} {b : Bindings} {base base′ i i′ node : ℕ} {r : Met} (M : MeetsAt heap heap′ st st′ b base i node r) (p : base ≡ base′)
+    (q : i ≡ i′) (t : ℕ) where
+  pub agrees-out : r .agrees ≡ true → Variable heap heap′ st st′ b base′ i′ node t (record { stop = 0; state = r .state })
   agrees-out e = rw (← p, ← q) (record { met = met-as M (eqb 0 0) (eq-eqb 0 0 refl ∙ sym e); differs = λ n. absurd (n refl) })
 
   pub differs-out : r .agrees ≡ false → statusOf (t + 1) ≡ Refused (NoInput t)
-      → Variable heap st st′ b base′ i′ node t (record { stop = t + 1; state = r .state })
+      → Variable heap heap′ st st′ b base′ i′ node t (record { stop = t + 1; state = r .state })
   differs-out e w = rw (← p, ← q) (record { met = met-as M (eqb (t + 1) 0) (ne-eqb (t + 1) 0 (λ z. omega arith) ∙ sym e); differs = λ _. w })
 
 -- meeting keeps what is known
-pub meets-follows : (heap : List ℕ) (b : View) (i node top : ℕ) (agrees : Bool) (r : View) → Meets heap b i node agrees r → Bound b top → i < b .len
-    → node < top → Follows b r top
-meets-follows heap b i node top agrees r M B l low = go (eqb (getD (b .slots) i 0) unknown) refl
+pub meets-follows : (heap : List ℕ) (b : View) (i node x top : ℕ) (agrees : Bool) (r : View) → Meets heap b i node x agrees r → Bound heap b top → i < b .len
+    → Slot heap x top → Follows heap b r top
+meets-follows heap b i node x top agrees r M B l low = go (eqb (getD (b .slots) i 0) unknown) refl
   where
-    bound-slot : (slots : List ℕ) → slots ≡ set (b .slots) i node → (j : ℕ) → Dec (j < i) → Dec (i < j) → j < b .len
-        → (getD slots j 0 ≡ unknown) ⊎ (getD slots j 0 < top)
-    bound-slot slots e j (yes x) d h = rw (e, getD-set-other (b .slots) i j node 0 (λ q. omega arith)) (B .held .held j h)
-    bound-slot slots e j (no x) (yes y) h = rw (e, getD-set-other (b .slots) i j node 0 (λ q. omega arith)) (B .held .held j h)
-    bound-slot slots e j (no x) (no y) h = let z : j ≡ i = omega arith in rw (e, z, getD-set-same (b .slots) i node 0 (omega (arith, B .full, B .few)))
-        (right low)
+    bound-slot : (slots : List ℕ) → slots ≡ set (b .slots) i x → (j : ℕ) → (y : Bool) → eqb j i ≡ y → j < b .len → Slot heap (getD slots j 0) top
+    bound-slot slots e j true q h = rw (e, eqb-true j i q, getD-set-same (b .slots) i x 0 (omega (arith, B .full, B .few))) low
+    bound-slot slots e j false q h = rw (e, getD-set-other (b .slots) i j x 0 (eqb-false j i q)) (B .held .held j h)
 
-    bound : getD (b .slots) i 0 ≡ unknown → (r .slots ≡ set (b .slots) i node) → (r .len ≡ b .len) → Follows b r top
+    bound : getD (b .slots) i 0 ≡ unknown → (r .slots ≡ set (b .slots) i x) → (r .len ≡ b .len) → Follows heap b r top
     bound u s n = record {
       bound = record {
-        full = rw s (length-set (b .slots) i node ∙ B .full);
+        full = rw s (length-set (b .slots) i x ∙ B .full);
         few = omega (arith, n, B .few);
-        held = record { held = λ j h. bound-slot (r .slots) s j (decLt j i) (decLt i j) (omega arith) };
+        held = record { held = λ j h. bound-slot (r .slots) s j (eqb j i) refl (omega arith) };
       };
       len = n;
-      kept = λ j h d. ap (λ (l : List ℕ). getD l j 0) s ∙ getD-set-other (b .slots) i j node 0 (λ q. d (ap (λ j. getD (b .slots) j 0) q ∙ u));
+      kept = λ j h d. ap (λ (l : List ℕ). getD l j 0) s ∙ getD-set-other (b .slots) i j x 0 (λ q. d (ap (λ j. getD (b .slots) j 0) q ∙ u));
     }
 
-    go : (e : Bool) → eqb (getD (b .slots) i 0) unknown ≡ e → Follows b r top
+    go : (e : Bool) → eqb (getD (b .slots) i 0) unknown ≡ e → Follows heap b r top
     go true e = let u = eqb-true (getD (b .slots) i 0) unknown e in bound u (M .binds u .1) (M .binds u .2)
-    go false e = let u = eqb-false (getD (b .slots) i 0) unknown e in subst (λ (c : View). Follows b c top) (sym (M .compares u .1)) (follows-same B)
+    go false e = let u = eqb-false (getD (b .slots) i 0) unknown e in subst (λ (c : View). Follows heap b c top) (sym (M .compares u .1)) (follows-same B)
 
-module _ {heap : List ℕ} {st : Machine} {b : View} {i node : ℕ} {agrees : Bool} {r : View} (M : Meets heap b i node agrees r) (B : Bound b (st .top))
-    (small : st .top ≤ unknown) (l : i < b .len)
-    (low : node < st .top) (t : ℕ) {s : Status} where
+-- it was bound before
+module _ {heap : List ℕ} {st : Machine} {b : View} {i node : ℕ} {agrees : Bool} {r : View} (M : Meets heap b i node node agrees r)
+    (B : Bound heap b (st .top)) (small : st .top ≤ unknown) (l : i < b .len) (low : node < st .top) (t : ℕ) {s : Status} where
   pub variable-met : agrees ≡ true → s ≡ Done → Stays heap st b (record { status = s; state = st; bindings = r })
       (meet t (stateOf heap b) i (valueAt heap node) (st .fuel))
   variable-met e d = record {
     state = refl;
-    follows = λ _. meets-follows heap b i node (st .top) agrees r M B l low;
+    follows = λ _. meets-follows heap b i node node (st .top) agrees r M B l (right (left low));
     answer = meaning-done heap (record { status = s; state = st; bindings = r }) d
-        ∙ sym (meet-bound heap b i node (st .top) t (st .fuel) agrees r M B l (λ z. omega arith) .0 e);
+        ∙ sym (meet-bound heap b i node node (st .top) t (st .fuel) agrees r M B l small (found-node heap node (omega arith)) .0 e);
   }
 
   pub variable-differs : agrees ≡ false → s ≡ Refused (NoInput t)
@@ -153,7 +142,50 @@ module _ {heap : List ℕ} {st : Machine} {b : View} {i node : ℕ} {agrees : Bo
     state = refl;
     follows = λ d. absurd (not-done w d);
     answer = meaning-refused heap (record { status = s; state = st; bindings = r }) w
-        ∙ sym (meet-bound heap b i node (st .top) t (st .fuel) agrees r M B l (λ z. omega arith) .1 e);
+        ∙ sym (meet-bound heap b i node node (st .top) t (st .fuel) agrees r M B l small (found-node heap node (omega arith)) .1 e);
+  }
+
+-- the graph with a cell more
+pub cell-graph : {heap heap′ : List ℕ} {top x i head : ℕ} → Linked heap heap′ top x i head → Graph heap′ (top + 1)
+cell-graph C = let right-now = C .made .grown .right in record { right = right-now; short = λ n l. right-now .node n l .fit }
+
+-- it was not: a cell is made
+module _ {heap heap′ : List ℕ} (slots slots′ : List ℕ) (st : Machine) {b : View} {i j node head : ℕ} {agrees : Bool} {r : View} (G : Graph heap (st .top))
+    (C : Linked heap heap′ (st .top) node j head) (M : Meets heap′ b i node (unknown + st .top) agrees r) (B : Bound heap b (st .top))
+    (small : st .top + 1 ≤ unknown) (l : i < b .len) (low : node < st .top) (lengths : length slots ≡ length slots′) (t : ℕ) where
+  abbrev grown : Machine
+  grown = record { top = st .top + 1; fuel = st .fuel }
+
+  bound-now : Bound heap′ b (st .top + 1)
+  bound-now = bound-later (st .top + 1) B (C .made .grown .agree) (omega arith)
+
+  cell-slot : Slot heap′ (unknown + st .top) (st .top + 1)
+  cell-slot =
+      let z : unknown + st .top - unknown ≡ st .top = omega arith in
+      right (right (record {
+        above = omega arith;
+        there = omega arith;
+        node = rw (z, C .made .left-is) (omega arith);
+      }))
+
+  pub variable-bound : agrees ≡ true → {s : Status} → s ≡ Done → Ran 1 heap heap′ slots slots′ st b (record { status = s; state = grown; bindings = r })
+      (λ ys. meet t (stateOf heap b) i (valueAt heap node) (st .fuel))
+  variable-bound e {s} d = record {
+    moves = record {
+      agree = C .made .grown .agree;
+      graph = cell-graph C;
+      lengths = lengths;
+      grows = omega arith;
+      spends = omega arith;
+      owes = omega arith;
+    };
+    follows = λ _. meets-follows heap′ b i node (unknown + st .top) (st .top + 1) agrees r M bound-now l cell-slot;
+    answer = λ ys.
+        meaning-done heap′ (record { status = s; state = grown; bindings = r }) d
+        ∙ sym (meet-bound heap′ b i node (unknown + st .top) (st .top + 1) t (st .fuel) agrees r M bound-now l small
+        (new-found (C .made) (omega arith)) .0 e)
+        ∙ ap₂ (λ σ v. meet t σ i v (st .fuel)) (sym (state-later G (C .made .grown .agree) b B (omega arith)))
+        (sym (value-kept heap heap′ (st .top) (G .right) (C .made .grown .agree) node low));
   }
 
 ----------------------------------------------------------------
@@ -167,7 +199,7 @@ no-unit (suc (suc zero)) v w m fuel d = refl
 no-unit (suc (suc (suc zero))) v w m fuel d = refl
 no-unit (suc (suc (suc (suc n)))) v w m fuel d = refl
 
-module _ {heap : List ℕ} (st : Machine) (G : Graph heap (st .top)) {b : View} (B : Bound b (st .top)) (node : ℕ) {s : Status} where
+module _ {heap : List ℕ} (st : Machine) (G : Graph heap (st .top)) {b : View} (B : Bound heap b (st .top)) (node : ℕ) {s : Status} where
   pub unit-met : kindAt heap node ≡ 0 → s ≡ Done → Stays heap st b (record { status = s; state = st; bindings = b })
       (onUnit (valueAt heap node) (give (stateOf heap b)) (st .fuel))
   unfolding onUnit
@@ -198,66 +230,53 @@ unit-missing b node n e s = record { met = λ k. absurd (n k); differs = λ _. e
 ----------------------------------------------------------------
 -- A variable comes into scope, not known, and leaves it
 
-pub node-mark : (node : ℕ) → node ≡ unknown → 0 ≡ nodeOr node
-unfolding nodeOr
-node-mark node e = rw (nodeOr, eq-eqb node unknown e)
-
-pub node-known : (node : ℕ) → ¬ (node ≡ unknown) → node ≡ nodeOr node
-unfolding nodeOr
-node-known node n = rw (nodeOr, ne-eqb node unknown n)
-
--- as the state says it
-module _ {slots : List ℕ} {b : Bindings} {sc : Scope} (L : Leavable slots b sc) {n : ℕ} (q : n ≡ sc .n) where
-  pub leaves-node : has (b .bound) n ≡ true → {at x : ℕ} → at ≡ sc .base + sc .n → x ≡ getD slots at 0 → x ≡ nodeOr (getD slots (sc .base + sc .n) 0)
-  leaves-node h e f = f ∙ ap (λ at. getD slots at 0) e ∙ node-known _ (L .tells .bound (sc .n) (omega arith) (rw q at h))
-
-  pub leaves-unit : has (b .bound) n ≡ false → 0 ≡ nodeOr (getD slots (sc .base + sc .n) 0)
-  leaves-unit h = node-mark _ (L .tells .marked (sc .n) (omega arith) (rw q at h))
-
 -- the newest of the variables that stand in slots from `base` on
-pub view-goes : (slots : List ℕ) (base n : ℕ) → n < 32 → Goes (viewOf slots base (n + 1))
-    (record { newest = nodeOr (getD slots (base + n) 0); state = viewOf slots base n })
-view-goes slots base n l = record {
-  newest = ap nodeOr (sym (ap (λ j. getD (slotsFrom slots base 32) j 0) (let z : n + 1 - 1 ≡ n = omega arith in z) ∙ view-at slots base n l));
+pub view-goes : (heap slots : List ℕ) (base n : ℕ) → n < 32 → Goes heap (viewOf slots base (n + 1))
+    (record { newest = nodeOr (found heap (getD slots (base + n) 0)); state = viewOf slots base n })
+view-goes heap slots base n l = record {
+  newest = ap (λ x. nodeOr (found heap x))
+      (sym (ap (λ j. getD (slotsFrom slots base 32) j 0) (let z : n + 1 - 1 ≡ n = omega arith in z) ∙ view-at slots base n l));
   slots = refl;
   len = let z : n ≡ n + 1 - 1 = omega arith in z;
 }
 
-module _ {b : View} {r : Left} (L : Goes b r) {top : ℕ} (B : Bound b top) (some : 0 < b .len) where
-  pub goes-node : 0 < top → r .newest < top
-  goes-node pos = go (eqb (getD (b .slots) (b .len - 1) 0) unknown) refl
-    where
-      go : (e : Bool) → eqb (getD (b .slots) (b .len - 1) 0) unknown ≡ e → r .newest < top
-      go true e = rw (L .newest ∙ sym (node-mark _ (eqb-true (getD (b .slots) (b .len - 1) 0) unknown e))) pos
-      go false e =
-          let n = eqb-false (getD (b .slots) (b .len - 1) 0) unknown e in
-          rw (L .newest ∙ sym (node-known _ n)) (⊎-elim (λ x. absurd (n x)) (λ x. x) (B .held .held (b .len - 1) (omega arith)))
+module _ {heap : List ℕ} {b : View} {r : Left} (L : Goes heap b r) {top : ℕ} (B : Bound heap b top) (some : 0 < b .len) where
+  abbrev newest : ℕ
+  newest = getD (b .slots) (b .len - 1) 0
 
-  as-left : Leaves b (record { newest = getD (b .slots) (b .len - 1) 0; state = r .state })
+  -- by whether it is known
+  by-newest : {P : Type 0} → top ≤ unknown → (found heap newest ≡ Unknown → r .newest ≡ 0 → P)
+      → ((node : ℕ) → node < top → found heap newest ≡ Node node → r .newest ≡ node → P) → P
+  by-newest {P} small none-it node-it = go (eqb newest unknown) refl
+    where
+      go : (e : Bool) → eqb (getD (b .slots) (b .len - 1) 0) unknown ≡ e → P
+      go true e =
+          let f = found-mark heap _ (eqb-true (getD (b .slots) (b .len - 1) 0) unknown e) in
+          none-it f (L .newest ∙ node-none f)
+      go false e = found-below (B .held .held (b .len - 1) (omega arith)) small (eqb-false (getD (b .slots) (b .len - 1) 0) unknown e)
+          λ node low f. node-it node low f (L .newest ∙ node-or f)
+
+  pub goes-node : 0 < top → top ≤ unknown → r .newest < top
+  goes-node pos small = by-newest small (λ f e. rw e pos) (λ node low f e. rw e low)
+
+  as-left : Leaves b (record { newest = newest; state = r .state })
   as-left = record { newest = refl; slots = L .slots; len = L .len }
 
   -- as the rules have it
-  pub goes-state : {A : Type 0} (heap : List ℕ) → valueAt heap 0 ≡ unit → (next : Val → State → Run A) (fuel : ℕ)
+  pub goes-state : {A : Type 0} → valueAt heap 0 ≡ unit → top ≤ unknown → (next : Val → State → Run A) (fuel : ℕ)
       → leave (stateOf heap b) next fuel ≡ next (valueAt heap (r .newest)) (stateOf heap (r .state)) fuel
   unfolding leave
-  goes-state heap u next fuel = go (eqb (getD (b .slots) (b .len - 1) 0) unknown) refl
+  goes-state u small next fuel = by-newest small
+      (λ f e. ap (λ σ. leave σ next fuel) (front ∙ ap (λ f. slotMeaning heap f ∷ stateOf heap (r .state)) f)
+      ∙ ap (λ v. next v (stateOf heap (r .state)) fuel) (sym u ∙ ap (valueAt heap) (sym e)))
+      (λ node low f e. ap (λ σ. leave σ next fuel) (front ∙ ap (λ f. slotMeaning heap f ∷ stateOf heap (r .state)) f)
+      ∙ ap (λ v. next v (stateOf heap (r .state)) fuel) (ap (valueAt heap) (sym e)))
     where
-      front : stateOf heap b ≡ slotMeaning heap (found (getD (b .slots) (b .len - 1) 0)) ∷ stateOf heap (r .state)
+      front : stateOf heap b ≡ slotMeaning heap (found heap (getD (b .slots) (b .len - 1) 0)) ∷ stateOf heap (r .state)
       front = leaves-state heap b (record { newest = getD (b .slots) (b .len - 1) 0; state = r .state }) as-left some
 
-      go : (e : Bool) → eqb (getD (b .slots) (b .len - 1) 0) unknown ≡ e
-          → leave (stateOf heap b) next fuel ≡ next (valueAt heap (r .newest)) (stateOf heap (r .state)) fuel
-      go true e =
-          let m = eqb-true (getD (b .slots) (b .len - 1) 0) unknown e in
-          ap (λ σ. leave σ next fuel) (front ∙ ap (λ f. slotMeaning heap f ∷ stateOf heap (r .state)) (found-mark _ m))
-          ∙ ap (λ v. next v (stateOf heap (r .state)) fuel) (sym u ∙ ap (valueAt heap) (node-mark _ m ∙ sym (L .newest)))
-      go false e =
-          let n = eqb-false (getD (b .slots) (b .len - 1) 0) unknown e in
-          ap (λ σ. leave σ next fuel) (front ∙ ap (λ f. slotMeaning heap f ∷ stateOf heap (r .state)) (found-node _ n))
-          ∙ ap (λ v. next v (stateOf heap (r .state)) fuel) (ap (valueAt heap) (node-known _ n ∙ sym (L .newest)))
-
   -- an outer state that `b` follows, with one variable more
-  pub goes-follows : {c c₁ : View} → Opens c unknown c₁ → length (c .slots) ≡ 32 → Follows c₁ b top → Follows c (r .state) top
+  pub goes-follows : {c c₁ : View} → Opens c unknown c₁ → length (c .slots) ≡ 32 → Follows heap c₁ b top → Follows heap c (r .state) top
   goes-follows {c} {c₁} O full F = record {
     bound = record {
       full = ap length (L .slots) ∙ B .full;
@@ -273,19 +292,19 @@ module _ {b : View} {r : Left} (L : Goes b r) {top : ℕ} (B : Bound b top) (som
       same : (i : ℕ) → i < c .len → getD (c₁ .slots) i 0 ≡ getD (c .slots) i 0
       same i h = ap (λ (l : List ℕ). getD l i 0) (O .slots) ∙ getD-set-other (c .slots) (c .len) i unknown 0 (λ q. omega arith)
 
-module _ {c c₁ : View} {node : ℕ} (O : Opens c node c₁) {top : ℕ} (B : Bound c top) (room : c .len < 32) (low : (node ≡ unknown) ⊎ (node < top)) where
-  pub opened-bound : Bound c₁ top
+module _ {heap : List ℕ} {c c₁ : View} {x : ℕ} (O : Opens c x c₁) {top : ℕ} (B : Bound heap c top) (room : c .len < 32) (low : Slot heap x top) where
+  pub opened-bound : Bound heap c₁ top
   opened-bound = record {
-    full = ap length (O .slots) ∙ length-set (c .slots) (c .len) node ∙ B .full;
+    full = ap length (O .slots) ∙ length-set (c .slots) (c .len) x ∙ B .full;
     few = omega (arith, O .len);
-    held = rw (O .slots) (subst (λ n. Slots (set (c .slots) (c .len) node) n top) (let z : suc (c .len) ≡ c₁ .len = omega (arith, O .len) in z)
-        (slots-bind (c .slots) (c .len) top node (omega (arith, B .full)) (B .held) low));
+    held = rw (O .slots) (subst (λ n. Slots heap (set (c .slots) (c .len) x) n top) (let z : suc (c .len) ≡ c₁ .len = omega (arith, O .len) in z)
+        (slots-bind heap (c .slots) (c .len) top x (omega (arith, B .full)) (B .held) low));
   }
 
-  pub opened-binds : {q : ℕ} → Binds c q top → Binds c₁ q top
+  pub opened-binds : {q : ℕ} → Binds heap c q top → Binds heap c₁ q top
   opened-binds {q} D = record {
     bound = opened-bound;
     within = omega (arith, D .within, O .len);
-    ancillae = λ i h. rw (ap (λ (l : List ℕ). getD l i 0) (O .slots) ∙ getD-set-other (c .slots) (c .len) i node 0 (λ e. omega (arith, D .within)))
+    ancillae = λ i h. rw (ap (λ (l : List ℕ). getD l i 0) (O .slots) ∙ getD-set-other (c .slots) (c .len) i x 0 (λ e. omega (arith, D .within)))
         (D .ancillae i h);
   }

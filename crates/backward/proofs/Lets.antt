@@ -17,15 +17,15 @@ use package.Rattle.scopes.specs.Slots.{unknown, Machine}
 use package.Rattle.scopes.specs.Bindings.{View, Left, stateOf, Opens}
 use package.Rattle.backward.specs.Scoped.{ScopedAt}
 use package.Rattle.backward.specs.Outcomes.{Done, Refused, Outcome, Inner}
-use package.Rattle.backward.specs.Ready.{Ready, Follows, Ran, RanUnder, Goes, runOf, underOf, stepOf}
-use package.Rattle.backward.proofs.Runs.{says, slack, held-later, under-refused, under-done}
+use package.Rattle.backward.specs.Ready.{Ready, Held, Follows, Ran, RanUnder, Goes, runOf, underOf, stepOf}
+use package.Rattle.backward.proofs.Runs.{says, slack, held-later, small-top, under-refused, under-done}
 use package.Rattle.backward.proofs.Leaves.{opened-binds, goes-node, goes-state, goes-follows}
 use package.Rattle.backward.proofs.Parts.{later, ancillae-after, owing-none, in-scope, part, scoped-let, scoped-letp}
 use package.Rattle.backward.proofs.Entering.{inner-state, inner-ancillae}
 use package.Rattle.backward.proofs.Steps.{go, stepped}
 use Rattle.backward.specs.declared.outcomes.Refusal.{Refusal}
 
-module _ {code heap slots : List ℕ} {st : Machine} {b : View} {q t room : ℕ} (rd : Ready 1 1 code heap slots st b q (b .len) t room)
+module _ {code heap slots : List ℕ} {st : Machine} {b : View} {q t room : ℕ} (rd : Ready 2 1 code heap slots st b q (b .len) t room)
     {node : ℕ} (low : node < st .top) where
   abbrev step : List TypeEntry → Res State
   step = stepOf code heap st b q t (valueAt heap node) room
@@ -50,26 +50,26 @@ module _ {code heap slots : List ℕ} {st : Machine} {b : View} {q t room : ℕ}
         stepped rd low ys (tree-let (rd .machine .rows) t (rd .term) ys kind)
         ∙ ap₂ (λ u u′. after (underOf code heap st b q u′ (valueAt heap node) (room - 1) ys) (λ σ. leave σ (λ w σ. go rd low ys σ u w))) (sym qu) (sym qu′)
 
-    module _ {heap₁ slots₁ : List ℕ} {r : Inner} (d : RanUnder heap heap₁ slots slots₁ st b r (underOf code heap st b q u′ (valueAt heap node) (room - 1)))
+    module _ {j : ℕ} {heap₁ slots₁ : List ℕ} {r : Inner} (d : RanUnder j heap heap₁ slots slots₁ st b r (underOf code heap st b q u′ (valueAt heap node) (room - 1)))
       where
-        pub let-refused : {why : Refusal} → r .out .status ≡ Refused why → Ran 1 heap heap₁ slots slots₁ st b (r .out) step
-        let-refused s = slack (under-refused d let-next s step-let) 1 (omega arith)
+        pub let-refused : j ≤ 1 → {why : Refusal} → r .out .status ≡ Refused why → Ran 2 heap heap₁ slots slots₁ st b (r .out) step
+        let-refused few s = slack (under-refused d let-next s step-let) 2 (omega arith)
 
-        module _ (s : r .out .status ≡ Done) where
+        module _ (few : j ≤ 1) (s : r .out .status ≡ Done) where
           pub let-bound : Ready 0 0 code heap₁ slots₁ (r .out .state) (r .out .bindings) q (r .out .bindings .len) u (room - 1)
           let-bound = in-scope (r .out .bindings .len) (sym (d .follows s .len))
               (rw qu (owing-none (later (part rd (firstIn code t) (b .len) (parts-let (rd .machine .rows) t (rd .term) kind .0) (scoped-let rd kind .1))
-              (d .moves) (d .follows s))))
+              (d .moves) (d .follows s) 1 (omega arith))))
 
           pub let-done : {heap₂ slots₂ : List ℕ} {r₂ : Outcome}
               → Ran 0 heap₁ heap₂ slots₁ slots₂ (r .out .state) (r .out .bindings) r₂
               (runOf code heap₁ (r .out .state) (r .out .bindings) q u (valueAt heap₁ (r .newest)) (room - 1))
-              → Ran 1 heap heap₂ slots slots₂ st b r₂ step
+              → Ran 2 heap heap₂ slots slots₂ st b r₂ step
           let-done d₂ =
-              slack (under-done d let-next s step-let (says d₂ (λ ys.
+              under-done d let-next s step-let 2 (omega arith) (says d₂ (λ ys.
               ap (λ a. backward fits (programIn code ys) (room - 1) a (stateOf heap₁ (r .out .bindings)) (treeIn code ys u) (valueAt heap₁ (r .newest))
               (r .out .state .fuel))
-              (sym (ancillae-after rd (d .moves) (d .follows s))))) (d .follows s)) 1 (omega arith)
+              (sym (ancillae-after rd (d .moves) (d .follows s))))) (d .follows s)
 
   ----------------------------------------------------------------
   -- let pair
@@ -106,36 +106,39 @@ module _ {code heap slots : List ℕ} {st : Machine} {b : View} {q t room : ℕ}
           (λ σ. leave σ (λ w′ σ fuel. leave σ (λ w σ. go rd low ys σ u (pair w w′)) fuel))) (sym qu) (sym qu′)
           ∙ ap₂ (λ a σ. after (backward fits (programIn code ys) (room - 1) a (none ∷ σ) (treeIn code ys u′) (valueAt heap node) (st .fuel))
           (λ σ. leave σ (letp-next ys)))
-          (sym (inner-ancillae (rd .binds) letp-space O heap)) (sym (inner-state (rd .binds) letp-space O heap))
+          (sym (inner-ancillae (rd .binds) letp-space O)) (sym (inner-state (rd .binds) letp-space O))
 
-      module _ {heap₁ slots₁ : List ℕ} {r : Inner} (d : RanUnder heap heap₁ slots slots₁ st b₁ r
+      module _ {j : ℕ} {heap₁ slots₁ : List ℕ} {r : Inner} (d : RanUnder j heap heap₁ slots slots₁ st b₁ r
           (underOf code heap st b₁ q u′ (valueAt heap node) (room - 1))) where
-        pub letp-refused : {why : Refusal} → r .out .status ≡ Refused why → Ran 1 heap heap₁ slots slots₁ st b (r .out) step
-        letp-refused s = slack (under-refused d letp-next s step-letp) 1 (omega arith)
+        pub letp-refused : j ≤ 1 → {why : Refusal} → r .out .status ≡ Refused why → Ran 2 heap heap₁ slots slots₁ st b (r .out) step
+        letp-refused few s = slack (under-refused d letp-next s step-letp) 2 (omega arith)
 
-        module _ (s : r .out .status ≡ Done) where
+        module _ (few : j ≤ 1) (s : r .out .status ≡ Done) where
+          after-it : Held 1 code heap₁ slots₁ (r .out .state) room
+          after-it = held-later (rd .machine) 1 (omega arith) (d .moves)
+
           -- the first variable is there to leave
           pub letp-some : (0 < r .out .bindings .len) × (r .out .bindings .len ≤ 32)
           letp-some = (omega (arith, d .follows s .len, O .len), d .follows s .bound .few)
 
-          module _ {l : Left} (L : Goes (r .out .bindings) l) where
-            letp-follows : Follows b (l .state) (r .out .state .top)
+          module _ {l : Left} (L : Goes heap₁ (r .out .bindings) l) where
+            letp-follows : Follows heap₁ b (l .state) (r .out .state .top)
             letp-follows = goes-follows L (d .follows s .bound) (letp-some .0) O (rd .binds .bound .full) (d .follows s)
 
             pub letp-bound : Ready 1 0 code heap₁ slots₁ (r .out .state) (l .state) q (l .state .len) u (room - 1)
             letp-bound = in-scope (l .state .len) (sym (letp-follows .len))
                 (rw qu (later (part rd (firstIn code t) (b .len) (parts-letp (rd .machine .rows) t (rd .term) kind .0) (scoped-letp rd kind .1))
-                (d .moves) letp-follows))
+                (d .moves) letp-follows 1 (omega arith)))
 
             pub letp-nodes : (l .newest < r .out .state .top) × (r .newest < r .out .state .top)
-            letp-nodes = (goes-node L (d .follows s .bound) (letp-some .0) (held-later (rd .machine) (d .moves) .some), d .there s)
+            letp-nodes = (goes-node L (d .follows s .bound) (letp-some .0) (after-it .some) (small-top after-it), d .there s)
 
             pub letp-done : {heap₂ slots₂ : List ℕ} {r₂ : Outcome} → Ran 1 heap₁ heap₂ slots₁ slots₂ (r .out .state) (l .state) r₂
                 (runOf code heap₁ (r .out .state) (l .state) q u (pair (valueAt heap₁ (l .newest)) (valueAt heap₁ (r .newest))) (room - 1))
-                → Ran 1 heap heap₂ slots slots₂ st b r₂ step
+                → Ran 2 heap heap₂ slots slots₂ st b r₂ step
             letp-done d₂ =
-                under-done d letp-next s step-letp (says d₂ (λ ys.
+                under-done d letp-next s step-letp 2 (omega arith) (says d₂ (λ ys.
                 ap (λ a. backward fits (programIn code ys) (room - 1) a (stateOf heap₁ (l .state)) (treeIn code ys u)
                 (pair (valueAt heap₁ (l .newest)) (valueAt heap₁ (r .newest))) (r .out .state .fuel)) (sym (ancillae-after rd (d .moves) letp-follows))
-                ∙ sym (goes-state L (d .follows s .bound) (letp-some .0) heap₁ (held-later (rd .machine) (d .moves) .unit-there)
+                ∙ sym (goes-state L (d .follows s .bound) (letp-some .0) (after-it .unit-there) (small-top after-it)
                 (λ w σ. go rd low ys σ u (pair w (valueAt heap₁ (r .newest)))) (r .out .state .fuel)))) letp-follows

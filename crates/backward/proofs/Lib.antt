@@ -25,6 +25,8 @@ pub mod Calling
 pub mod Arriving
 -- a scope with one variable more, in code
 pub mod Opening
+-- variables leave a scope, in code
+pub mod Leaving
 -- the kinds that bind nothing, in code
 pub mod Stepping
 -- let, let pair and case, in code

@@ -1,4 +1,4 @@
--- A scope with one variable more, in code: the slot is marked and the term is run; then the variable leaves.
+-- A scope with one variable more, in code: the slot is marked and the term is run.
 use Prim.Native.Nat.{ℕ, _+_, _*_, _≤_, _<_}
 use native.Mathlib.Omega.{arith}
 use mathlib.Core.Path.{_≡_, refl, sym, _∙_, ap}
@@ -8,21 +8,18 @@ use lib.ListN.{length, getD, set, length-set}
 use lib.Seq.{getD-set-other}
 use lib.Dec.{eqb}
 use borrow.Author.Tests.{eqb-true, eqb-false}
-use package.Rattle.uses.specs.Sets.{has, Holds, below}
-use package.Rattle.rules.specs.Run.{Res}
-use package.Rattle.rules.specs.Machine.{State}
-use package.Rattle.calls.specs.Entries.{TypeEntry}
 use package.Rattle.values.specs.Nodes.{valueAt}
-use package.Rattle.scopes.specs.Slots.{unknown, slotCount, Machine, Scope, Written, machineOf, scopeIn, slotsOf}
+use package.Rattle.values.proofs.Places.{agree-refl}
+use package.Rattle.scopes.specs.Slots.{unknown, slotCount, Machine, Scope, Written, machineOf, scopeIn, slotsOf, found, nodeOr}
 use package.Rattle.scopes.specs.Bindings.{Opens}
 use package.Rattle.scopes.specs.declared.bindings.Bindings.{Bindings}
-use package.Rattle.scopes.proofs.Views.{view-opens, tells-opened, tells-left}
+use package.Rattle.scopes.proofs.Views.{view-at, view-opens, tells-opened}
 use package.Rattle.forward.proofs.Binds.{opened as wider}
-use package.Rattle.backward.specs.Outcomes.{outcomeOf, nodeOr, scopeView, innerOf}
-use package.Rattle.backward.specs.Ready.{Ready, Ran, Prepared, Gone, GoneUnder, Leavable, RanUnder, runAt, underAt}
+use package.Rattle.backward.specs.Outcomes.{outcomeOf, scopeView, innerOf}
+use package.Rattle.backward.specs.Ready.{Ready, Ran, Prepared, Gone, GoneUnder, RanUnder, runAt, underAt}
 use package.Rattle.backward.proofs.Runs.{held-slots, ran-from}
 use package.Rattle.backward.proofs.Stops.{is-done, is-stopped}
-use package.Rattle.backward.proofs.Frames.{older-later, onward}
+use package.Rattle.backward.proofs.Frames.{older-later}
 use package.Rattle.backward.proofs.Leaves.{view-goes}
 use package.Rattle.backward.proofs.Entering.{inner-ready, inner-stopped, inner-done}
 use Rattle.backward.specs.declared.outcomes.Out.{Out}
@@ -35,7 +32,7 @@ pub record Marked (slots slots₀ : List ℕ) (m m₀ : Machine) (sc : Scope) : 
   pub slots-are : slots₀ ≡ set slots (sc .base + sc .n) unknown
   pub machine-is : m₀ ≡ m
 
-pub marked : {st st₀ : List ℕ} {at : ℕ} (scope : ℕ) → Written st st₀ at 4294967295 → at ≡ scopeIn scope .base + scopeIn scope .n
+pub marked : {st st₀ : List ℕ} {at : ℕ} (scope : ℕ) → Written st st₀ at 2147483648 → at ≡ scopeIn scope .base + scopeIn scope .n
     → Marked (slotsOf st) (slotsOf st₀) (machineOf st) (machineOf st₀) (scopeIn scope)
 unfolding unknown
 marked {st} scope W q = record { slots-are = W .slots ∙ ap (λ at. set (slotsOf st) at unknown) q; machine-is = W .machine }
@@ -60,8 +57,8 @@ module _ {k h : ℕ} {code heap slots : List ℕ} {m : Machine} {b : Bindings} {
       → Prepared k′ h′ code heap slots₀ m₀ b sc₁ s′ u room′
   opened w rd le = rw (w, K .machine-is) (record {
     ready = record { machine = held-slots (rd .machine) as-many; binds = rd .binds; term = rd .term; scoped = rd .scoped; tall = rd .tall };
-    tells = rw (K .slots-are) (tells-opened slots (sc .base) (sc .n) (P .tells) few inside);
-    older = older-later (P .older) marked-below (omega arith);
+    tells = rw (K .slots-are) (tells-opened (P .tells) inside);
+    older = older-later _ (P .older) marked-below (agree-refl _ heap) (omega arith);
     space = omega (arith, P .space);
   })
 
@@ -84,38 +81,24 @@ module _ {code heap slots : List ℕ} {m : Machine} {b : Bindings} {sc : Scope} 
       where
         from : Gone 0 heap heap₁ slots₀ slots₁ m m₁ (wider sc) r (runAt code heap slots₀ m (wider sc) t (valueAt heap node) room)
             → GoneUnder heap heap₁ slots slots₁ m m₁ sc r (underAt code heap slots m sc t (valueAt heap node) room)
-        from G = record { ran = go (eqb (r .stop) 0) refl; below = λ j l. marked-below P few under-there K j l ∙ G .below j l; tells = G .tells }
+        from G = record {
+          ran = go (eqb (r .stop) 0) refl;
+          slot = λ e. rw (← view-at slots₁ (sc .base) (sc .n) few) (G .ran .follows (is-done e) .bound .held .held (sc .n) (newest-in e));
+          below = λ j l. marked-below P few under-there K j l ∙ G .below j l;
+          tells = G .tells;
+        }
           where
             from-here : Ran 0 heap heap₁ slots slots₁ m (scopeView slots₀ (wider sc)) (outcomeOf (r .stop) slots₁ m₁ (wider sc))
                 (runAt code heap slots₀ m (wider sc) t (valueAt heap node) room)
             from-here = ran-from slots (as-many P few under-there K) (G .ran)
 
-            go : (stops : Bool) → eqb (r .stop) 0 ≡ stops → RanUnder heap heap₁ slots slots₁ m (scopeView slots sc) (innerOf (r .stop) slots₁ m₁ sc)
+            newest-in : r .stop ≡ 0 → sc .n < sc .n + 1
+            newest-in e = omega arith
+
+            go : (stops : Bool) → eqb (r .stop) 0 ≡ stops → RanUnder 0 heap heap₁ slots slots₁ m (scopeView slots sc) (innerOf heap₁ (r .stop) slots₁ m₁ sc)
                 (underAt code heap slots m sc t (valueAt heap node) room)
             go true d = inner-done (P .ready) few (opens P few under-there K) low from-here (is-done (eqb-true (r .stop) 0 d))
-                (view-goes slots₁ (sc .base) (sc .n) few)
+                (view-goes heap₁ slots₁ (sc .base) (sc .n) few)
             go false d =
                 inner-stopped (P .ready) few (opens P few under-there K) low from-here (is-stopped (eqb-false (r .stop) 0 d))
-                (record { newest = nodeOr (getD slots₁ (sc .base + sc .n) 0); state = scopeView slots₁ sc })
-
-----------------------------------------------------------------
--- It leaves
-
-module _ {k : ℕ} {code heap slots : List ℕ} {m : Machine} {b : Bindings} {sc : Scope} {s t room : ℕ} (P : Prepared k 1 code heap slots m b sc s t room)
-    (few : sc .n < 32)
-    {heap₁ slots₁ : List ℕ} {m₁ : Machine} {r : Out} {res : List TypeEntry → Res State} (G : GoneUnder heap heap₁ slots slots₁ m m₁ sc r res) where
-  pub stops-under : ¬ (r .stop ≡ 0) → {k′ : ℕ} {res′ : List TypeEntry → Res State}
-      → Ran k′ heap heap₁ slots slots₁ m (scopeView slots sc) (outcomeOf (r .stop) slots₁ m₁ sc) res′ → Gone k′ heap heap₁ slots slots₁ m m₁ sc r res′
-  stops-under d R = record { ran = R; below = G .below; tells = λ e. absurd (d e) }
-
-  module _ (e : r .stop ≡ 0) where
-    pub leavable : sc .n ≤ s → Leavable slots₁ (r .state) sc
-    leavable le = record { few = few; there = omega (arith, P .space, P .ready .tall); tells = G .tells e }
-
-    pub outer-prepared : {c : Bindings} → Holds (c .bound) (below (sc .n) (has (r .state .bound))) → {k′ h′ s′ u room′ : ℕ}
-        → Ready k′ h′ code heap₁ slots₁ m₁ (scopeView slots₁ sc) (sc .q) s′ u room′ → s′ + 8 * room′ ≤ s + 8 * room
-        → Prepared k′ h′ code heap₁ slots₁ m₁ c sc s′ u room′
-    outer-prepared H rd le = onward P (G .ran .moves) (G .below) (tells-left (G .tells e) few H) rd le
-
-    pub newest-there : {x : ℕ} → x ≡ nodeOr (getD slots₁ (sc .base + sc .n) 0) → x < m₁ .top
-    newest-there q = rw q (G .ran .there (is-done e))
+                (record { newest = nodeOr (found heap₁ (getD slots₁ (sc .base + sc .n) 0)); state = scopeView slots₁ sc })

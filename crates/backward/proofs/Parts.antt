@@ -1,6 +1,6 @@
 -- The terms that are run next: a part of a term is ready where the term is, with the variables that its binders add; and what was ready
 -- stays so after a run.
-use Prim.Native.Nat.{ℕ, _+_, _-_, _<_}
+use Prim.Native.Nat.{ℕ, _+_, _-_, _≤_, _<_}
 use native.Mathlib.Omega.{arith}
 use mathlib.Core.Path.{_≡_, sym, ap, subst, _∙_}
 use mathlib.Core.Logic.{⊎-elim}
@@ -19,10 +19,10 @@ use package.Rattle.backward.proofs.Runs.{binds-follow, ancillae-follow,
 -- What stays ready
 
 module _ {k h : ℕ} {code heap slots : List ℕ} {st : Machine} {b : View} {q n t room : ℕ} (rd : Ready k h code heap slots st b q n t room)
-    {heap′ slots′ : List ℕ} {st′ : Machine} (M : Moves 0 heap heap′ slots slots′ st st′) {b′ : View} (F : Follows b b′ (st′ .top)) where
-  pub later : Ready k h code heap′ slots′ st′ b′ q n t room
-  later = record {
-    machine = held-later (rd .machine) M;
+    {j : ℕ} {heap′ slots′ : List ℕ} {st′ : Machine} (M : Moves j heap heap′ slots slots′ st st′) {b′ : View} (F : Follows heap′ b b′ (st′ .top)) where
+  pub later : (k′ : ℕ) → k′ + j ≤ k → Ready k′ h code heap′ slots′ st′ b′ q n t room
+  later k′ le = record {
+    machine = held-later (rd .machine) k′ le M;
     binds = binds-follow (rd .binds) F (M .grows) (small-top (rd .machine));
     term = rd .term;
     scoped = rd .scoped;
@@ -34,16 +34,20 @@ module _ {k h : ℕ} {code heap slots : List ℕ} {st : Machine} {b : View} {q n
       ancillae-later (rd .machine .graph) (M .agree) b q (rd .binds)
       ∙ ancillae-follow (rd .binds) F (M .grows) (small-top (rd .machine)) heap′
 
--- with no node owed
-pub owing-none : {k h : ℕ} {code heap slots : List ℕ} {st : Machine} {b : View} {q n t room : ℕ} → Ready k h code heap slots st b q n t room
-    → Ready 0 0 code heap slots st b q n t room
-owing-none {room = room} rd = record {
-  machine = held-less (rd .machine) 0 room (omega arith) (omega arith);
+-- with fewer nodes owed
+pub owing : {k h : ℕ} {code heap slots : List ℕ} {st : Machine} {b : View} {q n t room : ℕ} (k′ : ℕ) → k′ ≤ k → Ready k h code heap slots st b q n t room
+    → Ready k′ 0 code heap slots st b q n t room
+owing {room = room} k′ le rd = record {
+  machine = held-less (rd .machine) k′ room le (omega arith);
   binds = rd .binds;
   term = rd .term;
   scoped = rd .scoped;
   tall = omega arith;
 }
+
+pub owing-none : {k h : ℕ} {code heap slots : List ℕ} {st : Machine} {b : View} {q n t room : ℕ} → Ready k h code heap slots st b q n t room
+    → Ready 0 0 code heap slots st b q n t room
+owing-none rd = owing 0 (omega arith) rd
 
 -- with as many variables in scope
 pub in-scope : {k h : ℕ} {code heap slots : List ℕ} {st : Machine} {b : View} {q n t room : ℕ} (m : ℕ) → n ≡ m → Ready k h code heap slots st b q n t room
@@ -57,10 +61,10 @@ in-scope {code = code} {t = t} m e rd = record {
 }
 
 -- a part of the term
-pub part : {code heap slots : List ℕ} {st : Machine} {b : View} {q n t room : ℕ} → Ready 1 1 code heap slots st b q n t room
-    → (u m : ℕ) → u < t → ScopedAt code m u → Ready 1 0 code heap slots st b q m u (room - 1)
+pub part : {code heap slots : List ℕ} {st : Machine} {b : View} {q n t room : ℕ} → Ready 2 1 code heap slots st b q n t room
+    → (u m : ℕ) → u < t → ScopedAt code m u → Ready 2 0 code heap slots st b q m u (room - 1)
 part {room = room} rd u m l S = record {
-  machine = held-less (rd .machine) 1 (room - 1) (omega arith) (omega arith);
+  machine = held-less (rd .machine) 2 (room - 1) (omega arith) (omega arith);
   binds = rd .binds;
   term = omega (arith, rd .term);
   scoped = S;

@@ -2,7 +2,6 @@
 use Prim.Native.Nat.{ℕ, _+_, _≤_, _<_}
 use native.Mathlib.Omega.{arith}
 use mathlib.Core.Path.{_≡_, refl, sym, ap, subst, _∙_}
-use mathlib.Core.Logic.{⊎-elim, inl as left, inr as right}
 use mathlib.Core.List.{List}
 use lib.ListN.{length, getD}
 use package.Rattle.rules.specs.Val.{Val}
@@ -15,6 +14,7 @@ use package.Rattle.values.proofs.Heaps.{value-kept}
 use package.Rattle.values.proofs.Places.{agree-refl, agree-trans, agree-down}
 use package.Rattle.scopes.specs.Slots.{unknown, Slots, Machine}
 use package.Rattle.scopes.specs.Bindings.{View, stateOf, Bound}
+use package.Rattle.scopes.proofs.Marks.{slots-later}
 use package.Rattle.scopes.proofs.Scopes.{state-kept}
 use package.Rattle.yields.specs.Yields.{Ancillae}
 use package.Rattle.yields.proofs.Ancillae.{ancillae-same, ancillae-kept}
@@ -22,7 +22,6 @@ use package.Rattle.forward.specs.Outcomes.{refusalOf as carriedRefusal}
 use package.Rattle.forward.specs.Ready.{Graph}
 use package.Rattle.forward.specs.declared.outcomes.Refusal.{Refusal as Carried}
 use package.Rattle.forward.specs.declared.outcomes.Refusal.the-variants.{Fuel as cFuel, Height as cHeight, Long as cLong, FirstMatch as cFirstMatch, Stuck as cStuck}
-use package.Rattle.forward.proofs.Answers.{below-mark}
 use package.Rattle.backward.specs.Outcomes.{Status, Done, Refused, Outcome, Inner, refusalOf, answerOf, meaning, leftWith, carried}
 use package.Rattle.backward.specs.Ready.{Held, Binds, Follows, Moves, Ran, Stays, RanUnder, ancillaeOf}
 use Rattle.backward.specs.declared.outcomes.Refusal.{Refusal}
@@ -72,43 +71,49 @@ unfolding leftWith
 left-refused heap b newest fuel next e = ap (λ s. leftWith heap b newest fuel s next) e
 
 ----------------------------------------------------------------
--- View that follow
+-- Views that follow
 
-pub bound-up : {b : View} {top : ℕ} (top′ : ℕ) → Bound b top → top ≤ top′ → Bound b top′
-bound-up top′ B le = record {
-  full = B .full;
-  few = B .few;
-  held = record { held = λ j h. ⊎-elim (λ e. left e) (λ l. right (omega arith)) (B .held .held j h) };
-}
+pub bound-later : {heap heap′ : List ℕ} {b : View} {top : ℕ} (top′ : ℕ) → Bound heap b top → Agree top heap heap′ → top ≤ top′ → Bound heap′ b top′
+bound-later top′ B A le = record { full = B .full; few = B .few; held = slots-later A top′ le (B .held) }
 
-pub follows-same : {b : View} {top : ℕ} → Bound b top → Follows b b top
+pub follows-same : {heap : List ℕ} {b : View} {top : ℕ} → Bound heap b top → Follows heap b b top
 follows-same B = record { bound = B; len = refl; kept = λ i h n. refl }
 
-pub follows-then : {b c d : View} {top top′ : ℕ} → Follows b c top → Follows c d top′ → Follows b d top′
-follows-then {b} {c} {d} F G = record {
+pub follows-later : {heap heap′ : List ℕ} {b c : View} {top : ℕ} (top′ : ℕ) → Follows heap b c top → Agree top heap heap′ → top ≤ top′
+    → Follows heap′ b c top′
+follows-later top′ F A le = record { bound = bound-later top′ (F .bound) A le; len = F .len; kept = F .kept }
+
+pub follows-then : {heap heap′ : List ℕ} {b c d : View} {top top′ : ℕ} → Follows heap b c top → Follows heap′ c d top′ → Follows heap′ b d top′
+follows-then {heap} {heap′} {b} {c} {d} F G = record {
   bound = G .bound;
   len = G .len ∙ F .len;
   kept = λ i h n. G .kept i (omega (arith, F .len)) (λ e. n (sym (F .kept i h n) ∙ e)) ∙ F .kept i h n;
 }
 
-pub binds-up : {b : View} {q top : ℕ} (top′ : ℕ) → Binds b q top → top ≤ top′ → Binds b q top′
-binds-up top′ B le = record { bound = bound-up top′ (B .bound) le; within = B .within; ancillae = λ i h. omega (arith, B .ancillae i h) }
+pub binds-later : {heap heap′ : List ℕ} {b : View} {q top : ℕ} (top′ : ℕ) → Binds heap b q top → Agree top heap heap′ → top ≤ top′
+    → Binds heap′ b q top′
+binds-later top′ B A le = record {
+  bound = bound-later top′ (B .bound) A le;
+  within = B .within;
+  ancillae = λ i h. omega (arith, B .ancillae i h);
+}
 
-module _ {b b′ : View} {q top top′ : ℕ} (B : Binds b q top) (F : Follows b b′ top′) (le : top ≤ top′) (small : top ≤ unknown) where
+module _ {heap heap′ : List ℕ} {b b′ : View} {q top top′ : ℕ} (B : Binds heap b q top) (F : Follows heap′ b b′ top′) (le : top ≤ top′)
+    (small : top ≤ unknown) where
   ancilla-kept : (i : ℕ) → i < q → getD (b′ .slots) i 0 ≡ getD (b .slots) i 0
   ancilla-kept i h = F .kept i (omega (arith, B .within)) (λ e. omega (arith, B .ancillae i h))
 
-  pub binds-follow : Binds b′ q top′
+  pub binds-follow : Binds heap′ b′ q top′
   binds-follow = record {
     bound = F .bound;
     within = omega (arith, B .within, F .len);
     ancillae = λ i h. rw (ancilla-kept i h) (omega (arith, B .ancillae i h));
   }
 
-  pub ancillae-follow : (heap : List ℕ) → ancillaeOf heap b q ≡ ancillaeOf heap b′ q
-  ancillae-follow heap = ancillae-same heap (b .slots) (b′ .slots) 0 q (λ j h. sym (ancilla-kept j (omega arith)))
+  pub ancillae-follow : (heap″ : List ℕ) → ancillaeOf heap″ b q ≡ ancillaeOf heap″ b′ q
+  ancillae-follow heap″ = ancillae-same heap″ (b .slots) (b′ .slots) 0 q (λ j h. sym (ancilla-kept j (omega arith)))
 
-pub ancillae-held : {b : View} {q top : ℕ} → Binds b q top → Ancillae (b .slots) 0 q top
+pub ancillae-held : {heap : List ℕ} {b : View} {q top : ℕ} → Binds heap b q top → Ancillae (b .slots) 0 q top
 ancillae-held B = record {
   there = omega (arith, B .within, B .bound .full, B .bound .few);
   known = λ i h. rw (let z : 0 + i ≡ i = omega arith in z) (B .ancillae i h);
@@ -118,12 +123,12 @@ ancillae-held B = record {
 -- A heap that has grown
 
 module _ {heap heap′ : List ℕ} {top : ℕ} (G : Graph heap top) (A : Agree top heap heap′) where
-  pub state-later : (b : View) → Bound b top → stateOf heap b ≡ stateOf heap′ b
+  pub state-later : (b : View) → Bound heap b top → top ≤ unknown → stateOf heap b ≡ stateOf heap′ b
   unfolding stateOf
-  state-later b B = state-kept heap heap′ (b .slots) 0 (b .len) top (G .right) A
-      (subst (λ n. Slots (b .slots) n top) (let z : b .len ≡ 0 + b .len = omega arith in z) (B .held))
+  state-later b B small = state-kept heap heap′ (b .slots) 0 (b .len) top (G .right) A
+      (subst (λ n. Slots heap (b .slots) n top) (let z : b .len ≡ 0 + b .len = omega arith in z) (B .held)) small
 
-  pub ancillae-later : (b : View) (q : ℕ) → Binds b q top → ancillaeOf heap b q ≡ ancillaeOf heap′ b q
+  pub ancillae-later : (b : View) (q : ℕ) → Binds heap b q top → ancillaeOf heap b q ≡ ancillaeOf heap′ b q
   ancillae-later b q B = ancillae-kept heap heap′ (b .slots) 0 q top (G .right) A (ancillae-held B)
 
 ----------------------------------------------------------------
@@ -140,9 +145,9 @@ moves-none {heap} G l e = record {
   owes = rw e (omega arith);
 }
 
-pub moves-then : {k : ℕ} {heap heap₁ heap₂ slots slots₁ slots₂ : List ℕ} {st st₁ st₂ : Machine}
-    → Moves 0 heap heap₁ slots slots₁ st st₁ → Moves k heap₁ heap₂ slots₁ slots₂ st₁ st₂ → Moves k heap heap₂ slots slots₂ st st₂
-moves-then a b = record {
+pub moves-then : {j k : ℕ} (l : ℕ) {heap heap₁ heap₂ slots slots₁ slots₂ : List ℕ} {st st₁ st₂ : Machine} → j + k ≤ l
+    → Moves j heap heap₁ slots slots₁ st st₁ → Moves k heap₁ heap₂ slots₁ slots₂ st₁ st₂ → Moves l heap heap₂ slots slots₂ st st₂
+moves-then l le a b = record {
   agree = agree-trans (a .agree) (agree-down _ (a .grows) (b .agree));
   graph = b .graph;
   lengths = a .lengths ∙ b .lengths;
@@ -166,8 +171,9 @@ moves-slack k′ a le = record {
 -- What stays
 
 module _ {k : ℕ} {code heap slots : List ℕ} {st : Machine} {room : ℕ} (H : Held k code heap slots st room) where
-  pub held-later : {heap′ slots′ : List ℕ} {st′ : Machine} → Moves 0 heap heap′ slots slots′ st st′ → Held k code heap′ slots′ st′ room
-  held-later {heap′} M = record {
+  pub held-later : (k′ : ℕ) {j : ℕ} → k′ + j ≤ k → {heap′ slots′ : List ℕ} {st′ : Machine} → Moves j heap heap′ slots slots′ st st′
+      → Held k′ code heap′ slots′ st′ room
+  held-later k′ le {heap′} M = record {
     rows = H .rows;
     bodies = H .bodies;
     graph = M .graph;
@@ -208,7 +214,8 @@ module _ {k : ℕ} {code heap slots : List ℕ} {st : Machine} {room : ℕ} (H :
   }
 
   pub small-top : st .top ≤ unknown
-  small-top = omega (arith, H .small, below-mark)
+  unfolding unknown
+  small-top = omega (arith, H .small)
 
 ----------------------------------------------------------------
 -- Runs
@@ -217,9 +224,9 @@ module _ {k : ℕ} {code heap slots : List ℕ} {st : Machine} {room : ℕ} (H :
 pub stays : {heap slots slots′ : List ℕ} {st : Machine} {b : View} {out : Outcome} {res : Res State} {res′ : List TypeEntry → Res State}
     → Graph heap (st .top) → length slots ≡ length slots′
     → Stays heap st b out res → ((ys : List TypeEntry) → res ≡ res′ ys) → Ran 0 heap heap slots slots′ st b out res′
-stays {b = b} {out = out} G l S e = record {
+stays {heap = heap} {b = b} {out = out} G l S e = record {
   moves = moves-none G l (S .state);
-  follows = λ d. subst (λ (s : Machine). Follows b (out .bindings) (s .top)) (sym (S .state)) (S .follows d);
+  follows = λ d. subst (λ (s : Machine). Follows heap b (out .bindings) (s .top)) (sym (S .state)) (S .follows d);
   answer = λ ys. S .answer ∙ e ys;
 }
 
@@ -252,9 +259,9 @@ pub ran-from : {k : ℕ} {heap heap₁ slots₀ slots₁ : List ℕ} {st : Machi
     → Ran k heap heap₁ slots₀ slots₁ st b r res → Ran k heap heap₁ slots slots₁ st b r res
 ran-from slots e R = record { moves = moves-from slots e (R .moves); follows = R .follows; answer = R .answer }
 
-pub under-from : {heap heap₁ slots₀ slots₁ : List ℕ} {st : Machine} {b : View} {r : Inner} {res : List TypeEntry → Res State} (slots : List ℕ)
+pub under-from : {k : ℕ} {heap heap₁ slots₀ slots₁ : List ℕ} {st : Machine} {b : View} {r : Inner} {res : List TypeEntry → Res State} (slots : List ℕ)
     → length slots ≡ length slots₀
-    → RanUnder heap heap₁ slots₀ slots₁ st b r res → RanUnder heap heap₁ slots slots₁ st b r res
+    → RanUnder k heap heap₁ slots₀ slots₁ st b r res → RanUnder k heap heap₁ slots slots₁ st b r res
 under-from slots e R = record { moves = moves-from slots e (R .moves); follows = R .follows; there = R .there; answer = R .answer }
 
 module _ {k : ℕ} {heap heap₁ slots slots₁ : List ℕ} {st : Machine} {b : View} {r : Outcome} {res₁ : List TypeEntry → Res State}
@@ -282,7 +289,7 @@ module _ {heap heap₁ slots slots₁ : List ℕ} {st : Machine} {b : View} {r :
       (λ ys. next ys (stateOf heap₁ (r .bindings)) (r .state .fuel))
       → Ran k heap heap₂ slots slots₂ st b out res
   part-done next s e b₂ = record {
-    moves = moves-then (d .moves) (b₂ .moves);
+    moves = moves-then _ (omega arith) (d .moves) (b₂ .moves);
     follows = λ q. follows-then (d .follows s) (b₂ .follows q);
     answer = λ ys. b₂ .answer ys ∙ sym (via (next ys) (sym (d .answer ys) ∙ meaning-done heap₁ r s) refl) ∙ sym (e ys);
   }
@@ -290,10 +297,10 @@ module _ {heap heap₁ slots slots₁ : List ℕ} {st : Machine} {b : View} {r :
 ----------------------------------------------------------------
 -- Runs under one variable more
 
-module _ {heap heap₁ slots slots₁ : List ℕ} {st : Machine} {b : View} {r : Inner} {res₁ : List TypeEntry → Res State}
-    (d : RanUnder heap heap₁ slots slots₁ st b r res₁) where
+module _ {j : ℕ} {heap heap₁ slots slots₁ : List ℕ} {st : Machine} {b : View} {r : Inner} {res₁ : List TypeEntry → Res State}
+    (d : RanUnder j heap heap₁ slots slots₁ st b r res₁) where
   pub under-refused : {w : Refusal} {c : View} {res : List TypeEntry → Res State} (next : List TypeEntry → Val → State → Run State) → r .out .status ≡ Refused w
-      → ((ys : List TypeEntry) → res ys ≡ after (res₁ ys) (λ σ. leave σ (next ys))) → Ran 0 heap heap₁ slots slots₁ st c (r .out) res
+      → ((ys : List TypeEntry) → res ys ≡ after (res₁ ys) (λ σ. leave σ (next ys))) → Ran j heap heap₁ slots slots₁ st c (r .out) res
   under-refused {w} next s e = record {
     moves = d .moves;
     follows = λ q. absurd (not-done s q);
@@ -303,12 +310,12 @@ module _ {heap heap₁ slots slots₁ : List ℕ} {st : Machine} {b : View} {r :
 
   pub under-done : {c c₁ : View} {res : List TypeEntry → Res State} (next : List TypeEntry → Val → State → Run State) → r .out .status ≡ Done
       → ((ys : List TypeEntry) → res ys ≡ after (res₁ ys) (λ σ. leave σ (next ys)))
-      → {k : ℕ} {heap₂ slots₂ : List ℕ} {out : Outcome}
+      → {k : ℕ} (l : ℕ) → j + k ≤ l → {heap₂ slots₂ : List ℕ} {out : Outcome}
       → Ran k heap₁ heap₂ slots₁ slots₂ (r .out .state) c₁ out
       (λ ys. next ys (valueAt heap₁ (r .newest)) (stateOf heap₁ (r .out .bindings)) (r .out .state .fuel))
-      → Follows c c₁ (r .out .state .top) → Ran k heap heap₂ slots slots₂ st c out res
-  under-done next s e b₂ F = record {
-    moves = moves-then (d .moves) (b₂ .moves);
+      → Follows heap₁ c c₁ (r .out .state .top) → Ran l heap heap₂ slots slots₂ st c out res
+  under-done next s e l le b₂ F = record {
+    moves = moves-then l le (d .moves) (b₂ .moves);
     follows = λ q. follows-then F (b₂ .follows q);
     answer = λ ys. b₂ .answer ys ∙ sym (left-done heap₁ (r .out .bindings) (r .newest) (r .out .state .fuel) (next ys) s) ∙ sym (d .answer ys (next ys))
         ∙ sym (e ys);

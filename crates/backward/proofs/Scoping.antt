@@ -3,36 +3,40 @@ use Prim.Native.Nat.{ℕ, _+_, _-_, _<_}
 use native.Mathlib.Omega.{arith}
 use mathlib.Core.Bool.{Bool, cond}
 use mathlib.Core.List.{List}
-use mathlib.Core.Path.{_≡_, refl, _∙_}
-use lib.ListN.{getD}
-use package.Rattle.uses.specs.Sets.{Holds, has, below}
+use mathlib.Core.Path.{_≡_, refl, ap, _∙_}
+use lib.ListN.{length, getD}
 use package.Rattle.rules.specs.Yield.{mayYield}
 use package.Rattle.rules.specs.Val.{pair}
 use package.Rattle.calls.specs.Entries.{TypeEntry}
 use package.Rattle.decoded.specs.Rows.{firstIn, kindIn, secondIn, thirdIn, treeIn}
 use package.Rattle.decoded.proofs.Trees.{parts-case}
 use package.Rattle.values.specs.Nodes.{ofKind, valueAt}
-use package.Rattle.scopes.specs.Slots.{Machine, Scope, machineOf, scopeIn, slotCount, slotsOf, unknown}
-use package.Rattle.scopes.specs.Bindings.{Opens, Tells}
+use package.Rattle.scopes.specs.Slots.{Machine, Scope, Slot, found, nodeOr, machineOf, scopeIn, slotCount, stateCount, slotsOf, unknown}
+use package.Rattle.scopes.specs.Bindings.{Opens, CellReady}
 use package.Rattle.scopes.specs.declared.bindings.Bindings.{Bindings}
-use package.Rattle.scopes.proofs.Views.{tells-left, view-at}
+use package.Rattle.scopes.proofs.Views.{view-at}
 use package.Rattle.yields.specs.Yields.{Asks}
 use package.Rattle.forward.proofs.Binds.{opened as wider}
-use package.Rattle.backward.specs.Ready.{Gone, GoneUnder, Leavable, Prepared, PreparedIn, RanUnder, ancillaeOf, runAt, stepAt, underAt}
-use package.Rattle.backward.specs.Outcomes.{nodeOr, innerOf, scopeView}
-use package.Rattle.backward.proofs.Opening.{Marked, as-many, leavable, marked-below, newest-there, opens, outer-prepared, stops-under, opened}
-use package.Rattle.backward.proofs.Frames.{beside, few-ancillae, gone-then, onward}
+use package.Rattle.backward.specs.Ready.{Held, Gone, GoneUnder, Leavable, Prepared, PreparedIn, RanUnder, ancillaeOf, runAt, stepAt, underAt}
+use package.Rattle.backward.specs.Outcomes.{innerOf, scopeView}
+use package.Rattle.backward.proofs.Opening.{Marked, as-many, marked-below, opens, opened}
+use package.Rattle.backward.proofs.Leaving.{LeftBehind, held-under, looked, cell-ready, under-left, left-node, left-tells, left-below}
+use package.Rattle.backward.proofs.Frames.{beside, few-ancillae, gone-then, onward, stops-under}
 use package.Rattle.backward.proofs.Choosing.{case-branch, case-done, case-refused, case-space, case-sum}
 use package.Rattle.backward.proofs.Stops.{is-done, is-stopped}
-use package.Rattle.backward.proofs.Lets.{let-body, let-bound, let-done, let-refused, let-space, letp-body, letp-bound, letp-done, letp-nodes, letp-refused, letp-second, letp-space}
+use package.Rattle.backward.proofs.Lets.{let-body, let-bound, let-done, let-refused, let-space}
+use package.Rattle.backward.proofs.Lets.{letp-body, letp-bound, letp-done, letp-nodes, letp-refused, letp-second, letp-space}
 use package.Rattle.backward.proofs.Runs.{refused-with, small-top, under-from}
 use package.Rattle.backward.proofs.Leaves.{view-goes}
 use Rattle.backward.specs.declared.outcomes.Out.{Out}
 
 module _ {code heap slots : List ℕ} {m : Machine} {b : Bindings} {sc : Scope} {t room : ℕ}
-    (P : Prepared 1 1 code heap slots m b sc (sc .n) t room) {node : ℕ} (low : node < m .top) where
+    (P : Prepared 2 1 code heap slots m b sc (sc .n) t room) {node : ℕ} (low : node < m .top) where
   abbrev Stepped : List ℕ → List ℕ → Machine → Out → Type 0
-  Stepped heap′ slots′ m′ r = Gone 1 heap heap′ slots slots′ m m′ sc r (stepAt code heap slots m sc t (valueAt heap node) room)
+  Stepped heap′ slots′ m′ r = Gone 2 heap heap′ slots slots′ m m′ sc r (stepAt code heap slots m sc t (valueAt heap node) room)
+
+  there : sc .base + sc .n < slotCount
+  there = omega (arith, P .space, P .ready .tall)
 
   ----------------------------------------------------------------
   -- let
@@ -47,23 +51,40 @@ module _ {code heap slots : List ℕ} {m : Machine} {b : Bindings} {sc : Scope} 
     module _ {heap₁ slots₁ : List ℕ} {m₁ : Machine} {r : Out}
         (G : GoneUnder heap heap₁ slots slots₁ m m₁ sc r (underAt code heap slots m sc u′ (valueAt heap node) (room - 1))) where
       pub let-stopped : ¬ (r .stop ≡ 0) → Stepped heap₁ slots₁ m₁ r
-      let-stopped d = stops-under P let-few G d (let-refused (P .ready) low kind qu qu′ (G .ran) (is-stopped d))
+      let-stopped d = stops-under G d (let-refused (P .ready) low kind qu qu′ (G .ran) (omega arith) (is-stopped d))
 
       module _ (e : r .stop ≡ 0) where
-        pub let-leaves : Leavable slots₁ (r .state) sc
-        let-leaves = leavable P let-few G e (omega arith)
+        let-held : Held 2 code heap₁ slots₁ m₁ room
+        let-held = held-under (P .ready .machine) refl G
 
-        pub let-outer : {c : Bindings} → Holds (c .bound) (below (sc .n) (has (r .state .bound))) → Prepared 0 0 code heap₁ slots₁ m₁ c sc (sc .n) u (room - 1)
-        let-outer H = outer-prepared P let-few G e H (let-bound (P .ready) low kind qu qu′ (G .ran) (is-done e)) (omega (arith, P .ready .tall))
+        pub let-leaves : Leavable heap₁ slots₁ (r .state) sc (m₁ .top)
+        let-leaves = looked let-held G e (sc .n) (P .ready .binds .within) (omega arith) there (G .slot e) refl refl
 
-        module _ {x : ℕ} (qx : x ≡ nodeOr (getD slots₁ (sc .base + sc .n) 0)) where
-          pub let-node : x < m₁ .top
-          let-node = newest-there P let-few G e qx
+        pub let-cell : {st₁ : List ℕ} → length st₁ ≡ stateCount → machineOf st₁ ≡ m₁ → CellReady heap₁ st₁ (r .state) (sc .n)
+        let-cell full em = cell-ready let-held G e full em (omega arith) (sc .n) (omega (arith, let-few))
 
-          pub let-gone : {heap₂ slots₂ : List ℕ} {m₂ : Machine} {r₂ : Out}
-              → Gone 0 heap₁ heap₂ slots₁ slots₂ m₁ m₂ sc r₂ (runAt code heap₁ slots₁ m₁ sc u (valueAt heap₁ x) (room - 1))
-              → Stepped heap₂ slots₂ m₂ r₂
-          let-gone E = gone-then (G .below) E (let-done (P .ready) low kind qu qu′ (G .ran) (is-done e) (rw qx at (E .ran)))
+        module _ {heap₂ slots₂ : List ℕ} {m₂ : Machine} {c : Bindings} (K : LeftBehind heap₁ heap₂ slots₁ slots₂ m₁ m₂ (r .state) (sc .n) c) where
+          abbrev let-run : RanUnder 1 heap heap₂ slots slots₂ m (scopeView slots sc) (innerOf heap₂ (r .stop) slots₂ m₂ sc)
+              (underAt code heap slots m sc u′ (valueAt heap node) (room - 1))
+          let-run = under-left let-held G e K
+
+          let-below : (j : ℕ) → j < sc .base → getD slots j 0 ≡ getD slots₂ j 0
+          let-below j l = G .below j l ∙ left-below let-held G e K j
+
+          pub let-outer : Prepared 0 0 code heap₂ slots₂ m₂ c sc (sc .n) u (room - 1)
+          let-outer =
+              onward P (let-run .moves) let-below (left-tells let-held G e K (omega arith) (omega arith))
+              (let-bound (P .ready) low kind qu qu′ let-run (omega arith) (is-done e)) (omega (arith, P .ready .tall))
+
+          module _ {x : ℕ} (qx : x ≡ nodeOr (found heap₁ (getD slots₁ (sc .base + sc .n) 0))) where
+            pub let-node : x < m₂ .top
+            let-node = rw (left-node let-held G e K (sc .base + sc .n) (G .slot e) qx) (let-run .there (is-done e))
+
+            pub let-gone : {heap₃ slots₃ : List ℕ} {m₃ : Machine} {r₂ : Out}
+                → Gone 0 heap₂ heap₃ slots₂ slots₃ m₂ m₃ sc r₂ (runAt code heap₂ slots₂ m₂ sc u (valueAt heap₂ x) (room - 1))
+                → Stepped heap₃ slots₃ m₃ r₂
+            let-gone E = gone-then let-below E
+                (let-done (P .ready) low kind qu qu′ let-run (omega arith) (is-done e) (rw (left-node let-held G e K (sc .base + sc .n) (G .slot e) qx) at (E .ran)))
 
   ----------------------------------------------------------------
   -- let pair
@@ -73,7 +94,7 @@ module _ {code heap slots : List ℕ} {m : Machine} {b : Bindings} {sc : Scope} 
     letp-few = letp-space (P .ready) low kind qu qu′
 
     pub letp-there : sc .base + sc .n < slotCount
-    letp-there = omega (arith, P .space, P .ready .tall)
+    letp-there = there
 
     module _ {slots₀ : List ℕ} {m₀ : Machine} (K : Marked slots slots₀ m m₀ sc) {sc₁ : Scope} (w : sc₁ ≡ wider sc) where
       abbrev first-open : Opens (scopeView slots sc) unknown (scopeView slots₀ (wider sc))
@@ -93,52 +114,75 @@ module _ {code heap slots : List ℕ} {m : Machine} {b : Bindings} {sc : Scope} 
 
       module _ {heap₁ slots₁ : List ℕ} {m₁ : Machine} {r : Out}
           (G : GoneUnder heap heap₁ slots₀ slots₁ m₀ m₁ sc₁ r (underAt code heap slots₀ m₀ sc₁ u′ (valueAt heap node) (room - 1))) where
-        -- from the slots and in the scope at hand
+        -- in the scope at hand
         here : GoneUnder heap heap₁ slots₀ slots₁ m m₁ (wider sc) r (underAt code heap slots₀ m (wider sc) u′ (valueAt heap node) (room - 1))
         here = rw (w, K .machine-is) at G
 
-        from-here : RanUnder heap heap₁ slots slots₁ m (scopeView slots₀ (wider sc)) (innerOf (r .stop) slots₁ m₁ (wider sc))
-            (underAt code heap slots₀ m (wider sc) u′ (valueAt heap node) (room - 1))
-        from-here = under-from slots (as-many P letp-few letp-there K) (here .ran)
-
-        same-below : (j : ℕ) → j < sc .base → getD slots j 0 ≡ getD slots₁ j 0
-        same-below j l = marked-below P letp-few letp-there K j l ∙ here .below j l
+        inner-below : (j : ℕ) → j < sc .base → getD slots j 0 ≡ getD slots₁ j 0
+        inner-below j l = marked-below P letp-few letp-there K j l ∙ here .below j l
 
         pub letp-stopped : ¬ (r .stop ≡ 0) → Stepped heap₁ slots₁ m₁ r
         letp-stopped d = record {
-          ran = refused-with (letp-refused (P .ready) low kind qu qu′ first-open from-here (is-stopped d)) (is-stopped d) (scopeView slots₁ sc);
-          below = same-below;
+          ran = refused-with (letp-refused (P .ready) low kind qu qu′ first-open (under-from slots (as-many P letp-few letp-there K) (here .ran))
+              (omega arith) (is-stopped d)) (is-stopped d) (scopeView slots₁ sc);
+          below = inner-below;
           tells = λ z. absurd (d z);
         }
 
         module _ (e : r .stop ≡ 0) where
-          pub letp-leaves : Leavable slots₁ (r .state) sc₁
-          letp-leaves = rw w (record { few = more; there = omega (arith, P .space, P .ready .tall); tells = here .tells e })
+          letp-held : Held 2 code heap₁ slots₁ m₁ room
+          letp-held = held-under (P .ready .machine) (as-many P letp-few letp-there K) here
 
-          module _ {one : Bindings} (H : Holds (one .bound) (below (sc₁ .n) (has (r .state .bound)))) where
-            one-tells : Tells slots₁ one (sc .base) (sc .n + 1)
-            one-tells = tells-left (here .tells e) more (rw w at H)
+          first-slot : Slot heap₁ (getD slots₁ (sc .base + sc .n) 0) (m₁ .top)
+          first-slot = rw (← view-at slots₁ (sc .base) (sc .n) letp-few) (here .ran .follows (is-done e) .bound .held .held (sc .n) newest-in)
+            where
+              newest-in : sc .n < sc .n + 1
+              newest-in = omega arith
 
-            pub letp-leaves-first : Leavable slots₁ one sc
-            letp-leaves-first = record { few = letp-few; there = letp-there; tells = one-tells }
+          pub letp-leaves : Leavable heap₁ slots₁ (r .state) sc₁ (m₁ .top)
+          letp-leaves =
+              looked letp-held here e (sc .n + 1) (omega (arith, P .ready .binds .within)) (omega arith) (omega (arith, P .space, P .ready .tall)) (here .slot e)
+              (ap (λ (sc : Scope). sc .base) w) (ap (λ (sc : Scope). sc .n) w)
 
-            pub letp-outer : {c : Bindings} → Holds (c .bound) (below (sc .n) (has (one .bound))) → Prepared 1 0 code heap₁ slots₁ m₁ c sc (sc .n) u (room - 1)
-            letp-outer H′ =
-                onward P (from-here .moves) same-below (tells-left one-tells letp-few H′)
-                (letp-bound (P .ready) low kind qu qu′ first-open from-here (is-done e) (view-goes slots₁ (sc .base) (sc .n) letp-few))
+          pub letp-leaves-first : Leavable heap₁ slots₁ (r .state) sc (m₁ .top)
+          letp-leaves-first = looked letp-held here e (sc .n) (P .ready .binds .within) (omega arith) letp-there first-slot refl refl
+
+          pub letp-cell : {st₁ : List ℕ} → length st₁ ≡ stateCount → machineOf st₁ ≡ m₁ → CellReady heap₁ st₁ (r .state) (sc .n)
+          letp-cell full em = cell-ready letp-held here e full em (omega arith) (sc .n) (omega (arith, letp-few))
+
+          module _ {heap₂ slots₂ : List ℕ} {m₂ : Machine} {c : Bindings} (L : LeftBehind heap₁ heap₂ slots₁ slots₂ m₁ m₂ (r .state) (sc .n) c) where
+            letp-run : RanUnder 1 heap heap₂ slots slots₂ m (scopeView slots₀ (wider sc)) (innerOf heap₂ (r .stop) slots₂ m₂ (wider sc))
+                (underAt code heap slots₀ m (wider sc) u′ (valueAt heap node) (room - 1))
+            letp-run = under-from slots (as-many P letp-few letp-there K) (under-left letp-held here e L)
+
+            letp-below : (j : ℕ) → j < sc .base → getD slots j 0 ≡ getD slots₂ j 0
+            letp-below j l = inner-below j l ∙ left-below letp-held here e L j
+
+            pub letp-outer : Prepared 1 0 code heap₂ slots₂ m₂ c sc (sc .n) u (room - 1)
+            letp-outer =
+                onward P (letp-run .moves) letp-below (left-tells letp-held here e L (omega arith) (omega arith))
+                (letp-bound (P .ready) low kind qu qu′ first-open letp-run (omega arith) (is-done e) (view-goes heap₂ slots₂ (sc .base) (sc .n) letp-few))
                 (omega (arith, P .ready .tall))
 
-          module _ {x y : ℕ} (qx : x ≡ nodeOr (getD slots₁ (sc .base + sc .n) 0)) (qy : y ≡ nodeOr (getD slots₁ (sc₁ .base + sc₁ .n) 0)) where
-            pub letp-both : (x < m₁ .top) × (y < m₁ .top)
-            letp-both = rw (qx, qy, w) (letp-nodes (P .ready) low kind qu qu′ first-open from-here (is-done e) (view-goes slots₁ (sc .base) (sc .n) letp-few))
+            module _ {x y : ℕ} (qx : x ≡ nodeOr (found heap₁ (getD slots₁ (sc .base + sc .n) 0)))
+                (qy : y ≡ nodeOr (found heap₁ (getD slots₁ (sc₁ .base + sc₁ .n) 0))) where
+              x-is : x ≡ nodeOr (found heap₂ (getD slots₂ (sc .base + sc .n) 0))
+              x-is = left-node letp-held here e L (sc .base + sc .n) first-slot qx
 
-            pub letp-gone : {heap₂ slots₂ : List ℕ} {m₂ : Machine} {r₂ : Out}
-                → Gone 1 heap₁ heap₂ slots₁ slots₂ m₁ m₂ sc r₂ (runAt code heap₁ slots₁ m₁ sc u (pair (valueAt heap₁ x) (valueAt heap₁ y)) (room - 1))
-                → Stepped heap₂ slots₂ m₂ r₂
-            letp-gone E =
-                gone-then same-below E
-                (letp-done (P .ready) low kind qu qu′ first-open from-here (is-done e) (view-goes slots₁ (sc .base) (sc .n) letp-few)
-                (rw (qx, qy, w) at (E .ran)))
+              y-is : y ≡ nodeOr (found heap₂ (getD slots₂ (sc .base + (sc .n + 1)) 0))
+              y-is = left-node letp-held here e L (sc .base + (sc .n + 1)) (here .slot e) (rw w at qy)
+
+              pub letp-both : (x < m₂ .top) × (y < m₂ .top)
+              letp-both = rw (x-is, y-is)
+                  (letp-nodes (P .ready) low kind qu qu′ first-open letp-run (omega arith) (is-done e) (view-goes heap₂ slots₂ (sc .base) (sc .n) letp-few))
+
+              pub letp-gone : {heap₃ slots₃ : List ℕ} {m₃ : Machine} {r₂ : Out}
+                  → Gone 1 heap₂ heap₃ slots₂ slots₃ m₂ m₃ sc r₂ (runAt code heap₂ slots₂ m₂ sc u (pair (valueAt heap₂ x) (valueAt heap₂ y)) (room - 1))
+                  → Stepped heap₃ slots₃ m₃ r₂
+              letp-gone E =
+                  gone-then letp-below E
+                  (letp-done (P .ready) low kind qu qu′ first-open letp-run (omega arith) (is-done e) (view-goes heap₂ slots₂ (sc .base) (sc .n) letp-few)
+                  (rw (x-is, y-is) at (E .ran)))
 
   ----------------------------------------------------------------
   -- case
@@ -157,27 +201,43 @@ module _ {code heap slots : List ℕ} {m : Machine} {b : Bindings} {sc : Scope} 
       module _ {heap₁ slots₁ : List ℕ} {m₁ : Machine} {r : Out}
           (G : GoneUnder heap heap₁ slots slots₁ m m₁ sc r (underAt code heap slots m sc v (valueAt heap node) (room - 1))) where
         pub case-stopped : ¬ (r .stop ≡ 0) → Stepped heap₁ slots₁ m₁ r
-        case-stopped d = stops-under P case-few G d (case-refused (P .ready) low kind qf l Y qu qv qs (G .ran) (is-stopped d))
+        case-stopped d = stops-under G d (case-refused (P .ready) low kind qf l Y qu qv qs (G .ran) (omega arith) (is-stopped d))
 
         module _ (e : r .stop ≡ 0) where
-          pub case-leaves : Leavable slots₁ (r .state) sc
-          case-leaves = leavable P case-few G e (omega arith)
+          case-held : Held 2 code heap₁ slots₁ m₁ room
+          case-held = held-under (P .ready .machine) refl G
 
-          pub case-outer : {c : Bindings} → Holds (c .bound) (below (sc .n) (has (r .state .bound)))
-              → Prepared 1 0 code heap₁ slots₁ m₁ c sc (sc .n) u (room - 1)
-          case-outer H = outer-prepared P case-few G e H (case-sum (P .ready) low kind qf l Y qu qv qs (G .ran) (is-done e)) (omega (arith, P .ready .tall))
+          pub case-leaves : Leavable heap₁ slots₁ (r .state) sc (m₁ .top)
+          case-leaves = looked case-held G e (sc .n) (P .ready .binds .within) (omega arith) there (G .slot e) refl refl
 
-          module _ {x : ℕ} (qx : x ≡ nodeOr (getD slots₁ (sc .base + sc .n) 0)) where
-            pub case-node : x < m₁ .top
-            case-node = newest-there P case-few G e qx
+          pub case-cell : {st₁ : List ℕ} → length st₁ ≡ stateCount → machineOf st₁ ≡ m₁ → CellReady heap₁ st₁ (r .state) (sc .n)
+          case-cell full em = cell-ready case-held G e full em (omega arith) (sc .n) (omega (arith, case-few))
 
-            pub case-gone : {heap₂ slots₂ : List ℕ} {m₂ : Machine} {r₂ : Out}
-                → Gone 1 heap₁ heap₂ slots₁ slots₂ m₁ m₂ sc r₂ (runAt code heap₁ slots₁ m₁ sc u (ofKind side (valueAt heap₁ x) (valueAt heap₁ x)) (room - 1))
-                → Stepped heap₂ slots₂ m₂ r₂
-            case-gone E = gone-then (G .below) E (case-done (P .ready) low kind qf l Y qu qv qs (G .ran) (is-done e) (rw qx at (E .ran)))
+          module _ {heap₂ slots₂ : List ℕ} {m₂ : Machine} {c : Bindings} (K : LeftBehind heap₁ heap₂ slots₁ slots₂ m₁ m₂ (r .state) (sc .n) c) where
+            abbrev case-run : RanUnder 1 heap heap₂ slots slots₂ m (scopeView slots sc) (innerOf heap₂ (r .stop) slots₂ m₂ sc)
+                (underAt code heap slots m sc v (valueAt heap node) (room - 1))
+            case-run = under-left case-held G e K
+
+            case-below : (j : ℕ) → j < sc .base → getD slots j 0 ≡ getD slots₂ j 0
+            case-below j l = G .below j l ∙ left-below case-held G e K j
+
+            pub case-outer : Prepared 1 0 code heap₂ slots₂ m₂ c sc (sc .n) u (room - 1)
+            case-outer =
+                onward P (case-run .moves) case-below (left-tells case-held G e K (omega arith) (omega arith))
+                (case-sum (P .ready) low kind qf l Y qu qv qs case-run (omega arith) (is-done e)) (omega (arith, P .ready .tall))
+
+            module _ {x : ℕ} (qx : x ≡ nodeOr (found heap₁ (getD slots₁ (sc .base + sc .n) 0))) where
+              pub case-node : x < m₂ .top
+              case-node = rw (left-node case-held G e K (sc .base + sc .n) (G .slot e) qx) (case-run .there (is-done e))
+
+              pub case-gone : {heap₃ slots₃ : List ℕ} {m₃ : Machine} {r₂ : Out}
+                  → Gone 1 heap₂ heap₃ slots₂ slots₃ m₂ m₃ sc r₂ (runAt code heap₂ slots₂ m₂ sc u (ofKind side (valueAt heap₂ x) (valueAt heap₂ x)) (room - 1))
+                  → Stepped heap₃ slots₃ m₃ r₂
+              case-gone E = gone-then case-below E
+                  (case-done (P .ready) low kind qf l Y qu qv qs case-run (omega arith) (is-done e) (rw (left-node case-held G e K (sc .base + sc .n) (G .slot e) qx) at (E .ran)))
 
 -- the left branch's form can be asked
-pub case-asked : {code heap st : List ℕ} {b : Bindings} {scope t room : ℕ} → PreparedIn 1 1 code heap st b scope t room → {node : ℕ}
+pub case-asked : {code heap st : List ℕ} {b : Bindings} {scope t room : ℕ} → PreparedIn 2 1 code heap st b scope t room → {node : ℕ}
     → node < machineOf st .top → kindIn code t ≡ 7
     → {f : ℕ} → f ≡ secondIn code t → Asks code heap st scope f node
 case-asked {st = st} {scope = scope} {t = t} Q low kind q =

@@ -6,7 +6,6 @@ use mathlib.Core.Path.{_≡_, refl, sym, ap, ap₂, _∙_}
 use mathlib.Core.Option.{none, some}
 use mathlib.Core.List.{List, [], _∷_, map}
 use lib.ListN.{getD}
-use package.Rattle.uses.specs.Sets.{Holds, firsts}
 use package.Rattle.rules.specs.Limits.{fits}
 use package.Rattle.rules.specs.Val.{Val}
 use package.Rattle.rules.specs.Term.{Term}
@@ -17,16 +16,17 @@ use package.Rattle.decoded.specs.Rows.{bodyIn, programIn, treeIn}
 use package.Rattle.decoded.proofs.Trees.{called-body, called-tree}
 use package.Rattle.values.specs.Nodes.{valueAt}
 use package.Rattle.scopes.specs.Bindings.{View}
-use package.Rattle.scopes.specs.Slots.{Machine, Scope, machineOf, slotsOf}
+use package.Rattle.scopes.specs.Slots.{Machine, Scope, machineOf, slotsOf, found, nodeOr}
 use package.Rattle.scopes.specs.declared.bindings.Bindings.{Bindings}
-use package.Rattle.scopes.proofs.Views.{view-at, tells-first}
+use package.Rattle.scopes.proofs.Views.{tells-first}
 use package.Rattle.yields.specs.Yields.{ancillaeAt}
 use package.Rattle.forward.proofs.Starting.{arguments-ancillae}
-use package.Rattle.backward.specs.Outcomes.{Status, Done, Refused, Inner, whyOf, statusOf, outcomeOf, refusalOf, leftWith, nodeOr, innerOf, scopeView}
+use package.Rattle.backward.specs.Outcomes.{Status, Done, Refused, Inner, whyOf, statusOf, outcomeOf, refusalOf, leftWith, innerOf, scopeView}
 use package.Rattle.backward.specs.Ready.{Ready, RanUnder, Prepared, GoneUnder, underOf, Leavable, underAt}
 use package.Rattle.backward.specs.Calls.{Starts, returned, Returns, StartsIn, valuesScope}
 use package.Rattle.backward.proofs.Runs.{refusal-after, not-done, small-top}
 use package.Rattle.backward.proofs.Stops.{is-stopped}
+use package.Rattle.backward.proofs.Leaving.{held-under, looked}
 use package.Rattle.backward.proofs.Calling.{arguments-state, body-ready}
 use Rattle.backward.specs.declared.outcomes.Out.{Out}
 
@@ -69,7 +69,7 @@ module _ {code heap slots : List ℕ} {st : Machine} {args : View} {q g node roo
     pub start-ready : Ready 0 0 code heap slots st args q (args .len + 1) u room
     start-ready = body-ready (S .machine) (S .arguments) (S .function) (S .parameters) qu
 
-    pub start-done : {heap′ slots′ : List ℕ} {r : Inner} → RanUnder heap heap′ slots slots′ st args r (underOf code heap st args q u (valueAt heap node) room)
+    pub start-done : {heap′ slots′ : List ℕ} {r : Inner} → RanUnder 0 heap heap′ slots slots′ st args r (underOf code heap st args q u (valueAt heap node) room)
         → Returns code heap heap′ slots slots′ st args q g node room r
     unfolding runBackward
     start-done {heap′} {slots′} {r} d = record {
@@ -81,7 +81,7 @@ module _ {code heap slots : List ℕ} {st : Machine} {args : View} {q g node roo
           ∙ sym (leave-value (underOf code heap st args q u (valueAt heap node) room ys))
           ∙ ap₂ (λ σ (T : Term). after (backward fits (programIn code ys) room (ancillaeAt heap (args .slots) 0 q) (none ∷ σ) T (valueAt heap node)
           (st .fuel)) (λ σ. leave σ (λ w σ. give w)))
-          (sym (arguments-state (S .arguments) (small-top (S .machine)) heap)) (ap (treeIn code ys) qu ∙ sym (called-body code ys g))
+          (sym (arguments-state (S .arguments) (small-top (S .machine)))) (ap (treeIn code ys) qu ∙ sym (called-body code ys g))
           ∙ ap (λ (a : List Val). after (backward fits (programIn code ys) room a (none ∷ map some a) (function ys) (valueAt heap node) (st .fuel))
           (λ σ. leave σ (λ w σ. give w)))
           (sym (arguments-ancillae heap (args .slots) 0 q));
@@ -101,11 +101,10 @@ module _ {code heap st : List ℕ} {q g node room : ℕ} (S : StartsIn code heap
     pub begin-few : sc .n < 32
     begin-few = rw w begin-space
 
-    pub begin-prepared : {args : Bindings} → Holds (args .bound) (firsts q) → Prepared 0 0 code heap (slotsOf st) (machineOf st) args sc (sc .n + 1) u room
-    begin-prepared H = rw w (record {
+    pub begin-prepared : {args : Bindings} → args .head ≡ 0 → Prepared 0 0 code heap (slotsOf st) (machineOf st) args sc (sc .n + 1) u room
+    begin-prepared none-bound = rw w (record {
       ready = start-ready (S .starts) qu;
-      tells = tells-first (slotsOf st) 0 q (machineOf st .top) (omega (arith, begin-space)) H
-          (λ i l. rw (← view-at (slotsOf st) 0 i (omega (arith, begin-space))) (S .starts .arguments .binds .ancillae i l)) (small-top (S .starts .machine));
+      tells = tells-first heap (slotsOf st) 0 q (machineOf st .top) none-bound (S .starts .machine .some);
       older = record { held = λ j l. absurd (omega arith) };
       space = omega (arith, S .space);
     })
@@ -117,14 +116,16 @@ module _ {code heap st : List ℕ} {q g node room : ℕ} (S : StartsIn code heap
             (underAt code heap (slotsOf st) (machineOf st) (valuesScope q) u (valueAt heap node) room)
         here = rw w at G
 
-        pub begin-leaves : r .stop ≡ 0 → Leavable slots′ (r .state) sc
-        begin-leaves e = rw w (record { few = begin-space; there = omega (arith, S .space); tells = here .tells e })
+        pub begin-leaves : r .stop ≡ 0 → Leavable heap′ slots′ (r .state) sc (m′ .top)
+        begin-leaves e =
+            looked (held-under (S .starts .machine) refl here) here e q (omega arith) (omega arith) (omega (arith, S .space)) (here .slot e)
+            (ap (λ (sc : Scope). sc .base) w) (ap (λ (sc : Scope). sc .n) w)
 
         all-done : Returns code heap heap′ (slotsOf st) slots′ (machineOf st) (scopeView (slotsOf st) (valuesScope q)) q g node room
-            (innerOf (r .stop) slots′ m′ (valuesScope q))
+            (innerOf heap′ (r .stop) slots′ m′ (valuesScope q))
         all-done = start-done (S .starts) qu (here .ran)
 
-        pub input-there : {x : ℕ} → x ≡ nodeOr (getD slots′ (sc .base + sc .n) 0) → {stop : ℕ} → stop ≡ r .stop
+        pub input-there : {x : ℕ} → x ≡ nodeOr (found heap′ (getD slots′ (sc .base + sc .n) 0)) → {stop : ℕ} → stop ≡ r .stop
             → Returns code heap heap′ (slotsOf st) slots′ (machineOf st) (scopeView (slotsOf st) (valuesScope q)) q g node room
             (record { out = outcomeOf stop slots′ m′ (valuesScope q); newest = x })
         input-there e f = rw (e, f, w) all-done
@@ -136,7 +137,7 @@ module _ {code heap st : List ℕ} {q g node room : ℕ} (S : StartsIn code heap
         input-missing d = record {
           moves = all-done .moves;
           there = λ n. absurd (not-done (is-stopped d) n);
-          answer = λ ys. refused 0 ∙ sym (refused (nodeOr (getD slots′ (0 + q) 0))) ∙ all-done .answer ys;
+          answer = λ ys. refused 0 ∙ sym (refused (nodeOr (found heap′ (getD slots′ (0 + q) 0)))) ∙ all-done .answer ys;
         }
           where
             refused : (x : ℕ) → returned heap′ x (m′ .fuel) (statusOf (r .stop)) ≡ refusalOf (whyOf (r .stop))

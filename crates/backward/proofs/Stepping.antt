@@ -17,9 +17,9 @@ use package.Rattle.backward.proofs.Steps.{pair-done, pair-first, pair-n
 use Rattle.backward.specs.declared.outcomes.Out.{Out}
 
 module _ {code heap slots : List ℕ} {m : Machine} {b : Bindings} {sc : Scope} {t room : ℕ}
-    (P : Prepared 1 1 code heap slots m b sc (sc .n) t room) {node : ℕ} (low : node < m .top) where
+    (P : Prepared 2 1 code heap slots m b sc (sc .n) t room) {node : ℕ} (low : node < m .top) where
   abbrev Stepped : List ℕ → List ℕ → Machine → Out → Type 0
-  Stepped heap′ slots′ m′ r = Gone 1 heap heap′ slots slots′ m m′ sc r (stepAt code heap slots m sc t (valueAt heap node) room)
+  Stepped heap′ slots′ m′ r = Gone 2 heap heap′ slots slots′ m m′ sc r (stepAt code heap slots m sc t (valueAt heap node) room)
 
   ----------------------------------------------------------------
   -- One part: inl, inr, roll

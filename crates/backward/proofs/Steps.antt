@@ -23,7 +23,7 @@ use package.Rattle.backward.specs.Outcomes.{Done, Refused, Outcome, refu
 use package.Rattle.backward.specs.Ready.{Ready, Ran, Stays, ancillaeOf, runOf, stepOf}
 use package.Rattle.backward.proofs.Runs.{stays, refuses, says, slack, part-refused, part-done}
 use package.Rattle.backward.proofs.Leaves.{against-other, against-none, mismatch-left, mismatch-right, mismatch-none}
-use package.Rattle.backward.proofs.Parts.{later, ancillae-after, owing-none, in-scope, part, scoped-wrap, scoped-pair, scoped-unroll}
+use package.Rattle.backward.proofs.Parts.{later, ancillae-after, owing, owing-none, in-scope, part, scoped-wrap, scoped-pair, scoped-unroll}
 use Rattle.backward.specs.declared.outcomes.Refusal.{Refusal}
 use Rattle.backward.specs.declared.outcomes.Refusal.the-variants.{Stuck}
 
@@ -59,7 +59,7 @@ other-roll (suc (suc (suc (suc n)))) v w go t fuel l d = absurd (d (omega arith)
 ----------------------------------------------------------------
 -- By kind
 
-module _ {code heap slots : List ℕ} {st : Machine} {b : View} {q t room : ℕ} (rd : Ready 1 1 code heap slots st b q (b .len) t room)
+module _ {code heap slots : List ℕ} {st : Machine} {b : View} {q t room : ℕ} (rd : Ready 2 1 code heap slots st b q (b .len) t room)
     {node : ℕ} (low : node < st .top) where
   abbrev value : Val
   value = valueAt heap node
@@ -87,14 +87,20 @@ module _ {code heap slots : List ℕ} {st : Machine} {b : View} {q t room : ℕ}
   -- Variables and unit
 
   pub var-done : kindIn code t ≡ 0 → {slots′ : List ℕ} → length slots ≡ length slots′ → {r : Outcome}
-      → Stays heap st b r (meet t (stateOf heap b) (firstIn code t) value (st .fuel)) → Ran 1 heap heap slots slots′ st b r step
+      → Stays heap st b r (meet t (stateOf heap b) (firstIn code t) value (st .fuel)) → Ran 2 heap heap slots slots′ st b r step
   unfolding backwardStep
-  var-done kind l S = slack (stays (rd .machine .graph) l S (λ ys. sym (stepped ys (tree-var (rd .machine .rows) t (rd .term) ys kind)))) 1 (omega arith)
+  var-done kind l S = slack (stays (rd .machine .graph) l S (λ ys. sym (stepped ys (tree-var (rd .machine .rows) t (rd .term) ys kind)))) 2 (omega arith)
+
+  -- a variable that is bound makes a cell
+  pub var-bound : kindIn code t ≡ 0 → {heap′ slots′ : List ℕ} {r : Outcome}
+      → Ran 1 heap heap′ slots slots′ st b r (λ ys. meet t (stateOf heap b) (firstIn code t) value (st .fuel)) → Ran 2 heap heap′ slots slots′ st b r step
+  unfolding backwardStep
+  var-bound kind d = slack (says d (λ ys. sym (stepped ys (tree-var (rd .machine .rows) t (rd .term) ys kind)))) 2 (omega arith)
 
   pub unit-done : kindIn code t ≡ 1 → {r : Outcome} → Stays heap st b r (onUnit value (give (stateOf heap b)) (st .fuel))
-      → Ran 1 heap heap slots slots st b r step
+      → Ran 2 heap heap slots slots st b r step
   unfolding backwardStep
-  unit-done kind S = slack (stays (rd .machine .graph) refl S (λ ys. sym (stepped ys (tree-unit (rd .machine .rows) t (rd .term) ys kind)))) 1 (omega arith)
+  unit-done kind S = slack (stays (rd .machine .graph) refl S (λ ys. sym (stepped ys (tree-unit (rd .machine .rows) t (rd .term) ys kind)))) 2 (omega arith)
 
   ----------------------------------------------------------------
   -- One part: inl, inr, roll
@@ -141,8 +147,8 @@ module _ {code heap slots : List ℕ} {st : Machine} {b : View} {q t room : ℕ}
         unwrap-ready = rw qu (owing-none (part rd (secondIn code t) (b .len) wrap-part (scoped-wrap rd w)))
 
         pub unwrap-done : {heap₁ slots₁ : List ℕ} {r : Outcome} → Ran 0 heap heap₁ slots slots₁ st b r (runOf code heap st b q u (valueAt heap x) (room - 1))
-            → Ran 1 heap heap₁ slots slots₁ st b r step
-        unwrap-done d = slack (says d (λ ys. ap (λ u. go ys (stateOf heap b) u (valueAt heap x) (st .fuel)) qu ∙ sym (step-same ys))) 1 (omega arith)
+            → Ran 2 heap heap₁ slots slots₁ st b r step
+        unwrap-done d = slack (says d (λ ys. ap (λ u. go ys (stateOf heap b) u (valueAt heap x) (st .fuel)) qu ∙ sym (step-same ys))) 2 (omega arith)
 
     -- it is of another
     step-differs : ¬ (nodeKind heap node ≡ kind) → (ys : List TypeEntry) → step ys ≡ refusalOf (mismatch kind (nodeKind heap node) t)
@@ -159,21 +165,21 @@ module _ {code heap slots : List ℕ} {st : Machine} {b : View} {q t room : ℕ}
         (λ e. n (e ∙ sym (z .1))))) y) w
 
     pub unwrap-differs : {found : ℕ} → found ≡ nodeKind heap node → ¬ (found ≡ kind) → {why : Refusal} → why ≡ mismatch kind found t
-        → (r : Outcome) → r .status ≡ Refused why → r .state ≡ st → Ran 1 heap heap slots slots st b r step
+        → (r : Outcome) → r .status ≡ Refused why → r .state ≡ st → Ran 2 heap heap slots slots st b r step
     unwrap-differs {found} f n {why} m r s e =
         slack (refuses r (rd .machine .graph) s e (λ ys. step-differs (λ z. n (f ∙ z)) ys ∙ ap (λ k. refusalOf (mismatch kind k t)) (sym f)
-        ∙ ap refusalOf (sym m))) 1 (omega arith)
+        ∙ ap refusalOf (sym m))) 2 (omega arith)
 
   ----------------------------------------------------------------
   -- Pair
 
   module _ (kind : kindIn code t ≡ 4) where
     pub pair-stuck : {found : ℕ} → found ≡ nodeKind heap node → ¬ (found ≡ 3) → (r : Outcome) → r .status ≡ Refused Stuck → r .state ≡ st
-        → Ran 1 heap heap slots slots st b r step
+        → Ran 2 heap heap slots slots st b r step
     unfolding backwardStep valueAt valueWithin refusalOf
     pair-stuck f n r s e =
         slack (refuses r (rd .machine .graph) s e (λ ys. stepped ys (tree-pair (rd .machine .rows) t (rd .term) ys kind)
-        ∙ no-pair (nodeKind heap node) _ _ _ (st .fuel) (λ z. n (f ∙ z)))) 1 (omega arith)
+        ∙ no-pair (nodeKind heap node) _ _ _ (st .fuel) (λ z. n (f ∙ z)))) 2 (omega arith)
 
     module _ (here : nodeKind heap node ≡ 3) {x y : ℕ} (qx : x ≡ leftAt heap node) (qy : y ≡ rightAt heap node) where
       pub pair-nodes : (x < st .top) × (y < st .top)
@@ -202,36 +208,36 @@ module _ {code heap slots : List ℕ} {st : Machine} {b : View} {q t room : ℕ}
         pair-first = rw qu (owing-none (part rd (firstIn code t) (b .len) (parts-pair (rd .machine .rows) t (rd .term) kind .0) (scoped-pair rd kind .0)))
 
         module _ {heap₁ slots₁ : List ℕ} {r : Outcome} (d : Ran 0 heap heap₁ slots slots₁ st b r (runOf code heap st b q u (valueAt heap x) (room - 1))) where
-          pub pair-refused : {why : Refusal} → r .status ≡ Refused why → Ran 1 heap heap₁ slots slots₁ st b r step
-          pair-refused s = slack (part-refused d second-part s step-pair) 1 (omega arith)
+          pub pair-refused : {why : Refusal} → r .status ≡ Refused why → Ran 2 heap heap₁ slots slots₁ st b r step
+          pair-refused s = slack (part-refused d second-part s step-pair) 2 (omega arith)
 
           module _ (s : r .status ≡ Done) where
             pub pair-second : Ready 0 0 code heap₁ slots₁ (r .state) (r .bindings) q (r .bindings .len) u′ (room - 1)
             pair-second = in-scope (r .bindings .len) (sym (d .follows s .len))
                 (rw qu′ (owing-none (later (part rd (secondIn code t) (b .len) (parts-pair (rd .machine .rows) t (rd .term) kind .1)
-                (scoped-pair rd kind .1)) (d .moves) (d .follows s))))
+                (scoped-pair rd kind .1)) (d .moves) (d .follows s) 2 (omega arith))))
 
             pub pair-done : {heap₂ slots₂ : List ℕ} {r₂ : Outcome}
                 → Ran 0 heap₁ heap₂ slots₁ slots₂ (r .state) (r .bindings) r₂ (runOf code heap₁ (r .state) (r .bindings) q u′ (valueAt heap₁ y) (room - 1))
-                → Ran 1 heap heap₂ slots slots₂ st b r₂ step
+                → Ran 2 heap heap₂ slots slots₂ st b r₂ step
             pair-done d₂ =
                 slack (part-done d second-part s step-pair (says d₂ (λ ys.
                 ap₂ (λ a v. backward fits (programIn code ys) (room - 1) a (stateOf heap₁ (r .bindings)) (treeIn code ys u′) v (r .state .fuel))
                 (sym (ancillae-after rd (d .moves) (d .follows s)))
-                (sym (value-kept heap heap₁ (st .top) (rd .machine .graph .right) (d .moves .agree) y (pair-nodes .1)))))) 1 (omega arith)
+                (sym (value-kept heap heap₁ (st .top) (rd .machine .graph .right) (d .moves .agree) y (pair-nodes .1)))))) 2 (omega arith)
 
   ----------------------------------------------------------------
   -- Unroll
 
   module _ (kind : kindIn code t ≡ 10) {u : ℕ} (qu : u ≡ secondIn code t) where
     pub unroll-ready : Ready 1 0 code heap slots st b q (b .len) u (room - 1)
-    unroll-ready = rw qu (part rd (secondIn code t) (b .len) (part-unroll (rd .machine .rows) t (rd .term) kind) (scoped-unroll rd kind))
+    unroll-ready = rw qu (owing 1 (omega arith) (part rd (secondIn code t) (b .len) (part-unroll (rd .machine .rows) t (rd .term) kind) (scoped-unroll rd kind)))
 
     pub unroll-done : {heap₁ slots₁ : List ℕ} {r : Outcome} → Ran 1 heap heap₁ slots slots₁ st b r (runOf code heap st b q u (ofKind 4 value value) (room - 1))
-        → Ran 1 heap heap₁ slots slots₁ st b r step
+        → Ran 2 heap heap₁ slots slots₁ st b r step
     unfolding backwardStep ofKind
-    unroll-done d = says d (λ ys. ap (λ u. go ys (stateOf heap b) u (roll value) (st .fuel)) qu
-        ∙ sym (stepped ys (tree-unroll (rd .machine .rows) t (rd .term) ys kind)))
+    unroll-done d = slack (says d (λ ys. ap (λ u. go ys (stateOf heap b) u (roll value) (st .fuel)) qu
+        ∙ sym (stepped ys (tree-unroll (rd .machine .rows) t (rd .term) ys kind)))) 2 (omega arith)
 
 pub roll-single : Single 4
 roll-single = right (right refl)

@@ -23,8 +23,8 @@ use Rattle.backward.specs.declared.start.Input.{Input}
 -- Arguments
 
 -- `k` arguments, all known
-pub record Collected (args : View) (k top : ℕ) : Type 0 where
-  pub binds : Binds args k top
+pub record Collected (heap : List ℕ) (args : View) (k top : ℕ) : Type 0 where
+  pub binds : Binds heap args k top
   pub all : args .len ≡ k
 
 -- `next` with the values of the arguments, the newest first; or the refusal
@@ -63,7 +63,7 @@ argumentsOf code heap st b q t room count ys next =
 
 pub record Arguments (code heap heap′ slots slots′ : List ℕ) (st : Machine) (b : View) (q t room count : ℕ) (out : Outcome) : Type 0 where
   pub moves : Moves 0 heap heap′ slots slots′ st (out .state)
-  pub collected : out .status ≡ Done → Collected (out .bindings) count (out .state .top)
+  pub collected : out .status ≡ Done → Collected heap′ (out .bindings) count (out .state .top)
   pub answer : (ys : List TypeEntry) (next : List Val → Run State)
       → argumentsOf code heap st b q t room count ys next ≡ gatheredOf heap′ (out .bindings) count (out .state .fuel) (out .status) next
 
@@ -74,7 +74,7 @@ pub record Arguments (code heap heap′ slots slots′ : List ℕ) (st : Machine
 pub record Starts (code heap slots : List ℕ) (st : Machine) (args : View) (q g node room : ℕ) : Type 0 where
   pub machine : Held 0 code heap slots st room
   pub function : g < functionCount code
-  pub arguments : Collected args q (st .top)
+  pub arguments : Collected heap args q (st .top)
   pub parameters : q + 1 ≡ parametersIn code g
   pub value : node < st .top
 

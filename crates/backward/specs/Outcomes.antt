@@ -9,7 +9,7 @@ use package.Rattle.rules.specs.Val.{Val}
 use package.Rattle.rules.specs.Run.{Res, ok, stop, stuck, Run}
 use package.Rattle.rules.specs.Machine.{State}
 use package.Rattle.values.specs.Nodes.{valueAt}
-use package.Rattle.scopes.specs.Slots.{unknown, Machine, Scope}
+use package.Rattle.scopes.specs.Slots.{Machine, Scope, found, nodeOr}
 use package.Rattle.scopes.specs.Bindings.{View, viewOf, stateOf}
 use package.Rattle.forward.specs.Outcomes.{stopped, refusalIn}
 use package.Rattle.forward.specs.declared.outcomes.Refusal.{Refusal as Carried}
@@ -100,10 +100,6 @@ mismatch kind found t = elim (eqb kind 1) [
   | false ↦ elim (eqb kind 2) [ true ↦ against 1 found t | false ↦ Stuck ]
 ]
 
--- The node of a variable that leaves the scope: node 0 is the unit, which a variable never met is.
-unfoldable pub nodeOr : ℕ → ℕ
-nodeOr node = elim (eqb node unknown) [ true ↦ 0 | false ↦ node ]
-
 -- the outcome of a run in the scope with one variable more, which then leaves it
-abbrev pub innerOf : ℕ → List ℕ → Machine → Scope → Inner
-innerOf s slots m sc = record { out = outcomeOf s slots m sc; newest = nodeOr (getD slots (sc .base + sc .n) 0) }
+abbrev pub innerOf : List ℕ → ℕ → List ℕ → Machine → Scope → Inner
+innerOf heap s slots m sc = record { out = outcomeOf s slots m sc; newest = nodeOr (found heap (getD slots (sc .base + sc .n) 0)) }

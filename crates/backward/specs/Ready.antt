@@ -1,5 +1,5 @@
 -- What backward evaluation asks for, and what it ensures. A run has the value graph up to `top` and fuel; what is bound is a view of the
--- scope's slots and the binding state, of which the first `q` variables are the ancilla parameters. The last two sections tie views to the
+-- scope's slots, which are an index of the binding state and of which the first `q` variables are the ancilla parameters. The last two sections tie views to the
 -- slots and the state that the code has, and both to the numbers that it is lent. Laws: proofs/Runs; proofs/Frames of the last sections.
 use Prim.Native.Nat.{ℕ, _+_, _*_, _-_, _≤_, _<_}
 use mathlib.Core.Path.{_≡_}
@@ -14,43 +14,43 @@ use package.Rattle.rules.specs.Machine.{State, leave, forward, backwardStep, ba
 use package.Rattle.calls.specs.Entries.{TypeEntry}
 use package.Rattle.decoded.specs.Rows.{termCount, treeIn, programIn, Rows}
 use package.Rattle.values.specs.Nodes.{nodeBytes, ofKind, valueAt, Agree, kindAt as nodeKind}
-use package.Rattle.scopes.specs.Slots.{unknown, slotCount, stateCount, Machine, Scope, machineOf, slotsOf, scopeIn, Slots}
-use package.Rattle.scopes.specs.Bindings.{View, stateOf, Bound, Left, Tells, MeetsAt}
+use package.Rattle.scopes.specs.Slots.{unknown, slotCount, stateCount, Machine, Scope, machineOf, slotsOf, scopeIn, found, nodeOr, Slot, Slots}
+use package.Rattle.scopes.specs.Cells.{cellCount}
+use package.Rattle.scopes.specs.Bindings.{View, stateOf, Bound, Left, Tells, seen, Looks, MeetsAt}
 use package.Rattle.scopes.specs.declared.bindings.Bindings.{Bindings}
 use package.Rattle.yields.specs.Yields.{ancillaeAt}
 use package.Rattle.forward.specs.Ready.{Graph}
-use package.Rattle.forward.specs.Outcomes.{stopped}
 use package.Rattle.backward.specs.Scoped.{ScopedAt, Bodies}
-use package.Rattle.backward.specs.Outcomes.{Done, Refused, Outcome, Inner, statusOf, scopeView, outcomeOf, innerOf, meaning, leftWith, nodeOr}
+use package.Rattle.backward.specs.Outcomes.{Done, Refused, Outcome, Inner, statusOf, scopeView, outcomeOf, innerOf, meaning, leftWith}
 use Rattle.backward.specs.declared.outcomes.Refusal.the-variants.{NoInput, Stuck}
 use Rattle.backward.specs.declared.outcomes.Out.{Out}
 
 ----------------------------------------------------------------
 -- Before
 
--- The program, the value graph and the lent slots: node 0 is the unit, for variables that are never met; there is room for a node for each
--- unit of fuel and `k` nodes more, and in the slots for the variables of heights up to `room`. Every node is an answer.
+-- The program, the value graph and the lent slots: node 0 is the unit, for variables that are never met; there is room for two nodes, of which
+-- one may be a cell, for each unit of fuel, and `k` more; and in the slots for the variables of heights up to `room`.
 pub record Held (k : ℕ) (code heap slots : List ℕ) (st : Machine) (room : ℕ) : Type 0 where
   pub rows : Rows code
   pub bodies : Bodies code
   pub graph : Graph heap (st .top)
   pub some : 0 < st .top
   pub unit-there : valueAt heap 0 ≡ unit
-  pub nodes : nodeBytes * (st .top + st .fuel + k) ≤ length heap
-  pub small : st .top + st .fuel + k ≤ stopped
+  pub nodes : nodeBytes * (st .top + 2 * st .fuel + k) ≤ length heap
+  pub small : st .top + 2 * st .fuel + k ≤ cellCount
   pub variables : 8 * room ≤ length slots
   pub all : length slots ≡ slotCount
 
--- the binding state holds nodes of the graph, and knows the ancilla parameters
-pub record Binds (b : View) (q top : ℕ) : Type 0 where
-  pub bound : Bound b top
+-- the view of a scope holds nodes and cells of the graph, and of the ancilla parameters nodes
+pub record Binds (heap : List ℕ) (b : View) (q top : ℕ) : Type 0 where
+  pub bound : Bound heap b top
   pub within : q ≤ b .len
   pub ancillae : (i : ℕ) → i < q → getD (b .slots) i 0 < top
 
 -- Term `t` can be run with these bindings and `n` variables in scope, with height `room` left, at least `h`.
 pub record Ready (k h : ℕ) (code heap slots : List ℕ) (st : Machine) (b : View) (q n t room : ℕ) : Type 0 where
   pub machine : Held k code heap slots st room
-  pub binds : Binds b q (st .top)
+  pub binds : Binds heap b q (st .top)
   pub term : t < termCount code
   pub scoped : ScopedAt code n t
   pub tall : h ≤ room
@@ -59,42 +59,42 @@ pub record Ready (k h : ℕ) (code heap slots : List ℕ) (st : Machine) (b : Vi
 -- After
 
 -- The bindings `b′` came from `b`: as many variables, and what was known stays.
-pub record Follows (b b′ : View) (top : ℕ) : Type 0 where
-  pub bound : Bound b′ top
+pub record Follows (heap : List ℕ) (b b′ : View) (top : ℕ) : Type 0 where
+  pub bound : Bound heap b′ top
   pub len : b′ .len ≡ b .len
   pub kept : (i : ℕ) → i < b .len → (getD (b .slots) i 0 ≡ unknown → ⊥) → getD (b′ .slots) i 0 ≡ getD (b .slots) i 0
 
--- Older nodes are as they were, and at most `k` nodes more were made than fuel was taken.
+-- Older nodes are as they were, and at most `k` more were made than two for each unit of fuel that was taken.
 pub record Moves (k : ℕ) (heap heap′ slots slots′ : List ℕ) (st st′ : Machine) : Type 0 where
   pub agree : Agree (st .top) heap heap′
   pub graph : Graph heap′ (st′ .top)
   pub lengths : length slots ≡ length slots′
   pub grows : st .top ≤ st′ .top
   pub spends : st′ .fuel ≤ st .fuel
-  pub owes : st′ .top + st′ .fuel ≤ st .top + st .fuel + k
+  pub owes : st′ .top + 2 * st′ .fuel ≤ st .top + 2 * st .fuel + k
 
 -- A run whose meaning is `res`, whatever the type entries are.
 pub record Ran (k : ℕ) (heap heap′ slots slots′ : List ℕ) (st : Machine) (b : View) (out : Outcome) (res : List TypeEntry → Res State) : Type 0 where
   pub moves : Moves k heap heap′ slots slots′ st (out .state)
-  pub follows : out .status ≡ Done → Follows b (out .bindings) (out .state .top)
+  pub follows : out .status ≡ Done → Follows heap′ b (out .bindings) (out .state .top)
   pub answer : (ys : List TypeEntry) → meaning heap′ out ≡ res ys
 
 -- A step that makes no node and runs no part.
 pub record Stays (heap : List ℕ) (st : Machine) (b : View) (out : Outcome) (res : Res State) : Type 0 where
   pub state : out .state ≡ st
-  pub follows : out .status ≡ Done → Follows b (out .bindings) (st .top)
+  pub follows : out .status ≡ Done → Follows heap b (out .bindings) (st .top)
   pub answer : meaning heap out ≡ res
 
 -- The newest variable leaves the scope, with a node in any case.
-pub record Goes (b : View) (r : Left) : Type 0 where
-  pub newest : r .newest ≡ nodeOr (getD (b .slots) (b .len - 1) 0)
+pub record Goes (heap : List ℕ) (b : View) (r : Left) : Type 0 where
+  pub newest : r .newest ≡ nodeOr (found heap (getD (b .slots) (b .len - 1) 0))
   pub slots : r .state .slots ≡ b .slots
   pub len : r .state .len ≡ b .len - 1
 
 -- The run `res` of a term in the scope with one variable more, and the variable left it with the node `newest`: goes on with both.
-pub record RanUnder (heap heap′ slots slots′ : List ℕ) (st : Machine) (b : View) (r : Inner) (res : List TypeEntry → Res State) : Type 0 where
-  pub moves : Moves 0 heap heap′ slots slots′ st (r .out .state)
-  pub follows : r .out .status ≡ Done → Follows b (r .out .bindings) (r .out .state .top)
+pub record RanUnder (k : ℕ) (heap heap′ slots slots′ : List ℕ) (st : Machine) (b : View) (r : Inner) (res : List TypeEntry → Res State) : Type 0 where
+  pub moves : Moves k heap heap′ slots slots′ st (r .out .state)
+  pub follows : r .out .status ≡ Done → Follows heap′ b (r .out .bindings) (r .out .state .top)
   pub there : r .out .status ≡ Done → r .newest < r .out .state .top
   pub answer : (ys : List TypeEntry) (next : Val → State → Run State) → after (res ys) (λ σ. leave σ next)
       ≡ leftWith heap′ (r .out .bindings) (r .newest) (r .out .state .fuel) (r .out .status) next
@@ -129,27 +129,28 @@ stepOf code heap st b q t v room ys =
 -- `s` variables from there on.
 pub record Prepared (k h : ℕ) (code heap slots : List ℕ) (m : Machine) (b : Bindings) (sc : Scope) (s t room : ℕ) : Type 0 where
   pub ready : Ready k h code heap slots m (scopeView slots sc) (sc .q) s t room
-  pub tells : Tells slots b (sc .base) (sc .n)
-  pub older : Slots slots (sc .base) (m .top)
+  pub tells : Tells heap slots b (sc .base) (sc .q) (sc .n) (m .top)
+  pub older : Slots heap slots (sc .base) (m .top)
   pub space : sc .base + s + 8 * room ≤ slotCount
 
 -- A run in a scope, which leaves the slots below as they were.
 pub record Gone (k : ℕ) (heap heap′ slots slots′ : List ℕ) (m m′ : Machine) (sc : Scope) (r : Out) (res : List TypeEntry → Res State) : Type 0 where
   pub ran : Ran k heap heap′ slots slots′ m (scopeView slots sc) (outcomeOf (r .stop) slots′ m′ sc) res
   pub below : (j : ℕ) → j < sc .base → getD slots j 0 ≡ getD slots′ j 0
-  pub tells : r .stop ≡ 0 → Tells slots′ (r .state) (sc .base) (sc .n)
+  pub tells : r .stop ≡ 0 → Tells heap′ slots′ (r .state) (sc .base) (sc .q) (sc .n) (m′ .top)
 
 -- The same in the scope with one variable more, which is there to leave it.
 pub record GoneUnder (heap heap′ slots slots′ : List ℕ) (m m′ : Machine) (sc : Scope) (r : Out) (res : List TypeEntry → Res State) : Type 0 where
-  pub ran : RanUnder heap heap′ slots slots′ m (scopeView slots sc) (innerOf (r .stop) slots′ m′ sc) res
+  pub ran : RanUnder 0 heap heap′ slots slots′ m (scopeView slots sc) (innerOf heap′ (r .stop) slots′ m′ sc) res
+  pub slot : r .stop ≡ 0 → Slot heap′ (getD slots′ (sc .base + sc .n) 0) (m′ .top)
   pub below : (j : ℕ) → j < sc .base → getD slots j 0 ≡ getD slots′ j 0
-  pub tells : r .stop ≡ 0 → Tells slots′ (r .state) (sc .base) (sc .n + 1)
+  pub tells : r .stop ≡ 0 → Tells heap′ slots′ (r .state) (sc .base) (sc .q) (sc .n + 1) (m′ .top)
 
--- The newest variable, the one above scope `sc`, can leave.
-pub record Leavable (slots : List ℕ) (b : Bindings) (sc : Scope) : Type 0 where
-  pub few : sc .n < 32
+-- The newest variable, the one above scope `sc`, can be looked up, and its slot says what the state says.
+pub record Leavable (heap slots : List ℕ) (b : Bindings) (sc : Scope) (top : ℕ) : Type 0 where
   pub there : sc .base + sc .n < slotCount
-  pub tells : Tells slots b (sc .base) (sc .n + 1)
+  pub looks : Looks heap b (getD slots (sc .base + sc .n) 0) top
+  pub told : seen heap b (getD slots (sc .base + sc .n) 0) ≡ found heap (getD slots (sc .base + sc .n) 0)
 
 -- what is run, by the slots of a scope
 abbrev pub runAt : (code heap slots : List ℕ) → Machine → Scope → ℕ → Val → ℕ → List TypeEntry → Res State
@@ -194,7 +195,7 @@ RunsPair code heap heap′ st st′ scope t left right room r = RunsOver code he
 
 pub record StepsBack (code heap heap′ st st′ : List ℕ) (scope t node room : ℕ) (r : Out) : Type 0 where
   pub lengths : length st′ ≡ length st
-  pub gone : GoneIn 1 heap heap′ st st′ scope r (stepAt code heap (slotsOf st) (machineOf st) (scopeIn scope) t (valueAt heap node) room)
+  pub gone : GoneIn 2 heap heap′ st st′ scope r (stepAt code heap (slotsOf st) (machineOf st) (scopeIn scope) t (valueAt heap node) room)
 
 pub record RunsUnder (code heap heap′ st st′ : List ℕ) (scope t node room : ℕ) (r : Out) : Type 0 where
   pub lengths : length st′ ≡ length st
@@ -202,8 +203,8 @@ pub record RunsUnder (code heap heap′ st st′ : List ℕ) (scope t node room 
       (underAt code heap (slotsOf st) (machineOf st) (scopeIn scope) t (valueAt heap node) room)
 
 -- Variable `i` was met at term `t`: 16 where the values differ.
-pub record Variable (heap st st′ : List ℕ) (b : Bindings) (base i node t : ℕ) (r : Out) : Type 0 where
-  pub met : MeetsAt heap st st′ b base i node (record { agrees = eqb (r .stop) 0; state = r .state })
+pub record Variable (heap heap′ st st′ : List ℕ) (b : Bindings) (base i node t : ℕ) (r : Out) : Type 0 where
+  pub met : MeetsAt heap heap′ st st′ b base i node (record { agrees = eqb (r .stop) 0; state = r .state })
   pub differs : (r .stop ≡ 0 → ⊥) → statusOf (r .stop) ≡ Refused (NoInput t)
 
 -- The unit was met with a value.

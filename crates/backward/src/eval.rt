@@ -143,7 +143,7 @@ fn unwrap(
     room: u16,
     kind: u8,
 ) -> Out
-    requires { ⌜ PreparedIn 1 1 (now code) (now ws) (now st) b scope t room ⌝ }
+    requires { ⌜ PreparedIn 2 1 (now code) (now ws) (now st) b scope t room ⌝ }
     requires { ⌜ (node < machineOf (now st) .top) × Wraps (kindIn (now code) t) kind ⌝ }
     ensures { λ r. ⌜ StepsBack (now (code .entry)) (now (ws .entry)) (now (ws .exit)) (now (st .entry)) (now (st .exit)) scope t node room r ⌝ }
 {
@@ -167,7 +167,7 @@ fn pair(
     node: u32,
     room: u16,
 ) -> Out
-    requires { ⌜ PreparedIn 1 1 (now code) (now ws) (now st) b scope t room ⌝ }
+    requires { ⌜ PreparedIn 2 1 (now code) (now ws) (now st) b scope t room ⌝ }
     requires { ⌜ (node < machineOf (now st) .top) × (kindIn (now code) t ≡ 4) ⌝ }
     ensures { λ r. ⌜ StepsBack (now (code .entry)) (now (ws .entry)) (now (ws .exit)) (now (st .entry)) (now (st .exit)) scope t node room r ⌝ }
 {
@@ -199,7 +199,7 @@ fn let_one(
     node: u32,
     room: u16,
 ) -> Out
-    requires { ⌜ PreparedIn 1 1 (now code) (now ws) (now st) b scope t room ⌝ }
+    requires { ⌜ PreparedIn 2 1 (now code) (now ws) (now st) b scope t room ⌝ }
     requires { ⌜ (node < machineOf (now st) .top) × (kindIn (now code) t ≡ 5) ⌝ }
     ensures { λ r. ⌜ StepsBack (now (code .entry)) (now (ws .entry)) (now (ws .exit)) (now (st .entry)) (now (st .exit)) scope t node room r ⌝ }
 {
@@ -211,8 +211,8 @@ fn let_one(
     if r.stop != 0 {
         return r;
     }
-    let x = outcomes::leave(st, inner, scope);
-    let c = outcomes::outer(inner, scope);
+    let x = outcomes::leave(ws, st, inner, scope);
+    let c = outcomes::outer(ws, st, inner, scope);
     back(code, ws, st, c, scope, bound, x, h)
 }
 
@@ -227,7 +227,7 @@ fn let_two(
     node: u32,
     room: u16,
 ) -> Out
-    requires { ⌜ PreparedIn 1 1 (now code) (now ws) (now st) b scope t room ⌝ }
+    requires { ⌜ PreparedIn 2 1 (now code) (now ws) (now st) b scope t room ⌝ }
     requires { ⌜ (node < machineOf (now st) .top) × (kindIn (now code) t ≡ 6) ⌝ }
     ensures { λ r. ⌜ StepsBack (now (code .entry)) (now (ws .entry)) (now (ws .exit)) (now (st .entry)) (now (st .exit)) scope t node room r ⌝ }
 {
@@ -241,10 +241,9 @@ fn let_two(
     if r.stop != 0 {
         return r;
     }
-    let y = outcomes::leave(st, inner, wide);
-    let one = outcomes::outer(inner, wide);
-    let x = outcomes::leave(st, one, scope);
-    let c = outcomes::outer(one, scope);
+    let y = outcomes::leave(ws, st, inner, wide);
+    let x = outcomes::leave(ws, st, inner, scope);
+    let c = outcomes::outer(ws, st, inner, scope);
     over_pair(code, ws, st, c, scope, bound, x, y, h)
 }
 
@@ -259,7 +258,7 @@ fn choose(
     node: u32,
     room: u16,
 ) -> Out
-    requires { ⌜ PreparedIn 1 1 (now code) (now ws) (now st) b scope t room ⌝ }
+    requires { ⌜ PreparedIn 2 1 (now code) (now ws) (now st) b scope t room ⌝ }
     requires { ⌜ (node < machineOf (now st) .top) × (kindIn (now code) t ≡ 7) ⌝ }
     ensures { λ r. ⌜ StepsBack (now (code .entry)) (now (ws .entry)) (now (ws .exit)) (now (st .entry)) (now (st .exit)) scope t node room r ⌝ }
 {
@@ -274,8 +273,8 @@ fn choose(
     if r.stop != 0 {
         return r;
     }
-    let x = outcomes::leave(st, inner, scope);
-    let c = outcomes::outer(inner, scope);
+    let x = outcomes::leave(ws, st, inner, scope);
+    let c = outcomes::outer(ws, st, inner, scope);
     over(code, ws, st, c, scope, sum, x, h, side)
 }
 
@@ -290,7 +289,7 @@ fn call(
     node: u32,
     room: u16,
 ) -> Out
-    requires { ⌜ PreparedIn 1 1 (now code) (now ws) (now st) b scope t room ⌝ }
+    requires { ⌜ PreparedIn 2 1 (now code) (now ws) (now st) b scope t room ⌝ }
     requires { ⌜ (node < machineOf (now st) .top) × (kindIn (now code) t ≡ 8) ⌝ }
     ensures { λ r. ⌜ StepsBack (now (code .entry)) (now (ws .entry)) (now (ws .exit)) (now (st .entry)) (now (st .exit)) scope t node room r ⌝ }
 {
@@ -300,7 +299,7 @@ fn call(
         return Out { stop, state: b };
     }
     let body = rows::body_of(code, rows::first_of(code, t));
-    let args = Bindings::first(k as u8);
+    let args = Bindings::none();
     let callee = state::scope(state::end_of(scope), k, k);
     let h = room - 1;
     let r = under(code, ws, st, args, callee, body, node, h);
@@ -308,7 +307,7 @@ fn call(
     if r.stop != 0 {
         return r;
     }
-    let x = outcomes::leave(st, inner, callee);
+    let x = outcomes::leave(ws, st, inner, callee);
     let dynamic = rows::argument_of(code, t, k);
     back(code, ws, st, b, scope, dynamic, x, h)
 }
@@ -323,7 +322,7 @@ fn unroll(
     node: u32,
     room: u16,
 ) -> Out
-    requires { ⌜ PreparedIn 1 1 (now code) (now ws) (now st) b scope t room ⌝ }
+    requires { ⌜ PreparedIn 2 1 (now code) (now ws) (now st) b scope t room ⌝ }
     requires { ⌜ (node < machineOf (now st) .top) × (kindIn (now code) t ≡ 10) ⌝ }
     ensures { λ r. ⌜ StepsBack (now (code .entry)) (now (ws .entry)) (now (ws .exit)) (now (st .entry)) (now (st .exit)) scope t node room r ⌝ }
 {

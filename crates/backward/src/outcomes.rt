@@ -9,20 +9,18 @@ use forward::outcomes::PLACE;
 use forward::outcomes::STOPPED;
 use forward::outcomes::STUCK;
 use scopes::bindings::Bindings;
-use scopes::slots;
 use scopes::state;
 use scopes::state::STATE;
 ghost use mathlib.Core.Path.{_≡_};
 ghost use mathlib.Core.Bool.{cond};
 ghost use Prim.Native.Nat.{_+_, _≤_, _<_};
-ghost use lib.ListN.{length, getD};
-ghost use Rattle.uses.specs.Sets.{has, Holds, below};
+ghost use lib.ListN.{getD};
 ghost use Rattle.decoded.specs.Rows.{firstIn, secondIn, thirdIn};
-ghost use Rattle.values.specs.Nodes.{Heap, Room};
-ghost use Rattle.scopes.specs.Slots.{stateCount, machineOf, slotsOf, scopeIn};
-ghost use Rattle.scopes.specs.Bindings.{Meetable};
+ghost use Rattle.values.specs.Nodes.{Room};
+ghost use Rattle.scopes.specs.Slots.{unknown, machineOf, slotsOf, scopeIn, found, nodeOr};
+ghost use Rattle.scopes.specs.Bindings.{CellReady, Adds, Meetable};
 ghost use Rattle.forward.specs.Outcomes.{refusalIn};
-ghost use Rattle.backward.specs.Outcomes.{Refused, carried, whyOf, statusOf, tooLong, against, mismatch, nodeOr};
+ghost use Rattle.backward.specs.Outcomes.{Refused, carried, whyOf, statusOf, tooLong, against, mismatch};
 ghost use Rattle.backward.specs.Ready.{Variable, UnitMet, Leavable};
 
 // Refusals 12 to 16 (section 4), each with its term; and a value of wrong shape, which no checked program meets.
@@ -127,22 +125,21 @@ fn clash(b: Bindings, other: u8, found: u8, t: u16) -> Out
 // A variable is met with the node's value: it is bound, or compared (16).
 pub fn variable(
     code: &[u16; CODE],
-    ws: &[u8],
+    ws: &mut [u8],
     st: &mut [u32; STATE],
     b: Bindings,
     scope: u64,
     t: u16,
     node: u32,
 ) -> Out
-    requires { ⌜ (length (now st) ≡ stateCount) × (t < 1024) ⌝ }
-    requires { ⌜ Heap (now ws) (machineOf (now st) .top) ⌝ }
-    requires { ⌜ Meetable (slotsOf (now st)) b (scopeIn scope .base) (firstIn (now code) t) (machineOf (now st) .top) ⌝ }
+    requires { ⌜ t < 1024 ⌝ }
+    requires { ⌜ Meetable (now ws) (now st) b (scopeIn scope .base) (firstIn (now code) t) ⌝ }
     requires { ⌜ node < machineOf (now st) .top ⌝ }
-    ensures { λ r. ⌜ Variable (now (ws .entry)) (now (st .entry)) (now (st .exit)) b (scopeIn scope .base) (firstIn (now (code .entry)) t) node t r ⌝ }
+    ensures { λ r. ⌜ Variable (now (ws .entry)) (now (ws .exit)) (now (st .entry)) (now (st .exit)) b (scopeIn scope .base) (firstIn (now (code .entry)) t) node t r ⌝ }
 {
     let i = rows::first_of(code, t);
     let base = state::base_in(scope);
-    let met = b.meet(st, base, i as u8, node, ws);
+    let met = b.meet(ws, st, base, i, node);
     let agrees = met.agrees;
     let c = met.state;
     if agrees {
@@ -163,25 +160,21 @@ pub fn unit(ws: &[u8], b: Bindings, node: u32, t: u16) -> Out
     refuse(b, STUCK, t)
 }
 
-// The newest variable of a scope, the one above `scope`, leaves it: its node, or node 0, the unit, if it was never met.
-pub fn leave(st: &[u32; STATE], b: Bindings, scope: u64) -> u32
-    requires { ⌜ Leavable (slotsOf (now st)) b (scopeIn scope) ⌝ }
-    ensures { λ r. ⌜ r ≡ nodeOr (getD (slotsOf (now (st .entry))) (scopeIn scope .base + scopeIn scope .n) 0) ⌝ }
+// The newest variable of a scope, the one above `scope`: its node, or node 0, the unit, if it was never met.
+pub fn leave(ws: &[u8], st: &[u32; STATE], b: Bindings, scope: u64) -> u32
+    requires { ⌜ Leavable (now ws) (slotsOf (now st)) b (scopeIn scope) (machineOf (now st) .top) ⌝ }
+    ensures { λ r. ⌜ r ≡ nodeOr (found (now (ws .entry)) (getD (slotsOf (now (st .entry))) (scopeIn scope .base + scopeIn scope .n) 0)) ⌝ }
 {
-    let n = state::count_in(scope);
-    if b.knows(n as u8) {
-        return slots::at(st, state::end_of(scope));
-    }
-    0
+    b.node_of(ws, st, state::end_of(scope))
 }
 
-// The state of the variables of `scope`, once the one above has left.
-pub fn outer(b: Bindings, scope: u64) -> Bindings
-    requires { ⌜ scopeIn scope .n < 32 ⌝ }
-    ensures { λ r. ⌜ Holds (r .bound) (below (scopeIn scope .n) (has (b .bound))) ⌝ }
+// The state of the variables of `scope`, once those above have left.
+pub fn outer(ws: &mut [u8], st: &mut [u32; STATE], b: Bindings, scope: u64) -> Bindings
+    requires { ⌜ CellReady (now ws) (now st) b (scopeIn scope .n) ⌝ }
+    ensures { λ r. ⌜ Adds (now (ws .entry)) (now (ws .exit)) (now (st .entry)) (now (st .exit)) b unknown (scopeIn scope .n) r ⌝ }
 {
     let n = state::count_in(scope);
-    b.left(n as u8)
+    b.left(ws, st, n as u16)
 }
 
 // The branch of case t that is run: the left exactly if it may yield the value (section 3).

@@ -28,7 +28,7 @@ pub fn run(
     ensures { λ r. ⌜ ReturnsIn (now (code .entry)) (now (ws .entry)) (now (ws .exit)) (now (st .entry)) (now (st .exit)) q g node room r ⌝ }
 {
     let body = rows::body_of(code, g);
-    let known = Bindings::first(q as u8);
+    let known = Bindings::none();
     let scope = state::scope(0, q, q);
     let r = eval::under(code, ws, st, known, scope, body, node, room);
     let stop = r.stop;
@@ -37,6 +37,6 @@ pub fn run(
     }
     Input {
         stop: 0,
-        node: outcomes::leave(st, r.state, scope),
+        node: outcomes::leave(ws, st, r.state, scope),
     }
 }

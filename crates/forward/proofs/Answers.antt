@@ -10,7 +10,7 @@ use Rattle.forward.specs.declared.outcomes.Refusal.the-variants.{Fuel, H
 use Rattle.forward.specs.declared.outcomes.Status.the-variants.{Value, Refused}
 
 -- no node has the number that marks a variable as not known
-pub below-mark : stopped < unknown
+pub below-mark : stopped ≤ unknown
 unfolding unknown
 below-mark = lit< tt
 

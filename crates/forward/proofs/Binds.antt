@@ -4,7 +4,7 @@ use native.Mathlib.Omega.{arith}
 use native.Mathlib.Numerals.{add-one}
 use mathlib.Core.Path.{_≡_, refl, sym, ap, ap₂, subst, _∙_}
 use mathlib.Core.Bool.{not}
-use mathlib.Core.Logic.{inr as right}
+use mathlib.Core.Logic.{inl as left, inr as right}
 use mathlib.Core.Option.{some}
 use mathlib.Core.List.{List, _∷_}
 use lib.ListN.{length, getD, set, length-set}
@@ -60,8 +60,8 @@ module _ {k v : ℕ} {code heap slots : List ℕ} {st : Machine} {sc : Scope} {t
     rows = rd .rows;
     term = rd .term;
     graph = rd .graph;
-    held = subst (λ n. Slots slots₁ n (st .top)) (let z : suc m ≡ sc .base + (sc .n + 1) = omega arith in z)
-        (rw e (slots-bind slots m (st .top) node (omega (arith, bind-room rd, rd .full)) (rd .held) (right low)));
+    held = subst (λ n. Slots heap slots₁ n (st .top)) (let z : suc m ≡ sc .base + (sc .n + 1) = omega arith in z)
+        (rw e (slots-bind heap slots m (st .top) node (omega (arith, bind-room rd, rd .full)) (rd .held) (right (left low))));
     ancillae = λ i h. rw (← bound-below (sc .base + i) (omega (arith, rd .within))) (rd .ancillae i h);
     within = omega (arith, rd .within);
     nodes = rd .nodes;
@@ -78,7 +78,7 @@ module _ {k v : ℕ} {code heap slots : List ℕ} {st : Machine} {sc : Scope} {t
   bound-state =
       ap₂ (λ (s : List ℕ) (n : ℕ). stateAt heap s (sc .base) n) e (add-one (sc .n))
       ∙ state-bind heap slots (sc .base) (sc .n) node (omega (arith, bind-room rd, rd .full))
-      ∙ ap (λ f. slotMeaning heap f ∷ stateOf heap slots sc) (found-node node (λ q. omega (arith, rd .small, below-mark)))
+      ∙ ap (λ f. slotMeaning heap f ∷ stateOf heap slots sc) (found-node heap node (omega (arith, rd .small, below-mark)))
 
   -- the term was run in that scope
   pub bound-done : {heap′ slots′ : List ℕ} {out : Out} → Ran 0 heap heap′ (sc .base + (sc .n + 1)) slots₁ slots′ st out

@@ -2,11 +2,9 @@
 use Prim.Native.Nat.{ℕ, _+_, _≤_, _<_}
 use native.Mathlib.Omega.{arith}
 use mathlib.Core.Path.{_≡_}
-use mathlib.Core.Logic.{⊎-elim, inl as left, inr as right}
 use mathlib.Core.List.{List}
-use package.Rattle.scopes.specs.Slots.{slotCount, Slots, Machine, Scope}
-use package.Rattle.forward.specs.Outcomes.{stopped}
-use package.Rattle.forward.specs.Ready.{Ready, Calls}
+use package.Rattle.scopes.specs.Slots.{slotCount, Machine, Scope}
+use package.Rattle.forward.specs.Ready.{Ready, Calls, ReadyIn, FindReady}
 use package.Rattle.decoded.proofs.Trees.{called-function}
 use package.Rattle.decoded.specs.Rows.{firstIn, kindIn}
 
@@ -18,15 +16,20 @@ module _ {k v : ℕ} {code heap slots : List ℕ} {st : Machine} {sc : Scope} {t
   pub scope-there : sc .base + sc .n ≤ slotCount
   scope-there = omega (arith, rd .variables, rd .full)
 
-  -- every node that a variable has is an answer
-  pub held-answers : Slots slots (sc .base + sc .n) stopped
-  held-answers = record { held = λ j h. ⊎-elim (λ e. left e) (λ l. right (omega (arith, rd .small))) (rd .held .held j h) }
-
   pub argument-read : {n count : ℕ} → Calls code t n count → (t < 1024) × (n ≤ 7)
   argument-read C = (row-read, omega (arith, C .next, C .ancillae, rd .rows .few t (rd .term) (C .kind)))
 
   pub body-read : (g : ℕ) → kindIn code t ≡ 8 → g ≡ firstIn code t → g < 64
   body-read g e q = omega (arith, called-function (rd .rows) t (rd .term) e, rd .rows .few-functions)
+
+-- a variable of the scope can be looked up
+pub find-ready : {k v : ℕ} {code heap st : List ℕ} {scope t room : ℕ} → ReadyIn k v code heap st scope t room → FindReady heap st scope
+find-ready rd = record {
+  there = scope-there (rd .ready);
+  graph = rd .ready .graph .right;
+  held = rd .ready .held;
+  small = omega (arith, rd .ready .small);
+}
 
 ----------------------------------------------------------------
 -- Small steps between bounds

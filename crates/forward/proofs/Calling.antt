@@ -3,7 +3,7 @@ use Prim.Native.Nat.{ℕ, _+_, _-_, _≤_, _<_}
 use native.Mathlib.Omega.{arith}
 use native.Mathlib.Decide.{decLt}
 use mathlib.Core.Path.{_≡_, sym, ap, ap₂, subst, _∙_}
-use mathlib.Core.Logic.{_⊎_, inr as right}
+use mathlib.Core.Logic.{inl as left, inr as right}
 use mathlib.Core.Option.{some}
 use mathlib.Core.List.{List, [], _∷_, map}
 use lib.ListN.{getD}
@@ -15,7 +15,7 @@ use package.Rattle.rules.specs.Machine.{runForward, onSome, forwardStep, forwar
 use package.Rattle.calls.specs.Entries.{TypeEntry}
 use package.Rattle.program.specs.Parts.{body}
 use package.Rattle.values.specs.Nodes.{valueAt}
-use package.Rattle.scopes.specs.Slots.{unknown, Machine, Scope}
+use package.Rattle.scopes.specs.Slots.{unknown, Machine, Scope, Slot}
 use package.Rattle.yields.specs.Yields.{Ancillae}
 use package.Rattle.forward.specs.Outcomes.{Out}
 use package.Rattle.forward.specs.Ready.{Ready, Ran, ancillaeOf, stateOf, runOf, stepOf, valuesAt, argumentsOf, Places, Calls}
@@ -86,10 +86,10 @@ module _ {code heap slots : List ℕ} {st : Machine} {sc : Scope} {t room : ℕ}
     called : g < functionCount code
     called = rw qg (called-function (rd .rows) t (rd .term) (C .kind))
 
-    held-all : (j : ℕ) → Dec (j < m) → j < m + (count + 1) → (getD slots₁ j 0 ≡ unknown) ⊎ (getD slots₁ j 0 < r₁ .state .top)
+    held-all : (j : ℕ) → Dec (j < m) → j < m + (count + 1) → Slot heap₁ (getD slots₁ j 0) (r₁ .state .top)
     held-all j (yes l) h = held-later rd (D .ran) .held j l
-    held-all j (no l) h = right (subst (λ j. getD slots₁ j 0 < r₁ .state .top) (let z : m + (j - m) ≡ j = omega arith in z)
-        (D .held n s (j - m) (omega arith) (omega arith)))
+    held-all j (no l) h = right (left (subst (λ j. getD slots₁ j 0 < r₁ .state .top) (let z : m + (j - m) ≡ j = omega arith in z)
+        (D .held n s (j - m) (omega arith) (omega arith))))
 
     pub call-ready : Ready 0 0 code heap₁ slots₁ (r₁ .state) (inner sc count) b (room - 1)
     call-ready = record {

@@ -1,5 +1,5 @@
 -- Laws of the steps that have no parts to evaluate: what a variable's slot says, what a roll holds, and the test of first match.
-use Prim.Native.Nat.{ℕ, zero, suc, _+_, _<_}
+use Prim.Native.Nat.{ℕ, zero, suc, _+_, _≤_, _<_}
 use native.Mathlib.Omega.{arith}
 use native.Mathlib.Decide.{decLt}
 use mathlib.Core.Path.{_≡_, refl, sym, ap, _∙_}
@@ -19,13 +19,13 @@ use package.Rattle.calls.specs.Entries.{TypeEntry}
 use package.Rattle.values.specs.Nodes.{kindAt, leftAt, Room, ofKind, valueWithin, valueAt}
 use package.Rattle.values.proofs.Heaps.{value-roll}
 use package.Rattle.scopes.specs.Slots.{unknown, slotAt, Slots, Machine, machineOf, scopeIn, slotsOf}
-use package.Rattle.scopes.proofs.Marks.{found-mark, found-node, slot-in, slot-out}
+use package.Rattle.scopes.proofs.Marks.{found-mark, found-below, slot-in, slot-out}
 use package.Rattle.scopes.specs.declared.slots.Found.{Found}
 use package.Rattle.scopes.specs.declared.slots.Found.the-variants.{Node, Unknown}
 use package.Rattle.yields.specs.Yields.{ancillaeIn, MayYield, Asks}
 use package.Rattle.forward.specs.Outcomes.{Out, stopped, statusOf, refusalOf, meaning, foundOut, Finds, outOf}
-use package.Rattle.forward.specs.Ready.{Graph, Unrolls, Unrolled, CheckReady, Checks}
-use package.Rattle.forward.proofs.Answers.{is-value}
+use package.Rattle.forward.specs.Ready.{Graph, FindReady, Unrolls, Unrolled, CheckReady, Checks}
+use package.Rattle.forward.proofs.Answers.{below-mark, is-value}
 use package.Rattle.forward.proofs.Runs.{meaning-value, meaning-refused, refusal-after}
 use package.Rattle.forward.proofs.Making.{test-true}
 use Rattle.forward.specs.declared.outcomes.Refusal.{Refusal}
@@ -39,22 +39,22 @@ use package.Rattle.decoded.specs.Rows.{secondIn, treeIn}
 -- Variables
 
 -- a variable's node is one of the graph's
-pub slot-node : (slots : List ℕ) (base n i top : ℕ) {node : ℕ} → Slots slots (base + n) top → slotAt slots base n i ≡ Node node → node < top
-slot-node slots base n i top {node} S e = go (decLt i n)
+pub slot-node : (heap slots : List ℕ) (base n i top : ℕ) {node : ℕ} → Slots heap slots (base + n) top → top ≤ unknown
+    → slotAt heap slots base n i ≡ Node node → node < top
+slot-node heap slots base n i top {node} S small e = go (decLt i n)
   where
-    none-there : slotAt slots base n i ≡ Unknown → node < top
+    none-there : slotAt heap slots base n i ≡ Unknown → node < top
     none-there q = let z : _≡_ {A = ℕ} 0 1 = cc in absurd (omega arith)
 
     there : i < n → (b : Bool) → eqb (getD slots (base + i) 0) unknown ≡ b → node < top
-    there l true q = none-there (slot-in slots base n i l ∙ found-mark _ (eqb-true _ unknown q))
-    there l false q =
-        let s : slotAt slots base n i ≡ Node (getD slots (base + i) 0) = slot-in slots base n i l ∙ found-node _ (eqb-false _ unknown q) in
-        let z : getD slots (base + i) 0 ≡ node = cc in
-        ⊎-elim (λ x. absurd (eqb-false _ unknown q x)) (λ below. rw (← z) below) (S .held (base + i) (omega arith))
+    there l true q = none-there (slot-in heap slots base n i l ∙ found-mark heap _ (eqb-true _ unknown q))
+    there l false q = found-below (S .held (base + i) (omega arith)) small (eqb-false _ unknown q) λ old low f.
+        let s : slotAt heap slots base n i ≡ Node old = slot-in heap slots base n i l ∙ f in
+        let z : old ≡ node = cc in rw (← z) low
 
     go : Dec (i < n) → node < top
     go (yes l) = there l (eqb (getD slots (base + i) 0) unknown) refl
-    go (no l) = none-there (slot-out slots base n i (omega arith))
+    go (no l) = none-there (slot-out heap slots base n i (omega arith))
 
 found-known : (st : Machine) {f : Found} {node : ℕ} → f ≡ Node node → record { status = Value node; state = st } ≡ foundOut f st
 unfolding foundOut
@@ -65,11 +65,12 @@ unfolding foundOut
 found-unknown st e = rw e
 
 -- the answer is the variable's node, or a refusal
-pub finds-node : (slots : List ℕ) (base n i : ℕ) {node : ℕ} → Slots slots (base + n) stopped → slotAt slots base n i ≡ Node node
-    → Finds node (slotAt slots base n i)
-finds-node slots base n i S e = record {
-  is = λ st. ap (λ s. record { status = s; state = st }) (is-value (slot-node slots base n i stopped S e)) ∙ found-known st e;
-}
+pub finds-node : {heap st : List ℕ} {scope : ℕ} (i : ℕ) → FindReady heap st scope → {node : ℕ}
+    → slotAt heap (slotsOf st) (scopeIn scope .base) (scopeIn scope .n) i ≡ Node node
+    → Finds node (slotAt heap (slotsOf st) (scopeIn scope .base) (scopeIn scope .n) i)
+finds-node {heap} {st} {scope} i R e =
+    let low = slot-node heap (slotsOf st) (scopeIn scope .base) (scopeIn scope .n) i (machineOf st .top) (R .held) (omega (arith, R .small, below-mark)) e in
+    record { is = λ m. ap (λ s. record { status = s; state = m }) (is-value (omega (arith, R .small))) ∙ found-known m e }
 
 pub finds-none : {f : Found} {r : ℕ} → f ≡ Unknown → statusOf r ≡ Refused Stuck → Finds r f
 finds-none e s = record { is = λ st. ap (λ s. record { status = s; state = st }) s ∙ found-unknown st e }

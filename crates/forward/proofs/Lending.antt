@@ -62,11 +62,11 @@ module _ {code heap st st₁ : List ℕ} {scope t room : ℕ} (rd : ReadyIn 0 0 
 
 -- steps without parts
 module _ {code heap st : List ℕ} {scope t room : ℕ} (rd : ReadyIn 1 0 code heap st scope t room) where
-  pub variable-step : {i r : ℕ} → kindIn code t ≡ 0 → i ≡ firstIn code t → Finds r (slotAt (slotsOf st) (scopeIn scope .base) (scopeIn scope .n) i)
+  pub variable-step : {i r : ℕ} → kindIn code t ≡ 0 → i ≡ firstIn code t → Finds r (slotAt heap (slotsOf st) (scopeIn scope .base) (scopeIn scope .n) i)
       → Steps code heap heap st st scope t room r
   variable-step {r = r} kind e F = record {
     lengths = refl;
-    ran = var-done (rd .ready) kind (outOf r st) (subst (λ i. Finds r (slotAt (slotsOf st) (scopeIn scope .base) (scopeIn scope .n) i)) e F .is (machineOf st));
+    ran = var-done (rd .ready) kind (outOf r st) (subst (λ i. Finds r (slotAt heap (slotsOf st) (scopeIn scope .base) (scopeIn scope .n) i)) e F .is (machineOf st));
   }
 
   pub unit-step : {heap′ st′ : List ℕ} {r : ℕ} → kindIn code t ≡ 1 → MakesIn heap heap′ st st′ r t unit → Steps code heap heap′ st st′ scope t room r

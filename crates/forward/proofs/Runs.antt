@@ -11,7 +11,9 @@ use package.Rattle.calls.specs.Entries.{TypeEntry}
 use package.Rattle.values.specs.Nodes.{valueAt}
 use package.Rattle.values.proofs.Places.{agree-refl, agree-trans, agree-down}
 use package.Rattle.scopes.specs.Slots.{Slots, Machine, Scope}
+use package.Rattle.scopes.proofs.Marks.{slot-later}
 use package.Rattle.scopes.proofs.Scopes.{state-same, state-kept}
+use package.Rattle.forward.proofs.Answers.{below-mark}
 use package.Rattle.yields.specs.Yields.{Ancillae}
 use package.Rattle.yields.proofs.Ancillae.{ancillae-same, ancillae-kept}
 use package.Rattle.forward.specs.Outcomes.{Out, refusalOf, answerOf, meaning}
@@ -171,10 +173,8 @@ module _ {k v : ℕ} {code heap slots : List ℕ} {st : Machine} {sc : Scope} {t
   }
 
   module _ {heap′ slots′ : List ℕ} {out : Out} {res : List TypeEntry → Res Val} (d : Ran 0 heap heap′ (sc .base + sc .n) slots slots′ st out res) where
-    pub held-later : Slots slots′ (sc .base + sc .n) (out .state .top)
-    held-later = record {
-      held = λ j h. rw (← d .below j h) (⊎-elim (λ e. left e) (λ l. right (omega (arith, d .grows))) (rd .held .held j h));
-    }
+    pub held-later : Slots heap′ slots′ (sc .base + sc .n) (out .state .top)
+    held-later = record { held = λ j h. rw (← d .below j h) (slot-later (d .agree) (out .state .top) (d .grows) (rd .held .held j h)) }
 
     pub later : Ready k v code heap′ slots′ (out .state) sc t room
     later = record {
@@ -198,7 +198,7 @@ module _ {k v : ℕ} {code heap slots : List ℕ} {st : Machine} {sc : Scope} {t
 
     pub state-later : stateOf heap slots sc ≡ stateOf heap′ slots′ sc
     state-later =
-        state-kept heap heap′ slots (sc .base) (sc .n) (st .top) (rd .graph .right) (d .agree) (rd .held)
+        state-kept heap heap′ slots (sc .base) (sc .n) (st .top) (rd .graph .right) (d .agree) (rd .held) (omega (arith, rd .small, below-mark))
         ∙ state-same heap′ slots slots′ (sc .base) (sc .n) (d .below)
 
 -- a part of the term, in its scope

@@ -3,7 +3,7 @@ use Prim.Native.Nat.{ℕ, zero, suc, _+_, _*_, _≤_, _<_}
 use native.Mathlib.Omega.{arith}
 use native.Mathlib.Numerals.{add-one}
 use mathlib.Core.Path.{_≡_, refl, sym, ap, ap₂, _∙_}
-use mathlib.Core.Logic.{inr as right}
+use mathlib.Core.Logic.{inl as left, inr as right}
 use mathlib.Core.Option.{some}
 use mathlib.Core.List.{List, [], _∷_, map}
 use lib.ListN.{length, getD}
@@ -51,7 +51,7 @@ pub arguments-state : (heap slots : List ℕ) (base count top : ℕ) → Ancilla
     → some (valueAt heap (getD slots (base + count) 0)) ∷ map some (ancillaeAt heap slots base count) ≡ stateAt heap slots base (count + 1)
 arguments-state heap slots base count top A low small =
     sym (ap (stateAt heap slots base) (add-one count) ∙ state-front heap slots base count
-    ∙ ap₂ _∷_ (ap (slotMeaning heap) (found-node (getD slots (base + count) 0) (λ e. omega arith))) (state-ancillae heap slots base count top A small))
+    ∙ ap₂ _∷_ (ap (slotMeaning heap) (found-node heap (getD slots (base + count) 0) (omega arith))) (state-ancillae heap slots base count top A small))
 
 ----------------------------------------------------------------
 -- The run of a function
@@ -82,7 +82,7 @@ start-ready {slots = slots} {st = st} {count = count} {g = g} K l q G low nodes 
   rows = K;
   term = rw q (K .bodies g l);
   graph = G;
-  held = record { held = λ j h. right (low j (omega arith)) };
+  held = record { held = λ j h. right (left (low j (omega arith))) };
   ancillae = λ i h. rw (let z : 0 + i ≡ i = omega arith in z) (low i (omega arith));
   within = omega arith;
   nodes = omega arith;

@@ -23,6 +23,7 @@ use package.Rattle.forward.specs.Outcomes.{Out, stopped, refusalOf, mean
 use package.Rattle.forward.specs.Ready.{Ready, Ran, Makes, Unrolls, ancillaeOf, stateOf, runOf, stepOf}
 use package.Rattle.forward.proofs.Runs.{meaning-value, says, slack, still, halted, one-node, part-refused, part-answered, fewer, ancillae-later, state-later, part}
 use package.Rattle.forward.proofs.Making.{test-true}
+use package.Rattle.forward.proofs.Answers.{below-mark}
 use package.Rattle.forward.proofs.Leaves.{slot-node}
 use Rattle.forward.specs.declared.outcomes.Refusal.{Refusal}
 use Rattle.forward.specs.declared.outcomes.Refusal.the-variants.{Fuel, Height}
@@ -143,23 +144,23 @@ module _ {code heap slots : List ℕ} {st : Machine} {sc : Scope} {t room : ℕ}
   -- Variables and unit
 
   module _ (kind : kindIn code t ≡ 0) where
-    step-var : (ys : List TypeEntry) → step ys ≡ onSome (slotMeaning heap (slotAt slots (sc .base) (sc .n) (firstIn code t)))
+    step-var : (ys : List TypeEntry) → step ys ≡ onSome (slotMeaning heap (slotAt heap slots (sc .base) (sc .n) (firstIn code t)))
         (λ v. test (fits v) 14 t (give v)) (st .fuel)
     unfolding forwardStep made
     step-var ys =
         stepped ys (tree-var (rd .rows) t (rd .term) ys kind)
         ∙ ap (λ o. onSome o (λ v. test (fits v) 14 t (give v)) (st .fuel)) (known-state heap slots (sc .base) (sc .n) (firstIn code t))
 
-    pub var-done : (r : Out) → r ≡ foundOut (slotAt slots (sc .base) (sc .n) (firstIn code t)) st → Ran 1 heap heap m slots slots st r step
+    pub var-done : (r : Out) → r ≡ foundOut (slotAt heap slots (sc .base) (sc .n) (firstIn code t)) st → Ran 1 heap heap m slots slots st r step
     unfolding foundOut onSome refusalOf
-    var-done r e = slack (go (slotAt slots (sc .base) (sc .n) (firstIn code t)) refl) 1 (omega arith)
+    var-done r e = slack (go (slotAt heap slots (sc .base) (sc .n) (firstIn code t)) refl) 1 (omega arith)
       where
-        read : {f : Found} → slotAt slots (sc .base) (sc .n) (firstIn code t) ≡ f → r ≡ foundOut f st
+        read : {f : Found} → slotAt heap slots (sc .base) (sc .n) (firstIn code t) ≡ f → r ≡ foundOut f st
         read q = e ∙ ap (λ f. foundOut f st) q
 
-        go : (f : Found) → slotAt slots (sc .base) (sc .n) (firstIn code t) ≡ f → Ran 0 heap heap m slots slots st r step
+        go : (f : Found) → slotAt heap slots (sc .base) (sc .n) (firstIn code t) ≡ f → Ran 0 heap heap m slots slots st r step
         go (Node node) q =
-            let below : node < st .top = slot-node slots (sc .base) (sc .n) (firstIn code t) (st .top) (rd .held) q in
+            let below : node < st .top = slot-node heap slots (sc .base) (sc .n) (firstIn code t) (st .top) (rd .held) (omega (arith, rd .small, below-mark)) q in
             still (rd .graph) m slots r (ap (λ (r : Out). r .state) (read q))
             (λ n s. let z : node ≡ n = cc (ap (λ (r : Out). r .status) (read q)) in omega arith)
             (λ ys. ap (meaning heap) (read q) ∙ meaning-value heap (foundOut (Node node) st) refl

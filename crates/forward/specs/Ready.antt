@@ -38,7 +38,7 @@ pub record Ready (k v : ℕ) (code heap slots : List ℕ) (st : Machine) (sc : S
   pub rows : Rows code
   pub term : t < termCount code
   pub graph : Graph heap (st .top)
-  pub held : Slots slots (sc .base + sc .n) (st .top)
+  pub held : Slots heap slots (sc .base + sc .n) (st .top)
   pub ancillae : (i : ℕ) → i < sc .q → getD slots (sc .base + i) 0 < st .top
   pub within : sc .q ≤ sc .n
   pub nodes : nodeBytes * (st .top + st .fuel + k) ≤ length heap
@@ -175,6 +175,13 @@ pub record ReadyIn (k v : ℕ) (code heap st : List ℕ) (scope t room : ℕ) : 
 -- the slot behind a scope
 abbrev pub endOf : ℕ → ℕ
 endOf scope = scopeIn scope .base + scopeIn scope .n
+
+-- a variable of a scope can be looked up
+pub record FindReady (heap st : List ℕ) (scope : ℕ) : Type 0 where
+  pub there : endOf scope ≤ slotCount
+  pub graph : Heap heap (machineOf st .top)
+  pub held : Slots heap (slotsOf st) (endOf scope) (machineOf st .top)
+  pub small : machineOf st .top ≤ stopped
 
 -- the answer `r` of a run, which leaves the numbers `st′`
 abbrev pub RanIn : ℕ → (heap heap′ st st′ : List ℕ) → ℕ → ℕ → (List TypeEntry → Res Val) → Type 0

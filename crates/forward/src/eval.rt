@@ -40,7 +40,7 @@ pub fn eval(
     }
     state::spend(st);
     match rows::kind_of(code, t) {
-        0 => outcomes::variable(st, scope, rows::first_of(code, t)),
+        0 => outcomes::variable(ws, st, scope, rows::first_of(code, t)),
         1 => outcomes::make_unit(ws, st, t),
         2 => wrap(code, ws, st, scope, t, room, 1),
         3 => wrap(code, ws, st, scope, t, room, 2),

@@ -11,9 +11,9 @@ ghost use Prim.Native.Nat.{_+_, _≤_, _<_};
 ghost use lib.ListN.{length};
 ghost use Rattle.rules.specs.Val.{unit, pair};
 ghost use Rattle.values.specs.Nodes.{Room, ofKind, Single, valueAt};
-ghost use Rattle.scopes.specs.Slots.{slotCount, stateCount, machineOf, slotsOf, scopeIn, slotAt, Slots};
+ghost use Rattle.scopes.specs.Slots.{stateCount, machineOf, slotsOf, scopeIn, slotAt};
 ghost use Rattle.forward.specs.Outcomes.{stopped, refusalIn, statusOf, Stops, Finds};
-ghost use Rattle.forward.specs.Ready.{endOf, Finishes, MakeReady, MakesIn, Unrolled, CheckReady, ChecksIn};
+ghost use Rattle.forward.specs.Ready.{FindReady, Finishes, MakeReady, MakesIn, Unrolled, CheckReady, ChecksIn};
 
 // An answer below this number is a node; a refusal is its number, in this place above its term, from here on.
 pub const STOPPED: u32 = 2147483648;
@@ -127,12 +127,11 @@ pub fn make_pair(ws: &mut [u8], st: &mut [u32; STATE], t: u16, left: u32, right:
 // Steps without parts.
 
 // Variable i is its node, if it is known.
-pub fn variable(st: &[u32; STATE], scope: u64, i: u16) -> u32
-    requires { ⌜ endOf scope ≤ slotCount ⌝ }
-    requires { ⌜ Slots (slotsOf (now st)) (endOf scope) stopped ⌝ }
-    ensures { λ r. ⌜ Finds r (slotAt (slotsOf (now (st .entry))) (scopeIn scope .base) (scopeIn scope .n) i) ⌝ }
+pub fn variable(ws: &[u8], st: &[u32; STATE], scope: u64, i: u16) -> u32
+    requires { ⌜ FindReady (now ws) (now st) scope ⌝ }
+    ensures { λ r. ⌜ Finds r (slotAt (now (ws .entry)) (slotsOf (now (st .entry))) (scopeIn scope .base) (scopeIn scope .n) i) ⌝ }
 {
-    match scopes::slots::find(st, state::base_in(scope), state::count_in(scope), i) {
+    match scopes::slots::find(ws, st, state::base_in(scope), state::count_in(scope), i) {
         Found::Node(node) => node,
         Found::Unknown => refuse(STUCK, 0),
     }

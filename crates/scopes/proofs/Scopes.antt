@@ -1,12 +1,11 @@
 -- Laws of the scope that slots hold: what is known of a variable, how a scope grows, and what leaves it as it is.
-use Prim.Native.Nat.{ℕ, zero, suc, _+_, _<_}
+use Prim.Native.Nat.{ℕ, zero, suc, _+_, _<_, _≤_}
 use native.Mathlib.Omega.{arith}
 use native.Mathlib.Decide.{decLt}
 use mathlib.Core.Path.{_≡_, refl, sym, ap, ap₂, _∙_}
 use mathlib.Core.Bool.{Bool, true, false}
 use mathlib.Core.Option.{Option, some}
 use mathlib.Core.List.{List, _∷_}
-use mathlib.Core.Logic.{_⊎_, inl as left, inr as right}
 use lib.ListN.{length, getD, set}
 use lib.Dec.{eqb}
 use lib.Seq.{getD-set-same, getD-set-other}
@@ -16,8 +15,8 @@ use package.Rattle.rules.specs.Machine.{known}
 use package.Rattle.rules.proofs.Known.{known-new, known-skip, known-none}
 use package.Rattle.values.specs.Nodes.{valueAt, Heap, Agree}
 use package.Rattle.values.proofs.Heaps.{value-kept}
-use package.Rattle.scopes.specs.Slots.{unknown, found, slotAt, meaning, stateAt, Slots}
-use package.Rattle.scopes.proofs.Marks.{found-mark, found-node, slot-in, slot-out}
+use package.Rattle.scopes.specs.Slots.{unknown, found, slotAt, meaning, stateAt, Slot, Slots}
+use package.Rattle.scopes.proofs.Marks.{found-mark, found-below, found-later, slot-in, slot-out}
 
 ----------------------------------------------------------------
 -- What is known of a variable
@@ -28,32 +27,32 @@ length-state heap slots base zero = refl
 length-state heap slots base (suc n) = ap suc (length-state heap slots base n)
 
 -- the newest variable, and the others
-pub state-front : (heap slots : List ℕ) (base n : ℕ) → stateAt heap slots base (suc n) ≡ meaning heap (found (getD slots (base + n) 0)) ∷ stateAt heap slots base n
+pub state-front : (heap slots : List ℕ) (base n : ℕ) → stateAt heap slots base (suc n) ≡ meaning heap (found heap (getD slots (base + n) 0)) ∷ stateAt heap slots base n
 unfolding stateAt
 state-front heap slots base n = refl
 
-known-within : (heap slots : List ℕ) (base n i : ℕ) → i < n → known (stateAt heap slots base n) i ≡ meaning heap (found (getD slots (base + i) 0))
+known-within : (heap slots : List ℕ) (base n i : ℕ) → i < n → known (stateAt heap slots base n) i ≡ meaning heap (found heap (getD slots (base + i) 0))
 unfolding stateAt
 known-within heap slots base zero i l = absurd (omega arith)
 known-within heap slots base (suc n) i l = go (decLt i n) (λ l. known-within heap slots base n i l)
   where
     newer : Option Val
-    newer = meaning heap (found (getD slots (base + n) 0))
+    newer = meaning heap (found heap (getD slots (base + n) 0))
 
-    go : Dec (i < n) → (i < n → known (stateAt heap slots base n) i ≡ meaning heap (found (getD slots (base + i) 0)))
-        → known (newer ∷ stateAt heap slots base n) i ≡ meaning heap (found (getD slots (base + i) 0))
+    go : Dec (i < n) → (i < n → known (stateAt heap slots base n) i ≡ meaning heap (found heap (getD slots (base + i) 0)))
+        → known (newer ∷ stateAt heap slots base n) i ≡ meaning heap (found heap (getD slots (base + i) 0))
     go (yes x) s = known-skip newer _ i (let y : length (stateAt heap slots base n) ≡ n = length-state heap slots base n in omega arith) ∙ s x
     go (no x) s = let e : n ≡ i = omega arith in
         ap (known (newer ∷ stateAt heap slots base n)) (sym e ∙ sym (length-state heap slots base n)) ∙ known-new newer (stateAt heap slots base n)
-        ∙ ap (λ i. meaning heap (found (getD slots (base + i) 0))) e
+        ∙ ap (λ i. meaning heap (found heap (getD slots (base + i) 0))) e
 
-pub known-state : (heap slots : List ℕ) (base n i : ℕ) → known (stateAt heap slots base n) i ≡ meaning heap (slotAt slots base n i)
+pub known-state : (heap slots : List ℕ) (base n i : ℕ) → known (stateAt heap slots base n) i ≡ meaning heap (slotAt heap slots base n i)
 known-state heap slots base n i = go (decLt i n)
   where
-    go : Dec (i < n) → known (stateAt heap slots base n) i ≡ meaning heap (slotAt slots base n i)
-    go (yes l) = known-within heap slots base n i l ∙ ap (meaning heap) (sym (slot-in slots base n i l))
+    go : Dec (i < n) → known (stateAt heap slots base n) i ≡ meaning heap (slotAt heap slots base n i)
+    go (yes l) = known-within heap slots base n i l ∙ ap (meaning heap) (sym (slot-in heap slots base n i l))
     go (no l) = known-none _ i (let z : length (stateAt heap slots base n) ≡ n = length-state heap slots base n in omega arith)
-        ∙ ap (meaning heap) (sym (slot-out slots base n i (omega arith)))
+        ∙ ap (meaning heap) (sym (slot-out heap slots base n i (omega arith)))
 
 ----------------------------------------------------------------
 -- What leaves a scope as it is
@@ -64,43 +63,44 @@ pub state-same : (heap slots slots′ : List ℕ) (base n : ℕ) → ((j : ℕ) 
 unfolding stateAt
 state-same heap slots slots′ base zero s = refl
 state-same heap slots slots′ base (suc n) s =
-    ap₂ _∷_ (ap (λ k. meaning heap (found k)) (s (base + n) (omega arith))) (state-same heap slots slots′ base n λ j l. s j (omega arith))
+    ap₂ _∷_ (ap (λ k. meaning heap (found heap k)) (s (base + n) (omega arith))) (state-same heap slots slots′ base n λ j l. s j (omega arith))
 
--- a slot's meaning, on heaps that have one value at its node
-meaning-kept : (heap heap′ : List ℕ) (node : ℕ) → valueAt heap node ≡ valueAt heap′ node → meaning heap (found node) ≡ meaning heap′ (found node)
-meaning-kept heap heap′ node e = go (eqb node unknown) refl
+-- a slot's meaning, on a heap that has grown
+meaning-kept : {heap heap′ : List ℕ} {top s : ℕ} → Heap heap top → Agree top heap heap′ → Slot heap s top → top ≤ unknown
+    → meaning heap (found heap s) ≡ meaning heap′ (found heap′ s)
+meaning-kept {heap} {heap′} {top} {s} H A S small = go (eqb s unknown) refl
   where
-    go : (b : Bool) → eqb node unknown ≡ b → meaning heap (found node) ≡ meaning heap′ (found node)
-    go true p = let z = found-mark node (eqb-true node unknown p) in ap (meaning heap) z ∙ sym (ap (meaning heap′) z)
-    go false p = let z = found-node node (eqb-false node unknown p) in ap (meaning heap) z ∙ ap some e ∙ sym (ap (meaning heap′) z)
+    go : (b : Bool) → eqb s unknown ≡ b → meaning heap (found heap s) ≡ meaning heap′ (found heap′ s)
+    go true p =
+        let e = eqb-true s unknown p in
+        ap (meaning heap) (found-mark heap s e) ∙ sym (ap (meaning heap′) (found-mark heap′ s e))
+    go false p = found-below S small (eqb-false s unknown p) λ node l e.
+        ap (meaning heap) e ∙ ap some (value-kept heap heap′ top H A node l) ∙ sym (ap (meaning heap′) (sym (found-later A S small) ∙ e))
 
 -- a heap that has grown
-pub state-kept : (heap heap′ slots : List ℕ) (base n top : ℕ) → Heap heap top → Agree top heap heap′ → Slots slots (base + n) top
+pub state-kept : (heap heap′ slots : List ℕ) (base n top : ℕ) → Heap heap top → Agree top heap heap′ → Slots heap slots (base + n) top → top ≤ unknown
     → stateAt heap slots base n ≡ stateAt heap′ slots base n
 unfolding stateAt
-state-kept heap heap′ slots base zero top H A S = refl
-state-kept heap heap′ slots base (suc n) top H A S =
-    ap₂ _∷_ (newest (S .held (base + n) (omega arith))) (state-kept heap heap′ slots base n top H A (record { held = λ j l. S .held j (omega arith) }))
-  where
-    newest : (getD slots (base + n) 0 ≡ unknown) ⊎ (getD slots (base + n) 0 < top)
-        → meaning heap (found (getD slots (base + n) 0)) ≡ meaning heap′ (found (getD slots (base + n) 0))
-    newest (left e) = ap (meaning heap) (found-mark _ e) ∙ sym (ap (meaning heap′) (found-mark _ e))
-    newest (right l) = meaning-kept heap heap′ (getD slots (base + n) 0) (value-kept heap heap′ top H A (getD slots (base + n) 0) l)
+state-kept heap heap′ slots base zero top H A S small = refl
+state-kept heap heap′ slots base (suc n) top H A S small =
+    ap₂ _∷_ (meaning-kept H A (S .held (base + n) (omega arith)) small)
+    (state-kept heap heap′ slots base n top H A (record { held = λ j l. S .held j (omega arith) }) small)
 
 ----------------------------------------------------------------
 -- A scope grows
 
 -- a variable comes into scope
-pub state-bind : (heap slots : List ℕ) (base n node : ℕ) → base + n < length slots
-    → stateAt heap (set slots (base + n) node) base (suc n) ≡ meaning heap (found node) ∷ stateAt heap slots base n
+pub state-bind : (heap slots : List ℕ) (base n x : ℕ) → base + n < length slots
+    → stateAt heap (set slots (base + n) x) base (suc n) ≡ meaning heap (found heap x) ∷ stateAt heap slots base n
 unfolding stateAt
-state-bind heap slots base n node l =
-    ap₂ _∷_ (ap (λ k. meaning heap (found k)) (getD-set-same slots (base + n) node 0 l))
-    (state-same heap (set slots (base + n) node) slots base n λ j h. getD-set-other slots (base + n) j node 0 (λ e. omega arith))
+state-bind heap slots base n x l =
+    ap₂ _∷_ (ap (λ k. meaning heap (found heap k)) (getD-set-same slots (base + n) x 0 l))
+    (state-same heap (set slots (base + n) x) slots base n λ j h. getD-set-other slots (base + n) j x 0 (λ e. omega arith))
 
-pub slots-bind : (slots : List ℕ) (m top node : ℕ) → m < length slots → Slots slots m top → (node ≡ unknown) ⊎ (node < top) → Slots (set slots m node) (suc m) top
-slots-bind slots m top node l S d = record { held = λ j h. go j (decLt j m) h }
+pub slots-bind : (heap slots : List ℕ) (m top x : ℕ) → m < length slots → Slots heap slots m top → Slot heap x top
+    → Slots heap (set slots m x) (suc m) top
+slots-bind heap slots m top x l S d = record { held = λ j h. go j (decLt j m) h }
   where
-    go : (j : ℕ) → Dec (j < m) → j < suc m → (getD (set slots m node) j 0 ≡ unknown) ⊎ (getD (set slots m node) j 0 < top)
-    go j (yes x) h = rw (getD-set-other slots m j node 0 (λ e. omega arith)) (S .held j x)
-    go j (no x) h = let e : j ≡ m = omega arith in rw (e, getD-set-same slots m node 0 l) d
+    go : (j : ℕ) → Dec (j < m) → j < suc m → Slot heap (getD (set slots m x) j 0) top
+    go j (yes y) h = rw (getD-set-other slots m j x 0 (λ e. omega arith)) (S .held j y)
+    go j (no y) h = let e : j ≡ m = omega arith in rw (e, getD-set-same slots m x 0 l) d

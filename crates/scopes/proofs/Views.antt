@@ -1,23 +1,25 @@
--- From the binding state in code to its view: the slots that a view has, and what opening, meeting and leaving in code do to the view, and to
--- what the state tells.
+-- From the binding state in code to its view: the slots that a view has, what the state says by them, and what opening, meeting and leaving in
+-- code do to the view and to the index.
 use Prim.Native.Nat.{ℕ, zero, suc, _+_, _-_, _<_, _≤_}
 use native.Mathlib.Omega.{arith}
 use native.Mathlib.Decide.{decLt}
-use mathlib.Core.Path.{_≡_, refl, sym, ap, ap₂, _∙_}
-use mathlib.Core.Bool.{Bool, true, false, true≢false, _||_, _&&_}
+use mathlib.Core.Path.{_≡_, refl, sym, ap, ap₂, subst, _∙_}
+use mathlib.Core.Bool.{Bool, true, false, cond}
 use mathlib.Core.List.{List, _∷_}
-use mathlib.Core.Logic.{_⊎_, ⊎-elim, inl as left, inr as right}
+use mathlib.Core.Logic.{⊎-elim, inl as left, inr as right}
 use lib.ListN.{length, getD, set, length-set}
 use lib.Seq.{getD-set-same, getD-set-other, ext-getD}
 use lib.Dec.{eqb, ltb}
-use borrow.Author.Tests.{eqb-true, eq-eqb, ltb-true, lt-ltb}
-use package.Rattle.uses.specs.Sets.{has, Holds, alone, firsts, joined, below}
-use package.Rattle.uses.specs.declared.Uses.{Uses}
+use borrow.Author.Tests.{eqb-true, eqb-false, lt-ltb, le-ltb}
 use package.Rattle.rules.specs.Val.{same}
-use package.Rattle.rules.proofs.Basics.{given}
-use package.Rattle.values.specs.Nodes.{valueAt}
-use package.Rattle.scopes.specs.Slots.{unknown, slotCount, found, meaning, stateAt, slotsOf, Written}
-use package.Rattle.scopes.specs.Bindings.{slotsFrom, viewOf, stateOf, Bound, Opens, Meets, Tells, Meetable, MeetsIn, MeetsAt}
+use package.Rattle.values.specs.Nodes.{leftAt, valueAt, Agree, Celled}
+use package.Rattle.scopes.specs.Slots.{unknown, slotCount, found, nodeOr, meaning, stateAt, Scope, machineOf, slotsOf, Slot}
+use package.Rattle.scopes.specs.Cells.{cellCount, Linked, cellAt, numberIn, stateWith}
+use package.Rattle.scopes.specs.Bindings.{slotsFrom, viewOf, stateOf, Bound, Opens, Meets, Tells, seen, Compared, Assigns, MeetsBy, MeetsAt}
+use package.Rattle.scopes.proofs.Marks.{found-mark, found-below, found-cell, node-or, node-none}
+use package.Rattle.scopes.proofs.Cells.{cell-empty, cell-le, cell-kept, binds-it, binds-no-other, leaves-older, leaves-none}
+use Rattle.scopes.specs.declared.slots.Found.{Found}
+use Rattle.scopes.specs.declared.slots.Found.the-variants.{Node, Unknown}
 use Rattle.scopes.specs.declared.bindings.Bindings.{Bindings}
 use Rattle.scopes.specs.declared.bindings.Met.{Met}
 
@@ -61,188 +63,196 @@ view-set slots base i x l h =
         rw e (view-at (set slots (base + i) x) base i l ∙ getD-set-same slots (base + i) x 0 h ∙ sym (getD-set-same (slotsFrom slots base 32) i x 0 (omega (arith, view-full slots base))))
 
 -- the view of a scope has its slots
-pub view-bound : (slots : List ℕ) (base n top : ℕ) → n ≤ 32 → ((i : ℕ) → i < n → (getD slots (base + i) 0 ≡ unknown) ⊎ (getD slots (base + i) 0 < top)) → Bound (viewOf slots base n) top
-view-bound slots base n top few held = record {
+pub view-bound : (heap slots : List ℕ) (base n top : ℕ) → n ≤ 32 → ((i : ℕ) → i < n → Slot heap (getD slots (base + i) 0) top)
+    → Bound heap (viewOf slots base n) top
+view-bound heap slots base n top few held = record {
   full = view-full slots base;
   few = few;
   held = record { held = λ i l. rw (view-at slots base i (omega arith)) (held i l) };
 }
 
 -- slots that hold the same scope, each from its own base on
-pub state-moved : (heap slots slots′ : List ℕ) (base base′ n : ℕ) → ((i : ℕ) → i < n → getD slots (base + i) 0 ≡ getD slots′ (base′ + i) 0) → stateAt heap slots base n ≡ stateAt heap slots′ base′ n
+pub state-moved : (heap slots slots′ : List ℕ) (base base′ n : ℕ) → ((i : ℕ) → i < n → getD slots (base + i) 0 ≡ getD slots′ (base′ + i) 0)
+    → stateAt heap slots base n ≡ stateAt heap slots′ base′ n
 unfolding stateAt
 state-moved heap slots slots′ base base′ zero same = refl
 state-moved heap slots slots′ base base′ (suc n) same =
-    ap₂ _∷_ (ap (λ k. meaning heap (found k)) (same n (omega arith))) (state-moved heap slots slots′ base base′ n λ i l. same i (omega arith))
+    ap₂ _∷_ (ap (λ k. meaning heap (found heap k)) (same n (omega arith))) (state-moved heap slots slots′ base base′ n λ i l. same i (omega arith))
 
 -- the view is the state that the slots hold
 pub view-state : (heap slots : List ℕ) (base n : ℕ) → n ≤ 32 → stateOf heap (viewOf slots base n) ≡ stateAt heap slots base n
 unfolding stateOf
 view-state heap slots base n few =
-    state-moved heap (slotsFrom slots base 32) slots 0 base n λ i l. ap (λ j. getD (slotsFrom slots base 32) j 0) (let z : 0 + i ≡ i = omega arith in z) ∙ view-at slots base i (omega arith)
-
-----------------------------------------------------------------
--- A variable comes into scope
+    state-moved heap (slotsFrom slots base 32) slots 0 base n
+    λ i l. ap (λ j. getD (slotsFrom slots base 32) j 0) (let z : 0 + i ≡ i = omega arith in z) ∙ view-at slots base i (omega arith)
 
 pub view-opens : (slots : List ℕ) (base n x : ℕ) → n < 32 → base + n < length slots → Opens (viewOf slots base n) x (viewOf (set slots (base + n) x) base (n + 1))
 view-opens slots base n x l h = record { slots = view-set slots base n x l h; len = refl }
 
-pub tells-opened : (slots : List ℕ) {b : Bindings} (base n : ℕ) → Tells slots b base n → n < 32 → base + n < length slots → Tells (set slots (base + n) unknown) b base (n + 1)
-tells-opened slots {b} base n T l h = record {
-  within = λ i m e. omega (arith, T .within i m e);
-  bound = λ i m e u. let k = T .within i (omega arith) e in T .bound i k e (sym (elsewhere i k) ∙ u);
-  marked = λ i m e. go i m e (decLt i n);
-}
+----------------------------------------------------------------
+-- The state and its index
+
+-- the first variables of a scope, by the state and by the slots
+state-told : (heap slots : List ℕ) (b : Bindings) (sc : Scope) (n top : ℕ) → Tells heap slots b (sc .base) (sc .q) n top → (m : ℕ) → m ≤ n
+    → stateWith heap slots (b .head) sc m ≡ stateAt heap slots (sc .base) m
+unfolding stateAt stateWith
+state-told heap slots b sc n top T zero le = refl
+state-told heap slots b sc n top T (suc m) le =
+    ap₂ (λ x σ. meaning heap (found heap x) ∷ σ) (number (decLt m (sc .q))) (state-told heap slots b sc n top T m (omega arith))
   where
-    elsewhere : (i : ℕ) → i < n → getD (set slots (base + n) unknown) (base + i) 0 ≡ getD slots (base + i) 0
-    elsewhere i k = getD-set-other slots (base + n) (base + i) unknown 0 (λ e. omega arith)
+    number : Dec (m < sc .q) → numberIn heap slots (b .head) sc m ≡ getD slots (sc .base + m) 0
+    number (yes l) = rw (lt-ltb m (sc .q) l)
+    number (no l) = rw (le-ltb m (sc .q) (omega arith)) (sym (T .index m (omega arith) (omega arith)))
 
-    go : (i : ℕ) → i < n + 1 → has (b .bound) i ≡ false → Dec (i < n) → getD (set slots (base + n) unknown) (base + i) 0 ≡ unknown
-    go i m e (yes k) = elsewhere i k ∙ T .marked i k e
-    go i m e (no k) = rw (let z : i ≡ n = omega arith in z) (getD-set-same slots (base + n) unknown 0 h)
+-- The rules' state that a state by value is: that of the view.
+pub view-told : (heap slots : List ℕ) (b : Bindings) (sc : Scope) (top : ℕ) → Tells heap slots b (sc .base) (sc .q) (sc .n) top → sc .n ≤ 32
+    → stateWith heap slots (b .head) sc (sc .n) ≡ stateOf heap (viewOf slots (sc .base) (sc .n))
+view-told heap slots b sc top T few = state-told heap slots b sc (sc .n) top T (sc .n) (omega arith) ∙ sym (view-state heap slots (sc .base) (sc .n) few)
 
-----------------------------------------------------------------
--- It leaves
-
-both : (a c : Bool) → (a && c) ≡ true → (a ≡ true) × (c ≡ true)
-both true true e = (refl, refl)
-both true false e = (refl, e)
-both false c e = (e, absurd (true≢false (sym e)))
-
-kept : (a c : Bool) → c ≡ true → (a && c) ≡ a
-kept true c e = e
-kept false c e = refl
-
-pub tells-left : {slots : List ℕ} {b b′ : Bindings} {base n : ℕ} → Tells slots b base (n + 1) → n < 32 → Holds (b′ .bound) (below n (has (b .bound))) → Tells slots b′ base n
-tells-left {slots} {b} {b′} {base} {n} T l H = record {
-  within = λ i m e. ltb-true i n (both (has (b .bound) i) (ltb i n) (sym (H .each i m) ∙ e) .1);
-  bound = λ i m e. T .bound i (omega arith) (sym (as-was i m) ∙ e);
-  marked = λ i m e. T .marked i (omega arith) (sym (as-was i m) ∙ e);
-}
-  where
-    as-was : (i : ℕ) → i < n → has (b′ .bound) i ≡ has (b .bound) i
-    as-was i m = H .each i (omega arith) ∙ kept (has (b .bound) i) (ltb i n) (lt-ltb i n m)
-
-----------------------------------------------------------------
--- It is met
-
--- what the code does
-pub in-comparing : (heap slots : List ℕ) (b : Bindings) (base i node : ℕ) (agrees : Bool) → has (b .bound) i ≡ true
-    → agrees ≡ same (valueAt heap (getD slots (base + i) 0)) (valueAt heap node) → MeetsIn heap slots slots b base i node (record { agrees = agrees; state = b })
-in-comparing heap slots b base i node agrees k e = record { binds = λ u. absurd (true≢false (sym k ∙ u)); compares = λ _. (e, refl, refl) }
-
-pub in-binding : (heap slots : List ℕ) (b : Bindings) (base i node : ℕ) {only all : Uses} → has (b .bound) i ≡ false → Holds only (alone i) → Holds all (joined (has (b .bound)) (has only))
-    → MeetsIn heap slots (set slots (base + i) node) b base i node (record { agrees = true; state = record { bound = all } })
-in-binding heap slots b base i node k O H = record {
-  binds = λ _. (refl, record { each = λ j l. H .each j l ∙ ap (λ x. has (b .bound) j || x) (O .each j l) }, refl);
-  compares = λ u. absurd (true≢false (sym u ∙ k));
+-- the first variables are ancilla parameters, and there is no other
+pub tells-first : (heap slots : List ℕ) {b : Bindings} (base n top : ℕ) → b .head ≡ 0 → 0 < top → Tells heap slots b base n n top
+tells-first heap slots base n top e some = record {
+  within = omega arith;
+  index = λ i l m. absurd (omega arith);
+  outside = λ i l. rw e (cell-empty heap i);
 }
 
-pub meetable : {slots : List ℕ} {b : Bindings} {base n top : ℕ} (i : ℕ) → Tells slots b base n → Bound (viewOf slots base n) top → i < n → base + n ≤ slotCount → Meetable slots b base i top
-meetable {slots} {b} {base} {n} {top} i T B l there = record {
-  few = omega (arith, B .few);
-  there = omega arith;
-  node = λ e. ⊎-elim (λ u. absurd (T .bound i l e (sym (view-at slots base i (omega (arith, B .few))) ∙ u))) (λ h. rw (← view-at slots base i (omega (arith, B .few))) h) (B .held .held i l);
+-- a heap that has grown, and slots that are the same in the scope
+pub tells-later : {heap heap′ slots : List ℕ} (slots′ : List ℕ) {b : Bindings} {base q n top : ℕ} (top′ : ℕ) → Tells heap slots b base q n top
+    → Agree top heap heap′ → top ≤ top′ → ((i : ℕ) → i < n → getD slots (base + i) 0 ≡ getD slots′ (base + i) 0) → Tells heap′ slots′ b base q n top′
+tells-later slots′ {b} top′ T A le same = record {
+  within = omega (arith, T .within);
+  index = λ i l m. sym (same i m) ∙ T .index i l m ∙ ap (λ c. unknown + c) (cell-kept A (b .head) i (T .within));
+  outside = λ i l. sym (cell-kept A (b .head) i (T .within)) ∙ T .outside i l;
 }
 
-either : (a c : Bool) → (a || c) ≡ true → (a ≡ true) ⊎ (c ≡ true)
-either true c x = left refl
-either false c x = right x
-
-neither : (a c : Bool) → (a || c) ≡ false → (a ≡ false) × (c ≡ false)
-neither true c x = (x, absurd (true≢false x))
-neither false c x = (refl, x)
-
-module _ {heap slots slots′ : List ℕ} {b : Bindings} {base n i node : ℕ} {r : Met} (M : MeetsIn heap slots slots′ b base i node r) (T : Tells slots b base n)
-    (few : n ≤ 32) (l : i < n) (there : base + i < length slots) where
-  -- by what the state says of the variable
-  by-state : {P : Type 0} → (has (b .bound) i ≡ true → P) → (has (b .bound) i ≡ false → P) → P
-  by-state {P} f g = go (has (b .bound) i) refl
-    where
-      go : (k : Bool) → has (b .bound) i ≡ k → P
-      go true e = f e
-      go false e = g e
-
-  pub view-meets : Meets heap (viewOf slots base n) i node (r .agrees) (viewOf slots′ base n)
-  view-meets = by-state compares binds
-    where
-      here : getD (slotsFrom slots base 32) i 0 ≡ getD slots (base + i) 0
-      here = view-at slots base i (omega arith)
-
-      compares : has (b .bound) i ≡ true → Meets heap (viewOf slots base n) i node (r .agrees) (viewOf slots′ base n)
-      compares e = given (M .compares e) λ (same-is, state, slots-are). record {
-        binds = λ u. absurd (T .bound i l e (sym here ∙ u));
-        compares = λ _. (same-is ∙ ap (λ x. same (valueAt heap x) (valueAt heap node)) (sym here), ap (λ s. viewOf s base n) slots-are);
-      }
-
-      binds : has (b .bound) i ≡ false → Meets heap (viewOf slots base n) i node (r .agrees) (viewOf slots′ base n)
-      binds e = given (M .binds e) λ (agrees, state, slots-are). record {
-        binds = λ _. (agrees, ap (λ s. slotsFrom s base 32) slots-are ∙ view-set slots base i node (omega arith) there, refl);
-        compares = λ d. absurd (d (here ∙ T .marked i l e));
-      }
-
-  module _ (known : node ≡ unknown → ⊥) where
-    -- the variable is bound now
-    bound-now : Holds (r .state .bound) (joined (has (b .bound)) (alone i)) → slots′ ≡ set slots (base + i) node → Tells slots′ (r .state) base n
-    bound-now H s = record {
-      within = λ j m x. within j m (either (has (b .bound) j) (eqb j i) (sym (H .each j m) ∙ x));
-      bound = λ j m x. bound j m (either (has (b .bound) j) (eqb j i) (sym (H .each j (omega arith)) ∙ x)) (decLt j i) (decLt i j);
-      marked = λ j m x. given (neither (has (b .bound) j) (eqb j i) (sym (H .each j (omega arith)) ∙ x)) λ (not-before, not-now).
-          elsewhere j (λ q. true≢false (sym (eq-eqb j i q) ∙ not-now)) ∙ T .marked j m not-before;
-    }
-      where
-        elsewhere : (j : ℕ) → (j ≡ i → ⊥) → getD slots′ (base + j) 0 ≡ getD slots (base + j) 0
-        elsewhere j d = ap (λ (s : List ℕ). getD s (base + j) 0) s ∙ getD-set-other slots (base + i) (base + j) node 0 (λ q. d (omega arith))
-
-        here : (j : ℕ) → j ≡ i → getD slots′ (base + j) 0 ≡ unknown → ⊥
-        here j q u = known (sym (getD-set-same slots (base + i) node 0 there) ∙ ap (λ (s : List ℕ). getD s (base + i) 0) (sym s) ∙ ap (λ j. getD slots′ (base + j) 0) (sym q) ∙ u)
-
-        within : (j : ℕ) → j < 32 → (has (b .bound) j ≡ true) ⊎ (eqb j i ≡ true) → j < n
-        within j m (left x) = T .within j m x
-        within j m (right x) = omega (arith, eqb-true j i x)
-
-        bound : (j : ℕ) → j < n → (has (b .bound) j ≡ true) ⊎ (eqb j i ≡ true) → Dec (j < i) → Dec (i < j) → getD slots′ (base + j) 0 ≡ unknown → ⊥
-        bound j m (left x) (yes y) d u = T .bound j m x (sym (elsewhere j (λ q. omega arith)) ∙ u)
-        bound j m (left x) (no y) (yes z) u = T .bound j m x (sym (elsewhere j (λ q. omega arith)) ∙ u)
-        bound j m (left x) (no y) (no z) u = here j (omega arith) u
-        bound j m (right x) d d′ u = here j (eqb-true j i x) u
-
-    pub tells-met : Tells slots′ (r .state) base n
-    tells-met = by-state
-        (λ e. given (M .compares e) λ (same-is, state, slots-are). rw (state, slots-are) T)
-        (λ e. given (M .binds e) λ (agrees, state, slots-are). bound-now state slots-are)
-
-----------------------------------------------------------------
--- Scopes that begin, and that stay
-
--- the first variables are known
-pub tells-first : (slots : List ℕ) {b : Bindings} (base n top : ℕ) → n ≤ 32 → Holds (b .bound) (firsts n) → ((i : ℕ) → i < n → getD slots (base + i) 0 < top) → top ≤ unknown
-    → Tells slots b base n
-tells-first slots {b} base n top few H held small = record {
-  within = λ i l e. ltb-true i n (sym (H .each i l) ∙ e);
-  bound = λ i l e u. omega (arith, held i l);
-  marked = λ i l e. absurd (true≢false (sym (lt-ltb i n l) ∙ sym (H .each i (omega arith)) ∙ e));
-}
-
--- slots that are the same in the scope
-pub tells-same : {slots : List ℕ} (slots′ : List ℕ) {b : Bindings} {base n : ℕ} → Tells slots b base n → ((i : ℕ) → i < n → getD slots (base + i) 0 ≡ getD slots′ (base + i) 0)
-    → Tells slots′ b base n
-tells-same slots′ T same = record {
+-- a variable comes into scope
+pub tells-opened : {heap slots : List ℕ} {b : Bindings} {base q n top : ℕ} → Tells heap slots b base q n top → base + n < length slots
+    → Tells heap (set slots (base + n) unknown) b base q (n + 1) top
+tells-opened {heap} {slots} {b} {base} {q} {n} T h = record {
   within = T .within;
-  bound = λ i l e u. T .bound i l e (same i l ∙ u);
-  marked = λ i l e. sym (same i l) ∙ T .marked i l e;
+  index = λ i l m. go i l m (decLt i n);
+  outside = λ i l. T .outside i (omega arith);
+}
+  where
+    go : (i : ℕ) → q ≤ i → i < n + 1 → Dec (i < n) → getD (set slots (base + n) unknown) (base + i) 0 ≡ unknown + cellAt heap (b .head) i
+    go i l m (yes k) = getD-set-other slots (base + n) (base + i) unknown 0 (λ e. omega arith) ∙ T .index i l k
+    go i l m (no k) =
+        let e : i ≡ n = omega arith in
+        let none = T .outside n (omega arith) in
+        rw e (getD-set-same slots (base + n) unknown 0 h ∙ (let z : unknown ≡ unknown + cellAt heap (b .head) n = omega arith in z))
+
+-- the variables from `n` on leave it
+pub tells-left : {heap heap′ slots : List ℕ} {b r : Bindings} {base q n m top : ℕ} → Tells heap slots b base q m top → n ≤ m
+    → Linked heap heap′ top unknown n (b .head) → top < cellCount → r .head ≡ top → Tells heap′ slots r base q n (top + 1)
+tells-left T le C small e = record {
+  within = omega arith;
+  index = λ i l h. T .index i l (omega arith)
+      ∙ ap (λ c. unknown + c) (sym (rw e (leaves-older C (T .within) (omega (arith, T .within)) refl i h)));
+  outside = λ i l. rw e (leaves-none C (T .within) (omega (arith, T .within)) refl i l);
 }
 
--- The same of the numbers that a run is lent.
+----------------------------------------------------------------
+-- A variable is met
 
-pub at-comparing : (heap st : List ℕ) (b : Bindings) (base i node : ℕ) (agrees : Bool) → has (b .bound) i ≡ true
-    → agrees ≡ same (valueAt heap (getD (slotsOf st) (base + i) 0)) (valueAt heap node) → MeetsAt heap st st b base i node (record { agrees = agrees; state = b })
-at-comparing heap st b base i node agrees k e = record { lengths = refl; machine = refl; met = in-comparing heap (slotsOf st) b base i node agrees k e }
+-- a number that is not newer than the state
+pub seen-found : (heap : List ℕ) (b : Bindings) (s : ℕ) → s ≤ unknown + b .head → seen heap b s ≡ found heap s
+unfolding seen
+seen-found heap b s l = rw (seen, le-ltb (unknown + b .head) s l)
 
-pub at-binding : (heap st st′ : List ℕ) (b : Bindings) (base i node : ℕ) {only all : Uses} → has (b .bound) i ≡ false → Holds only (alone i) → Holds all (joined (has (b .bound)) (has only))
-    → Written st st′ (base + i) node → MeetsAt heap st st′ b base i node (record { agrees = true; state = record { bound = all } })
-at-binding heap st st′ b base i node k O H W = record {
-  lengths = W .lengths;
-  machine = W .machine;
-  met = rw (W .slots) (in-binding heap (slotsOf st) b base i node k O H);
+-- a number that is newer
+pub seen-newer : (heap : List ℕ) (b : Bindings) (s : ℕ) → unknown + b .head < s → seen heap b s ≡ Unknown
+unfolding seen
+seen-newer heap b s l = rw (seen, lt-ltb (unknown + b .head) s l)
+
+-- what is seen is a node below `top`, if it is any
+pub seen-low : {heap : List ℕ} {s top : ℕ} (b : Bindings) → Slot heap s top → top ≤ unknown → 0 < top → nodeOr (seen heap b s) < top
+seen-low {heap} {s} {top} b S small some = go (decLt (unknown + b .head) s) (eqb s unknown) refl
+  where
+    go : Dec (unknown + b .head < s) → (y : Bool) → eqb s unknown ≡ y → nodeOr (seen heap b s) < top
+    go (yes l) y q = rw (node-none (seen-newer heap b s l)) some
+    go (no l) true q = rw (node-none (seen-found heap b s (omega arith) ∙ found-mark heap s (eqb-true s unknown q))) some
+    go (no l) false q = found-below S small (eqb-false s unknown q) λ node low e. rw (node-or (seen-found heap b s (omega arith) ∙ e)) low
+
+-- a slot that names a cell of the state
+pub told-dynamic : {heap slots : List ℕ} {b : Bindings} {base q n top : ℕ} → Tells heap slots b base q n top → (i : ℕ) → q ≤ i → i < n
+    → seen heap b (getD slots (base + i) 0) ≡ found heap (getD slots (base + i) 0)
+told-dynamic {heap} {b = b} T i m l = seen-found heap b _ (omega (arith, T .index i m l, cell-le heap i (b .head)))
+
+-- the slots of a scope are no newer than its state
+pub told-seen : {heap slots : List ℕ} {b : Bindings} {base q n top : ℕ} → Tells heap slots b base q n top → top ≤ unknown
+    → ((j : ℕ) → j < q → getD slots (base + j) 0 < top) → (i : ℕ) → i < n
+    → seen heap b (getD slots (base + i) 0) ≡ found heap (getD slots (base + i) 0)
+told-seen {heap} {slots} {b} {base} {q} T small known i l = seen-found heap b _ (go (decLt i q))
+  where
+    go : Dec (i < q) → getD slots (base + i) 0 ≤ unknown + b .head
+    go (yes m) = omega (arith, known i m)
+    go (no m) = omega (arith, T .index i (omega arith) l, cell-le heap i (b .head))
+
+-- by what the slot says
+pub by-slot : {heap heap′ st st′ : List ℕ} {b : Bindings} {base i node top : ℕ} {r : Met} → MeetsAt heap heap′ st st′ b base i node r
+    → seen heap b (getD (slotsOf st) (base + i) 0) ≡ found heap (getD (slotsOf st) (base + i) 0) → Slot heap (getD (slotsOf st) (base + i) 0) top → top ≤ unknown
+    → {P : Type 0} → (getD (slotsOf st) (base + i) 0 ≡ unknown → Assigns heap heap′ st st′ b base i node r → P)
+    → ((old : ℕ) → (getD (slotsOf st) (base + i) 0 ≡ unknown → ⊥) → found heap (getD (slotsOf st) (base + i) 0) ≡ Node old
+    → Compared heap heap′ st st′ b old node r → P) → P
+by-slot {heap} {heap′} {st} {st′} {b} {base} {i} {node} {r = r} M e S small {P} binding comparing = go (eqb (getD (slotsOf st) (base + i) 0) unknown) refl
+  where
+    told : (f : Found) → found heap (getD (slotsOf st) (base + i) 0) ≡ f → MeetsBy heap heap′ st st′ b base i node r f
+    told f q = subst (MeetsBy heap heap′ st st′ b base i node r) (e ∙ q) (M .met)
+
+    go : (y : Bool) → eqb (getD (slotsOf st) (base + i) 0) unknown ≡ y → P
+    go true q = let u = eqb-true _ unknown q in binding u (told Unknown (found-mark heap _ u))
+    go false q = let u = eqb-false _ unknown q in found-below S small u λ old low z. comparing old u z (told (Node old) z)
+
+-- what a new cell says
+pub new-found : {heap heap′ : List ℕ} {top node link : ℕ} → Celled heap heap′ top node link → 0 < top → found heap′ (unknown + top) ≡ Node node
+new-found {heap′ = heap′} {top = top} C some =
+    found-cell heap′ (unknown + top) (omega arith) ∙ ap Node (ap (λ c. leftAt heap′ c) (let z : unknown + top - unknown ≡ top = omega arith in z) ∙ C .left-is)
+
+module _ (slots : List ℕ) (base i n : ℕ) (l : i < n) (few : n ≤ 32) where
+  here : getD (slotsFrom slots base 32) i 0 ≡ getD slots (base + i) 0
+  here = view-at slots base i (omega arith)
+
+  -- it is bound
+  pub binds-view : {slots′ : List ℕ} (heap : List ℕ) (node : ℕ) {agrees : Bool} {x : ℕ} → base + i < length slots → getD slots (base + i) 0 ≡ unknown
+      → agrees ≡ true → slots′ ≡ set slots (base + i) x → Meets heap (viewOf slots base n) i node x agrees (viewOf slots′ base n)
+  binds-view heap node {x = x} there u a s = record {
+    binds = λ _. (a, ap (λ s. slotsFrom s base 32) s ∙ view-set slots base i x (omega arith) there, refl);
+    compares = λ d. absurd (d (here ∙ u));
+  }
+
+  -- it is compared
+  pub compares-view : (heap : List ℕ) (node x : ℕ) {agrees : Bool} {old : ℕ} → (getD slots (base + i) 0 ≡ unknown → ⊥)
+      → found heap (getD slots (base + i) 0) ≡ Node old → agrees ≡ same (valueAt heap old) (valueAt heap node)
+      → Meets heap (viewOf slots base n) i node x agrees (viewOf slots base n)
+  compares-view heap node x {old = old} d e a = record {
+    binds = λ u. absurd (d (sym here ∙ u));
+    compares = λ _. (a ∙ ap (λ k. same (valueAt heap k) (valueAt heap node)) (sym (node-or e) ∙ ap (λ s. nodeOr (found heap s)) (sym here)), refl);
+  }
+
+-- the index, once a variable is bound
+pub tells-bound : {heap heap′ slots slots′ : List ℕ} {b r : Bindings} {base q n i node top : ℕ} → Tells heap slots b base q n top → i < n
+    → Linked heap heap′ top node i (b .head) → node < top → top ≤ unknown → top < cellCount → base + i < length slots
+    → slots′ ≡ set slots (base + i) (unknown + top) → r .head ≡ top → Tells heap′ slots′ r base q n (top + 1)
+tells-bound {heap} {heap′} {slots} {slots′} {b} {r} {base} {q} {n} {i} {node} {top} T l C low mark small there s e = record {
+  within = omega arith;
+  index = λ j m h. rw (s, e) (go j m h (eqb j i) refl);
+  outside = λ j m. rw e (other j (λ z. omega arith) ∙ T .outside j m);
 }
+  where
+    node-is : node ≡ unknown → ⊥
+    node-is z = omega arith
+
+    few : b .head < cellCount
+    few = omega (arith, T .within)
+
+    other : (j : ℕ) → (j ≡ i → ⊥) → cellAt heap′ top j ≡ cellAt heap (b .head) j
+    other j d = binds-no-other C (T .within) few node-is j d
+
+    go : (j : ℕ) → q ≤ j → j < n → (y : Bool) → eqb j i ≡ y → getD (set slots (base + i) (unknown + top)) (base + j) 0 ≡ unknown + cellAt heap′ top j
+    go j m h true z =
+        rw (eqb-true j i z) (getD-set-same slots (base + i) (unknown + top) 0 there
+        ∙ ap (λ c. unknown + c) (sym (binds-it C (T .within) few node-is)))
+    go j m h false z =
+        let d = eqb-false j i z in
+        getD-set-other slots (base + i) (base + j) (unknown + top) 0 (λ k. d (omega arith)) ∙ T .index j m h ∙ ap (λ c. unknown + c) (sym (other j d))

@@ -1,16 +1,19 @@
--- The binding state by value (section 2, backward) says which variables of a scope are bound; their nodes stand in lent slots. A view is
--- what state and slots say together: 32 slots, of which the first `len` are variables in scope. Its meaning is the rules' state. Laws:
--- proofs/Bound over views, proofs/Views from the code to views.
+-- The binding state by value (section 2, backward) is the number of its newest cell (specs/Cells). A view is what the slots of a scope say: 32
+-- numbers, of which the first `len` are of variables in scope. Slots are an index, by which the code finds a variable's cell; the state decides
+-- whether the cell counts. Laws: proofs/Bound over views, proofs/Views from the code to views.
 use Prim.Native.Nat.{ℕ, zero, suc, _+_, _-_, _≤_, _<_}
 use mathlib.Core.Path.{_≡_}
 use mathlib.Core.Bool.{Bool, true, false}
 use mathlib.Core.List.{List, [], _∷_}
 use lib.ListN.{length, getD, set}
-use package.Rattle.uses.specs.Sets.{has, Holds, alone, joined}
+use lib.Dec.{ltb}
 use package.Rattle.rules.specs.Val.{same}
 use package.Rattle.rules.specs.Machine.{State}
-use package.Rattle.values.specs.Nodes.{valueAt}
-use package.Rattle.scopes.specs.Slots.{unknown, slotCount, machineOf, slotsOf, stateAt, Slots}
+use package.Rattle.values.specs.Nodes.{valueAt, Room, Heap}
+use package.Rattle.scopes.specs.Slots.{unknown, slotCount, stateCount, Machine, Scope, machineOf, slotsOf, Moved, found, nodeOr, stateAt, Slot, Slots}
+use package.Rattle.scopes.specs.Cells.{cellCount, Linked, cellAt, stateWith}
+use Rattle.scopes.specs.declared.slots.Found.{Found}
+use Rattle.scopes.specs.declared.slots.Found.the-variants.{Node, Unknown}
 use Rattle.scopes.specs.declared.bindings.Bindings.{Bindings}
 use Rattle.scopes.specs.declared.bindings.Met.{Met}
 
@@ -34,23 +37,24 @@ viewOf slots base n = record { slots = slotsFrom slots base 32; len = n }
 unfoldable pub stateOf : List ℕ → View → State
 stateOf heap b = stateAt heap (b .slots) 0 (b .len)
 
--- the state holds nodes below `top`
-pub record Bound (b : View) (top : ℕ) : Type 0 where
+-- the view holds nodes and cells below `top`
+pub record Bound (heap : List ℕ) (b : View) (top : ℕ) : Type 0 where
   pub full : length (b .slots) ≡ 32
   pub few : b .len ≤ 32
-  pub held : Slots (b .slots) (b .len) top
+  pub held : Slots heap (b .slots) (b .len) top
 
 -- a variable comes into scope
-pub record Opens (b : View) (node : ℕ) (r : View) : Type 0 where
-  pub slots : r .slots ≡ set (b .slots) (b .len) node
+pub record Opens (b : View) (x : ℕ) (r : View) : Type 0 where
+  pub slots : r .slots ≡ set (b .slots) (b .len) x
   pub len : r .len ≡ b .len + 1
 
--- a variable is met: bound where it was not known; compared where it was, and the view as it was
-pub record Meets (heap : List ℕ) (b : View) (i node : ℕ) (agrees : Bool) (r : View) : Type 0 where
-  pub binds : getD (b .slots) i 0 ≡ unknown → (agrees ≡ true) × (r .slots ≡ set (b .slots) i node) × (r .len ≡ b .len)
-  pub compares : (getD (b .slots) i 0 ≡ unknown → ⊥) → (agrees ≡ same (valueAt heap (getD (b .slots) i 0)) (valueAt heap node)) × (r ≡ b)
+-- A variable is met with a node: bound where it was not known, by the number `x`; compared where it was, and the view as it was.
+pub record Meets (heap : List ℕ) (b : View) (i node x : ℕ) (agrees : Bool) (r : View) : Type 0 where
+  pub binds : getD (b .slots) i 0 ≡ unknown → (agrees ≡ true) × (r .slots ≡ set (b .slots) i x) × (r .len ≡ b .len)
+  pub compares : (getD (b .slots) i 0 ≡ unknown → ⊥)
+      → (agrees ≡ same (valueAt heap (nodeOr (found heap (getD (b .slots) i 0)))) (valueAt heap node)) × (r ≡ b)
 
--- the newest variable has left: its node, or the mark, and the view of the others
+-- the newest variable has left: its slot's number, and the view of the others
 pub record Left : Type 0 where
   pub newest : ℕ
   pub state : View
@@ -63,25 +67,68 @@ pub record Leaves (b : View) (r : Left) : Type 0 where
 ----------------------------------------------------------------
 -- The state in code
 
--- The state says which of the `n` variables from slot `base` on are bound: those whose slot is not marked.
-pub record Tells (slots : List ℕ) (b : Bindings) (base n : ℕ) : Type 0 where
-  pub within : (i : ℕ) → i < 32 → has (b .bound) i ≡ true → i < n
-  pub bound : (i : ℕ) → i < n → has (b .bound) i ≡ true → getD slots (base + i) 0 ≡ unknown → ⊥
-  pub marked : (i : ℕ) → i < n → has (b .bound) i ≡ false → getD slots (base + i) 0 ≡ unknown
+-- The rules' state that a state by value is, in a scope.
+abbrev pub stateIn : (heap slots : List ℕ) → Bindings → Scope → State
+stateIn heap slots b sc = stateWith heap slots (b .head) sc (sc .n)
 
--- variable `i` can be met: it has a slot, with a node if it is bound
-pub record Meetable (slots : List ℕ) (b : Bindings) (base i top : ℕ) : Type 0 where
-  pub few : i < 32
+-- The slots of the variables from `q` to `n` name the cells that bind them in the state, which binds none from `n` on.
+pub record Tells (heap slots : List ℕ) (b : Bindings) (base q n top : ℕ) : Type 0 where
+  pub within : b .head < top
+  pub index : (i : ℕ) → q ≤ i → i < n → getD slots (base + i) 0 ≡ unknown + cellAt heap (b .head) i
+  pub outside : (i : ℕ) → n ≤ i → cellAt heap (b .head) i ≡ 0
+
+-- What a slot's number says in a state: a cell that is newer than the state does not count.
+unfoldable pub seen : List ℕ → Bindings → ℕ → Found
+seen heap b s = elim (ltb (unknown + b .head) s) [ true ↦ Unknown | false ↦ found heap s ]
+
+-- a slot's number can be looked up in a state
+pub record Looks (heap : List ℕ) (b : Bindings) (number top : ℕ) : Type 0 where
+  pub graph : Heap heap top
+  pub slot : Slot heap number top
+  pub small : top ≤ unknown
+  pub within : b .head < top
+
+-- a cell can be made for variable `i`
+pub record CellReady (heap st : List ℕ) (b : Bindings) (i : ℕ) : Type 0 where
+  pub full : length st ≡ stateCount
+  pub graph : Heap heap (machineOf st .top)
+  pub room : Room heap (machineOf st .top + 1)
+  pub small : machineOf st .top < cellCount
+  pub within : b .head < machineOf st .top
+  pub few : i ≤ 32
+
+-- A cell is made, with the left part `x`: the state that it is the newest cell of.
+pub record Adds (heap heap′ st st′ : List ℕ) (b : Bindings) (x i : ℕ) (r : Bindings) : Type 0 where
+  pub linked : Linked heap heap′ (machineOf st .top) x i (b .head)
+  pub moved : Moved st st′ (record { top = machineOf st .top + 1; fuel = machineOf st .fuel })
+  pub head : r .head ≡ machineOf st .top
+
+-- variable `i` can be met: it has a slot, which names a node or a cell that are there
+pub record Meetable (heap st : List ℕ) (b : Bindings) (base i : ℕ) : Type 0 where
+  pub cell : CellReady heap st b i
   pub there : base + i < slotCount
-  pub node : has (b .bound) i ≡ true → getD slots (base + i) 0 < top
+  pub slot : Slot heap (getD (slotsOf st) (base + i) 0) (machineOf st .top)
 
--- It is met: bound where it was not, and its slot holds the node; compared where it was, and state and slots are as they were.
-pub record MeetsIn (heap slots slots′ : List ℕ) (b : Bindings) (base i node : ℕ) (r : Met) : Type 0 where
-  pub binds : has (b .bound) i ≡ false → (r .agrees ≡ true) × Holds (r .state .bound) (joined (has (b .bound)) (alone i)) × (slots′ ≡ set slots (base + i) node)
-  pub compares : has (b .bound) i ≡ true → (r .agrees ≡ same (valueAt heap (getD slots (base + i) 0)) (valueAt heap node)) × (r .state ≡ b) × (slots′ ≡ slots)
+-- it is compared with what it is bound to, and all is as it was
+pub record Compared (heap heap′ st st′ : List ℕ) (b : Bindings) (old node : ℕ) (r : Met) : Type 0 where
+  pub agrees : r .agrees ≡ same (valueAt heap old) (valueAt heap node)
+  pub heap-same : heap′ ≡ heap
+  pub numbers-same : st′ ≡ st
+  pub state-same : r .state ≡ b
 
--- The same of the numbers that a run is lent: the machine is as it was.
-pub record MeetsAt (heap st st′ : List ℕ) (b : Bindings) (base i node : ℕ) (r : Met) : Type 0 where
+-- it is bound, by a new cell, which its slot names
+pub record Assigns (heap heap′ st st′ : List ℕ) (b : Bindings) (base i node : ℕ) (r : Met) : Type 0 where
+  pub agrees : r .agrees ≡ true
+  pub linked : Linked heap heap′ (machineOf st .top) node i (b .head)
   pub lengths : length st′ ≡ length st
-  pub machine : machineOf st′ ≡ machineOf st
-  pub met : MeetsIn heap (slotsOf st) (slotsOf st′) b base i node r
+  pub slots : slotsOf st′ ≡ set (slotsOf st) (base + i) (unknown + machineOf st .top)
+  pub machine : machineOf st′ ≡ record { top = machineOf st .top + 1; fuel = machineOf st .fuel }
+  pub head : r .state .head ≡ machineOf st .top
+
+-- by what the state says of the variable
+abbrev pub MeetsBy : (heap heap′ st st′ : List ℕ) → Bindings → ℕ → ℕ → ℕ → Met → Found → Type 0
+MeetsBy heap heap′ st st′ b base i node r (Node old) = Compared heap heap′ st st′ b old node r
+MeetsBy heap heap′ st st′ b base i node r Unknown = Assigns heap heap′ st st′ b base i node r
+
+pub record MeetsAt (heap heap′ st st′ : List ℕ) (b : Bindings) (base i node : ℕ) (r : Met) : Type 0 where
+  pub met : MeetsBy heap heap′ st st′ b base i node r (seen heap b (getD (slotsOf st) (base + i) 0))

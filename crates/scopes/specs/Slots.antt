@@ -1,6 +1,6 @@
--- Scopes in slots: slot base + i holds variable i's node, or a mark if the variable is not known. A scope is the state that the rules'
--- runs have (rules/specs/Machine). Laws: proofs/Scopes.
-use Prim.Native.Nat.{ℕ, zero, suc, _+_, _<_, _/_, _%_}
+-- Scopes in slots: slot base + i holds variable i's node; backward, the cell that says what the variable is bound to (specs/Cells); or a
+-- mark if the variable is not known. A scope is the state that the rules' runs have (rules/specs/Machine). Laws: proofs/Scopes.
+use Prim.Native.Nat.{ℕ, zero, suc, _+_, _-_, _<_, _/_, _%_}
 use mathlib.Core.Path.{_≡_}
 use mathlib.Core.Bool.{true, false}
 use mathlib.Core.Option.{Option, none, some}
@@ -10,13 +10,13 @@ use lib.ListN.{length, getD, set, drop}
 use lib.Dec.{eqb, ltb}
 use package.Rattle.rules.specs.Val.{Val}
 use package.Rattle.rules.specs.Machine.{State}
-use package.Rattle.values.specs.Nodes.{valueAt}
+use package.Rattle.values.specs.Nodes.{leftAt, valueAt}
 use Rattle.scopes.specs.declared.slots.Found.{Found}
 use Rattle.scopes.specs.declared.slots.Found.the-variants.{Node, Unknown}
 
--- the mark
+-- the mark; a number above it names a cell
 unfoldable pub unknown : ℕ
-unknown = 4294967295
+unknown = 2147483648
 
 -- how many slots there are: room for the variables of a run of the greatest height
 abbrev pub slotCount : ℕ
@@ -65,24 +65,42 @@ pub record Written (st st′ : List ℕ) (at node : ℕ) : Type 0 where
 ----------------------------------------------------------------
 -- Slots
 
--- what a slot's number says
-unfoldable pub found : ℕ → Found
-found node = elim (eqb node unknown) [ true ↦ Unknown | false ↦ Node node ]
+-- What a slot's number says: a node below the mark, nothing at it, and above it what the cell is bound to.
+unfoldable pub found : List ℕ → ℕ → Found
+found heap s = elim (ltb s unknown) [
+  | true ↦ Node s
+  | false ↦ elim (eqb s unknown) [ true ↦ Unknown | false ↦ Node (leftAt heap (s - unknown)) ]
+]
 
 -- variable `i` of `n`
-unfoldable pub slotAt : List ℕ → ℕ → ℕ → ℕ → Found
-slotAt slots base n i = elim (ltb i n) [ true ↦ found (getD slots (base + i) 0) | false ↦ Unknown ]
+unfoldable pub slotAt : List ℕ → List ℕ → ℕ → ℕ → ℕ → Found
+slotAt heap slots base n i = elim (ltb i n) [ true ↦ found heap (getD slots (base + i) 0) | false ↦ Unknown ]
 
 -- what is known of a variable, on the heap that its node is in
 abbrev pub meaning : List ℕ → Found → Option Val
 meaning heap (Node node) = some (valueAt heap node)
 meaning heap Unknown = none
 
+-- its node: node 0 is the unit, which a variable that is never met is
+unfoldable pub nodeOr : Found → ℕ
+nodeOr (Node node) = node
+nodeOr Unknown = 0
+
 -- the scope of `n` variables, the newest first
 unfoldable pub stateAt : List ℕ → List ℕ → ℕ → ℕ → State
 stateAt heap slots base zero = []
-stateAt heap slots base (suc n) = meaning heap (found (getD slots (base + n) 0)) ∷ stateAt heap slots base n
+stateAt heap slots base (suc n) = meaning heap (found heap (getD slots (base + n) 0)) ∷ stateAt heap slots base n
 
--- every slot below `m` is marked, or holds a node below `top`
-pub record Slots (slots : List ℕ) (m top : ℕ) : Type 0 where
-  pub held : (j : ℕ) → j < m → (getD slots j 0 ≡ unknown) ⊎ (getD slots j 0 < top)
+-- The number of a cell below `top`, which is bound to a node below `top`.
+pub record Cell (heap : List ℕ) (s top : ℕ) : Type 0 where
+  pub above : unknown < s
+  pub there : s - unknown < top
+  pub node : leftAt heap (s - unknown) < top
+
+-- a slot is marked, or holds a node below `top`, or such a cell
+abbrev pub Slot : List ℕ → ℕ → ℕ → Type 0
+Slot heap s top = (s ≡ unknown) ⊎ ((s < top) ⊎ Cell heap s top)
+
+-- every slot below `m`
+pub record Slots (heap slots : List ℕ) (m top : ℕ) : Type 0 where
+  pub held : (j : ℕ) → j < m → Slot heap (getD slots j 0) top

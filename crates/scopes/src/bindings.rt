@@ -1,20 +1,23 @@
-// The binding state of a backward run, by value: which variables in scope are bound. Their nodes stand in the lent slots (crate::slots), where
-// a variable that is not bound has the mark. "A variable met again backward must have the same value" (section 2): meeting a variable binds
-// it, or compares, as the state says, and hands the state back.
+// The binding state of a backward run, by value: the number of its newest cell (specs/Cells). "A variable met again backward must have the same
+// value" (section 2): meeting a variable binds it, by a new cell, or compares, as the state says, and hands the state back. Slots name the
+// cells of the variables in scope, so that none is searched for; a cell that is newer than the state does not count.
 use crate::slots;
+use crate::slots::Found;
+use crate::slots::UNKNOWN;
 use crate::state;
 use crate::state::STATE;
-use uses::Uses;
 ghost use mathlib.Core.Path.{_≡_};
 ghost use Prim.Native.Nat.{_<_};
-ghost use Rattle.uses.specs.Sets.{has, Holds, firsts, below};
-ghost use Rattle.values.specs.Nodes.{Heap};
-ghost use lib.ListN.{length};
-ghost use Rattle.scopes.specs.Slots.{stateCount, machineOf, slotsOf};
-ghost use Rattle.scopes.specs.Bindings.{Meetable, MeetsAt};
+ghost use lib.ListN.{getD};
+ghost use Rattle.scopes.specs.Slots.{unknown, slotCount, machineOf, slotsOf, nodeOr};
+ghost use Rattle.scopes.specs.Bindings.{seen, Looks, CellReady, Adds, Meetable, MeetsAt};
 
+// Cells and nodes have numbers below this one.
+const CELLS: u32 = 262144;
+
+// The newest cell, 0 for the empty state.
 pub struct Bindings {
-    pub bound: Uses,
+    pub head: u32,
 }
 
 pub struct Met {
@@ -23,59 +26,76 @@ pub struct Met {
 }
 
 impl Bindings {
-    // The first n variables are bound, and no other.
-    pub fn first(n: u8) -> Self
-        requires { ⌜ n < 32 ⌝ }
-        ensures { λ r. ⌜ Holds (r .bound) (firsts n) ⌝ }
+    // No variable is bound.
+    pub fn none() -> Self
+        ensures { λ r. ⌜ r .head ≡ 0 ⌝ }
     {
-        Self {
-            bound: Uses::first(n),
-        }
+        Self { head: 0 }
     }
 
-    // Is variable i bound?
-    pub fn knows(self, i: u8) -> bool
-        requires { ⌜ i < 32 ⌝ }
-        ensures { λ r. ⌜ r ≡ has (self .bound) i ⌝ }
+    // What a slot's number says in this state.
+    fn seen(self, ws: &[u8], top: u32, number: u32) -> Found
+        requires { ⌜ Looks (now ws) self number top ⌝ }
+        ensures { λ r. ⌜ r ≡ seen (now (ws .entry)) self number ⌝ }
     {
-        let bound = self.bound;
-        bound.contains(i)
+        if UNKNOWN + self.head < number {
+            return Found::Unknown;
+        }
+        slots::known(ws, top, number)
+    }
+
+    // A cell of variable i is made: the state with it.
+    fn with_cell(self, ws: &mut [u8], st: &mut [u32; STATE], part: u32, i: u16) -> Bindings
+        requires { ⌜ CellReady (now ws) (now st) self i ⌝ }
+        ensures { λ r. ⌜ Adds (now (ws .entry)) (now (ws .exit)) (now (st .entry)) (now (st .exit)) self part i r ⌝ }
+    {
+        let top = state::top(st);
+        values::nodes::cell(ws, top, part, CELLS * octets::wide32(i) + self.head);
+        state::grow(st);
+        Bindings { head: top }
     }
 
     // Variable i of the scope from slot `base` on is met with a node's value: it is bound, or compared.
-    pub fn meet(self, st: &mut [u32; STATE], base: usize, i: u8, node: u32, ws: &[u8]) -> Met
-        requires { ⌜ length (now st) ≡ stateCount ⌝ }
-        requires { ⌜ Heap (now ws) (machineOf (now st) .top) ⌝ }
-        requires { ⌜ Meetable (slotsOf (now st)) self base i (machineOf (now st) .top) ⌝ }
+    pub fn meet(self, ws: &mut [u8], st: &mut [u32; STATE], base: usize, i: u16, node: u32) -> Met
+        requires { ⌜ Meetable (now ws) (now st) self base i ⌝ }
         requires { ⌜ node < machineOf (now st) .top ⌝ }
-        ensures { λ r. ⌜ MeetsAt (now (ws .entry)) (now (st .entry)) (now (st .exit)) self base i node r ⌝ }
+        ensures { λ r. ⌜ MeetsAt (now (ws .entry)) (now (ws .exit)) (now (st .entry)) (now (st .exit)) self base i node r ⌝ }
     {
-        let at = base + i as usize;
-        let bound = self.bound;
-        if bound.contains(i) {
-            let agrees = values::nodes::same(ws, state::top(st), slots::at(st, at), node);
-            return Met {
-                agrees: agrees,
+        let top = state::top(st);
+        let at = base + octets::wide_index(i);
+        match self.seen(ws, top, slots::at(st, at)) {
+            Found::Node(old) => Met {
+                agrees: values::nodes::same(ws, top, old, node),
                 state: self,
-            };
-        }
-        slots::bind(st, at, node);
-        Met {
-            agrees: true,
-            state: Bindings {
-                bound: bound.union(Uses::only(i)),
             },
+            Found::Unknown => {
+                let state = self.with_cell(ws, st, node, i);
+                slots::bind(st, at, UNKNOWN + top);
+                Met {
+                    agrees: true,
+                    state: state,
+                }
+            }
         }
     }
 
-    // Variable n, the newest, leaves the scope: the others are bound as they were.
-    pub fn left(self, n: u8) -> Bindings
-        requires { ⌜ n < 32 ⌝ }
-        ensures { λ r. ⌜ Holds (r .bound) (below n (has (self .bound))) ⌝ }
+    // The node of the variable that has this slot; node 0, the unit, if it was never met.
+    pub fn node_of(self, ws: &[u8], st: &[u32; STATE], slot: usize) -> u32
+        requires { ⌜ slot < slotCount ⌝ }
+        requires { ⌜ Looks (now ws) self (getD (slotsOf (now st)) slot 0) (machineOf (now st) .top) ⌝ }
+        ensures { λ r. ⌜ r ≡ nodeOr (seen (now (ws .entry)) self (getD (slotsOf (now (st .entry))) slot 0)) ⌝ }
     {
-        let bound = self.bound;
-        Bindings {
-            bound: bound.among_first(n),
+        match self.seen(ws, state::top(st), slots::at(st, slot)) {
+            Found::Node(node) => node,
+            Found::Unknown => 0,
         }
+    }
+
+    // The variables from n on leave the scope: the others are bound as they were.
+    pub fn left(self, ws: &mut [u8], st: &mut [u32; STATE], n: u16) -> Bindings
+        requires { ⌜ CellReady (now ws) (now st) self n ⌝ }
+        ensures { λ r. ⌜ Adds (now (ws .entry)) (now (ws .exit)) (now (st .entry)) (now (st .exit)) self unknown n r ⌝ }
+    {
+        self.with_cell(ws, st, UNKNOWN, n)
     }
 }

@@ -32,20 +32,20 @@ made-old heap top v h = record { answer = sym (fits-false v h); new = λ e. absu
 -- Nodes that may be put
 
 module _ (heap : List ℕ) (top : ℕ) (h : Heap heap top) (room : Room heap (top + 1)) where
-  pub unit-ready : NodeReady heap top 0 unitPrint 1 0 0
-  unit-ready =
+  pub unit-ready : (a b : ℕ) → NodeReady heap top 0 unitPrint 1 a b
+  unit-ready a b =
       record {
         right = h;
         room = room;
         parts = left refl;
         kind = omega arith;
-        print = sym (print-unit (valueAt heap 0) (valueAt heap 0));
-        len = sym (size-unit (valueAt heap 0) (valueAt heap 0));
+        print = sym (print-unit (valueAt heap a) (valueAt heap b));
+        len = sym (size-unit (valueAt heap a) (valueAt heap b));
       }
 
-  pub unit-fits : fits (ofKind 0 (valueAt heap 0) (valueAt heap 0)) ≡ true
+  pub unit-fits : (a b : ℕ) → fits (ofKind 0 (valueAt heap a) (valueAt heap b)) ≡ true
   unfolding maxValueBytes
-  unit-fits = fits-true (ofKind 0 (valueAt heap 0) (valueAt heap 0)) (omega (arith, size-unit (valueAt heap 0) (valueAt heap 0)))
+  unit-fits a b = fits-true (ofKind 0 (valueAt heap a) (valueAt heap b)) (omega (arith, size-unit (valueAt heap a) (valueAt heap b)))
 
   pub single-ready : {k p q n a : ℕ} → a < top → Single k → q ≡ printAt heap a → p ≡ mixed k q 0 → n ≡ lengthAt heap a
       → NodeReady heap top k p (n + 1) a a

@@ -155,3 +155,12 @@ pub record Made (heap heap′ : List ℕ) (top : ℕ) (v : Val) (ok : Bool) : Ty
   pub answer : ok ≡ fits v
   pub new : ok ≡ true → Grown heap heap′ top v
   pub old : ok ≡ false → heap′ ≡ heap
+
+----------------------------------------------------------------
+-- A cell
+
+-- A cell at `top`: a unit, of which the two parts mean nothing as a value, so that they may say something else (scopes/specs/Cells).
+pub record Celled (heap heap′ : List ℕ) (top left right : ℕ) : Type 0 where
+  pub grown : Grown heap heap′ top unit
+  pub left-is : leftAt heap′ top ≡ left
+  pub right-is : rightAt heap′ top ≡ right

@@ -5,7 +5,7 @@ ghost use mathlib.Core.Bool.{true};
 ghost use Rattle.rules.specs.Limits.{fits};
 ghost use Rattle.rules.specs.Val.{unit, pair, same};
 ghost use Rattle.values.specs.Nodes.{kindAt, printAt, lengthAt, headAt, leftAt, rightAt, partAt, leftShorter, putNode, Room};
-ghost use Rattle.values.specs.Nodes.{mixed, alikeAt, ofKind, Single, valueAt, Heap, NodeReady, Grown, Made};
+ghost use Rattle.values.specs.Nodes.{mixed, alikeAt, ofKind, Single, valueAt, Heap, NodeReady, Grown, Made, Celled};
 ghost use Rattle.values.specs.Loads.{PlaceReady, overLast, LoadReady, LoadedFrom};
 ghost use Rattle.values.specs.Stores.{StoreReady, StoreDone};
 
@@ -162,6 +162,15 @@ pub fn unit(ws: &mut [u8], top: u32)
     ensures { λ _. ⌜ Grown (now (ws .entry)) (now (ws .exit)) top unit ⌝ }
 {
     append(ws, top, UNIT, UNIT_PRINT, 1, 0, 0);
+}
+
+// A cell at node `top`: a unit, whose parts mean nothing as a value and say what the caller says.
+pub fn cell(ws: &mut [u8], top: u32, left: u32, right: u32)
+    requires { ⌜ Heap (now ws) top ⌝ }
+    requires { ⌜ Room (now ws) (top + 1) ⌝ }
+    ensures { λ _. ⌜ Celled (now (ws .entry)) (now (ws .exit)) top left right ⌝ }
+{
+    put_node(ws, top, UNIT, UNIT_PRINT, 1, left, right);
 }
 
 // A value over one other (kind 1 inl, 2 inr, 4 roll), at node `top`: false, and nothing made, where it is over the limit.

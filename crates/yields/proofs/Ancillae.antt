@@ -14,9 +14,8 @@ use package.Rattle.rules.specs.Yield.{mayBe}
 use package.Rattle.rules.proofs.Scope.{look-skip, look-newest, look-none}
 use package.Rattle.values.specs.Nodes.{valueAt, Heap, Agree}
 use package.Rattle.values.proofs.Heaps.{value-kept}
-use package.Rattle.scopes.specs.Slots.{unknown, slotAt, meaning, stateAt}
-use package.Rattle.scopes.proofs.Marks.{found-node, slot-in, slot-out}
-use package.Rattle.scopes.specs.declared.slots.Found.the-variants.{Node, Unknown}
+use package.Rattle.scopes.specs.Slots.{unknown, meaning, stateAt}
+use package.Rattle.scopes.proofs.Marks.{found-node}
 use package.Rattle.yields.proofs.Judging.{judged-yes, judged-as}
 use package.Rattle.yields.specs.Yields.{Judges, ancillaeAt, Ancillae}
 
@@ -56,39 +55,16 @@ look-other heap slots base q i l = look-none _ i (let z : length (ancillaeAt hea
 ----------------------------------------------------------------
 -- What the slot of a variable says of it
 
-module _ {slots : List ℕ} {base q top : ℕ} (A : Ancillae slots base q top) (small : top ≤ unknown) (i : ℕ) where
-  slot-ancilla : i < q → slotAt slots base q i ≡ Node (getD slots (base + i) 0)
-  slot-ancilla l =
-      slot-in slots base q i l ∙ found-node (getD slots (base + i) 0) (λ e. let z : getD slots (base + i) 0 < top = A .known i l in omega arith)
+-- an ancilla parameter yields its own value, another variable any
+module _ (heap slots : List ℕ) (base q i : ℕ) (v : Val) where
+  pub yields-own : i < q → {node r : ℕ} {exact : Bool} → node ≡ getD slots (base + i) 0 → Judges exact r (same (valueAt heap node) v)
+      → Judges exact r (mayBe (look (ancillaeAt heap slots base q) i) v)
+  unfolding mayBe
+  yields-own l e p = judged-as p (sym (ap (λ o. mayBe o v) (look-ancilla heap slots base q i l ∙ ap (λ n. some (valueAt heap n)) (sym e))))
 
-  pub slot-below : {node : ℕ} → slotAt slots base q i ≡ Node node → node < top
-  slot-below {node} e = go (decLt i q)
-    where
-      go : Dec (i < q) → node < top
-      go (yes l) =
-          let s : slotAt slots base q i ≡ Node (getD slots (base + i) 0) = slot-ancilla l in
-          let z : getD slots (base + i) 0 ≡ node = cc in rw (← z) (A .known i l)
-      go (no l) =
-          let s : slotAt slots base q i ≡ Unknown = slot-out slots base q i (omega arith) in
-          let z : _≡_ {A = ℕ} 0 1 = cc in absurd (omega arith)
-
-  pub look-slot : (heap : List ℕ) → look (ancillaeAt heap slots base q) i ≡ meaning heap (slotAt slots base q i)
-  look-slot heap = go (decLt i q)
-    where
-      go : Dec (i < q) → look (ancillaeAt heap slots base q) i ≡ meaning heap (slotAt slots base q i)
-      go (yes l) = look-ancilla heap slots base q i l ∙ sym (ap (meaning heap) (slot-ancilla l))
-      go (no l) = look-other heap slots base q i (omega arith) ∙ sym (ap (meaning heap) (slot-out slots base q i (omega arith)))
-
-  -- an ancilla parameter yields its own value, another variable any
-  module _ (heap : List ℕ) (v : Val) where
-    pub yields-own : {node r : ℕ} {exact : Bool} → slotAt slots base q i ≡ Node node → Judges exact r (same (valueAt heap node) v)
-        → Judges exact r (mayBe (look (ancillaeAt heap slots base q) i) v)
-    unfolding mayBe
-    yields-own e p = judged-as p (sym (ap (λ o. mayBe o v) (look-slot heap ∙ ap (meaning heap) e)))
-
-    pub yields-any : {exact : Bool} → slotAt slots base q i ≡ Unknown → Judges exact 2 (mayBe (look (ancillaeAt heap slots base q) i) v)
-    unfolding mayBe
-    yields-any e = judged-yes (ap (λ o. mayBe o v) (look-slot heap ∙ ap (meaning heap) e))
+  pub yields-any : q ≤ i → {exact : Bool} → Judges exact 2 (mayBe (look (ancillaeAt heap slots base q) i) v)
+  unfolding mayBe
+  yields-any l = judged-yes (ap (λ o. mayBe o v) (look-other heap slots base q i l))
 
 ----------------------------------------------------------------
 -- Scopes
@@ -103,7 +79,7 @@ unfolding stateAt ancillaeAt
 state-ancillae heap slots base zero top A small = refl
 state-ancillae heap slots base (suc q) top A small =
     ap₂ _∷_
-    (ap (meaning heap) (found-node _ (λ e. let z : getD slots (base + q) 0 < top = A .known q (omega arith) in omega arith)))
+    (ap (meaning heap) (found-node heap _ (let z : getD slots (base + q) 0 < top = A .known q (omega arith) in omega arith)))
     (state-ancillae heap slots base q top (fewer A) small)
 
 -- slots that agree below the parameters' end

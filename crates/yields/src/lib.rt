@@ -14,7 +14,7 @@ ghost use Rattle.decoded.specs.Rows.{kindIn};
 ghost use Rattle.yields.specs.Yields.{ancillaeIn, AncillaeIn, Judges, Asks, MayYield, YieldsIn, Wraps, Binds};
 use decoded::rows;
 use decoded::rows::CODE;
-use scopes::slots::Found;
+use scopes::slots;
 use scopes::state;
 use scopes::state::STATE;
 use values::nodes;
@@ -33,12 +33,12 @@ fn yield_variable(ws: &[u8], st: &[u32; STATE], scope: u64, i: u16, node: u32, e
     requires { ⌜ (node < machineOf (now st) .top) × (machineOf (now st) .top ≤ unknown) ⌝ }
     ensures { λ r. ⌜ Judges exact r (mayBe (look (ancillaeIn (now (ws .entry)) (now (st .entry)) scope) i) (valueAt (now (ws .entry)) node)) ⌝ }
 {
-    let base = state::base_in(scope);
-    let q = state::ancillae_in(scope);
-    match scopes::slots::find(st, base, q, i) {
-        Found::Node(known) => agree(ws, st, known, node, exact),
-        Found::Unknown => YES,
+    let v = octets::wide_index(i);
+    if v < state::ancillae_in(scope) {
+        let known = slots::at(st, state::base_in(scope) + v);
+        return agree(ws, st, known, node, exact);
     }
+    YES
 }
 
 // Do two nodes have the same value, exactly or at a glance?

@@ -1,51 +1,64 @@
+use Prim.Native.Nat.{_+_}
 use native.Mathlib.Omega.{arith}
-use mathlib.Core.Path.{_≡_, sym, _∙_}
-use Rattle.values.specs.Nodes.{valueAt}
-use Rattle.scopes.specs.Slots.{slotAt}
+use mathlib.Core.Path.{_≡_, ap₂, _∙_}
+use lib.ListN.{getD}
 use borrow.Author.Needs.{needs}
-use Rattle.yields.proofs.Ancillae.{slot-below, yields-own, yields-any}
+use Rattle.values.specs.Nodes.{valueAt}
+use Rattle.scopes.specs.Slots.{slotsOf, scopeIn}
+use Rattle.yields.proofs.Ancillae.{yields-own, yields-any}
 use Rattle.yields.proofs.yield_variable.Statement.{statement}
 use Rattle.yields.proofs.yield_variable.Tie as tie
 
-base-in-requires : tie.Need-base-in-requires
-base-in-requires c κs = search needs
+wide-index-requires : tie.Need-wide-index-requires
+wide-index-requires c κs = search needs
 
 ancillae-in-requires : tie.Need-ancillae-in-requires
 ancillae-in-requires c κs = search needs
 
-find-requires : tie.Need-find-requires
-find-requires c κs = let q = c .ancillae-in .ensures in let b = c .before .base-in .ensures in omega (arith, c .before .before .before .pre .1 .0 .there)
+base-in-requires : tie.Need-base-in-requires
+base-in-requires c κs = search needs
 
-enum-known-known : tie.Need-enum-known-known
-enum-known-known c = search needs
+add-at : tie.Need-add-at
+add-at c = search needs
+
+at-requires : tie.Need-at-requires
+at-requires c κs = search needs
 
 agree-requires : tie.Need-agree-requires
-agree-requires c κs = let start = c .before .before .before .before .before .before .before in
-    let slot = rw (c .before .before .before .before .before .base-in .ensures, c .before .before .before .before .ancillae-in .ensures) at (sym (c .before .before .before .find .ensures) ∙ c .before .known .given .1) in
-    (start .pre .0, (slot-below (start .pre .1 .0) (start .pre .1 .1 .1) (start .args .i) slot, start .pre .1 .1 .0))
-
-enum-told : tie.Need-enum-told
-enum-told c = search needs
+agree-requires c κs =
+    let b = c .before .base-in .ensures in
+    let q = c .before .before .before .ancillae-in .ensures in
+    let v = c .before .before .before .before .wide-index .ensures .0 in
+    let start = c .before .before .before .before .before .before in
+    let low = c .before .before .if1 in
+    (start .pre .0, (rw (c .at .ensures, b) (start .pre .1 .0 .known _ (omega arith)), start .pre .1 .1 .0))
 
 returns : tie.Need-returns
-returns c = let start = c .before .before .before .before .before .before .before .before in
-    let slot = rw (c .before .before .before .before .before .before .base-in .ensures, c .before .before .before .before .before .ancillae-in .ensures) at (sym (c .before .before .before .before .find .ensures) ∙ c .before .before .known .given .1) in
-    yields-own (start .pre .1 .0) (start .pre .1 .1 .1) (start .args .i) (start .args .ws .now) _ slot (c .agree .ensures)
+returns c =
+    let b = c .before .before .base-in .ensures in
+    let q = c .before .before .before .before .ancillae-in .ensures in
+    let v = c .before .before .before .before .before .wide-index .ensures .0 in
+    let a = c .before .before .before .before .before .before .before .args in
+    yields-own (a .ws .now) (slotsOf (a .st .now)) (scopeIn (a .scope) .base) (scopeIn (a .scope) .q) (a .i) (valueAt (a .ws .now) (a .node))
+    (omega arith)
+    (c .before .at .ensures ∙ ap₂ (λ base i. getD (slotsOf (a .st .now)) (base + i) 0) b v) (c .agree .ensures)
 
 returns-2 : tie.Need-returns-2
-returns-2 c = let start = c .before .before .before .before .before .before in
-    let slot = rw (c .before .before .before .before .base-in .ensures, c .before .before .before .ancillae-in .ensures) at (sym (c .before .before .find .ensures) ∙ c .enum-told .given .1) in
-    yields-any (start .pre .1 .0) (start .pre .1 .1 .1) (start .args .i) (start .args .ws .now) (valueAt (start .args .ws .now) (start .args .node)) slot
+returns-2 c =
+    let q = c .before .ancillae-in .ensures in
+    let v = c .before .before .wide-index .ensures .0 in
+    let a = c .before .before .before .before .args in
+    yields-any (a .ws .now) (slotsOf (a .st .now)) (scopeIn (a .scope) .base) (scopeIn (a .scope) .q) (a .i) (valueAt (a .ws .now) (a .node)) (omega arith)
 
 pub yield-variable-spec : {M : Type 1} → statement M
 yield-variable-spec =
     tie.close
     (tie.spec
-    base-in-requires
+    wide-index-requires
     ancillae-in-requires
-    find-requires
-    enum-known-known
+    base-in-requires
+    add-at
+    at-requires
     agree-requires
-    enum-told
     returns
     returns-2)

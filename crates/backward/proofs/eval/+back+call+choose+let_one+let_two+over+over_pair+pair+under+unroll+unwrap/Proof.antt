@@ -36,9 +36,9 @@ use Rattle.backward.proofs.eval.+back+call+choose+let_one+let_two+over+
 use Rattle.backward.proofs.eval.+back+call+choose+let_one+let_two+over+over_pair+pair+under+unroll+unwrap.Proof.Entering.{back-fuel-requires, back-refuse-requires, back-returns, back-refuse-requires-2, back-returns-2, back-spend-requires, back-kind-of-requires, back-variable-requires, back-unit-requires, back-unwrap-requires, back-unwrap-requires-2, back-pair-requires, back-let-one-requires, back-let-two-requires, back-choose-requires, back-call-requires, back-unwrap-requires-3, back-unroll-requires, back-refuse-requires-3, back-same-length, back-returns-3, back-same-length-2, back-returns-4, back-same-length-3, back-returns-5, back-same-length-4, back-returns-6, back-same-length-5, back-returns-7, back-same-length-6, back-returns-8, back-same-length-7, back-returns-9, back-same-length-8, back-returns-10, back-same-length-9, back-returns-11, back-same-length-10, back-returns-12, back-same-length-11, back-returns-13, back-returns-14}
 use Rattle.backward.proofs.eval.+back+call+choose+let_one+let_two+over+over_pair+pair+under+unroll+unwrap.Proof.Values.{over-top-requires, over-single-requires, over-grow-requires, over-back-requires, over-same-length, over-returns, over-fuel-requires, over-long-requires, over-same-length-2, over-returns-2, over-pair-top-requires, over-pair-pair-requires, over-pair-grow-requires, over-pair-back-requires, over-pair-same-length, over-pair-returns, over-pair-fuel-requires, over-pair-long-requires, over-pair-same-length-2, over-pair-returns-2, under-end-of-requires, under-bind-requires, under-wider-requires, under-back-requires, under-same-length, under-returns}
 use Rattle.backward.proofs.eval.+back+call+choose+let_one+let_two+over+over_pair+pair+under+unroll+unwrap.Proof.Parts.{unwrap-kind-of-requires, unwrap-second-of-requires, unwrap-left-of-requires, unwrap-sub-back, unwrap-back-requires, unwrap-same-length, unwrap-returns, unwrap-differ-requires, unwrap-same-length-2, unwrap-returns-2, pair-kind-of-requires, pair-refuse-requires, pair-same-length, pair-returns, pair-first-of-requires, pair-second-of-requires, pair-left-of-requires, pair-right-of-requires, pair-sub-h, pair-back-requires, pair-same-length-2, pair-returns-2, pair-back-requires-2, pair-same-length-3, pair-returns-3, unroll-second-of-requires, unroll-sub-over, unroll-over-requires, unroll-same-length, unroll-returns}
-use Rattle.backward.proofs.eval.+back+call+choose+let_one+let_two+over+over_pair+pair+under+unroll+unwrap.Proof.Lets.{let-one-first-of-requires, let-one-second-of-requires, let-one-sub-h, let-one-under-requires, let-one-same-length, let-one-returns, let-one-leave-requires, let-one-outer-requires, let-one-back-requires, let-one-same-length-2, let-one-returns-2, let-two-first-of-requires, let-two-second-of-requires, let-two-sub-h, let-two-end-of-requires, let-two-bind-requires, let-two-wider-requires, let-two-under-requires, let-two-same-length, let-two-returns, let-two-leave-requires, let-two-outer-requires, let-two-leave-requires-2, let-two-outer-requires-2, let-two-over-pair-requires, let-two-same-length-2, let-two-returns-2}
+use Rattle.backward.proofs.eval.+back+call+choose+let_one+let_two+over+over_pair+pair+under+unroll+unwrap.Proof.Lets.{let-one-first-of-requires, let-one-second-of-requires, let-one-sub-h, let-one-under-requires, let-one-same-length, let-one-returns, let-one-leave-requires, let-one-outer-requires, let-one-back-requires, let-one-same-length-2, let-one-returns-2, let-two-first-of-requires, let-two-second-of-requires, let-two-sub-h, let-two-end-of-requires, let-two-bind-requires, let-two-wider-requires, let-two-under-requires, let-two-same-length, let-two-returns, let-two-leave-requires, let-two-outer-requires, let-two-leave-requires-2, let-two-over-pair-requires, let-two-same-length-2, let-two-returns-2}
 use Rattle.backward.proofs.eval.+back+call+choose+let_one+let_two+over+over_pair+pair+under+unroll+unwrap.Proof.Cases.{choose-first-of-requires, choose-second-of-requires, choose-yields-requires, choose-branch-of-requires, choose-side-of-requires, choose-sub-h, choose-under-requires, choose-same-length, choose-returns, choose-leave-requires, choose-outer-requires, choose-over-requires, choose-same-length-2, choose-returns-2}
-use Rattle.backward.proofs.eval.+back+call+choose+let_one+let_two+over+over_pair+pair+under+unroll+unwrap.Proof.Calls.{call-third-of-requires, call-wide-index-requires, call-gather-requires, call-same-length, call-returns, call-first-of-requires, call-body-of-requires, call-cast-first, call-first-requires, call-end-of-requires, call-scope-requires, call-sub-h, call-under-requires, call-same-length-2, call-returns-2, call-leave-requires, call-argument-of-requires, call-back-requires, call-same-length-3, call-returns-3}
+use Rattle.backward.proofs.eval.+back+call+choose+let_one+let_two+over+over_pair+pair+under+unroll+unwrap.Proof.Calls.{call-third-of-requires, call-wide-index-requires, call-gather-requires, call-same-length, call-returns, call-first-of-requires, call-body-of-requires, call-none-requires, call-end-of-requires, call-scope-requires, call-sub-h, call-under-requires, call-same-length-2, call-returns-2, call-leave-requires, call-argument-of-requires, call-back-requires, call-same-length-3, call-returns-3}
 
 pub +back+call+choose+let-one+let-two+over+over-pair+pair+under+unroll+unwrap-spec :
     {M : Type 1} → statement M
@@ -110,8 +110,7 @@ pub +back+call+choose+let-one+let-two+over+over-pair+pair+under+unroll+unwrap-sp
     (call-returns t)
     (call-first-of-requires t)
     (call-body-of-requires t)
-    (call-cast-first t)
-    (call-first-requires t)
+    (call-none-requires t)
     (call-end-of-requires t)
     (call-scope-requires t)
     (call-sub-h t)
@@ -167,9 +166,8 @@ pub +back+call+choose+let-one+let-two+over+over-pair+pair+under+unroll+unwrap-sp
     (let-two-same-length t)
     (let-two-returns t)
     (let-two-leave-requires t)
-    (let-two-outer-requires t)
     (let-two-leave-requires-2 t)
-    (let-two-outer-requires-2 t)
+    (let-two-outer-requires t)
     (let-two-over-pair-requires t)
     (let-two-same-length-2 t)
     (let-two-returns-2 t))

@@ -1,4 +1,3 @@
-use native.Mathlib.Omega.{arith}
 use mathlib.Core.Path.{sym, ap, _∙_}
 use borrow.Author.Needs.{needs}
 use Rattle.backward.specs.Outcomes.{statusOf}
@@ -13,44 +12,39 @@ first-of-requires c κs = search needs
 base-in-requires : tie.Need-base-in-requires
 base-in-requires c κs = search needs
 
-cast-meet : tie.Need-cast-meet
-cast-meet c =
-    let start = c .before .before .before .before in
-    let e = c .before .before .first-of .ensures in omega (arith, start .pre .1 .1 .0 .few)
-
 meet-requires : tie.Need-meet-requires
 meet-requires c κs =
-    let start = c .before .before .before .before in (
-      start .pre .0 .0,
-      (
-        start .pre .1 .0,
-        (
-          meetable-same (c .before .base-in .ensures) (c .before .before .first-of .ensures)
-              (start .pre .1 .1 .0),
-          start .pre .1 .1 .1,
-        ),
-      ),
-    )
+    let base = c .before .before .base-in .ensures in
+    let first = c .before .before .before .first-of .ensures in
+    let start = c .before .before .before .before .before in
+    (meetable-same base first (start .pre .1 .0), start .pre .1 .1)
+
+same-length : tie.Need-same-length
+same-length c = search needs
 
 returns : tie.Need-returns
 returns c =
-    let at-base-in = c .before .before .before .before in
-    let at-first-of = at-base-in .before in
-    let start = at-first-of .before .before in
-    agrees-out (c .before .before .meet .ensures) (at-base-in .base-in .ensures) (at-first-of .first-of .ensures) (start .args .t) (c .if1 .taken)
+    let met = c .before .before .before .before .meet .ensures in
+    let base = c .before .before .before .before .before .before .before .base-in .ensures in
+    let first = c .before .before .before .before .before .before .before .before .first-of .ensures in
+    let start = c .before .before .before .before .before .before .before .before .before .before in
+    agrees-out met base first (start .args .t) (c .if1 .taken)
 
 no-input-requires : tie.Need-no-input-requires
 no-input-requires c κs = search needs
 
+same-length-2 : tie.Need-same-length-2
+same-length-2 c = search needs
+
 returns-2 : tie.Need-returns-2
 returns-2 c =
-    let at-no-input = c in
-    let at-base-in = at-no-input .before .before .before .before .before in
-    let at-first-of = at-base-in .before in
-    let start = at-first-of .before .before in
-    rw (at-no-input .no-input .ensures .1) (differs-out (c .before .before .before .meet .ensures) (at-base-in .base-in .ensures)
-    (at-first-of .first-of .ensures) (start .args .t) (c .before .if1 .left)
-    (ap (λ (o : Out). statusOf (o .stop)) (sym (at-no-input .no-input .ensures .1)) ∙ at-no-input .no-input .ensures .0))
+    let none = c .no-input .ensures in
+    let met = c .before .before .before .before .before .meet .ensures in
+    let base = c .before .before .before .before .before .before .before .before .base-in .ensures in
+    let first = c .before .before .before .before .before .before .before .before .before .first-of .ensures in
+    let start = c .before .before .before .before .before .before .before .before .before .before .before in
+    rw (none .1) (differs-out met base first (start .args .t) (c .before .if1 .left)
+    (ap (λ (o : Out). statusOf (o .stop)) (sym (none .1)) ∙ none .0))
 
 pub variable-spec : {M : Type 1} → statement M
 variable-spec =
@@ -58,8 +52,9 @@ variable-spec =
     (tie.spec
     first-of-requires
     base-in-requires
-    cast-meet
     meet-requires
+    same-length
     returns
     no-input-requires
+    same-length-2
     returns-2)

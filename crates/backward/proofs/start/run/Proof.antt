@@ -8,11 +8,8 @@ use Rattle.backward.proofs.start.run.Tie as tie
 body-of-requires : tie.Need-body-of-requires
 body-of-requires c κs = start-reads (c .before .pre .starts)
 
-cast-first : tie.Need-cast-first
-cast-first c = omega (arith, begin-space (c .before .before .pre))
-
-first-requires : tie.Need-first-requires
-first-requires c κs = begin-space (c .before .before .pre)
+none-requires : tie.Need-none-requires
+none-requires c κs = search needs
 
 scope-requires : tie.Need-scope-requires
 scope-requires c κs = let few = begin-space (c .before .before .before .pre) in (omega arith, omega arith, omega arith)
@@ -25,7 +22,7 @@ under-requires c κs =
       record {
         full = start .pre .full;
         prepared = begin-prepared (start .pre) (at-scope .scope .ensures) (at-body-of .body-of .ensures)
-            (c .before .before .before .first .ensures);
+            (c .before .before .before .none .ensures);
       },
       (
         start .pre .starts .value,
@@ -51,25 +48,25 @@ returns c =
 
 leave-requires : tie.Need-leave-requires
 leave-requires c κs =
-    let at-under = c .before .before .before .before in
+    let at-under = c .before .before .before .before .before in
     let at-scope = at-under .before .before .before in
     let at-body-of = at-scope .before .before in
     let start = at-body-of .before .before in
-    begin-leaves (start .pre) (at-scope .scope .ensures) (at-body-of .body-of .ensures) (at-under .under .ensures .gone) (c .before .if1 .left)
+    begin-leaves (start .pre) (at-scope .scope .ensures) (at-body-of .body-of .ensures) (at-under .under .ensures .gone) (c .before .before .if1 .left)
 
 same-length-2 : tie.Need-same-length-2
 same-length-2 c = search needs
 
 returns-2 : tie.Need-returns-2
 returns-2 c =
-    let at-under = c .before .before .before .before .before in
+    let at-under = c .before .before .before .before .before .before in
     let at-scope = at-under .before .before .before in
     let at-body-of = at-scope .before .before in
     let start = at-body-of .before .before in
     record {
       lengths = at-under .under .ensures .lengths;
       returns = input-there (start .pre) (at-scope .scope .ensures) (at-body-of .body-of .ensures)
-          (at-under .under .ensures .gone) (c .leave .ensures) (sym (c .before .before .if1 .left));
+          (at-under .under .ensures .gone) (c .leave .ensures) (sym (c .before .before .before .if1 .left));
     }
 
 pub run-spec : {M : Type 1} → statement M
@@ -77,8 +74,7 @@ run-spec =
     tie.close
     (tie.spec
     body-of-requires
-    cast-first
-    first-requires
+    none-requires
     scope-requires
     under-requires
     same-length

@@ -30,7 +30,7 @@ use Rattle.forward.proofs.eval.+call+choose+eval+let_one+let_two+pair+p
 use Rattle.forward.proofs.eval.+call+choose+eval+let_one+let_two+pair+place+under+unroll+wrap.{statement}
 use Rattle.forward.proofs.eval.+call+choose+eval+let_one+let_two+pair+place+under+unroll+wrap.Tie.{close}
 use Rattle.forward.proofs.eval.+call+choose+eval+let_one+let_two+pair+place+under+unroll+wrap.Proof.Claims.{μ-call, μ-choose, μ-eval, μ-let-one, μ-let-two, μ-pair, μ-place, μ-under, μ-unroll, μ-wrap, call-at, choose-at, eval-at, let-one-at, let-two-at, pair-at, place-at, under-at, unroll-at, wrap-at, call-uses, choose-uses, eval-uses, let-one-uses, let-two-uses, pair-uses, place-uses, under-uses, unroll-uses, wrap-uses}
-use Rattle.forward.proofs.eval.+call+choose+eval+let_one+let_two+pair+place+under+unroll+wrap.Proof.Entering.{eval-fuel-requires, eval-refuse-requires, eval-returns, eval-refuse-requires-2, eval-returns-2, eval-spend-requires, eval-kind-of-requires, eval-first-of-requires, eval-variable-requires, eval-make-unit-requires, eval-wrap-requires, eval-wrap-requires-2, eval-pair-requires, eval-let-one-requires, eval-let-two-requires, eval-choose-requires, eval-call-requires, eval-wrap-requires-3, eval-unroll-requires, eval-refuse-requires-3, eval-returns-3, eval-same-length, eval-returns-4, eval-same-length-2, eval-returns-5, eval-same-length-3, eval-returns-6, eval-same-length-4, eval-returns-7, eval-same-length-5, eval-returns-8, eval-same-length-6, eval-returns-9, eval-same-length-7, eval-returns-10, eval-same-length-8, eval-returns-11, eval-same-length-9, eval-returns-12, eval-same-length-10, eval-returns-13, eval-returns-14}
+use Rattle.forward.proofs.eval.+call+choose+eval+let_one+let_two+pair+place+under+unroll+wrap.Proof.Entering.{eval-fuel-requires, eval-refuse-requires, eval-returns, eval-refuse-requires-2, eval-returns-2, eval-spend-requires, eval-kind-of-requires, eval-first-of-requires, eval-variable-requires, eval-make-unit-requires, eval-wrap-requires, eval-wrap-requires-2, eval-pair-requires, eval-let-one-requires, eval-let-two-requires, eval-choose-requires, eval-call-requires, eval-wrap-requires-3, eval-unroll-requires, eval-refuse-requires-3, eval-same-length, eval-returns-3, eval-same-length-2, eval-returns-4, eval-same-length-3, eval-returns-5, eval-same-length-4, eval-returns-6, eval-same-length-5, eval-returns-7, eval-same-length-6, eval-returns-8, eval-same-length-7, eval-returns-9, eval-same-length-8, eval-returns-10, eval-same-length-9, eval-returns-11, eval-same-length-10, eval-returns-12, eval-same-length-11, eval-returns-13, eval-returns-14}
 use Rattle.forward.proofs.eval.+call+choose+eval+let_one+let_two+pair+place+under+unroll+wrap.Proof.Parts.{pair-first-of-requires, pair-sub-eval, pair-eval-requires, pair-same-length, pair-returns, pair-second-of-requires, pair-sub-eval-2, pair-eval-requires-2, pair-same-length-2, pair-returns-2, pair-make-pair-requires, pair-same-length-3, pair-returns-3, unroll-second-of-requires, unroll-sub-eval, unroll-eval-requires, unroll-same-length, unroll-returns, unroll-unrolled-requires, unroll-same-length-2, unroll-returns-2, wrap-second-of-requires, wrap-sub-eval, wrap-eval-requires, wrap-same-length, wrap-returns, wrap-make-single-requires, wrap-same-length-2, wrap-returns-2}
 use Rattle.forward.proofs.eval.+call+choose+eval+let_one+let_two+pair+place+under+unroll+wrap.Proof.Lets.{let-one-first-of-requires, let-one-sub-eval, let-one-eval-requires, let-one-same-length, let-one-returns, let-one-second-of-requires, let-one-sub-under, let-one-under-requires, let-one-same-length-2, let-one-returns-2, let-two-first-of-requires, let-two-sub-below, let-two-eval-requires, let-two-same-length, let-two-returns, let-two-kind-of-requires, let-two-refuse-requires, let-two-same-length-2, let-two-returns-2, let-two-left-of-requires, let-two-right-of-requires, let-two-end-of-requires, let-two-bind-requires, let-two-second-of-requires, let-two-wider-requires, let-two-under-requires, let-two-same-length-3, let-two-returns-3}
 use Rattle.forward.proofs.eval.+call+choose+eval+let_one+let_two+pair+place+under+unroll+wrap.Proof.Cases.{choose-first-of-requires, choose-sub-below, choose-eval-requires, choose-same-length, choose-returns, choose-kind-of-requires, choose-left-of-requires, choose-second-of-requires, choose-under-requires, choose-same-length-2, choose-returns-2, choose-third-of-requires, choose-under-requires-2, choose-first-match-requires, choose-same-length-3, choose-returns-3, choose-refuse-requires, choose-same-length-4, choose-returns-4}
@@ -113,26 +113,27 @@ pub +call+choose+eval+let-one+let-two+pair+place+under+unroll+wrap-spec :
     (eval-wrap-requires-3 t)
     (eval-unroll-requires t)
     (eval-refuse-requires-3 t)
-    (eval-returns-3 t)
     (eval-same-length t)
-    (eval-returns-4 t)
+    (eval-returns-3 t)
     (eval-same-length-2 t)
-    (eval-returns-5 t)
+    (eval-returns-4 t)
     (eval-same-length-3 t)
-    (eval-returns-6 t)
+    (eval-returns-5 t)
     (eval-same-length-4 t)
-    (eval-returns-7 t)
+    (eval-returns-6 t)
     (eval-same-length-5 t)
-    (eval-returns-8 t)
+    (eval-returns-7 t)
     (eval-same-length-6 t)
-    (eval-returns-9 t)
+    (eval-returns-8 t)
     (eval-same-length-7 t)
-    (eval-returns-10 t)
+    (eval-returns-9 t)
     (eval-same-length-8 t)
-    (eval-returns-11 t)
+    (eval-returns-10 t)
     (eval-same-length-9 t)
-    (eval-returns-12 t)
+    (eval-returns-11 t)
     (eval-same-length-10 t)
+    (eval-returns-12 t)
+    (eval-same-length-11 t)
     (eval-returns-13 t)
     (eval-returns-14 t))
     (λ t. let-one-lts.spec (let-one-uses t)

@@ -13,7 +13,9 @@ count-in-requires : tie.Need-count-in-requires
 count-in-requires c κs = search needs
 
 find-requires : tie.Need-find-requires
-find-requires c κs = let b = c .before .base-in .ensures in let n = c .count-in .ensures in omega (arith, c .before .before .pre .0)
+find-requires c κs =
+    let ready = c .before .before .before .pre in
+    rw (c .before .base-in .ensures, c .count-in .ensures) (ready .there, (ready .graph, ready .held))
 
 enum-known-node : tie.Need-enum-known-node
 enum-known-node c = search needs
@@ -25,7 +27,7 @@ refuse-requires : tie.Need-refuse-requires
 refuse-requires c κs = search needs
 
 returns : tie.Need-returns
-returns c = finds-node _ _ _ _ (c .before .before .before .before .before .before .pre .1) (rw (c .before .before .before .before .before .base-in .ensures, c .before .before .before .before .count-in .ensures) at (sym (c .before .before .before .find .ensures) ∙ c .before .node .given .1))
+returns c = finds-node _ (c .before .before .before .before .before .before .before .pre) (rw (c .before .before .before .before .before .base-in .ensures, c .before .before .before .before .count-in .ensures) at (sym (c .before .before .before .find .ensures) ∙ c .before .node .given .1))
 
 returns-2 : tie.Need-returns-2
 returns-2 c = finds-none (rw (c .before .before .before .before .before .base-in .ensures, c .before .before .before .before .count-in .ensures) at (sym (c .before .before .before .find .ensures) ∙ c .before .enum-told .given .1)) (is-stuck (c .refuse .ensures))

@@ -9,7 +9,7 @@ append-requires : tie.Need-append-requires
 unfolding unitPrint
 append-requires c κs =
     let start = c .before .before in
-    (unit-ready _ _ (start .pre .0) (start .pre .1), unit-fits _ _ (start .pre .0) (start .pre .1))
+    (unit-ready _ _ (start .pre .0) (start .pre .1) 0 0, unit-fits _ _ (start .pre .0) (start .pre .1) 0 0)
 
 same-length : tie.Need-same-length
 same-length c = search needs

@@ -62,34 +62,8 @@ call-body-of-requires t c κs =
     let at-first-of = c .first-of in
     body-read (scope-ready (start .pre .1 .0 .prepared)) _ (start .pre .1 .1 .1) (at-first-of .ensures)
 
-pub call-cast-first : (t : ℕ) → call-lts.Need-cast-first (call-uses t) (call-at t) call.Post
-call-cast-first t c =
-    let start = c .before .before .before .before .before .before .before .before .before .before .before in
-    let at-third-of = c .before .before .before .before .before .before .before .before .before .third-of in
-    let at-wide-index = c .before .before .before .before .before .before .before .before .wide-index in
-    let at-gather = c .before .before .before .before .before .gather in
-    let at-if1 = c .before .before .if1 in
-    let at-first-of = c .before .first-of in
-    let at-body-of = c .body-of in
-    omega (
-      arith,
-      called-space (start .pre .1 .0 .prepared) (start .pre .1 .1 .0)
-          (all-to-place (start .pre .1 .1 .1) (at-wide-index .ensures .0 ∙ at-third-of .ensures)) (at-gather .ensures .gathers) (at-if1 .left)
-          (at-first-of .ensures) (at-body-of .ensures),
-    )
-
-pub call-first-requires : (t : ℕ) → call-lts.Need-first-requires (call-uses t) (call-at t) call.Post
-call-first-requires t c κs =
-    let start = c .before .before .before .before .before .before .before .before .before .before .before in
-    let at-third-of = c .before .before .before .before .before .before .before .before .before .third-of in
-    let at-wide-index = c .before .before .before .before .before .before .before .before .wide-index in
-    let at-gather = c .before .before .before .before .before .gather in
-    let at-if1 = c .before .before .if1 in
-    let at-first-of = c .before .first-of in
-    let at-body-of = c .body-of in
-    called-space (start .pre .1 .0 .prepared) (start .pre .1 .1 .0)
-    (all-to-place (start .pre .1 .1 .1) (at-wide-index .ensures .0 ∙ at-third-of .ensures)) (at-gather .ensures .gathers) (at-if1 .left)
-    (at-first-of .ensures) (at-body-of .ensures)
+pub call-none-requires : (t : ℕ) → call-lts.Need-none-requires (call-uses t) (call-at t) call.Post
+call-none-requires t c κs = search needs
 
 pub call-end-of-requires : (t : ℕ) → call-lts.Need-end-of-requires (call-uses t) (call-at t) call.Post
 call-end-of-requires t c κs = search needs
@@ -125,7 +99,7 @@ call-under-requires t c κs =
     let at-if1 = c .before .before .before .before .before .before .before .if1 in
     let at-first-of = c .before .before .before .before .before .before .first-of in
     let at-body-of = c .before .before .before .before .before .body-of in
-    let at-first = c .before .before .before .before .first in
+    let at-none = c .before .before .before .before .none in
     let at-end-of = c .before .before .before .end-of in
     let at-scope = c .before .before .scope in (
       omega (arith, start .pre .0, at-gather .ensures .gathers .moves .spends),
@@ -134,7 +108,7 @@ call-under-requires t c κs =
           full = at-gather .ensures .lengths ∙ (start .pre .1 .0 .full);
           prepared = called-prepared (start .pre .1 .0 .prepared)
               (start .pre .1 .1 .0) (all-to-place (start .pre .1 .1 .1) (at-wide-index .ensures .0 ∙ at-third-of .ensures)) (at-gather .ensures .gathers)
-              (at-if1 .left) (at-first-of .ensures) (at-body-of .ensures) (at-end-of .ensures) (at-scope .ensures) (at-first .ensures);
+              (at-if1 .left) (at-first-of .ensures) (at-body-of .ensures) (at-end-of .ensures) (at-scope .ensures) (at-none .ensures);
         },
         (
           called-node (start .pre .1 .0 .prepared) (start .pre .1 .1 .0)
@@ -179,17 +153,17 @@ pub call-leave-requires : (t : ℕ) → call-lts.Need-leave-requires (call-uses 
 call-leave-requires t c κs =
     let earlier = c .before .before .before .before .before .before .before .before .before .before in
     let earliest = earlier .before .before .before .before .before .before .before .before .before .before in
-    let start = earliest .before .before .before in
-    let at-third-of = earlier .before .before .before .before .before .before .before .before .before .before .before .third-of in
-    let at-wide-index = earlier .before .before .before .before .before .before .before .before .before .before .wide-index in
-    let at-gather = earlier .before .before .before .before .before .before .before .gather in
-    let at-if1 = earlier .before .before .before .before .if1 in
-    let at-first-of = earlier .before .before .before .first-of in
-    let at-body-of = c .before .before .before .before .before .before .before .before .before .before .before .before .body-of in
-    let at-end-of = c .before .before .before .before .before .before .before .before .before .before .end-of in
-    let at-scope = c .before .before .before .before .before .before .before .before .before .scope in
-    let at-under = c .before .before .before .before .before .before .under in
-    let at-if2 = c .before .if2 in
+    let start = earliest .before .before .before .before in
+    let at-third-of = earlier .before .before .before .before .before .before .before .before .before .before .before .before .third-of in
+    let at-wide-index = earlier .before .before .before .before .before .before .before .before .before .before .before .wide-index in
+    let at-gather = earlier .before .before .before .before .before .before .before .before .gather in
+    let at-if1 = earlier .before .before .before .before .before .if1 in
+    let at-first-of = earlier .before .before .before .before .first-of in
+    let at-body-of = c .before .before .before .before .before .before .before .before .before .before .before .before .before .body-of in
+    let at-end-of = c .before .before .before .before .before .before .before .before .before .before .before .end-of in
+    let at-scope = c .before .before .before .before .before .before .before .before .before .before .scope in
+    let at-under = c .before .before .before .before .before .before .before .under in
+    let at-if2 = c .before .before .if2 in
     called-leaves (start .pre .1 .0 .prepared) (start .pre .1 .1 .0)
     (all-to-place (start .pre .1 .1 .1) (at-wide-index .ensures .0 ∙ at-third-of .ensures)) (at-gather .ensures .gathers) (at-if1 .left)
     (at-first-of .ensures) (at-body-of .ensures) (at-end-of .ensures) (at-scope .ensures) (at-under .ensures .gone) (at-if2 .left)
@@ -198,9 +172,9 @@ pub call-argument-of-requires : (t : ℕ) → call-lts.Need-argument-of-requires
 call-argument-of-requires t c κs =
     let earlier = c .before .before .before .before .before .before .before .before .before .before in
     let earliest = earlier .before .before .before .before .before .before .before .before .before .before in
-    let start = earliest .before .before .before .before in
-    let at-third-of = earlier .before .before .before .before .before .before .before .before .before .before .before .before .third-of in
-    let at-wide-index = earlier .before .before .before .before .before .before .before .before .before .before .before .wide-index in
+    let start = earliest .before .before .before .before .before in
+    let at-third-of = earlier .before .before .before .before .before .before .before .before .before .before .before .before .before .third-of in
+    let at-wide-index = earlier .before .before .before .before .before .before .before .before .before .before .before .before .wide-index in
     argument-read (scope-ready (start .pre .1 .0 .prepared))
     (all-arguments (all-to-place (start .pre .1 .1 .1) (at-wide-index .ensures .0 ∙ at-third-of .ensures)))
 
@@ -208,17 +182,17 @@ pub call-back-requires : (t : ℕ) → call-lts.Need-back-requires (call-uses t)
 call-back-requires t c κs =
     let earlier = c .before .before .before .before .before .before .before .before .before .before in
     let earliest = earlier .before .before .before .before .before .before .before .before .before .before in
-    let start = earliest .before .before .before .before .before .before .before in
-    let at-third-of = earliest .before .before .before .before .before .third-of in
-    let at-wide-index = earliest .before .before .before .before .wide-index in
-    let at-gather = earlier .before .before .before .before .before .before .before .before .before .before .before .gather in
-    let at-if1 = earlier .before .before .before .before .before .before .before .before .if1 in
-    let at-first-of = earlier .before .before .before .before .before .before .before .first-of in
-    let at-body-of = earlier .before .before .before .before .before .before .body-of in
-    let at-end-of = earlier .before .before .before .before .end-of in
-    let at-scope = earlier .before .before .before .scope in
-    let at-under = c .before .before .before .before .before .before .before .before .before .before .under in
-    let at-if2 = c .before .before .before .before .before .if2 in
+    let start = earliest .before .before .before .before .before .before .before .before in
+    let at-third-of = earliest .before .before .before .before .before .before .third-of in
+    let at-wide-index = earliest .before .before .before .before .before .wide-index in
+    let at-gather = earlier .before .before .before .before .before .before .before .before .before .before .before .before .gather in
+    let at-if1 = earlier .before .before .before .before .before .before .before .before .before .if1 in
+    let at-first-of = earlier .before .before .before .before .before .before .before .before .first-of in
+    let at-body-of = earlier .before .before .before .before .before .before .before .body-of in
+    let at-end-of = earlier .before .before .before .before .before .end-of in
+    let at-scope = earlier .before .before .before .before .scope in
+    let at-under = c .before .before .before .before .before .before .before .before .before .before .before .under in
+    let at-if2 = c .before .before .before .before .before .before .if2 in
     let at-leave = c .before .before .before .leave in
     let at-argument-of = c .before .before .argument-of in (
       omega (arith, start .pre .0, at-gather .ensures .gathers .moves .spends, at-under .ensures .gone .ran .moves .spends),
@@ -241,8 +215,8 @@ pub call-same-length-3 : (t : ℕ) → call-lts.Need-same-length-3 (call-uses t)
 call-same-length-3 t c =
     let earlier = c .before .before .before .before .before .before .before .before .before .before in
     let earliest = earlier .before .before .before .before .before .before .before .before .before .before in
-    let at-gather = earliest .before .before .before .before .gather in
-    let at-under = earlier .before .before .before .under in
+    let at-gather = earliest .before .before .before .before .before .gather in
+    let at-under = earlier .before .before .before .before .under in
     let at-back = c .before .before .back in
     at-back .kept .1 .0 ∙ at-under .kept .1 .0 ∙ at-gather .kept .1 .0
 
@@ -250,17 +224,17 @@ pub call-returns-3 : (t : ℕ) → call-lts.Need-returns-3 (call-uses t) (call-a
 call-returns-3 t c =
     let earlier = c .before .before .before .before .before .before .before .before .before .before in
     let earliest = earlier .before .before .before .before .before .before .before .before .before .before in
-    let start = earliest .before .before .before .before .before .before .before .before .before .before in
-    let at-third-of = earliest .before .before .before .before .before .before .before .before .third-of in
-    let at-wide-index = earliest .before .before .before .before .before .before .before .wide-index in
-    let at-gather = earliest .before .before .before .before .gather in
-    let at-if1 = earlier .before .before .before .before .before .before .before .before .before .before .before .if1 in
-    let at-first-of = earlier .before .before .before .before .before .before .before .before .before .before .first-of in
-    let at-body-of = earlier .before .before .before .before .before .before .before .before .before .body-of in
-    let at-end-of = earlier .before .before .before .before .before .before .before .end-of in
-    let at-scope = earlier .before .before .before .before .before .before .scope in
-    let at-under = earlier .before .before .before .under in
-    let at-if2 = c .before .before .before .before .before .before .before .before .if2 in
+    let start = earliest .before .before .before .before .before .before .before .before .before .before .before in
+    let at-third-of = earliest .before .before .before .before .before .before .before .before .before .third-of in
+    let at-wide-index = earliest .before .before .before .before .before .before .before .before .wide-index in
+    let at-gather = earliest .before .before .before .before .before .gather in
+    let at-if1 = earlier .before .before .before .before .before .before .before .before .before .before .before .before .if1 in
+    let at-first-of = earlier .before .before .before .before .before .before .before .before .before .before .before .first-of in
+    let at-body-of = earlier .before .before .before .before .before .before .before .before .before .before .body-of in
+    let at-end-of = earlier .before .before .before .before .before .before .before .before .end-of in
+    let at-scope = earlier .before .before .before .before .before .before .before .scope in
+    let at-under = earlier .before .before .before .before .under in
+    let at-if2 = c .before .before .before .before .before .before .before .before .before .if2 in
     let at-leave = c .before .before .before .before .before .before .leave in
     let at-argument-of = c .before .before .before .before .before .argument-of in
     let at-back = c .before .before .back in

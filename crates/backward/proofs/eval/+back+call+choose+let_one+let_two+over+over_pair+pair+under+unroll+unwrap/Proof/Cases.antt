@@ -1,11 +1,13 @@
 -- Answers of the cycle of backward evaluation: case.
 use native.Mathlib.Omega.{arith}
-use mathlib.Core.Path.{_∙_}
+use mathlib.Core.Path.{refl, ap, _∙_}
 use mathlib.Core.Logic.{inl as left}
 use borrow.Author.Needs.{needs}
+use Rattle.scopes.specs.Slots.{Machine}
 use Rattle.backward.proofs.Frames.{row-there, few-ancillae, view-yields}
 use Rattle.backward.proofs.Choosing.{side-single}
-use Rattle.backward.proofs.Scoping.{case-few, case-asked, case-prepared, case-stopped, case-leaves, case-outer, case-node, case-gone}
+use Rattle.backward.proofs.Scoping.{case-few, case-asked, case-prepared, case-stopped, case-leaves, case-cell, case-outer, case-node, case-gone}
+use Rattle.backward.proofs.Leaving.{left-behind}
 use Prim.Native.Nat.{ℕ}
 use Rattle.backward.proofs.eval.choose.Reads as choose
 use Rattle.backward.proofs.eval.+back+call+choose+let_one+let_two+over+over_pair+pair+under+unroll+unwrap.Lts-choose as choose-lts
@@ -88,14 +90,14 @@ choose-returns t c =
 pub choose-leave-requires : (t : ℕ) → choose-lts.Need-leave-requires (choose-uses t) (choose-at t) choose.Post
 choose-leave-requires t c κs =
     let earlier = c .before .before .before .before .before .before .before .before .before .before in
-    let start = earlier .before .before .before .before .before .before .before in
-    let at-first-of = earlier .before .before .before .before .before .first-of in
-    let at-second-of = earlier .before .before .before .before .second-of in
-    let at-yields = c .before .before .before .before .before .before .before .before .before .before .before .yields in
-    let at-branch-of = c .before .before .before .before .before .before .before .before .before .before .branch-of in
-    let at-side-of = c .before .before .before .before .before .before .before .before .before .side-of in
-    let at-under = c .before .before .before .before .before .before .under in
-    let at-if1 = c .before .if1 in
+    let start = earlier .before .before .before .before .before .before .before .before in
+    let at-first-of = earlier .before .before .before .before .before .before .first-of in
+    let at-second-of = earlier .before .before .before .before .before .second-of in
+    let at-yields = c .before .before .before .before .before .before .before .before .before .before .before .before .yields in
+    let at-branch-of = c .before .before .before .before .before .before .before .before .before .before .before .branch-of in
+    let at-side-of = c .before .before .before .before .before .before .before .before .before .before .side-of in
+    let at-under = c .before .before .before .before .before .before .before .under in
+    let at-if1 = c .before .before .if1 in
     case-leaves (start .pre .1 .0 .prepared) (start .pre .1 .1 .0) (start .pre .1 .1 .1) (at-second-of .ensures) _
     (view-yields (at-yields .ensures) (few-ancillae (start .pre .1 .0 .prepared))) (at-first-of .ensures) (at-branch-of .ensures)
     (at-side-of .ensures) (at-under .ensures .gone) (at-if1 .left)
@@ -103,34 +105,46 @@ choose-leave-requires t c κs =
 pub choose-outer-requires : (t : ℕ) → choose-lts.Need-outer-requires (choose-uses t) (choose-at t) choose.Post
 choose-outer-requires t c κs =
     let earlier = c .before .before .before .before .before .before .before .before .before .before in
-    let start = earlier .before .before .before .before .before .before .before .before in
-    case-few (start .pre .1 .0 .prepared) (start .pre .1 .1 .0) (start .pre .1 .1 .1)
+    let start = earlier .before .before .before .before .before .before .before .before .before .before .before in
+    let at-first-of = earlier .before .before .before .before .before .before .before .before .before .first-of in
+    let at-second-of = earlier .before .before .before .before .before .before .before .before .second-of in
+    let at-yields = c .before .before .before .before .before .before .before .before .before .before .before .before .before .before .before .yields in
+    let at-branch-of = c .before .before .before .before .before .before .before .before .before .before .before .before .before .before .branch-of in
+    let at-side-of = c .before .before .before .before .before .before .before .before .before .before .before .before .before .side-of in
+    let at-under = c .before .before .before .before .before .before .before .before .before .before .under in
+    let at-if1 = c .before .before .before .before .before .if1 in
+    case-cell (start .pre .1 .0 .prepared) (start .pre .1 .1 .0) (start .pre .1 .1 .1) (at-second-of .ensures) _
+    (view-yields (at-yields .ensures) (few-ancillae (start .pre .1 .0 .prepared))) (at-first-of .ensures) (at-branch-of .ensures)
+    (at-side-of .ensures) (at-under .ensures .gone) (at-if1 .left)
+    (at-under .ensures .lengths ∙ start .pre .1 .0 .full) refl
 
 pub choose-over-requires : (t : ℕ) → choose-lts.Need-over-requires (choose-uses t) (choose-at t) choose.Post
 choose-over-requires t c κs =
     let earlier = c .before .before .before .before .before .before .before .before .before .before in
-    let start = earlier .before .before .before .before .before .before .before .before .before .before .before in
-    let at-first-of = earlier .before .before .before .before .before .before .before .before .before .first-of in
-    let at-second-of = earlier .before .before .before .before .before .before .before .before .second-of in
-    let at-yields = earlier .before .before .before .before .before .yields in
-    let at-branch-of = earlier .before .before .before .before .branch-of in
-    let at-side-of = earlier .before .before .before .side-of in
-    let at-under = c .before .before .before .before .before .before .before .before .before .before .under in
-    let at-if1 = c .before .before .before .before .before .if1 in
-    let at-leave = c .before .before .before .leave in
-    let at-outer = c .before .before .outer in (
-      omega (arith, start .pre .0, at-under .ensures .gone .ran .moves .spends),
+    let start = earlier .before .before .before .before .before .before .before .before .before .before .before .before .before .before .before .before in
+    let at-first-of = earlier .before .before .before .before .before .before .before .before .before .before .before .before .before .before .first-of in
+    let at-second-of = earlier .before .before .before .before .before .before .before .before .before .before .before .before .before .second-of in
+    let at-yields = earlier .before .before .before .before .before .before .before .before .before .before .yields in
+    let at-branch-of = earlier .before .before .before .before .before .before .before .before .before .branch-of in
+    let at-side-of = earlier .before .before .before .before .before .before .before .before .side-of in
+    let at-under = c .before .before .before .before .before .before .before .before .before .before .before .before .before .before .before .under in
+    let at-if1 = c .before .before .before .before .before .before .before .before .before .before .if1 in
+    let at-leave = c .before .before .before .before .before .before .before .leave in
+    let at-outer = c .before .before .before .before .outer in (
+      omega (arith, start .pre .0, at-under .ensures .gone .ran .moves .spends,
+          ap (λ (m : Machine). m .fuel) (at-outer .ensures .moved .machine)),
       (
         record {
-          full = at-under .ensures .lengths ∙ (start .pre .1 .0 .full);
+          full = at-outer .ensures .moved .lengths ∙ at-under .ensures .lengths ∙ (start .pre .1 .0 .full);
           prepared = case-outer (start .pre .1 .0 .prepared) (start .pre .1 .1 .0)
               (start .pre .1 .1 .1) (at-second-of .ensures) _ (view-yields (at-yields .ensures) (few-ancillae (start .pre .1 .0 .prepared)))
-              (at-first-of .ensures) (at-branch-of .ensures) (at-side-of .ensures) (at-under .ensures .gone) (at-if1 .left) (at-outer .ensures);
+              (at-first-of .ensures) (at-branch-of .ensures) (at-side-of .ensures) (at-under .ensures .gone) (at-if1 .left)
+              (left-behind (at-outer .ensures));
         },
         (
           case-node (start .pre .1 .0 .prepared) (start .pre .1 .1 .0) (start .pre .1 .1 .1) (at-second-of .ensures) _
               (view-yields (at-yields .ensures) (few-ancillae (start .pre .1 .0 .prepared))) (at-first-of .ensures) (at-branch-of .ensures)
-              (at-side-of .ensures) (at-under .ensures .gone) (at-if1 .left) (at-leave .ensures),
+              (at-side-of .ensures) (at-under .ensures .gone) (at-if1 .left) (left-behind (at-outer .ensures)) (at-leave .ensures),
           side-single (at-yields .result) (at-side-of .ensures),
         ),
       ),
@@ -139,27 +153,29 @@ choose-over-requires t c κs =
 pub choose-same-length-2 : (t : ℕ) → choose-lts.Need-same-length-2 (choose-uses t) (choose-at t) choose.Post
 choose-same-length-2 t c =
     let earlier = c .before .before .before .before .before .before .before .before .before .before in
-    let at-under = earlier .before .before .before .under in
+    let at-under = earlier .before .before .before .before .before .before .before .before .under in
+    let at-outer = c .before .before .before .before .before .before .before .outer in
     let at-over = c .before .before .over in
-    at-over .kept .1 .0 ∙ at-under .kept .1 .0
+    at-over .kept .1 .0 ∙ at-outer .kept .0 ∙ at-under .kept .1 .0
 
 pub choose-returns-2 : (t : ℕ) → choose-lts.Need-returns-2 (choose-uses t) (choose-at t) choose.Post
 choose-returns-2 t c =
     let earlier = c .before .before .before .before .before .before .before .before .before .before in
     let earliest = earlier .before .before .before .before .before .before .before .before .before .before in
-    let start = earliest .before .before .before .before in
-    let at-first-of = earlier .before .before .before .before .before .before .before .before .before .before .before .before .first-of in
-    let at-second-of = earlier .before .before .before .before .before .before .before .before .before .before .before .second-of in
-    let at-yields = earlier .before .before .before .before .before .before .before .before .yields in
-    let at-branch-of = earlier .before .before .before .before .before .before .before .branch-of in
-    let at-side-of = earlier .before .before .before .before .before .before .side-of in
-    let at-under = earlier .before .before .before .under in
-    let at-if1 = c .before .before .before .before .before .before .before .before .if1 in
-    let at-leave = c .before .before .before .before .before .before .leave in
+    let start = earliest .before .before .before .before .before .before .before .before .before in
+    let at-first-of = earlier .before .before .before .before .before .before .before .before .before .before .before .before .before .before .before .before .before .first-of in
+    let at-second-of = earlier .before .before .before .before .before .before .before .before .before .before .before .before .before .before .before .before .second-of in
+    let at-yields = earlier .before .before .before .before .before .before .before .before .before .before .before .before .before .yields in
+    let at-branch-of = earlier .before .before .before .before .before .before .before .before .before .before .before .before .branch-of in
+    let at-side-of = earlier .before .before .before .before .before .before .before .before .before .before .before .side-of in
+    let at-under = earlier .before .before .before .before .before .before .before .before .under in
+    let at-if1 = c .before .before .before .before .before .before .before .before .before .before .before .before .before .if1 in
+    let at-leave = c .before .before .before .before .before .before .before .before .before .before .leave in
+    let at-outer = c .before .before .before .before .before .before .before .outer in
     let at-over = c .before .before .over in
     record {
-      lengths = at-over .ensures .lengths ∙ at-under .ensures .lengths;
+      lengths = at-over .ensures .lengths ∙ at-outer .ensures .moved .lengths ∙ at-under .ensures .lengths;
       gone = case-gone (start .pre .1 .0 .prepared) (start .pre .1 .1 .0) (start .pre .1 .1 .1) (at-second-of .ensures) _
           (view-yields (at-yields .ensures) (few-ancillae (start .pre .1 .0 .prepared))) (at-first-of .ensures) (at-branch-of .ensures)
-          (at-side-of .ensures) (at-under .ensures .gone) (at-if1 .left) (at-leave .ensures) (at-over .ensures .gone);
+          (at-side-of .ensures) (at-under .ensures .gone) (at-if1 .left) (left-behind (at-outer .ensures)) (at-leave .ensures) (at-over .ensures .gone);
     }

@@ -54,7 +54,7 @@ use Rattle.decoded.proofs.rows.kind_of.Reads as rows-kind-of-reads
 use Rattle.decoded.proofs.rows.second_of.Reads as second-of-reads
 use Rattle.decoded.proofs.rows.third_of.Reads as third-of-reads
 use Rattle.octets.proofs.wide_index.Reads as wide-index-reads
-use Rattle.scopes.proofs.bindings.Bindings.first.Reads as first-reads
+use Rattle.scopes.proofs.bindings.Bindings.none.Reads as none-reads
 use Rattle.scopes.proofs.slots.bind.Reads as bind-reads
 use Rattle.scopes.proofs.state.end_of.Reads as end-of-reads
 use Rattle.scopes.proofs.state.fuel.Reads as fuel-reads
@@ -213,8 +213,8 @@ call-uses t = (
   first-of-reads.Learnt,
   body-of-reads.Asked,
   body-of-reads.Learnt,
-  first-reads.Asked,
-  first-reads.Learnt,
+  none-reads.Asked,
+  none-reads.Learnt,
   end-of-reads.Asked,
   end-of-reads.Learnt,
   scope-reads.Asked,

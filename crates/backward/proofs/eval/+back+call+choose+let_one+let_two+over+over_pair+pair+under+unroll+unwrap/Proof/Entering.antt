@@ -71,24 +71,10 @@ back-variable-requires t c κs =
     let at-if2 = c .before .before .before .before .before .before .if2 in
     let at-spend = c .before .before .before .before .spend in
     let at-kind-of = c .before .before .before .kind-of in
-    let at-match = c .before .before .match in (
-      (
-        entered (start .pre .1 .0) (start .pre .1 .1) (at-fuel .ensures) (at-if1 .left) (at-if2 .left) (at-spend .ensures) .full,
-        row-there
-            (start .pre .1 .0 .prepared),
-      ),
-      (
-        entered (start .pre .1 .0) (start .pre .1 .1) (at-fuel .ensures) (at-if1 .left) (at-if2 .left)
-            (at-spend .ensures) .prepared .ready .machine .graph .right,
-        (
-          variable-meetable (entered (start .pre .1 .0) (start .pre .1 .1) (at-fuel .ensures) (at-if1 .left) (at-if2 .left) (at-spend .ensures) .prepared)
-              (entered-node (start .pre .1 .0) (start .pre .1 .1) (at-fuel .ensures) (at-if1 .left) (at-if2 .left) (at-spend .ensures))
-              (sym (at-kind-of .ensures) ∙ at-match .keys1),
-          entered-node (start .pre .1 .0) (start .pre .1 .1) (at-fuel .ensures) (at-if1 .left)
-              (at-if2 .left) (at-spend .ensures),
-        ),
-      ),
-    )
+    let at-match = c .before .before .match in
+    let term = entered (start .pre .1 .0) (start .pre .1 .1) (at-fuel .ensures) (at-if1 .left) (at-if2 .left) (at-spend .ensures) in
+    let node = entered-node (start .pre .1 .0) (start .pre .1 .1) (at-fuel .ensures) (at-if1 .left) (at-if2 .left) (at-spend .ensures) in
+    (row-there (start .pre .1 .0 .prepared), (variable-meetable term (sym (at-kind-of .ensures) ∙ at-match .keys1) node, node))
 
 pub back-unit-requires : (t : ℕ) → back-lts.Need-unit-requires (back-uses t) (back-at t) back.Post
 back-unit-requires t c κs =
@@ -216,14 +202,14 @@ back-same-length t c = search needs
 
 pub back-returns-3 : (t : ℕ) → back-lts.Need-returns-3 (back-uses t) (back-at t) back.Post
 back-returns-3 t c =
-    let start = c .before .before .before .before .before .before .before .before .before .before .before .before in
-    let at-fuel = c .before .before .before .before .before .before .before .before .before .fuel in
-    let at-if1 = c .before .before .before .before .before .before .before .before .if1 in
-    let at-if2 = c .before .before .before .before .before .before .before .if2 in
-    let at-spend = c .before .before .before .before .before .spend in
-    let at-kind-of = c .before .before .before .before .kind-of in
-    let at-match = c .before .before .before .match in
-    let at-variable = c .variable in
+    let start = c .before .before .before .before .before .before .before .before .before .before .before .before .before .before in
+    let at-fuel = c .before .before .before .before .before .before .before .before .before .before .before .fuel in
+    let at-if1 = c .before .before .before .before .before .before .before .before .before .before .if1 in
+    let at-if2 = c .before .before .before .before .before .before .before .before .before .if2 in
+    let at-spend = c .before .before .before .before .before .before .before .spend in
+    let at-kind-of = c .before .before .before .before .before .before .kind-of in
+    let at-match = c .before .before .before .before .before .match in
+    let at-variable = c .before .before .variable in
     handed-back (start .pre .1 .0) (start .pre .1 .1) (at-fuel .ensures) (at-if1 .left) (at-if2 .left) (at-spend .ensures)
     (variable-step (entered (start .pre .1 .0) (start .pre .1 .1) (at-fuel .ensures) (at-if1 .left) (at-if2 .left) (at-spend .ensures))
     (entered-node (start .pre .1 .0) (start .pre .1 .1) (at-fuel .ensures) (at-if1 .left) (at-if2 .left) (at-spend .ensures))

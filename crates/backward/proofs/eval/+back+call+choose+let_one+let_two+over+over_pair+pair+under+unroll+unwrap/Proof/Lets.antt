@@ -1,12 +1,15 @@
 -- Answers of the cycle of backward evaluation: let and let pair.
 use native.Mathlib.Omega.{arith}
-use mathlib.Core.Path.{ap, _∙_}
+use mathlib.Core.Path.{refl, ap, _∙_}
 use mathlib.Core.Logic.{inl as left}
 use borrow.Author.Needs.{needs}
 use Rattle.scopes.specs.Slots.{Machine}
 use Rattle.backward.proofs.Frames.{row-there}
 use Rattle.backward.proofs.Opening.{marked}
-use Rattle.backward.proofs.Scoping.{let-few, let-prepared, let-stopped, let-leaves, let-outer, let-node, let-gone, letp-few, letp-there, letp-more, letp-prepared, letp-node, letp-stopped, letp-leaves, letp-leaves-first, letp-outer, letp-both, letp-gone}
+use Rattle.backward.proofs.Scoping.{let-few, let-prepared, let-stopped, let-leaves, let-cell, let-outer, let-node, let-gone}
+use Rattle.backward.proofs.Scoping.{letp-few, letp-there, letp-more, letp-prepared, letp-node, letp-stopped, letp-leaves, letp-leaves-first}
+use Rattle.backward.proofs.Scoping.{letp-cell, letp-outer, letp-both, letp-gone}
+use Rattle.backward.proofs.Leaving.{left-behind}
 use Prim.Native.Nat.{ℕ}
 use Rattle.backward.proofs.eval.back.Reads as back
 use Rattle.backward.proofs.eval.let_one.Reads as let-one
@@ -72,66 +75,73 @@ let-one-returns t c =
 
 pub let-one-leave-requires : (t : ℕ) → let-one-lts.Need-leave-requires (let-one-uses t) (let-one-at t) let-one.Post
 let-one-leave-requires t c κs =
-    let start = c .before .before .before .before .before .before .before .before .before .before .before .before in
-    let at-first-of = c .before .before .before .before .before .before .before .before .before .before .first-of in
-    let at-second-of = c .before .before .before .before .before .before .before .before .before .second-of in
-    let at-under = c .before .before .before .before .before .before .under in
-    let at-if1 = c .before .if1 in
+    let start = c .before .before .before .before .before .before .before .before .before .before .before .before .before in
+    let at-first-of = c .before .before .before .before .before .before .before .before .before .before .before .first-of in
+    let at-second-of = c .before .before .before .before .before .before .before .before .before .before .second-of in
+    let at-under = c .before .before .before .before .before .before .before .under in
+    let at-if1 = c .before .before .if1 in
     let-leaves (start .pre .1 .0 .prepared) (start .pre .1 .1 .0) (start .pre .1 .1 .1) (at-first-of .ensures) (at-second-of .ensures)
     (at-under .ensures .gone) (at-if1 .left)
 
 pub let-one-outer-requires : (t : ℕ) → let-one-lts.Need-outer-requires (let-one-uses t) (let-one-at t) let-one.Post
 let-one-outer-requires t c κs =
     let earlier = c .before .before .before .before .before .before .before .before .before .before in
-    let start = earlier .before .before .before in
-    let at-first-of = c .before .before .before .before .before .before .before .before .before .before .before .first-of in
-    let at-second-of = c .before .before .before .before .before .before .before .before .before .before .second-of in
-    let-few (start .pre .1 .0 .prepared) (start .pre .1 .1 .0) (start .pre .1 .1 .1) (at-first-of .ensures) (at-second-of .ensures)
+    let start = earlier .before .before .before .before .before .before in
+    let at-first-of = c .before .before .before .before .before .before .before .before .before .before .before .before .before .before .first-of in
+    let at-second-of = c .before .before .before .before .before .before .before .before .before .before .before .before .before .second-of in
+    let at-under = c .before .before .before .before .before .before .before .before .before .before .under in
+    let at-if1 = c .before .before .before .before .before .if1 in
+    let-cell (start .pre .1 .0 .prepared) (start .pre .1 .1 .0) (start .pre .1 .1 .1) (at-first-of .ensures) (at-second-of .ensures)
+    (at-under .ensures .gone) (at-if1 .left) (at-under .ensures .lengths ∙ start .pre .1 .0 .full) refl
 
 pub let-one-back-requires : (t : ℕ) → let-one-lts.Need-back-requires (let-one-uses t) (let-one-at t) let-one.Post
 let-one-back-requires t c κs =
     let earlier = c .before .before .before .before .before .before .before .before .before .before in
-    let start = earlier .before .before .before .before .before .before in
-    let at-first-of = earlier .before .before .before .before .first-of in
-    let at-second-of = earlier .before .before .before .second-of in
-    let at-under = c .before .before .before .before .before .before .before .before .before .before .under in
-    let at-if1 = c .before .before .before .before .before .if1 in
-    let at-leave = c .before .before .before .leave in
-    let at-outer = c .before .before .outer in (
-      omega (arith, start .pre .0, at-under .ensures .gone .ran .moves .spends),
+    let start = earlier .before .before .before .before .before .before .before .before .before .before .before in
+    let at-first-of = earlier .before .before .before .before .before .before .before .before .before .first-of in
+    let at-second-of = earlier .before .before .before .before .before .before .before .before .second-of in
+    let at-under = c .before .before .before .before .before .before .before .before .before .before .before .before .before .before .before .under in
+    let at-if1 = c .before .before .before .before .before .before .before .before .before .before .if1 in
+    let at-leave = c .before .before .before .before .before .before .before .leave in
+    let at-outer = c .before .before .before .before .outer in (
+      omega (arith, start .pre .0, at-under .ensures .gone .ran .moves .spends,
+          ap (λ (m : Machine). m .fuel) (at-outer .ensures .moved .machine)),
       (
         record {
-          full = at-under .ensures .lengths ∙ (start .pre .1 .0 .full);
+          full = at-outer .ensures .moved .lengths ∙ at-under .ensures .lengths ∙ (start .pre .1 .0 .full);
           prepared = let-outer (start .pre .1 .0 .prepared) (start .pre .1 .1 .0)
-              (start .pre .1 .1 .1) (at-first-of .ensures) (at-second-of .ensures) (at-under .ensures .gone) (at-if1 .left) (at-outer .ensures);
+              (start .pre .1 .1 .1) (at-first-of .ensures) (at-second-of .ensures) (at-under .ensures .gone) (at-if1 .left)
+              (left-behind (at-outer .ensures));
         },
         let-node
             (start .pre .1 .0 .prepared) (start .pre .1 .1 .0) (start .pre .1 .1 .1) (at-first-of .ensures) (at-second-of .ensures) (at-under .ensures .gone)
-            (at-if1 .left) (at-leave .ensures),
+            (at-if1 .left) (left-behind (at-outer .ensures)) (at-leave .ensures),
       ),
     )
 
 pub let-one-same-length-2 : (t : ℕ) → let-one-lts.Need-same-length-2 (let-one-uses t) (let-one-at t) let-one.Post
 let-one-same-length-2 t c =
     let earlier = c .before .before .before .before .before .before .before .before .before .before in
-    let at-under = earlier .before .before .before .under in
+    let at-under = earlier .before .before .before .before .before .before .before .before .under in
+    let at-outer = c .before .before .before .before .before .before .before .outer in
     let at-back = c .before .before .back in
-    at-back .kept .1 .0 ∙ at-under .kept .1 .0
+    at-back .kept .1 .0 ∙ at-outer .kept .0 ∙ at-under .kept .1 .0
 
 pub let-one-returns-2 : (t : ℕ) → let-one-lts.Need-returns-2 (let-one-uses t) (let-one-at t) let-one.Post
 let-one-returns-2 t c =
     let earlier = c .before .before .before .before .before .before .before .before .before .before in
-    let start = earlier .before .before .before .before .before .before .before .before .before in
-    let at-first-of = earlier .before .before .before .before .before .before .before .first-of in
-    let at-second-of = earlier .before .before .before .before .before .before .second-of in
-    let at-under = earlier .before .before .before .under in
-    let at-if1 = c .before .before .before .before .before .before .before .before .if1 in
-    let at-leave = c .before .before .before .before .before .before .leave in
+    let start = earlier .before .before .before .before .before .before .before .before .before .before .before .before .before .before in
+    let at-first-of = earlier .before .before .before .before .before .before .before .before .before .before .before .before .first-of in
+    let at-second-of = earlier .before .before .before .before .before .before .before .before .before .before .before .second-of in
+    let at-under = earlier .before .before .before .before .before .before .before .before .under in
+    let at-if1 = c .before .before .before .before .before .before .before .before .before .before .before .before .before .if1 in
+    let at-leave = c .before .before .before .before .before .before .before .before .before .before .leave in
+    let at-outer = c .before .before .before .before .before .before .before .outer in
     let at-back = c .before .before .back in
     record {
-      lengths = at-back .ensures .lengths ∙ at-under .ensures .lengths;
+      lengths = at-back .ensures .lengths ∙ at-outer .ensures .moved .lengths ∙ at-under .ensures .lengths;
       gone = let-gone (start .pre .1 .0 .prepared) (start .pre .1 .1 .0) (start .pre .1 .1 .1) (at-first-of .ensures) (at-second-of .ensures)
-          (at-under .ensures .gone) (at-if1 .left) (at-leave .ensures) (at-back .ensures .gone);
+          (at-under .ensures .gone) (at-if1 .left) (left-behind (at-outer .ensures)) (at-leave .ensures) (at-back .ensures .gone);
     }
 
 pub let-two-first-of-requires : (t : ℕ) → let-two-lts.Need-first-of-requires (let-two-uses t) (let-two-at t) let-two.Post
@@ -224,108 +234,105 @@ let-two-returns t c =
 pub let-two-leave-requires : (t : ℕ) → let-two-lts.Need-leave-requires (let-two-uses t) (let-two-at t) let-two.Post
 let-two-leave-requires t c κs =
     let earlier = c .before .before .before .before .before .before .before .before .before .before in
-    let start = earlier .before .before .before .before .before .before in
-    let at-first-of = earlier .before .before .before .before .first-of in
-    let at-second-of = earlier .before .before .before .second-of in
-    let at-end-of = c .before .before .before .before .before .before .before .before .before .before .before .end-of in
-    let at-bind = c .before .before .before .before .before .before .before .before .before .before .bind in
-    let at-wider = c .before .before .before .before .before .before .before .before .before .wider in
-    let at-under = c .before .before .before .before .before .before .under in
-    let at-if1 = c .before .if1 in
-    letp-leaves (start .pre .1 .0 .prepared) (start .pre .1 .1 .0) (start .pre .1 .1 .1) (at-first-of .ensures) (at-second-of .ensures)
-    (marked _ (at-bind .ensures) (at-end-of .ensures)) (at-wider .ensures) (at-under .ensures .gone) (at-if1 .left)
-
-pub let-two-outer-requires : (t : ℕ) → let-two-lts.Need-outer-requires (let-two-uses t) (let-two-at t) let-two.Post
-let-two-outer-requires t c κs =
-    let earlier = c .before .before .before .before .before .before .before .before .before .before in
     let start = earlier .before .before .before .before .before .before .before in
     let at-first-of = earlier .before .before .before .before .before .first-of in
     let at-second-of = earlier .before .before .before .before .second-of in
     let at-end-of = c .before .before .before .before .before .before .before .before .before .before .before .before .end-of in
     let at-bind = c .before .before .before .before .before .before .before .before .before .before .before .bind in
     let at-wider = c .before .before .before .before .before .before .before .before .before .before .wider in
-    letp-more (start .pre .1 .0 .prepared) (start .pre .1 .1 .0) (start .pre .1 .1 .1) (at-first-of .ensures) (at-second-of .ensures)
-    (marked _ (at-bind .ensures) (at-end-of .ensures)) (at-wider .ensures)
+    let at-under = c .before .before .before .before .before .before .before .under in
+    let at-if1 = c .before .before .if1 in
+    letp-leaves (start .pre .1 .0 .prepared) (start .pre .1 .1 .0) (start .pre .1 .1 .1) (at-first-of .ensures) (at-second-of .ensures)
+    (marked _ (at-bind .ensures) (at-end-of .ensures)) (at-wider .ensures) (at-under .ensures .gone) (at-if1 .left)
+
+pub let-two-outer-requires : (t : ℕ) → let-two-lts.Need-outer-requires (let-two-uses t) (let-two-at t) let-two.Post
+let-two-outer-requires t c κs =
+    let earlier = c .before .before .before .before .before .before .before .before .before .before in
+    let start = earlier .before .before .before .before .before .before .before .before .before .before .before .before .before in
+    let at-first-of = earlier .before .before .before .before .before .before .before .before .before .before .before .first-of in
+    let at-second-of = earlier .before .before .before .before .before .before .before .before .before .before .second-of in
+    let at-end-of = c .before .before .before .before .before .before .before .before .before .before .before .before .before .before .before .before .before .before .end-of in
+    let at-bind = c .before .before .before .before .before .before .before .before .before .before .before .before .before .before .before .before .before .bind in
+    let at-wider = c .before .before .before .before .before .before .before .before .before .before .before .before .before .before .before .before .wider in
+    let at-under = c .before .before .before .before .before .before .before .before .before .before .before .before .before .under in
+    let at-if1 = c .before .before .before .before .before .before .before .before .if1 in
+    letp-cell (start .pre .1 .0 .prepared) (start .pre .1 .1 .0) (start .pre .1 .1 .1) (at-first-of .ensures) (at-second-of .ensures)
+    (marked _ (at-bind .ensures) (at-end-of .ensures)) (at-wider .ensures) (at-under .ensures .gone) (at-if1 .left)
+    (at-under .ensures .lengths ∙ at-bind .ensures .lengths ∙ start .pre .1 .0 .full) refl
 
 pub let-two-leave-requires-2 : (t : ℕ) → let-two-lts.Need-leave-requires-2 (let-two-uses t) (let-two-at t) let-two.Post
 let-two-leave-requires-2 t c κs =
     let earlier = c .before .before .before .before .before .before .before .before .before .before in
-    let start = earlier .before .before .before .before .before .before .before .before .before in
-    let at-first-of = earlier .before .before .before .before .before .before .before .first-of in
-    let at-second-of = earlier .before .before .before .before .before .before .second-of in
-    let at-end-of = earlier .before .before .before .before .end-of in
-    let at-bind = earlier .before .before .before .bind in
-    let at-wider = c .before .before .before .before .before .before .before .before .before .before .before .before .wider in
-    let at-under = c .before .before .before .before .before .before .before .before .before .under in
-    let at-if1 = c .before .before .before .before .if1 in
-    let at-outer = c .before .outer in
-    letp-leaves-first (start .pre .1 .0 .prepared) (start .pre .1 .1 .0) (start .pre .1 .1 .1) (at-first-of .ensures) (at-second-of .ensures)
-    (marked _ (at-bind .ensures) (at-end-of .ensures)) (at-wider .ensures) (at-under .ensures .gone) (at-if1 .left) (at-outer .ensures)
-
-pub let-two-outer-requires-2 : (t : ℕ) → let-two-lts.Need-outer-requires-2 (let-two-uses t) (let-two-at t) let-two.Post
-let-two-outer-requires-2 t c κs =
-    let earlier = c .before .before .before .before .before .before .before .before .before .before in
     let start = earlier .before .before .before .before .before .before .before .before .before .before in
     let at-first-of = earlier .before .before .before .before .before .before .before .before .first-of in
     let at-second-of = earlier .before .before .before .before .before .before .before .second-of in
-    letp-few (start .pre .1 .0 .prepared) (start .pre .1 .1 .0) (start .pre .1 .1 .1) (at-first-of .ensures) (at-second-of .ensures)
+    let at-end-of = earlier .before .before .before .before .before .end-of in
+    let at-bind = earlier .before .before .before .before .bind in
+    let at-wider = c .before .before .before .before .before .before .before .before .before .before .before .before .before .wider in
+    let at-under = c .before .before .before .before .before .before .before .before .before .before .under in
+    let at-if1 = c .before .before .before .before .before .if1 in
+    letp-leaves-first (start .pre .1 .0 .prepared) (start .pre .1 .1 .0) (start .pre .1 .1 .1) (at-first-of .ensures) (at-second-of .ensures)
+    (marked _ (at-bind .ensures) (at-end-of .ensures)) (at-wider .ensures) (at-under .ensures .gone) (at-if1 .left)
 
 pub let-two-over-pair-requires : (t : ℕ) → let-two-lts.Need-over-pair-requires (let-two-uses t) (let-two-at t) let-two.Post
 let-two-over-pair-requires t c κs =
     let earlier = c .before .before .before .before .before .before .before .before .before .before in
     let earliest = earlier .before .before .before .before .before .before .before .before .before .before in
-    let start = earliest .before .before .before in
-    let at-first-of = earlier .before .before .before .before .before .before .before .before .before .before .before .first-of in
-    let at-second-of = earlier .before .before .before .before .before .before .before .before .before .before .second-of in
-    let at-end-of = earlier .before .before .before .before .before .before .before .before .end-of in
-    let at-bind = earlier .before .before .before .before .before .before .before .bind in
-    let at-wider = earlier .before .before .before .before .before .before .wider in
-    let at-under = earlier .before .before .before .under in
-    let at-if1 = c .before .before .before .before .before .before .before .before .if1 in
-    let at-leave = c .before .before .before .before .before .before .leave in
-    let at-outer = c .before .before .before .before .before .outer in
-    let at-leave2 = c .before .before .before .leave2 in
-    let at-outer2 = c .before .before .outer2 in (
-      omega (arith, start .pre .0, at-under .ensures .gone .ran .moves .spends, ap (λ (m : Machine). m .fuel) (at-bind .ensures .machine)),
+    let start = earliest .before .before .before .before .before .before .before .before in
+    let at-first-of = earlier .before .before .before .before .before .before .before .before .before .before .before .before .before .before .before .before .first-of in
+    let at-second-of = earlier .before .before .before .before .before .before .before .before .before .before .before .before .before .before .before .second-of in
+    let at-end-of = earlier .before .before .before .before .before .before .before .before .before .before .before .before .before .end-of in
+    let at-bind = earlier .before .before .before .before .before .before .before .before .before .before .before .before .bind in
+    let at-wider = earlier .before .before .before .before .before .before .before .before .before .before .before .wider in
+    let at-under = earlier .before .before .before .before .before .before .before .before .under in
+    let at-if1 = c .before .before .before .before .before .before .before .before .before .before .before .before .before .if1 in
+    let at-leave = c .before .before .before .before .before .before .before .before .before .before .leave in
+    let at-outer = c .before .before .before .before .outer in
+    let at-leave2 = c .before .before .before .before .before .before .before .leave2 in (
+      omega (arith, start .pre .0, at-under .ensures .gone .ran .moves .spends, ap (λ (m : Machine). m .fuel) (at-bind .ensures .machine),
+          ap (λ (m : Machine). m .fuel) (at-outer .ensures .moved .machine)),
       (
         record {
-          full = at-under .ensures .lengths ∙ at-bind .ensures .lengths ∙ (start .pre .1 .0 .full);
+          full = at-outer .ensures .moved .lengths ∙ at-under .ensures .lengths ∙ at-bind .ensures .lengths ∙ (start .pre .1 .0 .full);
           prepared = letp-outer
               (start .pre .1 .0 .prepared) (start .pre .1 .1 .0) (start .pre .1 .1 .1) (at-first-of .ensures) (at-second-of .ensures)
-              (marked _ (at-bind .ensures) (at-end-of .ensures)) (at-wider .ensures) (at-under .ensures .gone) (at-if1 .left) (at-outer .ensures)
-              (at-outer2 .ensures);
+              (marked _ (at-bind .ensures) (at-end-of .ensures)) (at-wider .ensures) (at-under .ensures .gone) (at-if1 .left)
+              (left-behind (at-outer .ensures));
         },
         letp-both (start .pre .1 .0 .prepared) (start .pre .1 .1 .0) (start .pre .1 .1 .1) (at-first-of .ensures)
             (at-second-of .ensures) (marked _ (at-bind .ensures) (at-end-of .ensures)) (at-wider .ensures) (at-under .ensures .gone) (at-if1 .left)
-            (at-leave2 .ensures) (at-leave .ensures),
+            (left-behind (at-outer .ensures)) (at-leave2 .ensures) (at-leave .ensures),
       ),
     )
 
 pub let-two-same-length-2 : (t : ℕ) → let-two-lts.Need-same-length-2 (let-two-uses t) (let-two-at t) let-two.Post
 let-two-same-length-2 t c =
     let earlier = c .before .before .before .before .before .before .before .before .before .before in
-    let at-under = earlier .before .before .before .before .before .before .under in
+    let at-under = earlier .before .before .before .before .before .before .before .before .before .before .before .under in
+    let at-outer = c .before .before .before .before .before .before .before .outer in
     let at-over-pair = c .before .before .over-pair in
-    at-over-pair .kept .1 .0 ∙ at-under .kept .1 .0
+    at-over-pair .kept .1 .0 ∙ at-outer .kept .0 ∙ at-under .kept .1 .0
 
 pub let-two-returns-2 : (t : ℕ) → let-two-lts.Need-returns-2 (let-two-uses t) (let-two-at t) let-two.Post
 let-two-returns-2 t c =
     let earlier = c .before .before .before .before .before .before .before .before .before .before in
     let earliest = earlier .before .before .before .before .before .before .before .before .before .before in
-    let start = earliest .before .before .before .before .before .before in
-    let at-first-of = earliest .before .before .before .before .first-of in
-    let at-second-of = earliest .before .before .before .second-of in
-    let at-end-of = earlier .before .before .before .before .before .before .before .before .before .before .before .end-of in
-    let at-bind = earlier .before .before .before .before .before .before .before .before .before .before .bind in
-    let at-wider = earlier .before .before .before .before .before .before .before .before .before .wider in
-    let at-under = earlier .before .before .before .before .before .before .under in
-    let at-if1 = c .before .before .before .before .before .before .before .before .before .before .before .if1 in
-    let at-leave = c .before .before .before .before .before .before .before .before .before .leave in
-    let at-leave2 = c .before .before .before .before .before .before .leave2 in
+    let start = earliest .before .before .before .before .before .before .before .before .before .before .before in
+    let at-first-of = earliest .before .before .before .before .before .before .before .before .before .first-of in
+    let at-second-of = earliest .before .before .before .before .before .before .before .before .second-of in
+    let at-end-of = earlier .before .before .before .before .before .before .before .before .before .before .before .before .before .before .before .before .end-of in
+    let at-bind = earlier .before .before .before .before .before .before .before .before .before .before .before .before .before .before .before .bind in
+    let at-wider = earlier .before .before .before .before .before .before .before .before .before .before .before .before .before .before .wider in
+    let at-under = earlier .before .before .before .before .before .before .before .before .before .before .before .under in
+    let at-if1 = c .before .before .before .before .before .before .before .before .before .before .before .before .before .before .before .before .if1 in
+    let at-leave = c .before .before .before .before .before .before .before .before .before .before .before .before .before .leave in
+    let at-leave2 = c .before .before .before .before .before .before .before .before .before .before .leave2 in
+    let at-outer = c .before .before .before .before .before .before .before .outer in
     let at-over-pair = c .before .before .over-pair in
     record {
-      lengths = at-over-pair .ensures .lengths ∙ at-under .ensures .lengths ∙ at-bind .ensures .lengths;
+      lengths = at-over-pair .ensures .lengths ∙ at-outer .ensures .moved .lengths ∙ at-under .ensures .lengths ∙ at-bind .ensures .lengths;
       gone = letp-gone (start .pre .1 .0 .prepared) (start .pre .1 .1 .0) (start .pre .1 .1 .1) (at-first-of .ensures) (at-second-of .ensures)
-          (marked _ (at-bind .ensures) (at-end-of .ensures)) (at-wider .ensures) (at-under .ensures .gone) (at-if1 .left) (at-leave2 .ensures)
+          (marked _ (at-bind .ensures) (at-end-of .ensures)) (at-wider .ensures) (at-under .ensures .gone) (at-if1 .left)
+          (left-behind (at-outer .ensures)) (at-leave2 .ensures)
           (at-leave .ensures) (at-over-pair .ensures .gone);
     }

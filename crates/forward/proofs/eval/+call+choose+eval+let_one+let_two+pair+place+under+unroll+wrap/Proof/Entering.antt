@@ -6,7 +6,7 @@ use mathlib.Core.Logic.{inl as left, inr as right}
 use borrow.Author.Needs.{needs}
 use Rattle.decoded.proofs.Trees.{none-left}
 use Rattle.forward.proofs.Answers.{is-fuel, is-height}
-use Rattle.forward.proofs.Bounds.{row-read, scope-there, held-answers}
+use Rattle.forward.proofs.Bounds.{row-read, find-ready}
 use Rattle.forward.proofs.Steps.{term-spent, term-high}
 use Rattle.forward.proofs.Lending.{spent-ready, spent-done, spent-fuel, variable-step, unit-step, make-ready}
 use Prim.Native.Nat.{ℕ}
@@ -67,20 +67,17 @@ eval-kind-of-requires t c κs =
 
 pub eval-first-of-requires : (t : ℕ) → eval-lts.Need-first-of-requires (eval-uses t) (eval-at t) eval.Post
 eval-first-of-requires t c κs =
-    let start = c .before .before .before .before .before .before .before .before .before .before in
+    let start = c .before .before .before .before .before .before .before .before .before .before .before in
     row-read (start .pre .1 .ready)
 
 pub eval-variable-requires : (t : ℕ) → eval-lts.Need-variable-requires (eval-uses t) (eval-at t) eval.Post
 eval-variable-requires t c κs =
-    let start = c .before .before .before .before .before .before .before .before .before .before .before in
-    let at-fuel = c .before .before .before .before .before .before .before .before .fuel in
-    let at-if1 = c .before .before .before .before .before .before .before .if1 in
-    let at-if2 = c .before .before .before .before .before .before .if2 in
-    let at-spend = c .before .before .before .before .spend in (
-      scope-there ((spent-ready (start .pre .1) (λ e. at-if1 .left (at-fuel .ensures ∙ e)) (at-if2 .left) (at-spend .ensures)) .ready),
-      held-answers
-          ((spent-ready (start .pre .1) (λ e. at-if1 .left (at-fuel .ensures ∙ e)) (at-if2 .left) (at-spend .ensures)) .ready),
-    )
+    let start = c .before .before .before .before .before .before .before .before .before .before .before .before in
+    let at-fuel = c .before .before .before .before .before .before .before .before .before .fuel in
+    let at-if1 = c .before .before .before .before .before .before .before .before .if1 in
+    let at-if2 = c .before .before .before .before .before .before .before .if2 in
+    let at-spend = c .before .before .before .before .before .spend in
+    find-ready (spent-ready (start .pre .1) (λ e. at-if1 .left (at-fuel .ensures ∙ e)) (at-if2 .left) (at-spend .ensures))
 
 pub eval-make-unit-requires : (t : ℕ) → eval-lts.Need-make-unit-requires (eval-uses t) (eval-at t) eval.Post
 eval-make-unit-requires t c κs =
@@ -247,23 +244,26 @@ eval-unroll-requires t c κs =
 pub eval-refuse-requires-3 : (t : ℕ) → eval-lts.Need-refuse-requires-3 (eval-uses t) (eval-at t) eval.Post
 eval-refuse-requires-3 t c κs = search needs
 
+pub eval-same-length : (t : ℕ) → eval-lts.Need-same-length (eval-uses t) (eval-at t) eval.Post
+eval-same-length t c = search needs
+
 pub eval-returns-3 : (t : ℕ) → eval-lts.Need-returns-3 (eval-uses t) (eval-at t) eval.Post
 eval-returns-3 t c =
-    let start = c .before .before .before .before .before .before .before .before .before .before .before .before in
-    let at-fuel = c .before .before .before .before .before .before .before .before .before .fuel in
-    let at-if1 = c .before .before .before .before .before .before .before .before .if1 in
-    let at-if2 = c .before .before .before .before .before .before .before .if2 in
-    let at-spend = c .before .before .before .before .before .spend in
-    let at-kind-of = c .before .before .before .before .kind-of in
-    let at-match = c .before .before .before .match in
+    let start = c .before .before .before .before .before .before .before .before .before .before .before .before .before in
+    let at-fuel = c .before .before .before .before .before .before .before .before .before .before .fuel in
+    let at-if1 = c .before .before .before .before .before .before .before .before .before .if1 in
+    let at-if2 = c .before .before .before .before .before .before .before .before .if2 in
+    let at-spend = c .before .before .before .before .before .before .spend in
+    let at-kind-of = c .before .before .before .before .before .kind-of in
+    let at-match = c .before .before .before .before .match in
     let at-first-of = c .before .first-of in
     let at-variable = c .variable in
     spent-done (start .pre .1) (λ e. at-if1 .left (at-fuel .ensures ∙ e)) (at-if2 .left) (at-spend .ensures)
     (variable-step (spent-ready (start .pre .1) (λ e. at-if1 .left (at-fuel .ensures ∙ e)) (at-if2 .left) (at-spend .ensures))
     (sym (at-kind-of .ensures) ∙ at-match .keys1) (at-first-of .ensures) (at-variable .ensures))
 
-pub eval-same-length : (t : ℕ) → eval-lts.Need-same-length (eval-uses t) (eval-at t) eval.Post
-eval-same-length t c =
+pub eval-same-length-2 : (t : ℕ) → eval-lts.Need-same-length-2 (eval-uses t) (eval-at t) eval.Post
+eval-same-length-2 t c =
     let at-make-unit = c .before .before .make-unit in
     at-make-unit .kept .0
 
@@ -282,8 +282,8 @@ eval-returns-4 t c =
     (unit-step (spent-ready (start .pre .1) (λ e. at-if1 .left (at-fuel .ensures ∙ e)) (at-if2 .left) (at-spend .ensures))
     (sym (at-kind-of .ensures) ∙ at-match .keys2) (at-make-unit .ensures))
 
-pub eval-same-length-2 : (t : ℕ) → eval-lts.Need-same-length-2 (eval-uses t) (eval-at t) eval.Post
-eval-same-length-2 t c =
+pub eval-same-length-3 : (t : ℕ) → eval-lts.Need-same-length-3 (eval-uses t) (eval-at t) eval.Post
+eval-same-length-3 t c =
     let at-wrap = c .before .before .wrap in
     at-wrap .kept .1 .0
 
@@ -298,8 +298,8 @@ eval-returns-5 t c =
     let at-wrap = c .before .before .wrap in
     spent-done (start .pre .1) (λ e. at-if1 .left (at-fuel .ensures ∙ e)) (at-if2 .left) (at-spend .ensures) (at-wrap .ensures)
 
-pub eval-same-length-3 : (t : ℕ) → eval-lts.Need-same-length-3 (eval-uses t) (eval-at t) eval.Post
-eval-same-length-3 t c =
+pub eval-same-length-4 : (t : ℕ) → eval-lts.Need-same-length-4 (eval-uses t) (eval-at t) eval.Post
+eval-same-length-4 t c =
     let at-wrap2 = c .before .before .wrap2 in
     at-wrap2 .kept .1 .0
 
@@ -314,8 +314,8 @@ eval-returns-6 t c =
     let at-wrap2 = c .before .before .wrap2 in
     spent-done (start .pre .1) (λ e. at-if1 .left (at-fuel .ensures ∙ e)) (at-if2 .left) (at-spend .ensures) (at-wrap2 .ensures)
 
-pub eval-same-length-4 : (t : ℕ) → eval-lts.Need-same-length-4 (eval-uses t) (eval-at t) eval.Post
-eval-same-length-4 t c =
+pub eval-same-length-5 : (t : ℕ) → eval-lts.Need-same-length-5 (eval-uses t) (eval-at t) eval.Post
+eval-same-length-5 t c =
     let at-pair = c .before .before .pair in
     at-pair .kept .1 .0
 
@@ -330,8 +330,8 @@ eval-returns-7 t c =
     let at-pair = c .before .before .pair in
     spent-done (start .pre .1) (λ e. at-if1 .left (at-fuel .ensures ∙ e)) (at-if2 .left) (at-spend .ensures) (at-pair .ensures)
 
-pub eval-same-length-5 : (t : ℕ) → eval-lts.Need-same-length-5 (eval-uses t) (eval-at t) eval.Post
-eval-same-length-5 t c =
+pub eval-same-length-6 : (t : ℕ) → eval-lts.Need-same-length-6 (eval-uses t) (eval-at t) eval.Post
+eval-same-length-6 t c =
     let at-let-one = c .before .before .let-one in
     at-let-one .kept .1 .0
 
@@ -346,8 +346,8 @@ eval-returns-8 t c =
     let at-let-one = c .before .before .let-one in
     spent-done (start .pre .1) (λ e. at-if1 .left (at-fuel .ensures ∙ e)) (at-if2 .left) (at-spend .ensures) (at-let-one .ensures)
 
-pub eval-same-length-6 : (t : ℕ) → eval-lts.Need-same-length-6 (eval-uses t) (eval-at t) eval.Post
-eval-same-length-6 t c =
+pub eval-same-length-7 : (t : ℕ) → eval-lts.Need-same-length-7 (eval-uses t) (eval-at t) eval.Post
+eval-same-length-7 t c =
     let at-let-two = c .before .before .let-two in
     at-let-two .kept .1 .0
 
@@ -362,8 +362,8 @@ eval-returns-9 t c =
     let at-let-two = c .before .before .let-two in
     spent-done (start .pre .1) (λ e. at-if1 .left (at-fuel .ensures ∙ e)) (at-if2 .left) (at-spend .ensures) (at-let-two .ensures)
 
-pub eval-same-length-7 : (t : ℕ) → eval-lts.Need-same-length-7 (eval-uses t) (eval-at t) eval.Post
-eval-same-length-7 t c =
+pub eval-same-length-8 : (t : ℕ) → eval-lts.Need-same-length-8 (eval-uses t) (eval-at t) eval.Post
+eval-same-length-8 t c =
     let at-choose = c .before .before .choose in
     at-choose .kept .1 .0
 
@@ -378,8 +378,8 @@ eval-returns-10 t c =
     let at-choose = c .before .before .choose in
     spent-done (start .pre .1) (λ e. at-if1 .left (at-fuel .ensures ∙ e)) (at-if2 .left) (at-spend .ensures) (at-choose .ensures)
 
-pub eval-same-length-8 : (t : ℕ) → eval-lts.Need-same-length-8 (eval-uses t) (eval-at t) eval.Post
-eval-same-length-8 t c =
+pub eval-same-length-9 : (t : ℕ) → eval-lts.Need-same-length-9 (eval-uses t) (eval-at t) eval.Post
+eval-same-length-9 t c =
     let at-call = c .before .before .call in
     at-call .kept .1 .0
 
@@ -394,8 +394,8 @@ eval-returns-11 t c =
     let at-call = c .before .before .call in
     spent-done (start .pre .1) (λ e. at-if1 .left (at-fuel .ensures ∙ e)) (at-if2 .left) (at-spend .ensures) (at-call .ensures)
 
-pub eval-same-length-9 : (t : ℕ) → eval-lts.Need-same-length-9 (eval-uses t) (eval-at t) eval.Post
-eval-same-length-9 t c =
+pub eval-same-length-10 : (t : ℕ) → eval-lts.Need-same-length-10 (eval-uses t) (eval-at t) eval.Post
+eval-same-length-10 t c =
     let at-wrap3 = c .before .before .wrap3 in
     at-wrap3 .kept .1 .0
 
@@ -410,8 +410,8 @@ eval-returns-12 t c =
     let at-wrap3 = c .before .before .wrap3 in
     spent-done (start .pre .1) (λ e. at-if1 .left (at-fuel .ensures ∙ e)) (at-if2 .left) (at-spend .ensures) (at-wrap3 .ensures)
 
-pub eval-same-length-10 : (t : ℕ) → eval-lts.Need-same-length-10 (eval-uses t) (eval-at t) eval.Post
-eval-same-length-10 t c =
+pub eval-same-length-11 : (t : ℕ) → eval-lts.Need-same-length-11 (eval-uses t) (eval-at t) eval.Post
+eval-same-length-11 t c =
     let at-unroll = c .before .before .unroll in
     at-unroll .kept .1 .0
 

@@ -1,62 +1,98 @@
 use Prim.Native.Nat.{_+_}
 use native.Mathlib.Omega.{arith}
-use mathlib.Core.Path.{sym, ap, subst, _∙_}
-use lib.ListN.{getD}
+use mathlib.Core.Path.{refl, sym, ap, _∙_}
 use borrow.Author.Needs.{needs}
-use Rattle.rules.specs.Val.{same}
-use Rattle.values.specs.Nodes.{valueAt}
-use Rattle.scopes.specs.Slots.{slotsOf}
-use Rattle.scopes.proofs.Views.{at-comparing, at-binding}
+use Rattle.scopes.specs.Slots.{unknown}
+use Rattle.scopes.proofs.Meeting.{looks, old-low, met-compared, met-bound}
 use Rattle.scopes.proofs.bindings.Bindings.meet.Statement.{statement}
 use Rattle.scopes.proofs.bindings.Bindings.meet.Tie as tie
-
-add-at : tie.Need-add-at
-add-at c = search needs
-
-contains-requires : tie.Need-contains-requires
-contains-requires c κs = search needs
 
 top-requires : tie.Need-top-requires
 top-requires c κs = search needs
 
+wide-index-requires : tie.Need-wide-index-requires
+wide-index-requires c κs = search needs
+
+add-at : tie.Need-add-at
+add-at c = search needs
+
 at-requires : tie.Need-at-requires
 at-requires c κs = search needs
 
-same-requires : tie.Need-same-requires
-same-requires c κs = let start = c .before .before .before .before .before .before .before .before in
-    let top = c .before .before .top .ensures in
-    let node = start .pre .1 .1 .0 .node (sym (c .before .before .before .before .before .contains .ensures) ∙ c .before .before .before .before .if1 .taken) in
-    (rw top (start .pre .1 .0), (rw (top, c .at .ensures) node, rw top (start .pre .1 .1 .1)))
+seen-requires : tie.Need-seen-requires
+seen-requires c κs =
+    let v = c .before .before .before .wide-index .ensures .0 in
+    let top = c .before .before .before .before .top .ensures in
+    let start = c .before .before .before .before .before .before .before in
+    looks (start .pre .0) v (c .at .ensures) top
 
-returns : tie.Need-returns
-returns c = let a = c .before .before .before .before .before .before .before .before .before .args in
-    at-comparing (a .ws .now) (a .st .now) (a .self) (a .base) (a .i) (a .node) (c .same .result) (sym (c .before .before .before .before .before .before .contains .ensures) ∙ c .before .before .before .before .before .if1 .taken)
-    (c .same .ensures ∙ ap (λ n. same (valueAt (a .ws .now) n) (valueAt (a .ws .now) (a .node))) (c .before .at .ensures))
+enum-known-old : tie.Need-enum-known-old
+enum-known-old c = search needs
+
+same-requires : tie.Need-same-requires
+same-requires c κs =
+    let seen-it = c .before .before .before .before in
+    let at = seen-it .before in
+    let v = at .before .before .before .wide-index .ensures .0 in
+    let top = at .before .before .before .before .top .ensures in
+    let start = at .before .before .before .before .before .before .before in
+    (rw top (start .pre .0 .cell .graph),
+    (old-low (start .pre .0) v (at .at .ensures) top (seen-it .seen .ensures) (c .before .before .old .given .1), rw top (start .pre .1)))
+
+enum-told : tie.Need-enum-told
+enum-told c = search needs
+
+with-cell-requires : tie.Need-with-cell-requires
+with-cell-requires c κs = search needs
+
+add-bind : tie.Need-add-bind
+add-bind c = search needs
 
 bind-requires : tie.Need-bind-requires
 bind-requires c κs = search needs
 
-only-requires : tie.Need-only-requires
-only-requires c κs = search needs
+same-length : tie.Need-same-length
+same-length c = search needs
 
-union-requires : tie.Need-union-requires
-union-requires c κs = search needs
+returns : tie.Need-returns
+returns c =
+    let seen-it = c .before .before .before .before .before in
+    let at = seen-it .before in
+    let v = at .before .before .before .wide-index .ensures .0 in
+    let a = at .before .before .before .before .before .before .before .args in
+    met-compared (a .ws .now) (a .st .now) (a .self) (a .base) (a .i) (a .node) v (at .at .ensures) (seen-it .seen .ensures) (c .before .before .before .old .given .1) (c .same .ensures)
+
+same-length-2 : tie.Need-same-length-2
+same-length-2 c = search needs
 
 returns-2 : tie.Need-returns-2
-returns-2 c = let a = c .before .before .before .before .before .before .before .before .args in
-    at-binding (a .ws .now) (a .st .now) _ (a .self) (a .base) (a .i) (a .node) (sym (c .before .before .before .before .before .contains .ensures) ∙ c .before .before .before .before .if1 .left) (c .before .only .ensures) (c .union .ensures) (c .before .before .bind .ensures)
+unfolding unknown
+returns-2 c =
+    let made = c .before .before .before .before in
+    let told = made .before .before .before in
+    let seen-it = told .before .before in
+    let at = seen-it .before in
+    let v = at .before .before .before .wide-index .ensures .0 in
+    let top = at .before .before .before .before .top .ensures in
+    let a = at .before .before .before .before .before .before .before .args in
+    met-bound (a .ws .now) (a .st .now) (a .self) (a .base) (a .i) (a .node) v (at .at .ensures) (seen-it .seen .ensures) top (told .enum-told .given .1) (made .with-cell .ensures) (c .bind .ensures)
 
 pub meet-spec : {M : Type 1} → statement M
 meet-spec =
     tie.close
     (tie.spec
-    add-at
-    contains-requires
     top-requires
+    wide-index-requires
+    add-at
     at-requires
+    seen-requires
+    enum-known-old
     same-requires
-    returns
+    enum-told
+    with-cell-requires
+    add-bind
     bind-requires
-    only-requires
-    union-requires
+    same-length
+    returns
+    same-length-2
     returns-2)
