@@ -3,7 +3,7 @@ use Prim.Native.Nat.{ℕ, _+_, _≤_, _<_}
 use native.Mathlib.Omega.{arith}
 use mathlib.Core.Path.{_≡_, refl, sym, ap, ap₂, subst, _∙_}
 use mathlib.Core.List.{List, [], _∷_, map}
-use mathlib.Core.Logic.{inr as right}
+use mathlib.Core.Logic.{inl as left, inr as right}
 use lib.ListN.{length, getD}
 use package.Rattle.rules.specs.Limits.{fits, maxHeight, maxVariables, maxNodes}
 use package.Rattle.rules.specs.Val.{Val}
@@ -36,7 +36,7 @@ use package.Rattle.running.specs.Begun.{Begun, BegunIn}
 use package.Rattle.running.specs.Ended.{Shaped, Means, Gives}
 use package.Rattle.running.specs.Back.{Returnable, inputOf, Undone, Returns}
 use package.Rattle.running.proofs.Loads.{values-same}
-use package.Rattle.running.proofs.Starts.{admits, rows, in-rows, as-many, few-arguments, nodes-room, nodes-answer, same-program, same-function, shaped-of}
+use package.Rattle.running.proofs.Starts.{admits, rows, in-rows, as-many, few-arguments, nodes-room, nodes-cells, same-program, same-function, shaped-of}
 
 ----------------------------------------------------------------
 -- Evaluation
@@ -54,10 +54,10 @@ module _ {xs terms functions heap : List ℕ} {g : ℕ} {anc bytes : List ℕ} {
   low i h = subst (λ i. getD slots′ i 0 < start .top) (let z : i ≡ 0 + i = omega arith in z) (B .held i h)
 
   -- the ancillae are known
-  known : Collected (viewOf slots′ 0 (start .count)) (start .count) (start .top)
+  known : Collected heap′ (viewOf slots′ 0 (start .count)) (start .count) (start .top)
   known = record {
     binds = record {
-      bound = view-bound slots′ 0 (start .count) (start .top) (omega (arith, few-arguments R D B)) (λ i h. right (low i (omega arith)));
+      bound = view-bound heap′ slots′ 0 (start .count) (start .top) (omega (arith, few-arguments R D B)) (λ i h. right (left (low i (omega arith))));
       within = omega arith;
       ancillae = λ i h. rw (view-at slots′ 0 i (omega (arith, few-arguments R D B))) (low i (omega arith));
     };
@@ -77,7 +77,7 @@ module _ {xs terms functions heap : List ℕ} {g : ℕ} {anc bytes : List ℕ} {
         some = B .unit-there .0;
         unit-there = B .unit-there .1;
         nodes = omega (arith, nodes-room R D B);
-        small = omega (arith, nodes-answer R D B (omega arith));
+        small = omega (arith, nodes-cells R D B (omega arith));
         variables = omega arith;
         all = full;
       };

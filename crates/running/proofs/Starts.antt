@@ -22,6 +22,7 @@ use package.Rattle.decoded.proofs.Trees.{called-tree, called-only}
 use package.Rattle.decoded.proofs.Accepted.{accepted-terms, accepted-functions, accepted-rows, decoded-program}
 use package.Rattle.values.specs.Nodes.{nodeBytes}
 use package.Rattle.scopes.specs.Slots.{unknown}
+use package.Rattle.scopes.specs.Cells.{cellCount}
 use package.Rattle.forward.specs.Outcomes.{stopped}
 use package.Rattle.reading.specs.Ends.{valuesIn}
 use package.Rattle.admission.specs.Given.{givenIn}
@@ -99,8 +100,8 @@ module _ {side : Fun → Ty} {xs terms functions heap : List ℕ} {g : ℕ} {anc
       pub few-arguments : start .count ≤ 7
       few-arguments = omega (arith, B .count, few)
 
-      -- a node for each unit of fuel, after those of the values
-      pub nodes-room : nodeBytes * (start .top + fuel) ≤ length heap′
+      -- two nodes for each unit of fuel, after those of the values
+      pub nodes-room : nodeBytes * (start .top + 2 * fuel) ≤ length heap′
       unfolding startNodes workspaceFor workspaceBase workspacePerFuel
       nodes-room = omega (arith, R .enough, B .few, B .heap-length)
 
@@ -108,6 +109,11 @@ module _ {side : Fun → Ty} {xs terms functions heap : List ℕ} {g : ℕ} {anc
       pub nodes-answer : fuel < 65536 → start .top + fuel ≤ stopped
       unfolding startNodes
       nodes-answer l = omega (arith, B .few)
+
+      -- every node may be named by a cell
+      pub nodes-cells : fuel < 65536 → start .top + 2 * fuel ≤ cellCount
+      unfolding startNodes
+      nodes-cells l = omega (arith, B .few)
 
       pub nodes-small : fuel < 65536 → start .top + fuel ≤ unknown
       unfolding startNodes unknown
