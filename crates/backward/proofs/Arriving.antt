@@ -26,7 +26,7 @@ use package.Rattle.backward.specs.Ready.{Prepared, Gone, Variable, UnitM
 use package.Rattle.backward.specs.Outcomes.{Refused, carried, outcomeOf, scopeView, statusOf, tooLong}
 use package.Rattle.backward.proofs.Runs.{small-top}
 use package.Rattle.backward.proofs.Stops.{is-done, number-height, number-fuel}
-use package.Rattle.backward.proofs.Frames.{older-later, few-ancillae, gone-refused}
+use package.Rattle.backward.proofs.Frames.{older-later, few-ancillae, gone-refused, runs-back}
 use package.Rattle.backward.proofs.Leaves.{variable-met, variable-differs, variable-bound, unit-met, unit-stuck}
 use package.Rattle.backward.proofs.Parts.{scoped-var}
 use package.Rattle.backward.proofs.Entering.{term-ready, term-done, over-ready, over-done, over-long, term-high, term-spent}
@@ -256,5 +256,5 @@ module _ {code heap st : List ℕ} {b : Bindings} {scope t room : ℕ} (Q : Prep
   handed e k = (omega (arith, taken-fuel (Q .prepared) low fuel-there some-room (S .slots) (S .machine)), (entered, (entered-node, k)))
 
   -- and what it gives back
-  pub handed-back : {heap′ st′ : List ℕ} {r : Out} → StepsBack code heap heap′ st₁ st′ scope t node room r → RunsBack code heap heap′ st st′ scope t node room r
-  handed-back R = record { lengths = R .lengths ∙ S .lengths; gone = taken-done (Q .prepared) low fuel-there some-room (S .slots) (S .machine) (R .gone) }
+  pub handed-back : {heap′ st′ : List ℕ} {r : Out} → StepsBack code heap heap′ st₁ st′ scope t node room r → RunsBack code heap heap′ st st′ b scope t node room r
+  handed-back R = runs-back Q (taken-done (Q .prepared) low fuel-there some-room (S .slots) (S .machine) (R .gone)) (R .lengths ∙ S .lengths)

@@ -2,26 +2,29 @@
 use Prim.Native.Nat.{ℕ, zero, suc, _+_, _*_, _≤_, _<_}
 use native.Mathlib.Omega.{arith}
 use mathlib.Core.Path.{_≡_, refl, sym, ap, ap₂, _∙_}
-use mathlib.Core.Bool.{Bool}
+use mathlib.Core.Bool.{Bool, true, false}
 use mathlib.Core.List.{List, _∷_}
-use lib.ListN.{getD}
-use package.Rattle.rules.specs.Run.{Res}
-use package.Rattle.rules.specs.Machine.{State}
+use lib.ListN.{length, getD}
+use lib.Dec.{eqb}
+use borrow.Author.Tests.{eqb-true, eqb-false}
+use package.Rattle.rules.specs.Limits.{fits}
+use package.Rattle.rules.specs.Run.{Res, ok}
+use package.Rattle.rules.specs.Machine.{State, backward}
 use package.Rattle.rules.specs.Yield.{mayYield}
 use package.Rattle.calls.specs.Entries.{TypeEntry}
-use package.Rattle.decoded.specs.Rows.{treeIn}
+use package.Rattle.decoded.specs.Rows.{treeIn, programIn}
 use package.Rattle.values.specs.Nodes.{valueAt, Agree}
-use package.Rattle.scopes.specs.Slots.{Slots, Machine, Scope, scopeIn, slotsOf}
-use package.Rattle.scopes.specs.Bindings.{slotsFrom, viewOf, stateOf, Bound, Tells}
+use package.Rattle.scopes.specs.Slots.{Slots, Machine, Scope, machineOf, scopeIn, slotsOf}
+use package.Rattle.scopes.specs.Bindings.{slotsFrom, viewOf, stateOf, stateIn, Bound, Tells}
 use package.Rattle.scopes.specs.declared.bindings.Bindings.{Bindings}
 use package.Rattle.scopes.proofs.Marks.{slot-later}
 use package.Rattle.scopes.proofs.Scopes.{state-same}
-use package.Rattle.scopes.proofs.Views.{view-at, view-bound, view-state, tells-later}
+use package.Rattle.scopes.proofs.Views.{view-at, view-bound, view-state, view-told, tells-later}
 use package.Rattle.yields.specs.Yields.{ancillaeAt, MayYield}
-use package.Rattle.backward.specs.Outcomes.{Refused, outcomeOf, statusOf, scopeView}
-use package.Rattle.backward.specs.Ready.{Ready, Follows, Moves, Ran, Prepared, Gone, GoneUnder, ancillaeOf}
-use package.Rattle.backward.proofs.Runs.{not-done}
-use package.Rattle.backward.proofs.Stops.{is-done}
+use package.Rattle.backward.specs.Outcomes.{Status, Refused, outcomeOf, statusOf, scopeView, meaning, toldOf}
+use package.Rattle.backward.specs.Ready.{Ready, Follows, Moves, Ran, Prepared, Gone, GoneUnder, PreparedIn, GoneIn, RunsBack, ancillaeOf, runAt}
+use package.Rattle.backward.proofs.Runs.{meaning-done, meaning-refused, not-done}
+use package.Rattle.backward.proofs.Stops.{is-done, is-stopped}
 use Rattle.backward.specs.declared.outcomes.Refusal.{Refusal}
 use Rattle.backward.specs.declared.outcomes.Out.{Out}
 
@@ -118,6 +121,43 @@ pub gone-then : {k k′ : ℕ} {heap heap₁ heap₂ slots slots₁ slots₂ : L
     → ((j : ℕ) → j < sc .base → getD slots j 0 ≡ getD slots₁ j 0) → Gone k′ heap₁ heap₂ slots₁ slots₂ m₁ m₂ sc r res₁
     → Ran k heap heap₂ slots slots₂ m (scopeView slots sc) (outcomeOf (r .stop) slots₂ m₂ sc) res → Gone k heap heap₂ slots slots₂ m m₂ sc r res
 gone-then same G R = record { ran = R; below = λ j l. same j l ∙ G .below j l; tells = G .tells }
+
+-- the state that is handed back, by value and by the slots
+handed-on : (heap slots : List ℕ) (m : Machine) (sc : Scope) (r : Out) → (r .stop ≡ 0 → Tells heap slots (r .state) (sc .base) (sc .q) (sc .n) (m .top))
+    → sc .n ≤ 32 → toldOf (stateIn heap slots (r .state) sc) (m .fuel) (statusOf (r .stop)) ≡ meaning heap (outcomeOf (r .stop) slots m sc)
+unfolding toldOf
+handed-on heap slots m sc r T few = go (eqb (r .stop) 0) refl
+  where
+    told : Status → Res State
+    told s = toldOf (stateIn heap slots (r .state) sc) (m .fuel) s
+
+    go : (y : Bool) → eqb (r .stop) 0 ≡ y
+        → toldOf (stateIn heap slots (r .state) sc) (m .fuel) (statusOf (r .stop)) ≡ meaning heap (outcomeOf (r .stop) slots m sc)
+    go true q =
+        let e = eqb-true (r .stop) 0 q in
+        ap told (is-done e) ∙ ap (λ σ. ok σ (m .fuel)) (view-told heap slots (r .state) sc (m .top) (T e) few)
+        ∙ sym (meaning-done heap (outcomeOf (r .stop) slots m sc) (is-done e))
+    go false q =
+        let s = is-stopped (eqb-false (r .stop) 0 q) in
+        ap told s ∙ sym (meaning-refused heap (outcomeOf (r .stop) slots m sc) s)
+
+-- A run, by the state by value that it was begun with.
+pub runs-back : {code heap heap′ st st′ : List ℕ} {b : Bindings} {scope t room node k h : ℕ} → PreparedIn k h code heap st b scope t room → {r : Out}
+    → GoneIn 0 heap heap′ st st′ scope r (runAt code heap (slotsOf st) (machineOf st) (scopeIn scope) t (valueAt heap node) room)
+    → length st′ ≡ length st → RunsBack code heap heap′ st st′ b scope t node room r
+runs-back {code} {heap} {heap′} {st} {st′} {b} {scope} {t} {room} {node} Q {r} G e = record {
+  lengths = e;
+  gone = G;
+  answer = λ ys.
+      handed-on heap′ (slotsOf st′) (machineOf st′) (scopeIn scope) r (G .tells) few
+      ∙ G .ran .answer ys
+      ∙ ap₂ (λ a σ. backward fits (programIn code ys) room a σ (treeIn code ys t) (valueAt heap node) (machineOf st .fuel))
+      (view-ancillae heap (slotsOf st) (scopeIn scope .base) (scopeIn scope .q) (few-ancillae (Q .prepared)))
+      (sym (view-told heap (slotsOf st) b (scopeIn scope) (machineOf st .top) (Q .prepared .tells) few));
+}
+  where
+    few : scopeIn scope .n ≤ 32
+    few = Q .prepared .ready .binds .bound .few
 
 -- a run under one variable more, which was stopped
 pub stops-under : {heap heap₁ slots slots₁ : List ℕ} {m m₁ : Machine} {sc : Scope} {r : Out} {res : List TypeEntry → Res State}

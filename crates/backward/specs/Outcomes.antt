@@ -76,6 +76,11 @@ unfoldable pub answerOf : List ℕ → View → ℕ → Status → Res State
 answerOf heap b fuel Done = ok (stateOf heap b) fuel
 answerOf heap b fuel (Refused why) = refusalOf why
 
+-- the same with the rules' state itself
+unfoldable pub toldOf : State → ℕ → Status → Res State
+toldOf σ fuel Done = ok σ fuel
+toldOf σ fuel (Refused why) = refusalOf why
+
 abbrev pub meaning : List ℕ → Outcome → Res State
 meaning heap out = answerOf heap (out .bindings) (out .state .fuel) (out .status)
 

@@ -16,12 +16,12 @@ use package.Rattle.decoded.specs.Rows.{termCount, treeIn, programIn, Rows}
 use package.Rattle.values.specs.Nodes.{nodeBytes, ofKind, valueAt, Agree, kindAt as nodeKind}
 use package.Rattle.scopes.specs.Slots.{unknown, slotCount, stateCount, Machine, Scope, machineOf, slotsOf, scopeIn, found, nodeOr, Slot, Slots}
 use package.Rattle.scopes.specs.Cells.{cellCount}
-use package.Rattle.scopes.specs.Bindings.{View, stateOf, Bound, Left, Tells, seen, Looks, MeetsAt}
+use package.Rattle.scopes.specs.Bindings.{View, stateOf, stateIn, Bound, Left, Tells, seen, Looks, MeetsAt}
 use package.Rattle.scopes.specs.declared.bindings.Bindings.{Bindings}
-use package.Rattle.yields.specs.Yields.{ancillaeAt}
+use package.Rattle.yields.specs.Yields.{ancillaeAt, ancillaeIn}
 use package.Rattle.forward.specs.Ready.{Graph}
 use package.Rattle.backward.specs.Scoped.{ScopedAt, Bodies}
-use package.Rattle.backward.specs.Outcomes.{Done, Refused, Outcome, Inner, statusOf, scopeView, outcomeOf, innerOf, meaning, leftWith}
+use package.Rattle.backward.specs.Outcomes.{Done, Refused, Outcome, Inner, statusOf, scopeView, outcomeOf, innerOf, meaning, toldOf, leftWith}
 use Rattle.backward.specs.declared.outcomes.Refusal.the-variants.{NoInput, Stuck}
 use Rattle.backward.specs.declared.outcomes.Out.{Out}
 
@@ -177,10 +177,17 @@ pub record PreparedUnder (code heap st : List ℕ) (b : Bindings) (scope t room 
 abbrev pub GoneIn : ℕ → (heap heap′ st st′ : List ℕ) → ℕ → Out → (List TypeEntry → Res State) → Type 0
 GoneIn k heap heap′ st st′ scope r res = Gone k heap heap′ (slotsOf st) (slotsOf st′) (machineOf st) (machineOf st′) (scopeIn scope) r res
 
--- Term `t` was run with the value at `node`; with the value `v`, made for it; from its entering on; and in the scope with one variable more.
-pub record RunsBack (code heap heap′ st st′ : List ℕ) (scope t node room : ℕ) (r : Out) : Type 0 where
+-- Term `t` was run with the value at `node`, from the state by value `b`: whatever the type entries are, the rules' `backward` carries the state
+-- that `b` is to the state that is handed back, or to the refusal.
+pub record RunsBack (code heap heap′ st st′ : List ℕ) (b : Bindings) (scope t node room : ℕ) (r : Out) : Type 0 where
   pub lengths : length st′ ≡ length st
   pub gone : GoneIn 0 heap heap′ st st′ scope r (runAt code heap (slotsOf st) (machineOf st) (scopeIn scope) t (valueAt heap node) room)
+  pub answer : (ys : List TypeEntry)
+      → toldOf (stateIn heap′ (slotsOf st′) (r .state) (scopeIn scope)) (machineOf st′ .fuel) (statusOf (r .stop))
+      ≡ backward fits (programIn code ys) room (ancillaeIn heap st scope) (stateIn heap (slotsOf st) b (scopeIn scope)) (treeIn code ys t)
+      (valueAt heap node) (machineOf st .fuel)
+
+-- The same by the slots: with the value `v`, made for the term; from its entering on; and in the scope with one variable more.
 
 pub record RunsOver (code heap heap′ st st′ : List ℕ) (scope t : ℕ) (v : Val) (room : ℕ) (r : Out) : Type 0 where
   pub lengths : length st′ ≡ length st

@@ -36,7 +36,7 @@ pub fn back(
 ) -> Out
     requires { ⌜ PreparedIn 0 0 (now code) (now ws) (now st) b scope t room ⌝ }
     requires { ⌜ node < machineOf (now st) .top ⌝ }
-    ensures { λ r. ⌜ RunsBack (now (code .entry)) (now (ws .entry)) (now (ws .exit)) (now (st .entry)) (now (st .exit)) scope t node room r ⌝ }
+    ensures { λ r. ⌜ RunsBack (now (code .entry)) (now (ws .entry)) (now (ws .exit)) (now (st .entry)) (now (st .exit)) b scope t node room r ⌝ }
 {
     if state::fuel(st) == 0 {
         return outcomes::refuse(b, FUEL, t);

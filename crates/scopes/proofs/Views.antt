@@ -12,11 +12,12 @@ use lib.Seq.{getD-set-same, getD-set-other, ext-getD}
 use lib.Dec.{eqb, ltb}
 use borrow.Author.Tests.{eqb-true, eqb-false, lt-ltb, le-ltb}
 use package.Rattle.rules.specs.Val.{same}
-use package.Rattle.values.specs.Nodes.{leftAt, valueAt, Agree, Celled}
-use package.Rattle.scopes.specs.Slots.{unknown, slotCount, found, nodeOr, meaning, stateAt, Scope, machineOf, slotsOf, Slot}
+use package.Rattle.values.specs.Nodes.{leftAt, valueAt, Heap, Agree, Celled}
+use package.Rattle.scopes.specs.Slots.{unknown, slotCount, found, nodeOr, meaning, stateAt, Scope, machineOf, slotsOf, Slot, Slots}
 use package.Rattle.scopes.specs.Cells.{cellCount, Linked, cellAt, numberIn, stateWith}
-use package.Rattle.scopes.specs.Bindings.{slotsFrom, viewOf, stateOf, Bound, Opens, Meets, Tells, seen, Compared, Assigns, MeetsBy, MeetsAt}
+use package.Rattle.scopes.specs.Bindings.{slotsFrom, viewOf, stateOf, stateIn, Bound, Opens, Meets, Tells, seen, Compared, Assigns, MeetsBy, MeetsAt}
 use package.Rattle.scopes.proofs.Marks.{found-mark, found-below, found-cell, node-or, node-none}
+use package.Rattle.scopes.proofs.Scopes.{state-kept}
 use package.Rattle.scopes.proofs.Cells.{cell-empty, cell-le, cell-kept, binds-it, binds-no-other, leaves-older, leaves-none}
 use Rattle.scopes.specs.declared.slots.Found.{Found}
 use Rattle.scopes.specs.declared.slots.Found.the-variants.{Node, Unknown}
@@ -125,6 +126,15 @@ tells-later slots′ {b} top′ T A le same = record {
   index = λ i l m. sym (same i m) ∙ T .index i l m ∙ ap (λ c. unknown + c) (cell-kept A (b .head) i (T .within));
   outside = λ i l. sym (cell-kept A (b .head) i (T .within)) ∙ T .outside i l;
 }
+
+-- An older state stays what it was.
+pub state-older : {heap heap′ slots : List ℕ} {b : Bindings} (sc : Scope) {top : ℕ} → Heap heap top → Agree top heap heap′
+    → Tells heap slots b (sc .base) (sc .q) (sc .n) top → Slots heap slots (sc .base + sc .n) top → top ≤ unknown
+    → stateIn heap slots b sc ≡ stateIn heap′ slots b sc
+state-older {heap} {heap′} {slots} {b} sc {top} H A T S small =
+    state-told heap slots b sc (sc .n) top T (sc .n) (omega arith)
+    ∙ state-kept heap heap′ slots (sc .base) (sc .n) top H A S small
+    ∙ sym (state-told heap′ slots b sc (sc .n) top (tells-later slots top T A (omega arith) (λ i l. refl)) (sc .n) (omega arith))
 
 -- a variable comes into scope
 pub tells-opened : {heap slots : List ℕ} {b : Bindings} {base q n top : ℕ} → Tells heap slots b base q n top → base + n < length slots

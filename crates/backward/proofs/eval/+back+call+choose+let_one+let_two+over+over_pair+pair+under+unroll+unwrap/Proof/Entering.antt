@@ -3,7 +3,7 @@ use native.Mathlib.Nat.{pos-of-ne-zero}
 use mathlib.Core.Path.{refl, sym, _∙_}
 use mathlib.Core.Logic.{inl as left, inr as right}
 use borrow.Author.Needs.{needs}
-use Rattle.backward.proofs.Frames.{row-there}
+use Rattle.backward.proofs.Frames.{row-there, runs-back}
 use Rattle.backward.proofs.Steps.{node-there}
 use Rattle.backward.proofs.Arriving.{fuel-gone, height-gone, entered, entered-node, handed, handed-back, variable-meetable, variable-step, unit-step, no-kind}
 use Prim.Native.Nat.{ℕ}
@@ -30,10 +30,8 @@ back-returns t c =
     let at-fuel = c .before .before .fuel in
     let at-if1 = c .before .if1 in
     let at-refuse = c .refuse in
-    record {
-      lengths = refl;
-      gone = fuel-gone (start .pre .1 .0 .prepared) (start .pre .1 .1) (at-refuse .ensures .0) (sym (at-fuel .ensures) ∙ at-if1 .taken);
-    }
+    runs-back (start .pre .1 .0)
+    (fuel-gone (start .pre .1 .0 .prepared) (start .pre .1 .1) (at-refuse .ensures .0) (sym (at-fuel .ensures) ∙ at-if1 .taken)) refl
 
 pub back-refuse-requires-2 : (t : ℕ) → back-lts.Need-refuse-requires-2 (back-uses t) (back-at t) back.Post
 back-refuse-requires-2 t c κs = search needs
@@ -45,11 +43,8 @@ back-returns-2 t c =
     let at-if1 = c .before .before .if1 in
     let at-if2 = c .before .if2 in
     let at-refuse2 = c .refuse2 in
-    record {
-      lengths = refl;
-      gone = height-gone (start .pre .1 .0 .prepared) (start .pre .1 .1) (λ e. at-if1 .left (at-fuel .ensures ∙ e)) (at-refuse2 .ensures .0)
-          (at-if2 .taken);
-    }
+    runs-back (start .pre .1 .0)
+    (height-gone (start .pre .1 .0 .prepared) (start .pre .1 .1) (λ e. at-if1 .left (at-fuel .ensures ∙ e)) (at-refuse2 .ensures .0) (at-if2 .taken)) refl
 
 pub back-spend-requires : (t : ℕ) → back-lts.Need-spend-requires (back-uses t) (back-at t) back.Post
 back-spend-requires t c κs =
