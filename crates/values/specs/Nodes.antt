@@ -46,10 +46,11 @@ partAt heap n false = rightAt heap n
 unfoldable pub leftShorter : List ℕ → ℕ → Bool
 leftShorter heap n = ltb (lengthAt heap (leftAt heap n)) (lengthAt heap (rightAt heap n))
 
+-- a node is put, the left part first
 unfoldable pub putNode : List ℕ → ℕ → ℕ → ℕ → ℕ → ℕ → ℕ → List ℕ
 putNode heap n kind print len left right =
-    put32 (put32 (put16 (set (set heap (nodeBytes * n) kind) (nodeBytes * n + 1) print)
-    (nodeBytes * n + 2) len) (nodeBytes * n + 4) left) (nodeBytes * n + 8) right
+    put32 (put16 (set (set (put32 heap (nodeBytes * n + 4) left) (nodeBytes * n) kind) (nodeBytes * n + 1) print)
+    (nodeBytes * n + 2) len) (nodeBytes * n + 8) right
 
 -- the bytes hold so many nodes
 abbrev pub Room : List ℕ → ℕ → Type 0

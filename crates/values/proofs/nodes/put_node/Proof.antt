@@ -1,12 +1,21 @@
 use Prim.Native.Nat.{_+_, _*_}
 use native.Mathlib.Omega.{arith}
 use mathlib.Core.Path.{ap, _∙_}
-use lib.ListN.{length-set}
-use Rattle.octets.specs.Numbers.{put32}
+use lib.ListN.{set, length-set}
+use Rattle.octets.specs.Numbers.{put16, put32}
 use Rattle.values.specs.Nodes.{nodeBytes, putNode}
 use borrow.Author.Needs.{needs}
 use Rattle.values.proofs.nodes.put_node.Statement.{statement}
 use Rattle.values.proofs.nodes.put_node.Tie as tie
+
+mul-write32 : tie.Need-mul-write32
+mul-write32 c = search needs
+
+add-write32 : tie.Need-add-write32
+add-write32 c = search needs
+
+write32-requires : tie.Need-write32-requires
+write32-requires c κs = search needs
 
 mul-ws : tie.Need-mul-ws
 mul-ws c = search needs
@@ -21,7 +30,7 @@ add-ws : tie.Need-add-ws
 add-ws c = search needs
 
 slice-write-ws-2 : tie.Need-slice-write-ws-2
-slice-write-ws-2 c = simp length-set (omega arith)
+slice-write-ws-2 c = simp length-set (omega (arith, c .before .before .write32 .kept .0))
 
 mul-write16 : tie.Need-mul-write16
 mul-write16 c = search needs
@@ -30,16 +39,7 @@ add-write16 : tie.Need-add-write16
 add-write16 c = search needs
 
 write16-requires : tie.Need-write16-requires
-write16-requires c κs = simp length-set (omega arith)
-
-mul-write32 : tie.Need-mul-write32
-mul-write32 c = search needs
-
-add-write32 : tie.Need-add-write32
-add-write32 c = search needs
-
-write32-requires : tie.Need-write32-requires
-write32-requires c κs = omega (arith, simp length-set at (c .before .before .before .write16 .kept .0))
+write16-requires c κs = simp length-set (omega (arith, c .before .before .before .write32 .kept .0))
 
 mul-write32-2 : tie.Need-mul-write32-2
 mul-write32-2 c = search needs
@@ -48,34 +48,29 @@ add-write32-2 : tie.Need-add-write32-2
 add-write32-2 c = search needs
 
 write32-requires-2 : tie.Need-write32-requires-2
-write32-requires-2 c κs =
-    let at-write32 = c .before .before .before in
-    let at-write16 = at-write32 .before .before .before .before in
-    omega (arith, at-write32 .write32 .kept .0, simp length-set at (at-write16 .write16 .kept .0))
+write32-requires-2 c κs = omega (arith, c .before .before .before .before .before .before .before .write32 .kept .0, simp length-set at (c .before .before .before .write16 .kept .0))
 
 same-length : tie.Need-same-length
 same-length c =
-    let at-write322 = c .before .before in
-    let at-write32 = at-write322 .before .before .before .before in
-    let at-write16 = at-write32 .before .before .before .before in
-    omega (arith, at-write322 .write322 .kept .0, at-write32 .write32 .kept .0, simp length-set at (at-write16 .write16 .kept .0))
+    omega (arith, c .before .before .write322 .kept .0, c .before .before .before .before .before .before .before .before .before .before .write32 .kept .0, simp length-set at (c .before .before .before .before .before .before .write16 .kept .0))
 
 returns : tie.Need-returns
 unfolding putNode
 returns c =
-    let at-write322 = c .before .before in
-    let at-write32 = at-write322 .before .before .before .before in
-    let at-write16 = at-write32 .before .before .before .before in
-    let start = at-write16 .before .before .before in
-    let a = start .args in
-    at-write322 .write322 .ensures
-    ∙ ap (λ heap. put32 heap (nodeBytes * a .n + 8) (a .right))
-    (at-write32 .write32 .ensures ∙ ap (λ heap. put32 heap (nodeBytes * a .n + 4) (a .left)) (at-write16 .write16 .ensures))
+    let right = c .before .before .write322 .ensures in
+    let length = c .before .before .before .before .before .before .write16 .ensures in
+    let left = c .before .before .before .before .before .before .before .before .before .before .write32 .ensures in
+    let a = c .before .before .before .before .before .before .before .before .before .before .before .before .before .args in
+    right ∙ ap (λ heap. put32 heap (nodeBytes * a .n + 8) (a .right))
+    (length ∙ ap (λ heap. put16 (set (set heap (nodeBytes * a .n) (a .kind)) (nodeBytes * a .n + 1) (a .print)) (nodeBytes * a .n + 2) (a .len)) left)
 
 pub put-node-spec : {M : Type 1} → statement M
 put-node-spec =
     tie.close
     (tie.spec
+    mul-write32
+    add-write32
+    write32-requires
     mul-ws
     slice-write-ws
     mul-ws-2
@@ -84,9 +79,6 @@ put-node-spec =
     mul-write16
     add-write16
     write16-requires
-    mul-write32
-    add-write32
-    write32-requires
     mul-write32-2
     add-write32-2
     write32-requires-2
