@@ -3,18 +3,18 @@ use Prim.Native.Nat.{ℕ, _+_, _-_, _≤_, _<_}
 use native.Mathlib.Omega.{arith}
 use mathlib.Core.Path.{_≡_, refl, ap, _∙_}
 use mathlib.Core.List.{List}
-use lib.ListN.{getD}
+use lib.ListN.{length, getD}
 use package.Rattle.decoded.specs.Rows.{argumentIn, bodyIn, firstIn}
 use package.Rattle.values.specs.Nodes.{valueAt, Agree}
 use package.Rattle.values.proofs.Places.{agree-trans, agree-down}
-use package.Rattle.scopes.specs.Slots.{slotCount, Machine, Scope, found, nodeOr}
+use package.Rattle.scopes.specs.Slots.{slotCount, Machine, Scope, machineOf, slotsOf, scopeIn, found, nodeOr}
 use package.Rattle.scopes.specs.Bindings.{stateOf}
 use package.Rattle.scopes.specs.declared.bindings.Bindings.{Bindings}
 use package.Rattle.scopes.proofs.Views.{tells-first}
 use package.Rattle.forward.specs.Ready.{Calls}
 use package.Rattle.forward.proofs.Placing.{few-count}
 use package.Rattle.backward.specs.Outcomes.{scopeView}
-use package.Rattle.backward.specs.Ready.{Held, Follows, Prepared, Gone, GoneUnder, Leavable, runAt, stepAt, underAt}
+use package.Rattle.backward.specs.Ready.{Held, Follows, Prepared, PreparedIn, PreparedUnder, Gone, GoneUnder, Leavable, runAt, stepAt, underAt}
 use package.Rattle.backward.specs.Calls.{Gathers}
 use package.Rattle.backward.proofs.Runs.{refused-with, held-later}
 use package.Rattle.backward.proofs.Leaving.{held-under, looked}
@@ -124,3 +124,17 @@ module _ {code heap slots : List ℕ} {m : Machine} {b : Bindings} {sc : Scope} 
                 below = λ j l. scope-stays j (omega arith) ∙ E .below j l;
                 tells = E .tells;
               }
+
+----------------------------------------------------------------
+-- By the numbers that a run is lent: the body of the function
+
+pub called-inner : {code heap st : List ℕ} {b : Bindings} {scope t room : ℕ} (Q : PreparedIn 2 1 code heap st b scope t room) {node : ℕ}
+    (low : node < machineOf st .top) {k : ℕ} (C : Calls code t 0 k) {heap₁ st₁ : List ℕ} {stop : ℕ}
+    (D : Gathers code heap heap₁ (slotsOf st) (slotsOf st₁) (machineOf st) (scopeIn scope) t room 0 k stop (machineOf st₁))
+    (e : stop ≡ 0) {g u : ℕ} (qg : g ≡ firstIn code t) (qu : u ≡ bodyIn code g) {end : ℕ} (qe : end ≡ scopeIn scope .base + scopeIn scope .n)
+    {callee : ℕ} (w : scopeIn callee ≡ record { base = end; q = k; n = k }) → length st₁ ≡ length st → {args : Bindings} → args .head ≡ 0
+    → PreparedUnder code heap₁ st₁ args callee u (room - 1)
+called-inner Q low C D e qg qu qe w l none-bound = record {
+  full = l ∙ Q .full;
+  prepared = called-prepared (Q .prepared) low C D e qg qu qe w none-bound;
+}

@@ -1,7 +1,7 @@
 -- A scope with one variable more, in code: the slot is marked and the term is run.
 use Prim.Native.Nat.{ℕ, _+_, _*_, _≤_, _<_}
 use native.Mathlib.Omega.{arith}
-use mathlib.Core.Path.{_≡_, refl, sym, _∙_, ap}
+use mathlib.Core.Path.{_≡_, refl, sym, _∙_}
 use mathlib.Core.Bool.{Bool, true, false}
 use mathlib.Core.List.{List}
 use lib.ListN.{length, getD, set, length-set}
@@ -10,13 +10,14 @@ use lib.Dec.{eqb}
 use borrow.Author.Tests.{eqb-true, eqb-false}
 use package.Rattle.values.specs.Nodes.{valueAt}
 use package.Rattle.values.proofs.Places.{agree-refl}
-use package.Rattle.scopes.specs.Slots.{unknown, slotCount, Machine, Scope, Written, machineOf, scopeIn, slotsOf, found, nodeOr}
+use package.Rattle.scopes.specs.Slots.{unknown, slotCount, Machine, Scope, machineOf, scopeIn, slotsOf, found, nodeOr}
 use package.Rattle.scopes.specs.Bindings.{Opens}
 use package.Rattle.scopes.specs.declared.bindings.Bindings.{Bindings}
 use package.Rattle.scopes.proofs.Views.{view-at, view-opens, tells-opened}
 use package.Rattle.forward.proofs.Binds.{opened as wider}
 use package.Rattle.backward.specs.Outcomes.{outcomeOf, scopeView, innerOf}
 use package.Rattle.backward.specs.Ready.{Ready, Ran, Prepared, Gone, GoneUnder, RanUnder, runAt, underAt}
+use package.Rattle.backward.specs.Ready.{PreparedIn, PreparedUnder, RunsBack, RunsUnder, WidenReady, Widened}
 use package.Rattle.backward.proofs.Runs.{held-slots, ran-from}
 use package.Rattle.backward.proofs.Stops.{is-done, is-stopped}
 use package.Rattle.backward.proofs.Frames.{older-later}
@@ -32,10 +33,9 @@ pub record Marked (slots slots₀ : List ℕ) (m m₀ : Machine) (sc : Scope) : 
   pub slots-are : slots₀ ≡ set slots (sc .base + sc .n) unknown
   pub machine-is : m₀ ≡ m
 
-pub marked : {st st₀ : List ℕ} {at : ℕ} (scope : ℕ) → Written st st₀ at 2147483648 → at ≡ scopeIn scope .base + scopeIn scope .n
-    → Marked (slotsOf st) (slotsOf st₀) (machineOf st) (machineOf st₀) (scopeIn scope)
-unfolding unknown
-marked {st} scope W q = record { slots-are = W .slots ∙ ap (λ at. set (slotsOf st) at unknown) q; machine-is = W .machine }
+pub marked : {st st₁ : List ℕ} {scope wide : ℕ} → Widened st st₁ scope wide
+    → Marked (slotsOf st) (slotsOf st₁) (machineOf st) (machineOf st₁) (scopeIn scope)
+marked W = record { slots-are = W .slots; machine-is = W .machine }
 
 module _ {k h : ℕ} {code heap slots : List ℕ} {m : Machine} {b : Bindings} {sc : Scope} {s t room : ℕ} (P : Prepared k h code heap slots m b sc s t room)
     (few : sc .n < 32) (there : sc .base + sc .n < slotCount) {slots₀ : List ℕ} {m₀ : Machine} (K : Marked slots slots₀ m m₀ sc) where
@@ -102,3 +102,24 @@ module _ {code heap slots : List ℕ} {m : Machine} {b : Bindings} {sc : Scope} 
             go false d =
                 inner-stopped (P .ready) few (opens P few under-there K) low from-here (is-stopped (eqb-false (r .stop) 0 d))
                 (record { newest = nodeOr (found heap₁ (getD slots₁ (sc .base + sc .n) 0)); state = scopeView slots₁ sc })
+
+----------------------------------------------------------------
+-- By the numbers that a run is lent
+
+module _ {code heap st : List ℕ} {b : Bindings} {scope t room : ℕ} (Q : PreparedUnder code heap st b scope t room) (few : scopeIn scope .n < 32) where
+  pub widen-ready : WidenReady st scope
+  widen-ready = record { full = Q .full; there = under-there (Q .prepared) few; few = few }
+
+  module _ {st₁ : List ℕ} {wide : ℕ} (W : Widened st st₁ scope wide) where
+    pub widened : PreparedIn 0 0 code heap st₁ b wide t room
+    widened = record { full = W .lengths ∙ Q .full; prepared = under-prepared (Q .prepared) few (marked W) (W .scope-is) }
+
+    pub widened-node : {node : ℕ} → node < machineOf st .top → node < machineOf st₁ .top
+    widened-node low = under-node (Q .prepared) few (marked W) (W .scope-is) low
+
+    pub ran-under : {node : ℕ} → node < machineOf st .top → {heap′ st′ : List ℕ} {r : Out} → RunsBack code heap heap′ st₁ st′ b wide t node room r
+        → RunsUnder code heap heap′ st st′ scope t node room r
+    ran-under low R = record {
+      lengths = R .lengths ∙ W .lengths;
+      gone = under-gone (Q .prepared) few (marked W) (W .scope-is) low (R .gone);
+    }

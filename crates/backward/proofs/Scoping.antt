@@ -17,9 +17,9 @@ use package.Rattle.scopes.specs.declared.bindings.Bindings.{Bindings}
 use package.Rattle.scopes.proofs.Views.{view-at}
 use package.Rattle.yields.specs.Yields.{Asks}
 use package.Rattle.forward.proofs.Binds.{opened as wider}
-use package.Rattle.backward.specs.Ready.{Held, Gone, GoneUnder, Leavable, Prepared, PreparedIn, RanUnder, ancillaeOf, runAt, stepAt, underAt}
+use package.Rattle.backward.specs.Ready.{Held, Gone, GoneUnder, Leavable, Prepared, PreparedIn, PreparedUnder, RanUnder, WidenReady, Widened, ancillaeOf, runAt, stepAt, underAt}
 use package.Rattle.backward.specs.Outcomes.{innerOf, scopeView}
-use package.Rattle.backward.proofs.Opening.{Marked, as-many, marked-below, opens, opened}
+use package.Rattle.backward.proofs.Opening.{Marked, marked, as-many, marked-below, opens, opened}
 use package.Rattle.backward.proofs.Leaving.{LeftBehind, held-under, looked, cell-ready, under-left, left-node, left-tells, left-below}
 use package.Rattle.backward.proofs.Frames.{beside, few-ancillae, gone-then, onward, stops-under}
 use package.Rattle.backward.proofs.Choosing.{case-branch, case-done, case-refused, case-space, case-sum}
@@ -235,6 +235,29 @@ module _ {code heap slots : List ℕ} {m : Machine} {b : Bindings} {sc : Scope} 
                   → Stepped heap₃ slots₃ m₃ r₂
               case-gone E = gone-then case-below E
                   (case-done (P .ready) low kind qf l Y qu qv qs case-run (omega arith) (is-done e) (rw (left-node case-held G e K (sc .base + sc .n) (G .slot e) qx) at (E .ran)))
+
+----------------------------------------------------------------
+-- By the numbers that a run is lent: the bodies of let and let pair, and a branch
+
+module _ {code heap st : List ℕ} {b : Bindings} {scope t room : ℕ} (Q : PreparedIn 2 1 code heap st b scope t room) {node : ℕ}
+    (low : node < machineOf st .top) {u u′ : ℕ} (qu : u ≡ firstIn code t) (qu′ : u′ ≡ secondIn code t) where
+  pub let-inner : kindIn code t ≡ 5 → PreparedUnder code heap st b scope u′ (room - 1)
+  let-inner kind = record { full = Q .full; prepared = let-prepared (Q .prepared) low kind qu qu′ }
+
+  -- the scope with the first of the two
+  pub letp-ready : kindIn code t ≡ 6 → WidenReady st scope
+  letp-ready kind = record { full = Q .full; there = letp-there (Q .prepared) low kind qu qu′; few = letp-few (Q .prepared) low kind qu qu′ }
+
+  pub letp-inner : kindIn code t ≡ 6 → {st₁ : List ℕ} {one : ℕ} → Widened st st₁ scope one → PreparedUnder code heap st₁ b one u′ (room - 1)
+  letp-inner kind W = record { full = W .lengths ∙ Q .full; prepared = letp-prepared (Q .prepared) low kind qu qu′ (marked W) (W .scope-is) }
+
+pub case-inner : {code heap st : List ℕ} {b : Bindings} {scope t room : ℕ} (Q : PreparedIn 2 1 code heap st b scope t room) {node : ℕ}
+    (low : node < machineOf st .top) (kind : kindIn code t ≡ 7) {f : ℕ} (qf : f ≡ secondIn code t) (l : Bool)
+    (Y : (ys : List TypeEntry)
+    → l ≡ mayYield (ancillaeOf heap (scopeView (slotsOf st) (scopeIn scope)) (scopeIn scope .q)) (treeIn code ys f) (valueAt heap node))
+    {u : ℕ} (qu : u ≡ firstIn code t) {v : ℕ} (qv : v ≡ cond l (secondIn code t) (thirdIn code t)) {side : ℕ} (qs : side ≡ cond l 1 2)
+    → PreparedUnder code heap st b scope v (room - 1)
+case-inner Q low kind qf l Y qu qv qs = record { full = Q .full; prepared = case-prepared (Q .prepared) low kind qf l Y qu qv qs }
 
 -- the left branch's form can be asked
 pub case-asked : {code heap st : List ℕ} {b : Bindings} {scope t room : ℕ} → PreparedIn 2 1 code heap st b scope t room → {node : ℕ}

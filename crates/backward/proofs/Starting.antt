@@ -16,13 +16,13 @@ use package.Rattle.decoded.specs.Rows.{bodyIn, programIn, treeIn}
 use package.Rattle.decoded.proofs.Trees.{called-body, called-tree}
 use package.Rattle.values.specs.Nodes.{valueAt}
 use package.Rattle.scopes.specs.Bindings.{View}
-use package.Rattle.scopes.specs.Slots.{Machine, Scope, machineOf, slotsOf, found, nodeOr}
+use package.Rattle.scopes.specs.Slots.{Machine, Scope, machineOf, slotsOf, scopeIn, found, nodeOr}
 use package.Rattle.scopes.specs.declared.bindings.Bindings.{Bindings}
 use package.Rattle.scopes.proofs.Views.{tells-first}
 use package.Rattle.yields.specs.Yields.{ancillaeAt}
 use package.Rattle.forward.proofs.Starting.{arguments-ancillae}
 use package.Rattle.backward.specs.Outcomes.{Status, Done, Refused, Inner, whyOf, statusOf, outcomeOf, refusalOf, leftWith, innerOf, scopeView}
-use package.Rattle.backward.specs.Ready.{Ready, RanUnder, Prepared, GoneUnder, underOf, Leavable, underAt}
+use package.Rattle.backward.specs.Ready.{Ready, RanUnder, Prepared, PreparedUnder, GoneUnder, underOf, Leavable, underAt}
 use package.Rattle.backward.specs.Calls.{Starts, returned, Returns, StartsIn, valuesScope}
 use package.Rattle.backward.proofs.Runs.{refusal-after, not-done, small-top}
 use package.Rattle.backward.proofs.Stops.{is-stopped}
@@ -142,3 +142,7 @@ module _ {code heap st : List ℕ} {q g node room : ℕ} (S : StartsIn code heap
           where
             refused : (x : ℕ) → returned heap′ x (m′ .fuel) (statusOf (r .stop)) ≡ refusalOf (whyOf (r .stop))
             refused x = ap (returned heap′ x (m′ .fuel)) (is-stopped d)
+
+pub begin-inner : {code heap st : List ℕ} {q g node room : ℕ} (S : StartsIn code heap st q g node room) {callee : ℕ} → scopeIn callee ≡ valuesScope q
+    → {u : ℕ} → u ≡ bodyIn code g → {args : Bindings} → args .head ≡ 0 → PreparedUnder code heap st args callee u room
+begin-inner S w qu none-bound = record { full = S .full; prepared = begin-prepared S w qu none-bound }

@@ -5,7 +5,7 @@ use Prim.Native.Nat.{ℕ, _+_, _*_, _-_, _≤_, _<_}
 use mathlib.Core.Path.{_≡_}
 use mathlib.Core.Option.{none}
 use mathlib.Core.List.{List, _∷_}
-use lib.ListN.{length, getD}
+use lib.ListN.{length, getD, set}
 use lib.Dec.{eqb}
 use package.Rattle.rules.specs.Limits.{fits}
 use package.Rattle.rules.specs.Val.{Val, unit, pair}
@@ -173,6 +173,19 @@ pub record PreparedIn (k h : ℕ) (code heap st : List ℕ) (b : Bindings) (scop
 pub record PreparedUnder (code heap st : List ℕ) (b : Bindings) (scope t room : ℕ) : Type 0 where
   pub full : length st ≡ stateCount
   pub prepared : Prepared 0 0 code heap (slotsOf st) (machineOf st) b (scopeIn scope) (scopeIn scope .n + 1) t room
+
+-- one variable more can come into scope
+pub record WidenReady (st : List ℕ) (scope : ℕ) : Type 0 where
+  pub full : length st ≡ stateCount
+  pub there : scopeIn scope .base + scopeIn scope .n < slotCount
+  pub few : scopeIn scope .n < 32
+
+-- it came into scope, not known
+pub record Widened (st st′ : List ℕ) (scope wide : ℕ) : Type 0 where
+  pub lengths : length st′ ≡ length st
+  pub slots : slotsOf st′ ≡ set (slotsOf st) (scopeIn scope .base + scopeIn scope .n) unknown
+  pub machine : machineOf st′ ≡ machineOf st
+  pub scope-is : scopeIn wide ≡ record { base = scopeIn scope .base; q = scopeIn scope .q; n = scopeIn scope .n + 1 }
 
 abbrev pub GoneIn : ℕ → (heap heap′ st st′ : List ℕ) → ℕ → Out → (List TypeEntry → Res State) → Type 0
 GoneIn k heap heap′ st st′ scope r res = Gone k heap heap′ (slotsOf st) (slotsOf st′) (machineOf st) (machineOf st′) (scopeIn scope) r res

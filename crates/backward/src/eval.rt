@@ -11,17 +11,15 @@ use forward::outcomes::FUEL;
 use forward::outcomes::HEIGHT;
 use forward::outcomes::STUCK;
 use scopes::bindings::Bindings;
-use scopes::slots;
-use scopes::slots::UNKNOWN;
 use scopes::state;
 use scopes::state::STATE;
 ghost use mathlib.Core.Path.{_≡_};
 ghost use Prim.Native.Nat.{_<_};
 ghost use Rattle.values.specs.Nodes.{Single};
 ghost use Rattle.decoded.specs.Rows.{kindIn};
-ghost use Rattle.scopes.specs.Slots.{machineOf, scopeIn};
+ghost use Rattle.scopes.specs.Slots.{machineOf};
 ghost use Rattle.yields.specs.Yields.{Wraps};
-ghost use Rattle.backward.specs.Ready.{PreparedIn, PreparedUnder, RunsBack, RunsUnder, StepsBack, RunsSingle, RunsPair};
+ghost use Rattle.backward.specs.Ready.{PreparedIn, RunsBack, StepsBack, RunsSingle, RunsPair};
 
 // Term t with the value at `node`, in a scope, with height `room` left.
 pub fn back(
@@ -112,25 +110,6 @@ fn over_pair(
     outcomes::long(b, state::fuel(st), t, room)
 }
 
-// Term t in the scope with one variable more, which is not bound yet. It is still in scope in the state that is handed back.
-pub fn under(
-    code: &[u16; CODE],
-    ws: &mut [u8],
-    st: &mut [u32; STATE],
-    b: Bindings,
-    scope: u64,
-    t: u16,
-    node: u32,
-    room: u16,
-) -> Out
-    requires { ⌜ PreparedUnder (now code) (now ws) (now st) b scope t room ⌝ }
-    requires { ⌜ (node < machineOf (now st) .top) × (scopeIn scope .n < 32) ⌝ }
-    ensures { λ r. ⌜ RunsUnder (now (code .entry)) (now (ws .entry)) (now (ws .exit)) (now (st .entry)) (now (st .exit)) scope t node room r ⌝ }
-{
-    slots::bind(st, state::end_of(scope), UNKNOWN);
-    back(code, ws, st, b, state::wider(scope), t, node, room)
-}
-
 // inl, inr and roll, by the kind of node that they take apart.
 fn unwrap(
     code: &[u16; CODE],
@@ -206,7 +185,8 @@ fn let_one(
     let bound = rows::first_of(code, t);
     let body = rows::second_of(code, t);
     let h = room - 1;
-    let r = under(code, ws, st, b, scope, body, node, h);
+    let wide = outcomes::widen(st, scope);
+    let r = back(code, ws, st, b, wide, body, node, h);
     let inner = r.state;
     if r.stop != 0 {
         return r;
@@ -234,14 +214,14 @@ fn let_two(
     let bound = rows::first_of(code, t);
     let body = rows::second_of(code, t);
     let h = room - 1;
-    slots::bind(st, state::end_of(scope), UNKNOWN);
-    let wide = state::wider(scope);
-    let r = under(code, ws, st, b, wide, body, node, h);
+    let one = outcomes::widen(st, scope);
+    let both = outcomes::widen(st, one);
+    let r = back(code, ws, st, b, both, body, node, h);
     let inner = r.state;
     if r.stop != 0 {
         return r;
     }
-    let y = outcomes::leave(ws, st, inner, wide);
+    let y = outcomes::leave(ws, st, inner, one);
     let x = outcomes::leave(ws, st, inner, scope);
     let c = outcomes::outer(ws, st, inner, scope);
     over_pair(code, ws, st, c, scope, bound, x, y, h)
@@ -268,7 +248,8 @@ fn choose(
     let branch = outcomes::branch_of(code, t, left);
     let side = outcomes::side_of(left);
     let h = room - 1;
-    let r = under(code, ws, st, b, scope, branch, node, h);
+    let wide = outcomes::widen(st, scope);
+    let r = back(code, ws, st, b, wide, branch, node, h);
     let inner = r.state;
     if r.stop != 0 {
         return r;
@@ -302,7 +283,8 @@ fn call(
     let args = Bindings::none();
     let callee = state::scope(state::end_of(scope), k, k);
     let h = room - 1;
-    let r = under(code, ws, st, args, callee, body, node, h);
+    let wide = outcomes::widen(st, callee);
+    let r = back(code, ws, st, args, wide, body, node, h);
     let inner = r.state;
     if r.stop != 0 {
         return r;

@@ -9,6 +9,8 @@ use forward::outcomes::PLACE;
 use forward::outcomes::STOPPED;
 use forward::outcomes::STUCK;
 use scopes::bindings::Bindings;
+use scopes::slots;
+use scopes::slots::UNKNOWN;
 use scopes::state;
 use scopes::state::STATE;
 ghost use mathlib.Core.Path.{_≡_};
@@ -21,7 +23,7 @@ ghost use Rattle.scopes.specs.Slots.{unknown, machineOf, slotsOf, scopeIn, foun
 ghost use Rattle.scopes.specs.Bindings.{CellReady, Adds, Meetable};
 ghost use Rattle.forward.specs.Outcomes.{refusalIn};
 ghost use Rattle.backward.specs.Outcomes.{Refused, carried, whyOf, statusOf, tooLong, against, mismatch};
-ghost use Rattle.backward.specs.Ready.{Variable, UnitMet, Leavable};
+ghost use Rattle.backward.specs.Ready.{WidenReady, Widened, Variable, UnitMet, Leavable};
 
 // Refusals 12 to 16 (section 4), each with its term; and a value of wrong shape, which no checked program meets.
 pub enum Refusal {
@@ -158,6 +160,15 @@ pub fn unit(ws: &[u8], b: Bindings, node: u32, t: u16) -> Out
         return Out { stop: 0, state: b };
     }
     refuse(b, STUCK, t)
+}
+
+// A variable comes into scope, not known: the scope with it. No variable outside the scope is bound in a state, so the state is as it was.
+pub fn widen(st: &mut [u32; STATE], scope: u64) -> u64
+    requires { ⌜ WidenReady (now st) scope ⌝ }
+    ensures { λ r. ⌜ Widened (now (st .entry)) (now (st .exit)) scope r ⌝ }
+{
+    slots::bind(st, state::end_of(scope), UNKNOWN);
+    state::wider(scope)
 }
 
 // The newest variable of a scope, the one above `scope`: its node, or node 0, the unit, if it was never met.

@@ -30,7 +30,8 @@ pub fn run(
     let body = rows::body_of(code, g);
     let known = Bindings::none();
     let scope = state::scope(0, q, q);
-    let r = eval::under(code, ws, st, known, scope, body, node, room);
+    let wide = outcomes::widen(st, scope);
+    let r = eval::back(code, ws, st, known, wide, body, node, room);
     let stop = r.stop;
     if stop != 0 {
         return Input { stop, node: 0 };

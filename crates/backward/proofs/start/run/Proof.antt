@@ -1,7 +1,8 @@
 use native.Mathlib.Omega.{arith}
 use mathlib.Core.Path.{sym}
 use borrow.Author.Needs.{needs}
-use Rattle.backward.proofs.Starting.{start-reads, begin-space, begin-few, begin-prepared, begin-leaves, input-there, input-missing}
+use Rattle.backward.proofs.Starting.{start-reads, begin-space, begin-few, begin-inner, begin-leaves, input-there, input-missing}
+use Rattle.backward.proofs.Opening.{widen-ready, widened, widened-node, ran-under}
 use Rattle.backward.proofs.start.run.Statement.{statement}
 use Rattle.backward.proofs.start.run.Tie as tie
 
@@ -14,60 +15,65 @@ none-requires c κs = search needs
 scope-requires : tie.Need-scope-requires
 scope-requires c κs = let few = begin-space (c .before .before .before .pre) in (omega arith, omega arith, omega arith)
 
-under-requires : tie.Need-under-requires
-under-requires c κs =
-    let at-scope = c .before .before in
-    let at-body-of = at-scope .before .before in
-    let start = at-body-of .before .before in (
-      record {
-        full = start .pre .full;
-        prepared = begin-prepared (start .pre) (at-scope .scope .ensures) (at-body-of .body-of .ensures)
-            (c .before .before .before .none .ensures);
-      },
-      (
-        start .pre .starts .value,
-        begin-few (start .pre) (at-scope .scope .ensures)
-            (at-body-of .body-of .ensures),
-      ),
-    )
+widen-requires : tie.Need-widen-requires
+widen-requires c κs =
+    let scope = c .before .scope .ensures in
+    let none = c .before .before .none .ensures in
+    let body = c .before .before .before .body-of .ensures in
+    let start = c .before .before .before .before .before in
+    widen-ready (begin-inner (start .pre) scope body none) (begin-few (start .pre) scope body)
+
+back-requires : tie.Need-back-requires
+back-requires c κs =
+    let widen = c .before .before .widen .ensures in
+    let scope = c .before .before .before .before .scope .ensures in
+    let none = c .before .before .before .before .before .none .ensures in
+    let body = c .before .before .before .before .before .before .body-of .ensures in
+    let start = c .before .before .before .before .before .before .before .before in
+    let inner = begin-inner (start .pre) scope body none in
+    let few = begin-few (start .pre) scope body in
+    (widened inner few widen, widened-node inner few widen (start .pre .starts .value))
 
 same-length : tie.Need-same-length
 same-length c = search needs
 
 returns : tie.Need-returns
 returns c =
-    let at-under = c .before .before .before in
-    let at-scope = at-under .before .before .before in
-    let at-body-of = at-scope .before .before in
-    let start = at-body-of .before .before in
-    record {
-      lengths = at-under .under .ensures .lengths;
-      returns = input-missing (start .pre) (at-scope .scope .ensures) (at-body-of .body-of .ensures)
-          (at-under .under .ensures .gone) (c .if1 .taken);
-    }
+    let back = c .before .before .before .back .ensures in
+    let widen = c .before .before .before .before .before .before .widen .ensures in
+    let scope = c .before .before .before .before .before .before .before .before .scope .ensures in
+    let none = c .before .before .before .before .before .before .before .before .before .none .ensures in
+    let body = c .before .before .before .before .before .before .before .before .before .before .body-of .ensures in
+    let start = c .before .before .before .before .before .before .before .before .before .before .before .before in
+    let ran = ran-under (begin-inner (start .pre) scope body none) (begin-few (start .pre) scope body) widen (start .pre .starts .value) back in
+    record { lengths = ran .lengths; returns = input-missing (start .pre) scope body (ran .gone) (c .if1 .taken) }
 
 leave-requires : tie.Need-leave-requires
 leave-requires c κs =
-    let at-under = c .before .before .before .before .before in
-    let at-scope = at-under .before .before .before in
-    let at-body-of = at-scope .before .before in
-    let start = at-body-of .before .before in
-    begin-leaves (start .pre) (at-scope .scope .ensures) (at-body-of .body-of .ensures) (at-under .under .ensures .gone) (c .before .before .if1 .left)
+    let stop = c .before .before .if1 in
+    let back = c .before .before .before .before .before .back .ensures in
+    let widen = c .before .before .before .before .before .before .before .before .widen .ensures in
+    let scope = c .before .before .before .before .before .before .before .before .before .before .scope .ensures in
+    let none = c .before .before .before .before .before .before .before .before .before .before .before .none .ensures in
+    let body = c .before .before .before .before .before .before .before .before .before .before .before .before .body-of .ensures in
+    let start = c .before .before .before .before .before .before .before .before .before .before .before .before .before .before in
+    let ran = ran-under (begin-inner (start .pre) scope body none) (begin-few (start .pre) scope body) widen (start .pre .starts .value) back in
+    begin-leaves (start .pre) scope body (ran .gone) (stop .left)
 
 same-length-2 : tie.Need-same-length-2
 same-length-2 c = search needs
 
 returns-2 : tie.Need-returns-2
 returns-2 c =
-    let at-under = c .before .before .before .before .before .before in
-    let at-scope = at-under .before .before .before in
-    let at-body-of = at-scope .before .before in
-    let start = at-body-of .before .before in
-    record {
-      lengths = at-under .under .ensures .lengths;
-      returns = input-there (start .pre) (at-scope .scope .ensures) (at-body-of .body-of .ensures)
-          (at-under .under .ensures .gone) (c .leave .ensures) (sym (c .before .before .before .if1 .left));
-    }
+    let stop = c .before .before .before .if1 in
+    let back = c .before .before .before .before .before .before .back .ensures in
+    let widen = c .before .before .before .before .before .before .before .before .before .widen .ensures in
+    let scope = c .before .before .before .before .before .before .before .before .before .before .before .scope .ensures in
+    let none = c .before .before .before .before .before .before .before .before .before .before .before .before .none .ensures in
+    let body = c .before .before .before .before .before .before .before .before .before .before .before .before .before .body-of .ensures in
+    let start = c .before .before .before .before .before .before .before .before .before .before .before .before .before .before .before in
+    let ran = ran-under (begin-inner (start .pre) scope body none) (begin-few (start .pre) scope body) widen (start .pre .starts .value) back in
+    record { lengths = ran .lengths; returns = input-there (start .pre) scope body (ran .gone) (c .leave .ensures) (sym (stop .left)) }
 
 pub run-spec : {M : Type 1} → statement M
 run-spec =
@@ -76,7 +82,8 @@ run-spec =
     body-of-requires
     none-requires
     scope-requires
-    under-requires
+    widen-requires
+    back-requires
     same-length
     returns
     leave-requires

@@ -6,37 +6,34 @@ use borrow.Fn.Kinds.{In}
 use borrow.Fn.PlainCycle.{Measures, is, falls, and}
 use Rattle.backward.proofs.eval.back.Reads as back
 use Rattle.backward.proofs.eval.back.Kinds as back-kinds
-use Rattle.backward.proofs.eval.+back+call+choose+let_one+let_two+over+over_pair+pair+under+unroll+unwrap.Lts-back as back-lts
+use Rattle.backward.proofs.eval.+back+call+choose+let_one+let_two+over+over_pair+pair+unroll+unwrap.Lts-back as back-lts
 use Rattle.backward.proofs.eval.call.Reads as call
 use Rattle.backward.proofs.eval.call.Kinds as call-kinds
-use Rattle.backward.proofs.eval.+back+call+choose+let_one+let_two+over+over_pair+pair+under+unroll+unwrap.Lts-call as call-lts
+use Rattle.backward.proofs.eval.+back+call+choose+let_one+let_two+over+over_pair+pair+unroll+unwrap.Lts-call as call-lts
 use Rattle.backward.proofs.eval.choose.Reads as choose
 use Rattle.backward.proofs.eval.choose.Kinds as choose-kinds
-use Rattle.backward.proofs.eval.+back+call+choose+let_one+let_two+over+over_pair+pair+under+unroll+unwrap.Lts-choose as choose-lts
+use Rattle.backward.proofs.eval.+back+call+choose+let_one+let_two+over+over_pair+pair+unroll+unwrap.Lts-choose as choose-lts
 use Rattle.backward.proofs.eval.let_one.Reads as let-one
 use Rattle.backward.proofs.eval.let_one.Kinds as let-one-kinds
-use Rattle.backward.proofs.eval.+back+call+choose+let_one+let_two+over+over_pair+pair+under+unroll+unwrap.Lts-let_one as let-one-lts
+use Rattle.backward.proofs.eval.+back+call+choose+let_one+let_two+over+over_pair+pair+unroll+unwrap.Lts-let_one as let-one-lts
 use Rattle.backward.proofs.eval.let_two.Reads as let-two
 use Rattle.backward.proofs.eval.let_two.Kinds as let-two-kinds
-use Rattle.backward.proofs.eval.+back+call+choose+let_one+let_two+over+over_pair+pair+under+unroll+unwrap.Lts-let_two as let-two-lts
+use Rattle.backward.proofs.eval.+back+call+choose+let_one+let_two+over+over_pair+pair+unroll+unwrap.Lts-let_two as let-two-lts
 use Rattle.backward.proofs.eval.over.Reads as over
 use Rattle.backward.proofs.eval.over.Kinds as over-kinds
-use Rattle.backward.proofs.eval.+back+call+choose+let_one+let_two+over+over_pair+pair+under+unroll+unwrap.Lts-over as over-lts
+use Rattle.backward.proofs.eval.+back+call+choose+let_one+let_two+over+over_pair+pair+unroll+unwrap.Lts-over as over-lts
 use Rattle.backward.proofs.eval.over_pair.Reads as over-pair
 use Rattle.backward.proofs.eval.over_pair.Kinds as over-pair-kinds
-use Rattle.backward.proofs.eval.+back+call+choose+let_one+let_two+over+over_pair+pair+under+unroll+unwrap.Lts-over_pair as over-pair-lts
+use Rattle.backward.proofs.eval.+back+call+choose+let_one+let_two+over+over_pair+pair+unroll+unwrap.Lts-over_pair as over-pair-lts
 use Rattle.backward.proofs.eval.pair.Reads as pair
 use Rattle.backward.proofs.eval.pair.Kinds as pair-kinds
-use Rattle.backward.proofs.eval.+back+call+choose+let_one+let_two+over+over_pair+pair+under+unroll+unwrap.Lts-pair as pair-lts
-use Rattle.backward.proofs.eval.under.Reads as under
-use Rattle.backward.proofs.eval.under.Kinds as under-kinds
-use Rattle.backward.proofs.eval.+back+call+choose+let_one+let_two+over+over_pair+pair+under+unroll+unwrap.Lts-under as under-lts
+use Rattle.backward.proofs.eval.+back+call+choose+let_one+let_two+over+over_pair+pair+unroll+unwrap.Lts-pair as pair-lts
 use Rattle.backward.proofs.eval.unroll.Reads as unroll
 use Rattle.backward.proofs.eval.unroll.Kinds as unroll-kinds
-use Rattle.backward.proofs.eval.+back+call+choose+let_one+let_two+over+over_pair+pair+under+unroll+unwrap.Lts-unroll as unroll-lts
+use Rattle.backward.proofs.eval.+back+call+choose+let_one+let_two+over+over_pair+pair+unroll+unwrap.Lts-unroll as unroll-lts
 use Rattle.backward.proofs.eval.unwrap.Reads as unwrap
 use Rattle.backward.proofs.eval.unwrap.Kinds as unwrap-kinds
-use Rattle.backward.proofs.eval.+back+call+choose+let_one+let_two+over+over_pair+pair+under+unroll+unwrap.Lts-unwrap as unwrap-lts
+use Rattle.backward.proofs.eval.+back+call+choose+let_one+let_two+over+over_pair+pair+unroll+unwrap.Lts-unwrap as unwrap-lts
 use Rattle.backward.proofs.arguments.gather.Reads as gather-reads
 use Rattle.backward.proofs.outcomes.branch_of.Reads as branch-of-reads
 use Rattle.backward.proofs.outcomes.differ.Reads as differ-reads
@@ -47,6 +44,7 @@ use Rattle.backward.proofs.outcomes.refuse.Reads as refuse-reads
 use Rattle.backward.proofs.outcomes.side_of.Reads as side-of-reads
 use Rattle.backward.proofs.outcomes.unit.Reads as unit-reads
 use Rattle.backward.proofs.outcomes.variable.Reads as variable-reads
+use Rattle.backward.proofs.outcomes.widen.Reads as widen-reads
 use Rattle.decoded.proofs.rows.argument_of.Reads as argument-of-reads
 use Rattle.decoded.proofs.rows.body_of.Reads as body-of-reads
 use Rattle.decoded.proofs.rows.first_of.Reads as first-of-reads
@@ -55,14 +53,12 @@ use Rattle.decoded.proofs.rows.second_of.Reads as second-of-reads
 use Rattle.decoded.proofs.rows.third_of.Reads as third-of-reads
 use Rattle.octets.proofs.wide_index.Reads as wide-index-reads
 use Rattle.scopes.proofs.bindings.Bindings.none.Reads as none-reads
-use Rattle.scopes.proofs.slots.bind.Reads as bind-reads
 use Rattle.scopes.proofs.state.end_of.Reads as end-of-reads
 use Rattle.scopes.proofs.state.fuel.Reads as fuel-reads
 use Rattle.scopes.proofs.state.grow.Reads as grow-reads
 use Rattle.scopes.proofs.state.scope.Reads as scope-reads
 use Rattle.scopes.proofs.state.spend.Reads as spend-reads
 use Rattle.scopes.proofs.state.top.Reads as top-reads
-use Rattle.scopes.proofs.state.wider.Reads as wider-reads
 use Rattle.values.proofs.nodes.kind_of.Reads as nodes-kind-of-reads
 use Rattle.values.proofs.nodes.left_of.Reads as left-of-reads
 use Rattle.values.proofs.nodes.pair.Reads as pair-reads
@@ -93,9 +89,6 @@ abbrev pub μ-over-pair : Measures 3 over-pair-kinds.ps ℕ
 
 abbrev pub μ-pair : Measures 3 pair-kinds.ps ℕ
 μ-pair κs a = 16 * getD (a .1 .1 .0 .now) 1 0 + 10
-
-abbrev pub μ-under : Measures 3 under-kinds.ps ℕ
-μ-under κs a = 16 * getD (a .1 .1 .0 .now) 1 0 + 5
 
 abbrev pub μ-unroll : Measures 3 unroll-kinds.ps ℕ
 μ-unroll κs a = 16 * getD (a .1 .1 .0 .now) 1 0 + 10
@@ -151,12 +144,6 @@ pair-at t = and 3 pair-kinds.ps (is 3 pair-kinds.ps μ-pair t) pair.Pre
 
 abbrev pub pair-below : ℕ → In 3 pair-kinds.ps
 pair-below t = and 3 pair-kinds.ps (falls 3 pair-kinds.ps _<_ μ-pair t) pair.Pre
-
-abbrev pub under-at : ℕ → In 3 under-kinds.ps
-under-at t = and 3 under-kinds.ps (is 3 under-kinds.ps μ-under t) under.Pre
-
-abbrev pub under-below : ℕ → In 3 under-kinds.ps
-under-below t = and 3 under-kinds.ps (falls 3 under-kinds.ps _<_ μ-under t) under.Pre
 
 abbrev pub unroll-at : ℕ → In 3 unroll-kinds.ps
 unroll-at t = and 3 unroll-kinds.ps (is 3 unroll-kinds.ps μ-unroll t) unroll.Pre
@@ -219,14 +206,14 @@ call-uses t = (
   end-of-reads.Learnt,
   scope-reads.Asked,
   scope-reads.Learnt,
-  under-below t,
-  under.Post,
+  widen-reads.Asked,
+  widen-reads.Learnt,
+  back-below t,
+  back.Post,
   leave-reads.Asked,
   leave-reads.Learnt,
   argument-of-reads.Asked,
   argument-of-reads.Learnt,
-  back-below t,
-  back.Post,
 )
 
 abbrev pub choose-uses : ℕ → choose-lts.Claims
@@ -241,8 +228,10 @@ choose-uses t = (
   branch-of-reads.Learnt,
   side-of-reads.Asked,
   side-of-reads.Learnt,
-  under-below t,
-  under.Post,
+  widen-reads.Asked,
+  widen-reads.Learnt,
+  back-below t,
+  back.Post,
   leave-reads.Asked,
   leave-reads.Learnt,
   outer-reads.Asked,
@@ -257,14 +246,14 @@ let-one-uses t = (
   first-of-reads.Learnt,
   second-of-reads.Asked,
   second-of-reads.Learnt,
-  under-below t,
-  under.Post,
+  widen-reads.Asked,
+  widen-reads.Learnt,
+  back-below t,
+  back.Post,
   leave-reads.Asked,
   leave-reads.Learnt,
   outer-reads.Asked,
   outer-reads.Learnt,
-  back-below t,
-  back.Post,
 )
 
 abbrev pub let-two-uses : ℕ → let-two-lts.Claims
@@ -273,14 +262,10 @@ let-two-uses t = (
   first-of-reads.Learnt,
   second-of-reads.Asked,
   second-of-reads.Learnt,
-  end-of-reads.Asked,
-  end-of-reads.Learnt,
-  bind-reads.Asked,
-  bind-reads.Learnt,
-  wider-reads.Asked,
-  wider-reads.Learnt,
-  under-below t,
-  under.Post,
+  widen-reads.Asked,
+  widen-reads.Learnt,
+  back-below t,
+  back.Post,
   leave-reads.Asked,
   leave-reads.Learnt,
   outer-reads.Asked,
@@ -335,18 +320,6 @@ pair-uses t = (
   left-of-reads.Learnt,
   right-of-reads.Asked,
   right-of-reads.Learnt,
-  back-below t,
-  back.Post,
-)
-
-abbrev pub under-uses : ℕ → under-lts.Claims
-under-uses t = (
-  end-of-reads.Asked,
-  end-of-reads.Learnt,
-  bind-reads.Asked,
-  bind-reads.Learnt,
-  wider-reads.Asked,
-  wider-reads.Learnt,
   back-below t,
   back.Post,
 )

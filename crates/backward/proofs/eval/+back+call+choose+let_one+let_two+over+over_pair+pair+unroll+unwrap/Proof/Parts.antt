@@ -10,12 +10,12 @@ use Prim.Native.Nat.{ℕ}
 use Rattle.backward.proofs.eval.back.Reads as back
 use Rattle.backward.proofs.eval.over.Reads as over
 use Rattle.backward.proofs.eval.pair.Reads as pair
-use Rattle.backward.proofs.eval.+back+call+choose+let_one+let_two+over+over_pair+pair+under+unroll+unwrap.Lts-pair as pair-lts
+use Rattle.backward.proofs.eval.+back+call+choose+let_one+let_two+over+over_pair+pair+unroll+unwrap.Lts-pair as pair-lts
 use Rattle.backward.proofs.eval.unroll.Reads as unroll
-use Rattle.backward.proofs.eval.+back+call+choose+let_one+let_two+over+over_pair+pair+under+unroll+unwrap.Lts-unroll as unroll-lts
+use Rattle.backward.proofs.eval.+back+call+choose+let_one+let_two+over+over_pair+pair+unroll+unwrap.Lts-unroll as unroll-lts
 use Rattle.backward.proofs.eval.unwrap.Reads as unwrap
-use Rattle.backward.proofs.eval.+back+call+choose+let_one+let_two+over+over_pair+pair+under+unroll+unwrap.Lts-unwrap as unwrap-lts
-use Rattle.backward.proofs.eval.+back+call+choose+let_one+let_two+over+over_pair+pair+under+unroll+unwrap.Proof.Claims.{pair-at, unroll-at, unwrap-at, pair-uses, unroll-uses, unwrap-uses}
+use Rattle.backward.proofs.eval.+back+call+choose+let_one+let_two+over+over_pair+pair+unroll+unwrap.Lts-unwrap as unwrap-lts
+use Rattle.backward.proofs.eval.+back+call+choose+let_one+let_two+over+over_pair+pair+unroll+unwrap.Proof.Claims.{pair-at, unroll-at, unwrap-at, pair-uses, unroll-uses, unwrap-uses}
 
 pub unwrap-kind-of-requires : (t : ℕ) → unwrap-lts.Need-kind-of-requires (unwrap-uses t) (unwrap-at t) unwrap.Post
 unwrap-kind-of-requires t c κs =

@@ -8,7 +8,7 @@ use Rattle.backward.proofs.Steps.{node-there}
 use Rattle.backward.proofs.Arriving.{fuel-gone, height-gone, entered, entered-node, handed, handed-back, variable-meetable, variable-step, unit-step, no-kind}
 use Prim.Native.Nat.{ℕ}
 use Rattle.backward.proofs.eval.back.Reads as back
-use Rattle.backward.proofs.eval.+back+call+choose+let_one+let_two+over+over_pair+pair+under+unroll+unwrap.Lts-back as back-lts
+use Rattle.backward.proofs.eval.+back+call+choose+let_one+let_two+over+over_pair+pair+unroll+unwrap.Lts-back as back-lts
 use Rattle.backward.proofs.eval.call.Reads as call
 use Rattle.backward.proofs.eval.choose.Reads as choose
 use Rattle.backward.proofs.eval.let_one.Reads as let-one
@@ -16,7 +16,7 @@ use Rattle.backward.proofs.eval.let_two.Reads as let-two
 use Rattle.backward.proofs.eval.pair.Reads as pair
 use Rattle.backward.proofs.eval.unroll.Reads as unroll
 use Rattle.backward.proofs.eval.unwrap.Reads as unwrap
-use Rattle.backward.proofs.eval.+back+call+choose+let_one+let_two+over+over_pair+pair+under+unroll+unwrap.Proof.Claims.{back-at, back-uses}
+use Rattle.backward.proofs.eval.+back+call+choose+let_one+let_two+over+over_pair+pair+unroll+unwrap.Proof.Claims.{back-at, back-uses}
 
 pub back-fuel-requires : (t : ℕ) → back-lts.Need-fuel-requires (back-uses t) (back-at t) back.Post
 back-fuel-requires t c κs = search needs

@@ -6,17 +6,14 @@ use borrow.Author.Needs.{needs}
 use Rattle.scopes.specs.Slots.{Machine}
 use Rattle.backward.proofs.Entering.{node-room, next-node}
 use Rattle.backward.proofs.Arriving.{made-prepared, made-node, made-done, made-long}
-use Rattle.backward.proofs.Opening.{marked, under-there, under-prepared, under-node, under-gone}
 use Prim.Native.Nat.{ℕ}
 use Rattle.backward.proofs.eval.back.Reads as back
 use Rattle.backward.proofs.eval.over.Reads as over
-use Rattle.backward.proofs.eval.+back+call+choose+let_one+let_two+over+over_pair+pair+under+unroll+unwrap.Lts-over as over-lts
+use Rattle.backward.proofs.eval.+back+call+choose+let_one+let_two+over+over_pair+pair+unroll+unwrap.Lts-over as over-lts
 use Rattle.backward.proofs.eval.over_pair.Reads as over-pair
-use Rattle.backward.proofs.eval.+back+call+choose+let_one+let_two+over+over_pair+pair+under+unroll+unwrap.Lts-over_pair as over-pair-lts
+use Rattle.backward.proofs.eval.+back+call+choose+let_one+let_two+over+over_pair+pair+unroll+unwrap.Lts-over_pair as over-pair-lts
 use Rattle.backward.proofs.eval.pair.Reads as pair
-use Rattle.backward.proofs.eval.under.Reads as under
-use Rattle.backward.proofs.eval.+back+call+choose+let_one+let_two+over+over_pair+pair+under+unroll+unwrap.Lts-under as under-lts
-use Rattle.backward.proofs.eval.+back+call+choose+let_one+let_two+over+over_pair+pair+under+unroll+unwrap.Proof.Claims.{over-at, over-pair-at, under-at, over-uses, over-pair-uses, under-uses}
+use Rattle.backward.proofs.eval.+back+call+choose+let_one+let_two+over+over_pair+pair+unroll+unwrap.Proof.Claims.{over-at, over-pair-at, over-uses, over-pair-uses}
 
 pub over-top-requires : (t : ℕ) → over-lts.Need-top-requires (over-uses t) (over-at t) over.Post
 over-top-requires t c κs = search needs
@@ -178,54 +175,4 @@ over-pair-returns-2 t c =
     record {
       lengths = refl;
       gone = made-long (start .pre .1 .0 .prepared) (at-top .ensures) (at-pair .ensures) (at-if1 .left) (at-fuel .ensures) (at-long .ensures);
-    }
-
-pub under-end-of-requires : (t : ℕ) → under-lts.Need-end-of-requires (under-uses t) (under-at t) under.Post
-under-end-of-requires t c κs = search needs
-
-pub under-bind-requires : (t : ℕ) → under-lts.Need-bind-requires (under-uses t) (under-at t) under.Post
-under-bind-requires t c κs =
-    let start = c .before .before .before in
-    let at-end-of = c .end-of in
-    ((start .pre .1 .0 .full), rw (at-end-of .ensures) (under-there (start .pre .1 .0 .prepared) (start .pre .1 .1 .1)))
-
-pub under-wider-requires : (t : ℕ) → under-lts.Need-wider-requires (under-uses t) (under-at t) under.Post
-under-wider-requires t c κs =
-    let start = c .before .before .before .before .before .before in
-    (omega (arith, (start .pre .1 .0 .prepared) .space), omega (arith, (start .pre .1 .1 .1)))
-
-pub under-back-requires : (t : ℕ) → under-lts.Need-back-requires (under-uses t) (under-at t) under.Post
-under-back-requires t c κs =
-    let start = c .before .before .before .before .before .before .before in
-    let at-end-of = c .before .before .before .before .end-of in
-    let at-bind = c .before .before .before .bind in
-    let at-wider = c .wider in (
-      omega (arith, start .pre .0, ap (λ (m : Machine). m .fuel) (at-bind .ensures .machine)),
-      (
-        record {
-          full = at-bind .ensures .lengths ∙ (start .pre .1 .0 .full);
-          prepared = under-prepared (start .pre .1 .0 .prepared)
-              (start .pre .1 .1 .1) (marked _ (at-bind .ensures) (at-end-of .ensures)) (at-wider .ensures);
-        },
-        under-node (start .pre .1 .0 .prepared)
-            (start .pre .1 .1 .1) (marked _ (at-bind .ensures) (at-end-of .ensures)) (at-wider .ensures) (start .pre .1 .1 .0),
-      ),
-    )
-
-pub under-same-length : (t : ℕ) → under-lts.Need-same-length (under-uses t) (under-at t) under.Post
-under-same-length t c =
-    let at-back = c .before .before .back in
-    at-back .kept .1 .0
-
-pub under-returns : (t : ℕ) → under-lts.Need-returns (under-uses t) (under-at t) under.Post
-under-returns t c =
-    let start = c .before .before .before .before .before .before .before .before .before .before in
-    let at-end-of = c .before .before .before .before .before .before .before .end-of in
-    let at-bind = c .before .before .before .before .before .before .bind in
-    let at-wider = c .before .before .before .wider in
-    let at-back = c .before .before .back in
-    record {
-      lengths = at-back .ensures .lengths ∙ at-bind .ensures .lengths;
-      gone = under-gone (start .pre .1 .0 .prepared) (start .pre .1 .1 .1) (marked _ (at-bind .ensures) (at-end-of .ensures)) (at-wider .ensures)
-          (start .pre .1 .1 .0) (at-back .ensures .gone);
     }
