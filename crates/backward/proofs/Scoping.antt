@@ -17,9 +17,10 @@ use package.Rattle.scopes.specs.declared.bindings.Bindings.{Bindings}
 use package.Rattle.scopes.proofs.Views.{view-at}
 use package.Rattle.yields.specs.Yields.{Asks}
 use package.Rattle.forward.proofs.Binds.{opened as wider}
-use package.Rattle.backward.specs.Ready.{Held, Gone, GoneUnder, Leavable, Prepared, PreparedIn, PreparedUnder, RanUnder, WidenReady, Widened, ancillaeOf, runAt, stepAt, underAt}
+use package.Rattle.backward.specs.Ready.{Held, Gone, GoneUnder, Leavable, Prepared, PreparedIn, PreparedUnder, RanUnder, ancillaeOf, runAt, stepAt, underAt}
+use package.Rattle.backward.specs.Ready.{RunsBack, RunsUnder, WidenReady, Widened}
 use package.Rattle.backward.specs.Outcomes.{innerOf, scopeView}
-use package.Rattle.backward.proofs.Opening.{Marked, marked, as-many, marked-below, opens, opened}
+use package.Rattle.backward.proofs.Opening.{Marked, marked, as-many, marked-below, opens, opened, widen-ready, widened, widened-node, ran-under}
 use package.Rattle.backward.proofs.Leaving.{LeftBehind, held-under, looked, cell-ready, under-left, left-node, left-tells, left-below}
 use package.Rattle.backward.proofs.Frames.{beside, few-ancillae, gone-then, onward, stops-under}
 use package.Rattle.backward.proofs.Choosing.{case-branch, case-done, case-refused, case-space, case-sum}
@@ -237,27 +238,75 @@ module _ {code heap slots : List ℕ} {m : Machine} {b : Bindings} {sc : Scope} 
                   (case-done (P .ready) low kind qf l Y qu qv qs case-run (omega arith) (is-done e) (rw (left-node case-held G e K (sc .base + sc .n) (G .slot e) qx) at (E .ran)))
 
 ----------------------------------------------------------------
--- By the numbers that a run is lent: the bodies of let and let pair, and a branch
+-- By the numbers that a run is lent: the bodies of let and let pair, and a branch, each in its scope
 
 module _ {code heap st : List ℕ} {b : Bindings} {scope t room : ℕ} (Q : PreparedIn 2 1 code heap st b scope t room) {node : ℕ}
     (low : node < machineOf st .top) {u u′ : ℕ} (qu : u ≡ firstIn code t) (qu′ : u′ ≡ secondIn code t) where
-  pub let-inner : kindIn code t ≡ 5 → PreparedUnder code heap st b scope u′ (room - 1)
-  let-inner kind = record { full = Q .full; prepared = let-prepared (Q .prepared) low kind qu qu′ }
+  module _ (kind : kindIn code t ≡ 5) where
+    abbrev let-inner : PreparedUnder code heap st b scope u′ (room - 1)
+    let-inner = record { full = Q .full; prepared = let-prepared (Q .prepared) low kind qu qu′ }
 
-  -- the scope with the first of the two
-  pub letp-ready : kindIn code t ≡ 6 → WidenReady st scope
-  letp-ready kind = record { full = Q .full; there = letp-there (Q .prepared) low kind qu qu′; few = letp-few (Q .prepared) low kind qu qu′ }
+    abbrev let-fits : scopeIn scope .n < 32
+    let-fits = let-few (Q .prepared) low kind qu qu′
 
-  pub letp-inner : kindIn code t ≡ 6 → {st₁ : List ℕ} {one : ℕ} → Widened st st₁ scope one → PreparedUnder code heap st₁ b one u′ (room - 1)
-  letp-inner kind W = record { full = W .lengths ∙ Q .full; prepared = letp-prepared (Q .prepared) low kind qu qu′ (marked W) (W .scope-is) }
+    pub let-widens : WidenReady st scope
+    let-widens = widen-ready let-inner let-fits
 
-pub case-inner : {code heap st : List ℕ} {b : Bindings} {scope t room : ℕ} (Q : PreparedIn 2 1 code heap st b scope t room) {node : ℕ}
+    module _ {st₁ : List ℕ} {wide : ℕ} (W : Widened st st₁ scope wide) where
+      pub let-widened : PreparedIn 0 0 code heap st₁ b wide u′ (room - 1) × (node < machineOf st₁ .top)
+      let-widened = (widened let-inner let-fits W, widened-node let-inner let-fits W low)
+
+      pub let-ran : {heap′ st′ : List ℕ} {r : Out} → RunsBack code heap heap′ st₁ st′ b wide u′ node (room - 1) r
+          → RunsUnder code heap heap′ st st′ scope u′ node (room - 1) r
+      let-ran R = ran-under let-inner let-fits W low R
+
+  module _ (kind : kindIn code t ≡ 6) where
+    -- the scope with the first of the two
+    pub letp-ready : WidenReady st scope
+    letp-ready = record { full = Q .full; there = letp-there (Q .prepared) low kind qu qu′; few = letp-few (Q .prepared) low kind qu qu′ }
+
+    module _ {st₁ : List ℕ} {one : ℕ} (W : Widened st st₁ scope one) where
+      abbrev letp-inner : PreparedUnder code heap st₁ b one u′ (room - 1)
+      letp-inner = record { full = W .lengths ∙ Q .full; prepared = letp-prepared (Q .prepared) low kind qu qu′ (marked W) (W .scope-is) }
+
+      abbrev letp-fits : scopeIn one .n < 32
+      letp-fits = letp-more (Q .prepared) low kind qu qu′ (marked W) (W .scope-is)
+
+      pub letp-widens : WidenReady st₁ one
+      letp-widens = widen-ready letp-inner letp-fits
+
+      module _ {st₂ : List ℕ} {both : ℕ} (W₂ : Widened st₁ st₂ one both) where
+        abbrev letp-low : node < machineOf st₁ .top
+        letp-low = letp-node (Q .prepared) low kind qu qu′ (marked W) (W .scope-is)
+
+        pub letp-widened : PreparedIn 0 0 code heap st₂ b both u′ (room - 1) × (node < machineOf st₂ .top)
+        letp-widened = (widened letp-inner letp-fits W₂, widened-node letp-inner letp-fits W₂ letp-low)
+
+        pub letp-ran : {heap′ st′ : List ℕ} {r : Out} → RunsBack code heap heap′ st₂ st′ b both u′ node (room - 1) r
+            → RunsUnder code heap heap′ st₁ st′ one u′ node (room - 1) r
+        letp-ran R = ran-under letp-inner letp-fits W₂ letp-low R
+
+module _ {code heap st : List ℕ} {b : Bindings} {scope t room : ℕ} (Q : PreparedIn 2 1 code heap st b scope t room) {node : ℕ}
     (low : node < machineOf st .top) (kind : kindIn code t ≡ 7) {f : ℕ} (qf : f ≡ secondIn code t) (l : Bool)
     (Y : (ys : List TypeEntry)
     → l ≡ mayYield (ancillaeOf heap (scopeView (slotsOf st) (scopeIn scope)) (scopeIn scope .q)) (treeIn code ys f) (valueAt heap node))
-    {u : ℕ} (qu : u ≡ firstIn code t) {v : ℕ} (qv : v ≡ cond l (secondIn code t) (thirdIn code t)) {side : ℕ} (qs : side ≡ cond l 1 2)
-    → PreparedUnder code heap st b scope v (room - 1)
-case-inner Q low kind qf l Y qu qv qs = record { full = Q .full; prepared = case-prepared (Q .prepared) low kind qf l Y qu qv qs }
+    {u : ℕ} (qu : u ≡ firstIn code t) {v : ℕ} (qv : v ≡ cond l (secondIn code t) (thirdIn code t)) {side : ℕ} (qs : side ≡ cond l 1 2) where
+  abbrev case-inner : PreparedUnder code heap st b scope v (room - 1)
+  case-inner = record { full = Q .full; prepared = case-prepared (Q .prepared) low kind qf l Y qu qv qs }
+
+  abbrev case-fits : scopeIn scope .n < 32
+  case-fits = case-few (Q .prepared) low kind
+
+  pub case-widens : WidenReady st scope
+  case-widens = widen-ready case-inner case-fits
+
+  module _ {st₁ : List ℕ} {wide : ℕ} (W : Widened st st₁ scope wide) where
+    pub case-widened : PreparedIn 0 0 code heap st₁ b wide v (room - 1) × (node < machineOf st₁ .top)
+    case-widened = (widened case-inner case-fits W, widened-node case-inner case-fits W low)
+
+    pub case-ran : {heap′ st′ : List ℕ} {r : Out} → RunsBack code heap heap′ st₁ st′ b wide v node (room - 1) r
+        → RunsUnder code heap heap′ st st′ scope v node (room - 1) r
+    case-ran R = ran-under case-inner case-fits W low R
 
 -- the left branch's form can be asked
 pub case-asked : {code heap st : List ℕ} {b : Bindings} {scope t room : ℕ} → PreparedIn 2 1 code heap st b scope t room → {node : ℕ}

@@ -73,8 +73,8 @@ pub call-scope-requires : (t : ℕ) → call-lts.Need-scope-requires (call-uses 
 call-scope-requires t c κs =
     let earlier = c .before .before .before .before .before .before .before .before .before .before in
     let start = earlier .before .before .before in
-    let at-third-of = c .before .before .before .before .before .before .before .before .before .before .before .third-of in
-    let at-wide-index = c .before .before .before .before .before .before .before .before .before .before .wide-index in
+    let at-third-of = earlier .before .third-of in
+    let at-wide-index = earlier .wide-index in
     let at-gather = c .before .before .before .before .before .before .before .gather in
     let at-if1 = c .before .before .before .before .if1 in
     let at-first-of = c .before .before .before .first-of in
@@ -92,9 +92,10 @@ call-sub-h t c =
 
 pub call-widen-requires : (t : ℕ) → call-lts.Need-widen-requires (call-uses t) (call-at t) call.Post
 call-widen-requires t c κs =
-    let start = c .before .before .before .before .before .before .before .before .before .before .before .before .before .before .before in
-    let at-third-of = c .before .before .before .before .before .before .before .before .before .before .before .before .before .third-of in
-    let at-wide-index = c .before .before .before .before .before .before .before .before .before .before .before .before .wide-index in
+    let earlier = c .before .before .before .before .before .before .before .before .before .before in
+    let start = earlier .before .before .before .before .before in
+    let at-third-of = earlier .before .before .before .third-of in
+    let at-wide-index = earlier .before .before .wide-index in
     let at-gather = c .before .before .before .before .before .before .before .before .before .gather in
     let at-if1 = c .before .before .before .before .before .before .if1 in
     let at-first-of = c .before .before .before .before .before .first-of in
@@ -113,10 +114,11 @@ call-widen-requires t c κs =
 
 pub call-back-requires : (t : ℕ) → call-lts.Need-back-requires (call-uses t) (call-at t) call.Post
 call-back-requires t c κs =
-    let start = c .before .before .before .before .before .before .before .before .before .before .before .before .before .before .before .before .before .before in
-    let at-third-of = c .before .before .before .before .before .before .before .before .before .before .before .before .before .before .before .before .third-of in
-    let at-wide-index = c .before .before .before .before .before .before .before .before .before .before .before .before .before .before .before .wide-index in
-    let at-gather = c .before .before .before .before .before .before .before .before .before .before .before .before .gather in
+    let earlier = c .before .before .before .before .before .before .before .before .before .before in
+    let start = earlier .before .before .before .before .before .before .before .before in
+    let at-third-of = earlier .before .before .before .before .before .before .third-of in
+    let at-wide-index = earlier .before .before .before .before .before .wide-index in
+    let at-gather = earlier .before .before .gather in
     let at-if1 = c .before .before .before .before .before .before .before .before .before .if1 in
     let at-first-of = c .before .before .before .before .before .before .before .before .first-of in
     let at-body-of = c .before .before .before .before .before .before .before .body-of in
@@ -136,22 +138,25 @@ call-back-requires t c κs =
 
 pub call-same-length-2 : (t : ℕ) → call-lts.Need-same-length-2 (call-uses t) (call-at t) call.Post
 call-same-length-2 t c =
-    let at-gather = c .before .before .before .before .before .before .before .before .before .before .before .before .before .before .before .before .before .before .gather in
+    let earlier = c .before .before .before .before .before .before .before .before .before .before in
+    let at-gather = earlier .before .before .before .before .before .before .before .before .gather in
     let at-back = c .before .before .before .before .before .back in
     at-back .kept .1 .0 ∙ at-gather .kept .1 .0
 
 pub call-returns-2 : (t : ℕ) → call-lts.Need-returns-2 (call-uses t) (call-at t) call.Post
 call-returns-2 t c =
-    let start = c .before .before .before .before .before .before .before .before .before .before .before .before .before .before .before .before .before .before .before .before .before .before .before .before in
-    let at-third-of = c .before .before .before .before .before .before .before .before .before .before .before .before .before .before .before .before .before .before .before .before .before .before .third-of in
-    let at-wide-index = c .before .before .before .before .before .before .before .before .before .before .before .before .before .before .before .before .before .before .before .before .before .wide-index in
-    let at-gather = c .before .before .before .before .before .before .before .before .before .before .before .before .before .before .before .before .before .before .gather in
-    let at-if1 = c .before .before .before .before .before .before .before .before .before .before .before .before .before .before .before .if1 in
-    let at-first-of = c .before .before .before .before .before .before .before .before .before .before .before .before .before .before .first-of in
-    let at-body-of = c .before .before .before .before .before .before .before .before .before .before .before .before .before .body-of in
-    let at-none = c .before .before .before .before .before .before .before .before .before .before .before .before .none in
-    let at-end-of = c .before .before .before .before .before .before .before .before .before .before .before .end-of in
-    let at-scope = c .before .before .before .before .before .before .before .before .before .before .scope in
+    let earlier = c .before .before .before .before .before .before .before .before .before .before in
+    let earliest = earlier .before .before .before .before .before .before .before .before .before .before in
+    let start = earliest .before .before .before .before in
+    let at-third-of = earliest .before .before .third-of in
+    let at-wide-index = earliest .before .wide-index in
+    let at-gather = earlier .before .before .before .before .before .before .before .before .gather in
+    let at-if1 = earlier .before .before .before .before .before .if1 in
+    let at-first-of = earlier .before .before .before .before .first-of in
+    let at-body-of = earlier .before .before .before .body-of in
+    let at-none = earlier .before .before .none in
+    let at-end-of = earlier .before .end-of in
+    let at-scope = earlier .scope in
     let at-widen = c .before .before .before .before .before .before .before .before .widen in
     let at-back = c .before .before .before .before .before .back in
     let body = called-inner (start .pre .1 .0) (start .pre .1 .1 .0) (all-to-place (start .pre .1 .1 .1) (at-wide-index .ensures .0 ∙ at-third-of .ensures))
@@ -172,17 +177,19 @@ call-returns-2 t c =
 
 pub call-leave-requires : (t : ℕ) → call-lts.Need-leave-requires (call-uses t) (call-at t) call.Post
 call-leave-requires t c κs =
-    let start = c .before .before .before .before .before .before .before .before .before .before .before .before .before .before .before .before .before .before .before .before .before .before .before .before .before .before in
-    let at-third-of = c .before .before .before .before .before .before .before .before .before .before .before .before .before .before .before .before .before .before .before .before .before .before .before .before .third-of in
-    let at-wide-index = c .before .before .before .before .before .before .before .before .before .before .before .before .before .before .before .before .before .before .before .before .before .before .before .wide-index in
-    let at-gather = c .before .before .before .before .before .before .before .before .before .before .before .before .before .before .before .before .before .before .before .before .gather in
-    let at-if1 = c .before .before .before .before .before .before .before .before .before .before .before .before .before .before .before .before .before .if1 in
-    let at-first-of = c .before .before .before .before .before .before .before .before .before .before .before .before .before .before .before .before .first-of in
-    let at-body-of = c .before .before .before .before .before .before .before .before .before .before .before .before .before .before .before .body-of in
-    let at-none = c .before .before .before .before .before .before .before .before .before .before .before .before .before .before .none in
-    let at-end-of = c .before .before .before .before .before .before .before .before .before .before .before .before .before .end-of in
-    let at-scope = c .before .before .before .before .before .before .before .before .before .before .before .before .scope in
-    let at-widen = c .before .before .before .before .before .before .before .before .before .before .widen in
+    let earlier = c .before .before .before .before .before .before .before .before .before .before in
+    let earliest = earlier .before .before .before .before .before .before .before .before .before .before in
+    let start = earliest .before .before .before .before .before .before in
+    let at-third-of = earliest .before .before .before .before .third-of in
+    let at-wide-index = earliest .before .before .before .wide-index in
+    let at-gather = earliest .gather in
+    let at-if1 = earlier .before .before .before .before .before .before .before .if1 in
+    let at-first-of = earlier .before .before .before .before .before .before .first-of in
+    let at-body-of = earlier .before .before .before .before .before .body-of in
+    let at-none = earlier .before .before .before .before .none in
+    let at-end-of = earlier .before .before .before .end-of in
+    let at-scope = earlier .before .before .scope in
+    let at-widen = earlier .widen in
     let at-back = c .before .before .before .before .before .before .before .back in
     let body = called-inner (start .pre .1 .0) (start .pre .1 .1 .0) (all-to-place (start .pre .1 .1 .1) (at-wide-index .ensures .0 ∙ at-third-of .ensures))
         (at-gather .ensures .gathers) (at-if1 .left) (at-first-of .ensures) (at-body-of .ensures) (at-end-of .ensures) (at-scope .ensures)
@@ -202,25 +209,27 @@ call-argument-of-requires t c κs =
     let earlier = c .before .before .before .before .before .before .before .before .before .before in
     let earliest = earlier .before .before .before .before .before .before .before .before .before .before in
     let start = earliest .before .before .before .before .before .before .before in
-    let at-third-of = earlier .before .before .before .before .before .before .before .before .before .before .before .before .before .before .before .third-of in
-    let at-wide-index = earlier .before .before .before .before .before .before .before .before .before .before .before .before .before .before .wide-index in
+    let at-third-of = earliest .before .before .before .before .before .third-of in
+    let at-wide-index = earliest .before .before .before .before .wide-index in
     argument-read (scope-ready (start .pre .1 .0 .prepared))
     (all-arguments (all-to-place (start .pre .1 .1 .1) (at-wide-index .ensures .0 ∙ at-third-of .ensures)))
 
 pub call-back-requires-2 : (t : ℕ) → call-lts.Need-back-requires-2 (call-uses t) (call-at t) call.Post
 call-back-requires-2 t c κs =
-    let start = c .before .before .before .before .before .before .before .before .before .before .before .before .before .before .before .before .before .before .before .before .before .before .before .before .before .before .before .before .before .before in
-    let at-third-of = c .before .before .before .before .before .before .before .before .before .before .before .before .before .before .before .before .before .before .before .before .before .before .before .before .before .before .before .before .third-of in
-    let at-wide-index = c .before .before .before .before .before .before .before .before .before .before .before .before .before .before .before .before .before .before .before .before .before .before .before .before .before .before .before .wide-index in
-    let at-gather = c .before .before .before .before .before .before .before .before .before .before .before .before .before .before .before .before .before .before .before .before .before .before .before .before .gather in
-    let at-if1 = c .before .before .before .before .before .before .before .before .before .before .before .before .before .before .before .before .before .before .before .before .before .if1 in
-    let at-first-of = c .before .before .before .before .before .before .before .before .before .before .before .before .before .before .before .before .before .before .before .before .first-of in
-    let at-body-of = c .before .before .before .before .before .before .before .before .before .before .before .before .before .before .before .before .before .before .before .body-of in
-    let at-none = c .before .before .before .before .before .before .before .before .before .before .before .before .before .before .before .before .before .before .none in
-    let at-end-of = c .before .before .before .before .before .before .before .before .before .before .before .before .before .before .before .before .before .end-of in
-    let at-scope = c .before .before .before .before .before .before .before .before .before .before .before .before .before .before .before .before .scope in
-    let at-widen = c .before .before .before .before .before .before .before .before .before .before .before .before .before .before .widen in
-    let at-back = c .before .before .before .before .before .before .before .before .before .before .before .back in
+    let earlier = c .before .before .before .before .before .before .before .before .before .before in
+    let earliest = earlier .before .before .before .before .before .before .before .before .before .before in
+    let start = earliest .before .before .before .before .before .before .before .before .before .before in
+    let at-third-of = earliest .before .before .before .before .before .before .before .before .third-of in
+    let at-wide-index = earliest .before .before .before .before .before .before .before .wide-index in
+    let at-gather = earliest .before .before .before .before .gather in
+    let at-if1 = earliest .before .if1 in
+    let at-first-of = earliest .first-of in
+    let at-body-of = earlier .before .before .before .before .before .before .before .before .before .body-of in
+    let at-none = earlier .before .before .before .before .before .before .before .before .none in
+    let at-end-of = earlier .before .before .before .before .before .before .before .end-of in
+    let at-scope = earlier .before .before .before .before .before .before .scope in
+    let at-widen = earlier .before .before .before .before .widen in
+    let at-back = earlier .before .back in
     let body = called-inner (start .pre .1 .0) (start .pre .1 .1 .0) (all-to-place (start .pre .1 .1 .1) (at-wide-index .ensures .0 ∙ at-third-of .ensures))
         (at-gather .ensures .gathers) (at-if1 .left) (at-first-of .ensures) (at-body-of .ensures) (at-end-of .ensures) (at-scope .ensures)
         (at-gather .ensures .lengths) (at-none .ensures) in
@@ -250,25 +259,29 @@ call-back-requires-2 t c κs =
 
 pub call-same-length-3 : (t : ℕ) → call-lts.Need-same-length-3 (call-uses t) (call-at t) call.Post
 call-same-length-3 t c =
-    let at-gather = c .before .before .before .before .before .before .before .before .before .before .before .before .before .before .before .before .before .before .before .before .before .before .before .before .before .before .before .gather in
-    let at-back = c .before .before .before .before .before .before .before .before .before .before .before .before .before .before .back in
+    let earlier = c .before .before .before .before .before .before .before .before .before .before in
+    let earliest = earlier .before .before .before .before .before .before .before .before .before .before in
+    let at-gather = earliest .before .before .before .before .before .before .before .gather in
+    let at-back = earlier .before .before .before .before .back in
     let at-back2 = c .before .before .back2 in
     at-back2 .kept .1 .0 ∙ at-back .kept .1 .0 ∙ at-gather .kept .1 .0
 
 pub call-returns-3 : (t : ℕ) → call-lts.Need-returns-3 (call-uses t) (call-at t) call.Post
 call-returns-3 t c =
-    let start = c .before .before .before .before .before .before .before .before .before .before .before .before .before .before .before .before .before .before .before .before .before .before .before .before .before .before .before .before .before .before .before .before .before in
-    let at-third-of = c .before .before .before .before .before .before .before .before .before .before .before .before .before .before .before .before .before .before .before .before .before .before .before .before .before .before .before .before .before .before .before .third-of in
-    let at-wide-index = c .before .before .before .before .before .before .before .before .before .before .before .before .before .before .before .before .before .before .before .before .before .before .before .before .before .before .before .before .before .before .wide-index in
-    let at-gather = c .before .before .before .before .before .before .before .before .before .before .before .before .before .before .before .before .before .before .before .before .before .before .before .before .before .before .before .gather in
-    let at-if1 = c .before .before .before .before .before .before .before .before .before .before .before .before .before .before .before .before .before .before .before .before .before .before .before .before .if1 in
-    let at-first-of = c .before .before .before .before .before .before .before .before .before .before .before .before .before .before .before .before .before .before .before .before .before .before .before .first-of in
-    let at-body-of = c .before .before .before .before .before .before .before .before .before .before .before .before .before .before .before .before .before .before .before .before .before .before .body-of in
-    let at-none = c .before .before .before .before .before .before .before .before .before .before .before .before .before .before .before .before .before .before .before .before .before .none in
-    let at-end-of = c .before .before .before .before .before .before .before .before .before .before .before .before .before .before .before .before .before .before .before .before .end-of in
-    let at-scope = c .before .before .before .before .before .before .before .before .before .before .before .before .before .before .before .before .before .before .before .scope in
-    let at-widen = c .before .before .before .before .before .before .before .before .before .before .before .before .before .before .before .before .before .widen in
-    let at-back = c .before .before .before .before .before .before .before .before .before .before .before .before .before .before .back in
+    let earlier = c .before .before .before .before .before .before .before .before .before .before in
+    let earliest = earlier .before .before .before .before .before .before .before .before .before .before in
+    let start = earliest .before .before .before .before .before .before .before .before .before .before .before .before .before in
+    let at-third-of = earliest .before .before .before .before .before .before .before .before .before .before .before .third-of in
+    let at-wide-index = earliest .before .before .before .before .before .before .before .before .before .before .wide-index in
+    let at-gather = earliest .before .before .before .before .before .before .before .gather in
+    let at-if1 = earliest .before .before .before .before .if1 in
+    let at-first-of = earliest .before .before .before .first-of in
+    let at-body-of = earliest .before .before .body-of in
+    let at-none = earliest .before .none in
+    let at-end-of = earliest .end-of in
+    let at-scope = earlier .before .before .before .before .before .before .before .before .before .scope in
+    let at-widen = earlier .before .before .before .before .before .before .before .widen in
+    let at-back = earlier .before .before .before .before .back in
     let body = called-inner (start .pre .1 .0) (start .pre .1 .1 .0) (all-to-place (start .pre .1 .1 .1) (at-wide-index .ensures .0 ∙ at-third-of .ensures))
         (at-gather .ensures .gathers) (at-if1 .left) (at-first-of .ensures) (at-body-of .ensures) (at-end-of .ensures) (at-scope .ensures)
         (at-gather .ensures .lengths) (at-none .ensures) in

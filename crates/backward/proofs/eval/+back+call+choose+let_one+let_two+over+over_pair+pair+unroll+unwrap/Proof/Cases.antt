@@ -6,8 +6,7 @@ use borrow.Author.Needs.{needs}
 use Rattle.scopes.specs.Slots.{Machine}
 use Rattle.backward.proofs.Frames.{row-there, few-ancillae, view-yields}
 use Rattle.backward.proofs.Choosing.{side-single}
-use Rattle.backward.proofs.Scoping.{case-few, case-asked, case-inner, case-stopped, case-leaves, case-cell, case-outer, case-node, case-gone}
-use Rattle.backward.proofs.Opening.{widen-ready, widened, widened-node, ran-under}
+use Rattle.backward.proofs.Scoping.{case-asked, case-widens, case-widened, case-ran, case-stopped, case-leaves, case-cell, case-outer, case-node, case-gone}
 use Rattle.backward.proofs.Leaving.{left-behind}
 use Prim.Native.Nat.{ℕ}
 use Rattle.backward.proofs.eval.choose.Reads as choose
@@ -53,25 +52,24 @@ choose-widen-requires t c κs =
     let at-yields = c .before .before .before .yields in
     let at-branch-of = c .before .before .branch-of in
     let at-side-of = c .before .side-of in
-    let branch = case-inner (start .pre .1 .0) (start .pre .1 .1 .0) (start .pre .1 .1 .1) (at-second-of .ensures) _ (view-yields (at-yields .ensures) (few-ancillae (start .pre .1 .0 .prepared))) (at-first-of .ensures)
-        (at-branch-of .ensures) (at-side-of .ensures) in
-    let few = case-few (start .pre .1 .0 .prepared) (start .pre .1 .1 .0) (start .pre .1 .1 .1) in
-    widen-ready branch few
+    let yields = view-yields (at-yields .ensures) (few-ancillae (start .pre .1 .0 .prepared)) in
+    case-widens (start .pre .1 .0) (start .pre .1 .1 .0) (start .pre .1 .1 .1) (at-second-of .ensures) _ yields (at-first-of .ensures) (at-branch-of .ensures)
+        (at-side-of .ensures)
 
 pub choose-back-requires : (t : ℕ) → choose-lts.Need-back-requires (choose-uses t) (choose-at t) choose.Post
 choose-back-requires t c κs =
-    let start = c .before .before .before .before .before .before .before .before .before .before .before .before in
-    let at-first-of = c .before .before .before .before .before .before .before .before .before .before .first-of in
+    let earlier = c .before .before .before .before .before .before .before .before .before .before in
+    let start = earlier .before .before in
+    let at-first-of = earlier .first-of in
     let at-second-of = c .before .before .before .before .before .before .before .before .before .second-of in
     let at-yields = c .before .before .before .before .before .before .yields in
     let at-branch-of = c .before .before .before .before .before .branch-of in
     let at-side-of = c .before .before .before .before .side-of in
     let at-widen = c .before .before .widen in
-    let branch = case-inner (start .pre .1 .0) (start .pre .1 .1 .0) (start .pre .1 .1 .1) (at-second-of .ensures) _ (view-yields (at-yields .ensures) (few-ancillae (start .pre .1 .0 .prepared))) (at-first-of .ensures)
-        (at-branch-of .ensures) (at-side-of .ensures) in
-    let few = case-few (start .pre .1 .0 .prepared) (start .pre .1 .1 .0) (start .pre .1 .1 .1) in
+    let yields = view-yields (at-yields .ensures) (few-ancillae (start .pre .1 .0 .prepared)) in
     (omega (arith, start .pre .0, ap (λ (m : Machine). m .fuel) (at-widen .ensures .machine)),
-    (widened branch few (at-widen .ensures), widened-node branch few (at-widen .ensures) (start .pre .1 .1 .0)))
+    case-widened (start .pre .1 .0) (start .pre .1 .1 .0) (start .pre .1 .1 .1) (at-second-of .ensures) _ yields (at-first-of .ensures) (at-branch-of .ensures)
+        (at-side-of .ensures) (at-widen .ensures))
 
 pub choose-same-length : (t : ℕ) → choose-lts.Need-same-length (choose-uses t) (choose-at t) choose.Post
 choose-same-length t c =
@@ -80,80 +78,82 @@ choose-same-length t c =
 
 pub choose-returns : (t : ℕ) → choose-lts.Need-returns (choose-uses t) (choose-at t) choose.Post
 choose-returns t c =
-    let start = c .before .before .before .before .before .before .before .before .before .before .before .before .before .before .before .before .before .before in
-    let at-first-of = c .before .before .before .before .before .before .before .before .before .before .before .before .before .before .before .before .first-of in
-    let at-second-of = c .before .before .before .before .before .before .before .before .before .before .before .before .before .before .before .second-of in
-    let at-yields = c .before .before .before .before .before .before .before .before .before .before .before .before .yields in
-    let at-branch-of = c .before .before .before .before .before .before .before .before .before .before .before .branch-of in
-    let at-side-of = c .before .before .before .before .before .before .before .before .before .before .side-of in
+    let earlier = c .before .before .before .before .before .before .before .before .before .before in
+    let start = earlier .before .before .before .before .before .before .before .before in
+    let at-first-of = earlier .before .before .before .before .before .before .first-of in
+    let at-second-of = earlier .before .before .before .before .before .second-of in
+    let at-yields = earlier .before .before .yields in
+    let at-branch-of = earlier .before .branch-of in
+    let at-side-of = earlier .side-of in
     let at-widen = c .before .before .before .before .before .before .before .before .widen in
     let at-back = c .before .before .before .before .before .back in
-    let branch = case-inner (start .pre .1 .0) (start .pre .1 .1 .0) (start .pre .1 .1 .1) (at-second-of .ensures) _ (view-yields (at-yields .ensures) (few-ancillae (start .pre .1 .0 .prepared))) (at-first-of .ensures)
-        (at-branch-of .ensures) (at-side-of .ensures) in
-    let few = case-few (start .pre .1 .0 .prepared) (start .pre .1 .1 .0) (start .pre .1 .1 .1) in
-    let ran = ran-under branch few (at-widen .ensures) (start .pre .1 .1 .0) (at-back .ensures) in
+    let yields = view-yields (at-yields .ensures) (few-ancillae (start .pre .1 .0 .prepared)) in
+    let ran = case-ran (start .pre .1 .0) (start .pre .1 .1 .0) (start .pre .1 .1 .1) (at-second-of .ensures) _ yields (at-first-of .ensures) (at-branch-of .ensures)
+        (at-side-of .ensures) (at-widen .ensures) (at-back .ensures) in
     let at-if1 = c .if1 in
     record {
       lengths = ran .lengths;
       gone = case-stopped (start .pre .1 .0 .prepared) (start .pre .1 .1 .0) (start .pre .1 .1 .1) (at-second-of .ensures) _
-          (view-yields (at-yields .ensures) (few-ancillae (start .pre .1 .0 .prepared))) (at-first-of .ensures) (at-branch-of .ensures)
+          yields (at-first-of .ensures) (at-branch-of .ensures)
           (at-side-of .ensures) (ran .gone) (at-if1 .taken);
     }
 
 pub choose-leave-requires : (t : ℕ) → choose-lts.Need-leave-requires (choose-uses t) (choose-at t) choose.Post
 choose-leave-requires t c κs =
-    let start = c .before .before .before .before .before .before .before .before .before .before .before .before .before .before .before .before .before .before .before .before in
-    let at-first-of = c .before .before .before .before .before .before .before .before .before .before .before .before .before .before .before .before .before .before .first-of in
-    let at-second-of = c .before .before .before .before .before .before .before .before .before .before .before .before .before .before .before .before .before .second-of in
-    let at-yields = c .before .before .before .before .before .before .before .before .before .before .before .before .before .before .yields in
-    let at-branch-of = c .before .before .before .before .before .before .before .before .before .before .before .before .before .branch-of in
-    let at-side-of = c .before .before .before .before .before .before .before .before .before .before .before .before .side-of in
-    let at-widen = c .before .before .before .before .before .before .before .before .before .before .widen in
+    let earlier = c .before .before .before .before .before .before .before .before .before .before in
+    let start = earlier .before .before .before .before .before .before .before .before .before .before in
+    let at-first-of = earlier .before .before .before .before .before .before .before .before .first-of in
+    let at-second-of = earlier .before .before .before .before .before .before .before .second-of in
+    let at-yields = earlier .before .before .before .before .yields in
+    let at-branch-of = earlier .before .before .before .branch-of in
+    let at-side-of = earlier .before .before .side-of in
+    let at-widen = earlier .widen in
     let at-back = c .before .before .before .before .before .before .before .back in
-    let branch = case-inner (start .pre .1 .0) (start .pre .1 .1 .0) (start .pre .1 .1 .1) (at-second-of .ensures) _ (view-yields (at-yields .ensures) (few-ancillae (start .pre .1 .0 .prepared))) (at-first-of .ensures)
-        (at-branch-of .ensures) (at-side-of .ensures) in
-    let few = case-few (start .pre .1 .0 .prepared) (start .pre .1 .1 .0) (start .pre .1 .1 .1) in
-    let ran = ran-under branch few (at-widen .ensures) (start .pre .1 .1 .0) (at-back .ensures) in
+    let yields = view-yields (at-yields .ensures) (few-ancillae (start .pre .1 .0 .prepared)) in
+    let ran = case-ran (start .pre .1 .0) (start .pre .1 .1 .0) (start .pre .1 .1 .1) (at-second-of .ensures) _ yields (at-first-of .ensures) (at-branch-of .ensures)
+        (at-side-of .ensures) (at-widen .ensures) (at-back .ensures) in
     let at-if1 = c .before .before .if1 in
     case-leaves (start .pre .1 .0 .prepared) (start .pre .1 .1 .0) (start .pre .1 .1 .1) (at-second-of .ensures) _
-    (view-yields (at-yields .ensures) (few-ancillae (start .pre .1 .0 .prepared))) (at-first-of .ensures) (at-branch-of .ensures)
+    yields (at-first-of .ensures) (at-branch-of .ensures)
     (at-side-of .ensures) (ran .gone) (at-if1 .left)
 
 pub choose-outer-requires : (t : ℕ) → choose-lts.Need-outer-requires (choose-uses t) (choose-at t) choose.Post
 choose-outer-requires t c κs =
-    let start = c .before .before .before .before .before .before .before .before .before .before .before .before .before .before .before .before .before .before .before .before .before .before .before in
-    let at-first-of = c .before .before .before .before .before .before .before .before .before .before .before .before .before .before .before .before .before .before .before .before .before .first-of in
-    let at-second-of = c .before .before .before .before .before .before .before .before .before .before .before .before .before .before .before .before .before .before .before .before .second-of in
-    let at-yields = c .before .before .before .before .before .before .before .before .before .before .before .before .before .before .before .before .before .yields in
-    let at-branch-of = c .before .before .before .before .before .before .before .before .before .before .before .before .before .before .before .before .branch-of in
-    let at-side-of = c .before .before .before .before .before .before .before .before .before .before .before .before .before .before .before .side-of in
-    let at-widen = c .before .before .before .before .before .before .before .before .before .before .before .before .before .widen in
-    let at-back = c .before .before .before .before .before .before .before .before .before .before .back in
-    let branch = case-inner (start .pre .1 .0) (start .pre .1 .1 .0) (start .pre .1 .1 .1) (at-second-of .ensures) _ (view-yields (at-yields .ensures) (few-ancillae (start .pre .1 .0 .prepared))) (at-first-of .ensures)
-        (at-branch-of .ensures) (at-side-of .ensures) in
-    let few = case-few (start .pre .1 .0 .prepared) (start .pre .1 .1 .0) (start .pre .1 .1 .1) in
-    let ran = ran-under branch few (at-widen .ensures) (start .pre .1 .1 .0) (at-back .ensures) in
+    let earlier = c .before .before .before .before .before .before .before .before .before .before in
+    let earliest = earlier .before .before .before .before .before .before .before .before .before .before in
+    let start = earliest .before .before .before in
+    let at-first-of = earliest .before .first-of in
+    let at-second-of = earliest .second-of in
+    let at-yields = earlier .before .before .before .before .before .before .before .yields in
+    let at-branch-of = earlier .before .before .before .before .before .before .branch-of in
+    let at-side-of = earlier .before .before .before .before .before .side-of in
+    let at-widen = earlier .before .before .before .widen in
+    let at-back = earlier .back in
+    let yields = view-yields (at-yields .ensures) (few-ancillae (start .pre .1 .0 .prepared)) in
+    let ran = case-ran (start .pre .1 .0) (start .pre .1 .1 .0) (start .pre .1 .1 .1) (at-second-of .ensures) _ yields (at-first-of .ensures) (at-branch-of .ensures)
+        (at-side-of .ensures) (at-widen .ensures) (at-back .ensures) in
     let at-if1 = c .before .before .before .before .before .if1 in
     case-cell (start .pre .1 .0 .prepared) (start .pre .1 .1 .0) (start .pre .1 .1 .1) (at-second-of .ensures) _
-    (view-yields (at-yields .ensures) (few-ancillae (start .pre .1 .0 .prepared))) (at-first-of .ensures) (at-branch-of .ensures)
+    yields (at-first-of .ensures) (at-branch-of .ensures)
     (at-side-of .ensures) (ran .gone) (at-if1 .left)
     (ran .lengths ∙ start .pre .1 .0 .full) refl
 
 pub choose-over-requires : (t : ℕ) → choose-lts.Need-over-requires (choose-uses t) (choose-at t) choose.Post
 choose-over-requires t c κs =
-    let start = c .before .before .before .before .before .before .before .before .before .before .before .before .before .before .before .before .before .before .before .before .before .before .before .before .before .before .before .before in
-    let at-first-of = c .before .before .before .before .before .before .before .before .before .before .before .before .before .before .before .before .before .before .before .before .before .before .before .before .before .before .first-of in
-    let at-second-of = c .before .before .before .before .before .before .before .before .before .before .before .before .before .before .before .before .before .before .before .before .before .before .before .before .before .second-of in
-    let at-yields = c .before .before .before .before .before .before .before .before .before .before .before .before .before .before .before .before .before .before .before .before .before .before .yields in
-    let at-branch-of = c .before .before .before .before .before .before .before .before .before .before .before .before .before .before .before .before .before .before .before .before .before .branch-of in
-    let at-side-of = c .before .before .before .before .before .before .before .before .before .before .before .before .before .before .before .before .before .before .before .before .side-of in
-    let at-widen = c .before .before .before .before .before .before .before .before .before .before .before .before .before .before .before .before .before .before .widen in
-    let at-back = c .before .before .before .before .before .before .before .before .before .before .before .before .before .before .before .back in
-    let branch = case-inner (start .pre .1 .0) (start .pre .1 .1 .0) (start .pre .1 .1 .1) (at-second-of .ensures) _ (view-yields (at-yields .ensures) (few-ancillae (start .pre .1 .0 .prepared))) (at-first-of .ensures)
-        (at-branch-of .ensures) (at-side-of .ensures) in
-    let few = case-few (start .pre .1 .0 .prepared) (start .pre .1 .1 .0) (start .pre .1 .1 .1) in
-    let ran = ran-under branch few (at-widen .ensures) (start .pre .1 .1 .0) (at-back .ensures) in
-    let at-if1 = c .before .before .before .before .before .before .before .before .before .before .if1 in
+    let earlier = c .before .before .before .before .before .before .before .before .before .before in
+    let earliest = earlier .before .before .before .before .before .before .before .before .before .before in
+    let start = earliest .before .before .before .before .before .before .before .before in
+    let at-first-of = earliest .before .before .before .before .before .before .first-of in
+    let at-second-of = earliest .before .before .before .before .before .second-of in
+    let at-yields = earliest .before .before .yields in
+    let at-branch-of = earliest .before .branch-of in
+    let at-side-of = earliest .side-of in
+    let at-widen = earlier .before .before .before .before .before .before .before .before .widen in
+    let at-back = earlier .before .before .before .before .before .back in
+    let yields = view-yields (at-yields .ensures) (few-ancillae (start .pre .1 .0 .prepared)) in
+    let ran = case-ran (start .pre .1 .0) (start .pre .1 .1 .0) (start .pre .1 .1 .1) (at-second-of .ensures) _ yields (at-first-of .ensures) (at-branch-of .ensures)
+        (at-side-of .ensures) (at-widen .ensures) (at-back .ensures) in
+    let at-if1 = earlier .if1 in
     let at-leave = c .before .before .before .before .before .before .before .leave in
     let at-outer = c .before .before .before .before .outer in (
       omega (arith, start .pre .0, ran .gone .ran .moves .spends,
@@ -162,13 +162,13 @@ choose-over-requires t c κs =
         record {
           full = at-outer .ensures .moved .lengths ∙ ran .lengths ∙ (start .pre .1 .0 .full);
           prepared = case-outer (start .pre .1 .0 .prepared) (start .pre .1 .1 .0)
-              (start .pre .1 .1 .1) (at-second-of .ensures) _ (view-yields (at-yields .ensures) (few-ancillae (start .pre .1 .0 .prepared)))
+              (start .pre .1 .1 .1) (at-second-of .ensures) _ yields
               (at-first-of .ensures) (at-branch-of .ensures) (at-side-of .ensures) (ran .gone) (at-if1 .left)
               (left-behind (at-outer .ensures));
         },
         (
           case-node (start .pre .1 .0 .prepared) (start .pre .1 .1 .0) (start .pre .1 .1 .1) (at-second-of .ensures) _
-              (view-yields (at-yields .ensures) (few-ancillae (start .pre .1 .0 .prepared))) (at-first-of .ensures) (at-branch-of .ensures)
+              yields (at-first-of .ensures) (at-branch-of .ensures)
               (at-side-of .ensures) (ran .gone) (at-if1 .left) (left-behind (at-outer .ensures)) (at-leave .ensures),
           side-single (at-yields .result) (at-side-of .ensures),
         ),
@@ -177,32 +177,34 @@ choose-over-requires t c κs =
 
 pub choose-same-length-2 : (t : ℕ) → choose-lts.Need-same-length-2 (choose-uses t) (choose-at t) choose.Post
 choose-same-length-2 t c =
-    let at-back = c .before .before .before .before .before .before .before .before .before .before .before .before .before .before .before .before .before .before .back in
+    let earlier = c .before .before .before .before .before .before .before .before .before .before in
+    let at-back = earlier .before .before .before .before .before .before .before .before .back in
     let at-outer = c .before .before .before .before .before .before .before .outer in
     let at-over = c .before .before .over in
     at-over .kept .1 .0 ∙ at-outer .kept .0 ∙ at-back .kept .1 .0
 
 pub choose-returns-2 : (t : ℕ) → choose-lts.Need-returns-2 (choose-uses t) (choose-at t) choose.Post
 choose-returns-2 t c =
-    let start = c .before .before .before .before .before .before .before .before .before .before .before .before .before .before .before .before .before .before .before .before .before .before .before .before .before .before .before .before .before .before .before in
-    let at-first-of = c .before .before .before .before .before .before .before .before .before .before .before .before .before .before .before .before .before .before .before .before .before .before .before .before .before .before .before .before .before .first-of in
-    let at-second-of = c .before .before .before .before .before .before .before .before .before .before .before .before .before .before .before .before .before .before .before .before .before .before .before .before .before .before .before .before .second-of in
-    let at-yields = c .before .before .before .before .before .before .before .before .before .before .before .before .before .before .before .before .before .before .before .before .before .before .before .before .before .yields in
-    let at-branch-of = c .before .before .before .before .before .before .before .before .before .before .before .before .before .before .before .before .before .before .before .before .before .before .before .before .branch-of in
-    let at-side-of = c .before .before .before .before .before .before .before .before .before .before .before .before .before .before .before .before .before .before .before .before .before .before .before .side-of in
-    let at-widen = c .before .before .before .before .before .before .before .before .before .before .before .before .before .before .before .before .before .before .before .before .before .widen in
-    let at-back = c .before .before .before .before .before .before .before .before .before .before .before .before .before .before .before .before .before .before .back in
-    let branch = case-inner (start .pre .1 .0) (start .pre .1 .1 .0) (start .pre .1 .1 .1) (at-second-of .ensures) _ (view-yields (at-yields .ensures) (few-ancillae (start .pre .1 .0 .prepared))) (at-first-of .ensures)
-        (at-branch-of .ensures) (at-side-of .ensures) in
-    let few = case-few (start .pre .1 .0 .prepared) (start .pre .1 .1 .0) (start .pre .1 .1 .1) in
-    let ran = ran-under branch few (at-widen .ensures) (start .pre .1 .1 .0) (at-back .ensures) in
-    let at-if1 = c .before .before .before .before .before .before .before .before .before .before .before .before .before .if1 in
-    let at-leave = c .before .before .before .before .before .before .before .before .before .before .leave in
+    let earlier = c .before .before .before .before .before .before .before .before .before .before in
+    let earliest = earlier .before .before .before .before .before .before .before .before .before .before in
+    let start = earliest .before .before .before .before .before .before .before .before .before .before .before in
+    let at-first-of = earliest .before .before .before .before .before .before .before .before .before .first-of in
+    let at-second-of = earliest .before .before .before .before .before .before .before .before .second-of in
+    let at-yields = earliest .before .before .before .before .before .yields in
+    let at-branch-of = earliest .before .before .before .before .branch-of in
+    let at-side-of = earliest .before .before .before .side-of in
+    let at-widen = earliest .before .widen in
+    let at-back = earlier .before .before .before .before .before .before .before .before .back in
+    let yields = view-yields (at-yields .ensures) (few-ancillae (start .pre .1 .0 .prepared)) in
+    let ran = case-ran (start .pre .1 .0) (start .pre .1 .1 .0) (start .pre .1 .1 .1) (at-second-of .ensures) _ yields (at-first-of .ensures) (at-branch-of .ensures)
+        (at-side-of .ensures) (at-widen .ensures) (at-back .ensures) in
+    let at-if1 = earlier .before .before .before .if1 in
+    let at-leave = earlier .leave in
     let at-outer = c .before .before .before .before .before .before .before .outer in
     let at-over = c .before .before .over in
     record {
       lengths = at-over .ensures .lengths ∙ at-outer .ensures .moved .lengths ∙ ran .lengths;
       gone = case-gone (start .pre .1 .0 .prepared) (start .pre .1 .1 .0) (start .pre .1 .1 .1) (at-second-of .ensures) _
-          (view-yields (at-yields .ensures) (few-ancillae (start .pre .1 .0 .prepared))) (at-first-of .ensures) (at-branch-of .ensures)
+          yields (at-first-of .ensures) (at-branch-of .ensures)
           (at-side-of .ensures) (ran .gone) (at-if1 .left) (left-behind (at-outer .ensures)) (at-leave .ensures) (at-over .ensures .gone);
     }

@@ -60,7 +60,8 @@ back-kind-of-requires t c κs =
 
 pub back-variable-requires : (t : ℕ) → back-lts.Need-variable-requires (back-uses t) (back-at t) back.Post
 back-variable-requires t c κs =
-    let start = c .before .before .before .before .before .before .before .before .before .before .before in
+    let earlier = c .before .before .before .before .before .before .before .before .before .before in
+    let start = earlier .before in
     let at-fuel = c .before .before .before .before .before .before .before .before .fuel in
     let at-if1 = c .before .before .before .before .before .before .before .if1 in
     let at-if2 = c .before .before .before .before .before .before .if2 in
@@ -83,7 +84,8 @@ back-unit-requires t c κs =
 
 pub back-unwrap-requires : (t : ℕ) → back-lts.Need-unwrap-requires (back-uses t) (back-at t) back.Post
 back-unwrap-requires t c κs =
-    let start = c .before .before .before .before .before .before .before .before .before .before .before in
+    let earlier = c .before .before .before .before .before .before .before .before .before .before in
+    let start = earlier .before in
     let at-fuel = c .before .before .before .before .before .before .before .before .fuel in
     let at-if1 = c .before .before .before .before .before .before .before .if1 in
     let at-if2 = c .before .before .before .before .before .before .if2 in
@@ -95,7 +97,8 @@ back-unwrap-requires t c κs =
 
 pub back-unwrap-requires-2 : (t : ℕ) → back-lts.Need-unwrap-requires-2 (back-uses t) (back-at t) back.Post
 back-unwrap-requires-2 t c κs =
-    let start = c .before .before .before .before .before .before .before .before .before .before .before in
+    let earlier = c .before .before .before .before .before .before .before .before .before .before in
+    let start = earlier .before in
     let at-fuel = c .before .before .before .before .before .before .before .before .fuel in
     let at-if1 = c .before .before .before .before .before .before .before .if1 in
     let at-if2 = c .before .before .before .before .before .before .if2 in
@@ -107,7 +110,8 @@ back-unwrap-requires-2 t c κs =
 
 pub back-pair-requires : (t : ℕ) → back-lts.Need-pair-requires (back-uses t) (back-at t) back.Post
 back-pair-requires t c κs =
-    let start = c .before .before .before .before .before .before .before .before .before .before .before in
+    let earlier = c .before .before .before .before .before .before .before .before .before .before in
+    let start = earlier .before in
     let at-fuel = c .before .before .before .before .before .before .before .before .fuel in
     let at-if1 = c .before .before .before .before .before .before .before .if1 in
     let at-if2 = c .before .before .before .before .before .before .if2 in
@@ -119,7 +123,8 @@ back-pair-requires t c κs =
 
 pub back-let-one-requires : (t : ℕ) → back-lts.Need-let-one-requires (back-uses t) (back-at t) back.Post
 back-let-one-requires t c κs =
-    let start = c .before .before .before .before .before .before .before .before .before .before .before in
+    let earlier = c .before .before .before .before .before .before .before .before .before .before in
+    let start = earlier .before in
     let at-fuel = c .before .before .before .before .before .before .before .before .fuel in
     let at-if1 = c .before .before .before .before .before .before .before .if1 in
     let at-if2 = c .before .before .before .before .before .before .if2 in
@@ -131,7 +136,8 @@ back-let-one-requires t c κs =
 
 pub back-let-two-requires : (t : ℕ) → back-lts.Need-let-two-requires (back-uses t) (back-at t) back.Post
 back-let-two-requires t c κs =
-    let start = c .before .before .before .before .before .before .before .before .before .before .before in
+    let earlier = c .before .before .before .before .before .before .before .before .before .before in
+    let start = earlier .before in
     let at-fuel = c .before .before .before .before .before .before .before .before .fuel in
     let at-if1 = c .before .before .before .before .before .before .before .if1 in
     let at-if2 = c .before .before .before .before .before .before .if2 in
@@ -143,7 +149,8 @@ back-let-two-requires t c κs =
 
 pub back-choose-requires : (t : ℕ) → back-lts.Need-choose-requires (back-uses t) (back-at t) back.Post
 back-choose-requires t c κs =
-    let start = c .before .before .before .before .before .before .before .before .before .before .before in
+    let earlier = c .before .before .before .before .before .before .before .before .before .before in
+    let start = earlier .before in
     let at-fuel = c .before .before .before .before .before .before .before .before .fuel in
     let at-if1 = c .before .before .before .before .before .before .before .if1 in
     let at-if2 = c .before .before .before .before .before .before .if2 in
@@ -155,7 +162,8 @@ back-choose-requires t c κs =
 
 pub back-call-requires : (t : ℕ) → back-lts.Need-call-requires (back-uses t) (back-at t) back.Post
 back-call-requires t c κs =
-    let start = c .before .before .before .before .before .before .before .before .before .before .before in
+    let earlier = c .before .before .before .before .before .before .before .before .before .before in
+    let start = earlier .before in
     let at-fuel = c .before .before .before .before .before .before .before .before .fuel in
     let at-if1 = c .before .before .before .before .before .before .before .if1 in
     let at-if2 = c .before .before .before .before .before .before .if2 in
@@ -167,7 +175,8 @@ back-call-requires t c κs =
 
 pub back-unwrap-requires-3 : (t : ℕ) → back-lts.Need-unwrap-requires-3 (back-uses t) (back-at t) back.Post
 back-unwrap-requires-3 t c κs =
-    let start = c .before .before .before .before .before .before .before .before .before .before .before in
+    let earlier = c .before .before .before .before .before .before .before .before .before .before in
+    let start = earlier .before in
     let at-fuel = c .before .before .before .before .before .before .before .before .fuel in
     let at-if1 = c .before .before .before .before .before .before .before .if1 in
     let at-if2 = c .before .before .before .before .before .before .if2 in
@@ -179,7 +188,8 @@ back-unwrap-requires-3 t c κs =
 
 pub back-unroll-requires : (t : ℕ) → back-lts.Need-unroll-requires (back-uses t) (back-at t) back.Post
 back-unroll-requires t c κs =
-    let start = c .before .before .before .before .before .before .before .before .before .before .before in
+    let earlier = c .before .before .before .before .before .before .before .before .before .before in
+    let start = earlier .before in
     let at-fuel = c .before .before .before .before .before .before .before .before .fuel in
     let at-if1 = c .before .before .before .before .before .before .before .if1 in
     let at-if2 = c .before .before .before .before .before .before .if2 in
@@ -197,9 +207,10 @@ back-same-length t c = search needs
 
 pub back-returns-3 : (t : ℕ) → back-lts.Need-returns-3 (back-uses t) (back-at t) back.Post
 back-returns-3 t c =
-    let start = c .before .before .before .before .before .before .before .before .before .before .before .before .before .before in
-    let at-fuel = c .before .before .before .before .before .before .before .before .before .before .before .fuel in
-    let at-if1 = c .before .before .before .before .before .before .before .before .before .before .if1 in
+    let earlier = c .before .before .before .before .before .before .before .before .before .before in
+    let start = earlier .before .before .before .before in
+    let at-fuel = earlier .before .fuel in
+    let at-if1 = earlier .if1 in
     let at-if2 = c .before .before .before .before .before .before .before .before .before .if2 in
     let at-spend = c .before .before .before .before .before .before .before .spend in
     let at-kind-of = c .before .before .before .before .before .before .kind-of in
@@ -215,7 +226,8 @@ back-same-length-2 t c = search needs
 
 pub back-returns-4 : (t : ℕ) → back-lts.Need-returns-4 (back-uses t) (back-at t) back.Post
 back-returns-4 t c =
-    let start = c .before .before .before .before .before .before .before .before .before .before .before in
+    let earlier = c .before .before .before .before .before .before .before .before .before .before in
+    let start = earlier .before in
     let at-fuel = c .before .before .before .before .before .before .before .before .fuel in
     let at-if1 = c .before .before .before .before .before .before .before .if1 in
     let at-if2 = c .before .before .before .before .before .before .if2 in
@@ -237,8 +249,8 @@ pub back-returns-5 : (t : ℕ) → back-lts.Need-returns-5 (back-uses t) (back-a
 back-returns-5 t c =
     let earlier = c .before .before .before .before .before .before .before .before .before .before in
     let start = earlier .before .before .before .before in
-    let at-fuel = c .before .before .before .before .before .before .before .before .before .before .before .fuel in
-    let at-if1 = c .before .before .before .before .before .before .before .before .before .before .if1 in
+    let at-fuel = earlier .before .fuel in
+    let at-if1 = earlier .if1 in
     let at-if2 = c .before .before .before .before .before .before .before .before .before .if2 in
     let at-spend = c .before .before .before .before .before .before .before .spend in
     let at-unwrap = c .before .before .unwrap in
@@ -253,8 +265,8 @@ pub back-returns-6 : (t : ℕ) → back-lts.Need-returns-6 (back-uses t) (back-a
 back-returns-6 t c =
     let earlier = c .before .before .before .before .before .before .before .before .before .before in
     let start = earlier .before .before .before .before in
-    let at-fuel = c .before .before .before .before .before .before .before .before .before .before .before .fuel in
-    let at-if1 = c .before .before .before .before .before .before .before .before .before .before .if1 in
+    let at-fuel = earlier .before .fuel in
+    let at-if1 = earlier .if1 in
     let at-if2 = c .before .before .before .before .before .before .before .before .before .if2 in
     let at-spend = c .before .before .before .before .before .before .before .spend in
     let at-unwrap2 = c .before .before .unwrap2 in
@@ -269,8 +281,8 @@ pub back-returns-7 : (t : ℕ) → back-lts.Need-returns-7 (back-uses t) (back-a
 back-returns-7 t c =
     let earlier = c .before .before .before .before .before .before .before .before .before .before in
     let start = earlier .before .before .before .before in
-    let at-fuel = c .before .before .before .before .before .before .before .before .before .before .before .fuel in
-    let at-if1 = c .before .before .before .before .before .before .before .before .before .before .if1 in
+    let at-fuel = earlier .before .fuel in
+    let at-if1 = earlier .if1 in
     let at-if2 = c .before .before .before .before .before .before .before .before .before .if2 in
     let at-spend = c .before .before .before .before .before .before .before .spend in
     let at-pair = c .before .before .pair in
@@ -285,8 +297,8 @@ pub back-returns-8 : (t : ℕ) → back-lts.Need-returns-8 (back-uses t) (back-a
 back-returns-8 t c =
     let earlier = c .before .before .before .before .before .before .before .before .before .before in
     let start = earlier .before .before .before .before in
-    let at-fuel = c .before .before .before .before .before .before .before .before .before .before .before .fuel in
-    let at-if1 = c .before .before .before .before .before .before .before .before .before .before .if1 in
+    let at-fuel = earlier .before .fuel in
+    let at-if1 = earlier .if1 in
     let at-if2 = c .before .before .before .before .before .before .before .before .before .if2 in
     let at-spend = c .before .before .before .before .before .before .before .spend in
     let at-let-one = c .before .before .let-one in
@@ -301,8 +313,8 @@ pub back-returns-9 : (t : ℕ) → back-lts.Need-returns-9 (back-uses t) (back-a
 back-returns-9 t c =
     let earlier = c .before .before .before .before .before .before .before .before .before .before in
     let start = earlier .before .before .before .before in
-    let at-fuel = c .before .before .before .before .before .before .before .before .before .before .before .fuel in
-    let at-if1 = c .before .before .before .before .before .before .before .before .before .before .if1 in
+    let at-fuel = earlier .before .fuel in
+    let at-if1 = earlier .if1 in
     let at-if2 = c .before .before .before .before .before .before .before .before .before .if2 in
     let at-spend = c .before .before .before .before .before .before .before .spend in
     let at-let-two = c .before .before .let-two in
@@ -317,8 +329,8 @@ pub back-returns-10 : (t : ℕ) → back-lts.Need-returns-10 (back-uses t) (back
 back-returns-10 t c =
     let earlier = c .before .before .before .before .before .before .before .before .before .before in
     let start = earlier .before .before .before .before in
-    let at-fuel = c .before .before .before .before .before .before .before .before .before .before .before .fuel in
-    let at-if1 = c .before .before .before .before .before .before .before .before .before .before .if1 in
+    let at-fuel = earlier .before .fuel in
+    let at-if1 = earlier .if1 in
     let at-if2 = c .before .before .before .before .before .before .before .before .before .if2 in
     let at-spend = c .before .before .before .before .before .before .before .spend in
     let at-choose = c .before .before .choose in
@@ -333,8 +345,8 @@ pub back-returns-11 : (t : ℕ) → back-lts.Need-returns-11 (back-uses t) (back
 back-returns-11 t c =
     let earlier = c .before .before .before .before .before .before .before .before .before .before in
     let start = earlier .before .before .before .before in
-    let at-fuel = c .before .before .before .before .before .before .before .before .before .before .before .fuel in
-    let at-if1 = c .before .before .before .before .before .before .before .before .before .before .if1 in
+    let at-fuel = earlier .before .fuel in
+    let at-if1 = earlier .if1 in
     let at-if2 = c .before .before .before .before .before .before .before .before .before .if2 in
     let at-spend = c .before .before .before .before .before .before .before .spend in
     let at-call = c .before .before .call in
@@ -349,8 +361,8 @@ pub back-returns-12 : (t : ℕ) → back-lts.Need-returns-12 (back-uses t) (back
 back-returns-12 t c =
     let earlier = c .before .before .before .before .before .before .before .before .before .before in
     let start = earlier .before .before .before .before in
-    let at-fuel = c .before .before .before .before .before .before .before .before .before .before .before .fuel in
-    let at-if1 = c .before .before .before .before .before .before .before .before .before .before .if1 in
+    let at-fuel = earlier .before .fuel in
+    let at-if1 = earlier .if1 in
     let at-if2 = c .before .before .before .before .before .before .before .before .before .if2 in
     let at-spend = c .before .before .before .before .before .before .before .spend in
     let at-unwrap3 = c .before .before .unwrap3 in
@@ -365,8 +377,8 @@ pub back-returns-13 : (t : ℕ) → back-lts.Need-returns-13 (back-uses t) (back
 back-returns-13 t c =
     let earlier = c .before .before .before .before .before .before .before .before .before .before in
     let start = earlier .before .before .before .before in
-    let at-fuel = c .before .before .before .before .before .before .before .before .before .before .before .fuel in
-    let at-if1 = c .before .before .before .before .before .before .before .before .before .before .if1 in
+    let at-fuel = earlier .before .fuel in
+    let at-if1 = earlier .if1 in
     let at-if2 = c .before .before .before .before .before .before .before .before .before .if2 in
     let at-spend = c .before .before .before .before .before .before .before .spend in
     let at-unroll = c .before .before .unroll in

@@ -63,7 +63,8 @@ unwrap-same-length t c =
 
 pub unwrap-returns : (t : ℕ) → unwrap-lts.Need-returns (unwrap-uses t) (unwrap-at t) unwrap.Post
 unwrap-returns t c =
-    let start = c .before .before .before .before .before .before .before .before .before .before .before .before in
+    let earlier = c .before .before .before .before .before .before .before .before .before .before in
+    let start = earlier .before .before in
     let at-kind-of = c .before .before .before .before .before .before .before .before .before .kind-of in
     let at-if1 = c .before .before .before .before .before .before .before .before .if1 in
     let at-second-of = c .before .before .before .before .before .before .before .second-of in
@@ -143,7 +144,8 @@ pair-sub-h t c =
 
 pub pair-back-requires : (t : ℕ) → pair-lts.Need-back-requires (pair-uses t) (pair-at t) pair.Post
 pair-back-requires t c κs =
-    let start = c .before .before .before .before .before .before .before .before .before .before .before .before in
+    let earlier = c .before .before .before .before .before .before .before .before .before .before in
+    let start = earlier .before .before in
     let at-kind-of = c .before .before .before .before .before .before .before .before .before .kind-of in
     let at-if1 = c .before .before .before .before .before .before .before .before .if1 in
     let at-first-of = c .before .before .before .before .before .before .before .first-of in
@@ -175,8 +177,8 @@ pair-returns-2 t c =
     let at-kind-of = earlier .before .before .before .before .before .kind-of in
     let at-if1 = earlier .before .before .before .before .if1 in
     let at-first-of = earlier .before .before .before .first-of in
-    let at-second-of = c .before .before .before .before .before .before .before .before .before .before .before .before .second-of in
-    let at-left-of = c .before .before .before .before .before .before .before .before .before .before .left-of in
+    let at-second-of = earlier .before .before .second-of in
+    let at-left-of = earlier .left-of in
     let at-right-of = c .before .before .before .before .before .before .before .before .right-of in
     let at-back = c .before .before .before .before .before .back in
     let at-if2 = c .if2 in
@@ -194,8 +196,8 @@ pair-back-requires-2 t c κs =
     let at-if1 = earlier .before .before .before .before .before .before .if1 in
     let at-first-of = earlier .before .before .before .before .before .first-of in
     let at-second-of = earlier .before .before .before .before .second-of in
-    let at-left-of = c .before .before .before .before .before .before .before .before .before .before .before .before .left-of in
-    let at-right-of = c .before .before .before .before .before .before .before .before .before .before .right-of in
+    let at-left-of = earlier .before .before .left-of in
+    let at-right-of = earlier .right-of in
     let at-back = c .before .before .before .before .before .before .before .back in
     let at-if2 = c .before .before .if2 in (
       omega (arith, start .pre .0, at-back .ensures .gone .ran .moves .spends),
@@ -223,13 +225,13 @@ pair-returns-3 t c =
     let earlier = c .before .before .before .before .before .before .before .before .before .before in
     let earliest = earlier .before .before .before .before .before .before .before .before .before .before in
     let start = earliest .before .before .before in
-    let at-kind-of = earlier .before .before .before .before .before .before .before .before .before .before .kind-of in
+    let at-kind-of = earliest .kind-of in
     let at-if1 = earlier .before .before .before .before .before .before .before .before .before .if1 in
     let at-first-of = earlier .before .before .before .before .before .before .before .before .first-of in
     let at-second-of = earlier .before .before .before .before .before .before .before .second-of in
     let at-left-of = earlier .before .before .before .before .before .left-of in
     let at-right-of = earlier .before .before .before .right-of in
-    let at-back = c .before .before .before .before .before .before .before .before .before .before .back in
+    let at-back = earlier .back in
     let at-if2 = c .before .before .before .before .before .if2 in
     let at-back2 = c .before .before .back2 in
     record {

@@ -34,7 +34,8 @@ over-grow-requires t c κs =
 
 pub over-back-requires : (t : ℕ) → over-lts.Need-back-requires (over-uses t) (over-at t) over.Post
 over-back-requires t c κs =
-    let start = c .before .before .before .before .before .before .before .before .before .before .before .before in
+    let earlier = c .before .before .before .before .before .before .before .before .before .before in
+    let start = earlier .before .before in
     let at-top = c .before .before .before .before .before .before .before .before .before .top in
     let at-single = c .before .before .before .before .before .before .before .single in
     let at-if1 = c .before .before .before .before .if1 in
@@ -61,8 +62,8 @@ pub over-returns : (t : ℕ) → over-lts.Need-returns (over-uses t) (over-at t)
 over-returns t c =
     let earlier = c .before .before .before .before .before .before .before .before .before .before in
     let start = earlier .before .before .before .before .before in
-    let at-top = c .before .before .before .before .before .before .before .before .before .before .before .before .top in
-    let at-single = c .before .before .before .before .before .before .before .before .before .before .single in
+    let at-top = earlier .before .before .top in
+    let at-single = earlier .single in
     let at-if1 = c .before .before .before .before .before .before .before .if1 in
     let at-grow = c .before .before .before .before .before .grow in
     let at-back = c .before .before .back in
@@ -85,7 +86,8 @@ over-same-length-2 t c =
 
 pub over-returns-2 : (t : ℕ) → over-lts.Need-returns-2 (over-uses t) (over-at t) over.Post
 over-returns-2 t c =
-    let start = c .before .before .before .before .before .before .before .before .before .before .before in
+    let earlier = c .before .before .before .before .before .before .before .before .before .before in
+    let start = earlier .before in
     let at-top = c .before .before .before .before .before .before .before .before .top in
     let at-single = c .before .before .before .before .before .before .single in
     let at-if1 = c .before .before .before .if1 in
@@ -115,7 +117,8 @@ over-pair-grow-requires t c κs =
 
 pub over-pair-back-requires : (t : ℕ) → over-pair-lts.Need-back-requires (over-pair-uses t) (over-pair-at t) over-pair.Post
 over-pair-back-requires t c κs =
-    let start = c .before .before .before .before .before .before .before .before .before .before .before .before in
+    let earlier = c .before .before .before .before .before .before .before .before .before .before in
+    let start = earlier .before .before in
     let at-top = c .before .before .before .before .before .before .before .before .before .top in
     let at-pair = c .before .before .before .before .before .before .before .pair in
     let at-if1 = c .before .before .before .before .if1 in
@@ -142,8 +145,8 @@ pub over-pair-returns : (t : ℕ) → over-pair-lts.Need-returns (over-pair-uses
 over-pair-returns t c =
     let earlier = c .before .before .before .before .before .before .before .before .before .before in
     let start = earlier .before .before .before .before .before in
-    let at-top = c .before .before .before .before .before .before .before .before .before .before .before .before .top in
-    let at-pair = c .before .before .before .before .before .before .before .before .before .before .pair in
+    let at-top = earlier .before .before .top in
+    let at-pair = earlier .pair in
     let at-if1 = c .before .before .before .before .before .before .before .if1 in
     let at-grow = c .before .before .before .before .before .grow in
     let at-back = c .before .before .back in
@@ -166,7 +169,8 @@ over-pair-same-length-2 t c =
 
 pub over-pair-returns-2 : (t : ℕ) → over-pair-lts.Need-returns-2 (over-pair-uses t) (over-pair-at t) over-pair.Post
 over-pair-returns-2 t c =
-    let start = c .before .before .before .before .before .before .before .before .before .before .before in
+    let earlier = c .before .before .before .before .before .before .before .before .before .before in
+    let start = earlier .before in
     let at-top = c .before .before .before .before .before .before .before .before .top in
     let at-pair = c .before .before .before .before .before .before .pair in
     let at-if1 = c .before .before .before .if1 in
