@@ -9,14 +9,16 @@ use mathlib.Core.List.{List, [], _∷_, map}
 use lib.ListN.{length, getD, length-map}
 use package.Rattle.rules.specs.Ty.{Ty}
 use package.Rattle.rules.specs.Term.{Term, count, Fun, Program, nth}
-use package.Rattle.rules.specs.Typing.{Context, Vars, Subject, _∶_, arguments, Types, t-var1, t-var2, t-unit, t-unit-elm, t-inl, t-inr, t-prod, t-let1, t-let2, t-sum, t-app1, t-app2, t-app2-end, t-roll, t-unroll, WellTyped}
+use package.Rattle.rules.specs.Typing.{Context, Vars, Subject, _∶_, arguments, Types, t-var1, t-var2, t-unit, t-unit-elm, t-inl, t-inr, t-prod, t-let1, t-let2, t-sum, t-app1, t-app2, t-app2-end}
+use package.Rattle.rules.specs.Typing.{t-roll, t-unroll, WellTyped}
 use package.Rattle.rules.specs.Check.{statics}
 use package.Rattle.rules.specs.Limits.{maxParameters}
 use package.Rattle.rules.proofs.Basics.{given}
 use package.Rattle.rules.proofs.Scope.{look-lt}
 use package.Rattle.rules.proofs.Typing.Functions.{length-parameters, body-typed}
 use package.Rattle.calls.specs.Fields.{parametersAt}
-use package.Rattle.calls.specs.Entries.{TypeEntry, typeAt, typeOf, TermEntry, n-var, n-unit, n-inl, n-inr, n-roll, n-unroll, n-pair, n-let, n-letp, n-case, n-call, termTrees, termTree, termBelow, termOf, functionAt, functionOf, entriesAt, programOf}
+use package.Rattle.calls.specs.Entries.{TypeEntry, typeAt, typeOf, TermEntry, n-var, n-unit, n-inl, n-inr, n-roll, n-unroll, n-pair, n-let, n-letp, n-case, n-call, termTrees, termTree, termBelow}
+use package.Rattle.calls.specs.Entries.{termOf, functionAt, functionOf, entriesAt, programOf}
 use package.Rattle.program.specs.Parts.{FunctionField}
 use package.Rattle.program.specs.Places.{placesOf, Placed}
 use package.Rattle.program.proofs.Inside.{formed}

@@ -15,8 +15,10 @@ use package.Rattle.forward.specs.Ready.{Calls}
 use package.Rattle.forward.proofs.Placing.{few-count}
 use package.Rattle.backward.specs.Outcomes.{scopeView}
 use package.Rattle.backward.specs.Ready.{Held, Follows, Prepared, PreparedIn, PreparedUnder, Gone, GoneUnder, Leavable, runAt, stepAt, underAt}
+use package.Rattle.backward.specs.Ready.{RunsBack, RunsUnder, WidenReady, Widened}
 use package.Rattle.backward.specs.Calls.{Gathers}
 use package.Rattle.backward.proofs.Runs.{refused-with, held-later}
+use package.Rattle.backward.proofs.Opening.{widen-ready, widened, widened-node, ran-under}
 use package.Rattle.backward.proofs.Leaving.{held-under, looked}
 use package.Rattle.backward.proofs.Stops.{is-done, is-stopped}
 use package.Rattle.backward.proofs.Frames.{older-later, tells-stay, follows-stay, state-stays}
@@ -128,13 +130,23 @@ module _ {code heap slots : List ℕ} {m : Machine} {b : Bindings} {sc : Scope} 
 ----------------------------------------------------------------
 -- By the numbers that a run is lent: the body of the function
 
-pub called-inner : {code heap st : List ℕ} {b : Bindings} {scope t room : ℕ} (Q : PreparedIn 2 1 code heap st b scope t room) {node : ℕ}
+module _ {code heap st : List ℕ} {b : Bindings} {scope t room : ℕ} (Q : PreparedIn 2 1 code heap st b scope t room) {node : ℕ}
     (low : node < machineOf st .top) {k : ℕ} (C : Calls code t 0 k) {heap₁ st₁ : List ℕ} {stop : ℕ}
     (D : Gathers code heap heap₁ (slotsOf st) (slotsOf st₁) (machineOf st) (scopeIn scope) t room 0 k stop (machineOf st₁))
     (e : stop ≡ 0) {g u : ℕ} (qg : g ≡ firstIn code t) (qu : u ≡ bodyIn code g) {end : ℕ} (qe : end ≡ scopeIn scope .base + scopeIn scope .n)
-    {callee : ℕ} (w : scopeIn callee ≡ record { base = end; q = k; n = k }) → length st₁ ≡ length st → {args : Bindings} → args .head ≡ 0
-    → PreparedUnder code heap₁ st₁ args callee u (room - 1)
-called-inner Q low C D e qg qu qe w l none-bound = record {
-  full = l ∙ Q .full;
-  prepared = called-prepared (Q .prepared) low C D e qg qu qe w none-bound;
-}
+    {callee : ℕ} (w : scopeIn callee ≡ record { base = end; q = k; n = k }) (l : length st₁ ≡ length st) {args : Bindings} (none-bound : args .head ≡ 0) where
+  abbrev called-inner : PreparedUnder code heap₁ st₁ args callee u (room - 1)
+  called-inner = record { full = l ∙ Q .full; prepared = called-prepared (Q .prepared) low C D e qg qu qe w none-bound }
+
+  pub called-widens : WidenReady st₁ callee
+  called-widens = widen-ready called-inner (called-few (Q .prepared) low C D e qg qu qe w)
+
+  module _ {st₂ : List ℕ} {wide : ℕ} (W : Widened st₁ st₂ callee wide) where
+    pub called-widened : PreparedIn 0 0 code heap₁ st₂ args wide u (room - 1) × (node < machineOf st₂ .top)
+    called-widened =
+        let few = called-few (Q .prepared) low C D e qg qu qe w in
+        (widened called-inner few W, widened-node called-inner few W (called-node (Q .prepared) low C D e qg qu))
+
+    pub called-ran : {heap′ st′ : List ℕ} {r : Out} → RunsBack code heap₁ heap′ st₂ st′ args wide u node (room - 1) r
+        → RunsUnder code heap₁ heap′ st₁ st′ callee u node (room - 1) r
+    called-ran R = ran-under called-inner (called-few (Q .prepared) low C D e qg qu qe w) W (called-node (Q .prepared) low C D e qg qu) R

@@ -33,7 +33,8 @@ use package.Rattle.forward.proofs.Making.{makes}
 use package.Rattle.backward.specs.Scoped.{ScopedAt}
 use package.Rattle.backward.specs.Outcomes.{Done, Refused, Outcome, refusalOf, tooLong}
 use package.Rattle.backward.specs.Ready.{Ready, Held, Binds, Ran, RanUnder, Goes, ancillaeOf, runOf, underOf, stepOf}
-use package.Rattle.backward.proofs.Runs.{meaning-done, meaning-refused, refusal-after, not-done, left-done, left-refused, binds-later, ancillae-later, state-later, held-later, small-top, refuses, slack}
+use package.Rattle.backward.proofs.Runs.{meaning-done, meaning-refused, refusal-after, not-done, left-done, left-refused, binds-later, ancillae-later, state-later, held-later, small-top}
+use package.Rattle.backward.proofs.Runs.{refuses, slack}
 use package.Rattle.backward.proofs.Leaves.{opened-binds, goes-node, goes-state, goes-follows}
 use Rattle.backward.specs.declared.outcomes.Refusal.{Refusal}
 use Rattle.backward.specs.declared.outcomes.Refusal.the-variants.{Fuel, Height}

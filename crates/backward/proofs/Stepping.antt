@@ -13,7 +13,8 @@ use package.Rattle.backward.specs.Ready.{Gone, Prepared, runAt, stepAt}
 use package.Rattle.backward.specs.Outcomes.{Refused, carried, mismatch, statusOf}
 use package.Rattle.backward.proofs.Frames.{beside, gone-refused, gone-stopped, gone-then, onward}
 use package.Rattle.backward.proofs.Stops.{is-done, is-stopped, number-stuck}
-use package.Rattle.backward.proofs.Steps.{pair-done, pair-first, pair-nodes, pair-refused, pair-second, pair-stuck, unroll-done, unroll-ready, unwrap-differs, unwrap-done, unwrap-node, unwrap-ready}
+use package.Rattle.backward.proofs.Steps.{pair-done, pair-first, pair-nodes, pair-refused, pair-second, pair-stuck, unroll-done, unroll-ready, unwrap-differs, unwrap-done, unwrap-node}
+use package.Rattle.backward.proofs.Steps.{unwrap-ready}
 use Rattle.backward.specs.declared.outcomes.Out.{Out}
 
 module _ {code heap slots : List ℕ} {m : Machine} {b : Bindings} {sc : Scope} {t room : ℕ}

@@ -116,11 +116,11 @@ module _ (heap : List ℕ) (b : View) (i node x top k f : ℕ) (agrees : Bool) (
   comparing : (getD (b .slots) i 0 ≡ unknown → ⊥) → (old : ℕ) → found heap (getD (b .slots) i 0) ≡ Node old → Met
   comparing u old e = given (M .compares u) λ (same-is, state).
       let tested : (y : Bool) → agrees ≡ y → meeting ≡ test y 16 k (give (stateAt heap (b .slots) 0 (b .len))) f =
-          λ y z. start e ∙ ap (λ y. test y 16 k (give (stateAt heap (b .slots) 0 (b .len))) f)
-          (ap (λ n. same (valueAt heap n) (valueAt heap node)) (sym (node-or e)) ∙ sym same-is ∙ z) in (
-    λ y. tested true y ∙ test-passes k (stateAt heap (b .slots) 0 (b .len)) f ∙ ap (λ (c : View). ok (stateAt heap (c .slots) 0 (c .len)) f) (sym state),
-    λ n. tested false n ∙ test-fails k (stateAt heap (b .slots) 0 (b .len)) f,
-  )
+      λ y z. start e ∙ ap (λ y. test y 16 k (give (stateAt heap (b .slots) 0 (b .len))) f)
+      (ap (λ n. same (valueAt heap n) (valueAt heap node)) (sym (node-or e)) ∙ sym same-is ∙ z) in (
+        λ y. tested true y ∙ test-passes k (stateAt heap (b .slots) 0 (b .len)) f ∙ ap (λ (c : View). ok (stateAt heap (c .slots) 0 (c .len)) f) (sym state),
+        λ n. tested false n ∙ test-fails k (stateAt heap (b .slots) 0 (b .len)) f,
+      )
 
   pub meet-bound : (agrees ≡ true → meet k (stateOf heap b) i (valueAt heap node) f ≡ ok (stateOf heap r) f)
       × (agrees ≡ false → meet k (stateOf heap b) i (valueAt heap node) f ≡ stop 16 k)

@@ -80,7 +80,7 @@ module _ {heap heap′ : List ℕ} {top : ℕ} (A : Agree top heap heap′) wher
       ⊎-elim
       (λ e. found-mark heap s e ∙ sym (found-mark heap′ s e))
       (λ z. ⊎-elim
-        (λ l. found-node heap s (omega arith) ∙ sym (found-node heap′ s (omega arith)))
-        (λ C. found-cell heap s (C .above) ∙ ap Node (agree-left A (s - unknown) (C .there)) ∙ sym (found-cell heap′ s (C .above)))
-        z)
+      (λ l. found-node heap s (omega arith) ∙ sym (found-node heap′ s (omega arith)))
+      (λ C. found-cell heap s (C .above) ∙ ap Node (agree-left A (s - unknown) (C .there)) ∙ sym (found-cell heap′ s (C .above)))
+      z)
       S

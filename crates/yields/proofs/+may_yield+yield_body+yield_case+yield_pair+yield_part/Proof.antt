@@ -15,9 +15,25 @@ use Rattle.yields.proofs.yield_part.Reads as yield-part
 use Rattle.yields.proofs.+may_yield+yield_body+yield_case+yield_pair+yield_part.Lts-yield_part as yield-part-lts
 use Rattle.yields.proofs.+may_yield+yield_body+yield_case+yield_pair+yield_part.{statement}
 use Rattle.yields.proofs.+may_yield+yield_body+yield_case+yield_pair+yield_part.Tie.{close}
-use Rattle.yields.proofs.+may_yield+yield_body+yield_case+yield_pair+yield_part.Proof.Claims.{μ-may-yield, μ-yield-body, μ-yield-case, μ-yield-pair, μ-yield-part, may-yield-at, yield-body-at, yield-case-at, yield-pair-at, yield-part-at, may-yield-uses, yield-body-uses, yield-case-uses, yield-pair-uses, yield-part-uses}
-use Rattle.yields.proofs.+may_yield+yield_body+yield_case+yield_pair+yield_part.Proof.Kinds.{may-yield-kind-of-requires, may-yield-first-of-requires, may-yield-yield-variable-requires, may-yield-kind-of-requires-2, may-yield-surely-requires, may-yield-yield-part-requires, may-yield-yield-part-requires-2, may-yield-yield-pair-requires, may-yield-yield-body-requires, may-yield-yield-body-requires-2, may-yield-yield-case-requires, may-yield-yield-part-requires-3, may-yield-returns, may-yield-returns-2, may-yield-returns-3, may-yield-returns-4, may-yield-returns-5, may-yield-returns-6, may-yield-returns-7, may-yield-returns-8, may-yield-returns-9, may-yield-returns-10, may-yield-returns-11, may-yield-returns-12}
-use Rattle.yields.proofs.+may_yield+yield_body+yield_case+yield_pair+yield_part.Proof.Parts.{yield-body-second-of-requires, yield-body-may-yield-requires, yield-body-returns, yield-case-second-of-requires, yield-case-may-yield-requires, yield-case-returns, yield-case-third-of-requires, yield-case-may-yield-requires-2, yield-case-returns-2, yield-case-returns-3, yield-pair-kind-of-requires, yield-pair-returns, yield-pair-first-of-requires, yield-pair-left-of-requires, yield-pair-may-yield-requires, yield-pair-returns-2, yield-pair-second-of-requires, yield-pair-right-of-requires, yield-pair-may-yield-requires-2, yield-pair-returns-3, yield-pair-returns-4, yield-part-kind-of-requires, yield-part-returns, yield-part-second-of-requires, yield-part-left-of-requires, yield-part-may-yield-requires, yield-part-returns-2}
+use Rattle.yields.proofs.+may_yield+yield_body+yield_case+yield_pair+yield_part.Proof.Claims.{μ-may-yield, μ-yield-body, μ-yield-case, μ-yield-pair, μ-yield-part, may-yield-at, yield-body-at}
+use Rattle.yields.proofs.+may_yield+yield_body+yield_case+yield_pair+yield_part.Proof.Claims.{yield-case-at, yield-pair-at, yield-part-at, may-yield-uses, yield-body-uses, yield-case-uses}
+use Rattle.yields.proofs.+may_yield+yield_body+yield_case+yield_pair+yield_part.Proof.Claims.{yield-pair-uses, yield-part-uses}
+use Rattle.yields.proofs.+may_yield+yield_body+yield_case+yield_pair+yield_part.Proof.Kinds.{may-yield-kind-of-requires, may-yield-first-of-requires, may-yield-yield-variable-requires}
+use Rattle.yields.proofs.+may_yield+yield_body+yield_case+yield_pair+yield_part.Proof.Kinds.{may-yield-kind-of-requires-2, may-yield-surely-requires, may-yield-yield-part-requires}
+use Rattle.yields.proofs.+may_yield+yield_body+yield_case+yield_pair+yield_part.Proof.Kinds.{may-yield-yield-part-requires-2, may-yield-yield-pair-requires, may-yield-yield-body-requires}
+use Rattle.yields.proofs.+may_yield+yield_body+yield_case+yield_pair+yield_part.Proof.Kinds.{may-yield-yield-body-requires-2, may-yield-yield-case-requires, may-yield-yield-part-requires-3}
+use Rattle.yields.proofs.+may_yield+yield_body+yield_case+yield_pair+yield_part.Proof.Kinds.{may-yield-returns, may-yield-returns-2, may-yield-returns-3, may-yield-returns-4}
+use Rattle.yields.proofs.+may_yield+yield_body+yield_case+yield_pair+yield_part.Proof.Kinds.{may-yield-returns-5, may-yield-returns-6, may-yield-returns-7, may-yield-returns-8}
+use Rattle.yields.proofs.+may_yield+yield_body+yield_case+yield_pair+yield_part.Proof.Kinds.{may-yield-returns-9, may-yield-returns-10, may-yield-returns-11, may-yield-returns-12}
+use Rattle.yields.proofs.+may_yield+yield_body+yield_case+yield_pair+yield_part.Proof.Parts.{yield-body-second-of-requires, yield-body-may-yield-requires, yield-body-returns}
+use Rattle.yields.proofs.+may_yield+yield_body+yield_case+yield_pair+yield_part.Proof.Parts.{yield-case-second-of-requires, yield-case-may-yield-requires, yield-case-returns}
+use Rattle.yields.proofs.+may_yield+yield_body+yield_case+yield_pair+yield_part.Proof.Parts.{yield-case-third-of-requires, yield-case-may-yield-requires-2, yield-case-returns-2}
+use Rattle.yields.proofs.+may_yield+yield_body+yield_case+yield_pair+yield_part.Proof.Parts.{yield-case-returns-3, yield-pair-kind-of-requires, yield-pair-returns, yield-pair-first-of-requires}
+use Rattle.yields.proofs.+may_yield+yield_body+yield_case+yield_pair+yield_part.Proof.Parts.{yield-pair-left-of-requires, yield-pair-may-yield-requires, yield-pair-returns-2}
+use Rattle.yields.proofs.+may_yield+yield_body+yield_case+yield_pair+yield_part.Proof.Parts.{yield-pair-second-of-requires, yield-pair-right-of-requires, yield-pair-may-yield-requires-2}
+use Rattle.yields.proofs.+may_yield+yield_body+yield_case+yield_pair+yield_part.Proof.Parts.{yield-pair-returns-3, yield-pair-returns-4, yield-part-kind-of-requires, yield-part-returns}
+use Rattle.yields.proofs.+may_yield+yield_body+yield_case+yield_pair+yield_part.Proof.Parts.{yield-part-second-of-requires, yield-part-left-of-requires, yield-part-may-yield-requires}
+use Rattle.yields.proofs.+may_yield+yield_body+yield_case+yield_pair+yield_part.Proof.Parts.{yield-part-returns-2}
 
 pub +may-yield+yield-body+yield-case+yield-pair+yield-part-spec : {M : Type 1} → statement M
 +may-yield+yield-body+yield-case+yield-pair+yield-part-spec =

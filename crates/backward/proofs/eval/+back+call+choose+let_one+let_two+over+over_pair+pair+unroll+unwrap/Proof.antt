@@ -30,13 +30,58 @@ use Rattle.backward.proofs.eval.+back+call+choose+let_one+let_two+over+
 use Rattle.decoded.proofs.rows.second_of.Reads as second-of-reads
 use Rattle.backward.proofs.eval.+back+call+choose+let_one+let_two+over+over_pair+pair+unroll+unwrap.{statement}
 use Rattle.backward.proofs.eval.+back+call+choose+let_one+let_two+over+over_pair+pair+unroll+unwrap.Tie.{close}
-use Rattle.backward.proofs.eval.+back+call+choose+let_one+let_two+over+over_pair+pair+unroll+unwrap.Proof.Claims.{μ-back, μ-call, μ-choose, μ-let-one, μ-let-two, μ-over, μ-over-pair, μ-pair, μ-unroll, μ-unwrap, back-at, call-at, choose-at, let-one-at, let-two-at, over-at, over-below, over-pair-at, pair-at, unroll-at, unwrap-at, back-uses, call-uses, choose-uses, let-one-uses, let-two-uses, over-uses, over-pair-uses, pair-uses, unwrap-uses}
-use Rattle.backward.proofs.eval.+back+call+choose+let_one+let_two+over+over_pair+pair+unroll+unwrap.Proof.Entering.{back-fuel-requires, back-refuse-requires, back-returns, back-refuse-requires-2, back-returns-2, back-spend-requires, back-kind-of-requires, back-variable-requires, back-unit-requires, back-unwrap-requires, back-unwrap-requires-2, back-pair-requires, back-let-one-requires, back-let-two-requires, back-choose-requires, back-call-requires, back-unwrap-requires-3, back-unroll-requires, back-refuse-requires-3, back-same-length, back-returns-3, back-same-length-2, back-returns-4, back-same-length-3, back-returns-5, back-same-length-4, back-returns-6, back-same-length-5, back-returns-7, back-same-length-6, back-returns-8, back-same-length-7, back-returns-9, back-same-length-8, back-returns-10, back-same-length-9, back-returns-11, back-same-length-10, back-returns-12, back-same-length-11, back-returns-13, back-returns-14}
-use Rattle.backward.proofs.eval.+back+call+choose+let_one+let_two+over+over_pair+pair+unroll+unwrap.Proof.Values.{over-top-requires, over-single-requires, over-grow-requires, over-back-requires, over-same-length, over-returns, over-fuel-requires, over-long-requires, over-same-length-2, over-returns-2, over-pair-top-requires, over-pair-pair-requires, over-pair-grow-requires, over-pair-back-requires, over-pair-same-length, over-pair-returns, over-pair-fuel-requires, over-pair-long-requires, over-pair-same-length-2, over-pair-returns-2}
-use Rattle.backward.proofs.eval.+back+call+choose+let_one+let_two+over+over_pair+pair+unroll+unwrap.Proof.Parts.{unwrap-kind-of-requires, unwrap-second-of-requires, unwrap-left-of-requires, unwrap-sub-back, unwrap-back-requires, unwrap-same-length, unwrap-returns, unwrap-differ-requires, unwrap-same-length-2, unwrap-returns-2, pair-kind-of-requires, pair-refuse-requires, pair-same-length, pair-returns, pair-first-of-requires, pair-second-of-requires, pair-left-of-requires, pair-right-of-requires, pair-sub-h, pair-back-requires, pair-same-length-2, pair-returns-2, pair-back-requires-2, pair-same-length-3, pair-returns-3, unroll-second-of-requires, unroll-sub-over, unroll-over-requires, unroll-same-length, unroll-returns}
-use Rattle.backward.proofs.eval.+back+call+choose+let_one+let_two+over+over_pair+pair+unroll+unwrap.Proof.Lets.{let-one-first-of-requires, let-one-second-of-requires, let-one-sub-h, let-one-widen-requires, let-one-back-requires, let-one-same-length, let-one-returns, let-one-leave-requires, let-one-outer-requires, let-one-back-requires-2, let-one-same-length-2, let-one-returns-2, let-two-first-of-requires, let-two-second-of-requires, let-two-sub-h, let-two-widen-requires, let-two-widen-requires-2, let-two-back-requires, let-two-same-length, let-two-returns, let-two-leave-requires, let-two-outer-requires, let-two-leave-requires-2, let-two-over-pair-requires, let-two-same-length-2, let-two-returns-2}
-use Rattle.backward.proofs.eval.+back+call+choose+let_one+let_two+over+over_pair+pair+unroll+unwrap.Proof.Cases.{choose-first-of-requires, choose-second-of-requires, choose-yields-requires, choose-branch-of-requires, choose-side-of-requires, choose-sub-h, choose-widen-requires, choose-back-requires, choose-same-length, choose-returns, choose-leave-requires, choose-outer-requires, choose-over-requires, choose-same-length-2, choose-returns-2}
-use Rattle.backward.proofs.eval.+back+call+choose+let_one+let_two+over+over_pair+pair+unroll+unwrap.Proof.Calls.{call-third-of-requires, call-wide-index-requires, call-gather-requires, call-same-length, call-returns, call-first-of-requires, call-body-of-requires, call-none-requires, call-end-of-requires, call-scope-requires, call-sub-h, call-widen-requires, call-back-requires, call-same-length-2, call-returns-2, call-leave-requires, call-argument-of-requires, call-back-requires-2, call-same-length-3, call-returns-3}
+use Rattle.backward.proofs.eval.+back+call+choose+let_one+let_two+over+over_pair+pair+unroll+unwrap.Proof.Claims.{μ-back, μ-call, μ-choose, μ-let-one, μ-let-two, μ-over, μ-over-pair, μ-pair}
+use Rattle.backward.proofs.eval.+back+call+choose+let_one+let_two+over+over_pair+pair+unroll+unwrap.Proof.Claims.{μ-unroll, μ-unwrap, back-at, call-at, choose-at, let-one-at, let-two-at}
+use Rattle.backward.proofs.eval.+back+call+choose+let_one+let_two+over+over_pair+pair+unroll+unwrap.Proof.Claims.{over-at, over-below, over-pair-at, pair-at, unroll-at, unwrap-at, back-uses}
+use Rattle.backward.proofs.eval.+back+call+choose+let_one+let_two+over+over_pair+pair+unroll+unwrap.Proof.Claims.{call-uses, choose-uses, let-one-uses, let-two-uses, over-uses, over-pair-uses}
+use Rattle.backward.proofs.eval.+back+call+choose+let_one+let_two+over+over_pair+pair+unroll+unwrap.Proof.Claims.{pair-uses, unwrap-uses}
+use Rattle.backward.proofs.eval.+back+call+choose+let_one+let_two+over+over_pair+pair+unroll+unwrap.Proof.Entering.{back-fuel-requires, back-refuse-requires, back-returns}
+use Rattle.backward.proofs.eval.+back+call+choose+let_one+let_two+over+over_pair+pair+unroll+unwrap.Proof.Entering.{back-refuse-requires-2, back-returns-2, back-spend-requires}
+use Rattle.backward.proofs.eval.+back+call+choose+let_one+let_two+over+over_pair+pair+unroll+unwrap.Proof.Entering.{back-kind-of-requires, back-variable-requires, back-unit-requires}
+use Rattle.backward.proofs.eval.+back+call+choose+let_one+let_two+over+over_pair+pair+unroll+unwrap.Proof.Entering.{back-unwrap-requires, back-unwrap-requires-2, back-pair-requires}
+use Rattle.backward.proofs.eval.+back+call+choose+let_one+let_two+over+over_pair+pair+unroll+unwrap.Proof.Entering.{back-let-one-requires, back-let-two-requires, back-choose-requires}
+use Rattle.backward.proofs.eval.+back+call+choose+let_one+let_two+over+over_pair+pair+unroll+unwrap.Proof.Entering.{back-call-requires, back-unwrap-requires-3, back-unroll-requires}
+use Rattle.backward.proofs.eval.+back+call+choose+let_one+let_two+over+over_pair+pair+unroll+unwrap.Proof.Entering.{back-refuse-requires-3, back-same-length, back-returns-3, back-same-length-2}
+use Rattle.backward.proofs.eval.+back+call+choose+let_one+let_two+over+over_pair+pair+unroll+unwrap.Proof.Entering.{back-returns-4, back-same-length-3, back-returns-5, back-same-length-4}
+use Rattle.backward.proofs.eval.+back+call+choose+let_one+let_two+over+over_pair+pair+unroll+unwrap.Proof.Entering.{back-returns-6, back-same-length-5, back-returns-7, back-same-length-6}
+use Rattle.backward.proofs.eval.+back+call+choose+let_one+let_two+over+over_pair+pair+unroll+unwrap.Proof.Entering.{back-returns-8, back-same-length-7, back-returns-9, back-same-length-8}
+use Rattle.backward.proofs.eval.+back+call+choose+let_one+let_two+over+over_pair+pair+unroll+unwrap.Proof.Entering.{back-returns-10, back-same-length-9, back-returns-11, back-same-length-10}
+use Rattle.backward.proofs.eval.+back+call+choose+let_one+let_two+over+over_pair+pair+unroll+unwrap.Proof.Entering.{back-returns-12, back-same-length-11, back-returns-13, back-returns-14}
+use Rattle.backward.proofs.eval.+back+call+choose+let_one+let_two+over+over_pair+pair+unroll+unwrap.Proof.Values.{over-top-requires, over-single-requires, over-grow-requires}
+use Rattle.backward.proofs.eval.+back+call+choose+let_one+let_two+over+over_pair+pair+unroll+unwrap.Proof.Values.{over-back-requires, over-same-length, over-returns, over-fuel-requires}
+use Rattle.backward.proofs.eval.+back+call+choose+let_one+let_two+over+over_pair+pair+unroll+unwrap.Proof.Values.{over-long-requires, over-same-length-2, over-returns-2, over-pair-top-requires}
+use Rattle.backward.proofs.eval.+back+call+choose+let_one+let_two+over+over_pair+pair+unroll+unwrap.Proof.Values.{over-pair-pair-requires, over-pair-grow-requires, over-pair-back-requires}
+use Rattle.backward.proofs.eval.+back+call+choose+let_one+let_two+over+over_pair+pair+unroll+unwrap.Proof.Values.{over-pair-same-length, over-pair-returns, over-pair-fuel-requires}
+use Rattle.backward.proofs.eval.+back+call+choose+let_one+let_two+over+over_pair+pair+unroll+unwrap.Proof.Values.{over-pair-long-requires, over-pair-same-length-2, over-pair-returns-2}
+use Rattle.backward.proofs.eval.+back+call+choose+let_one+let_two+over+over_pair+pair+unroll+unwrap.Proof.Parts.{unwrap-kind-of-requires, unwrap-second-of-requires, unwrap-left-of-requires}
+use Rattle.backward.proofs.eval.+back+call+choose+let_one+let_two+over+over_pair+pair+unroll+unwrap.Proof.Parts.{unwrap-sub-back, unwrap-back-requires, unwrap-same-length, unwrap-returns}
+use Rattle.backward.proofs.eval.+back+call+choose+let_one+let_two+over+over_pair+pair+unroll+unwrap.Proof.Parts.{unwrap-differ-requires, unwrap-same-length-2, unwrap-returns-2}
+use Rattle.backward.proofs.eval.+back+call+choose+let_one+let_two+over+over_pair+pair+unroll+unwrap.Proof.Parts.{pair-kind-of-requires, pair-refuse-requires, pair-same-length, pair-returns}
+use Rattle.backward.proofs.eval.+back+call+choose+let_one+let_two+over+over_pair+pair+unroll+unwrap.Proof.Parts.{pair-first-of-requires, pair-second-of-requires, pair-left-of-requires}
+use Rattle.backward.proofs.eval.+back+call+choose+let_one+let_two+over+over_pair+pair+unroll+unwrap.Proof.Parts.{pair-right-of-requires, pair-sub-h, pair-back-requires, pair-same-length-2}
+use Rattle.backward.proofs.eval.+back+call+choose+let_one+let_two+over+over_pair+pair+unroll+unwrap.Proof.Parts.{pair-returns-2, pair-back-requires-2, pair-same-length-3, pair-returns-3}
+use Rattle.backward.proofs.eval.+back+call+choose+let_one+let_two+over+over_pair+pair+unroll+unwrap.Proof.Parts.{unroll-second-of-requires, unroll-sub-over, unroll-over-requires}
+use Rattle.backward.proofs.eval.+back+call+choose+let_one+let_two+over+over_pair+pair+unroll+unwrap.Proof.Parts.{unroll-same-length, unroll-returns}
+use Rattle.backward.proofs.eval.+back+call+choose+let_one+let_two+over+over_pair+pair+unroll+unwrap.Proof.Lets.{let-one-first-of-requires, let-one-second-of-requires, let-one-sub-h}
+use Rattle.backward.proofs.eval.+back+call+choose+let_one+let_two+over+over_pair+pair+unroll+unwrap.Proof.Lets.{let-one-widen-requires, let-one-back-requires, let-one-same-length}
+use Rattle.backward.proofs.eval.+back+call+choose+let_one+let_two+over+over_pair+pair+unroll+unwrap.Proof.Lets.{let-one-returns, let-one-leave-requires, let-one-outer-requires}
+use Rattle.backward.proofs.eval.+back+call+choose+let_one+let_two+over+over_pair+pair+unroll+unwrap.Proof.Lets.{let-one-back-requires-2, let-one-same-length-2, let-one-returns-2}
+use Rattle.backward.proofs.eval.+back+call+choose+let_one+let_two+over+over_pair+pair+unroll+unwrap.Proof.Lets.{let-two-first-of-requires, let-two-second-of-requires, let-two-sub-h}
+use Rattle.backward.proofs.eval.+back+call+choose+let_one+let_two+over+over_pair+pair+unroll+unwrap.Proof.Lets.{let-two-widen-requires, let-two-widen-requires-2, let-two-back-requires}
+use Rattle.backward.proofs.eval.+back+call+choose+let_one+let_two+over+over_pair+pair+unroll+unwrap.Proof.Lets.{let-two-same-length, let-two-returns, let-two-leave-requires}
+use Rattle.backward.proofs.eval.+back+call+choose+let_one+let_two+over+over_pair+pair+unroll+unwrap.Proof.Lets.{let-two-outer-requires, let-two-leave-requires-2, let-two-over-pair-requires}
+use Rattle.backward.proofs.eval.+back+call+choose+let_one+let_two+over+over_pair+pair+unroll+unwrap.Proof.Lets.{let-two-same-length-2, let-two-returns-2}
+use Rattle.backward.proofs.eval.+back+call+choose+let_one+let_two+over+over_pair+pair+unroll+unwrap.Proof.Cases.{choose-first-of-requires, choose-second-of-requires, choose-yields-requires}
+use Rattle.backward.proofs.eval.+back+call+choose+let_one+let_two+over+over_pair+pair+unroll+unwrap.Proof.Cases.{choose-branch-of-requires, choose-side-of-requires, choose-sub-h}
+use Rattle.backward.proofs.eval.+back+call+choose+let_one+let_two+over+over_pair+pair+unroll+unwrap.Proof.Cases.{choose-widen-requires, choose-back-requires, choose-same-length, choose-returns}
+use Rattle.backward.proofs.eval.+back+call+choose+let_one+let_two+over+over_pair+pair+unroll+unwrap.Proof.Cases.{choose-leave-requires, choose-outer-requires, choose-over-requires}
+use Rattle.backward.proofs.eval.+back+call+choose+let_one+let_two+over+over_pair+pair+unroll+unwrap.Proof.Cases.{choose-same-length-2, choose-returns-2}
+use Rattle.backward.proofs.eval.+back+call+choose+let_one+let_two+over+over_pair+pair+unroll+unwrap.Proof.Calls.{call-third-of-requires, call-wide-index-requires, call-gather-requires}
+use Rattle.backward.proofs.eval.+back+call+choose+let_one+let_two+over+over_pair+pair+unroll+unwrap.Proof.Calls.{call-same-length, call-returns, call-first-of-requires, call-body-of-requires}
+use Rattle.backward.proofs.eval.+back+call+choose+let_one+let_two+over+over_pair+pair+unroll+unwrap.Proof.Calls.{call-none-requires, call-end-of-requires, call-scope-requires, call-sub-h}
+use Rattle.backward.proofs.eval.+back+call+choose+let_one+let_two+over+over_pair+pair+unroll+unwrap.Proof.Calls.{call-widen-requires, call-back-requires, call-same-length-2, call-returns-2}
+use Rattle.backward.proofs.eval.+back+call+choose+let_one+let_two+over+over_pair+pair+unroll+unwrap.Proof.Calls.{call-leave-requires, call-argument-of-requires, call-back-requires-2}
+use Rattle.backward.proofs.eval.+back+call+choose+let_one+let_two+over+over_pair+pair+unroll+unwrap.Proof.Calls.{call-same-length-3, call-returns-3}
 
 pub +back+call+choose+let-one+let-two+over+over-pair+pair+unroll+unwrap-spec :
     {M : Type 1} → statement M

@@ -29,13 +29,55 @@ use Rattle.forward.proofs.eval.wrap.Reads as wrap
 use Rattle.forward.proofs.eval.+call+choose+eval+let_one+let_two+pair+place+under+unroll+wrap.Lts-wrap as wrap-lts
 use Rattle.forward.proofs.eval.+call+choose+eval+let_one+let_two+pair+place+under+unroll+wrap.{statement}
 use Rattle.forward.proofs.eval.+call+choose+eval+let_one+let_two+pair+place+under+unroll+wrap.Tie.{close}
-use Rattle.forward.proofs.eval.+call+choose+eval+let_one+let_two+pair+place+under+unroll+wrap.Proof.Claims.{μ-call, μ-choose, μ-eval, μ-let-one, μ-let-two, μ-pair, μ-place, μ-under, μ-unroll, μ-wrap, call-at, choose-at, eval-at, let-one-at, let-two-at, pair-at, place-at, under-at, unroll-at, wrap-at, call-uses, choose-uses, eval-uses, let-one-uses, let-two-uses, pair-uses, place-uses, under-uses, unroll-uses, wrap-uses}
-use Rattle.forward.proofs.eval.+call+choose+eval+let_one+let_two+pair+place+under+unroll+wrap.Proof.Entering.{eval-fuel-requires, eval-refuse-requires, eval-returns, eval-refuse-requires-2, eval-returns-2, eval-spend-requires, eval-kind-of-requires, eval-first-of-requires, eval-variable-requires, eval-make-unit-requires, eval-wrap-requires, eval-wrap-requires-2, eval-pair-requires, eval-let-one-requires, eval-let-two-requires, eval-choose-requires, eval-call-requires, eval-wrap-requires-3, eval-unroll-requires, eval-refuse-requires-3, eval-same-length, eval-returns-3, eval-same-length-2, eval-returns-4, eval-same-length-3, eval-returns-5, eval-same-length-4, eval-returns-6, eval-same-length-5, eval-returns-7, eval-same-length-6, eval-returns-8, eval-same-length-7, eval-returns-9, eval-same-length-8, eval-returns-10, eval-same-length-9, eval-returns-11, eval-same-length-10, eval-returns-12, eval-same-length-11, eval-returns-13, eval-returns-14}
-use Rattle.forward.proofs.eval.+call+choose+eval+let_one+let_two+pair+place+under+unroll+wrap.Proof.Parts.{pair-first-of-requires, pair-sub-eval, pair-eval-requires, pair-same-length, pair-returns, pair-second-of-requires, pair-sub-eval-2, pair-eval-requires-2, pair-same-length-2, pair-returns-2, pair-make-pair-requires, pair-same-length-3, pair-returns-3, unroll-second-of-requires, unroll-sub-eval, unroll-eval-requires, unroll-same-length, unroll-returns, unroll-unrolled-requires, unroll-same-length-2, unroll-returns-2, wrap-second-of-requires, wrap-sub-eval, wrap-eval-requires, wrap-same-length, wrap-returns, wrap-make-single-requires, wrap-same-length-2, wrap-returns-2}
-use Rattle.forward.proofs.eval.+call+choose+eval+let_one+let_two+pair+place+under+unroll+wrap.Proof.Lets.{let-one-first-of-requires, let-one-sub-eval, let-one-eval-requires, let-one-same-length, let-one-returns, let-one-second-of-requires, let-one-sub-under, let-one-under-requires, let-one-same-length-2, let-one-returns-2, let-two-first-of-requires, let-two-sub-below, let-two-eval-requires, let-two-same-length, let-two-returns, let-two-kind-of-requires, let-two-refuse-requires, let-two-same-length-2, let-two-returns-2, let-two-left-of-requires, let-two-right-of-requires, let-two-end-of-requires, let-two-bind-requires, let-two-second-of-requires, let-two-wider-requires, let-two-under-requires, let-two-same-length-3, let-two-returns-3}
-use Rattle.forward.proofs.eval.+call+choose+eval+let_one+let_two+pair+place+under+unroll+wrap.Proof.Cases.{choose-first-of-requires, choose-sub-below, choose-eval-requires, choose-same-length, choose-returns, choose-kind-of-requires, choose-left-of-requires, choose-second-of-requires, choose-under-requires, choose-same-length-2, choose-returns-2, choose-third-of-requires, choose-under-requires-2, choose-first-match-requires, choose-same-length-3, choose-returns-3, choose-refuse-requires, choose-same-length-4, choose-returns-4}
-use Rattle.forward.proofs.eval.+call+choose+eval+let_one+let_two+pair+place+under+unroll+wrap.Proof.Scopes.{place-argument-of-requires, place-sub-eval, place-eval-requires, place-same-length, place-returns, place-end-of-requires, place-add-at, place-bind-requires, place-same-length-2, place-returns-2, place-add-next, place-place-requires, place-bind-requires-2, place-same-length-3, place-returns-3, under-end-of-requires, under-bind-requires, under-wider-requires, under-eval-requires, under-same-length, under-returns}
-use Rattle.forward.proofs.eval.+call+choose+eval+let_one+let_two+pair+place+under+unroll+wrap.Proof.Calls.{call-third-of-requires, call-wide-index-requires, call-place-requires, call-same-length, call-returns, call-first-of-requires, call-body-of-requires, call-end-of-requires, call-add-scope, call-scope-requires, call-sub-eval, call-eval-requires, call-same-length-2, call-returns-2}
+use Rattle.forward.proofs.eval.+call+choose+eval+let_one+let_two+pair+place+under+unroll+wrap.Proof.Claims.{μ-call, μ-choose, μ-eval, μ-let-one, μ-let-two, μ-pair, μ-place, μ-under, μ-unroll}
+use Rattle.forward.proofs.eval.+call+choose+eval+let_one+let_two+pair+place+under+unroll+wrap.Proof.Claims.{μ-wrap, call-at, choose-at, eval-at, let-one-at, let-two-at, pair-at, place-at}
+use Rattle.forward.proofs.eval.+call+choose+eval+let_one+let_two+pair+place+under+unroll+wrap.Proof.Claims.{under-at, unroll-at, wrap-at, call-uses, choose-uses, eval-uses, let-one-uses}
+use Rattle.forward.proofs.eval.+call+choose+eval+let_one+let_two+pair+place+under+unroll+wrap.Proof.Claims.{let-two-uses, pair-uses, place-uses, under-uses, unroll-uses, wrap-uses}
+use Rattle.forward.proofs.eval.+call+choose+eval+let_one+let_two+pair+place+under+unroll+wrap.Proof.Entering.{eval-fuel-requires, eval-refuse-requires, eval-returns, eval-refuse-requires-2}
+use Rattle.forward.proofs.eval.+call+choose+eval+let_one+let_two+pair+place+under+unroll+wrap.Proof.Entering.{eval-returns-2, eval-spend-requires, eval-kind-of-requires, eval-first-of-requires}
+use Rattle.forward.proofs.eval.+call+choose+eval+let_one+let_two+pair+place+under+unroll+wrap.Proof.Entering.{eval-variable-requires, eval-make-unit-requires, eval-wrap-requires}
+use Rattle.forward.proofs.eval.+call+choose+eval+let_one+let_two+pair+place+under+unroll+wrap.Proof.Entering.{eval-wrap-requires-2, eval-pair-requires, eval-let-one-requires}
+use Rattle.forward.proofs.eval.+call+choose+eval+let_one+let_two+pair+place+under+unroll+wrap.Proof.Entering.{eval-let-two-requires, eval-choose-requires, eval-call-requires}
+use Rattle.forward.proofs.eval.+call+choose+eval+let_one+let_two+pair+place+under+unroll+wrap.Proof.Entering.{eval-wrap-requires-3, eval-unroll-requires, eval-refuse-requires-3}
+use Rattle.forward.proofs.eval.+call+choose+eval+let_one+let_two+pair+place+under+unroll+wrap.Proof.Entering.{eval-same-length, eval-returns-3, eval-same-length-2, eval-returns-4}
+use Rattle.forward.proofs.eval.+call+choose+eval+let_one+let_two+pair+place+under+unroll+wrap.Proof.Entering.{eval-same-length-3, eval-returns-5, eval-same-length-4, eval-returns-6}
+use Rattle.forward.proofs.eval.+call+choose+eval+let_one+let_two+pair+place+under+unroll+wrap.Proof.Entering.{eval-same-length-5, eval-returns-7, eval-same-length-6, eval-returns-8}
+use Rattle.forward.proofs.eval.+call+choose+eval+let_one+let_two+pair+place+under+unroll+wrap.Proof.Entering.{eval-same-length-7, eval-returns-9, eval-same-length-8, eval-returns-10}
+use Rattle.forward.proofs.eval.+call+choose+eval+let_one+let_two+pair+place+under+unroll+wrap.Proof.Entering.{eval-same-length-9, eval-returns-11, eval-same-length-10, eval-returns-12}
+use Rattle.forward.proofs.eval.+call+choose+eval+let_one+let_two+pair+place+under+unroll+wrap.Proof.Entering.{eval-same-length-11, eval-returns-13, eval-returns-14}
+use Rattle.forward.proofs.eval.+call+choose+eval+let_one+let_two+pair+place+under+unroll+wrap.Proof.Parts.{pair-first-of-requires, pair-sub-eval, pair-eval-requires, pair-same-length}
+use Rattle.forward.proofs.eval.+call+choose+eval+let_one+let_two+pair+place+under+unroll+wrap.Proof.Parts.{pair-returns, pair-second-of-requires, pair-sub-eval-2, pair-eval-requires-2}
+use Rattle.forward.proofs.eval.+call+choose+eval+let_one+let_two+pair+place+under+unroll+wrap.Proof.Parts.{pair-same-length-2, pair-returns-2, pair-make-pair-requires, pair-same-length-3}
+use Rattle.forward.proofs.eval.+call+choose+eval+let_one+let_two+pair+place+under+unroll+wrap.Proof.Parts.{pair-returns-3, unroll-second-of-requires, unroll-sub-eval, unroll-eval-requires}
+use Rattle.forward.proofs.eval.+call+choose+eval+let_one+let_two+pair+place+under+unroll+wrap.Proof.Parts.{unroll-same-length, unroll-returns, unroll-unrolled-requires, unroll-same-length-2}
+use Rattle.forward.proofs.eval.+call+choose+eval+let_one+let_two+pair+place+under+unroll+wrap.Proof.Parts.{unroll-returns-2, wrap-second-of-requires, wrap-sub-eval, wrap-eval-requires}
+use Rattle.forward.proofs.eval.+call+choose+eval+let_one+let_two+pair+place+under+unroll+wrap.Proof.Parts.{wrap-same-length, wrap-returns, wrap-make-single-requires, wrap-same-length-2}
+use Rattle.forward.proofs.eval.+call+choose+eval+let_one+let_two+pair+place+under+unroll+wrap.Proof.Parts.{wrap-returns-2}
+use Rattle.forward.proofs.eval.+call+choose+eval+let_one+let_two+pair+place+under+unroll+wrap.Proof.Lets.{let-one-first-of-requires, let-one-sub-eval, let-one-eval-requires}
+use Rattle.forward.proofs.eval.+call+choose+eval+let_one+let_two+pair+place+under+unroll+wrap.Proof.Lets.{let-one-same-length, let-one-returns, let-one-second-of-requires, let-one-sub-under}
+use Rattle.forward.proofs.eval.+call+choose+eval+let_one+let_two+pair+place+under+unroll+wrap.Proof.Lets.{let-one-under-requires, let-one-same-length-2, let-one-returns-2}
+use Rattle.forward.proofs.eval.+call+choose+eval+let_one+let_two+pair+place+under+unroll+wrap.Proof.Lets.{let-two-first-of-requires, let-two-sub-below, let-two-eval-requires}
+use Rattle.forward.proofs.eval.+call+choose+eval+let_one+let_two+pair+place+under+unroll+wrap.Proof.Lets.{let-two-same-length, let-two-returns, let-two-kind-of-requires}
+use Rattle.forward.proofs.eval.+call+choose+eval+let_one+let_two+pair+place+under+unroll+wrap.Proof.Lets.{let-two-refuse-requires, let-two-same-length-2, let-two-returns-2}
+use Rattle.forward.proofs.eval.+call+choose+eval+let_one+let_two+pair+place+under+unroll+wrap.Proof.Lets.{let-two-left-of-requires, let-two-right-of-requires, let-two-end-of-requires}
+use Rattle.forward.proofs.eval.+call+choose+eval+let_one+let_two+pair+place+under+unroll+wrap.Proof.Lets.{let-two-bind-requires, let-two-second-of-requires, let-two-wider-requires}
+use Rattle.forward.proofs.eval.+call+choose+eval+let_one+let_two+pair+place+under+unroll+wrap.Proof.Lets.{let-two-under-requires, let-two-same-length-3, let-two-returns-3}
+use Rattle.forward.proofs.eval.+call+choose+eval+let_one+let_two+pair+place+under+unroll+wrap.Proof.Cases.{choose-first-of-requires, choose-sub-below, choose-eval-requires, choose-same-length}
+use Rattle.forward.proofs.eval.+call+choose+eval+let_one+let_two+pair+place+under+unroll+wrap.Proof.Cases.{choose-returns, choose-kind-of-requires, choose-left-of-requires}
+use Rattle.forward.proofs.eval.+call+choose+eval+let_one+let_two+pair+place+under+unroll+wrap.Proof.Cases.{choose-second-of-requires, choose-under-requires, choose-same-length-2}
+use Rattle.forward.proofs.eval.+call+choose+eval+let_one+let_two+pair+place+under+unroll+wrap.Proof.Cases.{choose-returns-2, choose-third-of-requires, choose-under-requires-2}
+use Rattle.forward.proofs.eval.+call+choose+eval+let_one+let_two+pair+place+under+unroll+wrap.Proof.Cases.{choose-first-match-requires, choose-same-length-3, choose-returns-3}
+use Rattle.forward.proofs.eval.+call+choose+eval+let_one+let_two+pair+place+under+unroll+wrap.Proof.Cases.{choose-refuse-requires, choose-same-length-4, choose-returns-4}
+use Rattle.forward.proofs.eval.+call+choose+eval+let_one+let_two+pair+place+under+unroll+wrap.Proof.Scopes.{place-argument-of-requires, place-sub-eval, place-eval-requires, place-same-length}
+use Rattle.forward.proofs.eval.+call+choose+eval+let_one+let_two+pair+place+under+unroll+wrap.Proof.Scopes.{place-returns, place-end-of-requires, place-add-at, place-bind-requires}
+use Rattle.forward.proofs.eval.+call+choose+eval+let_one+let_two+pair+place+under+unroll+wrap.Proof.Scopes.{place-same-length-2, place-returns-2, place-add-next, place-place-requires}
+use Rattle.forward.proofs.eval.+call+choose+eval+let_one+let_two+pair+place+under+unroll+wrap.Proof.Scopes.{place-bind-requires-2, place-same-length-3, place-returns-3, under-end-of-requires}
+use Rattle.forward.proofs.eval.+call+choose+eval+let_one+let_two+pair+place+under+unroll+wrap.Proof.Scopes.{under-bind-requires, under-wider-requires, under-eval-requires, under-same-length}
+use Rattle.forward.proofs.eval.+call+choose+eval+let_one+let_two+pair+place+under+unroll+wrap.Proof.Scopes.{under-returns}
+use Rattle.forward.proofs.eval.+call+choose+eval+let_one+let_two+pair+place+under+unroll+wrap.Proof.Calls.{call-third-of-requires, call-wide-index-requires, call-place-requires}
+use Rattle.forward.proofs.eval.+call+choose+eval+let_one+let_two+pair+place+under+unroll+wrap.Proof.Calls.{call-same-length, call-returns, call-first-of-requires, call-body-of-requires}
+use Rattle.forward.proofs.eval.+call+choose+eval+let_one+let_two+pair+place+under+unroll+wrap.Proof.Calls.{call-end-of-requires, call-add-scope, call-scope-requires, call-sub-eval}
+use Rattle.forward.proofs.eval.+call+choose+eval+let_one+let_two+pair+place+under+unroll+wrap.Proof.Calls.{call-eval-requires, call-same-length-2, call-returns-2}
 
 pub +call+choose+eval+let-one+let-two+pair+place+under+unroll+wrap-spec :
     {M : Type 1} → statement M

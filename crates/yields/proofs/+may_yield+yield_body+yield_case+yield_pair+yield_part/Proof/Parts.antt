@@ -12,7 +12,8 @@ use Rattle.yields.proofs.yield_pair.Reads as yield-pair
 use Rattle.yields.proofs.+may_yield+yield_body+yield_case+yield_pair+yield_part.Lts-yield_pair as yield-pair-lts
 use Rattle.yields.proofs.yield_part.Reads as yield-part
 use Rattle.yields.proofs.+may_yield+yield_body+yield_case+yield_pair+yield_part.Lts-yield_part as yield-part-lts
-use Rattle.yields.proofs.+may_yield+yield_body+yield_case+yield_pair+yield_part.Proof.Claims.{yield-body-at, yield-case-at, yield-pair-at, yield-part-at, yield-body-uses, yield-case-uses, yield-pair-uses, yield-part-uses}
+use Rattle.yields.proofs.+may_yield+yield_body+yield_case+yield_pair+yield_part.Proof.Claims.{yield-body-at, yield-case-at, yield-pair-at, yield-part-at, yield-body-uses, yield-case-uses}
+use Rattle.yields.proofs.+may_yield+yield_body+yield_case+yield_pair+yield_part.Proof.Claims.{yield-pair-uses, yield-part-uses}
 
 pub yield-body-second-of-requires : (t : ℕ) → yield-body-lts.Need-second-of-requires (yield-body-uses t) (yield-body-at t) yield-body.Post
 yield-body-second-of-requires t c κs =

@@ -4,13 +4,13 @@ use mathlib.Core.Path.{ap, _∙_}
 use mathlib.Core.Logic.{inl as left}
 use borrow.Author.Needs.{needs}
 use Rattle.scopes.specs.Slots.{Machine}
-use Rattle.backward.proofs.Opening.{widen-ready, widened, widened-node, ran-under}
 use Rattle.forward.proofs.Bounds.{argument-read, body-read}
 use Rattle.forward.proofs.Placing.{all-to-place}
 use Rattle.backward.proofs.Frames.{row-there}
 use Rattle.backward.proofs.Gathering.{scope-ready}
 use Rattle.backward.proofs.Calling.{all-arguments}
-use Rattle.backward.proofs.Called.{called-refused, called-space, called-node, called-inner, called-few, called-stops, called-leaves, called-dynamic, called-input, called-done}
+use Rattle.backward.proofs.Called.{called-refused, called-space, called-widens, called-widened, called-ran, called-stops, called-leaves}
+use Rattle.backward.proofs.Called.{called-dynamic, called-input, called-done}
 use Prim.Native.Nat.{ℕ}
 use Rattle.backward.proofs.eval.back.Reads as back
 use Rattle.backward.proofs.eval.call.Reads as call
@@ -103,14 +103,9 @@ call-widen-requires t c κs =
     let at-none = c .before .before .before .none in
     let at-end-of = c .before .before .end-of in
     let at-scope = c .before .scope in
-    let body = called-inner (start .pre .1 .0) (start .pre .1 .1 .0) (all-to-place (start .pre .1 .1 .1) (at-wide-index .ensures .0 ∙ at-third-of .ensures))
-        (at-gather .ensures .gathers) (at-if1 .left) (at-first-of .ensures) (at-body-of .ensures) (at-end-of .ensures) (at-scope .ensures)
-        (at-gather .ensures .lengths) (at-none .ensures) in
-    let few = called-few (start .pre .1 .0 .prepared) (start .pre .1 .1 .0) (all-to-place (start .pre .1 .1 .1) (at-wide-index .ensures .0 ∙ at-third-of .ensures))
-        (at-gather .ensures .gathers) (at-if1 .left) (at-first-of .ensures) (at-body-of .ensures) (at-end-of .ensures) (at-scope .ensures) in
-    let low = called-node (start .pre .1 .0 .prepared) (start .pre .1 .1 .0) (all-to-place (start .pre .1 .1 .1) (at-wide-index .ensures .0 ∙ at-third-of .ensures))
-        (at-gather .ensures .gathers) (at-if1 .left) (at-first-of .ensures) (at-body-of .ensures) in
-    widen-ready body few
+    called-widens (start .pre .1 .0) (start .pre .1 .1 .0) (all-to-place (start .pre .1 .1 .1) (at-wide-index .ensures .0 ∙ at-third-of .ensures))
+    (at-gather .ensures .gathers) (at-if1 .left) (at-first-of .ensures) (at-body-of .ensures) (at-end-of .ensures) (at-scope .ensures)
+    (at-gather .ensures .lengths) (at-none .ensures)
 
 pub call-back-requires : (t : ℕ) → call-lts.Need-back-requires (call-uses t) (call-at t) call.Post
 call-back-requires t c κs =
@@ -125,16 +120,12 @@ call-back-requires t c κs =
     let at-none = c .before .before .before .before .before .before .none in
     let at-end-of = c .before .before .before .before .before .end-of in
     let at-scope = c .before .before .before .before .scope in
-    let at-widen = c .before .before .widen in
-    let body = called-inner (start .pre .1 .0) (start .pre .1 .1 .0) (all-to-place (start .pre .1 .1 .1) (at-wide-index .ensures .0 ∙ at-third-of .ensures))
-        (at-gather .ensures .gathers) (at-if1 .left) (at-first-of .ensures) (at-body-of .ensures) (at-end-of .ensures) (at-scope .ensures)
-        (at-gather .ensures .lengths) (at-none .ensures) in
-    let few = called-few (start .pre .1 .0 .prepared) (start .pre .1 .1 .0) (all-to-place (start .pre .1 .1 .1) (at-wide-index .ensures .0 ∙ at-third-of .ensures))
-        (at-gather .ensures .gathers) (at-if1 .left) (at-first-of .ensures) (at-body-of .ensures) (at-end-of .ensures) (at-scope .ensures) in
-    let low = called-node (start .pre .1 .0 .prepared) (start .pre .1 .1 .0) (all-to-place (start .pre .1 .1 .1) (at-wide-index .ensures .0 ∙ at-third-of .ensures))
-        (at-gather .ensures .gathers) (at-if1 .left) (at-first-of .ensures) (at-body-of .ensures) in
-    (omega (arith, start .pre .0, at-gather .ensures .gathers .moves .spends, ap (λ (m : Machine). m .fuel) (at-widen .ensures .machine)),
-    (widened body few (at-widen .ensures), widened-node body few (at-widen .ensures) low))
+    let at-widen = c .before .before .widen in (
+      omega (arith, start .pre .0, at-gather .ensures .gathers .moves .spends, ap (λ (m : Machine). m .fuel) (at-widen .ensures .machine)),
+      called-widened (start .pre .1 .0) (start .pre .1 .1 .0) (all-to-place (start .pre .1 .1 .1) (at-wide-index .ensures .0 ∙ at-third-of .ensures))
+          (at-gather .ensures .gathers) (at-if1 .left) (at-first-of .ensures) (at-body-of .ensures) (at-end-of .ensures) (at-scope .ensures)
+          (at-gather .ensures .lengths) (at-none .ensures) (at-widen .ensures),
+    )
 
 pub call-same-length-2 : (t : ℕ) → call-lts.Need-same-length-2 (call-uses t) (call-at t) call.Post
 call-same-length-2 t c =
@@ -159,14 +150,9 @@ call-returns-2 t c =
     let at-scope = earlier .scope in
     let at-widen = c .before .before .before .before .before .before .before .before .widen in
     let at-back = c .before .before .before .before .before .back in
-    let body = called-inner (start .pre .1 .0) (start .pre .1 .1 .0) (all-to-place (start .pre .1 .1 .1) (at-wide-index .ensures .0 ∙ at-third-of .ensures))
-        (at-gather .ensures .gathers) (at-if1 .left) (at-first-of .ensures) (at-body-of .ensures) (at-end-of .ensures) (at-scope .ensures)
-        (at-gather .ensures .lengths) (at-none .ensures) in
-    let few = called-few (start .pre .1 .0 .prepared) (start .pre .1 .1 .0) (all-to-place (start .pre .1 .1 .1) (at-wide-index .ensures .0 ∙ at-third-of .ensures))
-        (at-gather .ensures .gathers) (at-if1 .left) (at-first-of .ensures) (at-body-of .ensures) (at-end-of .ensures) (at-scope .ensures) in
-    let low = called-node (start .pre .1 .0 .prepared) (start .pre .1 .1 .0) (all-to-place (start .pre .1 .1 .1) (at-wide-index .ensures .0 ∙ at-third-of .ensures))
-        (at-gather .ensures .gathers) (at-if1 .left) (at-first-of .ensures) (at-body-of .ensures) in
-    let ran = ran-under body few (at-widen .ensures) low (at-back .ensures) in
+    let ran = called-ran (start .pre .1 .0) (start .pre .1 .1 .0) (all-to-place (start .pre .1 .1 .1) (at-wide-index .ensures .0 ∙ at-third-of .ensures))
+    (at-gather .ensures .gathers) (at-if1 .left) (at-first-of .ensures) (at-body-of .ensures) (at-end-of .ensures) (at-scope .ensures)
+    (at-gather .ensures .lengths) (at-none .ensures) (at-widen .ensures) (at-back .ensures) in
     let at-if2 = c .if2 in
     record {
       lengths = ran .lengths ∙ at-gather .ensures .lengths;
@@ -191,14 +177,9 @@ call-leave-requires t c κs =
     let at-scope = earlier .before .before .scope in
     let at-widen = earlier .widen in
     let at-back = c .before .before .before .before .before .before .before .back in
-    let body = called-inner (start .pre .1 .0) (start .pre .1 .1 .0) (all-to-place (start .pre .1 .1 .1) (at-wide-index .ensures .0 ∙ at-third-of .ensures))
-        (at-gather .ensures .gathers) (at-if1 .left) (at-first-of .ensures) (at-body-of .ensures) (at-end-of .ensures) (at-scope .ensures)
-        (at-gather .ensures .lengths) (at-none .ensures) in
-    let few = called-few (start .pre .1 .0 .prepared) (start .pre .1 .1 .0) (all-to-place (start .pre .1 .1 .1) (at-wide-index .ensures .0 ∙ at-third-of .ensures))
-        (at-gather .ensures .gathers) (at-if1 .left) (at-first-of .ensures) (at-body-of .ensures) (at-end-of .ensures) (at-scope .ensures) in
-    let low = called-node (start .pre .1 .0 .prepared) (start .pre .1 .1 .0) (all-to-place (start .pre .1 .1 .1) (at-wide-index .ensures .0 ∙ at-third-of .ensures))
-        (at-gather .ensures .gathers) (at-if1 .left) (at-first-of .ensures) (at-body-of .ensures) in
-    let ran = ran-under body few (at-widen .ensures) low (at-back .ensures) in
+    let ran = called-ran (start .pre .1 .0) (start .pre .1 .1 .0) (all-to-place (start .pre .1 .1 .1) (at-wide-index .ensures .0 ∙ at-third-of .ensures))
+    (at-gather .ensures .gathers) (at-if1 .left) (at-first-of .ensures) (at-body-of .ensures) (at-end-of .ensures) (at-scope .ensures)
+    (at-gather .ensures .lengths) (at-none .ensures) (at-widen .ensures) (at-back .ensures) in
     let at-if2 = c .before .before .if2 in
     called-leaves (start .pre .1 .0 .prepared) (start .pre .1 .1 .0)
     (all-to-place (start .pre .1 .1 .1) (at-wide-index .ensures .0 ∙ at-third-of .ensures)) (at-gather .ensures .gathers) (at-if1 .left)
@@ -230,14 +211,9 @@ call-back-requires-2 t c κs =
     let at-scope = earlier .before .before .before .before .before .before .scope in
     let at-widen = earlier .before .before .before .before .widen in
     let at-back = earlier .before .back in
-    let body = called-inner (start .pre .1 .0) (start .pre .1 .1 .0) (all-to-place (start .pre .1 .1 .1) (at-wide-index .ensures .0 ∙ at-third-of .ensures))
-        (at-gather .ensures .gathers) (at-if1 .left) (at-first-of .ensures) (at-body-of .ensures) (at-end-of .ensures) (at-scope .ensures)
-        (at-gather .ensures .lengths) (at-none .ensures) in
-    let few = called-few (start .pre .1 .0 .prepared) (start .pre .1 .1 .0) (all-to-place (start .pre .1 .1 .1) (at-wide-index .ensures .0 ∙ at-third-of .ensures))
-        (at-gather .ensures .gathers) (at-if1 .left) (at-first-of .ensures) (at-body-of .ensures) (at-end-of .ensures) (at-scope .ensures) in
-    let low = called-node (start .pre .1 .0 .prepared) (start .pre .1 .1 .0) (all-to-place (start .pre .1 .1 .1) (at-wide-index .ensures .0 ∙ at-third-of .ensures))
-        (at-gather .ensures .gathers) (at-if1 .left) (at-first-of .ensures) (at-body-of .ensures) in
-    let ran = ran-under body few (at-widen .ensures) low (at-back .ensures) in
+    let ran = called-ran (start .pre .1 .0) (start .pre .1 .1 .0) (all-to-place (start .pre .1 .1 .1) (at-wide-index .ensures .0 ∙ at-third-of .ensures))
+    (at-gather .ensures .gathers) (at-if1 .left) (at-first-of .ensures) (at-body-of .ensures) (at-end-of .ensures) (at-scope .ensures)
+    (at-gather .ensures .lengths) (at-none .ensures) (at-widen .ensures) (at-back .ensures) in
     let at-if2 = c .before .before .before .before .before .before .if2 in
     let at-leave = c .before .before .before .leave in
     let at-argument-of = c .before .before .argument-of in (
@@ -282,14 +258,9 @@ call-returns-3 t c =
     let at-scope = earlier .before .before .before .before .before .before .before .before .before .scope in
     let at-widen = earlier .before .before .before .before .before .before .before .widen in
     let at-back = earlier .before .before .before .before .back in
-    let body = called-inner (start .pre .1 .0) (start .pre .1 .1 .0) (all-to-place (start .pre .1 .1 .1) (at-wide-index .ensures .0 ∙ at-third-of .ensures))
-        (at-gather .ensures .gathers) (at-if1 .left) (at-first-of .ensures) (at-body-of .ensures) (at-end-of .ensures) (at-scope .ensures)
-        (at-gather .ensures .lengths) (at-none .ensures) in
-    let few = called-few (start .pre .1 .0 .prepared) (start .pre .1 .1 .0) (all-to-place (start .pre .1 .1 .1) (at-wide-index .ensures .0 ∙ at-third-of .ensures))
-        (at-gather .ensures .gathers) (at-if1 .left) (at-first-of .ensures) (at-body-of .ensures) (at-end-of .ensures) (at-scope .ensures) in
-    let low = called-node (start .pre .1 .0 .prepared) (start .pre .1 .1 .0) (all-to-place (start .pre .1 .1 .1) (at-wide-index .ensures .0 ∙ at-third-of .ensures))
-        (at-gather .ensures .gathers) (at-if1 .left) (at-first-of .ensures) (at-body-of .ensures) in
-    let ran = ran-under body few (at-widen .ensures) low (at-back .ensures) in
+    let ran = called-ran (start .pre .1 .0) (start .pre .1 .1 .0) (all-to-place (start .pre .1 .1 .1) (at-wide-index .ensures .0 ∙ at-third-of .ensures))
+    (at-gather .ensures .gathers) (at-if1 .left) (at-first-of .ensures) (at-body-of .ensures) (at-end-of .ensures) (at-scope .ensures)
+    (at-gather .ensures .lengths) (at-none .ensures) (at-widen .ensures) (at-back .ensures) in
     let at-if2 = c .before .before .before .before .before .before .before .before .before .if2 in
     let at-leave = c .before .before .before .before .before .before .leave in
     let at-argument-of = c .before .before .before .before .before .argument-of in

@@ -54,7 +54,7 @@ choose-widen-requires t c κs =
     let at-side-of = c .before .side-of in
     let yields = view-yields (at-yields .ensures) (few-ancillae (start .pre .1 .0 .prepared)) in
     case-widens (start .pre .1 .0) (start .pre .1 .1 .0) (start .pre .1 .1 .1) (at-second-of .ensures) _ yields (at-first-of .ensures) (at-branch-of .ensures)
-        (at-side-of .ensures)
+    (at-side-of .ensures)
 
 pub choose-back-requires : (t : ℕ) → choose-lts.Need-back-requires (choose-uses t) (choose-at t) choose.Post
 choose-back-requires t c κs =
@@ -66,10 +66,11 @@ choose-back-requires t c κs =
     let at-branch-of = c .before .before .before .before .before .branch-of in
     let at-side-of = c .before .before .before .before .side-of in
     let at-widen = c .before .before .widen in
-    let yields = view-yields (at-yields .ensures) (few-ancillae (start .pre .1 .0 .prepared)) in
-    (omega (arith, start .pre .0, ap (λ (m : Machine). m .fuel) (at-widen .ensures .machine)),
-    case-widened (start .pre .1 .0) (start .pre .1 .1 .0) (start .pre .1 .1 .1) (at-second-of .ensures) _ yields (at-first-of .ensures) (at-branch-of .ensures)
-        (at-side-of .ensures) (at-widen .ensures))
+    let yields = view-yields (at-yields .ensures) (few-ancillae (start .pre .1 .0 .prepared)) in (
+      omega (arith, start .pre .0, ap (λ (m : Machine). m .fuel) (at-widen .ensures .machine)),
+      case-widened (start .pre .1 .0) (start .pre .1 .1 .0) (start .pre .1 .1 .1) (at-second-of .ensures) _ yields (at-first-of .ensures) (at-branch-of .ensures)
+          (at-side-of .ensures) (at-widen .ensures),
+    )
 
 pub choose-same-length : (t : ℕ) → choose-lts.Need-same-length (choose-uses t) (choose-at t) choose.Post
 choose-same-length t c =
@@ -89,7 +90,7 @@ choose-returns t c =
     let at-back = c .before .before .before .before .before .back in
     let yields = view-yields (at-yields .ensures) (few-ancillae (start .pre .1 .0 .prepared)) in
     let ran = case-ran (start .pre .1 .0) (start .pre .1 .1 .0) (start .pre .1 .1 .1) (at-second-of .ensures) _ yields (at-first-of .ensures) (at-branch-of .ensures)
-        (at-side-of .ensures) (at-widen .ensures) (at-back .ensures) in
+    (at-side-of .ensures) (at-widen .ensures) (at-back .ensures) in
     let at-if1 = c .if1 in
     record {
       lengths = ran .lengths;
@@ -111,7 +112,7 @@ choose-leave-requires t c κs =
     let at-back = c .before .before .before .before .before .before .before .back in
     let yields = view-yields (at-yields .ensures) (few-ancillae (start .pre .1 .0 .prepared)) in
     let ran = case-ran (start .pre .1 .0) (start .pre .1 .1 .0) (start .pre .1 .1 .1) (at-second-of .ensures) _ yields (at-first-of .ensures) (at-branch-of .ensures)
-        (at-side-of .ensures) (at-widen .ensures) (at-back .ensures) in
+    (at-side-of .ensures) (at-widen .ensures) (at-back .ensures) in
     let at-if1 = c .before .before .if1 in
     case-leaves (start .pre .1 .0 .prepared) (start .pre .1 .1 .0) (start .pre .1 .1 .1) (at-second-of .ensures) _
     yields (at-first-of .ensures) (at-branch-of .ensures)
@@ -131,7 +132,7 @@ choose-outer-requires t c κs =
     let at-back = earlier .back in
     let yields = view-yields (at-yields .ensures) (few-ancillae (start .pre .1 .0 .prepared)) in
     let ran = case-ran (start .pre .1 .0) (start .pre .1 .1 .0) (start .pre .1 .1 .1) (at-second-of .ensures) _ yields (at-first-of .ensures) (at-branch-of .ensures)
-        (at-side-of .ensures) (at-widen .ensures) (at-back .ensures) in
+    (at-side-of .ensures) (at-widen .ensures) (at-back .ensures) in
     let at-if1 = c .before .before .before .before .before .if1 in
     case-cell (start .pre .1 .0 .prepared) (start .pre .1 .1 .0) (start .pre .1 .1 .1) (at-second-of .ensures) _
     yields (at-first-of .ensures) (at-branch-of .ensures)
@@ -152,12 +153,16 @@ choose-over-requires t c κs =
     let at-back = earlier .before .before .before .before .before .back in
     let yields = view-yields (at-yields .ensures) (few-ancillae (start .pre .1 .0 .prepared)) in
     let ran = case-ran (start .pre .1 .0) (start .pre .1 .1 .0) (start .pre .1 .1 .1) (at-second-of .ensures) _ yields (at-first-of .ensures) (at-branch-of .ensures)
-        (at-side-of .ensures) (at-widen .ensures) (at-back .ensures) in
+    (at-side-of .ensures) (at-widen .ensures) (at-back .ensures) in
     let at-if1 = earlier .if1 in
     let at-leave = c .before .before .before .before .before .before .before .leave in
     let at-outer = c .before .before .before .before .outer in (
-      omega (arith, start .pre .0, ran .gone .ran .moves .spends,
-          ap (λ (m : Machine). m .fuel) (at-outer .ensures .moved .machine)),
+      omega (
+        arith,
+        start .pre .0,
+        ran .gone .ran .moves .spends,
+        ap (λ (m : Machine). m .fuel) (at-outer .ensures .moved .machine),
+      ),
       (
         record {
           full = at-outer .ensures .moved .lengths ∙ ran .lengths ∙ (start .pre .1 .0 .full);
@@ -197,7 +202,7 @@ choose-returns-2 t c =
     let at-back = earlier .before .before .before .before .before .before .before .before .back in
     let yields = view-yields (at-yields .ensures) (few-ancillae (start .pre .1 .0 .prepared)) in
     let ran = case-ran (start .pre .1 .0) (start .pre .1 .1 .0) (start .pre .1 .1 .1) (at-second-of .ensures) _ yields (at-first-of .ensures) (at-branch-of .ensures)
-        (at-side-of .ensures) (at-widen .ensures) (at-back .ensures) in
+    (at-side-of .ensures) (at-widen .ensures) (at-back .ensures) in
     let at-if1 = earlier .before .before .before .if1 in
     let at-leave = earlier .leave in
     let at-outer = c .before .before .before .before .before .before .before .outer in

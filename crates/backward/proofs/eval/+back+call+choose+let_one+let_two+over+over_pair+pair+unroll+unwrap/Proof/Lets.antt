@@ -46,9 +46,10 @@ let-one-back-requires t c κs =
     let start = c .before .before .before .before .before .before .before in
     let at-first-of = c .before .before .before .before .before .first-of in
     let at-second-of = c .before .before .before .before .second-of in
-    let at-widen = c .before .before .widen in
-    (omega (arith, start .pre .0, ap (λ (m : Machine). m .fuel) (at-widen .ensures .machine)),
-    let-widened (start .pre .1 .0) (start .pre .1 .1 .0) (at-first-of .ensures) (at-second-of .ensures) (start .pre .1 .1 .1) (at-widen .ensures))
+    let at-widen = c .before .before .widen in (
+      omega (arith, start .pre .0, ap (λ (m : Machine). m .fuel) (at-widen .ensures .machine)),
+      let-widened (start .pre .1 .0) (start .pre .1 .1 .0) (at-first-of .ensures) (at-second-of .ensures) (start .pre .1 .1 .1) (at-widen .ensures),
+    )
 
 pub let-one-same-length : (t : ℕ) → let-one-lts.Need-same-length (let-one-uses t) (let-one-at t) let-one.Post
 let-one-same-length t c =
@@ -110,8 +111,12 @@ let-one-back-requires-2 t c κs =
     let at-if1 = earlier .if1 in
     let at-leave = c .before .before .before .before .before .before .before .leave in
     let at-outer = c .before .before .before .before .outer in (
-      omega (arith, start .pre .0, ran .gone .ran .moves .spends,
-          ap (λ (m : Machine). m .fuel) (at-outer .ensures .moved .machine)),
+      omega (
+        arith,
+        start .pre .0,
+        ran .gone .ran .moves .spends,
+        ap (λ (m : Machine). m .fuel) (at-outer .ensures .moved .machine),
+      ),
       (
         record {
           full = at-outer .ensures .moved .lengths ∙ ran .lengths ∙ (start .pre .1 .0 .full);
@@ -189,9 +194,10 @@ let-two-back-requires t c κs =
     let at-first-of = c .before .before .before .before .before .before .before .first-of in
     let at-second-of = c .before .before .before .before .before .before .second-of in
     let at-widen = c .before .before .before .before .widen in
-    let at-widen2 = c .before .before .widen2 in
-    (omega (arith, start .pre .0, ap (λ (m : Machine). m .fuel) (at-widen .ensures .machine), ap (λ (m : Machine). m .fuel) (at-widen2 .ensures .machine)),
-    letp-widened (start .pre .1 .0) (start .pre .1 .1 .0) (at-first-of .ensures) (at-second-of .ensures) (start .pre .1 .1 .1) (at-widen .ensures) (at-widen2 .ensures))
+    let at-widen2 = c .before .before .widen2 in (
+      omega (arith, start .pre .0, ap (λ (m : Machine). m .fuel) (at-widen .ensures .machine), ap (λ (m : Machine). m .fuel) (at-widen2 .ensures .machine)),
+      letp-widened (start .pre .1 .0) (start .pre .1 .1 .0) (at-first-of .ensures) (at-second-of .ensures) (start .pre .1 .1 .1) (at-widen .ensures) (at-widen2 .ensures),
+    )
 
 pub let-two-same-length : (t : ℕ) → let-two-lts.Need-same-length (let-two-uses t) (let-two-at t) let-two.Post
 let-two-same-length t c =
@@ -274,8 +280,13 @@ let-two-over-pair-requires t c κs =
     let at-leave = earlier .leave in
     let at-outer = c .before .before .before .before .outer in
     let at-leave2 = c .before .before .before .before .before .before .before .leave2 in (
-      omega (arith, start .pre .0, ran .gone .ran .moves .spends, ap (λ (m : Machine). m .fuel) (at-widen .ensures .machine),
-          ap (λ (m : Machine). m .fuel) (at-outer .ensures .moved .machine)),
+      omega (
+        arith,
+        start .pre .0,
+        ran .gone .ran .moves .spends,
+        ap (λ (m : Machine). m .fuel) (at-widen .ensures .machine),
+        ap (λ (m : Machine). m .fuel) (at-outer .ensures .moved .machine),
+      ),
       (
         record {
           full = at-outer .ensures .moved .lengths ∙ ran .lengths ∙ at-widen .ensures .lengths ∙ (start .pre .1 .0 .full);

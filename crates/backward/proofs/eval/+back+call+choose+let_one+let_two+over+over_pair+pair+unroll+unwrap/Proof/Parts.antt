@@ -5,7 +5,8 @@ use mathlib.Core.Logic.{inl as left}
 use borrow.Author.Needs.{needs}
 use Rattle.backward.proofs.Frames.{row-there}
 use Rattle.backward.proofs.Steps.{node-there, roll-single}
-use Rattle.backward.proofs.Stepping.{wrapped-node, wrapped-prepared, wrapped-gone, wrapped-differs, paired-stuck, paired-nodes, paired-first, paired-stopped, paired-second, paired-node, paired-gone, unrolled-prepared, unrolled-gone}
+use Rattle.backward.proofs.Stepping.{wrapped-node, wrapped-prepared, wrapped-gone, wrapped-differs, paired-stuck, paired-nodes, paired-first, paired-stopped, paired-second, paired-node}
+use Rattle.backward.proofs.Stepping.{paired-gone, unrolled-prepared, unrolled-gone}
 use Prim.Native.Nat.{ℕ}
 use Rattle.backward.proofs.eval.back.Reads as back
 use Rattle.backward.proofs.eval.over.Reads as over

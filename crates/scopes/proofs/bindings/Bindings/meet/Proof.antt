@@ -35,9 +35,10 @@ same-requires c κs =
     let at = seen-it .before in
     let v = at .before .before .before .wide-index .ensures .0 in
     let top = at .before .before .before .before .top .ensures in
-    let start = at .before .before .before .before .before .before .before in
-    (rw top (start .pre .0 .cell .graph),
-    (old-low (start .pre .0) v (at .at .ensures) top (seen-it .seen .ensures) (c .before .before .old .given .1), rw top (start .pre .1)))
+    let start = at .before .before .before .before .before .before .before in (
+      rw top (start .pre .0 .cell .graph),
+      (old-low (start .pre .0) v (at .at .ensures) top (seen-it .seen .ensures) (c .before .before .old .given .1), rw top (start .pre .1)),
+    )
 
 enum-told : tie.Need-enum-told
 enum-told c = search needs
