@@ -1,4 +1,4 @@
--- The numbers of refusals: typing refuses with 6 to 8, a run with 12 to 16 (section 4). And what forward answers fits.
+-- The numbers of refusals: typing refuses with 6 to 8, a run forward with 12 to 15, backward with 12 to 16 (section 4). And what forward answers fits.
 use Prim.Native.Nat.{ℕ, zero, suc, _≤_}
 use native.Mathlib.Omega.{arith}
 use mathlib.Core.Path.{_≡_, refl, subst}
@@ -15,40 +15,47 @@ use package.Rattle.rules.specs.Run.{Res, ok, stop, stuck, Run, after, gi
 use package.Rattle.rules.specs.Machine.{onSum, onPair, onRoll, onUnit, onSome, State, known, each, made, forwardStep, forward, runForward}
 
 ----------------------------------------------------------------
--- Runs: an answer with `Q`, a refusal with a number of the run, or stuck
+-- Runs: an answer with `Q`, a refusal with a number of `N`, or stuck
+
+pub data EndsBy {X : Type 0} (N : ℕ → Type 0) (Q : X → Type 0) : Res X → Type 0 where
+  answers : {x : X} {g : ℕ} → Q x → EndsBy N Q (ok x g)
+  refuses : {c k : ℕ} → N c → EndsBy N Q (stop c k)
+  sticks : EndsBy N Q stuck
+
+-- forward, and either way
+abbrev pub ForwardNumber : ℕ → Type 0
+ForwardNumber n = (12 ≤ n) × (n ≤ 15)
 
 abbrev pub RunNumber : ℕ → Type 0
 RunNumber n = (12 ≤ n) × (n ≤ 16)
 
-pub data Ends {X : Type 0} (Q : X → Type 0) : Res X → Type 0 where
-  answers : {x : X} {g : ℕ} → Q x → Ends Q (ok x g)
-  refuses : {c k : ℕ} → RunNumber c → Ends Q (stop c k)
-  sticks : Ends Q stuck
+abbrev pub Ends : {X : Type 0} → (X → Type 0) → Res X → Type 0
+Ends Q x = EndsBy RunNumber Q x
 
-module _ {X Y : Type 0} {Q : X → Type 0} {Q′ : Y → Type 0} where
-  pub ends-after : {x : Res X} (k : X → Run Y) → Ends Q x → ((y : X) (g : ℕ) → Q y → Ends Q′ (k y g)) → Ends Q′ (after x k)
+module _ {X Y : Type 0} {N : ℕ → Type 0} {Q : X → Type 0} {Q′ : Y → Type 0} where
+  pub ends-after : {x : Res X} (k : X → Run Y) → EndsBy N Q x → ((y : X) (g : ℕ) → Q y → EndsBy N Q′ (k y g)) → EndsBy N Q′ (after x k)
   unfolding after
   ends-after k (answers {x} {g} q) s = s x g q
   ends-after k (refuses n) s = refuses n
   ends-after k sticks s = sticks
 
-module _ {X : Type 0} {Q : X → Type 0} where
-  pub ends-enter : (k f : ℕ) (m : Run X) → ((g : ℕ) → Ends Q (m g)) → Ends Q (enter k m f)
+module _ {X : Type 0} {N : ℕ → Type 0} {Q : X → Type 0} where
+  pub ends-enter : N 12 → (k f : ℕ) (m : Run X) → ((g : ℕ) → EndsBy N Q (m g)) → EndsBy N Q (enter k m f)
   unfolding enter
-  ends-enter k zero m s = refuses {c = 12} (omega arith)
-  ends-enter k (suc f) m s = s f
+  ends-enter l k zero m s = refuses {c = 12} l
+  ends-enter l k (suc f) m s = s f
 
-  pub ends-test : (b : Bool) (n k g : ℕ) (m : Run X) → RunNumber n → (b ≡ true → Ends Q (m g)) → Ends Q (test b n k m g)
+  pub ends-test : (b : Bool) (n k g : ℕ) (m : Run X) → N n → (b ≡ true → EndsBy N Q (m g)) → EndsBy N Q (test b n k m g)
   unfolding test
   ends-test true n k g m l s = s refl
   ends-test false n k g m l s = refuses l
 
-  pub ends-some : {A : Type 0} (o : Option A) (k : A → Run X) (g : ℕ) → ((a : A) → Ends Q (k a g)) → Ends Q (onSome o k g)
+  pub ends-some : {A : Type 0} (o : Option A) (k : A → Run X) (g : ℕ) → ((a : A) → EndsBy N Q (k a g)) → EndsBy N Q (onSome o k g)
   unfolding onSome
   ends-some none k g s = sticks
   ends-some (some a) k g s = s a
 
-  pub ends-sum : (v : Val) (l r : Val → Run X) (g : ℕ) → ((w : Val) → Ends Q (l w g)) → ((w : Val) → Ends Q (r w g)) → Ends Q (onSum v l r g)
+  pub ends-sum : (v : Val) (l r : Val → Run X) (g : ℕ) → ((w : Val) → EndsBy N Q (l w g)) → ((w : Val) → EndsBy N Q (r w g)) → EndsBy N Q (onSum v l r g)
   unfolding onSum
   ends-sum unit l r g s s′ = sticks
   ends-sum (inl v) l r g s s′ = s v
@@ -56,7 +63,7 @@ module _ {X : Type 0} {Q : X → Type 0} where
   ends-sum (pair v w) l r g s s′ = sticks
   ends-sum (roll v) l r g s s′ = sticks
 
-  pub ends-pair : (v : Val) (k : Val → Val → Run X) (g : ℕ) → ((w w′ : Val) → Ends Q (k w w′ g)) → Ends Q (onPair v k g)
+  pub ends-pair : (v : Val) (k : Val → Val → Run X) (g : ℕ) → ((w w′ : Val) → EndsBy N Q (k w w′ g)) → EndsBy N Q (onPair v k g)
   unfolding onPair
   ends-pair unit k g s = sticks
   ends-pair (inl v) k g s = sticks
@@ -64,7 +71,7 @@ module _ {X : Type 0} {Q : X → Type 0} where
   ends-pair (pair v w) k g s = s v w
   ends-pair (roll v) k g s = sticks
 
-  pub ends-roll : (v : Val) (k : Val → Run X) (g : ℕ) → ((w : Val) → Ends Q (k w g)) → Ends Q (onRoll v k g)
+  pub ends-roll : (v : Val) (k : Val → Run X) (g : ℕ) → ((w : Val) → EndsBy N Q (k w g)) → EndsBy N Q (onRoll v k g)
   unfolding onRoll
   ends-roll unit k g s = sticks
   ends-roll (inl v) k g s = sticks
@@ -72,7 +79,7 @@ module _ {X : Type 0} {Q : X → Type 0} where
   ends-roll (pair v w) k g s = sticks
   ends-roll (roll v) k g s = s v
 
-  pub ends-unit : (v : Val) (m : Run X) (g : ℕ) → Ends Q (m g) → Ends Q (onUnit v m g)
+  pub ends-unit : (v : Val) (m : Run X) (g : ℕ) → EndsBy N Q (m g) → EndsBy N Q (onUnit v m g)
   unfolding onUnit
   ends-unit unit m g s = s
   ends-unit (inl v) m g s = sticks
@@ -80,22 +87,27 @@ module _ {X : Type 0} {Q : X → Type 0} where
   ends-unit (pair v w) m g s = sticks
   ends-unit (roll v) m g s = sticks
 
-  pub ends-map : {Q′ : X → Type 0} {x : Res X} → ((y : X) → Q y → Q′ y) → Ends Q x → Ends Q′ x
+  pub ends-map : {Q′ : X → Type 0} {x : Res X} → ((y : X) → Q y → Q′ y) → EndsBy N Q x → EndsBy N Q′ x
   ends-map s (answers q) = answers (s _ q)
   ends-map s (refuses n) = refuses n
   ends-map s sticks = sticks
 
+  pub ends-wider : {N′ : ℕ → Type 0} {x : Res X} → ((c : ℕ) → N c → N′ c) → EndsBy N Q x → EndsBy N′ Q x
+  ends-wider s (answers q) = answers q
+  ends-wider s (refuses {c} n) = refuses (s c n)
+  ends-wider s sticks = sticks
+
   -- what an ended run says
-  pub answer-ends : {x : Res X} {y : X} {g : ℕ} → Ends Q x → x ≡ ok y g → Q y
-  answer-ends s p = go (subst (Ends Q) p s)
+  pub answer-ends : {x : Res X} {y : X} {g : ℕ} → EndsBy N Q x → x ≡ ok y g → Q y
+  answer-ends s p = go (subst (EndsBy N Q) p s)
     where
-      go : {y : X} {g : ℕ} → Ends Q (ok y g) → Q y
+      go : {y : X} {g : ℕ} → EndsBy N Q (ok y g) → Q y
       go (answers q) = q
 
-  pub refusal-ends : {x : Res X} {c k : ℕ} → Ends Q x → x ≡ stop c k → RunNumber c
-  refusal-ends s p = go (subst (Ends Q) p s)
+  pub refusal-ends : {x : Res X} {c k : ℕ} → EndsBy N Q x → x ≡ stop c k → N c
+  refusal-ends s p = go (subst (EndsBy N Q) p s)
     where
-      go : {c k : ℕ} → Ends Q (stop c k) → RunNumber c
+      go : {c k : ℕ} → EndsBy N Q (stop c k) → N c
       go (refuses n) = n
 
 ----------------------------------------------------------------
@@ -104,14 +116,14 @@ module _ {X : Type 0} {Q : X → Type 0} where
 module _ (fits : Val → Bool) (P : Program) where
   -- a run of a term ends with a value that fits
   abbrev pub EndsForward : (List Val → State → Term → Run Val) → Type 0
-  EndsForward go = (a : List Val) (σ : State) (t : Term) (g : ℕ) → Ends (λ v. fits v ≡ true) (go a σ t g)
+  EndsForward go = (a : List Val) (σ : State) (t : Term) (g : ℕ) → EndsBy ForwardNumber (λ v. fits v ≡ true) (go a σ t g)
 
-  made-ends : (k : ℕ) (v : Val) (g : ℕ) → Ends (λ v. fits v ≡ true) (made fits P k v g)
+  made-ends : (k : ℕ) (v : Val) (g : ℕ) → EndsBy ForwardNumber (λ v. fits v ≡ true) (made fits P k v g)
   unfolding made
   made-ends k v g = ends-test (fits v) 14 k g (give v) (omega arith) λ ft. answers ft
 
   module _ (go : List Val → State → Term → Run Val) (S : EndsForward go) where
-    pub each-ends : (a : List Val) (σ : State) (ts : Terms) (g : ℕ) → Ends (λ vs. Unit {0}) (each (go a σ) ts g)
+    pub each-ends : (a : List Val) (σ : State) (ts : Terms) (g : ℕ) → EndsBy ForwardNumber (λ vs. Unit {0}) (each (go a σ) ts g)
     unfolding each
     each-ends a σ end g = answers tt
     each-ends a σ (more t ts) g = ends-after _ (S a σ t g) λ v g ft. ends-after _ (each-ends a σ ts g) λ vs g u. answers tt
@@ -134,12 +146,15 @@ module _ (fits : Val → Bool) (P : Program) where
 
   pub forward-ends : (r : ℕ) → EndsForward (forward fits P r)
   unfolding forward
-  forward-ends zero a σ t g = ends-enter (entry t) g (refuse 13 (entry t)) λ g. refuses {c = 13} (omega arith)
-  forward-ends (suc r) a σ t g = ends-enter (entry t) g _ λ g. step-ends (forward fits P r) (forward-ends r) a σ t g
+  forward-ends zero a σ t g = ends-enter (omega arith) (entry t) g (refuse 13 (entry t)) λ g. refuses {c = 13} (omega arith)
+  forward-ends (suc r) a σ t g = ends-enter (omega arith) (entry t) g _ λ g. step-ends (forward fits P r) (forward-ends r) a σ t g
+
+  pub run-forward-numbers : (r : ℕ) (h : Fun) (vs : List Val) (v : Val) (f : ℕ) → EndsBy ForwardNumber (λ w. fits w ≡ true) (runForward fits P r h vs v f)
+  unfolding runForward
+  run-forward-numbers r h vs v f = forward-ends r (scope vs []) (some v ∷ map some (scope vs [])) (h .body) f
 
   pub run-forward-ends : (r : ℕ) (h : Fun) (vs : List Val) (v : Val) (f : ℕ) → Ends (λ w. fits w ≡ true) (runForward fits P r h vs v f)
-  unfolding runForward
-  run-forward-ends r h vs v f = forward-ends r (scope vs []) (some v ∷ map some (scope vs [])) (h .body) f
+  run-forward-ends r h vs v f = ends-wider (λ c l. omega arith) (run-forward-numbers r h vs v f)
 
 ----------------------------------------------------------------
 -- Typing

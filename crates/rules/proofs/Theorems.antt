@@ -14,7 +14,7 @@ use package.Rattle.rules.specs.Term.{Fun, Program, scope}
 use package.Rattle.rules.specs.Typing.{dynamic}
 use package.Rattle.rules.specs.Run.{Res, ok, stop, Run, give}
 use package.Rattle.rules.specs.Machine.{backward, runForward, runBackward}
-use package.Rattle.rules.specs.Claims.{CheckIffTyped, InferIffTypes, TypeUnique, Carries, Wider, ForwardIffRules, NoValue, Steady, MoreNeverChanges, StepsAreTheRules, BackwardThenForward, OfTyped, BackwardIffForward, Injective, NoInput, NeverStuck, KeepsTypes}
+use package.Rattle.rules.specs.Claims.{CheckIffTyped, InferIffTypes, TypeUnique, BranchesUseTheSame, Carries, Wider, ForwardIffRules, NoValue, Steady, MoreNeverChanges, StepsAreTheRules, BackwardThenForward, OfTyped, BackwardIffRules, BackwardIffForward, Injective, NoInput, NeverStuck, KeepsTypes}
 use package.Rattle.rules.proofs.Backward.Outcome.{back-outcome}
 use package.Rattle.rules.proofs.Backward.Pop.{ready-call, call-pop}
 use package.Rattle.rules.proofs.Backward.Safe.{body-safe, backward-safe}
@@ -36,6 +36,8 @@ use package.Rattle.rules.proofs.Typing.Complete.{infer-complete, check-
 use package.Rattle.rules.proofs.Typing.Sound.{infer-sound, check-sound}
 use package.Rattle.rules.proofs.Typing.ToDirected.{directed}
 use package.Rattle.rules.proofs.Typing.Unique.{types-unique}
+use package.Rattle.rules.proofs.Typing.Uses.{branches-agree}
+pub use package.Rattle.rules.proofs.Yield.{theorem1}
 
 enough : {X : Type 0} {Q : X → Type 0} (fits fits′ : Val → Bool) (f n r r′ : ℕ) (x : Res X) → Wider fits′ fits → r′ ≤ r → n ≤ f
     → Good fits fits′ Q f n r r′ x → (y : X) × (g : ℕ) × (x ≡ ok y g) × (f ≡ n + g) × Q y
@@ -68,6 +70,9 @@ infer-iff-types variables most P Δ t τ = (λ e. (used Δ t, infer-sound variab
 
 pub type-unique : (variables most : ℕ) (P : Program) → TypeUnique variables most P
 type-unique variables most P Δ U U′ t τ τ′ d d′ = types-unique variables most P d d′
+
+pub branches-use-the-same : (variables most : ℕ) (P : Program) → BranchesUseTheSame variables most P
+branches-use-the-same variables most P Δ U k i e b b′ τ c d p u = branches-agree variables most P d i c p u
 
 ----------------------------------------------------------------
 -- Runs
@@ -189,6 +194,12 @@ module _ (variables most : ℕ) (P : Program) where
           given (forward-iff-rules P fits r h vs v w f g .0 p) λ (n, d, e).
           given (enough fits fits f n r r _ (same-limits fits) (omega arith) (omega arith) (back-good fits fits P D h T vs hs v w hv r r n d f)) λ (u, g′, x, y, z).
           x ∙ ap (λ u. ok u g′) (sym z) ∙ ap (ok v) (let q : g′ ≡ g = omega arith in q)
+
+  pub backward-iff-rules : BackwardIffRules variables most P
+  backward-iff-rules W j h p vs hs fits r v w f g hw = (
+    λ x. given (backward-iff-forward W j h p vs hs fits r v w f g hw .0 x) λ (hv, y). (hv, forward-iff-rules P fits r h vs v w f g .0 y),
+    λ (hv, d). backward-iff-forward W j h p vs hs fits r v w f g hw .1 (hv, forward-iff-rules P fits r h vs v w f g .1 d),
+  )
 
   pub injective : Injective variables most P
   injective = of-typed λ D h T vs hs fits fits′ r r′ v v′ w n n′ hv hv′ d d′.

@@ -4,12 +4,13 @@ use native.Mathlib.Omega.{arith}
 use mathlib.Core.Path.{_≡_, refl, sym, _∙_}
 use mathlib.Core.Bool.{Bool, true}
 use mathlib.Core.Option.{Option, none, some}
-use mathlib.Core.List.{List, _∷_}
+use mathlib.Core.List.{List, [], _∷_, _++_}
 use lib.ListN.{length}
 use package.Rattle.rules.specs.Val.{Val, unit}
 use package.Rattle.rules.specs.Term.{Term, Program, look}
 use package.Rattle.rules.specs.Yield.{mayBe, mayYield}
 use package.Rattle.rules.specs.Rules.{Judgement, Rule, e-var, e-unit, e-inl, e-inr, e-prod, e-let, e-letp, e-casel, e-caser, e-app, e-roll, e-unroll, Ev}
+use package.Rattle.rules.specs.Claims.{Theorem1}
 use package.Rattle.rules.proofs.Basics.{or-right}
 use package.Rattle.rules.proofs.Scope.{look-lt, look-skip}
 use package.Rattle.rules.proofs.Val.{same-refl}
@@ -23,6 +24,11 @@ under-refl a = (omega arith, λ i w p. p)
 
 pub under-push : (a ρ : List Val) (v : Val) → Under a ρ → Under a (v ∷ ρ)
 under-push a ρ v (l, u) = (omega arith, λ i w p. look-skip ρ v i (let h : i < length a = look-lt a i p in omega arith) ∙ u i w p)
+
+-- whatever was bound later
+under-later : (a vs : List Val) → Under a (vs ++ a)
+under-later a [] = under-refl a
+under-later a (v ∷ vs) = under-push a (vs ++ a) v (under-later a vs)
 
 var-may : (o : Option Val) (v : Val) → ((w : Val) → o ≡ some w → some w ≡ some v) → mayBe o v ≡ true
 unfolding mayBe
@@ -51,6 +57,9 @@ module _ (fits : Val → Bool) (P : Program) where
   step-may R M a ρ t v n (e-roll d ft) u = M _ _ _ _ _ d u
   step-may R M a ρ t v n (e-unroll d ft) u = refl
 
-  pub theorem1 : (r : ℕ) → May (Ev fits P r)
-  theorem1 zero a ρ t v n d = absurd d
-  theorem1 (suc r) a ρ t v n d = step-may (Ev fits P r) (theorem1 r) a ρ t v n d
+  pub may : (r : ℕ) → May (Ev fits P r)
+  may zero a ρ t v n d = absurd d
+  may (suc r) a ρ t v n d = step-may (Ev fits P r) (may r) a ρ t v n d
+
+pub theorem1 : (P : Program) → Theorem1 P
+theorem1 P fits r a vs t v n d = may fits P r a (vs ++ a) t v n d (under-later a vs)

@@ -59,7 +59,7 @@ flip = record {
   ancillae = [];
   dynamic = prod bit bit;
   result = bit;
-  body = tletp 20 (var 0 0) (tcase 19 (var 1 1) (var 2 2) (tcase 18 (var 3 2) (tinr 5 bit (tunit 4)) (tinl 7 bit (tunit 6))));
+  body = tletp 10 (var 0 0) (tcase 9 (var 1 1) (var 2 2) (tcase 8 (var 3 2) (tinr 5 bit (tunit 4)) (tinl 7 bit (tunit 6))));
 }
 
 -- a left branch that may yield anything, being a call, and yields inl unit alone: backward never tries the right one (section 6,
@@ -127,8 +127,10 @@ pub record Table : Type 0 where
   pub p11-case : checked (dropByCase ∷ []) ≡ good tt
   pub p11-inr : runs (dropByCase ∷ []) dropByCase [] (inr unit) 3 ≡ stop 15 3
   pub p12-typed : checked (flip ∷ []) ≡ good tt
-  pub p12-left : runs (flip ∷ []) flip [] (pair (inl unit) (inr unit)) 5 ≡ ok (inr unit) 0
-  pub p12-right : runs (flip ∷ []) flip [] (pair (inr unit) (inr unit)) 65535 ≡ stop 15 19
+  pub p12-left-inl : runs (flip ∷ []) flip [] (pair (inl unit) (inl unit)) 5 ≡ ok (inl unit) 0
+  pub p12-left-inr : runs (flip ∷ []) flip [] (pair (inl unit) (inr unit)) 5 ≡ ok (inr unit) 0
+  pub p12-right-inl : runs (flip ∷ []) flip [] (pair (inr unit) (inl unit)) 65535 ≡ stop 15 9
+  pub p12-right-inr : runs (flip ∷ []) flip [] (pair (inr unit) (inr unit)) 65535 ≡ stop 15 9
   pub left-typed : checked (leftCalls ∷ identity ∷ []) ≡ good tt
   pub left-inl : returns (leftCalls ∷ identity ∷ []) leftCalls [] (inl unit) 65535 ≡ ok (inl unit) 65529
   pub left-inr : returns (leftCalls ∷ identity ∷ []) leftCalls [] (inr unit) 65535 ≡ stop 16 2

@@ -2,16 +2,17 @@
 -- Limits are parameters: `variables` in scope, `most` nodes of a type, `fits` of a value, height `r`, fuel `f`.
 use Prim.Native.Nat.{ℕ, _+_, _≤_}
 use mathlib.Core.Path.{_≡_}
-use mathlib.Core.Bool.{Bool, true}
+use mathlib.Core.Bool.{Bool, true, false}
 use mathlib.Core.Option.{some}
-use mathlib.Core.List.{List, [], _∷_}
+use mathlib.Core.List.{List, [], _∷_, _++_}
 use mathlib.Core.Logic.{_⊎_, _↔_}
 use package.Rattle.rules.specs.Val.{Val}
-use package.Rattle.rules.specs.Ty.{Ty, HasTy, HasTys}
-use package.Rattle.rules.specs.Term.{Term, Fun, Program, nth, scope}
+use package.Rattle.rules.specs.Ty.{Ty, isUnit, HasTy, HasTys}
+use package.Rattle.rules.specs.Term.{Term, tcase, Fun, Program, nth, look, scope}
+use package.Rattle.rules.specs.Yield.{mayYield}
 use package.Rattle.rules.specs.Rules.{Ev}
-use package.Rattle.rules.specs.Typing.{Context, Vars, Types, _∶_, WellTyped}
-use package.Rattle.rules.specs.Check.{good, infer, check}
+use package.Rattle.rules.specs.Typing.{dynamic, Context, Vars, Types, _∶_, WellTyped}
+use package.Rattle.rules.specs.Check.{good, names, infer, check}
 use package.Rattle.rules.specs.Run.{ok, stop, stuck, Run}
 use package.Rattle.rules.specs.Machine.{runForward, runBackward}
 
@@ -32,6 +33,11 @@ module _ (variables most : ℕ) (P : Program) where
   TypeUnique = (Δ : Context) (U U′ : Vars) (t : Term) (τ τ′ : Ty)
       → Types variables most P Δ U (t ∶ τ) → Types variables most P Δ U′ (t ∶ τ′) → τ ≡ τ′
 
+  -- Section 3: both branches of a case use the same outer dynamic variables, but for units.
+  abbrev pub BranchesUseTheSame : Type 0
+  BranchesUseTheSame = (Δ : Context) (U : Vars) (k i : ℕ) (e b b′ : Term) (τ c : Ty) → Types variables most P Δ U (tcase k e b b′ ∶ τ)
+      → look Δ i ≡ some (dynamic c) → isUnit c ≡ false → names i b ≡ names i b′
+
 ----------------------------------------------------------------
 -- Runs
 
@@ -48,6 +54,10 @@ module _ (P : Program) where
   abbrev pub ForwardIffRules : Type 0
   ForwardIffRules = (fits : Val → Bool) (r : ℕ) (h : Fun) (vs : List Val) (v w : Val) (f g : ℕ)
       → (runForward fits P r h vs v f ≡ ok w g) ↔ ((n : ℕ) × Carries fits P r h vs v w n × (f ≡ n + g))
+
+  -- The source's Theorem 1: what a term yields, it may yield. In scope are the ancilla parameters' values `a` and newer ones `vs`.
+  abbrev pub Theorem1 : Type 0
+  Theorem1 = (fits : Val → Bool) (r : ℕ) (a vs : List Val) (t : Term) (v : Val) (n : ℕ) → Ev fits P r a (vs ++ a) t v n → mayYield a t v ≡ true
 
   -- Refusal 15 forward: the rules yield nothing, at any height or size.
   abbrev pub NoValue : Type 0
@@ -82,7 +92,12 @@ module _ (variables most : ℕ) (P : Program) where
   abbrev pub OfTyped : (Fun → List Val → Type 0) → Type 0
   OfTyped C = WellTyped variables most P → (j : ℕ) (h : Fun) → nth P j ≡ some h → (vs : List Val) → HasTys vs (h .ancillae) → C h vs
 
-  -- Demand 2: backward gives an input if and only if forward carries it to the value, same steps, same fuel and limits.
+  -- Demand 2: backward gives an input, with `g` of its fuel left, exactly if the rules carry it to the value in the steps between.
+  abbrev pub BackwardIffRules : Type 0
+  BackwardIffRules = OfTyped λ h vs. (fits : Val → Bool) (r : ℕ) (v w : Val) (f g : ℕ) → HasTy w (h .result)
+      → (runBackward fits P r h vs w f ≡ ok v g) ↔ (HasTy v (h .dynamic) × ((n : ℕ) × Carries fits P r h vs v w n × (f ≡ n + g)))
+
+  -- So it gives an input if and only if forward carries it to the value, same steps, same fuel and limits.
   abbrev pub BackwardIffForward : Type 0
   BackwardIffForward = OfTyped λ h vs. (fits : Val → Bool) (r : ℕ) (v w : Val) (f g : ℕ) → HasTy w (h .result)
       → (runBackward fits P r h vs w f ≡ ok v g) ↔ (HasTy v (h .dynamic) × (runForward fits P r h vs v f ≡ ok w g))

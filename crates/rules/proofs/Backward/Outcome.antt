@@ -23,7 +23,7 @@ use package.Rattle.rules.proofs.Known.{Knows, Mono, Bound, After, enoug
 use package.Rattle.rules.proofs.Outcome.{steps, fuel-short, room-short, Good, yields, short, good-after, good-val, good-enter, good-size, good-some, good-swap, good-map}
 use package.Rattle.rules.proofs.Preserve.{env-length, Keeps, all-keeps, preserve}
 use package.Rattle.rules.proofs.State.{Agree, agree-length}
-use package.Rattle.rules.proofs.Yield.{under-push, May, theorem1}
+use package.Rattle.rules.proofs.Yield.{under-push, May, may}
 
 module _ (fits fits′ : Val → Bool) (P : Program) (W : TypedProgram P) where
   abbrev pub BackOut : Judgement → (List Val → State → Term → Val → Run State) → ℕ → ℕ → Type 0
@@ -131,5 +131,5 @@ module _ (fits fits′ : Val → Bool) (P : Program) (W : TypedProgram P) where
   back-outcome zero (suc r′) a ρ t v n d q Γ τ T σ rd zero = short (fuel-short refl (steps d))
   back-outcome zero (suc r′) a ρ t v n d q Γ τ T σ rd (suc f) = short (room-short refl (omega arith))
   back-outcome (suc r) (suc r′) a ρ t v n d q Γ τ T σ rd f =
-      step-bout (Ev fits′ P r′) (preserve fits′ P W r′) (theorem1 fits′ P r′) (fits-of r′) r r′ (forward fits P r) (outcome fits fits′ P r r′) (backward fits P r) (back-outcome r r′)
+      step-bout (Ev fits′ P r′) (preserve fits′ P W r′) (may fits′ P r′) (fits-of r′) r r′ (forward fits P r) (outcome fits fits′ P r r′) (backward fits P r) (back-outcome r r′)
       q Γ τ σ d T rd f

@@ -10,7 +10,7 @@ use mathlib.Core.Logic.{⊎-elim}
 use lib.ListN.{length}
 use lib.Dec.{eqb}
 use package.Rattle.rules.specs.Ty.{Ty, one, isUnit}
-use package.Rattle.rules.specs.Term.{Term, Program, look}
+use package.Rattle.rules.specs.Term.{Term, tcase, Program, look}
 use package.Rattle.rules.specs.Typing.{Binding, dynamic, Context, Vars, ∅, only, _∪_, Subject, _∶_, arguments, Types, t-var1, t-var2, t-unit, t-unit-elm, t-inl, t-inr, t-prod, t-let1, t-let2, t-sum, t-app1, t-app2, t-app2-end, t-roll, t-unroll}
 use package.Rattle.rules.specs.Check.{names}
 use package.Rattle.rules.proofs.Basics.{given, some-inj, or-left, or-right, or-elim, eqb-yes, eqb-sound, eqb-differs}
@@ -125,3 +125,9 @@ module _ (variables most : ℕ) (P : Program) where
   uses t-app2-end = tt
   uses (t-roll d) = uses d
   uses (t-unroll d s) = uses d
+
+  -- both branches of a case have one set
+  pub branches-agree : {Δ : Context} {U : Vars} {k : ℕ} {e b b′ : Term} {τ : Ty} → Types variables most P Δ U (tcase k e b b′ ∶ τ)
+      → (i : ℕ) (c : Ty) → look Δ i ≡ some (dynamic c) → isUnit c ≡ false → names i b ≡ names i b′
+  branches-agree (t-unit-elm j q d) i c p u = branches-agree d i c p u
+  branches-agree (t-sum U′ r d d₁ d₂ z) i c p u = uses-agree (uses-outer U′ (uses d₁) z) (uses-outer U′ (uses d₂) z) i c p u
