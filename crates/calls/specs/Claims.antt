@@ -65,8 +65,16 @@ ForwardIffRules = (ws out fuel fn : ℕ) (program anc bytes : List ℕ) (w : Val
     ↔ ((P : Program) × (h : Fun) × (vs : List Val) × (v : Val) × Admitted ws fuel fn program anc bytes (λ h. h .dynamic) P h vs v
     × Carries fits P maxHeight h vs v w n × (n ≤ fuel) × (size w ≤ out))
 
--- Demand 2: backward gives an input in `n` steps if and only if forward carries that input to the given value in `n` steps, with the
--- same fuel and limits, the outputs being long enough.
+-- Demand 2: backward gives the input `v` in `n` steps exactly if the call is admitted and the rules carry `v`, of the dynamic parameter's
+-- type, to the given value in `n` steps, within the fuel and the limits, and the output is long enough.
+abbrev pub BackwardIffRules : Type 0
+BackwardIffRules = (ws out fuel fn : ℕ) (program anc bytes : List ℕ) (v : Val) (n : ℕ)
+    → (backwardCall ws out fuel fn program anc bytes ≡ answer v n)
+    ↔ ((P : Program) × (h : Fun) × (vs : List Val) × (w : Val) × Admitted ws fuel fn program anc bytes (λ h. h .result) P h vs w
+    × HasTy v (h .dynamic) × Carries fits P maxHeight h vs v w n × (n ≤ fuel) × (size v ≤ out))
+
+-- So backward gives an input in `n` steps if and only if forward carries that input to the given value in `n` steps, with the same fuel
+-- and limits, the outputs being long enough.
 abbrev pub BackwardIffForward : Type 0
 BackwardIffForward = (ws out out′ fuel fn : ℕ) (program anc : List ℕ) (v w : Val) (n : ℕ) → size v ≤ out → size w ≤ out′
     → (backwardCall ws out fuel fn program anc (encode w) ≡ answer v n) ↔ (forwardCall ws out′ fuel fn program anc (encode v) ≡ answer w n)

@@ -4,6 +4,7 @@ use native.Mathlib.Omega.{arith}
 use mathlib.Core.Path.{_≡_, refl, sym, ap, subst, _∙_}
 use mathlib.Core.Option.{some}
 use mathlib.Core.List.{List, [], _++_}
+use mathlib.Core.Logic.{_↔_}
 use package.Rattle.rules.specs.Limits.{fits, maxHeight, maxVariables, maxNodes}
 use package.Rattle.rules.specs.Val.{Val, size, encode}
 use package.Rattle.rules.specs.Ty.{HasTy, HasTys}
@@ -18,7 +19,7 @@ use package.Rattle.rules.proofs.Theorems as Rules
 use package.Rattle.calls.specs.Answer.{Answer, refused}
 use package.Rattle.calls.specs.Values.{read, value}
 use package.Rattle.calls.specs.Runs.{prepared, checkCall}
-use package.Rattle.calls.specs.Claims.{CheckIffTyped, ForwardIffRules, BackwardIffForward, NoInput, NeverStuck, RefusalNumbers, OldConversionsReturn}
+use package.Rattle.calls.specs.Claims.{CheckIffTyped, Admitted, ForwardIffRules, BackwardIffRules, BackwardIffForward, NoInput, NeverStuck, RefusalNumbers, OldConversionsReturn}
 use package.Rattle.calls.proofs.Answer.{via, unbind}
 use package.Rattle.calls.proofs.Values.{got-value, read-encode, value-encode, value-sound}
 use package.Rattle.calls.proofs.Refusals.{Numbered, number}
@@ -27,7 +28,7 @@ use package.Rattle.calls.proofs.Runs.Calls.{gives, Direction, onward, b
 use package.Rattle.calls.proofs.Runs.Numbers.{check-numbered, forward-numbered, backward-numbered, open-numbered, convert-numbered, rollback-numbered}
 
 ----------------------------------------------------------------
--- Check and forward
+-- Check, forward and backward by the rules
 
 pub check-iff-typed : CheckIffTyped
 unfolding checkCall
@@ -46,6 +47,20 @@ forward-iff-rules ws out fuel fn program anc bytes w n = (
       forward-call-iff ws out fuel fn program anc bytes w n .1
       (P, h, vs, v, A, Rules.forward-iff-rules P fits maxHeight h vs v w fuel (fuel - n) .1 (n, d, omega arith), l, s),
 )
+
+pub backward-iff-rules : BackwardIffRules
+backward-iff-rules ws out fuel fn program anc bytes v n = (
+  λ e.
+      given (backward-call-iff ws out fuel fn program anc bytes v n .0 e) λ (P, h, vs, w, A, x, l, s).
+      given (of P h vs w A .0 x) λ (hv, (m, d, y)).
+      (P, h, vs, w, A, hv, subst (Carries fits P maxHeight h vs v w) (let z : m ≡ n = omega arith in z) d, l, s),
+  λ (P, h, vs, w, A, hv, d, l, s). backward-call-iff ws out fuel fn program anc bytes v n .1 (P, h, vs, w, A, of P h vs w A .1 (hv, (n, d, omega arith)), l, s),
+)
+  where
+    of : (P : Program) (h : Fun) (vs : List Val) (w : Val) → Admitted ws fuel fn program anc bytes (λ h. h .result) P h vs w
+        → (runBackward fits P maxHeight h vs w fuel ≡ ok v (fuel - n)) ↔ (HasTy v (h .dynamic) × ((m : ℕ) × Carries fits P maxHeight h vs v w m × (fuel ≡ m + (fuel - n))))
+    of P h vs w A =
+        Rules.backward-iff-rules maxVariables maxNodes P (A .typed) fn h (A .function) vs (A .ancillae-typed) fits maxHeight v w fuel (fuel - n) (A .value-typed)
 
 ----------------------------------------------------------------
 -- Backward is forward, turned
