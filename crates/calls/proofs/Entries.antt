@@ -18,14 +18,11 @@ use package.Rattle.calls.specs.Fields.{Layout}
 use package.Rattle.calls.specs.Entries.{TypeEntry, y-unit, y-prod, y-sum, y-mu, y-var, typeTree, typeBelow, typeOf}
 use package.Rattle.calls.specs.Named.{ceiling, nodesOf, freeOf, figures, plain, typesOfType, below, member, testTypes}
 use package.Rattle.calls.specs.Tested.{closed, Lower}
+pub use package.Rattle.calls.specs.Tested.{Plain}
 use package.Rattle.calls.proofs.Answer.{unbind, required}
 
 ----------------------------------------------------------------
 -- Closed types
-
--- a closed type within the limit on nodes (section 1)
-abbrev pub Plain : Ty → Type 0
-Plain c = (closed 0 c ≡ true) × (nodes c ≤ maxNodes)
 
 -- how many recursive types must still enclose a type so that it is closed
 unfoldable pub free : Ty → ℕ

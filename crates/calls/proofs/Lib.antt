@@ -13,6 +13,8 @@ pub mod Refusals
 pub mod Entries
 -- what accepted entries are, and the trees of their terms
 pub mod Trees
+-- the tests on programs accept exactly what section 1 says
+pub mod Formed
 -- what is loaded is well-formed and typed, and nothing else
 pub mod Load
 -- check, forward and backward: their parts, their refusals, and the claims about them

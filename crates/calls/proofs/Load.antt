@@ -21,8 +21,9 @@ use package.Rattle.calls.specs.Entries.{TypeEntry, TermEntry, FunctionEn
 use package.Rattle.calls.specs.Named.{testTypes, testTerms, testFunctions, testUsed, testEntries}
 use package.Rattle.calls.specs.Load.{typed, load}
 use package.Rattle.calls.specs.Runs.{workspaceFor, prepared}
-use package.Rattle.calls.specs.Claims.{WellFormed}
+use package.Rattle.calls.specs.Formed.{WellFormed}
 use package.Rattle.calls.proofs.Answer.{refused≢accepted, accepted-inj, via, unbind, require-yes, required}
+use package.Rattle.calls.proofs.Formed.Whole.{passes-iff}
 use package.Rattle.calls.proofs.Refusals.{Numbered, accepts, refuses, numbered-wider, numbered-either, numbered-bind, numbered-test}
 
 ----------------------------------------------------------------
@@ -96,10 +97,10 @@ load-iff program P = (
       given (unbind (layout program) _ e) λ (L, p, e₁).
       given (unbind (testEntries L (entriesAt program L)) _ e₁) λ (named, q, e₂).
       given (unbind (typed L (check maxVariables maxNodes (programOf (entriesAt program L)))) _ e₂) λ (checked, r, e₃). (
-        record { places = L; fields = p; entries = q; trees = accepted-inj e₃ },
+        passes-iff program P .0 (record { places = L; fields = p; entries = q; trees = accepted-inj e₃ }),
         subst (WellTyped maxVariables maxNodes) (accepted-inj e₃) (check-iff-typed maxVariables maxNodes (programOf (entriesAt program L)) .0 (typed-good L _ r)),
       ),
-  λ (F, T). via _ (F .fields) (via _ (F .entries)
+  λ (W, T). given (passes-iff program P .1 W) λ F. via _ (F .fields) (via _ (F .entries)
       (via _ (ap (typed (F .places)) (check-iff-typed maxVariables maxNodes (programOf (entriesAt program (F .places))) .1
       (subst (WellTyped maxVariables maxNodes) (sym (F .trees)) T))) (ap accepted (F .trees)))),
 )

@@ -15,9 +15,7 @@ use package.Rattle.rules.specs.Run.{ok}
 use package.Rattle.rules.specs.Machine.{runBackward}
 use package.Rattle.rules.specs.Claims.{Carries, Wider, OfTyped}
 use package.Rattle.calls.specs.Answer.{Answer, accepted, refused}
-use package.Rattle.calls.specs.Fields.{Layout, layout}
-use package.Rattle.calls.specs.Entries.{entriesAt, programOf}
-use package.Rattle.calls.specs.Named.{testEntries}
+use package.Rattle.calls.specs.Formed.{WellFormed}
 use package.Rattle.calls.specs.Load.{load}
 use package.Rattle.calls.specs.Values.{value, ancillae}
 use package.Rattle.calls.specs.Runs.{Ran, workspaceFor, checkCall, forwardCall, backwardCall}
@@ -27,13 +25,6 @@ use package.Rattle.calls.specs.Book.{Call, opens, converts, rollsBack, b
 
 ----------------------------------------------------------------
 -- Check
-
--- the bytes are a program `P`, well-formed by section 1
-pub record WellFormed (program : List ℕ) (P : Program) : Type 0 where
-  pub places : Layout
-  pub fields : layout program ≡ accepted places
-  pub entries : testEntries places (entriesAt program places) ≡ accepted tt
-  pub trees : programOf (entriesAt program places) ≡ P
 
 -- Check accepts exactly the programs that are well-formed by section 1 and typed by the rules, given its workspace.
 abbrev pub CheckIffTyped : Type 0

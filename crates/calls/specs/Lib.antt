@@ -9,6 +9,8 @@ pub mod Entries
 pub mod Named
 -- what those tests find, as propositions
 pub mod Tested
+-- well-formed programs, as propositions (section 1)
+pub mod Formed
 -- a program read and typed: refusals 2 to 8 (section 4)
 pub mod Load
 -- values from bytes, and whether a value is of a type (section 1)

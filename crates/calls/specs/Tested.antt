@@ -1,13 +1,14 @@
 -- What the tests of Named find, as propositions: closed types, and entries that name lower ones, that are there, and plain types alone.
 -- That the tests find it: proofs/Entries, proofs/Trees.
-use Prim.Native.Nat.{ℕ, suc, _<_}
+use Prim.Native.Nat.{ℕ, suc, _≤_, _<_}
 use mathlib.Core.Path.{_≡_}
 use mathlib.Core.Bool.{Bool, true, _&&_}
 use mathlib.Core.Option.{some}
 use mathlib.Core.List.{List}
 use lib.ListN.{length, getD}
 use lib.Dec.{ltb}
-use package.Rattle.rules.specs.Ty.{Ty, one, prod, sum, mu, tyvar}
+use package.Rattle.rules.specs.Limits.{maxNodes}
+use package.Rattle.rules.specs.Ty.{Ty, one, prod, sum, mu, tyvar, nodes}
 use package.Rattle.rules.specs.Term.{nth}
 use package.Rattle.calls.specs.Entries.{TypeEntry, y-unit, TermEntry, n-unit, FunctionEntry, Entries}
 use package.Rattle.calls.specs.Named.{typesOfType, typesOfTerm, termsOfTerm, functionsOfTerm, typesOfFunction, below, allPlain}
@@ -19,6 +20,10 @@ closed n (prod a b) = closed n a && closed n b
 closed n (sum a b) = closed n a && closed n b
 closed n (mu a) = closed (suc n) a
 closed n (tyvar k) = ltb k n
+
+-- a closed type within the limit on nodes (section 1)
+abbrev pub Plain : Ty → Type 0
+Plain c = (closed 0 c ≡ true) × (nodes c ≤ maxNodes)
 
 -- every entry names lower ones alone
 abbrev pub Lower : List TypeEntry → Type 0
