@@ -1,7 +1,7 @@
 -- What is claimed of the calls on bytes, as propositions; proofs/Theorems has a proof of each under the same name.
 use Prim.Native.Nat.{ℕ, _+_, _-_, _≤_, _<_}
 use mathlib.Core.Path.{_≡_}
-use mathlib.Core.Bool.{Bool}
+use mathlib.Core.Bool.{Bool, true}
 use mathlib.Core.Option.{none, some}
 use mathlib.Core.List.{List, [], _∷_, _++_}
 use mathlib.Core.Logic.{_↔_}
@@ -15,6 +15,7 @@ use package.Rattle.rules.specs.Run.{ok}
 use package.Rattle.rules.specs.Machine.{runBackward}
 use package.Rattle.rules.specs.Claims.{Carries, Wider, OfTyped}
 use package.Rattle.calls.specs.Answer.{Answer, accepted, refused}
+use package.Rattle.calls.specs.Named.{member}
 use package.Rattle.calls.specs.Formed.{WellFormed}
 use package.Rattle.calls.specs.Load.{load}
 use package.Rattle.calls.specs.Values.{value, ancillae}
@@ -84,15 +85,36 @@ NeverStuck = (ws out fuel fn : ℕ) (program anc bytes : List ℕ) (k : ℕ)
     × ¬ (convertCall ws fuel fn program anc bytes ≡ refused 0 k)
     × ¬ (rollbackCall ws fuel program bytes ≡ refused 0 k)
 
--- Demand 1: what a call does not accept it refuses under a number of document 01.
+-- the numbers of section 4's rows from Workspace to Typing, of row Call, and of row Run: a run forward never meets 16
+abbrev pub programNumbers : List ℕ
+programNumbers = 1 ∷ 2 ∷ 3 ∷ 4 ∷ 5 ∷ 6 ∷ 7 ∷ 8 ∷ []
+
+abbrev pub callNumbers : List ℕ
+callNumbers = 9 ∷ 10 ∷ 11 ∷ []
+
+abbrev pub forwardNumbers : List ℕ
+forwardNumbers = 12 ∷ 13 ∷ 14 ∷ 15 ∷ []
+
+abbrev pub backwardNumbers : List ℕ
+backwardNumbers = 12 ∷ 13 ∷ 14 ∷ 15 ∷ 16 ∷ []
+
+-- A call is refused with the numbers of the list, each for some arguments, and with no other.
+abbrev pub Exactly : List ℕ → (ℕ → Type 0) → Type 0
+Exactly ns Met = (n : ℕ) → (member n ns ≡ true) ↔ Met n
+
+-- Demand 1: what a call does not accept it refuses under a number of document 01, and these are the numbers of each call.
 abbrev pub RefusalNumbers : Type 0
-RefusalNumbers = (ws out fuel fn n k m : ℕ) (program anc bytes : List ℕ)
-    → (checkCall ws program ≡ refused n k → (1 ≤ n) × (n ≤ 8))
-    × (forwardCall ws out fuel fn program anc bytes ≡ refused n k → (1 ≤ n) × (n ≤ 17))
-    × (backwardCall ws out fuel fn program anc bytes ≡ refused n k → (1 ≤ n) × (n ≤ 17))
-    × (openCall ws program bytes m ≡ refused n k → (1 ≤ n) × (n ≤ 20))
-    × (convertCall ws fuel fn program anc bytes ≡ refused n k → (1 ≤ n) × (n ≤ 20))
-    × (rollbackCall ws fuel program bytes ≡ refused n k → (1 ≤ n) × (n ≤ 20))
+RefusalNumbers =
+    Exactly programNumbers (λ n. (ws : ℕ) × (program : List ℕ) × (k : ℕ) × (checkCall ws program ≡ refused n k))
+    × Exactly (programNumbers ++ callNumbers ++ forwardNumbers ++ (17 ∷ [])) (λ n. (ws : ℕ) × (out : ℕ) × (fuel : ℕ) × (fn : ℕ)
+    × (program : List ℕ) × (anc : List ℕ) × (bytes : List ℕ) × (k : ℕ) × (forwardCall ws out fuel fn program anc bytes ≡ refused n k))
+    × Exactly (programNumbers ++ callNumbers ++ backwardNumbers ++ (17 ∷ [])) (λ n. (ws : ℕ) × (out : ℕ) × (fuel : ℕ) × (fn : ℕ)
+    × (program : List ℕ) × (anc : List ℕ) × (bytes : List ℕ) × (k : ℕ) × (backwardCall ws out fuel fn program anc bytes ≡ refused n k))
+    × Exactly (programNumbers ++ (10 ∷ 20 ∷ [])) (λ n. (ws : ℕ) × (program : List ℕ) × (bytes : List ℕ) × (m : ℕ) × (k : ℕ) × (openCall ws program bytes m ≡ refused n k))
+    × Exactly (programNumbers ++ (18 ∷ 20 ∷ []) ++ callNumbers ++ forwardNumbers) (λ n. (ws : ℕ) × (fuel : ℕ) × (fn : ℕ)
+    × (program : List ℕ) × (anc : List ℕ) × (journal : List ℕ) × (k : ℕ) × (convertCall ws fuel fn program anc journal ≡ refused n k))
+    × Exactly (programNumbers ++ (18 ∷ 19 ∷ 20 ∷ []) ++ callNumbers ++ backwardNumbers) (λ n. (ws : ℕ) × (fuel : ℕ)
+    × (program : List ℕ) × (journal : List ℕ) × (k : ℕ) × (rollbackCall ws fuel program journal ≡ refused n k))
 
 -- A conversion that was accepted under narrower limits goes back under wider ones, in as many steps, given fuel for them.
 abbrev pub OldConversionsReturn : Type 0

@@ -17,15 +17,16 @@ use package.Rattle.rules.specs.Run.{Res, ok, stop, stuck}
 use package.Rattle.rules.specs.Machine.{runForward, runBackward}
 use package.Rattle.rules.proofs.Backward.Fits.{run-backward-ends}
 use package.Rattle.rules.proofs.Basics.{given}
-use package.Rattle.rules.proofs.Numbers.{Ends, run-forward-ends}
+use package.Rattle.rules.proofs.Numbers.{EndsBy, Ends, ends-wider, run-forward-numbers, run-forward-ends}
 use package.Rattle.rules.proofs.Theorems.{forward-iff-rules, backward-then-forward, never-stuck}
 use package.Rattle.rules.proofs.Typing.Tests.{leb-yes, leb-sound}
 use package.Rattle.calls.specs.Answer.{Answer, accepted, refused, _>>=_, require}
+use package.Rattle.calls.specs.Named.{below, member}
 use package.Rattle.calls.specs.Values.{value, ancillae}
 use package.Rattle.calls.specs.Runs.{prepared, Given, admit, Ran, ran, forwardCall, backwardCall}
-use package.Rattle.calls.specs.Claims.{Admitted, answer}
+use package.Rattle.calls.specs.Claims.{programNumbers, callNumbers, forwardNumbers, backwardNumbers, Admitted, answer}
 use package.Rattle.calls.proofs.Answer.{refused≢accepted, accepted-inj, via, unbind, first, later, unstop, require-yes, required, require-number}
-use package.Rattle.calls.proofs.Refusals.{number}
+use package.Rattle.calls.proofs.Refusals.{member-below, range, in-range, number}
 use package.Rattle.calls.proofs.Load.{prepared-numbered, prepared-iff}
 use package.Rattle.calls.proofs.Runs.Parts.{Admits, admit-iff, admit-numbered, ran-iff, ran-refused}
 
@@ -44,6 +45,9 @@ pub record Direction : Type 0 where
   pub left : (P : Program) (a : Given) (f : ℕ) (w : Val) (g : ℕ) → run P a f ≡ ok w g → g ≤ f
   -- answers fit, and refusals have a run's numbers
   pub ends : (P : Program) (a : Given) (f : ℕ) → Ends (λ w. fits w ≡ true) (run P a f)
+  -- the numbers of refusals
+  pub numbers : List ℕ
+  pub numbered : (P : Program) (a : Given) (f : ℕ) → EndsBy (λ n. member n numbers ≡ true) (λ w. fits w ≡ true) (run P a f)
   -- what is admitted to a run of a typed program does not stick
   pub safe : (P : Program) (fn : ℕ) (as? : Option (List Val)) (v? : Option Val) (a : Given) (f : ℕ) → WellTyped maxVariables maxNodes P
       → Admits P fn as? v? side a → ¬ (run P a f ≡ stuck)
@@ -55,12 +59,24 @@ pub unit-fits : fits unit ≡ true
 unfolding fits maxValueBytes size
 unit-fits = refl
 
+pub forward-numbers : (P : Program) (h : Fun) (vs : List Val) (v : Val) (f : ℕ)
+    → EndsBy (λ n. member n forwardNumbers ≡ true) (λ w. fits w ≡ true) (runForward fits P maxHeight h vs v f)
+unfolding range
+forward-numbers P h vs v f = ends-wider (λ c l. in-range 12 4 c (l .0) (omega arith)) (run-forward-numbers fits P maxHeight h vs v f)
+
+pub backward-numbers : (P : Program) (h : Fun) (vs : List Val) (v : Val) (f : ℕ)
+    → EndsBy (λ n. member n backwardNumbers ≡ true) (λ w. fits w ≡ true) (runBackward fits P maxHeight h vs v f)
+unfolding range
+backward-numbers P h vs v f = ends-wider (λ c l. in-range 12 5 c (l .0) (omega arith)) (run-backward-ends fits P unit-fits maxHeight h vs v f)
+
 abbrev pub onward : Direction
 onward = record {
   side = λ h. h .dynamic;
   run = λ P a f. runForward fits P maxHeight (a .fun) (a .ancillae) (a .value) f;
   left = λ P a f w g p. forward-left P (a .fun) (a .ancillae) (a .value) w f g p;
   ends = λ P a f. run-forward-ends fits P maxHeight (a .fun) (a .ancillae) (a .value) f;
+  numbers = forwardNumbers;
+  numbered = λ P a f. forward-numbers P (a .fun) (a .ancillae) (a .value) f;
   safe = λ P fn as? v? a f T A. never-stuck maxVariables maxNodes P T fn (a .fun) (A .function) (a .ancillae) (A .ancillae-typed) fits maxHeight f (a .value) .0 (A .value-typed);
 }
 
@@ -71,6 +87,8 @@ back = record {
   left = λ P a f v g p.
       forward-left P (a .fun) (a .ancillae) v (a .value) f g (backward-then-forward P fits maxHeight (a .fun) (a .ancillae) v (a .value) f g p);
   ends = λ P a f. run-backward-ends fits P unit-fits maxHeight (a .fun) (a .ancillae) (a .value) f;
+  numbers = backwardNumbers;
+  numbered = λ P a f. backward-numbers P (a .fun) (a .ancillae) (a .value) f;
   safe = λ P fn as? v? a f T A. never-stuck maxVariables maxNodes P T fn (a .fun) (A .function) (a .ancillae) (A .ancillae-typed) fits maxHeight f (a .value) .1 (A .value-typed);
 }
 
@@ -155,11 +173,11 @@ module _ (D : Direction) (ws out fuel fn : ℕ) (program anc bytes : List ℕ) w
     short : n ≡ 17 → Refuses n k
 
   directed-refused : {n k : ℕ} → directed ≡ refused n k → Refuses n k
-  unfolding directed
+  unfolding directed below
   directed-refused {n} {k} e = elim (unstop (prepared ws fuel program) _ e) [
-    | first p ↦ before (omega (arith, number (prepared-numbered ws fuel program) p .1))
+    | first p ↦ before (omega (arith, member-below n 9 programNumbers refl (number (prepared-numbered ws fuel program) p)))
     | later P p e₁ ↦ elim (unstop (admit P fn (ancillae anc) (value bytes) (D .side)) _ e₁) [
-      | first q ↦ before (number (admit-numbered P fn (ancillae anc) (value bytes) (D .side)) q .1)
+      | first q ↦ before (omega (arith, member-below n 12 callNumbers refl (number (admit-numbered P fn (ancillae anc) (value bytes) (D .side)) q)))
       | later a q e₂ ↦ elim (unstop (ran fuel (D .run P a fuel)) _ e₂) [
         | first s ↦ during P a p q s
         | later r s e₃ ↦ elim (unstop (require (leb (size (r .value)) out) 17 0) _ e₃) [

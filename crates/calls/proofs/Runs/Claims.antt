@@ -2,6 +2,7 @@
 use Prim.Native.Nat.{ℕ, _+_, _-_, _≤_}
 use native.Mathlib.Omega.{arith}
 use mathlib.Core.Path.{_≡_, refl, sym, ap, subst, _∙_}
+use mathlib.Core.Bool.{false, false≢true}
 use mathlib.Core.Option.{some}
 use mathlib.Core.List.{List, [], _++_}
 use mathlib.Core.Logic.{_↔_}
@@ -17,15 +18,16 @@ use package.Rattle.rules.proofs.Basics.{given}
 use package.Rattle.rules.proofs.Numbers.{answer-ends}
 use package.Rattle.rules.proofs.Theorems as Rules
 use package.Rattle.calls.specs.Answer.{Answer, refused}
+use package.Rattle.calls.specs.Named.{member}
 use package.Rattle.calls.specs.Values.{read, value}
 use package.Rattle.calls.specs.Runs.{prepared, checkCall}
-use package.Rattle.calls.specs.Claims.{CheckIffTyped, Admitted, ForwardIffRules, BackwardIffRules, BackwardIffForward, NoInput, NeverStuck, RefusalNumbers, OldConversionsReturn}
+use package.Rattle.calls.specs.Claims.{CheckIffTyped, Admitted, ForwardIffRules, BackwardIffRules, BackwardIffForward, NoInput, NeverStuck, OldConversionsReturn}
 use package.Rattle.calls.proofs.Answer.{via, unbind}
 use package.Rattle.calls.proofs.Values.{got-value, read-encode, value-encode, value-sound}
 use package.Rattle.calls.proofs.Refusals.{Numbered, number}
 use package.Rattle.calls.proofs.Load.{prepared-iff}
 use package.Rattle.calls.proofs.Runs.Calls.{gives, Direction, onward, back, Answers, before, running, short, forward-call-iff, backward-call-iff, backward-call-refused}
-use package.Rattle.calls.proofs.Runs.Numbers.{check-numbered, forward-numbered, backward-numbered, open-numbered, convert-numbered, rollback-numbered}
+use package.Rattle.calls.proofs.Runs.Numbers.{forward-numbered, backward-numbered, convert-numbered, rollback-numbered}
 
 ----------------------------------------------------------------
 -- Check, forward and backward by the rules
@@ -135,15 +137,16 @@ no-input ws out fuel fn program anc bytes k e = elim (backward-call-refused ws o
 ]
 
 -- numbers begin with 1
-not-zero : {A : Type 0} {high k : ℕ} {x : Answer A} → Numbered 1 high x → ¬ (x ≡ refused 0 k)
-not-zero h e = given (number h e) λ (l, l′). omega arith
+not-zero : {A : Type 0} {ns : List ℕ} {k : ℕ} {x : Answer A} → member 0 ns ≡ false → Numbered ns x → ¬ (x ≡ refused 0 k)
+not-zero z h e = false≢true (sym z ∙ number h e)
 
 pub never-stuck : NeverStuck
+unfolding member
 never-stuck ws out fuel fn program anc bytes k = (
-  not-zero (forward-numbered ws out fuel fn program anc bytes),
-  not-zero (backward-numbered ws out fuel fn program anc bytes),
-  not-zero (convert-numbered ws fuel fn program anc bytes),
-  not-zero (rollback-numbered ws fuel program bytes),
+  not-zero refl (forward-numbered ws out fuel fn program anc bytes),
+  not-zero refl (backward-numbered ws out fuel fn program anc bytes),
+  not-zero refl (convert-numbered ws fuel fn program anc bytes),
+  not-zero refl (rollback-numbered ws fuel program bytes),
 )
 
 ----------------------------------------------------------------
@@ -156,13 +159,3 @@ old-conversions-return variables most P T fn h p vs hs narrow wide r r′ f g n 
     given (Rules.backward-iff-forward variables most P T fn h p vs hs narrow r v w f g hw .1 (hv, x)) λ y.
     given (Rules.more-never-changes P h vs w .1 narrow wide r r′ f 0 wider l .0 v g y) λ z.
     ap (runBackward wide P r′ h vs w) (let q : f ≡ f + 0 = omega arith in q) ∙ z ∙ ap (ok v) (let q : g + 0 ≡ g = omega arith in q)
-
-pub refusal-numbers : RefusalNumbers
-refusal-numbers ws out fuel fn n k m program anc bytes = (
-  number (check-numbered ws program),
-  number (forward-numbered ws out fuel fn program anc bytes),
-  number (backward-numbered ws out fuel fn program anc bytes),
-  number (open-numbered ws program bytes m),
-  number (convert-numbered ws fuel fn program anc bytes),
-  number (rollback-numbered ws fuel program bytes),
-)

@@ -2,7 +2,7 @@
 use Prim.Native.Nat.{ℕ, _-_, _≤_}
 use native.Mathlib.Omega.{arith}
 use mathlib.Core.Path.{_≡_, refl, sym, ap, subst, _∙_}
-use mathlib.Core.Bool.{_&&_}
+use mathlib.Core.Bool.{true, _&&_}
 use mathlib.Core.Option.{Option, some}
 use mathlib.Core.List.{List}
 use mathlib.Core.Logic.{_↔_}
@@ -13,13 +13,14 @@ use package.Rattle.rules.specs.Ty.{Ty, HasTy, HasTys}
 use package.Rattle.rules.specs.Term.{Fun, Program, nth}
 use package.Rattle.rules.specs.Run.{Res, ok, stop, stuck}
 use package.Rattle.rules.proofs.Basics.{given, and-both, eqb-yes}
-use package.Rattle.rules.proofs.Numbers.{Ends, answers, refuses, sticks}
+use package.Rattle.rules.proofs.Numbers.{EndsBy, answers, refuses, sticks}
 use package.Rattle.rules.proofs.Preserve.{env-length}
 use package.Rattle.rules.proofs.Run.{stop≢ok, stuck≢ok}
 use package.Rattle.calls.specs.Answer.{accepted, refused, require, present}
+use package.Rattle.calls.specs.Named.{member}
 use package.Rattle.calls.specs.Values.{hasTy, hasTys}
 use package.Rattle.calls.specs.Runs.{Given, admit, ran}
-use package.Rattle.calls.specs.Claims.{answer}
+use package.Rattle.calls.specs.Claims.{callNumbers, answer}
 use package.Rattle.calls.proofs.Answer.{refused≢accepted, accepted-inj, via, unbind, require-yes, required, present-some, presented}
 use package.Rattle.calls.proofs.Types.{hasTy-sound, hasTy-complete, hasTys-sound, hasTys-complete}
 use package.Rattle.calls.proofs.Refusals.{Numbered, accepts, refuses as rejects, numbered-present, numbered-bind, numbered-test}
@@ -60,10 +61,10 @@ module _ (P : Program) (fn : ℕ) (as? : Option (List Val)) (v? : Option Val) (s
         (via _ (require-yes 11 0 (rw (hasTys-complete (a .ancillae) (a .fun .ancillae) (A .ancillae-typed)) (hasTy-complete (a .value) (side (a .fun)) (A .value-typed)))) refl)))),
   )
 
-  pub admit-numbered : Numbered 9 11 (admit P fn as? v? side)
-  unfolding admit
-  admit-numbered = numbered-bind _ (numbered-present (nth P fn) (omega arith)) λ h p. numbered-bind _ (numbered-present as? (omega arith)) λ vs q.
-      numbered-bind _ (numbered-present v? (omega arith)) λ v r. numbered-test _ 0 _ (omega arith) λ number. numbered-test _ 0 _ (omega arith) λ typed. accepts
+  pub admit-numbered : Numbered callNumbers (admit P fn as? v? side)
+  unfolding admit member
+  admit-numbered = numbered-bind _ (numbered-present (nth P fn) _ refl) λ h p. numbered-bind _ (numbered-present as? _ refl) λ vs q.
+      numbered-bind _ (numbered-present v? _ refl) λ v r. numbered-test _ _ 0 _ refl λ number. numbered-test _ _ 0 _ refl λ typed. accepts
 
 ----------------------------------------------------------------
 -- What is answered for a run
@@ -85,7 +86,7 @@ module _ (fuel : ℕ) where
   ran-iff stuck left w n = (λ e. absurd (refused≢accepted e), λ (e, l). absurd (stuck≢ok e))
 
   -- a run that is not stuck
-  pub ran-numbered : {Q : Val → Type 0} {x : Res Val} → Ends Q x → ¬ (x ≡ stuck) → Numbered 12 16 (ran fuel x)
+  pub ran-numbered : {ns : List ℕ} {Q : Val → Type 0} {x : Res Val} → EndsBy (λ n. member n ns ≡ true) Q x → ¬ (x ≡ stuck) → Numbered ns (ran fuel x)
   unfolding ran
   ran-numbered (answers q) s = accepts
   ran-numbered (refuses l) s = rejects l
