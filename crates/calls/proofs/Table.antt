@@ -7,6 +7,10 @@ use package.Rattle.calls.proofs.Compute.{computing}
 pub table : Table
 unfolding computing
 table = record {
+  loads = refl;
+  p10-loads = refl;
+  p11-trees = refl;
+  p12-loads = refl;
   checked = refl;
   p1 = refl;
   p2 = refl;
@@ -14,13 +18,17 @@ table = record {
   p3 = refl;
   p4 = refl;
   p5 = refl;
+  p5-height = refl;
+  p5-lower = refl;
   p9 = refl;
   p9-equal = refl;
   p10-inl = refl;
   p10-inr = refl;
   p11 = refl;
-  p12-left = refl;
-  p12-right = refl;
+  p12-left-inl = refl;
+  p12-left-inr = refl;
+  p12-right-inl = refl;
+  p12-right-inr = refl;
   p13-open = refl;
   p13-convert = refl;
   p13-rollback = refl;

@@ -1,12 +1,21 @@
--- Section 6's cases on bytes, gathered in one proposition (P1 to P5 and P9 to P13), and P6 to P8 beside it.
+-- Section 6's cases on bytes, gathered in one proposition (P1 to P5 and P9 to P13), P6 to P8 beside it, and orders of section 4. Each limit
+-- at its edge, outcomes and lists of calls: Borders.
 use Prim.Native.Nat.{ℕ}
 use mathlib.Core.Path.{_≡_}
 use mathlib.Core.List.{List, [], _∷_, _++_}
 use lib.ListN.{length, replicate}
 use package.Rattle.octets.specs.Numbers.{bytes16}
 use package.Rattle.rules.specs.Val.{Val, unit, inl, inr, pair, encode}
-use package.Rattle.rules.specs.Cases.{num}
-use package.Rattle.calls.specs.Answer.{Answer, accepted, refused}
+use package.Rattle.rules.specs.Limits.{fits}
+use package.Rattle.rules.specs.Term.{Program}
+use package.Rattle.rules.specs.Run.{ok, stop}
+use package.Rattle.rules.specs.Machine.{runForward}
+use package.Rattle.rules.specs.Cases.{num, plus}
+use package.Rattle.rules.specs.Cases as trees
+use package.Rattle.calls.specs.Answer.{Answer, accepted, refused, _>>=_}
+use package.Rattle.calls.specs.Fields.{layout}
+use package.Rattle.calls.specs.Entries.{entriesAt, programOf}
+use package.Rattle.calls.specs.Load.{load}
 use package.Rattle.calls.specs.Runs.{Ran, checkCall, forwardCall, backwardCall}
 use package.Rattle.calls.specs.Journal.{field}
 use package.Rattle.calls.specs.Conversions.{Turned, openCall, convertCall, rollbackCall}
@@ -45,14 +54,21 @@ unfolding typeField field
 natTypes = typeField 0 [] ++ field 1 (4 ∷ 0 ∷ []) ++ typeField 2 (0 ∷ 1 ∷ []) ++ typeField 3 (2 ∷ []) ++ typeField 2 (0 ∷ 3 ∷ [])
 
 -- and 5 product(3,3), the result of dup; terms 0 to 8 are plus, 9 to 11 dup
-unfoldable pub numbers : List ℕ
-unfolding natTypes typeField termField varField functionField
-numbers = natTypes ++ typeField 1 (3 ∷ 3 ∷ [])
+unfoldable pub numberTerms : List ℕ
+unfolding natTypes typeField termField varField
+numberTerms = natTypes ++ typeField 1 (3 ∷ 3 ∷ [])
     ++ varField 1 ++ termField 10 (3 ∷ 0 ∷ []) ++ varField 0
     ++ varField 0 ++ varField 2 ++ termField 8 (0 ∷ 3 ∷ 4 ∷ []) ++ termField 3 (4 ∷ 5 ∷ []) ++ termField 9 (3 ∷ 6 ∷ [])
     ++ termField 7 (1 ∷ 2 ∷ 7 ∷ [])
     ++ varField 0 ++ varField 0 ++ termField 4 (9 ∷ 10 ∷ [])
-    ++ functionField 3 (3 ∷ 3 ∷ []) 8 ++ functionField 5 (3 ∷ []) 11
+
+unfoldable pub numberFunctions : List ℕ
+unfolding functionField
+numberFunctions = functionField 3 (3 ∷ 3 ∷ []) 8 ++ functionField 5 (3 ∷ []) 11
+
+unfoldable pub numbers : List ℕ
+unfolding numberTerms numberFunctions
+numbers = numberTerms ++ numberFunctions
 
 -- types 0 unit, 1 sum(0,0)
 unfoldable pub bitTypes : List ℕ
@@ -118,7 +134,19 @@ converted = 0x21 ∷ 0x00 ∷ 0x0D ∷ (encode (num 5) ++ 0x22 ∷ 0x00 ∷ 0x0D
 abbrev pub held : ℕ → ℕ → List ℕ → Answer Turned
 held n steps journal = accepted (record { held = n; steps = steps; journal = journal })
 
+-- the tree program that the bytes are, typed or not
+abbrev pub treesOf : List ℕ → Answer Program
+treesOf xs = layout xs >>= λ L. accepted (programOf (entriesAt xs L))
+
+abbrev pub flipped : Val → Answer Ran
+flipped v = forwardCall ample 1024 65535 0 flip [] (encode v)
+
 pub record Table : Type 0 where
+  -- the programs of rules/specs/Cases are those that the bytes load to
+  pub loads : load numbers ≡ accepted trees.numbers
+  pub p10-loads : load collapse ≡ accepted (trees.collapse ∷ [])
+  pub p11-trees : treesOf drop ≡ accepted (trees.drop ∷ [])
+  pub p12-loads : load flip ≡ accepted (trees.flip ∷ [])
   pub checked : checkCall ample numbers ≡ accepted tt
   pub p1 : plusOf 65535 2 0 ≡ value (num 2) 4
   pub p2 : plusOf 28 2 3 ≡ value (num 5) 28
@@ -126,14 +154,19 @@ pub record Table : Type 0 where
   pub p3 : plusBack 28 2 5 ≡ value (num 3) 28
   pub p4 : plusBack 65535 2 1 ≡ refused 16 6
   pub p5 : plusOf 2044 0 255 ≡ value (num 255) 2044
+  -- its height is 1,023 exactly
+  pub p5-height : runForward fits trees.numbers 1023 plus (num 0 ∷ []) (num 255) 2044 ≡ ok (num 255) 0
+  pub p5-lower : runForward fits trees.numbers 1022 plus (num 0 ∷ []) (num 255) 2044 ≡ stop 13 0
   pub p9 : dupBack 3 3 4 ≡ refused 16 10
   pub p9-equal : dupBack 3 3 3 ≡ value (num 3) 3
   pub p10-inl : forwardCall ample 1024 4 0 collapse [] (encode (inl unit)) ≡ value (inl unit) 4
   pub p10-inr : forwardCall ample 1024 4 0 collapse [] (encode (inr unit)) ≡ refused 15 5
   -- placed at the function's field, the last
   pub p11 : checkCall ample drop ≡ refused 8 16
-  pub p12-left : forwardCall ample 1024 65535 0 flip [] (encode (pair (inl unit) (inr unit))) ≡ value (inr unit) 5
-  pub p12-right : forwardCall ample 1024 65535 0 flip [] (encode (pair (inr unit) (inr unit))) ≡ refused 15 9
+  pub p12-left-inl : flipped (pair (inl unit) (inl unit)) ≡ value (inl unit) 5
+  pub p12-left-inr : flipped (pair (inl unit) (inr unit)) ≡ value (inr unit) 5
+  pub p12-right-inl : flipped (pair (inr unit) (inl unit)) ≡ refused 15 9
+  pub p12-right-inr : flipped (pair (inr unit) (inr unit)) ≡ refused 15 9
   pub p13-open : openCall ample numbers (encode (num 3)) 40 ≡ accepted opened
   pub p13-convert : convertCall ample 65535 0 numbers (encode (num 2)) opened ≡ held 13 28 converted
   pub p13-rollback : rollbackCall ample 65535 numbers converted ≡ held 9 28 opened
