@@ -25,5 +25,7 @@ pub mod Book
 pub mod Compute
 -- section 6's cases, orders and samples, by computation
 pub mod Table
+-- each limit at its edge, outcomes, and a list of calls, by computation
+pub mod Borders
 -- the claims, proved
 pub mod Theorems

@@ -4,3 +4,4 @@ pub use package.Rattle.calls.proofs.Runs.Claims.{check-iff-typed, forwa
 pub use package.Rattle.calls.proofs.Runs.Met.{refusal-numbers}
 pub use package.Rattle.calls.proofs.Book.Demand.{demand3, newest-rolls-back}
 pub use package.Rattle.calls.proofs.Table.{table, limits, orders, samples}
+pub use package.Rattle.calls.proofs.Borders.{edges, outcomes, lists}

@@ -27,5 +27,7 @@ pub mod Book
 pub mod Claims
 -- section 6's cases, as propositions
 pub mod Cases
+-- each limit at its edge, outcomes, and a list of calls, as propositions
+pub mod Borders
 -- sample calls with their answers, as one proposition
 pub mod Samples
