@@ -7,6 +7,8 @@ pub mod Values
 pub mod Types
 -- the journal is read from the bytes that it is written out as, and from no others
 pub mod Journal
+-- the claims about values, types and journals from bytes
+pub mod Laws
 -- with which numbers an answer may be refused
 pub mod Refusals
 -- what the counting of type entries means for their trees

@@ -6,7 +6,8 @@ use mathlib.Core.Option.{none, some}
 use mathlib.Core.List.{List, [], _∷_, _++_}
 use mathlib.Core.Logic.{_↔_}
 use lib.ListN.{length, replicate}
-use package.Rattle.rules.specs.Limits.{fits, maxHeight, maxVariables, maxNodes, maxFuel}
+use package.Rattle.octets.specs.Numbers.{AreBytes}
+use package.Rattle.rules.specs.Limits.{fits, maxHeight, maxVariables, maxNodes, maxAncillaBytes, maxFuel}
 use package.Rattle.rules.specs.Val.{Val, size, encode}
 use package.Rattle.rules.specs.Ty.{Ty, HasTy, HasTys}
 use package.Rattle.rules.specs.Term.{Fun, Program, nth}
@@ -15,14 +16,37 @@ use package.Rattle.rules.specs.Run.{ok}
 use package.Rattle.rules.specs.Machine.{runBackward}
 use package.Rattle.rules.specs.Claims.{Carries, Wider, OfTyped}
 use package.Rattle.calls.specs.Answer.{Answer, accepted, refused}
-use package.Rattle.calls.specs.Named.{member}
+use package.Rattle.calls.specs.Entries.{TypeEntry, typeOf}
+use package.Rattle.calls.specs.Named.{plain, member}
+use package.Rattle.calls.specs.Tested.{Plain, Lower}
 use package.Rattle.calls.specs.Formed.{WellFormed}
 use package.Rattle.calls.specs.Load.{load}
-use package.Rattle.calls.specs.Values.{value, ancillae}
+use package.Rattle.calls.specs.Values.{value, encodeAll, ancillae, hasTy}
 use package.Rattle.calls.specs.Runs.{Ran, workspaceFor, checkCall, forwardCall, backwardCall}
 use package.Rattle.calls.specs.Journal.{Entry, Journal, fields, writeOut, readJournal}
 use package.Rattle.calls.specs.Conversions.{openCall, convertCall, rollbackCall}
 use package.Rattle.calls.specs.Book.{Call, opens, converts, rollsBack, buffer, Told, isOpen, holds, refuses, Row, Book, journalOf, bookRun, call, callRun, resized}
+
+----------------------------------------------------------------
+-- Values, types and journals from bytes
+
+-- The test whether a value is of a type holds exactly if it is.
+abbrev pub ValueOfType : Type 0
+ValueOfType = (v : Val) (τ : Ty) → (hasTy v τ ≡ true) ↔ HasTy v τ
+
+-- Of entries that each name lower ones, the counting says what section 1 says of their trees: closed, and at most 1,024 nodes.
+abbrev pub ClosedAndCounted : Type 0
+ClosedAndCounted = (ys : List TypeEntry) → Lower ys → (i : ℕ) → i < length ys → (plain ys i ≡ true) ↔ Plain (typeOf ys i)
+
+-- A value, or ancillae, are read from the bytes that they are written as, within the limit, and from no others.
+abbrev pub EncodeAndRead : Type 0
+EncodeAndRead = ((xs : List ℕ) (v : Val) → (value xs ≡ some v) ↔ ((xs ≡ encode v) × (fits v ≡ true)))
+    × ((xs : List ℕ) (vs : List Val) → (ancillae xs ≡ some vs) ↔ ((xs ≡ encodeAll vs) × (length xs ≤ maxAncillaBytes)))
+
+-- A journal is read from the bytes that it is written out as, in any buffer that has room, and from no others.
+abbrev pub WrittenAndRead : Type 0
+WrittenAndRead = (xs : List ℕ) (J : Journal) → AreBytes xs → readJournal xs ≡ some J
+    → (xs ≡ writeOut (length xs) J) × ((n : ℕ) → length (fields J) ≤ n → readJournal (writeOut n J) ≡ some J)
 
 ----------------------------------------------------------------
 -- Check
@@ -76,6 +100,24 @@ abbrev pub NoInput : Type 0
 NoInput = (ws out fuel fn : ℕ) (program anc bytes : List ℕ) (k : ℕ) → backwardCall ws out fuel fn program anc bytes ≡ refused 16 k
     → (P : Program) × (h : Fun) × (vs : List Val) × (w : Val) × Admitted ws fuel fn program anc bytes (λ h. h .result) P h vs w
     × ((fits′ : Val → Bool) (r n : ℕ) (v : Val) → HasTy v (h .dynamic) → Carries fits′ P r h vs v w n → ⊥)
+
+-- Refusal 15 forward: the call was admitted, and the rules yield nothing, at any fuel, height or size.
+abbrev pub NoValue : Type 0
+NoValue = (ws out fuel fn : ℕ) (program anc bytes : List ℕ) (k : ℕ) → forwardCall ws out fuel fn program anc bytes ≡ refused 15 k
+    → (P : Program) × (h : Fun) × (vs : List Val) × (v : Val) × Admitted ws fuel fn program anc bytes (λ h. h .dynamic) P h vs v
+    × ((fits′ : Val → Bool) (r n : ℕ) (w : Val) → Carries fits′ P r h vs v w n → ⊥)
+
+-- Two inputs never share a value, whatever the workspace, output and fuel.
+abbrev pub Injective : Type 0
+Injective = (ws ws′ out out′ fuel fuel′ fn : ℕ) (program anc bytes bytes′ : List ℕ) (w : Val) (n n′ : ℕ)
+    → forwardCall ws out fuel fn program anc bytes ≡ answer w n → forwardCall ws′ out′ fuel′ fn program anc bytes′ ≡ answer w n′ → bytes ≡ bytes′
+
+-- More fuel, workspace or output never changes a value or its steps, either way.
+abbrev pub MoreNeverChanges : Type 0
+MoreNeverChanges = (ws ws′ out out′ fuel fuel′ fn : ℕ) (program anc bytes : List ℕ) (w : Val) (n : ℕ)
+    → workspaceFor fuel′ ≤ ws′ → out ≤ out′ → fuel ≤ fuel′
+    → (forwardCall ws out fuel fn program anc bytes ≡ answer w n → forwardCall ws′ out′ fuel′ fn program anc bytes ≡ answer w n)
+    × (backwardCall ws out fuel fn program anc bytes ≡ answer w n → backwardCall ws′ out′ fuel′ fn program anc bytes ≡ answer w n)
 
 -- Demand 1: no call stops on a value of wrong shape (which would be the number 0).
 abbrev pub NeverStuck : Type 0

@@ -8,25 +8,25 @@ use mathlib.Core.List.{List, [], _++_}
 use mathlib.Core.Logic.{_↔_}
 use package.Rattle.rules.specs.Limits.{fits, maxHeight, maxVariables, maxNodes}
 use package.Rattle.rules.specs.Val.{Val, size, encode}
-use package.Rattle.rules.specs.Ty.{HasTy, HasTys}
+use package.Rattle.rules.specs.Ty.{Ty, HasTy, HasTys}
 use package.Rattle.rules.specs.Term.{Fun, Program, nth}
 use package.Rattle.rules.specs.Typing.{WellTyped}
 use package.Rattle.rules.specs.Run.{ok}
 use package.Rattle.rules.specs.Machine.{runBackward}
 use package.Rattle.rules.specs.Claims.{Carries}
-use package.Rattle.rules.proofs.Basics.{given}
+use package.Rattle.rules.proofs.Basics.{given, some-inj}
 use package.Rattle.rules.proofs.Numbers.{answer-ends}
 use package.Rattle.rules.proofs.Theorems as Rules
 use package.Rattle.calls.specs.Answer.{Answer, refused}
 use package.Rattle.calls.specs.Named.{member}
 use package.Rattle.calls.specs.Values.{read, value}
-use package.Rattle.calls.specs.Runs.{prepared, checkCall}
-use package.Rattle.calls.specs.Claims.{CheckIffTyped, Admitted, ForwardIffRules, BackwardIffRules, BackwardIffForward, NoInput, NeverStuck, OldConversionsReturn}
-use package.Rattle.calls.proofs.Answer.{via, unbind}
+use package.Rattle.calls.specs.Runs.{workspaceFor, prepared, checkCall}
+use package.Rattle.calls.specs.Claims.{CheckIffTyped, Admitted, ForwardIffRules, BackwardIffRules, BackwardIffForward, NoInput, NoValue, Injective, MoreNeverChanges, NeverStuck, OldConversionsReturn}
+use package.Rattle.calls.proofs.Answer.{accepted-inj, via, unbind}
 use package.Rattle.calls.proofs.Values.{got-value, read-encode, value-encode, value-sound}
 use package.Rattle.calls.proofs.Refusals.{Numbered, number}
-use package.Rattle.calls.proofs.Load.{prepared-iff}
-use package.Rattle.calls.proofs.Runs.Calls.{gives, Direction, onward, back, Answers, before, running, short, forward-call-iff, backward-call-iff, backward-call-refused}
+use package.Rattle.calls.proofs.Load.{load-iff, prepared-iff}
+use package.Rattle.calls.proofs.Runs.Calls.{gives, Direction, onward, back, Answers, before, running, short, forward-call-iff, backward-call-iff, forward-call-refused, backward-call-refused}
 use package.Rattle.calls.proofs.Runs.Numbers.{forward-numbered, backward-numbered, convert-numbered, rollback-numbered}
 
 ----------------------------------------------------------------
@@ -136,6 +136,13 @@ no-input ws out fuel fn program anc bytes k e = elim (backward-call-refused ws o
   | short e′ ↦ absurd (omega arith)
 ]
 
+pub no-value : NoValue
+no-value ws out fuel fn program anc bytes k e = elim (forward-call-refused ws out fuel fn program anc bytes e) [
+  | before l ↦ absurd (omega arith)
+  | running P h vs v A x ↦ (P, h, vs, v, A, λ fits′ r n w d. Rules.no-value P fits fits′ maxHeight r h vs v w fuel k n x d)
+  | short e′ ↦ absurd (omega arith)
+]
+
 -- numbers begin with 1
 not-zero : {A : Type 0} {ns : List ℕ} {k : ℕ} {x : Answer A} → member 0 ns ≡ false → Numbered ns x → ¬ (x ≡ refused 0 k)
 not-zero z h e = false≢true (sym z ∙ number h e)
@@ -147,6 +154,48 @@ never-stuck ws out fuel fn program anc bytes k = (
   not-zero refl (backward-numbered ws out fuel fn program anc bytes),
   not-zero refl (convert-numbered ws fuel fn program anc bytes),
   not-zero refl (rollback-numbered ws fuel program bytes),
+)
+
+----------------------------------------------------------------
+-- Other inputs, and more fuel, workspace or output
+
+-- what the rules carry in a program, function and ancillae, they carry in equal ones
+carried : {P P′ : Program} {h h′ : Fun} {vs vs′ : List Val} (v w : Val) (n : ℕ) → P ≡ P′ → h ≡ h′ → vs ≡ vs′
+    → Carries fits P maxHeight h vs v w n → Carries fits P′ maxHeight h′ vs′ v w n
+carried {P} {P′} {h} {h′} {vs} {vs′} v w n p q r d = subst (λ P. Carries fits P maxHeight h′ vs′ v w n) p
+    (subst (λ h. Carries fits P maxHeight h vs′ v w n) q (subst (λ vs. Carries fits P maxHeight h vs v w n) r d))
+
+pub injective : Injective
+injective ws ws′ out out′ fuel fuel′ fn program anc bytes bytes′ w n n′ e e′ =
+    given (forward-iff-rules ws out fuel fn program anc bytes w n .0 e) λ (P, h, vs, v, A, d, l, s).
+    given (forward-iff-rules ws′ out′ fuel′ fn program anc bytes′ w n′ .0 e′) λ (P′, h′, vs′, v′, A′, d′, l′, s′).
+    given (accepted-inj (sym (load-iff program P′ .1 (A′ .formed, A′ .typed)) ∙ load-iff program P .1 (A .formed, A .typed))) λ p.
+    given (some-inj (sym (A′ .function) ∙ ap (λ P. nth P fn) p ∙ A .function)) λ q.
+    given (some-inj (sym (A′ .ancillae-read) ∙ A .ancillae-read)) λ r.
+    given (Rules.injective maxVariables maxNodes P (A .typed) fn h (A .function) vs (A .ancillae-typed) fits fits maxHeight maxHeight v v′ w n n′
+    (A .value-typed) (subst (λ h. HasTy v′ (h .dynamic)) q (A′ .value-typed)) d (carried v′ w n′ p q r d′)) λ same.
+    value-sound bytes (A .value-read) .0 ∙ ap encode same ∙ sym (value-sound bytes′ (A′ .value-read) .0)
+
+-- a call that is admitted, with another workspace that suffices for other fuel
+enough : {ws fuel fn : ℕ} {program anc bytes : List ℕ} {side : Fun → Ty} {P : Program} {h : Fun} {vs : List Val} {v : Val} (ws′ fuel′ : ℕ)
+    → workspaceFor fuel′ ≤ ws′ → Admitted ws fuel fn program anc bytes side P h vs v → Admitted ws′ fuel′ fn program anc bytes side P h vs v
+enough ws′ fuel′ m A = record {
+  enough = m;
+  formed = A .formed;
+  typed = A .typed;
+  function = A .function;
+  ancillae-read = A .ancillae-read;
+  value-read = A .value-read;
+  ancillae-typed = A .ancillae-typed;
+  value-typed = A .value-typed;
+}
+
+pub more-never-changes : MoreNeverChanges
+more-never-changes ws ws′ out out′ fuel fuel′ fn program anc bytes w n m o f = (
+  λ e. given (forward-iff-rules ws out fuel fn program anc bytes w n .0 e) λ (P, h, vs, v, A, d, l, s).
+      forward-iff-rules ws′ out′ fuel′ fn program anc bytes w n .1 (P, h, vs, v, enough ws′ fuel′ m A, d, omega arith, omega arith),
+  λ e. given (backward-iff-rules ws out fuel fn program anc bytes w n .0 e) λ (P, h, vs, v, A, hw, d, l, s).
+      backward-iff-rules ws′ out′ fuel′ fn program anc bytes w n .1 (P, h, vs, v, enough ws′ fuel′ m A, hw, d, omega arith, omega arith),
 )
 
 ----------------------------------------------------------------
