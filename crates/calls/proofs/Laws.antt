@@ -4,15 +4,11 @@ use mathlib.Core.Path.{ap, subst, _∙_}
 use package.Rattle.rules.specs.Limits.{maxAncillaBytes}
 use package.Rattle.rules.proofs.Basics.{given}
 use package.Rattle.calls.specs.Values.{value, ancillae}
-use package.Rattle.calls.specs.Claims.{ValueOfType, ClosedAndCounted, EncodeAndRead, WrittenAndRead}
+use package.Rattle.calls.specs.Claims.{ClosedAndCounted, EncodeAndRead, WrittenAndRead}
 use package.Rattle.calls.proofs.Entries.{plain-iff}
 use package.Rattle.calls.proofs.Journal.Buffers.{read-written, written-read}
-use package.Rattle.calls.proofs.Types.{hasTy-iff}
 use package.Rattle.calls.proofs.Values.{value-encode, value-sound, ancillae-encode, ancillae-sound}
 use lib.ListN.{length}
-
-pub value-of-type : ValueOfType
-value-of-type = hasTy-iff
 
 pub closed-and-counted : ClosedAndCounted
 closed-and-counted = plain-iff

@@ -3,8 +3,6 @@
 pub mod Answer
 -- values are read from the bytes that they are written as, and from no others
 pub mod Values
--- the test whether a value is of a type holds exactly if it is
-pub mod Types
 -- the journal is read from the bytes that it is written out as, and from no others
 pub mod Journal
 -- the claims about values, types and journals from bytes

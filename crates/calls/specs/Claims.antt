@@ -21,7 +21,7 @@ use package.Rattle.calls.specs.Named.{plain, member}
 use package.Rattle.calls.specs.Tested.{Plain, Lower}
 use package.Rattle.calls.specs.Formed.{WellFormed}
 use package.Rattle.calls.specs.Load.{load}
-use package.Rattle.calls.specs.Values.{value, encodeAll, ancillae, hasTy}
+use package.Rattle.calls.specs.Values.{value, encodeAll, ancillae}
 use package.Rattle.calls.specs.Runs.{Ran, workspaceFor, checkCall, forwardCall, backwardCall}
 use package.Rattle.calls.specs.Journal.{Entry, Journal, fields, writeOut, readJournal}
 use package.Rattle.calls.specs.Conversions.{openCall, convertCall, rollbackCall}
@@ -29,10 +29,6 @@ use package.Rattle.calls.specs.Book.{Call, opens, converts, rollsBack, b
 
 ----------------------------------------------------------------
 -- Values, types and journals from bytes
-
--- The test whether a value is of a type holds exactly if it is.
-abbrev pub ValueOfType : Type 0
-ValueOfType = (v : Val) (τ : Ty) → (hasTy v τ ≡ true) ↔ HasTy v τ
 
 -- Of entries that each name lower ones, the counting says what section 1 says of their trees: closed, and at most 1,024 nodes.
 abbrev pub ClosedAndCounted : Type 0

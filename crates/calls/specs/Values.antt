@@ -1,13 +1,13 @@
--- Values from bytes (section 1), and whether a value is of a type.
+-- Values from bytes (section 1). Whether a value is of a type: rules/specs/Ty.
 use Prim.Native.Nat.{ℕ, zero, suc}
-use mathlib.Core.Bool.{Bool, true, false, _&&_}
+use mathlib.Core.Bool.{true, false}
 use mathlib.Core.Option.{Option, none, some}
 use mathlib.Core.List.{List, [], _∷_, _++_}
 use lib.ListN.{length}
 use lib.Dec.{leb}
 use package.Rattle.rules.specs.Limits.{fits, maxAncillaBytes}
 use package.Rattle.rules.specs.Val.{Val, unit, inl, inr, pair, roll, encode}
-use package.Rattle.rules.specs.Ty.{Ty, one, prod, sum, mu, tyvar, unfoldTy}
+unfoldable pub use package.Rattle.rules.specs.Ty.{hasTy, hasTys}
 
 ----------------------------------------------------------------
 -- Reading
@@ -66,39 +66,3 @@ readAll (suc n) (x ∷ xs) = elim (read (length (x ∷ xs)) (x ∷ xs)) [ got v 
 -- the values that the bytes are, if they are values within the limits
 unfoldable pub ancillae : List ℕ → Option (List Val)
 ancillae xs = elim (leb (length xs) maxAncillaBytes) [ true ↦ readAll (length xs) xs | false ↦ none ]
-
-----------------------------------------------------------------
--- Values of types, as a test
-
-unfoldable pub hasTy : Val → Ty → Bool
-hasTy unit one = true
-hasTy unit (prod a b) = false
-hasTy unit (sum a b) = false
-hasTy unit (mu a) = false
-hasTy unit (tyvar n) = false
-hasTy (inl v) one = false
-hasTy (inl v) (prod a b) = false
-hasTy (inl v) (sum a b) = hasTy v a
-hasTy (inl v) (mu a) = false
-hasTy (inl v) (tyvar n) = false
-hasTy (inr v) one = false
-hasTy (inr v) (prod a b) = false
-hasTy (inr v) (sum a b) = hasTy v b
-hasTy (inr v) (mu a) = false
-hasTy (inr v) (tyvar n) = false
-hasTy (pair v w) one = false
-hasTy (pair v w) (prod a b) = hasTy v a && hasTy w b
-hasTy (pair v w) (sum a b) = false
-hasTy (pair v w) (mu a) = false
-hasTy (pair v w) (tyvar n) = false
-hasTy (roll v) one = false
-hasTy (roll v) (prod a b) = false
-hasTy (roll v) (sum a b) = false
-hasTy (roll v) (mu a) = hasTy v (unfoldTy a)
-hasTy (roll v) (tyvar n) = false
-
-unfoldable pub hasTys : List Val → List Ty → Bool
-hasTys [] [] = true
-hasTys [] (c ∷ cs) = false
-hasTys (v ∷ vs) [] = false
-hasTys (v ∷ vs) (c ∷ cs) = hasTy v c && hasTys vs cs

@@ -4,9 +4,10 @@ use mathlib.Core.Path.{_≡_, sym, subst}
 use mathlib.Core.Bool.{Bool, true, false}
 use mathlib.Core.Option.{Option, some}
 use package.Rattle.rules.specs.Val.{Val, unit, inl, inr, pair, roll}
-use package.Rattle.rules.specs.Ty.{Ty, one, prod, sum, mu, unfoldTy, HasTy}
+use package.Rattle.rules.specs.Ty.{Ty, one, prod, sum, mu, unfoldTy}
 use package.Rattle.rules.specs.Run.{Res, ok, stop, stuck, Run, after, enter, test}
 use package.Rattle.rules.specs.Machine.{onSum, onPair, onRoll, onUnit, onSome}
+use package.Rattle.rules.proofs.OfType.{OfType}
 
 -- an answer of which `Q` holds, or a refusal
 pub data Fine {X : Type 0} (Q : X → Type 0) : Res X → Type 0 where
@@ -38,7 +39,7 @@ module _ {X : Type 0} {Q : X → Type 0} where
   unfolding onSome
   fine-some k g p s = subst (λ o. Fine Q (onSome o k g)) (sym p) s
 
-  pub fine-pair : (p : Val) (a b : Ty) (k : Val → Val → Run X) (g : ℕ) → HasTy p (prod a b) → ((v w : Val) → HasTy v a → HasTy w b → Fine Q (k v w g)) → Fine Q (onPair p k g)
+  pub fine-pair : (p : Val) (a b : Ty) (k : Val → Val → Run X) (g : ℕ) → OfType p (prod a b) → ((v w : Val) → OfType v a → OfType w b → Fine Q (k v w g)) → Fine Q (onPair p k g)
   unfolding onPair
   fine-pair unit a b k g h s = absurd h
   fine-pair (inl v) a b k g h s = absurd h
@@ -46,7 +47,7 @@ module _ {X : Type 0} {Q : X → Type 0} where
   fine-pair (pair v w) a b k g h s = s v w (h .0) (h .1)
   fine-pair (roll v) a b k g h s = absurd h
 
-  pub fine-sum : (p : Val) (a b : Ty) (l r : Val → Run X) (g : ℕ) → HasTy p (sum a b) → ((v : Val) → HasTy v a → Fine Q (l v g)) → ((v : Val) → HasTy v b → Fine Q (r v g))
+  pub fine-sum : (p : Val) (a b : Ty) (l r : Val → Run X) (g : ℕ) → OfType p (sum a b) → ((v : Val) → OfType v a → Fine Q (l v g)) → ((v : Val) → OfType v b → Fine Q (r v g))
       → Fine Q (onSum p l r g)
   unfolding onSum
   fine-sum unit a b l r g h s s′ = absurd h
@@ -55,7 +56,7 @@ module _ {X : Type 0} {Q : X → Type 0} where
   fine-sum (pair v w) a b l r g h s s′ = absurd h
   fine-sum (roll v) a b l r g h s s′ = absurd h
 
-  pub fine-roll : (p : Val) (a : Ty) (k : Val → Run X) (g : ℕ) → HasTy p (mu a) → ((v : Val) → HasTy v (unfoldTy a) → Fine Q (k v g)) → Fine Q (onRoll p k g)
+  pub fine-roll : (p : Val) (a : Ty) (k : Val → Run X) (g : ℕ) → OfType p (mu a) → ((v : Val) → OfType v (unfoldTy a) → Fine Q (k v g)) → Fine Q (onRoll p k g)
   unfolding onRoll
   fine-roll unit a k g h s = absurd h
   fine-roll (inl v) a k g h s = absurd h
@@ -63,7 +64,7 @@ module _ {X : Type 0} {Q : X → Type 0} where
   fine-roll (pair v w) a k g h s = absurd h
   fine-roll (roll v) a k g h s = s v h
 
-  pub fine-unit : (p : Val) (m : Run X) (g : ℕ) → HasTy p one → Fine Q (m g) → Fine Q (onUnit p m g)
+  pub fine-unit : (p : Val) (m : Run X) (g : ℕ) → OfType p one → Fine Q (m g) → Fine Q (onUnit p m g)
   unfolding onUnit
   fine-unit unit m g h s = s
   fine-unit (inl v) m g h s = absurd h

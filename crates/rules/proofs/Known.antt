@@ -10,10 +10,11 @@ use mathlib.Core.Logic.{_⊎_, inl as left, inr as right}
 use lib.ListN.{length}
 use lib.Dec.{eqb, eqb→eq, ltb, leb, leb→le, ltb→lt}
 use package.Rattle.rules.specs.Val.{Val, unit, inl, inr, pair, roll}
-use package.Rattle.rules.specs.Ty.{Ty, one, prod, sum, mu, tyvar, isUnit, HasTy}
+use package.Rattle.rules.specs.Ty.{Ty, one, prod, sum, mu, tyvar, isUnit}
 use package.Rattle.rules.specs.Term.{Term, look}
 use package.Rattle.rules.specs.Check.{names}
 use package.Rattle.rules.specs.Machine.{State, known}
+use package.Rattle.rules.proofs.OfType.{OfType}
 use package.Rattle.rules.proofs.Basics.{given, none≢some, or-cases, or-same, eqb-yes, eqb-no}
 use package.Rattle.rules.proofs.Directed.{inside, Spent, SameUse}
 use package.Rattle.rules.proofs.Scope.{look-lt, look-skip, look-newest, look-none}
@@ -66,14 +67,14 @@ bound-pop q Γ t c m σ l h i d p u ql s =
     let z : i < length Γ = look-lt Γ i p in
     knows-pop m σ i (omega arith) (h i d (look-skip Γ c i z ∙ p) u ql s)
 
-pub unit-val : (w : Val) (c : Ty) → isUnit c ≡ true → HasTy w c → unit ≡ w
+pub unit-val : (w : Val) (c : Ty) → isUnit c ≡ true → OfType w c → unit ≡ w
 unit-val w (prod a b) u h = absurd (false≢true u)
 unit-val w (sum a b) u h = absurd (false≢true u)
 unit-val w (mu a) u h = absurd (false≢true u)
 unit-val w (tyvar n) u h = absurd (false≢true u)
 unit-val w one u h = go w h
   where
-    go : (w : Val) → HasTy w one → unit ≡ w
+    go : (w : Val) → OfType w one → unit ≡ w
     go unit h = refl
     go (inl v) h = absurd h
     go (inr v) h = absurd h
@@ -81,7 +82,7 @@ unit-val w one u h = go w h
     go (roll v) h = absurd h
 
 -- a bound variable's value is known after its scope has run, or is unit
-pub determined : (q : ℕ) (Γ : List Ty) (c : Ty) (w : Val) (b : Term) (σ : State) → q ≤ length Γ → HasTy w c → Spent (length Γ) c b → Bound q (c ∷ Γ) b σ
+pub determined : (q : ℕ) (Γ : List Ty) (c : Ty) (w : Val) (b : Term) (σ : State) → q ≤ length Γ → OfType w c → Spent (length Γ) c b → Bound q (c ∷ Γ) b σ
     → Knows σ (length Γ) ⊎ (unit ≡ w)
 determined q Γ c w b σ ql h s k = go (isUnit c) refl s
   where

@@ -5,6 +5,8 @@ pub mod Basics
 pub mod Lists
 -- laws of values
 pub mod Val
+-- values of a type, shape by shape
+pub mod OfType
 -- laws of runs
 pub mod Run
 -- laws of scopes

@@ -7,32 +7,33 @@ use mathlib.Core.List.{List, [], _∷_}
 use lib.ListN.{length}
 use lib.Dec.{eqb}
 use package.Rattle.rules.specs.Val.{Val, unit, inl, inr, pair, roll, same}
-use package.Rattle.rules.specs.Ty.{Ty, prod, sum, unfoldTy, HasTy, HasTys}
+use package.Rattle.rules.specs.Ty.{Ty, prod, sum, unfoldTy}
 use package.Rattle.rules.specs.Term.{Term, Terms, Fun, Program, look, scope}
 use package.Rattle.rules.specs.Rules.{Judgement, All, e-end, e-more, Rule, e-var, e-unit, e-inl, e-inr, e-prod, e-let, e-letp, e-casel, e-caser, e-app, e-roll, e-unroll, Ev}
 use package.Rattle.rules.specs.Typing.{dynamic}
+use package.Rattle.rules.proofs.OfType.{OfType, OfTypes}
 use package.Rattle.rules.proofs.Basics.{given, none≢some, some-inj}
 use package.Rattle.rules.proofs.Directed.{Typed, TypedAll, TypedProgram}
 
-pub env-length : (ρ : List Val) (Γ : List Ty) → HasTys ρ Γ → length ρ ≡ length Γ
+pub env-length : (ρ : List Val) (Γ : List Ty) → OfTypes ρ Γ → length ρ ≡ length Γ
 env-length [] [] h = refl
 env-length [] (c ∷ Γ) h = absurd h
 env-length (v ∷ ρ) [] h = absurd h
 env-length (v ∷ ρ) (c ∷ Γ) h = ap suc (env-length ρ Γ (h .1))
 
-pick : (b : Bool) (v w : Val) (c d : Ty) (x : Option Val) (y : Option Ty) → HasTy v c → (x ≡ some w → y ≡ some d → HasTy w d)
-    → cond b (some v) x ≡ some w → cond b (some c) y ≡ some d → HasTy w d
-pick true v w c d x y h k p q = subst (HasTy w) (some-inj q) (subst (λ v. HasTy v c) (some-inj p) h)
+pick : (b : Bool) (v w : Val) (c d : Ty) (x : Option Val) (y : Option Ty) → OfType v c → (x ≡ some w → y ≡ some d → OfType w d)
+    → cond b (some v) x ≡ some w → cond b (some c) y ≡ some d → OfType w d
+pick true v w c d x y h k p q = subst (OfType w) (some-inj q) (subst (λ v. OfType v c) (some-inj p) h)
 pick false v w c d x y h k p q = k p q
 
-pub env-look : (ρ : List Val) (Γ : List Ty) (i : ℕ) (v : Val) (c : Ty) → HasTys ρ Γ → look ρ i ≡ some v → look Γ i ≡ some c → HasTy v c
+pub env-look : (ρ : List Val) (Γ : List Ty) (i : ℕ) (v : Val) (c : Ty) → OfTypes ρ Γ → look ρ i ≡ some v → look Γ i ≡ some c → OfType v c
 unfolding look
 env-look [] Γ i v c h p q = absurd (none≢some p)
 env-look (w ∷ ρ) [] i v c h p q = absurd h
 env-look (w ∷ ρ) (d ∷ Γ) i v c h p q =
     pick (eqb i (length Γ)) w v d c (look ρ i) (look Γ i) (h .0) (env-look ρ Γ i v c (h .1)) (rw (env-length ρ Γ (h .1)) at p) q
 
-pub scope-ty : (vs : List Val) (cs : List Ty) (ρ : List Val) (Γ : List Ty) → HasTys vs cs → HasTys ρ Γ → HasTys (scope vs ρ) (scope cs Γ)
+pub scope-ty : (vs : List Val) (cs : List Ty) (ρ : List Val) (Γ : List Ty) → OfTypes vs cs → OfTypes ρ Γ → OfTypes (scope vs ρ) (scope cs Γ)
 unfolding scope
 scope-ty [] [] ρ Γ h k = k
 scope-ty [] (c ∷ cs) ρ Γ h k = absurd h
@@ -41,19 +42,19 @@ scope-ty (v ∷ vs) (c ∷ cs) ρ Γ h k = scope-ty vs cs (v ∷ ρ) (c ∷ Γ) 
 
 module _ (fits : Val → Bool) (P : Program) (W : TypedProgram P) where
   abbrev pub Keeps : Judgement → Type 0
-  Keeps R = (a ρ : List Val) (t : Term) (v : Val) (n : ℕ) → R a ρ t v n → (q : ℕ) (Γ : List Ty) (τ : Ty) → HasTys ρ Γ → Typed P q Γ t τ → HasTy v τ
+  Keeps R = (a ρ : List Val) (t : Term) (v : Val) (n : ℕ) → R a ρ t v n → (q : ℕ) (Γ : List Ty) (τ : Ty) → OfTypes ρ Γ → Typed P q Γ t τ → OfType v τ
 
   pub all-keeps : (R : Judgement) → Keeps R → (a ρ : List Val) (ts : Terms) (vs : List Val) (n : ℕ) → All (R a ρ) ts vs n
-      → (q : ℕ) (Γ : List Ty) (cs : List Ty) → HasTys ρ Γ → TypedAll P q Γ ts cs → HasTys vs cs
-  all-keeps R K a ρ ts vs n e-end q Γ cs h T = subst (HasTys []) T tt
-  all-keeps R K a ρ ts vs n (e-more {v = w} {vs = ws} d ds) q Γ cs h (c, cs′, x, T, Ts) = subst (HasTys (w ∷ ws)) x (K _ _ _ _ _ d q Γ c h T, all-keeps R K a ρ _ _ _ ds q Γ cs′ h Ts)
+      → (q : ℕ) (Γ : List Ty) (cs : List Ty) → OfTypes ρ Γ → TypedAll P q Γ ts cs → OfTypes vs cs
+  all-keeps R K a ρ ts vs n e-end q Γ cs h T = subst (OfTypes []) T tt
+  all-keeps R K a ρ ts vs n (e-more {v = w} {vs = ws} d ds) q Γ cs h (c, cs′, x, T, Ts) = subst (OfTypes (w ∷ ws)) x (K _ _ _ _ _ d q Γ c h T, all-keeps R K a ρ _ _ _ ds q Γ cs′ h Ts)
 
   step-keeps : (R : Judgement) → Keeps R → Keeps (Rule fits P R)
   step-keeps R K a ρ t v n (e-var {i = i} x ft) q Γ τ h T = env-look ρ Γ i v τ h x T
-  step-keeps R K a ρ t v n (e-unit ft) q Γ τ h T = subst (HasTy unit) T tt
-  step-keeps R K a ρ t v n (e-inl {v = w} d ft) q Γ τ h (a₁, b₁, x, y, T) = subst (HasTy (inl w)) (x ∙ y) (K _ _ _ _ _ d q Γ a₁ h T)
-  step-keeps R K a ρ t v n (e-inr {v = w} d ft) q Γ τ h (a₁, b₁, x, y, T) = subst (HasTy (inr w)) (x ∙ y) (K _ _ _ _ _ d q Γ b₁ h T)
-  step-keeps R K a ρ t v n (e-prod {v = v₁} {w = v₂} d d′ ft) q Γ τ h (a₁, b₁, x, T, T′) = subst (HasTy (pair v₁ v₂)) x (K _ _ _ _ _ d q Γ a₁ h T, K _ _ _ _ _ d′ q Γ b₁ h T′)
+  step-keeps R K a ρ t v n (e-unit ft) q Γ τ h T = subst (OfType unit) T tt
+  step-keeps R K a ρ t v n (e-inl {v = w} d ft) q Γ τ h (a₁, b₁, x, y, T) = subst (OfType (inl w)) (x ∙ y) (K _ _ _ _ _ d q Γ a₁ h T)
+  step-keeps R K a ρ t v n (e-inr {v = w} d ft) q Γ τ h (a₁, b₁, x, y, T) = subst (OfType (inr w)) (x ∙ y) (K _ _ _ _ _ d q Γ b₁ h T)
+  step-keeps R K a ρ t v n (e-prod {v = v₁} {w = v₂} d d′ ft) q Γ τ h (a₁, b₁, x, T, T′) = subst (OfType (pair v₁ v₂)) x (K _ _ _ _ _ d q Γ a₁ h T, K _ _ _ _ _ d′ q Γ b₁ h T′)
   step-keeps R K a ρ t v n (e-let d d′) q Γ τ h (a₁, T, T′, u) = K _ _ _ _ _ d′ q (a₁ ∷ Γ) τ (K _ _ _ _ _ d q Γ a₁ h T, h) T′
   step-keeps R K a ρ t v n (e-letp d d′) q Γ τ h (a₁, b₁, T, T′, u, u′) =
       given (K _ _ _ _ _ d q Γ (prod a₁ b₁) h T) λ (x, y). K _ _ _ _ _ d′ q (b₁ ∷ a₁ ∷ Γ) τ (y, (x, h)) T′
@@ -61,13 +62,13 @@ module _ (fits : Val → Bool) (P : Program) (W : TypedProgram P) where
   step-keeps R K a ρ t v n (e-caser d d′ y) q Γ τ h (a₁, b₁, T, T₁, T₂, u, u′, s) = K _ _ _ _ _ d′ q (b₁ ∷ Γ) τ (K _ _ _ _ _ d q Γ (sum a₁ b₁) h T, h) T₂
   step-keeps R K a ρ t v n (e-app {g = j} {ts = ts} {e} {vs} {w = w} {h = fn} x ds d d′) q Γ τ h (fn′, y, Ts, T, z, i) =
       given (some-inj (sym y ∙ x)) λ same.
-      subst (HasTy w) (ap (λ (f : Fun). f .result) (sym same) ∙ z)
+      subst (OfType w) (ap (λ (f : Fun). f .result) (sym same) ∙ z)
       (K _ _ _ _ _ d′ _ _ _ (
         K _ _ _ _ _ d q Γ _ h (subst (λ (f : Fun). Typed P q Γ e (f .dynamic)) same T),
         scope-ty vs (fn .ancillae) [] [] (all-keeps R K a ρ _ vs _ ds q Γ _ h (subst (λ (f : Fun). TypedAll P q Γ ts (f .ancillae)) same Ts)) tt,
       ) (W j fn x .0))
-  step-keeps R K a ρ t v n (e-roll {v = w} d ft) q Γ τ h (a₁, x, y, T) = subst (HasTy (roll w)) (x ∙ y) (K _ _ _ _ _ d q Γ (unfoldTy a₁) h T)
-  step-keeps R K a ρ t v n (e-unroll {v = w} d ft) q Γ τ h (a₁, x, y, T) = subst (HasTy w) y (subst (HasTy (roll w)) (sym x) (K _ _ _ _ _ d q Γ _ h T))
+  step-keeps R K a ρ t v n (e-roll {v = w} d ft) q Γ τ h (a₁, x, y, T) = subst (OfType (roll w)) (x ∙ y) (K _ _ _ _ _ d q Γ (unfoldTy a₁) h T)
+  step-keeps R K a ρ t v n (e-unroll {v = w} d ft) q Γ τ h (a₁, x, y, T) = subst (OfType w) y (subst (OfType (roll w)) (sym x) (K _ _ _ _ _ d q Γ _ h T))
 
   pub preserve : (r : ℕ) → Keeps (Ev fits P r)
   preserve zero a ρ t v n d = absurd d

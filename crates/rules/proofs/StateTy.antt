@@ -9,11 +9,12 @@ use mathlib.Core.List.{List, [], _∷_, map}
 use lib.ListN.{length}
 use lib.Dec.{eqb, eqb→eq}
 use package.Rattle.rules.specs.Val.{Val, unit, same}
-use package.Rattle.rules.specs.Ty.{Ty, one, prod, sum, mu, tyvar, isUnit, HasTy, HasTys}
+use package.Rattle.rules.specs.Ty.{Ty, one, prod, sum, mu, tyvar, isUnit}
 use package.Rattle.rules.specs.Term.{Term, look}
 use package.Rattle.rules.specs.Check.{names}
 use package.Rattle.rules.specs.Run.{ok, Run, _>>=_, give}
 use package.Rattle.rules.specs.Machine.{State, known, bindOr, meet, leave}
+use package.Rattle.rules.proofs.OfType.{OfType, OfTypes}
 use package.Rattle.rules.proofs.Basics.{given, none≢some, some-inj}
 use package.Rattle.rules.proofs.Directed.{Spent}
 use package.Rattle.rules.proofs.Fine.{Fine, fine, fine-after, fine-test}
@@ -23,7 +24,7 @@ use package.Rattle.rules.proofs.Scope.{look-newest}
 -- what is known of a variable has its type
 abbrev OptTy : Option Val → Ty → Type 0
 OptTy none c = Unit {0}
-OptTy (some v) c = HasTy v c
+OptTy (some v) c = OfType v c
 
 abbrev pub StateTy : State → List Ty → Type 0
 StateTy [] [] = Unit {0}
@@ -37,19 +38,19 @@ state-length [] (c ∷ Γ) h = absurd h
 state-length (m ∷ σ) [] h = absurd h
 state-length (m ∷ σ) (c ∷ Γ) h = ap suc (state-length σ Γ (h .1))
 
-pub state-known : (σ : State) (Γ : List Ty) (i : ℕ) (v : Val) (c : Ty) → StateTy σ Γ → known σ i ≡ some v → look Γ i ≡ some c → HasTy v c
+pub state-known : (σ : State) (Γ : List Ty) (i : ℕ) (v : Val) (c : Ty) → StateTy σ Γ → known σ i ≡ some v → look Γ i ≡ some c → OfType v c
 unfolding known look
 state-known [] Γ i v c h p q = absurd (none≢some p)
 state-known (m ∷ σ) [] i v c h p q = absurd h
 state-known (m ∷ σ) (d ∷ Γ) i v c h p q = go (eqb i (length Γ)) m (h .0) (rw (state-length σ Γ (h .1)) at p) q (λ x y. state-known σ Γ i v c (h .1) x y)
   where
     go : (b : Bool) (m : Option Val) → OptTy m d → cond b m (known σ i) ≡ some v → cond b (some d) (look Γ i) ≡ some c
-        → (known σ i ≡ some v → look Γ i ≡ some c → HasTy v c) → HasTy v c
+        → (known σ i ≡ some v → look Γ i ≡ some c → OfType v c) → OfType v c
     go true none h p q s = absurd (none≢some p)
-    go true (some u) h p q s = subst (HasTy v) (some-inj q) (subst (λ u. HasTy u d) (some-inj p) h)
+    go true (some u) h p q s = subst (OfType v) (some-inj q) (subst (λ u. OfType u d) (some-inj p) h)
     go false m h p q s = s p q
 
-pub state-full : (ρ : List Val) (Γ : List Ty) → HasTys ρ Γ → StateTy (map some ρ) Γ
+pub state-full : (ρ : List Val) (Γ : List Ty) → OfTypes ρ Γ → StateTy (map some ρ) Γ
 state-full [] [] h = tt
 state-full [] (c ∷ Γ) h = absurd h
 state-full (v ∷ ρ) [] h = absurd h
@@ -77,7 +78,7 @@ has-full A ρ i p l = let z : length (map some ρ) ≡ length ρ = length-full �
 abbrev pub Left : ℕ → List Ty → Term → State → State → Type 0
 Left q Γ t σ σ′ = StateTy σ′ Γ × Mono σ σ′ × Bound q Γ t σ′
 
-unit-has : (c : Ty) → isUnit c ≡ true → HasTy unit c
+unit-has : (c : Ty) → isUnit c ≡ true → OfType unit c
 unit-has one u = tt
 unit-has (prod a b) u = absurd (false≢true u)
 unit-has (sum a b) u = absurd (false≢true u)
@@ -91,23 +92,23 @@ pop-left q Γ c b m₀ m σ σ₂ l (st, mo, bd) =
 
 pub fine-pop : {X : Type 0} {Q : X → Type 0} (k : Val → State → Run X) (f q : ℕ) (Γ : List Ty) (c : Ty) (b : Term) (m₀ : Option Val) (σ σ₁ : State)
     → length σ ≡ length Γ → q ≤ length Γ → Spent (length Γ) c b → Left q (c ∷ Γ) b (m₀ ∷ σ) σ₁
-    → ((w : Val) (σ₂ : State) → HasTy w c → Left q Γ b σ σ₂ → Fine Q (k w σ₂ f)) → Fine Q (leave σ₁ k f)
+    → ((w : Val) (σ₂ : State) → OfType w c → Left q Γ b σ σ₂ → Fine Q (k w σ₂ f)) → Fine Q (leave σ₁ k f)
 unfolding leave
 fine-pop k f q Γ c b m₀ σ [] l ql s (st, mo, bd) go = absurd st
 fine-pop k f q Γ c b m₀ σ (some w ∷ σ₂) l ql s L go = go w σ₂ (L .0 .0) (pop-left q Γ c b m₀ (some w) σ σ₂ l L)
 fine-pop k f q Γ c b m₀ σ (none ∷ σ₂) l ql s L go = go unit σ₂ (typed (isUnit c) refl s) (pop-left q Γ c b m₀ none σ σ₂ l L)
   where
-    typed : (u : Bool) → isUnit c ≡ u → (u || names (length Γ) b) ≡ true → HasTy unit c
+    typed : (u : Bool) → isUnit c ≡ u → (u || names (length Γ) b) ≡ true → OfType unit c
     typed true e s = unit-has c e
     typed false e s = given (L .2 (length Γ) c (look-newest c Γ) e ql s) λ (v, p).
         absurd (none≢some (sym (known-new none σ₂) ∙ ap (λ l. known (none ∷ σ₂) l) (state-length σ₂ Γ (L .0 .1)) ∙ p))
 
-bindOr-safe : (k : ℕ) (m : Option Val) (v : Val) (f : ℕ) (c : Ty) → OptTy m c → HasTy v c → Fine (λ m′. (w : Val) × (some w ≡ m′) × HasTy w c) (bindOr k m v f)
+bindOr-safe : (k : ℕ) (m : Option Val) (v : Val) (f : ℕ) (c : Ty) → OptTy m c → OfType v c → Fine (λ m′. (w : Val) × (some w ≡ m′) × OfType w c) (bindOr k m v f)
 unfolding bindOr
 bindOr-safe k none v f c h h′ = fine (v, refl, h′)
 bindOr-safe k (some w) v f c h h′ = fine-test (same w v) 16 k f (give (some w)) (fine (w, refl, h))
 
-pub meet-safe : (k : ℕ) (σ : State) (i : ℕ) (v : Val) (f : ℕ) (Γ : List Ty) (c : Ty) → StateTy σ Γ → look Γ i ≡ some c → HasTy v c
+pub meet-safe : (k : ℕ) (σ : State) (i : ℕ) (v : Val) (f : ℕ) (Γ : List Ty) (c : Ty) → StateTy σ Γ → look Γ i ≡ some c → OfType v c
     → Fine (λ σ′. StateTy σ′ Γ × Mono σ σ′ × Knows σ′ i) (meet k σ i v f)
 unfolding meet look
 meet-safe k [] i v f [] c st p h = absurd (none≢some p)
@@ -120,7 +121,7 @@ meet-safe k (m ∷ σ) i v f (d ∷ Γ) c st p h =
         → (look Γ i ≡ some c → Fine (λ σ′. StateTy σ′ Γ × Mono σ σ′ × Knows σ′ i) (meet k σ i v f))
         → Fine (λ σ′. StateTy σ′ (d ∷ Γ) × Mono (m ∷ σ) σ′ × Knows σ′ i)
         (cond b (bindOr k m v >>= λ m′. give (m′ ∷ σ)) (meet k σ i v >>= λ σ′. give (m ∷ σ′)) f)
-    go true e q s = fine-after _ (bindOr-safe k m v f d (st .0) (subst (HasTy v) (sym (some-inj q)) h)) λ m′ g (w, x, hw).
+    go true e q s = fine-after _ (bindOr-safe k m v f d (st .0) (subst (OfType v) (sym (some-inj q)) h)) λ m′ g (w, x, hw).
         subst (λ m′. Fine (λ σ′. StateTy σ′ (d ∷ Γ) × Mono (m ∷ σ) σ′ × Knows σ′ i) (ok (m′ ∷ σ) g)) x
         (fine ((hw, st .1), mono-set m w σ, knows-new w σ i (eqb→eq i (length σ) (rw e tt))))
     go false e q s = fine-after _ (s q) λ σ₁ g (st₁, mo, kn).

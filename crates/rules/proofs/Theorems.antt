@@ -9,12 +9,12 @@ use mathlib.Core.List.{List, [], _∷_, map}
 use mathlib.Core.Logic.{_⊎_, inl as left, inr as right}
 use lib.ListN.{length}
 use package.Rattle.rules.specs.Val.{Val}
-use package.Rattle.rules.specs.Ty.{HasTy, HasTys}
 use package.Rattle.rules.specs.Term.{Fun, Program, scope}
 use package.Rattle.rules.specs.Typing.{dynamic}
 use package.Rattle.rules.specs.Run.{Res, ok, stop, Run, give}
 use package.Rattle.rules.specs.Machine.{backward, runForward, runBackward}
 use package.Rattle.rules.specs.Claims.{CheckIffTyped, InferIffTypes, TypeUnique, BranchesUseTheSame, Carries, Wider, ForwardIffRules, NoValue, Steady, MoreNeverChanges, StepsAreTheRules, BackwardThenForward, OfTyped, BackwardIffRules, BackwardIffForward, Injective, NoInput, NeverStuck, KeepsTypes}
+use package.Rattle.rules.proofs.OfType.{OfType, OfTypes, of-type-iff, of-types-iff}
 use package.Rattle.rules.proofs.Backward.Outcome.{back-outcome}
 use package.Rattle.rules.proofs.Backward.Pop.{ready-call, call-pop}
 use package.Rattle.rules.proofs.Backward.Safe.{body-safe, backward-safe}
@@ -140,8 +140,8 @@ module _ (P : Program) where
 -- Runs of typed programs
 
 -- a run backward is good wherever the rules carry a typed input to the value
-back-good : (fits fits′ : Val → Bool) (P : Program) → TypedProgram P → (h : Fun) → TypedFun P h → (vs : List Val) → HasTys vs (h .ancillae) → (v w : Val)
-    → HasTy v (h .dynamic) → (r r′ n : ℕ) → Carries fits′ P r′ h vs v w n → (f : ℕ) → Good fits fits′ (λ u. v ≡ u) f n r r′ (runBackward fits P r h vs w f)
+back-good : (fits fits′ : Val → Bool) (P : Program) → TypedProgram P → (h : Fun) → TypedFun P h → (vs : List Val) → OfTypes vs (h .ancillae) → (v w : Val)
+    → OfType v (h .dynamic) → (r r′ n : ℕ) → Carries fits′ P r′ h vs v w n → (f : ℕ) → Good fits fits′ (λ u. v ≡ u) f n r r′ (runBackward fits P r h vs w f)
 unfolding runBackward
 back-good fits fits′ P W h T vs hs v w hv r r′ n d f =
     good-last fits fits′ _
@@ -150,16 +150,16 @@ back-good fits fits′ P W h T vs hs v w hv r r′ n d f =
     call-pop fits fits′ (λ u. give u) vs (h .ancillae) (h .dynamic) v (h .body) σ₁ hs hv (T .1) A (yields {g = g} refl (omega arith))
 
 -- a run forward is fine on a typed input
-forward-fine : (fits : Val → Bool) (P : Program) → TypedProgram P → (h : Fun) → TypedFun P h → (vs : List Val) → HasTys vs (h .ancillae) → (r f : ℕ) (v : Val)
-    → HasTy v (h .dynamic) → Fine (λ w. HasTy w (h .result)) (runForward fits P r h vs v f)
+forward-fine : (fits : Val → Bool) (P : Program) → TypedProgram P → (h : Fun) → TypedFun P h → (vs : List Val) → OfTypes vs (h .ancillae) → (r f : ℕ) (v : Val)
+    → OfType v (h .dynamic) → Fine (λ w. OfType w (h .result)) (runForward fits P r h vs v f)
 unfolding runForward
 forward-fine fits P W h T vs hs r f v hv =
     forward-safe fits P W r (scope vs []) (some v ∷ map some (scope vs [])) (h .body) _ _ (h .result) (T .0) any (within-any (h .body))
     (hv, state-full (scope vs []) _ (scope-ty vs (h .ancillae) [] [] hs tt)) (has-full any (v ∷ scope vs [])) f
 
 -- a run backward is fine on a typed value
-backward-fine : (fits : Val → Bool) (P : Program) → TypedProgram P → (h : Fun) → TypedFun P h → (vs : List Val) → HasTys vs (h .ancillae) → (r f : ℕ) (w : Val)
-    → HasTy w (h .result) → Fine (λ v. HasTy v (h .dynamic)) (runBackward fits P r h vs w f)
+backward-fine : (fits : Val → Bool) (P : Program) → TypedProgram P → (h : Fun) → TypedFun P h → (vs : List Val) → OfTypes vs (h .ancillae) → (r f : ℕ) (w : Val)
+    → OfType w (h .result) → Fine (λ v. OfType v (h .dynamic)) (runBackward fits P r h vs w f)
 unfolding runBackward
 backward-fine fits P W h T vs hs r f w hw =
     body-safe fits P W (backward fits P r) (backward-safe fits P W r) h T vs hs (λ v. give v) w hw (λ v g hv. fine hv) f
@@ -167,29 +167,32 @@ backward-fine fits P W h T vs hs r f w hw =
 module _ (variables most : ℕ) (P : Program) where
   -- a claim of functions that are typed by recursion on the term holds of functions that the rules type
   of-typed : {C : Fun → List Val → Type 0}
-      → (TypedProgram P → (h : Fun) → TypedFun P h → (vs : List Val) → HasTys vs (h .ancillae) → C h vs) → OfTyped variables most P C
-  of-typed s W j h p vs hs = given (directed variables most P W) λ D. s D h (D j h p) vs hs
+      → (TypedProgram P → (h : Fun) → TypedFun P h → (vs : List Val) → OfTypes vs (h .ancillae) → C h vs) → OfTyped variables most P C
+  of-typed s W j h p vs hs = given (directed variables most P W) λ D. s D h (D j h p) vs (of-types-iff vs (h .ancillae) .0 hs)
 
   pub keeps-types : KeepsTypes variables most P
   keeps-types = of-typed λ D h T vs hs fits r f g v w. (
-    λ hv p. fine-answer (forward-fine fits P D h T vs hs r f v hv) p,
-    λ hw p. fine-answer (backward-fine fits P D h T vs hs r f w hw) p,
+    λ hv p. of-type-iff w (h .result) .1 (fine-answer (forward-fine fits P D h T vs hs r f v (of-type-iff v (h .dynamic) .0 hv)) p),
+    λ hw p. of-type-iff v (h .dynamic) .1 (fine-answer (backward-fine fits P D h T vs hs r f w (of-type-iff w (h .result) .0 hw)) p),
   )
 
   pub never-stuck : NeverStuck variables most P
   never-stuck = of-typed λ D h T vs hs fits r f v. (
-    λ hv. fine-not-stuck (forward-fine fits P D h T vs hs r f v hv),
-    λ hv. fine-not-stuck (backward-fine fits P D h T vs hs r f v hv),
+    λ hv. fine-not-stuck (forward-fine fits P D h T vs hs r f v (of-type-iff v (h .dynamic) .0 hv)),
+    λ hv. fine-not-stuck (backward-fine fits P D h T vs hs r f v (of-type-iff v (h .result) .0 hv)),
   )
 
   pub backward-iff-forward : BackwardIffForward variables most P
   backward-iff-forward = of-typed λ D h T vs hs fits r v w f g hw. (
-    λ p. (fine-answer (backward-fine fits P D h T vs hs r f w hw) p, backward-then-forward P fits r h vs v w f g p),
-    λ (hv, p). again D h T vs hs fits r v w f g hv p,
+    λ p. (
+      of-type-iff v (h .dynamic) .1 (fine-answer (backward-fine fits P D h T vs hs r f w (of-type-iff w (h .result) .0 hw)) p),
+      backward-then-forward P fits r h vs v w f g p,
+    ),
+    λ (hv, p). again D h T vs hs fits r v w f g (of-type-iff v (h .dynamic) .0 hv) p,
   )
     where
-      again : TypedProgram P → (h : Fun) → TypedFun P h → (vs : List Val) → HasTys vs (h .ancillae) → (fits : Val → Bool) (r : ℕ) (v w : Val) (f g : ℕ)
-          → HasTy v (h .dynamic) → runForward fits P r h vs v f ≡ ok w g → runBackward fits P r h vs w f ≡ ok v g
+      again : TypedProgram P → (h : Fun) → TypedFun P h → (vs : List Val) → OfTypes vs (h .ancillae) → (fits : Val → Bool) (r : ℕ) (v w : Val) (f g : ℕ)
+          → OfType v (h .dynamic) → runForward fits P r h vs v f ≡ ok w g → runBackward fits P r h vs w f ≡ ok v g
       again D h T vs hs fits r v w f g hv p =
           given (forward-iff-rules P fits r h vs v w f g .0 p) λ (n, d, e).
           given (enough fits fits f n r r _ (same-limits fits) (omega arith) (omega arith) (back-good fits fits P D h T vs hs v w hv r r n d f)) λ (u, g′, x, y, z).
@@ -204,10 +207,10 @@ module _ (variables most : ℕ) (P : Program) where
   pub injective : Injective variables most P
   injective = of-typed λ D h T vs hs fits fits′ r r′ v v′ w n n′ hv hv′ d d′.
       let e : Val → Bool = λ u. fits u || fits′ u in
-      given (enough e fits (n + n′) n (r + r′) r _ (λ u p. or-left (fits′ u) p) (omega arith) (omega arith) (back-good e fits P D h T vs hs v w hv (r + r′) r n d (n + n′))) λ (u, g, x, y, z).
-      given (enough e fits′ (n + n′) n′ (r + r′) r′ _ (λ u p. or-right (fits u) p) (omega arith) (omega arith) (back-good e fits′ P D h T vs hs v′ w hv′ (r + r′) r′ n′ d′ (n + n′))) λ (u′, g′, x′, y′, z′).
+      given (enough e fits (n + n′) n (r + r′) r _ (λ u p. or-left (fits′ u) p) (omega arith) (omega arith) (back-good e fits P D h T vs hs v w (of-type-iff v (h .dynamic) .0 hv) (r + r′) r n d (n + n′))) λ (u, g, x, y, z).
+      given (enough e fits′ (n + n′) n′ (r + r′) r′ _ (λ u p. or-right (fits u) p) (omega arith) (omega arith) (back-good e fits′ P D h T vs hs v′ w (of-type-iff v′ (h .dynamic) .0 hv′) (r + r′) r′ n′ d′ (n + n′))) λ (u′, g′, x′, y′, z′).
       z ∙ ok-value (sym x ∙ x′) ∙ sym z′
 
   pub no-input : NoInput variables most P
   no-input = of-typed λ D h T vs hs fits fits′ r r′ v w f k n hv p d.
-      not-refused (omega arith) (subst (λ x. Good fits fits′ (λ u. v ≡ u) f n r r′ x) p (back-good fits fits′ P D h T vs hs v w hv r r′ n d f))
+      not-refused (omega arith) (subst (λ x. Good fits fits′ (λ u. v ≡ u) f n r r′ x) p (back-good fits fits′ P D h T vs hs v w (of-type-iff v (h .dynamic) .0 hv) r r′ n d f))

@@ -1,6 +1,7 @@
 -- Types (section 1; Fig. 2 of the source without arrows and parameters): unfolding, node count, equality as a test, and which
 -- values a type has. Laws: proofs/Ty.
 use Prim.Native.Nat.{ℕ, suc, _+_}
+use mathlib.Core.Path.{_≡_}
 use mathlib.Core.Bool.{Bool, true, false, _&&_, cond}
 use mathlib.Core.List.{List, [], _∷_}
 use lib.Dec.{eqb}
@@ -78,36 +79,42 @@ sameTy (tyvar n) (tyvar m) = eqb n m
 ----------------------------------------------------------------
 -- Values of a type
 
+unfoldable pub hasTy : Val → Ty → Bool
+hasTy unit one = true
+hasTy unit (prod a b) = false
+hasTy unit (sum a b) = false
+hasTy unit (mu a) = false
+hasTy unit (tyvar n) = false
+hasTy (inl v) one = false
+hasTy (inl v) (prod a b) = false
+hasTy (inl v) (sum a b) = hasTy v a
+hasTy (inl v) (mu a) = false
+hasTy (inl v) (tyvar n) = false
+hasTy (inr v) one = false
+hasTy (inr v) (prod a b) = false
+hasTy (inr v) (sum a b) = hasTy v b
+hasTy (inr v) (mu a) = false
+hasTy (inr v) (tyvar n) = false
+hasTy (pair v w) one = false
+hasTy (pair v w) (prod a b) = hasTy v a && hasTy w b
+hasTy (pair v w) (sum a b) = false
+hasTy (pair v w) (mu a) = false
+hasTy (pair v w) (tyvar n) = false
+hasTy (roll v) one = false
+hasTy (roll v) (prod a b) = false
+hasTy (roll v) (sum a b) = false
+hasTy (roll v) (mu a) = hasTy v (unfoldTy a)
+hasTy (roll v) (tyvar n) = false
+
+unfoldable pub hasTys : List Val → List Ty → Bool
+hasTys [] [] = true
+hasTys [] (c ∷ cs) = false
+hasTys (v ∷ vs) [] = false
+hasTys (v ∷ vs) (c ∷ cs) = hasTy v c && hasTys vs cs
+
 abbrev pub HasTy : Val → Ty → Type 0
-HasTy unit one = Unit {0}
-HasTy unit (prod a b) = ⊥
-HasTy unit (sum a b) = ⊥
-HasTy unit (mu a) = ⊥
-HasTy unit (tyvar n) = ⊥
-HasTy (inl v) one = ⊥
-HasTy (inl v) (prod a b) = ⊥
-HasTy (inl v) (sum a b) = HasTy v a
-HasTy (inl v) (mu a) = ⊥
-HasTy (inl v) (tyvar n) = ⊥
-HasTy (inr v) one = ⊥
-HasTy (inr v) (prod a b) = ⊥
-HasTy (inr v) (sum a b) = HasTy v b
-HasTy (inr v) (mu a) = ⊥
-HasTy (inr v) (tyvar n) = ⊥
-HasTy (pair v w) one = ⊥
-HasTy (pair v w) (prod a b) = HasTy v a × HasTy w b
-HasTy (pair v w) (sum a b) = ⊥
-HasTy (pair v w) (mu a) = ⊥
-HasTy (pair v w) (tyvar n) = ⊥
-HasTy (roll v) one = ⊥
-HasTy (roll v) (prod a b) = ⊥
-HasTy (roll v) (sum a b) = ⊥
-HasTy (roll v) (mu a) = HasTy v (unfoldTy a)
-HasTy (roll v) (tyvar n) = ⊥
+HasTy v τ = hasTy v τ ≡ true
 
 -- values of types, in order
 abbrev pub HasTys : List Val → List Ty → Type 0
-HasTys [] [] = Unit {0}
-HasTys [] (c ∷ cs) = ⊥
-HasTys (v ∷ vs) [] = ⊥
-HasTys (v ∷ vs) (c ∷ cs) = HasTy v c × HasTys vs cs
+HasTys vs τs = hasTys vs τs ≡ true

@@ -14,6 +14,7 @@ use package.Rattle.rules.specs.Term.{Fun, Program, nth}
 use package.Rattle.rules.specs.Run.{Res, ok, stop, stuck}
 use package.Rattle.rules.proofs.Basics.{given, and-both, eqb-yes}
 use package.Rattle.rules.proofs.Numbers.{EndsBy, answers, refuses, sticks}
+use package.Rattle.rules.proofs.OfType.{of-types-iff}
 use package.Rattle.rules.proofs.Preserve.{env-length}
 use package.Rattle.rules.proofs.Run.{stop≢ok, stuck≢ok}
 use package.Rattle.calls.specs.Answer.{accepted, refused, require, present}
@@ -22,7 +23,6 @@ use package.Rattle.calls.specs.Values.{hasTy, hasTys}
 use package.Rattle.calls.specs.Runs.{Given, admit, ran}
 use package.Rattle.calls.specs.Claims.{callNumbers, answer}
 use package.Rattle.calls.proofs.Answer.{refused≢accepted, accepted-inj, via, unbind, require-yes, required, present-some, presented}
-use package.Rattle.calls.proofs.Types.{hasTy-sound, hasTy-complete, hasTys-sound, hasTys-complete}
 use package.Rattle.calls.proofs.Refusals.{Numbered, accepts, refuses as rejects, numbered-present, numbered-bind, numbered-test}
 
 ----------------------------------------------------------------
@@ -50,15 +50,15 @@ module _ (P : Program) (fn : ℕ) (as? : Option (List Val)) (v? : Option Val) (s
           function = presented (nth P fn) 9 p;
           ancillae-read = presented as? 10 q;
           value-read = presented v? 10 r;
-          ancillae-typed = hasTys-sound vs (h .ancillae) x;
-          value-typed = hasTy-sound v (side h) y;
+          ancillae-typed = x;
+          value-typed = y;
         }),
     λ A.
         via _ (present-some 9 (A .function))
         (via _ (present-some 10 (A .ancillae-read))
         (via _ (present-some 10 (A .value-read))
-        (via _ (require-yes 10 0 (rw (env-length (a .ancillae) (a .fun .ancillae) (A .ancillae-typed)) (eqb-yes (length (a .fun .ancillae)))))
-        (via _ (require-yes 11 0 (rw (hasTys-complete (a .ancillae) (a .fun .ancillae) (A .ancillae-typed)) (hasTy-complete (a .value) (side (a .fun)) (A .value-typed)))) refl)))),
+        (via _ (require-yes 10 0 (rw (env-length (a .ancillae) (a .fun .ancillae) (of-types-iff (a .ancillae) (a .fun .ancillae) .0 (A .ancillae-typed))) (eqb-yes (length (a .fun .ancillae)))))
+        (via _ (require-yes 11 0 (rw (A .ancillae-typed) (A .value-typed))) refl)))),
   )
 
   pub admit-numbered : Numbered callNumbers (admit P fn as? v? side)

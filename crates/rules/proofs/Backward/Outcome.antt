@@ -8,13 +8,14 @@ use mathlib.Core.List.{List, [], _∷_, map}
 use lib.ListN.{length}
 use lib.Dec.{eqb→eq, T}
 use package.Rattle.rules.specs.Val.{Val, unit, inl, inr, pair, roll}
-use package.Rattle.rules.specs.Ty.{Ty, prod, sum, unfoldTy, HasTy}
+use package.Rattle.rules.specs.Ty.{Ty, prod, sum, unfoldTy}
 use package.Rattle.rules.specs.Term.{Term, tcase, entry, Fun, Program, scope}
 use package.Rattle.rules.specs.Rules.{Judgement, Rule, e-var, e-unit, e-inl, e-inr, e-prod, e-let, e-letp, e-casel, e-caser, e-app, e-roll, e-unroll, Ev}
 use package.Rattle.rules.specs.Typing.{dynamic}
 use package.Rattle.rules.specs.Check.{names}
 use package.Rattle.rules.specs.Run.{Run, after, enter, test}
 use package.Rattle.rules.specs.Machine.{onSum, onPair, onRoll, onUnit, State, leave, forward, backwardStep, backward}
+use package.Rattle.rules.proofs.OfType.{OfType}
 use package.Rattle.rules.proofs.Backward.Pop.{meet-good, pop, Ready, ready-push, ready-grow, ready-call, call-pop}
 use package.Rattle.rules.proofs.Basics.{given, some-inj, or-elim}
 use package.Rattle.rules.proofs.Directed.{inside, Spent, Typed, TypedAll, TypedProgram}
@@ -60,7 +61,7 @@ module _ (fits fits′ : Val → Bool) (P : Program) (W : TypedProgram P) where
       (go : List Val → State → Term → Val → Run State) (B : BackOut R go r r′) (q : ℕ) (Γ : List Ty) (τ : Ty) (σ : State) where
     -- a bound term `e`, then its scope `b`: the scope runs back first
     let-good : {a ρ : List Val} {n m : ℕ} (e b : Term) (v u w : Val) (c d : Ty) (k : Val → Val) → R a ρ e u n → k v ≡ u → R a (v ∷ ρ) b w m
-        → Typed P q Γ e d → HasTy v c → Typed P q (c ∷ Γ) b τ → Spent (length Γ) c b → Ready a q Γ ρ σ → (g : ℕ)
+        → Typed P q Γ e d → OfType v c → Typed P q (c ∷ Γ) b τ → Spent (length Γ) c b → Ready a q Γ ρ σ → (g : ℕ)
         → Good fits fits′ (λ σ′. Agree σ′ ρ × Mono σ σ′ × ((σ₂ : State) × Mono σ₂ σ′ × Bound q Γ e σ′ × Bound q Γ b σ₂)) g (n + m) r r′
         (after (go a (none ∷ σ) b w g) λ σ₁. leave σ₁ λ v σ₂. go a σ₂ e (k v))
     let-good {a} {ρ} {n} e b v u w c d k D x D′ T h T′ s rd g =

@@ -9,10 +9,11 @@ use mathlib.Core.Logic.{_⊎_, inl as left, inr as right}
 use lib.ListN.{length}
 use lib.Dec.{eqb, eqb→eq}
 use package.Rattle.rules.specs.Val.{Val, unit, same}
-use package.Rattle.rules.specs.Ty.{Ty, HasTy, HasTys}
+use package.Rattle.rules.specs.Ty.{Ty}
 use package.Rattle.rules.specs.Term.{Term, look, scope}
 use package.Rattle.rules.specs.Run.{Run, _>>=_, give, test}
 use package.Rattle.rules.specs.Machine.{State, known, bindOr, meet, leave}
+use package.Rattle.rules.proofs.OfType.{OfType, OfTypes}
 use package.Rattle.rules.proofs.Basics.{given, none≢some, some-inj}
 use package.Rattle.rules.proofs.Directed.{Spent}
 use package.Rattle.rules.proofs.Known.{Knows, known-new, knows-push, Mono, Bound, After, mono-pop, bound-pop, determined, knows-new, mono-set, mono-push, knows-full}
@@ -61,7 +62,7 @@ module _ (fits fits′ : Val → Bool) where
 
   -- the newest variable leaves the scope
   pub pop : {Y : Type 0} {Q : Y → Type 0} {f n r r′ : ℕ} (k : Val → State → Run Y) (q : ℕ) (Γ : List Ty) (c : Ty) (w : Val) (b : Term) (ρ : List Val) (m₀ : Option Val) (σ σ₁ : State)
-      → length Γ ≡ length ρ → length σ ≡ length ρ → q ≤ length ρ → HasTy w c → Spent (length Γ) c b → After q (c ∷ Γ) b (w ∷ ρ) (m₀ ∷ σ) σ₁
+      → length Γ ≡ length ρ → length σ ≡ length ρ → q ≤ length ρ → OfType w c → Spent (length Γ) c b → After q (c ∷ Γ) b (w ∷ ρ) (m₀ ∷ σ) σ₁
       → ((σ₂ : State) → After q Γ b ρ σ σ₂ → Good fits fits′ Q f n r r′ (k w σ₂ f)) → Good fits fits′ Q f n r r′ (leave σ₁ k f)
   pop k q Γ c w b ρ m₀ σ σ₁ l l′ ql h s (ag, mo, bd) go =
       leave-good k σ₁ w ρ ag (subst (λ i. Knows σ₁ i ⊎ (unit ≡ w)) l (determined q Γ c w b σ₁ (omega arith) h s bd)) λ m σ₂ x ag₂.
@@ -70,19 +71,19 @@ module _ (fits fits′ : Val → Bool) where
 
 -- what holds where a term is run back
 pub record Ready (a : List Val) (q : ℕ) (Γ : List Ty) (ρ : List Val) (σ : State) : Type 0 where
-  pub env : HasTys ρ Γ
+  pub env : OfTypes ρ Γ
   pub under : Under a ρ
   pub agree : Agree σ ρ
   pub anc : (i : ℕ) → i < q → Knows σ i
   pub le : q ≤ length ρ
 
-pub ready-push : {a : List Val} {q : ℕ} {Γ : List Ty} {ρ : List Val} {σ : State} (c : Ty) (v : Val) → HasTy v c → Ready a q Γ ρ σ → Ready a q (c ∷ Γ) (v ∷ ρ) (none ∷ σ)
+pub ready-push : {a : List Val} {q : ℕ} {Γ : List Ty} {ρ : List Val} {σ : State} (c : Ty) (v : Val) → OfType v c → Ready a q Γ ρ σ → Ready a q (c ∷ Γ) (v ∷ ρ) (none ∷ σ)
 ready-push {σ = σ} c v h R = record { env = (h, R .env); under = under-push _ _ v (R .under); agree = (tt, R .agree); anc = λ i l. knows-push none σ i (R .anc i l); le = omega (arith, R .le) }
 
 pub ready-grow : {a : List Val} {q : ℕ} {Γ : List Ty} {ρ : List Val} {σ : State} (σ′ : State) → Ready a q Γ ρ σ → Agree σ′ ρ → Mono σ σ′ → Ready a q Γ ρ σ′
 ready-grow σ′ R ag mo = record { env = R .env; under = R .under; agree = ag; anc = λ i l. mo i (R .anc i l); le = R .le }
 
-pub ready-call : (vs : List Val) (cs : List Ty) (v : Val) (c : Ty) → HasTys vs cs → HasTy v c
+pub ready-call : (vs : List Val) (cs : List Ty) (v : Val) (c : Ty) → OfTypes vs cs → OfType v c
     → Ready (scope vs []) (length cs) (c ∷ scope cs []) (v ∷ scope vs []) (none ∷ map some (scope vs []))
 ready-call vs cs v c h h′ =
     let l₁ : length (scope vs []) ≡ length vs + 0 = length-scope vs [] in
@@ -95,7 +96,7 @@ ready-call vs cs v c h h′ =
       le = omega arith;
     }
 
-pub call-pop : (fits fits′ : Val → Bool) {X : Type 0} {Q : X → Type 0} {f n r r′ : ℕ} (k : Val → Run X) (vs : List Val) (cs : List Ty) (c : Ty) (v : Val) (b : Term) (σ₁ : State) → HasTys vs cs → HasTy v c → Spent (length cs) c b
+pub call-pop : (fits fits′ : Val → Bool) {X : Type 0} {Q : X → Type 0} {f n r r′ : ℕ} (k : Val → Run X) (vs : List Val) (cs : List Ty) (c : Ty) (v : Val) (b : Term) (σ₁ : State) → OfTypes vs cs → OfType v c → Spent (length cs) c b
     → After (length cs) (c ∷ scope cs []) b (v ∷ scope vs []) (none ∷ map some (scope vs [])) σ₁
     → Good fits fits′ Q f n r r′ (k v f) → Good fits fits′ Q f n r r′ (leave σ₁ (λ w σ₂. k w) f)
 call-pop fits fits′ k vs cs c v b σ₁ hs hv sp A s =

@@ -8,13 +8,14 @@ use mathlib.Core.List.{List, [], _∷_, map}
 use lib.ListN.{length}
 use lib.Dec.{eqb→eq, ltb, leb, T, leb→le, ltb→lt}
 use package.Rattle.rules.specs.Val.{Val, inl, inr, pair, roll}
-use package.Rattle.rules.specs.Ty.{Ty, prod, sum, unfoldTy, HasTy, HasTys}
+use package.Rattle.rules.specs.Ty.{Ty, prod, sum, unfoldTy}
 use package.Rattle.rules.specs.Term.{Term, var, tunit, tinl, tinr, tpair, tlet, tletp, tcase, tcall, troll, tunroll, entry, Fun, Program, scope}
 use package.Rattle.rules.specs.Yield.{mayYield}
 use package.Rattle.rules.specs.Typing.{dynamic}
 use package.Rattle.rules.specs.Check.{names}
 use package.Rattle.rules.specs.Run.{Run, after, refuse}
 use package.Rattle.rules.specs.Machine.{State, leave, forward, backwardStep, backward}
+use package.Rattle.rules.proofs.OfType.{OfType, OfTypes}
 use package.Rattle.rules.proofs.Basics.{or-elim}
 use package.Rattle.rules.proofs.Directed.{inside, Spent, Typed, TypedFun, TypedProgram}
 use package.Rattle.rules.proofs.Fine.{Fine, fine, refused, fine-after, fine-map, fine-enter, fine-test, fine-some, fine-pair, fine-sum, fine-roll, fine-unit}
@@ -26,12 +27,12 @@ use package.Rattle.rules.proofs.StateTy.{StateTy, state-length, state-f
 
 module _ (fits : Val → Bool) (P : Program) (W : TypedProgram P) where
   abbrev pub BackSafe : (List Val → State → Term → Val → Run State) → Type 0
-  BackSafe go = (a : List Val) (σ : State) (t : Term) (v : Val) (q : ℕ) (Γ : List Ty) (τ : Ty) → Typed P q Γ t τ → HasTy v τ → StateTy σ Γ
+  BackSafe go = (a : List Val) (σ : State) (t : Term) (v : Val) (q : ℕ) (Γ : List Ty) (τ : Ty) → Typed P q Γ t τ → OfType v τ → StateTy σ Γ
       → ((i : ℕ) → i < q → Knows σ i) → q ≤ length Γ → (f : ℕ) → Fine (Left q Γ t σ) (go a σ t v f)
 
   -- a typed function's body runs back on a value of its result type, and the dynamic parameter leaves the scope
-  pub body-safe : (go : List Val → State → Term → Val → Run State) → BackSafe go → (h : Fun) → TypedFun P h → (vs : List Val) → HasTys vs (h .ancillae)
-      → {X : Type 0} {Q : X → Type 0} (k : Val → Run X) (v : Val) → HasTy v (h .result) → ((w : Val) (g : ℕ) → HasTy w (h .dynamic) → Fine Q (k w g)) → (f : ℕ)
+  pub body-safe : (go : List Val → State → Term → Val → Run State) → BackSafe go → (h : Fun) → TypedFun P h → (vs : List Val) → OfTypes vs (h .ancillae)
+      → {X : Type 0} {Q : X → Type 0} (k : Val → Run X) (v : Val) → OfType v (h .result) → ((w : Val) (g : ℕ) → OfType w (h .dynamic) → Fine Q (k w g)) → (f : ℕ)
       → Fine Q (after (go (scope vs []) (none ∷ map some (scope vs [])) (h .body) v f) λ σ. leave σ λ w σ′. k w)
   body-safe go B h T vs hs k v hv s f =
       let l₁ : length (scope vs []) ≡ length vs + 0 = length-scope vs [] in
@@ -45,8 +46,8 @@ module _ (fits : Val → Bool) (P : Program) (W : TypedProgram P) where
 
   module _ (fw : List Val → State → Term → Run Val) (S : Safe fits P W fw) (go : List Val → State → Term → Val → Run State) (B : BackSafe go)
       (a : List Val) (σ : State) (q : ℕ) (Γ : List Ty) (st : StateTy σ Γ) (kn : (i : ℕ) → i < q → Knows σ i) (ql : q ≤ length Γ) where
-    let-safe : (e b : Term) (v : Val) (c d τ : Ty) (k : Val → Val) → Typed P q Γ e d → Typed P q (c ∷ Γ) b τ → ((w : Val) → HasTy w c → HasTy (k w) d)
-        → Spent (length Γ) c b → HasTy v τ → (g : ℕ)
+    let-safe : (e b : Term) (v : Val) (c d τ : Ty) (k : Val → Val) → Typed P q Γ e d → Typed P q (c ∷ Γ) b τ → ((w : Val) → OfType w c → OfType (k w) d)
+        → Spent (length Γ) c b → OfType v τ → (g : ℕ)
         → Fine (λ σ′. StateTy σ′ Γ × Mono σ σ′ × ((σ₂ : State) × Mono σ₂ σ′ × Bound q Γ e σ′ × Bound q Γ b σ₂)) (after (go a (none ∷ σ) b v g) λ σ₁. leave σ₁ λ w σ₂. go a σ₂ e (k w))
     let-safe e b v c d τ k T T′ hk s h g =
         fine-after _ (B a (none ∷ σ) b v q (c ∷ Γ) τ T′ h (tt, st) (λ i l. knows-push none σ i (kn i l)) (omega arith) g) λ σ₁ g L.
@@ -57,7 +58,7 @@ module _ (fits : Val → Bool) (P : Program) (W : TypedProgram P) where
     inside-has i s l = let z : length σ ≡ length Γ = state-length σ Γ st in
         or-elim (ltb i q) (leb (length Γ) i) (λ x. kn i (ltb→lt i q (rw x tt))) (λ x. absurd (let y : length Γ ≤ i = leb→le (length Γ) i (rw x tt) in omega arith)) s
 
-    case-safe : (k : ℕ) (e b b′ : Term) (v : Val) (τ : Ty) (y : Bool) → Typed P q Γ (tcase k e b b′) τ → HasTy v τ → (g : ℕ)
+    case-safe : (k : ℕ) (e b b′ : Term) (v : Val) (τ : Ty) (y : Bool) → Typed P q Γ (tcase k e b b′) τ → OfType v τ → (g : ℕ)
         → Fine (Left q Γ (tcase k e b b′) σ) (after (go a (none ∷ σ) (cond y b b′) v g) λ σ₁. leave σ₁ λ w σ₂. go a σ₂ e (cond y (inl w) (inr w)))
     case-safe k e b b′ v τ true (c, c′, T, T₁, T₂, s, s′, su) h g =
         fine-map (λ σ′ (st′, mo, (σ₂, mo₂, bd, bd₂)). (st′, mo, λ i c p u ql s. or-elim (names i e) _ (λ x. bd i c p u ql x) (λ x. mo₂ i (bound-left q Γ b b′ σ₂ su bd₂ i c p u ql x)) s))
@@ -66,13 +67,13 @@ module _ (fits : Val → Bool) (P : Program) (W : TypedProgram P) where
         fine-map (λ σ′ (st′, mo, (σ₂, mo₂, bd, bd₂)). (st′, mo, λ i c p u ql s. or-elim (names i e) _ (λ x. bd i c p u ql x) (λ x. mo₂ i (bound-right q Γ b b′ σ₂ su bd₂ i c p u ql x)) s))
         (let-safe e b′ v c′ (sum c c′) τ inr T T₂ (λ w h. h) s′ h g)
 
-    step-back-safe : (t : Term) (v : Val) (τ : Ty) → Typed P q Γ t τ → HasTy v τ → (g : ℕ) → Fine (Left q Γ t σ) (backwardStep fits P fw go a σ t v g)
+    step-back-safe : (t : Term) (v : Val) (τ : Ty) → Typed P q Γ t τ → OfType v τ → (g : ℕ) → Fine (Left q Γ t σ) (backwardStep fits P fw go a σ t v g)
     unfolding backwardStep
     step-back-safe (var k i) v τ T h g = fine-map (λ σ′ (st′, mo, k). (st′, mo, λ j c p u ql s. subst (Knows σ′) (sym (eqb→eq j i (rw s tt))) k)) (meet-safe k σ i v g Γ τ st T h)
-    step-back-safe (tunit k) v τ T h g = fine-unit v _ g (subst (HasTy v) (sym T) h) (fine (st, (λ i k. k), λ i c p u ql s. absurd (false≢true s)))
-    step-back-safe (tinl k c e) v τ (a₁, b₁, x, y, T) h g = fine-sum v a₁ b₁ _ _ g (subst (HasTy v) (sym (x ∙ y)) h) (λ w hw. B a σ e w q Γ a₁ T hw st kn ql g) (λ w hw. refused)
-    step-back-safe (tinr k c e) v τ (a₁, b₁, x, y, T) h g = fine-sum v a₁ b₁ _ _ g (subst (HasTy v) (sym (x ∙ y)) h) (λ w hw. refused) (λ w hw. B a σ e w q Γ b₁ T hw st kn ql g)
-    step-back-safe (tpair k e e′) v τ (a₁, b₁, x, T, T′) h g = fine-pair v a₁ b₁ _ g (subst (HasTy v) (sym x) h) λ w w′ hw hw′.
+    step-back-safe (tunit k) v τ T h g = fine-unit v _ g (subst (OfType v) (sym T) h) (fine (st, (λ i k. k), λ i c p u ql s. absurd (false≢true s)))
+    step-back-safe (tinl k c e) v τ (a₁, b₁, x, y, T) h g = fine-sum v a₁ b₁ _ _ g (subst (OfType v) (sym (x ∙ y)) h) (λ w hw. B a σ e w q Γ a₁ T hw st kn ql g) (λ w hw. refused)
+    step-back-safe (tinr k c e) v τ (a₁, b₁, x, y, T) h g = fine-sum v a₁ b₁ _ _ g (subst (OfType v) (sym (x ∙ y)) h) (λ w hw. refused) (λ w hw. B a σ e w q Γ b₁ T hw st kn ql g)
+    step-back-safe (tpair k e e′) v τ (a₁, b₁, x, T, T′) h g = fine-pair v a₁ b₁ _ g (subst (OfType v) (sym x) h) λ w w′ hw hw′.
         fine-after _ (B a σ e w q Γ a₁ T hw st kn ql g) λ σ₁ g (st₁, mo, bd).
         fine-map (λ σ′ (st′, mo′, bd′). (st′, (λ i k. mo′ i (mo i k)), bound-both q Γ e e′ σ₁ σ′ mo′ bd bd′)) (B a σ₁ e′ w′ q Γ b₁ T′ hw′ st₁ (λ i l. mo i (kn i l)) ql g)
     step-back-safe (tlet k e b) v τ (c, T, T′, s) h g =
@@ -85,9 +86,9 @@ module _ (fits : Val → Bool) (P : Program) (W : TypedProgram P) where
     step-back-safe (tcase k e b b′) v τ T h g = case-safe k e b b′ v τ (mayYield a b v) T h g
     step-back-safe (tcall k j ts e) v τ (fn, x, Ts, T, z, ins) h g =
         fine-some _ g x (fine-after _ (each-safe fits P W fw S a σ q Γ (inside q (length Γ)) st inside-has ts (fn .ancillae) Ts ins g) λ vs g hs.
-        body-safe go B fn (W j fn x) vs hs (go a σ e) v (subst (HasTy v) (sym z) h) (λ w g hw. B a σ e w q Γ (fn .dynamic) T hw st kn ql g) g)
-    step-back-safe (troll k c e) v τ (a₁, x, y, T) h g = fine-roll v a₁ _ g (subst (HasTy v) (sym (x ∙ y)) h) λ w hw. B a σ e w q Γ (unfoldTy a₁) T hw st kn ql g
-    step-back-safe (tunroll k c e) v τ (a₁, x, y, T) h g = B a σ e (roll v) q Γ c T (subst (HasTy (roll v)) x (subst (HasTy v) (sym y) h)) st kn ql g
+        body-safe go B fn (W j fn x) vs hs (go a σ e) v (subst (OfType v) (sym z) h) (λ w g hw. B a σ e w q Γ (fn .dynamic) T hw st kn ql g) g)
+    step-back-safe (troll k c e) v τ (a₁, x, y, T) h g = fine-roll v a₁ _ g (subst (OfType v) (sym (x ∙ y)) h) λ w hw. B a σ e w q Γ (unfoldTy a₁) T hw st kn ql g
+    step-back-safe (tunroll k c e) v τ (a₁, x, y, T) h g = B a σ e (roll v) q Γ c T (subst (OfType (roll v)) x (subst (OfType v) (sym y) h)) st kn ql g
 
   pub backward-safe : (r : ℕ) → BackSafe (backward fits P r)
   unfolding backward
