@@ -12,7 +12,7 @@ use package.Rattle.calls.specs.Answer.{Answer, accepted, refused}
 use package.Rattle.calls.specs.Values.{value, ancillae}
 use package.Rattle.calls.specs.Runs.{Ran, ran}
 use package.Rattle.calls.specs.Journal.{Entry, Journal, writeOut}
-use package.Rattle.calls.specs.Conversions.{Turned, openCall, convertCall, rollbackCall}
+use package.Rattle.calls.specs.Conversions.{Turned, Last, newest, openCall, convertCall, rollbackCall}
 
 ----------------------------------------------------------------
 -- Calls that write a journal, and what they answer
@@ -81,20 +81,6 @@ unfoldable pub journalOf : Program → Book → Journal
 unfolding through entriesOf
 journalOf P b = record { held = through P (b .rows) (b .first); entries = entriesOf P (b .rows) (b .first) }
 
--- the rows without the newest, and the newest
-pub record Struck : Type 0 where
-  pub older : List Row
-  pub row : Row
-
-unfoldable pub onto : Row → Option Struck → Option Struck
-onto r none = some (record { older = []; row = r })
-onto r (some s) = some (record { older = r ∷ s .older; row = s .row })
-
-unfoldable pub strike : List Row → Option Struck
-unfolding onto
-strike [] = none
-strike (r ∷ rs) = onto r (strike rs)
-
 ----------------------------------------------------------------
 -- A call, fed to the book
 
@@ -123,14 +109,14 @@ unfoldable pub orNone : Option (List Val) → List Val
 orNone none = []
 orNone (some vs) = vs
 
-unfoldable pub orEmpty : Option Struck → Struck
-orEmpty none = record { older = []; row = record { function = 0; ancillae = [] } }
+unfoldable pub orEmpty : Option (Last Row) → Last Row
+orEmpty none = record { older = []; newest = record { function = 0; ancillae = [] } }
 orEmpty (some s) = s
 
 -- the book after a call that section 4 does not refuse: open sets the first record and strikes all rows, convert adds a row,
 -- rollback strikes the newest. A rollback's steps are the struck row's.
 unfoldable pub enters : Program → Call → Book → Turn
-unfolding through carry orUnit orNone orEmpty strike
+unfolding through carry orUnit orNone orEmpty newest
 enters P (opens ws v n) b = record { book = record { first = orUnit (value v); rows = [] }; told = isOpen }
 enters P (converts ws fuel fn anc n) b =
     let r : Row = record { function = fn; ancillae = orNone (ancillae anc) } in
@@ -139,10 +125,10 @@ enters P (converts ws fuel fn anc n) b =
       told = holds (size (carry P r (through P (b .rows) (b .first)) .value)) (carry P r (through P (b .rows) (b .first)) .steps);
     }
 enters P (rollsBack ws fuel n) b =
-    let s = orEmpty (strike (b .rows)) in
+    let s = orEmpty (newest (b .rows)) in
     record {
       book = record { first = b .first; rows = s .older };
-      told = holds (size (through P (s .older) (b .first))) (carry P (s .row) (through P (s .older) (b .first)) .steps);
+      told = holds (size (through P (s .older) (b .first))) (carry P (s .newest) (through P (s .older) (b .first)) .steps);
     }
 
 -- A call that section 4 refuses on the bytes that the book writes out changes nothing.

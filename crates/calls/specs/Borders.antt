@@ -135,8 +135,8 @@ pub record Outcomes : Type 0 where
 -- plus 2; again, with too little fuel; rollback with too little fuel, in a shorter buffer; rollback, in a longer one; rollback with nothing
 -- standing, in one of the field alone; open with 0
 abbrev pub calls : List Call
-calls = converts ample 65535 0 (encode (num 2)) 40 ∷ converts ample 27 0 (encode (num 2)) 40 ∷ rollsBack ample 27 36 ∷ rollsBack ample 28 41 ∷ rollsBack ample 28 12
-    ∷ opens ample (encode (num 0)) 9 ∷ []
+calls = converts ample 65535 0 (encode (num 2)) 40 ∷ converts ample 27 0 (encode (num 2)) 40 ∷ rollsBack ample 27 36 ∷ rollsBack ample 28 41
+    ∷ rollsBack ample 28 12 ∷ opens ample (encode (num 0)) 9 ∷ []
 
 abbrev pub more : List Call
 more = converts ample 65535 0 (encode (num 2)) 40 ∷ converts ample 65535 0 (encode (num 2)) 60 ∷ rollsBack ample 44 60 ∷ rollsBack ample 0 40 ∷ []

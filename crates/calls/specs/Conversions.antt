@@ -32,16 +32,19 @@ turned n r J = do
   journal ← kept n J
   accepted (record { held = size (r .value); steps = r .steps; journal = journal })
 
--- the standing conversions without the newest, and the newest
-pub record Newest : Type 0 where
-  pub older : List Entry
-  pub newest : Entry
+-- a list, oldest first, without the newest, and the newest: standing conversions, and the rows of the book
+pub record Last (A : Type 0) : Type 0 where
+  pub older : List A
+  pub newest : A
 
-unfoldable pub behind : Entry → Option Newest → Option Newest
+abbrev pub Newest : Type 0
+Newest = Last Entry
+
+unfoldable pub behind : {A : Type 0} → A → Option (Last A) → Option (Last A)
 behind e none = some (record { older = []; newest = e })
 behind e (some n) = some (record { older = e ∷ n .older; newest = n .newest })
 
-unfoldable pub newest : List Entry → Option Newest
+unfoldable pub newest : {A : Type 0} → List A → Option (Last A)
 unfolding behind
 newest [] = none
 newest (e ∷ es) = behind e (newest es)

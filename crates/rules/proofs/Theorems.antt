@@ -207,10 +207,13 @@ module _ (variables most : ℕ) (P : Program) where
   pub injective : Injective variables most P
   injective = of-typed λ D h T vs hs fits fits′ r r′ v v′ w n n′ hv hv′ d d′.
       let e : Val → Bool = λ u. fits u || fits′ u in
-      given (enough e fits (n + n′) n (r + r′) r _ (λ u p. or-left (fits′ u) p) (omega arith) (omega arith) (back-good e fits P D h T vs hs v w (of-type-iff v (h .dynamic) .0 hv) (r + r′) r n d (n + n′))) λ (u, g, x, y, z).
-      given (enough e fits′ (n + n′) n′ (r + r′) r′ _ (λ u p. or-right (fits u) p) (omega arith) (omega arith) (back-good e fits′ P D h T vs hs v′ w (of-type-iff v′ (h .dynamic) .0 hv′) (r + r′) r′ n′ d′ (n + n′))) λ (u′, g′, x′, y′, z′).
+      given (enough e fits (n + n′) n (r + r′) r _ (λ u p. or-left (fits′ u) p) (omega arith) (omega arith)
+      (back-good e fits P D h T vs hs v w (of-type-iff v (h .dynamic) .0 hv) (r + r′) r n d (n + n′))) λ (u, g, x, y, z).
+      given (enough e fits′ (n + n′) n′ (r + r′) r′ _ (λ u p. or-right (fits u) p) (omega arith) (omega arith)
+      (back-good e fits′ P D h T vs hs v′ w (of-type-iff v′ (h .dynamic) .0 hv′) (r + r′) r′ n′ d′ (n + n′))) λ (u′, g′, x′, y′, z′).
       z ∙ ok-value (sym x ∙ x′) ∙ sym z′
 
   pub no-input : NoInput variables most P
   no-input = of-typed λ D h T vs hs fits fits′ r r′ v w f k n hv p d.
-      not-refused (omega arith) (subst (λ x. Good fits fits′ (λ u. v ≡ u) f n r r′ x) p (back-good fits fits′ P D h T vs hs v w (of-type-iff v (h .dynamic) .0 hv) r r′ n d f))
+      not-refused (omega arith) (subst (λ x. Good fits fits′ (λ u. v ≡ u) f n r r′ x) p
+      (back-good fits fits′ P D h T vs hs v w (of-type-iff v (h .dynamic) .0 hv) r r′ n d f))

@@ -12,7 +12,7 @@ use package.Rattle.rules.specs.Ty.{HasTy, HasTys}
 use package.Rattle.rules.specs.Term.{Fun, Program, nth}
 use package.Rattle.calls.specs.Claims.{CarriedThrough, no-rows, one-row, Met}
 use package.Rattle.rules.specs.Claims.{Carries}
-use package.Rattle.calls.specs.Book.{Row, orStays, carryBy, carry, through, entriesOf, journalOf, onto, strike}
+use package.Rattle.calls.specs.Book.{Row, orStays, carryBy, carry, through, entriesOf, journalOf}
 use package.Rattle.calls.specs.Conversions.{behind, newest}
 use package.Rattle.calls.specs.Journal.{Entry, Journal, fields, writeOut}
 use package.Rattle.calls.specs.Runs.{Ran, ran}
@@ -40,15 +40,10 @@ unfolding entriesOf through
 entriesOf-snoc P [] row v = refl
 entriesOf-snoc P (r ∷ rows) row v = ap (λ es. entryOf r (carry P r v .steps) ∷ es) (entriesOf-snoc P rows row (carry P r v .value))
 
-pub newest-snoc : (es : List Entry) (e : Entry) → newest (es ++ (e ∷ [])) ≡ some (record { older = es; newest = e })
+pub newest-snoc : {A : Type 0} (es : List A) (e : A) → newest (es ++ (e ∷ [])) ≡ some (record { older = es; newest = e })
 unfolding newest behind
 newest-snoc [] e = refl
 newest-snoc (x ∷ es) e = ap (behind x) (newest-snoc es e)
-
-pub strike-snoc : (rows : List Row) (row : Row) → strike (rows ++ (row ∷ [])) ≡ some (record { older = rows; row = row })
-unfolding strike onto
-strike-snoc [] row = refl
-strike-snoc (x ∷ rows) row = ap (onto x) (strike-snoc rows row)
 
 pub carried-snoc : {P : Program} {rows : List Row} {es : List Entry} {first v : Val} (row : Row) (w : Val) (n : ℕ) (h : Fun) → CarriedThrough P rows es first v
     → nth P (row .function) ≡ some h → Carries fits P maxHeight h (row .ancillae) v w n

@@ -16,14 +16,14 @@ use package.Rattle.rules.specs.Machine.{runBackward}
 use package.Rattle.calls.specs.Claims.{Met, remember}
 use package.Rattle.rules.specs.Claims.{Carries}
 use package.Rattle.calls.specs.Answer.{accepted}
-use package.Rattle.calls.specs.Book.{Call, converts, rollsBack, holds, Row, Book, carry, through, Struck, Turn, orNone, orEmpty, enters, turnUnless, Left, afterTurned}
-use package.Rattle.calls.specs.Conversions.{Turned, Newest}
+use package.Rattle.calls.specs.Book.{Call, converts, rollsBack, holds, Row, Book, carry, through, Turn, orNone, orEmpty, enters, turnUnless, Left, afterTurned}
+use package.Rattle.calls.specs.Conversions.{Turned, Last, Newest}
 use package.Rattle.calls.specs.Journal.{Entry, fields, writeOut, readJournal}
 use package.Rattle.calls.specs.Load.{load}
 use package.Rattle.calls.specs.Runs.{Ran}
 use package.Rattle.calls.proofs.Runs.Parts.{Admits}
 use package.Rattle.calls.proofs.Book.Calls.{turnedTo, Converts, Returns}
-use package.Rattle.calls.proofs.Book.Rows.{entryOf, newest-snoc, strike-snoc, journal, Passed, Standing, next, answered, carry-ran, standing-held, standing-writable}
+use package.Rattle.calls.proofs.Book.Rows.{entryOf, newest-snoc, journal, Passed, Standing, next, answered, carry-ran, standing-held, standing-writable}
 use package.Rattle.calls.proofs.Journal.Buffers.{Writable, read-written, length-writeOut}
 use package.Rattle.calls.proofs.Values.{ancillae-sound}
 use package.Rattle.rules.proofs.Backward.Outcome.{fits-of}
@@ -209,15 +209,15 @@ module _ (program : List ℕ) (P : Program) (loads : load program ≡ accepted P
         (turnUnless none P (rollsBack ws fuel n) (record { first = origin; rows = rows ++ (row ∷ []) }))) returned-to
         (subst (λ o. Agrees P (rollsBack ws fuel n) ys (record { journal = writeOut k (journal v es); steps = m } ∷ ms)
         (afterTurned ys (accepted (turnedTo (length ys) (answered v m) (journal v es)))) (struck o))
-        (sym (strike-snoc rows row))
+        (sym (newest-snoc rows row))
         (record {
           told = ap₂ (λ x s. holds (size x) s) (sym (standing-held S)) (ap (λ (r : Ran). r .steps) (sym (ap (carry P row) (standing-held S) ∙ carry-ran R)));
           keeps = written-keeps es v (length ys) S returned-fits (R .value-fits) few;
           long = length-writeOut (length ys) (journal v es) returned-fits;
         }))
       where
-        struck : Option Struck → Turn
+        struck : Option (Last Row) → Turn
         struck o = record {
           book = record { first = origin; rows = orEmpty o .older };
-          told = holds (size (through P (orEmpty o .older) origin)) (carry P (orEmpty o .row) (through P (orEmpty o .older) origin) .steps);
+          told = holds (size (through P (orEmpty o .older) origin)) (carry P (orEmpty o .newest) (through P (orEmpty o .older) origin) .steps);
         }

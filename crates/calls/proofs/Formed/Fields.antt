@@ -90,7 +90,8 @@ module _ (xs : List ℕ) where
   few-counts at L places F = given (subst (Few xs) (sym (extended-more L at places)) F) λ G. rw (
     leb-yes (length (withField xs at L .types)) maxTypes (omega (arith, G .types, length-append (withField xs at L .types) (tagged xs 1 places))),
     leb-yes (length (withField xs at L .terms)) maxTerms (omega (arith, G .terms, length-append (withField xs at L .terms) (tagged xs 2 places))),
-    leb-yes (length (withField xs at L .functions)) maxFunctions (omega (arith, G .functions, length-append (withField xs at L .functions) (tagged xs 3 places))),
+    leb-yes (length (withField xs at L .functions)) maxFunctions
+        (omega (arith, G .functions, length-append (withField xs at L .functions) (tagged xs 3 places))),
     of (eqb (tagAt xs at) 3) (F .parameters at),
   )
     where
@@ -122,7 +123,8 @@ module _ (xs : List ℕ) where
   abbrev Found : ℕ → ℕ → Layout → Layout → Type 0
   Found at last L L′ = (places : List ℕ) × FieldsAt xs at last places × (extended L places ≡ L′) × Few xs L′
 
-  found : (n at last : ℕ) (L : Layout) {L′ : Layout} → at ≤ length xs → length xs ≤ at + n → Few xs L → readFields n xs at last L ≡ accepted L′ → Found at last L L′
+  found : (n at last : ℕ) (L : Layout) {L′ : Layout} → at ≤ length xs → length xs ≤ at + n → Few xs L
+      → readFields n xs at last L ≡ accepted L′ → Found at last L L′
   unfolding readFields
   found zero at last L l m F e = ([], no-more {at = at} (omega arith), extended-none L ∙ accepted-inj e, subst (Few xs) (accepted-inj e) F)
   found (suc n) at last L l m F e = ⊎-elim
@@ -131,7 +133,8 @@ module _ (xs : List ℕ) where
       given (unbind (require (wellFormed xs at last) 2 at) _ q) λ (formed, x, q₁).
       given (unbind (require (withinCounts xs at (withField xs at L)) 3 at) _ q₁) λ (within, y, q₂).
       given (formed-iff at last .0 (required _ 2 at x)) λ (h, t, w, b).
-      given (found n (nextAt xs at) (tagAt xs at) (withField xs at L) w (omega (arith, next-past at)) (few-more at L F (required _ 3 at y)) q₂) λ (places, D, z, G).
+      given (found n (nextAt xs at) (tagAt xs at) (withField xs at L) w (omega (arith, next-past at))
+      (few-more at L F (required _ 3 at y)) q₂) λ (places, D, z, G).
       (at ∷ places, one-more h t w b D, sym (extended-more L at places) ∙ z, G))
       (either-way (eqb at (length xs)) _ _ e)
 
@@ -155,12 +158,14 @@ none-yet : (xs : List ℕ) → length xs ≤ maxProgramBytes → Few xs noFields
 unfolding noFields member
 none-yet xs l = record { bytes = l; types = omega arith; terms = omega arith; functions = omega arith; parameters = λ at e. absurd (false≢true e) }
 
-pub layout-iff : (xs : List ℕ) (L : Layout) → (layout xs ≡ accepted L) ↔ ((places : List ℕ) × FieldsAt xs 0 1 places × Few xs (byTag xs places) × (byTag xs places ≡ L))
+pub layout-iff : (xs : List ℕ) (L : Layout)
+    → (layout xs ≡ accepted L) ↔ ((places : List ℕ) × FieldsAt xs 0 1 places × Few xs (byTag xs places) × (byTag xs places ≡ L))
 unfolding layout noFields
 layout-iff xs L = (
   λ e.
       given (unbind (require (leb (length xs) maxProgramBytes) 3 0) _ e) λ (within, p, q).
-      given (found xs (length xs) 0 1 noFields (omega arith) (omega arith) (none-yet xs (leb-sound _ maxProgramBytes (required _ 3 0 p))) q) λ (places, D, z, G).
+      given (found xs (length xs) 0 1 noFields (omega arith) (omega arith)
+      (none-yet xs (leb-sound _ maxProgramBytes (required _ 3 0 p))) q) λ (places, D, z, G).
       (places, D, subst (Few xs) (sym z) G, z),
   λ (places, D, F, z).
       via _ (require-yes 3 0 (leb-yes (length xs) maxProgramBytes (F .bytes))) (reads xs (length xs) 0 1 noFields places (omega arith) D F ∙ ap accepted z),

@@ -37,7 +37,8 @@ module _ (ys : List TypeEntry) (low : Lower ys) where
   all-plain-iff [] b = (λ e i m. absurd (false≢true m), λ h. refl)
   all-plain-iff (j ∷ js) b = given (below-head (length ys) j js b) λ (l, b₁). (
     λ e i m. given (and-both (plain ys j) (allPlain ys js) e) λ (x, y).
-        or-elim (eqb i j) (member i js) (λ p. subst (λ i. Plain (typeOf ys i)) (sym (eqb-sound i j p)) (plain-iff ys low j l .0 x)) (all-plain-iff js b₁ .0 y i) m,
+        or-elim (eqb i j) (member i js) (λ p. subst (λ i. Plain (typeOf ys i)) (sym (eqb-sound i j p)) (plain-iff ys low j l .0 x))
+        (all-plain-iff js b₁ .0 y i) m,
     λ h. rw (plain-iff ys low j l .1 (h j (or-left (member j js) (same j))), all-plain-iff js b₁ .1 λ i m. h i (or-right (eqb i j) m)),
   )
     where
@@ -70,7 +71,8 @@ none-used i = omega (arith, times-none i)
 below-wider : (n m : ℕ) (is : List ℕ) → n ≤ m → below n is ≡ true → below m is ≡ true
 unfolding below
 below-wider n m [] l e = refl
-below-wider n m (i ∷ is) l e = given (below-head n i is e) λ (h, e₁). rw (let z : ltb i m ≡ true = T-true (lt→ltb i m (omega arith)) in z, below-wider n m is l e₁)
+below-wider n m (i ∷ is) l e = given (below-head n i is e) λ (h, e₁).
+    rw (let z : ltb i m ≡ true = T-true (lt→ltb i m (omega arith)) in z, below-wider n m is l e₁)
 
 -- what terms from number `k` on name is there, if each names lower ones
 lower-there : (k n : ℕ) (ts : List TermEntry) → ((i : ℕ) → below (k + i) (termsOfTerm (getD ts i n-unit)) ≡ true) → k + length ts ≤ n
@@ -79,7 +81,8 @@ unfolding gathered below
 lower-there k n [] h l = refl
 lower-there k n (t ∷ ts) h l = below-append n (termsOfTerm t) (gathered termsOfTerm ts) .1 (
   below-wider (k + 0) n (termsOfTerm t) (omega arith) (h 0),
-  lower-there (suc k) n ts (λ i. subst (λ n. below n (termsOfTerm (getD ts i n-unit)) ≡ true) (let z : k + suc i ≡ suc k + i = omega arith in z) (h (suc i))) (omega arith),
+  lower-there (suc k) n ts
+      (λ i. subst (λ n. below n (termsOfTerm (getD ts i n-unit)) ≡ true) (let z : k + suc i ≡ suc k + i = omega arith in z) (h (suc i))) (omega arith),
 )
 
 -- what a function uses
@@ -157,7 +160,8 @@ module _ (L : Layout) (E : Entries) where
     pub bodies : below (length (E .terms)) (gathered bodyOf hs) ≡ true
     pub plain : allPlain (E .types) (gathered typesOfFunction hs) ≡ true
 
-  functions-named : (g : ℕ) (used : List ℕ) (hs : List FunctionEntry) {after : List ℕ} → testFunctions L E g used hs ≡ accepted after → ((i : ℕ) → times i used ≤ 1)
+  functions-named : (g : ℕ) (used : List ℕ) (hs : List FunctionEntry) {after : List ℕ} → testFunctions L E g used hs ≡ accepted after
+      → ((i : ℕ) → times i used ≤ 1)
       → FunctionsNamed hs × After (gathered bodyOf hs) used after × ((i : ℕ) → times i after ≤ 1)
   unfolding testFunctions gathered below allPlain times
   functions-named g used [] e h =
@@ -204,7 +208,8 @@ module _ (L : Layout) (E : Entries) where
   all-used k used (t ∷ ts) e zero l =
       given (unbind _ _ e) λ (u, p, e₁). subst (λ n. 1 ≤ times n used) (let z : k ≡ k + 0 = omega arith in z) (member-times k used .0 (required _ 4 _ p))
   all-used k used (t ∷ ts) e (suc i) l =
-      given (unbind _ _ e) λ (u, p, e₁). subst (λ n. 1 ≤ times n used) (let z : suc k + i ≡ k + suc i = omega arith in z) (all-used (suc k) used ts e₁ i (omega arith))
+      given (unbind _ _ e) λ (u, p, e₁).
+      subst (λ n. 1 ≤ times n used) (let z : suc k + i ≡ k + suc i = omega arith in z) (all-used (suc k) used ts e₁ i (omega arith))
 
   used-pass : (k : ℕ) (used : List ℕ) (ts : List TermEntry) → ((i : ℕ) → i < length ts → 1 ≤ times (k + i) used) → testUsed L E k used ts ≡ accepted tt
   unfolding testUsed
@@ -246,7 +251,8 @@ module _ (L : Layout) (E : Entries) where
           subst (λ n. 1 ≤ times n inAll) (let z : 0 + k ≡ k = omega arith in z) (all-used L E 0 inAll (E .terms) e₃ k l),
           both k,
         );
-        types-plain = all-plain-iff (E .types) low (typesNamed E) there .0 (all-plain-append (E .types) (gathered typesOfTerm (E .terms)) _ .1 (T .plain, F .plain));
+        types-plain = all-plain-iff (E .types) low (typesNamed E) there .0
+            (all-plain-append (E .types) (gathered typesOfTerm (E .terms)) _ .1 (T .plain, F .plain));
       }
 
   -- no term is used twice, be it there or not
@@ -274,7 +280,8 @@ module _ (L : Layout) (E : Entries) where
       λ i. omega (arith, at-most-once N i, both i, times-none i)) λ (inTerms, p₂, A).
       given (functions-pass L E 0 inTerms (E .functions) (record { types = ty′; bodies = bodies; plain = pl′ })
       λ i. omega (arith, at-most-once N i, both i, A i, times-none i)) λ (inAll, p₃, A′).
-      via _ (types-pass L 0 (E .types) λ i. subst (λ n. below n (typesOfType (getD (E .types) i y-unit)) ≡ true) (let z : i ≡ 0 + i = omega arith in z) (N .types-lower i))
+      via _ (types-pass L 0 (E .types) λ i.
+      subst (λ n. below n (typesOfType (getD (E .types) i y-unit)) ≡ true) (let z : i ≡ 0 + i = omega arith in z) (N .types-lower i))
       (via _ p₂ (via _ p₃ (used-pass L E 0 inAll (E .terms) λ i l.
       subst (λ n. 1 ≤ times n inAll) (let z : i ≡ 0 + i = omega arith in z) (omega (arith, N .used-once i l, both i, A i, A′ i, times-none i)))))
 

@@ -60,9 +60,11 @@ backward-iff-rules ws out fuel fn program anc bytes v n = (
 )
   where
     of : (P : Program) (h : Fun) (vs : List Val) (w : Val) → Admitted ws fuel fn program anc bytes (λ h. h .result) P h vs w
-        → (runBackward fits P maxHeight h vs w fuel ≡ ok v (fuel - n)) ↔ (HasTy v (h .dynamic) × ((m : ℕ) × Carries fits P maxHeight h vs v w m × (fuel ≡ m + (fuel - n))))
+        → (runBackward fits P maxHeight h vs w fuel ≡ ok v (fuel - n))
+        ↔ (HasTy v (h .dynamic) × ((m : ℕ) × Carries fits P maxHeight h vs v w m × (fuel ≡ m + (fuel - n))))
     of P h vs w A =
-        Rules.backward-iff-rules maxVariables maxNodes P (A .typed) fn h (A .function) vs (A .ancillae-typed) fits maxHeight v w fuel (fuel - n) (A .value-typed)
+        Rules.backward-iff-rules maxVariables maxNodes P (A .typed) fn h (A .function) vs (A .ancillae-typed)
+        fits maxHeight v w fuel (fuel - n) (A .value-typed)
 
 ----------------------------------------------------------------
 -- Backward is forward, turned

@@ -57,7 +57,8 @@ module _ (P : Program) (fn : ℕ) (as? : Option (List Val)) (v? : Option Val) (s
         via _ (present-some 9 (A .function))
         (via _ (present-some 10 (A .ancillae-read))
         (via _ (present-some 10 (A .value-read))
-        (via _ (require-yes 10 0 (rw (env-length (a .ancillae) (a .fun .ancillae) (of-types-iff (a .ancillae) (a .fun .ancillae) .0 (A .ancillae-typed))) (eqb-yes (length (a .fun .ancillae)))))
+        (via _ (require-yes 10 0
+        (rw (env-length (a .ancillae) (a .fun .ancillae) (of-types-iff (a .ancillae) (a .fun .ancillae) .0 (A .ancillae-typed))) (eqb-yes (length (a .fun .ancillae)))))
         (via _ (require-yes 11 0 (rw (A .ancillae-typed) (A .value-typed))) refl)))),
   )
 
