@@ -17,8 +17,8 @@ use package.Rattle.calls.specs.Answer.{accepted}
 use package.Rattle.calls.specs.Fields.{Layout}
 use package.Rattle.calls.specs.Entries.{TypeEntry, y-unit, y-prod, y-sum, y-mu, y-var, typeTree, typeBelow, typeOf}
 use package.Rattle.calls.specs.Named.{ceiling, nodesOf, freeOf, figures, plain, typesOfType, below, member, testTypes}
-use package.Rattle.calls.specs.Tested.{closed, Lower}
-pub use package.Rattle.calls.specs.Tested.{Plain}
+use package.Rattle.calls.specs.Closed.{closed, Lower}
+pub use package.Rattle.calls.specs.Closed.{Plain}
 use package.Rattle.calls.proofs.Answer.{unbind, required}
 
 ----------------------------------------------------------------

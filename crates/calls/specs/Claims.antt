@@ -18,7 +18,7 @@ use package.Rattle.rules.specs.Claims.{Carries, Wider, OfTyped}
 use package.Rattle.calls.specs.Answer.{Answer, accepted, refused}
 use package.Rattle.calls.specs.Entries.{TypeEntry, typeOf}
 use package.Rattle.calls.specs.Named.{plain, member}
-use package.Rattle.calls.specs.Tested.{Plain, Lower}
+use package.Rattle.calls.specs.Closed.{Plain, Lower}
 use package.Rattle.calls.specs.Formed.{WellFormed}
 use package.Rattle.calls.specs.Load.{load}
 use package.Rattle.calls.specs.Values.{value, encodeAll, ancillae}
@@ -118,10 +118,8 @@ MoreNeverChanges = (ws ws′ out out′ fuel fuel′ fn : ℕ) (program anc byte
 -- Demand 1: no call stops on a value of wrong shape (which would be the number 0).
 abbrev pub NeverStuck : Type 0
 NeverStuck = (ws out fuel fn : ℕ) (program anc bytes : List ℕ) (k : ℕ)
-    → ¬ (forwardCall ws out fuel fn program anc bytes ≡ refused 0 k)
-    × ¬ (backwardCall ws out fuel fn program anc bytes ≡ refused 0 k)
-    × ¬ (convertCall ws fuel fn program anc bytes ≡ refused 0 k)
-    × ¬ (rollbackCall ws fuel program bytes ≡ refused 0 k)
+    → ¬ (forwardCall ws out fuel fn program anc bytes ≡ refused 0 k) × ¬ (backwardCall ws out fuel fn program anc bytes ≡ refused 0 k)
+    × ¬ (convertCall ws fuel fn program anc bytes ≡ refused 0 k) × ¬ (rollbackCall ws fuel program bytes ≡ refused 0 k)
 
 -- the numbers of section 4's rows from Workspace to Typing, of row Call, and of row Run: a run forward never meets 16
 abbrev pub programNumbers : List ℕ

@@ -11,7 +11,7 @@ use package.Rattle.rules.specs.Term.{Program}
 use package.Rattle.calls.specs.Fields.{tagAt, nextAt, parametersAt, bodyFits, Layout}
 use package.Rattle.calls.specs.Entries.{typeOf, Entries, entriesAt, programOf}
 use package.Rattle.calls.specs.Named.{typesOfTerm, termsOfTerm, functionsOfTerm, typesOfFunction, below, member}
-use package.Rattle.calls.specs.Tested.{Plain, Lower, LowerTerms}
+use package.Rattle.calls.specs.Closed.{Plain, Lower, LowerTerms}
 
 ----------------------------------------------------------------
 -- Fields

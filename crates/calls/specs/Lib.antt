@@ -7,7 +7,9 @@ pub mod Fields
 pub mod Entries
 -- references, uses, types: refusals 4 and 5 (section 4)
 pub mod Named
--- what those tests find, as propositions
+-- closed types, and entries that name lower ones (section 1)
+pub mod Closed
+-- what those tests find, for the contracts of the crates above
 pub mod Tested
 -- well-formed programs, as propositions (section 1)
 pub mod Formed

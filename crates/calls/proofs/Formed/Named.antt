@@ -14,7 +14,7 @@ use package.Rattle.calls.specs.Answer.{accepted, _>>=_, require}
 use package.Rattle.calls.specs.Fields.{Layout}
 use package.Rattle.calls.specs.Entries.{TypeEntry, y-unit, typeOf, TermEntry, n-unit, FunctionEntry, Entries}
 use package.Rattle.calls.specs.Named.{typesOfType, typesOfTerm, termsOfTerm, functionsOfTerm, typesOfFunction, below, member, fresh, plain, allPlain, testTypes, testTerms, testFunctions, testUsed, testEntries}
-use package.Rattle.calls.specs.Tested.{Plain, Lower, LowerTerms}
+use package.Rattle.calls.specs.Closed.{Plain, Lower, LowerTerms}
 use package.Rattle.calls.specs.Formed.{gathered, typesNamed, termsUsed, times, Named}
 use package.Rattle.calls.proofs.Answer.{accepted-inj, via, unbind, require-yes, required}
 use package.Rattle.calls.proofs.Entries.{below-head, lower, plain-iff}
