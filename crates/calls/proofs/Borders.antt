@@ -1,10 +1,10 @@
 -- Border cases, by computation.
 use mathlib.Core.Path.{refl}
-use package.Rattle.calls.specs.Borders.{copies, ofUnits, letFields, lets, doubled, bigTypes, named, paired, higher, wide, standing, Edges, Outcomes, Lists}
+use package.Rattle.calls.specs.Borders.{copies, ofUnits, letFields, unitLets, doubled, bigTypes, namesType, pairsTypes, higher, wide, withEntries, Edges, Outcomes, Lists}
 use package.Rattle.calls.proofs.Compute.{computing}
 
 pub edges : Edges
-unfolding computing copies ofUnits letFields lets doubled bigTypes named paired higher wide standing
+unfolding computing copies ofUnits letFields unitLets doubled bigTypes namesType pairsTypes higher wide withEntries
 edges = record {
   workspace = refl;
   workspace-past = refl;

@@ -39,9 +39,9 @@ unfolding termField
 letFields zero = []
 letFields (suc n) = letFields n ++ termField 1 [] ++ termField 5 ((1 + 2 * n) ∷ (2 * n) ∷ [])
 
-unfoldable pub lets : ℕ → List ℕ
+unfoldable pub unitLets : ℕ → List ℕ
 unfolding typeField termField letFields functionField
-lets n = typeField 0 [] ++ termField 1 [] ++ letFields n ++ functionField 0 (0 ∷ []) (2 * n)
+unitLets n = typeField 0 [] ++ termField 1 [] ++ letFields n ++ functionField 0 (0 ∷ []) (2 * n)
 
 -- type 9 has 1,023 nodes as a tree, 10 and 11 are recursive over it: 1,024 and 1,025; 12 is recursive over 8: 512; 13 its product with 8: 1,024
 unfoldable pub doubled : ℕ → List ℕ
@@ -54,13 +54,13 @@ unfolding doubled typeField
 bigTypes = doubled 9 ++ typeField 3 (9 ∷ []) ++ typeField 3 (10 ∷ []) ++ typeField 3 (8 ∷ []) ++ typeField 1 (8 ∷ 12 ∷ [])
 
 -- a function with an ancilla of this type; and one that pairs its two ancillae
-unfoldable pub named : ℕ → List ℕ
+unfoldable pub namesType : ℕ → List ℕ
 unfolding bigTypes termField functionField
-named i = bigTypes ++ termField 1 [] ++ functionField 0 (i ∷ 0 ∷ []) 0
+namesType i = bigTypes ++ termField 1 [] ++ functionField 0 (i ∷ 0 ∷ []) 0
 
-unfoldable pub paired : ℕ → ℕ → ℕ → List ℕ
+unfoldable pub pairsTypes : ℕ → ℕ → ℕ → List ℕ
 unfolding bigTypes varField termField functionField
-paired i j result = bigTypes ++ varField 0 ++ varField 1 ++ termField 4 (0 ∷ 1 ∷ []) ++ functionField result (i ∷ j ∷ 0 ∷ []) 2
+pairsTypes i j result = bigTypes ++ varField 0 ++ varField 1 ++ termField 4 (0 ∷ 1 ∷ []) ++ functionField result (i ∷ j ∷ 0 ∷ []) 2
 
 -- functions 2 and 3 call plus, each one higher
 unfoldable pub higher : List ℕ
@@ -75,9 +75,9 @@ wide = natTypes ++ termField 1 [] ++ termField 1 [] ++ varField 0
     ++ functionField 0 (4 ∷ 0 ∷ []) 0 ++ functionField 0 (0 ∷ 4 ∷ 0 ∷ []) 1 ++ functionField 4 (4 ∷ []) 2
 
 -- a journal that holds unit, after so many conversions of no ancillae
-unfoldable pub standing : ℕ → List ℕ
+unfoldable pub withEntries : ℕ → List ℕ
 unfolding copies field heldTag entryTag
-standing n = field heldTag (0 ∷ []) ++ copies n (field entryTag (replicate 6 0))
+withEntries n = field heldTag (0 ∷ []) ++ copies n (field entryTag (replicate 6 0))
 
 ----------------------------------------------------------------
 -- Limits, at the edge and one past it
@@ -96,12 +96,12 @@ pub record Edges : Type 0 where
   pub parameters : checkCall ample (ofUnits 8) ≡ accepted tt
   pub parameters-past : checkCall ample (ofUnits 9) ≡ refused 3 8
   pub no-parameters : checkCall ample (ofUnits 0) ≡ refused 3 8
-  pub variables : checkCall ample (lets 31) ≡ accepted tt
-  pub variables-past : checkCall ample (lets 32) ≡ refused 7 12
-  pub nodes : checkCall ample (named 10) ≡ accepted tt
-  pub nodes-past : checkCall ample (named 11) ≡ refused 5 106
-  pub nodes-given : checkCall ample (paired 8 12 13) ≡ accepted tt
-  pub nodes-given-past : checkCall ample (paired 12 12 13) ≡ refused 6 112
+  pub variables : checkCall ample (unitLets 31) ≡ accepted tt
+  pub variables-past : checkCall ample (unitLets 32) ≡ refused 7 12
+  pub nodes : checkCall ample (namesType 10) ≡ accepted tt
+  pub nodes-past : checkCall ample (namesType 11) ≡ refused 5 106
+  pub nodes-given : checkCall ample (pairsTypes 8 12 13) ≡ accepted tt
+  pub nodes-given-past : checkCall ample (pairsTypes 12 12 13) ≡ refused 6 112
   pub value-bytes : forwardCall ample 1024 1 2 wide [] (encode (inr (num 510))) ≡ value (inr (num 510)) 1
   pub value-bytes-past : forwardCall ample 1024 1 2 wide [] (encode (num 511)) ≡ refused 10 0
   pub ancilla-bytes : forwardCall ample 1 1 0 wide (encode (inr (num 510))) (encode unit) ≡ value unit 1
@@ -111,10 +111,10 @@ pub record Edges : Type 0 where
   pub output : forwardCall ample 2 4 0 collapse [] (encode (inl unit)) ≡ value (inl unit) 4
   pub output-past : forwardCall ample 1 4 0 collapse [] (encode (inl unit)) ≡ refused 17 0
   pub function-past : forwardCall ample 2 4 1 collapse [] (encode (inl unit)) ≡ refused 9 0
-  pub conversions : convertCall ample 0 9 [] [] (standing 63) ≡ refused 9 0
-  pub conversions-past : convertCall ample 0 9 [] [] (standing 64) ≡ refused 20 0
-  pub entries : rollbackCall ample 0 [] (standing 64) ≡ refused 9 0
-  pub entries-past : rollbackCall ample 0 [] (standing 65) ≡ refused 18 0
+  pub conversions : convertCall ample 0 9 [] [] (withEntries 63) ≡ refused 9 0
+  pub conversions-past : convertCall ample 0 9 [] [] (withEntries 64) ≡ refused 20 0
+  pub entries : rollbackCall ample 0 [] (withEntries 64) ≡ refused 9 0
+  pub entries-past : rollbackCall ample 0 [] (withEntries 65) ≡ refused 18 0
   pub room : openCall ample [] (encode (num 3)) 12 ≡ accepted (field heldTag (encode (num 3)))
   pub room-past : openCall ample [] (encode (num 3)) 11 ≡ refused 20 0
 
@@ -134,19 +134,19 @@ pub record Outcomes : Type 0 where
 
 -- plus 2; again, with too little fuel; rollback with too little fuel, in a shorter buffer; rollback, in a longer one; rollback with nothing
 -- standing, in one of the field alone; open with 0
-abbrev pub calls : List Call
-calls = converts ample 65535 0 (encode (num 2)) 40 ∷ converts ample 27 0 (encode (num 2)) 40 ∷ rollsBack ample 27 36 ∷ rollsBack ample 28 41
+abbrev pub someCalls : List Call
+someCalls = converts ample 65535 0 (encode (num 2)) 40 ∷ converts ample 27 0 (encode (num 2)) 40 ∷ rollsBack ample 27 36 ∷ rollsBack ample 28 41
     ∷ rollsBack ample 28 12 ∷ opens ample (encode (num 0)) 9 ∷ []
 
-abbrev pub more : List Call
-more = converts ample 65535 0 (encode (num 2)) 40 ∷ converts ample 65535 0 (encode (num 2)) 60 ∷ rollsBack ample 44 60 ∷ rollsBack ample 0 40 ∷ []
+abbrev pub moreCalls : List Call
+moreCalls = converts ample 65535 0 (encode (num 2)) 40 ∷ converts ample 65535 0 (encode (num 2)) 60 ∷ rollsBack ample 44 60 ∷ rollsBack ample 0 40 ∷ []
 
 abbrev pub told : List Told
 told = holds 13 28 ∷ refuses 12 7 ∷ refuses 12 0 ∷ holds 9 28 ∷ refuses 19 0 ∷ isOpen ∷ []
 
 pub record Lists : Type 0 where
-  pub made : callRun numbers calls opened .answers ≡ told
-  pub booked : bookRun numbers trees.numbers calls (begun (num 3)) .answers ≡ told
-  pub left : callRun numbers calls opened .journal ≡ field heldTag (encode (num 0)) ++ replicate 3 0
+  pub made : callRun numbers someCalls opened .answers ≡ told
+  pub booked : bookRun numbers trees.numbers someCalls (begun (num 3)) .answers ≡ told
+  pub left : callRun numbers someCalls opened .journal ≡ field heldTag (encode (num 0)) ++ replicate 3 0
   -- two conversions and a rollback in a longer buffer, then a refused one in P13's, leave P13's journal
-  pub again : callRun numbers more opened .journal ≡ converted
+  pub again : callRun numbers moreCalls opened .journal ≡ converted

@@ -59,7 +59,7 @@ unfoldable pub times : ℕ → List ℕ → ℕ
 times i [] = 0
 times i (j ∷ js) = cond (eqb i j) (suc (times i js)) (times i js)
 
-pub record Named (E : Entries) : Type 0 where
+pub record WellNamed (E : Entries) : Type 0 where
   -- a type names lower types, a term lower terms; any other reference names an entry that exists
   pub types-lower : Lower (E .types)
   pub terms-lower : LowerTerms (E .terms)
@@ -79,5 +79,5 @@ pub record WellFormed (program : List ℕ) (P : Program) : Type 0 where
   pub places : List ℕ
   pub fields : FieldsAt program 0 1 places
   pub few : Few program (byTag program places)
-  pub named : Named (entriesAt program (byTag program places))
+  pub named : WellNamed (entriesAt program (byTag program places))
   pub trees : programOf (entriesAt program (byTag program places)) ≡ P

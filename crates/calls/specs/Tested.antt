@@ -1,4 +1,4 @@
--- What the tests of Named find of entries, for the contracts of the crates above. No claim speaks of it: claims say Formed's Named.
+-- What the tests of Named find of entries, for the contracts of the crates above. No claim speaks of it: claims say `WellNamed` (Formed).
 -- That the tests find it: proofs/Entries, proofs/Trees.
 use Prim.Native.Nat.{ℕ, _<_}
 use mathlib.Core.Path.{_≡_}

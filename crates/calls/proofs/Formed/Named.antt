@@ -15,7 +15,7 @@ use package.Rattle.calls.specs.Fields.{Layout}
 use package.Rattle.calls.specs.Entries.{TypeEntry, y-unit, typeOf, TermEntry, n-unit, FunctionEntry, Entries}
 use package.Rattle.calls.specs.Named.{typesOfType, typesOfTerm, termsOfTerm, functionsOfTerm, typesOfFunction, below, member, fresh, plain, allPlain, testTypes, testTerms, testFunctions, testUsed, testEntries}
 use package.Rattle.calls.specs.Closed.{Plain, Lower, LowerTerms}
-use package.Rattle.calls.specs.Formed.{gathered, typesNamed, termsUsed, times, Named}
+use package.Rattle.calls.specs.Formed.{gathered, typesNamed, termsUsed, times, WellNamed}
 use package.Rattle.calls.proofs.Answer.{accepted-inj, via, unbind, require-yes, required}
 use package.Rattle.calls.proofs.Entries.{below-head, lower, plain-iff}
 use package.Rattle.calls.proofs.Formed.Uses.{times-append, member-times, times-past, Once, fresh-once, once-fresh, below-append, member-append}
@@ -226,7 +226,7 @@ module _ (L : Layout) (E : Entries) where
   both : (i : ℕ) → times i (termsUsed E) ≡ times i (gathered termsOfTerm (E .terms)) + times i (gathered bodyOf (E .functions))
   both i = times-append i (gathered termsOfTerm (E .terms)) (gathered bodyOf (E .functions))
 
-  entries-named : testEntries L E ≡ accepted tt → Named E
+  entries-named : testEntries L E ≡ accepted tt → WellNamed E
   unfolding testEntries
   entries-named e =
       given (unbind (testTypes L 0 (E .types)) _ e) λ (u, p, e₁).
@@ -256,14 +256,14 @@ module _ (L : Layout) (E : Entries) where
       }
 
   -- no term is used twice, be it there or not
-  at-most-once : Named E → (i : ℕ) → times i (termsUsed E) ≤ 1
+  at-most-once : WellNamed E → (i : ℕ) → times i (termsUsed E) ≤ 1
   at-most-once N i = by-range (decLt i (length (E .terms)))
     where
       by-range : Dec (i < length (E .terms)) → times i (termsUsed E) ≤ 1
       by-range (yes l) = omega (arith, N .used-once i l)
       by-range (no l) = omega (arith, times-past (length (E .terms)) i (termsUsed E) (N .terms-there) (omega arith))
 
-  named-entries : Named E → testEntries L E ≡ accepted tt
+  named-entries : WellNamed E → testEntries L E ≡ accepted tt
   unfolding testEntries
   named-entries N =
       given (below-append _ (gathered typesOfTerm (E .terms)) _ .0 (N .types-there)) λ (ty, ty′).
@@ -285,5 +285,5 @@ module _ (L : Layout) (E : Entries) where
       (via _ p₂ (via _ p₃ (used-pass L E 0 inAll (E .terms) λ i l.
       subst (λ n. 1 ≤ times n inAll) (let z : i ≡ 0 + i = omega arith in z) (omega (arith, N .used-once i l, both i, A i, A′ i, times-none i)))))
 
-  pub entries-iff : (testEntries L E ≡ accepted tt) ↔ Named E
+  pub entries-iff : (testEntries L E ≡ accepted tt) ↔ WellNamed E
   entries-iff = (entries-named, named-entries)

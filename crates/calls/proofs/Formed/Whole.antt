@@ -9,7 +9,7 @@ use package.Rattle.calls.specs.Answer.{accepted}
 use package.Rattle.calls.specs.Fields.{Layout, layout}
 use package.Rattle.calls.specs.Entries.{entriesAt, programOf}
 use package.Rattle.calls.specs.Named.{testEntries}
-use package.Rattle.calls.specs.Formed.{byTag, Named, WellFormed}
+use package.Rattle.calls.specs.Formed.{byTag, WellNamed, WellFormed}
 use package.Rattle.calls.proofs.Formed.Fields.{layout-iff}
 use package.Rattle.calls.proofs.Formed.Named.{entries-iff}
 
@@ -26,7 +26,7 @@ passes-iff program P = (
     places = places;
     fields = D;
     few = F;
-    named = subst (λ L. Named (entriesAt program L)) (sym z) (entries-iff (T .places) (entriesAt program (T .places)) .0 (T .entries));
+    named = subst (λ L. WellNamed (entriesAt program L)) (sym z) (entries-iff (T .places) (entriesAt program (T .places)) .0 (T .entries));
     trees = ap (λ L. programOf (entriesAt program L)) z ∙ T .trees;
   },
   λ W. record {
