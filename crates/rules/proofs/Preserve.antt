@@ -7,19 +7,22 @@ use mathlib.Core.List.{List, [], _∷_}
 use lib.ListN.{length}
 use lib.Dec.{eqb}
 use package.Rattle.rules.specs.Val.{Val, unit, inl, inr, pair, roll, same}
-use package.Rattle.rules.specs.Ty.{Ty, prod, sum, unfoldTy}
+use package.Rattle.rules.specs.Ty.{Ty, prod, sum, unfoldTy, HasTys}
 use package.Rattle.rules.specs.Term.{Term, Terms, Fun, Program, look, scope}
 use package.Rattle.rules.specs.Rules.{Judgement, All, e-end, e-more, Rule, e-var, e-unit, e-inl, e-inr, e-prod, e-let, e-letp, e-casel, e-caser, e-app, e-roll, e-unroll, Ev}
 use package.Rattle.rules.specs.Typing.{dynamic}
-use package.Rattle.rules.proofs.OfType.{OfType, OfTypes}
+use package.Rattle.rules.proofs.OfType.{OfType, OfTypes, of-types-iff}
 use package.Rattle.rules.proofs.Basics.{given, none≢some, some-inj}
 use package.Rattle.rules.proofs.Directed.{Typed, TypedAll, TypedProgram}
 
-pub env-length : (ρ : List Val) (Γ : List Ty) → OfTypes ρ Γ → length ρ ≡ length Γ
-env-length [] [] h = refl
-env-length [] (c ∷ Γ) h = absurd h
-env-length (v ∷ ρ) [] h = absurd h
-env-length (v ∷ ρ) (c ∷ Γ) h = ap suc (env-length ρ Γ (h .1))
+pub types-length : (ρ : List Val) (Γ : List Ty) → OfTypes ρ Γ → length ρ ≡ length Γ
+types-length [] [] h = refl
+types-length [] (c ∷ Γ) h = absurd h
+types-length (v ∷ ρ) [] h = absurd h
+types-length (v ∷ ρ) (c ∷ Γ) h = ap suc (types-length ρ Γ (h .1))
+
+pub env-length : (ρ : List Val) (Γ : List Ty) → HasTys ρ Γ → length ρ ≡ length Γ
+env-length ρ Γ h = types-length ρ Γ (of-types-iff ρ Γ .0 h)
 
 pick : (b : Bool) (v w : Val) (c d : Ty) (x : Option Val) (y : Option Ty) → OfType v c → (x ≡ some w → y ≡ some d → OfType w d)
     → cond b (some v) x ≡ some w → cond b (some c) y ≡ some d → OfType w d
@@ -31,7 +34,7 @@ unfolding look
 env-look [] Γ i v c h p q = absurd (none≢some p)
 env-look (w ∷ ρ) [] i v c h p q = absurd h
 env-look (w ∷ ρ) (d ∷ Γ) i v c h p q =
-    pick (eqb i (length Γ)) w v d c (look ρ i) (look Γ i) (h .0) (env-look ρ Γ i v c (h .1)) (rw (env-length ρ Γ (h .1)) at p) q
+    pick (eqb i (length Γ)) w v d c (look ρ i) (look Γ i) (h .0) (env-look ρ Γ i v c (h .1)) (rw (types-length ρ Γ (h .1)) at p) q
 
 pub scope-ty : (vs : List Val) (cs : List Ty) (ρ : List Val) (Γ : List Ty) → OfTypes vs cs → OfTypes ρ Γ → OfTypes (scope vs ρ) (scope cs Γ)
 unfolding scope

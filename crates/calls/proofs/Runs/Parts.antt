@@ -14,7 +14,6 @@ use package.Rattle.rules.specs.Term.{Fun, Program, nth}
 use package.Rattle.rules.specs.Run.{Res, ok, stop, stuck}
 use package.Rattle.rules.proofs.Basics.{given, and-both, eqb-yes}
 use package.Rattle.rules.proofs.Numbers.{EndsBy, answers, refuses, sticks}
-use package.Rattle.rules.proofs.OfType.{of-types-iff}
 use package.Rattle.rules.proofs.Preserve.{env-length}
 use package.Rattle.rules.proofs.Run.{stop≢ok, stuck≢ok}
 use package.Rattle.calls.specs.Answer.{accepted, refused, require, present}
@@ -58,7 +57,7 @@ module _ (P : Program) (fn : ℕ) (as? : Option (List Val)) (v? : Option Val) (s
         (via _ (present-some 10 (A .ancillae-read))
         (via _ (present-some 10 (A .value-read))
         (via _ (require-yes 10 0
-        (rw (env-length (a .ancillae) (a .fun .ancillae) (of-types-iff (a .ancillae) (a .fun .ancillae) .0 (A .ancillae-typed))) (eqb-yes (length (a .fun .ancillae)))))
+        (rw (env-length (a .ancillae) (a .fun .ancillae) (A .ancillae-typed)) (eqb-yes (length (a .fun .ancillae)))))
         (via _ (require-yes 11 0 (rw (A .ancillae-typed) (A .value-typed))) refl)))),
   )
 

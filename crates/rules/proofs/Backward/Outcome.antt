@@ -22,7 +22,7 @@ use package.Rattle.rules.proofs.Directed.{inside, Spent, Typed, TypedAl
 use package.Rattle.rules.proofs.Forward.Outcome.{Out, each-out, outcome}
 use package.Rattle.rules.proofs.Known.{Knows, Mono, Bound, After, enough-inside, bound-both, bound-let, bound-left, bound-right}
 use package.Rattle.rules.proofs.Outcome.{steps, fuel-short, room-short, Good, yields, short, good-after, good-val, good-enter, good-size, good-some, good-swap, good-map}
-use package.Rattle.rules.proofs.Preserve.{env-length, Keeps, all-keeps, preserve}
+use package.Rattle.rules.proofs.Preserve.{types-length, Keeps, all-keeps, preserve}
 use package.Rattle.rules.proofs.State.{Agree, agree-length}
 use package.Rattle.rules.proofs.Yield.{under-push, May, may}
 
@@ -66,7 +66,7 @@ module _ (fits fits′ : Val → Bool) (P : Program) (W : TypedProgram P) where
         (after (go a (none ∷ σ) b w g) λ σ₁. leave σ₁ λ v σ₂. go a σ₂ e (k v))
     let-good {a} {ρ} {n} e b v u w c d k D x D′ T h T′ s rd g =
         good-swap fits fits′ _ (B _ _ _ _ _ D′ q (c ∷ Γ) τ T′ (none ∷ σ) (ready-push c v h rd) g) λ σ₁ g A.
-        pop fits fits′ _ q Γ c v b ρ none σ σ₁ (sym (env-length ρ Γ (rd .env))) (agree-length σ ρ (rd .agree)) (rd .le) h s A λ σ₂ (ag, mo, bd).
+        pop fits fits′ _ q Γ c v b ρ none σ σ₁ (sym (types-length ρ Γ (rd .env))) (agree-length σ ρ (rd .agree)) (rd .le) h s A λ σ₂ (ag, mo, bd).
         good-map fits fits′ (λ σ′ (ag′, mo′, bd′). (ag′, (λ i k. mo′ i (mo i k)), (σ₂, mo′, bd′, bd)))
         (subst (λ u. Good fits fits′ (After q Γ e ρ σ₂) g n r r′ (go a σ₂ e u g)) (sym x) (B _ _ _ _ _ D q Γ d T σ₂ (ready-grow σ₂ rd ag mo) g))
 
@@ -87,7 +87,7 @@ module _ (fits fits′ : Val → Bool) (P : Program) (W : TypedProgram P) where
         (let-good e b v v w c c (λ v. v) d refl d′ T (K _ _ _ _ _ d q Γ c (rd .env) T) T′ s rd g)
     step-bout (e-letp {k} {ρ = ρ} {e} {b} {v} {v′} {w} d d′) (a₁, a₂, T, T′, s₁, s₂) rd f = open-term k f w _ (F _ _ _ _ _ d′) λ g.
         given (K _ _ _ _ _ d q Γ (prod a₁ a₂) (rd .env) T) λ (h₁, h₂).
-        given (sym (env-length ρ Γ (rd .env))) λ l. given (agree-length σ ρ (rd .agree)) λ l′.
+        given (sym (types-length ρ Γ (rd .env))) λ l. given (agree-length σ ρ (rd .agree)) λ l′.
         good-swap fits fits′ _ (B _ _ _ _ _ d′ q (a₂ ∷ a₁ ∷ Γ) τ T′ (none ∷ none ∷ σ) (ready-push a₂ v′ h₂ (ready-push a₁ v h₁ rd)) g) λ σ₁ g A.
         pop fits fits′ _ q (a₁ ∷ Γ) a₂ v′ b (v ∷ ρ) none (none ∷ σ) σ₁ (ap suc l) (ap suc l′) (omega (arith, rd .le)) h₂ s₂ A λ σ₂ A₂.
         pop fits fits′ _ q Γ a₁ v b ρ none σ σ₂ l l′ (rd .le) h₁ s₁ A₂ λ σ₃ (ag, mo, bd).
@@ -120,7 +120,7 @@ module _ (fits fits′ : Val → Bool) (P : Program) (W : TypedProgram P) where
         given (all-keeps fits′ P W R K a ρ ts vs _ ds q Γ (h .ancillae) (rd .env) (subst (λ (h : Fun). TypedAll P q Γ ts (h .ancillae)) same-h Ts)) λ hs.
         given (ready-call vs (h .ancillae) v (h .dynamic) hs hv) λ rd′.
         good-some fits fits′ _ x (good-val fits fits′ _ (each-out fits fits′ P R fw r r′ O (inside q (length Γ)) σ ds
-        (enough-inside q (length Γ) σ ρ (rd .agree) (env-length ρ Γ (rd .env)) (rd .anc)) ins g) λ g.
+        (enough-inside q (length Γ) σ ρ (rd .agree) (types-length ρ Γ (rd .env)) (rd .anc)) ins g) λ g.
         good-swap fits fits′ _ (B _ _ _ _ _ d′ (length (h .ancillae)) (h .dynamic ∷ scope (h .ancillae) []) (h .result) (W j h x .0) (none ∷ map some (scope vs [])) rd′ g) λ σ₁ g A.
         call-pop fits fits′ (go a σ e) vs (h .ancillae) (h .dynamic) v (h .body) σ₁ hs hv (W j h x .1) A (B _ _ _ _ _ d q Γ (h .dynamic) T′ σ rd g))
     step-bout (e-roll {k} {v = v} d ft) (a₁, x, y, T) rd f = open-term k f (roll v) _ ft λ g. B _ _ _ _ _ d q Γ (unfoldTy a₁) T σ rd g

@@ -18,7 +18,7 @@ use package.Rattle.rules.proofs.Basics.{given, none≢some, some-inj}
 use package.Rattle.rules.proofs.Directed.{Spent}
 use package.Rattle.rules.proofs.Known.{Knows, known-new, knows-push, Mono, Bound, After, mono-pop, bound-pop, determined, knows-new, mono-set, mono-push, knows-full}
 use package.Rattle.rules.proofs.Outcome.{Good, yields, good-last, good-val-last}
-use package.Rattle.rules.proofs.Preserve.{env-length, scope-ty}
+use package.Rattle.rules.proofs.Preserve.{types-length, scope-ty}
 use package.Rattle.rules.proofs.Scope.{length-scope}
 use package.Rattle.rules.proofs.State.{Fit, Agree, agree-full, agree-length}
 use package.Rattle.rules.proofs.Val.{same-refl}
@@ -87,7 +87,7 @@ pub ready-call : (vs : List Val) (cs : List Ty) (v : Val) (c : Ty) → OfTypes v
     → Ready (scope vs []) (length cs) (c ∷ scope cs []) (v ∷ scope vs []) (none ∷ map some (scope vs []))
 ready-call vs cs v c h h′ =
     let l₁ : length (scope vs []) ≡ length vs + 0 = length-scope vs [] in
-    let l₂ : length vs ≡ length cs = env-length vs cs h in
+    let l₂ : length vs ≡ length cs = types-length vs cs h in
     record {
       env = (h′, scope-ty vs cs [] [] h tt);
       under = under-push (scope vs []) (scope vs []) v (under-refl (scope vs []));
@@ -101,7 +101,7 @@ pub call-pop : (fits fits′ : Val → Bool) {X : Type 0} {Q : X → Type 0} {f 
     → Good fits fits′ Q f n r r′ (k v f) → Good fits fits′ Q f n r r′ (leave σ₁ (λ w σ₂. k w) f)
 call-pop fits fits′ k vs cs c v b σ₁ hs hv sp A s =
     let l₁ : length (scope vs []) ≡ length vs + 0 = length-scope vs [] in
-    let l₂ : length vs ≡ length cs = env-length vs cs hs in
+    let l₂ : length vs ≡ length cs = types-length vs cs hs in
     let l₃ : length (scope cs []) ≡ length cs + 0 = length-scope cs [] in
     let l₄ : length (map some (scope vs [])) ≡ length (scope vs []) = agree-length (map some (scope vs [])) (scope vs []) (agree-full (scope vs [])) in
     pop fits fits′ (λ w σ₂. k w) (length cs) (scope cs []) c v b (scope vs []) none (map some (scope vs [])) σ₁ (omega arith) l₄ (omega arith) hv

@@ -21,7 +21,7 @@ use package.Rattle.rules.proofs.Directed.{inside, Spent, Typed, TypedFu
 use package.Rattle.rules.proofs.Fine.{Fine, fine, refused, fine-after, fine-map, fine-enter, fine-test, fine-some, fine-pair, fine-sum, fine-roll, fine-unit}
 use package.Rattle.rules.proofs.Forward.Safe.{Safe, each-safe, forward-safe}
 use package.Rattle.rules.proofs.Known.{Knows, knows-push, Mono, Bound, knows-full, bound-both, bound-let, bound-left, bound-right}
-use package.Rattle.rules.proofs.Preserve.{env-length, scope-ty}
+use package.Rattle.rules.proofs.Preserve.{types-length, scope-ty}
 use package.Rattle.rules.proofs.Scope.{length-scope}
 use package.Rattle.rules.proofs.StateTy.{StateTy, state-length, state-full, length-full, Has, Left, fine-pop, meet-safe}
 
@@ -36,7 +36,7 @@ module _ (fits : Val → Bool) (P : Program) (W : TypedProgram P) where
       → Fine Q (after (go (scope vs []) (none ∷ map some (scope vs [])) (h .body) v f) λ σ. leave σ λ w σ′. k w)
   body-safe go B h T vs hs k v hv s f =
       let l₁ : length (scope vs []) ≡ length vs + 0 = length-scope vs [] in
-      let l₂ : length vs ≡ length (h .ancillae) = env-length vs (h .ancillae) hs in
+      let l₂ : length vs ≡ length (h .ancillae) = types-length vs (h .ancillae) hs in
       let l₃ : length (scope (h .ancillae) []) ≡ length (h .ancillae) + 0 = length-scope (h .ancillae) [] in
       let l₄ : length (map some (scope vs [])) ≡ length (scope vs []) = length-full (scope vs []) in
       fine-after _ (B (scope vs []) (none ∷ map some (scope vs [])) (h .body) v (length (h .ancillae)) (h .dynamic ∷ scope (h .ancillae) []) (h .result) (T .0) hv
