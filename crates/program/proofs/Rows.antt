@@ -39,7 +39,7 @@ module _ {xs : List ℕ} {at : ℕ} (F : FunctionField xs at) where
   parameter-count : length (parameterTypes (functionAt xs at)) ≡ parametersAt xs at
   parameter-count = ap length parameters-are ∙ length-references xs (at + 6) (parametersAt xs at)
 
-  parameter-at : (k : ℕ) → k < parametersAt xs at → listed xs at k ≡ getD (parameterTypes (functionAt xs at)) k 0
+  pub parameter-at : (k : ℕ) → k < parametersAt xs at → listed xs at k ≡ getD (parameterTypes (functionAt xs at)) k 0
   parameter-at k h = sym (ap (λ l. getD l k 0) parameters-are ∙ getD-references xs (at + 6) (parametersAt xs at) k h)
 
   no-parameter-at : (k : ℕ) → parametersAt xs at ≤ k → 0 ≡ getD (parameterTypes (functionAt xs at)) k 0

@@ -21,6 +21,7 @@ use package.Rattle.uses.specs.declared.Uses.{Uses}
 use package.Rattle.uses.specs.Sets.{Holds, has, joined}
 use package.Rattle.typing.specs.Contexts.{NamedBy}
 use package.Rattle.typing.specs.Sizes.{termsIn}
+use package.Rattle.typing.specs.Asked.{ReadyBranches}
 use package.Rattle.typing.specs.Outcomes.{faultOf}
 use package.Rattle.typing.specs.Ready.{termIn, contextIn, typingOf, typeIn, branchesOf, spentBy, Ready, Here, Kept, Inferred, Opened, After, Meets}
 use package.Rattle.typing.proofs.Contexts.{same-use-iff}
@@ -114,10 +115,27 @@ module _ {p types terms functions nodes heap vars : List ℕ} {sc : Scope} {top 
 ----------------------------------------------------------------
 -- The branches
 
-module _ {p types terms functions nodes heap vars : List ℕ} {sc : Scope} {top t at : ℕ}
-    (rd : Ready (termsIn (termIn p types terms (second p at)) + termsIn (termIn p types terms (third p at))) p types terms functions nodes heap vars sc top)
-    (H : Here p terms t at 7) (free : sc .n < 32) {c d : Code} (K : Known (length types) top c) (K′ : Known (length types) top d)
-    {u : Uses} (named : NamedBy u (termIn p types terms (first p at))) {l r : ℕ} (q : l ≡ second p at) (q′ : r ≡ third p at) where
+module _ {p types terms functions : List ℕ} {table : List (List ℕ)} {nodes heap vars : List ℕ} {sc : Scope} {top t at : ℕ} {u : Uses} {c d : Code}
+    (asked : ReadyBranches p types terms functions table nodes heap vars sc top t at u c d) {l r : ℕ} (q : l ≡ second p at) (q′ : r ≡ third p at) where
+  abbrev rd : Ready (termsIn (termIn p types terms (second p at)) + termsIn (termIn p types terms (third p at)))
+      p types terms functions nodes heap vars sc top
+  rd = asked .ready
+
+  abbrev H : Here p terms t at 7
+  H = asked .here
+
+  abbrev free : sc .n < 32
+  free = asked .free
+
+  abbrev K : Known (length types) top c
+  K = asked .left
+
+  abbrev K′ : Known (length types) top d
+  K′ = asked .right
+
+  abbrev named : NamedBy u (termIn p types terms (first p at))
+  named = asked .named
+
   abbrev L : Term
   L = termIn p types terms l
 

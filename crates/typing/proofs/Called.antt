@@ -7,14 +7,16 @@ use mathlib.Core.Option.{some}
 use mathlib.Core.List.{List, [], _∷_, _++_, map}
 use lib.ListN.{length, getD, length-map}
 use package.Rattle.rules.specs.Term.{end, more, Fun, nth}
-use package.Rattle.rules.specs.Limits.{maxParameters}
+use package.Rattle.rules.specs.Limits.{maxFunctions, maxParameters}
 use package.Rattle.rules.proofs.Lists.{nth-map, nth-there}
 use package.Rattle.calls.specs.Fields.{parametersAt}
 use package.Rattle.calls.specs.Entries.{typeAt, typeOf, termAt, termTrees, references, functionAt, functionOf, entriesAt, programOf}
 use package.Rattle.calls.specs.Named.{typesOfFunction, below}
 use package.Rattle.calls.proofs.Entries.{below-head}
 use package.Rattle.program.specs.Parts.{listed, result, FunctionField}
+use package.Rattle.program.specs.Signatures.{parameterTypes, SignaturesAre}
 use package.Rattle.program.proofs.Rooms.{function-room}
+use package.Rattle.program.proofs.Rows.{parameter-at}
 use package.Rattle.program.proofs.Shapes.{function-dynamic}
 use package.Rattle.program.specs.Programs.{programIn}
 use package.Rattle.program.proofs.Lists.{below-last, below-each}
@@ -43,6 +45,16 @@ module _ {p types terms functions nodes : List ℕ} (E : Entered p types terms f
   pub some-parameters : (1 ≤ parametersAt p h) × (parametersAt p h ≤ 8)
   unfolding maxParameters
   some-parameters = (function-field .some, function-field .few)
+
+  -- its row of the table of signatures: it is there, and has the types of the parameters
+  pub row-there : g < 64
+  unfolding maxFunctions
+  row-there = omega (arith, there, E .formed .few-functions)
+
+  pub row-parameter : {table : List (List ℕ)} → SignaturesAre p functions table → (k : ℕ) → k < parametersAt p h
+      → getD (getD table g []) k 0 ≡ listed p h k
+  row-parameter S k l =
+      S .rows g there .each k ∙ ap (λ h. getD (parameterTypes (functionAt p h)) k 0) (sym q) ∙ sym (parameter-at function-field k l)
 
   -- the types that it names are there
   types-named : below (length types) (result p h ∷ (references p (h + 6) (parametersAt p h - 1) ++ (functionAt p h .dynamic ∷ []))) ≡ true

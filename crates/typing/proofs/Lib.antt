@@ -23,6 +23,8 @@ pub mod Branching
 pub mod Called
 -- calls
 pub mod Passing
+-- what a function asks for, put together
+pub mod Asking
 -- the parameters of a function
 pub mod Parameters
 -- the tests of a function whose body is typed

@@ -3,7 +3,7 @@ use Prim.Native.Nat.{ℕ, suc, _+_, _*_, _-_, _≤_, _<_}
 use native.Mathlib.Omega.{arith}
 use mathlib.Core.Path.{_≡_, refl, sym, ap, ap₂, subst, _∙_}
 use mathlib.Core.Bool.{Bool, true, false}
-use mathlib.Core.List.{List, map}
+use mathlib.Core.List.{List, [], map}
 use lib.ListN.{length, getD, length-map}
 use lib.Dec.{eqb}
 use borrow.Author.Tests.{eq-eqb, ne-eqb}
@@ -15,6 +15,7 @@ use package.Rattle.rules.specs.Check.{term, Checked, good, _>>=_, _>>_, need, a
 use package.Rattle.calls.specs.Fields.{lengthAt, parametersAt}
 use package.Rattle.calls.specs.Entries.{typeAt, typeOf, termTrees, callAncillae, references, functionOf}
 use package.Rattle.program.specs.Parts.{first, listed, result}
+use package.Rattle.program.specs.Signatures.{SignaturesAre}
 use package.Rattle.program.proofs.Shapes.{function-result, function-ancillae, function-dynamic}
 use package.Rattle.program.specs.Programs.{programIn}
 use package.Rattle.program.proofs.Lists.{count-trees, length-references}
@@ -30,7 +31,7 @@ use package.Rattle.typing.specs.Ready.{termIn, variableAt, contextIn, ty
 use package.Rattle.typing.proofs.Contexts.{context-bar, must-use-barred}
 use package.Rattle.typing.proofs.Answers.{ends-refused, inferred, kept-still, kept-then, kept-more, stopped, need-yes, need-no, answered, refused, around, earlier, says, good-then, bad-then, ready-less, context-later, ready-later}
 use package.Rattle.typing.proofs.Trees.{tree-call, read-call, called-there, part-argument, part-dynamic}
-use package.Rattle.typing.proofs.Called.{called, called-in, read-function, some-parameters, result-there, parameter-there, dynamic-there, terms-next, terms-none, types-next, types-none, references-all}
+use package.Rattle.typing.proofs.Called.{called, called-in, read-function, some-parameters, row-there, row-parameter, result-there, parameter-there, dynamic-there, terms-next, terms-none, types-next, types-none, references-all}
 use Rattle.typing.specs.declared.outcomes.Scope.{Scope}
 use Rattle.typing.specs.declared.outcomes.Found.{Found}
 use Rattle.typing.specs.declared.outcomes.Fault.{Fault}
@@ -52,8 +53,13 @@ good-and : {B : Type 0} {m : Checked (Unit {0})} (k : Checked B) → m ≡ good 
 unfolding _>>_
 good-and k e = ap (λ m. m >> k) e
 
-module _ {p types terms functions nodes heap vars : List ℕ} {sc : Scope} {top t at h k count : ℕ}
-    (rd : Ready (termsInAll (termsFrom p types terms at k count)) p types terms functions nodes heap vars sc top) (C : Calls p terms functions t at h k count) where
+module _ {p types terms functions nodes heap vars : List ℕ} {sc : Scope} {top t at g k count : ℕ}
+    (rd : Ready (termsInAll (termsFrom p types terms at k count)) p types terms functions nodes heap vars sc top)
+    (C : Calls p terms functions t at g k count) where
+  -- the called function's field
+  abbrev h : ℕ
+  h = getD functions g 0
+
   abbrev Δ : Context
   Δ = contextIn p types heap vars sc
 
@@ -71,8 +77,18 @@ module _ {p types terms functions nodes heap vars : List ℕ} {sc : Scope} {top 
     pub args-left : k < count
     args-left = omega (arith, C .next)
 
-    pub args-read : (at + 8 + 2 * k ≤ length p) × (h + 8 + 2 * k ≤ length p)
-    args-read = (omega (arith, read-call (rd .entries) (C .here) .0, C .ancillae, args-left), omega (arith, read-function (rd .entries) (C .called) (C .function), C .parameters, args-left))
+    pub args-read : at + 8 + 2 * k ≤ length p
+    args-read = omega (arith, read-call (rd .entries) (C .here) .0, C .ancillae, args-left)
+
+    -- the parameter's place in the table of signatures, and what stands there
+    pub args-row : (g < 64) × (k < 8)
+    args-row = (
+      row-there (rd .entries) (C .called) refl,
+      omega (arith, args-left, C .parameters, some-parameters (rd .entries) (C .called) refl .1),
+    )
+
+    pub args-parameter : {table : List (List ℕ)} → SignaturesAre p functions table → getD (getD table g []) k 0 ≡ listed p h k
+    args-parameter S = row-parameter (rd .entries) (C .called) refl S k (omega (arith, args-left, C .parameters))
 
     size-args : {a : ℕ} → a ≡ listed p at k → termsIn (termIn p types terms a) + termsInAll (termsFrom p types terms at (k + 1) count) ≡ termsInAll (termsFrom p types terms at k count)
     unfolding termsInAll
@@ -107,20 +123,20 @@ module _ {p types terms functions nodes heap vars : List ℕ} {sc : Scope} {top 
         pub args-later : Ready (termsInAll (termsFrom p types terms at (k + 1) count)) p types terms functions nodes heap₁ vars₁ sc (o .top)
         args-later = ready-later rd (d .kept) _ (omega (arith, size-args q))
 
-        pub args-next : Calls p terms functions t at h (k + 1) count
+        pub args-next : Calls p terms functions t at g (k + 1) count
         args-next = record {
           here = C .here;
           ancillae = C .ancillae;
           next = omega (arith, args-left);
+          callee = C .callee;
           called = C .called;
-          function = C .function;
           parameters = C .parameters;
         }
 
         module _ {f : Found} (x : o .status ≡ Typed f) {j : ℕ} (z : j ≡ listed p h k) {want : Code} (w : want ≡ entryCode j) where
           pub args-want : Known (length types) (o .top) want
           args-want = subst (Known (length types) (o .top)) (sym w)
-              (entry-known j (let l : listed p h k < length types = parameter-there (rd .entries) (C .called) (C .function) k (omega (arith, args-left, C .parameters)) in omega arith))
+              (entry-known j (let l : listed p h k < length types = parameter-there (rd .entries) (C .called) refl k (omega (arith, args-left, C .parameters)) in omega arith))
 
           module _ {b : Bool} (y : b ≡ sameTy (treeIn p types heap₁ (f .code)) (treeIn p types heap₁ want)) where
             same-want : b ≡ sameTy (treeIn p types heap₁ (f .code)) (typeOf (map (typeAt p) types) (listed p h k))
@@ -231,26 +247,33 @@ module _ {p types terms functions nodes heap vars : List ℕ} {sc : Scope} {top 
     call-differ x s z = stopped _ (sc .n) vars (rd .scoped .sources) s z (rule-call refl ∙ need-no _ _ _ _ (ne-eqb n own x))
 
     module _ (same : n ≡ own) where
-      pub call-calls : Calls p terms functions t at h 0 n
+      pub call-calls : Calls p terms functions t at g 0 n
       call-calls = record {
         here = H;
         ancillae = qn;
         next = omega arith;
-        called = called-there (rd .entries) H;
-        function = call-entry;
-        parameters = omega (arith, some-parameters (rd .entries) (called-there (rd .entries) H) call-entry .0);
+        callee = qg;
+        called = call-function qg;
+        parameters = omega (arith, some-parameters (rd .entries) (call-function qg) qh .0, ap (parametersAt p) qh);
       }
 
       pub call-few : n ≤ 7
       call-few = omega (arith, some-parameters (rd .entries) (called-there (rd .entries) H) call-entry .1)
 
-      -- the places of the dynamic argument, and of its type and the result
-      pub call-read : (at + 8 + 2 * n ≤ length p) × (h + 8 + 2 * n ≤ length p) × (h + 5 ≤ length p)
+      -- the places of the dynamic argument, and of the result's type
+      pub call-read : (at + 8 + 2 * n ≤ length p) × (h + 5 ≤ length p)
       call-read = (
         omega (arith, read-call (rd .entries) H .0, qn),
-        omega (arith, read-function (rd .entries) (called-there (rd .entries) H) call-entry, same, qo),
-        omega (arith, read-function (rd .entries) (called-there (rd .entries) H) call-entry),
+        omega (arith, read-function (rd .entries) (call-function qg) qh),
       )
+
+      -- the dynamic parameter's place in the table of signatures, and what stands there
+      pub call-row : (g < 64) × (n < 8)
+      call-row = (row-there (rd .entries) (call-function qg) qh, omega (arith, call-few))
+
+      pub call-parameter : {table : List (List ℕ)} → SignaturesAre p functions table → getD (getD table g []) n 0 ≡ listed p h n
+      call-parameter S =
+          row-parameter (rd .entries) (call-function qg) qh S n (omega (arith, qo, same, some-parameters (rd .entries) (call-function qg) qh .0))
 
       module _ {u : Uses} (nobody-owed : Holds u nobody) where
         barred-context : contextIn p types heap vars (barredScope sc u) ≡ bar Γ
@@ -272,7 +295,11 @@ module _ {p types terms functions nodes heap vars : List ℕ} {sc : Scope} {top 
           small = omega (arith, rd .small, size-call refl);
         }
 
-        module _ {heap₁ vars₁ : List ℕ} {o : Out} (G : Argued p types terms functions heap heap₁ vars vars₁ (barredScope sc u) top t at h 0 n o) where
+        module _ {heap₁ vars₁ : List ℕ} {o : Out}
+            (A : Argued p types terms functions heap heap₁ vars vars₁ (barredScope sc u) top t at (getD functions g 0) 0 n o) where
+          G : Argued p types terms functions heap heap₁ vars vars₁ (barredScope sc u) top t at h 0 n o
+          G = subst (λ h. Argued p types terms functions heap heap₁ vars vars₁ (barredScope sc u) top t at h 0 n o) (sym qh) A
+
           argued : inferArguments maxVariables maxNodes (programIn p types terms functions) t (bar Γ) (termsFrom p types terms at 0 n) (typesFrom p types h 0 own) ≡ doneOf (o .status)
           argued = sym (G .answer
               ∙ ap₂ (λ Δ m. inferArguments maxVariables maxNodes (programIn p types terms functions) t Δ (termsFrom p types terms at 0 n) (typesFrom p types h 0 m)) barred-context same)

@@ -33,12 +33,12 @@ here-inl h = injected h (omega arith) (omega arith)
 pub here-inr : {p terms : List ℕ} {t at : ℕ} → Here p terms t at 3 → Here p terms t at (kindAt p at) × (2 ≤ kindAt p at) × (kindAt p at ≤ 3)
 here-inr h = injected h (omega arith) (omega arith)
 
--- none of the first ten is the eleventh
+-- there is no twelfth kind
 pub from-five : {k : ℕ} → ¬ (k ≡ 0) → ¬ (k ≡ 1) → ¬ (k ≡ 2) → ¬ (k ≡ 3) → ¬ (k ≡ 4) → 5 ≤ k
 from-five a b c d e = omega arith
 
-pub last-kind : {k n : ℕ} → 5 ≤ k → ¬ (k ≡ 5) → ¬ (k ≡ 6) → ¬ (k ≡ 7) → ¬ (k ≡ 8) → ¬ (k ≡ 9) → k ≡ n → n < 11 → k ≡ 10
-last-kind l a b c d e q h = omega arith
+pub no-twelfth : {k n : ℕ} → 5 ≤ k → ¬ (k ≡ 5) → ¬ (k ≡ 6) → ¬ (k ≡ 7) → ¬ (k ≡ 8) → ¬ (k ≡ 9) → ¬ (k ≡ 10) → k ≡ n → n < 11 → ⊥
+no-twelfth l a b c d e f q h = omega arith
 
 module _ {p types terms functions nodes : List ℕ} (E : Entered p types terms functions nodes) where
   -- the kind can be read, and is one of eleven

@@ -7,5 +7,7 @@ pub mod Sizes
 pub mod Outcomes
 -- what typing a term asks for, and what it ensures
 pub mod Ready
+-- the same by function
+pub mod Asked
 -- what typing the functions answers
 pub mod Checked

@@ -137,14 +137,14 @@ termsFrom p types terms at k count = termTrees (termIn p types terms) (reference
 abbrev pub typesFrom : (p types : List ℕ) → ℕ → ℕ → ℕ → List Ty
 typesFrom p types h k count = map (typeOf (map (typeAt p) types)) (references p (h + 6 + 2 * k) (count - k))
 
--- a call of `count` ancilla terms, of which number `k` is next; its function has as many ancilla parameters, and its field at `h`
-pub record Calls (p terms functions : List ℕ) (t at h k count : ℕ) : Type 0 where
+-- a call of `count` ancilla terms, of which number `k` is next; it names function `g`, which has as many ancilla parameters
+pub record Calls (p terms functions : List ℕ) (t at g k count : ℕ) : Type 0 where
   pub here : Here p terms t at 8
   pub ancillae : count ≡ callAncillae (lengthAt p at)
   pub next : k ≤ count
-  pub called : first p at < length functions
-  pub function : h ≡ getD functions (first p at) 0
-  pub parameters : count + 1 ≡ parametersAt p h
+  pub callee : g ≡ first p at
+  pub called : g < length functions
+  pub parameters : count + 1 ≡ parametersAt p (getD functions g 0)
 
 -- The ancilla arguments are typed, or refused as the rules refuse them.
 pub record Argued (p types terms functions heap heap′ vars vars′ : List ℕ) (sc : Scope) (top t at h k count : ℕ) (out : Out) : Type 0 where

@@ -9,13 +9,7 @@ use crate::tests;
 use crate::variables;
 use types::codes::Code;
 use uses::Uses;
-ghost use Prim.Native.Nat.{_+_, _<_};
-ghost use lib.ListN.{length};
-ghost use Rattle.program.specs.Parts.{first, second, third};
-ghost use Rattle.types.specs.Codes.{treeIn, Known};
-ghost use Rattle.typing.specs.Contexts.{NamedBy};
-ghost use Rattle.typing.specs.Sizes.{termsIn};
-ghost use Rattle.typing.specs.Ready.{termIn, contextIn, typeIn, branchesOf, Ready, Here, Inferred};
+ghost use Rattle.typing.specs.Asked.{ReadyAt, ReadyBranches, Infers, InfersBranches};
 
 // Section 1's limit on variables in scope.
 const MAX_VARIABLES: u8 = 32;
@@ -25,7 +19,8 @@ pub fn let_one(
     p: &[u8],
     types: &[u16],
     terms: &[u16],
-    functions: &[u16],
+    funs: &[u16],
+    sigs: &[[u16; 8]; 64],
     nodes: &[u16],
     ws: &mut [u8],
     vars: &mut [u8],
@@ -34,9 +29,9 @@ pub fn let_one(
     t: u16,
     at: usize,
 ) -> Out
-    requires { ⌜ Ready (termsIn (termIn (now p) (now types) (now terms) t)) (now p) (now types) (now terms) (now functions) (now nodes) (now ws) (now vars) sc top ⌝ }
-    requires { ⌜ Here (now p) (now terms) t at 5 ⌝ }
-    ensures { λ r. ⌜ Inferred (termsIn (termIn (now (p .entry)) (now (types .entry)) (now (terms .entry)) t)) (termIn (now (p .entry)) (now (types .entry)) (now (terms .entry)) t) (now (p .entry)) (now (types .entry)) (now (ws .entry)) (now (ws .exit)) (sc .n) (now (vars .entry)) (now (vars .exit)) top r (typeIn (now (p .entry)) (now (types .entry)) (now (terms .entry)) (now (functions .entry)) (now (ws .entry)) (now (vars .entry)) sc t) ⌝ }
+    requires { ⌜ ReadyAt (now p) (now types) (now terms) (now funs) (now sigs) (now nodes) (now ws) (now vars) sc top t at 5 ⌝ }
+    ensures { λ r. ⌜ Infers (now (p .entry)) (now (types .entry)) (now (terms .entry)) (now (funs .entry))
+        (now (ws .entry)) (now (ws .exit)) (now (vars .entry)) (now (vars .exit)) sc top t r ⌝ }
 {
     let n = sc.n;
     if n == MAX_VARIABLES {
@@ -44,13 +39,13 @@ pub fn let_one(
     }
     let bound = program::views::first(p, at);
     let body = program::views::second(p, at);
-    let r = infer::infer(p, types, terms, functions, nodes, ws, vars, sc, top, bound);
+    let r = infer::infer(p, types, terms, funs, sigs, nodes, ws, vars, sc, top, bound);
     let status = r.status;
     let m = r.top;
     match status {
         Status::Typed(f) => {
             let inner = variables::bind(p, types, ws, vars, sc, m, f.code);
-            let r2 = infer::infer(p, types, terms, functions, nodes, ws, vars, inner, m, body);
+            let r2 = infer::infer(p, types, terms, funs, sigs, nodes, ws, vars, inner, m, body);
             tests::close_one(p, types, ws, r2, f.uses, n, f.code, t)
         }
         Status::Refused(_) => r,
@@ -62,7 +57,8 @@ pub fn let_two(
     p: &[u8],
     types: &[u16],
     terms: &[u16],
-    functions: &[u16],
+    funs: &[u16],
+    sigs: &[[u16; 8]; 64],
     nodes: &[u16],
     ws: &mut [u8],
     vars: &mut [u8],
@@ -71,16 +67,16 @@ pub fn let_two(
     t: u16,
     at: usize,
 ) -> Out
-    requires { ⌜ Ready (termsIn (termIn (now p) (now types) (now terms) t)) (now p) (now types) (now terms) (now functions) (now nodes) (now ws) (now vars) sc top ⌝ }
-    requires { ⌜ Here (now p) (now terms) t at 6 ⌝ }
-    ensures { λ r. ⌜ Inferred (termsIn (termIn (now (p .entry)) (now (types .entry)) (now (terms .entry)) t)) (termIn (now (p .entry)) (now (types .entry)) (now (terms .entry)) t) (now (p .entry)) (now (types .entry)) (now (ws .entry)) (now (ws .exit)) (sc .n) (now (vars .entry)) (now (vars .exit)) top r (typeIn (now (p .entry)) (now (types .entry)) (now (terms .entry)) (now (functions .entry)) (now (ws .entry)) (now (vars .entry)) sc t) ⌝ }
+    requires { ⌜ ReadyAt (now p) (now types) (now terms) (now funs) (now sigs) (now nodes) (now ws) (now vars) sc top t at 6 ⌝ }
+    ensures { λ r. ⌜ Infers (now (p .entry)) (now (types .entry)) (now (terms .entry)) (now (funs .entry))
+        (now (ws .entry)) (now (ws .exit)) (now (vars .entry)) (now (vars .exit)) sc top t r ⌝ }
 {
     if MAX_VARIABLES < sc.n + 2 {
         return outcomes::unscoped(top, t);
     }
     let bound = program::views::first(p, at);
     let body = program::views::second(p, at);
-    let r = infer::infer(p, types, terms, functions, nodes, ws, vars, sc, top, bound);
+    let r = infer::infer(p, types, terms, funs, sigs, nodes, ws, vars, sc, top, bound);
     let status = r.status;
     let m = r.top;
     match status {
@@ -92,7 +88,7 @@ pub fn let_two(
             }
             let one = variables::bind(p, types, ws, vars, sc, m, s.first);
             let two = variables::bind(p, types, ws, vars, one, m, s.second);
-            let r2 = infer::infer(p, types, terms, functions, nodes, ws, vars, two, m, body);
+            let r2 = infer::infer(p, types, terms, funs, sigs, nodes, ws, vars, two, m, body);
             tests::close_two(p, types, ws, r2, f.uses, sc.n, s.first, s.second, t)
         }
         Status::Refused(_) => r,
@@ -104,7 +100,8 @@ pub fn choose(
     p: &[u8],
     types: &[u16],
     terms: &[u16],
-    functions: &[u16],
+    funs: &[u16],
+    sigs: &[[u16; 8]; 64],
     nodes: &[u16],
     ws: &mut [u8],
     vars: &mut [u8],
@@ -113,16 +110,16 @@ pub fn choose(
     t: u16,
     at: usize,
 ) -> Out
-    requires { ⌜ Ready (termsIn (termIn (now p) (now types) (now terms) t)) (now p) (now types) (now terms) (now functions) (now nodes) (now ws) (now vars) sc top ⌝ }
-    requires { ⌜ Here (now p) (now terms) t at 7 ⌝ }
-    ensures { λ r. ⌜ Inferred (termsIn (termIn (now (p .entry)) (now (types .entry)) (now (terms .entry)) t)) (termIn (now (p .entry)) (now (types .entry)) (now (terms .entry)) t) (now (p .entry)) (now (types .entry)) (now (ws .entry)) (now (ws .exit)) (sc .n) (now (vars .entry)) (now (vars .exit)) top r (typeIn (now (p .entry)) (now (types .entry)) (now (terms .entry)) (now (functions .entry)) (now (ws .entry)) (now (vars .entry)) sc t) ⌝ }
+    requires { ⌜ ReadyAt (now p) (now types) (now terms) (now funs) (now sigs) (now nodes) (now ws) (now vars) sc top t at 7 ⌝ }
+    ensures { λ r. ⌜ Infers (now (p .entry)) (now (types .entry)) (now (terms .entry)) (now (funs .entry))
+        (now (ws .entry)) (now (ws .exit)) (now (vars .entry)) (now (vars .exit)) sc top t r ⌝ }
 {
     let n = sc.n;
     if n == MAX_VARIABLES {
         return outcomes::unscoped(top, t);
     }
     let sum = program::views::first(p, at);
-    let r = infer::infer(p, types, terms, functions, nodes, ws, vars, sc, top, sum);
+    let r = infer::infer(p, types, terms, funs, sigs, nodes, ws, vars, sc, top, sum);
     let status = r.status;
     let m = r.top;
     match status {
@@ -132,11 +129,12 @@ pub fn choose(
             if form != 2 {
                 return outcomes::differ(m, t);
             }
-            branches(
+            arms(
                 p,
                 types,
                 terms,
-                functions,
+                funs,
+                sigs,
                 nodes,
                 ws,
                 vars,
@@ -154,11 +152,12 @@ pub fn choose(
 }
 
 // The branches of case t, over the types that they bind; the scrutinee has the uses `uses`.
-fn branches(
+fn arms(
     p: &[u8],
     types: &[u16],
     terms: &[u16],
-    functions: &[u16],
+    funs: &[u16],
+    sigs: &[[u16; 8]; 64],
     nodes: &[u16],
     ws: &mut [u8],
     vars: &mut [u8],
@@ -170,23 +169,21 @@ fn branches(
     c: Code,
     d: Code,
 ) -> Out
-    requires { ⌜ Ready (termsIn (termIn (now p) (now types) (now terms) (second (now p) at)) + termsIn (termIn (now p) (now types) (now terms) (third (now p) at))) (now p) (now types) (now terms) (now functions) (now nodes) (now ws) (now vars) sc top ⌝ }
-    requires { ⌜ Here (now p) (now terms) t at 7 × (sc .n < 32) ⌝ }
-    requires { ⌜ Known (length (now types)) top c × Known (length (now types)) top d ⌝ }
-    requires { ⌜ NamedBy uses (termIn (now p) (now types) (now terms) (first (now p) at)) ⌝ }
-    ensures { λ r. ⌜ Inferred (termsIn (termIn (now (p .entry)) (now (types .entry)) (now (terms .entry)) (second (now (p .entry)) at)) + termsIn (termIn (now (p .entry)) (now (types .entry)) (now (terms .entry)) (third (now (p .entry)) at))) (termIn (now (p .entry)) (now (types .entry)) (now (terms .entry)) t) (now (p .entry)) (now (types .entry)) (now (ws .entry)) (now (ws .exit)) (sc .n) (now (vars .entry)) (now (vars .exit)) top r (branchesOf (now (p .entry)) (now (types .entry)) (now (terms .entry)) (now (functions .entry)) (contextIn (now (p .entry)) (now (types .entry)) (now (ws .entry)) (now (vars .entry)) sc) t (termIn (now (p .entry)) (now (types .entry)) (now (terms .entry)) (second (now (p .entry)) at)) (termIn (now (p .entry)) (now (types .entry)) (now (terms .entry)) (third (now (p .entry)) at)) (treeIn (now (p .entry)) (now (types .entry)) (now (ws .entry)) c) (treeIn (now (p .entry)) (now (types .entry)) (now (ws .entry)) d)) ⌝ }
+    requires { ⌜ ReadyBranches (now p) (now types) (now terms) (now funs) (now sigs) (now nodes) (now ws) (now vars) sc top t at uses c d ⌝ }
+    ensures { λ r. ⌜ InfersBranches (now (p .entry)) (now (types .entry)) (now (terms .entry)) (now (funs .entry))
+        (now (ws .entry)) (now (ws .exit)) (now (vars .entry)) (now (vars .exit)) sc top t at c d r ⌝ }
 {
     let left = program::views::second(p, at);
     let right = program::views::third(p, at);
     let one = variables::bind(p, types, ws, vars, sc, top, c);
-    let r = infer::infer(p, types, terms, functions, nodes, ws, vars, one, top, left);
+    let r = infer::infer(p, types, terms, funs, sigs, nodes, ws, vars, one, top, left);
     let status = r.status;
     let m = r.top;
     match status {
         Status::Typed(f) => {
             if tests::spent(p, types, ws, m, c, sc.n, f.uses) {
                 let two = variables::bind(p, types, ws, vars, sc, m, d);
-                let r2 = infer::infer(p, types, terms, functions, nodes, ws, vars, two, m, right);
+                let r2 = infer::infer(p, types, terms, funs, sigs, nodes, ws, vars, two, m, right);
                 return tests::meet(p, types, ws, r2, f, uses, sc.n, d, sc.owed, t);
             }
             outcomes::misused(m, t)

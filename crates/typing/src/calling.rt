@@ -1,4 +1,5 @@
-// Calls: the ancilla arguments, then the dynamic one. Laws: proofs/Called, Passing.
+// Calls: the ancilla arguments, then the dynamic one. The types of the called function's parameters come from the table of signatures; how
+// many it has, and its result, which the table has no place for, from its field. Laws: proofs/Called, Passing.
 use crate::infer;
 use crate::leaves;
 use crate::outcomes;
@@ -7,17 +8,15 @@ use crate::outcomes::Scope;
 use crate::outcomes::Status;
 use crate::tests;
 use uses::Uses;
-ghost use Prim.Native.Nat.{_+_};
-ghost use Rattle.program.specs.Parts.{first};
-ghost use Rattle.typing.specs.Sizes.{termsIn, termsInAll};
-ghost use Rattle.typing.specs.Ready.{termIn, typeIn, termsFrom, Ready, Here, Inferred, Calls, Argued};
+ghost use Rattle.typing.specs.Asked.{ReadyAt, ReadyArguments, Infers, InfersArguments};
 
-// The ancilla arguments of call t from number k of `count` on. Their uses count for nothing: they name no dynamic variable bound outside.
+// The ancilla arguments of call t, of function g, from number k of `count` on. Their uses count for nothing: they name no dynamic variable bound outside.
 fn arguments(
     p: &[u8],
     types: &[u16],
     terms: &[u16],
-    functions: &[u16],
+    funs: &[u16],
+    sigs: &[[u16; 8]; 64],
     nodes: &[u16],
     ws: &mut [u8],
     vars: &mut [u8],
@@ -25,30 +24,31 @@ fn arguments(
     top: u32,
     t: u16,
     at: usize,
-    h: usize,
+    g: usize,
     k: usize,
     count: usize,
 ) -> Out
-    requires { ⌜ Ready (termsInAll (termsFrom (now p) (now types) (now terms) at k count)) (now p) (now types) (now terms) (now functions) (now nodes) (now ws) (now vars) sc top ⌝ }
-    requires { ⌜ Calls (now p) (now terms) (now functions) t at h k count ⌝ }
-    ensures { λ r. ⌜ Argued (now (p .entry)) (now (types .entry)) (now (terms .entry)) (now (functions .entry)) (now (ws .entry)) (now (ws .exit)) (now (vars .entry)) (now (vars .exit)) sc top t at h k count r ⌝ }
+    requires { ⌜ ReadyArguments (now p) (now types) (now terms) (now funs) (now sigs) (now nodes) (now ws) (now vars) sc top t at g k count ⌝ }
+    ensures { λ r. ⌜ InfersArguments (now (p .entry)) (now (types .entry)) (now (terms .entry)) (now (funs .entry))
+        (now (ws .entry)) (now (ws .exit)) (now (vars .entry)) (now (vars .exit)) sc top t at g k count r ⌝ }
 {
     if k == count {
         return leaves::unit(top);
     }
     let part = program::views::listed(p, at, k);
-    let r = infer::infer(p, types, terms, functions, nodes, ws, vars, sc, top, part);
+    let r = infer::infer(p, types, terms, funs, sigs, nodes, ws, vars, sc, top, part);
     let status = r.status;
     let m = r.top;
     match status {
         Status::Typed(f) => {
-            let want = types::codes::entry(program::views::listed(p, h, k));
+            let want = types::codes::entry(sigs[g][k]);
             if types::compare::same(p, types, ws, m, f.code, want) {
                 return arguments(
                     p,
                     types,
                     terms,
-                    functions,
+                    funs,
+                    sigs,
                     nodes,
                     ws,
                     vars,
@@ -56,7 +56,7 @@ fn arguments(
                     m,
                     t,
                     at,
-                    h,
+                    g,
                     k + 1,
                     count,
                 );
@@ -72,7 +72,8 @@ pub fn call(
     p: &[u8],
     types: &[u16],
     terms: &[u16],
-    functions: &[u16],
+    funs: &[u16],
+    sigs: &[[u16; 8]; 64],
     nodes: &[u16],
     ws: &mut [u8],
     vars: &mut [u8],
@@ -81,12 +82,12 @@ pub fn call(
     t: u16,
     at: usize,
 ) -> Out
-    requires { ⌜ Ready (termsIn (termIn (now p) (now types) (now terms) t)) (now p) (now types) (now terms) (now functions) (now nodes) (now ws) (now vars) sc top ⌝ }
-    requires { ⌜ Here (now p) (now terms) t at 8 ⌝ }
-    ensures { λ r. ⌜ Inferred (termsIn (termIn (now (p .entry)) (now (types .entry)) (now (terms .entry)) t)) (termIn (now (p .entry)) (now (types .entry)) (now (terms .entry)) t) (now (p .entry)) (now (types .entry)) (now (ws .entry)) (now (ws .exit)) (sc .n) (now (vars .entry)) (now (vars .exit)) top r (typeIn (now (p .entry)) (now (types .entry)) (now (terms .entry)) (now (functions .entry)) (now (ws .entry)) (now (vars .entry)) sc t) ⌝ }
+    requires { ⌜ ReadyAt (now p) (now types) (now terms) (now funs) (now sigs) (now nodes) (now ws) (now vars) sc top t at 8 ⌝ }
+    ensures { λ r. ⌜ Infers (now (p .entry)) (now (types .entry)) (now (terms .entry)) (now (funs .entry))
+        (now (ws .entry)) (now (ws .exit)) (now (vars .entry)) (now (vars .exit)) sc top t r ⌝ }
 {
-    let g = program::views::first(p, at);
-    let h = leaves::offset(functions, g);
+    let g = octets::wide_index(program::views::first(p, at));
+    let h = octets::wide_index(funs[g]);
     let count = program::views::call_ancillae(p, at);
     let parameters = program::views::function_parameters(p, h);
     let own = parameters - 1;
@@ -104,7 +105,8 @@ pub fn call(
         p,
         types,
         terms,
-        functions,
+        funs,
+        sigs,
         nodes,
         ws,
         vars,
@@ -112,7 +114,7 @@ pub fn call(
         top,
         t,
         at,
-        h,
+        g,
         0,
         count,
     );
@@ -121,9 +123,9 @@ pub fn call(
     match status {
         Status::Typed(_) => {
             let part = program::views::listed(p, at, count);
-            let want = types::codes::entry(program::views::listed(p, h, count));
+            let want = types::codes::entry(sigs[g][count]);
             let answer = types::codes::entry(program::views::function_result(p, h));
-            let r2 = infer::infer(p, types, terms, functions, nodes, ws, vars, sc, m, part);
+            let r2 = infer::infer(p, types, terms, funs, sigs, nodes, ws, vars, sc, m, part);
             tests::expect(p, types, ws, r2, want, answer, t)
         }
         Status::Refused(_) => r,

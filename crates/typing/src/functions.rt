@@ -14,8 +14,7 @@ ghost use mathlib.Core.Path.{_≡_};
 ghost use Prim.Native.Nat.{_*_, _-_, _≤_, _<_};
 ghost use lib.ListN.{length, getD};
 ghost use Rattle.calls.specs.Fields.{parametersAt};
-ghost use Rattle.calls.specs.Entries.{functionAt};
-ghost use Rattle.program.specs.Signatures.{SignatureIs, SignaturesAre};
+ghost use Rattle.program.specs.Signatures.{SignaturesAre};
 ghost use Rattle.types.specs.Codes.{treeIn, Sources, Known};
 ghost use Rattle.uses.specs.Sets.{has};
 ghost use Rattle.typing.specs.Ready.{variableBytes};
@@ -102,7 +101,8 @@ fn finish(
     requires { ⌜ Sources (now p) (now types) (now ws) top ⌝ }
     requires { ⌜ Known (length (now types)) top code ⌝ }
     requires { ⌜ Signed (now p) (now types) at row ⌝ }
-    ensures { λ r. ⌜ verdictOf r ≡ endAnswer (now (p .entry)) (now (types .entry)) at (treeIn (now (p .entry)) (now (types .entry)) (now (ws .entry)) code) (has used (parametersAt (now (p .entry)) at - 1)) ⌝ }
+    ensures { λ r. ⌜ verdictOf r ≡ endAnswer (now (p .entry)) (now (types .entry)) at
+        (treeIn (now (p .entry)) (now (types .entry)) (now (ws .entry)) code) (has used (parametersAt (now (p .entry)) at - 1)) ⌝ }
 {
     let result = codes::entry(program::views::function_result(p, at));
     if compare::same(p, types, ws, top, code, result) {
@@ -141,21 +141,22 @@ fn refusal(terms: &[u16], why: Fault) -> Verdict
     }
 }
 
-// Function `g`, whose parameters' types the row has.
+// Function `g`, whose parameters' types its row of the table has.
 fn check_function(
     p: &[u8],
     types: &[u16],
     terms: &[u16],
     functions: &[u16],
+    table: &[[u16; 8]; 64],
     nodes: &[u16],
     ws: &mut [u8],
     g: usize,
-    row: [u16; 8],
 ) -> Verdict
     requires { ⌜ Typeable (now p) (now types) (now terms) (now functions) (now nodes) (now ws) ⌝ }
-    requires { ⌜ (g < length (now functions)) × SignatureIs (functionAt (now p) (getD (now functions) g 0)) row ⌝ }
+    requires { ⌜ (g < length (now functions)) × SignaturesAre (now p) (now functions) (now table) ⌝ }
     ensures { λ r. ⌜ verdictOf r ≡ functionAnswer (now (p .entry)) (now (types .entry)) (now (terms .entry)) (now (functions .entry)) g ⌝ }
 {
+    let row = table[g];
     let at = octets::wide_index(functions[g]);
     let body = program::views::function_body(p, at);
     let mut vars = [0u8; 192];
@@ -165,6 +166,7 @@ fn check_function(
         types,
         terms,
         functions,
+        table,
         nodes,
         ws,
         &mut vars,
@@ -197,8 +199,7 @@ pub fn check_functions(
 {
     let mut g = 0;
     while g < functions.len() {
-        let row = table[g];
-        let v = check_function(p, types, terms, functions, nodes, ws, g, row);
+        let v = check_function(p, types, terms, functions, table, nodes, ws, g);
         match v {
             Verdict::Typed => {
                 g += 1;

@@ -9,19 +9,17 @@ use crate::outcomes::Scope;
 use crate::outcomes::Status;
 use crate::tests;
 use crate::variables;
+use program::kinds;
 use types::unfolding::Body;
-ghost use Prim.Native.Nat.{_≤_, _<_};
-ghost use lib.ListN.{length};
-ghost use Rattle.calls.specs.Fields.{kindAt};
-ghost use Rattle.typing.specs.Sizes.{termsIn};
-ghost use Rattle.typing.specs.Ready.{termIn, typeIn, Ready, Here, Inferred};
+ghost use Rattle.typing.specs.Asked.{ReadyFor, ReadyAt, ReadyInject, Infers};
 
 // Term t, in a scope.
 pub fn infer(
     p: &[u8],
     types: &[u16],
     terms: &[u16],
-    functions: &[u16],
+    funs: &[u16],
+    sigs: &[[u16; 8]; 64],
     nodes: &[u16],
     ws: &mut [u8],
     vars: &mut [u8],
@@ -29,24 +27,39 @@ pub fn infer(
     top: u32,
     t: u16,
 ) -> Out
-    requires { ⌜ Ready (termsIn (termIn (now p) (now types) (now terms) t)) (now p) (now types) (now terms) (now functions) (now nodes) (now ws) (now vars) sc top ⌝ }
-    requires { ⌜ t < length (now terms) ⌝ }
-    ensures { λ r. ⌜ Inferred (termsIn (termIn (now (p .entry)) (now (types .entry)) (now (terms .entry)) t)) (termIn (now (p .entry)) (now (types .entry)) (now (terms .entry)) t) (now (p .entry)) (now (types .entry)) (now (ws .entry)) (now (ws .exit)) (sc .n) (now (vars .entry)) (now (vars .exit)) top r (typeIn (now (p .entry)) (now (types .entry)) (now (terms .entry)) (now (functions .entry)) (now (ws .entry)) (now (vars .entry)) sc t) ⌝ }
+    requires { ⌜ ReadyFor (now p) (now types) (now terms) (now funs) (now sigs) (now nodes) (now ws) (now vars) sc top t ⌝ }
+    ensures { λ r. ⌜ Infers (now (p .entry)) (now (types .entry)) (now (terms .entry)) (now (funs .entry))
+        (now (ws .entry)) (now (ws .exit)) (now (vars .entry)) (now (vars .exit)) sc top t r ⌝ }
 {
     let at = leaves::offset(terms, t);
     let kind = program::views::kind(p, at);
     match kind {
-        0 => variables::variable(vars, sc, top, t, program::views::variable(p, at)),
-        1 => leaves::unit(top),
-        2 => inject(p, types, terms, functions, nodes, ws, vars, sc, top, t, at),
-        3 => inject(p, types, terms, functions, nodes, ws, vars, sc, top, t, at),
-        4 => pair(p, types, terms, functions, nodes, ws, vars, sc, top, t, at),
-        5 => binds::let_one(p, types, terms, functions, nodes, ws, vars, sc, top, t, at),
-        6 => binds::let_two(p, types, terms, functions, nodes, ws, vars, sc, top, t, at),
-        7 => binds::choose(p, types, terms, functions, nodes, ws, vars, sc, top, t, at),
-        8 => calling::call(p, types, terms, functions, nodes, ws, vars, sc, top, t, at),
-        9 => roll(p, types, terms, functions, nodes, ws, vars, sc, top, t, at),
-        _ => unroll(p, types, terms, functions, nodes, ws, vars, sc, top, t, at),
+        kinds::VARIABLE => variables::variable(vars, sc, top, t, program::views::variable(p, at)),
+        kinds::UNIT => leaves::unit(top),
+        kinds::INL => inject(p, types, terms, funs, sigs, nodes, ws, vars, sc, top, t, at),
+        kinds::INR => inject(p, types, terms, funs, sigs, nodes, ws, vars, sc, top, t, at),
+        kinds::PAIR => pair(p, types, terms, funs, sigs, nodes, ws, vars, sc, top, t, at),
+        kinds::LET => binds::let_one(p, types, terms, funs, sigs, nodes, ws, vars, sc, top, t, at),
+        kinds::LET_PAIR => binds::let_two(
+            p,
+            types,
+            terms,
+            funs,
+            sigs,
+            nodes,
+            ws,
+            vars,
+            sc,
+            top,
+            t,
+            at,
+        ),
+        kinds::CASE => binds::choose(p, types, terms, funs, sigs, nodes, ws, vars, sc, top, t, at),
+        kinds::CALL => calling::call(p, types, terms, funs, sigs, nodes, ws, vars, sc, top, t, at),
+        kinds::ROLL => roll(p, types, terms, funs, sigs, nodes, ws, vars, sc, top, t, at),
+        kinds::UNROLL => unroll(p, types, terms, funs, sigs, nodes, ws, vars, sc, top, t, at),
+        // never met: there is no other kind
+        _ => outcomes::differ(top, t),
     }
 }
 
@@ -55,7 +68,8 @@ fn inject(
     p: &[u8],
     types: &[u16],
     terms: &[u16],
-    functions: &[u16],
+    funs: &[u16],
+    sigs: &[[u16; 8]; 64],
     nodes: &[u16],
     ws: &mut [u8],
     vars: &mut [u8],
@@ -64,9 +78,9 @@ fn inject(
     t: u16,
     at: usize,
 ) -> Out
-    requires { ⌜ Ready (termsIn (termIn (now p) (now types) (now terms) t)) (now p) (now types) (now terms) (now functions) (now nodes) (now ws) (now vars) sc top ⌝ }
-    requires { ⌜ Here (now p) (now terms) t at (kindAt (now p) at) × (2 ≤ kindAt (now p) at) × (kindAt (now p) at ≤ 3) ⌝ }
-    ensures { λ r. ⌜ Inferred (termsIn (termIn (now (p .entry)) (now (types .entry)) (now (terms .entry)) t)) (termIn (now (p .entry)) (now (types .entry)) (now (terms .entry)) t) (now (p .entry)) (now (types .entry)) (now (ws .entry)) (now (ws .exit)) (sc .n) (now (vars .entry)) (now (vars .exit)) top r (typeIn (now (p .entry)) (now (types .entry)) (now (terms .entry)) (now (functions .entry)) (now (ws .entry)) (now (vars .entry)) sc t) ⌝ }
+    requires { ⌜ ReadyInject (now p) (now types) (now terms) (now funs) (now sigs) (now nodes) (now ws) (now vars) sc top t at ⌝ }
+    ensures { λ r. ⌜ Infers (now (p .entry)) (now (types .entry)) (now (terms .entry)) (now (funs .entry))
+        (now (ws .entry)) (now (ws .exit)) (now (vars .entry)) (now (vars .exit)) sc top t r ⌝ }
 {
     let i = program::views::first(p, at);
     let part = program::views::second(p, at);
@@ -76,9 +90,9 @@ fn inject(
     if form != 2 {
         return outcomes::differ(top, t);
     }
-    let r = infer(p, types, terms, functions, nodes, ws, vars, sc, top, part);
+    let r = infer(p, types, terms, funs, sigs, nodes, ws, vars, sc, top, part);
     let kind = program::views::kind(p, at);
-    if kind == 2 {
+    if kind == kinds::INL {
         return tests::expect(p, types, ws, r, s.first, whole, t);
     }
     tests::expect(p, types, ws, r, s.second, whole, t)
@@ -89,7 +103,8 @@ fn pair(
     p: &[u8],
     types: &[u16],
     terms: &[u16],
-    functions: &[u16],
+    funs: &[u16],
+    sigs: &[[u16; 8]; 64],
     nodes: &[u16],
     ws: &mut [u8],
     vars: &mut [u8],
@@ -98,18 +113,18 @@ fn pair(
     t: u16,
     at: usize,
 ) -> Out
-    requires { ⌜ Ready (termsIn (termIn (now p) (now types) (now terms) t)) (now p) (now types) (now terms) (now functions) (now nodes) (now ws) (now vars) sc top ⌝ }
-    requires { ⌜ Here (now p) (now terms) t at 4 ⌝ }
-    ensures { λ r. ⌜ Inferred (termsIn (termIn (now (p .entry)) (now (types .entry)) (now (terms .entry)) t)) (termIn (now (p .entry)) (now (types .entry)) (now (terms .entry)) t) (now (p .entry)) (now (types .entry)) (now (ws .entry)) (now (ws .exit)) (sc .n) (now (vars .entry)) (now (vars .exit)) top r (typeIn (now (p .entry)) (now (types .entry)) (now (terms .entry)) (now (functions .entry)) (now (ws .entry)) (now (vars .entry)) sc t) ⌝ }
+    requires { ⌜ ReadyAt (now p) (now types) (now terms) (now funs) (now sigs) (now nodes) (now ws) (now vars) sc top t at 4 ⌝ }
+    ensures { λ r. ⌜ Infers (now (p .entry)) (now (types .entry)) (now (terms .entry)) (now (funs .entry))
+        (now (ws .entry)) (now (ws .exit)) (now (vars .entry)) (now (vars .exit)) sc top t r ⌝ }
 {
     let left = program::views::first(p, at);
     let right = program::views::second(p, at);
-    let r = infer(p, types, terms, functions, nodes, ws, vars, sc, top, left);
+    let r = infer(p, types, terms, funs, sigs, nodes, ws, vars, sc, top, left);
     let status = r.status;
     let m = r.top;
     match status {
         Status::Typed(f) => {
-            let r2 = infer(p, types, terms, functions, nodes, ws, vars, sc, m, right);
+            let r2 = infer(p, types, terms, funs, sigs, nodes, ws, vars, sc, m, right);
             tests::pair_up(p, types, nodes, ws, r2, f, t)
         }
         Status::Refused(_) => r,
@@ -121,7 +136,8 @@ fn roll(
     p: &[u8],
     types: &[u16],
     terms: &[u16],
-    functions: &[u16],
+    funs: &[u16],
+    sigs: &[[u16; 8]; 64],
     nodes: &[u16],
     ws: &mut [u8],
     vars: &mut [u8],
@@ -130,9 +146,9 @@ fn roll(
     t: u16,
     at: usize,
 ) -> Out
-    requires { ⌜ Ready (termsIn (termIn (now p) (now types) (now terms) t)) (now p) (now types) (now terms) (now functions) (now nodes) (now ws) (now vars) sc top ⌝ }
-    requires { ⌜ Here (now p) (now terms) t at 9 ⌝ }
-    ensures { λ r. ⌜ Inferred (termsIn (termIn (now (p .entry)) (now (types .entry)) (now (terms .entry)) t)) (termIn (now (p .entry)) (now (types .entry)) (now (terms .entry)) t) (now (p .entry)) (now (types .entry)) (now (ws .entry)) (now (ws .exit)) (sc .n) (now (vars .entry)) (now (vars .exit)) top r (typeIn (now (p .entry)) (now (types .entry)) (now (terms .entry)) (now (functions .entry)) (now (ws .entry)) (now (vars .entry)) sc t) ⌝ }
+    requires { ⌜ ReadyAt (now p) (now types) (now terms) (now funs) (now sigs) (now nodes) (now ws) (now vars) sc top t at 9 ⌝ }
+    ensures { λ r. ⌜ Infers (now (p .entry)) (now (types .entry)) (now (terms .entry)) (now (funs .entry))
+        (now (ws .entry)) (now (ws .exit)) (now (vars .entry)) (now (vars .exit)) sc top t r ⌝ }
 {
     let i = program::views::first(p, at);
     let part = program::views::second(p, at);
@@ -140,7 +156,7 @@ fn roll(
     match body {
         Body::Of(c) => {
             let whole = types::codes::entry(i);
-            let r = infer(p, types, terms, functions, nodes, ws, vars, sc, top, part);
+            let r = infer(p, types, terms, funs, sigs, nodes, ws, vars, sc, top, part);
             tests::expect(p, types, ws, r, c, whole, t)
         }
         Body::Other => outcomes::differ(top, t),
@@ -152,7 +168,8 @@ fn unroll(
     p: &[u8],
     types: &[u16],
     terms: &[u16],
-    functions: &[u16],
+    funs: &[u16],
+    sigs: &[[u16; 8]; 64],
     nodes: &[u16],
     ws: &mut [u8],
     vars: &mut [u8],
@@ -161,9 +178,9 @@ fn unroll(
     t: u16,
     at: usize,
 ) -> Out
-    requires { ⌜ Ready (termsIn (termIn (now p) (now types) (now terms) t)) (now p) (now types) (now terms) (now functions) (now nodes) (now ws) (now vars) sc top ⌝ }
-    requires { ⌜ Here (now p) (now terms) t at 10 ⌝ }
-    ensures { λ r. ⌜ Inferred (termsIn (termIn (now (p .entry)) (now (types .entry)) (now (terms .entry)) t)) (termIn (now (p .entry)) (now (types .entry)) (now (terms .entry)) t) (now (p .entry)) (now (types .entry)) (now (ws .entry)) (now (ws .exit)) (sc .n) (now (vars .entry)) (now (vars .exit)) top r (typeIn (now (p .entry)) (now (types .entry)) (now (terms .entry)) (now (functions .entry)) (now (ws .entry)) (now (vars .entry)) sc t) ⌝ }
+    requires { ⌜ ReadyAt (now p) (now types) (now terms) (now funs) (now sigs) (now nodes) (now ws) (now vars) sc top t at 10 ⌝ }
+    ensures { λ r. ⌜ Infers (now (p .entry)) (now (types .entry)) (now (terms .entry)) (now (funs .entry))
+        (now (ws .entry)) (now (ws .exit)) (now (vars .entry)) (now (vars .exit)) sc top t r ⌝ }
 {
     let i = program::views::first(p, at);
     let part = program::views::second(p, at);
@@ -172,7 +189,7 @@ fn unroll(
         Body::Of(c) => {
             if types::counting::within_limit(p, types, nodes, ws, top, c) {
                 let whole = types::codes::entry(i);
-                let r = infer(p, types, terms, functions, nodes, ws, vars, sc, top, part);
+                let r = infer(p, types, terms, funs, sigs, nodes, ws, vars, sc, top, part);
                 return tests::expect(p, types, ws, r, whole, c, t);
             }
             outcomes::differ(top, t)

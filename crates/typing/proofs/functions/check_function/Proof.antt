@@ -1,5 +1,8 @@
 use native.Mathlib.Omega.{arith}
+use Rattle.rules.specs.Limits.{maxFunctions}
 use Rattle.program.proofs.Rooms.{function-room}
+use Rattle.program.proofs.Rows.{function-fields}
+use Rattle.typing.proofs.Asking.{ready-for}
 use Rattle.typing.proofs.Checks.{sources, field, signed, body-there, ready, typed-answer, refused-answer}
 use borrow.Author.Needs.{needs}
 use Rattle.typing.proofs.functions.check_function.Statement.{statement}
@@ -15,25 +18,55 @@ wide-index-requires : tie.Need-wide-index-requires
 wide-index-requires c κs = search needs
 
 function-body-requires : tie.Need-function-body-requires
-function-body-requires c κs = omega (arith, function-room (field (c .before .before .before .before .before .before .before .before .pre .0) (c .before .before .before .before .before .before .before .before .pre .1 .0) (c .wide-index .ensures .0)))
+function-body-requires c κs =
+    let at-wide-index = c in
+    let start = at-wide-index .before .before .before .before .before .before .before .before .before in
+    omega (arith, function-room (field (start .pre .0) (start .pre .1 .0) (at-wide-index .wide-index .ensures .0)))
 
 slice-aggregate-bind-parameters : tie.Need-slice-aggregate-bind-parameters
 slice-aggregate-bind-parameters c = search needs
 
 bind-parameters-requires : tie.Need-bind-parameters-requires
-bind-parameters-requires c κs = (sources (c .before .before .before .before .before .before .before .before .before .before .before .pre .0) _, (signed (c .before .before .before .before .before .before .before .before .before .before .before .pre .0) (c .before .before .before .before .before .before .before .before .before .before .before .pre .1 .0) (c .before .before .before .wide-index .ensures .0) (c .before .before .before .before .before .before .before .before .before .before .before .pre .1 .1), search needs))
+bind-parameters-requires c κs =
+    let at-wide-index = c .before .before .before in
+    let start = at-wide-index .before .before .before .before .before .before .before .before .before in (
+      sources (start .pre .0) _,
+      (
+        signed (start .pre .0) (start .pre .1 .0) (at-wide-index .wide-index .ensures .0)
+            (start .pre .1 .1 .rows _ (start .pre .1 .0)),
+        search needs,
+      ),
+    )
 
 slice-aggregate-infer : tie.Need-slice-aggregate-infer
 slice-aggregate-infer c = search needs
 
 infer-requires : tie.Need-infer-requires
-infer-requires c κs = (ready (c .before .before .before .before .before .before .before .before .before .before .before .before .before .before .before .pre .0) (c .before .before .before .before .before .before .before .before .before .before .before .before .before .before .before .pre .1 .0) (c .before .before .before .before .before .before .before .wide-index .ensures .0) (c .before .before .before .bind-parameters .ensures) (c .before .before .before .before .before .before .function-body .ensures), body-there (c .before .before .before .before .before .before .before .before .before .before .before .before .before .before .before .pre .0) (c .before .before .before .before .before .before .before .before .before .before .before .before .before .before .before .pre .1 .0) (c .before .before .before .before .before .before .before .wide-index .ensures .0) (c .before .before .before .before .before .before .function-body .ensures))
+infer-requires c κs =
+    let at-bind-parameters = c .before .before .before in
+    let at-function-body = at-bind-parameters .before .before .before in
+    let at-wide-index = at-function-body .before in
+    let start = at-wide-index .before .before .before .before .before .before .before .before .before in
+    ready-for (start .pre .1 .1) (ready (start .pre .0) (start .pre .1 .0) (at-wide-index .wide-index .ensures .0)
+    (at-bind-parameters .bind-parameters .ensures) (at-function-body .function-body .ensures))
+    (body-there (start .pre .0) (start .pre .1 .0) (at-wide-index .wide-index .ensures .0) (at-function-body .function-body .ensures))
 
 enum-known-status : tie.Need-enum-known-status
 enum-known-status c = search needs
 
 finish-requires : tie.Need-finish-requires
-finish-requires c κs = (c .before .before .before .before .before .before .before .infer .ensures .kept .sources, (c .before .before .before .before .before .before .before .infer .ensures .known _ (c .before .before .status .given .1), signed (c .before .before .before .before .before .before .before .before .before .before .before .before .before .before .before .before .before .before .before .before .before .before .before .pre .0) (c .before .before .before .before .before .before .before .before .before .before .before .before .before .before .before .before .before .before .before .before .before .before .before .pre .1 .0) (c .before .before .before .before .before .before .before .before .before .before .before .before .before .before .before .wide-index .ensures .0) (c .before .before .before .before .before .before .before .before .before .before .before .before .before .before .before .before .before .before .before .before .before .before .before .pre .1 .1)))
+finish-requires c κs =
+    let at-status = c .before .before in
+    let at-infer = at-status .before .before .before .before .before in
+    let at-wide-index = at-infer .before .before .before .before .before .before .before .before in
+    let start = at-wide-index .before .before .before .before .before .before .before .before .before in (
+      at-infer .infer .ensures .kept .sources,
+      (
+        at-infer .infer .ensures .known _ (at-status .status .given .1),
+        signed (start .pre .0)
+            (start .pre .1 .0) (at-wide-index .wide-index .ensures .0) (start .pre .1 .1 .rows _ (start .pre .1 .0)),
+      ),
+    )
 
 enum-known-status-2 : tie.Need-enum-known-status-2
 enum-known-status-2 c = search needs
@@ -45,18 +78,46 @@ same-length : tie.Need-same-length
 same-length c = search needs
 
 returns : tie.Need-returns
-returns c = typed-answer (c .before .before .before .before .before .before .before .before .before .before .before .before .before .before .before .before .before .before .before .before .before .before .before .before .pre .0) (c .before .before .before .before .before .before .before .before .before .before .before .before .before .before .before .before .before .before .before .before .before .before .before .before .pre .1 .0) (c .before .before .before .before .before .before .before .before .before .before .before .before .before .before .before .before .wide-index .ensures .0) (c .before .before .before .before .before .before .before .before .before .before .before .before .bind-parameters .ensures) (c .before .before .before .before .before .before .before .before .before .before .before .before .before .before .before .function-body .ensures) (c .before .before .before .before .before .before .before .before .infer .ensures) (c .before .before .before .status .given .1) (c .finish .ensures)
+returns c =
+    let at-finish = c in
+    let at-status = at-finish .before .before .before in
+    let at-infer = at-status .before .before .before .before .before in
+    let at-bind-parameters = at-infer .before .before .before .before in
+    let at-function-body = at-bind-parameters .before .before .before in
+    let at-wide-index = at-function-body .before in
+    let start = at-wide-index .before .before .before .before .before .before .before .before .before in
+    typed-answer (start .pre .0) (start .pre .1 .0) (at-wide-index .wide-index .ensures .0) (at-bind-parameters .bind-parameters .ensures)
+    (at-function-body .function-body .ensures) (at-infer .infer .ensures) (at-status .status .given .1) (at-finish .finish .ensures)
 
 same-length-2 : tie.Need-same-length-2
 same-length-2 c = search needs
 
 returns-2 : tie.Need-returns-2
-returns-2 c = refused-answer (c .before .before .before .before .before .before .before .before .before .before .before .before .before .before .before .before .before .before .before .before .before .before .before .pre .0) (c .before .before .before .before .before .before .before .before .before .before .before .before .before .before .before .before .before .before .before .before .before .before .before .pre .1 .0) (c .before .before .before .before .before .before .before .before .before .before .before .before .before .before .before .wide-index .ensures .0) (c .before .before .before .before .before .before .before .before .before .before .before .bind-parameters .ensures) (c .before .before .before .before .before .before .before .before .before .before .before .before .before .before .function-body .ensures) (c .before .before .before .before .before .before .before .infer .ensures) (c .before .before .status2 .given .1) (c .refusal .ensures)
+returns-2 c =
+    let at-refusal = c in
+    let at-status2 = at-refusal .before .before in
+    let at-infer = at-status2 .before .before .before .before .before in
+    let at-bind-parameters = at-infer .before .before .before .before in
+    let at-function-body = at-bind-parameters .before .before .before in
+    let at-wide-index = at-function-body .before in
+    let start = at-wide-index .before .before .before .before .before .before .before .before .before in
+    refused-answer (start .pre .0) (start .pre .1 .0) (at-wide-index .wide-index .ensures .0) (at-bind-parameters .bind-parameters .ensures)
+    (at-function-body .function-body .ensures) (at-infer .infer .ensures) (at-status2 .status2 .given .1) (at-refusal .refusal .ensures)
+
+mul-row : tie.Need-mul-row
+unfolding maxFunctions
+mul-row c = omega (arith, function-fields (c .before .before .before .before .before .before .pre .0 .read) .few)
+
+element-copy-out-row : tie.Need-element-copy-out-row
+unfolding maxFunctions
+element-copy-out-row c = omega (arith, function-fields (c .before .before .before .before .before .before .pre .0 .read) .few)
 
 pub check-function-spec : {M : Type 1} → statement M
 check-function-spec =
     tie.close
     (tie.spec
+    mul-row
+    element-copy-out-row
     mul-wide-index
     shared-slice-read-wide-index
     wide-index-requires

@@ -3,15 +3,14 @@ use Prim.Native.Nat.{_-_, _≤_}
 use mathlib.Core.Path.{_≡_, refl, sym, ap, _∙_}
 use lib.ListN.{length}
 use borrow.Author.Needs.{needs}
-use Rattle.rules.specs.Limits.{maxFunctions}
-use Rattle.program.proofs.Rows.{function-fields}
 use Rattle.typing.specs.Checked.{verdictOf, typingAnswer}
 use Rattle.typing.proofs.Turns.{fromFunction, from-first, from-last, function-typed, function-refused, typeable-kept}
 use Rattle.typing.proofs.functions.check_functions.Statement.{statement}
 use Rattle.typing.proofs.functions.check_functions.Tie as tie
 
 abbrev Inv-loop : tie.InvT-loop
-Inv-loop p types terms functions table nodes ws₀ g₀ ws g = (g ≤ length functions) × (length ws ≡ length ws₀) × (typingAnswer p types terms functions ≡ fromFunction p types terms functions g)
+Inv-loop p types terms functions table nodes ws₀ g₀ ws g = (g ≤ length functions) × (length ws ≡ length ws₀) ×
+    (typingAnswer p types terms functions ≡ fromFunction p types terms functions g)
 
 abbrev μ-loop : tie.MeasureT-loop
 μ-loop p types terms functions table nodes ws₀ g₀ ws g = length functions - g
@@ -19,16 +18,12 @@ abbrev μ-loop : tie.MeasureT-loop
 loop-holds : tie.Need-loop-holds Inv-loop μ-loop
 loop-holds c = (omega arith, refl, from-first _ _ _ _)
 
-mul-row : tie.Need-mul-row Inv-loop μ-loop
-unfolding maxFunctions
-mul-row c = omega (arith, function-fields (c .before .before .before .before .before .before .before .before .pre .0 .read) .few)
-
-element-copy-out-row : tie.Need-element-copy-out-row Inv-loop μ-loop
-unfolding maxFunctions
-element-copy-out-row c = omega (arith, function-fields (c .before .before .before .before .before .before .before .before .pre .0 .read) .few)
-
 check-function-requires : tie.Need-check-function-requires Inv-loop μ-loop
-check-function-requires c κs = (typeable-kept (c .before .before .before .loop .inv .1) (c .before .before .before .before .before .before .before .before .before .before .pre .0), (c .before .before .loop-test .taken, c .before .before .before .before .before .before .before .before .before .before .pre .1 .rows _ (c .before .before .loop-test .taken)))
+check-function-requires c κs =
+    let at-loop-test = c .before in
+    let at-loop = at-loop-test .before in
+    let start = at-loop .before .before .before .before .before .before .before in
+    (typeable-kept (at-loop .loop .inv .1) (start .pre .0), (at-loop-test .loop-test .taken, start .pre .1))
 
 enum-told : tie.Need-enum-told Inv-loop μ-loop
 enum-told c = search needs
@@ -40,34 +35,70 @@ loop-less : tie.Need-loop-less Inv-loop μ-loop
 loop-less c = omega arith
 
 loop-again : tie.Need-loop-again Inv-loop μ-loop
-loop-again c = (omega arith, c .before .before .before .before .check-function .kept .1 .1 .1 .1 .1 .0 ∙ c .before .before .before .before .before .before .before .before .loop .inv .1, c .before .before .before .before .before .before .before .before .loop .inv .2 ∙ function-typed _ _ _ _ _ (c .before .before .before .before .before .before .before .loop-test .taken) (sym (c .before .before .before .before .check-function .ensures) ∙ ap verdictOf (c .enum-told .given .1)))
+loop-again c =
+    let at-enum-told = c in
+    let at-check-function = at-enum-told .before .before .before .before in
+    let at-loop-test = at-check-function .before .before in
+    let at-loop = at-loop-test .before in (
+      omega arith,
+      at-check-function .check-function .kept .1 .1 .1 .1 .1 .1 .0 ∙ at-loop .loop .inv .1,
+      at-loop .loop .inv .2 ∙ function-typed _ _ _ _ _
+          (at-loop-test .loop-test .taken) (sym (at-check-function .check-function .ensures) ∙ ap verdictOf (at-enum-told .enum-told .given .1)),
+    )
 
 enum-known-v : tie.Need-enum-known-v Inv-loop μ-loop
 enum-known-v c = search needs
 
 same-length : tie.Need-same-length Inv-loop μ-loop
-same-length c = c .before .before .before .before .before .check-function .kept .1 .1 .1 .1 .1 .0 ∙ c .before .before .before .before .before .before .before .before .before .loop .inv .1
+same-length c =
+    let at-check-function = c .before .before .before .before .before in
+    let at-loop = at-check-function .before .before .before in
+    at-check-function .check-function .kept .1 .1 .1 .1 .1 .1 .0 ∙ at-loop .loop .inv .1
 
 returns : tie.Need-returns Inv-loop μ-loop
-returns c = sym (c .before .before .before .before .before .before .before .before .before .loop .inv .2 ∙ function-refused _ _ _ _ _ (c .before .before .before .before .before .before .before .before .loop-test .taken) (sym (c .before .before .before .before .before .check-function .ensures) ∙ ap verdictOf (c .before .v .given .1)))
+returns c =
+    let at-v = c .before in
+    let at-check-function = at-v .before .before .before .before in
+    let at-loop-test = at-check-function .before .before in
+    let at-loop = at-loop-test .before in
+    sym (at-loop .loop .inv .2 ∙ function-refused _ _ _ _ _ (at-loop-test .loop-test .taken)
+    (sym (at-check-function .check-function .ensures) ∙ ap verdictOf (at-v .v .given .1)))
 
 enum-known-v-2 : tie.Need-enum-known-v-2 Inv-loop μ-loop
 enum-known-v-2 c = search needs
 
 same-length-2 : tie.Need-same-length-2 Inv-loop μ-loop
-same-length-2 c = c .before .before .before .before .before .check-function .kept .1 .1 .1 .1 .1 .0 ∙ c .before .before .before .before .before .before .before .before .before .loop .inv .1
+same-length-2 c =
+    let at-check-function = c .before .before .before .before .before in
+    let at-loop = at-check-function .before .before .before in
+    at-check-function .check-function .kept .1 .1 .1 .1 .1 .1 .0 ∙ at-loop .loop .inv .1
 
 returns-2 : tie.Need-returns-2 Inv-loop μ-loop
-returns-2 c = sym (c .before .before .before .before .before .before .before .before .before .loop .inv .2 ∙ function-refused _ _ _ _ _ (c .before .before .before .before .before .before .before .before .loop-test .taken) (sym (c .before .before .before .before .before .check-function .ensures) ∙ ap verdictOf (c .before .v2 .given .1)))
+returns-2 c =
+    let at-v2 = c .before in
+    let at-check-function = at-v2 .before .before .before .before in
+    let at-loop-test = at-check-function .before .before in
+    let at-loop = at-loop-test .before in
+    sym (at-loop .loop .inv .2 ∙ function-refused _ _ _ _ _ (at-loop-test .loop-test .taken)
+    (sym (at-check-function .check-function .ensures) ∙ ap verdictOf (at-v2 .v2 .given .1)))
 
 enum-known-v-3 : tie.Need-enum-known-v-3 Inv-loop μ-loop
 enum-known-v-3 c = search needs
 
 same-length-3 : tie.Need-same-length-3 Inv-loop μ-loop
-same-length-3 c = c .before .before .before .before .before .check-function .kept .1 .1 .1 .1 .1 .0 ∙ c .before .before .before .before .before .before .before .before .before .loop .inv .1
+same-length-3 c =
+    let at-check-function = c .before .before .before .before .before in
+    let at-loop = at-check-function .before .before .before in
+    at-check-function .check-function .kept .1 .1 .1 .1 .1 .1 .0 ∙ at-loop .loop .inv .1
 
 returns-3 : tie.Need-returns-3 Inv-loop μ-loop
-returns-3 c = sym (c .before .before .before .before .before .before .before .before .before .loop .inv .2 ∙ function-refused _ _ _ _ _ (c .before .before .before .before .before .before .before .before .loop-test .taken) (sym (c .before .before .before .before .before .check-function .ensures) ∙ ap verdictOf (c .before .v3 .given .1)))
+returns-3 c =
+    let at-v3 = c .before in
+    let at-check-function = at-v3 .before .before .before .before in
+    let at-loop-test = at-check-function .before .before in
+    let at-loop = at-loop-test .before in
+    sym (at-loop .loop .inv .2 ∙ function-refused _ _ _ _ _ (at-loop-test .loop-test .taken)
+    (sym (at-check-function .check-function .ensures) ∙ ap verdictOf (at-v3 .v3 .given .1)))
 
 same-length-4 : tie.Need-same-length-4 Inv-loop μ-loop
 same-length-4 c = c .before .loop .inv .1
@@ -82,8 +113,6 @@ check-functions-spec =
     Inv-loop
     μ-loop
     loop-holds
-    mul-row
-    element-copy-out-row
     check-function-requires
     enum-told
     add-g

@@ -1,0 +1,276 @@
+-- Answers of the cycle of typing: the branches of a case. A place is what is known once a call or a test is behind; `before-` has the places before it, the
+-- nearest first, so that code put in between two places moves one line.
+use Rattle.typing.proofs as own
+use Prim.Native.Nat.{ℕ}
+use Prim.Native.Nat.{_-_}
+use native.Mathlib.Omega.{arith}
+use mathlib.Core.Path.{_∙_}
+use borrow.Author.Needs.{needs}
+use own.Trees.{here, read-case}
+use own.Answers.{told, ready-opened}
+use own.Branching.{
+  left-part,
+  right-part,
+  left-ready,
+  left-refused,
+  left-known,
+  right-later,
+  right-known,
+  left-unused,
+  meet-left,
+  meet-bound,
+  branches-done,
+}
+use own.Asking.{ready-for}
+use own.binds.arms.Reads as arms
+use own.+binds-arms+binds-choose+binds-let_one+binds-let_two+calling-arguments+calling-call+infer-infer+infer-inject+infer-pair+infer-roll+infer-unroll as cycle
+use cycle.Lts-binds-arms as lts
+use cycle.Proof.Claims.{arms-at, arms-uses}
+
+module _ (t : ℕ) where
+  ----------------------------------------------------------------
+  -- Places
+
+  abbrev Start : Type 0
+  Start = lts.Start (arms-uses t) (arms-at t) arms.Post
+
+  abbrev Second : Type 0
+  Second = lts.After-second (arms-uses t) (arms-at t) arms.Post
+
+  abbrev Third : Type 0
+  Third = lts.After-third (arms-uses t) (arms-at t) arms.Post
+
+  abbrev Bind : Type 0
+  Bind = lts.After-bind (arms-uses t) (arms-at t) arms.Post
+
+  abbrev Infer : Type 0
+  Infer = lts.After-infer (arms-uses t) (arms-at t) arms.Post
+
+  abbrev Status : Type 0
+  Status = lts.After-status (arms-uses t) (arms-at t) arms.Post
+
+  abbrev EnumTold : Type 0
+  EnumTold = lts.After-enum-told (arms-uses t) (arms-at t) arms.Post
+
+  abbrev Spent : Type 0
+  Spent = lts.After-spent (arms-uses t) (arms-at t) arms.Post
+
+  abbrev Then1 : Type 0
+  Then1 = lts.Then1 (arms-uses t) (arms-at t) arms.Post
+
+  abbrev Else1 : Type 0
+  Else1 = lts.Else1 (arms-uses t) (arms-at t) arms.Post
+
+  abbrev Misused : Type 0
+  Misused = lts.After-misused (arms-uses t) (arms-at t) arms.Post
+
+  abbrev Bind2 : Type 0
+  Bind2 = lts.After-bind2 (arms-uses t) (arms-at t) arms.Post
+
+  abbrev Infer2 : Type 0
+  Infer2 = lts.After-infer2 (arms-uses t) (arms-at t) arms.Post
+
+  abbrev Meet : Type 0
+  Meet = lts.After-meet (arms-uses t) (arms-at t) arms.Post
+
+  abbrev before-second : Second → Start
+  before-second c = c .before .before .before .before .before .before .before .before
+
+  abbrev before-third : Third → Second × Start
+  before-third c = let at-second = c .before in (at-second, before-second at-second)
+
+  abbrev before-bind : Bind → Third × Second × Start
+  before-bind c = let at-third = c .before .before .before in let (at-second, start) = before-third at-third in (at-third, at-second, start)
+
+  abbrev before-infer : Infer → Bind × Third × Second × Start
+  before-infer c = let at-bind = c .before .before .before .before .before in let (at-third, at-second, start) = before-bind at-bind in
+      (at-bind, at-third, at-second, start)
+
+  abbrev before-status : Status → Infer × Bind × Third × Second × Start
+  before-status c = let at-infer = c .before .before .before .before .before .before in let (at-bind, at-third, at-second, start) = before-infer
+      at-infer in (at-infer, at-bind, at-third, at-second, start)
+
+  abbrev before-enum-told : EnumTold → Infer × Bind × Third × Second × Start
+  before-enum-told c = let at-infer = c .before .before .before .before .before .before in let (at-bind, at-third, at-second, start) = before-infer
+      at-infer in (at-infer, at-bind, at-third, at-second, start)
+
+  abbrev before-spent : Spent → Status × Infer × Bind × Third × Second × Start
+  before-spent c = let at-status = c .before .before .before in let (at-infer, at-bind, at-third, at-second, start) = before-status at-status in
+      (at-status, at-infer, at-bind, at-third, at-second, start)
+
+  abbrev before-Then1 : Then1 → Spent × Status × Infer × Bind × Third × Second × Start
+  before-Then1 c = let at-spent = c .before in let (at-status, at-infer, at-bind, at-third, at-second, start) = before-spent at-spent in
+      (at-spent, at-status, at-infer, at-bind, at-third, at-second, start)
+
+  abbrev before-Else1 : Else1 → Spent × Status × Infer × Bind × Third × Second × Start
+  before-Else1 c = let at-spent = c .before in let (at-status, at-infer, at-bind, at-third, at-second, start) = before-spent at-spent in
+      (at-spent, at-status, at-infer, at-bind, at-third, at-second, start)
+
+  abbrev before-misused : Misused → Else1 × Spent × Status × Infer × Bind × Third × Second × Start
+  before-misused c = let at-Else1 = c .before in let (at-spent, at-status, at-infer, at-bind, at-third, at-second, start) = before-Else1 at-Else1 in
+      (at-Else1, at-spent, at-status, at-infer, at-bind, at-third, at-second, start)
+
+  abbrev before-bind2 : Bind2 → Then1 × Spent × Status × Infer × Bind × Third × Second × Start
+  before-bind2 c = let at-Then1 = c .before .before .before in let (at-spent, at-status, at-infer, at-bind, at-third, at-second, start) =
+      before-Then1 at-Then1 in (at-Then1, at-spent, at-status, at-infer, at-bind, at-third, at-second, start)
+
+  abbrev before-infer2 : Infer2 → Bind2 × Then1 × Spent × Status × Infer × Bind × Third × Second × Start
+  before-infer2 c = let at-bind2 = c .before .before .before .before .before in let
+      (at-Then1, at-spent, at-status, at-infer, at-bind, at-third, at-second, start) = before-bind2 at-bind2 in
+      (at-bind2, at-Then1, at-spent, at-status, at-infer, at-bind, at-third, at-second, start)
+
+  abbrev before-meet : Meet → Infer2 × Bind2 × Then1 × Spent × Status × Infer × Bind × Third × Second × Start
+  before-meet c = let at-infer2 = c .before .before .before .before .before .before in let
+      (at-bind2, at-Then1, at-spent, at-status, at-infer, at-bind, at-third, at-second, start) = before-infer2 at-infer2 in
+      (at-infer2, at-bind2, at-Then1, at-spent, at-status, at-infer, at-bind, at-third, at-second, start)
+
+  ----------------------------------------------------------------
+  -- Answers
+
+  pub second-requires : lts.Need-second-requires (arms-uses t) (arms-at t) arms.Post
+  second-requires c κs =
+      let start = c .before .before .before .before .before .before .before in
+      omega (arith, read-case (start .pre .1 .ready .entries) (start .pre .1 .here))
+
+  pub third-requires : lts.Need-third-requires (arms-uses t) (arms-at t) arms.Post
+  third-requires c κs =
+      let at-second = c in
+      let start = before-second at-second in
+      read-case (start .pre .1 .ready .entries) (start .pre .1 .here)
+
+  pub bind-requires : lts.Need-bind-requires (arms-uses t) (arms-at t) arms.Post
+  bind-requires c κs =
+      let at-third = c .before .before in
+      let (_, start) = before-third at-third in
+      (start .pre .1 .ready .scoped, (start .pre .1 .left, start .pre .1 .free))
+
+  pub infer-requires : lts.Need-infer-requires (arms-uses t) (arms-at t) arms.Post
+  infer-requires c κs =
+      let at-bind = c .before .before .before .before in
+      let (at-third, at-second, start) = before-bind at-bind in (
+        omega (arith, start .pre .0, left-part (start .pre .1) (at-second .second .ensures) (at-third .third .ensures) .0),
+        ready-for
+            (start .pre .1 .signed) (ready-opened (left-ready (start .pre .1) (at-second .second .ensures) (at-third .third .ensures))
+            (at-bind .bind .ensures)) (left-part (start .pre .1) (at-second .second .ensures) (at-third .third .ensures) .1),
+      )
+
+  pub enum-known-status : lts.Need-enum-known-status (arms-uses t) (arms-at t) arms.Post
+  enum-known-status c = search needs
+
+  pub spent-requires : lts.Need-spent-requires (arms-uses t) (arms-at t) arms.Post
+  spent-requires c κs =
+      let at-status = c .before .before in
+      let (at-infer, at-bind, at-third, at-second, start) = before-status at-status in (
+        at-infer .infer .ensures .kept .sources,
+        (
+          left-known (start .pre .1) (at-second .second .ensures) (at-third .third .ensures)
+              (at-bind .bind .ensures) (at-infer .infer .ensures),
+          start .pre .1 .free,
+        ),
+      )
+
+  pub bind-requires-2 : lts.Need-bind-requires-2 (arms-uses t) (arms-at t) arms.Post
+  bind-requires-2 c κs =
+      let at-Then1 = c .before .before in
+      let (_, _, at-infer, at-bind, at-third, at-second, start) = before-Then1 at-Then1 in (
+        right-later (start .pre .1) (at-second .second .ensures) (at-third .third .ensures) (at-bind .bind .ensures)
+            (at-infer .infer .ensures) .scoped,
+        (
+          right-known (start .pre .1) (at-second .second .ensures) (at-third .third .ensures)
+              (at-bind .bind .ensures) (at-infer .infer .ensures),
+          start .pre .1 .free,
+        ),
+      )
+
+  pub infer-requires-2 : lts.Need-infer-requires-2 (arms-uses t) (arms-at t) arms.Post
+  infer-requires-2 c κs =
+      let at-bind2 = c .before .before .before .before in
+      let (_, _, _, at-infer, at-bind, at-third, at-second, start) = before-bind2 at-bind2 in (
+        omega (arith, start .pre .0, right-part (start .pre .1) (at-second .second .ensures) (at-third .third .ensures) .0),
+        ready-for
+            (start .pre .1 .signed) (ready-opened (right-later (start .pre .1) (at-second .second .ensures) (at-third .third .ensures)
+            (at-bind .bind .ensures) (at-infer .infer .ensures)) (at-bind2 .bind2 .ensures))
+            (right-part (start .pre .1) (at-second .second .ensures) (at-third .third .ensures) .1),
+      )
+
+  pub meet-requires : lts.Need-meet-requires (arms-uses t) (arms-at t) arms.Post
+  meet-requires c κs =
+      let at-infer2 = c .before .before .before .before .before in
+      let (at-bind2, at-Then1, at-spent, at-status, at-infer, at-bind, at-third, at-second, start) = before-infer2 at-infer2 in (
+        told (at-infer2 .infer2 .ensures),
+        (
+          meet-left (start .pre .1) (at-second .second .ensures) (at-third .third .ensures) (at-bind .bind .ensures)
+              (at-infer .infer .ensures) (at-status .status .given .1) (at-spent .spent .ensures) (at-Then1 .if1 .taken) (at-bind2 .bind2 .ensures)
+              (at-infer2 .infer2 .ensures),
+          meet-bound (start .pre .1) (at-second .second .ensures) (at-third .third .ensures) (at-bind .bind .ensures)
+              (at-infer .infer .ensures) (at-status .status .given .1) (at-spent .spent .ensures) (at-Then1 .if1 .taken) (at-bind2 .bind2 .ensures)
+              (at-infer2 .infer2 .ensures),
+          start .pre .1 .free,
+        ),
+      )
+
+  pub same-length : lts.Need-same-length (arms-uses t) (arms-at t) arms.Post
+  same-length c =
+      let at-meet = c in
+      let (at-infer2, _, _, _, _, at-infer, _, _, _, _) = before-meet at-meet in
+      at-infer2 .infer2 .kept .1 .1 .1 .1 .1 .1 .0 ∙ at-infer .infer .kept .1 .1 .1 .1 .1 .1 .0
+
+  pub same-length-2 : lts.Need-same-length-2 (arms-uses t) (arms-at t) arms.Post
+  same-length-2 c =
+      let at-meet = c in
+      let (at-infer2, at-bind2, _, _, _, at-infer, at-bind, _, _, _) = before-meet at-meet in
+      at-infer2 .infer2 .kept .1 .1 .1 .1 .1 .1 .1 .0 ∙ at-bind2 .bind2 .kept .1 .1 .1 .0 ∙ at-infer .infer .kept .1 .1 .1 .1 .1 .1 .1 .0 ∙
+      at-bind .bind .kept .1 .1 .1 .0
+
+  pub returns : lts.Need-returns (arms-uses t) (arms-at t) arms.Post
+  returns c =
+      let at-meet = c in
+      let (at-infer2, at-bind2, at-Then1, at-spent, at-status, at-infer, at-bind, at-third, at-second, start) = before-meet at-meet in
+      branches-done (start .pre .1) (at-second .second .ensures) (at-third .third .ensures) (at-bind .bind .ensures) (at-infer .infer .ensures)
+      (at-status .status .given .1) (at-spent .spent .ensures) (at-Then1 .if1 .taken) (at-bind2 .bind2 .ensures) (at-infer2 .infer2 .ensures)
+      (at-meet .meet .ensures)
+
+  pub misused-requires : lts.Need-misused-requires (arms-uses t) (arms-at t) arms.Post
+  misused-requires c κs = search needs
+
+  pub enum-told : lts.Need-enum-told (arms-uses t) (arms-at t) arms.Post
+  enum-told c = search needs
+
+  pub same-length-3 : lts.Need-same-length-3 (arms-uses t) (arms-at t) arms.Post
+  same-length-3 c =
+      let at-misused = c in
+      let (_, _, _, at-infer, _, _, _, _) = before-misused at-misused in
+      at-infer .infer .kept .1 .1 .1 .1 .1 .1 .0
+
+  pub same-length-4 : lts.Need-same-length-4 (arms-uses t) (arms-at t) arms.Post
+  same-length-4 c =
+      let at-misused = c in
+      let (_, _, _, at-infer, at-bind, _, _, _) = before-misused at-misused in
+      at-infer .infer .kept .1 .1 .1 .1 .1 .1 .1 .0 ∙ at-bind .bind .kept .1 .1 .1 .0
+
+  pub returns-2 : lts.Need-returns-2 (arms-uses t) (arms-at t) arms.Post
+  returns-2 c =
+      let at-misused = c in
+      let (at-Else1, at-spent, at-status, at-infer, at-bind, at-third, at-second, start) = before-misused at-misused in
+      left-unused (start .pre .1) (at-second .second .ensures) (at-third .third .ensures) (at-bind .bind .ensures) (at-infer .infer .ensures)
+      (at-status .status .given .1) (at-spent .spent .ensures) (at-Else1 .if1 .left) (at-misused .misused .ensures .0)
+      (at-misused .misused .ensures .1)
+
+  pub same-length-5 : lts.Need-same-length-5 (arms-uses t) (arms-at t) arms.Post
+  same-length-5 c =
+      let at-enum-told = c in
+      let (at-infer, _, _, _, _) = before-enum-told at-enum-told in
+      at-infer .infer .kept .1 .1 .1 .1 .1 .1 .0
+
+  pub same-length-6 : lts.Need-same-length-6 (arms-uses t) (arms-at t) arms.Post
+  same-length-6 c =
+      let at-enum-told = c in
+      let (at-infer, at-bind, _, _, _) = before-enum-told at-enum-told in
+      at-infer .infer .kept .1 .1 .1 .1 .1 .1 .1 .0 ∙ at-bind .bind .kept .1 .1 .1 .0
+
+  pub returns-3 : lts.Need-returns-3 (arms-uses t) (arms-at t) arms.Post
+  returns-3 c =
+      let at-enum-told = c in
+      let (at-infer, at-bind, at-third, at-second, start) = before-enum-told at-enum-told in
+      left-refused (start .pre .1) (at-second .second .ensures) (at-third .third .ensures) (at-bind .bind .ensures) (at-infer .infer .ensures)
+      (at-enum-told .enum-told .given .1)

@@ -1,0 +1,174 @@
+-- Answers of the cycle of typing: roll. A place is what is known once a call or a test is behind; `before-` has the places before it, the
+-- nearest first, so that code put in between two places moves one line.
+use Rattle.typing.proofs as own
+use Prim.Native.Nat.{ℕ}
+use Prim.Native.Nat.{_-_}
+use native.Mathlib.Omega.{arith}
+use borrow.Author.Needs.{needs}
+use own.Trees.{here, read-roll}
+use own.Answers.{known-later, told}
+use own.Steps.{demand-done, roll-ready, roll-part, roll-type, roll-whole, roll-no, roll-known, roll-done}
+use own.Asking.{ready-for}
+use own.infer.roll.Reads as roll
+use own.+binds-arms+binds-choose+binds-let_one+binds-let_two+calling-arguments+calling-call+infer-infer+infer-inject+infer-pair+infer-roll+infer-unroll as cycle
+use cycle.Lts-infer-roll as lts
+use cycle.Proof.Claims.{roll-at, roll-uses}
+
+module _ (t : ℕ) where
+  ----------------------------------------------------------------
+  -- Places
+
+  abbrev Start : Type 0
+  Start = lts.Start (roll-uses t) (roll-at t) roll.Post
+
+  abbrev First : Type 0
+  First = lts.After-first (roll-uses t) (roll-at t) roll.Post
+
+  abbrev Second : Type 0
+  Second = lts.After-second (roll-uses t) (roll-at t) roll.Post
+
+  abbrev Unfolded : Type 0
+  Unfolded = lts.After-unfolded (roll-uses t) (roll-at t) roll.Post
+
+  abbrev Body : Type 0
+  Body = lts.After-body (roll-uses t) (roll-at t) roll.Post
+
+  abbrev EnumTold : Type 0
+  EnumTold = lts.After-enum-told (roll-uses t) (roll-at t) roll.Post
+
+  abbrev Differ : Type 0
+  Differ = lts.After-differ (roll-uses t) (roll-at t) roll.Post
+
+  abbrev Entry : Type 0
+  Entry = lts.After-entry (roll-uses t) (roll-at t) roll.Post
+
+  abbrev Infer : Type 0
+  Infer = lts.After-infer (roll-uses t) (roll-at t) roll.Post
+
+  abbrev Expect : Type 0
+  Expect = lts.After-expect (roll-uses t) (roll-at t) roll.Post
+
+  abbrev before-first : First → Start
+  before-first c = c .before .before .before .before .before .before .before .before
+
+  abbrev before-second : Second → First × Start
+  before-second c = let at-first = c .before in (at-first, before-first at-first)
+
+  abbrev before-unfolded : Unfolded → Second × First × Start
+  before-unfolded c = let at-second = c .before in let (at-first, start) = before-second at-second in (at-second, at-first, start)
+
+  abbrev before-body : Body → Unfolded × Second × First × Start
+  before-body c = let at-unfolded = c .before .before in let (at-second, at-first, start) = before-unfolded at-unfolded in
+      (at-unfolded, at-second, at-first, start)
+
+  abbrev before-enum-told : EnumTold → Unfolded × Second × First × Start
+  before-enum-told c = let at-unfolded = c .before .before in let (at-second, at-first, start) = before-unfolded at-unfolded in
+      (at-unfolded, at-second, at-first, start)
+
+  abbrev before-differ : Differ → EnumTold × Unfolded × Second × First × Start
+  before-differ c = let at-enum-told = c .before in let (at-unfolded, at-second, at-first, start) = before-enum-told at-enum-told in
+      (at-enum-told, at-unfolded, at-second, at-first, start)
+
+  abbrev before-entry : Entry → Body × Unfolded × Second × First × Start
+  before-entry c = let at-body = c .before .before in let (at-unfolded, at-second, at-first, start) = before-body at-body in
+      (at-body, at-unfolded, at-second, at-first, start)
+
+  abbrev before-infer : Infer → Entry × Body × Unfolded × Second × First × Start
+  before-infer c = let at-entry = c .before .before .before in let (at-body, at-unfolded, at-second, at-first, start) = before-entry at-entry in
+      (at-entry, at-body, at-unfolded, at-second, at-first, start)
+
+  abbrev before-expect : Expect → Infer × Entry × Body × Unfolded × Second × First × Start
+  before-expect c = let at-infer = c .before .before .before .before .before .before in let
+      (at-entry, at-body, at-unfolded, at-second, at-first, start) = before-infer at-infer in
+      (at-infer, at-entry, at-body, at-unfolded, at-second, at-first, start)
+
+  ----------------------------------------------------------------
+  -- Answers
+
+  pub first-requires : lts.Need-first-requires (roll-uses t) (roll-at t) roll.Post
+  first-requires c κs =
+      let start = c .before .before .before .before .before .before .before in
+      omega (arith, read-roll (start .pre .1 .ready .entries) (start .pre .1 .here))
+
+  pub second-requires : lts.Need-second-requires (roll-uses t) (roll-at t) roll.Post
+  second-requires c κs =
+      let at-first = c in
+      let start = before-first at-first in
+      read-roll (start .pre .1 .ready .entries) (start .pre .1 .here)
+
+  pub unfolded-requires : lts.Need-unfolded-requires (roll-uses t) (roll-at t) roll.Post
+  unfolded-requires c κs =
+      let at-second = c in
+      let (at-first, start) = before-second at-second in (
+        start .pre .1 .ready .scoped .sources .entries,
+        roll-type (start .pre .1 .ready) (start .pre .1 .here) (at-first .first .ensures)
+            (at-second .second .ensures),
+      )
+
+  pub enum-known-body : lts.Need-enum-known-body (roll-uses t) (roll-at t) roll.Post
+  enum-known-body c = search needs
+
+  pub entry-requires : lts.Need-entry-requires (roll-uses t) (roll-at t) roll.Post
+  entry-requires c κs = search needs
+
+  pub infer-requires : lts.Need-infer-requires (roll-uses t) (roll-at t) roll.Post
+  infer-requires c κs =
+      let at-entry = c .before .before in
+      let (_, _, at-second, at-first, start) = before-entry at-entry in (
+        omega (
+          arith,
+          start .pre .0,
+          roll-part (start .pre .1 .ready) (start .pre .1 .here) (at-first .first .ensures)
+              (at-second .second .ensures) .0,
+        ),
+        ready-for (start .pre .1 .signed) (roll-ready (start .pre .1 .ready) (start .pre .1 .here)
+            (at-first .first .ensures) (at-second .second .ensures)) (roll-part (start .pre .1 .ready) (start .pre .1 .here) (at-first .first .ensures)
+            (at-second .second .ensures) .1),
+      )
+
+  pub expect-requires : lts.Need-expect-requires (roll-uses t) (roll-at t) roll.Post
+  expect-requires c κs =
+      let at-infer = c .before .before .before .before .before in
+      let (_, at-body, at-unfolded, at-second, at-first, start) = before-infer at-infer in (
+        told (at-infer .infer .ensures),
+        known-later ((roll-ready (start .pre .1 .ready) (start .pre .1 .here) (at-first .first .ensures)
+            (at-second .second .ensures)) .scoped .sources) (at-infer .infer .ensures .kept)
+            (roll-known (start .pre .1 .ready) (start .pre .1 .here) (at-first .first .ensures) (at-second .second .ensures)
+            (at-unfolded .unfolded .ensures) (at-body .body .given .1)),
+      )
+
+  pub enum-told : lts.Need-enum-told (roll-uses t) (roll-at t) roll.Post
+  enum-told c = search needs
+
+  pub differ-requires : lts.Need-differ-requires (roll-uses t) (roll-at t) roll.Post
+  differ-requires c κs = search needs
+
+  pub same-length : lts.Need-same-length (roll-uses t) (roll-at t) roll.Post
+  same-length c =
+      let at-expect = c in
+      let (at-infer, _, _, _, _, _, _) = before-expect at-expect in
+      at-infer .infer .kept .1 .1 .1 .1 .1 .1 .0
+
+  pub same-length-2 : lts.Need-same-length-2 (roll-uses t) (roll-at t) roll.Post
+  same-length-2 c =
+      let at-expect = c in
+      let (at-infer, _, _, _, _, _, _) = before-expect at-expect in
+      at-infer .infer .kept .1 .1 .1 .1 .1 .1 .1 .0
+
+  pub returns : lts.Need-returns (roll-uses t) (roll-at t) roll.Post
+  returns c =
+      let at-expect = c in
+      let (at-infer, at-entry, at-body, at-unfolded, at-second, at-first, start) = before-expect at-expect in
+      roll-done (start .pre .1 .ready) (start .pre .1 .here) (at-first .first .ensures) (at-second .second .ensures) (at-unfolded .unfolded .ensures)
+      (at-body .body .given .1) (at-entry .entry .ensures) (demand-done (at-infer .infer .ensures)
+      ((roll-ready (start .pre .1 .ready) (start .pre .1 .here) (at-first .first .ensures) (at-second .second .ensures)) .scoped .sources)
+      (roll-known (start .pre .1 .ready) (start .pre .1 .here) (at-first .first .ensures) (at-second .second .ensures)
+      (at-unfolded .unfolded .ensures) (at-body .body .given .1)) (roll-whole (start .pre .1 .ready) (start .pre .1 .here)
+      (at-first .first .ensures) (at-second .second .ensures) (at-entry .entry .ensures)) (at-expect .expect .ensures))
+
+  pub returns-2 : lts.Need-returns-2 (roll-uses t) (roll-at t) roll.Post
+  returns-2 c =
+      let at-differ = c in
+      let (at-enum-told, at-unfolded, at-second, at-first, start) = before-differ at-differ in
+      roll-no (start .pre .1 .ready) (start .pre .1 .here) (at-first .first .ensures) (at-second .second .ensures) (at-unfolded .unfolded .ensures)
+      (at-enum-told .enum-told .given .1) (at-differ .differ .ensures .0) (at-differ .differ .ensures .1)

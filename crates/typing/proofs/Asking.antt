@@ -1,0 +1,45 @@
+-- What a function of typing asks for, put together where it is called.
+use Prim.Native.Nat.{ℕ, _+_, _≤_, _<_}
+use mathlib.Core.List.{List}
+use lib.ListN.{length}
+use package.Rattle.calls.specs.Fields.{kindAt}
+use package.Rattle.program.specs.Parts.{first, second, third}
+use package.Rattle.program.specs.Signatures.{SignaturesAre}
+use package.Rattle.types.specs.declared.codes.Code.{Code}
+use package.Rattle.types.specs.Codes.{Known}
+use package.Rattle.uses.specs.declared.Uses.{Uses}
+use package.Rattle.typing.specs.Contexts.{NamedBy}
+use package.Rattle.typing.specs.Sizes.{termsIn, termsInAll}
+use package.Rattle.typing.specs.Ready.{termIn, termsFrom, Ready, Here, Calls}
+use package.Rattle.typing.specs.Asked.{ReadyFor, ReadyAt, ReadyInject, ReadyBranches, ReadyArguments}
+use Rattle.typing.specs.declared.outcomes.Scope.{Scope}
+
+module _ {p types terms functions : List ℕ} {table : List (List ℕ)} {nodes heap vars : List ℕ} {sc : Scope} {top t : ℕ} where
+  -- by kind, from the same term
+  pub ready-at : {at kind : ℕ} → ReadyFor p types terms functions table nodes heap vars sc top t → Here p terms t at kind
+      → ReadyAt p types terms functions table nodes heap vars sc top t at kind
+  ready-at R H = record { ready = R .ready; signed = R .signed; here = H }
+
+  pub ready-inject : {at : ℕ} → ReadyFor p types terms functions table nodes heap vars sc top t
+      → Here p terms t at (kindAt p at) × (2 ≤ kindAt p at) × (kindAt p at ≤ 3)
+      → ReadyInject p types terms functions table nodes heap vars sc top t at
+  ready-inject R (H, least, most) = record { ready = R .ready; signed = R .signed; here = H; least = least; most = most }
+
+  -- of another term, branches or arguments, with the table of the whole
+  module _ (S : SignaturesAre p functions table) where
+    pub ready-for : Ready (termsIn (termIn p types terms t)) p types terms functions nodes heap vars sc top → t < length terms
+        → ReadyFor p types terms functions table nodes heap vars sc top t
+    ready-for rd there = record { ready = rd; signed = S; there = there }
+
+    pub ready-branches : {at : ℕ} {u : Uses} {c d : Code}
+        → Ready (termsIn (termIn p types terms (second p at)) + termsIn (termIn p types terms (third p at)))
+        p types terms functions nodes heap vars sc top
+        → Here p terms t at 7 → sc .n < 32 → Known (length types) top c → Known (length types) top d
+        → NamedBy u (termIn p types terms (first p at)) → ReadyBranches p types terms functions table nodes heap vars sc top t at u c d
+    ready-branches rd H free K K′ named =
+        record { ready = rd; signed = S; here = H; free = free; left = K; right = K′; named = named }
+
+    pub ready-arguments : {at g k count : ℕ}
+        → Ready (termsInAll (termsFrom p types terms at k count)) p types terms functions nodes heap vars sc top
+        → Calls p terms functions t at g k count → ReadyArguments p types terms functions table nodes heap vars sc top t at g k count
+    ready-arguments rd C = record { ready = rd; signed = S; calls = C }
