@@ -3,6 +3,7 @@ use crate::rows::CODE;
 use crate::rows::COUNTS;
 use crate::rows::FUNCTIONS_FROM;
 use crate::rows::ROW;
+use program::kinds;
 use program::views;
 ghost use mathlib.Core.Path.{_≡_};
 ghost use Prim.Native.Nat.{_+_, _*_, _≤_, _<_};
@@ -44,11 +45,25 @@ fn put_term(code: &mut [u16; CODE], t: usize, p: &[u8], at: usize)
     requires { ⌜ (t < 1024) × Row (now p) at ⌝ }
     ensures { λ _. ⌜ TermPut (now (code .entry)) (now (code .exit)) t (now (p .entry)) at ⌝ }
 {
-    let kind = views::term_kind(p, at);
+    let kind = views::kind(p, at);
     match kind {
-        0 => put_heads(code, t, 0, octets::wide16(views::variable(p, at)), 0, 0),
-        1 => put_heads(code, t, 1, 0, 0, 0),
-        7 => put_heads(
+        kinds::VARIABLE => put_heads(code, t, 0, octets::wide16(views::variable(p, at)), 0, 0),
+        kinds::UNIT => put_heads(code, t, 1, 0, 0, 0),
+        kinds::INL
+        | kinds::INR
+        | kinds::PAIR
+        | kinds::LET
+        | kinds::LET_PAIR
+        | kinds::ROLL
+        | kinds::UNROLL => put_heads(
+            code,
+            t,
+            octets::wide16(kind),
+            views::first(p, at),
+            views::second(p, at),
+            0,
+        ),
+        kinds::CASE => put_heads(
             code,
             t,
             7,
@@ -56,15 +71,9 @@ fn put_term(code: &mut [u16; CODE], t: usize, p: &[u8], at: usize)
             views::second(p, at),
             views::third(p, at),
         ),
-        8 => put_call(code, t, p, at),
-        _ => put_heads(
-            code,
-            t,
-            kind as u16,
-            views::first(p, at),
-            views::second(p, at),
-            0,
-        ),
+        kinds::CALL => put_call(code, t, p, at),
+        // never met: there is no other kind
+        _ => put_heads(code, t, 0, 0, 0, 0),
     }
 }
 

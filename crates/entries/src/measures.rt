@@ -1,5 +1,6 @@
 // The figures of one type entry, from those of the lower entries (document 01, section 1: closed types, nodes of a type written out as a
 // tree), against calls/specs/Named. Counting stops one above the limit on nodes.
+use program::kinds;
 use program::views;
 ghost use mathlib.Core.Path.{_≡_};
 ghost use mathlib.Core.Bool.{true};
@@ -35,18 +36,21 @@ pub fn nodes_of(p: &[u8], at: usize, nodes: &[u16]) -> u16
     requires { ⌜ below (length (now nodes)) (typesOfType (typeAt (now p) at)) ≡ true ⌝ }
     ensures { λ r. ⌜ r ≡ nodesOf (now (nodes .entry)) (typeAt (now (p .entry)) at) ⌝ }
 {
-    let k = views::type_kind(p, at);
-    match k {
-        1 | 2 => {
+    let kind = views::kind(p, at);
+    match kind {
+        kinds::UNIT_TYPE => 1,
+        kinds::PRODUCT | kinds::SUM => {
             let a = octets::wide_index(views::first(p, at));
             let b = octets::wide_index(views::second(p, at));
             joined(nodes[a], nodes[b])
         }
-        3 => {
+        kinds::RECURSIVE => {
             let a = octets::wide_index(views::first(p, at));
             joined(nodes[a], 0)
         }
-        _ => 1,
+        kinds::TYPE_VARIABLE => 1,
+        // never met: there is no other kind
+        _ => 0,
     }
 }
 
@@ -56,19 +60,21 @@ pub fn free_of(p: &[u8], at: usize, free: &[u16]) -> u16
     requires { ⌜ below (length (now free)) (typesOfType (typeAt (now p) at)) ≡ true ⌝ }
     ensures { λ r. ⌜ r ≡ freeOf (now (free .entry)) (typeAt (now (p .entry)) at) ⌝ }
 {
-    let k = views::type_kind(p, at);
-    match k {
-        0 => 0,
-        1 | 2 => {
+    let kind = views::kind(p, at);
+    match kind {
+        kinds::UNIT_TYPE => 0,
+        kinds::PRODUCT | kinds::SUM => {
             let a = octets::wide_index(views::first(p, at));
             let b = octets::wide_index(views::second(p, at));
             greater(free[a], free[b])
         }
-        3 => {
+        kinds::RECURSIVE => {
             let a = octets::wide_index(views::first(p, at));
             outside(free[a])
         }
-        _ => octets::wide16(views::variable(p, at)) + 1,
+        kinds::TYPE_VARIABLE => octets::wide16(views::variable(p, at)) + 1,
+        // never met: there is no other kind
+        _ => 0,
     }
 }
 

@@ -7,6 +7,17 @@ ghost use lib.ListN.{getD, drop};
 ghost use Rattle.calls.specs.Values.{value, ancillae};
 ghost use Rattle.reading.specs.Ends.{pending, endOf, firstOf, isValue, counted, partOf};
 
+// The first byte of a value, by its kind (section 1).
+pub const UNIT: u8 = 0;
+
+pub const INL: u8 = 1;
+
+pub const INR: u8 = 2;
+
+pub const PAIR: u8 = 3;
+
+pub const ROLL: u8 = 4;
+
 // A value has at most so many bytes.
 pub const MAX_VALUE_BYTES: usize = 1024;
 
@@ -31,8 +42,10 @@ fn next_pending(count: usize, k: u8) -> usize
     ensures { λ r. ⌜ r ≡ pending k (count - 1) ⌝ }
 {
     match k {
-        0 => count - 1,
-        3 => count + 1,
+        UNIT => count - 1,
+        INL | INR | ROLL => count,
+        PAIR => count + 1,
+        // never met: no value begins with another byte, and such a byte is refused before
         _ => count,
     }
 }

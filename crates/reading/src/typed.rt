@@ -3,6 +3,7 @@
 // them and leaves those of the parts that it promises (specs/Stack). An entry inside a recursive one has variables: the recursive
 // entries that enclose it stand in cells, so that nothing is unfolded (specs/Scopes).
 use crate::scan;
+use program::kinds;
 use program::views;
 ghost use mathlib.Core.Path.{_≡_};
 ghost use mathlib.Core.Bool.{true};
@@ -67,33 +68,35 @@ fn parts_of(program: &[u8], at: usize, b: u8) -> Parts
 {
     let kind = views::kind(program, at);
     match kind {
-        0 => {
-            if b == 0 {
+        kinds::UNIT_TYPE => {
+            if b == scan::UNIT {
                 return Parts::Nothing;
             }
             Parts::Wrong
         }
-        1 => {
-            if b == 3 {
+        kinds::PRODUCT => {
+            if b == scan::PAIR {
                 return Parts::Two(views::first(program, at), views::second(program, at));
             }
             Parts::Wrong
         }
-        2 => {
-            if b == 1 {
+        kinds::SUM => {
+            if b == scan::INL {
                 return Parts::One(views::first(program, at));
             }
-            if b == 2 {
+            if b == scan::INR {
                 return Parts::One(views::second(program, at));
             }
             Parts::Wrong
         }
-        3 => {
-            if b == 4 {
+        kinds::RECURSIVE => {
+            if b == scan::ROLL {
                 return Parts::Body(views::first(program, at));
             }
             Parts::Wrong
         }
+        kinds::TYPE_VARIABLE => Parts::Wrong,
+        // never met: there is no other kind
         _ => Parts::Wrong,
     }
 }
@@ -131,7 +134,7 @@ fn resolve(
     let cell = t.cell;
     let at = field(types, entry);
     let kind = views::kind(program, at);
-    if kind < 4 {
+    if kind < kinds::TYPE_VARIABLE {
         return t;
     }
     let k = views::variable(program, at);
@@ -309,7 +312,7 @@ pub fn has_type(program: &[u8], types: &[u16], entry: u16, s: &[u8]) -> bool
     ensures { λ r. ⌜ r ≡ valueHas (value (now (s .entry))) (typeOf (entriesOf (now (program .entry)) (now (types .entry))) entry) ⌝ }
 {
     let kind = views::kind(program, field(types, entry));
-    if kind == 1 {
+    if kind == kinds::PRODUCT {
         return are_of(program, types, entry, s);
     }
     is_of(program, types, entry, s)

@@ -1,16 +1,20 @@
 use native.Mathlib.Omega.{arith}
-use mathlib.Core.Path.{refl, sym, _∙_}
+use mathlib.Core.Path.{refl, sym, subst, _∙_}
 use borrow.Author.Needs.{needs}
-use Rattle.program.proofs.Rooms.{var-room, case-room}
+use Rattle.program.proofs.Rooms.{term-kind, term-kind-room, var-room, case-room}
 use Rattle.decoded.proofs.Decoding as law
 use Rattle.decoded.proofs.decode.put_term.Statement.{statement}
 use Rattle.decoded.proofs.decode.put_term.Tie as tie
 
-term-kind-requires : tie.Need-term-kind-requires
-term-kind-requires c κs = search needs
+kind-requires : tie.Need-kind-requires
+kind-requires c κs = term-kind-room (c .before .pre .1 .1 .field)
 
 variable-requires : tie.Need-variable-requires
-variable-requires c κs = var-room (c .before .before .before .before .pre .1 .1 .field) (sym (c .before .before .term-kind .ensures .0) ∙ c .before .match .keys1)
+variable-requires c κs =
+    let at-match = c .before in
+    let at-kind = at-match .before in
+    let start = at-kind .before .before in
+    var-room (start .pre .1 .1 .field) (sym (at-kind .kind .ensures) ∙ at-match .match .keys1)
 
 wide16-requires : tie.Need-wide16-requires
 wide16-requires c κs = search needs
@@ -22,52 +26,109 @@ put-heads-requires-2 : tie.Need-put-heads-requires-2
 put-heads-requires-2 c κs = search needs
 
 first-requires : tie.Need-first-requires
-first-requires c κs = omega (arith, case-room (c .before .before .before .before .pre .1 .1 .field) (sym (c .before .before .term-kind .ensures .0) ∙ c .before .match .keys3))
+first-requires c κs =
+    let at-match = c .before in
+    let at-kind = at-match .before in
+    let start = at-kind .before .before in
+    omega (arith, case-room (start .pre .1 .1 .field) (sym (at-kind .kind .ensures) ∙ at-match .match .keys3))
 
 second-requires : tie.Need-second-requires
-second-requires c κs = omega (arith, case-room (c .before .before .before .before .before .pre .1 .1 .field) (sym (c .before .before .before .term-kind .ensures .0) ∙ c .before .before .match .keys3))
+second-requires c κs =
+    let at-match = c .before .before in
+    let at-kind = at-match .before in
+    let start = at-kind .before .before in
+    omega (arith, case-room (start .pre .1 .1 .field) (sym (at-kind .kind .ensures) ∙ at-match .match .keys3))
 
 third-requires : tie.Need-third-requires
-third-requires c κs = case-room (c .before .before .before .before .before .before .pre .1 .1 .field) (sym (c .before .before .before .before .term-kind .ensures .0) ∙ c .before .before .before .match .keys3)
+third-requires c κs =
+    let at-match = c .before .before .before in
+    let at-kind = at-match .before in
+    let start = at-kind .before .before in
+    case-room (start .pre .1 .1 .field) (sym (at-kind .kind .ensures) ∙ at-match .match .keys3)
 
 put-heads-requires-3 : tie.Need-put-heads-requires-3
 put-heads-requires-3 c κs = search needs
 
 put-call-requires : tie.Need-put-call-requires
-put-call-requires c κs = (c .before .before .before .before .pre .0, (c .before .before .before .before .pre .1, sym (c .before .before .term-kind .ensures .0) ∙ c .before .match .keys4))
+put-call-requires c κs =
+    let at-match = c .before in
+    let at-kind = at-match .before in
+    let start = at-kind .before .before in
+    (start .pre .0, (start .pre .1, sym (at-kind .kind .ensures) ∙ at-match .match .keys4))
 
-cast-put-heads : tie.Need-cast-put-heads
-cast-put-heads c = search needs
+wide16-requires-2 : tie.Need-wide16-requires-2
+wide16-requires-2 c κs = search needs
 
 first-requires-2 : tie.Need-first-requires-2
-first-requires-2 c κs = omega (arith, law.two-there (c .before .before .before .before .pre .1 .1 .field) (c .before .before .term-kind .ensures .0) (c .before .match .rest))
+first-requires-2 c κs =
+    let at-match = c .before .before .before in
+    let at-kind = at-match .before in
+    let start = at-kind .before .before in
+    omega (arith, law.two-there (start .pre .1 .1 .field) (at-kind .kind .ensures) (at-match .match .rest))
 
 second-requires-2 : tie.Need-second-requires-2
-second-requires-2 c κs = law.two-there (c .before .before .before .before .before .pre .1 .1 .field) (c .before .before .before .term-kind .ensures .0) (c .before .before .match .rest)
+second-requires-2 c κs =
+    let at-match = c .before .before .before .before in
+    let at-kind = at-match .before in
+    let start = at-kind .before .before in
+    law.two-there (start .pre .1 .1 .field) (at-kind .kind .ensures) (at-match .match .rest)
 
 put-heads-requires-4 : tie.Need-put-heads-requires-4
 put-heads-requires-4 c κs = search needs
 
+put-heads-requires-5 : tie.Need-put-heads-requires-5
+put-heads-requires-5 c κs = search needs
+
 returns : tie.Need-returns
-returns c = law.put-variable (c .put-heads .ensures) (sym (c .before .before .before .before .before .term-kind .ensures .0) ∙ c .before .before .before .before .match .keys1) (c .before .wide16 .ensures .0 ∙ c .before .before .variable .ensures)
+returns c =
+    let at-put-heads = c in
+    let at-wide16 = at-put-heads .before in
+    let at-variable = at-wide16 .before in
+    let at-match = at-variable .before .before in
+    let at-kind = at-match .before in
+    law.put-variable (at-put-heads .put-heads .ensures) (sym (at-kind .kind .ensures) ∙ at-match .match .keys1)
+    (at-wide16 .wide16 .ensures .0 ∙ at-variable .variable .ensures)
 
 returns-2 : tie.Need-returns-2
-returns-2 c = law.put-unit (c .put-heads2 .ensures) (sym (c .before .before .before .term-kind .ensures .0) ∙ c .before .before .match .keys2)
+returns-2 c = law.put-unit (c .put-heads2 .ensures) (sym (c .before .before .before .kind .ensures) ∙ c .before .before .match .keys2)
 
 returns-3 : tie.Need-returns-3
-returns-3 c = law.put-case (c .put-heads3 .ensures) (sym (c .before .before .before .before .before .before .term-kind .ensures .0) ∙ c .before .before .before .before .before .match .keys3) (c .before .before .before .first .ensures) (c .before .before .second .ensures) (c .before .third .ensures)
+returns-3 c =
+    let at-put-heads3 = c in
+    let at-third = at-put-heads3 .before in
+    let at-second = at-third .before in
+    let at-first = at-second .before in
+    let at-match = at-first .before .before in
+    let at-kind = at-match .before in
+    law.put-case (at-put-heads3 .put-heads3 .ensures) (sym (at-kind .kind .ensures) ∙ at-match .match .keys3) (at-first .first .ensures)
+    (at-second .second .ensures) (at-third .third .ensures)
 
 returns-4 : tie.Need-returns-4
 returns-4 c = c .put-call .ensures
 
 returns-5 : tie.Need-returns-5
-returns-5 c = law.put-two (c .put-heads4 .ensures) (c .before .before .before .before .before .term-kind .ensures .0) (c .before .before .before .before .match .rest) (c .before .before .first2 .ensures) (c .before .second2 .ensures)
+returns-5 c =
+    let at-put-heads4 = c in
+    let at-second2 = at-put-heads4 .before in
+    let at-first2 = at-second2 .before in
+    let at-wide162 = at-first2 .before in
+    let at-match = at-wide162 .before .before .before in
+    let at-kind = at-match .before in
+    law.put-two (at-put-heads4 .put-heads4 .ensures) (at-wide162 .wide162 .ensures .0 ∙ at-kind .kind .ensures)
+    (subst law.Two (sym (at-wide162 .wide162 .ensures .0)) (at-match .match .rest)) (at-first2 .first2 .ensures) (at-second2 .second2 .ensures)
+
+returns-6 : tie.Need-returns-6
+returns-6 c =
+    let at-if1 = c .before .before in
+    let at-kind = at-if1 .before .before in
+    let start = at-kind .before .before in
+    absurd (omega (arith, at-kind .kind .ensures, at-if1 .if1 .left, term-kind (start .pre .1 .1 .field)))
 
 pub put-term-spec : {M : Type 1} → statement M
 put-term-spec =
     tie.close
     (tie.spec
-    term-kind-requires
+    kind-requires
     variable-requires
     wide16-requires
     put-heads-requires
@@ -77,12 +138,14 @@ put-term-spec =
     third-requires
     put-heads-requires-3
     put-call-requires
-    cast-put-heads
+    wide16-requires-2
     first-requires-2
     second-requires-2
     put-heads-requires-4
+    put-heads-requires-5
     returns
     returns-2
     returns-3
     returns-4
-    returns-5)
+    returns-5
+    returns-6)

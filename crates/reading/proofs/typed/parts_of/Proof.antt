@@ -51,7 +51,16 @@ returns-9 : tie.Need-returns-9
 returns-9 c = roll-no _ _ _ (sym (c .before .before .kind .ensures) ∙ c .before .match .keys4) (c .if5 .left)
 
 returns-10 : tie.Need-returns-10
-returns-10 c = let no = c .match .rest in let k = c .before .kind .ensures in variable-no _ _ _ (λ e. no .0 .0 .0 .1 (k ∙ e)) (λ e. no .0 .0 .1 (k ∙ e)) (λ e. no .0 .1 (k ∙ e)) (λ e. no .1 (k ∙ e))
+returns-10 c =
+    let k = c .before .kind .ensures in
+    let is = c .match .keys5 in
+    variable-no _ _ _ (λ e. omega arith) (λ e. omega arith) (λ e. omega arith) (λ e. omega arith)
+
+returns-11 : tie.Need-returns-11
+returns-11 c =
+    let no = c .match .rest .0 in
+    let k = c .before .kind .ensures in
+    variable-no _ _ _ (λ e. no .0 .0 .0 .1 (k ∙ e)) (λ e. no .0 .0 .1 (k ∙ e)) (λ e. no .0 .1 (k ∙ e)) (λ e. no .1 (k ∙ e))
 
 pub parts-of-spec : {M : Type 1} → statement M
 parts-of-spec =
@@ -72,4 +81,5 @@ parts-of-spec =
     returns-7
     returns-8
     returns-9
-    returns-10)
+    returns-10
+    returns-11)
