@@ -4,9 +4,10 @@ use native.Mathlib.Omega.{arith}
 use mathlib.Core.Path.{_≡_, refl, sym, ap, subst, _∙_}
 use mathlib.Core.Bool.{Bool, true, false, _&&_}
 use mathlib.Core.Option.{Option, none, some}
-use mathlib.Core.List.{List, map}
+use mathlib.Core.List.{List, [], map}
 use lib.ListN.{length, getD, length-map}
 use lib.Dec.{eqb}
+use package.Rattle.rules.specs.Limits.{maxFunctions}
 use package.Rattle.rules.specs.Val.{Val}
 use package.Rattle.rules.specs.Term.{Fun, nth}
 use package.Rattle.rules.proofs.Basics.{eqb-yes}
@@ -22,6 +23,7 @@ use package.Rattle.admission.specs.Given.{givenIn}
 use package.Rattle.admission.specs.Admitting.{Callable, Admittable, inNumber, rightIn, sideNumber, sideOf, allTyped, AdmitMeans}
 use package.Rattle.admission.proofs.Right.{right-values}
 use package.Rattle.program.proofs.Programs.{function-there, function-none}
+use package.Rattle.program.specs.Signatures.{SignatureIs}
 use package.Rattle.program.specs.Programs.{programIn, functionIn}
 
 ----------------------------------------------------------------
@@ -116,5 +118,16 @@ pub index-beyond : {i g n : ℕ} → i ≡ g → n ≤ i → n ≤ g
 index-beyond e l = omega arith
 
 -- the function's field, where it was read
-pub callable-at : {xs types functions : List ℕ} {g at : ℕ} → Admittable xs types functions → g < length functions → at ≡ getD functions g 0 → Callable xs types at
-callable-at {xs} {types} {functions} {g} A l q = subst (Callable xs types) (sym q) (A .function g l)
+module _ {xs types functions : List ℕ} {table : List (List ℕ)} (A : Admittable xs types functions table) {g at : ℕ} (l : g < length functions)
+    (q : at ≡ getD functions g 0) where
+  pub callable-at : Callable xs types at
+  callable-at = subst (Callable xs types) (sym q) (A .function g l)
+
+  -- its row of the table of signatures, by the number as widened
+  pub row-there : {i : ℕ} → i ≡ g → i < 64
+  unfolding maxFunctions
+  row-there e = omega (arith, l, A .few)
+
+  pub row-at : {i : ℕ} → i ≡ g → SignatureIs (functionAt xs at) (getD table i [])
+  row-at e = subst (λ i. SignatureIs (functionAt xs at) (getD table i [])) (sym e)
+      (subst (λ at. SignatureIs (functionAt xs at) (getD table g [])) (sym q) (A .signed .rows g l))

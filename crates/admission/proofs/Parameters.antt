@@ -6,15 +6,17 @@ use mathlib.Core.Bool.{Bool, true, false}
 use mathlib.Core.List.{List, [], _∷_}
 use lib.ListN.{length, getD, length-append, List·getD-append}
 use lib.Seq.{getD-append-seam}
+use package.Rattle.rules.specs.Limits.{maxParameters}
 use package.Rattle.rules.proofs.Basics.{and-both}
 use package.Rattle.calls.specs.Fields.{parametersAt}
 use package.Rattle.calls.specs.Entries.{TypeEntry, FunctionEntry, functionAt}
 use package.Rattle.calls.specs.Named.{plain, typesOfFunction, allPlain}
 use package.Rattle.calls.proofs.Entries.{below-at}
-use package.Rattle.program.specs.Parts.{FunctionField, result, listed}
-use package.Rattle.program.specs.Signatures.{SignatureIs}
+use package.Rattle.program.specs.Parts.{FunctionField, result}
+use package.Rattle.program.specs.Signatures.{parameterTypes, SignatureIs}
 use package.Rattle.program.proofs.Rooms.{function-room}
-use package.Rattle.program.proofs.Shapes.{function-result, function-dynamic}
+use package.Rattle.program.proofs.Lists.{ancillae-count}
+use package.Rattle.program.proofs.Shapes.{function-result}
 use package.Rattle.reading.specs.Typing.{entriesOf}
 use package.Rattle.admission.specs.Admitting.{Callable, sideNumber}
 
@@ -70,14 +72,18 @@ module _ {xs : List ℕ} {at : ℕ} (F : FunctionField xs at) where
   pub parameters-room : at + 6 ≤ length xs
   parameters-room = omega (arith, function-room F)
 
-  pub dynamic-room : {n : ℕ} → n ≡ parametersAt xs at → at + 8 + 2 * (n - 1) ≤ length xs
-  dynamic-room e = omega (arith, function-room F, F .some)
+  -- the last parameter's place in the row
+  pub dynamic-place : {n : ℕ} → n ≡ parametersAt xs at → n ≤ 8
+  unfolding maxParameters
+  dynamic-place e = omega (arith, F .few)
 
   pub side-result : {r : ℕ} {b : Bool} → r ≡ result xs at → b ≡ true → r ≡ sideNumber b (functionAt xs at)
   unfolding sideNumber
   side-result {r} {b} e t = e ∙ sym (function-result xs at) ∙ ap (λ b. sideNumber b (functionAt xs at)) (sym t)
 
-  pub side-dynamic : {r n : ℕ} {b : Bool} → n ≡ parametersAt xs at → r ≡ listed xs at (n - 1) → b ≡ false → r ≡ sideNumber b (functionAt xs at)
+  pub side-dynamic : {row : List ℕ} {n : ℕ} {b : Bool} → SignatureIs (functionAt xs at) row → n ≡ parametersAt xs at → b ≡ false
+      → getD row (n - 1) 0 ≡ sideNumber b (functionAt xs at)
   unfolding sideNumber
-  side-dynamic {r} {n} {b} q e f =
-      e ∙ ap (λ n. listed xs at (n - 1)) q ∙ sym (function-dynamic xs at (F .some)) ∙ ap (λ b. sideNumber b (functionAt xs at)) (sym f)
+  side-dynamic {n = n} {b} s q f =
+      s .each (n - 1) ∙ ap (λ k. getD (parameterTypes (functionAt xs at)) k 0) (ap (λ n. n - 1) q ∙ sym (ancillae-count xs at))
+      ∙ getD-append-seam (functionAt xs at .ancillae) (functionAt xs at .dynamic) [] 0 ∙ ap (λ b. sideNumber b (functionAt xs at)) (sym f)

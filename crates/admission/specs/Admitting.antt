@@ -1,12 +1,13 @@
 -- What admission asks of the program, and what it answers (section 4, row Call). Admission looks at no term, so what it answers is said
 -- whatever the terms are.
-use Prim.Native.Nat.{ℕ, _<_}
+use Prim.Native.Nat.{ℕ, _≤_, _<_}
 use mathlib.Core.Path.{_≡_}
 use mathlib.Core.Bool.{Bool, true, false, _&&_}
 use mathlib.Core.Option.{Option, none, some}
 use mathlib.Core.List.{List, map}
 use lib.ListN.{length, getD}
 use lib.Dec.{eqb}
+use package.Rattle.rules.specs.Limits.{maxFunctions}
 use package.Rattle.rules.specs.Val.{Val}
 use package.Rattle.rules.specs.Ty.{Ty}
 use package.Rattle.rules.specs.Term.{Fun}
@@ -16,6 +17,7 @@ use package.Rattle.calls.specs.Named.{typesOfFunction, below, allPlain}
 use package.Rattle.calls.specs.Values.{value, ancillae, hasTy, hasTys}
 use package.Rattle.calls.specs.Runs.{Given, admit}
 use package.Rattle.program.specs.Parts.{FunctionField}
+use package.Rattle.program.specs.Signatures.{SignaturesAre}
 use package.Rattle.program.specs.Programs.{programIn}
 use package.Rattle.reading.specs.Typing.{entriesOf, Table}
 use package.Rattle.reading.specs.Ends.{valueIn, valuesIn}
@@ -33,9 +35,11 @@ pub record Callable (xs types : List ℕ) (at : ℕ) : Type 0 where
   pub closes : allPlain (entriesOf xs types) (typesOfFunction (functionAt xs at)) ≡ true
 
 -- So it is in a program whose fields were read and whose entries were tested (proofs/Tested).
-pub record Admittable (xs types functions : List ℕ) : Type 0 where
+pub record Admittable (xs types functions : List ℕ) (signatures : List (List ℕ)) : Type 0 where
   pub table : Table xs types
   pub function : (g : ℕ) → g < length functions → Callable xs types (getD functions g 0)
+  pub few : length functions ≤ maxFunctions
+  pub signed : SignaturesAre xs functions signatures
 
 ----------------------------------------------------------------
 -- The values

@@ -1,6 +1,5 @@
 // What a call gives a run, admitted or refused (document 01, section 4, row Call): 9 no such function; then all of 10, value bytes
 // malformed, over the limit or wrong in number; then all of 11, a value not of its type. For programs that are loaded.
-use program::signatures;
 use program::views;
 use reading::scan;
 use reading::typed;
@@ -12,6 +11,7 @@ ghost use lib.ListN.{length, getD};
 ghost use Rattle.calls.specs.Entries.{typeOf, functionAt};
 ghost use Rattle.calls.specs.Values.{hasTys};
 ghost use Rattle.program.specs.Parts.{FunctionField};
+ghost use Rattle.program.specs.Signatures.{SignatureIs};
 ghost use Rattle.reading.specs.Typing.{entriesOf, Table};
 ghost use Rattle.reading.specs.Ends.{valuesIn};
 ghost use Rattle.admission.specs.Admitting.{Callable, Admittable, rightIn, AsMany, sideNumber, allTyped, AdmitMeans};
@@ -40,14 +40,14 @@ fn values_right(p: &[u8], at: usize, ancillae: &[u8], value: &[u8]) -> bool
     false
 }
 
-// Is each ancilla of its parameter's type? They are taken one after another, each from where the one before it ends.
-fn ancillae_typed(p: &[u8], types: &[u16], at: usize, bytes: &[u8]) -> bool
+// Is each ancilla of its parameter's type, which the function's row of the table of signatures has? They are taken one after another, each from where the one before it ends.
+fn ancillae_typed(p: &[u8], types: &[u16], at: usize, row: [u16; 8], bytes: &[u8]) -> bool
     requires { ⌜ Table (now p) (now types) ⌝ }
     requires { ⌜ Callable (now p) (now types) at ⌝ }
     requires { ⌜ AsMany (now p) at (now bytes) ⌝ }
+    requires { ⌜ SignatureIs (functionAt (now p) at) row ⌝ }
     ensures { λ r. ⌜ r ≡ hasTys (valuesIn (now (bytes .entry))) (map (typeOf (entriesOf (now (p .entry)) (now (types .entry)))) (functionAt (now (p .entry)) at .ancillae)) ⌝ }
 {
-    let row = signatures::signature(p, at);
     let mut k = 0;
     let mut next = 0;
     while next < bytes.len() {
@@ -61,16 +61,17 @@ fn ancillae_typed(p: &[u8], types: &[u16], at: usize, bytes: &[u8]) -> bool
     true
 }
 
-// The type that the value is held to: a forward run's the dynamic parameter's, a backward run's the result's.
-fn side(p: &[u8], at: usize, back: bool) -> u16
+// The type that the value is held to: a forward run's the dynamic parameter's, which is the last of the row, a backward run's the result's.
+fn side(p: &[u8], at: usize, row: [u16; 8], back: bool) -> u16
     requires { ⌜ FunctionField (now p) at ⌝ }
+    requires { ⌜ SignatureIs (functionAt (now p) at) row ⌝ }
     ensures { λ r. ⌜ r ≡ sideNumber back (functionAt (now (p .entry)) at) ⌝ }
 {
     if back {
         return views::function_result(p, at);
     }
     let n = views::function_parameters(p, at);
-    views::listed(p, at, n - 1)
+    row[n - 1]
 }
 
 // All of 11.
@@ -78,6 +79,7 @@ fn values_typed(
     p: &[u8],
     types: &[u16],
     at: usize,
+    row: [u16; 8],
     ancillae: &[u8],
     value: &[u8],
     back: bool,
@@ -85,11 +87,12 @@ fn values_typed(
     requires { ⌜ Table (now p) (now types) ⌝ }
     requires { ⌜ Callable (now p) (now types) at ⌝ }
     requires { ⌜ rightIn (now ancillae) (now value) (functionAt (now p) at) ≡ true ⌝ }
+    requires { ⌜ SignatureIs (functionAt (now p) at) row ⌝ }
     ensures { λ r. ⌜ r ≡ allTyped (entriesOf (now (p .entry)) (now (types .entry))) (functionAt (now (p .entry)) at) back (now (ancillae .entry)) (now (value .entry)) ⌝ }
 {
-    let ok = ancillae_typed(p, types, at, ancillae);
+    let ok = ancillae_typed(p, types, at, row, ancillae);
     if ok {
-        return typed::has_type(p, types, side(p, at, back), value);
+        return typed::has_type(p, types, side(p, at, row, back), value);
     }
     false
 }
@@ -103,17 +106,18 @@ fn field(functions: &[u16], function: u16) -> usize
     octets::wide_index(functions[i])
 }
 
-// The call's function, ancillae and value, for a forward run or one back.
+// The call's function, ancillae and value, for a forward run or one back. The table has the signatures of the functions.
 pub fn admit(
     p: &[u8],
     types: &[u16],
     functions: &[u16],
+    table: &[[u16; 8]; 64],
     function: u16,
     ancillae: &[u8],
     value: &[u8],
     back: bool,
 ) -> Admitted
-    requires { ⌜ Admittable (now p) (now types) (now functions) ⌝ }
+    requires { ⌜ Admittable (now p) (now types) (now functions) (now table) ⌝ }
     ensures { λ r. ⌜ AdmitMeans r (now (p .entry)) (now (types .entry)) (now (functions .entry)) function (now (ancillae .entry)) (now (value .entry)) back ⌝ }
 {
     let g = octets::wide_index(function);
@@ -123,7 +127,8 @@ pub fn admit(
     let at = field(functions, function);
     let right = values_right(p, at, ancillae, value);
     if right {
-        let ok = values_typed(p, types, at, ancillae, value, back);
+        let row = table[g];
+        let ok = values_typed(p, types, at, row, ancillae, value, back);
         if ok {
             return Admitted::Given;
         }

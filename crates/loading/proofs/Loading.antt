@@ -13,6 +13,7 @@ use package.Rattle.calls.proofs.Answer.{via}
 use package.Rattle.calls.proofs.Trees.{entries-good}
 use package.Rattle.calls.proofs.Load.{load-iff}
 use package.Rattle.calls.specs.Tested.{Good}
+use package.Rattle.program.specs.Signatures.{SignaturesAre}
 use package.Rattle.program.specs.Places.{placesOf, Placed, Within, Counted, FieldsMean, answerOf}
 use package.Rattle.program.specs.declared.fields.Counts.{Counts}
 use package.Rattle.program.specs.declared.fields.Fields.{Fields}
@@ -40,16 +41,18 @@ stops k e = ap (λ x. x >>= k) e
 
 module _ {xs types terms functions nodes heap : List ℕ} (T : Typeable xs types terms functions nodes heap) (v : typings.Verdict)
     (answered : typing.verdictOf v ≡ typingAnswer xs types terms functions) where
-  infer-accepted : v ≡ Typed → Accepted xs types terms functions
+  infer-accepted : v ≡ Typed → {table : List (List ℕ)} → SignaturesAre xs functions table → Accepted xs types terms functions table
   unfolding load
-  infer-accepted e = record {
+  infer-accepted e S = record {
     read = T .read;
     tested = T .tested;
     loads = via _ (T .read .read) (via _ (T .tested) (via _ (sym answered ∙ ap typing.verdictOf e) refl));
+    signed = S;
   }
 
-  pub infer-typed : v ≡ Typed → {c : Counts} → Examined (loaded.Ready c) c xs types terms functions
-  infer-typed e = record { answer = infer-accepted e .loads; ready = (refl, infer-accepted e) }
+  pub infer-typed : v ≡ Typed → {table : List (List ℕ)} → SignaturesAre xs functions table → {c : Counts}
+      → Examined (loaded.Ready c) c xs types terms functions table
+  infer-typed e S = record { answer = infer-accepted e S .loads; ready = (refl, infer-accepted e S) }
 
   pub infer-refused : (n at : ℕ) → typing.verdictOf v ≡ refused n at → load xs ≡ refused n at
   unfolding load
@@ -104,8 +107,10 @@ module _ {xs types terms functions : List ℕ} (v : Fields) (F : FieldsMean v xs
     pub functions-inside : c .functions ≤ length functions
     functions-inside = omega (arith, fields-within .functions, F .buffers .forFunctions)
 
-    pub load-read : (r : Loaded) → Examined r c xs (take (c .types) types) (take (c .terms) terms) (take (c .functions) functions) → LoadMeans r xs types terms functions
-    load-read (loaded.Ready d) E = subst (λ d. LoadMeans (loaded.Ready d) xs types terms functions) (sym (E .ready .0)) (record { answer = E .answer; ready = (fields-within, E .ready .1); buffers = F .buffers })
+    pub load-read : {table : List (List ℕ)} (r : Loaded) → Examined r c xs (take (c .types) types) (take (c .terms) terms) (take (c .functions) functions) table
+        → LoadMeans r xs types terms functions table
+    load-read {table} (loaded.Ready d) E = subst (λ d. LoadMeans (loaded.Ready d) xs types terms functions table) (sym (E .ready .0))
+        (record { answer = E .answer; ready = (fields-within, E .ready .1); buffers = F .buffers })
     load-read (loaded.Malformed at) E = record { answer = E .answer; ready = tt; buffers = F .buffers }
     load-read (loaded.Over at) E = record { answer = E .answer; ready = tt; buffers = F .buffers }
     load-read (loaded.BadReference at) E = record { answer = E .answer; ready = tt; buffers = F .buffers }
@@ -114,16 +119,16 @@ module _ {xs types terms functions : List ℕ} (v : Fields) (F : FieldsMean v xs
     load-read (loaded.Unscoped at) E = record { answer = E .answer; ready = tt; buffers = F .buffers }
     load-read (loaded.Misused at) E = record { answer = E .answer; ready = tt; buffers = F .buffers }
 
-  pub load-malformed : (at : ℕ) → v ≡ Malformed at → LoadMeans (loaded.Malformed at) xs types terms functions
+  pub load-malformed : {table : List (List ℕ)} (at : ℕ) → v ≡ Malformed at → LoadMeans (loaded.Malformed at) xs types terms functions table
   load-malformed at e = record { answer = fields-refused 2 at (ap (λ v. answerOf v types terms functions) e); ready = tt; buffers = F .buffers }
 
-  pub load-over : (at : ℕ) → v ≡ Over at → LoadMeans (loaded.Over at) xs types terms functions
+  pub load-over : {table : List (List ℕ)} (at : ℕ) → v ≡ Over at → LoadMeans (loaded.Over at) xs types terms functions table
   load-over at e = record { answer = fields-refused 3 at (ap (λ v. answerOf v types terms functions) e); ready = tt; buffers = F .buffers }
 
 ----------------------------------------------------------------
 -- What a run may begin with
 
-module _ {xs types terms functions : List ℕ} (A : Accepted xs types terms functions) where
+module _ {xs types terms functions : List ℕ} {table : List (List ℕ)} (A : Accepted xs types terms functions table) where
   -- every entry passed its tests
   pub accepted-good : Good (entriesAt xs (placesOf types terms functions))
   accepted-good = entries-good (placesOf types terms functions) (entriesAt xs (placesOf types terms functions)) (A .tested)

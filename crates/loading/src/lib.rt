@@ -1,11 +1,13 @@
 // A program, read and typed: rows Field reading, Entries and Typing of document 01's section 4 (refusals 2 to 8), against
-// calls/specs/Load. The offsets of the entries' fields stand in buffers that the caller lends, so that a run finds them there.
+// calls/specs/Load. The offsets of the entries' fields stand in buffers that the caller lends, so that a run finds them there, and the functions'
+// signatures in a table that it lends, so that admission asks it.
 use entries::testing;
 use program::fields;
 use program::fields::Counts;
 use typing::functions;
 ghost use Prim.Native.Nat.{_*_, _≤_};
-ghost use lib.ListN.{length};
+ghost use mathlib.Core.Path.{_≡_};
+ghost use lib.ListN.{length, replicate};
 ghost use Rattle.rules.specs.Limits.{maxTerms};
 ghost use Rattle.program.specs.Places.{Placed, Buffers};
 ghost use Rattle.program.specs.Signatures.{SignaturesAre};
@@ -38,7 +40,7 @@ fn infer(
 ) -> Loaded
     requires { ⌜ Typeable (now p) (now types) (now terms) (now functions) (now nodes) (now ws) ⌝ }
     requires { ⌜ SignaturesAre (now p) (now functions) (now table) ⌝ }
-    ensures { λ r. ⌜ Examined r counts (now (p .entry)) (now (types .entry)) (now (terms .entry)) (now (functions .entry)) ⌝ }
+    ensures { λ r. ⌜ Examined r counts (now (p .entry)) (now (types .entry)) (now (terms .entry)) (now (functions .entry)) (now (table .entry)) ⌝ }
 {
     let v = functions::check_functions(p, types, terms, functions, table, nodes, ws);
     match v {
@@ -62,7 +64,7 @@ fn examine(
     requires { ⌜ Placed (now p) (now types) (now terms) (now functions) ⌝ }
     requires { ⌜ nodeBytes * maxTerms ≤ length (now ws) ⌝ }
     requires { ⌜ SignaturesAre (now p) (now functions) (now table) ⌝ }
-    ensures { λ r. ⌜ Examined r counts (now (p .entry)) (now (types .entry)) (now (terms .entry)) (now (functions .entry)) ⌝ }
+    ensures { λ r. ⌜ Examined r counts (now (p .entry)) (now (types .entry)) (now (terms .entry)) (now (functions .entry)) (now (table .entry)) ⌝ }
 {
     let mut nodes = [0u16; 256];
     let v = testing::test_entries(p, types, terms, functions, &mut nodes);
@@ -73,20 +75,21 @@ fn examine(
     }
 }
 
-// All three rows. The workspace is room for the types that typing makes.
+// All three rows. The workspace is room for the types that typing makes; the table is left with the signatures of the functions.
 pub fn load(
     p: &[u8],
     types: &mut [u16],
     terms: &mut [u16],
     functions: &mut [u16],
+    table: &mut [[u16; 8]; 64],
     ws: &mut [u8],
 ) -> Loaded
     requires { ⌜ Buffers (now types) (now terms) (now functions) ⌝ }
     requires { ⌜ nodeBytes * maxTerms ≤ length (now ws) ⌝ }
-    ensures { λ r. ⌜ LoadMeans r (now (p .entry)) (now (types .exit)) (now (terms .exit)) (now (functions .exit)) ⌝ }
+    requires { ⌜ now table ≡ replicate 64 (replicate 8 0) ⌝ }
+    ensures { λ r. ⌜ LoadMeans r (now (p .entry)) (now (types .exit)) (now (terms .exit)) (now (functions .exit)) (now (table .exit)) ⌝ }
 {
-    let mut table = [[0u16; 8]; 64];
-    let v = fields::layout(p, types, terms, functions, &mut table);
+    let v = fields::layout(p, types, terms, functions, table);
     match v {
         fields::Fields::Read(counts) => {
             let i = counts.types;
@@ -98,7 +101,7 @@ pub fn load(
                 &types[..i],
                 &terms[..j],
                 &functions[..k],
-                &table,
+                table,
                 ws,
             )
         }

@@ -20,8 +20,8 @@ enough-types fuel n l = omega arith
 ----------------------------------------------------------------
 -- Rows Field reading, Entries and Typing
 
-module _ {xs types terms functions : List ℕ} where
-  means : (l : Loaded) → loading.LoadMeans l xs types terms functions → PrepareMeans (preparedFrom l) xs types terms functions
+module _ {xs types terms functions : List ℕ} {table : List (List ℕ)} where
+  means : (l : Loaded) → loading.LoadMeans l xs types terms functions table → PrepareMeans (preparedFrom l) xs types terms functions table
   means (loaded.Ready c) M = record { answer = M .answer; begins = M .ready; buffers = M .buffers }
   means (loaded.Malformed at) M = record { answer = M .answer; begins = omega arith; buffers = M .buffers }
   means (loaded.Over at) M = record { answer = M .answer; begins = omega arith; buffers = M .buffers }
@@ -31,5 +31,5 @@ module _ {xs types terms functions : List ℕ} where
   means (loaded.Unscoped at) M = record { answer = M .answer; begins = omega arith; buffers = M .buffers }
   means (loaded.Misused at) M = record { answer = M .answer; begins = omega arith; buffers = M .buffers }
 
-  pub prepare-means : {l : Loaded} {r : Prepared} → loading.LoadMeans l xs types terms functions → r ≡ preparedFrom l → PrepareMeans r xs types terms functions
-  prepare-means {l} M e = subst (λ r. PrepareMeans r xs types terms functions) (sym e) (means l M)
+  pub prepare-means : {l : Loaded} {r : Prepared} → loading.LoadMeans l xs types terms functions table → r ≡ preparedFrom l → PrepareMeans r xs types terms functions table
+  prepare-means {l} M e = subst (λ r. PrepareMeans r xs types terms functions table) (sym e) (means l M)

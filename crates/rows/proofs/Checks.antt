@@ -13,7 +13,7 @@ use package.Rattle.program.specs.declared.fields.Counts.{Counts}
 ----------------------------------------------------------------
 -- In a workspace that is long enough
 
-module _ {xs types terms functions : List ℕ} {v : Prepared} (M : PrepareMeans v xs types terms functions) where
+module _ {xs types terms functions : List ℕ} {table : List (List ℕ)} {v : Prepared} (M : PrepareMeans v xs types terms functions table) where
   pub check-ready : {c : Counts} → v ≡ Ready c → CheckMeans checks.Accepted xs
   unfolding _>>=_
   check-ready e = record { answer = ap (λ a. a >>= λ P. accepted tt) (sym (M .answer ∙ ap (λ v. preparedOf v xs types terms functions) e)); later = accepts }
@@ -22,5 +22,5 @@ module _ {xs types terms functions : List ℕ} {v : Prepared} (M : PrepareMeans 
   unfolding _>>=_
   check-refused e = record {
     answer = ap (λ a. a >>= λ P. accepted tt) (sym (M .answer ∙ ap (λ v. preparedOf v xs types terms functions) e));
-    later = refuses (subst (λ v. Begins v xs types terms functions) e (M .begins));
+    later = refuses (subst (λ v. Begins v xs types terms functions table) e (M .begins));
   }

@@ -62,9 +62,9 @@ end-later ended.Short = refuses {n = 17} (omega arith)
 ----------------------------------------------------------------
 -- Rows Call, Run and Output, of a program that is accepted
 
-module _ {xs types terms functions : List ℕ} (A : Accepted xs types terms functions) where
-  pub askable : Admittable xs types functions
-  askable = admittable (A .read) (A .tested)
+module _ {xs types terms functions : List ℕ} {table : List (List ℕ)} (A : Accepted xs types terms functions table) where
+  pub askable : Admittable xs types functions table
+  askable = admittable (A .read) (A .tested) (A .signed)
 
   typed : WellTyped maxVariables maxNodes (programIn xs types terms functions)
   typed = load-iff xs (programIn xs types terms functions) .0 (A .loads) .1
@@ -106,7 +106,7 @@ module _ {xs types terms functions : List ℕ} (A : Accepted xs types terms func
       }
 
 -- the fronts are inside the buffers
-module _ {c : Counts} {xs types terms functions : List ℕ} (F : Fronts c xs types terms functions) where
+module _ {c : Counts} {xs types terms functions : List ℕ} {table : List (List ℕ)} (F : Fronts c xs types terms functions table) where
   pub types-inside : c .types ≤ length types
   types-inside = omega (arith, F .within .types, F .buffers .forTypes)
 
@@ -119,9 +119,9 @@ module _ {c : Counts} {xs types terms functions : List ℕ} (F : Fronts c xs typ
 ----------------------------------------------------------------
 -- After the rows of the program
 
-module _ {xs types terms functions : List ℕ} {v : Prepared} (M : PrepareMeans v xs types terms functions) where
-  pub fronts : {c : Counts} → v ≡ Ready c → Fronts c xs types terms functions
-  fronts e = given (subst (λ v. Begins v xs types terms functions) e (M .begins)) λ (w, a). record { within = w; buffers = M .buffers; accepts = a }
+module _ {xs types terms functions : List ℕ} {table : List (List ℕ)} {v : Prepared} (M : PrepareMeans v xs types terms functions table) where
+  pub fronts : {c : Counts} → v ≡ Ready c → Fronts c xs types terms functions table
+  fronts e = given (subst (λ v. Begins v xs types terms functions table) e (M .begins)) λ (w, a). record { within = w; buffers = M .buffers; accepts = a }
 
   module _ (back : Bool) (g : ℕ) (anc bytes : List ℕ) (fuel : ℕ) {out out′ : List ℕ} where
     pub prepared-run : {c : Counts} → v ≡ Ready c → {r : RunAnswer}
@@ -135,7 +135,7 @@ module _ {xs types terms functions : List ℕ} {v : Prepared} (M : PrepareMeans 
   unfolding _>>=_
   prepared-refused back g anc bytes fuel out {r} e =
       refused-as r out (ap (λ a. a >>= λ P. called back P g anc bytes fuel (length out)) (M .answer ∙ ap (λ v. preparedOf v xs types terms functions) e)) refl refl
-      (subst (λ v. Begins v xs types terms functions) e (M .begins))
+      (subst (λ v. Begins v xs types terms functions table) e (M .begins))
 
 ----------------------------------------------------------------
 -- The run in a direction

@@ -42,14 +42,14 @@ preparedOf (Ready c) xs types terms functions = accepted (programOf (entriesAt x
 preparedOf (Refused r) xs types terms functions = refused (numberOf r) (placeOf r)
 
 -- a program that is ready is accepted, with its fields at the fronts, and has counts that section 1 allows
-abbrev pub Begins : Prepared → List ℕ → List ℕ → List ℕ → List ℕ → Type 0
-Begins (Ready c) xs types terms functions =
-    Within c × Accepted xs (take (c .types) types) (take (c .terms) terms) (take (c .functions) functions)
-Begins (Refused r) xs types terms functions = 2 ≤ numberOf r
+abbrev pub Begins : Prepared → List ℕ → List ℕ → List ℕ → List ℕ → List (List ℕ) → Type 0
+Begins (Ready c) xs types terms functions table =
+    Within c × Accepted xs (take (c .types) types) (take (c .terms) terms) (take (c .functions) functions) table
+Begins (Refused r) xs types terms functions table = 2 ≤ numberOf r
 
-pub record PrepareMeans (r : Prepared) (xs types terms functions : List ℕ) : Type 0 where
+pub record PrepareMeans (r : Prepared) (xs types terms functions : List ℕ) (table : List (List ℕ)) : Type 0 where
   pub answer : load xs ≡ preparedOf r xs types terms functions
-  pub begins : Begins r xs types terms functions
+  pub begins : Begins r xs types terms functions table
   -- so that a front is as long as its count
   pub buffers : Buffers types terms functions
 

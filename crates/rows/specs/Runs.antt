@@ -54,10 +54,10 @@ abbrev pub frontsRun : Counts → Bool → List ℕ → List ℕ → List ℕ �
 frontsRun c back xs types terms functions g anc bytes fuel out = calledOf back xs (take (c .types) types) (take (c .terms) terms) (take (c .functions) functions) g anc bytes fuel out
 
 -- a program that is accepted has its offsets there
-pub record Fronts (c : Counts) (xs types terms functions : List ℕ) : Type 0 where
+pub record Fronts (c : Counts) (xs types terms functions : List ℕ) (table : List (List ℕ)) : Type 0 where
   pub within : Within c
   pub buffers : Buffers types terms functions
-  pub accepts : Accepted xs (take (c .types) types) (take (c .terms) terms) (take (c .functions) functions)
+  pub accepts : Accepted xs (take (c .types) types) (take (c .terms) terms) (take (c .functions) functions) table
 
 -- the same of the program that the bytes are, if they are one
 abbrev pub ofProgram : Bool → List ℕ → ℕ → List ℕ → List ℕ → ℕ → ℕ → Answer Ran

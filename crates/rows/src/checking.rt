@@ -16,7 +16,15 @@ pub fn check_program(program: &[u8], workspace: &mut [u8]) -> CheckAnswer
     let mut types = [0u16; 256];
     let mut terms = [0u16; 1024];
     let mut functions = [0u16; 64];
-    let prepared = preparing::prepare(program, &mut types, &mut terms, &mut functions, workspace);
+    let mut table = [[0u16; 8]; 64];
+    let prepared = preparing::prepare(
+        program,
+        &mut types,
+        &mut terms,
+        &mut functions,
+        &mut table,
+        workspace,
+    );
     match prepared {
         Prepared::Ready(_) => CheckAnswer::Accepted,
         Prepared::Refused(refusal) => CheckAnswer::Refused(refusal),

@@ -4,7 +4,7 @@ use loading::Loaded;
 use program::fields::Counts;
 ghost use mathlib.Core.Path.{_≡_};
 ghost use Prim.Native.Nat.{_*_, _≤_};
-ghost use lib.ListN.{length};
+ghost use lib.ListN.{length, replicate};
 ghost use lib.Dec.{leb};
 ghost use Rattle.rules.specs.Limits.{maxTerms};
 ghost use Rattle.calls.specs.Runs.{workspaceFor};
@@ -46,18 +46,20 @@ fn from_loaded(loaded: Loaded) -> Prepared
     }
 }
 
-// Loads a program; the offsets of its entries' fields stand at the fronts of the buffers.
+// Loads a program; the offsets of its entries' fields stand at the fronts of the buffers, and its functions' signatures in the table.
 pub fn prepare(
     program: &[u8],
     types: &mut [u16],
     terms: &mut [u16],
     functions: &mut [u16],
+    table: &mut [[u16; 8]; 64],
     workspace: &mut [u8],
 ) -> Prepared
     requires { ⌜ Buffers (now types) (now terms) (now functions) ⌝ }
     requires { ⌜ nodeBytes * maxTerms ≤ length (now workspace) ⌝ }
-    ensures { λ r. ⌜ PrepareMeans r (now (program .entry)) (now (types .exit)) (now (terms .exit)) (now (functions .exit)) ⌝ }
+    requires { ⌜ now table ≡ replicate 64 (replicate 8 0) ⌝ }
+    ensures { λ r. ⌜ PrepareMeans r (now (program .entry)) (now (types .exit)) (now (terms .exit)) (now (functions .exit)) (now (table .exit)) ⌝ }
 {
-    let loaded = loading::load(program, types, terms, functions, workspace);
+    let loaded = loading::load(program, types, terms, functions, table, workspace);
     from_loaded(loaded)
 }

@@ -83,6 +83,7 @@ pub fn run(
     types: &[u16],
     terms: &[u16],
     functions: &[u16],
+    table: &[[u16; 8]; 64],
     function: u16,
     ancillae: &[u8],
     value: &[u8],
@@ -91,11 +92,20 @@ pub fn run(
     workspace: &mut [u8],
     output: &mut [u8],
 ) -> RunAnswer
-    requires { ⌜ Accepted (now program) (now types) (now terms) (now functions) ⌝ }
+    requires { ⌜ Accepted (now program) (now types) (now terms) (now functions) (now table) ⌝ }
     requires { ⌜ workspaceFor fuel ≤ length (now workspace) ⌝ }
     ensures { λ r. ⌜ RunMeans r (calledOf back (now (program .entry)) (now (types .entry)) (now (terms .entry)) (now (functions .entry)) function (now (ancillae .entry)) (now (value .entry)) fuel (length (now (output .entry)))) (now (output .entry)) (now (output .exit)) ⌝ }
 {
-    let admitted = admission::admit(program, types, functions, function, ancillae, value, back);
+    let admitted = admission::admit(
+        program,
+        types,
+        functions,
+        table,
+        function,
+        ancillae,
+        value,
+        back,
+    );
     match admitted {
         Admitted::Given => {
             let ended = run_function(
@@ -125,6 +135,7 @@ fn run_fronts(
     types: &[u16],
     terms: &[u16],
     functions: &[u16],
+    table: &[[u16; 8]; 64],
     function: u16,
     ancillae: &[u8],
     value: &[u8],
@@ -133,7 +144,7 @@ fn run_fronts(
     workspace: &mut [u8],
     output: &mut [u8],
 ) -> RunAnswer
-    requires { ⌜ Fronts counts (now program) (now types) (now terms) (now functions) ⌝ }
+    requires { ⌜ Fronts counts (now program) (now types) (now terms) (now functions) (now table) ⌝ }
     requires { ⌜ workspaceFor fuel ≤ length (now workspace) ⌝ }
     ensures { λ r. ⌜ RunMeans r (frontsRun counts back (now (program .entry)) (now (types .entry)) (now (terms .entry)) (now (functions .entry)) function (now (ancillae .entry)) (now (value .entry)) fuel (length (now (output .entry)))) (now (output .entry)) (now (output .exit)) ⌝ }
 {
@@ -145,6 +156,7 @@ fn run_fronts(
         &types[..i],
         &terms[..j],
         &functions[..k],
+        table,
         function,
         ancillae,
         value,
@@ -172,7 +184,15 @@ pub fn run_program(
     let mut types = [0u16; 256];
     let mut terms = [0u16; 1024];
     let mut functions = [0u16; 64];
-    let prepared = preparing::prepare(program, &mut types, &mut terms, &mut functions, workspace);
+    let mut table = [[0u16; 8]; 64];
+    let prepared = preparing::prepare(
+        program,
+        &mut types,
+        &mut terms,
+        &mut functions,
+        &mut table,
+        workspace,
+    );
     match prepared {
         Prepared::Ready(counts) => run_fronts(
             program,
@@ -180,6 +200,7 @@ pub fn run_program(
             &types,
             &terms,
             &functions,
+            &table,
             function,
             ancillae,
             value,

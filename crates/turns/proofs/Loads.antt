@@ -56,7 +56,7 @@ module _ {xs : List ℕ} {v : CheckAnswer} (C : CheckMeans v xs) (x : Answer (Li
 ----------------------------------------------------------------
 -- Convert and rollback
 
-module _ {xs types terms functions : List ℕ} {v : Prepared} (M : PrepareMeans v xs types terms functions) (turn : Program → Answer Turned) {j : List ℕ} where
+module _ {xs types terms functions : List ℕ} {table : List (List ℕ)} {v : Prepared} (M : PrepareMeans v xs types terms functions table) (turn : Program → Answer Turned) {j : List ℕ} where
   pub turn-ready : {c : Counts} → v ≡ Ready c → {r : RunAnswer} {j′ : List ℕ} → TurnMeans r (turn (inFronts c xs types terms functions)) j j′ → TurnMeans r (load xs >>= turn) j j′
   unfolding _>>=_
   turn-ready e {r} {j′} T = subst (λ x. TurnMeans r x j j′) (sym (via _ (M .answer ∙ ap (λ v. preparedOf v xs types terms functions) e) refl)) T
@@ -65,4 +65,4 @@ module _ {xs types terms functions : List ℕ} {v : Prepared} (M : PrepareMeans 
   unfolding _>>=_
   turn-refused {r} e =
       left-alone r j (ap (λ a. a >>= turn) (M .answer ∙ ap (λ v. preparedOf v xs types terms functions) e))
-      (refuses {n = numberOf r} (subst (λ v. Begins v xs types terms functions) e (M .begins)))
+      (refuses {n = numberOf r} (subst (λ v. Begins v xs types terms functions table) e (M .begins)))

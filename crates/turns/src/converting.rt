@@ -71,6 +71,7 @@ fn convert_held(
     types: &[u16],
     terms: &[u16],
     functions: &[u16],
+    table: &[[u16; 8]; 64],
     function: u16,
     ancillae: &[u8],
     fuel: u16,
@@ -79,7 +80,7 @@ fn convert_held(
     pl: Places,
     output: &mut [u8],
 ) -> RunAnswer
-    requires { ⌜ (Accepted (now program) (now types) (now terms) (now functions)) × (workspaceFor fuel ≤ length (now workspace)) ⌝ }
+    requires { ⌜ (Accepted (now program) (now types) (now terms) (now functions) (now table)) × (workspaceFor fuel ≤ length (now workspace)) ⌝ }
     requires { ⌜ Stands pl (now journal) ⌝ }
     requires { ⌜ (pl .count < 64) × (length (now output) ≡ 1024) ⌝ }
     ensures { λ r. ⌜ TurnMeans r (convertOf (programIn (now (program .entry)) (now (types .entry)) (now (terms .entry)) (now (functions .entry))) fuel function (now (ancillae .entry)) (now (journal .entry))) (now (journal .entry)) (now (journal .exit)) ⌝ }
@@ -90,6 +91,7 @@ fn convert_held(
         types,
         terms,
         functions,
+        table,
         function,
         ancillae,
         value,
@@ -110,13 +112,14 @@ pub fn convert(
     types: &[u16],
     terms: &[u16],
     functions: &[u16],
+    table: &[[u16; 8]; 64],
     function: u16,
     ancillae: &[u8],
     fuel: u16,
     workspace: &mut [u8],
     journal: &mut [u8],
 ) -> RunAnswer
-    requires { ⌜ Accepted (now program) (now types) (now terms) (now functions) ⌝ }
+    requires { ⌜ Accepted (now program) (now types) (now terms) (now functions) (now table) ⌝ }
     requires { ⌜ workspaceFor fuel ≤ length (now workspace) ⌝ }
     ensures { λ r. ⌜ TurnMeans r (convertOf (programIn (now (program .entry)) (now (types .entry)) (now (terms .entry)) (now (functions .entry))) fuel function (now (ancillae .entry)) (now (journal .entry))) (now (journal .entry)) (now (journal .exit)) ⌝ }
 {
@@ -133,6 +136,7 @@ pub fn convert(
         types,
         terms,
         functions,
+        table,
         function,
         ancillae,
         fuel,

@@ -34,13 +34,14 @@ fn convert_fronts(
     types: &[u16],
     terms: &[u16],
     functions: &[u16],
+    table: &[[u16; 8]; 64],
     function: u16,
     ancillae: &[u8],
     fuel: u16,
     workspace: &mut [u8],
     journal: &mut [u8],
 ) -> RunAnswer
-    requires { ⌜ Fronts counts (now program) (now types) (now terms) (now functions) ⌝ }
+    requires { ⌜ Fronts counts (now program) (now types) (now terms) (now functions) (now table) ⌝ }
     requires { ⌜ workspaceFor fuel ≤ length (now workspace) ⌝ }
     ensures { λ r. ⌜ TurnMeans r (convertOf (inFronts counts (now (program .entry)) (now (types .entry)) (now (terms .entry)) (now (functions .entry))) fuel function (now (ancillae .entry)) (now (journal .entry))) (now (journal .entry)) (now (journal .exit)) ⌝ }
 {
@@ -52,6 +53,7 @@ fn convert_fronts(
         &types[..i],
         &terms[..j],
         &functions[..k],
+        table,
         function,
         ancillae,
         fuel,
@@ -75,11 +77,13 @@ pub fn convert(
     let mut types = [0u16; 256];
     let mut terms = [0u16; 1024];
     let mut functions = [0u16; 64];
+    let mut table = [[0u16; 8]; 64];
     let prepared = rows::preparing::prepare(
         program,
         &mut types,
         &mut terms,
         &mut functions,
+        &mut table,
         workspace,
     );
     match prepared {
@@ -89,6 +93,7 @@ pub fn convert(
             &types,
             &terms,
             &functions,
+            &table,
             function,
             ancillae,
             fuel,
@@ -106,11 +111,12 @@ fn rollback_fronts(
     types: &[u16],
     terms: &[u16],
     functions: &[u16],
+    table: &[[u16; 8]; 64],
     fuel: u16,
     workspace: &mut [u8],
     journal: &mut [u8],
 ) -> RunAnswer
-    requires { ⌜ Fronts counts (now program) (now types) (now terms) (now functions) ⌝ }
+    requires { ⌜ Fronts counts (now program) (now types) (now terms) (now functions) (now table) ⌝ }
     requires { ⌜ workspaceFor fuel ≤ length (now workspace) ⌝ }
     ensures { λ r. ⌜ TurnMeans r (rollbackOf (inFronts counts (now (program .entry)) (now (types .entry)) (now (terms .entry)) (now (functions .entry))) fuel (now (journal .entry))) (now (journal .entry)) (now (journal .exit)) ⌝ }
 {
@@ -122,6 +128,7 @@ fn rollback_fronts(
         &types[..i],
         &terms[..j],
         &functions[..k],
+        table,
         fuel,
         workspace,
         journal,
@@ -136,11 +143,13 @@ pub fn rollback(program: &[u8], fuel: u16, workspace: &mut [u8], journal: &mut [
     let mut types = [0u16; 256];
     let mut terms = [0u16; 1024];
     let mut functions = [0u16; 64];
+    let mut table = [[0u16; 8]; 64];
     let prepared = rows::preparing::prepare(
         program,
         &mut types,
         &mut terms,
         &mut functions,
+        &mut table,
         workspace,
     );
     match prepared {
@@ -150,6 +159,7 @@ pub fn rollback(program: &[u8], fuel: u16, workspace: &mut [u8], journal: &mut [
             &types,
             &terms,
             &functions,
+            &table,
             fuel,
             workspace,
             journal,

@@ -25,13 +25,14 @@ fn run_newest(
     types: &[u16],
     terms: &[u16],
     functions: &[u16],
+    table: &[[u16; 8]; 64],
     fuel: u16,
     journal: &[u8],
     pl: Places,
     workspace: &mut [u8],
     output: &mut [u8],
 ) -> RunAnswer
-    requires { ⌜ Accepted (now program) (now types) (now terms) (now functions) ⌝ }
+    requires { ⌜ Accepted (now program) (now types) (now terms) (now functions) (now table) ⌝ }
     requires { ⌜ workspaceFor fuel ≤ length (now workspace) ⌝ }
     requires { ⌜ Stands pl (now journal) × (0 < pl .count) × (length (now output) ≡ maxValueBytes) ⌝ }
     ensures { λ r. ⌜ RunMeans r (takenBack (programIn (now (program .entry)) (now (types .entry)) (now (terms .entry)) (now (functions .entry))) fuel (journalIn (now (journal .entry)))) (now (output .entry)) (now (output .exit)) ⌝ }
@@ -44,6 +45,7 @@ fn run_newest(
         types,
         terms,
         functions,
+        table,
         function,
         ancillae,
         value,
@@ -79,13 +81,14 @@ fn roll_newest(
     types: &[u16],
     terms: &[u16],
     functions: &[u16],
+    table: &[[u16; 8]; 64],
     fuel: u16,
     workspace: &mut [u8],
     journal: &mut [u8],
     pl: Places,
     output: &mut [u8],
 ) -> RunAnswer
-    requires { ⌜ Accepted (now program) (now types) (now terms) (now functions) ⌝ }
+    requires { ⌜ Accepted (now program) (now types) (now terms) (now functions) (now table) ⌝ }
     requires { ⌜ workspaceFor fuel ≤ length (now workspace) ⌝ }
     requires { ⌜ Stands pl (now journal) × (0 < pl .count) × (length (now output) ≡ maxValueBytes) ⌝ }
     ensures { λ r. ⌜ TurnMeans r (rollbackOf (programIn (now (program .entry)) (now (types .entry)) (now (terms .entry)) (now (functions .entry))) fuel (now (journal .entry))) (now (journal .entry)) (now (journal .exit)) ⌝ }
@@ -95,6 +98,7 @@ fn roll_newest(
         types,
         terms,
         functions,
+        table,
         fuel,
         journal,
         pl,
@@ -116,11 +120,12 @@ pub fn rollback(
     types: &[u16],
     terms: &[u16],
     functions: &[u16],
+    table: &[[u16; 8]; 64],
     fuel: u16,
     workspace: &mut [u8],
     journal: &mut [u8],
 ) -> RunAnswer
-    requires { ⌜ Accepted (now program) (now types) (now terms) (now functions) ⌝ }
+    requires { ⌜ Accepted (now program) (now types) (now terms) (now functions) (now table) ⌝ }
     requires { ⌜ workspaceFor fuel ≤ length (now workspace) ⌝ }
     ensures { λ r. ⌜ TurnMeans r (rollbackOf (programIn (now (program .entry)) (now (types .entry)) (now (terms .entry)) (now (functions .entry))) fuel (now (journal .entry))) (now (journal .entry)) (now (journal .exit)) ⌝ }
 {
@@ -138,6 +143,7 @@ pub fn rollback(
         types,
         terms,
         functions,
+        table,
         fuel,
         workspace,
         journal,

@@ -111,7 +111,8 @@ module _ {p types : List ℕ} where
     lengths = K .lengths;
   }
 
-  pub kept-grown : (m : ℕ) (vars : List ℕ) {heap heap′ : List ℕ} {top : ℕ} {τ : Ty} → Grown p types heap heap′ top τ → Kept 1 p types heap heap′ m vars vars top (top + 1)
+  pub kept-grown : (m : ℕ) (vars : List ℕ) {heap heap′ : List ℕ} {top : ℕ} {τ : Ty} → Grown p types heap heap′ top τ
+      → Kept 1 p types heap heap′ m vars vars top (top + 1)
   kept-grown m vars G = record {
     agree = G .agree;
     sources = G .sources;
@@ -132,7 +133,8 @@ module _ {p types : List ℕ} where
     lengths = O .lengths;
   }
 
-  module _ {size : ℕ} {heap heap′ : List ℕ} {m : ℕ} {vars vars′ : List ℕ} {top top′ : ℕ} (S : Sources p types heap top) (K : Kept size p types heap heap′ m vars vars′ top top′) where
+  module _ {size : ℕ} {heap heap′ : List ℕ} {m : ℕ} {vars vars′ : List ℕ} {top top′ : ℕ} (S : Sources p types heap top)
+      (K : Kept size p types heap heap′ m vars vars′ top top′) where
     pub tree-later : {c : Code} → Known (length types) top c → treeIn p types heap c ≡ treeIn p types heap′ c
     tree-later k = tree-kept (S .products) (K .agree) k
 
@@ -142,7 +144,8 @@ module _ {p types : List ℕ} where
 ----------------------------------------------------------------
 -- Refusals, tests and parts
 
-pub stopped : (size : ℕ) {T : Term} {p types heap : List ℕ} (m : ℕ) (vars : List ℕ) {top : ℕ} {r : Out} {w : Fault} {res : Checked Ty} → Sources p types heap top
+pub stopped : (size : ℕ) {T : Term} {p types heap : List ℕ} (m : ℕ) (vars : List ℕ) {top : ℕ} {r : Out} {w : Fault} {res : Checked Ty}
+    → Sources p types heap top
     → r .status ≡ Refused w → r .top ≡ top → res ≡ faultOf w → Inferred size T p types heap heap m vars vars top r res
 stopped size {p = p} {types} {heap} m vars {top} S e q a =
     inferred (subst (λ x. Kept size p types heap heap m vars vars top x) (sym q) (kept-still size m vars S)) (ends-refused e a)
@@ -174,7 +177,8 @@ module _ {size : ℕ} {E : Term} {p types heap heap₁ : List ℕ} {m : ℕ} {va
   says e = record { kept = d .kept; known = d .known; uses = d .uses; answer = d .answer ∙ e }
 
   -- a part is refused, and so is the whole
-  pub part-refused : (size′ : ℕ) {T : Term} {w : Fault} {res : Checked Ty} (next : Ty → Checked Ty) → r .status ≡ Refused w → res ≡ (part >>= next) → size ≤ size′
+  pub part-refused : (size′ : ℕ) {T : Term} {w : Fault} {res : Checked Ty} (next : Ty → Checked Ty) → r .status ≡ Refused w → res ≡ (part >>= next)
+      → size ≤ size′
       → Inferred size′ T p types heap heap₁ m vars vars₁ top r res
   part-refused size′ {w = w} next e a s = inferred (kept-more size′ (d .kept) s) (ends-refused e (a ∙ bad-then w next (refused e)))
 
@@ -189,7 +193,8 @@ module _ {size : ℕ} {E : Term} {p types heap heap₁ : List ℕ} {m : ℕ} {va
   }
 
   -- it begins earlier
-  pub earlier : {a : ℕ} (size′ : ℕ) {heap₀ : List ℕ} {m₀ : ℕ} {vars₀ : List ℕ} {top₀ : ℕ} → Kept a p types heap₀ heap m₀ vars₀ vars top₀ top → m₀ ≤ m → a + size ≤ size′
+  pub earlier : {a : ℕ} (size′ : ℕ) {heap₀ : List ℕ} {m₀ : ℕ} {vars₀ : List ℕ} {top₀ : ℕ} → Kept a p types heap₀ heap m₀ vars₀ vars top₀ top → m₀ ≤ m
+      → a + size ≤ size′
       → Inferred size′ E p types heap₀ heap₁ m₀ vars₀ vars₁ top₀ r part
   earlier size′ K le s = record { kept = kept-then size′ K (d .kept) le s; known = d .known; uses = d .uses; answer = d .answer }
 
@@ -199,7 +204,8 @@ module _ {size : ℕ} {E : Term} {p types heap heap₁ : List ℕ} {m : ℕ} {va
       → ((f : Found) → Known (length types) (r .top) (f .code) → NamedBy (f .uses) E → Next f (out .status)
       → Ends T p types heap₁ (r .top) (out .status) (next (treeIn p types heap₁ (f .code))))
       → Inferred size′ T p types heap heap₁ m vars vars₁ top out res
-  part-tested size′ {T} {out} {res = res} next A e s go = inferred (subst (λ x. Kept size′ p types heap heap₁ m vars vars₁ top x) (sym (A .same)) (kept-more size′ (d .kept) s))
+  part-tested size′ {T} {out} {res = res} next A e s go = inferred
+      (subst (λ x. Kept size′ p types heap heap₁ m vars vars₁ top x) (sym (A .same)) (kept-more size′ (d .kept) s))
       (subst (λ x. Ends T p types heap₁ x (out .status) res) (sym (A .same)) (by (r .status) refl))
     where
       by : (s : Status) → r .status ≡ s → Ends T p types heap₁ (r .top) (out .status) res
@@ -210,11 +216,13 @@ module _ {size : ℕ} {E : Term} {p types heap heap₁ : List ℕ} {m : ℕ} {va
 ----------------------------------------------------------------
 -- What stays ready
 
-module _ {size : ℕ} {p types terms functions nodes heap vars : List ℕ} {sc : Scope} {top : ℕ} (rd : Ready size p types terms functions nodes heap vars sc top) where
+module _ {size : ℕ} {p types terms functions nodes heap vars : List ℕ} {sc : Scope} {top : ℕ}
+    (rd : Ready size p types terms functions nodes heap vars sc top) where
   pub ready-less : (size′ : ℕ) → size′ ≤ size → Ready size′ p types terms functions nodes heap vars sc top
   ready-less size′ le = record { entries = rd .entries; scoped = rd .scoped; room = rd .room; small = omega (arith, rd .small) }
 
-  pub ready-opened : {vars′ : List ℕ} {c : Code} {r : Scope} → Opened p types heap vars vars′ sc top c r → Ready size p types terms functions nodes heap vars′ r top
+  pub ready-opened : {vars′ : List ℕ} {c : Code} {r : Scope} → Opened p types heap vars vars′ sc top c r
+      → Ready size p types terms functions nodes heap vars′ r top
   ready-opened O = record { entries = rd .entries; scoped = O .scoped; room = rd .room; small = rd .small }
 
   module _ {a : ℕ} {heap′ vars′ : List ℕ} {top′ : ℕ} (K : Kept a p types heap heap′ (sc .n) vars vars′ top top′) where
@@ -231,7 +239,8 @@ module _ {size : ℕ} {p types terms functions nodes heap vars : List ℕ} {sc :
         static = rd .scoped .static;
         low = rd .scoped .low;
         few = rd .scoped .few;
-        known = λ i l. subst (Known (length types) top′) (variable-same vars vars′ (sc .n) (K .below) i l) (known-later (rd .scoped .sources) K (rd .scoped .known i l));
+        known = λ i l. subst (Known (length types) top′) (variable-same vars vars′ (sc .n) (K .below) i l)
+            (known-later (rd .scoped .sources) K (rd .scoped .known i l));
         owed = subst (Owed (sc .owed)) (sym context-later) (rd .scoped .owed);
       };
       room = omega (arith, rd .room, K .agree .lengths);

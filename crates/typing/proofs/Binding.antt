@@ -22,9 +22,12 @@ use package.Rattle.uses.specs.declared.Uses.{Uses}
 use package.Rattle.typing.specs.Contexts.{NamedBy}
 use package.Rattle.typing.specs.Sizes.{termsIn}
 use package.Rattle.typing.specs.Outcomes.{faultOf}
-use package.Rattle.typing.specs.Ready.{termIn, variableAt, contextIn, typingOf, typeIn, spentBy, Ready, Here, Kept, Inferred, Opened, After, ClosesOne, ClosesTwo}
+use package.Rattle.typing.specs.Ready.{termIn, variableAt, contextIn, typingOf, typeIn, spentBy, Ready, Here, Kept, Inferred, Opened, After, ClosesOne}
+use package.Rattle.typing.specs.Ready.{ClosesTwo}
 use package.Rattle.typing.proofs.Contexts.{length-context}
-use package.Rattle.typing.proofs.Answers.{Ends, ends-refused, ends-typed, inferred, kept-then, kept-more, kept-opened, tree-later, known-later, stopped, need-yes, need-no, answered, part-refused, earlier, part-tested, says, good-then, ready-less, context-later, ready-later}
+use package.Rattle.typing.proofs.Answers.{Ends, ends-refused, ends-typed, inferred, kept-then, kept-more, kept-opened, tree-later, known-later}
+use package.Rattle.typing.proofs.Answers.{stopped, need-yes, need-no, answered, part-refused, earlier, part-tested, says, good-then, ready-less}
+use package.Rattle.typing.proofs.Answers.{context-later, ready-later}
 use package.Rattle.typing.proofs.Trees.{tree-let, parts-let, tree-letp, parts-letp}
 use package.Rattle.typing.proofs.Pairing.{named-both}
 use Rattle.typing.specs.declared.outcomes.Scope.{Scope}
@@ -59,7 +62,8 @@ spent-is p types heap c i u B h e t N = ap₂ _||_ (ap isUnit (sym t)) (N .each 
 ----------------------------------------------------------------
 -- let
 
-module _ {p types terms functions nodes heap vars : List ℕ} {sc : Scope} {top t at : ℕ} (rd : Ready (termsIn (termIn p types terms t)) p types terms functions nodes heap vars sc top)
+module _ {p types terms functions nodes heap vars : List ℕ} {sc : Scope} {top t at : ℕ}
+    (rd : Ready (termsIn (termIn p types terms t)) p types terms functions nodes heap vars sc top)
     (H : Here p terms t at 5) where
   abbrev goal : Checked Ty
   goal = typeIn p types terms functions heap vars sc t
@@ -68,8 +72,10 @@ module _ {p types terms functions nodes heap vars : List ℕ} {sc : Scope} {top 
   Δ = contextIn p types heap vars sc
 
   -- the rule, over the parts
-  rule-let : (e b : ℕ) → e ≡ first p at → b ≡ second p at → goal ≡ (need (leb (1 + length Δ) maxVariables) 7 (term t) >> (typeIn p types terms functions heap vars sc e >>= λ c.
-      typingOf p types terms functions (dynamic c ∷ Δ) (termIn p types terms b) >>= λ τ. need (spent (length Δ) c (termIn p types terms b)) 8 (term t) >> good τ))
+  rule-let : (e b : ℕ) → e ≡ first p at → b ≡ second p at → goal
+      ≡ (need (leb (1 + length Δ) maxVariables) 7 (term t) >> (typeIn p types terms functions heap vars sc e >>= λ c.
+      typingOf p types terms functions (dynamic c ∷ Δ) (termIn p types terms b) >>= λ τ. need (spent (length Δ) c (termIn p types terms b)) 8 (term t)
+      >> good τ))
   unfolding infer room
   rule-let e b q q′ = ap (typingOf p types terms functions Δ)
       (tree-let (rd .entries) H ∙ ap₂ (tlet t) (ap (termIn p types terms) (sym q)) (ap (termIn p types terms) (sym q′)))
@@ -110,7 +116,8 @@ module _ {p types terms functions nodes heap vars : List ℕ} {sc : Scope} {top 
     pub let-body : (b < t) × (b < length terms)
     let-body = rw q′ (parts-let (rd .entries) H .1)
 
-    module _ {heap₁ vars₁ : List ℕ} {o : Out} (d : Inferred (termsIn E) E p types heap heap₁ (sc .n) vars vars₁ top o (typeIn p types terms functions heap vars sc e)) where
+    module _ {heap₁ vars₁ : List ℕ} {o : Out} (d : Inferred (termsIn E) E p types heap heap₁ (sc .n) vars vars₁ top o
+        (typeIn p types terms functions heap vars sc e)) where
       pub let-refused : {w : Fault} → o .status ≡ Refused w
           → Inferred (termsIn (termIn p types terms t)) (termIn p types terms t) p types heap heap₁ (sc .n) vars vars₁ top o goal
       let-refused x = part-refused d _ _ x rule (omega (arith, size-let))
@@ -119,7 +126,8 @@ module _ {p types terms functions nodes heap vars : List ℕ} {sc : Scope} {top 
       let-later = ready-later rd (d .kept) _ (omega (arith, size-let))
 
       module _ {f : Found} (x : o .status ≡ Typed f) {vars₂ : List ℕ} {inner : Scope} (O : Opened p types heap₁ vars₁ vars₂ sc (o .top) (f .code) inner)
-          {heap₂ vars₃ : List ℕ} {o₂ : Out} (d₂ : Inferred (termsIn B) B p types heap₁ heap₂ (inner .n) vars₂ vars₃ (o .top) o₂ (typeIn p types terms functions heap₁ vars₂ inner b)) where
+          {heap₂ vars₃ : List ℕ} {o₂ : Out} (d₂ : Inferred (termsIn B) B p types heap₁ heap₂ (inner .n) vars₂ vars₃ (o .top) o₂
+          (typeIn p types terms functions heap₁ vars₂ inner b)) where
         abbrev τ : Ty
         τ = treeIn p types heap₁ (f .code)
 
@@ -134,15 +142,19 @@ module _ {p types terms functions nodes heap vars : List ℕ} {sc : Scope} {top 
         pub let-done : {out : Out} → After o₂ out (ClosesOne p types heap₂ (f .uses) (sc .n) (f .code) t)
             → Inferred (termsIn (termIn p types terms t)) (termIn p types terms t) p types heap heap₂ (sc .n) vars vars₃ top out goal
         unfolding faultOf
-        let-done {out} A = part-tested whole-let _ (λ c. need (spent (length Δ) τ B) 8 (term t) >> good c) A (rule ∙ good-then _ (answered d x)) (omega (arith, size-let))
+        let-done {out} A = part-tested whole-let _ (λ c. need (spent (length Δ) τ B) 8 (term t) >> good c) A (rule ∙ good-then _ (answered d x))
+            (omega (arith, size-let))
             λ g k N P. by g k N P (spentBy p types heap₂ (f .code) (sc .n) (g .uses)) refl
           where
             same : (g : Found) → NamedBy (g .uses) B → spentBy p types heap₂ (f .code) (sc .n) (g .uses) ≡ spent (length Δ) τ B
-            same g N = spent-is p types heap₂ (f .code) (sc .n) (g .uses) B let-free (as-many p types heap vars sc) (tree-later (d .kept .sources) (d₂ .kept) (d .known f x)) N
+            same g N = spent-is p types heap₂ (f .code) (sc .n) (g .uses) B let-free (as-many p types heap vars sc)
+                (tree-later (d .kept .sources) (d₂ .kept) (d .known f x)) N
 
-            by : (g : Found) → Known (length types) (o₂ .top) (g .code) → NamedBy (g .uses) B → ClosesOne p types heap₂ (f .uses) (sc .n) (f .code) t g (out .status)
+            by : (g : Found) → Known (length types) (o₂ .top) (g .code) → NamedBy (g .uses) B
+                → ClosesOne p types heap₂ (f .uses) (sc .n) (f .code) t g (out .status)
                 → (v : Bool) → spentBy p types heap₂ (f .code) (sc .n) (g .uses) ≡ v
-                → Ends (termIn p types terms t) p types heap₂ (o₂ .top) (out .status) (need (spent (length Δ) τ B) 8 (term t) >> good (treeIn p types heap₂ (g .code)))
+                → Ends (termIn p types terms t) p types heap₂ (o₂ .top) (out .status)
+                (need (spent (length Δ) τ B) 8 (term t) >> good (treeIn p types heap₂ (g .code)))
             by g k N P true y = let J = P .yes y in
                 ends-typed (J .is) (subst (Known (length types) (o₂ .top)) (sym (J .code)) k)
                 (named-both (termIn p types terms t) E B (λ i. ap (names i) let-tree) (d .uses f x) N (J .uses))
@@ -152,7 +164,8 @@ module _ {p types terms functions nodes heap vars : List ℕ} {sc : Scope} {top 
 ----------------------------------------------------------------
 -- let pair
 
-module _ {p types terms functions nodes heap vars : List ℕ} {sc : Scope} {top t at : ℕ} (rd : Ready (termsIn (termIn p types terms t)) p types terms functions nodes heap vars sc top)
+module _ {p types terms functions nodes heap vars : List ℕ} {sc : Scope} {top t at : ℕ}
+    (rd : Ready (termsIn (termIn p types terms t)) p types terms functions nodes heap vars sc top)
     (H : Here p terms t at 6) where
   abbrev goal₂ : Checked Ty
   goal₂ = typeIn p types terms functions heap vars sc t
@@ -161,7 +174,8 @@ module _ {p types terms functions nodes heap vars : List ℕ} {sc : Scope} {top 
   Δ₂ = contextIn p types heap vars sc
 
   -- the rule, over the parts
-  rule-letp : (e b : ℕ) → e ≡ first p at → b ≡ second p at → goal₂ ≡ (need (leb (2 + length Δ₂) maxVariables) 7 (term t) >> (typeIn p types terms functions heap vars sc e >>= λ τ.
+  rule-letp : (e b : ℕ) → e ≡ first p at → b ≡ second p at → goal₂
+      ≡ (need (leb (2 + length Δ₂) maxVariables) 7 (term t) >> (typeIn p types terms functions heap vars sc e >>= λ τ.
       asProd (term t) τ λ c d. typingOf p types terms functions (dynamic d ∷ dynamic c ∷ Δ₂) (termIn p types terms b) >>= λ τ.
       need (spent (length Δ₂) c (termIn p types terms b) && spent (suc (length Δ₂)) d (termIn p types terms b)) 8 (term t) >> good τ))
   unfolding infer room
@@ -202,7 +216,8 @@ module _ {p types terms functions nodes heap vars : List ℕ} {sc : Scope} {top 
     pub letp-body : (b < t) × (b < length terms)
     letp-body = rw q′ (parts-letp (rd .entries) H .1)
 
-    module _ {heap₁ vars₁ : List ℕ} {o : Out} (d : Inferred (termsIn E₂) E₂ p types heap heap₁ (sc .n) vars vars₁ top o (typeIn p types terms functions heap vars sc e)) where
+    module _ {heap₁ vars₁ : List ℕ} {o : Out} (d : Inferred (termsIn E₂) E₂ p types heap heap₁ (sc .n) vars vars₁ top o
+        (typeIn p types terms functions heap vars sc e)) where
       pub letp-refused : {w : Fault} → o .status ≡ Refused w
           → Inferred (termsIn (termIn p types terms t)) (termIn p types terms t) p types heap heap₁ (sc .n) vars vars₁ top o goal₂
       letp-refused x = part-refused d _ _ x rule₂ (omega (arith, size-letp))
@@ -215,7 +230,8 @@ module _ {p types terms functions nodes heap vars : List ℕ} {sc : Scope} {top 
             → Inferred (termsIn (termIn p types terms t)) (termIn p types terms t) p types heap heap₁ (sc .n) vars vars₁ top r goal₂
         unfolding faultOf
         letp-no n y z = inferred
-            (subst (λ u. Kept (termsIn (termIn p types terms t)) p types heap heap₁ (sc .n) vars vars₁ top u) (sym z) (kept-more _ (d .kept) (omega (arith, size-letp))))
+            (subst (λ u. Kept (termsIn (termIn p types terms t)) p types heap heap₁ (sc .n) vars vars₁ top u) (sym z)
+            (kept-more _ (d .kept) (omega (arith, size-letp))))
             (ends-refused y (rule₂ ∙ good-then _ (answered d x) ∙ no-product S (term t) _ n))
 
         module _ (product : s .kind ≡ 1) {vars₂ : List ℕ} {inner : Scope} (O : Opened p types heap₁ vars₁ vars₂ sc (o .top) (s .first) inner) where
@@ -224,7 +240,8 @@ module _ {p types terms functions nodes heap vars : List ℕ} {sc : Scope} {top 
           letp-second = omega (arith, O .one-more)
 
           module _ {vars₃ : List ℕ} {inner₂ : Scope} (O₂ : Opened p types heap₁ vars₂ vars₃ inner (o .top) (s .second) inner₂)
-              {heap₂ vars₄ : List ℕ} {o₂ : Out} (d₂ : Inferred (termsIn B₂) B₂ p types heap₁ heap₂ (inner₂ .n) vars₃ vars₄ (o .top) o₂ (typeIn p types terms functions heap₁ vars₃ inner₂ b)) where
+              {heap₂ vars₄ : List ℕ} {o₂ : Out} (d₂ : Inferred (termsIn B₂) B₂ p types heap₁ heap₂ (inner₂ .n) vars₃ vars₄ (o .top) o₂
+              (typeIn p types terms functions heap₁ vars₃ inner₂ b)) where
             abbrev α : Ty
             α = treeIn p types heap₁ (s .first)
 
@@ -238,10 +255,12 @@ module _ {p types terms functions nodes heap vars : List ℕ} {sc : Scope} {top 
             letp-second-known = known-later (d .kept .sources) (d₂ .kept) (S .second)
 
             -- the body, from the start
-            whole-letp : Inferred (termsIn E₂ + termsIn B₂) B₂ p types heap heap₂ (sc .n) vars vars₄ top o₂ (typingOf p types terms functions (dynamic β ∷ dynamic α ∷ Δ₂) B₂)
+            whole-letp : Inferred (termsIn E₂ + termsIn B₂) B₂ p types heap heap₂ (sc .n) vars vars₄ top o₂
+                (typingOf p types terms functions (dynamic β ∷ dynamic α ∷ Δ₂) B₂)
             whole-letp = earlier (says d₂ (ap (λ Γ. typingOf p types terms functions Γ B₂)
                 (O₂ .context ∙ ap (λ Γ. dynamic β ∷ Γ) (O .context ∙ ap (λ Γ. dynamic α ∷ Γ) (context-later rd (d .kept)))))) _
-                (kept-then (termsIn E₂) (kept-then (termsIn E₂) (d .kept) (kept-opened O) (omega arith) (omega arith)) (kept-opened O₂) (omega (arith, O .one-more)) (omega arith))
+                (kept-then (termsIn E₂) (kept-then (termsIn E₂) (d .kept) (kept-opened O) (omega arith) (omega arith)) (kept-opened O₂)
+                (omega (arith, O .one-more)) (omega arith))
                 (omega (arith, O .one-more, O₂ .one-more)) (omega arith)
 
             pub letp-done : {out : Out} → After o₂ out (ClosesTwo p types heap₂ (f .uses) (sc .n) (s .first) (s .second) t)
@@ -252,12 +271,16 @@ module _ {p types terms functions nodes heap vars : List ℕ} {sc : Scope} {top 
                 λ g k N P. by g k N P (spentBy p types heap₂ (s .first) (sc .n) (g .uses) && spentBy p types heap₂ (s .second) (sc .n + 1) (g .uses)) refl
               where
                 same : (g : Found) → NamedBy (g .uses) B₂
-                    → (spentBy p types heap₂ (s .first) (sc .n) (g .uses) && spentBy p types heap₂ (s .second) (sc .n + 1) (g .uses)) ≡ (spent (length Δ₂) α B₂ && spent (suc (length Δ₂)) β B₂)
+                    → (spentBy p types heap₂ (s .first) (sc .n) (g .uses) && spentBy p types heap₂ (s .second) (sc .n + 1) (g .uses))
+                    ≡ (spent (length Δ₂) α B₂ && spent (suc (length Δ₂)) β B₂)
                 same g N = ap₂ _&&_
-                    (spent-is p types heap₂ (s .first) (sc .n) (g .uses) B₂ (omega arith) (as-many p types heap vars sc) (tree-later (d .kept .sources) (d₂ .kept) (S .first)) N)
-                    (spent-is p types heap₂ (s .second) (sc .n + 1) (g .uses) B₂ (omega arith) (omega (arith, as-many p types heap vars sc)) (tree-later (d .kept .sources) (d₂ .kept) (S .second)) N)
+                    (spent-is p types heap₂ (s .first) (sc .n) (g .uses) B₂ (omega arith) (as-many p types heap vars sc)
+                    (tree-later (d .kept .sources) (d₂ .kept) (S .first)) N)
+                    (spent-is p types heap₂ (s .second) (sc .n + 1) (g .uses) B₂ (omega arith) (omega (arith, as-many p types heap vars sc))
+                    (tree-later (d .kept .sources) (d₂ .kept) (S .second)) N)
 
-                by : (g : Found) → Known (length types) (o₂ .top) (g .code) → NamedBy (g .uses) B₂ → ClosesTwo p types heap₂ (f .uses) (sc .n) (s .first) (s .second) t g (out .status)
+                by : (g : Found) → Known (length types) (o₂ .top) (g .code) → NamedBy (g .uses) B₂
+                    → ClosesTwo p types heap₂ (f .uses) (sc .n) (s .first) (s .second) t g (out .status)
                     → (v : Bool) → (spentBy p types heap₂ (s .first) (sc .n) (g .uses) && spentBy p types heap₂ (s .second) (sc .n + 1) (g .uses)) ≡ v
                     → Ends (termIn p types terms t) p types heap₂ (o₂ .top) (out .status)
                     (need (spent (length Δ₂) α B₂ && spent (suc (length Δ₂)) β B₂) 8 (term t) >> good (treeIn p types heap₂ (g .code)))

@@ -25,7 +25,9 @@ use package.Rattle.typing.specs.Asked.{ReadyBranches}
 use package.Rattle.typing.specs.Outcomes.{faultOf}
 use package.Rattle.typing.specs.Ready.{termIn, contextIn, typingOf, typeIn, branchesOf, spentBy, Ready, Here, Kept, Inferred, Opened, After, Meets}
 use package.Rattle.typing.proofs.Contexts.{same-use-iff}
-use package.Rattle.typing.proofs.Answers.{Ends, ends-refused, ends-typed, inferred, kept-then, kept-more, kept-opened, tree-later, known-later, stopped, need-yes, need-no, answered, part-refused, earlier, part-tested, says, good-then, ready-less, context-later, ready-later}
+use package.Rattle.typing.proofs.Answers.{Ends, ends-refused, ends-typed, inferred, kept-then, kept-more, kept-opened, tree-later, known-later}
+use package.Rattle.typing.proofs.Answers.{stopped, need-yes, need-no, answered, part-refused, earlier, part-tested, says, good-then, ready-less}
+use package.Rattle.typing.proofs.Answers.{context-later, ready-later}
 use package.Rattle.typing.proofs.Trees.{tree-case, parts-case}
 use package.Rattle.typing.proofs.Binding.{as-many, fits, over, spent-is}
 use Rattle.typing.specs.declared.outcomes.Scope.{Scope}
@@ -38,7 +40,8 @@ use Rattle.typing.specs.declared.outcomes.Out.{Out}
 ----------------------------------------------------------------
 -- The scrutinee
 
-module _ {p types terms functions nodes heap vars : List ℕ} {sc : Scope} {top t at : ℕ} (rd : Ready (termsIn (termIn p types terms t)) p types terms functions nodes heap vars sc top)
+module _ {p types terms functions nodes heap vars : List ℕ} {sc : Scope} {top t at : ℕ}
+    (rd : Ready (termsIn (termIn p types terms t)) p types terms functions nodes heap vars sc top)
     (H : Here p terms t at 7) where
   abbrev goal : Checked Ty
   goal = typeIn p types terms functions heap vars sc t
@@ -84,7 +87,8 @@ module _ {p types terms functions nodes heap vars : List ℕ} {sc : Scope} {top 
     pub case-part : (e < t) × (e < length terms)
     case-part = rw q (parts-case (rd .entries) H .0)
 
-    module _ {heap₁ vars₁ : List ℕ} {o : Out} (d : Inferred (termsIn E) E p types heap heap₁ (sc .n) vars vars₁ top o (typeIn p types terms functions heap vars sc e)) where
+    module _ {heap₁ vars₁ : List ℕ} {o : Out} (d : Inferred (termsIn E) E p types heap heap₁ (sc .n) vars vars₁ top o
+        (typeIn p types terms functions heap vars sc e)) where
       pub case-refused : {w : Fault} → o .status ≡ Refused w
           → Inferred (termsIn (termIn p types terms t)) (termIn p types terms t) p types heap heap₁ (sc .n) vars vars₁ top o goal
       case-refused x = part-refused d _ _ x rule (omega (arith, size-case))
@@ -101,7 +105,8 @@ module _ {p types terms functions nodes heap vars : List ℕ} {sc : Scope} {top 
             → Inferred (termsIn (termIn p types terms t)) (termIn p types terms t) p types heap heap₁ (sc .n) vars vars₁ top r goal
         unfolding faultOf
         case-no n y z = inferred
-            (subst (λ u. Kept (termsIn (termIn p types terms t)) p types heap heap₁ (sc .n) vars vars₁ top u) (sym z) (kept-more _ (d .kept) (omega (arith, size-case))))
+            (subst (λ u. Kept (termsIn (termIn p types terms t)) p types heap heap₁ (sc .n) vars vars₁ top u) (sym z)
+            (kept-more _ (d .kept) (omega (arith, size-case))))
             (ends-refused y (rule ∙ good-then _ (answered d x) ∙ no-sum S (term t) _ n))
 
         pub case-done : s .kind ≡ 2 → {heap₂ vars₂ : List ℕ} {out : Out}
@@ -109,7 +114,8 @@ module _ {p types terms functions nodes heap vars : List ℕ} {sc : Scope} {top 
             (branchesOf p types terms functions (contextIn p types heap₁ vars₁ sc) t B B′ (treeIn p types heap₁ (s .first)) (treeIn p types heap₁ (s .second)))
             → Inferred (termsIn (termIn p types terms t)) (termIn p types terms t) p types heap heap₂ (sc .n) vars vars₂ top out goal
         case-done k b = earlier (says b
-            (ap (λ Γ. branchesOf p types terms functions Γ t B B′ (treeIn p types heap₁ (s .first)) (treeIn p types heap₁ (s .second))) (context-later rd (d .kept))
+            (ap (λ Γ. branchesOf p types terms functions Γ t B B′ (treeIn p types heap₁ (s .first)) (treeIn p types heap₁ (s .second)))
+            (context-later rd (d .kept))
             ∙ sym (rule ∙ good-then _ (answered d x) ∙ a-sum S (term t) _ k))) _ (d .kept) (omega arith) (omega (arith, size-case))
 
 ----------------------------------------------------------------
@@ -173,7 +179,8 @@ module _ {p types terms functions : List ℕ} {table : List (List ℕ)} {nodes h
   left-ready = ready-less rd _ (omega (arith, size-is))
 
   module _ {vars₁ : List ℕ} {inner : Scope} (O : Opened p types heap vars vars₁ sc top c inner)
-      {heap₁ vars₂ : List ℕ} {o : Out} (D : Inferred (termsIn L) L p types heap heap₁ (inner .n) vars₁ vars₂ top o (typeIn p types terms functions heap vars₁ inner l)) where
+      {heap₁ vars₂ : List ℕ} {o : Out} (D : Inferred (termsIn L) L p types heap heap₁ (inner .n) vars₁ vars₂ top o
+      (typeIn p types terms functions heap vars₁ inner l)) where
     -- the left branch, from the start
     left-whole : Inferred (termsIn L) L p types heap heap₁ (sc .n) vars vars₂ top o (typingOf p types terms functions (dynamic γ ∷ Γ) L)
     left-whole = earlier (says D (ap (λ Δ. typingOf p types terms functions Δ L) (O .context))) _ (kept-opened O) (omega (arith, O .one-more)) (omega arith)
@@ -196,7 +203,8 @@ module _ {p types terms functions : List ℕ} {table : List (List ℕ)} {nodes h
       τ = treeIn p types heap₁ (f .code)
 
       left-spent : b ≡ spent (length Γ) γ L
-      left-spent = y ∙ spent-is p types heap₁ c (sc .n) (f .uses) L free (as-many p types heap vars sc) (tree-later (rd .scoped .sources) (left-whole .kept) K) (D .uses f x)
+      left-spent = y ∙ spent-is p types heap₁ c (sc .n) (f .uses) L free (as-many p types heap vars sc)
+          (tree-later (rd .scoped .sources) (left-whole .kept) K) (D .uses f x)
 
       aim-left : aim ≡ (need (spent (length Γ) γ L) 8 (term t) >> (typingOf p types terms functions (dynamic δ ∷ Γ) R >>= λ τ′.
           need (sameTy τ τ′) 6 (term t) >> (need (spent (length Γ) δ R && sameUse Γ L R) 8 (term t) >> good τ)))
@@ -210,11 +218,13 @@ module _ {p types terms functions : List ℕ} {table : List (List ℕ)} {nodes h
           (ends-refused s (aim-left ∙ need-no _ _ _ _ (sym left-spent ∙ n)))
 
       module _ (yes : b ≡ true) {vars₃ : List ℕ} {inner₂ : Scope} (O₂ : Opened p types heap₁ vars₂ vars₃ sc (o .top) d inner₂)
-          {heap₂ vars₄ : List ℕ} {o₂ : Out} (D₂ : Inferred (termsIn R) R p types heap₁ heap₂ (inner₂ .n) vars₃ vars₄ (o .top) o₂ (typeIn p types terms functions heap₁ vars₃ inner₂ r)) where
+          {heap₂ vars₄ : List ℕ} {o₂ : Out} (D₂ : Inferred (termsIn R) R p types heap₁ heap₂ (inner₂ .n) vars₃ vars₄ (o .top) o₂
+          (typeIn p types terms functions heap₁ vars₃ inner₂ r)) where
         -- the right branch, from the start
         right-whole : Inferred size R p types heap heap₂ (sc .n) vars vars₄ top o₂ (typingOf p types terms functions (dynamic δ ∷ Γ) R)
         right-whole = earlier (says D₂ (ap (λ Δ. typingOf p types terms functions Δ R)
-            (O₂ .context ∙ ap₂ (λ τ Δ. dynamic τ ∷ Δ) (sym (tree-later (rd .scoped .sources) (left-whole .kept) K′)) (context-later rd (left-whole .kept))))) size
+            (O₂ .context ∙ ap₂ (λ τ Δ. dynamic τ ∷ Δ) (sym (tree-later (rd .scoped .sources) (left-whole .kept) K′)) (context-later rd (left-whole .kept)))))
+            size
             (kept-then (termsIn L) (left-whole .kept) (kept-opened O₂) (omega arith) (omega arith)) (omega (arith, O₂ .one-more)) (omega (arith, size-is))
 
         -- known where both meet
@@ -228,7 +238,8 @@ module _ {p types terms functions : List ℕ} {table : List (List ℕ)} {nodes h
           next : Ty → Checked Ty
           next τ′ = need (sameTy τ τ′) 6 (term t) >> (need (spent (length Γ) δ R && sameUse Γ L R) 8 (term t) >> good τ)
 
-          module _ (g : Found) (k : Known (length types) (o₂ .top) (g .code)) (N : NamedBy (g .uses) R) (P : Meets p types heap₂ f u (sc .n) d (sc .owed) t g (out .status)) where
+          module _ (g : Found) (k : Known (length types) (o₂ .top) (g .code)) (N : NamedBy (g .uses) R)
+              (P : Meets p types heap₂ f u (sc .n) d (sc .owed) t g (out .status)) where
             abbrev Met : Type 0
             Met = Ends (termIn p types terms t) p types heap₂ (o₂ .top) (out .status) (next (treeIn p types heap₂ (g .code)))
 
@@ -249,23 +260,28 @@ module _ {p types terms functions : List ℕ} {table : List (List ℕ)} {nodes h
             case-uses : {v : Uses} → Holds v (joined (has u) (joined (has (f .uses)) (has (g .uses)))) → NamedBy v (termIn p types terms t)
             case-uses J = record {
               each = λ i h. J .each i h ∙ ap₂ _||_ (named .each i h) (ap₂ _||_ (D .uses f x .each i h) (N .each i h))
-                  ∙ sym (ap (names i) (tree-case (rd .entries) H ∙ ap₂ (λ l r. tcase t (termIn p types terms (first p at)) (termIn p types terms l) (termIn p types terms r)) (sym q) (sym q′)));
+                  ∙ sym (ap (names i) (tree-case (rd .entries) H
+                  ∙ ap₂ (λ l r. tcase t (termIn p types terms (first p at)) (termIn p types terms l) (termIn p types terms r)) (sym q) (sym q′)));
             }
 
             met-both : alike ≡ true → spentBy p types heap₂ d (sc .n) (g .uses) ≡ true → (v : Bool) → sameUse Γ L R ≡ v → Met
             unfolding faultOf next
             met-both a m true w =
-                let U = P .both a m (same-use-iff Γ L R (f .uses) (g .uses) (sc .owed) (omega (arith, as-many p types heap vars sc)) (D .uses f x) N (rd .scoped .owed) .0 w) in
+                let U = P .both a m (same-use-iff Γ L R (f .uses) (g .uses) (sc .owed) (omega (arith, as-many p types heap vars sc)) (D .uses f x) N
+                (rd .scoped .owed) .0 w) in
                 ends-typed (U .is) (subst (Known (length types) (o₂ .top)) (sym (U .code)) meet-left) (case-uses (U .uses))
-                (need-yes _ _ _ _ (alike-is ∙ a) ∙ need-yes _ _ _ _ (ap₂ _&&_ (sym used-is ∙ m) w) ∙ ap good (τ-later ∙ ap (treeIn p types heap₂) (sym (U .code))))
+                (need-yes _ _ _ _ (alike-is ∙ a) ∙ need-yes _ _ _ _ (ap₂ _&&_ (sym used-is ∙ m) w)
+                ∙ ap good (τ-later ∙ ap (treeIn p types heap₂) (sym (U .code))))
             met-both a m false w = ends-refused
-                (P .apart a λ z. false≢true (sym w ∙ same-use-iff Γ L R (f .uses) (g .uses) (sc .owed) (omega (arith, as-many p types heap vars sc)) (D .uses f x) N (rd .scoped .owed) .1 z))
+                (P .apart a λ z. false≢true (sym w ∙ same-use-iff Γ L R (f .uses) (g .uses) (sc .owed) (omega (arith, as-many p types heap vars sc))
+                (D .uses f x) N (rd .scoped .owed) .1 z))
                 (need-yes _ _ _ _ (alike-is ∙ a) ∙ need-no _ _ _ _ (ap₂ _&&_ (sym used-is ∙ m) w))
 
             met-alike : alike ≡ true → (v : Bool) → spentBy p types heap₂ d (sc .n) (g .uses) ≡ v → Met
             unfolding faultOf next
             met-alike a true m = met-both a m (sameUse Γ L R) refl
-            met-alike a false m = ends-refused (P .unused a m) (need-yes _ _ _ _ (alike-is ∙ a) ∙ need-no _ _ _ _ (ap (λ v. v && sameUse Γ L R) (sym used-is ∙ m)))
+            met-alike a false m = ends-refused (P .unused a m)
+                (need-yes _ _ _ _ (alike-is ∙ a) ∙ need-no _ _ _ _ (ap (λ v. v && sameUse Γ L R) (sym used-is ∙ m)))
 
             met : (v : Bool) → alike ≡ v → Met
             unfolding faultOf next

@@ -25,7 +25,8 @@ use package.Rattle.typing.specs.Ready.{termIn, termsFrom, typesFrom, Ent
 ----------------------------------------------------------------
 -- The function that is called
 
-module _ {p types terms functions nodes : List ℕ} (E : Entered p types terms functions nodes) {g h : ℕ} (there : g < length functions) (q : h ≡ getD functions g 0) where
+module _ {p types terms functions nodes : List ℕ} (E : Entered p types terms functions nodes) {g h : ℕ} (there : g < length functions)
+    (q : h ≡ getD functions g 0) where
   pub entry-there : nth (map (functionAt p) functions) g ≡ some (functionAt p h)
   entry-there = nth-map (functionAt p) functions g (nth-there functions g there ∙ ap some (sym q))
 
@@ -59,7 +60,8 @@ module _ {p types terms functions nodes : List ℕ} (E : Entered p types terms f
   -- the types that it names are there
   types-named : below (length types) (result p h ∷ (references p (h + 6) (parametersAt p h - 1) ++ (functionAt p h .dynamic ∷ []))) ≡ true
   unfolding entriesAt typesOfFunction functionAt
-  types-named = subst (λ n. below n (typesOfFunction (functionAt p h)) ≡ true) (length-map types (typeAt p)) (E .tested .function g (functionAt p h) entry-there .types-there)
+  types-named = subst (λ n. below n (typesOfFunction (functionAt p h)) ≡ true) (length-map types (typeAt p))
+      (E .tested .function g (functionAt p h) entry-there .types-there)
 
   pub result-there : result p h < length types
   result-there = below-head (length types) (result p h) _ types-named .0
@@ -68,7 +70,8 @@ module _ {p types terms functions nodes : List ℕ} (E : Entered p types terms f
   parameter-there k l = below-each (length types) p (h + 6) (parametersAt p h - 1) _ (below-head (length types) (result p h) _ types-named .1) k l
 
   pub dynamic-there : listed p h (parametersAt p h - 1) < length types
-  dynamic-there = rw (← function-dynamic p h (function-field .some)) (below-last (length types) p (h + 6) (parametersAt p h - 1) _ (below-head (length types) (result p h) _ types-named .1))
+  dynamic-there = rw (← function-dynamic p h (function-field .some))
+      (below-last (length types) p (h + 6) (parametersAt p h - 1) _ (below-head (length types) (result p h) _ types-named .1))
 
 ----------------------------------------------------------------
 -- Lists of references
@@ -85,7 +88,8 @@ module _ (p types : List ℕ) (at k n : ℕ) where
   unfolding references
   references-none e = ap (references p (at + 6 + 2 * k)) (let z : n - k ≡ 0 = omega arith in z)
 
-  pub terms-next : (terms : List ℕ) → k < n → termsFrom p types terms at k n ≡ more (termIn p types terms (listed p at k)) (termsFrom p types terms at (k + 1) n)
+  pub terms-next : (terms : List ℕ) → k < n → termsFrom p types terms at k n ≡ more (termIn p types terms (listed p at k))
+      (termsFrom p types terms at (k + 1) n)
   unfolding termTrees
   terms-next terms l = ap (termTrees (termIn p types terms)) (references-next l)
 

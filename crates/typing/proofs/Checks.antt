@@ -112,7 +112,8 @@ module _ {xs types terms functions nodes heap : List ℕ} (Y : Typeable xs types
     signed {row} S = record {
       formed = field;
       signature = subst (λ at. SignatureIs (functionAt xs at) row) (sym s) S;
-      there = subst (λ n. below n (typesOfFunction (functionAt xs at)) ≡ true) (length-map types (typeAt xs)) (tested .function g (functionAt xs at) there .types-there);
+      there = subst (λ n. below n (typesOfFunction (functionAt xs at)) ≡ true) (length-map types (typeAt xs))
+          (tested .function g (functionAt xs at) there .types-there);
     }
 
     pub body-there : {b : ℕ} → b ≡ body xs at → b < length terms
@@ -134,10 +135,12 @@ module _ {xs types terms functions nodes heap : List ℕ} (Y : Typeable xs types
     -- the function's answer, by its offset
     by-offset : functionAnswer xs types terms functions g
         ≡ typed (placesOf types terms functions) (checkFun maxVariables maxNodes (programIn xs types terms functions) g (functionIn xs types terms at))
-    by-offset = ap (λ at. typed (placesOf types terms functions) (checkFun maxVariables maxNodes (programIn xs types terms functions) g (functionIn xs types terms at))) (sym s)
+    by-offset = ap (λ at. typed (placesOf types terms functions)
+        (checkFun maxVariables maxNodes (programIn xs types terms functions) g (functionIn xs types terms at))) (sym s)
 
     module _ {vars vars′ heap′ : List ℕ} {sc : Scope} {b : ℕ} {out : Out} (S : Started xs types heap vars at sc) (e : b ≡ body xs at)
-        (I : Inferred (termsIn (termIn xs types terms b)) (termIn xs types terms b) xs types heap heap′ (sc .n) vars vars′ 0 out (typeIn xs types terms functions heap vars sc b)) where
+        (I : Inferred (termsIn (termIn xs types terms b)) (termIn xs types terms b) xs types heap heap′ (sc .n) vars vars′ 0 out
+        (typeIn xs types terms functions heap vars sc b)) where
       the-body : termIn xs types terms b ≡ functionIn xs types terms at .body
       unfolding functionOf
       the-body = ap (termIn xs types terms) (e ∙ sym (function-body xs at))
@@ -150,7 +153,8 @@ module _ {xs types terms functions nodes heap : List ℕ} (Y : Typeable xs types
           → a ≡ endAnswer xs types at (treeIn xs types heap′ (f .code)) (has (f .uses) (parametersAt xs at - 1)) → a ≡ functionAnswer xs types terms functions g
       unfolding endAnswer spent statusOf offset functionOf _>>=_ maxParameters
       typed-answer {f} t r = r ∙ sym (by-offset
-          ∙ check-by (placesOf types terms functions) (programIn xs types terms functions) g (functionIn xs types terms at) (sym (ap (statusOf (treeIn xs types heap′)) t) ∙ answered)
+          ∙ check-by (placesOf types terms functions) (programIn xs types terms functions) g (functionIn xs types terms at)
+          (sym (ap (statusOf (treeIn xs types heap′)) t) ∙ answered)
           ∙ ends-at (placesOf types terms functions) g s _ _
           ∙ ap (λ u. endAnswer xs types at (treeIn xs types heap′ (f .code)) u) used)
         where
@@ -163,8 +167,10 @@ module _ {xs types terms functions nodes heap : List ℕ} (Y : Typeable xs types
           used : names n (functionIn xs types terms at .body) ≡ has (f .uses) (parametersAt xs at - 1)
           used = ap (names n) (sym the-body) ∙ sym (I .uses f t .each n (omega (arith, count, field .few))) ∙ ap (has (f .uses)) count
 
-      pub refused-answer : {why : Fault} {a : Answer (Unit {0})} → out .status ≡ Refused why → a ≡ faultAnswer terms why → a ≡ functionAnswer xs types terms functions g
+      pub refused-answer : {why : Fault} {a : Answer (Unit {0})} → out .status ≡ Refused why → a ≡ faultAnswer terms why
+          → a ≡ functionAnswer xs types terms functions g
       unfolding statusOf
       refused-answer {why} t r = r ∙ sym (by-offset
-          ∙ check-by (placesOf types terms functions) (programIn xs types terms functions) g (functionIn xs types terms at) (sym (ap (statusOf (treeIn xs types heap′)) t) ∙ answered)
+          ∙ check-by (placesOf types terms functions) (programIn xs types terms functions) g (functionIn xs types terms at)
+          (sym (ap (statusOf (treeIn xs types heap′)) t) ∙ answered)
           ∙ fault-at types terms functions why (restOf g (functionIn xs types terms at)))

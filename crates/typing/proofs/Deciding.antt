@@ -113,7 +113,8 @@ module _ {p types heap : List ℕ} {l : Found} {u : Uses} {i : ℕ} {d : Code} {
 
     -- the uses of both branches
     pub meets-both : {b : Bool} → b ≡ spentBy p types heap d i (f .uses) → b ≡ true → (r : Bool) → Decides r (AgreeOn (l .uses) (f .uses) owed) → r ≡ true
-        → {v : Uses} → Holds v (joined (has (l .uses)) (has (f .uses))) → Joins (record { code = l .code; uses = v }) u s → Meets p types heap l u i d owed t f s
+        → {v : Uses} → Holds v (joined (has (l .uses)) (has (f .uses))) → Joins (record { code = l .code; uses = v }) u s
+        → Meets p types heap l u i d owed t f s
     meets-both g h r D k H J = record {
       differ = λ x. absurd (false≢true (sym x ∙ sym q ∙ e));
       unused = λ x y. absurd (false≢true (sym y ∙ sym g ∙ h));
@@ -149,5 +150,6 @@ module _ {p types heap heap′ : List ℕ} {l f : Found} {t : ℕ} {out r : Out}
     pub pairs-large : ok ≡ false → r .top ≡ out .top → r .status ≡ Refused (Differ t) → Pairs p types heap heap′ l t out r
     pairs-large k e q = paired s (record { made = ok; grown = M; yes = λ x. absurd (false≢true (sym k ∙ x)); no = λ x. (e, q) })
 
-pub pairs-refused : {p types heap : List ℕ} {l : Found} {t : ℕ} {out r : Out} {w : Fault} → out .status ≡ Refused w → r ≡ out → Pairs p types heap heap l t out r
+pub pairs-refused : {p types heap : List ℕ} {l : Found} {t : ℕ} {out r : Out} {w : Fault} → out .status ≡ Refused w → r ≡ out
+    → Pairs p types heap heap l t out r
 pairs-refused s e = record { refused = λ w q. (refl, e); typed = λ f q. absurd (typed-refused (sym q ∙ s)) }

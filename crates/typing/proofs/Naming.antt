@@ -24,7 +24,8 @@ use package.Rattle.uses.specs.Sets.{Holds, has, alone, joined}
 use package.Rattle.typing.specs.Contexts.{contextAt, mustUseAt, Owed}
 use package.Rattle.typing.specs.Outcomes.{statusOf, faultOf}
 use package.Rattle.typing.specs.Ready.{variableBytes, variableAt, contextIn, Scoped, Reads, Seen, Opened}
-use package.Rattle.typing.proofs.Contexts.{stands-static, stands-barred, stands-dynamic, length-context, look-context, look-outside, context-bind, must-use-newest, must-use-older, must-use-outside}
+use package.Rattle.typing.proofs.Contexts.{stands-static, stands-barred, stands-dynamic, length-context, look-context, look-outside, context-bind}
+use package.Rattle.typing.proofs.Contexts.{must-use-newest, must-use-older, must-use-outside}
 use package.Rattle.typing.proofs.Deciding.{typed-inj, typed-refused}
 use Rattle.typing.specs.declared.outcomes.Scope.{Scope}
 use Rattle.typing.specs.declared.outcomes.Found.{Found}
@@ -61,7 +62,8 @@ module _ (vars : List ℕ) (sc : Scope) (t i : ℕ) {top : ℕ} {r : Out} where
     is-that : (f : Found) → r .status ≡ Typed f → R .found ≡ f
     is-that f q = typed-inj (sym (R .is) ∙ q)
 
-    read-seen : ((T : Code → Ty) → good (T (variableAt vars i)) ≡ visible (term t) (look (contextAt (λ j. T (variableAt vars j)) (sc .q) (sc .lo) (sc .n)) i)) → Seen vars sc top t i r
+    read-seen : ((T : Code → Ty) → good (T (variableAt vars i)) ≡ visible (term t)
+        (look (contextAt (λ j. T (variableAt vars j)) (sc .q) (sc .lo) (sc .n)) i)) → Seen vars sc top t i r
     unfolding statusOf
     read-seen a = record {
       same = R .same;
@@ -79,7 +81,8 @@ module _ (vars : List ℕ) (sc : Scope) (t i : ℕ) {top : ℕ} {r : Out} where
     pub seen-dynamic : sc .q ≤ i → sc .lo ≤ i → Seen vars sc top t i r
     unfolding visible
     seen-dynamic h h′ = read-seen λ T.
-        sym (ap (visible (term t)) (look-context _ (sc .q) (sc .lo) (sc .n) i l) ∙ ap (λ b. visible (term t) (some b)) (stands-dynamic (sc .q) (sc .lo) i _ h h′))
+        sym (ap (visible (term t)) (look-context _ (sc .q) (sc .lo) (sc .n) i l)
+        ∙ ap (λ b. visible (term t) (some b)) (stands-dynamic (sc .q) (sc .lo) i _ h h′))
 
 ----------------------------------------------------------------
 -- A variable more
@@ -89,7 +92,8 @@ pub variable-same : (vars vars′ : List ℕ) (m : ℕ) → ((j : ℕ) → j < v
     → variableAt vars i ≡ variableAt vars′ i
 variable-same vars vars′ m s i l = code-same vars vars′ (variableBytes * i) λ j h. s j (omega arith)
 
-module _ {p types heap vars : List ℕ} {sc : Scope} {top : ℕ} (S : Scoped p types heap vars sc top) (c : Code) (K : Known (length types) top c) (h : sc .n < 32) (F : Fitting c)
+module _ {p types heap vars : List ℕ} {sc : Scope} {top : ℕ} (S : Scoped p types heap vars sc top) (c : Code) (K : Known (length types) top c)
+    (h : sc .n < 32) (F : Fitting c)
     {at : ℕ} (a : at ≡ variableBytes * sc .n) {vars′ : List ℕ} (e : vars′ ≡ putCode vars at c) where
   put : vars′ ≡ putCode vars (variableBytes * sc .n) c
   put = e ∙ ap (λ at. putCode vars at c) a
@@ -119,7 +123,8 @@ module _ {p types heap vars : List ℕ} {sc : Scope} {top : ℕ} (S : Scoped p t
     inner-context : contextIn p types heap vars′ inner ≡ dynamic τ ∷ Δ
     inner-context =
         ap (contextAt (λ i. treeIn p types heap (variableAt vars′ i)) (sc .q) (sc .lo)) (add-one (sc .n))
-        ∙ context-bind (λ i. treeIn p types heap (variableAt vars i)) (λ i. treeIn p types heap (variableAt vars′ i)) (sc .q) (sc .lo) (sc .n) (S .static) (S .low)
+        ∙ context-bind (λ i. treeIn p types heap (variableAt vars i)) (λ i. treeIn p types heap (variableAt vars′ i)) (sc .q) (sc .lo) (sc .n) (S .static)
+        (S .low)
         (ap (treeIn p types heap) newest) (λ i l. ap (treeIn p types heap) (sym (older i l)))
 
     pub opened : Opened p types heap vars vars′ sc top c inner
@@ -161,7 +166,8 @@ module _ {p types heap vars : List ℕ} {sc : Scope} {top : ℕ} (S : Scoped p t
   outside i l q = S .owed .each i l ∙ must-use-outside Δ i (omega (arith, as-many))
 
   -- of the unit type, it need not be used
-  pub opened-unit : {b : Bool} → b ≡ isUnit τ → b ≡ true → Opened p types heap vars vars′ sc top c (record { q = sc .q; lo = sc .lo; n = sc .n + 1; owed = sc .owed })
+  pub opened-unit : {b : Bool} → b ≡ isUnit τ → b ≡ true → Opened p types heap vars vars′ sc top c
+      (record { q = sc .q; lo = sc .lo; n = sc .n + 1; owed = sc .owed })
   opened-unit q k = opened (sc .owed)
       (owed-by (sc .owed) (λ i l x. S .owed .each i l) (outside (sc .n) h (omega arith) ∙ sym (ap not (sym q ∙ k))) (λ i l x. outside i l (omega arith)))
 

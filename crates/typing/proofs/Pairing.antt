@@ -20,7 +20,9 @@ use package.Rattle.typing.specs.Contexts.{NamedBy}
 use package.Rattle.typing.specs.Sizes.{termsIn}
 use package.Rattle.typing.specs.Outcomes.{faultOf}
 use package.Rattle.typing.specs.Ready.{termIn, contextIn, typingOf, typeIn, Ready, Here, Kept, Inferred, Paired, Pairs}
-use package.Rattle.typing.proofs.Answers.{ends-refused, ends-typed, inferred, kept-then, kept-more, kept-grown, tree-later, known-later, need-yes, need-no, answered, part-refused, earlier, says, good-then, ready-less, context-later, ready-later}
+use package.Rattle.typing.specs.Asked.{Infers}
+use package.Rattle.typing.proofs.Answers.{ends-refused, ends-typed, inferred, kept-then, kept-more, kept-grown, tree-later, known-later, need-yes}
+use package.Rattle.typing.proofs.Answers.{need-no, answered, part-refused, earlier, says, good-then, ready-less, context-later, ready-later}
 use package.Rattle.typing.proofs.Trees.{tree-pair, parts-pair}
 use Rattle.typing.specs.declared.outcomes.Scope.{Scope}
 use Rattle.typing.specs.declared.outcomes.Found.{Found}
@@ -30,10 +32,12 @@ use Rattle.typing.specs.declared.outcomes.Status.the-variants.{Typed, Re
 use Rattle.typing.specs.declared.outcomes.Out.{Out}
 
 -- the uses of two parts are those of the whole
-pub named-both : (T L R : Term) {u v w : Uses} → ((i : ℕ) → names i T ≡ (names i L || names i R)) → NamedBy u L → NamedBy v R → Holds w (joined (has u) (has v)) → NamedBy w T
+pub named-both : (T L R : Term) {u v w : Uses} → ((i : ℕ) → names i T ≡ (names i L || names i R)) → NamedBy u L → NamedBy v R
+    → Holds w (joined (has u) (has v)) → NamedBy w T
 named-both T L R e N N′ J = record { each = λ i l. J .each i l ∙ ap₂ _||_ (N .each i l) (N′ .each i l) ∙ sym (e i) }
 
-module _ {p types terms functions nodes heap vars : List ℕ} {sc : Scope} {top t at : ℕ} (rd : Ready (termsIn (termIn p types terms t)) p types terms functions nodes heap vars sc top)
+module _ {p types terms functions nodes heap vars : List ℕ} {sc : Scope} {top t at : ℕ}
+    (rd : Ready (termsIn (termIn p types terms t)) p types terms functions nodes heap vars sc top)
     (H : Here p terms t at 4) {l r : ℕ} (q : l ≡ first p at) (q′ : r ≡ second p at) where
   abbrev L : Term
   L = termIn p types terms l
@@ -57,14 +61,15 @@ module _ {p types terms functions nodes heap vars : List ℕ} {sc : Scope} {top 
   pub pair-right : (r < t) × (r < length terms)
   pair-right = rw q′ (parts-pair (rd .entries) H .1)
 
-  module _ {heap₁ vars₁ : List ℕ} {o : Out} (d : Inferred (termsIn L) L p types heap heap₁ (sc .n) vars vars₁ top o (typeIn p types terms functions heap vars sc l)) where
+  module _ {heap₁ vars₁ : List ℕ} {o : Out} (d : Inferred (termsIn L) L p types heap heap₁ (sc .n) vars vars₁ top o
+      (typeIn p types terms functions heap vars sc l)) where
     rule-pair : typeIn p types terms functions heap vars sc t ≡ (typeIn p types terms functions heap vars sc l >>= λ a.
         typeIn p types terms functions heap vars sc r >>= λ b. need (leb (nodesIn (prod a b)) maxNodes) 6 (term t) >> good (prod a b))
     unfolding infer small
     rule-pair = ap (typingOf p types terms functions (contextIn p types heap vars sc)) paired
 
     pub pair-refused : {w : Fault} → o .status ≡ Refused w
-        → Inferred (termsIn (termIn p types terms t)) (termIn p types terms t) p types heap heap₁ (sc .n) vars vars₁ top o (typeIn p types terms functions heap vars sc t)
+        → Infers p types terms functions heap heap₁ vars vars₁ sc top t o
     pair-refused e = part-refused d _ _ e rule-pair (omega (arith, size-pair))
 
     pub pair-later : Ready (termsIn R) p types terms functions nodes heap₁ vars₁ sc (o .top)
@@ -81,7 +86,11 @@ module _ {p types terms functions nodes heap vars : List ℕ} {sc : Scope} {top 
 
       pub pair-room : Room heap₂ (o₂ .top + 1) × (o₂ .top < 1024)
       unfolding maxTerms
-      pair-room = (omega (arith, rd .room, rd .small, size-pair, d .kept .few, d₂ .kept .few, d .kept .agree .lengths, d₂ .kept .agree .lengths), omega (arith, rd .small, size-pair, d .kept .few, d₂ .kept .few))
+      pair-room = (
+        omega (arith, rd .room, rd .small, size-pair, d .kept .few, d₂ .kept .few, d .kept .agree .lengths, d₂ .kept .agree .lengths),
+        omega
+            (arith, rd .small, size-pair, d .kept .few, d₂ .kept .few),
+      )
 
       -- both parts, from the start
       both : Inferred (termsIn L + termsIn R) R p types heap heap₂ (sc .n) vars vars₂ top o₂ (typeIn p types terms functions heap vars sc r)
@@ -90,10 +99,12 @@ module _ {p types terms functions nodes heap vars : List ℕ} {sc : Scope} {top 
       abbrev a : Ty
       a = treeIn p types heap₂ (f .code)
 
-      rule-right : typeIn p types terms functions heap vars sc t ≡ (typeIn p types terms functions heap vars sc r >>= λ b. need (leb (nodesIn (prod a b)) maxNodes) 6 (term t) >> good (prod a b))
+      rule-right : typeIn p types terms functions heap vars sc
+          t ≡ (typeIn p types terms functions heap vars sc r >>= λ b. need (leb (nodesIn (prod a b)) maxNodes) 6 (term t) >> good (prod a b))
       rule-right =
           rule-pair ∙ good-then _ (answered d e)
-          ∙ ap (λ a. typeIn p types terms functions heap vars sc r >>= λ b. need (leb (nodesIn (prod a b)) maxNodes) 6 (term t) >> good (prod a b)) (tree-later (d .kept .sources) (d₂ .kept) left-kept)
+          ∙ ap (λ a. typeIn p types terms functions heap vars sc r >>= λ b. need (leb (nodesIn (prod a b)) maxNodes) 6 (term t) >> good (prod a b))
+          (tree-later (d .kept .sources) (d₂ .kept) left-kept)
 
       module _ {heap₃ : List ℕ} {out : Out} (P : Pairs p types heap₂ heap₃ f t o₂ out) where
         module _ (g : Found) (e₂ : o₂ .status ≡ Typed g) where
@@ -104,7 +115,7 @@ module _ {p types terms functions nodes heap vars : List ℕ} {sc : Scope} {top 
           rule-made = rule-right ∙ good-then _ (answered both e₂)
 
           made-pair : (Q : Paired p types heap₂ heap₃ f g (o₂ .top) t out) → Q .made ≡ true
-              → Inferred (termsIn (termIn p types terms t)) (termIn p types terms t) p types heap heap₃ (sc .n) vars vars₂ top out (typeIn p types terms functions heap vars sc t)
+              → Infers p types terms functions heap heap₃ vars vars₂ sc top t out
           made-pair Q y =
               let G = Q .grown .new y in
               let J = Q .yes y .1 in
@@ -118,25 +129,26 @@ module _ {p types terms functions nodes heap vars : List ℕ} {sc : Scope} {top 
               (rule-made ∙ need-yes _ _ _ _ (sym (Q .grown .answer) ∙ y) ∙ ap good (sym (ap (treeIn p types heap₃) (J .code) ∙ G .tree))))
 
           large-pair : (Q : Paired p types heap₂ heap₃ f g (o₂ .top) t out) → Q .made ≡ false
-              → Inferred (termsIn (termIn p types terms t)) (termIn p types terms t) p types heap heap₃ (sc .n) vars vars₂ top out (typeIn p types terms functions heap vars sc t)
+              → Infers p types terms functions heap heap₃ vars vars₂ sc top t out
           unfolding faultOf
           large-pair Q n = inferred
               (subst (λ h. Kept (termsIn (termIn p types terms t)) p types heap h (sc .n) vars vars₂ top (out .top)) (sym (Q .grown .old n))
-              (subst (λ x. Kept (termsIn (termIn p types terms t)) p types heap heap₂ (sc .n) vars vars₂ top x) (sym (Q .no n .0)) (kept-more _ (both .kept) (omega (arith, size-pair)))))
+              (subst (λ x. Kept (termsIn (termIn p types terms t)) p types heap heap₂ (sc .n) vars vars₂ top x) (sym (Q .no n .0))
+              (kept-more _ (both .kept) (omega (arith, size-pair)))))
               (ends-refused (Q .no n .1) (rule-made ∙ need-no _ _ _ _ (sym (Q .grown .answer) ∙ n)))
 
-        pub pair-done : Inferred (termsIn (termIn p types terms t)) (termIn p types terms t) p types heap heap₃ (sc .n) vars vars₂ top out (typeIn p types terms functions heap vars sc t)
+        pub pair-done : Infers p types terms functions heap heap₃ vars vars₂ sc top t out
         pair-done = by (o₂ .status) refl
           where
             made-or-not : (g : Found) → o₂ .status ≡ Typed g → (Q : Paired p types heap₂ heap₃ f g (o₂ .top) t out) → (m : Bool) → Q .made ≡ m
-                → Inferred (termsIn (termIn p types terms t)) (termIn p types terms t) p types heap heap₃ (sc .n) vars vars₂ top out (typeIn p types terms functions heap vars sc t)
+                → Infers p types terms functions heap heap₃ vars vars₂ sc top t out
             made-or-not g e₂ Q true y = made-pair g e₂ Q y
             made-or-not g e₂ Q false y = large-pair g e₂ Q y
 
             by : (s : Status) → o₂ .status ≡ s
-                → Inferred (termsIn (termIn p types terms t)) (termIn p types terms t) p types heap heap₃ (sc .n) vars vars₂ top out (typeIn p types terms functions heap vars sc t)
+                → Infers p types terms functions heap heap₃ vars vars₂ sc top t out
             by (Typed g) e₂ = made-or-not g e₂ (P .typed g e₂) (P .typed g e₂ .made) refl
             by (Refused w) e₂ = given (P .refused w e₂) λ (h, z).
-                subst (λ h. Inferred (termsIn (termIn p types terms t)) (termIn p types terms t) p types heap h (sc .n) vars vars₂ top out (typeIn p types terms functions heap vars sc t)) (sym h)
-                (subst (λ o. Inferred (termsIn (termIn p types terms t)) (termIn p types terms t) p types heap heap₂ (sc .n) vars vars₂ top o (typeIn p types terms functions heap vars sc t)) (sym z)
+                subst (λ h. Infers p types terms functions heap h vars vars₂ sc top t out) (sym h)
+                (subst (λ o. Infers p types terms functions heap heap₂ vars vars₂ sc top t o) (sym z)
                 (part-refused both _ _ e₂ rule-right (omega (arith, size-pair))))

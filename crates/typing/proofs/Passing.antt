@@ -27,11 +27,14 @@ use package.Rattle.uses.specs.declared.Uses.{Uses}
 use package.Rattle.uses.specs.Sets.{Holds, nobody}
 use package.Rattle.typing.specs.Sizes.{termsIn, termsInAll}
 use package.Rattle.typing.specs.Outcomes.{faultOf, doneOf}
-use package.Rattle.typing.specs.Ready.{termIn, variableAt, contextIn, typingOf, typeIn, demanded, termsFrom, typesFrom, Ready, Here, Kept, Inferred, Bare, Calls, Argued}
+use package.Rattle.typing.specs.Ready.{termIn, variableAt, contextIn, typingOf, typeIn, demanded, termsFrom, typesFrom, Ready, Here, Kept, Inferred}
+use package.Rattle.typing.specs.Ready.{Bare, Calls, Argued}
 use package.Rattle.typing.proofs.Contexts.{context-bar, must-use-barred}
-use package.Rattle.typing.proofs.Answers.{ends-refused, inferred, kept-still, kept-then, kept-more, stopped, need-yes, need-no, answered, refused, around, earlier, says, good-then, bad-then, ready-less, context-later, ready-later}
+use package.Rattle.typing.proofs.Answers.{ends-refused, inferred, kept-still, kept-then, kept-more, stopped, need-yes, need-no, answered, refused}
+use package.Rattle.typing.proofs.Answers.{around, earlier, says, good-then, bad-then, ready-less, context-later, ready-later}
 use package.Rattle.typing.proofs.Trees.{tree-call, read-call, called-there, part-argument, part-dynamic}
-use package.Rattle.typing.proofs.Called.{called, called-in, read-function, some-parameters, row-there, row-parameter, result-there, parameter-there, dynamic-there, terms-next, terms-none, types-next, types-none, references-all}
+use package.Rattle.typing.proofs.Called.{called, called-in, read-function, some-parameters, row-there, row-parameter, result-there, parameter-there}
+use package.Rattle.typing.proofs.Called.{dynamic-there, terms-next, terms-none, types-next, types-none, references-all}
 use Rattle.typing.specs.declared.outcomes.Scope.{Scope}
 use Rattle.typing.specs.declared.outcomes.Found.{Found}
 use Rattle.typing.specs.declared.outcomes.Fault.{Fault}
@@ -69,7 +72,8 @@ module _ {p types terms functions nodes heap vars : List ℕ} {sc : Scope} {top 
   pub args-end : {r : Out} → k ≡ count → Bare top r → Argued p types terms functions heap heap vars vars sc top t at h k count r
   unfolding inferArguments doneOf
   args-end {r} e B = record {
-    kept = subst (λ x. Kept (termsInAll (termsFrom p types terms at k count)) p types heap heap (sc .n) vars vars top x) (sym (B .same)) (kept-still _ (sc .n) vars (rd .scoped .sources));
+    kept = subst (λ x. Kept (termsInAll (termsFrom p types terms at k count)) p types heap heap (sc .n) vars vars top x) (sym (B .same))
+        (kept-still _ (sc .n) vars (rd .scoped .sources));
     answer = ap doneOf (B .is) ∙ sym (ap₂ args (terms-none p types at k count terms e) (types-none p types h k count e));
   }
 
@@ -90,9 +94,11 @@ module _ {p types terms functions nodes heap vars : List ℕ} {sc : Scope} {top 
     pub args-parameter : {table : List (List ℕ)} → SignaturesAre p functions table → getD (getD table g []) k 0 ≡ listed p h k
     args-parameter S = row-parameter (rd .entries) (C .called) refl S k (omega (arith, args-left, C .parameters))
 
-    size-args : {a : ℕ} → a ≡ listed p at k → termsIn (termIn p types terms a) + termsInAll (termsFrom p types terms at (k + 1) count) ≡ termsInAll (termsFrom p types terms at k count)
+    size-args : {a : ℕ} → a ≡ listed p at k → termsIn (termIn p types terms a) + termsInAll (termsFrom p types terms at (k + 1) count) ≡ termsInAll
+        (termsFrom p types terms at k count)
     unfolding termsInAll
-    size-args q = ap (λ a. termsIn (termIn p types terms a) + termsInAll (termsFrom p types terms at (k + 1) count)) q ∙ sym (ap termsInAll (terms-next p types at k count terms args-left))
+    size-args q = ap (λ a. termsIn (termIn p types terms a) + termsInAll (termsFrom p types terms at (k + 1) count)) q
+        ∙ sym (ap termsInAll (terms-next p types at k count terms args-left))
 
     module _ {a : ℕ} (q : a ≡ listed p at k) where
       abbrev A : Term
@@ -105,14 +111,17 @@ module _ {p types terms functions nodes heap vars : List ℕ} {sc : Scope} {top 
       args-part = rw q (part-argument (rd .entries) (C .here) (omega (arith, args-left, C .ancillae)))
 
       rule-args : args (termsFrom p types terms at k count) (typesFrom p types h k count) ≡ (typeIn p types terms functions heap vars sc a >>= λ d.
-          need (sameTy d (typeOf (map (typeAt p) types) (listed p h k))) 6 (term t) >> args (termsFrom p types terms at (k + 1) count) (typesFrom p types h (k + 1) count))
+          need (sameTy d (typeOf (map (typeAt p) types) (listed p h k))) 6 (term t)
+          >> args (termsFrom p types terms at (k + 1) count) (typesFrom p types h (k + 1) count))
       unfolding inferArguments
       rule-args =
           ap₂ args (terms-next p types at k count terms args-left) (types-next p types h k count args-left)
           ∙ ap (λ a. typeIn p types terms functions heap vars sc a >>= λ d.
-          need (sameTy d (typeOf (map (typeAt p) types) (listed p h k))) 6 (term t) >> args (termsFrom p types terms at (k + 1) count) (typesFrom p types h (k + 1) count)) (sym q)
+          need (sameTy d (typeOf (map (typeAt p) types) (listed p h k))) 6 (term t)
+          >> args (termsFrom p types terms at (k + 1) count) (typesFrom p types h (k + 1) count)) (sym q)
 
-      module _ {heap₁ vars₁ : List ℕ} {o : Out} (d : Inferred (termsIn A) A p types heap heap₁ (sc .n) vars vars₁ top o (typeIn p types terms functions heap vars sc a)) where
+      module _ {heap₁ vars₁ : List ℕ} {o : Out} (d : Inferred (termsIn A) A p types heap heap₁ (sc .n) vars vars₁ top o
+          (typeIn p types terms functions heap vars sc a)) where
         pub args-refused : {w : Fault} → o .status ≡ Refused w → Argued p types terms functions heap heap₁ vars vars₁ sc top t at h k count o
         unfolding doneOf
         args-refused {w} x = record {
@@ -136,7 +145,8 @@ module _ {p types terms functions nodes heap vars : List ℕ} {sc : Scope} {top 
         module _ {f : Found} (x : o .status ≡ Typed f) {j : ℕ} (z : j ≡ listed p h k) {want : Code} (w : want ≡ entryCode j) where
           pub args-want : Known (length types) (o .top) want
           args-want = subst (Known (length types) (o .top)) (sym w)
-              (entry-known j (let l : listed p h k < length types = parameter-there (rd .entries) (C .called) refl k (omega (arith, args-left, C .parameters)) in omega arith))
+              (entry-known j (let l : listed p h k < length types =
+              parameter-there (rd .entries) (C .called) refl k (omega (arith, args-left, C .parameters)) in omega arith))
 
           module _ {b : Bool} (y : b ≡ sameTy (treeIn p types heap₁ (f .code)) (treeIn p types heap₁ want)) where
             same-want : b ≡ sameTy (treeIn p types heap₁ (f .code)) (typeOf (map (typeAt p) types) (listed p h k))
@@ -147,16 +157,19 @@ module _ {p types terms functions nodes heap vars : List ℕ} {sc : Scope} {top 
                 → Argued p types terms functions heap heap₁ vars vars₁ sc top t at h k count out
             unfolding doneOf faultOf
             args-differ n s e = record {
-              kept = subst (λ v. Kept (termsInAll (termsFrom p types terms at k count)) p types heap heap₁ (sc .n) vars vars₁ top v) (sym e) (kept-more _ (d .kept) (omega (arith, size-args q)));
+              kept = subst (λ v. Kept (termsInAll (termsFrom p types terms at k count)) p types heap heap₁ (sc .n) vars vars₁ top v) (sym e)
+                  (kept-more _ (d .kept) (omega (arith, size-args q)));
               answer = ap doneOf s ∙ sym (rule-args ∙ good-then _ (answered d x) ∙ need-no _ _ _ _ (sym same-want ∙ n));
             }
 
-            pub args-done : b ≡ true → {heap₂ vars₂ : List ℕ} {out : Out} → Argued p types terms functions heap₁ heap₂ vars₁ vars₂ sc (o .top) t at h (k + 1) count out
+            pub args-done : b ≡ true → {heap₂ vars₂ : List ℕ} {out : Out}
+                → Argued p types terms functions heap₁ heap₂ vars₁ vars₂ sc (o .top) t at h (k + 1) count out
                 → Argued p types terms functions heap heap₂ vars vars₂ sc top t at h k count out
             args-done n G = record {
               kept = kept-then _ (d .kept) (G .kept) (omega arith) (omega (arith, size-args q));
               answer = G .answer
-                  ∙ ap (λ Δ. inferArguments maxVariables maxNodes (programIn p types terms functions) t Δ (termsFrom p types terms at (k + 1) count) (typesFrom p types h (k + 1) count)) (context-later rd (d .kept))
+                  ∙ ap (λ Δ. inferArguments maxVariables maxNodes (programIn p types terms functions) t Δ (termsFrom p types terms at (k + 1) count)
+                  (typesFrom p types h (k + 1) count)) (context-later rd (d .kept))
                   ∙ sym (rule-args ∙ good-then _ (answered d x) ∙ need-yes _ _ _ _ (sym same-want ∙ n));
             }
 
@@ -167,7 +180,8 @@ module _ {p types terms functions nodes heap vars : List ℕ} {sc : Scope} {top 
 abbrev pub barredScope : Scope → Uses → Scope
 barredScope sc u = record { q = sc .q; lo = sc .n; n = sc .n; owed = u }
 
-module _ {p types terms functions nodes heap vars : List ℕ} {sc : Scope} {top t at : ℕ} (rd : Ready (termsIn (termIn p types terms t)) p types terms functions nodes heap vars sc top)
+module _ {p types terms functions nodes heap vars : List ℕ} {sc : Scope} {top t at : ℕ}
+    (rd : Ready (termsIn (termIn p types terms t)) p types terms functions nodes heap vars sc top)
     (H : Here p terms t at 8) where
   pub call-function : {g : ℕ} → g ≡ first p at → g < length functions
   call-function q = rw q (called-there (rd .entries) H)
@@ -194,7 +208,8 @@ module _ {p types terms functions nodes heap vars : List ℕ} {sc : Scope} {top 
 
       call-tree : T ≡ tcall t (first p at) (termsFrom p types terms at 0 n) E
       call-tree = tree-call (rd .entries) H
-          ∙ ap₂ (tcall t (first p at)) (ap (termTrees (termIn p types terms)) (ap (references p (at + 6)) (sym qn) ∙ sym (references-all p at n))) (ap (termIn p types terms) (ap (listed p at) (sym qn) ∙ sym qe))
+          ∙ ap₂ (tcall t (first p at)) (ap (termTrees (termIn p types terms)) (ap (references p (at + 6)) (sym qn) ∙ sym (references-all p at n)))
+          (ap (termIn p types terms) (ap (listed p at) (sym qn) ∙ sym qe))
 
       size-call : suc (termsInAll (termsFrom p types terms at 0 n) + termsIn E) ≡ termsIn T
       unfolding termsIn
@@ -232,9 +247,11 @@ module _ {p types terms functions nodes heap vars : List ℕ} {sc : Scope} {top 
       counted = count-trees (termIn p types terms) p (at + 6 + 2 * 0) (n - 0) ∙ (let z : n - 0 ≡ n = omega arith in z)
 
       as-many : length (typesFrom p types h 0 own) ≡ own
-      as-many = length-map (references p (h + 6 + 2 * 0) (own - 0)) ys ∙ length-references p (h + 6 + 2 * 0) (own - 0) ∙ (let z : own - 0 ≡ own = omega arith in z)
+      as-many = length-map (references p (h + 6 + 2 * 0) (own - 0)) ys ∙ length-references p (h + 6 + 2 * 0) (own - 0)
+          ∙ (let z : own - 0 ≡ own = omega arith in z)
 
-      rule-call : goal ≡ (need (eqb n own) 6 (term t) >> (inferArguments maxVariables maxNodes (programIn p types terms functions) t (bar Γ) (termsFrom p types terms at 0 n) (typesFrom p types h 0 own)
+      rule-call : goal ≡ (need (eqb n own) 6 (term t) >> (inferArguments maxVariables maxNodes (programIn p types terms functions) t (bar Γ)
+          (termsFrom p types terms at 0 n) (typesFrom p types h 0 own)
           >> demanded (typeIn p types terms functions heap vars sc e) (ys (listed p h own)) (ys (result p h)) t))
       unfolding shape
       rule-call = rule-shape ∙ ap₂ (λ i j. need (eqb i j) 6 (term t)
@@ -300,9 +317,11 @@ module _ {p types terms functions nodes heap vars : List ℕ} {sc : Scope} {top 
           G : Argued p types terms functions heap heap₁ vars vars₁ (barredScope sc u) top t at h 0 n o
           G = subst (λ h. Argued p types terms functions heap heap₁ vars vars₁ (barredScope sc u) top t at h 0 n o) (sym qh) A
 
-          argued : inferArguments maxVariables maxNodes (programIn p types terms functions) t (bar Γ) (termsFrom p types terms at 0 n) (typesFrom p types h 0 own) ≡ doneOf (o .status)
+          argued : inferArguments maxVariables maxNodes (programIn p types terms functions) t (bar Γ) (termsFrom p types terms at 0 n)
+              (typesFrom p types h 0 own) ≡ doneOf (o .status)
           argued = sym (G .answer
-              ∙ ap₂ (λ Δ m. inferArguments maxVariables maxNodes (programIn p types terms functions) t Δ (termsFrom p types terms at 0 n) (typesFrom p types h 0 m)) barred-context same)
+              ∙ ap₂ (λ Δ m. inferArguments maxVariables maxNodes (programIn p types terms functions) t Δ (termsFrom p types terms at 0 n)
+              (typesFrom p types h 0 m)) barred-context same)
 
           pub call-refused : {w : Fault} → o .status ≡ Refused w → Inferred (termsIn T) T p types heap heap₁ (sc .n) vars vars₁ top o goal
           unfolding doneOf
@@ -319,7 +338,8 @@ module _ {p types terms functions nodes heap vars : List ℕ} {sc : Scope} {top 
             module _ {i j : ℕ} (qi : i ≡ listed p h n) (qj : j ≡ result p h) {want answer : Code} (w : want ≡ entryCode i) (w′ : answer ≡ entryCode j) where
               pub call-want : Known (length types) (o .top) want × Known (length types) (o .top) answer
               call-want = (
-                subst (Known (length types) (o .top)) (sym w) (entry-known i (rw (qi ∙ ap (listed p h) (same ∙ qo)) (dynamic-there (rd .entries) (called-there (rd .entries) H) call-entry))),
+                subst (Known (length types) (o .top)) (sym w)
+                    (entry-known i (rw (qi ∙ ap (listed p h) (same ∙ qo)) (dynamic-there (rd .entries) (called-there (rd .entries) H) call-entry))),
                 subst (Known (length types) (o .top)) (sym w′) (entry-known j (rw qj (result-there (rd .entries) (called-there (rd .entries) H) call-entry))),
               )
 
@@ -332,7 +352,9 @@ module _ {p types terms functions nodes heap vars : List ℕ} {sc : Scope} {top 
                   → Inferred (termsIn T) T p types heap heap₂ (sc .n) vars vars₂ top out goal
               unfolding doneOf
               call-done d = earlier (around (says d
-                  (ap₂ (λ Δ (cs : Ty × Ty). demanded (typingOf p types terms functions Δ (termIn p types terms e)) (cs .0) (cs .1) t) (context-later rd (G .kept))
+                  (ap₂ (λ Δ (cs : Ty × Ty). demanded (typingOf p types terms functions Δ (termIn p types terms e)) (cs .0) (cs .1) t)
+                  (context-later rd (G .kept))
                   (ap₂ (λ c τ. (c, τ)) (entry-tree w (qi ∙ ap (listed p h) same)) (entry-tree w′ qj))))
                   (termsIn (termIn p types terms e)) {T = T} (λ i. ap (names i) (call-tree qe)) (omega arith)
-                  (rule-call qe ∙ need-yes _ _ _ _ (eq-eqb n own same) ∙ good-and _ (argued ∙ ap doneOf x))) _ (G .kept) (omega arith) (omega (arith, size-call qe))
+                  (rule-call qe ∙ need-yes _ _ _ _ (eq-eqb n own same) ∙ good-and _ (argued ∙ ap doneOf x))) _ (G .kept) (omega arith)
+                  (omega (arith, size-call qe))

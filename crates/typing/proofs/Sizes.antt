@@ -15,8 +15,10 @@ use package.Rattle.rules.specs.Term.{Term, nth}
 use package.Rattle.rules.proofs.Basics.{given, none≢some, some-inj, not-true, and-both, eqb-yes, eqb-no, eqb-differs}
 use package.Rattle.calls.specs.Answer.{accepted}
 use package.Rattle.calls.specs.Fields.{Layout}
-use package.Rattle.calls.specs.Entries.{typeOf, TermEntry, n-var, n-unit, n-inl, n-inr, n-roll, n-unroll, n-pair, n-let, n-letp, n-case, n-call, termTrees, termTree, termOf, FunctionEntry, Entries}
-use package.Rattle.calls.specs.Named.{typesOfTerm, termsOfTerm, functionsOfTerm, typesOfFunction, below, member, fresh, testTypes, testTerms, testFunctions, testEntries}
+use package.Rattle.calls.specs.Entries.{typeOf, TermEntry, n-var, n-unit, n-inl, n-inr, n-roll, n-unroll, n-pair, n-let, n-letp, n-case, n-call, termTrees}
+use package.Rattle.calls.specs.Entries.{termTree, termOf, FunctionEntry, Entries}
+use package.Rattle.calls.specs.Named.{typesOfTerm, termsOfTerm, functionsOfTerm, typesOfFunction, below, member, fresh, testTypes, testTerms, testFunctions}
+use package.Rattle.calls.specs.Named.{testEntries}
 use package.Rattle.calls.proofs.Answer.{accepted-inj, unbind, required}
 use package.Rattle.calls.proofs.Entries.{below-head, member-middle}
 use package.Rattle.calls.proofs.Trees.{entries-good, good-lower, term-unfolds}
@@ -110,7 +112,8 @@ module _ (size : ℕ → ℕ) where
   unfolding weight
   weight-next k ts used b b′ f s w =
       let all : weight (ts ++ used) k + sizes ts ≡ weight used k = weight-all ts used k b f in
-      let here : cond (member k (ts ++ used)) 0 (size k) ≡ size k = ap (λ b. cond b 0 (size k)) (not-member k k (ts ++ used) (below-both k ts used b b′) (omega arith)) in
+      let here : cond (member k (ts ++ used)) 0 (size k) ≡ size k =
+      ap (λ b. cond b 0 (size k)) (not-member k k (ts ++ used) (below-both k ts used b b′) (omega arith)) in
       omega arith
 
 ----------------------------------------------------------------
@@ -157,11 +160,13 @@ module _ (L : Layout) (E : Entries) where
       → ((i : ℕ) → getD ts i n-unit ≡ getD (E .terms) (k + i) n-unit) → below k used ≡ true → weight size used k ≡ k
       → (weight size all (k + length ts) ≡ k + length ts)
   unfolding testTerms
-  weight-from G k used [] {all} e s b w = subst (λ n. weight size all n ≡ n) (let z : k ≡ k + 0 = omega arith in z) (subst (λ a. weight size a k ≡ k) (accepted-inj e) w)
+  weight-from G k used [] {all} e s b w = subst (λ n. weight size all n ≡ n) (let z : k ≡ k + 0 = omega arith in z)
+      (subst (λ a. weight size a k ≡ k) (accepted-inj e) w)
   weight-from G k used (t ∷ ts) {all} e s b w =
       given (unbind _ _ e) λ (u, p, e₁). given (unbind _ _ e₁) λ (u′, p′, e₂).
       given (here (s 0)) λ (n, ls).
-      given (and-both (below (length (E .types)) (typesOfTerm t) && below k (termsOfTerm t) && below (length (E .functions)) (functionsOfTerm t)) (fresh used (termsOfTerm t))
+      given (and-both (below (length (E .types)) (typesOfTerm t) && below k (termsOfTerm t) && below (length (E .functions)) (functionsOfTerm t))
+      (fresh used (termsOfTerm t))
       (required _ 4 _ p)) λ (x, f).
       subst (λ n. weight size all n ≡ n) (let z : suc k + length ts ≡ k + suc (length ts) = omega arith in z)
       (weight-from G (suc k) (termsOfTerm t ++ used) ts e₂
@@ -180,7 +185,8 @@ module _ (L : Layout) (E : Entries) where
   bodies-fresh g used [] e i h q = absurd (none≢some q)
   bodies-fresh g used (x ∷ hs) e zero h q =
       given (unbind _ _ e) λ (u, p, e₁).
-      given (and-both (below (length (E .types)) (typesOfFunction x) && below (length (E .terms)) (x .body ∷ [])) (fresh used (x .body ∷ [])) (required _ 4 _ p)) λ (y, f).
+      given (and-both (below (length (E .types)) (typesOfFunction x) && below (length (E .terms)) (x .body ∷ [])) (fresh used (x .body ∷ []))
+      (required _ 4 _ p)) λ (y, f).
       subst (λ h. member (h .body) used ≡ false) (some-inj q) (not-true (and-both (not (member (x .body) used)) true f .0))
   bodies-fresh g used (x ∷ hs) e (suc i) h q =
       given (unbind _ _ e) λ (u, p, e₁). given (unbind _ _ e₁) λ (u′, p′, e₂).

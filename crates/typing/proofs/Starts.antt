@@ -43,7 +43,8 @@ statics-are : (T : ℕ → Ty) (q : ℕ) (cs : List Ty) (d : Ty) (n : ℕ) → n
 unfolding contextAt statics
 statics-are T q cs d zero l h s = refl
 statics-are T q cs d (suc n) l h s =
-    ap₂ _∷_ (stands-static q 0 n (T n) (omega arith) ∙ ap static (s n (omega arith))) (statics-are T q cs d n (omega arith) (omega arith) (λ i x. s i (omega arith)))
+    ap₂ _∷_ (stands-static q 0 n (T n) (omega arith) ∙ ap static (s n (omega arith)))
+    (statics-are T q cs d n (omega arith) (omega arith) (λ i x. s i (omega arith)))
     ∙ sym (ap (λ cs. statics cs []) (take-suc cs n d (omega arith)) ∙ statics-last (take n cs) (getD cs n d) [])
 
 -- ancillae need not be used
@@ -78,7 +79,8 @@ typeAtVar xs types heap vars i = treeIn xs types heap (variableAt vars i)
 
 -- a variable of the code's type is bound
 module _ {xs types heap vars vars′ : List ℕ} {sc r : Scope} {top : ℕ} {c : Code} (O : Opened xs types heap vars vars′ sc top c r) where
-  seen : (i : ℕ) → i < r .n → some (standing (r .q) (r .lo) i (typeAtVar xs types heap vars′ i)) ≡ look (dynamic (treeIn xs types heap c) ∷ contextIn xs types heap vars sc) i
+  seen : (i : ℕ) → i < r .n → some (standing (r .q) (r .lo) i (typeAtVar xs types heap vars′ i)) ≡ look
+      (dynamic (treeIn xs types heap c) ∷ contextIn xs types heap vars sc) i
   seen i l = sym (look-context (typeAtVar xs types heap vars′) (r .q) (r .lo) (r .n) i l) ∙ ap (λ Δ. look Δ i) (O .context)
 
   size : length (contextIn xs types heap vars sc) ≡ sc .n
@@ -88,7 +90,8 @@ module _ {xs types heap vars vars′ : List ℕ} {sc r : Scope} {top : ℕ} {c :
   older : (i : ℕ) → i < sc .n → typeAtVar xs types heap vars′ i ≡ typeAtVar xs types heap vars i
   older i l =
       sym (bound-standing (r .q) (r .lo) i (typeAtVar xs types heap vars′ i))
-      ∙ ap bound (some-inj (seen i (omega (arith, O .one-more)) ∙ look-skip (contextIn xs types heap vars sc) (dynamic (treeIn xs types heap c)) i (omega (arith, size))
+      ∙ ap bound (some-inj (seen i (omega (arith, O .one-more))
+      ∙ look-skip (contextIn xs types heap vars sc) (dynamic (treeIn xs types heap c)) i (omega (arith, size))
       ∙ look-context (typeAtVar xs types heap vars) (sc .q) (sc .lo) (sc .n) i l))
       ∙ bound-standing (sc .q) (sc .lo) i (typeAtVar xs types heap vars i)
 
@@ -96,7 +99,8 @@ module _ {xs types heap vars vars′ : List ℕ} {sc r : Scope} {top : ℕ} {c :
   unfolding bound
   newest =
       sym (bound-standing (r .q) (r .lo) (sc .n) (typeAtVar xs types heap vars′ (sc .n)))
-      ∙ ap bound (some-inj (seen (sc .n) (omega (arith, O .one-more)) ∙ ap (look (dynamic (treeIn xs types heap c) ∷ contextIn xs types heap vars sc)) (sym size)
+      ∙ ap bound (some-inj (seen (sc .n) (omega (arith, O .one-more))
+      ∙ ap (look (dynamic (treeIn xs types heap c) ∷ contextIn xs types heap vars sc)) (sym size)
       ∙ look-newest (dynamic (treeIn xs types heap c)) (contextIn xs types heap vars sc)))
 
 ----------------------------------------------------------------
@@ -158,4 +162,5 @@ all-bound {xs} {types} {heap} {vars} {vars′} {row} {at} {n} {i} {c = c} S B m 
         cs = map (typeOf ys) (functionAt xs at .ancillae)
 
         ancilla : (j : ℕ) → j < n → typeAtVar xs types heap vars j ≡ getD cs j (typeOf ys 0)
-        ancilla j l = B .tree j l ∙ ap (typeOf ys) (row-ancilla (S .formed) (S .signature) j (omega arith)) ∙ sym (List·getD-map (typeOf ys) (functionAt xs at .ancillae) j 0)
+        ancilla j l = B .tree j l ∙ ap (typeOf ys) (row-ancilla (S .formed) (S .signature) j (omega arith))
+            ∙ sym (List·getD-map (typeOf ys) (functionAt xs at .ancillae) j 0)

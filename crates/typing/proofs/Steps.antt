@@ -29,7 +29,9 @@ use package.Rattle.typing.specs.Contexts.{NamedBy}
 use package.Rattle.typing.specs.Sizes.{termsIn}
 use package.Rattle.typing.specs.Outcomes.{faultOf}
 use package.Rattle.typing.specs.Ready.{termIn, contextIn, typingOf, typeIn, demanded, Ready, Here, Kept, Inferred, Seen, Bare, After, Expects}
-use package.Rattle.typing.proofs.Answers.{Ends, ends-refused, ends-typed, inferred, kept-still, tree-later, known-later, stopped, need-yes, need-no, around, part-tested, ready-less}
+use package.Rattle.typing.specs.Asked.{Infers}
+use package.Rattle.typing.proofs.Answers.{Ends, ends-refused, ends-typed, inferred, kept-still, tree-later, known-later, stopped, need-yes, need-no}
+use package.Rattle.typing.proofs.Answers.{around, part-tested, ready-less}
 use package.Rattle.typing.proofs.Trees.{tree-var, tree-unit, tree-inl, tree-inr, parts-inject, tree-roll, parts-roll, tree-unroll, parts-unroll}
 use Rattle.typing.specs.declared.outcomes.Scope.{Scope}
 use Rattle.typing.specs.declared.outcomes.Found.{Found}
@@ -46,7 +48,8 @@ module _ {p types heap heap₁ : List ℕ} {size m : ℕ} {vars vars₁ : List �
   pub demand-done : {t : ℕ} {out : Out} → After r out (Expects p types heap₁ want answer t)
       → Inferred size E p types heap heap₁ m vars vars₁ top out (demanded part (treeIn p types heap want) (treeIn p types heap answer) t)
   unfolding faultOf
-  demand-done {t} {out} A = part-tested d size next A refl (omega arith) λ f k n P. by f k n P (sameTy (treeIn p types heap₁ (f .code)) (treeIn p types heap₁ want)) refl
+  demand-done {t} {out} A = part-tested d size next A refl (omega arith) λ f k n P. by f k n P
+      (sameTy (treeIn p types heap₁ (f .code)) (treeIn p types heap₁ want)) refl
     where
       next : Ty → Checked Ty
       next τ = need (sameTy τ (treeIn p types heap want)) 6 (term t) >> good (treeIn p types heap answer)
@@ -64,14 +67,17 @@ module _ {p types heap heap₁ : List ℕ} {size m : ℕ} {vars vars₁ : List �
 ----------------------------------------------------------------
 -- Variables and unit
 
-module _ {p types terms functions nodes heap vars : List ℕ} {sc : Scope} {top t at : ℕ} (rd : Ready (termsIn (termIn p types terms t)) p types terms functions nodes heap vars sc top) where
+module _ {p types terms functions nodes heap vars : List ℕ} {sc : Scope} {top t at : ℕ}
+    (rd : Ready (termsIn (termIn p types terms t)) p types terms functions nodes heap vars sc top) where
   pub var-done : Here p terms t at 0 → {i : ℕ} → i ≡ variable p at → {r : Out} → Seen vars sc top t i r
-      → Inferred (termsIn (termIn p types terms t)) (termIn p types terms t) p types heap heap (sc .n) vars vars top r (typeIn p types terms functions heap vars sc t)
+      → Infers p types terms functions heap heap vars vars sc top t r
   unfolding infer
   var-done H {i} e {r} N = inferred
-      (subst (λ x. Kept (termsIn (termIn p types terms t)) p types heap heap (sc .n) vars vars top x) (sym (N .same)) (kept-still _ (sc .n) vars (rd .scoped .sources)))
+      (subst (λ x. Kept (termsIn (termIn p types terms t)) p types heap heap (sc .n) vars vars top x) (sym (N .same))
+      (kept-still _ (sc .n) vars (rd .scoped .sources)))
       (record {
-        known = λ f q. subst (λ x. Known (length types) x (f .code)) (sym (N .same)) (subst (Known (length types) top) (sym (N .code f q)) (rd .scoped .known i (N .there f q)));
+        known = λ f q. subst (λ x. Known (length types) x (f .code)) (sym (N .same))
+            (subst (Known (length types) top) (sym (N .code f q)) (rd .scoped .known i (N .there f q)));
         uses = λ f q. record { each = λ j l. N .uses f q .each j l ∙ sym (ap (names j) is) };
         answer = N .answer (treeIn p types heap) ∙ sym (ap (typingOf p types terms functions (contextIn p types heap vars sc)) is);
       })
@@ -80,10 +86,11 @@ module _ {p types terms functions nodes heap vars : List ℕ} {sc : Scope} {top 
       is = tree-var (rd .entries) H ∙ ap (var t) (sym e)
 
   pub unit-done : Here p terms t at 1 → {r : Out} → Bare top r
-      → Inferred (termsIn (termIn p types terms t)) (termIn p types terms t) p types heap heap (sc .n) vars vars top r (typeIn p types terms functions heap vars sc t)
+      → Infers p types terms functions heap heap vars vars sc top t r
   unfolding infer
   unit-done H {r} B = inferred
-      (subst (λ x. Kept (termsIn (termIn p types terms t)) p types heap heap (sc .n) vars vars top x) (sym (B .same)) (kept-still _ (sc .n) vars (rd .scoped .sources)))
+      (subst (λ x. Kept (termsIn (termIn p types terms t)) p types heap heap (sc .n) vars vars top x) (sym (B .same))
+      (kept-still _ (sc .n) vars (rd .scoped .sources)))
       (ends-typed (B .is) (subst (Known (length types) (r .top)) (sym (B .code)) unit-known)
       (record { each = λ j l. B .uses .each j l ∙ sym (ap (names j) is) })
       (ap (typingOf p types terms functions (contextIn p types heap vars sc)) is
@@ -103,8 +110,10 @@ module _ (p types heap : List ℕ) {i : ℕ} (at : ℕ) (q : i ≡ first p at) {
   pub whole-known : {top : ℕ} → first p at < length types → Known (length types) top whole
   whole-known l = subst (Known (length types) _) (sym w) (entry-known i (omega arith))
 
-module _ {p types terms functions nodes heap vars : List ℕ} {sc : Scope} {top t at kind : ℕ} (rd : Ready (termsIn (termIn p types terms t)) p types terms functions nodes heap vars sc top)
-    (H : Here p terms t at kind) (lo : 2 ≤ kind) (hi : kind ≤ 3) {i part : ℕ} (q : i ≡ first p at) (q′ : part ≡ second p at) {whole : Code} (w : whole ≡ entryCode i) where
+module _ {p types terms functions nodes heap vars : List ℕ} {sc : Scope} {top t at kind : ℕ}
+    (rd : Ready (termsIn (termIn p types terms t)) p types terms functions nodes heap vars sc top)
+    (H : Here p terms t at kind) (lo : 2 ≤ kind) (hi : kind ≤ 3) {i part : ℕ} (q : i ≡ first p at) (q′ : part ≡ second p at) {whole : Code}
+    (w : whole ≡ entryCode i) where
   abbrev rule : Checked Ty
   rule = typeIn p types terms functions heap vars sc t
 
@@ -113,10 +122,12 @@ module _ {p types terms functions nodes heap vars : List ℕ} {sc : Scope} {top 
 
   -- inl over its part, inr over its part
   tree-left : kind ≡ 2 → termIn p types terms t ≡ tinl t (treeIn p types heap whole) E
-  tree-left e = tree-inl (rd .entries) (subst (Here p terms t at) e H) ∙ ap₂ (tinl t) (sym (whole-tree p types heap at q w)) (ap (termIn p types terms) (sym q′))
+  tree-left e = tree-inl (rd .entries) (subst (Here p terms t at) e H)
+      ∙ ap₂ (tinl t) (sym (whole-tree p types heap at q w)) (ap (termIn p types terms) (sym q′))
 
   tree-right : kind ≡ 3 → termIn p types terms t ≡ tinr t (treeIn p types heap whole) E
-  tree-right e = tree-inr (rd .entries) (subst (Here p terms t at) e H) ∙ ap₂ (tinr t) (sym (whole-tree p types heap at q w)) (ap (termIn p types terms) (sym q′))
+  tree-right e = tree-inr (rd .entries) (subst (Here p terms t at) e H)
+      ∙ ap₂ (tinr t) (sym (whole-tree p types heap at q w)) (ap (termIn p types terms) (sym q′))
 
   two-or-three : (kind ≡ 2) ⊎ (kind ≡ 3)
   two-or-three = by kind lo hi
@@ -159,7 +170,8 @@ module _ {p types terms functions nodes heap vars : List ℕ} {sc : Scope} {top 
 
     module _ (sum-kind : s .kind ≡ 2) {heap′ vars′ : List ℕ} {out : Out} where
       pub inject-left : kind ≡ 2
-          → Inferred (termsIn E) E p types heap heap′ (sc .n) vars vars′ top out (demanded (typeIn p types terms functions heap vars sc part) (treeIn p types heap (s .first)) (treeIn p types heap whole) t)
+          → Inferred (termsIn E) E p types heap heap′ (sc .n) vars vars′ top out
+          (demanded (typeIn p types terms functions heap vars sc part) (treeIn p types heap (s .first)) (treeIn p types heap whole) t)
           → Inferred (termsIn (termIn p types terms t)) (termIn p types terms t) p types heap heap′ (sc .n) vars vars′ top out rule
       unfolding infer
       inject-left k d = around d _ (λ i. ap (names i) (tree-left k)) (omega (arith, size-inject))
@@ -167,7 +179,8 @@ module _ {p types terms functions nodes heap vars : List ℕ} {sc : Scope} {top 
           ∙ ap (λ c. demanded (typeIn p types terms functions heap vars sc part) (treeIn p types heap (s .first)) c t) (sym (sum-tree S sum-kind)))
 
       pub inject-right : ¬ (kind ≡ 2)
-          → Inferred (termsIn E) E p types heap heap′ (sc .n) vars vars′ top out (demanded (typeIn p types terms functions heap vars sc part) (treeIn p types heap (s .second)) (treeIn p types heap whole) t)
+          → Inferred (termsIn E) E p types heap heap′ (sc .n) vars vars′ top out
+          (demanded (typeIn p types terms functions heap vars sc part) (treeIn p types heap (s .second)) (treeIn p types heap whole) t)
           → Inferred (termsIn (termIn p types terms t)) (termIn p types terms t) p types heap heap′ (sc .n) vars vars′ top out rule
       unfolding infer
       inject-right n d = let k : kind ≡ 3 = omega arith in
@@ -178,7 +191,8 @@ module _ {p types terms functions nodes heap vars : List ℕ} {sc : Scope} {top 
 ----------------------------------------------------------------
 -- roll and unroll
 
-module _ {p types terms functions nodes heap vars : List ℕ} {sc : Scope} {top t at : ℕ} (rd : Ready (termsIn (termIn p types terms t)) p types terms functions nodes heap vars sc top)
+module _ {p types terms functions nodes heap vars : List ℕ} {sc : Scope} {top t at : ℕ}
+    (rd : Ready (termsIn (termIn p types terms t)) p types terms functions nodes heap vars sc top)
     (H : Here p terms t at 9) {i part : ℕ} (q : i ≡ first p at) (q′ : part ≡ second p at) where
   rolled : termIn p types terms t ≡ troll t (treeIn p types heap (entryCode i)) (termIn p types terms part)
   rolled = tree-roll (rd .entries) H ∙ ap₂ (troll t) (sym (whole-tree p types heap at q refl)) (ap (termIn p types terms) (sym q′))
@@ -201,7 +215,7 @@ module _ {p types terms functions nodes heap vars : List ℕ} {sc : Scope} {top 
 
   module _ {b : Body} (e : b ≡ bodyOf (typeAt p (getD types i 0)) i) where
     pub roll-no : {r : Out} → b ≡ Other → r .status ≡ Refused (Differ t) → r .top ≡ top
-        → Inferred (termsIn (termIn p types terms t)) (termIn p types terms t) p types heap heap (sc .n) vars vars top r (typeIn p types terms functions heap vars sc t)
+        → Infers p types terms functions heap heap vars vars sc top t r
     unfolding infer faultOf
     roll-no n s x = stopped _ (sc .n) vars (rd .scoped .sources) s x
         (ap (typingOf p types terms functions (contextIn p types heap vars sc)) rolled ∙ not-recursive (rd .scoped .sources) i roll-type (term t) _ (sym n ∙ e))
@@ -216,14 +230,16 @@ module _ {p types terms functions nodes heap vars : List ℕ} {sc : Scope} {top 
       pub roll-done : {whole : Code} → whole ≡ entryCode i → {heap′ vars′ : List ℕ} {out : Out}
           → Inferred (termsIn (termIn p types terms part)) (termIn p types terms part) p types heap heap′ (sc .n) vars vars′ top out
           (demanded (typeIn p types terms functions heap vars sc part) (treeIn p types heap c) (treeIn p types heap whole) t)
-          → Inferred (termsIn (termIn p types terms t)) (termIn p types terms t) p types heap heap′ (sc .n) vars vars′ top out (typeIn p types terms functions heap vars sc t)
+          → Infers p types terms functions heap heap′ vars vars′ sc top t out
       unfolding infer
       roll-done w d = around d _ (λ i. ap (names i) rolled) (omega (arith, size-roll))
           (ap (typingOf p types terms functions (contextIn p types heap vars sc)) rolled
           ∙ recursive (rd .scoped .sources) i roll-type (term t) _ roll-unfolds
-          ∙ ap₂ (λ c τ. demanded (typeIn p types terms functions heap vars sc part) c τ t) (sym (roll-unfolds .tree)) (sym (ap (treeIn p types heap) w ∙ roll-unfolds .whole)))
+          ∙ ap₂ (λ c τ. demanded (typeIn p types terms functions heap vars sc part) c τ t) (sym (roll-unfolds .tree))
+          (sym (ap (treeIn p types heap) w ∙ roll-unfolds .whole)))
 
-module _ {p types terms functions nodes heap vars : List ℕ} {sc : Scope} {top t at : ℕ} (rd : Ready (termsIn (termIn p types terms t)) p types terms functions nodes heap vars sc top)
+module _ {p types terms functions nodes heap vars : List ℕ} {sc : Scope} {top t at : ℕ}
+    (rd : Ready (termsIn (termIn p types terms t)) p types terms functions nodes heap vars sc top)
     (H : Here p terms t at 10) {i part : ℕ} (q : i ≡ first p at) (q′ : part ≡ second p at) where
   unrolled : termIn p types terms t ≡ tunroll t (treeIn p types heap (entryCode i)) (termIn p types terms part)
   unrolled = tree-unroll (rd .entries) H ∙ ap₂ (tunroll t) (sym (whole-tree p types heap at q refl)) (ap (termIn p types terms) (sym q′))
@@ -246,10 +262,11 @@ module _ {p types terms functions nodes heap vars : List ℕ} {sc : Scope} {top 
 
   module _ {b : Body} (e : b ≡ bodyOf (typeAt p (getD types i 0)) i) where
     pub unroll-no : {r : Out} → b ≡ Other → r .status ≡ Refused (Differ t) → r .top ≡ top
-        → Inferred (termsIn (termIn p types terms t)) (termIn p types terms t) p types heap heap (sc .n) vars vars top r (typeIn p types terms functions heap vars sc t)
+        → Infers p types terms functions heap heap vars vars sc top t r
     unfolding infer faultOf
     unroll-no n s x = stopped _ (sc .n) vars (rd .scoped .sources) s x
-        (ap (typingOf p types terms functions (contextIn p types heap vars sc)) unrolled ∙ not-recursive (rd .scoped .sources) i unroll-type (term t) _ (sym n ∙ e))
+        (ap (typingOf p types terms functions (contextIn p types heap vars sc)) unrolled
+        ∙ not-recursive (rd .scoped .sources) i unroll-type (term t) _ (sym n ∙ e))
 
     module _ {c : Code} (o : b ≡ Of c) where
       unroll-unfolds : Unfolds p types heap top i c
@@ -270,14 +287,14 @@ module _ {p types terms functions nodes heap vars : List ℕ} {sc : Scope} {top 
 
       module _ {ok : Bool} (within : ok ≡ leb (nodesIn (treeIn p types heap c)) maxNodes) where
         pub unroll-large : {r : Out} → ok ≡ false → r .status ≡ Refused (Differ t) → r .top ≡ top
-            → Inferred (termsIn (termIn p types terms t)) (termIn p types terms t) p types heap heap (sc .n) vars vars top r (typeIn p types terms functions heap vars sc t)
+            → Infers p types terms functions heap heap vars vars sc top t r
         unfolding faultOf
         unroll-large n s x = stopped _ (sc .n) vars (rd .scoped .sources) s x (unroll-rule ∙ need-no _ _ _ _ (sym within ∙ n))
 
         pub unroll-done : {whole : Code} → ok ≡ true → whole ≡ entryCode i → {heap′ vars′ : List ℕ} {out : Out}
             → Inferred (termsIn (termIn p types terms part)) (termIn p types terms part) p types heap heap′ (sc .n) vars vars′ top out
             (demanded (typeIn p types terms functions heap vars sc part) (treeIn p types heap whole) (treeIn p types heap c) t)
-            → Inferred (termsIn (termIn p types terms t)) (termIn p types terms t) p types heap heap′ (sc .n) vars vars′ top out (typeIn p types terms functions heap vars sc t)
+            → Infers p types terms functions heap heap′ vars vars′ sc top t out
         unroll-done y w d = around d _ (λ i. ap (names i) unrolled) (omega (arith, size-unroll))
             (unroll-rule ∙ need-yes _ _ _ _ (sym within ∙ y)
             ∙ ap (λ w. demanded (typeIn p types terms functions heap vars sc part) (treeIn p types heap w) (treeIn p types heap c) t) (sym w))

@@ -99,7 +99,8 @@ module _ {p types terms functions nodes : List ℕ} (E : Entered p types terms f
   ----------------------------------------------------------------
   -- A type and a term
 
-  module _ {t at kind : ℕ} (H : Here p terms t at kind) {x : TermEntry} (e : termAt p at ≡ x) (q : typesOfTerm x ≡ first p at ∷ []) (q′ : termsOfTerm x ≡ second p at ∷ []) where
+  module _ {t at kind : ℕ} (H : Here p terms t at kind) {x : TermEntry} (e : termAt p at ≡ x) (q : typesOfTerm x ≡ first p at ∷ [])
+      (q′ : termsOfTerm x ≡ second p at ∷ []) where
     typed-part : (first p at < length types) × Part t (second p at)
     typed-part =
         let l : second p at < t = below-head t (second p at) [] (subst (λ is. below t is ≡ true) q′ (lower-is H e)) .0 in
@@ -171,7 +172,8 @@ module _ {p types terms functions nodes : List ℕ} (E : Entered p types terms f
   ----------------------------------------------------------------
   -- Two terms
 
-  module _ {t at kind : ℕ} (H : Here p terms t at kind) {x : TermEntry} (e : termAt p at ≡ x) {is : List ℕ} (q : termsOfTerm x ≡ first p at ∷ second p at ∷ is) where
+  module _ {t at kind : ℕ} (H : Here p terms t at kind) {x : TermEntry} (e : termAt p at ≡ x) {is : List ℕ}
+      (q : termsOfTerm x ≡ first p at ∷ second p at ∷ is) where
     lower-two : below t (first p at ∷ second p at ∷ is) ≡ true
     lower-two = subst (λ is. below t is ≡ true) q (lower-is H e)
 
@@ -224,7 +226,8 @@ module _ {p types terms functions nodes : List ℕ} (E : Entered p types terms f
   -- Case
 
   module _ {t at : ℕ} (H : Here p terms t at 7) where
-    pub tree-case : termIn p types terms t ≡ tcase t (termIn p types terms (first p at)) (termIn p types terms (second p at)) (termIn p types terms (third p at))
+    pub tree-case : termIn p types terms t ≡ tcase t (termIn p types terms (first p at)) (termIn p types terms (second p at))
+        (termIn p types terms (third p at))
     unfolding termTree
     tree-case = tree-is H (term-case p at (H .form))
 
@@ -244,7 +247,8 @@ module _ {p types terms functions nodes : List ℕ} (E : Entered p types terms f
 
   module _ {t at : ℕ} (H : Here p terms t at 8) where
     pub tree-call : termIn p types terms t
-        ≡ tcall t (first p at) (termTrees (termIn p types terms) (references p (at + 6) (callAncillae (lengthAt p at)))) (termIn p types terms (listed p at (callAncillae (lengthAt p at))))
+        ≡ tcall t (first p at) (termTrees (termIn p types terms) (references p (at + 6) (callAncillae (lengthAt p at))))
+        (termIn p types terms (listed p at (callAncillae (lengthAt p at))))
     unfolding termTree
     tree-call = tree-is H (term-call p at (H .form))
 
@@ -264,4 +268,5 @@ module _ {p types terms functions nodes : List ℕ} (E : Entered p types terms f
     part-argument {k} h = let l : listed p at k < t = below-each t p (at + 6) _ _ lower-call k h in (l, omega (arith, H .there))
 
     pub part-dynamic : Part t (listed p at (callAncillae (lengthAt p at)))
-    part-dynamic = let l : listed p at (callAncillae (lengthAt p at)) < t = below-last t p (at + 6) (callAncillae (lengthAt p at)) _ lower-call in (l, omega (arith, H .there))
+    part-dynamic = let l : listed p at (callAncillae (lengthAt p at)) < t =
+        below-last t p (at + 6) (callAncillae (lengthAt p at)) _ lower-call in (l, omega (arith, H .there))

@@ -36,7 +36,8 @@ before L (bad n p) d e = e
 -- the answer for the functions from entry `g` on
 abbrev pub fromFunction : List ℕ → List ℕ → List ℕ → List ℕ → ℕ → Answer (Unit {0})
 fromFunction xs types terms functions g =
-    typed (placesOf types terms functions) (checkFuns maxVariables maxNodes (programIn xs types terms functions) g (drop g (programIn xs types terms functions)))
+    typed (placesOf types terms functions) (checkFuns maxVariables maxNodes (programIn xs types terms functions) g
+    (drop g (programIn xs types terms functions)))
 
 module _ (xs types terms functions : List ℕ) where
   pub from-first : typingAnswer xs types terms functions ≡ fromFunction xs types terms functions 0
@@ -56,7 +57,8 @@ module _ (xs types terms functions : List ℕ) where
       ∙ ap (functionOf (map (typeAt xs) types) (map (termAt xs) terms)) (List·getD-map (functionAt xs) functions g 0))
 
   module _ (g : ℕ) (l : g < length functions) where
-    pub function-typed : functionAnswer xs types terms functions g ≡ accepted tt → fromFunction xs types terms functions g ≡ fromFunction xs types terms functions (g + 1)
+    pub function-typed : functionAnswer xs types terms functions g ≡ accepted tt
+        → fromFunction xs types terms functions g ≡ fromFunction xs types terms functions (g + 1)
     unfolding checkFuns
     function-typed e =
         ap (λ hs. typed (placesOf types terms functions) (checkFuns maxVariables maxNodes (programIn xs types terms functions) g hs)) (next g l)

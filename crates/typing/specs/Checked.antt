@@ -69,7 +69,8 @@ typingAnswer xs types terms functions =
 -- of the function with entry `g`
 abbrev pub functionAnswer : List ℕ → List ℕ → List ℕ → List ℕ → ℕ → Answer (Unit {0})
 functionAnswer xs types terms functions g =
-    typed (placesOf types terms functions) (checkFun maxVariables maxNodes (programIn xs types terms functions) g (functionIn xs types terms (getD functions g 0)))
+    typed (placesOf types terms functions) (checkFun maxVariables maxNodes (programIn xs types terms functions) g
+    (functionIn xs types terms (getD functions g 0)))
 
 -- Of the function whose field is at `at`, once its body has the type `τ`; `used` is whether the body uses the dynamic parameter.
 unfoldable pub endAnswer : List ℕ → List ℕ → ℕ → Ty → Bool → Answer (Unit {0})

@@ -243,7 +243,8 @@ pub record Unites (l f : Found) (u : Uses) (s : Status) : Type 0 where
 -- The left branch has the type and the uses `l`, the right branch those of `f`: the answer of case, whose scrutinee has the uses `u`.
 pub record Meets (p types heap : List ℕ) (l : Found) (u : Uses) (i : ℕ) (d : Code) (owed : Uses) (t : ℕ) (f : Found) (s : Status) : Type 0 where
   pub differ : sameTy (treeIn p types heap (l .code)) (treeIn p types heap (f .code)) ≡ false → s ≡ Refused (Differ t)
-  pub unused : sameTy (treeIn p types heap (l .code)) (treeIn p types heap (f .code)) ≡ true → spentBy p types heap d i (f .uses) ≡ false → s ≡ Refused (Misused t)
+  pub unused : sameTy (treeIn p types heap (l .code)) (treeIn p types heap (f .code)) ≡ true → spentBy p types heap d i (f .uses) ≡ false
+      → s ≡ Refused (Misused t)
   pub apart : sameTy (treeIn p types heap (l .code)) (treeIn p types heap (f .code)) ≡ true → (AgreeOn (l .uses) (f .uses) owed → ⊥) → s ≡ Refused (Misused t)
   pub both : sameTy (treeIn p types heap (l .code)) (treeIn p types heap (f .code)) ≡ true → spentBy p types heap d i (f .uses) ≡ true
       → AgreeOn (l .uses) (f .uses) owed → Unites l f u s

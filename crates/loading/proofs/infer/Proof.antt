@@ -24,25 +24,54 @@ same-length : tie.Need-same-length
 same-length c = search needs
 
 returns : tie.Need-returns
-returns c = infer-typed (c .before .before .before .before .before .before .before .before .before .before .before .before .pre .0) (c .before .before .before .before .check-functions .result) (c .before .before .before .before .check-functions .ensures) (c .enum-told .given .1)
+returns c =
+    let at-enum-told = c in
+    let at-check-functions = at-enum-told .before .before .before .before in
+    let start = at-check-functions .before .before .before .before .before .before .before .before in
+    infer-typed (start .pre .0) (at-check-functions .check-functions .result) (at-check-functions .check-functions .ensures)
+    (at-enum-told .enum-told .given .1) (start .pre .1)
 
 same-length-2 : tie.Need-same-length-2
 same-length-2 c = search needs
 
 returns-2 : tie.Need-returns-2
-returns-2 c = record { answer = infer-refused (c .before .before .before .before .before .before .before .before .before .before .before .before .before .pre .0) (c .before .before .before .before .before .check-functions .result) (c .before .before .before .before .before .check-functions .ensures) 6 _ (ap verdictOf (c .before .v .given .1)); ready = tt }
+returns-2 c =
+    let at-v = c .before in
+    let at-check-functions = at-v .before .before .before .before in
+    let start = at-check-functions .before .before .before .before .before .before .before .before in
+    record {
+      answer = infer-refused (start .pre .0) (at-check-functions .check-functions .result) (at-check-functions .check-functions .ensures) 6 _
+          (ap verdictOf (at-v .v .given .1));
+      ready = tt;
+    }
 
 same-length-3 : tie.Need-same-length-3
 same-length-3 c = search needs
 
 returns-3 : tie.Need-returns-3
-returns-3 c = record { answer = infer-refused (c .before .before .before .before .before .before .before .before .before .before .before .before .before .pre .0) (c .before .before .before .before .before .check-functions .result) (c .before .before .before .before .before .check-functions .ensures) 7 _ (ap verdictOf (c .before .v2 .given .1)); ready = tt }
+returns-3 c =
+    let at-v2 = c .before in
+    let at-check-functions = at-v2 .before .before .before .before in
+    let start = at-check-functions .before .before .before .before .before .before .before .before in
+    record {
+      answer = infer-refused (start .pre .0) (at-check-functions .check-functions .result) (at-check-functions .check-functions .ensures) 7 _
+          (ap verdictOf (at-v2 .v2 .given .1));
+      ready = tt;
+    }
 
 same-length-4 : tie.Need-same-length-4
 same-length-4 c = search needs
 
 returns-4 : tie.Need-returns-4
-returns-4 c = record { answer = infer-refused (c .before .before .before .before .before .before .before .before .before .before .before .before .before .pre .0) (c .before .before .before .before .before .check-functions .result) (c .before .before .before .before .before .check-functions .ensures) 8 _ (ap verdictOf (c .before .v3 .given .1)); ready = tt }
+returns-4 c =
+    let at-v3 = c .before in
+    let at-check-functions = at-v3 .before .before .before .before in
+    let start = at-check-functions .before .before .before .before .before .before .before .before in
+    record {
+      answer = infer-refused (start .pre .0) (at-check-functions .check-functions .result) (at-check-functions .check-functions .ensures) 8 _
+          (ap verdictOf (at-v3 .v3 .given .1));
+      ready = tt;
+    }
 
 pub infer-spec : {M : Type 1} → statement M
 infer-spec =

@@ -6,34 +6,57 @@ use Rattle.loading.proofs.load.Statement.{statement}
 use Rattle.loading.proofs.load.Tie as tie
 
 layout-requires : tie.Need-layout-requires
-layout-requires c κs = (c .before .before .before .before .before .before .before .before .before .pre .0, refl)
+layout-requires c κs =
+    let start = c .before .before .before .before .before .before .before .before .before in
+    (start .pre .0, start .pre .1 .1)
 
 enum-known-v : tie.Need-enum-known-v
 enum-known-v c = search needs
 
 slice-reshare-prefix-examine : tie.Need-slice-reshare-prefix-examine
-slice-reshare-prefix-examine c = types-inside _ (c .before .before .before .before .before .before .before .before .before .layout .ensures .0) _ (c .before .v .given .1)
+slice-reshare-prefix-examine c =
+    let at-v = c .before in
+    let at-layout = at-v .before .before .before .before .before .before .before .before in
+    types-inside _ (at-layout .layout .ensures .0) _ (at-v .v .given .1)
 
 slice-aggregate-examine : tie.Need-slice-aggregate-examine
-slice-aggregate-examine c = sym (length-take-le _ _ (types-inside _ (c .before .before .before .before .before .before .before .before .before .before .layout .ensures .0) _ (c .before .before .v .given .1)))
+slice-aggregate-examine c =
+    let at-v = c .before .before in
+    let at-layout = at-v .before .before .before .before .before .before .before .before in
+    sym (length-take-le _ _ (types-inside _ (at-layout .layout .ensures .0) _ (at-v .v .given .1)))
 
 slice-reshare-prefix-examine-2 : tie.Need-slice-reshare-prefix-examine-2
-slice-reshare-prefix-examine-2 c = terms-inside _ (c .before .before .before .before .before .before .before .before .before .before .layout .ensures .0) _ (c .before .before .v .given .1)
+slice-reshare-prefix-examine-2 c =
+    let at-v = c .before .before in
+    let at-layout = at-v .before .before .before .before .before .before .before .before in
+    terms-inside _ (at-layout .layout .ensures .0) _ (at-v .v .given .1)
 
 slice-aggregate-examine-2 : tie.Need-slice-aggregate-examine-2
-slice-aggregate-examine-2 c = sym (length-take-le _ _ (terms-inside _ (c .before .before .before .before .before .before .before .before .before .before .before .layout .ensures .0) _ (c .before .before .before .v .given .1)))
+slice-aggregate-examine-2 c =
+    let at-v = c .before .before .before in
+    let at-layout = at-v .before .before .before .before .before .before .before .before in
+    sym (length-take-le _ _ (terms-inside _ (at-layout .layout .ensures .0) _ (at-v .v .given .1)))
 
 slice-reshare-prefix-examine-3 : tie.Need-slice-reshare-prefix-examine-3
-slice-reshare-prefix-examine-3 c = functions-inside _ (c .before .before .before .before .before .before .before .before .before .before .before .layout .ensures .0) _ (c .before .before .before .v .given .1)
+slice-reshare-prefix-examine-3 c =
+    let at-v = c .before .before .before in
+    let at-layout = at-v .before .before .before .before .before .before .before .before in
+    functions-inside _ (at-layout .layout .ensures .0) _ (at-v .v .given .1)
 
 slice-aggregate-examine-3 : tie.Need-slice-aggregate-examine-3
-slice-aggregate-examine-3 c = sym (length-take-le _ _ (functions-inside _ (c .before .before .before .before .before .before .before .before .before .before .before .before .layout .ensures .0) _ (c .before .before .before .before .v .given .1)))
+slice-aggregate-examine-3 c =
+    let at-v = c .before .before .before .before in
+    let at-layout = at-v .before .before .before .before .before .before .before .before in
+    sym (length-take-le _ _ (functions-inside _ (at-layout .layout .ensures .0) _ (at-v .v .given .1)))
 
 examine-requires : tie.Need-examine-requires
 examine-requires c κs =
-    let read = c .before .before .before .before .before .before .before .before .before .before .before .before .before .before .layout .ensures in
-    let counted = c .before .before .before .before .before .before .v .given .1 in
-    (fields-placed _ (read .0) _ counted, (c .before .before .before .before .before .before .before .before .before .before .before .before .before .before .before .before .before .before .before .before .before .before .before .before .pre .1, rw counted at (read .1)))
+    let at-v = c .before .before .before .before .before .before in
+    let at-layout = at-v .before .before .before .before .before .before .before .before in
+    let start = at-layout .before .before .before .before .before .before .before .before .before .before in
+    let read = at-layout .layout .ensures in
+    let counted = at-v .v .given .1 in
+    (fields-placed _ (read .0) _ counted, (start .pre .1 .0, rw counted at (read .1)))
 
 enum-known-v-2 : tie.Need-enum-known-v-2
 enum-known-v-2 c = search needs
@@ -54,7 +77,11 @@ same-length-4 : tie.Need-same-length-4
 same-length-4 c = search needs
 
 returns : tie.Need-returns
-returns c = load-read _ (c .before .before .before .before .before .before .before .before .before .before .before .before .before .before .before .before .before .layout .ensures .0) _ (c .before .before .before .before .before .before .before .before .before .v .given .1) _ (c .before .before .examine .ensures)
+returns c =
+    let at-examine = c .before .before in
+    let at-v = at-examine .before .before .before .before .before .before .before in
+    let at-layout = at-v .before .before .before .before .before .before .before .before in
+    load-read _ (at-layout .layout .ensures .0) _ (at-v .v .given .1) _ (at-examine .examine .ensures)
 
 same-length-5 : tie.Need-same-length-5
 same-length-5 c = search needs
@@ -66,7 +93,10 @@ same-length-7 : tie.Need-same-length-7
 same-length-7 c = search needs
 
 returns-2 : tie.Need-returns-2
-returns-2 c = load-malformed _ (c .before .before .before .before .before .before .before .before .before .layout .ensures .0) _ (c .before .v2 .given .1)
+returns-2 c =
+    let at-v2 = c .before in
+    let at-layout = at-v2 .before .before .before .before .before .before .before .before in
+    load-malformed _ (at-layout .layout .ensures .0) _ (at-v2 .v2 .given .1)
 
 same-length-8 : tie.Need-same-length-8
 same-length-8 c = search needs

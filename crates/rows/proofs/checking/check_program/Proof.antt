@@ -1,3 +1,4 @@
+use mathlib.Core.Path.{refl}
 use native.Mathlib.Omega.{arith}
 use Rattle.rules.specs.Limits.{maxTypes, maxTerms, maxFunctions}
 use Rattle.rows.proofs.Checks.{check-ready, check-refused}
@@ -16,7 +17,9 @@ slice-aggregate-prepare-3 c = search needs
 
 prepare-requires : tie.Need-prepare-requires
 unfolding maxTypes maxTerms maxFunctions
-prepare-requires c κs = (record { forTypes = omega arith; forTerms = omega arith; forFunctions = omega arith }, c .before .before .before .before .before .before .pre)
+prepare-requires c κs =
+    let start = c .before .before .before .before .before .before .before in
+    (record { forTypes = omega arith; forTerms = omega arith; forFunctions = omega arith }, (start .pre, refl))
 
 enum-told : tie.Need-enum-told
 enum-told c = search needs

@@ -10,7 +10,11 @@ enum-told : tie.Need-enum-told
 enum-told c = search needs
 
 run-function-requires : tie.Need-run-function-requires
-run-function-requires c κs = allowed (c .before .before .before .before .before .before .before .before .before .before .before .before .before .pre .0) (c .before .before .before .before .admit .ensures) (c .before .before .enum-told .given .1) (c .before .before .before .before .before .before .before .before .before .before .before .before .before .pre .1)
+run-function-requires c κs =
+    let at-enum-told = c .before .before in
+    let at-admit = at-enum-told .before .before in
+    let start = at-admit .before .before .before .before .before .before .before .before .before in
+    allowed (start .pre .0) (at-admit .admit .ensures) (at-enum-told .enum-told .given .1) (start .pre .1)
 
 from-ended-requires : tie.Need-from-ended-requires
 from-ended-requires c κs = search needs
@@ -31,16 +35,35 @@ same-length-2 : tie.Need-same-length-2
 same-length-2 c = search needs
 
 returns : tie.Need-returns
-returns c = ran-as (c .before .before .before .before .before .before .before .before .before .before .before .before .before .before .before .before .before .before .before .pre .0) (c .before .before .before .before .before .before .before .before .before .before .admit .ensures) _ _ (c .before .before .before .before .before .before .before .before .enum-told .given .1) (c .before .before .before .before .before .run-function .ensures) (c .from-ended .ensures)
+returns c =
+    let at-from-ended = c in
+    let at-run-function = at-from-ended .before .before .before .before .before in
+    let at-enum-told = at-run-function .before .before .before in
+    let at-admit = at-enum-told .before .before in
+    let start = at-admit .before .before .before .before .before .before .before .before .before in
+    ran-as (start .pre .0) (at-admit .admit .ensures) _ _ (at-enum-told .enum-told .given .1) (at-run-function .run-function .ensures)
+    (at-from-ended .from-ended .ensures)
 
 returns-2 : tie.Need-returns-2
-returns-2 c = no-function (c .before .before .before .before .before .before .before .before .before .before .before .pre .0) (c .before .before .admit .ensures) _ _ (c .enum-told2 .given .1)
+returns-2 c =
+    let at-enum-told2 = c in
+    let at-admit = at-enum-told2 .before .before in
+    let start = at-admit .before .before .before .before .before .before .before .before .before in
+    no-function (start .pre .0) (at-admit .admit .ensures) _ _ (at-enum-told2 .enum-told2 .given .1)
 
 returns-3 : tie.Need-returns-3
-returns-3 c = bad-values (c .before .before .before .before .before .before .before .before .before .before .before .pre .0) (c .before .before .admit .ensures) _ _ (c .enum-told3 .given .1)
+returns-3 c =
+    let at-enum-told3 = c in
+    let at-admit = at-enum-told3 .before .before in
+    let start = at-admit .before .before .before .before .before .before .before .before .before in
+    bad-values (start .pre .0) (at-admit .admit .ensures) _ _ (at-enum-told3 .enum-told3 .given .1)
 
 returns-4 : tie.Need-returns-4
-returns-4 c = wrong-type (c .before .before .before .before .before .before .before .before .before .before .before .pre .0) (c .before .before .admit .ensures) _ _ (c .enum-told4 .given .1)
+returns-4 c =
+    let at-enum-told4 = c in
+    let at-admit = at-enum-told4 .before .before in
+    let start = at-admit .before .before .before .before .before .before .before .before .before in
+    wrong-type (start .pre .0) (at-admit .admit .ensures) _ _ (at-enum-told4 .enum-told4 .given .1)
 
 pub run-spec : {M : Type 1} → statement M
 run-spec =

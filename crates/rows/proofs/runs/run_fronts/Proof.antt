@@ -9,10 +9,14 @@ slice-aggregate-run : tie.Need-slice-aggregate-run
 slice-aggregate-run c = sym (length-take-le _ _ (types-inside (c .before .before .before .before .before .before .before .before .before .pre .0)))
 
 slice-aggregate-run-2 : tie.Need-slice-aggregate-run-2
-slice-aggregate-run-2 c = sym (length-take-le _ _ (terms-inside (c .before .before .before .before .before .before .before .before .before .before .pre .0)))
+slice-aggregate-run-2 c =
+    let start = c .before .before .before .before .before .before .before .before .before .before in
+    sym (length-take-le _ _ (terms-inside (start .pre .0)))
 
 slice-aggregate-run-3 : tie.Need-slice-aggregate-run-3
-slice-aggregate-run-3 c = sym (length-take-le _ _ (functions-inside (c .before .before .before .before .before .before .before .before .before .before .before .pre .0)))
+slice-aggregate-run-3 c =
+    let start = c .before .before .before .before .before .before .before .before .before .before .before in
+    sym (length-take-le _ _ (functions-inside (start .pre .0)))
 
 run-requires : tie.Need-run-requires
 run-requires c κs = search needs

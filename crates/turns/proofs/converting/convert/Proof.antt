@@ -23,13 +23,22 @@ same-length-2 : tie.Need-same-length-2
 same-length-2 c = search needs
 
 returns-2 : tie.Need-returns-2
-returns-2 c = convert-many _ _ _ _ _ (stands-at (c .before .before .before .before .before .survey .ensures) (c .before .before .before .survey2 .given .1)) (c .if1 .taken)
+returns-2 c =
+    let at-if1 = c in
+    let at-survey2 = at-if1 .before .before .before in
+    let at-survey = at-survey2 .before .before in
+    convert-many _ _ _ _ _ (stands-at (at-survey .survey .ensures) (at-survey2 .survey2 .given .1)) (at-if1 .if1 .taken)
 
 slice-aggregate-convert-held : tie.Need-slice-aggregate-convert-held
 slice-aggregate-convert-held c = search needs
 
 convert-held-requires : tie.Need-convert-held-requires
-convert-held-requires c κs = ((c .before .before .before .before .before .before .before .before .before .before .before .before .before .before .before .before .before .pre .0, c .before .before .before .before .before .before .before .before .before .before .before .before .before .before .before .before .before .pre .1), (stands-at (c .before .before .before .before .before .before .before .before .survey .ensures) (c .before .before .before .before .before .before .survey2 .given .1), (c .before .before .before .if1 .left, refl)))
+convert-held-requires c κs =
+    let at-if1 = c .before .before .before in
+    let at-survey2 = at-if1 .before .before .before in
+    let at-survey = at-survey2 .before .before in
+    let start = at-survey .before .before .before .before .before .before .before .before .before in
+    ((start .pre .0, start .pre .1), (stands-at (at-survey .survey .ensures) (at-survey2 .survey2 .given .1), (at-if1 .if1 .left, refl)))
 
 same-length-3 : tie.Need-same-length-3
 same-length-3 c = search needs

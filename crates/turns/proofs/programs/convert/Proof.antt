@@ -1,3 +1,4 @@
+use mathlib.Core.Path.{refl}
 use native.Mathlib.Omega.{arith}
 use Rattle.rules.specs.Limits.{maxTypes, maxTerms, maxFunctions}
 use Rattle.rows.proofs.Beginning.{enough-types}
@@ -19,7 +20,9 @@ slice-aggregate-prepare-3 c = search needs
 
 prepare-requires : tie.Need-prepare-requires
 unfolding maxTypes maxTerms maxFunctions
-prepare-requires c κs = (record { forTypes = omega arith; forTerms = omega arith; forFunctions = omega arith }, enough-types _ _ (c .before .before .before .before .before .before .before .before .pre))
+prepare-requires c κs =
+    let start = c .before .before .before .before .before .before .before .before .before in
+    (record { forTypes = omega arith; forTerms = omega arith; forFunctions = omega arith }, (enough-types _ _ (start .pre), refl))
 
 enum-known-prepared : tie.Need-enum-known-prepared
 enum-known-prepared c = search needs
@@ -34,7 +37,11 @@ slice-aggregate-convert-fronts-3 : tie.Need-slice-aggregate-convert-fronts-3
 slice-aggregate-convert-fronts-3 c = search needs
 
 convert-fronts-requires : tie.Need-convert-fronts-requires
-convert-fronts-requires c κs = (fronts (c .before .before .before .before .before .before .before .before .before .before .before .before .before .prepare .ensures) (c .before .before .before .before .before .before .prepared .given .1), kept-enough (c .before .before .before .before .before .before .before .before .before .before .before .before .before .prepare .kept .1 .1 .1 .1 .0) (c .before .before .before .before .before .before .before .before .before .before .before .before .before .before .before .before .before .before .before .before .before .before .pre))
+convert-fronts-requires c κs =
+    let at-prepared = c .before .before .before .before .before .before .before in
+    let at-prepare = at-prepared .before .before .before .before .before .before .before in
+    let start = at-prepare .before .before .before .before .before .before .before .before .before .before in
+    (fronts (at-prepare .prepare .ensures) (at-prepared .prepared .given .1), kept-enough (at-prepare .prepare .kept .1 .1 .1 .1 .1 .0) (start .pre))
 
 enum-known-prepared-2 : tie.Need-enum-known-prepared-2
 enum-known-prepared-2 c = search needs
@@ -46,13 +53,26 @@ same-length-2 : tie.Need-same-length-2
 same-length-2 c = search needs
 
 returns : tie.Need-returns
-returns c = let start = c .before .before .before .before .before .before .before .before .before .before .before .before .before .before .before .before .before .before .before .before .before .before .before .before .before .before .before .args in turn-ready (c .before .before .before .before .before .before .before .before .before .before .before .before .before .before .before .before .before .before .prepare .ensures) (λ P. convertOf P (start .fuel) (start .function) (start .ancillae .now) (start .journal .now)) (c .before .before .before .before .before .before .before .before .before .before .before .prepared .given .1) (c .before .before .before .before .convert-fronts .ensures)
+returns c =
+    let at-convert-fronts = c .before .before .before .before in
+    let at-prepared = at-convert-fronts .before .before .before .before .before .before .before .before in
+    let at-prepare = at-prepared .before .before .before .before .before .before .before in
+    let start = at-prepare .before .before .before .before .before .before .before .before .before .before in
+    let args = start .args in
+    turn-ready (at-prepare .prepare .ensures) (λ P. convertOf P (args .fuel) (args .function) (args .ancillae .now) (args .journal .now))
+    (at-prepared .prepared .given .1) (at-convert-fronts .convert-fronts .ensures)
 
 same-length-3 : tie.Need-same-length-3
 same-length-3 c = search needs
 
 returns-2 : tie.Need-returns-2
-returns-2 c = let start = c .before .before .before .before .before .before .before .before .before .before .before .before .before .before .before .before .before .args in turn-refused (c .before .before .before .before .before .before .before .before .prepare .ensures) (λ P. convertOf P (start .fuel) (start .function) (start .ancillae .now) (start .journal .now)) (c .before .prepared2 .given .1)
+returns-2 c =
+    let at-prepared2 = c .before in
+    let at-prepare = at-prepared2 .before .before .before .before .before .before .before in
+    let start = at-prepare .before .before .before .before .before .before .before .before .before .before in
+    let args = start .args in
+    turn-refused (at-prepare .prepare .ensures) (λ P. convertOf P (args .fuel) (args .function) (args .ancillae .now) (args .journal .now))
+    (at-prepared2 .prepared2 .given .1)
 
 pub convert-spec : {M : Type 1} → statement M
 convert-spec =

@@ -9,10 +9,14 @@ slice-aggregate-convert : tie.Need-slice-aggregate-convert
 slice-aggregate-convert c = sym (length-take-le _ _ (types-inside (c .before .before .before .before .before .before .before .before .pre .0)))
 
 slice-aggregate-convert-2 : tie.Need-slice-aggregate-convert-2
-slice-aggregate-convert-2 c = sym (length-take-le _ _ (terms-inside (c .before .before .before .before .before .before .before .before .before .pre .0)))
+slice-aggregate-convert-2 c =
+    let start = c .before .before .before .before .before .before .before .before .before in
+    sym (length-take-le _ _ (terms-inside (start .pre .0)))
 
 slice-aggregate-convert-3 : tie.Need-slice-aggregate-convert-3
-slice-aggregate-convert-3 c = sym (length-take-le _ _ (functions-inside (c .before .before .before .before .before .before .before .before .before .before .pre .0)))
+slice-aggregate-convert-3 c =
+    let start = c .before .before .before .before .before .before .before .before .before .before in
+    sym (length-take-le _ _ (functions-inside (start .pre .0)))
 
 convert-requires : tie.Need-convert-requires
 convert-requires c κs = search needs

@@ -12,7 +12,9 @@ slice-aggregate-rollback-2 : tie.Need-slice-aggregate-rollback-2
 slice-aggregate-rollback-2 c = sym (length-take-le _ _ (terms-inside (c .before .before .before .before .before .before .before .before .pre .0)))
 
 slice-aggregate-rollback-3 : tie.Need-slice-aggregate-rollback-3
-slice-aggregate-rollback-3 c = sym (length-take-le _ _ (functions-inside (c .before .before .before .before .before .before .before .before .before .pre .0)))
+slice-aggregate-rollback-3 c =
+    let start = c .before .before .before .before .before .before .before .before .before in
+    sym (length-take-le _ _ (functions-inside (start .pre .0)))
 
 rollback-requires : tie.Need-rollback-requires
 rollback-requires c κs = search needs

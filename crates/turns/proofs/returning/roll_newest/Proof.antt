@@ -15,13 +15,38 @@ wide-index-requires : tie.Need-wide-index-requires
 wide-index-requires c κs = search needs
 
 slice-reshare-prefix-strike : tie.Need-slice-reshare-prefix-strike
-slice-reshare-prefix-strike c = inside (c .before .before .before .before .before .before .before .before .before .before .before .before .before .before .before .before .before .before .before .before .args .pl) (c .before .before .before .before .before .before .before .before .before .before .before .before .before .before .before .before .before .before .before .before .args .journal .now) (c .before .before .before .before .before .before .before .before .before .before .before .before .before .before .before .before .before .before .before .before .pre .1 .1 .0) (c .before .before .before .before .before .before .before .before .before .before .before .before .before .before .before .before .before .before .before .before .pre .1 .1 .1) _ _ (c .before .before .before .before .before .before .before .before .before .run-newest .ensures) (c .before .before .before .answer .given .1) _ (c .before .wide-index .ensures .0)
+slice-reshare-prefix-strike c =
+    let at-wide-index = c .before in
+    let at-answer = at-wide-index .before .before in
+    let at-run-newest = at-answer .before .before .before .before .before .before in
+    let start = at-run-newest .before .before .before .before .before .before .before .before .before .before .before in
+    inside (start .args .pl) (start .args .journal .now) (start .pre .1 .1 .0) (start .pre .1 .1 .1) _ _ (at-run-newest .run-newest .ensures)
+    (at-answer .answer .given .1) _ (at-wide-index .wide-index .ensures .0)
 
 slice-aggregate-strike : tie.Need-slice-aggregate-strike
-slice-aggregate-strike c = sym (length-take-le _ _ (inside (c .before .before .before .before .before .before .before .before .before .before .before .before .before .before .before .before .before .before .before .before .before .args .pl) (c .before .before .before .before .before .before .before .before .before .before .before .before .before .before .before .before .before .before .before .before .before .args .journal .now) (c .before .before .before .before .before .before .before .before .before .before .before .before .before .before .before .before .before .before .before .before .before .pre .1 .1 .0) (c .before .before .before .before .before .before .before .before .before .before .before .before .before .before .before .before .before .before .before .before .before .pre .1 .1 .1) _ _ (c .before .before .before .before .before .before .before .before .before .before .run-newest .ensures) (c .before .before .before .before .answer .given .1) _ (c .before .before .wide-index .ensures .0)))
+slice-aggregate-strike c =
+    let at-wide-index = c .before .before in
+    let at-answer = at-wide-index .before .before in
+    let at-run-newest = at-answer .before .before .before .before .before .before in
+    let start = at-run-newest .before .before .before .before .before .before .before .before .before .before .before in
+    sym (length-take-le _ _ (inside (start .args .pl) (start .args .journal .now) (start .pre .1 .1 .0) (start .pre .1 .1 .1) _ _
+    (at-run-newest .run-newest .ensures) (at-answer .answer .given .1) _ (at-wide-index .wide-index .ensures .0)))
 
 strike-requires : tie.Need-strike-requires
-strike-requires c κs = ((c .before .before .before .before .before .before .before .before .before .before .before .before .before .before .before .before .before .before .before .before .before .pre .1 .1 .0, c .before .before .before .before .before .before .before .before .before .before .before .before .before .before .before .before .before .before .before .before .before .pre .1 .1 .1), (front-one (c .before .before .before .before .before .before .before .before .before .before .before .before .before .before .before .before .before .before .before .before .before .args .pl) (c .before .before .before .before .before .before .before .before .before .before .before .before .before .before .before .before .before .before .before .before .before .args .journal .now) (c .before .before .before .before .before .before .before .before .before .before .before .before .before .before .before .before .before .before .before .before .before .pre .1 .1 .0) (c .before .before .before .before .before .before .before .before .before .before .before .before .before .before .before .before .before .before .before .before .before .pre .1 .1 .1) _ _ (c .before .before .before .before .before .before .before .before .before .before .run-newest .ensures) (c .before .before .before .before .answer .given .1) _ (c .before .before .wide-index .ensures .0), front-long (c .before .before .before .before .before .before .before .before .before .before .before .before .before .before .before .before .before .before .before .before .before .args .pl) (c .before .before .before .before .before .before .before .before .before .before .before .before .before .before .before .before .before .before .before .before .before .args .journal .now) (c .before .before .before .before .before .before .before .before .before .before .before .before .before .before .before .before .before .before .before .before .before .pre .1 .1 .0) (c .before .before .before .before .before .before .before .before .before .before .before .before .before .before .before .before .before .before .before .before .before .pre .1 .1 .1) _ _ (c .before .before .before .before .before .before .before .before .before .before .run-newest .ensures) (c .before .before .before .before .answer .given .1) _ (c .before .before .wide-index .ensures .0)))
+strike-requires c κs =
+    let at-wide-index = c .before .before in
+    let at-answer = at-wide-index .before .before in
+    let at-run-newest = at-answer .before .before .before .before .before .before in
+    let start = at-run-newest .before .before .before .before .before .before .before .before .before .before .before in (
+      (start .pre .1 .1 .0, start .pre .1 .1 .1),
+      (
+        front-one (start .args .pl) (start .args .journal .now) (start .pre .1 .1 .0) (start .pre .1 .1 .1)
+            _ _ (at-run-newest .run-newest .ensures) (at-answer .answer .given .1) _ (at-wide-index .wide-index .ensures .0),
+        front-long
+            (start .args .pl) (start .args .journal .now) (start .pre .1 .1 .0) (start .pre .1 .1 .1) _ _ (at-run-newest .run-newest .ensures)
+            (at-answer .answer .given .1) _ (at-wide-index .wide-index .ensures .0),
+      ),
+    )
 
 enum-known-answer-2 : tie.Need-enum-known-answer-2
 enum-known-answer-2 c = search needs
@@ -36,7 +61,14 @@ same-length-3 : tie.Need-same-length-3
 same-length-3 c = search needs
 
 returns : tie.Need-returns
-returns c = taken (c .before .before .before .before .before .before .before .before .before .before .before .before .before .before .before .before .before .before .before .before .before .before .before .before .args .pl) (c .before .before .before .before .before .before .before .before .before .before .before .before .before .before .before .before .before .before .before .before .before .before .before .before .args .journal .now) (c .before .before .before .before .before .before .before .before .before .before .before .before .before .before .before .before .before .before .before .before .before .before .before .before .pre .1 .1 .0) (c .before .before .before .before .before .before .before .before .before .before .before .before .before .before .before .before .before .before .before .before .before .before .before .before .pre .1 .1 .1) _ _ (c .before .before .before .before .before .before .before .before .before .before .before .before .before .run-newest .ensures) (c .before .before .before .before .before .before .before .answer .given .1) _ (c .before .before .before .before .before .wide-index .ensures .0) (c .before .before .strike .ensures)
+returns c =
+    let at-strike = c .before .before in
+    let at-wide-index = at-strike .before .before .before in
+    let at-answer = at-wide-index .before .before in
+    let at-run-newest = at-answer .before .before .before .before .before .before in
+    let start = at-run-newest .before .before .before .before .before .before .before .before .before .before .before in
+    taken (start .args .pl) (start .args .journal .now) (start .pre .1 .1 .0) (start .pre .1 .1 .1) _ _ (at-run-newest .run-newest .ensures)
+    (at-answer .answer .given .1) _ (at-wide-index .wide-index .ensures .0) (at-strike .strike .ensures)
 
 same-length-4 : tie.Need-same-length-4
 same-length-4 c = search needs
@@ -48,7 +80,12 @@ same-length-6 : tie.Need-same-length-6
 same-length-6 c = search needs
 
 returns-2 : tie.Need-returns-2
-returns-2 c = not-taken (c .before .before .before .before .before .before .before .before .before .before .before .before .before .before .before .before .before .before .args .pl) (c .before .before .before .before .before .before .before .before .before .before .before .before .before .before .before .before .before .before .args .journal .now) (c .before .before .before .before .before .before .before .before .before .before .before .before .before .before .before .before .before .before .pre .1 .1 .0) (c .before .before .before .before .before .before .before .before .before .before .before .before .before .before .before .before .before .before .pre .1 .1 .1) _ _ (c .before .before .before .before .before .before .before .run-newest .ensures) (c .before .answer2 .given .1)
+returns-2 c =
+    let at-answer2 = c .before in
+    let at-run-newest = at-answer2 .before .before .before .before .before .before in
+    let start = at-run-newest .before .before .before .before .before .before .before .before .before .before .before in
+    not-taken (start .args .pl) (start .args .journal .now) (start .pre .1 .1 .0) (start .pre .1 .1 .1) _ _ (at-run-newest .run-newest .ensures)
+    (at-answer2 .answer2 .given .1)
 
 pub roll-newest-spec : {M : Type 1} → statement M
 roll-newest-spec =

@@ -18,20 +18,44 @@ same-length : tie.Need-same-length
 same-length c = search needs
 
 returns : tie.Need-returns
-returns c = unread (c .before .before .before .before .before .before .before .before .before .before .args .journal .now) (c .before .before .survey .ensures) _ _ (c .enum-told .given .1)
+returns c =
+    let at-enum-told = c in
+    let at-survey = at-enum-told .before .before in
+    let start = at-survey .before .before .before .before .before .before .before .before in
+    unread (start .args .journal .now) (at-survey .survey .ensures) _ _ (at-enum-told .enum-told .given .1)
 
 same-length-2 : tie.Need-same-length-2
 same-length-2 c = search needs
 
 returns-2 : tie.Need-returns-2
-returns-2 c = none-stands (c .before .before .before .before .before .before .before .before .before .before .before .before .args .journal .now) (c .before .before .before .before .survey .ensures) _ _ (c .before .before .survey2 .given .1) (c .if1 .taken)
+returns-2 c =
+    let at-if1 = c in
+    let at-survey2 = at-if1 .before .before in
+    let at-survey = at-survey2 .before .before in
+    let start = at-survey .before .before .before .before .before .before .before .before in
+    none-stands (start .args .journal .now) (at-survey .survey .ensures) _ _ (at-survey2 .survey2 .given .1) (at-if1 .if1 .taken)
 
 slice-aggregate-roll-newest : tie.Need-slice-aggregate-roll-newest
 slice-aggregate-roll-newest c = search needs
 
 roll-newest-requires : tie.Need-roll-newest-requires
 unfolding maxValueBytes
-roll-newest-requires c κs = (c .before .before .before .before .before .before .before .before .before .before .before .before .before .before .before .pre .0, (c .before .before .before .before .before .before .before .before .before .before .before .before .before .before .before .pre .1, (stands (c .before .before .before .before .before .before .before .before .before .before .before .before .before .before .before .args .journal .now) (c .before .before .before .before .before .before .before .survey .ensures) (c .before .before .before .before .before .survey2 .given .1), some-count (c .before .before .before .if1 .left), omega arith)))
+roll-newest-requires c κs =
+    let at-if1 = c .before .before .before in
+    let at-survey2 = at-if1 .before .before in
+    let at-survey = at-survey2 .before .before in
+    let start = at-survey .before .before .before .before .before .before .before .before in (
+      start .pre .0,
+      (
+        start .pre .1,
+        (
+          stands (start .args .journal .now) (at-survey .survey .ensures) (at-survey2 .survey2 .given .1),
+          some-count
+              (at-if1 .if1 .left),
+          omega arith,
+        ),
+      ),
+    )
 
 same-length-3 : tie.Need-same-length-3
 same-length-3 c = search needs

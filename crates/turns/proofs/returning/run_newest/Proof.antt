@@ -22,7 +22,15 @@ same-length-2 : tie.Need-same-length-2
 same-length-2 c = search needs
 
 returns : tie.Need-returns
-returns c = taken-back (c .before .before .before .before .before .before .before .before .before .before .before .before .before .before .before .before .before .args .pl) (c .before .before .before .before .before .before .before .before .before .before .before .before .before .before .before .before .before .args .journal .now) (c .before .before .before .before .before .before .before .before .before .before .before .before .before .before .before .before .before .pre .1 .1 .0) (c .before .before .before .before .before .before .before .before .before .before .before .before .before .before .before .before .before .pre .1 .1 .1) _ _ (c .before .before .before .before .before .before .before .before .before .newest-function .ensures) (c .before .before .before .before .before .before .before .before .newest-ancillae .ensures) (c .before .before .before .before .before .before .before .held-value .ensures) (c .before .before .before .before .before .before .before .before .before .before .before .before .before .before .before .before .before .pre .1 .1 .2) (c .before .before .before .before .run .ensures)
+returns c =
+    let at-run = c .before .before .before .before in
+    let at-held-value = at-run .before .before .before in
+    let at-newest-ancillae = at-held-value .before in
+    let at-newest-function = at-newest-ancillae .before in
+    let start = at-newest-function .before .before .before .before .before .before .before .before in
+    taken-back (start .args .pl) (start .args .journal .now) (start .pre .1 .1 .0) (start .pre .1 .1 .1) _ _
+    (at-newest-function .newest-function .ensures) (at-newest-ancillae .newest-ancillae .ensures) (at-held-value .held-value .ensures)
+    (start .pre .1 .1 .2) (at-run .run .ensures)
 
 pub run-newest-spec : {M : Type 1} → statement M
 run-newest-spec =

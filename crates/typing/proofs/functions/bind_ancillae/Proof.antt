@@ -40,23 +40,43 @@ entry-requires c κs = search needs
 
 bind-requires : tie.Need-bind-requires Inv-loop μ-loop
 unfolding maxParameters
-bind-requires c κs = (ancillae-scoped (c .before .before .before .before .before .before .before .before .before .before .before .pre .0) (c .before .before .before .before .before .loop .inv .2) (omega (arith, c .before .before .before .before .before .before .before .before .before .before .before .pre .1 .0 .formed .few)) (c .before .before .before .before .before .before .none .ensures), (parameter-known (c .before .before .before .before .before .before .before .before .before .before .before .pre .1 .0) 0 (omega arith) (c .before .entry .ensures), omega (arith, c .before .before .before .before .before .before .before .before .before .before .before .pre .1 .0 .formed .few)))
+bind-requires c κs =
+    let at-entry = c .before in
+    let at-loop = at-entry .before .before .before .before in
+    let at-none = at-loop .before in
+    let start = at-none .before .before .before .before .before in (
+      ancillae-scoped (start .pre .0) (at-loop .loop .inv .2) (omega (arith, start .pre .1 .0 .formed .few)) (at-none .none .ensures),
+      (parameter-known (start .pre .1 .0) 0 (omega arith) (at-entry .entry .ensures), omega (arith, start .pre .1 .0 .formed .few)),
+    )
 
 add-i : tie.Need-add-i Inv-loop μ-loop
 unfolding maxParameters
-add-i c = omega (arith, c .before .before .before .before .before .before .before .before .before .before .before .before .before .before .pre .1 .0 .formed .few)
+add-i c =
+    let start = c .before .before .before .before .before .before .before .before .before .before .before .before .before .before in
+    omega (arith, start .pre .1 .0 .formed .few)
 
 loop-less : tie.Need-loop-less Inv-loop μ-loop
 loop-less c = omega arith
 
 loop-again : tie.Need-loop-again Inv-loop μ-loop
-loop-again c = (omega arith, sym (c .before .before .bind .ensures .lengths) ∙ c .before .before .before .before .before .before .before .before .loop .inv .1, one-bound (c .before .before .bind .ensures) (omega arith) (c .before .before .before .before .entry .ensures) (c .before .before .before .before .before .before .before .before .loop .inv .2))
+loop-again c =
+    let at-bind = c .before .before in
+    let at-entry = at-bind .before .before in
+    let at-loop = at-entry .before .before .before .before in (
+      omega arith,
+      sym (at-bind .bind .ensures .lengths) ∙ at-loop .loop .inv .1,
+      one-bound (at-bind .bind .ensures) (omega arith)
+          (at-entry .entry .ensures) (at-loop .loop .inv .2),
+    )
 
 same-length : tie.Need-same-length Inv-loop μ-loop
 same-length c = c .before .loop .inv .1
 
 returns : tie.Need-returns Inv-loop μ-loop
-returns c = subst (Bound _ _ _ _ _) (let z : c .before .loop .i ≡ c .before .before .before .before .before .before .before .args .q = omega arith in z) (c .before .loop .inv .2)
+returns c =
+    let at-loop = c .before in
+    let start = at-loop .before .before .before .before .before .before in
+    subst (Bound _ _ _ _ _) (let z : at-loop .loop .i ≡ start .args .q = omega arith in z) (at-loop .loop .inv .2)
 
 pub bind-ancillae-spec : {M : Type 1} → statement M
 bind-ancillae-spec =

@@ -18,7 +18,9 @@ cast-q : tie.Need-cast-q
 cast-q c = search needs
 
 bind-ancillae-requires : tie.Need-bind-ancillae-requires
-bind-ancillae-requires c κs = (c .before .before .before .before .before .before .pre .0, (c .before .before .before .before .before .before .pre .1 .0, (omega (arith, c .before .before .before .before .before .before .pre .1 .0 .formed .some), c .before .before .before .before .before .before .pre .1 .1)))
+bind-ancillae-requires c κs =
+    let start = c .before .before .before .before .before .before in
+    (start .pre .0, (start .pre .1 .0, (omega (arith, start .pre .1 .0 .formed .some), start .pre .1 .1)))
 
 none-requires : tie.Need-none-requires
 none-requires c κs = search needs
@@ -35,13 +37,29 @@ entry-requires c κs = search needs
 
 bind-requires : tie.Need-bind-requires
 unfolding maxParameters
-bind-requires c κs = (ancillae-scoped (c .before .before .before .before .before .before .before .before .before .before .before .before .pre .0) (c .before .before .before .before .before .bind-ancillae .ensures) (omega (arith, c .before .before .before .before .before .before .before .before .before .before .before .before .pre .1 .0 .formed .few)) (c .before .before .none .ensures), (parameter-known (c .before .before .before .before .before .before .before .before .before .before .before .before .pre .1 .0) 0 (omega (arith, c .before .before .before .before .before .before .before .before .before .before .before .before .pre .1 .0 .formed .some)) (c .before .entry .ensures), omega (arith, c .before .before .before .before .before .before .before .before .before .before .before .before .pre .1 .0 .formed .few)))
+bind-requires c κs =
+    let at-entry = c .before in
+    let at-none = at-entry .before in
+    let at-bind-ancillae = at-none .before .before .before in
+    let start = at-bind-ancillae .before .before .before .before .before .before .before in (
+      ancillae-scoped (start .pre .0) (at-bind-ancillae .bind-ancillae .ensures) (omega (arith, start .pre .1 .0 .formed .few))
+          (at-none .none .ensures),
+      (
+        parameter-known (start .pre .1 .0) 0 (omega (arith, start .pre .1 .0 .formed .some)) (at-entry .entry .ensures),
+        omega (arith, start .pre .1 .0 .formed .few),
+      ),
+    )
 
 same-length : tie.Need-same-length
 same-length c = search needs
 
 returns : tie.Need-returns
-returns c = all-bound (c .before .before .before .before .before .before .before .before .before .before .before .before .before .before .before .pre .1 .0) (c .before .before .before .before .before .before .before .before .bind-ancillae .ensures) (omega arith) refl (c .before .before .before .before .entry .ensures) (c .before .before .bind .ensures)
+returns c =
+    let at-bind = c .before .before in
+    let at-entry = at-bind .before .before in
+    let at-bind-ancillae = at-entry .before .before .before .before in
+    let start = at-bind-ancillae .before .before .before .before .before .before .before in
+    all-bound (start .pre .1 .0) (at-bind-ancillae .bind-ancillae .ensures) (omega arith) refl (at-entry .entry .ensures) (at-bind .bind .ensures)
 
 pub bind-parameters-spec : {M : Type 1} → statement M
 bind-parameters-spec =

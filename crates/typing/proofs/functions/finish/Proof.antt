@@ -13,7 +13,11 @@ entry-requires : tie.Need-entry-requires
 entry-requires c κs = search needs
 
 same-requires : tie.Need-same-requires
-same-requires c κs = (c .before .before .before .before .before .pre .0, (c .before .before .before .before .before .pre .1 .0, result-known (c .before .before .before .before .before .pre .1 .1) _ (c .before .function-result .ensures) (c .entry .ensures)))
+same-requires c κs =
+    let at-entry = c in
+    let at-function-result = at-entry .before in
+    let start = at-function-result .before .before .before .before in
+    (start .pre .0, (start .pre .1 .0, result-known (start .pre .1 .1) _ (at-function-result .function-result .ensures) (at-entry .entry .ensures)))
 
 function-parameters-requires : tie.Need-function-parameters-requires
 function-parameters-requires c κs = omega (arith, function-room (c .before .before .before .before .before .before .before .pre .1 .1 .formed))
@@ -32,10 +36,23 @@ entry-requires-2 : tie.Need-entry-requires-2
 entry-requires-2 c κs = search needs
 
 is-unit-requires : tie.Need-is-unit-requires
-is-unit-requires c κs = (c .before .before .before .before .before .before .before .before .before .pre .0, parameter-known (c .before .before .before .before .before .before .before .before .before .pre .1 .1) _ (omega (arith, c .before .before .before .before .before .before .before .before .before .pre .1 .1 .formed .some)) (c .entry2 .ensures))
+is-unit-requires c κs =
+    let at-entry2 = c in
+    let start = at-entry2 .before .before .before .before .before .before .before .before .before in
+    (start .pre .0, parameter-known (start .pre .1 .1) _ (omega (arith, start .pre .1 .1 .formed .some)) (at-entry2 .entry2 .ensures))
 
 returns : tie.Need-returns
-returns c = dynamic-unit (c .before .before .before .before .before .before .before .before .before .before .before .pre .1 .1) _ _ (c .before .before .before .before .before .before .before .function-result .ensures) (c .before .before .before .before .before .before .entry .ensures) (c .before .before .before .before .before .same .ensures) (c .before .before .before .before .if1 .taken) (omega arith) (c .before .before .entry2 .ensures) (c .before .is-unit .ensures) _ (c .if2 .taken)
+returns c =
+    let at-if2 = c in
+    let at-is-unit = at-if2 .before in
+    let at-entry2 = at-is-unit .before in
+    let at-if1 = at-entry2 .before .before in
+    let at-same = at-if1 .before in
+    let at-entry = at-same .before in
+    let at-function-result = at-entry .before in
+    let start = at-function-result .before .before .before .before in
+    dynamic-unit (start .pre .1 .1) _ _ (at-function-result .function-result .ensures) (at-entry .entry .ensures) (at-same .same .ensures)
+    (at-if1 .if1 .taken) (omega arith) (at-entry2 .entry2 .ensures) (at-is-unit .is-unit .ensures) _ (at-if2 .if2 .taken)
 
 cast-contains : tie.Need-cast-contains
 unfolding maxParameters
@@ -43,16 +60,50 @@ cast-contains c = search needs
 
 contains-requires : tie.Need-contains-requires
 unfolding maxParameters
-contains-requires c κs = omega (arith, c .before .before .before .before .before .before .before .before .before .before .before .pre .1 .1 .formed .few)
+contains-requires c κs =
+    let start = c .before .before .before .before .before .before .before .before .before .before .before in
+    omega (arith, start .pre .1 .1 .formed .few)
 
 returns-2 : tie.Need-returns-2
-returns-2 c = dynamic-used (c .before .before .before .before .before .before .before .before .before .before .before .before .before .pre .1 .1) _ _ (c .before .before .before .before .before .before .before .before .before .function-result .ensures) (c .before .before .before .before .before .before .before .before .entry .ensures) (c .before .before .before .before .before .before .before .same .ensures) (c .before .before .before .before .before .before .if1 .taken) (omega arith) (c .before .before .before .before .entry2 .ensures) (c .before .before .before .is-unit .ensures) _ (c .before .contains .ensures) (c .if3 .taken)
+returns-2 c =
+    let at-if3 = c in
+    let at-contains = at-if3 .before in
+    let at-is-unit = at-contains .before .before in
+    let at-entry2 = at-is-unit .before in
+    let at-if1 = at-entry2 .before .before in
+    let at-same = at-if1 .before in
+    let at-entry = at-same .before in
+    let at-function-result = at-entry .before in
+    let start = at-function-result .before .before .before .before in
+    dynamic-used (start .pre .1 .1) _ _ (at-function-result .function-result .ensures) (at-entry .entry .ensures) (at-same .same .ensures)
+    (at-if1 .if1 .taken) (omega arith) (at-entry2 .entry2 .ensures) (at-is-unit .is-unit .ensures) _ (at-contains .contains .ensures)
+    (at-if3 .if3 .taken)
 
 returns-3 : tie.Need-returns-3
-returns-3 c = dynamic-unused (c .before .before .before .before .before .before .before .before .before .before .before .before .before .pre .1 .1) _ _ (c .before .before .before .before .before .before .before .before .before .function-result .ensures) (c .before .before .before .before .before .before .before .before .entry .ensures) (c .before .before .before .before .before .before .before .same .ensures) (c .before .before .before .before .before .before .if1 .taken) (omega arith) (c .before .before .before .before .entry2 .ensures) (c .before .before .before .is-unit .ensures) _ (c .before .contains .ensures) (c .before .before .if2 .left) (c .if3 .left)
+returns-3 c =
+    let at-if3 = c in
+    let at-contains = at-if3 .before in
+    let at-if2 = at-contains .before in
+    let at-is-unit = at-if2 .before in
+    let at-entry2 = at-is-unit .before in
+    let at-if1 = at-entry2 .before .before in
+    let at-same = at-if1 .before in
+    let at-entry = at-same .before in
+    let at-function-result = at-entry .before in
+    let start = at-function-result .before .before .before .before in
+    dynamic-unused (start .pre .1 .1) _ _ (at-function-result .function-result .ensures) (at-entry .entry .ensures) (at-same .same .ensures)
+    (at-if1 .if1 .taken) (omega arith) (at-entry2 .entry2 .ensures) (at-is-unit .is-unit .ensures) _ (at-contains .contains .ensures)
+    (at-if2 .if2 .left) (at-if3 .if3 .left)
 
 returns-4 : tie.Need-returns-4
-returns-4 c = result-differs (c .before .before .before .before .before .before .before .pre .1 .1) _ _ _ (c .before .before .before .function-result .ensures) (c .before .before .entry .ensures) (c .before .same .ensures) (c .if1 .left)
+returns-4 c =
+    let at-if1 = c in
+    let at-same = at-if1 .before in
+    let at-entry = at-same .before in
+    let at-function-result = at-entry .before in
+    let start = at-function-result .before .before .before .before in
+    result-differs (start .pre .1 .1) _ _ _ (at-function-result .function-result .ensures) (at-entry .entry .ensures) (at-same .same .ensures)
+    (at-if1 .if1 .left)
 
 pub finish-spec : {M : Type 1} → statement M
 finish-spec =

@@ -24,13 +24,25 @@ place-requires-3 : tie.Need-place-requires-3
 place-requires-3 c κs = search needs
 
 returns : tie.Need-returns
-returns c = ap (refused 6) (c .place .ensures) ∙ sym (ap (faultAnswer (c .before .before .before .before .before .args .terms .now)) (c .before .before .why .given .1))
+returns c =
+    let at-place = c in
+    let at-why = at-place .before .before in
+    let start = at-why .before .before .before in
+    ap (refused 6) (at-place .place .ensures) ∙ sym (ap (faultAnswer (start .args .terms .now)) (at-why .why .given .1))
 
 returns-2 : tie.Need-returns-2
-returns-2 c = ap (refused 7) (c .place2 .ensures) ∙ sym (ap (faultAnswer (c .before .before .before .before .before .args .terms .now)) (c .before .before .why2 .given .1))
+returns-2 c =
+    let at-place2 = c in
+    let at-why2 = at-place2 .before .before in
+    let start = at-why2 .before .before .before in
+    ap (refused 7) (at-place2 .place2 .ensures) ∙ sym (ap (faultAnswer (start .args .terms .now)) (at-why2 .why2 .given .1))
 
 returns-3 : tie.Need-returns-3
-returns-3 c = ap (refused 8) (c .place3 .ensures) ∙ sym (ap (faultAnswer (c .before .before .before .before .before .args .terms .now)) (c .before .before .why3 .given .1))
+returns-3 c =
+    let at-place3 = c in
+    let at-why3 = at-place3 .before .before in
+    let start = at-why3 .before .before .before in
+    ap (refused 8) (at-place3 .place3 .ensures) ∙ sym (ap (faultAnswer (start .args .terms .now)) (at-why3 .why3 .given .1))
 
 pub refusal-spec : {M : Type 1} → statement M
 refusal-spec =

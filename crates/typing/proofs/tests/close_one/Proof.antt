@@ -14,7 +14,13 @@ join-requires : tie.Need-join-requires
 join-requires c κs = search needs
 
 returns : tie.Need-returns
-returns c = after-typed (c .before .before .before .before .status .given .1) (c .join .ensures .0) (picks-yes (sym (c .before .before .spent .ensures) ∙ c .before .if1 .taken) (c .join .ensures .1))
+returns c =
+    let at-join = c in
+    let at-if1 = at-join .before in
+    let at-spent = at-if1 .before in
+    let at-status = at-spent .before .before in
+    after-typed (at-status .status .given .1) (at-join .join .ensures .0) (picks-yes (sym (at-spent .spent .ensures) ∙ at-if1 .if1 .taken)
+    (at-join .join .ensures .1))
 
 misused-requires : tie.Need-misused-requires
 misused-requires c κs = search needs
@@ -23,7 +29,13 @@ enum-told : tie.Need-enum-told
 enum-told c = search needs
 
 returns-2 : tie.Need-returns-2
-returns-2 c = after-typed (c .before .before .before .before .status .given .1) (c .misused .ensures .1) (picks-no (sym (c .before .before .spent .ensures) ∙ c .before .if1 .left) (c .misused .ensures .0))
+returns-2 c =
+    let at-misused = c in
+    let at-if1 = at-misused .before in
+    let at-spent = at-if1 .before in
+    let at-status = at-spent .before .before in
+    after-typed (at-status .status .given .1) (at-misused .misused .ensures .1) (picks-no (sym (at-spent .spent .ensures) ∙ at-if1 .if1 .left)
+    (at-misused .misused .ensures .0))
 
 returns-3 : tie.Need-returns-3
 returns-3 c = after-refused (c .enum-told .given .1) refl

@@ -20,13 +20,30 @@ join-requires : tie.Need-join-requires
 join-requires c κs = search needs
 
 returns : tie.Need-returns
-returns c = after-typed (c .before .before .before .before .before .before .status .given .1) (c .join .ensures .0) (picks-yes (both-true _ _ (c .before .before .before .before .spent .ensures) (c .before .before .before .if1 .taken) (c .before .before .spent2 .ensures) (c .before .if2 .taken)) (c .join .ensures .1))
+returns c =
+    let at-join = c in
+    let at-if2 = at-join .before in
+    let at-spent2 = at-if2 .before in
+    let at-if1 = at-spent2 .before in
+    let at-spent = at-if1 .before in
+    let at-status = at-spent .before .before in
+    after-typed (at-status .status .given .1) (at-join .join .ensures .0) (picks-yes
+    (both-true _ _ (at-spent .spent .ensures) (at-if1 .if1 .taken) (at-spent2 .spent2 .ensures) (at-if2 .if2 .taken)) (at-join .join .ensures .1))
 
 misused-requires : tie.Need-misused-requires
 misused-requires c κs = search needs
 
 returns-2 : tie.Need-returns-2
-returns-2 c = after-typed (c .before .before .before .before .before .before .status .given .1) (c .misused .ensures .1) (picks-no (second-false _ _ (c .before .before .before .before .spent .ensures) (c .before .before .before .if1 .taken) (c .before .before .spent2 .ensures) (c .before .if2 .left)) (c .misused .ensures .0))
+returns-2 c =
+    let at-misused = c in
+    let at-if2 = at-misused .before in
+    let at-spent2 = at-if2 .before in
+    let at-if1 = at-spent2 .before in
+    let at-spent = at-if1 .before in
+    let at-status = at-spent .before .before in
+    after-typed (at-status .status .given .1) (at-misused .misused .ensures .1) (picks-no
+    (second-false _ _ (at-spent .spent .ensures) (at-if1 .if1 .taken) (at-spent2 .spent2 .ensures) (at-if2 .if2 .left))
+    (at-misused .misused .ensures .0))
 
 misused-requires-2 : tie.Need-misused-requires-2
 misused-requires-2 c κs = search needs
@@ -35,7 +52,13 @@ enum-told : tie.Need-enum-told
 enum-told c = search needs
 
 returns-3 : tie.Need-returns-3
-returns-3 c = after-typed (c .before .before .before .before .status .given .1) (c .misused2 .ensures .1) (picks-no (first-false _ _ (c .before .before .spent .ensures) (c .before .if1 .left)) (c .misused2 .ensures .0))
+returns-3 c =
+    let at-misused2 = c in
+    let at-if1 = at-misused2 .before in
+    let at-spent = at-if1 .before in
+    let at-status = at-spent .before .before in
+    after-typed (at-status .status .given .1) (at-misused2 .misused2 .ensures .1) (picks-no
+    (first-false _ _ (at-spent .spent .ensures) (at-if1 .if1 .left)) (at-misused2 .misused2 .ensures .0))
 
 returns-4 : tie.Need-returns-4
 returns-4 c = after-refused (c .enum-told .given .1) refl

@@ -8,7 +8,10 @@ enum-known-status : tie.Need-enum-known-status
 enum-known-status c = search needs
 
 same-requires : tie.Need-same-requires
-same-requires c κs = (c .before .before .before .before .before .before .pre .0 .sources, (c .before .before .before .before .before .before .pre .1 .0, c .before .before .before .before .before .before .pre .0 .known _ (c .before .status .given .1)))
+same-requires c κs =
+    let at-status = c .before in
+    let start = at-status .before .before .before .before .before in
+    (start .pre .0 .sources, (start .pre .1 .0, start .pre .0 .known _ (at-status .status .given .1)))
 
 spent-requires : tie.Need-spent-requires
 spent-requires c κs = search needs
@@ -23,19 +26,49 @@ join-requires : tie.Need-join-requires
 join-requires c κs = search needs
 
 returns : tie.Need-returns
-returns c = after-typed (c .before .before .before .before .before .before .before .before .before .before .before .status .given .1) (c .join .ensures .0) (meets-both (c .before .before .before .before .before .before .before .before .before .same .ensures) (c .before .before .before .before .before .before .before .before .if1 .taken) (c .before .before .before .before .before .before .before .spent .ensures) (c .before .before .before .before .before .before .if2 .taken) _ (c .before .before .before .before .agree-on .ensures) (c .before .before .before .if3 .taken) (c .before .before .union .ensures) (c .join .ensures .1))
+returns c =
+    let at-join = c in
+    let at-union = at-join .before .before in
+    let at-if3 = at-union .before in
+    let at-agree-on = at-if3 .before in
+    let at-if2 = at-agree-on .before .before in
+    let at-spent = at-if2 .before in
+    let at-if1 = at-spent .before in
+    let at-same = at-if1 .before in
+    let at-status = at-same .before .before in
+    after-typed (at-status .status .given .1) (at-join .join .ensures .0) (meets-both (at-same .same .ensures) (at-if1 .if1 .taken)
+    (at-spent .spent .ensures) (at-if2 .if2 .taken) _ (at-agree-on .agree-on .ensures) (at-if3 .if3 .taken) (at-union .union .ensures)
+    (at-join .join .ensures .1))
 
 misused-requires : tie.Need-misused-requires
 misused-requires c κs = search needs
 
 returns-2 : tie.Need-returns-2
-returns-2 c = after-typed (c .before .before .before .before .before .before .before .before .before .status .given .1) (c .misused .ensures .1) (meets-apart (c .before .before .before .before .before .before .before .same .ensures) (c .before .before .before .before .before .before .if1 .taken) (c .before .before .before .before .before .spent .ensures) (c .before .before .before .before .if2 .taken) _ (c .before .before .agree-on .ensures) (c .before .if3 .left) (c .misused .ensures .0))
+returns-2 c =
+    let at-misused = c in
+    let at-if3 = at-misused .before in
+    let at-agree-on = at-if3 .before in
+    let at-if2 = at-agree-on .before .before in
+    let at-spent = at-if2 .before in
+    let at-if1 = at-spent .before in
+    let at-same = at-if1 .before in
+    let at-status = at-same .before .before in
+    after-typed (at-status .status .given .1) (at-misused .misused .ensures .1) (meets-apart (at-same .same .ensures) (at-if1 .if1 .taken)
+    (at-spent .spent .ensures) (at-if2 .if2 .taken) _ (at-agree-on .agree-on .ensures) (at-if3 .if3 .left) (at-misused .misused .ensures .0))
 
 misused-requires-2 : tie.Need-misused-requires-2
 misused-requires-2 c κs = search needs
 
 returns-3 : tie.Need-returns-3
-returns-3 c = after-typed (c .before .before .before .before .before .before .status .given .1) (c .misused2 .ensures .1) (meets-unused (c .before .before .before .before .same .ensures) (c .before .before .before .if1 .taken) (c .before .before .spent .ensures) (c .before .if2 .left) (c .misused2 .ensures .0))
+returns-3 c =
+    let at-misused2 = c in
+    let at-if2 = at-misused2 .before in
+    let at-spent = at-if2 .before in
+    let at-if1 = at-spent .before in
+    let at-same = at-if1 .before in
+    let at-status = at-same .before .before in
+    after-typed (at-status .status .given .1) (at-misused2 .misused2 .ensures .1) (meets-unused (at-same .same .ensures) (at-if1 .if1 .taken)
+    (at-spent .spent .ensures) (at-if2 .if2 .left) (at-misused2 .misused2 .ensures .0))
 
 differ-requires : tie.Need-differ-requires
 differ-requires c κs = search needs
@@ -44,7 +77,13 @@ enum-told : tie.Need-enum-told
 enum-told c = search needs
 
 returns-4 : tie.Need-returns-4
-returns-4 c = after-typed (c .before .before .before .before .status .given .1) (c .differ .ensures .1) (meets-differ (c .before .before .same .ensures) (c .before .if1 .left) (c .differ .ensures .0))
+returns-4 c =
+    let at-differ = c in
+    let at-if1 = at-differ .before in
+    let at-same = at-if1 .before in
+    let at-status = at-same .before .before in
+    after-typed (at-status .status .given .1) (at-differ .differ .ensures .1) (meets-differ (at-same .same .ensures) (at-if1 .if1 .left)
+    (at-differ .differ .ensures .0))
 
 returns-5 : tie.Need-returns-5
 returns-5 c = after-refused (c .enum-told .given .1) refl

@@ -9,8 +9,16 @@ enum-known-status : tie.Need-enum-known-status
 enum-known-status c = search needs
 
 product-requires : tie.Need-product-requires
-product-requires c κs = let a = c .before .before .before .before .before .before .before .before .pre in
-    (a .0 .sources, ((a .1 .0, a .0 .known _ (c .before .before .status .given .1)), (a .1 .1 .0, (a .1 .1 .1 .0, omega (arith, a .1 .1 .1 .1)))))
+product-requires c κs =
+    let at-status = c .before .before in
+    let start = at-status .before .before .before .before .before .before in
+    let a = start .pre in (
+      a .0 .sources,
+      (
+        (a .1 .0, a .0 .known _ (at-status .status .given .1)),
+        (a .1 .1 .0, (a .1 .1 .1 .0, omega (arith, a .1 .1 .1 .1))),
+      ),
+    )
 
 cast-product : tie.Need-cast-product
 cast-product c = search needs
@@ -19,7 +27,9 @@ product-requires-2 : tie.Need-product-requires-2
 product-requires-2 c κs = search needs
 
 add-join : tie.Need-add-join
-add-join c = omega (arith, c .before .before .before .before .before .before .before .before .before .before .before .before .before .before .pre .1 .1 .1 .1)
+add-join c =
+    let start = c .before .before .before .before .before .before .before .before .before .before .before .before .before .before in
+    omega (arith, start .pre .1 .1 .1 .1)
 
 join-requires : tie.Need-join-requires
 join-requires c κs = search needs
@@ -28,7 +38,14 @@ same-length : tie.Need-same-length
 same-length c = search needs
 
 returns : tie.Need-returns
-returns c = pairs-made (c .before .before .before .before .before .before .before .before .before .status .given .1) (c .before .before .before .before .before .before .product .ensures) (c .before .before .before .if1 .taken) (c .join .ensures .0) (c .before .before .product2 .ensures) (c .join .ensures .1)
+returns c =
+    let at-join = c in
+    let at-product2 = at-join .before .before in
+    let at-if1 = at-product2 .before in
+    let at-product = at-if1 .before .before .before in
+    let at-status = at-product .before .before .before in
+    pairs-made (at-status .status .given .1) (at-product .product .ensures) (at-if1 .if1 .taken) (at-join .join .ensures .0)
+    (at-product2 .product2 .ensures) (at-join .join .ensures .1)
 
 differ-requires : tie.Need-differ-requires
 differ-requires c κs = search needs
@@ -40,7 +57,13 @@ same-length-2 : tie.Need-same-length-2
 same-length-2 c = search needs
 
 returns-2 : tie.Need-returns-2
-returns-2 c = pairs-large (c .before .before .before .before .before .before .before .status .given .1) (c .before .before .before .before .product .ensures) (c .before .if1 .left) (c .differ .ensures .1) (c .differ .ensures .0)
+returns-2 c =
+    let at-differ = c in
+    let at-if1 = at-differ .before in
+    let at-product = at-if1 .before .before .before in
+    let at-status = at-product .before .before .before in
+    pairs-large (at-status .status .given .1) (at-product .product .ensures) (at-if1 .if1 .left) (at-differ .differ .ensures .1)
+    (at-differ .differ .ensures .0)
 
 returns-3 : tie.Need-returns-3
 returns-3 c = pairs-refused (c .enum-told .given .1) refl

@@ -20,7 +20,18 @@ same-length : tie.Need-same-length
 same-length c = search needs
 
 returns : tie.Need-returns
-returns c = opened-unit (c .before .before .before .before .before .before .before .before .before .before .before .before .pre .0) _ (c .before .before .before .before .before .before .before .before .before .before .before .before .pre .1 .0) (c .before .before .before .before .before .before .before .before .before .before .before .before .pre .1 .1) (record { at = omega (arith, c .before .before .before .before .before .before .before .before .before .before .before .before .good .1 .1 .1 .1 .1 .1 .0); stands = omega (arith, c .before .before .before .before .before .before .before .before .before .before .before .before .good .1 .1 .1 .1 .1 .1 .0) }) (c .before .before .before .before .before .before .slot .ensures .0) (c .before .before .before .before .before .put-code .ensures) (c .before .is-unit .ensures) (c .if1 .taken)
+returns c =
+    let at-if1 = c in
+    let at-is-unit = at-if1 .before in
+    let at-put-code = at-is-unit .before .before .before .before in
+    let at-slot = at-put-code .before in
+    let start = at-slot .before .before .before .before .before .before in
+    opened-unit (start .pre .0) _ (start .pre .1 .0) (start .pre .1 .1) (record {
+      at = omega (arith, start .good .1 .1 .1 .1 .1 .1 .0);
+      stands =
+          omega (arith, start .good .1 .1 .1 .1 .1 .1 .0);
+    }) (at-slot .slot .ensures .0) (at-put-code .put-code .ensures)
+    (at-is-unit .is-unit .ensures) (at-if1 .if1 .taken)
 
 only-requires : tie.Need-only-requires
 only-requires c κs = search needs
@@ -35,7 +46,20 @@ same-length-2 : tie.Need-same-length-2
 same-length-2 c = search needs
 
 returns-2 : tie.Need-returns-2
-returns-2 c = opened-used (c .before .before .before .before .before .before .before .before .before .before .before .before .before .before .pre .0) _ (c .before .before .before .before .before .before .before .before .before .before .before .before .before .before .pre .1 .0) (c .before .before .before .before .before .before .before .before .before .before .before .before .before .before .pre .1 .1) (record { at = omega (arith, c .before .before .before .before .before .before .before .before .before .before .before .before .before .before .good .1 .1 .1 .1 .1 .1 .0); stands = omega (arith, c .before .before .before .before .before .before .before .before .before .before .before .before .before .before .good .1 .1 .1 .1 .1 .1 .0) }) (c .before .before .before .before .before .before .before .before .slot .ensures .0) (c .before .before .before .before .before .before .before .put-code .ensures) (c .before .before .before .is-unit .ensures) (c .before .before .if1 .left) (c .before .only .ensures) (c .union .ensures)
+returns-2 c =
+    let at-union = c in
+    let at-only = at-union .before in
+    let at-if1 = at-only .before in
+    let at-is-unit = at-if1 .before in
+    let at-put-code = at-is-unit .before .before .before .before in
+    let at-slot = at-put-code .before in
+    let start = at-slot .before .before .before .before .before .before in
+    opened-used (start .pre .0) _ (start .pre .1 .0) (start .pre .1 .1) (record {
+      at = omega (arith, start .good .1 .1 .1 .1 .1 .1 .0);
+      stands =
+          omega (arith, start .good .1 .1 .1 .1 .1 .1 .0);
+    }) (at-slot .slot .ensures .0) (at-put-code .put-code .ensures)
+    (at-is-unit .is-unit .ensures) (at-if1 .if1 .left) (at-only .only .ensures) (at-union .union .ensures)
 
 pub bind-spec : {M : Type 1} → statement M
 bind-spec =

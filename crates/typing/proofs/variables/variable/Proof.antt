@@ -19,13 +19,24 @@ misused-requires : tie.Need-misused-requires
 misused-requires c κs = search needs
 
 returns-3 : tie.Need-returns-3
-returns-3 c = seen-barred _ _ _ _ (c .before .before .before .before .before .if1 .left) (c .before .before .before .if2 .left) (c .before .if3 .taken) (c .misused .ensures .0) (c .misused .ensures .1)
+returns-3 c =
+    let at-misused = c in
+    let at-if3 = at-misused .before in
+    let at-if2 = at-if3 .before .before in
+    let at-if1 = at-if2 .before .before in
+    seen-barred _ _ _ _ (at-if1 .if1 .left) (at-if2 .if2 .left) (at-if3 .if3 .taken) (at-misused .misused .ensures .0)
+    (at-misused .misused .ensures .1)
 
 named-requires-2 : tie.Need-named-requires-2
 named-requires-2 c κs = search needs
 
 returns-4 : tie.Need-returns-4
-returns-4 c = seen-dynamic _ _ _ _ (c .named2 .ensures) (c .before .before .before .before .before .if1 .left) (c .before .before .before .if2 .left) (c .before .if3 .left)
+returns-4 c =
+    let at-named2 = c in
+    let at-if3 = at-named2 .before in
+    let at-if2 = at-if3 .before .before in
+    let at-if1 = at-if2 .before .before in
+    seen-dynamic _ _ _ _ (at-named2 .named2 .ensures) (at-if1 .if1 .left) (at-if2 .if2 .left) (at-if3 .if3 .left)
 
 pub variable-spec : {M : Type 1} → statement M
 variable-spec =
