@@ -1,5 +1,5 @@
--- Answers of the cycle of typing: the branches of a case. A place is what is known once a call or a test is behind; `before-` has the places before it, the
--- nearest first, so that code put in between two places moves one line.
+-- Answers of the cycle of typing: the branches of a case. A place is what is known once a call or a test is behind; `-before-` has the
+-- places before it, the nearest first, so that code put in between two places moves one line.
 use Rattle.typing.proofs as own
 use Prim.Native.Nat.{ℕ}
 use Prim.Native.Nat.{_-_}
@@ -46,11 +46,11 @@ module _ (t : ℕ) where
   abbrev Infer : Type 0
   Infer = lts.After-infer (arms-uses t) (arms-at t) arms.Post
 
-  abbrev Status : Type 0
-  Status = lts.After-status (arms-uses t) (arms-at t) arms.Post
-
   abbrev EnumTold : Type 0
   EnumTold = lts.After-enum-told (arms-uses t) (arms-at t) arms.Post
+
+  abbrev Status : Type 0
+  Status = lts.After-status (arms-uses t) (arms-at t) arms.Post
 
   abbrev Spent : Type 0
   Spent = lts.After-spent (arms-uses t) (arms-at t) arms.Post
@@ -73,56 +73,68 @@ module _ (t : ℕ) where
   abbrev Meet : Type 0
   Meet = lts.After-meet (arms-uses t) (arms-at t) arms.Post
 
-  abbrev before-second : Second → Start
-  before-second c = c .before .before .before .before .before .before .before .before
+  abbrev arms-before-second : Second → Start
+  arms-before-second c = c .before .before .before .before .before .before .before .before
 
-  abbrev before-third : Third → Second × Start
-  before-third c = let at-second = c .before in (at-second, before-second at-second)
+  abbrev arms-before-third : Third → Second × Start
+  arms-before-third c = let at-second = c .before in (at-second, arms-before-second at-second)
 
-  abbrev before-bind : Bind → Third × Second × Start
-  before-bind c = let at-third = c .before .before .before in let (at-second, start) = before-third at-third in (at-third, at-second, start)
+  abbrev arms-before-bind : Bind → Third × Second × Start
+  arms-before-bind c =
+      let at-third = c .before .before .before in
+      let (at-second, start) = arms-before-third at-third in
+      (at-third, at-second, start)
 
-  abbrev before-infer : Infer → Bind × Third × Second × Start
-  before-infer c = let at-bind = c .before .before .before .before .before in let (at-third, at-second, start) = before-bind at-bind in
+  abbrev arms-before-infer : Infer → Bind × Third × Second × Start
+  arms-before-infer c =
+      let at-bind = c .before .before .before .before .before in
+      let (at-third, at-second, start) = arms-before-bind at-bind in
       (at-bind, at-third, at-second, start)
 
-  abbrev before-status : Status → Infer × Bind × Third × Second × Start
-  before-status c = let at-infer = c .before .before .before .before .before .before in let (at-bind, at-third, at-second, start) = before-infer
-      at-infer in (at-infer, at-bind, at-third, at-second, start)
+  abbrev arms-before-enum-told : EnumTold → Infer × Bind × Third × Second × Start
+  arms-before-enum-told c =
+      let at-infer = c .before .before .before .before .before .before in
+      let (at-bind, at-third, at-second, start) = arms-before-infer at-infer in
+      (at-infer, at-bind, at-third, at-second, start)
 
-  abbrev before-enum-told : EnumTold → Infer × Bind × Third × Second × Start
-  before-enum-told c = let at-infer = c .before .before .before .before .before .before in let (at-bind, at-third, at-second, start) = before-infer
-      at-infer in (at-infer, at-bind, at-third, at-second, start)
+  abbrev arms-before-status : Status → Infer × Bind × Third × Second × Start
+  arms-before-status c =
+      let at-infer = c .before .before .before .before .before .before in
+      let (at-bind, at-third, at-second, start) = arms-before-infer at-infer in
+      (at-infer, at-bind, at-third, at-second, start)
 
-  abbrev before-spent : Spent → Status × Infer × Bind × Third × Second × Start
-  before-spent c = let at-status = c .before .before .before in let (at-infer, at-bind, at-third, at-second, start) = before-status at-status in
-      (at-status, at-infer, at-bind, at-third, at-second, start)
+  abbrev arms-before-spent : Spent → Status
+  arms-before-spent c = c .before .before .before
 
-  abbrev before-Then1 : Then1 → Spent × Status × Infer × Bind × Third × Second × Start
-  before-Then1 c = let at-spent = c .before in let (at-status, at-infer, at-bind, at-third, at-second, start) = before-spent at-spent in
-      (at-spent, at-status, at-infer, at-bind, at-third, at-second, start)
+  abbrev arms-before-then1 : Then1 → Spent × Status
+  arms-before-then1 c = let at-spent = c .before in (at-spent, arms-before-spent at-spent)
 
-  abbrev before-Else1 : Else1 → Spent × Status × Infer × Bind × Third × Second × Start
-  before-Else1 c = let at-spent = c .before in let (at-status, at-infer, at-bind, at-third, at-second, start) = before-spent at-spent in
-      (at-spent, at-status, at-infer, at-bind, at-third, at-second, start)
+  abbrev arms-before-else1 : Else1 → Spent × Status
+  arms-before-else1 c = let at-spent = c .before in (at-spent, arms-before-spent at-spent)
 
-  abbrev before-misused : Misused → Else1 × Spent × Status × Infer × Bind × Third × Second × Start
-  before-misused c = let at-Else1 = c .before in let (at-spent, at-status, at-infer, at-bind, at-third, at-second, start) = before-Else1 at-Else1 in
-      (at-Else1, at-spent, at-status, at-infer, at-bind, at-third, at-second, start)
+  abbrev arms-before-misused : Misused → Else1 × Spent × Status
+  arms-before-misused c =
+      let at-else1 = c .before in
+      let (at-spent, at-status) = arms-before-else1 at-else1 in
+      (at-else1, at-spent, at-status)
 
-  abbrev before-bind2 : Bind2 → Then1 × Spent × Status × Infer × Bind × Third × Second × Start
-  before-bind2 c = let at-Then1 = c .before .before .before in let (at-spent, at-status, at-infer, at-bind, at-third, at-second, start) =
-      before-Then1 at-Then1 in (at-Then1, at-spent, at-status, at-infer, at-bind, at-third, at-second, start)
+  abbrev arms-before-bind2 : Bind2 → Then1 × Spent × Status
+  arms-before-bind2 c =
+      let at-then1 = c .before .before .before in
+      let (at-spent, at-status) = arms-before-then1 at-then1 in
+      (at-then1, at-spent, at-status)
 
-  abbrev before-infer2 : Infer2 → Bind2 × Then1 × Spent × Status × Infer × Bind × Third × Second × Start
-  before-infer2 c = let at-bind2 = c .before .before .before .before .before in let
-      (at-Then1, at-spent, at-status, at-infer, at-bind, at-third, at-second, start) = before-bind2 at-bind2 in
-      (at-bind2, at-Then1, at-spent, at-status, at-infer, at-bind, at-third, at-second, start)
+  abbrev arms-before-infer2 : Infer2 → Bind2 × Then1 × Spent × Status
+  arms-before-infer2 c =
+      let at-bind2 = c .before .before .before .before .before in
+      let (at-then1, at-spent, at-status) = arms-before-bind2 at-bind2 in
+      (at-bind2, at-then1, at-spent, at-status)
 
-  abbrev before-meet : Meet → Infer2 × Bind2 × Then1 × Spent × Status × Infer × Bind × Third × Second × Start
-  before-meet c = let at-infer2 = c .before .before .before .before .before .before in let
-      (at-bind2, at-Then1, at-spent, at-status, at-infer, at-bind, at-third, at-second, start) = before-infer2 at-infer2 in
-      (at-infer2, at-bind2, at-Then1, at-spent, at-status, at-infer, at-bind, at-third, at-second, start)
+  abbrev arms-before-meet : Meet → Infer2 × Bind2 × Then1 × Spent × Status
+  arms-before-meet c =
+      let at-infer2 = c .before .before .before .before .before .before in
+      let (at-bind2, at-then1, at-spent, at-status) = arms-before-infer2 at-infer2 in
+      (at-infer2, at-bind2, at-then1, at-spent, at-status)
 
   ----------------------------------------------------------------
   -- Answers
@@ -134,24 +146,23 @@ module _ (t : ℕ) where
 
   pub third-requires : lts.Need-third-requires (arms-uses t) (arms-at t) arms.Post
   third-requires c κs =
-      let at-second = c in
-      let start = before-second at-second in
+      let start = arms-before-second c in
       read-case (start .pre .1 .ready .entries) (start .pre .1 .here)
 
   pub bind-requires : lts.Need-bind-requires (arms-uses t) (arms-at t) arms.Post
   bind-requires c κs =
       let at-third = c .before .before in
-      let (_, start) = before-third at-third in
+      let (_, start) = arms-before-third at-third in
       (start .pre .1 .ready .scoped, (start .pre .1 .left, start .pre .1 .free))
 
   pub infer-requires : lts.Need-infer-requires (arms-uses t) (arms-at t) arms.Post
   infer-requires c κs =
       let at-bind = c .before .before .before .before in
-      let (at-third, at-second, start) = before-bind at-bind in (
-        omega (arith, start .pre .0, left-part (start .pre .1) (at-second .second .ensures) (at-third .third .ensures) .0),
-        ready-for
-            (start .pre .1 .signed) (ready-opened (left-ready (start .pre .1) (at-second .second .ensures) (at-third .third .ensures))
-            (at-bind .bind .ensures)) (left-part (start .pre .1) (at-second .second .ensures) (at-third .third .ensures) .1),
+      let (at-third, at-second, start) = arms-before-bind at-bind in
+      let left = left-part (start .pre .1) (at-second .second .ensures) (at-third .third .ensures) in (
+        omega (arith, start .pre .0, left .0),
+        ready-for (start .pre .1 .signed) (ready-opened
+            (left-ready (start .pre .1) (at-second .second .ensures) (at-third .third .ensures)) (at-bind .bind .ensures)) (left .1),
       )
 
   pub enum-known-status : lts.Need-enum-known-status (arms-uses t) (arms-at t) arms.Post
@@ -160,7 +171,7 @@ module _ (t : ℕ) where
   pub spent-requires : lts.Need-spent-requires (arms-uses t) (arms-at t) arms.Post
   spent-requires c κs =
       let at-status = c .before .before in
-      let (at-infer, at-bind, at-third, at-second, start) = before-status at-status in (
+      let (at-infer, at-bind, at-third, at-second, start) = arms-before-status at-status in (
         at-infer .infer .ensures .kept .sources,
         (
           left-known (start .pre .1) (at-second .second .ensures) (at-third .third .ensures)
@@ -171,8 +182,9 @@ module _ (t : ℕ) where
 
   pub bind-requires-2 : lts.Need-bind-requires-2 (arms-uses t) (arms-at t) arms.Post
   bind-requires-2 c κs =
-      let at-Then1 = c .before .before in
-      let (_, _, at-infer, at-bind, at-third, at-second, start) = before-Then1 at-Then1 in (
+      let at-then1 = c .before .before in
+      let (_, at-status) = arms-before-then1 at-then1 in
+      let (at-infer, at-bind, at-third, at-second, start) = arms-before-status at-status in (
         right-later (start .pre .1) (at-second .second .ensures) (at-third .third .ensures) (at-bind .bind .ensures)
             (at-infer .infer .ensures) .scoped,
         (
@@ -185,25 +197,27 @@ module _ (t : ℕ) where
   pub infer-requires-2 : lts.Need-infer-requires-2 (arms-uses t) (arms-at t) arms.Post
   infer-requires-2 c κs =
       let at-bind2 = c .before .before .before .before in
-      let (_, _, _, at-infer, at-bind, at-third, at-second, start) = before-bind2 at-bind2 in (
-        omega (arith, start .pre .0, right-part (start .pre .1) (at-second .second .ensures) (at-third .third .ensures) .0),
-        ready-for
-            (start .pre .1 .signed) (ready-opened (right-later (start .pre .1) (at-second .second .ensures) (at-third .third .ensures)
-            (at-bind .bind .ensures) (at-infer .infer .ensures)) (at-bind2 .bind2 .ensures))
-            (right-part (start .pre .1) (at-second .second .ensures) (at-third .third .ensures) .1),
+      let (_, _, at-status) = arms-before-bind2 at-bind2 in
+      let (at-infer, at-bind, at-third, at-second, start) = arms-before-status at-status in
+      let right = right-part (start .pre .1) (at-second .second .ensures) (at-third .third .ensures) in (
+        omega (arith, start .pre .0, right .0),
+        ready-for (start .pre .1 .signed) (ready-opened
+            (right-later (start .pre .1) (at-second .second .ensures) (at-third .third .ensures) (at-bind .bind .ensures) (at-infer .infer .ensures))
+            (at-bind2 .bind2 .ensures)) (right .1),
       )
 
   pub meet-requires : lts.Need-meet-requires (arms-uses t) (arms-at t) arms.Post
   meet-requires c κs =
       let at-infer2 = c .before .before .before .before .before in
-      let (at-bind2, at-Then1, at-spent, at-status, at-infer, at-bind, at-third, at-second, start) = before-infer2 at-infer2 in (
+      let (at-bind2, at-then1, at-spent, at-status) = arms-before-infer2 at-infer2 in
+      let (at-infer, at-bind, at-third, at-second, start) = arms-before-status at-status in (
         told (at-infer2 .infer2 .ensures),
         (
           meet-left (start .pre .1) (at-second .second .ensures) (at-third .third .ensures) (at-bind .bind .ensures)
-              (at-infer .infer .ensures) (at-status .status .given .1) (at-spent .spent .ensures) (at-Then1 .if1 .taken) (at-bind2 .bind2 .ensures)
+              (at-infer .infer .ensures) (at-status .status .given .1) (at-spent .spent .ensures) (at-then1 .if1 .taken) (at-bind2 .bind2 .ensures)
               (at-infer2 .infer2 .ensures),
           meet-bound (start .pre .1) (at-second .second .ensures) (at-third .third .ensures) (at-bind .bind .ensures)
-              (at-infer .infer .ensures) (at-status .status .given .1) (at-spent .spent .ensures) (at-Then1 .if1 .taken) (at-bind2 .bind2 .ensures)
+              (at-infer .infer .ensures) (at-status .status .given .1) (at-spent .spent .ensures) (at-then1 .if1 .taken) (at-bind2 .bind2 .ensures)
               (at-infer2 .infer2 .ensures),
           start .pre .1 .free,
         ),
@@ -211,24 +225,24 @@ module _ (t : ℕ) where
 
   pub same-length : lts.Need-same-length (arms-uses t) (arms-at t) arms.Post
   same-length c =
-      let at-meet = c in
-      let (at-infer2, _, _, _, _, at-infer, _, _, _, _) = before-meet at-meet in
+      let (at-infer2, _, _, _, at-status) = arms-before-meet c in
+      let (at-infer, _, _, _, _) = arms-before-status at-status in
       at-infer2 .infer2 .kept .1 .1 .1 .1 .1 .1 .0 ∙ at-infer .infer .kept .1 .1 .1 .1 .1 .1 .0
 
   pub same-length-2 : lts.Need-same-length-2 (arms-uses t) (arms-at t) arms.Post
   same-length-2 c =
-      let at-meet = c in
-      let (at-infer2, at-bind2, _, _, _, at-infer, at-bind, _, _, _) = before-meet at-meet in
+      let (at-infer2, at-bind2, _, _, at-status) = arms-before-meet c in
+      let (at-infer, at-bind, _, _, _) = arms-before-status at-status in
       at-infer2 .infer2 .kept .1 .1 .1 .1 .1 .1 .1 .0 ∙ at-bind2 .bind2 .kept .1 .1 .1 .0 ∙ at-infer .infer .kept .1 .1 .1 .1 .1 .1 .1 .0 ∙
       at-bind .bind .kept .1 .1 .1 .0
 
   pub returns : lts.Need-returns (arms-uses t) (arms-at t) arms.Post
   returns c =
-      let at-meet = c in
-      let (at-infer2, at-bind2, at-Then1, at-spent, at-status, at-infer, at-bind, at-third, at-second, start) = before-meet at-meet in
+      let (at-infer2, at-bind2, at-then1, at-spent, at-status) = arms-before-meet c in
+      let (at-infer, at-bind, at-third, at-second, start) = arms-before-status at-status in
       branches-done (start .pre .1) (at-second .second .ensures) (at-third .third .ensures) (at-bind .bind .ensures) (at-infer .infer .ensures)
-      (at-status .status .given .1) (at-spent .spent .ensures) (at-Then1 .if1 .taken) (at-bind2 .bind2 .ensures) (at-infer2 .infer2 .ensures)
-      (at-meet .meet .ensures)
+      (at-status .status .given .1) (at-spent .spent .ensures) (at-then1 .if1 .taken) (at-bind2 .bind2 .ensures) (at-infer2 .infer2 .ensures)
+      (c .meet .ensures)
 
   pub misused-requires : lts.Need-misused-requires (arms-uses t) (arms-at t) arms.Post
   misused-requires c κs = search needs
@@ -238,39 +252,35 @@ module _ (t : ℕ) where
 
   pub same-length-3 : lts.Need-same-length-3 (arms-uses t) (arms-at t) arms.Post
   same-length-3 c =
-      let at-misused = c in
-      let (_, _, _, at-infer, _, _, _, _) = before-misused at-misused in
+      let (_, _, at-status) = arms-before-misused c in
+      let (at-infer, _, _, _, _) = arms-before-status at-status in
       at-infer .infer .kept .1 .1 .1 .1 .1 .1 .0
 
   pub same-length-4 : lts.Need-same-length-4 (arms-uses t) (arms-at t) arms.Post
   same-length-4 c =
-      let at-misused = c in
-      let (_, _, _, at-infer, at-bind, _, _, _) = before-misused at-misused in
+      let (_, _, at-status) = arms-before-misused c in
+      let (at-infer, at-bind, _, _, _) = arms-before-status at-status in
       at-infer .infer .kept .1 .1 .1 .1 .1 .1 .1 .0 ∙ at-bind .bind .kept .1 .1 .1 .0
 
   pub returns-2 : lts.Need-returns-2 (arms-uses t) (arms-at t) arms.Post
   returns-2 c =
-      let at-misused = c in
-      let (at-Else1, at-spent, at-status, at-infer, at-bind, at-third, at-second, start) = before-misused at-misused in
+      let (at-else1, at-spent, at-status) = arms-before-misused c in
+      let (at-infer, at-bind, at-third, at-second, start) = arms-before-status at-status in
       left-unused (start .pre .1) (at-second .second .ensures) (at-third .third .ensures) (at-bind .bind .ensures) (at-infer .infer .ensures)
-      (at-status .status .given .1) (at-spent .spent .ensures) (at-Else1 .if1 .left) (at-misused .misused .ensures .0)
-      (at-misused .misused .ensures .1)
+      (at-status .status .given .1) (at-spent .spent .ensures) (at-else1 .if1 .left) (c .misused .ensures .0) (c .misused .ensures .1)
 
   pub same-length-5 : lts.Need-same-length-5 (arms-uses t) (arms-at t) arms.Post
   same-length-5 c =
-      let at-enum-told = c in
-      let (at-infer, _, _, _, _) = before-enum-told at-enum-told in
+      let (at-infer, _, _, _, _) = arms-before-enum-told c in
       at-infer .infer .kept .1 .1 .1 .1 .1 .1 .0
 
   pub same-length-6 : lts.Need-same-length-6 (arms-uses t) (arms-at t) arms.Post
   same-length-6 c =
-      let at-enum-told = c in
-      let (at-infer, at-bind, _, _, _) = before-enum-told at-enum-told in
+      let (at-infer, at-bind, _, _, _) = arms-before-enum-told c in
       at-infer .infer .kept .1 .1 .1 .1 .1 .1 .1 .0 ∙ at-bind .bind .kept .1 .1 .1 .0
 
   pub returns-3 : lts.Need-returns-3 (arms-uses t) (arms-at t) arms.Post
   returns-3 c =
-      let at-enum-told = c in
-      let (at-infer, at-bind, at-third, at-second, start) = before-enum-told at-enum-told in
+      let (at-infer, at-bind, at-third, at-second, start) = arms-before-enum-told c in
       left-refused (start .pre .1) (at-second .second .ensures) (at-third .third .ensures) (at-bind .bind .ensures) (at-infer .infer .ensures)
-      (at-enum-told .enum-told .given .1)
+      (c .enum-told .given .1)

@@ -1,5 +1,5 @@
--- Answers of the cycle of typing: call. A place is what is known once a call or a test is behind; `before-` has the places before it, the
--- nearest first, so that code put in between two places moves one line.
+-- Answers of the cycle of typing: call. A place is what is known once a call or a test is behind; `-before-` has the
+-- places before it, the nearest first, so that code put in between two places moves one line.
 use Rattle.typing.proofs as own
 use Prim.Native.Nat.{ℕ}
 use Prim.Native.Nat.{_-_}
@@ -41,23 +41,23 @@ module _ (t : ℕ) where
   abbrev First : Type 0
   First = lts.After-first (call-uses t) (call-at t) call.Post
 
-  abbrev WideIndex : Type 0
-  WideIndex = lts.After-wide-index (call-uses t) (call-at t) call.Post
+  abbrev Index : Type 0
+  Index = lts.After-wide-index (call-uses t) (call-at t) call.Post
 
-  abbrev WideIndex2 : Type 0
-  WideIndex2 = lts.After-wide-index2 (call-uses t) (call-at t) call.Post
+  abbrev Offset : Type 0
+  Offset = lts.After-wide-index2 (call-uses t) (call-at t) call.Post
 
-  abbrev CallAncillae : Type 0
-  CallAncillae = lts.After-call-ancillae (call-uses t) (call-at t) call.Post
+  abbrev Ancillae : Type 0
+  Ancillae = lts.After-call-ancillae (call-uses t) (call-at t) call.Post
 
-  abbrev FunctionParameters : Type 0
-  FunctionParameters = lts.After-function-parameters (call-uses t) (call-at t) call.Post
+  abbrev Parameters : Type 0
+  Parameters = lts.After-function-parameters (call-uses t) (call-at t) call.Post
 
-  abbrev Then1 : Type 0
-  Then1 = lts.Then1 (call-uses t) (call-at t) call.Post
+  abbrev Other : Type 0
+  Other = lts.Then1 (call-uses t) (call-at t) call.Post
 
-  abbrev Else1 : Type 0
-  Else1 = lts.Else1 (call-uses t) (call-at t) call.Post
+  abbrev Same : Type 0
+  Same = lts.Else1 (call-uses t) (call-at t) call.Post
 
   abbrev None : Type 0
   None = lts.After-none (call-uses t) (call-at t) call.Post
@@ -68,23 +68,23 @@ module _ (t : ℕ) where
   abbrev Arguments : Type 0
   Arguments = lts.After-arguments (call-uses t) (call-at t) call.Post
 
-  abbrev EnumTold : Type 0
-  EnumTold = lts.After-enum-told (call-uses t) (call-at t) call.Post
+  abbrev Argued : Type 0
+  Argued = lts.After-enum-told (call-uses t) (call-at t) call.Post
 
-  abbrev EnumTold2 : Type 0
-  EnumTold2 = lts.After-enum-told2 (call-uses t) (call-at t) call.Post
+  abbrev Refused : Type 0
+  Refused = lts.After-enum-told2 (call-uses t) (call-at t) call.Post
 
   abbrev Listed : Type 0
   Listed = lts.After-listed (call-uses t) (call-at t) call.Post
 
-  abbrev Entry : Type 0
-  Entry = lts.After-entry (call-uses t) (call-at t) call.Post
+  abbrev Want : Type 0
+  Want = lts.After-entry (call-uses t) (call-at t) call.Post
 
-  abbrev FunctionResult : Type 0
-  FunctionResult = lts.After-function-result (call-uses t) (call-at t) call.Post
+  abbrev Result : Type 0
+  Result = lts.After-function-result (call-uses t) (call-at t) call.Post
 
-  abbrev Entry2 : Type 0
-  Entry2 = lts.After-entry2 (call-uses t) (call-at t) call.Post
+  abbrev Answer : Type 0
+  Answer = lts.After-entry2 (call-uses t) (call-at t) call.Post
 
   abbrev Infer : Type 0
   Infer = lts.After-infer (call-uses t) (call-at t) call.Post
@@ -92,248 +92,98 @@ module _ (t : ℕ) where
   abbrev Expect : Type 0
   Expect = lts.After-expect (call-uses t) (call-at t) call.Post
 
-  abbrev before-first : First → Start
-  before-first c = c .before .before .before .before .before .before .before .before
+  abbrev call-before-first : First → Start
+  call-before-first c = c .before .before .before .before .before .before .before .before
 
-  abbrev before-wide-index : WideIndex → First × Start
-  before-wide-index c = let at-first = c .before in (at-first, before-first at-first)
+  abbrev call-before-index : Index → First × Start
+  call-before-index c = let at-first = c .before in (at-first, call-before-first at-first)
 
-  abbrev before-wide-index2 : WideIndex2 → WideIndex × First × Start
-  before-wide-index2 c = let at-wide-index = c .before .before in let (at-first, start) = before-wide-index at-wide-index in
-      (at-wide-index, at-first, start)
+  abbrev call-before-offset : Offset → Index × First × Start
+  call-before-offset c =
+      let at-index = c .before .before in
+      let (at-first, start) = call-before-index at-index in
+      (at-index, at-first, start)
 
-  abbrev before-call-ancillae : CallAncillae → WideIndex2 × WideIndex × First × Start
-  before-call-ancillae c = let at-wide-index2 = c .before in let (at-wide-index, at-first, start) = before-wide-index2 at-wide-index2 in
-      (at-wide-index2, at-wide-index, at-first, start)
+  abbrev call-before-ancillae : Ancillae → Offset × Index × First × Start
+  call-before-ancillae c =
+      let at-offset = c .before in
+      let (at-index, at-first, start) = call-before-offset at-offset in
+      (at-offset, at-index, at-first, start)
 
-  abbrev before-function-parameters : FunctionParameters → CallAncillae × WideIndex2 × WideIndex × First × Start
-  before-function-parameters c = let at-call-ancillae = c .before in let (at-wide-index2, at-wide-index, at-first, start) = before-call-ancillae
-      at-call-ancillae in (at-call-ancillae, at-wide-index2, at-wide-index, at-first, start)
+  abbrev call-before-parameters : Parameters → Ancillae × Offset × Index × First × Start
+  call-before-parameters c =
+      let at-ancillae = c .before in
+      let (at-offset, at-index, at-first, start) = call-before-ancillae at-ancillae in
+      (at-ancillae, at-offset, at-index, at-first, start)
 
-  abbrev before-Then1 : Then1 → FunctionParameters × CallAncillae × WideIndex2 × WideIndex × First × Start
-  before-Then1 c = let at-function-parameters = c .before in let (at-call-ancillae, at-wide-index2, at-wide-index, at-first, start) =
-      before-function-parameters at-function-parameters in (at-function-parameters, at-call-ancillae, at-wide-index2, at-wide-index, at-first, start)
+  abbrev call-before-other : Other → Parameters × Ancillae × Offset × Index × First × Start
+  call-before-other c =
+      let at-parameters = c .before in
+      let (at-ancillae, at-offset, at-index, at-first, start) = call-before-parameters at-parameters in
+      (at-parameters, at-ancillae, at-offset, at-index, at-first, start)
 
-  abbrev before-Else1 : Else1 → FunctionParameters × CallAncillae × WideIndex2 × WideIndex × First × Start
-  before-Else1 c = let at-function-parameters = c .before in let (at-call-ancillae, at-wide-index2, at-wide-index, at-first, start) =
-      before-function-parameters at-function-parameters in (at-function-parameters, at-call-ancillae, at-wide-index2, at-wide-index, at-first, start)
+  abbrev call-before-same : Same → Parameters × Ancillae × Offset × Index × First × Start
+  call-before-same c =
+      let at-parameters = c .before in
+      let (at-ancillae, at-offset, at-index, at-first, start) = call-before-parameters at-parameters in
+      (at-parameters, at-ancillae, at-offset, at-index, at-first, start)
 
-  abbrev before-none : None → Else1 × FunctionParameters × CallAncillae × WideIndex2 × WideIndex × First × Start
-  before-none c = let at-Else1 = c .before in let (at-function-parameters, at-call-ancillae, at-wide-index2, at-wide-index, at-first, start) =
-      before-Else1 at-Else1 in (at-Else1, at-function-parameters, at-call-ancillae, at-wide-index2, at-wide-index, at-first, start)
+  abbrev call-before-none : None → Same
+  call-before-none c = c .before
 
-  abbrev before-differ : Differ → Then1 × FunctionParameters × CallAncillae × WideIndex2 × WideIndex × First × Start
-  before-differ c = let at-Then1 = c .before in let (at-function-parameters, at-call-ancillae, at-wide-index2, at-wide-index, at-first, start) =
-      before-Then1 at-Then1 in (at-Then1, at-function-parameters, at-call-ancillae, at-wide-index2, at-wide-index, at-first, start)
+  abbrev call-before-differ : Differ → Other
+  call-before-differ c = c .before
 
-  abbrev before-arguments : Arguments → None × Else1 × FunctionParameters × CallAncillae × WideIndex2 × WideIndex × First × Start
-  before-arguments c = let at-none = c .before .before .before in let (
-    at-Else1,
-    at-function-parameters,
-    at-call-ancillae,
-    at-wide-index2,
-    at-wide-index,
-    at-first,
-    start,
-  ) = before-none at-none in (
-    at-none,
-    at-Else1,
-    at-function-parameters,
-    at-call-ancillae,
-    at-wide-index2,
-    at-wide-index,
-    at-first,
-    start,
-  )
+  abbrev call-before-arguments : Arguments → None × Same
+  call-before-arguments c = let at-none = c .before .before .before in (at-none, call-before-none at-none)
 
-  abbrev before-enum-told : EnumTold → Arguments × None × Else1 × FunctionParameters × CallAncillae × WideIndex2 × WideIndex × First × Start
-  before-enum-told c = let at-arguments = c .before .before .before .before .before .before in let
-      (at-none, at-Else1, at-function-parameters, at-call-ancillae, at-wide-index2, at-wide-index, at-first, start) = before-arguments
-      at-arguments in (at-arguments, at-none, at-Else1, at-function-parameters, at-call-ancillae, at-wide-index2, at-wide-index, at-first, start)
+  abbrev call-before-argued : Argued → Arguments × None × Same
+  call-before-argued c =
+      let at-arguments = c .before .before .before .before .before .before in
+      let (at-none, at-same) = call-before-arguments at-arguments in
+      (at-arguments, at-none, at-same)
 
-  abbrev before-enum-told2 : EnumTold2 → Arguments × None × Else1 × FunctionParameters × CallAncillae × WideIndex2 × WideIndex × First × Start
-  before-enum-told2 c = let at-arguments = c .before .before .before .before .before .before in let
-      (at-none, at-Else1, at-function-parameters, at-call-ancillae, at-wide-index2, at-wide-index, at-first, start) = before-arguments
-      at-arguments in (at-arguments, at-none, at-Else1, at-function-parameters, at-call-ancillae, at-wide-index2, at-wide-index, at-first, start)
+  abbrev call-before-refused : Refused → Arguments × None × Same
+  call-before-refused c =
+      let at-arguments = c .before .before .before .before .before .before in
+      let (at-none, at-same) = call-before-arguments at-arguments in
+      (at-arguments, at-none, at-same)
 
-  abbrev before-listed : Listed → EnumTold × Arguments × None × Else1 × FunctionParameters × CallAncillae × WideIndex2 × WideIndex × First × Start
-  before-listed c = let at-enum-told = c .before in let (
-    at-arguments,
-    at-none,
-    at-Else1,
-    at-function-parameters,
-    at-call-ancillae,
-    at-wide-index2,
-    at-wide-index,
-    at-first,
-    start,
-  ) = before-enum-told at-enum-told in (
-    at-enum-told,
-    at-arguments,
-    at-none,
-    at-Else1,
-    at-function-parameters,
-    at-call-ancillae,
-    at-wide-index2,
-    at-wide-index,
-    at-first,
-    start,
-  )
+  abbrev call-before-listed : Listed → Argued × Arguments × None × Same
+  call-before-listed c =
+      let at-argued = c .before in
+      let (at-arguments, at-none, at-same) = call-before-argued at-argued in
+      (at-argued, at-arguments, at-none, at-same)
 
-  abbrev before-entry : Entry → Listed × EnumTold × Arguments × None × Else1 × FunctionParameters × CallAncillae × WideIndex2 × WideIndex × First ×
-      Start
-  before-entry c = let at-listed = c .before .before in let (
-    at-enum-told,
-    at-arguments,
-    at-none,
-    at-Else1,
-    at-function-parameters,
-    at-call-ancillae,
-    at-wide-index2,
-    at-wide-index,
-    at-first,
-    start,
-  ) = before-listed at-listed in (
-    at-listed,
-    at-enum-told,
-    at-arguments,
-    at-none,
-    at-Else1,
-    at-function-parameters,
-    at-call-ancillae,
-    at-wide-index2,
-    at-wide-index,
-    at-first,
-    start,
-  )
+  abbrev call-before-want : Want → Listed × Argued × Arguments × None × Same
+  call-before-want c =
+      let at-listed = c .before .before in
+      let (at-argued, at-arguments, at-none, at-same) = call-before-listed at-listed in
+      (at-listed, at-argued, at-arguments, at-none, at-same)
 
-  abbrev before-function-result : FunctionResult → Entry × Listed × EnumTold × Arguments × None × Else1 × FunctionParameters × CallAncillae ×
-      WideIndex2 × WideIndex × First × Start
-  before-function-result c = let at-entry = c .before in let (
-    at-listed,
-    at-enum-told,
-    at-arguments,
-    at-none,
-    at-Else1,
-    at-function-parameters,
-    at-call-ancillae,
-    at-wide-index2,
-    at-wide-index,
-    at-first,
-    start,
-  ) = before-entry at-entry in (
-    at-entry,
-    at-listed,
-    at-enum-told,
-    at-arguments,
-    at-none,
-    at-Else1,
-    at-function-parameters,
-    at-call-ancillae,
-    at-wide-index2,
-    at-wide-index,
-    at-first,
-    start,
-  )
+  abbrev call-before-result : Result → Want × Listed × Argued × Arguments × None × Same
+  call-before-result c =
+      let at-want = c .before in
+      let (at-listed, at-argued, at-arguments, at-none, at-same) = call-before-want at-want in
+      (at-want, at-listed, at-argued, at-arguments, at-none, at-same)
 
-  abbrev before-entry2 : Entry2 → FunctionResult × Entry × Listed × EnumTold × Arguments × None × Else1 × FunctionParameters × CallAncillae ×
-      WideIndex2 × WideIndex × First × Start
-  before-entry2 c = let at-function-result = c .before in let (
-    at-entry,
-    at-listed,
-    at-enum-told,
-    at-arguments,
-    at-none,
-    at-Else1,
-    at-function-parameters,
-    at-call-ancillae,
-    at-wide-index2,
-    at-wide-index,
-    at-first,
-    start,
-  ) = before-function-result at-function-result in (
-    at-function-result,
-    at-entry,
-    at-listed,
-    at-enum-told,
-    at-arguments,
-    at-none,
-    at-Else1,
-    at-function-parameters,
-    at-call-ancillae,
-    at-wide-index2,
-    at-wide-index,
-    at-first,
-    start,
-  )
+  abbrev call-before-answer : Answer → Result × Want × Listed × Argued × Arguments × None × Same
+  call-before-answer c =
+      let at-result = c .before in
+      let (at-want, at-listed, at-argued, at-arguments, at-none, at-same) = call-before-result at-result in
+      (at-result, at-want, at-listed, at-argued, at-arguments, at-none, at-same)
 
-  abbrev before-infer : Infer → Entry2 × FunctionResult × Entry × Listed × EnumTold × Arguments × None × Else1 × FunctionParameters × CallAncillae ×
-      WideIndex2 × WideIndex × First × Start
-  before-infer c = let at-entry2 = c .before .before .before in let (
-    at-function-result,
-    at-entry,
-    at-listed,
-    at-enum-told,
-    at-arguments,
-    at-none,
-    at-Else1,
-    at-function-parameters,
-    at-call-ancillae,
-    at-wide-index2,
-    at-wide-index,
-    at-first,
-    start,
-  ) = before-entry2 at-entry2 in (
-    at-entry2,
-    at-function-result,
-    at-entry,
-    at-listed,
-    at-enum-told,
-    at-arguments,
-    at-none,
-    at-Else1,
-    at-function-parameters,
-    at-call-ancillae,
-    at-wide-index2,
-    at-wide-index,
-    at-first,
-    start,
-  )
+  abbrev call-before-infer : Infer → Answer × Result × Want × Listed × Argued × Arguments × None × Same
+  call-before-infer c =
+      let at-answer = c .before .before .before in
+      let (at-result, at-want, at-listed, at-argued, at-arguments, at-none, at-same) = call-before-answer at-answer in
+      (at-answer, at-result, at-want, at-listed, at-argued, at-arguments, at-none, at-same)
 
-  abbrev before-expect : Expect → Infer × Entry2 × FunctionResult × Entry × Listed × EnumTold × Arguments × None × Else1 × FunctionParameters ×
-      CallAncillae × WideIndex2 × WideIndex × First × Start
-  before-expect c = let at-infer = c .before .before .before .before .before .before in let (
-    at-entry2,
-    at-function-result,
-    at-entry,
-    at-listed,
-    at-enum-told,
-    at-arguments,
-    at-none,
-    at-Else1,
-    at-function-parameters,
-    at-call-ancillae,
-    at-wide-index2,
-    at-wide-index,
-    at-first,
-    start,
-  ) = before-infer at-infer in (
-    at-infer,
-    at-entry2,
-    at-function-result,
-    at-entry,
-    at-listed,
-    at-enum-told,
-    at-arguments,
-    at-none,
-    at-Else1,
-    at-function-parameters,
-    at-call-ancillae,
-    at-wide-index2,
-    at-wide-index,
-    at-first,
-    start,
-  )
+  abbrev call-before-expect : Expect → Infer × Answer × Result × Want × Listed × Argued × Arguments × None × Same
+  call-before-expect c =
+      let at-infer = c .before .before .before .before .before .before in
+      let (at-answer, at-result, at-want, at-listed, at-argued, at-arguments, at-none, at-same) = call-before-infer at-infer in
+      (at-infer, at-answer, at-result, at-want, at-listed, at-argued, at-arguments, at-none, at-same)
 
   ----------------------------------------------------------------
   -- Answers
@@ -351,17 +201,16 @@ module _ (t : ℕ) where
 
   pub shared-slice-read-wide-index : lts.Need-shared-slice-read-wide-index (call-uses t) (call-at t) call.Post
   shared-slice-read-wide-index c =
-      let at-wide-index = c .before in
-      let (at-first, start) = before-wide-index at-wide-index in
-      call-function (start .pre .1 .ready) (start .pre .1 .here) (at-wide-index .wide-index .ensures .0 ∙ at-first .first .ensures)
+      let at-index = c .before in
+      let (at-first, start) = call-before-index at-index in
+      call-function (start .pre .1 .ready) (start .pre .1 .here) (at-index .wide-index .ensures .0 ∙ at-first .first .ensures)
 
   pub wide-index-requires-2 : lts.Need-wide-index-requires-2 (call-uses t) (call-at t) call.Post
   wide-index-requires-2 c κs = search needs
 
   pub call-ancillae-requires : lts.Need-call-ancillae-requires (call-uses t) (call-at t) call.Post
   call-ancillae-requires c κs =
-      let at-wide-index2 = c in
-      let (_, _, start) = before-wide-index2 at-wide-index2 in (
+      let (_, _, start) = call-before-offset c in (
         omega (arith, read-call (start .pre .1 .ready .entries) (start .pre .1 .here) .0),
         read-call (start .pre .1 .ready .entries)
             (start .pre .1 .here) .1,
@@ -369,21 +218,19 @@ module _ (t : ℕ) where
 
   pub function-parameters-requires : lts.Need-function-parameters-requires (call-uses t) (call-at t) call.Post
   function-parameters-requires c κs =
-      let at-call-ancillae = c in
-      let (at-wide-index2, at-wide-index, at-first, start) = before-call-ancillae at-call-ancillae in
-      let callee = at-wide-index .wide-index .ensures .0 ∙ at-first .first .ensures in
-      let field = at-wide-index2 .wide-index2 .ensures .0 in
+      let (at-offset, at-index, at-first, start) = call-before-ancillae c in
+      let callee = at-index .wide-index .ensures .0 ∙ at-first .first .ensures in
+      let field = at-offset .wide-index2 .ensures .0 in
       omega (arith, read-function (start .pre .1 .ready .entries) (call-function (start .pre .1 .ready) (start .pre .1 .here) callee) field)
 
   pub sub-own : lts.Need-sub-own (call-uses t) (call-at t) call.Post
   sub-own c =
-      let at-function-parameters = c in
-      let (_, at-wide-index2, at-wide-index, at-first, start) = before-function-parameters at-function-parameters in
-      let callee = at-wide-index .wide-index .ensures .0 ∙ at-first .first .ensures in
-      let field = at-wide-index2 .wide-index2 .ensures .0 in
+      let (_, at-offset, at-index, at-first, start) = call-before-parameters c in
+      let callee = at-index .wide-index .ensures .0 ∙ at-first .first .ensures in
+      let field = at-offset .wide-index2 .ensures .0 in
       omega (
         arith,
-        at-function-parameters .function-parameters .ensures .0,
+        c .function-parameters .ensures .0,
         some-parameters (start .pre .1 .ready .entries)
             (call-function (start .pre .1 .ready) (start .pre .1 .here) callee) field .0,
       )
@@ -393,13 +240,13 @@ module _ (t : ℕ) where
 
   pub returns : lts.Need-returns (call-uses t) (call-at t) call.Post
   returns c =
-      let at-differ = c in
-      let (at-Then1, at-function-parameters, at-call-ancillae, at-wide-index2, at-wide-index, at-first, start) = before-differ at-differ in
-      let callee = at-wide-index .wide-index .ensures .0 ∙ at-first .first .ensures in
-      let field = at-wide-index2 .wide-index2 .ensures .0 in
-      let own = ap (λ n. n - 1) (at-function-parameters .function-parameters .ensures .0) in
-      call-differ (start .pre .1 .ready) (start .pre .1 .here) callee field (at-call-ancillae .call-ancillae .ensures) own (at-Then1 .if1 .taken)
-      (at-differ .differ .ensures .0) (at-differ .differ .ensures .1)
+      let at-other = call-before-differ c in
+      let (at-parameters, at-ancillae, at-offset, at-index, at-first, start) = call-before-other at-other in
+      let callee = at-index .wide-index .ensures .0 ∙ at-first .first .ensures in
+      let field = at-offset .wide-index2 .ensures .0 in
+      let own = ap (λ n. n - 1) (at-parameters .function-parameters .ensures .0) in
+      call-differ (start .pre .1 .ready) (start .pre .1 .here) callee field (at-ancillae .call-ancillae .ensures) own (at-other .if1 .taken)
+      (c .differ .ensures .0) (c .differ .ensures .1)
 
   pub none-requires : lts.Need-none-requires (call-uses t) (call-at t) call.Post
   none-requires c κs = search needs
@@ -407,19 +254,20 @@ module _ (t : ℕ) where
   pub arguments-requires : lts.Need-arguments-requires (call-uses t) (call-at t) call.Post
   arguments-requires c κs =
       let at-none = c .before .before in
-      let (at-Else1, at-function-parameters, at-call-ancillae, at-wide-index2, at-wide-index, at-first, start) = before-none at-none in
-      let callee = at-wide-index .wide-index .ensures .0 ∙ at-first .first .ensures in
-      let field = at-wide-index2 .wide-index2 .ensures .0 in
-      let own = ap (λ n. n - 1) (at-function-parameters .function-parameters .ensures .0) in (
+      let at-same = call-before-none at-none in
+      let (at-parameters, at-ancillae, at-offset, at-index, at-first, start) = call-before-same at-same in
+      let callee = at-index .wide-index .ensures .0 ∙ at-first .first .ensures in
+      let field = at-offset .wide-index2 .ensures .0 in
+      let own = ap (λ n. n - 1) (at-parameters .function-parameters .ensures .0) in (
         omega (
           arith,
           start .pre .0,
-          call-few (start .pre .1 .ready) (start .pre .1 .here) callee field (at-call-ancillae .call-ancillae .ensures) own
-              (at-Else1 .if1 .left),
+          call-few (start .pre .1 .ready) (start .pre .1 .here) callee field (at-ancillae .call-ancillae .ensures) own
+              (at-same .if1 .left),
         ),
         ready-arguments (start .pre .1 .signed) (call-barred (start .pre .1 .ready) (start .pre .1 .here) callee field
-            (at-call-ancillae .call-ancillae .ensures) own (at-Else1 .if1 .left) (at-none .none .ensures))
-            (call-calls (start .pre .1 .ready) (start .pre .1 .here) callee field (at-call-ancillae .call-ancillae .ensures) own (at-Else1 .if1 .left)),
+            (at-ancillae .call-ancillae .ensures) own (at-same .if1 .left) (at-none .none .ensures))
+            (call-calls (start .pre .1 .ready) (start .pre .1 .here) callee field (at-ancillae .call-ancillae .ensures) own (at-same .if1 .left)),
       )
 
   pub enum-told : lts.Need-enum-told (call-uses t) (call-at t) call.Post
@@ -427,221 +275,143 @@ module _ (t : ℕ) where
 
   pub listed-requires : lts.Need-listed-requires (call-uses t) (call-at t) call.Post
   listed-requires c κs =
-      let at-enum-told = c in
-      let (_, _, at-Else1, at-function-parameters, at-call-ancillae, at-wide-index2, at-wide-index, at-first, start) = before-enum-told at-enum-told
-      in
-      let callee = at-wide-index .wide-index .ensures .0 ∙ at-first .first .ensures in
-      let field = at-wide-index2 .wide-index2 .ensures .0 in
-      let own = ap (λ n. n - 1) (at-function-parameters .function-parameters .ensures .0) in
-      call-read (start .pre .1 .ready) (start .pre .1 .here) callee field (at-call-ancillae .call-ancillae .ensures) own (at-Else1 .if1 .left) .0
+      let (_, _, at-same) = call-before-argued c in
+      let (at-parameters, at-ancillae, at-offset, at-index, at-first, start) = call-before-same at-same in
+      let callee = at-index .wide-index .ensures .0 ∙ at-first .first .ensures in
+      let field = at-offset .wide-index2 .ensures .0 in
+      let own = ap (λ n. n - 1) (at-parameters .function-parameters .ensures .0) in
+      call-read (start .pre .1 .ready) (start .pre .1 .here) callee field (at-ancillae .call-ancillae .ensures) own (at-same .if1 .left) .0
 
   pub mul-entry : lts.Need-mul-entry (call-uses t) (call-at t) call.Post
   mul-entry c =
-      let at-listed = c in
-      let (_, _, _, at-Else1, at-function-parameters, at-call-ancillae, at-wide-index2, at-wide-index, at-first, start) = before-listed at-listed in
-      let callee = at-wide-index .wide-index .ensures .0 ∙ at-first .first .ensures in
-      let field = at-wide-index2 .wide-index2 .ensures .0 in
-      let own = ap (λ n. n - 1) (at-function-parameters .function-parameters .ensures .0) in
-      omega (
-        arith,
-        call-row (start .pre .1 .ready) (start .pre .1 .here) callee field (at-call-ancillae .call-ancillae .ensures) own
-            (at-Else1 .if1 .left),
-      )
+      let (_, _, _, at-same) = call-before-listed c in
+      let (at-parameters, at-ancillae, at-offset, at-index, at-first, start) = call-before-same at-same in
+      let callee = at-index .wide-index .ensures .0 ∙ at-first .first .ensures in
+      let field = at-offset .wide-index2 .ensures .0 in
+      let own = ap (λ n. n - 1) (at-parameters .function-parameters .ensures .0) in
+      omega (arith, call-row (start .pre .1 .ready) (start .pre .1 .here) callee field (at-ancillae .call-ancillae .ensures) own (at-same .if1 .left))
 
   pub mul-entry-2 : lts.Need-mul-entry-2 (call-uses t) (call-at t) call.Post
   mul-entry-2 c =
-      let at-listed = c in
-      let (_, _, _, at-Else1, at-function-parameters, at-call-ancillae, at-wide-index2, at-wide-index, at-first, start) = before-listed at-listed in
-      let callee = at-wide-index .wide-index .ensures .0 ∙ at-first .first .ensures in
-      let field = at-wide-index2 .wide-index2 .ensures .0 in
-      let own = ap (λ n. n - 1) (at-function-parameters .function-parameters .ensures .0) in
-      omega (
-        arith,
-        call-row (start .pre .1 .ready) (start .pre .1 .here) callee field (at-call-ancillae .call-ancillae .ensures) own
-            (at-Else1 .if1 .left),
-      )
+      let (_, _, _, at-same) = call-before-listed c in
+      let (at-parameters, at-ancillae, at-offset, at-index, at-first, start) = call-before-same at-same in
+      let callee = at-index .wide-index .ensures .0 ∙ at-first .first .ensures in
+      let field = at-offset .wide-index2 .ensures .0 in
+      let own = ap (λ n. n - 1) (at-parameters .function-parameters .ensures .0) in
+      omega (arith, call-row (start .pre .1 .ready) (start .pre .1 .here) callee field (at-ancillae .call-ancillae .ensures) own (at-same .if1 .left))
 
   pub index-1-entry : lts.Need-index-1-entry (call-uses t) (call-at t) call.Post
   index-1-entry c =
-      let at-listed = c in
-      let (_, _, _, at-Else1, at-function-parameters, at-call-ancillae, at-wide-index2, at-wide-index, at-first, start) = before-listed at-listed in
-      let callee = at-wide-index .wide-index .ensures .0 ∙ at-first .first .ensures in
-      let field = at-wide-index2 .wide-index2 .ensures .0 in
-      let own = ap (λ n. n - 1) (at-function-parameters .function-parameters .ensures .0) in
-      omega (
-        arith,
-        call-row (start .pre .1 .ready) (start .pre .1 .here) callee field (at-call-ancillae .call-ancillae .ensures) own
-            (at-Else1 .if1 .left),
-      )
+      let (_, _, _, at-same) = call-before-listed c in
+      let (at-parameters, at-ancillae, at-offset, at-index, at-first, start) = call-before-same at-same in
+      let callee = at-index .wide-index .ensures .0 ∙ at-first .first .ensures in
+      let field = at-offset .wide-index2 .ensures .0 in
+      let own = ap (λ n. n - 1) (at-parameters .function-parameters .ensures .0) in
+      omega (arith, call-row (start .pre .1 .ready) (start .pre .1 .here) callee field (at-ancillae .call-ancillae .ensures) own (at-same .if1 .left))
 
   pub index-2-entry : lts.Need-index-2-entry (call-uses t) (call-at t) call.Post
   index-2-entry c =
-      let at-listed = c in
-      let (_, _, _, at-Else1, at-function-parameters, at-call-ancillae, at-wide-index2, at-wide-index, at-first, start) = before-listed at-listed in
-      let callee = at-wide-index .wide-index .ensures .0 ∙ at-first .first .ensures in
-      let field = at-wide-index2 .wide-index2 .ensures .0 in
-      let own = ap (λ n. n - 1) (at-function-parameters .function-parameters .ensures .0) in
-      omega (
-        arith,
-        call-row (start .pre .1 .ready) (start .pre .1 .here) callee field (at-call-ancillae .call-ancillae .ensures) own
-            (at-Else1 .if1 .left),
-      )
+      let (_, _, _, at-same) = call-before-listed c in
+      let (at-parameters, at-ancillae, at-offset, at-index, at-first, start) = call-before-same at-same in
+      let callee = at-index .wide-index .ensures .0 ∙ at-first .first .ensures in
+      let field = at-offset .wide-index2 .ensures .0 in
+      let own = ap (λ n. n - 1) (at-parameters .function-parameters .ensures .0) in
+      omega (arith, call-row (start .pre .1 .ready) (start .pre .1 .here) callee field (at-ancillae .call-ancillae .ensures) own (at-same .if1 .left))
 
   pub entry-requires : lts.Need-entry-requires (call-uses t) (call-at t) call.Post
   entry-requires c κs = search needs
 
   pub function-result-requires : lts.Need-function-result-requires (call-uses t) (call-at t) call.Post
   function-result-requires c κs =
-      let at-entry = c in
-      let (_, _, _, _, at-Else1, at-function-parameters, at-call-ancillae, at-wide-index2, at-wide-index, at-first, start) = before-entry at-entry in
-      let callee = at-wide-index .wide-index .ensures .0 ∙ at-first .first .ensures in
-      let field = at-wide-index2 .wide-index2 .ensures .0 in
-      let own = ap (λ n. n - 1) (at-function-parameters .function-parameters .ensures .0) in
-      call-read (start .pre .1 .ready) (start .pre .1 .here) callee field (at-call-ancillae .call-ancillae .ensures) own (at-Else1 .if1 .left) .1
+      let (_, _, _, _, at-same) = call-before-want c in
+      let (at-parameters, at-ancillae, at-offset, at-index, at-first, start) = call-before-same at-same in
+      let callee = at-index .wide-index .ensures .0 ∙ at-first .first .ensures in
+      let field = at-offset .wide-index2 .ensures .0 in
+      let own = ap (λ n. n - 1) (at-parameters .function-parameters .ensures .0) in
+      call-read (start .pre .1 .ready) (start .pre .1 .here) callee field (at-ancillae .call-ancillae .ensures) own (at-same .if1 .left) .1
 
   pub entry-requires-2 : lts.Need-entry-requires-2 (call-uses t) (call-at t) call.Post
   entry-requires-2 c κs = search needs
 
   pub infer-requires : lts.Need-infer-requires (call-uses t) (call-at t) call.Post
   infer-requires c κs =
-      let at-entry2 = c .before .before in
-      let (
-        _,
-        _,
-        at-listed,
-        at-enum-told,
-        at-arguments,
-        at-none,
-        at-Else1,
-        at-function-parameters,
-        at-call-ancillae,
-        at-wide-index2,
-        at-wide-index,
-        at-first,
-        start,
-      ) = before-entry2 at-entry2 in
-      let callee = at-wide-index .wide-index .ensures .0 ∙ at-first .first .ensures in
-      let field = at-wide-index2 .wide-index2 .ensures .0 in
-      let own = ap (λ n. n - 1) (at-function-parameters .function-parameters .ensures .0) in (
-        omega (
-          arith,
-          start .pre .0,
-          call-part (start .pre .1 .ready) (start .pre .1 .here) callee field (at-call-ancillae .call-ancillae .ensures)
-              own (at-Else1 .if1 .left) (at-none .none .ensures) (at-arguments .arguments .ensures) (at-enum-told .enum-told .given .1)
-              (at-listed .listed .ensures) .0,
-        ),
-        ready-for (start .pre .1 .signed) (call-ready (start .pre .1 .ready) (start .pre .1 .here) callee field
-            (at-call-ancillae .call-ancillae .ensures) own (at-Else1 .if1 .left) (at-none .none .ensures) (at-arguments .arguments .ensures)
-            (at-enum-told .enum-told .given .1) (at-listed .listed .ensures)) (call-part (start .pre .1 .ready) (start .pre .1 .here) callee field
-            (at-call-ancillae .call-ancillae .ensures) own (at-Else1 .if1 .left) (at-none .none .ensures) (at-arguments .arguments .ensures)
-            (at-enum-told .enum-told .given .1) (at-listed .listed .ensures) .1),
-      )
+      let at-answer = c .before .before in
+      let (_, _, at-listed, at-argued, at-arguments, at-none, at-same) = call-before-answer at-answer in
+      let (at-parameters, at-ancillae, at-offset, at-index, at-first, start) = call-before-same at-same in
+      let callee = at-index .wide-index .ensures .0 ∙ at-first .first .ensures in
+      let field = at-offset .wide-index2 .ensures .0 in
+      let own = ap (λ n. n - 1) (at-parameters .function-parameters .ensures .0) in
+      let ready = call-ready (start .pre .1 .ready) (start .pre .1 .here) callee field (at-ancillae .call-ancillae .ensures) own (at-same .if1 .left)
+      (at-none .none .ensures) (at-arguments .arguments .ensures) (at-argued .enum-told .given .1) (at-listed .listed .ensures) in
+      let part = call-part (start .pre .1 .ready) (start .pre .1 .here) callee field (at-ancillae .call-ancillae .ensures) own (at-same .if1 .left)
+      (at-none .none .ensures) (at-arguments .arguments .ensures) (at-argued .enum-told .given .1) (at-listed .listed .ensures) in
+      (omega (arith, start .pre .0, part .0), ready-for (start .pre .1 .signed) ready (part .1))
 
   pub expect-requires : lts.Need-expect-requires (call-uses t) (call-at t) call.Post
   expect-requires c κs =
       let at-infer = c .before .before .before .before .before in
-      let (
-        at-entry2,
-        at-function-result,
-        at-entry,
-        at-listed,
-        at-enum-told,
-        at-arguments,
-        at-none,
-        at-Else1,
-        at-function-parameters,
-        at-call-ancillae,
-        at-wide-index2,
-        at-wide-index,
-        at-first,
-        start,
-      ) = before-infer at-infer in
-      let callee = at-wide-index .wide-index .ensures .0 ∙ at-first .first .ensures in
-      let field = at-wide-index2 .wide-index2 .ensures .0 in
-      let own = ap (λ n. n - 1) (at-function-parameters .function-parameters .ensures .0) in
-      let parameter = call-parameter (start .pre .1 .ready) (start .pre .1 .here) callee field (at-call-ancillae .call-ancillae .ensures) own
-      (at-Else1 .if1 .left) (start .pre .1 .signed) in (
-        told (at-infer .infer .ensures),
-        known-later ((call-ready (start .pre .1 .ready) (start .pre .1 .here) callee field
-            (at-call-ancillae .call-ancillae .ensures) own (at-Else1 .if1 .left) (at-none .none .ensures) (at-arguments .arguments .ensures)
-            (at-enum-told .enum-told .given .1) (at-listed .listed .ensures)) .scoped .sources) (at-infer .infer .ensures .kept)
-            ((call-want (start .pre .1 .ready) (start .pre .1 .here) callee field (at-call-ancillae .call-ancillae .ensures) own (at-Else1 .if1 .left)
-            (at-none .none .ensures) (at-arguments .arguments .ensures) (at-enum-told .enum-told .given .1) (at-listed .listed .ensures) parameter
-            (at-function-result .function-result .ensures) (at-entry .entry .ensures) (at-entry2 .entry2 .ensures)) .0),
-      )
+      let (at-answer, at-result, at-want, at-listed, at-argued, at-arguments, at-none, at-same) = call-before-infer at-infer in
+      let (at-parameters, at-ancillae, at-offset, at-index, at-first, start) = call-before-same at-same in
+      let callee = at-index .wide-index .ensures .0 ∙ at-first .first .ensures in
+      let field = at-offset .wide-index2 .ensures .0 in
+      let own = ap (λ n. n - 1) (at-parameters .function-parameters .ensures .0) in
+      let parameter = call-parameter (start .pre .1 .ready) (start .pre .1 .here) callee field (at-ancillae .call-ancillae .ensures) own
+      (at-same .if1 .left) (start .pre .1 .signed) in
+      let ready = call-ready (start .pre .1 .ready) (start .pre .1 .here) callee field (at-ancillae .call-ancillae .ensures) own (at-same .if1 .left)
+      (at-none .none .ensures) (at-arguments .arguments .ensures) (at-argued .enum-told .given .1) (at-listed .listed .ensures) in
+      let want = call-want (start .pre .1 .ready) (start .pre .1 .here) callee field (at-ancillae .call-ancillae .ensures) own (at-same .if1 .left)
+      (at-none .none .ensures) (at-arguments .arguments .ensures) (at-argued .enum-told .given .1) (at-listed .listed .ensures) parameter
+      (at-result .function-result .ensures) (at-want .entry .ensures) (at-answer .entry2 .ensures) in
+      (told (at-infer .infer .ensures), known-later (ready .scoped .sources) (at-infer .infer .ensures .kept) (want .0))
 
   pub enum-told-2 : lts.Need-enum-told-2 (call-uses t) (call-at t) call.Post
   enum-told-2 c = search needs
 
   pub same-length : lts.Need-same-length (call-uses t) (call-at t) call.Post
   same-length c =
-      let at-expect = c in
-      let (at-infer, _, _, _, _, _, at-arguments, _, _, _, _, _, _, _, _) = before-expect at-expect in
+      let (at-infer, _, _, _, _, _, at-arguments, _, _) = call-before-expect c in
       at-infer .infer .kept .1 .1 .1 .1 .1 .1 .0 ∙ at-arguments .arguments .kept .1 .1 .1 .1 .1 .1 .0
 
   pub same-length-2 : lts.Need-same-length-2 (call-uses t) (call-at t) call.Post
   same-length-2 c =
-      let at-expect = c in
-      let (at-infer, _, _, _, _, _, at-arguments, _, _, _, _, _, _, _, _) = before-expect at-expect in
+      let (at-infer, _, _, _, _, _, at-arguments, _, _) = call-before-expect c in
       at-infer .infer .kept .1 .1 .1 .1 .1 .1 .1 .0 ∙ at-arguments .arguments .kept .1 .1 .1 .1 .1 .1 .1 .0
 
   pub returns-2 : lts.Need-returns-2 (call-uses t) (call-at t) call.Post
   returns-2 c =
-      let at-expect = c in
-      let (
-        at-infer,
-        at-entry2,
-        at-function-result,
-        at-entry,
-        at-listed,
-        at-enum-told,
-        at-arguments,
-        at-none,
-        at-Else1,
-        at-function-parameters,
-        at-call-ancillae,
-        at-wide-index2,
-        at-wide-index,
-        at-first,
-        start,
-      ) = before-expect at-expect in
-      let callee = at-wide-index .wide-index .ensures .0 ∙ at-first .first .ensures in
-      let field = at-wide-index2 .wide-index2 .ensures .0 in
-      let own = ap (λ n. n - 1) (at-function-parameters .function-parameters .ensures .0) in
-      let parameter = call-parameter (start .pre .1 .ready) (start .pre .1 .here) callee field (at-call-ancillae .call-ancillae .ensures) own
-      (at-Else1 .if1 .left) (start .pre .1 .signed) in
-      call-done (start .pre .1 .ready) (start .pre .1 .here) callee field (at-call-ancillae .call-ancillae .ensures) own (at-Else1 .if1 .left)
-      (at-none .none .ensures) (at-arguments .arguments .ensures) (at-enum-told .enum-told .given .1) (at-listed .listed .ensures) parameter
-      (at-function-result .function-result .ensures) (at-entry .entry .ensures) (at-entry2 .entry2 .ensures)
-      (demand-done (at-infer .infer .ensures) ((call-ready (start .pre .1 .ready) (start .pre .1 .here) callee field
-      (at-call-ancillae .call-ancillae .ensures) own (at-Else1 .if1 .left) (at-none .none .ensures) (at-arguments .arguments .ensures)
-      (at-enum-told .enum-told .given .1) (at-listed .listed .ensures)) .scoped .sources)
-      ((call-want (start .pre .1 .ready) (start .pre .1 .here) callee field (at-call-ancillae .call-ancillae .ensures) own (at-Else1 .if1 .left)
-      (at-none .none .ensures) (at-arguments .arguments .ensures) (at-enum-told .enum-told .given .1) (at-listed .listed .ensures) parameter
-      (at-function-result .function-result .ensures) (at-entry .entry .ensures) (at-entry2 .entry2 .ensures)) .0)
-      ((call-want (start .pre .1 .ready) (start .pre .1 .here) callee field (at-call-ancillae .call-ancillae .ensures) own (at-Else1 .if1 .left)
-      (at-none .none .ensures) (at-arguments .arguments .ensures) (at-enum-told .enum-told .given .1) (at-listed .listed .ensures) parameter
-      (at-function-result .function-result .ensures) (at-entry .entry .ensures) (at-entry2 .entry2 .ensures)) .1) (at-expect .expect .ensures))
+      let (at-infer, at-answer, at-result, at-want, at-listed, at-argued, at-arguments, at-none, at-same) = call-before-expect c in
+      let (at-parameters, at-ancillae, at-offset, at-index, at-first, start) = call-before-same at-same in
+      let callee = at-index .wide-index .ensures .0 ∙ at-first .first .ensures in
+      let field = at-offset .wide-index2 .ensures .0 in
+      let own = ap (λ n. n - 1) (at-parameters .function-parameters .ensures .0) in
+      let parameter = call-parameter (start .pre .1 .ready) (start .pre .1 .here) callee field (at-ancillae .call-ancillae .ensures) own
+      (at-same .if1 .left) (start .pre .1 .signed) in
+      let ready = call-ready (start .pre .1 .ready) (start .pre .1 .here) callee field (at-ancillae .call-ancillae .ensures) own (at-same .if1 .left)
+      (at-none .none .ensures) (at-arguments .arguments .ensures) (at-argued .enum-told .given .1) (at-listed .listed .ensures) in
+      let want = call-want (start .pre .1 .ready) (start .pre .1 .here) callee field (at-ancillae .call-ancillae .ensures) own (at-same .if1 .left)
+      (at-none .none .ensures) (at-arguments .arguments .ensures) (at-argued .enum-told .given .1) (at-listed .listed .ensures) parameter
+      (at-result .function-result .ensures) (at-want .entry .ensures) (at-answer .entry2 .ensures) in
+      call-done (start .pre .1 .ready) (start .pre .1 .here) callee field (at-ancillae .call-ancillae .ensures) own (at-same .if1 .left)
+      (at-none .none .ensures) (at-arguments .arguments .ensures) (at-argued .enum-told .given .1) (at-listed .listed .ensures) parameter
+      (at-result .function-result .ensures) (at-want .entry .ensures) (at-answer .entry2 .ensures)
+      (demand-done (at-infer .infer .ensures) (ready .scoped .sources) (want .0) (want .1) (c .expect .ensures))
 
   pub same-length-3 : lts.Need-same-length-3 (call-uses t) (call-at t) call.Post
   same-length-3 c =
-      let at-enum-told2 = c in
-      let (at-arguments, _, _, _, _, _, _, _, _) = before-enum-told2 at-enum-told2 in
+      let (at-arguments, _, _) = call-before-refused c in
       at-arguments .arguments .kept .1 .1 .1 .1 .1 .1 .0
 
   pub same-length-4 : lts.Need-same-length-4 (call-uses t) (call-at t) call.Post
   same-length-4 c =
-      let at-enum-told2 = c in
-      let (at-arguments, _, _, _, _, _, _, _, _) = before-enum-told2 at-enum-told2 in
+      let (at-arguments, _, _) = call-before-refused c in
       at-arguments .arguments .kept .1 .1 .1 .1 .1 .1 .1 .0
 
   pub returns-3 : lts.Need-returns-3 (call-uses t) (call-at t) call.Post
   returns-3 c =
-      let at-enum-told2 = c in
-      let (at-arguments, at-none, at-Else1, at-function-parameters, at-call-ancillae, at-wide-index2, at-wide-index, at-first, start) =
-      before-enum-told2 at-enum-told2 in
-      let callee = at-wide-index .wide-index .ensures .0 ∙ at-first .first .ensures in
-      let field = at-wide-index2 .wide-index2 .ensures .0 in
-      let own = ap (λ n. n - 1) (at-function-parameters .function-parameters .ensures .0) in
-      call-refused (start .pre .1 .ready) (start .pre .1 .here) callee field (at-call-ancillae .call-ancillae .ensures) own (at-Else1 .if1 .left)
-      (at-none .none .ensures) (at-arguments .arguments .ensures) (at-enum-told2 .enum-told2 .given .1)
+      let (at-arguments, at-none, at-same) = call-before-refused c in
+      let (at-parameters, at-ancillae, at-offset, at-index, at-first, start) = call-before-same at-same in
+      let callee = at-index .wide-index .ensures .0 ∙ at-first .first .ensures in
+      let field = at-offset .wide-index2 .ensures .0 in
+      let own = ap (λ n. n - 1) (at-parameters .function-parameters .ensures .0) in
+      call-refused (start .pre .1 .ready) (start .pre .1 .here) callee field (at-ancillae .call-ancillae .ensures) own (at-same .if1 .left)
+      (at-none .none .ensures) (at-arguments .arguments .ensures) (c .enum-told2 .given .1)

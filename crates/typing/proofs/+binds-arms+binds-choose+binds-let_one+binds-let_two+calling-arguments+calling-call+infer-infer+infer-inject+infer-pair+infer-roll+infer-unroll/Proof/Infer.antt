@@ -1,5 +1,5 @@
--- Answers of the cycle of typing: a term, by its kind. A place is what is known once a call or a test is behind; `before-` has the places before it, the
--- nearest first, so that code put in between two places moves one line.
+-- Answers of the cycle of typing: a term, by its kind. A place is what is known once a call or a test is behind; `-before-` has the
+-- places before it, the nearest first, so that code put in between two places moves one line.
 use Rattle.typing.proofs as own
 use Prim.Native.Nat.{ℕ}
 use Prim.Native.Nat.{_-_}
@@ -35,20 +35,28 @@ module _ (t : ℕ) where
   abbrev Variable2 : Type 0
   Variable2 = lts.After-variable2 (infer-uses t) (infer-at t) infer.Post
 
-  abbrev before-offset : Offset → Start
-  before-offset c = c .before .before .before .before .before .before .before .before
+  abbrev infer-before-offset : Offset → Start
+  infer-before-offset c = c .before .before .before .before .before .before .before .before
 
-  abbrev before-kind : Kind → Offset × Start
-  before-kind c = let at-offset = c .before in (at-offset, before-offset at-offset)
+  abbrev infer-before-kind : Kind → Offset × Start
+  infer-before-kind c = let at-offset = c .before in (at-offset, infer-before-offset at-offset)
 
-  abbrev before-unit : Unit → Kind × Offset × Start
-  before-unit c = let at-kind = c .before .before in let (at-offset, start) = before-kind at-kind in (at-kind, at-offset, start)
+  abbrev infer-before-unit : Unit → Kind × Offset × Start
+  infer-before-unit c =
+      let at-kind = c .before .before in
+      let (at-offset, start) = infer-before-kind at-kind in
+      (at-kind, at-offset, start)
 
-  abbrev before-variable : Variable → Kind × Offset × Start
-  before-variable c = let at-kind = c .before .before .before in let (at-offset, start) = before-kind at-kind in (at-kind, at-offset, start)
+  abbrev infer-before-variable : Variable → Kind × Offset × Start
+  infer-before-variable c =
+      let at-kind = c .before .before .before in
+      let (at-offset, start) = infer-before-kind at-kind in
+      (at-kind, at-offset, start)
 
-  abbrev before-variable2 : Variable2 → Variable × Kind × Offset × Start
-  before-variable2 c = let at-variable = c .before in let (at-kind, at-offset, start) = before-variable at-variable in
+  abbrev infer-before-variable2 : Variable2 → Variable × Kind × Offset × Start
+  infer-before-variable2 c =
+      let at-variable = c .before in
+      let (at-kind, at-offset, start) = infer-before-variable at-variable in
       (at-variable, at-kind, at-offset, start)
 
   ----------------------------------------------------------------
@@ -61,21 +69,19 @@ module _ (t : ℕ) where
 
   pub kind-requires : lts.Need-kind-requires (infer-uses t) (infer-at t) infer.Post
   kind-requires c κs =
-      let at-offset = c in
-      let start = before-offset at-offset in
-      kind-there (start .pre .1 .ready .entries) (start .pre .1 .there) (at-offset .offset .ensures) .0
+      let start = infer-before-offset c in
+      kind-there (start .pre .1 .ready .entries) (start .pre .1 .there) (c .offset .ensures) .0
 
   pub variable-requires : lts.Need-variable-requires (infer-uses t) (infer-at t) infer.Post
   variable-requires c κs =
       let at-kind = c .before .before in
-      let (at-offset, start) = before-kind at-kind in
+      let (at-offset, start) = infer-before-kind at-kind in
       read-var (start .pre .1 .ready .entries) (here (start .pre .1 .there) (at-offset .offset .ensures) (at-kind .kind .ensures)
       (c .before .match .keys1))
 
   pub variable-requires-2 : lts.Need-variable-requires-2 (infer-uses t) (infer-at t) infer.Post
   variable-requires-2 c κs =
-      let at-variable = c in
-      let (_, _, start) = before-variable at-variable in
+      let (_, _, start) = infer-before-variable c in
       (start .pre .1 .ready .scoped .few, start .pre .1 .ready .scoped .slots)
 
   pub unit-requires : lts.Need-unit-requires (infer-uses t) (infer-at t) infer.Post
@@ -84,7 +90,7 @@ module _ (t : ℕ) where
   pub inject-requires : lts.Need-inject-requires (infer-uses t) (infer-at t) infer.Post
   inject-requires c κs =
       let at-kind = c .before .before .before in
-      let (at-offset, start) = before-kind at-kind in (
+      let (at-offset, start) = infer-before-kind at-kind in (
         omega (arith, start .pre .0),
         ready-inject (start .pre .1) (here-inl (here (start .pre .1 .there) (at-offset .offset .ensures)
             (at-kind .kind .ensures) (c .before .before .match .keys3))),
@@ -93,7 +99,7 @@ module _ (t : ℕ) where
   pub inject-requires-2 : lts.Need-inject-requires-2 (infer-uses t) (infer-at t) infer.Post
   inject-requires-2 c κs =
       let at-kind = c .before .before .before in
-      let (at-offset, start) = before-kind at-kind in (
+      let (at-offset, start) = infer-before-kind at-kind in (
         omega (arith, start .pre .0),
         ready-inject (start .pre .1) (here-inr (here (start .pre .1 .there) (at-offset .offset .ensures)
             (at-kind .kind .ensures) (c .before .before .match .keys4))),
@@ -102,7 +108,7 @@ module _ (t : ℕ) where
   pub pair-requires : lts.Need-pair-requires (infer-uses t) (infer-at t) infer.Post
   pair-requires c κs =
       let at-kind = c .before .before .before in
-      let (at-offset, start) = before-kind at-kind in (
+      let (at-offset, start) = infer-before-kind at-kind in (
         omega (arith, start .pre .0),
         ready-at (start .pre .1) (here (start .pre .1 .there) (at-offset .offset .ensures) (at-kind .kind .ensures)
             (c .before .before .match .keys5)),
@@ -111,7 +117,7 @@ module _ (t : ℕ) where
   pub let-one-requires : lts.Need-let-one-requires (infer-uses t) (infer-at t) infer.Post
   let-one-requires c κs =
       let at-kind = c .before .before .before in
-      let (at-offset, start) = before-kind at-kind in (
+      let (at-offset, start) = infer-before-kind at-kind in (
         omega (arith, start .pre .0),
         ready-at (start .pre .1) (here (start .pre .1 .there) (at-offset .offset .ensures) (at-kind .kind .ensures)
             (c .before .before .match .keys6)),
@@ -120,7 +126,7 @@ module _ (t : ℕ) where
   pub let-two-requires : lts.Need-let-two-requires (infer-uses t) (infer-at t) infer.Post
   let-two-requires c κs =
       let at-kind = c .before .before .before in
-      let (at-offset, start) = before-kind at-kind in (
+      let (at-offset, start) = infer-before-kind at-kind in (
         omega (arith, start .pre .0),
         ready-at (start .pre .1) (here (start .pre .1 .there) (at-offset .offset .ensures) (at-kind .kind .ensures)
             (c .before .before .match .keys7)),
@@ -129,7 +135,7 @@ module _ (t : ℕ) where
   pub choose-requires : lts.Need-choose-requires (infer-uses t) (infer-at t) infer.Post
   choose-requires c κs =
       let at-kind = c .before .before .before in
-      let (at-offset, start) = before-kind at-kind in (
+      let (at-offset, start) = infer-before-kind at-kind in (
         omega (arith, start .pre .0),
         ready-at (start .pre .1) (here (start .pre .1 .there) (at-offset .offset .ensures) (at-kind .kind .ensures)
             (c .before .before .match .keys8)),
@@ -138,7 +144,7 @@ module _ (t : ℕ) where
   pub call-requires : lts.Need-call-requires (infer-uses t) (infer-at t) infer.Post
   call-requires c κs =
       let at-kind = c .before .before .before in
-      let (at-offset, start) = before-kind at-kind in (
+      let (at-offset, start) = infer-before-kind at-kind in (
         omega (arith, start .pre .0),
         ready-at (start .pre .1) (here (start .pre .1 .there) (at-offset .offset .ensures) (at-kind .kind .ensures)
             (c .before .before .match .keys9)),
@@ -147,7 +153,7 @@ module _ (t : ℕ) where
   pub roll-requires : lts.Need-roll-requires (infer-uses t) (infer-at t) infer.Post
   roll-requires c κs =
       let at-kind = c .before .before .before in
-      let (at-offset, start) = before-kind at-kind in (
+      let (at-offset, start) = infer-before-kind at-kind in (
         omega (arith, start .pre .0),
         ready-at (start .pre .1) (here (start .pre .1 .there) (at-offset .offset .ensures) (at-kind .kind .ensures)
             (c .before .before .match .keys10)),
@@ -156,7 +162,7 @@ module _ (t : ℕ) where
   pub unroll-requires : lts.Need-unroll-requires (infer-uses t) (infer-at t) infer.Post
   unroll-requires c κs =
       let at-kind = c .before .before .before in
-      let (at-offset, start) = before-kind at-kind in (
+      let (at-offset, start) = infer-before-kind at-kind in (
         omega (arith, start .pre .0),
         ready-at (start .pre .1) (here (start .pre .1 .there) (at-offset .offset .ensures) (at-kind .kind .ensures)
             (c .before .before .match .keys11)),
@@ -170,17 +176,15 @@ module _ (t : ℕ) where
 
   pub returns : lts.Need-returns (infer-uses t) (infer-at t) infer.Post
   returns c =
-      let at-variable2 = c in
-      let (at-variable, at-kind, at-offset, start) = before-variable2 at-variable2 in
+      let (at-variable, at-kind, at-offset, start) = infer-before-variable2 c in
       var-done (start .pre .1 .ready) (here (start .pre .1 .there) (at-offset .offset .ensures) (at-kind .kind .ensures)
-      (c .before .before .before .match .keys1)) (at-variable .variable .ensures) (at-variable2 .variable2 .ensures)
+      (c .before .before .before .match .keys1)) (at-variable .variable .ensures) (c .variable2 .ensures)
 
   pub returns-2 : lts.Need-returns-2 (infer-uses t) (infer-at t) infer.Post
   returns-2 c =
-      let at-unit = c in
-      let (at-kind, at-offset, start) = before-unit at-unit in
+      let (at-kind, at-offset, start) = infer-before-unit c in
       unit-done (start .pre .1 .ready) (here (start .pre .1 .there) (at-offset .offset .ensures) (at-kind .kind .ensures) (c .before .match .keys2))
-      (at-unit .unit .ensures)
+      (c .unit .ensures)
 
   pub same-length-2 : lts.Need-same-length-2 (infer-uses t) (infer-at t) infer.Post
   same-length-2 c =
@@ -320,7 +324,7 @@ module _ (t : ℕ) where
   pub returns-12 : lts.Need-returns-12 (infer-uses t) (infer-at t) infer.Post
   returns-12 c =
       let at-kind = c .before .before in
-      let (at-offset, start) = before-kind at-kind in
+      let (at-offset, start) = infer-before-kind at-kind in
       let m = c .before .match .rest in
       let five = from-five (m .0 .0 .0 .0 .0 .0 .0 .0 .0 .0 .1) (m .0 .0 .0 .0 .0 .0 .0 .0 .0 .1) (m .0 .0 .0 .0 .0 .0 .0 .0 .1)
       (m .0 .0 .0 .0 .0 .0 .0 .1) (m .0 .0 .0 .0 .0 .0 .1) in

@@ -1,5 +1,5 @@
--- Answers of the cycle of typing: let. A place is what is known once a call or a test is behind; `before-` has the places before it, the
--- nearest first, so that code put in between two places moves one line.
+-- Answers of the cycle of typing: let. A place is what is known once a call or a test is behind; `-before-` has the
+-- places before it, the nearest first, so that code put in between two places moves one line.
 use Rattle.typing.proofs as own
 use Prim.Native.Nat.{ℕ}
 use Prim.Native.Nat.{_-_}
@@ -28,11 +28,11 @@ module _ (t : ℕ) where
   abbrev Else1 : Type 0
   Else1 = lts.Else1 (let-one-uses t) (let-one-at t) let-one.Post
 
-  abbrev First : Type 0
-  First = lts.After-first (let-one-uses t) (let-one-at t) let-one.Post
-
   abbrev Unscoped : Type 0
   Unscoped = lts.After-unscoped (let-one-uses t) (let-one-at t) let-one.Post
+
+  abbrev First : Type 0
+  First = lts.After-first (let-one-uses t) (let-one-at t) let-one.Post
 
   abbrev Second : Type 0
   Second = lts.After-second (let-one-uses t) (let-one-at t) let-one.Post
@@ -40,11 +40,11 @@ module _ (t : ℕ) where
   abbrev Infer : Type 0
   Infer = lts.After-infer (let-one-uses t) (let-one-at t) let-one.Post
 
-  abbrev Status : Type 0
-  Status = lts.After-status (let-one-uses t) (let-one-at t) let-one.Post
-
   abbrev EnumTold : Type 0
   EnumTold = lts.After-enum-told (let-one-uses t) (let-one-at t) let-one.Post
+
+  abbrev Status : Type 0
+  Status = lts.After-status (let-one-uses t) (let-one-at t) let-one.Post
 
   abbrev Bind : Type 0
   Bind = lts.After-bind (let-one-uses t) (let-one-at t) let-one.Post
@@ -55,45 +55,59 @@ module _ (t : ℕ) where
   abbrev CloseOne : Type 0
   CloseOne = lts.After-close-one (let-one-uses t) (let-one-at t) let-one.Post
 
-  abbrev before-Then1 : Then1 → Start
-  before-Then1 c = c .before .before .before .before .before .before .before .before
+  abbrev let-one-before-then1 : Then1 → Start
+  let-one-before-then1 c = c .before .before .before .before .before .before .before .before
 
-  abbrev before-Else1 : Else1 → Start
-  before-Else1 c = c .before .before .before .before .before .before .before .before
+  abbrev let-one-before-else1 : Else1 → Start
+  let-one-before-else1 c = c .before .before .before .before .before .before .before .before
 
-  abbrev before-first : First → Else1 × Start
-  before-first c = let at-Else1 = c .before in (at-Else1, before-Else1 at-Else1)
+  abbrev let-one-before-unscoped : Unscoped → Then1 × Start
+  let-one-before-unscoped c = let at-then1 = c .before in (at-then1, let-one-before-then1 at-then1)
 
-  abbrev before-unscoped : Unscoped → Then1 × Start
-  before-unscoped c = let at-Then1 = c .before in (at-Then1, before-Then1 at-Then1)
+  abbrev let-one-before-first : First → Else1 × Start
+  let-one-before-first c = let at-else1 = c .before in (at-else1, let-one-before-else1 at-else1)
 
-  abbrev before-second : Second → First × Else1 × Start
-  before-second c = let at-first = c .before in let (at-Else1, start) = before-first at-first in (at-first, at-Else1, start)
+  abbrev let-one-before-second : Second → First × Else1 × Start
+  let-one-before-second c =
+      let at-first = c .before in
+      let (at-else1, start) = let-one-before-first at-first in
+      (at-first, at-else1, start)
 
-  abbrev before-infer : Infer → Second × First × Else1 × Start
-  before-infer c = let at-second = c .before .before .before in let (at-first, at-Else1, start) = before-second at-second in
-      (at-second, at-first, at-Else1, start)
+  abbrev let-one-before-infer : Infer → Second × First × Else1 × Start
+  let-one-before-infer c =
+      let at-second = c .before .before .before in
+      let (at-first, at-else1, start) = let-one-before-second at-second in
+      (at-second, at-first, at-else1, start)
 
-  abbrev before-status : Status → Infer × Second × First × Else1 × Start
-  before-status c = let at-infer = c .before .before .before .before .before .before in let (at-second, at-first, at-Else1, start) = before-infer
-      at-infer in (at-infer, at-second, at-first, at-Else1, start)
+  abbrev let-one-before-enum-told : EnumTold → Infer × Second × First × Else1 × Start
+  let-one-before-enum-told c =
+      let at-infer = c .before .before .before .before .before .before in
+      let (at-second, at-first, at-else1, start) = let-one-before-infer at-infer in
+      (at-infer, at-second, at-first, at-else1, start)
 
-  abbrev before-enum-told : EnumTold → Infer × Second × First × Else1 × Start
-  before-enum-told c = let at-infer = c .before .before .before .before .before .before in let (at-second, at-first, at-Else1, start) = before-infer
-      at-infer in (at-infer, at-second, at-first, at-Else1, start)
+  abbrev let-one-before-status : Status → Infer × Second × First × Else1 × Start
+  let-one-before-status c =
+      let at-infer = c .before .before .before .before .before .before in
+      let (at-second, at-first, at-else1, start) = let-one-before-infer at-infer in
+      (at-infer, at-second, at-first, at-else1, start)
 
-  abbrev before-bind : Bind → Status × Infer × Second × First × Else1 × Start
-  before-bind c = let at-status = c .before .before .before .before in let (at-infer, at-second, at-first, at-Else1, start) = before-status
-      at-status in (at-status, at-infer, at-second, at-first, at-Else1, start)
+  abbrev let-one-before-bind : Bind → Status × Infer × Second × First × Else1 × Start
+  let-one-before-bind c =
+      let at-status = c .before .before .before .before in
+      let (at-infer, at-second, at-first, at-else1, start) = let-one-before-status at-status in
+      (at-status, at-infer, at-second, at-first, at-else1, start)
 
-  abbrev before-infer2 : Infer2 → Bind × Status × Infer × Second × First × Else1 × Start
-  before-infer2 c = let at-bind = c .before .before .before .before .before in let (at-status, at-infer, at-second, at-first, at-Else1, start) =
-      before-bind at-bind in (at-bind, at-status, at-infer, at-second, at-first, at-Else1, start)
+  abbrev let-one-before-infer2 : Infer2 → Bind × Status × Infer × Second × First × Else1 × Start
+  let-one-before-infer2 c =
+      let at-bind = c .before .before .before .before .before in
+      let (at-status, at-infer, at-second, at-first, at-else1, start) = let-one-before-bind at-bind in
+      (at-bind, at-status, at-infer, at-second, at-first, at-else1, start)
 
-  abbrev before-close-one : CloseOne → Infer2 × Bind × Status × Infer × Second × First × Else1 × Start
-  before-close-one c = let at-infer2 = c .before .before .before .before .before .before in let
-      (at-bind, at-status, at-infer, at-second, at-first, at-Else1, start) = before-infer2 at-infer2 in
-      (at-infer2, at-bind, at-status, at-infer, at-second, at-first, at-Else1, start)
+  abbrev let-one-before-close-one : CloseOne → Infer2 × Bind × Status × Infer × Second × First × Else1 × Start
+  let-one-before-close-one c =
+      let at-infer2 = c .before .before .before .before .before .before in
+      let (at-bind, at-status, at-infer, at-second, at-first, at-else1, start) = let-one-before-infer2 at-infer2 in
+      (at-infer2, at-bind, at-status, at-infer, at-second, at-first, at-else1, start)
 
   ----------------------------------------------------------------
   -- Answers
@@ -103,36 +117,28 @@ module _ (t : ℕ) where
 
   pub returns : lts.Need-returns (let-one-uses t) (let-one-at t) let-one.Post
   returns c =
-      let at-unscoped = c in
-      let (at-Then1, start) = before-unscoped at-unscoped in
-      let-full (start .pre .1 .ready) (start .pre .1 .here) (at-Then1 .if1 .taken) (at-unscoped .unscoped .ensures .0)
-      (at-unscoped .unscoped .ensures .1)
+      let (at-then1, start) = let-one-before-unscoped c in
+      let-full (start .pre .1 .ready) (start .pre .1 .here) (at-then1 .if1 .taken) (c .unscoped .ensures .0) (c .unscoped .ensures .1)
 
   pub first-requires : lts.Need-first-requires (let-one-uses t) (let-one-at t) let-one.Post
   first-requires c κs =
-      let at-Else1 = c in
-      let start = before-Else1 at-Else1 in
+      let start = let-one-before-else1 c in
       omega (arith, read-let (start .pre .1 .ready .entries) (start .pre .1 .here))
 
   pub second-requires : lts.Need-second-requires (let-one-uses t) (let-one-at t) let-one.Post
   second-requires c κs =
-      let at-first = c in
-      let (_, start) = before-first at-first in
+      let (_, start) = let-one-before-first c in
       read-let (start .pre .1 .ready .entries) (start .pre .1 .here)
 
   pub infer-requires : lts.Need-infer-requires (let-one-uses t) (let-one-at t) let-one.Post
   infer-requires c κs =
       let at-second = c .before .before in
-      let (at-first, at-Else1, start) = before-second at-second in (
-        omega (
-          arith,
-          start .pre .0,
-          let-bound (start .pre .1 .ready) (start .pre .1 .here) (at-Else1 .if1 .left) (at-first .first .ensures)
-              (at-second .second .ensures) .0,
-        ),
+      let (at-first, at-else1, start) = let-one-before-second at-second in
+      let bound = let-bound (start .pre .1 .ready) (start .pre .1 .here) (at-else1 .if1 .left) (at-first .first .ensures)
+      (at-second .second .ensures) in (
+        omega (arith, start .pre .0, bound .0),
         ready-for (start .pre .1 .signed) (let-ready (start .pre .1 .ready) (start .pre .1 .here)
-            (at-Else1 .if1 .left) (at-first .first .ensures) (at-second .second .ensures))
-            (let-bound (start .pre .1 .ready) (start .pre .1 .here) (at-Else1 .if1 .left) (at-first .first .ensures) (at-second .second .ensures) .1),
+            (at-else1 .if1 .left) (at-first .first .ensures) (at-second .second .ensures)) (bound .1),
       )
 
   pub enum-known-status : lts.Need-enum-known-status (let-one-uses t) (let-one-at t) let-one.Post
@@ -141,42 +147,38 @@ module _ (t : ℕ) where
   pub bind-requires : lts.Need-bind-requires (let-one-uses t) (let-one-at t) let-one.Post
   bind-requires c κs =
       let at-status = c .before .before .before in
-      let (at-infer, at-second, at-first, at-Else1, start) = before-status at-status in (
-        let-later (start .pre .1 .ready) (start .pre .1 .here) (at-Else1 .if1 .left) (at-first .first .ensures) (at-second .second .ensures)
+      let (at-infer, at-second, at-first, at-else1, start) = let-one-before-status at-status in (
+        let-later (start .pre .1 .ready) (start .pre .1 .here) (at-else1 .if1 .left) (at-first .first .ensures) (at-second .second .ensures)
             (at-infer .infer .ensures) .scoped,
         (
           at-infer .infer .ensures .known _ (at-status .status .given .1),
           let-free (start .pre .1 .ready)
-              (start .pre .1 .here) (at-Else1 .if1 .left) (at-first .first .ensures) (at-second .second .ensures),
+              (start .pre .1 .here) (at-else1 .if1 .left) (at-first .first .ensures) (at-second .second .ensures),
         ),
       )
 
   pub infer-requires-2 : lts.Need-infer-requires-2 (let-one-uses t) (let-one-at t) let-one.Post
   infer-requires-2 c κs =
       let at-bind = c .before .before .before .before in
-      let (_, at-infer, at-second, at-first, at-Else1, start) = before-bind at-bind in (
-        omega (
-          arith,
-          start .pre .0,
-          let-body (start .pre .1 .ready) (start .pre .1 .here) (at-Else1 .if1 .left) (at-first .first .ensures)
-              (at-second .second .ensures) .0,
-        ),
+      let (_, at-infer, at-second, at-first, at-else1, start) = let-one-before-bind at-bind in
+      let body = let-body (start .pre .1 .ready) (start .pre .1 .here) (at-else1 .if1 .left) (at-first .first .ensures) (at-second .second .ensures)
+      in (
+        omega (arith, start .pre .0, body .0),
         ready-for (start .pre .1 .signed) (ready-opened
-            (let-later (start .pre .1 .ready) (start .pre .1 .here) (at-Else1 .if1 .left) (at-first .first .ensures) (at-second .second .ensures)
-            (at-infer .infer .ensures)) (at-bind .bind .ensures)) (let-body (start .pre .1 .ready) (start .pre .1 .here) (at-Else1 .if1 .left)
-            (at-first .first .ensures) (at-second .second .ensures) .1),
+            (let-later (start .pre .1 .ready) (start .pre .1 .here) (at-else1 .if1 .left) (at-first .first .ensures) (at-second .second .ensures)
+            (at-infer .infer .ensures)) (at-bind .bind .ensures)) (body .1),
       )
 
   pub close-one-requires : lts.Need-close-one-requires (let-one-uses t) (let-one-at t) let-one.Post
   close-one-requires c κs =
       let at-infer2 = c .before .before .before .before .before in
-      let (at-bind, at-status, at-infer, at-second, at-first, at-Else1, start) = before-infer2 at-infer2 in (
+      let (at-bind, at-status, at-infer, at-second, at-first, at-else1, start) = let-one-before-infer2 at-infer2 in (
         told (at-infer2 .infer2 .ensures),
         (
-          let-known (start .pre .1 .ready) (start .pre .1 .here) (at-Else1 .if1 .left) (at-first .first .ensures)
+          let-known (start .pre .1 .ready) (start .pre .1 .here) (at-else1 .if1 .left) (at-first .first .ensures)
               (at-second .second .ensures) (at-infer .infer .ensures) (at-status .status .given .1) (at-bind .bind .ensures)
               (at-infer2 .infer2 .ensures),
-          let-free (start .pre .1 .ready) (start .pre .1 .here) (at-Else1 .if1 .left) (at-first .first .ensures)
+          let-free (start .pre .1 .ready) (start .pre .1 .here) (at-else1 .if1 .left) (at-first .first .ensures)
               (at-second .second .ensures),
         ),
       )
@@ -186,39 +188,32 @@ module _ (t : ℕ) where
 
   pub same-length : lts.Need-same-length (let-one-uses t) (let-one-at t) let-one.Post
   same-length c =
-      let at-close-one = c in
-      let (at-infer2, _, _, at-infer, _, _, _, _) = before-close-one at-close-one in
+      let (at-infer2, _, _, at-infer, _, _, _, _) = let-one-before-close-one c in
       at-infer2 .infer2 .kept .1 .1 .1 .1 .1 .1 .0 ∙ at-infer .infer .kept .1 .1 .1 .1 .1 .1 .0
 
   pub same-length-2 : lts.Need-same-length-2 (let-one-uses t) (let-one-at t) let-one.Post
   same-length-2 c =
-      let at-close-one = c in
-      let (at-infer2, at-bind, _, at-infer, _, _, _, _) = before-close-one at-close-one in
+      let (at-infer2, at-bind, _, at-infer, _, _, _, _) = let-one-before-close-one c in
       at-infer2 .infer2 .kept .1 .1 .1 .1 .1 .1 .1 .0 ∙ at-bind .bind .kept .1 .1 .1 .0 ∙ at-infer .infer .kept .1 .1 .1 .1 .1 .1 .1 .0
 
   pub returns-2 : lts.Need-returns-2 (let-one-uses t) (let-one-at t) let-one.Post
   returns-2 c =
-      let at-close-one = c in
-      let (at-infer2, at-bind, at-status, at-infer, at-second, at-first, at-Else1, start) = before-close-one at-close-one in
-      let-done (start .pre .1 .ready) (start .pre .1 .here) (at-Else1 .if1 .left) (at-first .first .ensures) (at-second .second .ensures)
-      (at-infer .infer .ensures) (at-status .status .given .1) (at-bind .bind .ensures) (at-infer2 .infer2 .ensures)
-      (at-close-one .close-one .ensures)
+      let (at-infer2, at-bind, at-status, at-infer, at-second, at-first, at-else1, start) = let-one-before-close-one c in
+      let-done (start .pre .1 .ready) (start .pre .1 .here) (at-else1 .if1 .left) (at-first .first .ensures) (at-second .second .ensures)
+      (at-infer .infer .ensures) (at-status .status .given .1) (at-bind .bind .ensures) (at-infer2 .infer2 .ensures) (c .close-one .ensures)
 
   pub same-length-3 : lts.Need-same-length-3 (let-one-uses t) (let-one-at t) let-one.Post
   same-length-3 c =
-      let at-enum-told = c in
-      let (at-infer, _, _, _, _) = before-enum-told at-enum-told in
+      let (at-infer, _, _, _, _) = let-one-before-enum-told c in
       at-infer .infer .kept .1 .1 .1 .1 .1 .1 .0
 
   pub same-length-4 : lts.Need-same-length-4 (let-one-uses t) (let-one-at t) let-one.Post
   same-length-4 c =
-      let at-enum-told = c in
-      let (at-infer, _, _, _, _) = before-enum-told at-enum-told in
+      let (at-infer, _, _, _, _) = let-one-before-enum-told c in
       at-infer .infer .kept .1 .1 .1 .1 .1 .1 .1 .0
 
   pub returns-3 : lts.Need-returns-3 (let-one-uses t) (let-one-at t) let-one.Post
   returns-3 c =
-      let at-enum-told = c in
-      let (at-infer, at-second, at-first, at-Else1, start) = before-enum-told at-enum-told in
-      let-refused (start .pre .1 .ready) (start .pre .1 .here) (at-Else1 .if1 .left) (at-first .first .ensures) (at-second .second .ensures)
-      (at-infer .infer .ensures) (at-enum-told .enum-told .given .1)
+      let (at-infer, at-second, at-first, at-else1, start) = let-one-before-enum-told c in
+      let-refused (start .pre .1 .ready) (start .pre .1 .here) (at-else1 .if1 .left) (at-first .first .ensures) (at-second .second .ensures)
+      (at-infer .infer .ensures) (c .enum-told .given .1)

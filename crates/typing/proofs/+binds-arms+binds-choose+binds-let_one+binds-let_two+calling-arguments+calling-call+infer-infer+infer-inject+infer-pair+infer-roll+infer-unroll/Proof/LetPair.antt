@@ -1,5 +1,5 @@
--- Answers of the cycle of typing: let pair. A place is what is known once a call or a test is behind; `before-` has the places before it, the
--- nearest first, so that code put in between two places moves one line.
+-- Answers of the cycle of typing: let pair. A place is what is known once a call or a test is behind; `-before-` has the
+-- places before it, the nearest first, so that code put in between two places moves one line.
 use Rattle.typing.proofs as own
 use Prim.Native.Nat.{ℕ}
 use Prim.Native.Nat.{_-_}
@@ -40,11 +40,11 @@ module _ (t : ℕ) where
   abbrev Else1 : Type 0
   Else1 = lts.Else1 (let-two-uses t) (let-two-at t) let-two.Post
 
-  abbrev First : Type 0
-  First = lts.After-first (let-two-uses t) (let-two-at t) let-two.Post
-
   abbrev Unscoped : Type 0
   Unscoped = lts.After-unscoped (let-two-uses t) (let-two-at t) let-two.Post
+
+  abbrev First : Type 0
+  First = lts.After-first (let-two-uses t) (let-two-at t) let-two.Post
 
   abbrev Second : Type 0
   Second = lts.After-second (let-two-uses t) (let-two-at t) let-two.Post
@@ -52,20 +52,20 @@ module _ (t : ℕ) where
   abbrev Infer : Type 0
   Infer = lts.After-infer (let-two-uses t) (let-two-at t) let-two.Post
 
-  abbrev Status : Type 0
-  Status = lts.After-status (let-two-uses t) (let-two-at t) let-two.Post
-
   abbrev EnumTold : Type 0
   EnumTold = lts.After-enum-told (let-two-uses t) (let-two-at t) let-two.Post
+
+  abbrev Status : Type 0
+  Status = lts.After-status (let-two-uses t) (let-two-at t) let-two.Post
 
   abbrev ShapeOf : Type 0
   ShapeOf = lts.After-shape-of (let-two-uses t) (let-two-at t) let-two.Post
 
-  abbrev Then2 : Type 0
-  Then2 = lts.Then2 (let-two-uses t) (let-two-at t) let-two.Post
-
   abbrev Else2 : Type 0
   Else2 = lts.Else2 (let-two-uses t) (let-two-at t) let-two.Post
+
+  abbrev Then2 : Type 0
+  Then2 = lts.Then2 (let-two-uses t) (let-two-at t) let-two.Post
 
   abbrev Differ : Type 0
   Differ = lts.After-differ (let-two-uses t) (let-two-at t) let-two.Post
@@ -82,74 +82,80 @@ module _ (t : ℕ) where
   abbrev CloseTwo : Type 0
   CloseTwo = lts.After-close-two (let-two-uses t) (let-two-at t) let-two.Post
 
-  abbrev before-Then1 : Then1 → Start
-  before-Then1 c = c .before .before .before .before .before .before .before .before .before
+  abbrev let-two-before-then1 : Then1 → Start
+  let-two-before-then1 c = c .before .before .before .before .before .before .before .before .before
 
-  abbrev before-Else1 : Else1 → Start
-  before-Else1 c = c .before .before .before .before .before .before .before .before .before
+  abbrev let-two-before-else1 : Else1 → Start
+  let-two-before-else1 c = c .before .before .before .before .before .before .before .before .before
 
-  abbrev before-first : First → Else1 × Start
-  before-first c = let at-Else1 = c .before in (at-Else1, before-Else1 at-Else1)
+  abbrev let-two-before-unscoped : Unscoped → Then1 × Start
+  let-two-before-unscoped c = let at-then1 = c .before in (at-then1, let-two-before-then1 at-then1)
 
-  abbrev before-unscoped : Unscoped → Then1 × Start
-  before-unscoped c = let at-Then1 = c .before in (at-Then1, before-Then1 at-Then1)
+  abbrev let-two-before-first : First → Else1 × Start
+  let-two-before-first c = let at-else1 = c .before in (at-else1, let-two-before-else1 at-else1)
 
-  abbrev before-second : Second → First × Else1 × Start
-  before-second c = let at-first = c .before in let (at-Else1, start) = before-first at-first in (at-first, at-Else1, start)
+  abbrev let-two-before-second : Second → First × Else1 × Start
+  let-two-before-second c =
+      let at-first = c .before in
+      let (at-else1, start) = let-two-before-first at-first in
+      (at-first, at-else1, start)
 
-  abbrev before-infer : Infer → Second × First × Else1 × Start
-  before-infer c = let at-second = c .before .before .before in let (at-first, at-Else1, start) = before-second at-second in
-      (at-second, at-first, at-Else1, start)
+  abbrev let-two-before-infer : Infer → Second × First × Else1 × Start
+  let-two-before-infer c =
+      let at-second = c .before .before .before in
+      let (at-first, at-else1, start) = let-two-before-second at-second in
+      (at-second, at-first, at-else1, start)
 
-  abbrev before-status : Status → Infer × Second × First × Else1 × Start
-  before-status c = let at-infer = c .before .before .before .before .before .before in let (at-second, at-first, at-Else1, start) = before-infer
-      at-infer in (at-infer, at-second, at-first, at-Else1, start)
+  abbrev let-two-before-enum-told : EnumTold → Infer × Second × First × Else1 × Start
+  let-two-before-enum-told c =
+      let at-infer = c .before .before .before .before .before .before in
+      let (at-second, at-first, at-else1, start) = let-two-before-infer at-infer in
+      (at-infer, at-second, at-first, at-else1, start)
 
-  abbrev before-enum-told : EnumTold → Infer × Second × First × Else1 × Start
-  before-enum-told c = let at-infer = c .before .before .before .before .before .before in let (at-second, at-first, at-Else1, start) = before-infer
-      at-infer in (at-infer, at-second, at-first, at-Else1, start)
+  abbrev let-two-before-status : Status → Infer × Second × First × Else1 × Start
+  let-two-before-status c =
+      let at-infer = c .before .before .before .before .before .before in
+      let (at-second, at-first, at-else1, start) = let-two-before-infer at-infer in
+      (at-infer, at-second, at-first, at-else1, start)
 
-  abbrev before-shape-of : ShapeOf → Status × Infer × Second × First × Else1 × Start
-  before-shape-of c = let at-status = c .before .before .before in let (at-infer, at-second, at-first, at-Else1, start) = before-status at-status in
-      (at-status, at-infer, at-second, at-first, at-Else1, start)
+  abbrev let-two-before-shape-of : ShapeOf → Status
+  let-two-before-shape-of c = c .before .before .before
 
-  abbrev before-Then2 : Then2 → ShapeOf × Status × Infer × Second × First × Else1 × Start
-  before-Then2 c = let at-shape-of = c .before in let (at-status, at-infer, at-second, at-first, at-Else1, start) = before-shape-of at-shape-of in
-      (at-shape-of, at-status, at-infer, at-second, at-first, at-Else1, start)
+  abbrev let-two-before-else2 : Else2 → ShapeOf × Status
+  let-two-before-else2 c = let at-shape-of = c .before in (at-shape-of, let-two-before-shape-of at-shape-of)
 
-  abbrev before-Else2 : Else2 → ShapeOf × Status × Infer × Second × First × Else1 × Start
-  before-Else2 c = let at-shape-of = c .before in let (at-status, at-infer, at-second, at-first, at-Else1, start) = before-shape-of at-shape-of in
-      (at-shape-of, at-status, at-infer, at-second, at-first, at-Else1, start)
+  abbrev let-two-before-then2 : Then2 → ShapeOf × Status
+  let-two-before-then2 c = let at-shape-of = c .before in (at-shape-of, let-two-before-shape-of at-shape-of)
 
-  abbrev before-differ : Differ → Then2 × ShapeOf × Status × Infer × Second × First × Else1 × Start
-  before-differ c = let at-Then2 = c .before in let (at-shape-of, at-status, at-infer, at-second, at-first, at-Else1, start) = before-Then2
-      at-Then2 in (at-Then2, at-shape-of, at-status, at-infer, at-second, at-first, at-Else1, start)
+  abbrev let-two-before-differ : Differ → Then2 × ShapeOf × Status
+  let-two-before-differ c =
+      let at-then2 = c .before in
+      let (at-shape-of, at-status) = let-two-before-then2 at-then2 in
+      (at-then2, at-shape-of, at-status)
 
-  abbrev before-bind : Bind → Else2 × ShapeOf × Status × Infer × Second × First × Else1 × Start
-  before-bind c = let at-Else2 = c .before .before .before in let (at-shape-of, at-status, at-infer, at-second, at-first, at-Else1, start) =
-      before-Else2 at-Else2 in (at-Else2, at-shape-of, at-status, at-infer, at-second, at-first, at-Else1, start)
+  abbrev let-two-before-bind : Bind → Else2 × ShapeOf × Status
+  let-two-before-bind c =
+      let at-else2 = c .before .before .before in
+      let (at-shape-of, at-status) = let-two-before-else2 at-else2 in
+      (at-else2, at-shape-of, at-status)
 
-  abbrev before-bind2 : Bind2 → Bind × Else2 × ShapeOf × Status × Infer × Second × First × Else1 × Start
-  before-bind2 c = let at-bind = c .before .before .before .before .before in let (
-    at-Else2,
-    at-shape-of,
-    at-status,
-    at-infer,
-    at-second,
-    at-first,
-    at-Else1,
-    start,
-  ) = before-bind at-bind in (at-bind, at-Else2, at-shape-of, at-status, at-infer, at-second, at-first, at-Else1, start)
+  abbrev let-two-before-bind2 : Bind2 → Bind × Else2 × ShapeOf × Status
+  let-two-before-bind2 c =
+      let at-bind = c .before .before .before .before .before in
+      let (at-else2, at-shape-of, at-status) = let-two-before-bind at-bind in
+      (at-bind, at-else2, at-shape-of, at-status)
 
-  abbrev before-infer2 : Infer2 → Bind2 × Bind × Else2 × ShapeOf × Status × Infer × Second × First × Else1 × Start
-  before-infer2 c = let at-bind2 = c .before .before .before .before .before in let
-      (at-bind, at-Else2, at-shape-of, at-status, at-infer, at-second, at-first, at-Else1, start) = before-bind2 at-bind2 in
-      (at-bind2, at-bind, at-Else2, at-shape-of, at-status, at-infer, at-second, at-first, at-Else1, start)
+  abbrev let-two-before-infer2 : Infer2 → Bind2 × Bind × Else2 × ShapeOf × Status
+  let-two-before-infer2 c =
+      let at-bind2 = c .before .before .before .before .before in
+      let (at-bind, at-else2, at-shape-of, at-status) = let-two-before-bind2 at-bind2 in
+      (at-bind2, at-bind, at-else2, at-shape-of, at-status)
 
-  abbrev before-close-two : CloseTwo → Infer2 × Bind2 × Bind × Else2 × ShapeOf × Status × Infer × Second × First × Else1 × Start
-  before-close-two c = let at-infer2 = c .before .before .before .before .before .before in let
-      (at-bind2, at-bind, at-Else2, at-shape-of, at-status, at-infer, at-second, at-first, at-Else1, start) = before-infer2 at-infer2 in
-      (at-infer2, at-bind2, at-bind, at-Else2, at-shape-of, at-status, at-infer, at-second, at-first, at-Else1, start)
+  abbrev let-two-before-close-two : CloseTwo → Infer2 × Bind2 × Bind × Else2 × ShapeOf × Status
+  let-two-before-close-two c =
+      let at-infer2 = c .before .before .before .before .before .before in
+      let (at-bind2, at-bind, at-else2, at-shape-of, at-status) = let-two-before-infer2 at-infer2 in
+      (at-infer2, at-bind2, at-bind, at-else2, at-shape-of, at-status)
 
   ----------------------------------------------------------------
   -- Answers
@@ -164,36 +170,28 @@ module _ (t : ℕ) where
 
   pub returns : lts.Need-returns (let-two-uses t) (let-two-at t) let-two.Post
   returns c =
-      let at-unscoped = c in
-      let (at-Then1, start) = before-unscoped at-unscoped in
-      letp-full (start .pre .1 .ready) (start .pre .1 .here) (at-Then1 .if1 .taken) (at-unscoped .unscoped .ensures .0)
-      (at-unscoped .unscoped .ensures .1)
+      let (at-then1, start) = let-two-before-unscoped c in
+      letp-full (start .pre .1 .ready) (start .pre .1 .here) (at-then1 .if1 .taken) (c .unscoped .ensures .0) (c .unscoped .ensures .1)
 
   pub first-requires : lts.Need-first-requires (let-two-uses t) (let-two-at t) let-two.Post
   first-requires c κs =
-      let at-Else1 = c in
-      let start = before-Else1 at-Else1 in
+      let start = let-two-before-else1 c in
       omega (arith, read-letp (start .pre .1 .ready .entries) (start .pre .1 .here))
 
   pub second-requires : lts.Need-second-requires (let-two-uses t) (let-two-at t) let-two.Post
   second-requires c κs =
-      let at-first = c in
-      let (_, start) = before-first at-first in
+      let (_, start) = let-two-before-first c in
       read-letp (start .pre .1 .ready .entries) (start .pre .1 .here)
 
   pub infer-requires : lts.Need-infer-requires (let-two-uses t) (let-two-at t) let-two.Post
   infer-requires c κs =
       let at-second = c .before .before in
-      let (at-first, at-Else1, start) = before-second at-second in (
-        omega (
-          arith,
-          start .pre .0,
-          letp-bound (start .pre .1 .ready) (start .pre .1 .here) (at-Else1 .if1 .left) (at-first .first .ensures)
-              (at-second .second .ensures) .0,
-        ),
+      let (at-first, at-else1, start) = let-two-before-second at-second in
+      let bound = letp-bound (start .pre .1 .ready) (start .pre .1 .here) (at-else1 .if1 .left) (at-first .first .ensures)
+      (at-second .second .ensures) in (
+        omega (arith, start .pre .0, bound .0),
         ready-for (start .pre .1 .signed) (letp-ready (start .pre .1 .ready) (start .pre .1 .here)
-            (at-Else1 .if1 .left) (at-first .first .ensures) (at-second .second .ensures))
-            (letp-bound (start .pre .1 .ready) (start .pre .1 .here) (at-Else1 .if1 .left) (at-first .first .ensures) (at-second .second .ensures) .1),
+            (at-else1 .if1 .left) (at-first .first .ensures) (at-second .second .ensures)) (bound .1),
       )
 
   pub enum-known-status : lts.Need-enum-known-status (let-two-uses t) (let-two-at t) let-two.Post
@@ -202,7 +200,7 @@ module _ (t : ℕ) where
   pub shape-of-requires : lts.Need-shape-of-requires (let-two-uses t) (let-two-at t) let-two.Post
   shape-of-requires c κs =
       let at-status = c .before .before in
-      let (at-infer, _, _, _, _) = before-status at-status in
+      let (at-infer, _, _, _, _) = let-two-before-status at-status in
       (at-infer .infer .ensures .kept .sources, at-infer .infer .ensures .known _ (at-status .status .given .1))
 
   pub differ-requires : lts.Need-differ-requires (let-two-uses t) (let-two-at t) let-two.Post
@@ -210,75 +208,75 @@ module _ (t : ℕ) where
 
   pub same-length : lts.Need-same-length (let-two-uses t) (let-two-at t) let-two.Post
   same-length c =
-      let at-differ = c in
-      let (_, _, _, at-infer, _, _, _, _) = before-differ at-differ in
+      let (_, _, at-status) = let-two-before-differ c in
+      let (at-infer, _, _, _, _) = let-two-before-status at-status in
       at-infer .infer .kept .1 .1 .1 .1 .1 .1 .0
 
   pub same-length-2 : lts.Need-same-length-2 (let-two-uses t) (let-two-at t) let-two.Post
   same-length-2 c =
-      let at-differ = c in
-      let (_, _, _, at-infer, _, _, _, _) = before-differ at-differ in
+      let (_, _, at-status) = let-two-before-differ c in
+      let (at-infer, _, _, _, _) = let-two-before-status at-status in
       at-infer .infer .kept .1 .1 .1 .1 .1 .1 .1 .0
 
   pub returns-2 : lts.Need-returns-2 (let-two-uses t) (let-two-at t) let-two.Post
   returns-2 c =
-      let at-differ = c in
-      let (at-Then2, at-shape-of, at-status, at-infer, at-second, at-first, at-Else1, start) = before-differ at-differ in
-      letp-no (start .pre .1 .ready) (start .pre .1 .here) (at-Else1 .if1 .left) (at-first .first .ensures) (at-second .second .ensures)
-      (at-infer .infer .ensures) (at-status .status .given .1) (at-shape-of .shape-of .ensures) (at-Then2 .if2 .taken)
-      (at-differ .differ .ensures .0) (at-differ .differ .ensures .1)
+      let (at-then2, at-shape-of, at-status) = let-two-before-differ c in
+      let (at-infer, at-second, at-first, at-else1, start) = let-two-before-status at-status in
+      letp-no (start .pre .1 .ready) (start .pre .1 .here) (at-else1 .if1 .left) (at-first .first .ensures) (at-second .second .ensures)
+      (at-infer .infer .ensures) (at-status .status .given .1) (at-shape-of .shape-of .ensures) (at-then2 .if2 .taken) (c .differ .ensures .0)
+      (c .differ .ensures .1)
 
   pub bind-requires : lts.Need-bind-requires (let-two-uses t) (let-two-at t) let-two.Post
   bind-requires c κs =
-      let at-Else2 = c .before .before in
-      let (at-shape-of, _, at-infer, at-second, at-first, at-Else1, start) = before-Else2 at-Else2 in (
-        letp-later (start .pre .1 .ready) (start .pre .1 .here) (at-Else1 .if1 .left) (at-first .first .ensures) (at-second .second .ensures)
+      let at-else2 = c .before .before in
+      let (at-shape-of, at-status) = let-two-before-else2 at-else2 in
+      let (at-infer, at-second, at-first, at-else1, start) = let-two-before-status at-status in (
+        letp-later (start .pre .1 .ready) (start .pre .1 .here) (at-else1 .if1 .left) (at-first .first .ensures) (at-second .second .ensures)
             (at-infer .infer .ensures) .scoped,
-        (at-shape-of .shape-of .ensures .first, omega (arith, at-Else1 .if1 .left)),
+        (at-shape-of .shape-of .ensures .first, omega (arith, at-else1 .if1 .left)),
       )
 
   pub bind-requires-2 : lts.Need-bind-requires-2 (let-two-uses t) (let-two-at t) let-two.Post
   bind-requires-2 c κs =
       let at-bind = c .before .before .before .before in
-      let (at-Else2, at-shape-of, at-status, at-infer, at-second, at-first, at-Else1, start) = before-bind at-bind in (
+      let (at-else2, at-shape-of, at-status) = let-two-before-bind at-bind in
+      let (at-infer, at-second, at-first, at-else1, start) = let-two-before-status at-status in (
         at-bind .bind .ensures .scoped,
         (
           at-shape-of .shape-of .ensures .second,
           letp-second (start .pre .1 .ready) (start .pre .1 .here)
-              (at-Else1 .if1 .left) (at-first .first .ensures) (at-second .second .ensures) (at-infer .infer .ensures) (at-status .status .given .1)
-              (at-shape-of .shape-of .ensures) (at-Else2 .if2 .left) (at-bind .bind .ensures),
+              (at-else1 .if1 .left) (at-first .first .ensures) (at-second .second .ensures) (at-infer .infer .ensures) (at-status .status .given .1)
+              (at-shape-of .shape-of .ensures) (at-else2 .if2 .left) (at-bind .bind .ensures),
         ),
       )
 
   pub infer-requires-2 : lts.Need-infer-requires-2 (let-two-uses t) (let-two-at t) let-two.Post
   infer-requires-2 c κs =
       let at-bind2 = c .before .before .before .before in
-      let (at-bind, _, _, _, at-infer, at-second, at-first, at-Else1, start) = before-bind2 at-bind2 in (
-        omega (
-          arith,
-          start .pre .0,
-          letp-body (start .pre .1 .ready) (start .pre .1 .here) (at-Else1 .if1 .left) (at-first .first .ensures)
-              (at-second .second .ensures) .0,
-        ),
+      let (at-bind, _, _, at-status) = let-two-before-bind2 at-bind2 in
+      let (at-infer, at-second, at-first, at-else1, start) = let-two-before-status at-status in
+      let body = letp-body (start .pre .1 .ready) (start .pre .1 .here) (at-else1 .if1 .left) (at-first .first .ensures) (at-second .second .ensures)
+      in (
+        omega (arith, start .pre .0, body .0),
         ready-for (start .pre .1 .signed) (ready-opened
-            (ready-opened (letp-later (start .pre .1 .ready) (start .pre .1 .here) (at-Else1 .if1 .left) (at-first .first .ensures)
-            (at-second .second .ensures) (at-infer .infer .ensures)) (at-bind .bind .ensures)) (at-bind2 .bind2 .ensures))
-            (letp-body (start .pre .1 .ready) (start .pre .1 .here) (at-Else1 .if1 .left) (at-first .first .ensures) (at-second .second .ensures) .1),
+            (ready-opened (letp-later (start .pre .1 .ready) (start .pre .1 .here) (at-else1 .if1 .left) (at-first .first .ensures)
+            (at-second .second .ensures) (at-infer .infer .ensures)) (at-bind .bind .ensures)) (at-bind2 .bind2 .ensures)) (body .1),
       )
 
   pub close-two-requires : lts.Need-close-two-requires (let-two-uses t) (let-two-at t) let-two.Post
   close-two-requires c κs =
       let at-infer2 = c .before .before .before .before .before in
-      let (at-bind2, at-bind, at-Else2, at-shape-of, at-status, at-infer, at-second, at-first, at-Else1, start) = before-infer2 at-infer2 in (
+      let (at-bind2, at-bind, at-else2, at-shape-of, at-status) = let-two-before-infer2 at-infer2 in
+      let (at-infer, at-second, at-first, at-else1, start) = let-two-before-status at-status in (
         told (at-infer2 .infer2 .ensures),
         (
-          letp-first-known (start .pre .1 .ready) (start .pre .1 .here) (at-Else1 .if1 .left)
+          letp-first-known (start .pre .1 .ready) (start .pre .1 .here) (at-else1 .if1 .left)
               (at-first .first .ensures) (at-second .second .ensures) (at-infer .infer .ensures) (at-status .status .given .1)
-              (at-shape-of .shape-of .ensures) (at-Else2 .if2 .left) (at-bind .bind .ensures) (at-bind2 .bind2 .ensures) (at-infer2 .infer2 .ensures),
-          letp-second-known (start .pre .1 .ready) (start .pre .1 .here) (at-Else1 .if1 .left) (at-first .first .ensures)
+              (at-shape-of .shape-of .ensures) (at-else2 .if2 .left) (at-bind .bind .ensures) (at-bind2 .bind2 .ensures) (at-infer2 .infer2 .ensures),
+          letp-second-known (start .pre .1 .ready) (start .pre .1 .here) (at-else1 .if1 .left) (at-first .first .ensures)
               (at-second .second .ensures) (at-infer .infer .ensures) (at-status .status .given .1) (at-shape-of .shape-of .ensures)
-              (at-Else2 .if2 .left) (at-bind .bind .ensures) (at-bind2 .bind2 .ensures) (at-infer2 .infer2 .ensures),
-          omega (arith, at-Else1 .if1 .left),
+              (at-else2 .if2 .left) (at-bind .bind .ensures) (at-bind2 .bind2 .ensures) (at-infer2 .infer2 .ensures),
+          omega (arith, at-else1 .if1 .left),
         ),
       )
 
@@ -287,41 +285,37 @@ module _ (t : ℕ) where
 
   pub same-length-3 : lts.Need-same-length-3 (let-two-uses t) (let-two-at t) let-two.Post
   same-length-3 c =
-      let at-close-two = c in
-      let (at-infer2, _, _, _, _, _, at-infer, _, _, _, _) = before-close-two at-close-two in
+      let (at-infer2, _, _, _, _, at-status) = let-two-before-close-two c in
+      let (at-infer, _, _, _, _) = let-two-before-status at-status in
       at-infer2 .infer2 .kept .1 .1 .1 .1 .1 .1 .0 ∙ at-infer .infer .kept .1 .1 .1 .1 .1 .1 .0
 
   pub same-length-4 : lts.Need-same-length-4 (let-two-uses t) (let-two-at t) let-two.Post
   same-length-4 c =
-      let at-close-two = c in
-      let (at-infer2, at-bind2, at-bind, _, _, _, at-infer, _, _, _, _) = before-close-two at-close-two in
+      let (at-infer2, at-bind2, at-bind, _, _, at-status) = let-two-before-close-two c in
+      let (at-infer, _, _, _, _) = let-two-before-status at-status in
       at-infer2 .infer2 .kept .1 .1 .1 .1 .1 .1 .1 .0 ∙ at-bind2 .bind2 .kept .1 .1 .1 .0 ∙ at-bind .bind .kept .1 .1 .1 .0 ∙
       at-infer .infer .kept .1 .1 .1 .1 .1 .1 .1 .0
 
   pub returns-3 : lts.Need-returns-3 (let-two-uses t) (let-two-at t) let-two.Post
   returns-3 c =
-      let at-close-two = c in
-      let (at-infer2, at-bind2, at-bind, at-Else2, at-shape-of, at-status, at-infer, at-second, at-first, at-Else1, start) = before-close-two
-      at-close-two in
-      letp-done (start .pre .1 .ready) (start .pre .1 .here) (at-Else1 .if1 .left) (at-first .first .ensures) (at-second .second .ensures)
-      (at-infer .infer .ensures) (at-status .status .given .1) (at-shape-of .shape-of .ensures) (at-Else2 .if2 .left) (at-bind .bind .ensures)
-      (at-bind2 .bind2 .ensures) (at-infer2 .infer2 .ensures) (at-close-two .close-two .ensures)
+      let (at-infer2, at-bind2, at-bind, at-else2, at-shape-of, at-status) = let-two-before-close-two c in
+      let (at-infer, at-second, at-first, at-else1, start) = let-two-before-status at-status in
+      letp-done (start .pre .1 .ready) (start .pre .1 .here) (at-else1 .if1 .left) (at-first .first .ensures) (at-second .second .ensures)
+      (at-infer .infer .ensures) (at-status .status .given .1) (at-shape-of .shape-of .ensures) (at-else2 .if2 .left) (at-bind .bind .ensures)
+      (at-bind2 .bind2 .ensures) (at-infer2 .infer2 .ensures) (c .close-two .ensures)
 
   pub same-length-5 : lts.Need-same-length-5 (let-two-uses t) (let-two-at t) let-two.Post
   same-length-5 c =
-      let at-enum-told = c in
-      let (at-infer, _, _, _, _) = before-enum-told at-enum-told in
+      let (at-infer, _, _, _, _) = let-two-before-enum-told c in
       at-infer .infer .kept .1 .1 .1 .1 .1 .1 .0
 
   pub same-length-6 : lts.Need-same-length-6 (let-two-uses t) (let-two-at t) let-two.Post
   same-length-6 c =
-      let at-enum-told = c in
-      let (at-infer, _, _, _, _) = before-enum-told at-enum-told in
+      let (at-infer, _, _, _, _) = let-two-before-enum-told c in
       at-infer .infer .kept .1 .1 .1 .1 .1 .1 .1 .0
 
   pub returns-4 : lts.Need-returns-4 (let-two-uses t) (let-two-at t) let-two.Post
   returns-4 c =
-      let at-enum-told = c in
-      let (at-infer, at-second, at-first, at-Else1, start) = before-enum-told at-enum-told in
-      letp-refused (start .pre .1 .ready) (start .pre .1 .here) (at-Else1 .if1 .left) (at-first .first .ensures) (at-second .second .ensures)
-      (at-infer .infer .ensures) (at-enum-told .enum-told .given .1)
+      let (at-infer, at-second, at-first, at-else1, start) = let-two-before-enum-told c in
+      letp-refused (start .pre .1 .ready) (start .pre .1 .here) (at-else1 .if1 .left) (at-first .first .ensures) (at-second .second .ensures)
+      (at-infer .infer .ensures) (c .enum-told .given .1)

@@ -1,5 +1,5 @@
--- Answers of the cycle of typing: pair. A place is what is known once a call or a test is behind; `before-` has the places before it, the
--- nearest first, so that code put in between two places moves one line.
+-- Answers of the cycle of typing: pair. A place is what is known once a call or a test is behind; `-before-` has the
+-- places before it, the nearest first, so that code put in between two places moves one line.
 use Rattle.typing.proofs as own
 use Prim.Native.Nat.{ℕ}
 use Prim.Native.Nat.{_-_}
@@ -31,11 +31,11 @@ module _ (t : ℕ) where
   abbrev Infer : Type 0
   Infer = lts.After-infer (pair-uses t) (pair-at t) pair.Post
 
-  abbrev Status : Type 0
-  Status = lts.After-status (pair-uses t) (pair-at t) pair.Post
-
   abbrev EnumTold : Type 0
   EnumTold = lts.After-enum-told (pair-uses t) (pair-at t) pair.Post
+
+  abbrev Status : Type 0
+  Status = lts.After-status (pair-uses t) (pair-at t) pair.Post
 
   abbrev Infer2 : Type 0
   Infer2 = lts.After-infer2 (pair-uses t) (pair-at t) pair.Post
@@ -43,30 +43,41 @@ module _ (t : ℕ) where
   abbrev PairUp : Type 0
   PairUp = lts.After-pair-up (pair-uses t) (pair-at t) pair.Post
 
-  abbrev before-first : First → Start
-  before-first c = c .before .before .before .before .before .before .before .before
+  abbrev pair-before-first : First → Start
+  pair-before-first c = c .before .before .before .before .before .before .before .before
 
-  abbrev before-second : Second → First × Start
-  before-second c = let at-first = c .before in (at-first, before-first at-first)
+  abbrev pair-before-second : Second → First × Start
+  pair-before-second c = let at-first = c .before in (at-first, pair-before-first at-first)
 
-  abbrev before-infer : Infer → Second × First × Start
-  before-infer c = let at-second = c .before .before .before in let (at-first, start) = before-second at-second in (at-second, at-first, start)
+  abbrev pair-before-infer : Infer → Second × First × Start
+  pair-before-infer c =
+      let at-second = c .before .before .before in
+      let (at-first, start) = pair-before-second at-second in
+      (at-second, at-first, start)
 
-  abbrev before-status : Status → Infer × Second × First × Start
-  before-status c = let at-infer = c .before .before .before .before .before .before in let (at-second, at-first, start) = before-infer at-infer in
+  abbrev pair-before-enum-told : EnumTold → Infer × Second × First × Start
+  pair-before-enum-told c =
+      let at-infer = c .before .before .before .before .before .before in
+      let (at-second, at-first, start) = pair-before-infer at-infer in
       (at-infer, at-second, at-first, start)
 
-  abbrev before-enum-told : EnumTold → Infer × Second × First × Start
-  before-enum-told c = let at-infer = c .before .before .before .before .before .before in let (at-second, at-first, start) = before-infer
-      at-infer in (at-infer, at-second, at-first, start)
+  abbrev pair-before-status : Status → Infer × Second × First × Start
+  pair-before-status c =
+      let at-infer = c .before .before .before .before .before .before in
+      let (at-second, at-first, start) = pair-before-infer at-infer in
+      (at-infer, at-second, at-first, start)
 
-  abbrev before-infer2 : Infer2 → Status × Infer × Second × First × Start
-  before-infer2 c = let at-status = c .before .before .before .before in let (at-infer, at-second, at-first, start) = before-status at-status in
+  abbrev pair-before-infer2 : Infer2 → Status × Infer × Second × First × Start
+  pair-before-infer2 c =
+      let at-status = c .before .before .before .before in
+      let (at-infer, at-second, at-first, start) = pair-before-status at-status in
       (at-status, at-infer, at-second, at-first, start)
 
-  abbrev before-pair-up : PairUp → Infer2 × Status × Infer × Second × First × Start
-  before-pair-up c = let at-infer2 = c .before .before .before .before .before .before in let (at-status, at-infer, at-second, at-first, start) =
-      before-infer2 at-infer2 in (at-infer2, at-status, at-infer, at-second, at-first, start)
+  abbrev pair-before-pair-up : PairUp → Infer2 × Status × Infer × Second × First × Start
+  pair-before-pair-up c =
+      let at-infer2 = c .before .before .before .before .before .before in
+      let (at-status, at-infer, at-second, at-first, start) = pair-before-infer2 at-infer2 in
+      (at-infer2, at-status, at-infer, at-second, at-first, start)
 
   ----------------------------------------------------------------
   -- Answers
@@ -78,23 +89,17 @@ module _ (t : ℕ) where
 
   pub second-requires : lts.Need-second-requires (pair-uses t) (pair-at t) pair.Post
   second-requires c κs =
-      let at-first = c in
-      let start = before-first at-first in
+      let start = pair-before-first c in
       read-pair (start .pre .1 .ready .entries) (start .pre .1 .here)
 
   pub infer-requires : lts.Need-infer-requires (pair-uses t) (pair-at t) pair.Post
   infer-requires c κs =
       let at-second = c .before .before in
-      let (at-first, start) = before-second at-second in (
-        omega (
-          arith,
-          start .pre .0,
-          pair-left (start .pre .1 .ready) (start .pre .1 .here) (at-first .first .ensures)
-              (at-second .second .ensures) .0,
-        ),
+      let (at-first, start) = pair-before-second at-second in
+      let left = pair-left (start .pre .1 .ready) (start .pre .1 .here) (at-first .first .ensures) (at-second .second .ensures) in (
+        omega (arith, start .pre .0, left .0),
         ready-for (start .pre .1 .signed) (pair-ready (start .pre .1 .ready) (start .pre .1 .here)
-            (at-first .first .ensures) (at-second .second .ensures)) (pair-left (start .pre .1 .ready) (start .pre .1 .here) (at-first .first .ensures)
-            (at-second .second .ensures) .1),
+            (at-first .first .ensures) (at-second .second .ensures)) (left .1),
       )
 
   pub enum-known-status : lts.Need-enum-known-status (pair-uses t) (pair-at t) pair.Post
@@ -103,22 +108,17 @@ module _ (t : ℕ) where
   pub infer-requires-2 : lts.Need-infer-requires-2 (pair-uses t) (pair-at t) pair.Post
   infer-requires-2 c κs =
       let at-status = c .before .before .before in
-      let (at-infer, at-second, at-first, start) = before-status at-status in (
-        omega (
-          arith,
-          start .pre .0,
-          pair-right (start .pre .1 .ready) (start .pre .1 .here) (at-first .first .ensures)
-              (at-second .second .ensures) .0,
-        ),
+      let (at-infer, at-second, at-first, start) = pair-before-status at-status in
+      let right = pair-right (start .pre .1 .ready) (start .pre .1 .here) (at-first .first .ensures) (at-second .second .ensures) in (
+        omega (arith, start .pre .0, right .0),
         ready-for (start .pre .1 .signed) (pair-later (start .pre .1 .ready) (start .pre .1 .here)
-            (at-first .first .ensures) (at-second .second .ensures) (at-infer .infer .ensures))
-            (pair-right (start .pre .1 .ready) (start .pre .1 .here) (at-first .first .ensures) (at-second .second .ensures) .1),
+            (at-first .first .ensures) (at-second .second .ensures) (at-infer .infer .ensures)) (right .1),
       )
 
   pub pair-up-requires : lts.Need-pair-up-requires (pair-uses t) (pair-at t) pair.Post
   pair-up-requires c κs =
       let at-infer2 = c .before .before .before .before .before in
-      let (at-status, at-infer, at-second, at-first, start) = before-infer2 at-infer2 in (
+      let (at-status, at-infer, at-second, at-first, start) = pair-before-infer2 at-infer2 in (
         told (at-infer2 .infer2 .ensures),
         (
           pair-up-left (start .pre .1 .ready) (start .pre .1 .here) (at-first .first .ensures)
@@ -137,37 +137,34 @@ module _ (t : ℕ) where
   pub same-length : lts.Need-same-length (pair-uses t) (pair-at t) pair.Post
   same-length c =
       let at-pair-up = c .before .before in
-      let (at-infer2, _, at-infer, _, _, _) = before-pair-up at-pair-up in
+      let (at-infer2, _, at-infer, _, _, _) = pair-before-pair-up at-pair-up in
       at-pair-up .pair-up .kept .1 .1 .1 .0 ∙ at-infer2 .infer2 .kept .1 .1 .1 .1 .1 .1 .0 ∙ at-infer .infer .kept .1 .1 .1 .1 .1 .1 .0
 
   pub same-length-2 : lts.Need-same-length-2 (pair-uses t) (pair-at t) pair.Post
   same-length-2 c =
       let at-pair-up = c .before .before in
-      let (at-infer2, _, at-infer, _, _, _) = before-pair-up at-pair-up in
+      let (at-infer2, _, at-infer, _, _, _) = pair-before-pair-up at-pair-up in
       at-infer2 .infer2 .kept .1 .1 .1 .1 .1 .1 .1 .0 ∙ at-infer .infer .kept .1 .1 .1 .1 .1 .1 .1 .0
 
   pub returns : lts.Need-returns (pair-uses t) (pair-at t) pair.Post
   returns c =
       let at-pair-up = c .before .before in
-      let (at-infer2, at-status, at-infer, at-second, at-first, start) = before-pair-up at-pair-up in
+      let (at-infer2, at-status, at-infer, at-second, at-first, start) = pair-before-pair-up at-pair-up in
       pair-done (start .pre .1 .ready) (start .pre .1 .here) (at-first .first .ensures) (at-second .second .ensures) (at-infer .infer .ensures)
       (at-status .status .given .1) (at-infer2 .infer2 .ensures) (at-pair-up .pair-up .ensures)
 
   pub same-length-3 : lts.Need-same-length-3 (pair-uses t) (pair-at t) pair.Post
   same-length-3 c =
-      let at-enum-told = c in
-      let (at-infer, _, _, _) = before-enum-told at-enum-told in
+      let (at-infer, _, _, _) = pair-before-enum-told c in
       at-infer .infer .kept .1 .1 .1 .1 .1 .1 .0
 
   pub same-length-4 : lts.Need-same-length-4 (pair-uses t) (pair-at t) pair.Post
   same-length-4 c =
-      let at-enum-told = c in
-      let (at-infer, _, _, _) = before-enum-told at-enum-told in
+      let (at-infer, _, _, _) = pair-before-enum-told c in
       at-infer .infer .kept .1 .1 .1 .1 .1 .1 .1 .0
 
   pub returns-2 : lts.Need-returns-2 (pair-uses t) (pair-at t) pair.Post
   returns-2 c =
-      let at-enum-told = c in
-      let (at-infer, at-second, at-first, start) = before-enum-told at-enum-told in
+      let (at-infer, at-second, at-first, start) = pair-before-enum-told c in
       pair-refused (start .pre .1 .ready) (start .pre .1 .here) (at-first .first .ensures) (at-second .second .ensures) (at-infer .infer .ensures)
-      (at-enum-told .enum-told .given .1)
+      (c .enum-told .given .1)

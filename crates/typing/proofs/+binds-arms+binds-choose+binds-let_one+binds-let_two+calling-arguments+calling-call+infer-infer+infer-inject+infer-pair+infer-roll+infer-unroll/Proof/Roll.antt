@@ -1,5 +1,5 @@
--- Answers of the cycle of typing: roll. A place is what is known once a call or a test is behind; `before-` has the places before it, the
--- nearest first, so that code put in between two places moves one line.
+-- Answers of the cycle of typing: roll. A place is what is known once a call or a test is behind; `-before-` has the
+-- places before it, the nearest first, so that code put in between two places moves one line.
 use Rattle.typing.proofs as own
 use Prim.Native.Nat.{ℕ}
 use Prim.Native.Nat.{_-_}
@@ -48,38 +48,52 @@ module _ (t : ℕ) where
   abbrev Expect : Type 0
   Expect = lts.After-expect (roll-uses t) (roll-at t) roll.Post
 
-  abbrev before-first : First → Start
-  before-first c = c .before .before .before .before .before .before .before .before
+  abbrev roll-before-first : First → Start
+  roll-before-first c = c .before .before .before .before .before .before .before .before
 
-  abbrev before-second : Second → First × Start
-  before-second c = let at-first = c .before in (at-first, before-first at-first)
+  abbrev roll-before-second : Second → First × Start
+  roll-before-second c = let at-first = c .before in (at-first, roll-before-first at-first)
 
-  abbrev before-unfolded : Unfolded → Second × First × Start
-  before-unfolded c = let at-second = c .before in let (at-first, start) = before-second at-second in (at-second, at-first, start)
+  abbrev roll-before-unfolded : Unfolded → Second × First × Start
+  roll-before-unfolded c =
+      let at-second = c .before in
+      let (at-first, start) = roll-before-second at-second in
+      (at-second, at-first, start)
 
-  abbrev before-body : Body → Unfolded × Second × First × Start
-  before-body c = let at-unfolded = c .before .before in let (at-second, at-first, start) = before-unfolded at-unfolded in
+  abbrev roll-before-body : Body → Unfolded × Second × First × Start
+  roll-before-body c =
+      let at-unfolded = c .before .before in
+      let (at-second, at-first, start) = roll-before-unfolded at-unfolded in
       (at-unfolded, at-second, at-first, start)
 
-  abbrev before-enum-told : EnumTold → Unfolded × Second × First × Start
-  before-enum-told c = let at-unfolded = c .before .before in let (at-second, at-first, start) = before-unfolded at-unfolded in
+  abbrev roll-before-enum-told : EnumTold → Unfolded × Second × First × Start
+  roll-before-enum-told c =
+      let at-unfolded = c .before .before in
+      let (at-second, at-first, start) = roll-before-unfolded at-unfolded in
       (at-unfolded, at-second, at-first, start)
 
-  abbrev before-differ : Differ → EnumTold × Unfolded × Second × First × Start
-  before-differ c = let at-enum-told = c .before in let (at-unfolded, at-second, at-first, start) = before-enum-told at-enum-told in
+  abbrev roll-before-differ : Differ → EnumTold × Unfolded × Second × First × Start
+  roll-before-differ c =
+      let at-enum-told = c .before in
+      let (at-unfolded, at-second, at-first, start) = roll-before-enum-told at-enum-told in
       (at-enum-told, at-unfolded, at-second, at-first, start)
 
-  abbrev before-entry : Entry → Body × Unfolded × Second × First × Start
-  before-entry c = let at-body = c .before .before in let (at-unfolded, at-second, at-first, start) = before-body at-body in
+  abbrev roll-before-entry : Entry → Body × Unfolded × Second × First × Start
+  roll-before-entry c =
+      let at-body = c .before .before in
+      let (at-unfolded, at-second, at-first, start) = roll-before-body at-body in
       (at-body, at-unfolded, at-second, at-first, start)
 
-  abbrev before-infer : Infer → Entry × Body × Unfolded × Second × First × Start
-  before-infer c = let at-entry = c .before .before .before in let (at-body, at-unfolded, at-second, at-first, start) = before-entry at-entry in
+  abbrev roll-before-infer : Infer → Entry × Body × Unfolded × Second × First × Start
+  roll-before-infer c =
+      let at-entry = c .before .before .before in
+      let (at-body, at-unfolded, at-second, at-first, start) = roll-before-entry at-entry in
       (at-entry, at-body, at-unfolded, at-second, at-first, start)
 
-  abbrev before-expect : Expect → Infer × Entry × Body × Unfolded × Second × First × Start
-  before-expect c = let at-infer = c .before .before .before .before .before .before in let
-      (at-entry, at-body, at-unfolded, at-second, at-first, start) = before-infer at-infer in
+  abbrev roll-before-expect : Expect → Infer × Entry × Body × Unfolded × Second × First × Start
+  roll-before-expect c =
+      let at-infer = c .before .before .before .before .before .before in
+      let (at-entry, at-body, at-unfolded, at-second, at-first, start) = roll-before-infer at-infer in
       (at-infer, at-entry, at-body, at-unfolded, at-second, at-first, start)
 
   ----------------------------------------------------------------
@@ -92,17 +106,15 @@ module _ (t : ℕ) where
 
   pub second-requires : lts.Need-second-requires (roll-uses t) (roll-at t) roll.Post
   second-requires c κs =
-      let at-first = c in
-      let start = before-first at-first in
+      let start = roll-before-first c in
       read-roll (start .pre .1 .ready .entries) (start .pre .1 .here)
 
   pub unfolded-requires : lts.Need-unfolded-requires (roll-uses t) (roll-at t) roll.Post
   unfolded-requires c κs =
-      let at-second = c in
-      let (at-first, start) = before-second at-second in (
+      let (at-first, start) = roll-before-second c in (
         start .pre .1 .ready .scoped .sources .entries,
         roll-type (start .pre .1 .ready) (start .pre .1 .here) (at-first .first .ensures)
-            (at-second .second .ensures),
+            (c .second .ensures),
       )
 
   pub enum-known-body : lts.Need-enum-known-body (roll-uses t) (roll-at t) roll.Post
@@ -114,28 +126,19 @@ module _ (t : ℕ) where
   pub infer-requires : lts.Need-infer-requires (roll-uses t) (roll-at t) roll.Post
   infer-requires c κs =
       let at-entry = c .before .before in
-      let (_, _, at-second, at-first, start) = before-entry at-entry in (
-        omega (
-          arith,
-          start .pre .0,
-          roll-part (start .pre .1 .ready) (start .pre .1 .here) (at-first .first .ensures)
-              (at-second .second .ensures) .0,
-        ),
-        ready-for (start .pre .1 .signed) (roll-ready (start .pre .1 .ready) (start .pre .1 .here)
-            (at-first .first .ensures) (at-second .second .ensures)) (roll-part (start .pre .1 .ready) (start .pre .1 .here) (at-first .first .ensures)
-            (at-second .second .ensures) .1),
-      )
+      let (_, _, at-second, at-first, start) = roll-before-entry at-entry in
+      let part = roll-part (start .pre .1 .ready) (start .pre .1 .here) (at-first .first .ensures) (at-second .second .ensures) in
+      let ready = roll-ready (start .pre .1 .ready) (start .pre .1 .here) (at-first .first .ensures) (at-second .second .ensures) in
+      (omega (arith, start .pre .0, part .0), ready-for (start .pre .1 .signed) ready (part .1))
 
   pub expect-requires : lts.Need-expect-requires (roll-uses t) (roll-at t) roll.Post
   expect-requires c κs =
       let at-infer = c .before .before .before .before .before in
-      let (_, at-body, at-unfolded, at-second, at-first, start) = before-infer at-infer in (
-        told (at-infer .infer .ensures),
-        known-later ((roll-ready (start .pre .1 .ready) (start .pre .1 .here) (at-first .first .ensures)
-            (at-second .second .ensures)) .scoped .sources) (at-infer .infer .ensures .kept)
-            (roll-known (start .pre .1 .ready) (start .pre .1 .here) (at-first .first .ensures) (at-second .second .ensures)
-            (at-unfolded .unfolded .ensures) (at-body .body .given .1)),
-      )
+      let (_, at-body, at-unfolded, at-second, at-first, start) = roll-before-infer at-infer in
+      let ready = roll-ready (start .pre .1 .ready) (start .pre .1 .here) (at-first .first .ensures) (at-second .second .ensures) in
+      let known = roll-known (start .pre .1 .ready) (start .pre .1 .here) (at-first .first .ensures) (at-second .second .ensures)
+      (at-unfolded .unfolded .ensures) (at-body .body .given .1) in
+      (told (at-infer .infer .ensures), known-later (ready .scoped .sources) (at-infer .infer .ensures .kept) known)
 
   pub enum-told : lts.Need-enum-told (roll-uses t) (roll-at t) roll.Post
   enum-told c = search needs
@@ -145,30 +148,27 @@ module _ (t : ℕ) where
 
   pub same-length : lts.Need-same-length (roll-uses t) (roll-at t) roll.Post
   same-length c =
-      let at-expect = c in
-      let (at-infer, _, _, _, _, _, _) = before-expect at-expect in
+      let (at-infer, _, _, _, _, _, _) = roll-before-expect c in
       at-infer .infer .kept .1 .1 .1 .1 .1 .1 .0
 
   pub same-length-2 : lts.Need-same-length-2 (roll-uses t) (roll-at t) roll.Post
   same-length-2 c =
-      let at-expect = c in
-      let (at-infer, _, _, _, _, _, _) = before-expect at-expect in
+      let (at-infer, _, _, _, _, _, _) = roll-before-expect c in
       at-infer .infer .kept .1 .1 .1 .1 .1 .1 .1 .0
 
   pub returns : lts.Need-returns (roll-uses t) (roll-at t) roll.Post
   returns c =
-      let at-expect = c in
-      let (at-infer, at-entry, at-body, at-unfolded, at-second, at-first, start) = before-expect at-expect in
+      let (at-infer, at-entry, at-body, at-unfolded, at-second, at-first, start) = roll-before-expect c in
+      let ready = roll-ready (start .pre .1 .ready) (start .pre .1 .here) (at-first .first .ensures) (at-second .second .ensures) in
+      let known = roll-known (start .pre .1 .ready) (start .pre .1 .here) (at-first .first .ensures) (at-second .second .ensures)
+      (at-unfolded .unfolded .ensures) (at-body .body .given .1) in
       roll-done (start .pre .1 .ready) (start .pre .1 .here) (at-first .first .ensures) (at-second .second .ensures) (at-unfolded .unfolded .ensures)
-      (at-body .body .given .1) (at-entry .entry .ensures) (demand-done (at-infer .infer .ensures)
-      ((roll-ready (start .pre .1 .ready) (start .pre .1 .here) (at-first .first .ensures) (at-second .second .ensures)) .scoped .sources)
-      (roll-known (start .pre .1 .ready) (start .pre .1 .here) (at-first .first .ensures) (at-second .second .ensures)
-      (at-unfolded .unfolded .ensures) (at-body .body .given .1)) (roll-whole (start .pre .1 .ready) (start .pre .1 .here)
-      (at-first .first .ensures) (at-second .second .ensures) (at-entry .entry .ensures)) (at-expect .expect .ensures))
+      (at-body .body .given .1) (at-entry .entry .ensures) (demand-done (at-infer .infer .ensures) (ready .scoped .sources) known
+      (roll-whole (start .pre .1 .ready) (start .pre .1 .here) (at-first .first .ensures) (at-second .second .ensures)
+      (at-entry .entry .ensures)) (c .expect .ensures))
 
   pub returns-2 : lts.Need-returns-2 (roll-uses t) (roll-at t) roll.Post
   returns-2 c =
-      let at-differ = c in
-      let (at-enum-told, at-unfolded, at-second, at-first, start) = before-differ at-differ in
+      let (at-enum-told, at-unfolded, at-second, at-first, start) = roll-before-differ c in
       roll-no (start .pre .1 .ready) (start .pre .1 .here) (at-first .first .ensures) (at-second .second .ensures) (at-unfolded .unfolded .ensures)
-      (at-enum-told .enum-told .given .1) (at-differ .differ .ensures .0) (at-differ .differ .ensures .1)
+      (at-enum-told .enum-told .given .1) (c .differ .ensures .0) (c .differ .ensures .1)

@@ -1,5 +1,5 @@
--- Answers of the cycle of typing: unroll. A place is what is known once a call or a test is behind; `before-` has the places before it, the
--- nearest first, so that code put in between two places moves one line.
+-- Answers of the cycle of typing: unroll. A place is what is known once a call or a test is behind; `-before-` has the
+-- places before it, the nearest first, so that code put in between two places moves one line.
 use Rattle.typing.proofs as own
 use Prim.Native.Nat.{ℕ}
 use Prim.Native.Nat.{_-_}
@@ -48,11 +48,11 @@ module _ (t : ℕ) where
   abbrev Then1 : Type 0
   Then1 = lts.Then1 (unroll-uses t) (unroll-at t) unroll.Post
 
-  abbrev Differ : Type 0
-  Differ = lts.After-differ (unroll-uses t) (unroll-at t) unroll.Post
-
   abbrev Entry : Type 0
   Entry = lts.After-entry (unroll-uses t) (unroll-at t) unroll.Post
+
+  abbrev Differ : Type 0
+  Differ = lts.After-differ (unroll-uses t) (unroll-at t) unroll.Post
 
   abbrev Infer : Type 0
   Infer = lts.After-infer (unroll-uses t) (unroll-at t) unroll.Post
@@ -60,55 +60,77 @@ module _ (t : ℕ) where
   abbrev Expect : Type 0
   Expect = lts.After-expect (unroll-uses t) (unroll-at t) unroll.Post
 
-  abbrev before-first : First → Start
-  before-first c = c .before .before .before .before .before .before .before .before
+  abbrev unroll-before-first : First → Start
+  unroll-before-first c = c .before .before .before .before .before .before .before .before
 
-  abbrev before-second : Second → First × Start
-  before-second c = let at-first = c .before in (at-first, before-first at-first)
+  abbrev unroll-before-second : Second → First × Start
+  unroll-before-second c = let at-first = c .before in (at-first, unroll-before-first at-first)
 
-  abbrev before-unfolded : Unfolded → Second × First × Start
-  before-unfolded c = let at-second = c .before in let (at-first, start) = before-second at-second in (at-second, at-first, start)
+  abbrev unroll-before-unfolded : Unfolded → Second × First × Start
+  unroll-before-unfolded c =
+      let at-second = c .before in
+      let (at-first, start) = unroll-before-second at-second in
+      (at-second, at-first, start)
 
-  abbrev before-body : Body → Unfolded × Second × First × Start
-  before-body c = let at-unfolded = c .before .before in let (at-second, at-first, start) = before-unfolded at-unfolded in
+  abbrev unroll-before-body : Body → Unfolded × Second × First × Start
+  unroll-before-body c =
+      let at-unfolded = c .before .before in
+      let (at-second, at-first, start) = unroll-before-unfolded at-unfolded in
       (at-unfolded, at-second, at-first, start)
 
-  abbrev before-enum-told : EnumTold → Unfolded × Second × First × Start
-  before-enum-told c = let at-unfolded = c .before .before in let (at-second, at-first, start) = before-unfolded at-unfolded in
+  abbrev unroll-before-enum-told : EnumTold → Unfolded × Second × First × Start
+  unroll-before-enum-told c =
+      let at-unfolded = c .before .before in
+      let (at-second, at-first, start) = unroll-before-unfolded at-unfolded in
       (at-unfolded, at-second, at-first, start)
 
-  abbrev before-differ2 : Differ2 → EnumTold × Unfolded × Second × First × Start
-  before-differ2 c = let at-enum-told = c .before in let (at-unfolded, at-second, at-first, start) = before-enum-told at-enum-told in
+  abbrev unroll-before-differ2 : Differ2 → EnumTold × Unfolded × Second × First × Start
+  unroll-before-differ2 c =
+      let at-enum-told = c .before in
+      let (at-unfolded, at-second, at-first, start) = unroll-before-enum-told at-enum-told in
       (at-enum-told, at-unfolded, at-second, at-first, start)
 
-  abbrev before-within-limit : WithinLimit → Body × Unfolded × Second × First × Start
-  before-within-limit c = let at-body = c .before .before .before in let (at-unfolded, at-second, at-first, start) = before-body at-body in
+  abbrev unroll-before-within-limit : WithinLimit → Body × Unfolded × Second × First × Start
+  unroll-before-within-limit c =
+      let at-body = c .before .before .before in
+      let (at-unfolded, at-second, at-first, start) = unroll-before-body at-body in
       (at-body, at-unfolded, at-second, at-first, start)
 
-  abbrev before-Else1 : Else1 → WithinLimit × Body × Unfolded × Second × First × Start
-  before-Else1 c = let at-within-limit = c .before in let (at-body, at-unfolded, at-second, at-first, start) = before-within-limit at-within-limit in
+  abbrev unroll-before-else1 : Else1 → WithinLimit × Body × Unfolded × Second × First × Start
+  unroll-before-else1 c =
+      let at-within-limit = c .before in
+      let (at-body, at-unfolded, at-second, at-first, start) = unroll-before-within-limit at-within-limit in
       (at-within-limit, at-body, at-unfolded, at-second, at-first, start)
 
-  abbrev before-Then1 : Then1 → WithinLimit × Body × Unfolded × Second × First × Start
-  before-Then1 c = let at-within-limit = c .before in let (at-body, at-unfolded, at-second, at-first, start) = before-within-limit at-within-limit in
+  abbrev unroll-before-then1 : Then1 → WithinLimit × Body × Unfolded × Second × First × Start
+  unroll-before-then1 c =
+      let at-within-limit = c .before in
+      let (at-body, at-unfolded, at-second, at-first, start) = unroll-before-within-limit at-within-limit in
       (at-within-limit, at-body, at-unfolded, at-second, at-first, start)
 
-  abbrev before-differ : Differ → Else1 × WithinLimit × Body × Unfolded × Second × First × Start
-  before-differ c = let at-Else1 = c .before in let (at-within-limit, at-body, at-unfolded, at-second, at-first, start) = before-Else1 at-Else1 in
-      (at-Else1, at-within-limit, at-body, at-unfolded, at-second, at-first, start)
+  abbrev unroll-before-entry : Entry → Then1 × WithinLimit × Body × Unfolded × Second × First × Start
+  unroll-before-entry c =
+      let at-then1 = c .before in
+      let (at-within-limit, at-body, at-unfolded, at-second, at-first, start) = unroll-before-then1 at-then1 in
+      (at-then1, at-within-limit, at-body, at-unfolded, at-second, at-first, start)
 
-  abbrev before-entry : Entry → Then1 × WithinLimit × Body × Unfolded × Second × First × Start
-  before-entry c = let at-Then1 = c .before in let (at-within-limit, at-body, at-unfolded, at-second, at-first, start) = before-Then1 at-Then1 in
-      (at-Then1, at-within-limit, at-body, at-unfolded, at-second, at-first, start)
+  abbrev unroll-before-differ : Differ → Else1 × WithinLimit × Body × Unfolded × Second × First × Start
+  unroll-before-differ c =
+      let at-else1 = c .before in
+      let (at-within-limit, at-body, at-unfolded, at-second, at-first, start) = unroll-before-else1 at-else1 in
+      (at-else1, at-within-limit, at-body, at-unfolded, at-second, at-first, start)
 
-  abbrev before-infer : Infer → Entry × Then1 × WithinLimit × Body × Unfolded × Second × First × Start
-  before-infer c = let at-entry = c .before .before .before in let (at-Then1, at-within-limit, at-body, at-unfolded, at-second, at-first, start) =
-      before-entry at-entry in (at-entry, at-Then1, at-within-limit, at-body, at-unfolded, at-second, at-first, start)
+  abbrev unroll-before-infer : Infer → Entry × Then1 × WithinLimit × Body × Unfolded × Second × First × Start
+  unroll-before-infer c =
+      let at-entry = c .before .before .before in
+      let (at-then1, at-within-limit, at-body, at-unfolded, at-second, at-first, start) = unroll-before-entry at-entry in
+      (at-entry, at-then1, at-within-limit, at-body, at-unfolded, at-second, at-first, start)
 
-  abbrev before-expect : Expect → Infer × Entry × Then1 × WithinLimit × Body × Unfolded × Second × First × Start
-  before-expect c = let at-infer = c .before .before .before .before .before .before in let
-      (at-entry, at-Then1, at-within-limit, at-body, at-unfolded, at-second, at-first, start) = before-infer at-infer in
-      (at-infer, at-entry, at-Then1, at-within-limit, at-body, at-unfolded, at-second, at-first, start)
+  abbrev unroll-before-expect : Expect → Infer × Entry × Then1 × WithinLimit × Body × Unfolded × Second × First × Start
+  unroll-before-expect c =
+      let at-infer = c .before .before .before .before .before .before in
+      let (at-entry, at-then1, at-within-limit, at-body, at-unfolded, at-second, at-first, start) = unroll-before-infer at-infer in
+      (at-infer, at-entry, at-then1, at-within-limit, at-body, at-unfolded, at-second, at-first, start)
 
   ----------------------------------------------------------------
   -- Answers
@@ -120,17 +142,15 @@ module _ (t : ℕ) where
 
   pub second-requires : lts.Need-second-requires (unroll-uses t) (unroll-at t) unroll.Post
   second-requires c κs =
-      let at-first = c in
-      let start = before-first at-first in
+      let start = unroll-before-first c in
       read-unroll (start .pre .1 .ready .entries) (start .pre .1 .here)
 
   pub unfolded-requires : lts.Need-unfolded-requires (unroll-uses t) (unroll-at t) unroll.Post
   unfolded-requires c κs =
-      let at-second = c in
-      let (at-first, start) = before-second at-second in (
+      let (at-first, start) = unroll-before-second c in (
         start .pre .1 .ready .scoped .sources .entries,
         unroll-type (start .pre .1 .ready) (start .pre .1 .here) (at-first .first .ensures)
-            (at-second .second .ensures),
+            (c .second .ensures),
       )
 
   pub enum-known-body : lts.Need-enum-known-body (unroll-uses t) (unroll-at t) unroll.Post
@@ -139,7 +159,7 @@ module _ (t : ℕ) where
   pub within-limit-requires : lts.Need-within-limit-requires (unroll-uses t) (unroll-at t) unroll.Post
   within-limit-requires c κs =
       let at-body = c .before .before in
-      let (at-unfolded, at-second, at-first, start) = before-body at-body in (
+      let (at-unfolded, at-second, at-first, start) = unroll-before-body at-body in (
         start .pre .1 .ready .scoped .sources,
         (
           unroll-known (start .pre .1 .ready) (start .pre .1 .here) (at-first .first .ensures)
@@ -154,52 +174,41 @@ module _ (t : ℕ) where
   pub infer-requires : lts.Need-infer-requires (unroll-uses t) (unroll-at t) unroll.Post
   infer-requires c κs =
       let at-entry = c .before .before in
-      let (_, _, _, _, at-second, at-first, start) = before-entry at-entry in (
-        omega (
-          arith,
-          start .pre .0,
-          unroll-part (start .pre .1 .ready) (start .pre .1 .here) (at-first .first .ensures)
-              (at-second .second .ensures) .0,
-        ),
-        ready-for (start .pre .1 .signed) (unroll-ready (start .pre .1 .ready) (start .pre .1 .here)
-            (at-first .first .ensures) (at-second .second .ensures)) (unroll-part (start .pre .1 .ready) (start .pre .1 .here)
-            (at-first .first .ensures) (at-second .second .ensures) .1),
-      )
+      let (_, _, _, _, at-second, at-first, start) = unroll-before-entry at-entry in
+      let part = unroll-part (start .pre .1 .ready) (start .pre .1 .here) (at-first .first .ensures) (at-second .second .ensures) in
+      let ready = unroll-ready (start .pre .1 .ready) (start .pre .1 .here) (at-first .first .ensures) (at-second .second .ensures) in
+      (omega (arith, start .pre .0, part .0), ready-for (start .pre .1 .signed) ready (part .1))
 
   pub expect-requires : lts.Need-expect-requires (unroll-uses t) (unroll-at t) unroll.Post
   expect-requires c κs =
       let at-infer = c .before .before .before .before .before in
-      let (at-entry, _, _, _, _, at-second, at-first, start) = before-infer at-infer in (
-        told (at-infer .infer .ensures),
-        known-later ((unroll-ready (start .pre .1 .ready) (start .pre .1 .here) (at-first .first .ensures)
-            (at-second .second .ensures)) .scoped .sources) (at-infer .infer .ensures .kept)
-            (unroll-whole (start .pre .1 .ready) (start .pre .1 .here) (at-first .first .ensures) (at-second .second .ensures)
-            (at-entry .entry .ensures)),
-      )
+      let (at-entry, _, _, _, _, at-second, at-first, start) = unroll-before-infer at-infer in
+      let ready = unroll-ready (start .pre .1 .ready) (start .pre .1 .here) (at-first .first .ensures) (at-second .second .ensures) in
+      let whole = unroll-whole (start .pre .1 .ready) (start .pre .1 .here) (at-first .first .ensures) (at-second .second .ensures)
+      (at-entry .entry .ensures) in
+      (told (at-infer .infer .ensures), known-later (ready .scoped .sources) (at-infer .infer .ensures .kept) whole)
 
   pub same-length : lts.Need-same-length (unroll-uses t) (unroll-at t) unroll.Post
   same-length c =
-      let at-expect = c in
-      let (at-infer, _, _, _, _, _, _, _, _) = before-expect at-expect in
+      let (at-infer, _, _, _, _, _, _, _, _) = unroll-before-expect c in
       at-infer .infer .kept .1 .1 .1 .1 .1 .1 .0
 
   pub same-length-2 : lts.Need-same-length-2 (unroll-uses t) (unroll-at t) unroll.Post
   same-length-2 c =
-      let at-expect = c in
-      let (at-infer, _, _, _, _, _, _, _, _) = before-expect at-expect in
+      let (at-infer, _, _, _, _, _, _, _, _) = unroll-before-expect c in
       at-infer .infer .kept .1 .1 .1 .1 .1 .1 .1 .0
 
   pub returns : lts.Need-returns (unroll-uses t) (unroll-at t) unroll.Post
   returns c =
-      let at-expect = c in
-      let (at-infer, at-entry, at-Then1, at-within-limit, at-body, at-unfolded, at-second, at-first, start) = before-expect at-expect in
+      let (at-infer, at-entry, at-then1, at-within-limit, at-body, at-unfolded, at-second, at-first, start) = unroll-before-expect c in
+      let ready = unroll-ready (start .pre .1 .ready) (start .pre .1 .here) (at-first .first .ensures) (at-second .second .ensures) in
+      let known = unroll-known (start .pre .1 .ready) (start .pre .1 .here) (at-first .first .ensures) (at-second .second .ensures)
+      (at-unfolded .unfolded .ensures) (at-body .body .given .1) in
+      let whole = unroll-whole (start .pre .1 .ready) (start .pre .1 .here) (at-first .first .ensures) (at-second .second .ensures)
+      (at-entry .entry .ensures) in
       unroll-done (start .pre .1 .ready) (start .pre .1 .here) (at-first .first .ensures) (at-second .second .ensures)
-      (at-unfolded .unfolded .ensures) (at-body .body .given .1) (at-within-limit .within-limit .ensures) (at-Then1 .if1 .taken)
-      (at-entry .entry .ensures) (demand-done (at-infer .infer .ensures) ((unroll-ready (start .pre .1 .ready) (start .pre .1 .here)
-      (at-first .first .ensures) (at-second .second .ensures)) .scoped .sources)
-      (unroll-whole (start .pre .1 .ready) (start .pre .1 .here) (at-first .first .ensures) (at-second .second .ensures)
-      (at-entry .entry .ensures)) (unroll-known (start .pre .1 .ready) (start .pre .1 .here) (at-first .first .ensures)
-      (at-second .second .ensures) (at-unfolded .unfolded .ensures) (at-body .body .given .1)) (at-expect .expect .ensures))
+      (at-unfolded .unfolded .ensures) (at-body .body .given .1) (at-within-limit .within-limit .ensures) (at-then1 .if1 .taken)
+      (at-entry .entry .ensures) (demand-done (at-infer .infer .ensures) (ready .scoped .sources) whole known (c .expect .ensures))
 
   pub differ-requires : lts.Need-differ-requires (unroll-uses t) (unroll-at t) unroll.Post
   differ-requires c κs = search needs
@@ -215,15 +224,13 @@ module _ (t : ℕ) where
 
   pub returns-2 : lts.Need-returns-2 (unroll-uses t) (unroll-at t) unroll.Post
   returns-2 c =
-      let at-differ = c in
-      let (at-Else1, at-within-limit, at-body, at-unfolded, at-second, at-first, start) = before-differ at-differ in
+      let (at-else1, at-within-limit, at-body, at-unfolded, at-second, at-first, start) = unroll-before-differ c in
       unroll-large (start .pre .1 .ready) (start .pre .1 .here) (at-first .first .ensures) (at-second .second .ensures)
-      (at-unfolded .unfolded .ensures) (at-body .body .given .1) (at-within-limit .within-limit .ensures) (at-Else1 .if1 .left)
-      (at-differ .differ .ensures .0) (at-differ .differ .ensures .1)
+      (at-unfolded .unfolded .ensures) (at-body .body .given .1) (at-within-limit .within-limit .ensures) (at-else1 .if1 .left)
+      (c .differ .ensures .0) (c .differ .ensures .1)
 
   pub returns-3 : lts.Need-returns-3 (unroll-uses t) (unroll-at t) unroll.Post
   returns-3 c =
-      let at-differ2 = c in
-      let (at-enum-told, at-unfolded, at-second, at-first, start) = before-differ2 at-differ2 in
+      let (at-enum-told, at-unfolded, at-second, at-first, start) = unroll-before-differ2 c in
       unroll-no (start .pre .1 .ready) (start .pre .1 .here) (at-first .first .ensures) (at-second .second .ensures) (at-unfolded .unfolded .ensures)
-      (at-enum-told .enum-told .given .1) (at-differ2 .differ2 .ensures .0) (at-differ2 .differ2 .ensures .1)
+      (at-enum-told .enum-told .given .1) (c .differ2 .ensures .0) (c .differ2 .ensures .1)
