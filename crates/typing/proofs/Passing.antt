@@ -180,181 +180,215 @@ module _ {p types terms functions nodes heap vars : List ℕ} {sc : Scope} {top 
 abbrev pub barredScope : Scope → Uses → Scope
 barredScope sc u = record { q = sc .q; lo = sc .n; n = sc .n; owed = u }
 
+-- what call `t` has: function `g`, whose field is at `h`, `n` ancilla terms, and a function of `own` ancilla parameters
+pub record CallParts (p types terms functions nodes heap vars : List ℕ) (sc : Scope) (top t at g h n own : ℕ) : Type 0 where
+  pub ready : Ready (termsIn (termIn p types terms t)) p types terms functions nodes heap vars sc top
+  pub here : Here p terms t at 8
+  pub callee : g ≡ first p at
+  pub field : h ≡ getD functions g 0
+  pub ancillae : n ≡ callAncillae (lengthAt p at)
+  pub parameters : own ≡ parametersAt p h - 1
+
 module _ {p types terms functions nodes heap vars : List ℕ} {sc : Scope} {top t at : ℕ}
-    (rd : Ready (termsIn (termIn p types terms t)) p types terms functions nodes heap vars sc top)
-    (H : Here p terms t at 8) where
+    (rd : Ready (termsIn (termIn p types terms t)) p types terms functions nodes heap vars sc top) (H : Here p terms t at 8) where
   pub call-function : {g : ℕ} → g ≡ first p at → g < length functions
   call-function q = rw q (called-there (rd .entries) H)
 
-  module _ {g h n own : ℕ} (qg : g ≡ first p at) (qh : h ≡ getD functions g 0) (qn : n ≡ callAncillae (lengthAt p at)) (qo : own ≡ parametersAt p h - 1) where
-    abbrev goal : Checked Ty
-    goal = typeIn p types terms functions heap vars sc t
+  pub call-parts : {g h n own : ℕ} → g ≡ first p at → h ≡ getD functions g 0 → n ≡ callAncillae (lengthAt p at) → own ≡ parametersAt p h - 1
+      → CallParts p types terms functions nodes heap vars sc top t at g h n own
+  call-parts qg qh qn qo = record { ready = rd; here = H; callee = qg; field = qh; ancillae = qn; parameters = qo }
 
-    abbrev Γ : Context
-    Γ = contextIn p types heap vars sc
+module _ {p types terms functions nodes heap vars : List ℕ} {sc : Scope} {top t at g h n own : ℕ}
+    (C : CallParts p types terms functions nodes heap vars sc top t at g h n own) where
+  abbrev rd : Ready (termsIn (termIn p types terms t)) p types terms functions nodes heap vars sc top
+  rd = C .ready
 
-    abbrev T : Term
-    T = termIn p types terms t
+  abbrev H : Here p terms t at 8
+  H = C .here
 
-    abbrev ys : ℕ → Ty
-    ys = typeOf (map (typeAt p) types)
+  abbrev qg : g ≡ first p at
+  qg = C .callee
 
-    call-entry : h ≡ getD functions (first p at) 0
-    call-entry = qh ∙ ap (λ g. getD functions g 0) qg
+  abbrev qh : h ≡ getD functions g 0
+  qh = C .field
 
-    module _ {e : ℕ} (qe : e ≡ listed p at n) where
-      abbrev E : Term
-      E = termIn p types terms e
+  abbrev qn : n ≡ callAncillae (lengthAt p at)
+  qn = C .ancillae
 
-      call-tree : T ≡ tcall t (first p at) (termsFrom p types terms at 0 n) E
-      call-tree = tree-call (rd .entries) H
-          ∙ ap₂ (tcall t (first p at)) (ap (termTrees (termIn p types terms)) (ap (references p (at + 6)) (sym qn) ∙ sym (references-all p at n)))
-          (ap (termIn p types terms) (ap (listed p at) (sym qn) ∙ sym qe))
+  abbrev qo : own ≡ parametersAt p h - 1
+  qo = C .parameters
 
-      size-call : suc (termsInAll (termsFrom p types terms at 0 n) + termsIn E) ≡ termsIn T
-      unfolding termsIn
-      size-call = sym (ap termsIn call-tree)
+  there : g < length functions
+  there = call-function rd H qg
 
-      -- the rule, over the function's types
-      shape : List Ty → Ty → Ty → Checked Ty
-      shape cs c τ = need (eqb (count (termsFrom p types terms at 0 n)) (length cs)) 6 (term t)
-          >> (inferArguments maxVariables maxNodes (programIn p types terms functions) t (bar Γ) (termsFrom p types terms at 0 n) cs
-          >> demanded (typeIn p types terms functions heap vars sc e) c τ t)
+  abbrev goal : Checked Ty
+  goal = typeIn p types terms functions heap vars sc t
 
-      abbrev F : Fun
-      F = called (rd .entries) (called-there (rd .entries) H) call-entry
+  abbrev Γ : Context
+  Γ = contextIn p types heap vars sc
 
-      ancillae-are : F .ancillae ≡ typesFrom p types h 0 own
-      unfolding functionOf
-      ancillae-are = ap (map ys) (function-ancillae p h ∙ ap (references p (h + 6)) (sym qo) ∙ sym (references-all p h own))
+  abbrev T : Term
+  T = termIn p types terms t
 
-      dynamic-is : F .dynamic ≡ ys (listed p h own)
-      unfolding functionOf
-      dynamic-is = ap ys (function-dynamic p h (some-parameters (rd .entries) (called-there (rd .entries) H) call-entry .0) ∙ ap (listed p h) (sym qo))
+  abbrev ys : ℕ → Ty
+  ys = typeOf (map (typeAt p) types)
 
-      result-is : F .result ≡ ys (result p h)
-      unfolding functionOf
-      result-is = ap ys (function-result p h)
+  call-entry : h ≡ getD functions (first p at) 0
+  call-entry = qh ∙ ap (λ g. getD functions g 0) qg
 
-      rule-shape : goal ≡ shape (typesFrom p types h 0 own) (ys (listed p h own)) (ys (result p h))
-      unfolding infer asFun shape
-      rule-shape =
-          ap (typingOf p types terms functions Γ) call-tree
-          ∙ ap (λ o. asFun (term t) o (λ f. shape (f .ancillae) (f .dynamic) (f .result))) (called-in (rd .entries) (called-there (rd .entries) H) call-entry)
-          ∙ ap (λ cs. shape cs (F .dynamic) (F .result)) ancillae-are ∙ ap₂ (shape (typesFrom p types h 0 own)) dynamic-is result-is
+  module _ {e : ℕ} (qe : e ≡ listed p at n) where
+    abbrev E : Term
+    E = termIn p types terms e
 
-      counted : count (termsFrom p types terms at 0 n) ≡ n
-      counted = count-trees (termIn p types terms) p (at + 6 + 2 * 0) (n - 0) ∙ (let z : n - 0 ≡ n = omega arith in z)
+    call-tree : T ≡ tcall t (first p at) (termsFrom p types terms at 0 n) E
+    call-tree = tree-call (rd .entries) H
+        ∙ ap₂ (tcall t (first p at)) (ap (termTrees (termIn p types terms)) (ap (references p (at + 6)) (sym qn) ∙ sym (references-all p at n)))
+        (ap (termIn p types terms) (ap (listed p at) (sym qn) ∙ sym qe))
 
-      as-many : length (typesFrom p types h 0 own) ≡ own
-      as-many = length-map (references p (h + 6 + 2 * 0) (own - 0)) ys ∙ length-references p (h + 6 + 2 * 0) (own - 0)
-          ∙ (let z : own - 0 ≡ own = omega arith in z)
+    size-call : suc (termsInAll (termsFrom p types terms at 0 n) + termsIn E) ≡ termsIn T
+    unfolding termsIn
+    size-call = sym (ap termsIn call-tree)
 
-      rule-call : goal ≡ (need (eqb n own) 6 (term t) >> (inferArguments maxVariables maxNodes (programIn p types terms functions) t (bar Γ)
-          (termsFrom p types terms at 0 n) (typesFrom p types h 0 own)
-          >> demanded (typeIn p types terms functions heap vars sc e) (ys (listed p h own)) (ys (result p h)) t))
-      unfolding shape
-      rule-call = rule-shape ∙ ap₂ (λ i j. need (eqb i j) 6 (term t)
-          >> (inferArguments maxVariables maxNodes (programIn p types terms functions) t (bar Γ) (termsFrom p types terms at 0 n) (typesFrom p types h 0 own)
-          >> demanded (typeIn p types terms functions heap vars sc e) (ys (listed p h own)) (ys (result p h)) t)) counted as-many
+    -- the rule, over the function's types
+    shape : List Ty → Ty → Ty → Checked Ty
+    shape cs c τ = need (eqb (count (termsFrom p types terms at 0 n)) (length cs)) 6 (term t)
+        >> (inferArguments maxVariables maxNodes (programIn p types terms functions) t (bar Γ) (termsFrom p types terms at 0 n) cs
+        >> demanded (typeIn p types terms functions heap vars sc e) c τ t)
 
-    pub call-differ : {r : Out} → ¬ (n ≡ own) → r .status ≡ Refused (Differ t) → r .top ≡ top
-        → Inferred (termsIn T) T p types heap heap (sc .n) vars vars top r goal
-    unfolding faultOf
-    call-differ x s z = stopped _ (sc .n) vars (rd .scoped .sources) s z (rule-call refl ∙ need-no _ _ _ _ (ne-eqb n own x))
+    abbrev F : Fun
+    F = called (rd .entries) (called-there (rd .entries) H) call-entry
 
-    module _ (same : n ≡ own) where
-      pub call-calls : Calls p terms functions t at g 0 n
-      call-calls = record {
-        here = H;
-        ancillae = qn;
-        next = omega arith;
-        callee = qg;
-        called = call-function qg;
-        parameters = omega (arith, some-parameters (rd .entries) (call-function qg) qh .0, ap (parametersAt p) qh);
+    ancillae-are : F .ancillae ≡ typesFrom p types h 0 own
+    unfolding functionOf
+    ancillae-are = ap (map ys) (function-ancillae p h ∙ ap (references p (h + 6)) (sym qo) ∙ sym (references-all p h own))
+
+    dynamic-is : F .dynamic ≡ ys (listed p h own)
+    unfolding functionOf
+    dynamic-is = ap ys (function-dynamic p h (some-parameters (rd .entries) (called-there (rd .entries) H) call-entry .0) ∙ ap (listed p h) (sym qo))
+
+    result-is : F .result ≡ ys (result p h)
+    unfolding functionOf
+    result-is = ap ys (function-result p h)
+
+    rule-shape : goal ≡ shape (typesFrom p types h 0 own) (ys (listed p h own)) (ys (result p h))
+    unfolding infer asFun shape
+    rule-shape =
+        ap (typingOf p types terms functions Γ) call-tree
+        ∙ ap (λ o. asFun (term t) o (λ f. shape (f .ancillae) (f .dynamic) (f .result))) (called-in (rd .entries) (called-there (rd .entries) H) call-entry)
+        ∙ ap (λ cs. shape cs (F .dynamic) (F .result)) ancillae-are ∙ ap₂ (shape (typesFrom p types h 0 own)) dynamic-is result-is
+
+    counted : count (termsFrom p types terms at 0 n) ≡ n
+    counted = count-trees (termIn p types terms) p (at + 6 + 2 * 0) (n - 0) ∙ (let z : n - 0 ≡ n = omega arith in z)
+
+    as-many : length (typesFrom p types h 0 own) ≡ own
+    as-many = length-map (references p (h + 6 + 2 * 0) (own - 0)) ys ∙ length-references p (h + 6 + 2 * 0) (own - 0)
+        ∙ (let z : own - 0 ≡ own = omega arith in z)
+
+    rule-call : goal ≡ (need (eqb n own) 6 (term t) >> (inferArguments maxVariables maxNodes (programIn p types terms functions) t (bar Γ)
+        (termsFrom p types terms at 0 n) (typesFrom p types h 0 own)
+        >> demanded (typeIn p types terms functions heap vars sc e) (ys (listed p h own)) (ys (result p h)) t))
+    unfolding shape
+    rule-call = rule-shape ∙ ap₂ (λ i j. need (eqb i j) 6 (term t)
+        >> (inferArguments maxVariables maxNodes (programIn p types terms functions) t (bar Γ) (termsFrom p types terms at 0 n) (typesFrom p types h 0 own)
+        >> demanded (typeIn p types terms functions heap vars sc e) (ys (listed p h own)) (ys (result p h)) t)) counted as-many
+
+  pub call-differ : {r : Out} → ¬ (n ≡ own) → r .status ≡ Refused (Differ t) → r .top ≡ top
+      → Inferred (termsIn T) T p types heap heap (sc .n) vars vars top r goal
+  unfolding faultOf
+  call-differ x s z = stopped _ (sc .n) vars (rd .scoped .sources) s z (rule-call refl ∙ need-no _ _ _ _ (ne-eqb n own x))
+
+  module _ (same : n ≡ own) where
+    pub call-calls : Calls p terms functions t at g 0 n
+    call-calls = record {
+      here = H;
+      ancillae = qn;
+      next = omega arith;
+      callee = qg;
+      called = there;
+      parameters = omega (arith, some-parameters (rd .entries) (there) qh .0, ap (parametersAt p) qh);
+    }
+
+    pub call-few : n ≤ 7
+    call-few = omega (arith, some-parameters (rd .entries) (called-there (rd .entries) H) call-entry .1)
+
+    -- the places of the dynamic argument, and of the result's type
+    pub call-read : (at + 8 + 2 * n ≤ length p) × (h + 5 ≤ length p)
+    call-read = (
+      omega (arith, read-call (rd .entries) H .0, qn),
+      omega (arith, read-function (rd .entries) (there) qh),
+    )
+
+    -- the dynamic parameter's place in the table of signatures, and what stands there
+    pub call-row : (g < 64) × (n < 8)
+    call-row = (row-there (rd .entries) (there) qh, omega (arith, call-few))
+
+    pub call-parameter : {table : List (List ℕ)} → SignaturesAre p functions table → getD (getD table g []) n 0 ≡ listed p h n
+    call-parameter S =
+        row-parameter (rd .entries) (there) qh S n (omega (arith, qo, same, some-parameters (rd .entries) (there) qh .0))
+
+    module _ {u : Uses} (nobody-owed : Holds u nobody) where
+      barred-context : contextIn p types heap vars (barredScope sc u) ≡ bar Γ
+      barred-context = sym (context-bar (λ i. treeIn p types heap (variableAt vars i)) (sc .q) (sc .lo) (sc .n) (rd .scoped .low))
+
+      pub call-barred : Ready (termsInAll (termsFrom p types terms at 0 n)) p types terms functions nodes heap vars (barredScope sc u) top
+      call-barred = record {
+        entries = rd .entries;
+        scoped = record {
+          sources = rd .scoped .sources;
+          slots = rd .scoped .slots;
+          static = rd .scoped .static;
+          low = omega arith;
+          few = rd .scoped .few;
+          known = rd .scoped .known;
+          owed = record { each = λ i l. nobody-owed .each i l ∙ sym (must-use-barred (λ i. treeIn p types heap (variableAt vars i)) (sc .q) (sc .n) i) };
+        };
+        room = rd .room;
+        small = omega (arith, rd .small, size-call refl);
       }
 
-      pub call-few : n ≤ 7
-      call-few = omega (arith, some-parameters (rd .entries) (called-there (rd .entries) H) call-entry .1)
+      module _ {heap₁ vars₁ : List ℕ} {o : Out}
+          (A : Argued p types terms functions heap heap₁ vars vars₁ (barredScope sc u) top t at (getD functions g 0) 0 n o) where
+        G : Argued p types terms functions heap heap₁ vars vars₁ (barredScope sc u) top t at h 0 n o
+        G = subst (λ h. Argued p types terms functions heap heap₁ vars vars₁ (barredScope sc u) top t at h 0 n o) (sym qh) A
 
-      -- the places of the dynamic argument, and of the result's type
-      pub call-read : (at + 8 + 2 * n ≤ length p) × (h + 5 ≤ length p)
-      call-read = (
-        omega (arith, read-call (rd .entries) H .0, qn),
-        omega (arith, read-function (rd .entries) (call-function qg) qh),
-      )
+        argued : inferArguments maxVariables maxNodes (programIn p types terms functions) t (bar Γ) (termsFrom p types terms at 0 n)
+            (typesFrom p types h 0 own) ≡ doneOf (o .status)
+        argued = sym (G .answer
+            ∙ ap₂ (λ Δ m. inferArguments maxVariables maxNodes (programIn p types terms functions) t Δ (termsFrom p types terms at 0 n)
+            (typesFrom p types h 0 m)) barred-context same)
 
-      -- the dynamic parameter's place in the table of signatures, and what stands there
-      pub call-row : (g < 64) × (n < 8)
-      call-row = (row-there (rd .entries) (call-function qg) qh, omega (arith, call-few))
+        pub call-refused : {w : Fault} → o .status ≡ Refused w → Inferred (termsIn T) T p types heap heap₁ (sc .n) vars vars₁ top o goal
+        unfolding doneOf
+        call-refused {w} x = inferred (kept-more _ (G .kept) (omega (arith, size-call refl)))
+            (ends-refused x (rule-call refl ∙ need-yes _ _ _ _ (eq-eqb n own same) ∙ fault-and w _ (argued ∙ ap doneOf x)))
 
-      pub call-parameter : {table : List (List ℕ)} → SignaturesAre p functions table → getD (getD table g []) n 0 ≡ listed p h n
-      call-parameter S =
-          row-parameter (rd .entries) (call-function qg) qh S n (omega (arith, qo, same, some-parameters (rd .entries) (call-function qg) qh .0))
+        module _ {f : Found} (x : o .status ≡ Typed f) {e : ℕ} (qe : e ≡ listed p at n) where
+          pub call-ready : Ready (termsIn (termIn p types terms e)) p types terms functions nodes heap₁ vars₁ sc (o .top)
+          call-ready = ready-later rd (G .kept) _ (omega (arith, size-call qe))
 
-      module _ {u : Uses} (nobody-owed : Holds u nobody) where
-        barred-context : contextIn p types heap vars (barredScope sc u) ≡ bar Γ
-        barred-context = sym (context-bar (λ i. treeIn p types heap (variableAt vars i)) (sc .q) (sc .lo) (sc .n) (rd .scoped .low))
+          pub call-part : (e < t) × (e < length terms)
+          call-part = rw (qe ∙ ap (listed p at) qn) (part-dynamic (rd .entries) H)
 
-        pub call-barred : Ready (termsInAll (termsFrom p types terms at 0 n)) p types terms functions nodes heap vars (barredScope sc u) top
-        call-barred = record {
-          entries = rd .entries;
-          scoped = record {
-            sources = rd .scoped .sources;
-            slots = rd .scoped .slots;
-            static = rd .scoped .static;
-            low = omega arith;
-            few = rd .scoped .few;
-            known = rd .scoped .known;
-            owed = record { each = λ i l. nobody-owed .each i l ∙ sym (must-use-barred (λ i. treeIn p types heap (variableAt vars i)) (sc .q) (sc .n) i) };
-          };
-          room = rd .room;
-          small = omega (arith, rd .small, size-call refl);
-        }
+          module _ {i j : ℕ} (qi : i ≡ listed p h n) (qj : j ≡ result p h) {want answer : Code} (w : want ≡ entryCode i) (w′ : answer ≡ entryCode j) where
+            pub call-want : Known (length types) (o .top) want × Known (length types) (o .top) answer
+            call-want = (
+              subst (Known (length types) (o .top)) (sym w)
+                  (entry-known i (rw (qi ∙ ap (listed p h) (same ∙ qo)) (dynamic-there (rd .entries) (called-there (rd .entries) H) call-entry))),
+              subst (Known (length types) (o .top)) (sym w′) (entry-known j (rw qj (result-there (rd .entries) (called-there (rd .entries) H) call-entry))),
+            )
 
-        module _ {heap₁ vars₁ : List ℕ} {o : Out}
-            (A : Argued p types terms functions heap heap₁ vars vars₁ (barredScope sc u) top t at (getD functions g 0) 0 n o) where
-          G : Argued p types terms functions heap heap₁ vars vars₁ (barredScope sc u) top t at h 0 n o
-          G = subst (λ h. Argued p types terms functions heap heap₁ vars vars₁ (barredScope sc u) top t at h 0 n o) (sym qh) A
+            entry-tree : {c : Code} {i m : ℕ} → c ≡ entryCode i → i ≡ m → treeIn p types heap₁ c ≡ ys m
+            entry-tree {i = i} z y = ap (treeIn p types heap₁) z ∙ tree-entry (map (typeAt p) types) heap₁ (entryCode i) refl ∙ ap ys y
 
-          argued : inferArguments maxVariables maxNodes (programIn p types terms functions) t (bar Γ) (termsFrom p types terms at 0 n)
-              (typesFrom p types h 0 own) ≡ doneOf (o .status)
-          argued = sym (G .answer
-              ∙ ap₂ (λ Δ m. inferArguments maxVariables maxNodes (programIn p types terms functions) t Δ (termsFrom p types terms at 0 n)
-              (typesFrom p types h 0 m)) barred-context same)
-
-          pub call-refused : {w : Fault} → o .status ≡ Refused w → Inferred (termsIn T) T p types heap heap₁ (sc .n) vars vars₁ top o goal
-          unfolding doneOf
-          call-refused {w} x = inferred (kept-more _ (G .kept) (omega (arith, size-call refl)))
-              (ends-refused x (rule-call refl ∙ need-yes _ _ _ _ (eq-eqb n own same) ∙ fault-and w _ (argued ∙ ap doneOf x)))
-
-          module _ {f : Found} (x : o .status ≡ Typed f) {e : ℕ} (qe : e ≡ listed p at n) where
-            pub call-ready : Ready (termsIn (termIn p types terms e)) p types terms functions nodes heap₁ vars₁ sc (o .top)
-            call-ready = ready-later rd (G .kept) _ (omega (arith, size-call qe))
-
-            pub call-part : (e < t) × (e < length terms)
-            call-part = rw (qe ∙ ap (listed p at) qn) (part-dynamic (rd .entries) H)
-
-            module _ {i j : ℕ} (qi : i ≡ listed p h n) (qj : j ≡ result p h) {want answer : Code} (w : want ≡ entryCode i) (w′ : answer ≡ entryCode j) where
-              pub call-want : Known (length types) (o .top) want × Known (length types) (o .top) answer
-              call-want = (
-                subst (Known (length types) (o .top)) (sym w)
-                    (entry-known i (rw (qi ∙ ap (listed p h) (same ∙ qo)) (dynamic-there (rd .entries) (called-there (rd .entries) H) call-entry))),
-                subst (Known (length types) (o .top)) (sym w′) (entry-known j (rw qj (result-there (rd .entries) (called-there (rd .entries) H) call-entry))),
-              )
-
-              entry-tree : {c : Code} {i m : ℕ} → c ≡ entryCode i → i ≡ m → treeIn p types heap₁ c ≡ ys m
-              entry-tree {i = i} z y = ap (treeIn p types heap₁) z ∙ tree-entry (map (typeAt p) types) heap₁ (entryCode i) refl ∙ ap ys y
-
-              pub call-done : {heap₂ vars₂ : List ℕ} {out : Out}
-                  → Inferred (termsIn (termIn p types terms e)) (termIn p types terms e) p types heap₁ heap₂ (sc .n) vars₁ vars₂ (o .top) out
-                  (demanded (typeIn p types terms functions heap₁ vars₁ sc e) (treeIn p types heap₁ want) (treeIn p types heap₁ answer) t)
-                  → Inferred (termsIn T) T p types heap heap₂ (sc .n) vars vars₂ top out goal
-              unfolding doneOf
-              call-done d = earlier (around (says d
-                  (ap₂ (λ Δ (cs : Ty × Ty). demanded (typingOf p types terms functions Δ (termIn p types terms e)) (cs .0) (cs .1) t)
-                  (context-later rd (G .kept))
-                  (ap₂ (λ c τ. (c, τ)) (entry-tree w (qi ∙ ap (listed p h) same)) (entry-tree w′ qj))))
-                  (termsIn (termIn p types terms e)) {T = T} (λ i. ap (names i) (call-tree qe)) (omega arith)
-                  (rule-call qe ∙ need-yes _ _ _ _ (eq-eqb n own same) ∙ good-and _ (argued ∙ ap doneOf x))) _ (G .kept) (omega arith)
-                  (omega (arith, size-call qe))
+            pub call-done : {heap₂ vars₂ : List ℕ} {out : Out}
+                → Inferred (termsIn (termIn p types terms e)) (termIn p types terms e) p types heap₁ heap₂ (sc .n) vars₁ vars₂ (o .top) out
+                (demanded (typeIn p types terms functions heap₁ vars₁ sc e) (treeIn p types heap₁ want) (treeIn p types heap₁ answer) t)
+                → Inferred (termsIn T) T p types heap heap₂ (sc .n) vars vars₂ top out goal
+            unfolding doneOf
+            call-done d = earlier (around (says d
+                (ap₂ (λ Δ (cs : Ty × Ty). demanded (typingOf p types terms functions Δ (termIn p types terms e)) (cs .0) (cs .1) t)
+                (context-later rd (G .kept))
+                (ap₂ (λ c τ. (c, τ)) (entry-tree w (qi ∙ ap (listed p h) same)) (entry-tree w′ qj))))
+                (termsIn (termIn p types terms e)) {T = T} (λ i. ap (names i) (call-tree qe)) (omega arith)
+                (rule-call qe ∙ need-yes _ _ _ _ (eq-eqb n own same) ∙ good-and _ (argued ∙ ap doneOf x))) _ (G .kept) (omega arith)
+                (omega (arith, size-call qe))

@@ -2,25 +2,11 @@
 -- places before it, the nearest first, so that code put in between two places moves one line.
 use Rattle.typing.proofs as own
 use Prim.Native.Nat.{ℕ}
-use Prim.Native.Nat.{_-_}
 use native.Mathlib.Omega.{arith}
 use mathlib.Core.Path.{_∙_}
 use borrow.Author.Needs.{needs}
-use own.Passing.{
-  args-end,
-  args-left,
-  args-read,
-  args-ready,
-  args-part,
-  args-refused,
-  args-later,
-  args-next,
-  args-want,
-  args-differ,
-  args-done,
-  args-row,
-  args-parameter,
-}
+use own.Passing.{args-end, args-left, args-read, args-ready, args-part, args-refused, args-later, args-next, args-want, args-differ, args-done, args-row}
+use own.Passing.{args-parameter}
 use own.Asking.{ready-for, ready-arguments}
 use own.calling.arguments.Reads as arguments
 use own.+binds-arms+binds-choose+binds-let_one+binds-let_two+calling-arguments+calling-call+infer-infer+infer-inject+infer-pair+infer-roll+infer-unroll as cycle
@@ -34,11 +20,11 @@ module _ (t : ℕ) where
   abbrev Start : Type 0
   Start = lts.Start (arguments-uses t) (arguments-at t) arguments.Post
 
-  abbrev Then1 : Type 0
-  Then1 = lts.Then1 (arguments-uses t) (arguments-at t) arguments.Post
-
   abbrev Else1 : Type 0
   Else1 = lts.Else1 (arguments-uses t) (arguments-at t) arguments.Post
+
+  abbrev Then1 : Type 0
+  Then1 = lts.Then1 (arguments-uses t) (arguments-at t) arguments.Post
 
   abbrev Unit : Type 0
   Unit = lts.After-unit (arguments-uses t) (arguments-at t) arguments.Post
@@ -49,11 +35,11 @@ module _ (t : ℕ) where
   abbrev Infer : Type 0
   Infer = lts.After-infer (arguments-uses t) (arguments-at t) arguments.Post
 
-  abbrev EnumTold : Type 0
-  EnumTold = lts.After-enum-told (arguments-uses t) (arguments-at t) arguments.Post
-
   abbrev Status : Type 0
   Status = lts.After-status (arguments-uses t) (arguments-at t) arguments.Post
+
+  abbrev EnumTold : Type 0
+  EnumTold = lts.After-enum-told (arguments-uses t) (arguments-at t) arguments.Post
 
   abbrev Entry : Type 0
   Entry = lts.After-entry (arguments-uses t) (arguments-at t) arguments.Post
@@ -73,11 +59,11 @@ module _ (t : ℕ) where
   abbrev Arguments : Type 0
   Arguments = lts.After-arguments (arguments-uses t) (arguments-at t) arguments.Post
 
-  abbrev arguments-before-then1 : Then1 → Start
-  arguments-before-then1 c = c .before .before .before .before .before .before .before .before
-
   abbrev arguments-before-else1 : Else1 → Start
   arguments-before-else1 c = c .before .before .before .before .before .before .before .before
+
+  abbrev arguments-before-then1 : Then1 → Start
+  arguments-before-then1 c = c .before .before .before .before .before .before .before .before
 
   abbrev arguments-before-unit : Unit → Then1 × Start
   arguments-before-unit c = let at-then1 = c .before in (at-then1, arguments-before-then1 at-then1)
@@ -91,14 +77,14 @@ module _ (t : ℕ) where
       let (at-else1, start) = arguments-before-listed at-listed in
       (at-listed, at-else1, start)
 
-  abbrev arguments-before-enum-told : EnumTold → Infer × Listed × Else1 × Start
-  arguments-before-enum-told c =
+  abbrev arguments-before-status : Status → Infer × Listed × Else1 × Start
+  arguments-before-status c =
       let at-infer = c .before .before .before .before .before .before in
       let (at-listed, at-else1, start) = arguments-before-infer at-infer in
       (at-infer, at-listed, at-else1, start)
 
-  abbrev arguments-before-status : Status → Infer × Listed × Else1 × Start
-  arguments-before-status c =
+  abbrev arguments-before-enum-told : EnumTold → Infer × Listed × Else1 × Start
+  arguments-before-enum-told c =
       let at-infer = c .before .before .before .before .before .before in
       let (at-listed, at-else1, start) = arguments-before-infer at-infer in
       (at-infer, at-listed, at-else1, start)

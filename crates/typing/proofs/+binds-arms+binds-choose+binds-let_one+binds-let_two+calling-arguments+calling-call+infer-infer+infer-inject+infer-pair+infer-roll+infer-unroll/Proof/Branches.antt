@@ -2,25 +2,12 @@
 -- places before it, the nearest first, so that code put in between two places moves one line.
 use Rattle.typing.proofs as own
 use Prim.Native.Nat.{ℕ}
-use Prim.Native.Nat.{_-_}
 use native.Mathlib.Omega.{arith}
 use mathlib.Core.Path.{_∙_}
 use borrow.Author.Needs.{needs}
-use own.Trees.{here, read-case}
 use own.Answers.{told, ready-opened}
-use own.Branching.{
-  left-part,
-  right-part,
-  left-ready,
-  left-refused,
-  left-known,
-  right-later,
-  right-known,
-  left-unused,
-  meet-left,
-  meet-bound,
-  branches-done,
-}
+use own.Trees.{read-case}
+use own.Branching.{left-part, right-part, left-ready, left-refused, left-known, right-later, right-known, left-unused, meet-left, meet-bound, branches-done}
 use own.Asking.{ready-for}
 use own.binds.arms.Reads as arms
 use own.+binds-arms+binds-choose+binds-let_one+binds-let_two+calling-arguments+calling-call+infer-infer+infer-inject+infer-pair+infer-roll+infer-unroll as cycle
@@ -46,11 +33,11 @@ module _ (t : ℕ) where
   abbrev Infer : Type 0
   Infer = lts.After-infer (arms-uses t) (arms-at t) arms.Post
 
-  abbrev EnumTold : Type 0
-  EnumTold = lts.After-enum-told (arms-uses t) (arms-at t) arms.Post
-
   abbrev Status : Type 0
   Status = lts.After-status (arms-uses t) (arms-at t) arms.Post
+
+  abbrev EnumTold : Type 0
+  EnumTold = lts.After-enum-told (arms-uses t) (arms-at t) arms.Post
 
   abbrev Spent : Type 0
   Spent = lts.After-spent (arms-uses t) (arms-at t) arms.Post
@@ -91,14 +78,14 @@ module _ (t : ℕ) where
       let (at-third, at-second, start) = arms-before-bind at-bind in
       (at-bind, at-third, at-second, start)
 
-  abbrev arms-before-enum-told : EnumTold → Infer × Bind × Third × Second × Start
-  arms-before-enum-told c =
+  abbrev arms-before-status : Status → Infer × Bind × Third × Second × Start
+  arms-before-status c =
       let at-infer = c .before .before .before .before .before .before in
       let (at-bind, at-third, at-second, start) = arms-before-infer at-infer in
       (at-infer, at-bind, at-third, at-second, start)
 
-  abbrev arms-before-status : Status → Infer × Bind × Third × Second × Start
-  arms-before-status c =
+  abbrev arms-before-enum-told : EnumTold → Infer × Bind × Third × Second × Start
+  arms-before-enum-told c =
       let at-infer = c .before .before .before .before .before .before in
       let (at-bind, at-third, at-second, start) = arms-before-infer at-infer in
       (at-infer, at-bind, at-third, at-second, start)

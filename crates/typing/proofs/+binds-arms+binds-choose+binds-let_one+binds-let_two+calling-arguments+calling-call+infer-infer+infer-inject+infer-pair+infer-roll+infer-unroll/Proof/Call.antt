@@ -1,30 +1,16 @@
 -- Answers of the cycle of typing: call. A place is what is known once a call or a test is behind; `-before-` has the
 -- places before it, the nearest first, so that code put in between two places moves one line.
 use Rattle.typing.proofs as own
-use Prim.Native.Nat.{ℕ}
-use Prim.Native.Nat.{_-_}
+use Prim.Native.Nat.{ℕ, _-_}
 use native.Mathlib.Omega.{arith}
 use mathlib.Core.Path.{_∙_, ap}
 use borrow.Author.Needs.{needs}
-use own.Trees.{here, read-call}
 use own.Answers.{known-later, told}
 use own.Steps.{demand-done}
+use own.Trees.{read-call}
 use own.Called.{read-function, some-parameters}
-use own.Passing.{
-  call-function,
-  call-differ,
-  call-calls,
-  call-few,
-  call-read,
-  call-barred,
-  call-refused,
-  call-ready,
-  call-part,
-  call-want,
-  call-done,
-  call-row,
-  call-parameter,
-}
+use own.Passing.{call-function, call-differ, call-calls, call-few, call-read, call-barred, call-refused, call-ready, call-part, call-want, call-done}
+use own.Passing.{call-row, call-parameter, call-parts}
 use own.Asking.{ready-for, ready-arguments}
 use own.calling.call.Reads as call
 use own.+binds-arms+binds-choose+binds-let_one+binds-let_two+calling-arguments+calling-call+infer-infer+infer-inject+infer-pair+infer-roll+infer-unroll as cycle
@@ -59,20 +45,20 @@ module _ (t : ℕ) where
   abbrev Same : Type 0
   Same = lts.Else1 (call-uses t) (call-at t) call.Post
 
-  abbrev None : Type 0
-  None = lts.After-none (call-uses t) (call-at t) call.Post
-
   abbrev Differ : Type 0
   Differ = lts.After-differ (call-uses t) (call-at t) call.Post
+
+  abbrev None : Type 0
+  None = lts.After-none (call-uses t) (call-at t) call.Post
 
   abbrev Arguments : Type 0
   Arguments = lts.After-arguments (call-uses t) (call-at t) call.Post
 
-  abbrev Argued : Type 0
-  Argued = lts.After-enum-told (call-uses t) (call-at t) call.Post
-
   abbrev Refused : Type 0
   Refused = lts.After-enum-told2 (call-uses t) (call-at t) call.Post
+
+  abbrev Argued : Type 0
+  Argued = lts.After-enum-told (call-uses t) (call-at t) call.Post
 
   abbrev Listed : Type 0
   Listed = lts.After-listed (call-uses t) (call-at t) call.Post
@@ -128,23 +114,23 @@ module _ (t : ℕ) where
       let (at-ancillae, at-offset, at-index, at-first, start) = call-before-parameters at-parameters in
       (at-parameters, at-ancillae, at-offset, at-index, at-first, start)
 
-  abbrev call-before-none : None → Same
-  call-before-none c = c .before
-
   abbrev call-before-differ : Differ → Other
   call-before-differ c = c .before
+
+  abbrev call-before-none : None → Same
+  call-before-none c = c .before
 
   abbrev call-before-arguments : Arguments → None × Same
   call-before-arguments c = let at-none = c .before .before .before in (at-none, call-before-none at-none)
 
-  abbrev call-before-argued : Argued → Arguments × None × Same
-  call-before-argued c =
+  abbrev call-before-refused : Refused → Arguments × None × Same
+  call-before-refused c =
       let at-arguments = c .before .before .before .before .before .before in
       let (at-none, at-same) = call-before-arguments at-arguments in
       (at-arguments, at-none, at-same)
 
-  abbrev call-before-refused : Refused → Arguments × None × Same
-  call-before-refused c =
+  abbrev call-before-argued : Argued → Arguments × None × Same
+  call-before-argued c =
       let at-arguments = c .before .before .before .before .before .before in
       let (at-none, at-same) = call-before-arguments at-arguments in
       (at-arguments, at-none, at-same)
@@ -220,19 +206,21 @@ module _ (t : ℕ) where
   function-parameters-requires c κs =
       let (at-offset, at-index, at-first, start) = call-before-ancillae c in
       let callee = at-index .wide-index .ensures .0 ∙ at-first .first .ensures in
-      let field = at-offset .wide-index2 .ensures .0 in
-      omega (arith, read-function (start .pre .1 .ready .entries) (call-function (start .pre .1 .ready) (start .pre .1 .here) callee) field)
+      omega (
+        arith,
+        read-function (start .pre .1 .ready .entries) (call-function (start .pre .1 .ready) (start .pre .1 .here) callee)
+            (at-offset .wide-index2 .ensures .0),
+      )
 
   pub sub-own : lts.Need-sub-own (call-uses t) (call-at t) call.Post
   sub-own c =
       let (_, at-offset, at-index, at-first, start) = call-before-parameters c in
       let callee = at-index .wide-index .ensures .0 ∙ at-first .first .ensures in
-      let field = at-offset .wide-index2 .ensures .0 in
       omega (
         arith,
         c .function-parameters .ensures .0,
         some-parameters (start .pre .1 .ready .entries)
-            (call-function (start .pre .1 .ready) (start .pre .1 .here) callee) field .0,
+            (call-function (start .pre .1 .ready) (start .pre .1 .here) callee) (at-offset .wide-index2 .ensures .0) .0,
       )
 
   pub differ-requires : lts.Need-differ-requires (call-uses t) (call-at t) call.Post
@@ -243,10 +231,10 @@ module _ (t : ℕ) where
       let at-other = call-before-differ c in
       let (at-parameters, at-ancillae, at-offset, at-index, at-first, start) = call-before-other at-other in
       let callee = at-index .wide-index .ensures .0 ∙ at-first .first .ensures in
-      let field = at-offset .wide-index2 .ensures .0 in
       let own = ap (λ n. n - 1) (at-parameters .function-parameters .ensures .0) in
-      call-differ (start .pre .1 .ready) (start .pre .1 .here) callee field (at-ancillae .call-ancillae .ensures) own (at-other .if1 .taken)
-      (c .differ .ensures .0) (c .differ .ensures .1)
+      let parts = call-parts (start .pre .1 .ready) (start .pre .1 .here) callee (at-offset .wide-index2 .ensures .0)
+      (at-ancillae .call-ancillae .ensures) own in
+      call-differ parts (at-other .if1 .taken) (c .differ .ensures .0) (c .differ .ensures .1)
 
   pub none-requires : lts.Need-none-requires (call-uses t) (call-at t) call.Post
   none-requires c κs = search needs
@@ -257,17 +245,12 @@ module _ (t : ℕ) where
       let at-same = call-before-none at-none in
       let (at-parameters, at-ancillae, at-offset, at-index, at-first, start) = call-before-same at-same in
       let callee = at-index .wide-index .ensures .0 ∙ at-first .first .ensures in
-      let field = at-offset .wide-index2 .ensures .0 in
-      let own = ap (λ n. n - 1) (at-parameters .function-parameters .ensures .0) in (
-        omega (
-          arith,
-          start .pre .0,
-          call-few (start .pre .1 .ready) (start .pre .1 .here) callee field (at-ancillae .call-ancillae .ensures) own
-              (at-same .if1 .left),
-        ),
-        ready-arguments (start .pre .1 .signed) (call-barred (start .pre .1 .ready) (start .pre .1 .here) callee field
-            (at-ancillae .call-ancillae .ensures) own (at-same .if1 .left) (at-none .none .ensures))
-            (call-calls (start .pre .1 .ready) (start .pre .1 .here) callee field (at-ancillae .call-ancillae .ensures) own (at-same .if1 .left)),
+      let own = ap (λ n. n - 1) (at-parameters .function-parameters .ensures .0) in
+      let parts = call-parts (start .pre .1 .ready) (start .pre .1 .here) callee (at-offset .wide-index2 .ensures .0)
+      (at-ancillae .call-ancillae .ensures) own in (
+        omega (arith, start .pre .0, call-few parts (at-same .if1 .left)),
+        ready-arguments (start .pre .1 .signed)
+            (call-barred parts (at-same .if1 .left) (at-none .none .ensures)) (call-calls parts (at-same .if1 .left)),
       )
 
   pub enum-told : lts.Need-enum-told (call-uses t) (call-at t) call.Post
@@ -278,45 +261,50 @@ module _ (t : ℕ) where
       let (_, _, at-same) = call-before-argued c in
       let (at-parameters, at-ancillae, at-offset, at-index, at-first, start) = call-before-same at-same in
       let callee = at-index .wide-index .ensures .0 ∙ at-first .first .ensures in
-      let field = at-offset .wide-index2 .ensures .0 in
       let own = ap (λ n. n - 1) (at-parameters .function-parameters .ensures .0) in
-      call-read (start .pre .1 .ready) (start .pre .1 .here) callee field (at-ancillae .call-ancillae .ensures) own (at-same .if1 .left) .0
+      let parts = call-parts (start .pre .1 .ready) (start .pre .1 .here) callee (at-offset .wide-index2 .ensures .0)
+      (at-ancillae .call-ancillae .ensures) own in
+      call-read parts (at-same .if1 .left) .0
 
   pub mul-entry : lts.Need-mul-entry (call-uses t) (call-at t) call.Post
   mul-entry c =
       let (_, _, _, at-same) = call-before-listed c in
       let (at-parameters, at-ancillae, at-offset, at-index, at-first, start) = call-before-same at-same in
       let callee = at-index .wide-index .ensures .0 ∙ at-first .first .ensures in
-      let field = at-offset .wide-index2 .ensures .0 in
       let own = ap (λ n. n - 1) (at-parameters .function-parameters .ensures .0) in
-      omega (arith, call-row (start .pre .1 .ready) (start .pre .1 .here) callee field (at-ancillae .call-ancillae .ensures) own (at-same .if1 .left))
+      let parts = call-parts (start .pre .1 .ready) (start .pre .1 .here) callee (at-offset .wide-index2 .ensures .0)
+      (at-ancillae .call-ancillae .ensures) own in
+      omega (arith, call-row parts (at-same .if1 .left))
 
   pub mul-entry-2 : lts.Need-mul-entry-2 (call-uses t) (call-at t) call.Post
   mul-entry-2 c =
       let (_, _, _, at-same) = call-before-listed c in
       let (at-parameters, at-ancillae, at-offset, at-index, at-first, start) = call-before-same at-same in
       let callee = at-index .wide-index .ensures .0 ∙ at-first .first .ensures in
-      let field = at-offset .wide-index2 .ensures .0 in
       let own = ap (λ n. n - 1) (at-parameters .function-parameters .ensures .0) in
-      omega (arith, call-row (start .pre .1 .ready) (start .pre .1 .here) callee field (at-ancillae .call-ancillae .ensures) own (at-same .if1 .left))
+      let parts = call-parts (start .pre .1 .ready) (start .pre .1 .here) callee (at-offset .wide-index2 .ensures .0)
+      (at-ancillae .call-ancillae .ensures) own in
+      omega (arith, call-row parts (at-same .if1 .left))
 
   pub index-1-entry : lts.Need-index-1-entry (call-uses t) (call-at t) call.Post
   index-1-entry c =
       let (_, _, _, at-same) = call-before-listed c in
       let (at-parameters, at-ancillae, at-offset, at-index, at-first, start) = call-before-same at-same in
       let callee = at-index .wide-index .ensures .0 ∙ at-first .first .ensures in
-      let field = at-offset .wide-index2 .ensures .0 in
       let own = ap (λ n. n - 1) (at-parameters .function-parameters .ensures .0) in
-      omega (arith, call-row (start .pre .1 .ready) (start .pre .1 .here) callee field (at-ancillae .call-ancillae .ensures) own (at-same .if1 .left))
+      let parts = call-parts (start .pre .1 .ready) (start .pre .1 .here) callee (at-offset .wide-index2 .ensures .0)
+      (at-ancillae .call-ancillae .ensures) own in
+      omega (arith, call-row parts (at-same .if1 .left))
 
   pub index-2-entry : lts.Need-index-2-entry (call-uses t) (call-at t) call.Post
   index-2-entry c =
       let (_, _, _, at-same) = call-before-listed c in
       let (at-parameters, at-ancillae, at-offset, at-index, at-first, start) = call-before-same at-same in
       let callee = at-index .wide-index .ensures .0 ∙ at-first .first .ensures in
-      let field = at-offset .wide-index2 .ensures .0 in
       let own = ap (λ n. n - 1) (at-parameters .function-parameters .ensures .0) in
-      omega (arith, call-row (start .pre .1 .ready) (start .pre .1 .here) callee field (at-ancillae .call-ancillae .ensures) own (at-same .if1 .left))
+      let parts = call-parts (start .pre .1 .ready) (start .pre .1 .here) callee (at-offset .wide-index2 .ensures .0)
+      (at-ancillae .call-ancillae .ensures) own in
+      omega (arith, call-row parts (at-same .if1 .left))
 
   pub entry-requires : lts.Need-entry-requires (call-uses t) (call-at t) call.Post
   entry-requires c κs = search needs
@@ -326,9 +314,10 @@ module _ (t : ℕ) where
       let (_, _, _, _, at-same) = call-before-want c in
       let (at-parameters, at-ancillae, at-offset, at-index, at-first, start) = call-before-same at-same in
       let callee = at-index .wide-index .ensures .0 ∙ at-first .first .ensures in
-      let field = at-offset .wide-index2 .ensures .0 in
       let own = ap (λ n. n - 1) (at-parameters .function-parameters .ensures .0) in
-      call-read (start .pre .1 .ready) (start .pre .1 .here) callee field (at-ancillae .call-ancillae .ensures) own (at-same .if1 .left) .1
+      let parts = call-parts (start .pre .1 .ready) (start .pre .1 .here) callee (at-offset .wide-index2 .ensures .0)
+      (at-ancillae .call-ancillae .ensures) own in
+      call-read parts (at-same .if1 .left) .1
 
   pub entry-requires-2 : lts.Need-entry-requires-2 (call-uses t) (call-at t) call.Post
   entry-requires-2 c κs = search needs
@@ -339,12 +328,13 @@ module _ (t : ℕ) where
       let (_, _, at-listed, at-argued, at-arguments, at-none, at-same) = call-before-answer at-answer in
       let (at-parameters, at-ancillae, at-offset, at-index, at-first, start) = call-before-same at-same in
       let callee = at-index .wide-index .ensures .0 ∙ at-first .first .ensures in
-      let field = at-offset .wide-index2 .ensures .0 in
       let own = ap (λ n. n - 1) (at-parameters .function-parameters .ensures .0) in
-      let ready = call-ready (start .pre .1 .ready) (start .pre .1 .here) callee field (at-ancillae .call-ancillae .ensures) own (at-same .if1 .left)
-      (at-none .none .ensures) (at-arguments .arguments .ensures) (at-argued .enum-told .given .1) (at-listed .listed .ensures) in
-      let part = call-part (start .pre .1 .ready) (start .pre .1 .here) callee field (at-ancillae .call-ancillae .ensures) own (at-same .if1 .left)
-      (at-none .none .ensures) (at-arguments .arguments .ensures) (at-argued .enum-told .given .1) (at-listed .listed .ensures) in
+      let parts = call-parts (start .pre .1 .ready) (start .pre .1 .here) callee (at-offset .wide-index2 .ensures .0)
+      (at-ancillae .call-ancillae .ensures) own in
+      let ready = call-ready parts (at-same .if1 .left) (at-none .none .ensures) (at-arguments .arguments .ensures) (at-argued .enum-told .given .1)
+      (at-listed .listed .ensures) in
+      let part = call-part parts (at-same .if1 .left) (at-none .none .ensures) (at-arguments .arguments .ensures) (at-argued .enum-told .given .1)
+      (at-listed .listed .ensures) in
       (omega (arith, start .pre .0, part .0), ready-for (start .pre .1 .signed) ready (part .1))
 
   pub expect-requires : lts.Need-expect-requires (call-uses t) (call-at t) call.Post
@@ -353,15 +343,14 @@ module _ (t : ℕ) where
       let (at-answer, at-result, at-want, at-listed, at-argued, at-arguments, at-none, at-same) = call-before-infer at-infer in
       let (at-parameters, at-ancillae, at-offset, at-index, at-first, start) = call-before-same at-same in
       let callee = at-index .wide-index .ensures .0 ∙ at-first .first .ensures in
-      let field = at-offset .wide-index2 .ensures .0 in
       let own = ap (λ n. n - 1) (at-parameters .function-parameters .ensures .0) in
-      let parameter = call-parameter (start .pre .1 .ready) (start .pre .1 .here) callee field (at-ancillae .call-ancillae .ensures) own
-      (at-same .if1 .left) (start .pre .1 .signed) in
-      let ready = call-ready (start .pre .1 .ready) (start .pre .1 .here) callee field (at-ancillae .call-ancillae .ensures) own (at-same .if1 .left)
-      (at-none .none .ensures) (at-arguments .arguments .ensures) (at-argued .enum-told .given .1) (at-listed .listed .ensures) in
-      let want = call-want (start .pre .1 .ready) (start .pre .1 .here) callee field (at-ancillae .call-ancillae .ensures) own (at-same .if1 .left)
-      (at-none .none .ensures) (at-arguments .arguments .ensures) (at-argued .enum-told .given .1) (at-listed .listed .ensures) parameter
-      (at-result .function-result .ensures) (at-want .entry .ensures) (at-answer .entry2 .ensures) in
+      let parts = call-parts (start .pre .1 .ready) (start .pre .1 .here) callee (at-offset .wide-index2 .ensures .0)
+      (at-ancillae .call-ancillae .ensures) own in
+      let parameter = call-parameter parts (at-same .if1 .left) (start .pre .1 .signed) in
+      let ready = call-ready parts (at-same .if1 .left) (at-none .none .ensures) (at-arguments .arguments .ensures) (at-argued .enum-told .given .1)
+      (at-listed .listed .ensures) in
+      let want = call-want parts (at-same .if1 .left) (at-none .none .ensures) (at-arguments .arguments .ensures) (at-argued .enum-told .given .1)
+      (at-listed .listed .ensures) parameter (at-result .function-result .ensures) (at-want .entry .ensures) (at-answer .entry2 .ensures) in
       (told (at-infer .infer .ensures), known-later (ready .scoped .sources) (at-infer .infer .ensures .kept) (want .0))
 
   pub enum-told-2 : lts.Need-enum-told-2 (call-uses t) (call-at t) call.Post
@@ -382,18 +371,16 @@ module _ (t : ℕ) where
       let (at-infer, at-answer, at-result, at-want, at-listed, at-argued, at-arguments, at-none, at-same) = call-before-expect c in
       let (at-parameters, at-ancillae, at-offset, at-index, at-first, start) = call-before-same at-same in
       let callee = at-index .wide-index .ensures .0 ∙ at-first .first .ensures in
-      let field = at-offset .wide-index2 .ensures .0 in
       let own = ap (λ n. n - 1) (at-parameters .function-parameters .ensures .0) in
-      let parameter = call-parameter (start .pre .1 .ready) (start .pre .1 .here) callee field (at-ancillae .call-ancillae .ensures) own
-      (at-same .if1 .left) (start .pre .1 .signed) in
-      let ready = call-ready (start .pre .1 .ready) (start .pre .1 .here) callee field (at-ancillae .call-ancillae .ensures) own (at-same .if1 .left)
-      (at-none .none .ensures) (at-arguments .arguments .ensures) (at-argued .enum-told .given .1) (at-listed .listed .ensures) in
-      let want = call-want (start .pre .1 .ready) (start .pre .1 .here) callee field (at-ancillae .call-ancillae .ensures) own (at-same .if1 .left)
-      (at-none .none .ensures) (at-arguments .arguments .ensures) (at-argued .enum-told .given .1) (at-listed .listed .ensures) parameter
-      (at-result .function-result .ensures) (at-want .entry .ensures) (at-answer .entry2 .ensures) in
-      call-done (start .pre .1 .ready) (start .pre .1 .here) callee field (at-ancillae .call-ancillae .ensures) own (at-same .if1 .left)
-      (at-none .none .ensures) (at-arguments .arguments .ensures) (at-argued .enum-told .given .1) (at-listed .listed .ensures) parameter
-      (at-result .function-result .ensures) (at-want .entry .ensures) (at-answer .entry2 .ensures)
+      let parts = call-parts (start .pre .1 .ready) (start .pre .1 .here) callee (at-offset .wide-index2 .ensures .0)
+      (at-ancillae .call-ancillae .ensures) own in
+      let parameter = call-parameter parts (at-same .if1 .left) (start .pre .1 .signed) in
+      let ready = call-ready parts (at-same .if1 .left) (at-none .none .ensures) (at-arguments .arguments .ensures) (at-argued .enum-told .given .1)
+      (at-listed .listed .ensures) in
+      let want = call-want parts (at-same .if1 .left) (at-none .none .ensures) (at-arguments .arguments .ensures) (at-argued .enum-told .given .1)
+      (at-listed .listed .ensures) parameter (at-result .function-result .ensures) (at-want .entry .ensures) (at-answer .entry2 .ensures) in
+      call-done parts (at-same .if1 .left) (at-none .none .ensures) (at-arguments .arguments .ensures) (at-argued .enum-told .given .1)
+      (at-listed .listed .ensures) parameter (at-result .function-result .ensures) (at-want .entry .ensures) (at-answer .entry2 .ensures)
       (demand-done (at-infer .infer .ensures) (ready .scoped .sources) (want .0) (want .1) (c .expect .ensures))
 
   pub same-length-3 : lts.Need-same-length-3 (call-uses t) (call-at t) call.Post
@@ -411,7 +398,7 @@ module _ (t : ℕ) where
       let (at-arguments, at-none, at-same) = call-before-refused c in
       let (at-parameters, at-ancillae, at-offset, at-index, at-first, start) = call-before-same at-same in
       let callee = at-index .wide-index .ensures .0 ∙ at-first .first .ensures in
-      let field = at-offset .wide-index2 .ensures .0 in
       let own = ap (λ n. n - 1) (at-parameters .function-parameters .ensures .0) in
-      call-refused (start .pre .1 .ready) (start .pre .1 .here) callee field (at-ancillae .call-ancillae .ensures) own (at-same .if1 .left)
-      (at-none .none .ensures) (at-arguments .arguments .ensures) (c .enum-told2 .given .1)
+      let parts = call-parts (start .pre .1 .ready) (start .pre .1 .here) callee (at-offset .wide-index2 .ensures .0)
+      (at-ancillae .call-ancillae .ensures) own in
+      call-refused parts (at-same .if1 .left) (at-none .none .ensures) (at-arguments .arguments .ensures) (c .enum-told2 .given .1)

@@ -2,11 +2,10 @@
 -- places before it, the nearest first, so that code put in between two places moves one line.
 use Rattle.typing.proofs as own
 use Prim.Native.Nat.{ℕ}
-use Prim.Native.Nat.{_-_}
 use native.Mathlib.Omega.{arith}
 use mathlib.Core.Path.{_∙_}
 use borrow.Author.Needs.{needs}
-use own.Trees.{here, read-case}
+use own.Trees.{read-case}
 use own.Branching.{case-full, case-free, case-ready, case-part, case-refused, case-later, case-named, case-no, case-done}
 use own.Asking.{ready-for, ready-branches}
 use own.binds.choose.Reads as choose
@@ -21,26 +20,26 @@ module _ (t : ℕ) where
   abbrev Start : Type 0
   Start = lts.Start (choose-uses t) (choose-at t) choose.Post
 
-  abbrev Then1 : Type 0
-  Then1 = lts.Then1 (choose-uses t) (choose-at t) choose.Post
-
   abbrev Else1 : Type 0
   Else1 = lts.Else1 (choose-uses t) (choose-at t) choose.Post
 
-  abbrev Unscoped : Type 0
-  Unscoped = lts.After-unscoped (choose-uses t) (choose-at t) choose.Post
+  abbrev Then1 : Type 0
+  Then1 = lts.Then1 (choose-uses t) (choose-at t) choose.Post
 
   abbrev First : Type 0
   First = lts.After-first (choose-uses t) (choose-at t) choose.Post
 
+  abbrev Unscoped : Type 0
+  Unscoped = lts.After-unscoped (choose-uses t) (choose-at t) choose.Post
+
   abbrev Infer : Type 0
   Infer = lts.After-infer (choose-uses t) (choose-at t) choose.Post
 
-  abbrev EnumTold : Type 0
-  EnumTold = lts.After-enum-told (choose-uses t) (choose-at t) choose.Post
-
   abbrev Status : Type 0
   Status = lts.After-status (choose-uses t) (choose-at t) choose.Post
+
+  abbrev EnumTold : Type 0
+  EnumTold = lts.After-enum-told (choose-uses t) (choose-at t) choose.Post
 
   abbrev ShapeOf : Type 0
   ShapeOf = lts.After-shape-of (choose-uses t) (choose-at t) choose.Post
@@ -57,17 +56,17 @@ module _ (t : ℕ) where
   abbrev Arms : Type 0
   Arms = lts.After-arms (choose-uses t) (choose-at t) choose.Post
 
-  abbrev choose-before-then1 : Then1 → Start
-  choose-before-then1 c = c .before .before .before .before .before .before .before .before
-
   abbrev choose-before-else1 : Else1 → Start
   choose-before-else1 c = c .before .before .before .before .before .before .before .before
 
-  abbrev choose-before-unscoped : Unscoped → Then1 × Start
-  choose-before-unscoped c = let at-then1 = c .before in (at-then1, choose-before-then1 at-then1)
+  abbrev choose-before-then1 : Then1 → Start
+  choose-before-then1 c = c .before .before .before .before .before .before .before .before
 
   abbrev choose-before-first : First → Else1 × Start
   choose-before-first c = let at-else1 = c .before in (at-else1, choose-before-else1 at-else1)
+
+  abbrev choose-before-unscoped : Unscoped → Then1 × Start
+  choose-before-unscoped c = let at-then1 = c .before in (at-then1, choose-before-then1 at-then1)
 
   abbrev choose-before-infer : Infer → First × Else1 × Start
   choose-before-infer c =
@@ -75,14 +74,14 @@ module _ (t : ℕ) where
       let (at-else1, start) = choose-before-first at-first in
       (at-first, at-else1, start)
 
-  abbrev choose-before-enum-told : EnumTold → Infer × First × Else1 × Start
-  choose-before-enum-told c =
+  abbrev choose-before-status : Status → Infer × First × Else1 × Start
+  choose-before-status c =
       let at-infer = c .before .before .before .before .before .before in
       let (at-first, at-else1, start) = choose-before-infer at-infer in
       (at-infer, at-first, at-else1, start)
 
-  abbrev choose-before-status : Status → Infer × First × Else1 × Start
-  choose-before-status c =
+  abbrev choose-before-enum-told : EnumTold → Infer × First × Else1 × Start
+  choose-before-enum-told c =
       let at-infer = c .before .before .before .before .before .before in
       let (at-first, at-else1, start) = choose-before-infer at-infer in
       (at-infer, at-first, at-else1, start)

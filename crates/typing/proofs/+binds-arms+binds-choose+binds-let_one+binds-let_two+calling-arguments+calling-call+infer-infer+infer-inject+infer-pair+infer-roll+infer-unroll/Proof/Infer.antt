@@ -2,7 +2,6 @@
 -- places before it, the nearest first, so that code put in between two places moves one line.
 use Rattle.typing.proofs as own
 use Prim.Native.Nat.{ℕ}
-use Prim.Native.Nat.{_-_}
 use native.Mathlib.Omega.{arith}
 use borrow.Author.Needs.{needs}
 use own.Trees.{here, here-inl, here-inr, from-five, kind-there, read-var, no-twelfth}

@@ -2,12 +2,11 @@
 -- places before it, the nearest first, so that code put in between two places moves one line.
 use Rattle.typing.proofs as own
 use Prim.Native.Nat.{ℕ}
-use Prim.Native.Nat.{_-_}
 use native.Mathlib.Omega.{arith}
 use mathlib.Core.Path.{sym, _∙_}
 use borrow.Author.Needs.{needs}
-use own.Trees.{here, read-inject}
 use own.Answers.{known-later, told}
+use own.Trees.{read-inject}
 use own.Steps.{demand-done, inject-ready, inject-part, inject-whole, inject-no, inject-left, inject-right}
 use own.Asking.{ready-for}
 use own.infer.inject.Reads as inject

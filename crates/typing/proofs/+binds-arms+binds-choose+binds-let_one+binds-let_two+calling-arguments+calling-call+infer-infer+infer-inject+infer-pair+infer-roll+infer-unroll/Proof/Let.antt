@@ -2,12 +2,11 @@
 -- places before it, the nearest first, so that code put in between two places moves one line.
 use Rattle.typing.proofs as own
 use Prim.Native.Nat.{ℕ}
-use Prim.Native.Nat.{_-_}
 use native.Mathlib.Omega.{arith}
 use mathlib.Core.Path.{_∙_}
 use borrow.Author.Needs.{needs}
-use own.Trees.{here, read-let}
 use own.Answers.{told, ready-opened}
+use own.Trees.{read-let}
 use own.Binding.{let-full, let-free, let-ready, let-bound, let-body, let-refused, let-later, let-known, let-done}
 use own.Asking.{ready-for}
 use own.binds.let_one.Reads as let-one
@@ -22,17 +21,17 @@ module _ (t : ℕ) where
   abbrev Start : Type 0
   Start = lts.Start (let-one-uses t) (let-one-at t) let-one.Post
 
-  abbrev Then1 : Type 0
-  Then1 = lts.Then1 (let-one-uses t) (let-one-at t) let-one.Post
-
   abbrev Else1 : Type 0
   Else1 = lts.Else1 (let-one-uses t) (let-one-at t) let-one.Post
 
-  abbrev Unscoped : Type 0
-  Unscoped = lts.After-unscoped (let-one-uses t) (let-one-at t) let-one.Post
+  abbrev Then1 : Type 0
+  Then1 = lts.Then1 (let-one-uses t) (let-one-at t) let-one.Post
 
   abbrev First : Type 0
   First = lts.After-first (let-one-uses t) (let-one-at t) let-one.Post
+
+  abbrev Unscoped : Type 0
+  Unscoped = lts.After-unscoped (let-one-uses t) (let-one-at t) let-one.Post
 
   abbrev Second : Type 0
   Second = lts.After-second (let-one-uses t) (let-one-at t) let-one.Post
@@ -40,11 +39,11 @@ module _ (t : ℕ) where
   abbrev Infer : Type 0
   Infer = lts.After-infer (let-one-uses t) (let-one-at t) let-one.Post
 
-  abbrev EnumTold : Type 0
-  EnumTold = lts.After-enum-told (let-one-uses t) (let-one-at t) let-one.Post
-
   abbrev Status : Type 0
   Status = lts.After-status (let-one-uses t) (let-one-at t) let-one.Post
+
+  abbrev EnumTold : Type 0
+  EnumTold = lts.After-enum-told (let-one-uses t) (let-one-at t) let-one.Post
 
   abbrev Bind : Type 0
   Bind = lts.After-bind (let-one-uses t) (let-one-at t) let-one.Post
@@ -55,17 +54,17 @@ module _ (t : ℕ) where
   abbrev CloseOne : Type 0
   CloseOne = lts.After-close-one (let-one-uses t) (let-one-at t) let-one.Post
 
-  abbrev let-one-before-then1 : Then1 → Start
-  let-one-before-then1 c = c .before .before .before .before .before .before .before .before
-
   abbrev let-one-before-else1 : Else1 → Start
   let-one-before-else1 c = c .before .before .before .before .before .before .before .before
 
-  abbrev let-one-before-unscoped : Unscoped → Then1 × Start
-  let-one-before-unscoped c = let at-then1 = c .before in (at-then1, let-one-before-then1 at-then1)
+  abbrev let-one-before-then1 : Then1 → Start
+  let-one-before-then1 c = c .before .before .before .before .before .before .before .before
 
   abbrev let-one-before-first : First → Else1 × Start
   let-one-before-first c = let at-else1 = c .before in (at-else1, let-one-before-else1 at-else1)
+
+  abbrev let-one-before-unscoped : Unscoped → Then1 × Start
+  let-one-before-unscoped c = let at-then1 = c .before in (at-then1, let-one-before-then1 at-then1)
 
   abbrev let-one-before-second : Second → First × Else1 × Start
   let-one-before-second c =
@@ -79,14 +78,14 @@ module _ (t : ℕ) where
       let (at-first, at-else1, start) = let-one-before-second at-second in
       (at-second, at-first, at-else1, start)
 
-  abbrev let-one-before-enum-told : EnumTold → Infer × Second × First × Else1 × Start
-  let-one-before-enum-told c =
+  abbrev let-one-before-status : Status → Infer × Second × First × Else1 × Start
+  let-one-before-status c =
       let at-infer = c .before .before .before .before .before .before in
       let (at-second, at-first, at-else1, start) = let-one-before-infer at-infer in
       (at-infer, at-second, at-first, at-else1, start)
 
-  abbrev let-one-before-status : Status → Infer × Second × First × Else1 × Start
-  let-one-before-status c =
+  abbrev let-one-before-enum-told : EnumTold → Infer × Second × First × Else1 × Start
+  let-one-before-enum-told c =
       let at-infer = c .before .before .before .before .before .before in
       let (at-second, at-first, at-else1, start) = let-one-before-infer at-infer in
       (at-infer, at-second, at-first, at-else1, start)

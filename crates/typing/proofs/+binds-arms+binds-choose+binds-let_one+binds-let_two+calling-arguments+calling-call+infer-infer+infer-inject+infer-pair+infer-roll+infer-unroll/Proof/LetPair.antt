@@ -2,25 +2,12 @@
 -- places before it, the nearest first, so that code put in between two places moves one line.
 use Rattle.typing.proofs as own
 use Prim.Native.Nat.{ℕ}
-use Prim.Native.Nat.{_-_}
 use native.Mathlib.Omega.{arith}
 use mathlib.Core.Path.{_∙_}
 use borrow.Author.Needs.{needs}
-use own.Trees.{here, read-letp}
 use own.Answers.{told, ready-opened}
-use own.Binding.{
-  letp-full,
-  letp-ready,
-  letp-bound,
-  letp-body,
-  letp-refused,
-  letp-later,
-  letp-no,
-  letp-second,
-  letp-first-known,
-  letp-second-known,
-  letp-done,
-}
+use own.Trees.{read-letp}
+use own.Binding.{letp-full, letp-ready, letp-bound, letp-body, letp-refused, letp-later, letp-no, letp-second, letp-first-known, letp-second-known, letp-done}
 use own.Asking.{ready-for}
 use own.binds.let_two.Reads as let-two
 use own.+binds-arms+binds-choose+binds-let_one+binds-let_two+calling-arguments+calling-call+infer-infer+infer-inject+infer-pair+infer-roll+infer-unroll as cycle
@@ -34,17 +21,17 @@ module _ (t : ℕ) where
   abbrev Start : Type 0
   Start = lts.Start (let-two-uses t) (let-two-at t) let-two.Post
 
-  abbrev Then1 : Type 0
-  Then1 = lts.Then1 (let-two-uses t) (let-two-at t) let-two.Post
-
   abbrev Else1 : Type 0
   Else1 = lts.Else1 (let-two-uses t) (let-two-at t) let-two.Post
 
-  abbrev Unscoped : Type 0
-  Unscoped = lts.After-unscoped (let-two-uses t) (let-two-at t) let-two.Post
+  abbrev Then1 : Type 0
+  Then1 = lts.Then1 (let-two-uses t) (let-two-at t) let-two.Post
 
   abbrev First : Type 0
   First = lts.After-first (let-two-uses t) (let-two-at t) let-two.Post
+
+  abbrev Unscoped : Type 0
+  Unscoped = lts.After-unscoped (let-two-uses t) (let-two-at t) let-two.Post
 
   abbrev Second : Type 0
   Second = lts.After-second (let-two-uses t) (let-two-at t) let-two.Post
@@ -52,11 +39,11 @@ module _ (t : ℕ) where
   abbrev Infer : Type 0
   Infer = lts.After-infer (let-two-uses t) (let-two-at t) let-two.Post
 
-  abbrev EnumTold : Type 0
-  EnumTold = lts.After-enum-told (let-two-uses t) (let-two-at t) let-two.Post
-
   abbrev Status : Type 0
   Status = lts.After-status (let-two-uses t) (let-two-at t) let-two.Post
+
+  abbrev EnumTold : Type 0
+  EnumTold = lts.After-enum-told (let-two-uses t) (let-two-at t) let-two.Post
 
   abbrev ShapeOf : Type 0
   ShapeOf = lts.After-shape-of (let-two-uses t) (let-two-at t) let-two.Post
@@ -82,17 +69,17 @@ module _ (t : ℕ) where
   abbrev CloseTwo : Type 0
   CloseTwo = lts.After-close-two (let-two-uses t) (let-two-at t) let-two.Post
 
-  abbrev let-two-before-then1 : Then1 → Start
-  let-two-before-then1 c = c .before .before .before .before .before .before .before .before .before
-
   abbrev let-two-before-else1 : Else1 → Start
   let-two-before-else1 c = c .before .before .before .before .before .before .before .before .before
 
-  abbrev let-two-before-unscoped : Unscoped → Then1 × Start
-  let-two-before-unscoped c = let at-then1 = c .before in (at-then1, let-two-before-then1 at-then1)
+  abbrev let-two-before-then1 : Then1 → Start
+  let-two-before-then1 c = c .before .before .before .before .before .before .before .before .before
 
   abbrev let-two-before-first : First → Else1 × Start
   let-two-before-first c = let at-else1 = c .before in (at-else1, let-two-before-else1 at-else1)
+
+  abbrev let-two-before-unscoped : Unscoped → Then1 × Start
+  let-two-before-unscoped c = let at-then1 = c .before in (at-then1, let-two-before-then1 at-then1)
 
   abbrev let-two-before-second : Second → First × Else1 × Start
   let-two-before-second c =
@@ -106,14 +93,14 @@ module _ (t : ℕ) where
       let (at-first, at-else1, start) = let-two-before-second at-second in
       (at-second, at-first, at-else1, start)
 
-  abbrev let-two-before-enum-told : EnumTold → Infer × Second × First × Else1 × Start
-  let-two-before-enum-told c =
+  abbrev let-two-before-status : Status → Infer × Second × First × Else1 × Start
+  let-two-before-status c =
       let at-infer = c .before .before .before .before .before .before in
       let (at-second, at-first, at-else1, start) = let-two-before-infer at-infer in
       (at-infer, at-second, at-first, at-else1, start)
 
-  abbrev let-two-before-status : Status → Infer × Second × First × Else1 × Start
-  let-two-before-status c =
+  abbrev let-two-before-enum-told : EnumTold → Infer × Second × First × Else1 × Start
+  let-two-before-enum-told c =
       let at-infer = c .before .before .before .before .before .before in
       let (at-second, at-first, at-else1, start) = let-two-before-infer at-infer in
       (at-infer, at-second, at-first, at-else1, start)

@@ -2,12 +2,11 @@
 -- places before it, the nearest first, so that code put in between two places moves one line.
 use Rattle.typing.proofs as own
 use Prim.Native.Nat.{ℕ}
-use Prim.Native.Nat.{_-_}
 use native.Mathlib.Omega.{arith}
 use mathlib.Core.Path.{_∙_}
 use borrow.Author.Needs.{needs}
-use own.Trees.{here, read-pair}
 use own.Answers.{told}
+use own.Trees.{read-pair}
 use own.Pairing.{pair-ready, pair-left, pair-right, pair-refused, pair-later, pair-up-left, pair-room, pair-done}
 use own.Asking.{ready-for}
 use own.infer.pair.Reads as pair
@@ -31,11 +30,11 @@ module _ (t : ℕ) where
   abbrev Infer : Type 0
   Infer = lts.After-infer (pair-uses t) (pair-at t) pair.Post
 
-  abbrev EnumTold : Type 0
-  EnumTold = lts.After-enum-told (pair-uses t) (pair-at t) pair.Post
-
   abbrev Status : Type 0
   Status = lts.After-status (pair-uses t) (pair-at t) pair.Post
+
+  abbrev EnumTold : Type 0
+  EnumTold = lts.After-enum-told (pair-uses t) (pair-at t) pair.Post
 
   abbrev Infer2 : Type 0
   Infer2 = lts.After-infer2 (pair-uses t) (pair-at t) pair.Post
@@ -55,14 +54,14 @@ module _ (t : ℕ) where
       let (at-first, start) = pair-before-second at-second in
       (at-second, at-first, start)
 
-  abbrev pair-before-enum-told : EnumTold → Infer × Second × First × Start
-  pair-before-enum-told c =
+  abbrev pair-before-status : Status → Infer × Second × First × Start
+  pair-before-status c =
       let at-infer = c .before .before .before .before .before .before in
       let (at-second, at-first, start) = pair-before-infer at-infer in
       (at-infer, at-second, at-first, start)
 
-  abbrev pair-before-status : Status → Infer × Second × First × Start
-  pair-before-status c =
+  abbrev pair-before-enum-told : EnumTold → Infer × Second × First × Start
+  pair-before-enum-told c =
       let at-infer = c .before .before .before .before .before .before in
       let (at-second, at-first, start) = pair-before-infer at-infer in
       (at-infer, at-second, at-first, start)

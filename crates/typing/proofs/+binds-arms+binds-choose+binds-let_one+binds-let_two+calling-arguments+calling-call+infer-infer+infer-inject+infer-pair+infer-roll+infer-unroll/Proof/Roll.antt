@@ -2,11 +2,10 @@
 -- places before it, the nearest first, so that code put in between two places moves one line.
 use Rattle.typing.proofs as own
 use Prim.Native.Nat.{ℕ}
-use Prim.Native.Nat.{_-_}
 use native.Mathlib.Omega.{arith}
 use borrow.Author.Needs.{needs}
-use own.Trees.{here, read-roll}
 use own.Answers.{known-later, told}
+use own.Trees.{read-roll}
 use own.Steps.{demand-done, roll-ready, roll-part, roll-type, roll-whole, roll-no, roll-known, roll-done}
 use own.Asking.{ready-for}
 use own.infer.roll.Reads as roll
@@ -30,11 +29,11 @@ module _ (t : ℕ) where
   abbrev Unfolded : Type 0
   Unfolded = lts.After-unfolded (roll-uses t) (roll-at t) roll.Post
 
-  abbrev Body : Type 0
-  Body = lts.After-body (roll-uses t) (roll-at t) roll.Post
-
   abbrev EnumTold : Type 0
   EnumTold = lts.After-enum-told (roll-uses t) (roll-at t) roll.Post
+
+  abbrev Body : Type 0
+  Body = lts.After-body (roll-uses t) (roll-at t) roll.Post
 
   abbrev Differ : Type 0
   Differ = lts.After-differ (roll-uses t) (roll-at t) roll.Post
@@ -60,14 +59,14 @@ module _ (t : ℕ) where
       let (at-first, start) = roll-before-second at-second in
       (at-second, at-first, start)
 
-  abbrev roll-before-body : Body → Unfolded × Second × First × Start
-  roll-before-body c =
+  abbrev roll-before-enum-told : EnumTold → Unfolded × Second × First × Start
+  roll-before-enum-told c =
       let at-unfolded = c .before .before in
       let (at-second, at-first, start) = roll-before-unfolded at-unfolded in
       (at-unfolded, at-second, at-first, start)
 
-  abbrev roll-before-enum-told : EnumTold → Unfolded × Second × First × Start
-  roll-before-enum-told c =
+  abbrev roll-before-body : Body → Unfolded × Second × First × Start
+  roll-before-body c =
       let at-unfolded = c .before .before in
       let (at-second, at-first, start) = roll-before-unfolded at-unfolded in
       (at-unfolded, at-second, at-first, start)

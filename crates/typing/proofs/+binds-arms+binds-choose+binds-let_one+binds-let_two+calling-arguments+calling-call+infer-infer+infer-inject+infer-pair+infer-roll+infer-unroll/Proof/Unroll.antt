@@ -2,11 +2,10 @@
 -- places before it, the nearest first, so that code put in between two places moves one line.
 use Rattle.typing.proofs as own
 use Prim.Native.Nat.{ℕ}
-use Prim.Native.Nat.{_-_}
 use native.Mathlib.Omega.{arith}
 use borrow.Author.Needs.{needs}
-use own.Trees.{here, read-unroll}
 use own.Answers.{known-later, told}
+use own.Trees.{read-unroll}
 use own.Steps.{demand-done, unroll-ready, unroll-part, unroll-type, unroll-whole, unroll-no, unroll-known, unroll-large, unroll-done}
 use own.Asking.{ready-for}
 use own.infer.unroll.Reads as unroll
@@ -30,11 +29,11 @@ module _ (t : ℕ) where
   abbrev Unfolded : Type 0
   Unfolded = lts.After-unfolded (unroll-uses t) (unroll-at t) unroll.Post
 
-  abbrev Body : Type 0
-  Body = lts.After-body (unroll-uses t) (unroll-at t) unroll.Post
-
   abbrev EnumTold : Type 0
   EnumTold = lts.After-enum-told (unroll-uses t) (unroll-at t) unroll.Post
+
+  abbrev Body : Type 0
+  Body = lts.After-body (unroll-uses t) (unroll-at t) unroll.Post
 
   abbrev Differ2 : Type 0
   Differ2 = lts.After-differ2 (unroll-uses t) (unroll-at t) unroll.Post
@@ -42,17 +41,17 @@ module _ (t : ℕ) where
   abbrev WithinLimit : Type 0
   WithinLimit = lts.After-within-limit (unroll-uses t) (unroll-at t) unroll.Post
 
-  abbrev Else1 : Type 0
-  Else1 = lts.Else1 (unroll-uses t) (unroll-at t) unroll.Post
-
   abbrev Then1 : Type 0
   Then1 = lts.Then1 (unroll-uses t) (unroll-at t) unroll.Post
 
-  abbrev Entry : Type 0
-  Entry = lts.After-entry (unroll-uses t) (unroll-at t) unroll.Post
+  abbrev Else1 : Type 0
+  Else1 = lts.Else1 (unroll-uses t) (unroll-at t) unroll.Post
 
   abbrev Differ : Type 0
   Differ = lts.After-differ (unroll-uses t) (unroll-at t) unroll.Post
+
+  abbrev Entry : Type 0
+  Entry = lts.After-entry (unroll-uses t) (unroll-at t) unroll.Post
 
   abbrev Infer : Type 0
   Infer = lts.After-infer (unroll-uses t) (unroll-at t) unroll.Post
@@ -72,14 +71,14 @@ module _ (t : ℕ) where
       let (at-first, start) = unroll-before-second at-second in
       (at-second, at-first, start)
 
-  abbrev unroll-before-body : Body → Unfolded × Second × First × Start
-  unroll-before-body c =
+  abbrev unroll-before-enum-told : EnumTold → Unfolded × Second × First × Start
+  unroll-before-enum-told c =
       let at-unfolded = c .before .before in
       let (at-second, at-first, start) = unroll-before-unfolded at-unfolded in
       (at-unfolded, at-second, at-first, start)
 
-  abbrev unroll-before-enum-told : EnumTold → Unfolded × Second × First × Start
-  unroll-before-enum-told c =
+  abbrev unroll-before-body : Body → Unfolded × Second × First × Start
+  unroll-before-body c =
       let at-unfolded = c .before .before in
       let (at-second, at-first, start) = unroll-before-unfolded at-unfolded in
       (at-unfolded, at-second, at-first, start)
@@ -96,29 +95,29 @@ module _ (t : ℕ) where
       let (at-unfolded, at-second, at-first, start) = unroll-before-body at-body in
       (at-body, at-unfolded, at-second, at-first, start)
 
-  abbrev unroll-before-else1 : Else1 → WithinLimit × Body × Unfolded × Second × First × Start
-  unroll-before-else1 c =
-      let at-within-limit = c .before in
-      let (at-body, at-unfolded, at-second, at-first, start) = unroll-before-within-limit at-within-limit in
-      (at-within-limit, at-body, at-unfolded, at-second, at-first, start)
-
   abbrev unroll-before-then1 : Then1 → WithinLimit × Body × Unfolded × Second × First × Start
   unroll-before-then1 c =
       let at-within-limit = c .before in
       let (at-body, at-unfolded, at-second, at-first, start) = unroll-before-within-limit at-within-limit in
       (at-within-limit, at-body, at-unfolded, at-second, at-first, start)
 
-  abbrev unroll-before-entry : Entry → Then1 × WithinLimit × Body × Unfolded × Second × First × Start
-  unroll-before-entry c =
-      let at-then1 = c .before in
-      let (at-within-limit, at-body, at-unfolded, at-second, at-first, start) = unroll-before-then1 at-then1 in
-      (at-then1, at-within-limit, at-body, at-unfolded, at-second, at-first, start)
+  abbrev unroll-before-else1 : Else1 → WithinLimit × Body × Unfolded × Second × First × Start
+  unroll-before-else1 c =
+      let at-within-limit = c .before in
+      let (at-body, at-unfolded, at-second, at-first, start) = unroll-before-within-limit at-within-limit in
+      (at-within-limit, at-body, at-unfolded, at-second, at-first, start)
 
   abbrev unroll-before-differ : Differ → Else1 × WithinLimit × Body × Unfolded × Second × First × Start
   unroll-before-differ c =
       let at-else1 = c .before in
       let (at-within-limit, at-body, at-unfolded, at-second, at-first, start) = unroll-before-else1 at-else1 in
       (at-else1, at-within-limit, at-body, at-unfolded, at-second, at-first, start)
+
+  abbrev unroll-before-entry : Entry → Then1 × WithinLimit × Body × Unfolded × Second × First × Start
+  unroll-before-entry c =
+      let at-then1 = c .before in
+      let (at-within-limit, at-body, at-unfolded, at-second, at-first, start) = unroll-before-then1 at-then1 in
+      (at-then1, at-within-limit, at-body, at-unfolded, at-second, at-first, start)
 
   abbrev unroll-before-infer : Infer → Entry × Then1 × WithinLimit × Body × Unfolded × Second × First × Start
   unroll-before-infer c =
