@@ -80,7 +80,8 @@ module _ (xs types functions : List ℕ) (g : ℕ) (anc bytes : List ℕ) (back 
     module _ (right : rightIn anc bytes h ≡ true) where
       -- what is left to test
       abbrev last : (terms : List ℕ) → Answer Given
-      last terms = require (hasTys (valuesIn anc) (functionIn xs types terms (getD functions g 0) .ancillae) && hasTy (valueIn bytes) (sideOf back (functionIn xs types terms (getD functions g 0)))) 11 0
+      last terms = require (hasTys (valuesIn anc) (functionIn xs types terms (getD functions g 0) .ancillae) && hasTy (valueIn bytes)
+          (sideOf back (functionIn xs types terms (getD functions g 0)))) 11 0
           >>= λ typed. accepted (givenIn xs types terms functions g anc bytes)
 
       reached : (terms : List ℕ) → admit (programIn xs types terms functions) g (ancillae anc) (value bytes) (sideOf back) ≡ last terms
@@ -89,14 +90,17 @@ module _ (xs types functions : List ℕ) (g : ℕ) (anc bytes : List ℕ) (back 
           via _ (present-some 9 (there terms))
           (via _ (present-some 10 (right-values anc bytes xs at right .ancillae-read))
           (via _ (present-some 10 (right-values anc bytes xs at right .value-read))
-          (via _ (require-yes 10 0 (ap (eqb (length (valuesIn anc))) (sym (right-values anc bytes xs at right .number ∙ count-same terms)) ∙ eqb-yes (length (valuesIn anc)))) refl)))
+          (via _ (require-yes 10 0 (ap (eqb (length (valuesIn anc))) (sym (right-values anc bytes xs at right .number ∙ count-same terms))
+          ∙ eqb-yes (length (valuesIn anc)))) refl)))
 
-      side-same : (back : Bool) (terms : List ℕ) → sideOf back (functionOf (entriesOf xs types) (map (termAt xs) terms) h) ≡ typeOf (entriesOf xs types) (sideNumber back h)
+      side-same : (back : Bool) (terms : List ℕ) → sideOf back (functionOf (entriesOf xs types) (map (termAt xs) terms) h) ≡ typeOf (entriesOf xs types)
+          (sideNumber back h)
       unfolding functionOf sideNumber
       side-same true terms = refl
       side-same false terms = refl
 
-      typed-same : (terms : List ℕ) → (hasTys (valuesIn anc) (functionIn xs types terms (getD functions g 0) .ancillae) && hasTy (valueIn bytes) (sideOf back (functionIn xs types terms (getD functions g 0))))
+      typed-same : (terms : List ℕ) → (hasTys (valuesIn anc) (functionIn xs types terms (getD functions g 0) .ancillae) && hasTy (valueIn bytes)
+          (sideOf back (functionIn xs types terms (getD functions g 0))))
           ≡ allTyped (entriesOf xs types) h back anc bytes
       unfolding functionOf
       typed-same terms =

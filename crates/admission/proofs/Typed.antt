@@ -144,7 +144,13 @@ module _ {xs types : List ℕ} {at : ℕ} {anc row : List ℕ} {k next : ℕ} (w
       walking-behind n = walked-behind (w .walked) more _ q _ type-is n
 
       pub walking-next : {e : ℕ} → s ≡ step.Next e → Walking xs types at anc row (k + 1) e
-      walking-next n = record { callable = w .callable; row-is = w .row-is; walked = walked-next (w .walked) more _ q _ type-is n; inside = walking-behind n .1 }
+      walking-next n = record {
+        callable = w .callable;
+        row-is = w .row-is;
+        walked = walked-next (w .walked) more _ q _ type-is n;
+        inside =
+            walking-behind n .1;
+      }
 
 module _ (ys : List TypeEntry) (xs : List ℕ) (at : ℕ) (anc bytes : List ℕ) (e : rightIn anc bytes (functionAt xs at) ≡ true) where
   pub as-many : AsMany xs at anc

@@ -40,7 +40,8 @@ fn values_right(p: &[u8], at: usize, ancillae: &[u8], value: &[u8]) -> bool
     false
 }
 
-// Is each ancilla of its parameter's type, which the function's row of the table of signatures has? They are taken one after another, each from where the one before it ends.
+// Is each ancilla of its parameter's type, which the function's row of the table of signatures has? They are taken one after another, each
+// from where the one before it ends.
 fn ancillae_typed(p: &[u8], types: &[u16], at: usize, row: [u16; 8], bytes: &[u8]) -> bool
     requires { ⌜ Table (now p) (now types) ⌝ }
     requires { ⌜ Callable (now p) (now types) at ⌝ }

@@ -31,5 +31,6 @@ module _ {xs types terms functions : List ℕ} {table : List (List ℕ)} where
   means (loaded.Unscoped at) M = record { answer = M .answer; begins = omega arith; buffers = M .buffers }
   means (loaded.Misused at) M = record { answer = M .answer; begins = omega arith; buffers = M .buffers }
 
-  pub prepare-means : {l : Loaded} {r : Prepared} → loading.LoadMeans l xs types terms functions table → r ≡ preparedFrom l → PrepareMeans r xs types terms functions table
+  pub prepare-means : {l : Loaded} {r : Prepared} → loading.LoadMeans l xs types terms functions table → r ≡ preparedFrom l
+      → PrepareMeans r xs types terms functions table
   prepare-means {l} M e = subst (λ r. PrepareMeans r xs types terms functions table) (sym e) (means l M)

@@ -37,7 +37,8 @@ use package.Rattle.rows.specs.Calls.{Later, accepts, refuses, preparedOf
 use package.Rattle.rows.specs.Runs.{endedFrom, runOf, called, calledOf, frontsRun, Fronts, ofProgram, EndMeans, RunMeans}
 
 -- a refusal of the definitions is one of the answer, and the output is unchanged
-refused-as : {x : Answer Ran} {n p : ℕ} (r : Refusal) (out : List ℕ) → x ≡ refused n p → numberOf r ≡ n → placeOf r ≡ p → 2 ≤ n → RunMeans (runs.Refused r) x out out
+refused-as : {x : Answer Ran} {n p : ℕ} (r : Refusal) (out : List ℕ) → x ≡ refused n p → numberOf r ≡ n → placeOf r ≡ p → 2 ≤ n
+    → RunMeans (runs.Refused r) x out out
 unfolding written
 refused-as {x} {n} {p} r out e q s l = rw (e, ← q, ← s) (record { answer = refl; later = refuses {n = numberOf r} (rw q l); output = refl })
 
@@ -70,19 +71,23 @@ module _ {xs types terms functions : List ℕ} {table : List (List ℕ)} (A : Ac
   typed = load-iff xs (programIn xs types terms functions) .0 (A .loads) .1
 
   module _ {g : ℕ} {anc bytes : List ℕ} {back : Bool} {v : Admitted} (M : AdmitMeans v xs types functions g anc bytes back) where
-    gave : {w : Admitted} → v ≡ w → admit (programIn xs types terms functions) g (ancillae anc) (value bytes) (sideOf back) ≡ answerOf w (givenIn xs types terms functions g anc bytes)
+    gave : {w : Admitted} → v ≡ w → admit (programIn xs types terms functions) g (ancillae anc) (value bytes) (sideOf back) ≡ answerOf w
+        (givenIn xs types terms functions g anc bytes)
     gave e = sym (M .answer terms) ∙ ap (λ v. answerOf v (givenIn xs types terms functions g anc bytes)) e
 
-    pub allowed : v ≡ admitted.Given → {heap : List ℕ} {fuel : ℕ} → workspaceFor fuel ≤ length heap → Allowed (sideOf back) xs terms functions heap g anc bytes fuel
+    pub allowed : v ≡ admitted.Given → {heap : List ℕ} {fuel : ℕ} → workspaceFor fuel ≤ length heap
+        → Allowed (sideOf back) xs terms functions heap g anc bytes fuel
     allowed e l = record { types = types; loaded = record { read = A .read; tested = A .tested; typed = typed }; given = gave e; enough = l }
 
     module _ (fuel : ℕ) (out : List ℕ) where
-      not-called : {n : ℕ} (r : Refusal) → admit (programIn xs types terms functions) g (ancillae anc) (value bytes) (sideOf back) ≡ refused n 0 → numberOf r ≡ n → placeOf r ≡ 0 → 2 ≤ n
+      not-called : {n : ℕ} (r : Refusal) → admit (programIn xs types terms functions) g (ancillae anc) (value bytes) (sideOf back) ≡ refused n 0
+          → numberOf r ≡ n → placeOf r ≡ 0 → 2 ≤ n
           → RunMeans (runs.Refused r) (calledOf back xs types terms functions g anc bytes fuel (length out)) out out
       unfolding called _>>=_
       not-called r e q s l = refused-as r out (ap (λ a. a >>= λ a. finished (length out) (runOf back (programIn xs types terms functions) fuel a)) e) q s l
 
-      pub no-function : v ≡ admitted.NoFunction → RunMeans (runs.Refused Function) (calledOf back xs types terms functions g anc bytes fuel (length out)) out out
+      pub no-function : v ≡ admitted.NoFunction → RunMeans (runs.Refused Function) (calledOf back xs types terms functions g anc bytes fuel (length out)) out
+          out
       no-function e = not-called Function (gave e) refl refl (omega arith)
 
       pub bad-values : v ≡ admitted.BadValues → RunMeans (runs.Refused Values) (calledOf back xs types terms functions g anc bytes fuel (length out)) out out
@@ -92,12 +97,14 @@ module _ {xs types terms functions : List ℕ} {table : List (List ℕ)} (A : Ac
       wrong-type e = not-called ValueType (gave e) refl refl (omega arith)
 
       reached : v ≡ admitted.Given
-          → calledOf back xs types terms functions g anc bytes fuel (length out) ≡ finished (length out) (runOf back (programIn xs types terms functions) fuel (givenIn xs types terms functions g anc bytes))
+          → calledOf back xs types terms functions g anc bytes fuel (length out) ≡ finished (length out)
+          (runOf back (programIn xs types terms functions) fuel (givenIn xs types terms functions g anc bytes))
       unfolding called
       reached y = via _ (gave y) refl
 
       -- what the run gave is the answer
-      pub ran-as : v ≡ admitted.Given → {e : Ended} {r : RunAnswer} {out′ : List ℕ} → EndMeans back e xs terms functions g anc bytes fuel out out′ → r ≡ endedFrom e
+      pub ran-as : v ≡ admitted.Given → {e : Ended} {r : RunAnswer} {out′ : List ℕ} → EndMeans back e xs terms functions g anc bytes fuel out out′
+          → r ≡ endedFrom e
           → RunMeans r (calledOf back xs types terms functions g anc bytes fuel (length out)) out out′
       ran-as y {e} {r} {out′} G q = record {
         answer = ap runAnswer q ∙ end-is e ∙ G .means types .answer ∙ ap summary (sym (reached y));
@@ -134,17 +141,20 @@ module _ {xs types terms functions : List ℕ} {table : List (List ℕ)} {v : Pr
       → RunMeans (runs.Refused r) (ofProgram back xs g anc bytes fuel (length out)) out out
   unfolding _>>=_
   prepared-refused back g anc bytes fuel out {r} e =
-      refused-as r out (ap (λ a. a >>= λ P. called back P g anc bytes fuel (length out)) (M .answer ∙ ap (λ v. preparedOf v xs types terms functions) e)) refl refl
+      refused-as r out (ap (λ a. a >>= λ P. called back P g anc bytes fuel (length out)) (M .answer ∙ ap (λ v. preparedOf v xs types terms functions) e))
+      refl refl
       (subst (λ v. Begins v xs types terms functions table) e (M .begins))
 
 ----------------------------------------------------------------
 -- The run in a direction
 
 module _ {back : Bool} {xs terms functions : List ℕ} {g : ℕ} {anc bytes : List ℕ} {fuel : ℕ} where
-  pub allowed-back : {heap : List ℕ} → Allowed (sideOf back) xs terms functions heap g anc bytes fuel → back ≡ true → Returnable xs terms functions heap g anc bytes fuel
+  pub allowed-back : {heap : List ℕ} → Allowed (sideOf back) xs terms functions heap g anc bytes fuel → back ≡ true
+      → Returnable xs terms functions heap g anc bytes fuel
   allowed-back {heap} A e = subst (λ b. Allowed (sideOf b) xs terms functions heap g anc bytes fuel) e A
 
-  pub allowed-ahead : {heap : List ℕ} → Allowed (sideOf back) xs terms functions heap g anc bytes fuel → back ≡ false → Runnable xs terms functions heap g anc bytes fuel
+  pub allowed-ahead : {heap : List ℕ} → Allowed (sideOf back) xs terms functions heap g anc bytes fuel → back ≡ false
+      → Runnable xs terms functions heap g anc bytes fuel
   allowed-ahead {heap} A e = subst (λ b. Allowed (sideOf b) xs terms functions heap g anc bytes fuel) e A
 
   module _ {r : Ended} {out out′ : List ℕ} where

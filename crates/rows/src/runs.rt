@@ -96,6 +96,8 @@ pub fn run(
     requires { ⌜ workspaceFor fuel ≤ length (now workspace) ⌝ }
     ensures { λ r. ⌜ RunMeans r (calledOf back (now (program .entry)) (now (types .entry)) (now (terms .entry)) (now (functions .entry)) function (now (ancillae .entry)) (now (value .entry)) fuel (length (now (output .entry)))) (now (output .entry)) (now (output .exit)) ⌝ }
 {
+    // a run back is given the result, a forward run the dynamic argument
+    let by_result = back;
     let admitted = admission::admit(
         program,
         types,
@@ -104,7 +106,7 @@ pub fn run(
         function,
         ancillae,
         value,
-        back,
+        by_result,
     );
     match admitted {
         Admitted::Given => {

@@ -30,7 +30,8 @@ unfolding _>>=_
 kind-accepted (accepted u) x e = refl
 kind-accepted (refused n p) x e = absurd (refused≢accepted (sym e))
 
-kind-refused : {A B : Type 0} (a : Answer A) (x : Answer B) {n p : ℕ} → _≡_ {A = Answer (Unit {0})} (refused n p) (a >>= λ u. accepted tt) → refused n p ≡ (a >>= λ u. x)
+kind-refused : {A B : Type 0} (a : Answer A) (x : Answer B) {n p : ℕ} → _≡_ {A = Answer (Unit {0})} (refused n p) (a >>= λ u. accepted tt)
+    → refused n p ≡ (a >>= λ u. x)
 unfolding _>>=_
 kind-refused (accepted u) x e = absurd (refused≢accepted e)
 kind-refused (refused m q) x e = refused-same e
@@ -51,13 +52,16 @@ module _ {xs : List ℕ} {v : CheckAnswer} (C : CheckMeans v xs) (x : Answer (Li
   open-ready e {r} {j′} O = subst (λ x. OpenMeans r x j j′) (kind-accepted (load xs) x (ap checkAnswer (sym e) ∙ C .answer)) O
 
   pub open-refused : {r : Refusal} → v ≡ checks.Refused r → OpenMeans (checks.Refused r) (load xs >>= λ P. x) j j
-  open-refused {r} e = refused-open r j (kind-refused (load xs) x (ap checkAnswer (sym e) ∙ C .answer)) (later-number (subst (λ v. Later (checkAnswer v)) e (C .later)))
+  open-refused {r} e = refused-open r j (kind-refused (load xs) x (ap checkAnswer (sym e) ∙ C .answer))
+      (later-number (subst (λ v. Later (checkAnswer v)) e (C .later)))
 
 ----------------------------------------------------------------
 -- Convert and rollback
 
-module _ {xs types terms functions : List ℕ} {table : List (List ℕ)} {v : Prepared} (M : PrepareMeans v xs types terms functions table) (turn : Program → Answer Turned) {j : List ℕ} where
-  pub turn-ready : {c : Counts} → v ≡ Ready c → {r : RunAnswer} {j′ : List ℕ} → TurnMeans r (turn (inFronts c xs types terms functions)) j j′ → TurnMeans r (load xs >>= turn) j j′
+module _ {xs types terms functions : List ℕ} {table : List (List ℕ)} {v : Prepared} (M : PrepareMeans v xs types terms functions table)
+    (turn : Program → Answer Turned) {j : List ℕ} where
+  pub turn-ready : {c : Counts} → v ≡ Ready c → {r : RunAnswer} {j′ : List ℕ} → TurnMeans r (turn (inFronts c xs types terms functions)) j j′
+      → TurnMeans r (load xs >>= turn) j j′
   unfolding _>>=_
   turn-ready e {r} {j′} T = subst (λ x. TurnMeans r x j j′) (sym (via _ (M .answer ∙ ap (λ v. preparedOf v xs types terms functions) e) refl)) T
 
