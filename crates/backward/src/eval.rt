@@ -5,6 +5,7 @@
 use crate::arguments;
 use crate::outcomes;
 use crate::outcomes::Out;
+use decoded::kinds;
 use decoded::rows;
 use decoded::rows::CODE;
 use forward::outcomes::FUEL;
@@ -13,6 +14,7 @@ use forward::outcomes::STUCK;
 use scopes::bindings::Bindings;
 use scopes::state;
 use scopes::state::STATE;
+use values::nodes;
 ghost use mathlib.Core.Path.{_≡_};
 ghost use Prim.Native.Nat.{_<_};
 ghost use Rattle.values.specs.Nodes.{Single};
@@ -44,17 +46,17 @@ pub fn back(
     }
     state::spend(st);
     match rows::kind_of(code, t) {
-        0 => outcomes::variable(code, ws, st, b, scope, t, node),
-        1 => outcomes::unit(ws, b, node, t),
-        2 => unwrap(code, ws, st, b, scope, t, node, room, 1),
-        3 => unwrap(code, ws, st, b, scope, t, node, room, 2),
-        4 => pair(code, ws, st, b, scope, t, node, room),
-        5 => let_one(code, ws, st, b, scope, t, node, room),
-        6 => let_two(code, ws, st, b, scope, t, node, room),
-        7 => choose(code, ws, st, b, scope, t, node, room),
-        8 => call(code, ws, st, b, scope, t, node, room),
-        9 => unwrap(code, ws, st, b, scope, t, node, room, 4),
-        10 => unroll(code, ws, st, b, scope, t, node, room),
+        kinds::VARIABLE => outcomes::variable(code, ws, st, b, scope, t, node),
+        kinds::UNIT => outcomes::unit(ws, b, node, t),
+        kinds::INL => unwrap(code, ws, st, b, scope, t, node, room, nodes::INL),
+        kinds::INR => unwrap(code, ws, st, b, scope, t, node, room, nodes::INR),
+        kinds::PAIR => pair(code, ws, st, b, scope, t, node, room),
+        kinds::LET => let_one(code, ws, st, b, scope, t, node, room),
+        kinds::LET_PAIR => let_two(code, ws, st, b, scope, t, node, room),
+        kinds::CASE => choose(code, ws, st, b, scope, t, node, room),
+        kinds::CALL => call(code, ws, st, b, scope, t, node, room),
+        kinds::ROLL => unwrap(code, ws, st, b, scope, t, node, room, nodes::ROLL),
+        kinds::UNROLL => unroll(code, ws, st, b, scope, t, node, room),
         // never met: there is no other kind
         _ => outcomes::refuse(b, STUCK, t),
     }
@@ -77,7 +79,7 @@ fn over(
     ensures { λ r. ⌜ RunsSingle (now (code .entry)) (now (ws .entry)) (now (ws .exit)) (now (st .entry)) (now (st .exit)) scope t kind part room r ⌝ }
 {
     let top = state::top(st);
-    let made = values::nodes::single(ws, top, kind, part);
+    let made = nodes::single(ws, top, kind, part);
     if made {
         state::grow(st);
         return back(code, ws, st, b, scope, t, top, room);
@@ -102,7 +104,7 @@ fn over_pair(
     ensures { λ r. ⌜ RunsPair (now (code .entry)) (now (ws .entry)) (now (ws .exit)) (now (st .entry)) (now (st .exit)) scope t left right room r ⌝ }
 {
     let top = state::top(st);
-    let made = values::nodes::pair(ws, top, left, right);
+    let made = nodes::pair(ws, top, left, right);
     if made {
         state::grow(st);
         return back(code, ws, st, b, scope, t, top, room);
@@ -126,10 +128,10 @@ fn unwrap(
     requires { ⌜ (node < machineOf (now st) .top) × Wraps (kindIn (now code) t) kind ⌝ }
     ensures { λ r. ⌜ StepsBack (now (code .entry)) (now (ws .entry)) (now (ws .exit)) (now (st .entry)) (now (st .exit)) scope t node room r ⌝ }
 {
-    let found = values::nodes::kind_of(ws, node);
+    let found = nodes::kind_of(ws, node);
     if found == kind {
         let part = rows::second_of(code, t);
-        let x = values::nodes::left_of(ws, node);
+        let x = nodes::left_of(ws, node);
         return back(code, ws, st, b, scope, part, x, room - 1);
     }
     outcomes::differ(b, kind, found, t)
@@ -150,14 +152,14 @@ fn pair(
     requires { ⌜ (node < machineOf (now st) .top) × (kindIn (now code) t ≡ 4) ⌝ }
     ensures { λ r. ⌜ StepsBack (now (code .entry)) (now (ws .entry)) (now (ws .exit)) (now (st .entry)) (now (st .exit)) scope t node room r ⌝ }
 {
-    let found = values::nodes::kind_of(ws, node);
-    if found != 3 {
+    let found = nodes::kind_of(ws, node);
+    if found != nodes::PAIR {
         return outcomes::refuse(b, STUCK, t);
     }
     let first = rows::first_of(code, t);
     let second = rows::second_of(code, t);
-    let x = values::nodes::left_of(ws, node);
-    let y = values::nodes::right_of(ws, node);
+    let x = nodes::left_of(ws, node);
+    let y = nodes::right_of(ws, node);
     let h = room - 1;
     let r = back(code, ws, st, b, scope, first, x, h);
     let c = r.state;
@@ -309,5 +311,5 @@ fn unroll(
     ensures { λ r. ⌜ StepsBack (now (code .entry)) (now (ws .entry)) (now (ws .exit)) (now (st .entry)) (now (st .exit)) scope t node room r ⌝ }
 {
     let part = rows::second_of(code, t);
-    over(code, ws, st, b, scope, part, node, room - 1, 4)
+    over(code, ws, st, b, scope, part, node, room - 1, nodes::ROLL)
 }

@@ -13,6 +13,7 @@ use scopes::slots;
 use scopes::slots::UNKNOWN;
 use scopes::state;
 use scopes::state::STATE;
+use values::nodes;
 ghost use mathlib.Core.Path.{_≡_};
 ghost use mathlib.Core.Bool.{cond};
 ghost use Prim.Native.Nat.{_+_, _≤_, _<_};
@@ -106,11 +107,11 @@ pub fn long(b: Bindings, fuel: u32, t: u16, room: u16) -> Out
 pub fn differ(b: Bindings, kind: u8, found: u8, t: u16) -> Out
     ensures { λ r. ⌜ statusOf (r .stop) ≡ Refused (mismatch kind found t) ⌝ }
 {
-    if kind == 1 {
-        return clash(b, 2, found, t);
+    if kind == nodes::INL {
+        return clash(b, nodes::INR, found, t);
     }
-    if kind == 2 {
-        return clash(b, 1, found, t);
+    if kind == nodes::INR {
+        return clash(b, nodes::INL, found, t);
     }
     refuse(b, STUCK, t)
 }
@@ -155,8 +156,8 @@ pub fn unit(ws: &[u8], b: Bindings, node: u32, t: u16) -> Out
     requires { ⌜ Room (now ws) (node + 1) ⌝ }
     ensures { λ r. ⌜ UnitMet (now (ws .entry)) b node r ⌝ }
 {
-    let kind = values::nodes::kind_of(ws, node);
-    if kind == 0 {
+    let kind = nodes::kind_of(ws, node);
+    if kind == nodes::UNIT {
         return Out { stop: 0, state: b };
     }
     refuse(b, STUCK, t)
@@ -204,7 +205,7 @@ pub fn side_of(left: bool) -> u8
     ensures { λ r. ⌜ r ≡ cond left 1 2 ⌝ }
 {
     if left {
-        return 1;
+        return nodes::INL;
     }
-    2
+    nodes::INR
 }

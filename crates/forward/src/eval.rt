@@ -8,11 +8,13 @@ use crate::outcomes::FUEL;
 use crate::outcomes::HEIGHT;
 use crate::outcomes::STOPPED;
 use crate::outcomes::STUCK;
+use decoded::kinds;
 use decoded::rows;
 use decoded::rows::CODE;
 use scopes::slots;
 use scopes::state;
 use scopes::state::STATE;
+use values::nodes;
 ghost use mathlib.Core.Path.{_≡_};
 ghost use Prim.Native.Nat.{_+_, _≤_, _<_};
 ghost use Rattle.decoded.specs.Rows.{kindIn};
@@ -40,17 +42,17 @@ pub fn eval(
     }
     state::spend(st);
     match rows::kind_of(code, t) {
-        0 => outcomes::variable(ws, st, scope, rows::first_of(code, t)),
-        1 => outcomes::make_unit(ws, st, t),
-        2 => wrap(code, ws, st, scope, t, room, 1),
-        3 => wrap(code, ws, st, scope, t, room, 2),
-        4 => pair(code, ws, st, scope, t, room),
-        5 => let_one(code, ws, st, scope, t, room),
-        6 => let_two(code, ws, st, scope, t, room),
-        7 => choose(code, ws, st, scope, t, room),
-        8 => call(code, ws, st, scope, t, room),
-        9 => wrap(code, ws, st, scope, t, room, 4),
-        10 => unroll(code, ws, st, scope, t, room),
+        kinds::VARIABLE => outcomes::variable(ws, st, scope, rows::first_of(code, t)),
+        kinds::UNIT => outcomes::make_unit(ws, st, t),
+        kinds::INL => wrap(code, ws, st, scope, t, room, nodes::INL),
+        kinds::INR => wrap(code, ws, st, scope, t, room, nodes::INR),
+        kinds::PAIR => pair(code, ws, st, scope, t, room),
+        kinds::LET => let_one(code, ws, st, scope, t, room),
+        kinds::LET_PAIR => let_two(code, ws, st, scope, t, room),
+        kinds::CASE => choose(code, ws, st, scope, t, room),
+        kinds::CALL => call(code, ws, st, scope, t, room),
+        kinds::ROLL => wrap(code, ws, st, scope, t, room, nodes::ROLL),
+        kinds::UNROLL => unroll(code, ws, st, scope, t, room),
         // never met: there is no other kind
         _ => outcomes::refuse(STUCK, 0),
     }
@@ -162,12 +164,12 @@ fn let_two(
     if STOPPED <= r {
         return r;
     }
-    let kind = values::nodes::kind_of(ws, r);
+    let kind = nodes::kind_of(ws, r);
     if kind != 3 {
         return outcomes::refuse(STUCK, 0);
     }
-    let x = values::nodes::left_of(ws, r);
-    let y = values::nodes::right_of(ws, r);
+    let x = nodes::left_of(ws, r);
+    let y = nodes::right_of(ws, r);
     slots::bind(st, state::end_of(scope), x);
     let body = rows::second_of(code, t);
     under(code, ws, st, state::wider(scope), y, body, below)
@@ -192,13 +194,13 @@ fn choose(
     if STOPPED <= r {
         return r;
     }
-    let kind = values::nodes::kind_of(ws, r);
-    let part = values::nodes::left_of(ws, r);
-    if kind == 1 {
+    let kind = nodes::kind_of(ws, r);
+    let part = nodes::left_of(ws, r);
+    if kind == nodes::INL {
         let left = rows::second_of(code, t);
         return under(code, ws, st, scope, part, left, below);
     }
-    if kind == 2 {
+    if kind == nodes::INR {
         let right = rows::third_of(code, t);
         let out = under(code, ws, st, scope, part, right, below);
         return outcomes::first_match(code, ws, st, scope, t, out);

@@ -6,6 +6,7 @@ use decoded::rows::CODE;
 use scopes::slots::Found;
 use scopes::state;
 use scopes::state::STATE;
+use values::nodes;
 ghost use mathlib.Core.Path.{_≡_};
 ghost use Prim.Native.Nat.{_+_, _≤_, _<_};
 ghost use lib.ListN.{length};
@@ -101,7 +102,7 @@ pub fn make_unit(ws: &mut [u8], st: &mut [u32; STATE], t: u16) -> u32
     requires { ⌜ MakeReady (now ws) (now st) ⌝ }
     ensures { λ r. ⌜ MakesIn (now (ws .entry)) (now (ws .exit)) (now (st .entry)) (now (st .exit)) r t unit ⌝ }
 {
-    values::nodes::unit(ws, state::top(st));
+    nodes::unit(ws, state::top(st));
     finish(true, st, t)
 }
 
@@ -111,7 +112,7 @@ pub fn make_single(ws: &mut [u8], st: &mut [u32; STATE], t: u16, kind: u8, part:
     requires { ⌜ (part < machineOf (now st) .top) × Single kind ⌝ }
     ensures { λ r. ⌜ MakesIn (now (ws .entry)) (now (ws .exit)) (now (st .entry)) (now (st .exit)) r t (ofKind kind (valueAt (now (ws .entry)) part) (valueAt (now (ws .entry)) part)) ⌝ }
 {
-    let made = values::nodes::single(ws, state::top(st), kind, part);
+    let made = nodes::single(ws, state::top(st), kind, part);
     finish(made, st, t)
 }
 
@@ -120,7 +121,7 @@ pub fn make_pair(ws: &mut [u8], st: &mut [u32; STATE], t: u16, left: u32, right:
     requires { ⌜ (left < machineOf (now st) .top) × (right < machineOf (now st) .top) ⌝ }
     ensures { λ r. ⌜ MakesIn (now (ws .entry)) (now (ws .exit)) (now (st .entry)) (now (st .exit)) r t (pair (valueAt (now (ws .entry)) left) (valueAt (now (ws .entry)) right)) ⌝ }
 {
-    let made = values::nodes::pair(ws, state::top(st), left, right);
+    let made = nodes::pair(ws, state::top(st), left, right);
     finish(made, st, t)
 }
 
@@ -142,9 +143,9 @@ pub fn unrolled(ws: &[u8], node: u32) -> u32
     requires { ⌜ Room (now ws) (node + 1) ⌝ }
     ensures { λ r. ⌜ Unrolled (now (ws .entry)) node r ⌝ }
 {
-    let kind = values::nodes::kind_of(ws, node);
-    if kind == 4 {
-        return values::nodes::left_of(ws, node);
+    let kind = nodes::kind_of(ws, node);
+    if kind == nodes::ROLL {
+        return nodes::left_of(ws, node);
     }
     refuse(STUCK, 0)
 }

@@ -14,10 +14,16 @@ const NODE_BYTES: usize = 12;
 // Section 1's limit on values.
 const MAX_VALUE_BYTES: u32 = 1024;
 
-// Kinds are those of the value bytes: 0 unit, 1 inl, 2 inr, 3 pair, 4 roll.
-const UNIT: u8 = 0;
+// Kinds are those of the value bytes.
+pub const UNIT: u8 = 0;
 
-const PAIR: u8 = 3;
+pub const INL: u8 = 1;
+
+pub const INR: u8 = 2;
+
+pub const PAIR: u8 = 3;
+
+pub const ROLL: u8 = 4;
 
 // Fingerprints (specs/Nodes).
 const UNIT_PRINT: u8 = 17;

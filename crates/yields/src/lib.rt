@@ -12,6 +12,7 @@ ghost use Rattle.values.specs.Nodes.{valueAt, Heap};
 ghost use Rattle.scopes.specs.Slots.{unknown, machineOf};
 ghost use Rattle.decoded.specs.Rows.{kindIn};
 ghost use Rattle.yields.specs.Yields.{ancillaeIn, AncillaeIn, Judges, Asks, MayYield, YieldsIn, Wraps, Binds};
+use decoded::kinds;
 use decoded::rows;
 use decoded::rows::CODE;
 use scopes::slots;
@@ -81,17 +82,17 @@ fn may_yield(
     ensures { λ r. ⌜ YieldsIn (now (code .entry)) (now (ws .entry)) (now (st .entry)) scope t node exact r ⌝ }
 {
     match rows::kind_of(code, t) {
-        0 => yield_variable(ws, st, scope, rows::first_of(code, t), node, exact),
-        1 => surely(nodes::kind_of(ws, node) == 0),
-        2 => yield_part(code, ws, st, scope, t, node, exact, 1),
-        3 => yield_part(code, ws, st, scope, t, node, exact, 2),
-        4 => yield_pair(code, ws, st, scope, t, node, exact),
-        5 => yield_body(code, ws, st, scope, t, node, exact),
-        6 => yield_body(code, ws, st, scope, t, node, exact),
-        7 => yield_case(code, ws, st, scope, t, node, exact),
-        8 => YES,
-        9 => yield_part(code, ws, st, scope, t, node, exact, 4),
-        10 => YES,
+        kinds::VARIABLE => yield_variable(ws, st, scope, rows::first_of(code, t), node, exact),
+        kinds::UNIT => surely(nodes::kind_of(ws, node) == nodes::UNIT),
+        kinds::INL => yield_part(code, ws, st, scope, t, node, exact, nodes::INL),
+        kinds::INR => yield_part(code, ws, st, scope, t, node, exact, nodes::INR),
+        kinds::PAIR => yield_pair(code, ws, st, scope, t, node, exact),
+        kinds::LET => yield_body(code, ws, st, scope, t, node, exact),
+        kinds::LET_PAIR => yield_body(code, ws, st, scope, t, node, exact),
+        kinds::CASE => yield_case(code, ws, st, scope, t, node, exact),
+        kinds::CALL => YES,
+        kinds::ROLL => yield_part(code, ws, st, scope, t, node, exact, nodes::ROLL),
+        kinds::UNROLL => YES,
         // never met: there is no other kind
         _ => NO,
     }
@@ -136,7 +137,7 @@ fn yield_pair(
     ensures { λ r. ⌜ YieldsIn (now (code .entry)) (now (ws .entry)) (now (st .entry)) scope t node exact r ⌝ }
 {
     let found = nodes::kind_of(ws, node);
-    if found != 3 {
+    if found != nodes::PAIR {
         return NO;
     }
     let left = rows::first_of(code, t);
