@@ -11,9 +11,14 @@ cd "$(dirname "$0")/.."
 of_a_name='in scope|no constructor|no field|not a field|no module|no declaration|has no `|is not exported|does not export'
 of_a_shape='this tuple has [0-9]+ components|is applied to too many|takes [0-9]+ arguments|does not parse'
 
-# first_error LOG: the first error of a log, without its place; or that a need is not met, where there is none.
+# first_error LOG: the first error of a log; or that a need is not met, where there is none.
 first_error() {
-    grep -m 1 -E ': error: ' "$1" || grep -m 1 -E '`search` does not close|it is not proved that' "$1"
+    grep -m 1 -E ': error(\[[a-z-]+\])?: ' "$1" || grep -m 1 -E '`search` does not close|it is not proved that' "$1"
+}
+
+# told_further LOG: the lines that go on with the first error.
+told_further() {
+    awk '/: error(\[[a-z-]+\])?: / { if (on) exit; on = 1; next } on && /^ / { print; next } on { exit }' "$1"
 }
 
 # for_the_fact CRATE EDIT
@@ -24,7 +29,7 @@ for_the_fact() {
         return 1
     fi
     error=$(first_error "$log")
-    if [ -z "$error" ] || grep -qE "$of_a_name|$of_a_shape" <<< "$error" || grep -qE '/src/[^ ]*: error: ' <<< "$error"; then
+    if [ -z "$error" ] || grep -qE "$of_a_name|$of_a_shape" <<< "$error" || grep -qE '/src/[^ ]*: error' <<< "$error" || told_further "$log" | grep -q 'has no field'; then
         echo "$1/$2: ${error:-no error found}"
         return 1
     fi

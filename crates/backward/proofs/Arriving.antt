@@ -18,9 +18,9 @@ use package.Rattle.values.specs.Nodes.{Made, valueAt, kindAt as nodeKind}
 use package.Rattle.scopes.specs.Slots.{unknown, found, Slot, Machine, Scope, machineOf, scopeIn, Moved}
 use package.Rattle.scopes.specs.Cells.{Linked}
 use package.Rattle.scopes.specs.declared.slots.Found.the-variants.{Node}
-use package.Rattle.scopes.specs.Bindings.{slotsFrom, stateOf, seen, Meets, Meetable}
+use package.Rattle.scopes.specs.Bindings.{slotsFrom, stateOf, said, seen, Meets, Meetable}
 use package.Rattle.scopes.specs.declared.bindings.Bindings.{Bindings}
-use package.Rattle.scopes.proofs.Views.{view-at, binds-view, compares-view, tells-later, tells-bound, told-seen, by-slot}
+use package.Rattle.scopes.proofs.Views.{view-at, binds-view, compares-view, tells-later, tells-bound, said-told, told-seen, by-slot}
 use package.Rattle.forward.specs.Outcomes.{refusalIn}
 use package.Rattle.backward.specs.Ready.{Prepared, Gone, Variable, UnitMet, Stays, runAt, stepAt, PreparedIn, RunsBack, StepsBack}
 use package.Rattle.backward.specs.Outcomes.{Refused, carried, outcomeOf, scopeView, statusOf, tooLong}
@@ -129,8 +129,12 @@ module _ {code heap slots : List ℕ} {m : Machine} {b : Bindings} {sc : Scope} 
     small = omega (arith, P .ready .machine .small)
 
     -- what the state says is what the slot says
-    pub variable-told : seen heap b (getD slots (sc .base + firstIn code t) 0) ≡ found heap (getD slots (sc .base + firstIn code t) 0)
-    variable-told = told-seen (P .tells) (omega (arith, small))
+    pub variable-said : said heap slots b sc (firstIn code t) ≡ found heap (getD slots (sc .base + firstIn code t) 0)
+    variable-said = said-told heap slots b sc (P .tells) (firstIn code t) in-scope
+
+    -- and what it sees in it
+    pub variable-seen : seen heap b (getD slots (sc .base + firstIn code t) 0) ≡ found heap (getD slots (sc .base + firstIn code t) 0)
+    variable-seen = told-seen (P .tells) (omega (arith, small))
         (λ j l. rw (← view-at slots (sc .base) j (omega (arith, few-ancillae P))) (P .ready .binds .ancillae j l)) (firstIn code t) in-scope
 
     abbrev Stepped : (heap′ slots′ : List ℕ) → Machine → Out → Type 0
@@ -199,7 +203,7 @@ module _ {code heap slots : List ℕ} {m : Machine} {b : Bindings} {sc : Scope} 
 
 -- the variable can be met
 pub variable-meetable : {code heap st : List ℕ} {b : Bindings} {scope t room : ℕ} → PreparedIn 2 1 code heap st b scope t room → kindIn code t ≡ 0
-    → {node : ℕ} → node < machineOf st .top → Meetable heap st b (scopeIn scope .base) (firstIn code t)
+    → {node : ℕ} → node < machineOf st .top → Meetable heap st b (scopeIn scope) (firstIn code t)
 variable-meetable Q kind low = let P = Q .prepared in record {
   cell = record {
     full = Q .full;
@@ -211,14 +215,15 @@ variable-meetable Q kind low = let P = Q .prepared in record {
   };
   there = omega (arith, P .space, scoped-var (P .ready) kind);
   slot = variable-slot P low kind;
+  reads = variable-seen P low kind ∙ sym (variable-said P low kind);
 }
 
 pub variable-step : {code heap heap′ st st′ : List ℕ} {b : Bindings} {scope t room : ℕ} → PreparedIn 2 1 code heap st b scope t room → {node : ℕ}
     → node < machineOf st .top → kindIn code t ≡ 0
-    → {r : Out} → Variable heap heap′ st st′ b (scopeIn scope .base) (firstIn code t) node t r → StepsBack code heap heap′ st st′ scope t node room r
+    → {r : Out} → Variable heap heap′ st st′ b (scopeIn scope) (firstIn code t) node t r → StepsBack code heap heap′ st st′ scope t node room r
 variable-step {code} {heap} {heap′} {st} {st′} {b} {scope} {t} {room} Q {node} low kind {r} E =
     let P = Q .prepared in
-    by-slot (E .met) (variable-told P low kind) (variable-slot P low kind) (small-top (P .ready .machine))
+    by-slot (scopeIn scope) (E .met) (variable-said P low kind) (variable-slot P low kind) (small-top (P .ready .machine))
     (λ u A. record {
       lengths = A .lengths;
       gone = assigned-gone P low kind u (eqb-true (r .stop) 0 (A .agrees)) (A .linked) (A .slots) (A .machine) (A .head);

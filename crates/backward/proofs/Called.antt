@@ -8,7 +8,7 @@ use package.Rattle.decoded.specs.Rows.{argumentIn, bodyIn, firstIn}
 use package.Rattle.values.specs.Nodes.{valueAt, Agree}
 use package.Rattle.values.proofs.Places.{agree-trans, agree-down}
 use package.Rattle.scopes.specs.Slots.{slotCount, Machine, Scope, machineOf, slotsOf, scopeIn, found, nodeOr}
-use package.Rattle.scopes.specs.Bindings.{stateOf}
+use package.Rattle.scopes.specs.Bindings.{stateOf, bound}
 use package.Rattle.scopes.specs.declared.bindings.Bindings.{Bindings}
 use package.Rattle.scopes.proofs.Views.{tells-first}
 use package.Rattle.forward.specs.Ready.{Calls}
@@ -19,7 +19,7 @@ use package.Rattle.backward.specs.Ready.{RunsBack, RunsUnder, WidenReady
 use package.Rattle.backward.specs.Calls.{Gathers}
 use package.Rattle.backward.proofs.Runs.{refused-with, held-later}
 use package.Rattle.backward.proofs.Opening.{widen-ready, widened, widened-node, ran-under}
-use package.Rattle.backward.proofs.Leaving.{held-under, looked}
+use package.Rattle.backward.proofs.Leaving.{held-under, looked, in-slot}
 use package.Rattle.backward.proofs.Stops.{is-done, is-stopped}
 use package.Rattle.backward.proofs.Frames.{older-later, tells-stay, follows-stay, state-stays}
 use package.Rattle.backward.proofs.Gathering.{scope-ready, arguments-done, callee}
@@ -114,15 +114,18 @@ module _ {code heap slots : List ℕ} {m : Machine} {b : Bindings} {sc : Scope} 
               space = omega (arith, P .space);
             }
 
-            module _ {x : ℕ} (qx : x ≡ nodeOr (found heap₂ (getD slots₂ (sc₁ .base + sc₁ .n) 0))) where
+            module _ {x : ℕ} (qx : x ≡ nodeOr (bound heap₂ (r .state) (sc₁ .n))) where
+              input-is : x ≡ nodeOr (found heap₂ (getD slots₂ (sc .base + sc .n + k) 0))
+              input-is = in-slot H here d k (omega arith) (omega arith) (rw w at qx)
+
               pub called-input : x < m₂ .top
-              called-input = rw (qx, w) (here .ran .there (is-done d))
+              called-input = rw input-is (here .ran .there (is-done d))
 
               pub called-done : {heap₃ slots₃ : List ℕ} {m₃ : Machine} {r₂ : Out}
                   → Gone 0 heap₂ heap₃ slots₂ slots₃ m₂ m₃ sc r₂ (runAt code heap₂ slots₂ m₂ sc v (valueAt heap₂ x) (room - 1))
                   → Stepped heap₃ slots₃ m₃ r₂
               called-done E = record {
-                ran = call-done (P .ready) low C (arguments-done P C D) (is-done e) qg qu (here .ran) follows same qv (is-done d) (rw (qx, w) at (E .ran));
+                ran = call-done (P .ready) low C (arguments-done P C D) (is-done e) qg qu (here .ran) follows same qv (is-done d) (rw input-is at (E .ran));
                 below = λ j l. scope-stays j (omega arith) ∙ E .below j l;
                 tells = E .tells;
               }

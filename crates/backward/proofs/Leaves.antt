@@ -14,7 +14,7 @@ use package.Rattle.rules.specs.Run.{stuck, Run, give}
 use package.Rattle.rules.specs.Machine.{State, meet, leave, onUnit}
 use package.Rattle.values.specs.Nodes.{kindAt, ofKind, valueWithin, valueAt}
 use package.Rattle.values.proofs.Heaps.{value-unit, value-kept}
-use package.Rattle.scopes.specs.Slots.{unknown, found, nodeOr, meaning as slotMeaning, Slot, Slots, Machine}
+use package.Rattle.scopes.specs.Slots.{unknown, found, nodeOr, meaning as slotMeaning, Slot, Slots, Machine, Scope}
 use package.Rattle.scopes.specs.Cells.{Linked}
 use package.Rattle.scopes.specs.declared.slots.Found.the-variants.{Node, Unknown}
 use package.Rattle.scopes.specs.Bindings.{View, Left, slotsFrom, viewOf, stateOf, Bound, Opens, Meets, Leaves, Meetable, MeetsAt}
@@ -81,23 +81,22 @@ choice-right y e q = rw e q
 ----------------------------------------------------------------
 -- Variables
 
-pub meetable-same : {heap st : List ℕ} {b : Bindings} {base base′ i i′ : ℕ} → base ≡ base′ → i ≡ i′ → Meetable heap st b base′ i′
-    → Meetable heap st b base i
-meetable-same p q M = rw (p, q) M
+pub meetable-same : {heap st : List ℕ} {b : Bindings} {sc : Scope} {i i′ : ℕ} → i ≡ i′ → Meetable heap st b sc i′ → Meetable heap st b sc i
+meetable-same q M = rw q M
 
 -- what the code met, as the outcome says it
-met-as : {heap heap′ st st′ : List ℕ} {b : Bindings} {base i node : ℕ} {r : Met} → MeetsAt heap heap′ st st′ b base i node r → (agrees : Bool)
-    → agrees ≡ r .agrees → MeetsAt heap heap′ st st′ b base i node (record { agrees = agrees; state = r .state })
+met-as : {heap heap′ st st′ : List ℕ} {b : Bindings} {sc : Scope} {i node : ℕ} {r : Met} → MeetsAt heap heap′ st st′ b sc i node r → (agrees : Bool)
+    → agrees ≡ r .agrees → MeetsAt heap heap′ st st′ b sc i node (record { agrees = agrees; state = r .state })
 met-as M agrees e = rw e M
 
-module _ {heap heap′ st st′ : List ℕ} {b : Bindings} {base base′ i i′ node : ℕ} {r : Met} (M : MeetsAt heap heap′ st st′ b base i node r) (p : base ≡ base′)
+module _ {heap heap′ st st′ : List ℕ} {b : Bindings} {sc : Scope} {i i′ node : ℕ} {r : Met} (M : MeetsAt heap heap′ st st′ b sc i node r)
     (q : i ≡ i′) (t : ℕ) where
-  pub agrees-out : r .agrees ≡ true → Variable heap heap′ st st′ b base′ i′ node t (record { stop = 0; state = r .state })
-  agrees-out e = rw (← p, ← q) (record { met = met-as M (eqb 0 0) (eq-eqb 0 0 refl ∙ sym e); differs = λ n. absurd (n refl) })
+  pub agrees-out : r .agrees ≡ true → Variable heap heap′ st st′ b sc i′ node t (record { stop = 0; state = r .state })
+  agrees-out e = rw (← q) (record { met = met-as M (eqb 0 0) (eq-eqb 0 0 refl ∙ sym e); differs = λ n. absurd (n refl) })
 
   pub differs-out : r .agrees ≡ false → statusOf (t + 1) ≡ Refused (NoInput t)
-      → Variable heap heap′ st st′ b base′ i′ node t (record { stop = t + 1; state = r .state })
-  differs-out e w = rw (← p, ← q) (record { met = met-as M (eqb (t + 1) 0) (ne-eqb (t + 1) 0 (λ z. omega arith) ∙ sym e); differs = λ _. w })
+      → Variable heap heap′ st st′ b sc i′ node t (record { stop = t + 1; state = r .state })
+  differs-out e w = rw (← q) (record { met = met-as M (eqb (t + 1) 0) (ne-eqb (t + 1) 0 (λ z. omega arith) ∙ sym e); differs = λ _. w })
 
 -- meeting keeps what is known
 pub meets-follows : (heap : List ℕ) (b : View) (i node x top : ℕ) (agrees : Bool) (r : View) → Meets heap b i node x agrees r → Bound heap b top → i < b .len

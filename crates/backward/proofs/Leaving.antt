@@ -1,5 +1,5 @@
 -- Variables leave a scope, in code: the newest is looked up, and a cell says that those from it on are not known.
-use Prim.Native.Nat.{ℕ, _+_, _*_, _≤_, _<_}
+use Prim.Native.Nat.{ℕ, _+_, _≤_, _<_}
 use native.Mathlib.Omega.{arith}
 use mathlib.Core.Path.{_≡_, refl, sym, ap, ap₂, subst, _∙_}
 use mathlib.Core.List.{List}
@@ -11,7 +11,7 @@ use package.Rattle.values.specs.Nodes.{valueAt, Heap}
 use package.Rattle.values.proofs.Heaps.{value-kept}
 use package.Rattle.scopes.specs.Slots.{unknown, slotCount, stateCount, Machine, Scope, machineOf, slotsOf, found, nodeOr, Slot}
 use package.Rattle.scopes.specs.Cells.{Linked}
-use package.Rattle.scopes.specs.Bindings.{View, Tells, CellReady, Adds}
+use package.Rattle.scopes.specs.Bindings.{View, Tells, bound, CellReady, Adds}
 use package.Rattle.scopes.specs.declared.bindings.Bindings.{Bindings}
 use package.Rattle.scopes.proofs.Marks.{found-later}
 use package.Rattle.scopes.proofs.Views.{tells-left, told-dynamic}
@@ -85,8 +85,13 @@ module _ {k : ℕ} {code heap₁ slots₁ : List ℕ} {m₁ : Machine} {room : �
   looked i q l there S eb en = rw (eb, en) (record {
     there = there;
     looks = record { graph = G .ran .moves .graph .right; slot = S; small = small-top H; within = G .tells e .within };
-    told = told-dynamic (G .tells e) i q (omega arith);
+    told = told-dynamic (G .tells e) i q (omega arith) ∙ ap (found heap₁) (G .tells e .index i q (omega arith));
   })
+
+  -- the node that the state binds it to is the slot's
+  pub in-slot : (i : ℕ) → sc₁ .q ≤ i → i ≤ sc₁ .n → {x : ℕ} → x ≡ nodeOr (bound heap₁ (r .state) i)
+      → x ≡ nodeOr (found heap₁ (getD slots₁ (sc₁ .base + i) 0))
+  in-slot i q l e′ = e′ ∙ ap (λ s. nodeOr (found heap₁ s)) (sym (G .tells e .index i q (omega arith)))
 
   -- a cell can be made
   pub cell-ready : {st₁ : List ℕ} → length st₁ ≡ stateCount → machineOf st₁ ≡ m₁ → 0 < k → (n : ℕ) → n ≤ 32 → CellReady heap₁ st₁ (r .state) n

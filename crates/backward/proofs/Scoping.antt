@@ -12,7 +12,7 @@ use package.Rattle.decoded.specs.Rows.{firstIn, kindIn, secondIn, thirdIn, tree
 use package.Rattle.decoded.proofs.Trees.{parts-case}
 use package.Rattle.values.specs.Nodes.{ofKind, valueAt}
 use package.Rattle.scopes.specs.Slots.{Machine, Scope, Slot, found, nodeOr, machineOf, scopeIn, slotCount, stateCount, slotsOf, unknown}
-use package.Rattle.scopes.specs.Bindings.{Opens, CellReady}
+use package.Rattle.scopes.specs.Bindings.{Opens, bound, CellReady}
 use package.Rattle.scopes.specs.declared.bindings.Bindings.{Bindings}
 use package.Rattle.scopes.proofs.Views.{view-at}
 use package.Rattle.yields.specs.Yields.{Asks}
@@ -21,7 +21,7 @@ use package.Rattle.backward.specs.Ready.{Held, Gone, GoneUnder, Leavable
 use package.Rattle.backward.specs.Ready.{RunsBack, RunsUnder, WidenReady, Widened}
 use package.Rattle.backward.specs.Outcomes.{innerOf, scopeView}
 use package.Rattle.backward.proofs.Opening.{Marked, marked, as-many, marked-below, opens, opened, widen-ready, widened, widened-node, ran-under}
-use package.Rattle.backward.proofs.Leaving.{LeftBehind, held-under, looked, cell-ready, under-left, left-node, left-tells, left-below}
+use package.Rattle.backward.proofs.Leaving.{LeftBehind, held-under, looked, in-slot, cell-ready, under-left, left-node, left-tells, left-below}
 use package.Rattle.backward.proofs.Frames.{beside, few-ancillae, gone-then, onward, stops-under}
 use package.Rattle.backward.proofs.Choosing.{case-branch, case-done, case-refused, case-space, case-sum}
 use package.Rattle.backward.proofs.Stops.{is-done, is-stopped}
@@ -77,15 +77,18 @@ module _ {code heap slots : List ℕ} {m : Machine} {b : Bindings} {sc : Scope} 
               onward P (let-run .moves) let-below (left-tells let-held G e K (omega arith) (omega arith))
               (let-bound (P .ready) low kind qu qu′ let-run (omega arith) (is-done e)) (omega (arith, P .ready .tall))
 
-          module _ {x : ℕ} (qx : x ≡ nodeOr (found heap₁ (getD slots₁ (sc .base + sc .n) 0))) where
+          module _ {x : ℕ} (qx : x ≡ nodeOr (bound heap₁ (r .state) (sc .n))) where
+            let-left : x ≡ nodeOr (found heap₂ (getD slots₂ (sc .base + sc .n) 0))
+            let-left = left-node let-held G e K (sc .base + sc .n) (G .slot e) (in-slot let-held G e (sc .n) (P .ready .binds .within) (omega arith) qx)
+
             pub let-node : x < m₂ .top
-            let-node = rw (left-node let-held G e K (sc .base + sc .n) (G .slot e) qx) (let-run .there (is-done e))
+            let-node = rw let-left (let-run .there (is-done e))
 
             pub let-gone : {heap₃ slots₃ : List ℕ} {m₃ : Machine} {r₂ : Out}
                 → Gone 0 heap₂ heap₃ slots₂ slots₃ m₂ m₃ sc r₂ (runAt code heap₂ slots₂ m₂ sc u (valueAt heap₂ x) (room - 1))
                 → Stepped heap₃ slots₃ m₃ r₂
             let-gone E = gone-then let-below E
-                (let-done (P .ready) low kind qu qu′ let-run (omega arith) (is-done e) (rw (left-node let-held G e K (sc .base + sc .n) (G .slot e) qx) at (E .ran)))
+                (let-done (P .ready) low kind qu qu′ let-run (omega arith) (is-done e) (rw let-left at (E .ran)))
 
   ----------------------------------------------------------------
   -- let pair
@@ -165,13 +168,14 @@ module _ {code heap slots : List ℕ} {m : Machine} {b : Bindings} {sc : Scope} 
                 (letp-bound (P .ready) low kind qu qu′ first-open letp-run (omega arith) (is-done e) (view-goes heap₂ slots₂ (sc .base) (sc .n) letp-few))
                 (omega (arith, P .ready .tall))
 
-            module _ {x y : ℕ} (qx : x ≡ nodeOr (found heap₁ (getD slots₁ (sc .base + sc .n) 0)))
-                (qy : y ≡ nodeOr (found heap₁ (getD slots₁ (sc₁ .base + sc₁ .n) 0))) where
+            module _ {x y : ℕ} (qx : x ≡ nodeOr (bound heap₁ (r .state) (sc .n))) (qy : y ≡ nodeOr (bound heap₁ (r .state) (sc₁ .n))) where
               x-is : x ≡ nodeOr (found heap₂ (getD slots₂ (sc .base + sc .n) 0))
-              x-is = left-node letp-held here e L (sc .base + sc .n) first-slot qx
+              x-is = left-node letp-held here e L (sc .base + sc .n) first-slot
+                  (in-slot letp-held here e (sc .n) (P .ready .binds .within) (omega arith) qx)
 
               y-is : y ≡ nodeOr (found heap₂ (getD slots₂ (sc .base + (sc .n + 1)) 0))
-              y-is = left-node letp-held here e L (sc .base + (sc .n + 1)) (here .slot e) (rw w at qy)
+              y-is = left-node letp-held here e L (sc .base + (sc .n + 1)) (here .slot e)
+                  (in-slot letp-held here e (sc .n + 1) (omega (arith, P .ready .binds .within)) (omega arith) (rw w at qy))
 
               pub letp-both : (x < m₂ .top) × (y < m₂ .top)
               letp-both = rw (x-is, y-is)
@@ -227,15 +231,18 @@ module _ {code heap slots : List ℕ} {m : Machine} {b : Bindings} {sc : Scope} 
                 onward P (case-run .moves) case-below (left-tells case-held G e K (omega arith) (omega arith))
                 (case-sum (P .ready) low kind qf l Y qu qv qs case-run (omega arith) (is-done e)) (omega (arith, P .ready .tall))
 
-            module _ {x : ℕ} (qx : x ≡ nodeOr (found heap₁ (getD slots₁ (sc .base + sc .n) 0))) where
+            module _ {x : ℕ} (qx : x ≡ nodeOr (bound heap₁ (r .state) (sc .n))) where
+              case-left : x ≡ nodeOr (found heap₂ (getD slots₂ (sc .base + sc .n) 0))
+              case-left = left-node case-held G e K (sc .base + sc .n) (G .slot e) (in-slot case-held G e (sc .n) (P .ready .binds .within) (omega arith) qx)
+
               pub case-node : x < m₂ .top
-              case-node = rw (left-node case-held G e K (sc .base + sc .n) (G .slot e) qx) (case-run .there (is-done e))
+              case-node = rw case-left (case-run .there (is-done e))
 
               pub case-gone : {heap₃ slots₃ : List ℕ} {m₃ : Machine} {r₂ : Out}
                   → Gone 1 heap₂ heap₃ slots₂ slots₃ m₂ m₃ sc r₂ (runAt code heap₂ slots₂ m₂ sc u (ofKind side (valueAt heap₂ x) (valueAt heap₂ x)) (room - 1))
                   → Stepped heap₃ slots₃ m₃ r₂
               case-gone E = gone-then case-below E
-                  (case-done (P .ready) low kind qf l Y qu qv qs case-run (omega arith) (is-done e) (rw (left-node case-held G e K (sc .base + sc .n) (G .slot e) qx) at (E .ran)))
+                  (case-done (P .ready) low kind qf l Y qu qv qs case-run (omega arith) (is-done e) (rw case-left at (E .ran)))
 
 ----------------------------------------------------------------
 -- By the numbers that a run is lent: the bodies of let and let pair, and a branch, each in its scope

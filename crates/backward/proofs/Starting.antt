@@ -15,7 +15,7 @@ use package.Rattle.calls.specs.Entries.{TypeEntry}
 use package.Rattle.decoded.specs.Rows.{bodyIn, programIn, treeIn}
 use package.Rattle.decoded.proofs.Trees.{called-body, called-tree}
 use package.Rattle.values.specs.Nodes.{valueAt}
-use package.Rattle.scopes.specs.Bindings.{View}
+use package.Rattle.scopes.specs.Bindings.{View, bound}
 use package.Rattle.scopes.specs.Slots.{Machine, Scope, machineOf, slotsOf, scopeIn, found, nodeOr}
 use package.Rattle.scopes.specs.declared.bindings.Bindings.{Bindings}
 use package.Rattle.scopes.proofs.Views.{tells-first}
@@ -26,7 +26,7 @@ use package.Rattle.backward.specs.Ready.{Ready, RanUnder, Prepared, Prep
 use package.Rattle.backward.specs.Calls.{Starts, returned, Returns, StartsIn, valuesScope}
 use package.Rattle.backward.proofs.Runs.{refusal-after, not-done, small-top}
 use package.Rattle.backward.proofs.Stops.{is-stopped}
-use package.Rattle.backward.proofs.Leaving.{held-under, looked}
+use package.Rattle.backward.proofs.Leaving.{held-under, looked, in-slot}
 use package.Rattle.backward.proofs.Calling.{arguments-state, body-ready}
 use Rattle.backward.specs.declared.outcomes.Out.{Out}
 
@@ -125,10 +125,11 @@ module _ {code heap st : List ℕ} {q g node room : ℕ} (S : StartsIn code heap
             (innerOf heap′ (r .stop) slots′ m′ (valuesScope q))
         all-done = start-done (S .starts) qu (here .ran)
 
-        pub input-there : {x : ℕ} → x ≡ nodeOr (found heap′ (getD slots′ (sc .base + sc .n) 0)) → {stop : ℕ} → stop ≡ r .stop
+        pub input-there : r .stop ≡ 0 → {x : ℕ} → x ≡ nodeOr (bound heap′ (r .state) (sc .n)) → {stop : ℕ} → stop ≡ r .stop
             → Returns code heap heap′ (slotsOf st) slots′ (machineOf st) (scopeView (slotsOf st) (valuesScope q)) q g node room
             (record { out = outcomeOf stop slots′ m′ (valuesScope q); newest = x })
-        input-there e f = rw (e, f, w) all-done
+        input-there e qx f =
+            rw (in-slot (held-under (S .starts .machine) refl here) here e q (omega arith) (omega arith) (rw w at qx), f) all-done
 
         pub input-missing : ¬ (r .stop ≡ 0)
             → Returns code heap heap′ (slotsOf st) slots′ (machineOf st) (scopeView (slotsOf st) (valuesScope q)) q g node room

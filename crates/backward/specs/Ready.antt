@@ -16,7 +16,7 @@ use package.Rattle.decoded.specs.Rows.{termCount, treeIn, programIn, Rows}
 use package.Rattle.values.specs.Nodes.{nodeBytes, ofKind, valueAt, Agree, kindAt as nodeKind}
 use package.Rattle.scopes.specs.Slots.{unknown, slotCount, stateCount, Machine, Scope, machineOf, slotsOf, scopeIn, found, nodeOr, Slot, Slots}
 use package.Rattle.scopes.specs.Cells.{cellCount}
-use package.Rattle.scopes.specs.Bindings.{View, stateOf, stateIn, Bound, Left, Tells, seen, Looks, MeetsAt}
+use package.Rattle.scopes.specs.Bindings.{View, stateOf, stateIn, Bound, Left, Tells, bound, seen, Looks, MeetsAt}
 use package.Rattle.scopes.specs.declared.bindings.Bindings.{Bindings}
 use package.Rattle.yields.specs.Yields.{ancillaeAt, ancillaeIn}
 use package.Rattle.forward.specs.Ready.{Graph}
@@ -146,11 +146,11 @@ pub record GoneUnder (heap heap′ slots slots′ : List ℕ) (m m′ : Machine)
   pub below : (j : ℕ) → j < sc .base → getD slots j 0 ≡ getD slots′ j 0
   pub tells : r .stop ≡ 0 → Tells heap′ slots′ (r .state) (sc .base) (sc .q) (sc .n + 1) (m′ .top)
 
--- The newest variable, the one above scope `sc`, can be looked up, and its slot says what the state says.
+-- The newest variable, the one above scope `sc`, can be looked up: in its slot the state sees what it binds it to.
 pub record Leavable (heap slots : List ℕ) (b : Bindings) (sc : Scope) (top : ℕ) : Type 0 where
   pub there : sc .base + sc .n < slotCount
   pub looks : Looks heap b (getD slots (sc .base + sc .n) 0) top
-  pub told : seen heap b (getD slots (sc .base + sc .n) 0) ≡ found heap (getD slots (sc .base + sc .n) 0)
+  pub told : seen heap b (getD slots (sc .base + sc .n) 0) ≡ bound heap b (sc .n)
 
 -- what is run, by the slots of a scope
 abbrev pub runAt : (code heap slots : List ℕ) → Machine → Scope → ℕ → Val → ℕ → List TypeEntry → Res State
@@ -223,8 +223,8 @@ pub record RunsUnder (code heap heap′ st st′ : List ℕ) (scope t node room 
       (underAt code heap (slotsOf st) (machineOf st) (scopeIn scope) t (valueAt heap node) room)
 
 -- Variable `i` was met at term `t`: 16 where the values differ.
-pub record Variable (heap heap′ st st′ : List ℕ) (b : Bindings) (base i node t : ℕ) (r : Out) : Type 0 where
-  pub met : MeetsAt heap heap′ st st′ b base i node (record { agrees = eqb (r .stop) 0; state = r .state })
+pub record Variable (heap heap′ st st′ : List ℕ) (b : Bindings) (sc : Scope) (i node t : ℕ) (r : Out) : Type 0 where
+  pub met : MeetsAt heap heap′ st st′ b sc i node (record { agrees = eqb (r .stop) 0; state = r .state })
   pub differs : (r .stop ≡ 0 → ⊥) → statusOf (r .stop) ≡ Refused (NoInput t)
 
 -- The unit was met with a value.

@@ -1,7 +1,7 @@
 // Backward evaluation of a decoded program. `back` tests fuel and height, takes one unit of fuel, and hands the term to the function of its
-// kind, which runs the term's parts and hands the binding state on. Every value is a node; `over` and `over_pair` make new ones. The variables'
-// nodes stand in the lent numbers `st`, behind the machine; a function that is called has its scope behind its caller's. Laws: proofs/Entering
-// to Calling, in code proofs/Arriving to Called.
+// kind, which runs the term's parts and hands the binding state on. Every value is a node; `over` and `over_pair` make new ones. The slots
+// of scopes stand in the lent numbers `st`, behind the machine, and find the cells of the state; a function that is called has its scope behind
+// its caller's. Laws: proofs/Entering to Calling, in code proofs/Arriving to Called.
 use crate::arguments;
 use crate::outcomes;
 use crate::outcomes::Out;

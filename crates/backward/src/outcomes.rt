@@ -17,11 +17,10 @@ use values::nodes;
 ghost use mathlib.Core.Path.{_≡_};
 ghost use mathlib.Core.Bool.{cond};
 ghost use Prim.Native.Nat.{_+_, _≤_, _<_};
-ghost use lib.ListN.{getD};
 ghost use Rattle.decoded.specs.Rows.{firstIn, secondIn, thirdIn};
 ghost use Rattle.values.specs.Nodes.{Room};
-ghost use Rattle.scopes.specs.Slots.{unknown, machineOf, slotsOf, scopeIn, found, nodeOr};
-ghost use Rattle.scopes.specs.Bindings.{CellReady, Adds, Meetable};
+ghost use Rattle.scopes.specs.Slots.{unknown, machineOf, slotsOf, scopeIn, nodeOr};
+ghost use Rattle.scopes.specs.Bindings.{bound, CellReady, Adds, Meetable};
 ghost use Rattle.forward.specs.Outcomes.{refusalIn};
 ghost use Rattle.backward.specs.Outcomes.{Refused, carried, whyOf, statusOf, tooLong, against, mismatch};
 ghost use Rattle.backward.specs.Ready.{WidenReady, Widened, Variable, UnitMet, Leavable};
@@ -136,13 +135,12 @@ pub fn variable(
     node: u32,
 ) -> Out
     requires { ⌜ t < 1024 ⌝ }
-    requires { ⌜ Meetable (now ws) (now st) b (scopeIn scope .base) (firstIn (now code) t) ⌝ }
+    requires { ⌜ Meetable (now ws) (now st) b (scopeIn scope) (firstIn (now code) t) ⌝ }
     requires { ⌜ node < machineOf (now st) .top ⌝ }
-    ensures { λ r. ⌜ Variable (now (ws .entry)) (now (ws .exit)) (now (st .entry)) (now (st .exit)) b (scopeIn scope .base) (firstIn (now (code .entry)) t) node t r ⌝ }
+    ensures { λ r. ⌜ Variable (now (ws .entry)) (now (ws .exit)) (now (st .entry)) (now (st .exit)) b (scopeIn scope) (firstIn (now (code .entry)) t) node t r ⌝ }
 {
     let i = rows::first_of(code, t);
-    let base = state::base_in(scope);
-    let met = b.meet(ws, st, base, i, node);
+    let met = b.meet(ws, st, scope, i, node);
     let agrees = met.agrees;
     let c = met.state;
     if agrees {
@@ -172,10 +170,10 @@ pub fn widen(st: &mut [u32; STATE], scope: u64) -> u64
     state::wider(scope)
 }
 
-// The newest variable of a scope, the one above `scope`: its node, or node 0, the unit, if it was never met.
+// The newest variable of a scope, the one above `scope`: its node in the state, or node 0, the unit, if it was never met.
 pub fn leave(ws: &[u8], st: &[u32; STATE], b: Bindings, scope: u64) -> u32
     requires { ⌜ Leavable (now ws) (slotsOf (now st)) b (scopeIn scope) (machineOf (now st) .top) ⌝ }
-    ensures { λ r. ⌜ r ≡ nodeOr (found (now (ws .entry)) (getD (slotsOf (now (st .entry))) (scopeIn scope .base + scopeIn scope .n) 0)) ⌝ }
+    ensures { λ r. ⌜ r ≡ nodeOr (bound (now (ws .entry)) b (scopeIn scope .n)) ⌝ }
 {
     b.node_of(ws, st, state::end_of(scope))
 }

@@ -4,7 +4,6 @@ use native.Mathlib.Omega.{arith}
 use native.Mathlib.Decide.{decLt}
 use mathlib.Core.Path.{_≡_, refl, sym, ap, _∙_}
 use mathlib.Core.Bool.{Bool, true, false, not}
-use mathlib.Core.Logic.{⊎-elim}
 use mathlib.Core.List.{List}
 use lib.ListN.{getD}
 use lib.Dec.{eqb}
@@ -23,7 +22,7 @@ use package.Rattle.scopes.proofs.Marks.{found-mark, found-below, slot-in, slot-
 use package.Rattle.scopes.specs.declared.slots.Found.{Found}
 use package.Rattle.scopes.specs.declared.slots.Found.the-variants.{Node, Unknown}
 use package.Rattle.yields.specs.Yields.{ancillaeIn, MayYield, Asks}
-use package.Rattle.forward.specs.Outcomes.{Out, stopped, statusOf, refusalOf, meaning, foundOut, Finds, outOf}
+use package.Rattle.forward.specs.Outcomes.{Out, statusOf, refusalOf, meaning, foundOut, Finds, outOf}
 use package.Rattle.forward.specs.Ready.{Graph, FindReady, Unrolls, Unrolled, CheckReady, Checks}
 use package.Rattle.forward.proofs.Answers.{below-mark, is-value}
 use package.Rattle.forward.proofs.Runs.{meaning-value, meaning-refused, refusal-after}

@@ -9,6 +9,8 @@ pub mod Cells
 pub mod Bound
 -- from the state in code to its view
 pub mod Views
+-- older states
+pub mod Older
 -- a variable is met, in code
 pub mod Meeting
 -- the numbers that a run is lent

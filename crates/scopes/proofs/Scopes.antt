@@ -13,7 +13,7 @@ use borrow.Author.Tests.{eqb-true, eqb-false}
 use package.Rattle.rules.specs.Val.{Val}
 use package.Rattle.rules.specs.Machine.{known}
 use package.Rattle.rules.proofs.Known.{known-new, known-skip, known-none}
-use package.Rattle.values.specs.Nodes.{valueAt, Heap, Agree}
+use package.Rattle.values.specs.Nodes.{Heap, Agree}
 use package.Rattle.values.proofs.Heaps.{value-kept}
 use package.Rattle.scopes.specs.Slots.{unknown, found, slotAt, meaning, stateAt, Slot, Slots}
 use package.Rattle.scopes.proofs.Marks.{found-mark, found-below, found-later, slot-in, slot-out}
@@ -66,7 +66,7 @@ state-same heap slots slots′ base (suc n) s =
     ap₂ _∷_ (ap (λ k. meaning heap (found heap k)) (s (base + n) (omega arith))) (state-same heap slots slots′ base n λ j l. s j (omega arith))
 
 -- a slot's meaning, on a heap that has grown
-meaning-kept : {heap heap′ : List ℕ} {top s : ℕ} → Heap heap top → Agree top heap heap′ → Slot heap s top → top ≤ unknown
+pub meaning-kept : {heap heap′ : List ℕ} {top s : ℕ} → Heap heap top → Agree top heap heap′ → Slot heap s top → top ≤ unknown
     → meaning heap (found heap s) ≡ meaning heap′ (found heap′ s)
 meaning-kept {heap} {heap′} {top} {s} H A S small = go (eqb s unknown) refl
   where

@@ -4,20 +4,18 @@ use Prim.Native.Nat.{ℕ, zero, suc, _+_, _-_, _<_, _≤_}
 use native.Mathlib.Omega.{arith}
 use native.Mathlib.Decide.{decLt}
 use mathlib.Core.Path.{_≡_, refl, sym, ap, ap₂, subst, _∙_}
-use mathlib.Core.Bool.{Bool, true, false, cond}
+use mathlib.Core.Bool.{Bool, true, false}
 use mathlib.Core.List.{List, _∷_}
-use mathlib.Core.Logic.{⊎-elim, inl as left, inr as right}
 use lib.ListN.{length, getD, set, length-set}
 use lib.Seq.{getD-set-same, getD-set-other, ext-getD}
-use lib.Dec.{eqb, ltb}
+use lib.Dec.{eqb}
 use borrow.Author.Tests.{eqb-true, eqb-false, lt-ltb, le-ltb}
 use package.Rattle.rules.specs.Val.{same}
-use package.Rattle.values.specs.Nodes.{leftAt, valueAt, Heap, Agree, Celled}
-use package.Rattle.scopes.specs.Slots.{unknown, slotCount, found, nodeOr, meaning, stateAt, Scope, machineOf, slotsOf, Slot, Slots}
+use package.Rattle.values.specs.Nodes.{leftAt, valueAt, Agree, Celled}
+use package.Rattle.scopes.specs.Slots.{unknown, found, nodeOr, meaning, stateAt, Scope, slotsOf, Slot}
 use package.Rattle.scopes.specs.Cells.{cellCount, Linked, cellAt, numberIn, stateWith}
-use package.Rattle.scopes.specs.Bindings.{slotsFrom, viewOf, stateOf, stateIn, Bound, Opens, Meets, Tells, seen, Compared, Assigns, MeetsBy, MeetsAt}
+use package.Rattle.scopes.specs.Bindings.{slotsFrom, viewOf, stateOf, Bound, Opens, Meets, Tells, said, seen, Compared, Assigns, MeetsBy, MeetsAt}
 use package.Rattle.scopes.proofs.Marks.{found-mark, found-below, found-cell, node-or, node-none}
-use package.Rattle.scopes.proofs.Scopes.{state-kept}
 use package.Rattle.scopes.proofs.Cells.{cell-empty, cell-le, cell-kept, binds-it, binds-no-other, leaves-older, leaves-none}
 use Rattle.scopes.specs.declared.slots.Found.{Found}
 use Rattle.scopes.specs.declared.slots.Found.the-variants.{Node, Unknown}
@@ -93,17 +91,27 @@ view-opens slots base n x l h = record { slots = view-set slots base n x l h; le
 ----------------------------------------------------------------
 -- The state and its index
 
+-- a slot's number is the state's
+number-told : (heap slots : List ℕ) (b : Bindings) (sc : Scope) (n top : ℕ) → Tells heap slots b (sc .base) (sc .q) n top → (i : ℕ) → i < n
+    → numberIn heap slots (b .head) sc i ≡ getD slots (sc .base + i) 0
+number-told heap slots b sc n top T i l = go (decLt i (sc .q))
+  where
+    go : Dec (i < sc .q) → numberIn heap slots (b .head) sc i ≡ getD slots (sc .base + i) 0
+    go (yes m) = rw (lt-ltb i (sc .q) m)
+    go (no m) = rw (le-ltb i (sc .q) (omega arith)) (sym (T .index i (omega arith) l))
+
+-- what the state says is what the slot says
+pub said-told : (heap slots : List ℕ) (b : Bindings) (sc : Scope) {n top : ℕ} → Tells heap slots b (sc .base) (sc .q) n top → (i : ℕ) → i < n
+    → said heap slots b sc i ≡ found heap (getD slots (sc .base + i) 0)
+said-told heap slots b sc {n} {top} T i l = ap (found heap) (number-told heap slots b sc n top T i l)
+
 -- the first variables of a scope, by the state and by the slots
 state-told : (heap slots : List ℕ) (b : Bindings) (sc : Scope) (n top : ℕ) → Tells heap slots b (sc .base) (sc .q) n top → (m : ℕ) → m ≤ n
     → stateWith heap slots (b .head) sc m ≡ stateAt heap slots (sc .base) m
 unfolding stateAt stateWith
 state-told heap slots b sc n top T zero le = refl
 state-told heap slots b sc n top T (suc m) le =
-    ap₂ (λ x σ. meaning heap (found heap x) ∷ σ) (number (decLt m (sc .q))) (state-told heap slots b sc n top T m (omega arith))
-  where
-    number : Dec (m < sc .q) → numberIn heap slots (b .head) sc m ≡ getD slots (sc .base + m) 0
-    number (yes l) = rw (lt-ltb m (sc .q) l)
-    number (no l) = rw (le-ltb m (sc .q) (omega arith)) (sym (T .index m (omega arith) (omega arith)))
+    ap₂ (λ x σ. meaning heap (found heap x) ∷ σ) (number-told heap slots b sc n top T m (omega arith)) (state-told heap slots b sc n top T m (omega arith))
 
 -- The rules' state that a state by value is: that of the view.
 pub view-told : (heap slots : List ℕ) (b : Bindings) (sc : Scope) (top : ℕ) → Tells heap slots b (sc .base) (sc .q) (sc .n) top → sc .n ≤ 32
@@ -126,15 +134,6 @@ tells-later slots′ {b} top′ T A le same = record {
   index = λ i l m. sym (same i m) ∙ T .index i l m ∙ ap (λ c. unknown + c) (cell-kept A (b .head) i (T .within));
   outside = λ i l. sym (cell-kept A (b .head) i (T .within)) ∙ T .outside i l;
 }
-
--- An older state stays what it was.
-pub state-older : {heap heap′ slots : List ℕ} {b : Bindings} (sc : Scope) {top : ℕ} → Heap heap top → Agree top heap heap′
-    → Tells heap slots b (sc .base) (sc .q) (sc .n) top → Slots heap slots (sc .base + sc .n) top → top ≤ unknown
-    → stateIn heap slots b sc ≡ stateIn heap′ slots b sc
-state-older {heap} {heap′} {slots} {b} sc {top} H A T S small =
-    state-told heap slots b sc (sc .n) top T (sc .n) (omega arith)
-    ∙ state-kept heap heap′ slots (sc .base) (sc .n) top H A S small
-    ∙ sym (state-told heap′ slots b sc (sc .n) top (tells-later slots top T A (omega arith) (λ i l. refl)) (sc .n) (omega arith))
 
 -- a variable comes into scope
 pub tells-opened : {heap slots : List ℕ} {b : Bindings} {base q n top : ℕ} → Tells heap slots b base q n top → base + n < length slots
@@ -200,17 +199,17 @@ told-seen {heap} {slots} {b} {base} {q} T small known i l = seen-found heap b _ 
     go (no m) = omega (arith, T .index i (omega arith) l, cell-le heap i (b .head))
 
 -- by what the slot says
-pub by-slot : {heap heap′ st st′ : List ℕ} {b : Bindings} {base i node top : ℕ} {r : Met} → MeetsAt heap heap′ st st′ b base i node r
-    → seen heap b (getD (slotsOf st) (base + i) 0) ≡ found heap (getD (slotsOf st) (base + i) 0) → Slot heap (getD (slotsOf st) (base + i) 0) top → top ≤ unknown
-    → {P : Type 0} → (getD (slotsOf st) (base + i) 0 ≡ unknown → Assigns heap heap′ st st′ b base i node r → P)
-    → ((old : ℕ) → (getD (slotsOf st) (base + i) 0 ≡ unknown → ⊥) → found heap (getD (slotsOf st) (base + i) 0) ≡ Node old
+pub by-slot : {heap heap′ st st′ : List ℕ} {b : Bindings} (sc : Scope) {i node top : ℕ} {r : Met} → MeetsAt heap heap′ st st′ b sc i node r
+    → said heap (slotsOf st) b sc i ≡ found heap (getD (slotsOf st) (sc .base + i) 0) → Slot heap (getD (slotsOf st) (sc .base + i) 0) top → top ≤ unknown
+    → {P : Type 0} → (getD (slotsOf st) (sc .base + i) 0 ≡ unknown → Assigns heap heap′ st st′ b (sc .base) i node r → P)
+    → ((old : ℕ) → (getD (slotsOf st) (sc .base + i) 0 ≡ unknown → ⊥) → found heap (getD (slotsOf st) (sc .base + i) 0) ≡ Node old
     → Compared heap heap′ st st′ b old node r → P) → P
-by-slot {heap} {heap′} {st} {st′} {b} {base} {i} {node} {r = r} M e S small {P} binding comparing = go (eqb (getD (slotsOf st) (base + i) 0) unknown) refl
+by-slot {heap} {heap′} {st} {st′} {b} sc {i} {node} {r = r} M e S small {P} binding comparing = go (eqb (getD (slotsOf st) (sc .base + i) 0) unknown) refl
   where
-    told : (f : Found) → found heap (getD (slotsOf st) (base + i) 0) ≡ f → MeetsBy heap heap′ st st′ b base i node r f
-    told f q = subst (MeetsBy heap heap′ st st′ b base i node r) (e ∙ q) (M .met)
+    told : (f : Found) → found heap (getD (slotsOf st) (sc .base + i) 0) ≡ f → MeetsBy heap heap′ st st′ b (sc .base) i node r f
+    told f q = subst (MeetsBy heap heap′ st st′ b (sc .base) i node r) (e ∙ q) (M .met)
 
-    go : (y : Bool) → eqb (getD (slotsOf st) (base + i) 0) unknown ≡ y → P
+    go : (y : Bool) → eqb (getD (slotsOf st) (sc .base + i) 0) unknown ≡ y → P
     go true q = let u = eqb-true _ unknown q in binding u (told Unknown (found-mark heap _ u))
     go false q = let u = eqb-false _ unknown q in found-below S small u λ old low z. comparing old u z (told (Node old) z)
 

@@ -10,8 +10,8 @@ use lib.Dec.{ltb}
 use package.Rattle.rules.specs.Val.{same}
 use package.Rattle.rules.specs.Machine.{State}
 use package.Rattle.values.specs.Nodes.{valueAt, Room, Heap}
-use package.Rattle.scopes.specs.Slots.{unknown, slotCount, stateCount, Machine, Scope, machineOf, slotsOf, Moved, found, nodeOr, stateAt, Slot, Slots}
-use package.Rattle.scopes.specs.Cells.{cellCount, Linked, cellAt, stateWith}
+use package.Rattle.scopes.specs.Slots.{unknown, slotCount, stateCount, Scope, machineOf, slotsOf, Moved, found, nodeOr, stateAt, Slot, Slots}
+use package.Rattle.scopes.specs.Cells.{cellCount, Linked, cellAt, numberIn, stateWith}
 use Rattle.scopes.specs.declared.slots.Found.{Found}
 use Rattle.scopes.specs.declared.slots.Found.the-variants.{Node, Unknown}
 use Rattle.scopes.specs.declared.bindings.Bindings.{Bindings}
@@ -77,6 +77,14 @@ pub record Tells (heap slots : List ℕ) (b : Bindings) (base q n top : ℕ) : T
   pub index : (i : ℕ) → q ≤ i → i < n → getD slots (base + i) 0 ≡ unknown + cellAt heap (b .head) i
   pub outside : (i : ℕ) → n ≤ i → cellAt heap (b .head) i ≡ 0
 
+-- what a state binds variable `i` to
+abbrev pub bound : List ℕ → Bindings → ℕ → Found
+bound heap b i = found heap (unknown + cellAt heap (b .head) i)
+
+-- What a state says of variable `i` of a scope: a function of the state and the cells that it names. (Of an ancilla parameter it is its node.)
+abbrev pub said : (heap slots : List ℕ) → Bindings → Scope → ℕ → Found
+said heap slots b sc i = found heap (numberIn heap slots (b .head) sc i)
+
 -- What a slot's number says in a state: a cell that is newer than the state does not count.
 unfoldable pub seen : List ℕ → Bindings → ℕ → Found
 seen heap b s = elim (ltb (unknown + b .head) s) [ true ↦ Unknown | false ↦ found heap s ]
@@ -103,11 +111,13 @@ pub record Adds (heap heap′ st st′ : List ℕ) (b : Bindings) (x i : ℕ) (r
   pub moved : Moved st st′ (record { top = machineOf st .top + 1; fuel = machineOf st .fuel })
   pub head : r .head ≡ machineOf st .top
 
--- variable `i` can be met: it has a slot, which names a node or a cell that are there
-pub record Meetable (heap st : List ℕ) (b : Bindings) (base i : ℕ) : Type 0 where
+-- Variable `i` can be met: it has a slot, which names a node or a cell that are there, and in which the state sees what it says. (The slot may
+-- name a newer cell; then the state does not bind the variable.)
+pub record Meetable (heap st : List ℕ) (b : Bindings) (sc : Scope) (i : ℕ) : Type 0 where
   pub cell : CellReady heap st b i
-  pub there : base + i < slotCount
-  pub slot : Slot heap (getD (slotsOf st) (base + i) 0) (machineOf st .top)
+  pub there : sc .base + i < slotCount
+  pub slot : Slot heap (getD (slotsOf st) (sc .base + i) 0) (machineOf st .top)
+  pub reads : seen heap b (getD (slotsOf st) (sc .base + i) 0) ≡ said heap (slotsOf st) b sc i
 
 -- it is compared with what it is bound to, and all is as it was
 pub record Compared (heap heap′ st st′ : List ℕ) (b : Bindings) (old node : ℕ) (r : Met) : Type 0 where
@@ -130,5 +140,5 @@ abbrev pub MeetsBy : (heap heap′ st st′ : List ℕ) → Bindings → ℕ →
 MeetsBy heap heap′ st st′ b base i node r (Node old) = Compared heap heap′ st st′ b old node r
 MeetsBy heap heap′ st st′ b base i node r Unknown = Assigns heap heap′ st st′ b base i node r
 
-pub record MeetsAt (heap heap′ st st′ : List ℕ) (b : Bindings) (base i node : ℕ) (r : Met) : Type 0 where
-  pub met : MeetsBy heap heap′ st st′ b base i node r (seen heap b (getD (slotsOf st) (base + i) 0))
+pub record MeetsAt (heap heap′ st st′ : List ℕ) (b : Bindings) (sc : Scope) (i node : ℕ) (r : Met) : Type 0 where
+  pub met : MeetsBy heap heap′ st st′ b (sc .base) i node r (said heap (slotsOf st) b sc i)

@@ -9,7 +9,7 @@ use crate::state::STATE;
 ghost use mathlib.Core.Path.{_≡_};
 ghost use Prim.Native.Nat.{_<_};
 ghost use lib.ListN.{getD};
-ghost use Rattle.scopes.specs.Slots.{unknown, slotCount, machineOf, slotsOf, nodeOr};
+ghost use Rattle.scopes.specs.Slots.{unknown, slotCount, machineOf, slotsOf, scopeIn, nodeOr};
 ghost use Rattle.scopes.specs.Bindings.{seen, Looks, CellReady, Adds, Meetable, MeetsAt};
 
 // Cells and nodes have numbers below this one.
@@ -55,14 +55,14 @@ impl Bindings {
         Bindings { head: top }
     }
 
-    // Variable i of the scope from slot `base` on is met with a node's value: it is bound, or compared.
-    pub fn meet(self, ws: &mut [u8], st: &mut [u32; STATE], base: usize, i: u16, node: u32) -> Met
-        requires { ⌜ Meetable (now ws) (now st) self base i ⌝ }
+    // Variable i of a scope is met with a node's value: it is bound, or compared, as the state says.
+    pub fn meet(self, ws: &mut [u8], st: &mut [u32; STATE], scope: u64, i: u16, node: u32) -> Met
+        requires { ⌜ Meetable (now ws) (now st) self (scopeIn scope) i ⌝ }
         requires { ⌜ node < machineOf (now st) .top ⌝ }
-        ensures { λ r. ⌜ MeetsAt (now (ws .entry)) (now (ws .exit)) (now (st .entry)) (now (st .exit)) self base i node r ⌝ }
+        ensures { λ r. ⌜ MeetsAt (now (ws .entry)) (now (ws .exit)) (now (st .entry)) (now (st .exit)) self (scopeIn scope) i node r ⌝ }
     {
         let top = state::top(st);
-        let at = base + octets::wide_index(i);
+        let at = state::base_in(scope) + octets::wide_index(i);
         match self.seen(ws, top, slots::at(st, at)) {
             Found::Node(old) => Met {
                 agrees: values::nodes::same(ws, top, old, node),

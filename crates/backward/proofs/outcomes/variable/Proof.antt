@@ -9,15 +9,11 @@ use Rattle.backward.proofs.outcomes.variable.Tie as tie
 first-of-requires : tie.Need-first-of-requires
 first-of-requires c κs = search needs
 
-base-in-requires : tie.Need-base-in-requires
-base-in-requires c κs = search needs
-
 meet-requires : tie.Need-meet-requires
 meet-requires c κs =
-    let base = c .before .before .base-in .ensures in
-    let first = c .before .before .before .first-of .ensures in
-    let start = c .before .before .before .before .before in
-    (meetable-same base first (start .pre .1 .0), start .pre .1 .1)
+    let first = c .before .before .first-of .ensures in
+    let start = c .before .before .before .before in
+    (meetable-same first (start .pre .1 .0), start .pre .1 .1)
 
 same-length : tie.Need-same-length
 same-length c = search needs
@@ -25,10 +21,9 @@ same-length c = search needs
 returns : tie.Need-returns
 returns c =
     let met = c .before .before .before .before .meet .ensures in
-    let base = c .before .before .before .before .before .before .before .base-in .ensures in
-    let first = c .before .before .before .before .before .before .before .before .first-of .ensures in
-    let start = c .before .before .before .before .before .before .before .before .before .before in
-    agrees-out met base first (start .args .t) (c .if1 .taken)
+    let first = c .before .before .before .before .before .before .before .first-of .ensures in
+    let start = c .before .before .before .before .before .before .before .before .before in
+    agrees-out met first (start .args .t) (c .if1 .taken)
 
 no-input-requires : tie.Need-no-input-requires
 no-input-requires c κs = search needs
@@ -40,10 +35,9 @@ returns-2 : tie.Need-returns-2
 returns-2 c =
     let none = c .no-input .ensures in
     let met = c .before .before .before .before .before .meet .ensures in
-    let base = c .before .before .before .before .before .before .before .before .base-in .ensures in
-    let first = c .before .before .before .before .before .before .before .before .before .first-of .ensures in
-    let start = c .before .before .before .before .before .before .before .before .before .before .before in
-    rw (none .1) (differs-out met base first (start .args .t) (c .before .if1 .left)
+    let first = c .before .before .before .before .before .before .before .before .first-of .ensures in
+    let start = c .before .before .before .before .before .before .before .before .before .before in
+    rw (none .1) (differs-out met first (start .args .t) (c .before .if1 .left)
     (ap (λ (o : Out). statusOf (o .stop)) (sym (none .1)) ∙ none .0))
 
 pub variable-spec : {M : Type 1} → statement M
@@ -51,7 +45,6 @@ variable-spec =
     tie.close
     (tie.spec
     first-of-requires
-    base-in-requires
     meet-requires
     same-length
     returns

@@ -73,7 +73,7 @@ returns-2 c =
     let body = c .before .before .before .before .before .before .before .before .before .before .before .before .before .body-of .ensures in
     let start = c .before .before .before .before .before .before .before .before .before .before .before .before .before .before .before in
     let ran = ran-under (begin-inner (start .pre) scope body none) (begin-few (start .pre) scope body) widen (start .pre .starts .value) back in
-    record { lengths = ran .lengths; returns = input-there (start .pre) scope body (ran .gone) (c .leave .ensures) (sym (stop .left)) }
+    record { lengths = ran .lengths; returns = input-there (start .pre) scope body (ran .gone) (stop .left) (c .leave .ensures) (sym (stop .left)) }
 
 pub run-spec : {M : Type 1} → statement M
 run-spec =

@@ -1,7 +1,6 @@
 use mathlib.Core.Path.{sym, ap, _∙_}
-use lib.ListN.{getD}
 use borrow.Author.Needs.{needs}
-use Rattle.scopes.specs.Slots.{slotsOf, nodeOr}
+use Rattle.scopes.specs.Slots.{nodeOr}
 use Rattle.scopes.specs.Bindings.{seen}
 use Rattle.scopes.proofs.Marks.{node-or, node-none}
 use Rattle.scopes.proofs.bindings.Bindings.node_of.Statement.{statement}

@@ -1,6 +1,3 @@
-use native.Mathlib.Omega.{arith}
-use mathlib.Core.Path.{ap, _∙_}
-use Prim.Native.Nat.{_+_, _*_}
 use borrow.Author.Needs.{needs}
 use Rattle.scopes.proofs.Cells.{linked}
 use Rattle.scopes.proofs.bindings.Bindings.with_cell.Statement.{statement}
