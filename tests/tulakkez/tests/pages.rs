@@ -1,5 +1,6 @@
 //! The examples of the pages: each block that begins with `fun` and a name is a file; each command in a console block prints the lines below it.
 
+use std::os::unix::fs::symlink;
 use std::path::PathBuf;
 use std::process::Command;
 use tulakkez_tests::command::{program, root, Scratch};
@@ -40,9 +41,13 @@ fn commands(block: &Block) -> Vec<(String, String)> {
     commands
 }
 
-/// Plays a page; how many commands it has. All that differ are told.
+/// Plays a page in a folder of its own; how many commands it has.
 fn plays(page: &str) -> usize {
-    let scratch = Scratch::new(&page.replace(['/', '.'], "-"));
+    plays_in(page, &Scratch::new(&page.replace(['/', '.'], "-")))
+}
+
+/// Plays a page; all commands that differ are told.
+fn plays_in(page: &str, scratch: &Scratch) -> usize {
     let bin: PathBuf = program().parent().expect("a folder").canonicalize().expect("the program's folder");
     let path = format!("{}:{}", bin.display(), std::env::var("PATH").unwrap_or_default());
     let (mut count, mut wrong) = (0, String::new());
@@ -89,4 +94,16 @@ fn every_file_of_the_language_page_is_accepted() {
 #[test]
 fn the_command() {
     assert!(plays("docs/TULAKKEZ.md") >= 20);
+}
+
+/// The front page's first call, as from the project's root.
+#[test]
+fn the_front_page() {
+    let scratch = Scratch::new("front-page");
+    let built = scratch.0.join("target/bin");
+    std::fs::create_dir_all(&built).expect("a folder for the program");
+    symlink(program().canonicalize().expect("the program"), built.join("tulakkez")).expect("a link to the program");
+    let examples = root().canonicalize().expect("the root").join("examples");
+    symlink(examples, scratch.0.join("examples")).expect("a link to the examples");
+    assert_eq!(plays_in("README.md", &scratch), 2);
 }
