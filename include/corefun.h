@@ -18,6 +18,9 @@
 extern "C" {
 #endif
 
+/* The version of the engine and of this header; CHANGELOG.md says what changes with it. */
+#define COREFUN_VERSION "0.1.0"
+
 /* What a call answers. */
 typedef struct corefun_answer {
     uint64_t number; /* the refusal's number, 1 to 20, or 0 where the call is accepted */

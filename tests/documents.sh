@@ -57,6 +57,17 @@ edits() {
     done < <(grep -oE '`[a-z0-9]+(_[a-z0-9]+)+`' docs/CLAIMS.md | tr -d '`' | LC_ALL=C sort -u)
 }
 
+# One version: the header's, the binding's, the command's and that of the newest part of the changelog.
+versions() {
+    local header binding command log
+    header=$(sed -nE 's/^#define COREFUN_VERSION "(.*)"$/\1/p' include/corefun.h)
+    binding=$(sed -nE 's/^version = "(.*)"$/\1/p' bindings/rust/Cargo.toml)
+    command=$(sed -nE 's/^version = "(.*)"$/\1/p' tools/tulakkez/Cargo.toml)
+    log=$(sed -nE 's/^## ([0-9.]+).*$/\1/p' CHANGELOG.md | head -n 1)
+    [ -n "$header" ] && [ "$header" = "$binding" ] && [ "$header" = "$command" ] && [ "$header" = "$log" ]
+    verdict "header, binding, command and changelog have one version" $?
+}
+
 # The first column of the map, and the crates.
 map() {
     diff <(sed -n '/^| crate | stands on/,/^$/p' docs/ARCHITECTURE.md | sed -nE 's/^\| ([a-z]+) \|.*/\1/p' | grep -v '^crate$' | LC_ALL=C sort) \
@@ -73,6 +84,7 @@ while IFS= read -r document; do
     modules "$document"
 done < <(documents)
 edits
+versions
 part "the map has the crates of crates.txt" map
 part "no folder of one machine" no_folder_of_a_machine
 echo "$passed passed, $failed failed"

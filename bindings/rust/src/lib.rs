@@ -18,6 +18,9 @@ pub const VALUE_BYTES: usize = 1024;
 /// Bytes of the line that answers a call of a script.
 pub const LINE_BYTES: usize = 7;
 
+/// The version of the engine and of this crate; CHANGELOG.md says what changes with it.
+pub const VERSION: &str = env!("CARGO_PKG_VERSION");
+
 /// What a run, a conversion or a rollback has done.
 #[derive(Clone, Copy, PartialEq, Eq, Debug)]
 pub struct Done {
