@@ -13,7 +13,9 @@ use package.Rattle.rules.specs.Term.{Fun, Program, scope}
 use package.Rattle.rules.specs.Typing.{dynamic}
 use package.Rattle.rules.specs.Run.{Res, ok, stop, Run, give}
 use package.Rattle.rules.specs.Machine.{backward, runForward, runBackward}
-use package.Rattle.rules.specs.Claims.{CheckIffTyped, InferIffTypes, TypeUnique, BranchesUseTheSame, Carries, Wider, ForwardIffRules, NoValue, Steady, MoreNeverChanges, StepsAreTheRules, BackwardThenForward, OfTyped, BackwardIffRules, BackwardIffForward, Injective, NoInput, NeverStuck, KeepsTypes}
+use package.Rattle.rules.specs.Claims.{CheckIffTyped, InferIffTypes, TypeUnique, BranchesUseTheSame, Carries, Wider, ForwardIffRules, NoValue, Steady}
+use package.Rattle.rules.specs.Claims.{MoreNeverChanges, StepsAreTheRules, BackwardThenForward, OfTyped, BackwardIffRules, BackwardIffForward, Injective}
+use package.Rattle.rules.specs.Claims.{NoInput, NeverStuck, KeepsTypes}
 use package.Rattle.rules.proofs.OfType.{OfType, OfTypes, of-type-iff, of-types-iff}
 use package.Rattle.rules.proofs.Backward.Outcome.{back-outcome}
 use package.Rattle.rules.proofs.Backward.Pop.{ready-call, call-pop}

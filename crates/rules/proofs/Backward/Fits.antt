@@ -14,7 +14,8 @@ use package.Rattle.rules.specs.Term.{Term, var, tunit, tinl, tinr, tpair
 use package.Rattle.rules.specs.Yield.{mayYield}
 use package.Rattle.rules.specs.Run.{ok, Run, _>>=_, give, refuse}
 use package.Rattle.rules.specs.Machine.{State, bindOr, meet, leave, forward, backwardStep, backward, runBackward}
-use package.Rattle.rules.proofs.Numbers.{Ends, answers, refuses, sticks, ends-after, ends-enter, ends-test, ends-some, ends-sum, ends-pair, ends-roll, ends-unit, ends-map, ends-wider, answer-ends, EndsForward, each-ends, forward-ends}
+use package.Rattle.rules.proofs.Numbers.{Ends, answers, refuses, sticks, ends-after, ends-enter, ends-test, ends-some, ends-sum, ends-pair, ends-roll}
+use package.Rattle.rules.proofs.Numbers.{ends-unit, ends-map, ends-wider, answer-ends, EndsForward, each-ends, forward-ends}
 
 module _ (fits : Val → Bool) where
   ----------------------------------------------------------------

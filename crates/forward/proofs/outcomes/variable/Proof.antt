@@ -27,10 +27,14 @@ refuse-requires : tie.Need-refuse-requires
 refuse-requires c κs = search needs
 
 returns : tie.Need-returns
-returns c = finds-node _ (c .before .before .before .before .before .before .before .pre) (rw (c .before .before .before .before .before .base-in .ensures, c .before .before .before .before .count-in .ensures) at (sym (c .before .before .before .find .ensures) ∙ c .before .node .given .1))
+returns c =
+    let found = sym (c .before .before .before .find .ensures) ∙ c .before .node .given .1 in
+    finds-node _ (c .before .before .before .before .before .before .before .pre) (rw (c .before .before .before .before .before .base-in .ensures, c .before .before .before .before .count-in .ensures) at found)
 
 returns-2 : tie.Need-returns-2
-returns-2 c = finds-none (rw (c .before .before .before .before .before .base-in .ensures, c .before .before .before .before .count-in .ensures) at (sym (c .before .before .before .find .ensures) ∙ c .before .enum-told .given .1)) (is-stuck (c .refuse .ensures))
+returns-2 c =
+    let found = sym (c .before .before .before .find .ensures) ∙ c .before .enum-told .given .1 in
+    finds-none (rw (c .before .before .before .before .before .base-in .ensures, c .before .before .before .before .count-in .ensures) at found) (is-stuck (c .refuse .ensures))
 
 pub variable-spec : {M : Type 1} → statement M
 variable-spec =

@@ -48,11 +48,15 @@ add-write32-2 : tie.Need-add-write32-2
 add-write32-2 c = search needs
 
 write32-requires-2 : tie.Need-write32-requires-2
-write32-requires-2 c κs = omega (arith, c .before .before .before .before .before .before .before .write32 .kept .0, simp length-set at (c .before .before .before .write16 .kept .0))
+write32-requires-2 c κs =
+    let left = c .before .before .before .before .before .before .before .write32 .kept .0 in
+    omega (arith, left, simp length-set at (c .before .before .before .write16 .kept .0))
 
 same-length : tie.Need-same-length
 same-length c =
-    omega (arith, c .before .before .write322 .kept .0, c .before .before .before .before .before .before .before .before .before .before .write32 .kept .0, simp length-set at (c .before .before .before .before .before .before .write16 .kept .0))
+    let right = c .before .before .write322 .kept .0 in
+    let left = c .before .before .before .before .before .before .before .before .before .before .write32 .kept .0 in
+    omega (arith, right, left, simp length-set at (c .before .before .before .before .before .before .write16 .kept .0))
 
 returns : tie.Need-returns
 unfolding putNode
