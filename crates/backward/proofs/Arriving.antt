@@ -15,18 +15,18 @@ use package.Rattle.rules.specs.Machine.{meet, onUnit}
 use package.Rattle.decoded.specs.Rows.{firstIn, kindIn}
 use package.Rattle.decoded.proofs.Trees.{NoKind, none-left}
 use package.Rattle.values.specs.Nodes.{Made, valueAt, kindAt as nodeKind}
-use package.Rattle.scopes.specs.Slots.{unknown, found, Slot, Machine, Scope, machineOf, scopeIn, Moved}
+use package.Rattle.scopes.specs.Slots.{unknown, found, Slot, Machine, Scope, machineOf, slotsOf, scopeIn, Moved}
 use package.Rattle.scopes.specs.Cells.{Linked}
 use package.Rattle.scopes.specs.declared.slots.Found.the-variants.{Node}
 use package.Rattle.scopes.specs.Bindings.{slotsFrom, stateOf, said, seen, Meets, Meetable}
 use package.Rattle.scopes.specs.declared.bindings.Bindings.{Bindings}
 use package.Rattle.scopes.proofs.Views.{view-at, binds-view, compares-view, tells-later, tells-bound, said-told, told-seen, by-slot}
 use package.Rattle.forward.specs.Outcomes.{refusalIn}
-use package.Rattle.backward.specs.Ready.{Prepared, Gone, Variable, UnitMet, Stays, runAt, stepAt, PreparedIn, RunsBack, StepsBack}
+use package.Rattle.backward.specs.Ready.{Prepared, Gone, GoneFrom, Variable, UnitMet, Stays, runAt, stepAt, PreparedIn, StepsBack}
 use package.Rattle.backward.specs.Outcomes.{Refused, carried, outcomeOf, scopeView, statusOf, tooLong}
 use package.Rattle.backward.proofs.Runs.{small-top}
 use package.Rattle.backward.proofs.Stops.{is-done, number-height, number-fuel}
-use package.Rattle.backward.proofs.Frames.{older-later, few-ancillae, gone-refused, runs-back}
+use package.Rattle.backward.proofs.Frames.{older-later, few-ancillae, gone-refused}
 use package.Rattle.backward.proofs.Leaves.{variable-met, variable-differs, variable-bound, unit-met, unit-stuck}
 use package.Rattle.backward.proofs.Parts.{scoped-var}
 use package.Rattle.backward.proofs.Entering.{term-ready, term-done, over-ready, over-done, over-long, term-high, term-spent}
@@ -255,11 +255,11 @@ module _ {code heap st : List ℕ} {b : Bindings} {scope t room : ℕ} (Q : Prep
   pub entered-node : node < machineOf st₁ .top
   entered-node = taken-node (Q .prepared) low fuel-there some-room (S .slots) (S .machine)
 
-  -- what the function of its kind is asked, which is `K` of the term
-  pub handed : {bound : ℕ} → 16 * machineOf st .fuel ≡ bound → {K : Type 0} → K
-      → (16 * machineOf st₁ .fuel + 10 < bound) × (PreparedIn 2 1 code heap st₁ b scope t room × ((node < machineOf st₁ .top) × K))
-  handed e k = (omega (arith, taken-fuel (Q .prepared) low fuel-there some-room (S .slots) (S .machine)), (entered, (entered-node, k)))
+  -- a unit of fuel is gone, and what is run from here on is what is run from the term on
+  pub entered-fuel : machineOf st₁ .fuel + 1 ≡ machineOf st .fuel
+  entered-fuel = taken-fuel (Q .prepared) low fuel-there some-room (S .slots) (S .machine)
 
-  -- and what it gives back
-  pub handed-back : {heap′ st′ : List ℕ} {r : Out} → StepsBack code heap heap′ st₁ st′ scope t node room r → RunsBack code heap heap′ st st′ b scope t node room r
-  handed-back R = runs-back Q (taken-done (Q .prepared) low fuel-there some-room (S .slots) (S .machine) (R .gone)) (R .lengths ∙ S .lengths)
+  pub entered-done : {heap′ slots′ : List ℕ} {m′ : Machine} {r : Out}
+      → GoneFrom 2 heap heap′ st₁ slots′ m′ scope r (stepAt code heap (slotsOf st₁) (machineOf st₁) (scopeIn scope) t (valueAt heap node) room)
+      → GoneFrom 0 heap heap′ st slots′ m′ scope r (runAt code heap (slotsOf st) (machineOf st) (scopeIn scope) t (valueAt heap node) room)
+  entered-done G = taken-done (Q .prepared) low fuel-there some-room (S .slots) (S .machine) G

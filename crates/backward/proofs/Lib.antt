@@ -23,6 +23,8 @@ pub mod Choosing
 pub mod Calling
 -- a term is entered, in code
 pub mod Arriving
+-- the last part of a term
+pub mod LastPart
 -- a scope with one variable more, in code
 pub mod Opening
 -- variables leave a scope, in code

@@ -1,5 +1,5 @@
 -- Laws of the number that stops a run: what status it says.
-use Prim.Native.Nat.{ℕ, _+_, _-_, _/_, _%_, _≤_, _<_}
+use Prim.Native.Nat.{ℕ, _+_, _*_, _-_, _/_, _%_, _≤_, _<_}
 use native.Mathlib.Omega.{arith}
 use native.Mathlib.Decide.{decLt}
 use mathlib.Core.Path.{_≡_, refl, ap, _∙_}
@@ -8,7 +8,8 @@ use package.Rattle.forward.specs.Outcomes.{stopped, refusalIn, statusOf as forw
 use package.Rattle.forward.specs.declared.outcomes.Refusal.{Refusal as Carried}
 use package.Rattle.forward.specs.declared.outcomes.Status.the-variants.{Value, Refused as ForwardRefused}
 use package.Rattle.forward.proofs.Answers.{is-value, is-refused}
-use package.Rattle.backward.specs.Outcomes.{Done, Refused, carried, whyOf, statusOf}
+use package.Rattle.backward.specs.Outcomes.{Done, Refused, outIn, carried, whyOf, statusOf}
+use Rattle.backward.specs.declared.outcomes.Out.{Out}
 use Rattle.backward.specs.declared.outcomes.Refusal.the-variants.{Fuel, Height, Long, NoInput, Stuck}
 
 pub is-done : {s : ℕ} → s ≡ 0 → statusOf s ≡ Done
@@ -68,3 +69,12 @@ number-long t = refl
 pub number-stuck : (t : ℕ) → carried (refusalIn 0 t) ≡ Stuck
 unfolding carried refusalIn
 number-stuck t = refl
+
+-- an outcome in one number
+pub packed-out : (out : Out) → out .state .head < 4294967296 → outIn (4294967296 * out .stop + out .state .head) ≡ out
+unfolding outIn
+packed-out out l =
+    let x = 4294967296 * out .stop + out .state .head in
+    let high : x / 4294967296 ≡ out .stop = omega arith in
+    let low : x % 4294967296 ≡ out .state .head = omega arith in
+    rw (high, low) refl

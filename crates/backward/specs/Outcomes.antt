@@ -14,6 +14,8 @@ use package.Rattle.scopes.specs.Bindings.{View, viewOf, stateOf}
 use package.Rattle.forward.specs.Outcomes.{stopped, refusalIn}
 use package.Rattle.forward.specs.declared.outcomes.Refusal.{Refusal as Carried}
 use package.Rattle.forward.specs.declared.outcomes.Refusal.the-variants.{Fuel as cFuel, Height as cHeight, Long as cLong, FirstMatch as cFirstMatch, Stuck as cStuck}
+use package.Rattle.scopes.specs.declared.bindings.Bindings.{Bindings}
+use Rattle.backward.specs.declared.outcomes.Out.{Out}
 use Rattle.backward.specs.declared.outcomes.Refusal.{Refusal}
 use Rattle.backward.specs.declared.outcomes.Refusal.the-variants.{Fuel, Height, Long, FirstMatch, NoInput, Stuck}
 
@@ -46,6 +48,10 @@ carried cStuck = Stuck
 -- A number that stops a run: from `stopped` on a refusal as forward has it, below it the term, and one more, that has no input (16).
 unfoldable pub whyOf : ℕ → Refusal
 whyOf s = elim (ltb s stopped) [ true ↦ NoInput ((s - 1) % 65536) | false ↦ carried (refusalIn ((s - stopped) / 65536) ((s - stopped) % 65536)) ]
+
+-- the outcome that one number is: what stopped the run, and the newest cell of the state
+unfoldable pub outIn : ℕ → Out
+outIn r = record { stop = r / 4294967296; state = record { head = r % 4294967296 } }
 
 -- 0 stops nothing
 unfoldable pub statusOf : ℕ → Status

@@ -3,6 +3,7 @@
 -- slots and the state that the code has, and both to the numbers that it is lent. Laws: proofs/Runs; proofs/Frames of the last sections.
 use Prim.Native.Nat.{ℕ, _+_, _*_, _-_, _≤_, _<_}
 use mathlib.Core.Path.{_≡_}
+use mathlib.Core.Bool.{true, false}
 use mathlib.Core.Option.{none}
 use mathlib.Core.List.{List, _∷_}
 use lib.ListN.{length, getD, set}
@@ -24,6 +25,7 @@ use package.Rattle.backward.specs.Scoped.{ScopedAt, Bodies}
 use package.Rattle.backward.specs.Outcomes.{Done, Refused, Outcome, Inner, statusOf, scopeView, outcomeOf, innerOf, meaning, toldOf, leftWith}
 use Rattle.backward.specs.declared.outcomes.Refusal.the-variants.{NoInput, Stuck}
 use Rattle.backward.specs.declared.outcomes.Out.{Out}
+use Rattle.backward.specs.declared.outcomes.Next.{Next}
 
 ----------------------------------------------------------------
 -- Before
@@ -187,8 +189,12 @@ pub record Widened (st st′ : List ℕ) (scope wide : ℕ) : Type 0 where
   pub machine : machineOf st′ ≡ machineOf st
   pub scope-is : scopeIn wide ≡ record { base = scopeIn scope .base; q = scopeIn scope .q; n = scopeIn scope .n + 1 }
 
+-- a run from the numbers `st` on; and to the numbers `st′`
+abbrev pub GoneFrom : ℕ → (heap heap′ st slots′ : List ℕ) → Machine → ℕ → Out → (List TypeEntry → Res State) → Type 0
+GoneFrom k heap heap′ st slots′ m′ scope r res = Gone k heap heap′ (slotsOf st) slots′ (machineOf st) m′ (scopeIn scope) r res
+
 abbrev pub GoneIn : ℕ → (heap heap′ st st′ : List ℕ) → ℕ → Out → (List TypeEntry → Res State) → Type 0
-GoneIn k heap heap′ st st′ scope r res = Gone k heap heap′ (slotsOf st) (slotsOf st′) (machineOf st) (machineOf st′) (scopeIn scope) r res
+GoneIn k heap heap′ st st′ scope r res = GoneFrom k heap heap′ st (slotsOf st′) (machineOf st′) scope r res
 
 -- Term `t` was run with the value at `node`, from the state by value `b`: whatever the type entries are, the rules' `backward` carries the state
 -- that `b` is to the state that is handed back, or to the refusal.
@@ -200,18 +206,7 @@ pub record RunsBack (code heap heap′ st st′ : List ℕ) (b : Bindings) (scop
       ≡ backward fits (programIn code ys) room (ancillaeIn heap st scope) (stateIn heap (slotsOf st) b (scopeIn scope)) (treeIn code ys t)
       (valueAt heap node) (machineOf st .fuel)
 
--- The same by the slots: with the value `v`, made for the term; from its entering on; and in the scope with one variable more.
-
-pub record RunsOver (code heap heap′ st st′ : List ℕ) (scope t : ℕ) (v : Val) (room : ℕ) (r : Out) : Type 0 where
-  pub lengths : length st′ ≡ length st
-  pub gone : GoneIn 1 heap heap′ st st′ scope r (runAt code heap (slotsOf st) (machineOf st) (scopeIn scope) t v room)
-
-abbrev pub RunsSingle : (code heap heap′ st st′ : List ℕ) → ℕ → ℕ → ℕ → ℕ → ℕ → Out → Type 0
-RunsSingle code heap heap′ st st′ scope t kind part room r = RunsOver code heap heap′ st st′ scope t
-    (ofKind kind (valueAt heap part) (valueAt heap part)) room r
-
-abbrev pub RunsPair : (code heap heap′ st st′ : List ℕ) → ℕ → ℕ → ℕ → ℕ → ℕ → Out → Type 0
-RunsPair code heap heap′ st st′ scope t left right room r = RunsOver code heap heap′ st st′ scope t (pair (valueAt heap left) (valueAt heap right)) room r
+-- The same by the slots, from the term's entering on; and in the scope with one variable more.
 
 pub record StepsBack (code heap heap′ st st′ : List ℕ) (scope t node room : ℕ) (r : Out) : Type 0 where
   pub lengths : length st′ ≡ length st
@@ -221,6 +216,44 @@ pub record RunsUnder (code heap heap′ st st′ : List ℕ) (scope t node room 
   pub lengths : length st′ ≡ length st
   pub gone : GoneUnder heap heap′ (slotsOf st) (slotsOf st′) (machineOf st) (machineOf st′) (scopeIn scope) r
       (underAt code heap (slotsOf st) (machineOf st) (scopeIn scope) t (valueAt heap node) room)
+
+----------------------------------------------------------------
+-- The last part of a term
+
+-- A run whose meaning is `res` goes on with another term, at height `room`: whatever becomes of that one becomes of the run.
+pub record GoesOn (k : ℕ) (code heap heap′ st st′ : List ℕ) (scope room : ℕ) (res : List TypeEntry → Res State) (b : Bindings) (t node : ℕ) : Type 0 where
+  pub prepared : PreparedIn 0 0 code heap′ st′ b scope t room
+  pub there : node < machineOf st′ .top
+  pub spends : machineOf st′ .fuel ≤ machineOf st .fuel
+  pub becomes : {heap″ slots″ : List ℕ} {m″ : Machine} {r : Out}
+      → GoneFrom 0 heap′ heap″ st′ slots″ m″ scope r (runAt code heap′ (slotsOf st′) (machineOf st′) (scopeIn scope) t (valueAt heap′ node) room)
+      → GoneFrom k heap heap″ st slots″ m″ scope r res
+
+-- what a step comes to: the run is over, or goes on
+pub record LeadsTo (k : ℕ) (code heap heap′ st st′ : List ℕ) (scope room : ℕ) (res : List TypeEntry → Res State) (n : Next) : Type 0 where
+  pub lengths : length st′ ≡ length st
+  pub over : n .more ≡ false → GoneIn k heap heap′ st st′ scope (n .out) res
+  pub on : n .more ≡ true → GoesOn k code heap heap′ st st′ scope room res (n .out .state) (n .term) (n .node)
+
+-- of term `t`, entered with the value at `node`
+abbrev pub StepsTo : (code heap heap′ st st′ : List ℕ) → ℕ → ℕ → ℕ → ℕ → Next → Type 0
+StepsTo code heap heap′ st st′ scope t node room n = LeadsTo 2 code heap heap′ st st′ scope (room - 1)
+    (stepAt code heap (slotsOf st) (machineOf st) (scopeIn scope) t (valueAt heap node) room) n
+
+-- of term `t`, to be entered with a value that is made for it
+abbrev pub Enters : (code heap heap′ st st′ : List ℕ) → ℕ → ℕ → Val → ℕ → Next → Type 0
+Enters code heap heap′ st st′ scope t v room n = LeadsTo 1 code heap heap′ st st′ scope room
+    (runAt code heap (slotsOf st) (machineOf st) (scopeIn scope) t v room) n
+
+abbrev pub EntersSingle : (code heap heap′ st st′ : List ℕ) → ℕ → ℕ → ℕ → ℕ → ℕ → Next → Type 0
+EntersSingle code heap heap′ st st′ scope t kind part room n = Enters code heap heap′ st st′ scope t
+    (ofKind kind (valueAt heap part) (valueAt heap part)) room n
+
+abbrev pub EntersPair : (code heap heap′ st st′ : List ℕ) → ℕ → ℕ → ℕ → ℕ → ℕ → Next → Type 0
+EntersPair code heap heap′ st st′ scope t left right room n = Enters code heap heap′ st st′ scope t (pair (valueAt heap left) (valueAt heap right)) room n
+
+----------------------------------------------------------------
+-- Terms without parts
 
 -- Variable `i` was met at term `t`: 16 where the values differ.
 pub record Variable (heap heap′ st st′ : List ℕ) (b : Bindings) (sc : Scope) (i node t : ℕ) (r : Out) : Type 0 where

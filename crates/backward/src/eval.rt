@@ -1,9 +1,11 @@
 // Backward evaluation of a decoded program. `back` tests fuel and height, takes one unit of fuel, and hands the term to the function of its
-// kind, which runs the term's parts and hands the binding state on. Every value is a node; `over` and `over_pair` make new ones. The slots
-// of scopes stand in the lent numbers `st`, behind the machine, and find the cells of the state; a function that is called has its scope behind
-// its caller's. Laws: proofs/Entering to Calling, in code proofs/Arriving to Called.
+// kind, which runs all parts of the term but the last and hands the binding state on; with the last part `back` goes on by itself, so that calls
+// are no deeper than they must be. Every value is a node; `over` and `over_pair` make new ones. The slots of scopes stand in the lent numbers
+// `st`, behind the machine, and find the cells of the state; a function that is called has its scope behind its caller's. Laws: proofs/Entering
+// to Calling, in code proofs/Arriving to Called.
 use crate::arguments;
 use crate::outcomes;
+use crate::outcomes::Next;
 use crate::outcomes::Out;
 use decoded::kinds;
 use decoded::rows;
@@ -21,7 +23,8 @@ ghost use Rattle.values.specs.Nodes.{Single};
 ghost use Rattle.decoded.specs.Rows.{kindIn};
 ghost use Rattle.scopes.specs.Slots.{machineOf};
 ghost use Rattle.yields.specs.Yields.{Wraps};
-ghost use Rattle.backward.specs.Ready.{PreparedIn, RunsBack, StepsBack, RunsSingle, RunsPair};
+ghost use Rattle.backward.specs.Outcomes.{outIn};
+ghost use Rattle.backward.specs.Ready.{PreparedIn, RunsBack, StepsTo, EntersSingle, EntersPair};
 
 // Term t with the value at `node`, in a scope, with height `room` left.
 pub fn back(
@@ -33,21 +36,50 @@ pub fn back(
     t: u16,
     node: u32,
     room: u16,
-) -> Out
+) -> u64
     requires { ⌜ PreparedIn 0 0 (now code) (now ws) (now st) b scope t room ⌝ }
     requires { ⌜ node < machineOf (now st) .top ⌝ }
-    ensures { λ r. ⌜ RunsBack (now (code .entry)) (now (ws .entry)) (now (ws .exit)) (now (st .entry)) (now (st .exit)) b scope t node room r ⌝ }
+    ensures { λ r. ⌜ RunsBack (now (code .entry)) (now (ws .entry)) (now (ws .exit)) (now (st .entry)) (now (st .exit)) b scope t node room (outIn r) ⌝ }
 {
-    if state::fuel(st) == 0 {
-        return outcomes::refuse(b, FUEL, t);
+    let mut known = b;
+    let mut term = t;
+    let mut value = node;
+    let mut height = room;
+    while state::fuel(st) != 0 {
+        if height == 0 {
+            return outcomes::packed(outcomes::refuse(known, HEIGHT, term));
+        }
+        state::spend(st);
+        let next = step(code, ws, st, known, scope, term, value, height);
+        if !next.more {
+            return outcomes::packed(next.out);
+        }
+        known = next.out.state;
+        term = next.term;
+        value = next.node;
+        height = height - 1;
     }
-    if room == 0 {
-        return outcomes::refuse(b, HEIGHT, t);
-    }
-    state::spend(st);
+    outcomes::packed(outcomes::refuse(known, FUEL, term))
+}
+
+// Term t, once it is entered, by its kind.
+fn step(
+    code: &[u16; CODE],
+    ws: &mut [u8],
+    st: &mut [u32; STATE],
+    b: Bindings,
+    scope: u64,
+    t: u16,
+    node: u32,
+    room: u16,
+) -> Next
+    requires { ⌜ PreparedIn 2 1 (now code) (now ws) (now st) b scope t room ⌝ }
+    requires { ⌜ node < machineOf (now st) .top ⌝ }
+    ensures { λ r. ⌜ StepsTo (now (code .entry)) (now (ws .entry)) (now (ws .exit)) (now (st .entry)) (now (st .exit)) scope t node room r ⌝ }
+{
     match rows::kind_of(code, t) {
-        kinds::VARIABLE => outcomes::variable(code, ws, st, b, scope, t, node),
-        kinds::UNIT => outcomes::unit(ws, b, node, t),
+        kinds::VARIABLE => outcomes::ended(outcomes::variable(code, ws, st, b, scope, t, node)),
+        kinds::UNIT => outcomes::ended(outcomes::unit(ws, b, node, t)),
         kinds::INL => unwrap(code, ws, st, b, scope, t, node, room, nodes::INL),
         kinds::INR => unwrap(code, ws, st, b, scope, t, node, room, nodes::INR),
         kinds::PAIR => pair(code, ws, st, b, scope, t, node, room),
@@ -58,7 +90,7 @@ pub fn back(
         kinds::ROLL => unwrap(code, ws, st, b, scope, t, node, room, nodes::ROLL),
         kinds::UNROLL => unroll(code, ws, st, b, scope, t, node, room),
         // never met: there is no other kind
-        _ => outcomes::refuse(b, STUCK, t),
+        _ => outcomes::ended(outcomes::refuse(b, STUCK, t)),
     }
 }
 
@@ -73,18 +105,18 @@ fn over(
     part: u32,
     room: u16,
     kind: u8,
-) -> Out
+) -> Next
     requires { ⌜ PreparedIn 1 0 (now code) (now ws) (now st) b scope t room ⌝ }
     requires { ⌜ (part < machineOf (now st) .top) × Single kind ⌝ }
-    ensures { λ r. ⌜ RunsSingle (now (code .entry)) (now (ws .entry)) (now (ws .exit)) (now (st .entry)) (now (st .exit)) scope t kind part room r ⌝ }
+    ensures { λ r. ⌜ EntersSingle (now (code .entry)) (now (ws .entry)) (now (ws .exit)) (now (st .entry)) (now (st .exit)) scope t kind part room r ⌝ }
 {
     let top = state::top(st);
     let made = nodes::single(ws, top, kind, part);
     if made {
         state::grow(st);
-        return back(code, ws, st, b, scope, t, top, room);
+        return outcomes::goes_on(t, top, b);
     }
-    outcomes::long(b, state::fuel(st), t, room)
+    outcomes::ended(outcomes::long(b, state::fuel(st), t, room))
 }
 
 // Term t with the pair of two values.
@@ -98,18 +130,18 @@ fn over_pair(
     left: u32,
     right: u32,
     room: u16,
-) -> Out
+) -> Next
     requires { ⌜ PreparedIn 1 0 (now code) (now ws) (now st) b scope t room ⌝ }
     requires { ⌜ (left < machineOf (now st) .top) × (right < machineOf (now st) .top) ⌝ }
-    ensures { λ r. ⌜ RunsPair (now (code .entry)) (now (ws .entry)) (now (ws .exit)) (now (st .entry)) (now (st .exit)) scope t left right room r ⌝ }
+    ensures { λ r. ⌜ EntersPair (now (code .entry)) (now (ws .entry)) (now (ws .exit)) (now (st .entry)) (now (st .exit)) scope t left right room r ⌝ }
 {
     let top = state::top(st);
     let made = nodes::pair(ws, top, left, right);
     if made {
         state::grow(st);
-        return back(code, ws, st, b, scope, t, top, room);
+        return outcomes::goes_on(t, top, b);
     }
-    outcomes::long(b, state::fuel(st), t, room)
+    outcomes::ended(outcomes::long(b, state::fuel(st), t, room))
 }
 
 // inl, inr and roll, by the kind of node that they take apart.
@@ -123,18 +155,18 @@ fn unwrap(
     node: u32,
     room: u16,
     kind: u8,
-) -> Out
+) -> Next
     requires { ⌜ PreparedIn 2 1 (now code) (now ws) (now st) b scope t room ⌝ }
     requires { ⌜ (node < machineOf (now st) .top) × Wraps (kindIn (now code) t) kind ⌝ }
-    ensures { λ r. ⌜ StepsBack (now (code .entry)) (now (ws .entry)) (now (ws .exit)) (now (st .entry)) (now (st .exit)) scope t node room r ⌝ }
+    ensures { λ r. ⌜ StepsTo (now (code .entry)) (now (ws .entry)) (now (ws .exit)) (now (st .entry)) (now (st .exit)) scope t node room r ⌝ }
 {
     let found = nodes::kind_of(ws, node);
     if found == kind {
         let part = rows::second_of(code, t);
         let x = nodes::left_of(ws, node);
-        return back(code, ws, st, b, scope, part, x, room - 1);
+        return outcomes::goes_on(part, x, b);
     }
-    outcomes::differ(b, kind, found, t)
+    outcomes::ended(outcomes::differ(b, kind, found, t))
 }
 
 // The left part, then the right.
@@ -147,26 +179,26 @@ fn pair(
     t: u16,
     node: u32,
     room: u16,
-) -> Out
+) -> Next
     requires { ⌜ PreparedIn 2 1 (now code) (now ws) (now st) b scope t room ⌝ }
     requires { ⌜ (node < machineOf (now st) .top) × (kindIn (now code) t ≡ 4) ⌝ }
-    ensures { λ r. ⌜ StepsBack (now (code .entry)) (now (ws .entry)) (now (ws .exit)) (now (st .entry)) (now (st .exit)) scope t node room r ⌝ }
+    ensures { λ r. ⌜ StepsTo (now (code .entry)) (now (ws .entry)) (now (ws .exit)) (now (st .entry)) (now (st .exit)) scope t node room r ⌝ }
 {
     let found = nodes::kind_of(ws, node);
     if found != nodes::PAIR {
-        return outcomes::refuse(b, STUCK, t);
+        return outcomes::ended(outcomes::refuse(b, STUCK, t));
     }
     let first = rows::first_of(code, t);
     let second = rows::second_of(code, t);
     let x = nodes::left_of(ws, node);
     let y = nodes::right_of(ws, node);
     let h = room - 1;
-    let r = back(code, ws, st, b, scope, first, x, h);
+    let r = outcomes::unpacked(back(code, ws, st, b, scope, first, x, h));
     let c = r.state;
     if r.stop != 0 {
-        return r;
+        return outcomes::ended(r);
     }
-    back(code, ws, st, c, scope, second, y, h)
+    outcomes::goes_on(second, y, c)
 }
 
 // let x = e in b: the body, then the bound term.
@@ -179,23 +211,23 @@ fn let_one(
     t: u16,
     node: u32,
     room: u16,
-) -> Out
+) -> Next
     requires { ⌜ PreparedIn 2 1 (now code) (now ws) (now st) b scope t room ⌝ }
     requires { ⌜ (node < machineOf (now st) .top) × (kindIn (now code) t ≡ 5) ⌝ }
-    ensures { λ r. ⌜ StepsBack (now (code .entry)) (now (ws .entry)) (now (ws .exit)) (now (st .entry)) (now (st .exit)) scope t node room r ⌝ }
+    ensures { λ r. ⌜ StepsTo (now (code .entry)) (now (ws .entry)) (now (ws .exit)) (now (st .entry)) (now (st .exit)) scope t node room r ⌝ }
 {
     let bound = rows::first_of(code, t);
     let body = rows::second_of(code, t);
     let h = room - 1;
     let wide = outcomes::widen(st, scope);
-    let r = back(code, ws, st, b, wide, body, node, h);
+    let r = outcomes::unpacked(back(code, ws, st, b, wide, body, node, h));
     let inner = r.state;
     if r.stop != 0 {
-        return r;
+        return outcomes::ended(r);
     }
     let x = outcomes::leave(ws, st, inner, scope);
     let c = outcomes::outer(ws, st, inner, scope);
-    back(code, ws, st, c, scope, bound, x, h)
+    outcomes::goes_on(bound, x, c)
 }
 
 // let (x, y) = e in b
@@ -208,20 +240,20 @@ fn let_two(
     t: u16,
     node: u32,
     room: u16,
-) -> Out
+) -> Next
     requires { ⌜ PreparedIn 2 1 (now code) (now ws) (now st) b scope t room ⌝ }
     requires { ⌜ (node < machineOf (now st) .top) × (kindIn (now code) t ≡ 6) ⌝ }
-    ensures { λ r. ⌜ StepsBack (now (code .entry)) (now (ws .entry)) (now (ws .exit)) (now (st .entry)) (now (st .exit)) scope t node room r ⌝ }
+    ensures { λ r. ⌜ StepsTo (now (code .entry)) (now (ws .entry)) (now (ws .exit)) (now (st .entry)) (now (st .exit)) scope t node room r ⌝ }
 {
     let bound = rows::first_of(code, t);
     let body = rows::second_of(code, t);
     let h = room - 1;
     let one = outcomes::widen(st, scope);
     let both = outcomes::widen(st, one);
-    let r = back(code, ws, st, b, both, body, node, h);
+    let r = outcomes::unpacked(back(code, ws, st, b, both, body, node, h));
     let inner = r.state;
     if r.stop != 0 {
-        return r;
+        return outcomes::ended(r);
     }
     let y = outcomes::leave(ws, st, inner, one);
     let x = outcomes::leave(ws, st, inner, scope);
@@ -239,10 +271,10 @@ fn choose(
     t: u16,
     node: u32,
     room: u16,
-) -> Out
+) -> Next
     requires { ⌜ PreparedIn 2 1 (now code) (now ws) (now st) b scope t room ⌝ }
     requires { ⌜ (node < machineOf (now st) .top) × (kindIn (now code) t ≡ 7) ⌝ }
-    ensures { λ r. ⌜ StepsBack (now (code .entry)) (now (ws .entry)) (now (ws .exit)) (now (st .entry)) (now (st .exit)) scope t node room r ⌝ }
+    ensures { λ r. ⌜ StepsTo (now (code .entry)) (now (ws .entry)) (now (ws .exit)) (now (st .entry)) (now (st .exit)) scope t node room r ⌝ }
 {
     let sum = rows::first_of(code, t);
     let first = rows::second_of(code, t);
@@ -251,10 +283,10 @@ fn choose(
     let side = outcomes::side_of(left);
     let h = room - 1;
     let wide = outcomes::widen(st, scope);
-    let r = back(code, ws, st, b, wide, branch, node, h);
+    let r = outcomes::unpacked(back(code, ws, st, b, wide, branch, node, h));
     let inner = r.state;
     if r.stop != 0 {
-        return r;
+        return outcomes::ended(r);
     }
     let x = outcomes::leave(ws, st, inner, scope);
     let c = outcomes::outer(ws, st, inner, scope);
@@ -271,29 +303,29 @@ fn call(
     t: u16,
     node: u32,
     room: u16,
-) -> Out
+) -> Next
     requires { ⌜ PreparedIn 2 1 (now code) (now ws) (now st) b scope t room ⌝ }
     requires { ⌜ (node < machineOf (now st) .top) × (kindIn (now code) t ≡ 8) ⌝ }
-    ensures { λ r. ⌜ StepsBack (now (code .entry)) (now (ws .entry)) (now (ws .exit)) (now (st .entry)) (now (st .exit)) scope t node room r ⌝ }
+    ensures { λ r. ⌜ StepsTo (now (code .entry)) (now (ws .entry)) (now (ws .exit)) (now (st .entry)) (now (st .exit)) scope t node room r ⌝ }
 {
     let k = octets::wide_index(rows::third_of(code, t));
     let stop = arguments::gather(code, ws, st, scope, t, room, 0, k);
     if stop != 0 {
-        return Out { stop, state: b };
+        return outcomes::ended(Out { stop, state: b });
     }
     let body = rows::body_of(code, rows::first_of(code, t));
     let args = Bindings::none();
     let callee = state::scope(state::end_of(scope), k, k);
     let h = room - 1;
     let wide = outcomes::widen(st, callee);
-    let r = back(code, ws, st, args, wide, body, node, h);
+    let r = outcomes::unpacked(back(code, ws, st, args, wide, body, node, h));
     let inner = r.state;
     if r.stop != 0 {
-        return r;
+        return outcomes::ended(r);
     }
     let x = outcomes::leave(ws, st, inner, callee);
     let dynamic = rows::argument_of(code, t, k);
-    back(code, ws, st, b, scope, dynamic, x, h)
+    outcomes::goes_on(dynamic, x, b)
 }
 
 fn unroll(
@@ -305,10 +337,10 @@ fn unroll(
     t: u16,
     node: u32,
     room: u16,
-) -> Out
+) -> Next
     requires { ⌜ PreparedIn 2 1 (now code) (now ws) (now st) b scope t room ⌝ }
     requires { ⌜ (node < machineOf (now st) .top) × (kindIn (now code) t ≡ 10) ⌝ }
-    ensures { λ r. ⌜ StepsBack (now (code .entry)) (now (ws .entry)) (now (ws .exit)) (now (st .entry)) (now (st .exit)) scope t node room r ⌝ }
+    ensures { λ r. ⌜ StepsTo (now (code .entry)) (now (ws .entry)) (now (ws .exit)) (now (st .entry)) (now (st .exit)) scope t node room r ⌝ }
 {
     let part = rows::second_of(code, t);
     over(code, ws, st, b, scope, part, node, room - 1, nodes::ROLL)

@@ -15,15 +15,18 @@ use scopes::state;
 use scopes::state::STATE;
 use values::nodes;
 ghost use mathlib.Core.Path.{_≡_};
-ghost use mathlib.Core.Bool.{cond};
+ghost use mathlib.Core.Bool.{true, false, cond};
 ghost use Prim.Native.Nat.{_+_, _≤_, _<_};
 ghost use Rattle.decoded.specs.Rows.{firstIn, secondIn, thirdIn};
 ghost use Rattle.values.specs.Nodes.{Room};
 ghost use Rattle.scopes.specs.Slots.{unknown, machineOf, slotsOf, scopeIn, nodeOr};
 ghost use Rattle.scopes.specs.Bindings.{bound, CellReady, Adds, Meetable};
 ghost use Rattle.forward.specs.Outcomes.{refusalIn};
-ghost use Rattle.backward.specs.Outcomes.{Refused, carried, whyOf, statusOf, tooLong, against, mismatch};
+ghost use Rattle.backward.specs.Outcomes.{Refused, outIn, carried, whyOf, statusOf, tooLong, against, mismatch};
 ghost use Rattle.backward.specs.Ready.{WidenReady, Widened, Variable, UnitMet, Leavable};
+
+// A number of 64 bits holds two below this one.
+const HALF: u64 = 4294967296;
 
 // Refusals 12 to 16 (section 4), each with its term; and a value of wrong shape, which no checked program meets.
 pub enum Refusal {
@@ -39,6 +42,55 @@ pub enum Refusal {
 pub struct Out {
     pub stop: u32,
     pub state: Bindings,
+}
+
+// What a step comes to: the outcome, if the run is over; or else the last part of the term, a term of its own, and the node of its value, in the
+// state that the outcome has.
+pub struct Next {
+    pub more: bool,
+    pub term: u16,
+    pub node: u32,
+    pub out: Out,
+}
+
+// The run is over.
+pub fn ended(out: Out) -> Next
+    ensures { λ r. ⌜ r ≡ record { more = false; term = 0; node = 0; out = out } ⌝ }
+{
+    Next {
+        more: false,
+        term: 0,
+        node: 0,
+        out,
+    }
+}
+
+// The run goes on with a term.
+pub fn goes_on(term: u16, node: u32, state: Bindings) -> Next
+    ensures { λ r. ⌜ r ≡ record { more = true; term = term; node = node; out = record { stop = 0; state = state } } ⌝ }
+{
+    Next {
+        more: true,
+        term,
+        node,
+        out: Out { stop: 0, state },
+    }
+}
+
+// An outcome as one number, which is handed back faster than two; and the outcome that a number is.
+pub fn packed(out: Out) -> u64
+    ensures { λ r. ⌜ outIn r ≡ out ⌝ }
+{
+    HALF * (out.stop as u64) + out.state.head as u64
+}
+
+pub fn unpacked(r: u64) -> Out
+    ensures { λ o. ⌜ o ≡ outIn r ⌝ }
+{
+    Out {
+        stop: (r / HALF) as u32,
+        state: Bindings { head: (r % HALF) as u32 },
+    }
 }
 
 // A refusal that forward evaluation has too.

@@ -31,7 +31,7 @@ pub fn run(
     let known = Bindings::none();
     let scope = state::scope(0, q, q);
     let wide = outcomes::widen(st, scope);
-    let r = eval::back(code, ws, st, known, wide, body, node, room);
+    let r = outcomes::unpacked(eval::back(code, ws, st, known, wide, body, node, room));
     let stop = r.stop;
     if stop != 0 {
         return Input { stop, node: 0 };
