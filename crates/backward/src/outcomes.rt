@@ -89,7 +89,9 @@ pub fn unpacked(r: u64) -> Out
 {
     Out {
         stop: (r / HALF) as u32,
-        state: Bindings { head: (r % HALF) as u32 },
+        state: Bindings {
+            head: (r % HALF) as u32,
+        },
     }
 }
 

@@ -279,8 +279,7 @@ module _ (t : ℕ) where
   back-requires c κs =
       let at-widen = c .before .before in
       let (at-scope, at-end, at-none, at-body, at-first, at-else1, at-gather, at-wide, at-third, start) = before-widen at-widen in
-      let calls = all-to-place (start .pre .1 .1 .1) (at-wide .wide-index .ensures .0 ∙ at-third .third-of .ensures) in
-      (
+      let calls = all-to-place (start .pre .1 .1 .1) (at-wide .wide-index .ensures .0 ∙ at-third .third-of .ensures) in (
         omega (arith, start .pre .0, at-gather .gather .ensures .gathers .moves .spends, ap (λ (m : Machine). m .fuel) (at-widen .widen .ensures .machine)),
         called-widened (start .pre .1 .0) (start .pre .1 .1 .0) calls (at-gather .gather .ensures .gathers) (at-else1 .if1 .left)
             (at-first .first-of .ensures) (at-body .body-of .ensures) (at-end .end-of .ensures) (at-scope .scope .ensures) (at-gather .gather .ensures .lengths)

@@ -190,8 +190,7 @@ module _ (t : ℕ) where
   back-requires c κs =
       let at-widen = c .before .before in
       let (at-side, at-branch, at-yields, at-second, at-first, start) = before-widen at-widen in
-      let yields = view-yields (at-yields .yields .ensures) (few-ancillae (start .pre .1 .0 .prepared)) in
-      (
+      let yields = view-yields (at-yields .yields .ensures) (few-ancillae (start .pre .1 .0 .prepared)) in (
         omega (arith, start .pre .0, ap (λ (m : Machine). m .fuel) (at-widen .widen .ensures .machine)),
         case-widened (start .pre .1 .0) (start .pre .1 .1 .0) (start .pre .1 .1 .1) (at-second .second-of .ensures) _ yields
             (at-first .first-of .ensures) (at-branch .branch-of .ensures) (at-side .side-of .ensures) (at-widen .widen .ensures),
@@ -248,8 +247,7 @@ module _ (t : ℕ) where
       let yields = view-yields (at-yields .yields .ensures) (few-ancillae (start .pre .1 .0 .prepared)) in
       let ran = case-ran (start .pre .1 .0) (start .pre .1 .1 .0) (start .pre .1 .1 .1) (at-second .second-of .ensures) _ yields
       (at-first .first-of .ensures) (at-branch .branch-of .ensures) (at-side .side-of .ensures) (at-widen .widen .ensures)
-      (unpacked-run (at-unpacked .unpacked .ensures) (at-back .back .ensures)) in
-      (
+      (unpacked-run (at-unpacked .unpacked .ensures) (at-back .back .ensures)) in (
         record {
           full = at-outer .outer .ensures .moved .lengths ∙ ran .lengths ∙ start .pre .1 .0 .full;
           prepared = case-outer (start .pre .1 .0 .prepared) (start .pre .1 .1 .0) (start .pre .1 .1 .1) (at-second .second-of .ensures) _ yields

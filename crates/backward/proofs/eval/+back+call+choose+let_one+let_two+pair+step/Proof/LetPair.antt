@@ -172,8 +172,12 @@ module _ (t : ℕ) where
   back-requires c κs =
       let at-widen2 = c .before .before in
       let (at-widen, at-second, at-first, start) = before-widen2 at-widen2 in (
-        omega (arith, start .pre .0, ap (λ (m : Machine). m .fuel) (at-widen .widen .ensures .machine),
-          ap (λ (m : Machine). m .fuel) (at-widen2 .widen2 .ensures .machine)),
+        omega (
+          arith,
+          start .pre .0,
+          ap (λ (m : Machine). m .fuel) (at-widen .widen .ensures .machine),
+          ap (λ (m : Machine). m .fuel) (at-widen2 .widen2 .ensures .machine),
+        ),
         letp-widened (start .pre .1 .0) (start .pre .1 .1 .0) (at-first .first-of .ensures) (at-second .second-of .ensures) (start .pre .1 .1 .1)
             (at-widen .widen .ensures) (at-widen2 .widen2 .ensures),
       )
@@ -229,8 +233,7 @@ module _ (t : ℕ) where
       let at-outer = c .before .before .before .before in
       let (at-leave2, at-leave, at-else1, at-unpacked, at-back, at-widen2, at-widen, at-second, at-first, start) = before-outer at-outer in
       let ran = letp-ran (start .pre .1 .0) (start .pre .1 .1 .0) (at-first .first-of .ensures) (at-second .second-of .ensures) (start .pre .1 .1 .1)
-      (at-widen .widen .ensures) (at-widen2 .widen2 .ensures) (unpacked-run (at-unpacked .unpacked .ensures) (at-back .back .ensures)) in
-      (
+      (at-widen .widen .ensures) (at-widen2 .widen2 .ensures) (unpacked-run (at-unpacked .unpacked .ensures) (at-back .back .ensures)) in (
         record {
           full = at-outer .outer .ensures .moved .lengths ∙ ran .lengths ∙ at-widen .widen .ensures .lengths ∙ start .pre .1 .0 .full;
           prepared = letp-outer (start .pre .1 .0 .prepared) (start .pre .1 .1 .0) (start .pre .1 .1 .1) (at-first .first-of .ensures) (at-second .second-of .ensures)
@@ -253,8 +256,12 @@ module _ (t : ℕ) where
       let ran = letp-ran (start .pre .1 .0) (start .pre .1 .1 .0) (at-first .first-of .ensures) (at-second .second-of .ensures) (start .pre .1 .1 .1)
       (at-widen .widen .ensures) (at-widen2 .widen2 .ensures) (unpacked-run (at-unpacked .unpacked .ensures) (at-back .back .ensures)) in
       leads-through (at-outer .outer .ensures .moved .lengths ∙ ran .lengths ∙ at-widen .widen .ensures .lengths)
-      (omega (arith, ran .gone .ran .moves .spends, ap (λ (m : Machine). m .fuel) (at-widen .widen .ensures .machine),
-        ap (λ (m : Machine). m .fuel) (at-outer .outer .ensures .moved .machine)))
+      (omega (
+        arith,
+        ran .gone .ran .moves .spends,
+        ap (λ (m : Machine). m .fuel) (at-widen .widen .ensures .machine),
+        ap (λ (m : Machine). m .fuel) (at-outer .outer .ensures .moved .machine),
+      ))
       (λ _ _ _ _ D. letp-gone (start .pre .1 .0 .prepared) (start .pre .1 .1 .0) (start .pre .1 .1 .1) (at-first .first-of .ensures) (at-second .second-of .ensures)
       (marked (at-widen .widen .ensures)) (at-widen .widen .ensures .scope-is) (ran .gone) (at-else1 .if1 .left) (left-behind (at-outer .outer .ensures))
       (at-leave2 .leave2 .ensures) (at-leave .leave .ensures) D)

@@ -199,9 +199,10 @@ module _ (t : ℕ) where
   pub variable-requires : lts.Need-variable-requires (step-uses t) (step-at t) step.Post
   variable-requires c κs =
       let at-arm = c .before .before in
-      let (at-kind, start) = before-arm1 at-arm in
-      (row-there (start .pre .1 .0 .prepared),
-      (variable-meetable (start .pre .1 .0) (sym (at-kind .kind-of .ensures) ∙ at-arm .match .keys1) (start .pre .1 .1), start .pre .1 .1))
+      let (at-kind, start) = before-arm1 at-arm in (
+        row-there (start .pre .1 .0 .prepared),
+        (variable-meetable (start .pre .1 .0) (sym (at-kind .kind-of .ensures) ∙ at-arm .match .keys1) (start .pre .1 .1), start .pre .1 .1),
+      )
 
   pub ended-requires : lts.Need-ended-requires (step-uses t) (step-at t) step.Post
   ended-requires c κs = search needs
