@@ -1,279 +1,237 @@
--- The functions meet their contracts: the answers of Proof/, put together.
+-- The functions of forward evaluation meet their contracts: the answers of Proof/, put together.
 mod Claims
+mod EvalPlaces
 mod Entering
-mod Parts
-mod Lets
-mod Cases
-mod Scopes
-mod Calls
-use Prim.Native.Nat.{_+_, _-_}
-use Rattle.forward.proofs.eval.call.Reads as call
-use Rattle.forward.proofs.eval.+call+choose+eval+let_one+let_two+pair+place+under+unroll+wrap.Lts-call as call-lts
-use Rattle.forward.proofs.eval.choose.Reads as choose
-use Rattle.forward.proofs.eval.+call+choose+eval+let_one+let_two+pair+place+under+unroll+wrap.Lts-choose as choose-lts
-use Rattle.forward.proofs.eval.eval.Reads as eval
-use Rattle.forward.proofs.eval.+call+choose+eval+let_one+let_two+pair+place+under+unroll+wrap.Lts-eval as eval-lts
-use Rattle.forward.proofs.eval.let_one.Reads as let-one
-use Rattle.forward.proofs.eval.+call+choose+eval+let_one+let_two+pair+place+under+unroll+wrap.Lts-let_one as let-one-lts
-use Rattle.forward.proofs.eval.let_two.Reads as let-two
-use Rattle.forward.proofs.eval.+call+choose+eval+let_one+let_two+pair+place+under+unroll+wrap.Lts-let_two as let-two-lts
-use Rattle.forward.proofs.eval.pair.Reads as pair
-use Rattle.forward.proofs.eval.+call+choose+eval+let_one+let_two+pair+place+under+unroll+wrap.Lts-pair as pair-lts
-use Rattle.forward.proofs.eval.place.Reads as place
-use Rattle.forward.proofs.eval.+call+choose+eval+let_one+let_two+pair+place+under+unroll+wrap.Lts-place as place-lts
-use Rattle.forward.proofs.eval.under.Reads as under
-use Rattle.forward.proofs.eval.+call+choose+eval+let_one+let_two+pair+place+under+unroll+wrap.Lts-under as under-lts
-use Rattle.forward.proofs.eval.unroll.Reads as unroll
-use Rattle.forward.proofs.eval.+call+choose+eval+let_one+let_two+pair+place+under+unroll+wrap.Lts-unroll as unroll-lts
-use Rattle.forward.proofs.eval.wrap.Reads as wrap
-use Rattle.forward.proofs.eval.+call+choose+eval+let_one+let_two+pair+place+under+unroll+wrap.Lts-wrap as wrap-lts
-use Rattle.forward.proofs.eval.+call+choose+eval+let_one+let_two+pair+place+under+unroll+wrap.{statement}
-use Rattle.forward.proofs.eval.+call+choose+eval+let_one+let_two+pair+place+under+unroll+wrap.Tie.{close}
-use Rattle.forward.proofs.eval.+call+choose+eval+let_one+let_two+pair+place+under+unroll+wrap.Proof.Claims.{μ-call, μ-choose, μ-eval, μ-let-one, μ-let-two, μ-pair, μ-place, μ-under, μ-unroll}
-use Rattle.forward.proofs.eval.+call+choose+eval+let_one+let_two+pair+place+under+unroll+wrap.Proof.Claims.{μ-wrap, call-at, choose-at, eval-at, let-one-at, let-two-at, pair-at, place-at}
-use Rattle.forward.proofs.eval.+call+choose+eval+let_one+let_two+pair+place+under+unroll+wrap.Proof.Claims.{under-at, unroll-at, wrap-at, call-uses, choose-uses, eval-uses, let-one-uses}
-use Rattle.forward.proofs.eval.+call+choose+eval+let_one+let_two+pair+place+under+unroll+wrap.Proof.Claims.{let-two-uses, pair-uses, place-uses, under-uses, unroll-uses, wrap-uses}
-use Rattle.forward.proofs.eval.+call+choose+eval+let_one+let_two+pair+place+under+unroll+wrap.Proof.Entering.{eval-fuel-requires, eval-refuse-requires, eval-returns, eval-refuse-requires-2}
-use Rattle.forward.proofs.eval.+call+choose+eval+let_one+let_two+pair+place+under+unroll+wrap.Proof.Entering.{eval-returns-2, eval-spend-requires, eval-kind-of-requires, eval-first-of-requires}
-use Rattle.forward.proofs.eval.+call+choose+eval+let_one+let_two+pair+place+under+unroll+wrap.Proof.Entering.{eval-variable-requires, eval-make-unit-requires, eval-wrap-requires}
-use Rattle.forward.proofs.eval.+call+choose+eval+let_one+let_two+pair+place+under+unroll+wrap.Proof.Entering.{eval-wrap-requires-2, eval-pair-requires, eval-let-one-requires}
-use Rattle.forward.proofs.eval.+call+choose+eval+let_one+let_two+pair+place+under+unroll+wrap.Proof.Entering.{eval-let-two-requires, eval-choose-requires, eval-call-requires}
-use Rattle.forward.proofs.eval.+call+choose+eval+let_one+let_two+pair+place+under+unroll+wrap.Proof.Entering.{eval-wrap-requires-3, eval-unroll-requires, eval-refuse-requires-3}
-use Rattle.forward.proofs.eval.+call+choose+eval+let_one+let_two+pair+place+under+unroll+wrap.Proof.Entering.{eval-same-length, eval-returns-3, eval-same-length-2, eval-returns-4}
-use Rattle.forward.proofs.eval.+call+choose+eval+let_one+let_two+pair+place+under+unroll+wrap.Proof.Entering.{eval-same-length-3, eval-returns-5, eval-same-length-4, eval-returns-6}
-use Rattle.forward.proofs.eval.+call+choose+eval+let_one+let_two+pair+place+under+unroll+wrap.Proof.Entering.{eval-same-length-5, eval-returns-7, eval-same-length-6, eval-returns-8}
-use Rattle.forward.proofs.eval.+call+choose+eval+let_one+let_two+pair+place+under+unroll+wrap.Proof.Entering.{eval-same-length-7, eval-returns-9, eval-same-length-8, eval-returns-10}
-use Rattle.forward.proofs.eval.+call+choose+eval+let_one+let_two+pair+place+under+unroll+wrap.Proof.Entering.{eval-same-length-9, eval-returns-11, eval-same-length-10, eval-returns-12}
-use Rattle.forward.proofs.eval.+call+choose+eval+let_one+let_two+pair+place+under+unroll+wrap.Proof.Entering.{eval-same-length-11, eval-returns-13, eval-returns-14}
-use Rattle.forward.proofs.eval.+call+choose+eval+let_one+let_two+pair+place+under+unroll+wrap.Proof.Parts.{pair-first-of-requires, pair-sub-eval, pair-eval-requires, pair-same-length}
-use Rattle.forward.proofs.eval.+call+choose+eval+let_one+let_two+pair+place+under+unroll+wrap.Proof.Parts.{pair-returns, pair-second-of-requires, pair-sub-eval-2, pair-eval-requires-2}
-use Rattle.forward.proofs.eval.+call+choose+eval+let_one+let_two+pair+place+under+unroll+wrap.Proof.Parts.{pair-same-length-2, pair-returns-2, pair-make-pair-requires, pair-same-length-3}
-use Rattle.forward.proofs.eval.+call+choose+eval+let_one+let_two+pair+place+under+unroll+wrap.Proof.Parts.{pair-returns-3, unroll-second-of-requires, unroll-sub-eval, unroll-eval-requires}
-use Rattle.forward.proofs.eval.+call+choose+eval+let_one+let_two+pair+place+under+unroll+wrap.Proof.Parts.{unroll-same-length, unroll-returns, unroll-unrolled-requires, unroll-same-length-2}
-use Rattle.forward.proofs.eval.+call+choose+eval+let_one+let_two+pair+place+under+unroll+wrap.Proof.Parts.{unroll-returns-2, wrap-second-of-requires, wrap-sub-eval, wrap-eval-requires}
-use Rattle.forward.proofs.eval.+call+choose+eval+let_one+let_two+pair+place+under+unroll+wrap.Proof.Parts.{wrap-same-length, wrap-returns, wrap-make-single-requires, wrap-same-length-2}
-use Rattle.forward.proofs.eval.+call+choose+eval+let_one+let_two+pair+place+under+unroll+wrap.Proof.Parts.{wrap-returns-2}
-use Rattle.forward.proofs.eval.+call+choose+eval+let_one+let_two+pair+place+under+unroll+wrap.Proof.Lets.{let-one-first-of-requires, let-one-sub-eval, let-one-eval-requires}
-use Rattle.forward.proofs.eval.+call+choose+eval+let_one+let_two+pair+place+under+unroll+wrap.Proof.Lets.{let-one-same-length, let-one-returns, let-one-second-of-requires, let-one-sub-under}
-use Rattle.forward.proofs.eval.+call+choose+eval+let_one+let_two+pair+place+under+unroll+wrap.Proof.Lets.{let-one-under-requires, let-one-same-length-2, let-one-returns-2}
-use Rattle.forward.proofs.eval.+call+choose+eval+let_one+let_two+pair+place+under+unroll+wrap.Proof.Lets.{let-two-first-of-requires, let-two-sub-below, let-two-eval-requires}
-use Rattle.forward.proofs.eval.+call+choose+eval+let_one+let_two+pair+place+under+unroll+wrap.Proof.Lets.{let-two-same-length, let-two-returns, let-two-kind-of-requires}
-use Rattle.forward.proofs.eval.+call+choose+eval+let_one+let_two+pair+place+under+unroll+wrap.Proof.Lets.{let-two-refuse-requires, let-two-same-length-2, let-two-returns-2}
-use Rattle.forward.proofs.eval.+call+choose+eval+let_one+let_two+pair+place+under+unroll+wrap.Proof.Lets.{let-two-left-of-requires, let-two-right-of-requires, let-two-end-of-requires}
-use Rattle.forward.proofs.eval.+call+choose+eval+let_one+let_two+pair+place+under+unroll+wrap.Proof.Lets.{let-two-bind-requires, let-two-second-of-requires, let-two-wider-requires}
-use Rattle.forward.proofs.eval.+call+choose+eval+let_one+let_two+pair+place+under+unroll+wrap.Proof.Lets.{let-two-under-requires, let-two-same-length-3, let-two-returns-3}
-use Rattle.forward.proofs.eval.+call+choose+eval+let_one+let_two+pair+place+under+unroll+wrap.Proof.Cases.{choose-first-of-requires, choose-sub-below, choose-eval-requires, choose-same-length}
-use Rattle.forward.proofs.eval.+call+choose+eval+let_one+let_two+pair+place+under+unroll+wrap.Proof.Cases.{choose-returns, choose-kind-of-requires, choose-left-of-requires}
-use Rattle.forward.proofs.eval.+call+choose+eval+let_one+let_two+pair+place+under+unroll+wrap.Proof.Cases.{choose-second-of-requires, choose-under-requires, choose-same-length-2}
-use Rattle.forward.proofs.eval.+call+choose+eval+let_one+let_two+pair+place+under+unroll+wrap.Proof.Cases.{choose-returns-2, choose-third-of-requires, choose-under-requires-2}
-use Rattle.forward.proofs.eval.+call+choose+eval+let_one+let_two+pair+place+under+unroll+wrap.Proof.Cases.{choose-first-match-requires, choose-same-length-3, choose-returns-3}
-use Rattle.forward.proofs.eval.+call+choose+eval+let_one+let_two+pair+place+under+unroll+wrap.Proof.Cases.{choose-refuse-requires, choose-same-length-4, choose-returns-4}
-use Rattle.forward.proofs.eval.+call+choose+eval+let_one+let_two+pair+place+under+unroll+wrap.Proof.Scopes.{place-argument-of-requires, place-sub-eval, place-eval-requires, place-same-length}
-use Rattle.forward.proofs.eval.+call+choose+eval+let_one+let_two+pair+place+under+unroll+wrap.Proof.Scopes.{place-returns, place-end-of-requires, place-add-at, place-bind-requires}
-use Rattle.forward.proofs.eval.+call+choose+eval+let_one+let_two+pair+place+under+unroll+wrap.Proof.Scopes.{place-same-length-2, place-returns-2, place-add-next, place-place-requires}
-use Rattle.forward.proofs.eval.+call+choose+eval+let_one+let_two+pair+place+under+unroll+wrap.Proof.Scopes.{place-bind-requires-2, place-same-length-3, place-returns-3, under-end-of-requires}
-use Rattle.forward.proofs.eval.+call+choose+eval+let_one+let_two+pair+place+under+unroll+wrap.Proof.Scopes.{under-bind-requires, under-wider-requires, under-eval-requires, under-same-length}
-use Rattle.forward.proofs.eval.+call+choose+eval+let_one+let_two+pair+place+under+unroll+wrap.Proof.Scopes.{under-returns}
-use Rattle.forward.proofs.eval.+call+choose+eval+let_one+let_two+pair+place+under+unroll+wrap.Proof.Calls.{call-third-of-requires, call-wide-index-requires, call-place-requires}
-use Rattle.forward.proofs.eval.+call+choose+eval+let_one+let_two+pair+place+under+unroll+wrap.Proof.Calls.{call-same-length, call-returns, call-first-of-requires, call-body-of-requires}
-use Rattle.forward.proofs.eval.+call+choose+eval+let_one+let_two+pair+place+under+unroll+wrap.Proof.Calls.{call-end-of-requires, call-add-scope, call-scope-requires, call-sub-eval}
-use Rattle.forward.proofs.eval.+call+choose+eval+let_one+let_two+pair+place+under+unroll+wrap.Proof.Calls.{call-eval-requires, call-same-length-2, call-returns-2}
+mod Kinds
+mod Call
+mod Case
+mod Let
+mod LetPair
+mod Pair
+mod Place
+mod Under
+mod Unroll
+mod Wrap
+use Rattle.forward.proofs as own
+use own.eval.call.Reads as call
+use own.eval.choose.Reads as choose
+use own.eval.eval.Reads as eval
+use own.eval.let_one.Reads as let-one
+use own.eval.let_two.Reads as let-two
+use own.eval.pair.Reads as pair
+use own.eval.place.Reads as place
+use own.eval.under.Reads as under
+use own.eval.unroll.Reads as unroll
+use own.eval.wrap.Reads as wrap
+use own.eval.+call+choose+eval+let_one+let_two+pair+place+under+unroll+wrap as cycle
+use cycle.Lts-call as call-lts
+use cycle.Lts-choose as choose-lts
+use cycle.Lts-eval as eval-lts
+use cycle.Lts-let_one as let-one-lts
+use cycle.Lts-let_two as let-two-lts
+use cycle.Lts-pair as pair-lts
+use cycle.Lts-place as place-lts
+use cycle.Lts-under as under-lts
+use cycle.Lts-unroll as unroll-lts
+use cycle.Lts-wrap as wrap-lts
+use cycle.{statement}
+use cycle.Tie.{close}
 
 pub +call+choose+eval+let-one+let-two+pair+place+under+unroll+wrap-spec :
     {M : Type 1} → statement M
 +call+choose+eval+let-one+let-two+pair+place+under+unroll+wrap-spec =
     close
-    μ-call
-    μ-choose
-    μ-eval
-    μ-let-one
-    μ-let-two
-    μ-pair
-    μ-place
-    μ-under
-    μ-unroll
-    μ-wrap
-    (λ t. call-lts.spec (call-uses t)
-    (call-at t)
+    Claims.μ-call
+    Claims.μ-choose
+    Claims.μ-eval
+    Claims.μ-let-one
+    Claims.μ-let-two
+    Claims.μ-pair
+    Claims.μ-place
+    Claims.μ-under
+    Claims.μ-unroll
+    Claims.μ-wrap
+    (λ t. call-lts.spec (Claims.call-uses t)
+    (Claims.call-at t)
     call.Post
-    (call-third-of-requires t)
-    (call-wide-index-requires t)
-    (call-place-requires t)
-    (call-same-length t)
-    (call-returns t)
-    (call-first-of-requires t)
-    (call-body-of-requires t)
-    (call-end-of-requires t)
-    (call-add-scope t)
-    (call-scope-requires t)
-    (call-sub-eval t)
-    (call-eval-requires t)
-    (call-same-length-2 t)
-    (call-returns-2 t))
-    (λ t. choose-lts.spec (choose-uses t)
-    (choose-at t)
+    (Call.third-of-requires t)
+    (Call.wide-index-requires t)
+    (Call.place-requires t)
+    (Call.same-length t)
+    (Call.returns t)
+    (Call.first-of-requires t)
+    (Call.body-of-requires t)
+    (Call.end-of-requires t)
+    (Call.add-scope t)
+    (Call.scope-requires t)
+    (Call.sub-eval t)
+    (Call.eval-requires t)
+    (Call.same-length-2 t)
+    (Call.returns-2 t))
+    (λ t. choose-lts.spec (Claims.choose-uses t)
+    (Claims.choose-at t)
     choose.Post
-    (choose-first-of-requires t)
-    (choose-sub-below t)
-    (choose-eval-requires t)
-    (choose-same-length t)
-    (choose-returns t)
-    (choose-kind-of-requires t)
-    (choose-left-of-requires t)
-    (choose-second-of-requires t)
-    (choose-under-requires t)
-    (choose-same-length-2 t)
-    (choose-returns-2 t)
-    (choose-third-of-requires t)
-    (choose-under-requires-2 t)
-    (choose-first-match-requires t)
-    (choose-same-length-3 t)
-    (choose-returns-3 t)
-    (choose-refuse-requires t)
-    (choose-same-length-4 t)
-    (choose-returns-4 t))
-    (λ t. eval-lts.spec (eval-uses t)
-    (eval-at t)
+    (Case.first-of-requires t)
+    (Case.sub-below t)
+    (Case.eval-requires t)
+    (Case.same-length t)
+    (Case.returns t)
+    (Case.kind-of-requires t)
+    (Case.left-of-requires t)
+    (Case.second-of-requires t)
+    (Case.under-requires t)
+    (Case.same-length-2 t)
+    (Case.returns-2 t)
+    (Case.third-of-requires t)
+    (Case.under-requires-2 t)
+    (Case.first-match-requires t)
+    (Case.same-length-3 t)
+    (Case.returns-3 t)
+    (Case.refuse-requires t)
+    (Case.same-length-4 t)
+    (Case.returns-4 t))
+    (λ t. eval-lts.spec (Claims.eval-uses t)
+    (Claims.eval-at t)
     eval.Post
-    (eval-fuel-requires t)
-    (eval-refuse-requires t)
-    (eval-returns t)
-    (eval-refuse-requires-2 t)
-    (eval-returns-2 t)
-    (eval-spend-requires t)
-    (eval-kind-of-requires t)
-    (eval-first-of-requires t)
-    (eval-variable-requires t)
-    (eval-make-unit-requires t)
-    (eval-wrap-requires t)
-    (eval-wrap-requires-2 t)
-    (eval-pair-requires t)
-    (eval-let-one-requires t)
-    (eval-let-two-requires t)
-    (eval-choose-requires t)
-    (eval-call-requires t)
-    (eval-wrap-requires-3 t)
-    (eval-unroll-requires t)
-    (eval-refuse-requires-3 t)
-    (eval-same-length t)
-    (eval-returns-3 t)
-    (eval-same-length-2 t)
-    (eval-returns-4 t)
-    (eval-same-length-3 t)
-    (eval-returns-5 t)
-    (eval-same-length-4 t)
-    (eval-returns-6 t)
-    (eval-same-length-5 t)
-    (eval-returns-7 t)
-    (eval-same-length-6 t)
-    (eval-returns-8 t)
-    (eval-same-length-7 t)
-    (eval-returns-9 t)
-    (eval-same-length-8 t)
-    (eval-returns-10 t)
-    (eval-same-length-9 t)
-    (eval-returns-11 t)
-    (eval-same-length-10 t)
-    (eval-returns-12 t)
-    (eval-same-length-11 t)
-    (eval-returns-13 t)
-    (eval-returns-14 t))
-    (λ t. let-one-lts.spec (let-one-uses t)
-    (let-one-at t)
+    (Entering.fuel-requires t)
+    (Entering.refuse-requires t)
+    (Entering.returns t)
+    (Entering.refuse-requires-2 t)
+    (Entering.returns-2 t)
+    (Entering.spend-requires t)
+    (Entering.kind-of-requires t)
+    (Entering.first-of-requires t)
+    (Entering.variable-requires t)
+    (Entering.make-unit-requires t)
+    (Entering.wrap-requires t)
+    (Entering.wrap-requires-2 t)
+    (Entering.pair-requires t)
+    (Entering.let-one-requires t)
+    (Entering.let-two-requires t)
+    (Entering.choose-requires t)
+    (Entering.call-requires t)
+    (Entering.wrap-requires-3 t)
+    (Entering.unroll-requires t)
+    (Entering.refuse-requires-3 t)
+    (Entering.same-length t)
+    (Entering.returns-3 t)
+    (Kinds.same-length-2 t)
+    (Kinds.returns-4 t)
+    (Kinds.same-length-3 t)
+    (Kinds.returns-5 t)
+    (Kinds.same-length-4 t)
+    (Kinds.returns-6 t)
+    (Kinds.same-length-5 t)
+    (Kinds.returns-7 t)
+    (Kinds.same-length-6 t)
+    (Kinds.returns-8 t)
+    (Kinds.same-length-7 t)
+    (Kinds.returns-9 t)
+    (Kinds.same-length-8 t)
+    (Kinds.returns-10 t)
+    (Kinds.same-length-9 t)
+    (Kinds.returns-11 t)
+    (Kinds.same-length-10 t)
+    (Kinds.returns-12 t)
+    (Kinds.same-length-11 t)
+    (Kinds.returns-13 t)
+    (Kinds.returns-14 t))
+    (λ t. let-one-lts.spec (Claims.let-one-uses t)
+    (Claims.let-one-at t)
     let-one.Post
-    (let-one-first-of-requires t)
-    (let-one-sub-eval t)
-    (let-one-eval-requires t)
-    (let-one-same-length t)
-    (let-one-returns t)
-    (let-one-second-of-requires t)
-    (let-one-sub-under t)
-    (let-one-under-requires t)
-    (let-one-same-length-2 t)
-    (let-one-returns-2 t))
-    (λ t. let-two-lts.spec (let-two-uses t)
-    (let-two-at t)
+    (Let.first-of-requires t)
+    (Let.sub-eval t)
+    (Let.eval-requires t)
+    (Let.same-length t)
+    (Let.returns t)
+    (Let.second-of-requires t)
+    (Let.sub-under t)
+    (Let.under-requires t)
+    (Let.same-length-2 t)
+    (Let.returns-2 t))
+    (λ t. let-two-lts.spec (Claims.let-two-uses t)
+    (Claims.let-two-at t)
     let-two.Post
-    (let-two-first-of-requires t)
-    (let-two-sub-below t)
-    (let-two-eval-requires t)
-    (let-two-same-length t)
-    (let-two-returns t)
-    (let-two-kind-of-requires t)
-    (let-two-refuse-requires t)
-    (let-two-same-length-2 t)
-    (let-two-returns-2 t)
-    (let-two-left-of-requires t)
-    (let-two-right-of-requires t)
-    (let-two-end-of-requires t)
-    (let-two-bind-requires t)
-    (let-two-second-of-requires t)
-    (let-two-wider-requires t)
-    (let-two-under-requires t)
-    (let-two-same-length-3 t)
-    (let-two-returns-3 t))
-    (λ t. pair-lts.spec (pair-uses t)
-    (pair-at t)
+    (LetPair.first-of-requires t)
+    (LetPair.sub-below t)
+    (LetPair.eval-requires t)
+    (LetPair.same-length t)
+    (LetPair.returns t)
+    (LetPair.kind-of-requires t)
+    (LetPair.refuse-requires t)
+    (LetPair.same-length-2 t)
+    (LetPair.returns-2 t)
+    (LetPair.left-of-requires t)
+    (LetPair.right-of-requires t)
+    (LetPair.end-of-requires t)
+    (LetPair.bind-requires t)
+    (LetPair.second-of-requires t)
+    (LetPair.wider-requires t)
+    (LetPair.under-requires t)
+    (LetPair.same-length-3 t)
+    (LetPair.returns-3 t))
+    (λ t. pair-lts.spec (Claims.pair-uses t)
+    (Claims.pair-at t)
     pair.Post
-    (pair-first-of-requires t)
-    (pair-sub-eval t)
-    (pair-eval-requires t)
-    (pair-same-length t)
-    (pair-returns t)
-    (pair-second-of-requires t)
-    (pair-sub-eval-2 t)
-    (pair-eval-requires-2 t)
-    (pair-same-length-2 t)
-    (pair-returns-2 t)
-    (pair-make-pair-requires t)
-    (pair-same-length-3 t)
-    (pair-returns-3 t))
-    (λ t. place-lts.spec (place-uses t)
-    (place-at t)
+    (Pair.first-of-requires t)
+    (Pair.sub-eval t)
+    (Pair.eval-requires t)
+    (Pair.same-length t)
+    (Pair.returns t)
+    (Pair.second-of-requires t)
+    (Pair.sub-eval-2 t)
+    (Pair.eval-requires-2 t)
+    (Pair.same-length-2 t)
+    (Pair.returns-2 t)
+    (Pair.make-pair-requires t)
+    (Pair.same-length-3 t)
+    (Pair.returns-3 t))
+    (λ t. place-lts.spec (Claims.place-uses t)
+    (Claims.place-at t)
     place.Post
-    (place-argument-of-requires t)
-    (place-sub-eval t)
-    (place-eval-requires t)
-    (place-same-length t)
-    (place-returns t)
-    (place-end-of-requires t)
-    (place-add-at t)
-    (place-bind-requires t)
-    (place-same-length-2 t)
-    (place-returns-2 t)
-    (place-add-next t)
-    (place-place-requires t)
-    (place-bind-requires-2 t)
-    (place-same-length-3 t)
-    (place-returns-3 t))
-    (λ t. under-lts.spec (under-uses t)
-    (under-at t)
+    (Place.argument-of-requires t)
+    (Place.sub-eval t)
+    (Place.eval-requires t)
+    (Place.same-length t)
+    (Place.returns t)
+    (Place.end-of-requires t)
+    (Place.add-at t)
+    (Place.bind-requires t)
+    (Place.same-length-2 t)
+    (Place.returns-2 t)
+    (Place.add-next t)
+    (Place.place-requires t)
+    (Place.bind-requires-2 t)
+    (Place.same-length-3 t)
+    (Place.returns-3 t))
+    (λ t. under-lts.spec (Claims.under-uses t)
+    (Claims.under-at t)
     under.Post
-    (under-end-of-requires t)
-    (under-bind-requires t)
-    (under-wider-requires t)
-    (under-eval-requires t)
-    (under-same-length t)
-    (under-returns t))
-    (λ t. unroll-lts.spec (unroll-uses t)
-    (unroll-at t)
+    (Under.end-of-requires t)
+    (Under.bind-requires t)
+    (Under.wider-requires t)
+    (Under.eval-requires t)
+    (Under.same-length t)
+    (Under.returns t))
+    (λ t. unroll-lts.spec (Claims.unroll-uses t)
+    (Claims.unroll-at t)
     unroll.Post
-    (unroll-second-of-requires t)
-    (unroll-sub-eval t)
-    (unroll-eval-requires t)
-    (unroll-same-length t)
-    (unroll-returns t)
-    (unroll-unrolled-requires t)
-    (unroll-same-length-2 t)
-    (unroll-returns-2 t))
-    λ t. wrap-lts.spec (wrap-uses t)
-    (wrap-at t)
+    (Unroll.second-of-requires t)
+    (Unroll.sub-eval t)
+    (Unroll.eval-requires t)
+    (Unroll.same-length t)
+    (Unroll.returns t)
+    (Unroll.unrolled-requires t)
+    (Unroll.same-length-2 t)
+    (Unroll.returns-2 t))
+    λ t. wrap-lts.spec (Claims.wrap-uses t)
+    (Claims.wrap-at t)
     wrap.Post
-    (wrap-second-of-requires t)
-    (wrap-sub-eval t)
-    (wrap-eval-requires t)
-    (wrap-same-length t)
-    (wrap-returns t)
-    (wrap-make-single-requires t)
-    (wrap-same-length-2 t)
-    (wrap-returns-2 t)
+    (Wrap.second-of-requires t)
+    (Wrap.sub-eval t)
+    (Wrap.eval-requires t)
+    (Wrap.same-length t)
+    (Wrap.returns t)
+    (Wrap.make-single-requires t)
+    (Wrap.same-length-2 t)
+    (Wrap.returns-2 t)
