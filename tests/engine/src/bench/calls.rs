@@ -42,8 +42,19 @@ fn bench_lent_fuel() -> Result<(), String> {
     for (direction, value) in [(Direction::Forward, nat_bytes(0)), (Direction::Backward, two.clone())] {
         let call = run(&program, direction, two.clone(), value, FUEL);
         bench_run(&format!("{}, four steps lent fuel {FUEL}", name(direction)), &call, "")?;
+        bench_beside_reading(&call);
     }
     Ok(())
+}
+
+/// The same beside a plain reading of the workspace, which no clearing can do without.
+fn bench_beside_reading(call: &RunCall) {
+    let zeros = vec![0u8; call.workspace];
+    let mut read = || {
+        black_box(black_box(&zeros).iter().fold(0, |seen, byte| seen | byte));
+    };
+    let times = medians([&mut by_engine(call), &mut read]);
+    print_times("the same beside reading its workspace once", times, "second: reading alone");
 }
 
 fn run(program: &[u8], direction: Direction, ancillae: Vec<u8>, value: Vec<u8>, fuel: u16) -> RunCall {
