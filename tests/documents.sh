@@ -1,6 +1,7 @@
 #!/usr/bin/env bash
 # Holds the documents to the repository: what they link to or name as a path is there, modules that they name as CRATE/specs/X or CRATE/proofs/X too,
-# so are the edits that docs/CLAIMS.md names; the map of docs/ARCHITECTURE.md has the crates of crates.txt; no file names a folder of one machine.
+# so are the edits that docs/CLAIMS.md names; the map of docs/ARCHITECTURE.md is that of crates.txt, which lists
+# for each crate the ones that it names; no file names a folder of one machine.
 # The last line is 'N passed, M failed'; the exit status is 0 only if M is 0.
 set -uo pipefail
 cd "$(dirname "$0")/.."
@@ -68,10 +69,29 @@ versions() {
     verdict "header, binding, command and changelog have one version" $?
 }
 
-# The first column of the map, and the crates.
-map() {
-    diff <(sed -n '/^| crate | stands on/,/^$/p' docs/ARCHITECTURE.md | sed -nE 's/^\| ([a-z]+) \|.*/\1/p' | grep -v '^crate$' | LC_ALL=C sort) \
-        <(sed -nE 's/^([a-z]+):.*/\1/p' crates.txt | LC_ALL=C sort)
+# The crates of crates.txt, each with what it stands on; and the first two columns of the map.
+listed() { sed -nE 's/^([a-z]+): *(.*)$/\1: \2/p' crates.txt | sed -E 's/ +$//'; }
+mapped() {
+    sed -n '/^| crate | stands on/,/^$/p' docs/ARCHITECTURE.md | sed -nE 's/^\| ([a-z]+) \| *([a-z, ]*)\|.*/\1: \2/p' | grep -v '^crate:' | tr -d ',' | sed -E 's/ +$//'
+}
+map() { diff <(mapped | LC_ALL=C sort) <(listed | LC_ALL=C sort); }
+
+# The other crates that a crate's files name, in the order of crates.txt's lists: in code as a path's first part, in definitions and proofs as a library.
+names_in() {
+    {
+        find "crates/$1/src" -name '*.rt' -exec sed 's,//.*,,' {} + | grep -oE '(^|[^A-Za-z0-9_:])[a-z]+::' | grep -oE '[a-z]+'
+        find "crates/$1" -name must-fail -prune -o -type f -print0 | xargs -0 grep -ohE 'Rattle·[a-z]+' | sed 's/Rattle·//'
+    } | LC_ALL=C sort -u | grep -vx "$1"
+}
+only_named() {
+    local crate others status=0
+    while IFS=: read -r crate others; do
+        if ! diff <(tr ' ' '\n' <<< "$others" | grep . | LC_ALL=C sort) <(names_in "$crate" | grep -xFf <(listed | sed 's/:.*//'; printf '%s\n' bytes io libc os) | LC_ALL=C sort); then
+            echo "crates.txt: $crate names other crates than those that are listed"
+            status=1
+        fi
+    done < <(listed)
+    return $status
 }
 
 no_folder_of_a_machine() {
@@ -85,7 +105,8 @@ while IFS= read -r document; do
 done < <(documents)
 edits
 versions
-part "the map has the crates of crates.txt" map
+part "the map has the crates of crates.txt, and what each stands on" map
+part "crates.txt lists the crates that a crate names" only_named
 part "no folder of one machine" no_folder_of_a_machine
 echo "$passed passed, $failed failed"
 [ "$failed" -eq 0 ]
