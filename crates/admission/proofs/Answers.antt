@@ -7,7 +7,6 @@ use mathlib.Core.Option.{Option, none, some}
 use mathlib.Core.List.{List, [], map}
 use lib.ListN.{length, getD, length-map}
 use lib.Dec.{eqb}
-use package.Rattle.rules.specs.Limits.{maxFunctions}
 use package.Rattle.rules.specs.Val.{Val}
 use package.Rattle.rules.specs.Term.{Fun, nth}
 use package.Rattle.rules.proofs.Basics.{eqb-yes}
@@ -129,7 +128,6 @@ module _ {xs types functions : List ℕ} {table : List (List ℕ)} (A : Admittab
 
   -- its row of the table of signatures, by the number as widened
   pub row-there : {i : ℕ} → i ≡ g → i < 64
-  unfolding maxFunctions
   row-there e = omega (arith, l, A .few)
 
   pub row-at : {i : ℕ} → i ≡ g → SignatureIs (functionAt xs at) (getD table i [])

@@ -1,6 +1,6 @@
 -- Every definition that a case computes with, behind one name: `unfolding computing` unfolds them all.
 use package.Rattle.octets.specs.Numbers.{get16, get32, put16, put32, bytes16, bytes32}
-use package.Rattle.rules.specs.Limits.{maxTypes, maxTerms, maxFunctions, maxProgramBytes, maxParameters, maxVariables, maxNodes, maxValueBytes, maxAncillaBytes, fits, maxHeight, maxFuel, workspaceBase, workspacePerFuel, maxConversions}
+use package.Rattle.rules.specs.Limits.{maxProgramBytes, maxParameters, maxValueBytes, maxAncillaBytes, fits, maxHeight, maxFuel, workspaceBase, workspacePerFuel, maxConversions}
 use package.Rattle.rules.specs.Val.{size, encode, same}
 use package.Rattle.rules.specs.Ty.{plug, unfoldTy, nodes, sameTy}
 use package.Rattle.rules.specs.Term.{entry, count, nth, look, scope}
@@ -23,5 +23,5 @@ use package.Rattle.calls.specs.Book.{buffer, orStays, carryBy, carry, th
 use package.Rattle.calls.specs.Cases.{refs, typeField, termField, varField, functionField, natTypes, numberTerms, numberFunctions, numbers, bitTypes, collapse, drop, flip, units}
 
 unfoldable pub computing : Unit {0}
-unfolding get16 get32 put16 put32 bytes16 bytes32 maxTypes maxTerms maxFunctions maxProgramBytes maxParameters maxVariables maxNodes maxValueBytes maxAncillaBytes fits maxHeight maxFuel workspaceBase workspacePerFuel maxConversions size encode same plug unfoldTy nodes sameTy entry count nth look scope mayBe mayYield barOne bar _>>=_ _>>_ need asSum asProd asMu asFun visible spent mustUse sameUse statics room small infer inferArguments checkFun checkFuns check after enter test onSum onPair onRoll onUnit onSome known bindOr meet leave each made forwardStep forward backwardStep backward runForward runBackward num _>>=Answer_ require present cleared tagAt lengthAt nextAt kindAt parametersAt typeLengths termLengths callLength typeLength termLength functionLength bodyFits wellFormed noFields withField withinCounts readFields layout references typeOfKind typeAt typeTree typeBelow typeOf termOfKind callAncillae termAt termTrees termTree termBelow termOf functionAt functionOf entriesAt programOf ceiling nodesOf freeOf figures plain typesOfType typesOfTerm termsOfTerm functionsOfTerm typesOfFunction below member fresh allPlain testTypes testTerms testFunctions testUsed testEntries offset typed load then read alone value encodeAll consTo readAll ancillae hasTy hasTys workspaceFor prepared admit ran goes returns checkCall forwardCall backwardCall written field heldTag entryTag entryBody entryFields fields writeOut _>>=Journal_ when opened readEntry allZero readEntries readJournal kept turned behind newest openCall convertCall rollbackCall buffer orStays carryBy carry through entriesOf journalOf refusalOf refusal orUnit orNone orEmpty enters turnUnless bookTurn bookRun resized afterTurned afterOpen call callRun refs typeField termField varField functionField natTypes numberTerms numberFunctions numbers bitTypes collapse drop flip units
+unfolding get16 get32 put16 put32 bytes16 bytes32 maxProgramBytes maxParameters maxValueBytes maxAncillaBytes fits maxHeight maxFuel workspaceBase workspacePerFuel maxConversions size encode same plug unfoldTy nodes sameTy entry count nth look scope mayBe mayYield barOne bar _>>=_ _>>_ need asSum asProd asMu asFun visible spent mustUse sameUse statics room small infer inferArguments checkFun checkFuns check after enter test onSum onPair onRoll onUnit onSome known bindOr meet leave each made forwardStep forward backwardStep backward runForward runBackward num _>>=Answer_ require present cleared tagAt lengthAt nextAt kindAt parametersAt typeLengths termLengths callLength typeLength termLength functionLength bodyFits wellFormed noFields withField withinCounts readFields layout references typeOfKind typeAt typeTree typeBelow typeOf termOfKind callAncillae termAt termTrees termTree termBelow termOf functionAt functionOf entriesAt programOf ceiling nodesOf freeOf figures plain typesOfType typesOfTerm termsOfTerm functionsOfTerm typesOfFunction below member fresh allPlain testTypes testTerms testFunctions testUsed testEntries offset typed load then read alone value encodeAll consTo readAll ancillae hasTy hasTys workspaceFor prepared admit ran goes returns checkCall forwardCall backwardCall written field heldTag entryTag entryBody entryFields fields writeOut _>>=Journal_ when opened readEntry allZero readEntries readJournal kept turned behind newest openCall convertCall rollbackCall buffer orStays carryBy carry through entriesOf journalOf refusalOf refusal orUnit orNone orEmpty enters turnUnless bookTurn bookRun resized afterTurned afterOpen call callRun refs typeField termField varField functionField natTypes numberTerms numberFunctions numbers bitTypes collapse drop flip units
 computing = tt

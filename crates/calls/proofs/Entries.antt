@@ -174,7 +174,7 @@ module _ (ys : List TypeEntry) (low : Lower ys) where
   two-right measure ns a b e r = given (below-head (length ns) a (b ∷ []) e) λ (l, e₁). (r a l, one-right measure ns b e₁ r)
 
   nodes-measures : Measures nodesOf λ c. min ceiling (nodes c)
-  unfolding nodesOf ceiling maxNodes nodes typeTree typesOfType
+  unfolding nodesOf ceiling nodes typeTree typesOfType
   nodes-measures ns y-unit e r = refl
   nodes-measures ns (y-prod a b) e r = given (two-right (λ c. min ceiling (nodes c)) ns a b e r) λ (p, q). stops-two ceiling _ _ p q
   nodes-measures ns (y-sum a b) e r = given (two-right (λ c. min ceiling (nodes c)) ns a b e r) λ (p, q). stops-two ceiling _ _ p q
@@ -214,5 +214,5 @@ module _ (ys : List TypeEntry) (low : Lower ys) where
         let h : min ceiling (nodes (typeOf ys i)) ≤ maxNodes = subst (λ n. n ≤ maxNodes) (nodes-figure i l) (leb-sound _ maxNodes y) in
         (free-figure-zero i l .0 (eqb-sound _ 0 x), omega arith),
     λ (c, s).
-        rw (free-figure-zero i l .1 c, nodes-figure i l) (leb-yes _ maxNodes (omega arith)),
+        rw (free-figure-zero i l .1 c, nodes-figure i l) (leb-yes (min ceiling (nodes (typeOf ys i))) maxNodes (omega arith)),
   )

@@ -10,6 +10,25 @@ use package.Rattle.rules.specs.Limits.{maxTypes, maxTerms, maxFunctions, maxPar
 use package.Rattle.calls.specs.Answer.{Answer, accepted, _>>=_, require}
 
 ----------------------------------------------------------------
+-- Tags, and the bytes of a field before its body: tag and length
+
+abbrev pub typeTag : ℕ
+typeTag = 1
+
+abbrev pub termTag : ℕ
+termTag = 2
+
+abbrev pub functionTag : ℕ
+functionTag = 3
+
+abbrev pub fieldHead : ℕ
+fieldHead = 3
+
+-- the kind of a call, whose body has no one length
+abbrev pub callKind : ℕ
+callKind = 8
+
+----------------------------------------------------------------
 -- One field, of the program `xs`, at offset `at`
 
 unfoldable pub tagAt : List ℕ → ℕ → ℕ
@@ -21,11 +40,11 @@ lengthAt xs at = get16 xs (at + 1)
 
 -- the offset of the next field
 unfoldable pub nextAt : List ℕ → ℕ → ℕ
-nextAt xs at = at + 3 + lengthAt xs at
+nextAt xs at = at + fieldHead + lengthAt xs at
 
 -- the kind byte of a type or a term
 unfoldable pub kindAt : List ℕ → ℕ → ℕ
-kindAt xs at = getD xs (at + 3) 0
+kindAt xs at = getD xs (at + fieldHead) 0
 
 -- how many parameters a function says it has
 unfoldable pub parametersAt : List ℕ → ℕ → ℕ
@@ -51,7 +70,7 @@ unfoldable pub typeLength : ℕ → ℕ → Bool
 typeLength kind n = leb 1 n && eqb n (getD typeLengths kind 0)
 
 unfoldable pub termLength : ℕ → ℕ → Bool
-termLength kind n = leb 1 n && cond (eqb kind 8) (callLength n) (eqb n (getD termLengths kind 0))
+termLength kind n = leb 1 n && cond (eqb kind callKind) (callLength n) (eqb n (getD termLengths kind 0))
 
 -- result type, parameter count, parameter types, body term
 unfoldable pub functionLength : ℕ → ℕ → Bool
@@ -60,12 +79,12 @@ functionLength parameters n = eqb n (5 + 2 * parameters)
 -- Types come first, then terms, then functions: a tag is no lower than the one before.
 unfoldable pub bodyFits : List ℕ → ℕ → Bool
 bodyFits xs at =
-    (eqb (tagAt xs at) 1 && typeLength (kindAt xs at) (lengthAt xs at))
-    || (eqb (tagAt xs at) 2 && termLength (kindAt xs at) (lengthAt xs at))
-    || (eqb (tagAt xs at) 3 && functionLength (parametersAt xs at) (lengthAt xs at))
+    (eqb (tagAt xs at) typeTag && typeLength (kindAt xs at) (lengthAt xs at))
+    || (eqb (tagAt xs at) termTag && termLength (kindAt xs at) (lengthAt xs at))
+    || (eqb (tagAt xs at) functionTag && functionLength (parametersAt xs at) (lengthAt xs at))
 
 unfoldable pub wellFormed : List ℕ → ℕ → ℕ → Bool
-wellFormed xs at last = leb (at + 3) (length xs) && leb last (tagAt xs at) && leb (nextAt xs at) (length xs) && bodyFits xs at
+wellFormed xs at last = leb (at + fieldHead) (length xs) && leb last (tagAt xs at) && leb (nextAt xs at) (length xs) && bodyFits xs at
 
 ----------------------------------------------------------------
 -- The layout: where the field of each entry stands
@@ -81,16 +100,16 @@ noFields = record { types = []; terms = []; functions = [] }
 -- one more field
 unfoldable pub withField : List ℕ → ℕ → Layout → Layout
 withField xs at L = record {
-  types = cond (eqb (tagAt xs at) 1) (L .types ++ (at ∷ [])) (L .types);
-  terms = cond (eqb (tagAt xs at) 2) (L .terms ++ (at ∷ [])) (L .terms);
-  functions = cond (eqb (tagAt xs at) 3) (L .functions ++ (at ∷ [])) (L .functions);
+  types = cond (eqb (tagAt xs at) typeTag) (L .types ++ (at ∷ [])) (L .types);
+  terms = cond (eqb (tagAt xs at) termTag) (L .terms ++ (at ∷ [])) (L .terms);
+  functions = cond (eqb (tagAt xs at) functionTag) (L .functions ++ (at ∷ [])) (L .functions);
 }
 
 -- within the counts of section 1, the field at `at` included (3)
 unfoldable pub withinCounts : List ℕ → ℕ → Layout → Bool
 withinCounts xs at L =
     leb (length (L .types)) maxTypes && leb (length (L .terms)) maxTerms && leb (length (L .functions)) maxFunctions
-    && cond (eqb (tagAt xs at) 3) (leb 1 (parametersAt xs at) && leb (parametersAt xs at) maxParameters) true
+    && cond (eqb (tagAt xs at) functionTag) (leb 1 (parametersAt xs at) && leb (parametersAt xs at) maxParameters) true
 
 -- `n` bounds how many fields are to come; a field has three bytes at least
 unfoldable pub readFields : ℕ → List ℕ → ℕ → ℕ → Layout → Answer Layout
@@ -107,4 +126,4 @@ readFields (suc n) xs at last L = elim (eqb at (length xs)) [
 unfoldable pub layout : List ℕ → Answer Layout
 layout xs = do
   within ← require (leb (length xs) maxProgramBytes) 3 0
-  readFields (length xs) xs 0 1 noFields
+  readFields (length xs) xs 0 typeTag noFields

@@ -8,6 +8,7 @@ use lib.Dec.{eqb, leb}
 use package.Rattle.octets.specs.Numbers.{get16, get32, bytes16, bytes32}
 use package.Rattle.rules.specs.Limits.{maxConversions}
 use package.Rattle.rules.specs.Val.{Val, encode}
+use package.Rattle.calls.specs.Fields.{fieldHead}
 use package.Rattle.calls.specs.Values.{value, ancillae, encodeAll}
 
 -- a standing conversion
@@ -33,6 +34,14 @@ heldTag = 0x21
 
 unfoldable pub entryTag : ℕ
 entryTag = 0x22
+
+-- the bytes of an entry's body before its ancilla values
+abbrev pub entryHead : ℕ
+entryHead = 6
+
+-- and of its field
+abbrev pub entryBytes : ℕ
+entryBytes = fieldHead + entryHead
 
 -- function (2 bytes), steps (4), ancilla values
 unfoldable pub entryBody : Entry → List ℕ
@@ -79,11 +88,11 @@ opened tag (t ∷ a ∷ b ∷ xs) = do
   whole ← when (leb (get16 (a ∷ b ∷ []) 0) (length xs))
   some (record { body = take (get16 (a ∷ b ∷ []) 0) xs; rest = drop (get16 (a ∷ b ∷ []) 0) xs })
 
--- six bytes, and whole values
+-- the head, and whole values
 unfoldable pub readEntry : List ℕ → Option Entry
 readEntry xs = do
-  long ← when (leb 6 (length xs))
-  vs ← ancillae (drop 6 xs)
+  long ← when (leb entryHead (length xs))
+  vs ← ancillae (drop entryHead xs)
   some (record { function = get16 xs 0; steps = get32 xs 2; ancillae = vs })
 
 unfoldable pub allZero : List ℕ → Bool

@@ -6,7 +6,7 @@ use mathlib.Core.Path.{_≡_, sym, ap, ap₂, subst, _∙_}
 use mathlib.Core.Option.{some}
 use mathlib.Core.List.{List, map}
 use lib.ListN.{length, getD, length-map}
-use package.Rattle.rules.specs.Limits.{maxTerms, maxFunctions, maxParameters}
+use package.Rattle.rules.specs.Limits.{maxParameters}
 use package.Rattle.rules.specs.Term.{Term, Fun, Program, nth}
 use package.Rattle.rules.specs.Typing.{WellTyped}
 use package.Rattle.rules.proofs.Basics.{none≢some, some-inj}
@@ -26,6 +26,7 @@ use package.Rattle.program.proofs.Lists.{ancillae-count, count-trees}
 use package.Rattle.program.proofs.Programs.{entry-there, function-there, function-none}
 use package.Rattle.program.proofs.Rooms.{term-kind}
 use package.Rattle.program.proofs.Shapes.{term-call, function-body}
+use package.Rattle.program.specs.Kinds.{callKind}
 use package.Rattle.decoded.specs.Rows.{roomFor, bodyIn, functionIn, termCount, programIn, Rows}
 use package.Rattle.decoded.specs.Decoding.{Terms, Functions, TermRow, Decodes}
 use package.Rattle.decoded.proofs.Used.{every-term}
@@ -54,7 +55,6 @@ module _ {p types terms functions : List ℕ} (read : Placed p types terms funct
   fields = formed p (read .read)
 
   pub accepted-functions : Functions p functions
-  unfolding maxFunctions
   accepted-functions = record { field = fields .functions; few = fields .few-functions }
 
   ----------------------------------------------------------------
@@ -82,7 +82,6 @@ module _ {p types terms functions : List ℕ} (read : Placed p types terms funct
         omega (arith, good .function g _ (entry-there p functions g l) .body-there, function-body p (getD functions g 0), as-many-terms)
 
     pub accepted-rows : {code : List ℕ} → Decodes code p terms functions → Rows code
-    unfolding maxTerms maxFunctions
     accepted-rows {code} D = record {
       few-terms = rw (D .as-many-terms) (fields .few-terms);
       few-functions = rw (D .as-many-functions) (fields .few-functions);
@@ -143,7 +142,7 @@ module _ {p types terms functions : List ℕ} (read : Placed p types terms funct
           every-term (placesOf types terms functions) entries (λ k. FewArguments (tree k)) tested few-body
           (λ u l f. few-parts (typeOf (entries .types)) tree u (getD (entries .terms) u n-unit) (few-unfolded u f))
 
-      few-call : (t : ℕ) → t < length terms → kindAt p (getD terms t 0) ≡ 8 → callAncillae (lengthAt p (getD terms t 0)) ≤ roomFor
+      few-call : (t : ℕ) → t < length terms → kindAt p (getD terms t 0) ≡ callKind → callAncillae (lengthAt p (getD terms t 0)) ≤ roomFor
       unfolding entriesAt
       few-call t l e =
           rw (count-trees tree p (getD terms t 0 + 6) (callAncillae (lengthAt p (getD terms t 0)))) at
@@ -151,5 +150,4 @@ module _ {p types terms functions : List ℕ} (read : Placed p types terms funct
           (few-unfolded t (few-term t (omega (arith, as-many-terms)))))
 
       pub accepted-terms : Terms p terms
-      unfolding maxTerms
       accepted-terms = record { row = λ t l. record { field = fields .terms t l; few = few-call t l }; few = fields .few-terms }

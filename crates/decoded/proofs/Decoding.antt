@@ -8,11 +8,13 @@ use mathlib.Core.List.{List, [], _∷_, map}
 use lib.ListN.{length, getD, set, length-set}
 use lib.Seq.{getD-set-same, getD-set-other}
 use package.Rattle.octets.specs.Numbers.{get16}
+use package.Rattle.rules.specs.Limits.{maxTerms, maxFunctions}
 use package.Rattle.calls.specs.Fields.{kindAt, lengthAt, parametersAt, termLengths}
 use package.Rattle.calls.specs.Entries.{TermEntry, n-var, n-unit, n-call, termOfKind, callAncillae, references, termAt, FunctionEntry, functionAt}
 use package.Rattle.program.specs.Parts.{variable, first, second, third, listed as listedAt, result, body, TermField, FunctionField}
 use package.Rattle.program.proofs.Shapes.{term-var, term-unit, term-case, term-call, term-by, function-dynamic}
 use package.Rattle.program.proofs.Rooms.{term-kind, two-room}
+use package.Rattle.program.specs.Kinds.{variableKind, unitKind, caseKind, callKind, termKinds}
 use package.Rattle.decoded.specs.Rows.{rowNumbers, functionRows, countsAt, codeNumbers, roomFor, kindIn, firstIn, secondIn, thirdIn, argumentIn, argumentsIn, ancillaeIn, parametersIn, bodyIn, termCount, functionCount, entryIn, functionIn, termsIn, functionsIn, listed}
 use package.Rattle.decoded.specs.Decoding.{Row, Terms, Functions, Beside, Heads, Listed, TermRow, TermPut, FunctionRow, FunctionPut, TermRows, FunctionRows, Decodes}
 use package.Rattle.decoded.proofs.Agreeing.{Same, kind-same, third-same, entry-same, function-same, listed-map}
@@ -30,7 +32,7 @@ module _ {code code′ : List ℕ} {t kind a b c : ℕ} (H : Heads code code′ 
   beside-heads = record { kept = λ j h. H .others j (⊎-elim (λ l. left l) (λ l. right (omega arith)) h) }
 
   -- of a term that is no call
-  put-plain : {p : List ℕ} {at : ℕ} → kind ≡ kindAt p at → ¬ (kind ≡ 8)
+  put-plain : {p : List ℕ} {at : ℕ} → kind ≡ kindAt p at → ¬ (kind ≡ callKind)
       → termOfKind kind a b c a (argumentsIn code′ t 0 (min roomFor c)) (argumentIn code′ t (min roomFor c)) ≡ termAt p at → TermPut code code′ t p at
   put-plain e d same = record {
     lengths = H .lengths;
@@ -38,23 +40,23 @@ module _ {code code′ : List ℕ} {t kind a b c : ℕ} (H : Heads code code′ 
     beside = beside-heads;
   }
 
-pub put-variable : {code code′ : List ℕ} {t v : ℕ} {p : List ℕ} {at : ℕ} → Heads code code′ t 0 v 0 0 → kindAt p at ≡ 0 → v ≡ variable p at
+pub put-variable : {code code′ : List ℕ} {t v : ℕ} {p : List ℕ} {at : ℕ} → Heads code code′ t variableKind v 0 0 → kindAt p at ≡ variableKind → v ≡ variable p at
     → TermPut code code′ t p at
 unfolding termOfKind
 put-variable {p = p} {at} H k e = put-plain H (sym k) (λ q. omega arith) (ap n-var e ∙ sym (term-var p at k))
 
-pub put-unit : {code code′ : List ℕ} {t : ℕ} {p : List ℕ} {at : ℕ} → Heads code code′ t 1 0 0 0 → kindAt p at ≡ 1 → TermPut code code′ t p at
+pub put-unit : {code code′ : List ℕ} {t : ℕ} {p : List ℕ} {at : ℕ} → Heads code code′ t unitKind 0 0 0 → kindAt p at ≡ unitKind → TermPut code code′ t p at
 unfolding termOfKind
 put-unit {p = p} {at} H k = put-plain H (sym k) (λ q. omega arith) (sym (term-unit p at k))
 
-pub put-case : {code code′ : List ℕ} {t a b c : ℕ} {p : List ℕ} {at : ℕ} → Heads code code′ t 7 a b c → kindAt p at ≡ 7 → a ≡ first p at → b ≡ second p at
+pub put-case : {code code′ : List ℕ} {t a b c : ℕ} {p : List ℕ} {at : ℕ} → Heads code code′ t caseKind a b c → kindAt p at ≡ caseKind → a ≡ first p at → b ≡ second p at
     → c ≡ third p at
     → TermPut code code′ t p at
 unfolding termOfKind
 put-case {p = p} {at} H k ea eb ec = put-plain H (sym k) (λ q. omega arith) (rw (ea, eb, ec) (sym (term-case p at k)))
 
 -- a kind with two references, which says nothing of the other numbers
-two-references : (k a b c n t c′ n′ t′ : ℕ) (ts ts′ : List ℕ) → ¬ (k ≡ 0) → ¬ (k ≡ 1) → ¬ (k ≡ 7) → ¬ (k ≡ 8)
+two-references : (k a b c n t c′ n′ t′ : ℕ) (ts ts′ : List ℕ) → ¬ (k ≡ variableKind) → ¬ (k ≡ unitKind) → ¬ (k ≡ caseKind) → ¬ (k ≡ callKind)
     → termOfKind k a b c n ts t ≡ termOfKind k a b c′ n′ ts′ t′
 unfolding termOfKind
 two-references zero a b c n t c′ n′ t′ ts ts′ d e f g = absurd (d refl)
@@ -70,7 +72,7 @@ two-references (suc (suc (suc (suc (suc (suc (suc (suc (suc zero))))))))) a b c 
 two-references (suc (suc (suc (suc (suc (suc (suc (suc (suc (suc k)))))))))) a b c n t c′ n′ t′ ts ts′ d e f g = refl
 
 -- such a kind's field has both references
-two-long : (k : ℕ) → k < 11 → ¬ (k ≡ 0) → ¬ (k ≡ 1) → ¬ (k ≡ 7) → ¬ (k ≡ 8) → getD termLengths k 0 ≡ 5
+two-long : (k : ℕ) → k < termKinds → ¬ (k ≡ variableKind) → ¬ (k ≡ unitKind) → ¬ (k ≡ caseKind) → ¬ (k ≡ callKind) → getD termLengths k 0 ≡ 5
 unfolding termLengths
 two-long zero l d e f g = absurd (d refl)
 two-long (suc zero) l d e f g = absurd (e refl)
@@ -87,11 +89,11 @@ two-long (suc (suc (suc (suc (suc (suc (suc (suc (suc (suc (suc k))))))))))) l d
 
 -- none of the kinds of variable, unit, case, call
 abbrev pub Two : ℕ → Type 0
-Two k = (((Unit {0} × ¬ (k ≡ 0)) × ¬ (k ≡ 1)) × ¬ (k ≡ 7)) × ¬ (k ≡ 8)
+Two k = (((Unit {0} × ¬ (k ≡ variableKind)) × ¬ (k ≡ unitKind)) × ¬ (k ≡ caseKind)) × ¬ (k ≡ callKind)
 
 pub two-there : {p : List ℕ} {at k : ℕ} → TermField p at → k ≡ kindAt p at → Two k → at + 8 ≤ length p
 two-there {k = k} F e ((((u, d₀), d₁), d₇), d₈) =
-    let l : k < 11 = omega (arith, term-kind F) in two-room F (sym e) (two-long k l d₀ d₁ d₇ d₈)
+    let l : k < termKinds = omega (arith, term-kind F) in two-room F (sym e) (two-long k l d₀ d₁ d₇ d₈)
 
 pub put-two : {code code′ : List ℕ} {t k a b : ℕ} {p : List ℕ} {at : ℕ} → Heads code code′ t k a b 0 → k ≡ kindAt p at → Two k → a ≡ first p at
     → b ≡ second p at → TermPut code code′ t p at
@@ -129,16 +131,16 @@ module _ {code code′ : List ℕ} {r : ℕ} {p : List ℕ} {i n : ℕ} (L : Lis
   unfolding thirdIn
   third-kept = head-kept 3 (omega arith)
 
-  beside-listed : n ≤ 8 → Beside code code′ r
+  beside-listed : n ≤ roomFor + 1 → Beside code code′ r
   beside-listed h = record { kept = λ j b. L .others j (⊎-elim (λ l. left (omega arith)) (λ l. right (omega arith)) b) }
 
 -- a row with a head and references
-both-beside : {code code₁ code₂ : List ℕ} {r kind a b c : ℕ} {p : List ℕ} {i n : ℕ} → Heads code code₁ r kind a b c → Listed code₁ code₂ r p i n → n ≤ 8
+both-beside : {code code₁ code₂ : List ℕ} {r kind a b c : ℕ} {p : List ℕ} {i n : ℕ} → Heads code code₁ r kind a b c → Listed code₁ code₂ r p i n → n ≤ roomFor + 1
     → Beside code code₂ r
 both-beside H L h = record { kept = λ j b. beside-listed L h .kept j b ∙ beside-heads H .kept j b }
 
-pub put-call : {code code₁ code₂ : List ℕ} {t f n : ℕ} {p : List ℕ} {at : ℕ} → Heads code code₁ t 8 f 0 n → Listed code₁ code₂ t p (at + 6) (n + 1)
-    → kindAt p at ≡ 8
+pub put-call : {code code₁ code₂ : List ℕ} {t f n : ℕ} {p : List ℕ} {at : ℕ} → Heads code code₁ t callKind f 0 n → Listed code₁ code₂ t p (at + 6) (n + 1)
+    → kindAt p at ≡ callKind
     → f ≡ first p at → n ≡ callAncillae (lengthAt p at) → n ≤ roomFor → TermPut code code₂ t p at
 unfolding entryIn ancillaeIn termOfKind
 put-call {code₂ = code₂} {t} {f} {n} {p} {at} H L k ef en few = record {
@@ -157,7 +159,7 @@ put-call {code₂ = code₂} {t} {f} {n} {p} {at} H L k ef en few = record {
 
 pub put-function : {code code₁ code₂ : List ℕ} {g n b c : ℕ} {p : List ℕ} {at : ℕ} → Heads code code₁ (functionRows + g) n b c 0
     → Listed code₁ code₂ (functionRows + g) p (at + 6) n
-    → FunctionField p at → n ≡ parametersAt p at → b ≡ body p at → c ≡ result p at → n ≤ 8 → FunctionPut code code₂ g p at
+    → FunctionField p at → n ≡ parametersAt p at → b ≡ body p at → c ≡ result p at → n ≤ roomFor + 1 → FunctionPut code code₂ g p at
 unfolding functionIn parametersIn bodyIn functionAt
 put-function {code₂ = code₂} {g} {n} {b} {c} {p} {at} H L F en eb ec few = record {
   lengths = L .lengths ∙ H .lengths;
@@ -244,8 +246,8 @@ functions-whole {code} {code′} {p} {functions} R e = subst (FunctionRows code 
 ----------------------------------------------------------------
 -- The program
 
-module _ {code₀ code code₁ p terms functions : List ℕ} (full : length code₁ ≡ codeNumbers) (few-terms : length terms ≤ 1024)
-    (few-functions : length functions ≤ 64)
+module _ {code₀ code code₁ p terms functions : List ℕ} (full : length code₁ ≡ codeNumbers) (few-terms : length terms ≤ maxTerms)
+    (few-functions : length functions ≤ maxFunctions)
     (T : TermRows code₀ code p terms (length terms)) (F : FunctionRows code code₁ p functions (length functions)) where
   abbrev counted : List ℕ
   counted = set (set code₁ countsAt (length terms)) (countsAt + 1) (length functions)

@@ -14,6 +14,7 @@ use package.Rattle.calls.specs.Entries.{TypeEntry, typeOf, TermEntry, n-var, n-
 use package.Rattle.calls.specs.Named.{termsOfTerm, functionsOfTerm, below}
 use package.Rattle.calls.proofs.Entries.{below-head}
 use package.Rattle.calls.proofs.Trees.{term-unfolds}
+use package.Rattle.program.specs.Kinds.{variableKind, unitKind, inlKind, inrKind, pairKind, letKind, letPairKind, caseKind, callKind, rollKind, unrollKind, termKinds}
 use package.Rattle.decoded.specs.Rows.{roomFor, kindIn, firstIn, secondIn, thirdIn, argumentIn, argumentsIn, ancillaeIn, bodyIn, termCount, functionCount, entryIn, functionIn, listed, termsIn, functionsIn, treeIn, programIn, Rows}
 use package.Rattle.decoded.proofs.Agreeing.{length-listed, get-listed, nth-listed}
 
@@ -29,64 +30,64 @@ module _ (code : List ℕ) (t : ℕ) where
       ap (λ k. termOfKind k (firstIn code t) (secondIn code t) (thirdIn code t) (firstIn code t) (argumentsIn code t 0 (ancillaeIn code t))
       (argumentIn code t (ancillaeIn code t))) e
 
-  pub entry-var : kindIn code t ≡ 0 → entryIn code t ≡ n-var (firstIn code t)
+  pub entry-var : kindIn code t ≡ variableKind → entryIn code t ≡ n-var (firstIn code t)
   unfolding termOfKind
   entry-var e = entry-by e
 
-  pub entry-unit : kindIn code t ≡ 1 → entryIn code t ≡ n-unit
+  pub entry-unit : kindIn code t ≡ unitKind → entryIn code t ≡ n-unit
   unfolding termOfKind
   entry-unit e = entry-by e
 
-  pub entry-inl : kindIn code t ≡ 2 → entryIn code t ≡ n-inl (firstIn code t) (secondIn code t)
+  pub entry-inl : kindIn code t ≡ inlKind → entryIn code t ≡ n-inl (firstIn code t) (secondIn code t)
   unfolding termOfKind
   entry-inl e = entry-by e
 
-  pub entry-inr : kindIn code t ≡ 3 → entryIn code t ≡ n-inr (firstIn code t) (secondIn code t)
+  pub entry-inr : kindIn code t ≡ inrKind → entryIn code t ≡ n-inr (firstIn code t) (secondIn code t)
   unfolding termOfKind
   entry-inr e = entry-by e
 
-  pub entry-pair : kindIn code t ≡ 4 → entryIn code t ≡ n-pair (firstIn code t) (secondIn code t)
+  pub entry-pair : kindIn code t ≡ pairKind → entryIn code t ≡ n-pair (firstIn code t) (secondIn code t)
   unfolding termOfKind
   entry-pair e = entry-by e
 
-  pub entry-let : kindIn code t ≡ 5 → entryIn code t ≡ n-let (firstIn code t) (secondIn code t)
+  pub entry-let : kindIn code t ≡ letKind → entryIn code t ≡ n-let (firstIn code t) (secondIn code t)
   unfolding termOfKind
   entry-let e = entry-by e
 
-  pub entry-letp : kindIn code t ≡ 6 → entryIn code t ≡ n-letp (firstIn code t) (secondIn code t)
+  pub entry-letp : kindIn code t ≡ letPairKind → entryIn code t ≡ n-letp (firstIn code t) (secondIn code t)
   unfolding termOfKind
   entry-letp e = entry-by e
 
-  pub entry-case : kindIn code t ≡ 7 → entryIn code t ≡ n-case (firstIn code t) (secondIn code t) (thirdIn code t)
+  pub entry-case : kindIn code t ≡ caseKind → entryIn code t ≡ n-case (firstIn code t) (secondIn code t) (thirdIn code t)
   unfolding termOfKind
   entry-case e = entry-by e
 
-  pub entry-call : kindIn code t ≡ 8 → thirdIn code t ≤ roomFor
+  pub entry-call : kindIn code t ≡ callKind → thirdIn code t ≤ roomFor
       → entryIn code t ≡ n-call (firstIn code t) (argumentsIn code t 0 (thirdIn code t)) (argumentIn code t (thirdIn code t))
   unfolding termOfKind ancillaeIn
   entry-call e few =
       entry-by e ∙ ap (λ n. n-call (firstIn code t) (argumentsIn code t 0 n) (argumentIn code t n))
       (let z : min roomFor (thirdIn code t) ≡ thirdIn code t = omega arith in z)
 
-  pub entry-roll : kindIn code t ≡ 9 → entryIn code t ≡ n-roll (firstIn code t) (secondIn code t)
+  pub entry-roll : kindIn code t ≡ rollKind → entryIn code t ≡ n-roll (firstIn code t) (secondIn code t)
   unfolding termOfKind
   entry-roll e = entry-by e
 
-  pub entry-unroll : kindIn code t ≡ 10 → entryIn code t ≡ n-unroll (firstIn code t) (secondIn code t)
+  pub entry-unroll : kindIn code t ≡ unrollKind → entryIn code t ≡ n-unroll (firstIn code t) (secondIn code t)
   unfolding termOfKind
   entry-unroll e = entry-by e
 
 -- none of section 1's kinds, as a match on all of them leaves it
 abbrev pub NoKind : ℕ → Type 0
 NoKind k =
-    ((((((((((Unit {0} × ¬ (k ≡ 0)) × ¬ (k ≡ 1)) × ¬ (k ≡ 2)) × ¬ (k ≡ 3)) × ¬ (k ≡ 4)) × ¬ (k ≡ 5)) × ¬ (k ≡ 6)) × ¬ (k ≡ 7)) × ¬ (k ≡ 8)) × ¬ (k ≡ 9)) × ¬
-    (k ≡ 10)
+    ((((((((((Unit {0} × ¬ (k ≡ variableKind)) × ¬ (k ≡ unitKind)) × ¬ (k ≡ inlKind)) × ¬ (k ≡ inrKind)) × ¬ (k ≡ pairKind)) × ¬ (k ≡ letKind)) × ¬ (k ≡ letPairKind)) × ¬ (k ≡ caseKind)) × ¬ (k ≡ callKind)) × ¬ (k ≡ rollKind)) × ¬
+    (k ≡ unrollKind)
 
-pub none-left : (k : ℕ) → k < 11 → NoKind k → ⊥
+pub none-left : (k : ℕ) → k < termKinds → NoKind k → ⊥
 none-left k l (((((((((((u, d₀), d₁), d₂), d₃), d₄), d₅), d₆), d₇), d₈), d₉), d₁₀) = go k l d₀ d₁ d₂ d₃ d₄ d₅ d₆ d₇ d₈ d₉ d₁₀
   where
-    go : (k : ℕ) → k < 11 → ¬ (k ≡ 0) → ¬ (k ≡ 1) → ¬ (k ≡ 2) → ¬ (k ≡ 3) → ¬ (k ≡ 4) → ¬ (k ≡ 5) → ¬ (k ≡ 6) → ¬ (k ≡ 7) → ¬ (k ≡ 8) → ¬ (k ≡ 9)
-        → ¬ (k ≡ 10) → ⊥
+    go : (k : ℕ) → k < termKinds → ¬ (k ≡ variableKind) → ¬ (k ≡ unitKind) → ¬ (k ≡ inlKind) → ¬ (k ≡ inrKind) → ¬ (k ≡ pairKind) → ¬ (k ≡ letKind) → ¬ (k ≡ letPairKind) → ¬ (k ≡ caseKind) → ¬ (k ≡ callKind) → ¬ (k ≡ rollKind)
+        → ¬ (k ≡ unrollKind) → ⊥
     go zero l d₀ d₁ d₂ d₃ d₄ d₅ d₆ d₇ d₈ d₉ d₁₀ = d₀ refl
     go (suc zero) l d₀ d₁ d₂ d₃ d₄ d₅ d₆ d₇ d₈ d₉ d₁₀ = d₁ refl
     go (suc (suc zero)) l d₀ d₁ d₂ d₃ d₄ d₅ d₆ d₇ d₈ d₉ d₁₀ = d₂ refl
@@ -125,50 +126,50 @@ module _ {code : List ℕ} (R : Rows code) where
     tree-is e ys = term-unfolds ys (termsIn code) lower-all t ∙ ap (termTree (typeOf ys) (treeIn code ys) t) (entry-at t l ∙ e)
 
     module _ (ys : List TypeEntry) where
-      pub tree-var : kindIn code t ≡ 0 → treeIn code ys t ≡ var t (firstIn code t)
+      pub tree-var : kindIn code t ≡ variableKind → treeIn code ys t ≡ var t (firstIn code t)
       unfolding termTree
       tree-var e = tree-is (entry-var code t e) ys
 
-      pub tree-unit : kindIn code t ≡ 1 → treeIn code ys t ≡ tunit t
+      pub tree-unit : kindIn code t ≡ unitKind → treeIn code ys t ≡ tunit t
       unfolding termTree
       tree-unit e = tree-is (entry-unit code t e) ys
 
-      pub tree-inl : kindIn code t ≡ 2 → treeIn code ys t ≡ tinl t (typeOf ys (firstIn code t)) (treeIn code ys (secondIn code t))
+      pub tree-inl : kindIn code t ≡ inlKind → treeIn code ys t ≡ tinl t (typeOf ys (firstIn code t)) (treeIn code ys (secondIn code t))
       unfolding termTree
       tree-inl e = tree-is (entry-inl code t e) ys
 
-      pub tree-inr : kindIn code t ≡ 3 → treeIn code ys t ≡ tinr t (typeOf ys (firstIn code t)) (treeIn code ys (secondIn code t))
+      pub tree-inr : kindIn code t ≡ inrKind → treeIn code ys t ≡ tinr t (typeOf ys (firstIn code t)) (treeIn code ys (secondIn code t))
       unfolding termTree
       tree-inr e = tree-is (entry-inr code t e) ys
 
-      pub tree-pair : kindIn code t ≡ 4 → treeIn code ys t ≡ tpair t (treeIn code ys (firstIn code t)) (treeIn code ys (secondIn code t))
+      pub tree-pair : kindIn code t ≡ pairKind → treeIn code ys t ≡ tpair t (treeIn code ys (firstIn code t)) (treeIn code ys (secondIn code t))
       unfolding termTree
       tree-pair e = tree-is (entry-pair code t e) ys
 
-      pub tree-let : kindIn code t ≡ 5 → treeIn code ys t ≡ tlet t (treeIn code ys (firstIn code t)) (treeIn code ys (secondIn code t))
+      pub tree-let : kindIn code t ≡ letKind → treeIn code ys t ≡ tlet t (treeIn code ys (firstIn code t)) (treeIn code ys (secondIn code t))
       unfolding termTree
       tree-let e = tree-is (entry-let code t e) ys
 
-      pub tree-letp : kindIn code t ≡ 6 → treeIn code ys t ≡ tletp t (treeIn code ys (firstIn code t)) (treeIn code ys (secondIn code t))
+      pub tree-letp : kindIn code t ≡ letPairKind → treeIn code ys t ≡ tletp t (treeIn code ys (firstIn code t)) (treeIn code ys (secondIn code t))
       unfolding termTree
       tree-letp e = tree-is (entry-letp code t e) ys
 
-      pub tree-case : kindIn code t ≡ 7
+      pub tree-case : kindIn code t ≡ caseKind
           → treeIn code ys t ≡ tcase t (treeIn code ys (firstIn code t)) (treeIn code ys (secondIn code t)) (treeIn code ys (thirdIn code t))
       unfolding termTree
       tree-case e = tree-is (entry-case code t e) ys
 
-      pub tree-call : kindIn code t ≡ 8
+      pub tree-call : kindIn code t ≡ callKind
           → treeIn code ys t ≡ tcall t (firstIn code t) (termTrees (treeIn code ys) (argumentsIn code t 0 (thirdIn code t)))
           (treeIn code ys (argumentIn code t (thirdIn code t)))
       unfolding termTree
       tree-call e = tree-is (entry-call code t e (R .few t l e)) ys
 
-      pub tree-roll : kindIn code t ≡ 9 → treeIn code ys t ≡ troll t (typeOf ys (firstIn code t)) (treeIn code ys (secondIn code t))
+      pub tree-roll : kindIn code t ≡ rollKind → treeIn code ys t ≡ troll t (typeOf ys (firstIn code t)) (treeIn code ys (secondIn code t))
       unfolding termTree
       tree-roll e = tree-is (entry-roll code t e) ys
 
-      pub tree-unroll : kindIn code t ≡ 10 → treeIn code ys t ≡ tunroll t (typeOf ys (firstIn code t)) (treeIn code ys (secondIn code t))
+      pub tree-unroll : kindIn code t ≡ unrollKind → treeIn code ys t ≡ tunroll t (typeOf ys (firstIn code t)) (treeIn code ys (secondIn code t))
       unfolding termTree
       tree-unroll e = tree-is (entry-unroll code t e) ys
 
@@ -203,35 +204,35 @@ module _ {code : List ℕ} (R : Rows code) where
     both-lower {u = u} {w} e q =
         let z = below-head t u (w ∷ []) (rw q at (names-lower e)) in (z .0, below-head t w [] (z .1) .0)
 
-    pub part-inl : kindIn code t ≡ 2 → secondIn code t < t
+    pub part-inl : kindIn code t ≡ inlKind → secondIn code t < t
     unfolding termsOfTerm
     part-inl e = only-lower (entry-inl code t e) refl
 
-    pub part-inr : kindIn code t ≡ 3 → secondIn code t < t
+    pub part-inr : kindIn code t ≡ inrKind → secondIn code t < t
     unfolding termsOfTerm
     part-inr e = only-lower (entry-inr code t e) refl
 
-    pub part-roll : kindIn code t ≡ 9 → secondIn code t < t
+    pub part-roll : kindIn code t ≡ rollKind → secondIn code t < t
     unfolding termsOfTerm
     part-roll e = only-lower (entry-roll code t e) refl
 
-    pub part-unroll : kindIn code t ≡ 10 → secondIn code t < t
+    pub part-unroll : kindIn code t ≡ unrollKind → secondIn code t < t
     unfolding termsOfTerm
     part-unroll e = only-lower (entry-unroll code t e) refl
 
-    pub parts-pair : kindIn code t ≡ 4 → (firstIn code t < t) × (secondIn code t < t)
+    pub parts-pair : kindIn code t ≡ pairKind → (firstIn code t < t) × (secondIn code t < t)
     unfolding termsOfTerm
     parts-pair e = both-lower (entry-pair code t e) refl
 
-    pub parts-let : kindIn code t ≡ 5 → (firstIn code t < t) × (secondIn code t < t)
+    pub parts-let : kindIn code t ≡ letKind → (firstIn code t < t) × (secondIn code t < t)
     unfolding termsOfTerm
     parts-let e = both-lower (entry-let code t e) refl
 
-    pub parts-letp : kindIn code t ≡ 6 → (firstIn code t < t) × (secondIn code t < t)
+    pub parts-letp : kindIn code t ≡ letPairKind → (firstIn code t < t) × (secondIn code t < t)
     unfolding termsOfTerm
     parts-letp e = both-lower (entry-letp code t e) refl
 
-    pub parts-case : kindIn code t ≡ 7 → (firstIn code t < t) × (secondIn code t < t) × (thirdIn code t < t)
+    pub parts-case : kindIn code t ≡ caseKind → (firstIn code t < t) × (secondIn code t < t) × (thirdIn code t < t)
     unfolding termsOfTerm
     parts-case e =
         let z = below-head t (firstIn code t) (secondIn code t ∷ thirdIn code t ∷ []) (names-lower (entry-case code t e)) in
@@ -265,7 +266,7 @@ unfolding argumentsIn
 below-last m code t i zero last e = below-head m last [] e .0
 below-last m code t i (suc n) last e = below-last m code t (i + 1) n last (below-head m _ _ e .1)
 
-module _ {code : List ℕ} (R : Rows code) (t : ℕ) (l : t < termCount code) (e : kindIn code t ≡ 8) where
+module _ {code : List ℕ} (R : Rows code) (t : ℕ) (l : t < termCount code) (e : kindIn code t ≡ callKind) where
   -- argument `k`, the dynamic term after the ancilla terms
   pub part-argument : (k : ℕ) → k ≤ thirdIn code t → argumentIn code t k < t
   unfolding termsOfTerm

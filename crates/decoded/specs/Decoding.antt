@@ -6,10 +6,12 @@ use mathlib.Core.Logic.{_⊎_}
 use mathlib.Core.List.{List, map}
 use lib.ListN.{length, getD}
 use package.Rattle.octets.specs.Numbers.{get16}
+use package.Rattle.rules.specs.Limits.{maxTerms, maxFunctions}
 use package.Rattle.calls.specs.Fields.{kindAt, lengthAt, parametersAt}
 use package.Rattle.calls.specs.Entries.{callAncillae, termAt, functionAt}
 use package.Rattle.program.specs.Parts.{TermField, FunctionField}
-use package.Rattle.decoded.specs.Rows.{rowNumbers, functionRows, roomFor, kindIn, firstIn, secondIn, thirdIn, argumentIn, parametersIn, entryIn, functionIn, termsIn, functionsIn, termCount, functionCount}
+use package.Rattle.program.specs.Kinds.{callKind}
+use package.Rattle.decoded.specs.Rows.{rowHeads, rowNumbers, functionRows, roomFor, kindIn, firstIn, secondIn, thirdIn, argumentIn, parametersIn, entryIn, functionIn, termsIn, functionsIn, termCount, functionCount}
 
 ----------------------------------------------------------------
 -- Before
@@ -17,16 +19,16 @@ use package.Rattle.decoded.specs.Rows.{rowNumbers, functionRows, roomFor
 -- the field of a term whose row has room for its ancilla terms
 pub record Row (p : List ℕ) (at : ℕ) : Type 0 where
   pub field : TermField p at
-  pub few : kindAt p at ≡ 8 → callAncillae (lengthAt p at) ≤ roomFor
+  pub few : kindAt p at ≡ callKind → callAncillae (lengthAt p at) ≤ roomFor
 
 -- The fields of the terms at these offsets are well-formed, with room for every call, and they are as many as section 1 allows.
 pub record Terms (p terms : List ℕ) : Type 0 where
   pub row : (t : ℕ) → t < length terms → Row p (getD terms t 0)
-  pub few : length terms ≤ 1024
+  pub few : length terms ≤ maxTerms
 
 pub record Functions (p functions : List ℕ) : Type 0 where
   pub field : (g : ℕ) → g < length functions → FunctionField p (getD functions g 0)
-  pub few : length functions ≤ 64
+  pub few : length functions ≤ maxFunctions
 
 ----------------------------------------------------------------
 -- One row
@@ -42,19 +44,19 @@ pub record Heads (code code′ : List ℕ) (r kind a b c : ℕ) : Type 0 where
   pub first-is : firstIn code′ r ≡ a
   pub second-is : secondIn code′ r ≡ b
   pub third-is : thirdIn code′ r ≡ c
-  pub others : (j : ℕ) → (j < rowNumbers * r) ⊎ (rowNumbers * r + 4 ≤ j) → getD code′ j 0 ≡ getD code j 0
+  pub others : (j : ℕ) → (j < rowNumbers * r) ⊎ (rowNumbers * r + rowHeads ≤ j) → getD code′ j 0 ≡ getD code j 0
 
 -- the numbers of row `r` from the fifth on are `n` references from place `i` of the program, and all others as they were
 pub record Listed (code code′ : List ℕ) (r : ℕ) (p : List ℕ) (i n : ℕ) : Type 0 where
   pub lengths : length code′ ≡ length code
   pub arguments : (k : ℕ) → k < n → argumentIn code′ r k ≡ get16 p (i + 2 * k)
-  pub others : (j : ℕ) → (j < rowNumbers * r + 4) ⊎ (rowNumbers * r + 4 + n ≤ j) → getD code′ j 0 ≡ getD code j 0
+  pub others : (j : ℕ) → (j < rowNumbers * r + rowHeads) ⊎ (rowNumbers * r + rowHeads + n ≤ j) → getD code′ j 0 ≡ getD code j 0
 
 -- row `t` says what the field at `at` says
 pub record TermRow (code : List ℕ) (t : ℕ) (p : List ℕ) (at : ℕ) : Type 0 where
   pub entry : entryIn code t ≡ termAt p at
   pub kind : kindIn code t ≡ kindAt p at
-  pub few : kindIn code t ≡ 8 → thirdIn code t ≤ roomFor
+  pub few : kindIn code t ≡ callKind → thirdIn code t ≤ roomFor
 
 pub record TermPut (code code′ : List ℕ) (t : ℕ) (p : List ℕ) (at : ℕ) : Type 0 where
   pub lengths : length code′ ≡ length code

@@ -9,25 +9,38 @@ use mathlib.Core.Bool.{true}
 use mathlib.Core.List.{List, [], _∷_}
 use lib.ListN.{getD}
 use package.Rattle.rules.specs.Term.{Term, Program}
+use package.Rattle.rules.specs.Limits.{maxTerms, maxFunctions}
 use package.Rattle.calls.specs.Entries.{TypeEntry, TermEntry, termOfKind, termOf, FunctionEntry, programOf}
 use package.Rattle.calls.specs.Named.{termsOfTerm, functionsOfTerm, below}
+use package.Rattle.program.specs.Kinds.{termKinds, callKind}
 
 ----------------------------------------------------------------
 -- The numbers of a row
 
--- how many numbers a row has, and where the rows of functions and the counts begin
-abbrev pub rowNumbers : ℕ
-rowNumbers = 12
+-- how many ancilla terms a row has room for: as many as `maxParameters` allows, the dynamic one apart (proofs/Accepted)
+abbrev pub roomFor : ℕ
+roomFor = 7
 
+-- how many numbers a row has: four, then those of the ancilla terms and of the dynamic one
+abbrev pub rowHeads : ℕ
+rowHeads = 4
+
+abbrev pub rowNumbers : ℕ
+rowNumbers = rowHeads + (roomFor + 1)
+
+-- where the rows of functions and the counts begin
 abbrev pub functionRows : ℕ
-functionRows = 1024
+functionRows = maxTerms
+
+abbrev pub allRows : ℕ
+allRows = functionRows + maxFunctions
 
 abbrev pub countsAt : ℕ
-countsAt = 13056
+countsAt = rowNumbers * allRows
 
 -- all numbers
 abbrev pub codeNumbers : ℕ
-codeNumbers = 13058
+codeNumbers = countsAt + 2
 
 unfoldable pub kindIn : List ℕ → ℕ → ℕ
 kindIn code t = getD code (rowNumbers * t) 0
@@ -43,16 +56,12 @@ thirdIn code t = getD code (rowNumbers * t + 3) 0
 
 -- the numbers from the fifth on, eight of them
 unfoldable pub argumentIn : List ℕ → ℕ → ℕ → ℕ
-argumentIn code t k = getD code (rowNumbers * t + 4 + k) 0
+argumentIn code t k = getD code (rowNumbers * t + rowHeads + k) 0
 
 -- `n` of them, from number `k` on
 unfoldable pub argumentsIn : List ℕ → ℕ → ℕ → ℕ → List ℕ
 argumentsIn code t k zero = []
 argumentsIn code t k (suc n) = argumentIn code t k ∷ argumentsIn code t (k + 1) n
-
--- how many ancilla terms a row has room for
-abbrev pub roomFor : ℕ
-roomFor = 7
 
 -- the ancilla terms of a call's row
 unfoldable pub ancillaeIn : List ℕ → ℕ → ℕ
@@ -112,10 +121,10 @@ programIn code ys = programOf (record { types = ys; terms = termsIn code; functi
 -- A term names lower terms and functions that are there, by a kind of section 1; a call has as many ancilla terms as a row has room for; a
 -- function's body is a term that is there.
 pub record Rows (code : List ℕ) : Type 0 where
-  pub few-terms : termCount code ≤ 1024
-  pub few-functions : functionCount code ≤ 64
-  pub known : (t : ℕ) → t < termCount code → kindIn code t < 11
-  pub few : (t : ℕ) → t < termCount code → kindIn code t ≡ 8 → thirdIn code t ≤ roomFor
+  pub few-terms : termCount code ≤ maxTerms
+  pub few-functions : functionCount code ≤ maxFunctions
+  pub known : (t : ℕ) → t < termCount code → kindIn code t < termKinds
+  pub few : (t : ℕ) → t < termCount code → kindIn code t ≡ callKind → thirdIn code t ≤ roomFor
   pub lower : (t : ℕ) → t < termCount code → below t (termsOfTerm (entryIn code t)) ≡ true
   pub called : (t : ℕ) → t < termCount code → below (functionCount code) (functionsOfTerm (entryIn code t)) ≡ true
   pub bodies : (g : ℕ) → g < functionCount code → bodyIn code g < termCount code

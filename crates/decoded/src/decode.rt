@@ -2,21 +2,24 @@
 use crate::rows::CODE;
 use crate::rows::COUNTS;
 use crate::rows::FUNCTIONS_FROM;
+use crate::rows::HEADS;
 use crate::rows::ROW;
 use program::kinds;
 use program::views;
 ghost use mathlib.Core.Path.{_≡_};
 ghost use Prim.Native.Nat.{_+_, _*_, _≤_, _<_};
 ghost use lib.ListN.{length};
+ghost use Rattle.rules.specs.Limits.{maxTerms, maxFunctions};
 ghost use Rattle.calls.specs.Fields.{kindAt};
 ghost use Rattle.program.specs.Parts.{FunctionField};
-ghost use Rattle.decoded.specs.Rows.{codeNumbers};
+ghost use Rattle.program.specs.Kinds.{callKind};
+ghost use Rattle.decoded.specs.Rows.{roomFor, allRows, codeNumbers};
 ghost use Rattle.decoded.specs.Decoding.{Row, Terms, Functions, Heads, Listed, TermPut, FunctionPut, TermRows, FunctionRows, Decodes};
 
 // The first four numbers of a row.
 fn put_heads(code: &mut [u16; CODE], row: usize, kind: u16, a: u16, b: u16, c: u16)
     requires { ⌜ length (now code) ≡ codeNumbers ⌝ }
-    requires { ⌜ row < 1088 ⌝ }
+    requires { ⌜ row < allRows ⌝ }
     ensures { λ _. ⌜ Heads (now (code .entry)) (now (code .exit)) row kind a b c ⌝ }
 {
     let at = ROW * row;
@@ -29,12 +32,12 @@ fn put_heads(code: &mut [u16; CODE], row: usize, kind: u16, a: u16, b: u16, c: u
 // The numbers of a row from the fifth on: n references from place `from` of the program.
 fn put_listed(code: &mut [u16; CODE], row: usize, p: &[u8], from: usize, n: usize)
     requires { ⌜ length (now code) ≡ codeNumbers ⌝ }
-    requires { ⌜ (row < 1088) × (n ≤ 8) × (from + 2 * n ≤ length (now p)) ⌝ }
+    requires { ⌜ (row < allRows) × (n ≤ roomFor + 1) × (from + 2 * n ≤ length (now p)) ⌝ }
     ensures { λ _. ⌜ Listed (now (code .entry)) (now (code .exit)) row (now (p .entry)) from n ⌝ }
 {
     let mut k = 0;
     while k < n {
-        code[ROW * row + 4 + k] = octets::read16(p, from + 2 * k);
+        code[ROW * row + HEADS + k] = octets::read16(p, from + 2 * k);
         k += 1;
     }
 }
@@ -42,13 +45,20 @@ fn put_listed(code: &mut [u16; CODE], row: usize, p: &[u8], from: usize, n: usiz
 // The row of term t, whose field is at `at`.
 fn put_term(code: &mut [u16; CODE], t: usize, p: &[u8], at: usize)
     requires { ⌜ length (now code) ≡ codeNumbers ⌝ }
-    requires { ⌜ (t < 1024) × Row (now p) at ⌝ }
+    requires { ⌜ (t < maxTerms) × Row (now p) at ⌝ }
     ensures { λ _. ⌜ TermPut (now (code .entry)) (now (code .exit)) t (now (p .entry)) at ⌝ }
 {
     let kind = views::kind(p, at);
     match kind {
-        kinds::VARIABLE => put_heads(code, t, 0, octets::wide16(views::variable(p, at)), 0, 0),
-        kinds::UNIT => put_heads(code, t, 1, 0, 0, 0),
+        kinds::VARIABLE => put_heads(
+            code,
+            t,
+            crate::kinds::VARIABLE,
+            octets::wide16(views::variable(p, at)),
+            0,
+            0,
+        ),
+        kinds::UNIT => put_heads(code, t, crate::kinds::UNIT, 0, 0, 0),
         kinds::INL
         | kinds::INR
         | kinds::PAIR
@@ -66,7 +76,7 @@ fn put_term(code: &mut [u16; CODE], t: usize, p: &[u8], at: usize)
         kinds::CASE => put_heads(
             code,
             t,
-            7,
+            crate::kinds::CASE,
             views::first(p, at),
             views::second(p, at),
             views::third(p, at),
@@ -80,19 +90,19 @@ fn put_term(code: &mut [u16; CODE], t: usize, p: &[u8], at: usize)
 // The row of a call: function, how many ancilla terms, then all its terms.
 fn put_call(code: &mut [u16; CODE], t: usize, p: &[u8], at: usize)
     requires { ⌜ length (now code) ≡ codeNumbers ⌝ }
-    requires { ⌜ (t < 1024) × Row (now p) at ⌝ }
-    requires { ⌜ kindAt (now p) at ≡ 8 ⌝ }
+    requires { ⌜ (t < maxTerms) × Row (now p) at ⌝ }
+    requires { ⌜ kindAt (now p) at ≡ callKind ⌝ }
     ensures { λ _. ⌜ TermPut (now (code .entry)) (now (code .exit)) t (now (p .entry)) at ⌝ }
 {
     let n = views::call_ancillae(p, at);
-    put_heads(code, t, 8, views::first(p, at), 0, n as u16);
+    put_heads(code, t, crate::kinds::CALL, views::first(p, at), 0, n as u16);
     put_listed(code, t, p, at + 6, n + 1);
 }
 
 // The row of function g, whose field is at `at`: how many parameters, body, result type, the parameters' types.
 fn put_function(code: &mut [u16; CODE], g: usize, p: &[u8], at: usize)
     requires { ⌜ length (now code) ≡ codeNumbers ⌝ }
-    requires { ⌜ (g < 64) × FunctionField (now p) at ⌝ }
+    requires { ⌜ (g < maxFunctions) × FunctionField (now p) at ⌝ }
     ensures { λ _. ⌜ FunctionPut (now (code .entry)) (now (code .exit)) g (now (p .entry)) at ⌝ }
 {
     let n = views::function_parameters(p, at);

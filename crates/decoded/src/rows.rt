@@ -1,21 +1,27 @@
 // The rows of a decoded program, read: term t has row t, and function g the row behind those of the terms. A kind is one of section 1's.
 ghost use mathlib.Core.Path.{_≡_};
 ghost use Prim.Native.Nat.{_+_, _<_, _≤_};
-ghost use Rattle.decoded.specs.Rows.{kindIn, firstIn, secondIn, thirdIn, argumentIn, bodyIn};
+ghost use Rattle.rules.specs.Limits.{maxTerms, maxFunctions};
+ghost use Rattle.decoded.specs.Rows.{roomFor, kindIn, firstIn, secondIn, thirdIn, argumentIn, bodyIn};
+use rules::MAX_FUNCTIONS;
+use rules::MAX_PARAMETERS;
+use rules::MAX_TERMS;
 
-// Numbers in a row, the row of function 0, and where the counts of terms and functions stand.
-pub const ROW: usize = 12;
+// Numbers in a row, before a call's terms and in all, the row of function 0, and where the counts of terms and functions stand.
+pub const HEADS: usize = 4;
 
-pub const FUNCTIONS_FROM: usize = 1024;
+pub const ROW: usize = HEADS + MAX_PARAMETERS;
 
-pub const COUNTS: usize = 13056;
+pub const FUNCTIONS_FROM: usize = MAX_TERMS;
+
+pub const COUNTS: usize = ROW * (FUNCTIONS_FROM + MAX_FUNCTIONS);
 
 // All numbers of a decoded program.
-pub const CODE: usize = 13058;
+pub const CODE: usize = COUNTS + 2;
 
 // The kind of term t (section 1).
 pub fn kind_of(code: &[u16; CODE], t: u16) -> u16
-    requires { ⌜ t < 1024 ⌝ }
+    requires { ⌜ t < maxTerms ⌝ }
     ensures { λ r. ⌜ r ≡ kindIn (now (code .entry)) t ⌝ }
 {
     let row = octets::wide_index(t);
@@ -24,7 +30,7 @@ pub fn kind_of(code: &[u16; CODE], t: u16) -> u16
 
 // The references of term t by position; the first of a variable is its number, of a call its function.
 pub fn first_of(code: &[u16; CODE], t: u16) -> u16
-    requires { ⌜ t < 1024 ⌝ }
+    requires { ⌜ t < maxTerms ⌝ }
     ensures { λ r. ⌜ r ≡ firstIn (now (code .entry)) t ⌝ }
 {
     let row = octets::wide_index(t);
@@ -32,7 +38,7 @@ pub fn first_of(code: &[u16; CODE], t: u16) -> u16
 }
 
 pub fn second_of(code: &[u16; CODE], t: u16) -> u16
-    requires { ⌜ t < 1024 ⌝ }
+    requires { ⌜ t < maxTerms ⌝ }
     ensures { λ r. ⌜ r ≡ secondIn (now (code .entry)) t ⌝ }
 {
     let row = octets::wide_index(t);
@@ -41,7 +47,7 @@ pub fn second_of(code: &[u16; CODE], t: u16) -> u16
 
 // The third of a call is how many ancilla terms it has.
 pub fn third_of(code: &[u16; CODE], t: u16) -> u16
-    requires { ⌜ t < 1024 ⌝ }
+    requires { ⌜ t < maxTerms ⌝ }
     ensures { λ r. ⌜ r ≡ thirdIn (now (code .entry)) t ⌝ }
 {
     let row = octets::wide_index(t);
@@ -50,16 +56,16 @@ pub fn third_of(code: &[u16; CODE], t: u16) -> u16
 
 // Term k of call t; the dynamic term comes after the ancilla terms.
 pub fn argument_of(code: &[u16; CODE], t: u16, k: usize) -> u16
-    requires { ⌜ (t < 1024) × (k ≤ 7) ⌝ }
+    requires { ⌜ (t < maxTerms) × (k ≤ roomFor) ⌝ }
     ensures { λ r. ⌜ r ≡ argumentIn (now (code .entry)) t k ⌝ }
 {
     let row = octets::wide_index(t);
-    code[ROW * row + 4 + k]
+    code[ROW * row + HEADS + k]
 }
 
 // The body of function g.
 pub fn body_of(code: &[u16; CODE], g: u16) -> u16
-    requires { ⌜ g < 64 ⌝ }
+    requires { ⌜ g < maxFunctions ⌝ }
     ensures { λ r. ⌜ r ≡ bodyIn (now (code .entry)) g ⌝ }
 {
     let row = FUNCTIONS_FROM + octets::wide_index(g);

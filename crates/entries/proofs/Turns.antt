@@ -72,17 +72,17 @@ module _ (nodes free : List ℕ) where
   unfolding references allPlainIn
   plain-none xs from = refl
 
-  pub plain-yes : (i : ℕ) → getD free i 0 ≤ 0 → getD nodes i 0 ≤ 1024 → plainIn nodes free i ≡ true
-  unfolding plainIn maxNodes
-  plain-yes i f n = ap₂ (λ a b. a && b) (eq-eqb (getD free i 0) 0 (omega arith)) (le-leb (getD nodes i 0) 1024 n)
+  pub plain-yes : (i : ℕ) → getD free i 0 ≤ 0 → getD nodes i 0 ≤ maxNodes → plainIn nodes free i ≡ true
+  unfolding plainIn
+  plain-yes i f n = ap₂ (λ a b. a && b) (eq-eqb (getD free i 0) 0 (omega arith)) (le-leb (getD nodes i 0) maxNodes n)
 
   pub plain-open : (i : ℕ) → 0 < getD free i 0 → plainIn nodes free i ≡ false
   unfolding plainIn
   plain-open i f = ap (λ b. b && leb (getD nodes i 0) maxNodes) (ne-eqb (getD free i 0) 0 λ e. omega arith)
 
-  pub plain-large : (i : ℕ) → 1024 < getD nodes i 0 → plainIn nodes free i ≡ false
-  unfolding plainIn maxNodes
-  plain-large i n = ap (λ b. eqb (getD free i 0) 0 && b) (lt-leb (getD nodes i 0) 1024 n) ∙ and-false (eqb (getD free i 0) 0)
+  pub plain-large : (i : ℕ) → maxNodes < getD nodes i 0 → plainIn nodes free i ≡ false
+  unfolding plainIn
+  plain-large i n = ap (λ b. eqb (getD free i 0) 0 && b) (lt-leb (getD nodes i 0) maxNodes n) ∙ and-false (eqb (getD free i 0) 0)
 
   pub plain-more : (xs : List ℕ) (from i t : ℕ) → t ≡ get16 xs (from + 2 * i) → allPlainIn nodes free (references xs from i) ≡ true → plainIn nodes free t ≡ true
       → allPlainIn nodes free (references xs from (i + 1)) ≡ true

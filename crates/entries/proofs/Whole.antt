@@ -43,9 +43,8 @@ unfolding member
 marks-none n = record { marked = λ t l. ap (λ u. ltb 0 u) (sym (getD-replicate n t 0 0 (omega (arith, length-replicate {A = ℕ} n 0)))) }
 
 -- a use of each term can be noted
-pub uses-ready : (xs types terms functions nodes free us : List ℕ) → Formed xs (placesOf types terms functions) → Measured (map (typeAt xs) types) nodes free → 1024 ≤ length us
+pub uses-ready : (xs types terms functions nodes free us : List ℕ) → Formed xs (placesOf types terms functions) → Measured (map (typeAt xs) types) nodes free → maxTerms ≤ length us
     → Ready xs types terms functions nodes free us
-unfolding maxTerms
 uses-ready xs types terms functions nodes free us F N l = record { formed = F; measured = N; room = omega (arith, F .few-terms) }
 
 ----------------------------------------------------------------
@@ -55,8 +54,7 @@ module _ {xs types terms functions : List ℕ} (P : Placed xs types terms functi
   pub placed-formed : Formed xs (placesOf types terms functions)
   placed-formed = formed xs (P .read)
 
-  pub types-few : length types ≤ 256
-  unfolding maxTypes
+  pub types-few : length types ≤ maxTypes
   types-few = placed-formed .few-types
 
 pub types-sound : (xs types nodes free : List ℕ) (v : Verdict) → TypesTested xs types nodes free v → v ≡ Sound → Measured (map (typeAt xs) types) nodes free

@@ -2,6 +2,7 @@
 // tree), against calls/specs/Named. Counting stops one above the limit on nodes.
 use program::kinds;
 use program::views;
+use rules::MAX_NODES;
 ghost use mathlib.Core.Path.{_≡_};
 ghost use mathlib.Core.Bool.{true};
 ghost use Prim.Native.Nat.{suc, _+_, min, max, pred};
@@ -10,15 +11,20 @@ ghost use Rattle.calls.specs.Entries.{typeAt};
 ghost use Rattle.calls.specs.Named.{ceiling, nodesOf, freeOf, typesOfType, below};
 ghost use Rattle.program.specs.Parts.{TypeField};
 
+// One above the limit on nodes, as wide as a count and as a sum of counts.
+const CEILING: u16 = MAX_NODES as u16 + 1;
+
+const WIDE_CEILING: u32 = CEILING as u32;
+
 // One node more than `a` and `b`, or one more than the limit.
 fn joined(a: u16, b: u16) -> u16
     ensures { λ r. ⌜ r ≡ min ceiling (suc (a + b)) ⌝ }
 {
     let n = octets::wide32(a) + octets::wide32(b) + 1;
-    if n < 1025 {
+    if n < WIDE_CEILING {
         return n as u16;
     }
-    1025
+    CEILING
 }
 
 fn greater(a: u16, b: u16) -> u16

@@ -3,6 +3,9 @@
 // of one number an entry; of each term entry how often it is used. So the cost is linear in the entries.
 use crate::measures;
 use program::views;
+use rules::MAX_NODES;
+use rules::MAX_TERMS;
+use rules::MAX_TYPES;
 ghost use mathlib.Core.Path.{_≡_};
 ghost use mathlib.Core.Bool.{true};
 ghost use mathlib.Core.List.{List, [], _∷_, map};
@@ -51,6 +54,9 @@ fn use_terms(p: &[u8], from: usize, n: usize, used: &mut [u8]) -> bool
     true
 }
 
+// The limit on nodes, as wide as a count of them.
+const MOST_NODES: u16 = MAX_NODES as u16;
+
 // Is each type closed, and within the limit on nodes?
 fn all_plain(p: &[u8], from: usize, n: usize, nodes: &[u16], free: &[u16]) -> bool
     requires { ⌜ from + 2 * n ≤ length (now p) ⌝ }
@@ -64,7 +70,7 @@ fn all_plain(p: &[u8], from: usize, n: usize, nodes: &[u16], free: &[u16]) -> bo
         if 0 < free[t] {
             return false;
         }
-        if 1024 < nodes[t] {
+        if MOST_NODES < nodes[t] {
             return false;
         }
         i += 1;
@@ -310,7 +316,7 @@ fn test_uses(
     requires { ⌜ Measured (map (typeAt (now p)) (now types)) (now nodes) (now free) ⌝ }
     ensures { λ r. ⌜ verdictOf r ≡ usesAnswer (now (p .entry)) (now (types .entry)) (now (terms .entry)) (now (functions .entry)) ⌝ }
 {
-    let mut used = [0u8; 1024];
+    let mut used = [0u8; MAX_TERMS];
     let v = test_terms(p, types, terms, functions, nodes, free, &mut used);
     match v {
         Verdict::Sound => test_bodies(p, types, terms, functions, nodes, free, &mut used),
@@ -332,7 +338,7 @@ pub fn test_entries(
     requires { ⌜ length (now types) ≤ length (now nodes) ⌝ }
     ensures { λ r. ⌜ EntriesTested (now (p .entry)) (now (types .entry)) (now (terms .entry)) (now (functions .entry)) (now (nodes .exit)) r ⌝ }
 {
-    let mut free = [0u16; 256];
+    let mut free = [0u16; MAX_TYPES];
     let v = test_types(p, types, nodes, &mut free);
     match v {
         Verdict::Sound => test_uses(p, types, terms, functions, nodes, &free),

@@ -12,11 +12,12 @@ use package.Rattle.rules.specs.Val.{size, encode}
 use package.Rattle.rules.proofs.Basics.{given}
 use package.Rattle.rules.proofs.Val.{length-encode}
 use package.Rattle.calls.specs.Values.{encodeAll}
-use package.Rattle.calls.specs.Journal.{Entry, Journal, field, heldTag, entryTag, entryBody, entryFields, fields, writeOut, readJournal}
+use package.Rattle.calls.specs.Journal.{entryBytes, Entry, Journal, field, heldTag, entryTag, entryBody, entryFields, fields, writeOut, readJournal}
 use package.Rattle.calls.specs.Conversions.{Newest, behind, newest}
 use package.Rattle.calls.proofs.Journal.Fields.{length-field, WritableEntry}
 use package.Rattle.calls.proofs.Journal.Entries.{WritableEntries, entryFields-snoc, entries-unsnoc, length-entry}
 use package.Rattle.calls.proofs.Journal.Buffers.{Writable, length-fields, written-read}
+use package.Rattle.calls.specs.Fields.{fieldHead}
 use package.Rattle.journal.specs.declared.places.Places.{Places}
 use package.Rattle.journal.specs.declared.places.Survey.the-variants as survey
 use package.Rattle.journal.specs.Places.{orElse, noNewest, newestOf, journalIn, placesOf, surveyOf, Surveyed, Stands}
@@ -106,7 +107,7 @@ module _ {pl : Places} {xs : List ℕ} {J : Journal} (s : Standing pl xs J) wher
   unfolding writeOut fields zeros
   split = s .bytes ∙ append-assoc (field heldTag (encode (J .held))) (entryFields (J .entries)) zeros
 
-  pub held-place : pl .held ≡ 3 + size (J .held)
+  pub held-place : pl .held ≡ fieldHead + size (J .held)
   unfolding placesOf
   held-place = ap (λ (p : Places). p .held) (s .places)
 
@@ -130,13 +131,13 @@ module _ {pl : Places} {xs : List ℕ} {J : Journal} (s : Standing pl xs J) wher
       omega (arith, newest-place, end-place, ap length e, length-append (entryFields (newestOf (J .entries) .older)) r)
 
   -- the places in order
-  pub ranges : (3 ≤ pl .held) × (pl .held ≤ pl .newest) × (pl .newest ≤ pl .end) × (pl .end ≤ length xs)
+  pub ranges : (fieldHead ≤ pl .held) × (pl .held ≤ pl .newest) × (pl .newest ≤ pl .end) × (pl .end ≤ length xs)
   ranges = (omega (arith, held-place), omega (arith, newest-place), newest-within, end-within)
 
-  pub held-is : take (pl .held - 3) (drop 3 xs) ≡ encode (J .held)
+  pub held-is : take (pl .held - fieldHead) (drop fieldHead xs) ≡ encode (J .held)
   unfolding field bytes16
   held-is =
-      ap₂ (λ n l. take n (drop 3 l)) (let z : pl .held - 3 ≡ size (J .held) = omega (arith, held-place) in z) split
+      ap₂ (λ n l. take n (drop fieldHead l)) (let z : pl .held - fieldHead ≡ size (J .held) = omega (arith, held-place) in z) split
       ∙ take-at (encode (J .held)) (entryFields (J .entries) ++ zeros) (size (J .held)) (length-encode (J .held))
 
   behind-held : drop (pl .held) xs ≡ entryFields (J .entries) ++ zeros
@@ -166,7 +167,7 @@ module _ {pl : Places} {xs : List ℕ} {J : Journal} (s : Standing pl xs J) wher
     last-writable : WritableEntry last
     last-writable = entries-unsnoc (newestOf (J .entries) .older) (subst WritableEntries last-split (s .writable .entries-writable)) .1
 
-    pub newest-length : pl .end ≡ pl .newest + 9 + length (encodeAll (newestOf (J .entries) .newest .ancillae))
+    pub newest-length : pl .end ≡ pl .newest + entryBytes + length (encodeAll (newestOf (J .entries) .newest .ancillae))
     unfolding last
     newest-length = omega (
       arith,
@@ -177,7 +178,7 @@ module _ {pl : Places} {xs : List ℕ} {J : Journal} (s : Standing pl xs J) wher
       length-entry last,
     )
 
-    pub newest-room : pl .newest + 9 ≤ pl .end
+    pub newest-room : pl .newest + entryBytes ≤ pl .end
     newest-room = omega (arith, newest-length)
 
     -- its field, and zeros behind
@@ -194,11 +195,11 @@ module _ {pl : Places} {xs : List ℕ} {J : Journal} (s : Standing pl xs J) wher
     at-newest : length (take (pl .newest) xs) ≡ pl .newest
     at-newest = length-take-le (pl .newest) xs (omega (arith, newest-within, end-within))
 
-    pub function-is : get16 xs (pl .newest + 3) ≡ newestOf (J .entries) .newest .function
+    pub function-is : get16 xs (pl .newest + fieldHead) ≡ newestOf (J .entries) .newest .function
     unfolding get16 field entryBody bytes16 bytes32 last
     function-is =
-        ap₂ get16 (sym (take-append-drop (pl .newest) xs)) (ap (λ n. n + 3) (sym at-newest)) ∙ get16-behind (take (pl .newest) xs) (drop (pl .newest) xs) 3
-        ∙ ap (λ l. get16 l 3) behind-older ∙ get16-bytes16 (last .function) (bytes32 (last .steps) ++ encodeAll (last .ancillae) ++ zeros) (last-writable .function-below)
+        ap₂ get16 (sym (take-append-drop (pl .newest) xs)) (ap (λ n. n + fieldHead) (sym at-newest)) ∙ get16-behind (take (pl .newest) xs) (drop (pl .newest) xs) fieldHead
+        ∙ ap (λ l. get16 l fieldHead) behind-older ∙ get16-bytes16 (last .function) (bytes32 (last .steps) ++ encodeAll (last .ancillae) ++ zeros) (last-writable .function-below)
 
     pub steps-are : get32 xs (pl .newest + 5) ≡ newestOf (J .entries) .newest .steps
     unfolding get32 get16 field entryBody bytes16 bytes32 last
@@ -206,8 +207,8 @@ module _ {pl : Places} {xs : List ℕ} {J : Journal} (s : Standing pl xs J) wher
         ap₂ get32 (sym (take-append-drop (pl .newest) xs)) (ap (λ n. n + 5) (sym at-newest)) ∙ get32-behind (take (pl .newest) xs) (drop (pl .newest) xs) 5
         ∙ ap (λ l. get32 l 5) behind-older ∙ get32-bytes32 (last .steps) (encodeAll (last .ancillae) ++ zeros) (last-writable .steps-below)
 
-    pub ancillae-are : take (pl .end - (pl .newest + 9)) (drop (pl .newest + 9) xs) ≡ encodeAll (newestOf (J .entries) .newest .ancillae)
+    pub ancillae-are : take (pl .end - (pl .newest + entryBytes)) (drop (pl .newest + entryBytes) xs) ≡ encodeAll (newestOf (J .entries) .newest .ancillae)
     unfolding field entryBody bytes16 bytes32 last
     ancillae-are =
-        ap (take (pl .end - (pl .newest + 9))) (sym (drop-drop 9 (pl .newest) xs) ∙ ap (drop 9) behind-older)
-        ∙ take-at (encodeAll (last .ancillae)) zeros (pl .end - (pl .newest + 9)) (omega (arith, newest-length))
+        ap (take (pl .end - (pl .newest + entryBytes))) (sym (drop-drop entryBytes (pl .newest) xs) ∙ ap (drop entryBytes) behind-older)
+        ∙ take-at (encodeAll (last .ancillae)) zeros (pl .end - (pl .newest + entryBytes)) (omega (arith, newest-length))

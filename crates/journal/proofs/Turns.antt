@@ -13,11 +13,12 @@ use package.Rattle.rules.specs.Val.{Val, size, encode}
 use package.Rattle.rules.proofs.Basics.{given}
 use package.Rattle.rules.proofs.Val.{length-encode}
 use package.Rattle.calls.specs.Values.{value, ancillae, encodeAll}
-use package.Rattle.calls.specs.Journal.{Journal, field, heldTag, entryTag, entryBody, entryFields, fields, writeOut}
+use package.Rattle.calls.specs.Journal.{entryHead, entryBytes, Journal, field, heldTag, entryTag, entryBody, entryFields, fields, writeOut}
 use package.Rattle.calls.proofs.Values.{value-sound, ancillae-sound}
 use package.Rattle.calls.proofs.Journal.Fields.{fits-below, ancillae-below, length-field}
 use package.Rattle.calls.proofs.Journal.Buffers.{length-fields, length-fields-snoc, fields-snoc}
 use package.Rattle.calls.specs.Book.{orUnit, orNone}
+use package.Rattle.calls.specs.Fields.{fieldHead}
 use package.Rattle.reading.specs.Ends.{isSome, isValue, valueIn, valuesIn}
 use package.Rattle.journal.specs.declared.places.Places.{Places}
 use package.Rattle.journal.specs.Places.{journalIn, Stands}
@@ -53,7 +54,7 @@ is-value h t = go (value h) refl t
 
 pub record AreValues (a : List ℕ) : Type 0 where
   pub bytes : a ≡ encodeAll (valuesIn a)
-  pub short : 6 + length a < 65536
+  pub short : entryHead + length a < 65536
 
 pub are-values : (a : List ℕ) → areValues a ≡ true → AreValues a
 are-values a t = go (ancillae a) refl t
@@ -67,7 +68,7 @@ are-values a t = go (ancillae a) refl t
 -- Open
 
 module _ (h : List ℕ) (t : isValue h ≡ true) where
-  pub open-length : length (fields (opens (valueIn h))) ≡ 3 + length h
+  pub open-length : length (fields (opens (valueIn h))) ≡ fieldHead + length h
   unfolding entryFields
   open-length = length-fields (opens (valueIn h)) ∙ omega (arith, is-value h t .long)
 
@@ -76,10 +77,10 @@ module _ (h : List ℕ) (t : isValue h ≡ true) where
   open-fields = ap (field heldTag) (is-value h t .bytes) ∙ sym (append-nil (field heldTag (encode (valueIn h))))
 
   pub open-written : (xs ys zs : List ℕ) → length (fields (opens (valueIn h))) ≤ length xs → ys ≡ pasted xs 0 (field heldTag h)
-      → zs ≡ take (3 + length h) ys ++ replicate (length ys - (3 + length h)) 0 → zs ≡ writeOut (length xs) (opens (valueIn h))
+      → zs ≡ take (fieldHead + length h) ys ++ replicate (length ys - (fieldHead + length h)) 0 → zs ≡ writeOut (length xs) (opens (valueIn h))
   open-written xs ys zs fit e k =
-      k ∙ ap (λ s. take (3 + length h) s ++ replicate (length s - (3 + length h)) 0) e
-      ∙ written-out xs (field heldTag h) (3 + length h) (opens (valueIn h)) open-fields fit (sym (length-field heldTag h))
+      k ∙ ap (λ s. take (fieldHead + length h) s ++ replicate (length s - (fieldHead + length h)) 0) e
+      ∙ written-out xs (field heldTag h) (fieldHead + length h) (opens (valueIn h)) open-fields fit (sym (length-field heldTag h))
 
 ----------------------------------------------------------------
 -- Convert
@@ -88,7 +89,7 @@ module _ (pl : Places) (xs h a : List ℕ) (s : Stands pl xs) (t : isValue h ≡
   after : Journal
   after = converted (journalIn xs) (valueIn h) (conversion f n (valuesIn a))
 
-  pub convert-length : length (fields (converted (journalIn xs) (valueIn h) (conversion f n (valuesIn a)))) ≡ 12 + length h + (pl .end - pl .held) + length a
+  pub convert-length : length (fields (converted (journalIn xs) (valueIn h) (conversion f n (valuesIn a)))) ≡ fieldHead + entryBytes + length h + (pl .end - pl .held) + length a
   convert-length =
       length-fields-snoc (valueIn h) (journalIn xs .entries) (conversion f n (valuesIn a))
       ∙ omega (arith, is-value h t .long, end-place (standing pl xs s), ap length (are-values a u .bytes))
@@ -107,13 +108,13 @@ module _ (pl : Places) (xs h a : List ℕ) (s : Stands pl xs) (t : isValue h ≡
       ∙ ap (λ b. field heldTag (encode (valueIn h)) ++ entryFields (journalIn xs .entries) ++ field entryTag (bytes16 f ++ bytes32 n ++ b)) (are-values a u .bytes)
       ∙ sym (fields-snoc (valueIn h) (journalIn xs .entries) (conversion f n (valuesIn a)))
 
-  front-length : length (field heldTag h ++ block) ≡ 3 + length h + (pl .end - pl .held)
+  front-length : length (field heldTag h ++ block) ≡ fieldHead + length h + (pl .end - pl .held)
   unfolding block
   front-length =
       length-append (field heldTag h) block
       ∙ omega (arith, length-field heldTag h, ap length (entries-are (standing pl xs s)), end-place (standing pl xs s))
 
-  entry-length : length entry ≡ 9 + length a
+  entry-length : length entry ≡ entryBytes + length a
   unfolding entry bytes16 bytes32
   entry-length = length-field entryTag (bytes16 f ++ bytes32 n ++ a) ∙ omega arith
 
@@ -122,31 +123,31 @@ module _ (pl : Places) (xs h a : List ℕ) (s : Stands pl xs) (t : isValue h ≡
     pub record ConvertRoom : Type 0 where
       pub ordered : pl .held ≤ pl .end
       pub inside : pl .end ≤ length xs
-      pub whole : 12 + length h + (pl .end - pl .held) + length a ≤ length xs
+      pub whole : fieldHead + entryBytes + length h + (pl .end - pl .held) + length a ≤ length xs
       pub short : length h < 65536
-      pub few : 6 + length a < 65536
+      pub few : entryHead + length a < 65536
 
     pub convert-room : ConvertRoom
     convert-room = given (ranges (standing pl xs s)) λ (r₀, r₁, r₂, r₃).
         record { ordered = omega arith; inside = r₃; whole = omega (arith, fit, convert-length); short = is-value h t .short; few = are-values a u .short }
 
     pub convert-written : (ys zs ws : List ℕ) → ys ≡ pasted xs 0 (field heldTag h ++ take (pl .end - pl .held) (drop (pl .held) xs))
-        → zs ≡ pasted ys (3 + length h + (pl .end - pl .held)) (field entryTag (bytes16 f ++ bytes32 n ++ a))
-        → ws ≡ take (3 + length h + (pl .end - pl .held) + 9 + length a) zs ++ replicate (length zs - (3 + length h + (pl .end - pl .held) + 9 + length a)) 0
+        → zs ≡ pasted ys (fieldHead + length h + (pl .end - pl .held)) (field entryTag (bytes16 f ++ bytes32 n ++ a))
+        → ws ≡ take (fieldHead + length h + (pl .end - pl .held) + entryBytes + length a) zs ++ replicate (length zs - (fieldHead + length h + (pl .end - pl .held) + entryBytes + length a)) 0
         → ws ≡ writeOut (length xs) (converted (journalIn xs) (valueIn h) (conversion f n (valuesIn a)))
     unfolding after block entry
     convert-written ys zs ws e k l =
-        l ∙ ap (λ r. take (3 + length h + (pl .end - pl .held) + 9 + length a) r ++ replicate (length r - (3 + length h + (pl .end - pl .held) + 9 + length a)) 0)
-        (k ∙ ap (λ r. pasted r (3 + length h + (pl .end - pl .held)) entry) e
-        ∙ put-next xs (3 + length h + (pl .end - pl .held)) (field heldTag h ++ block) entry (sym front-length) (omega (arith, front-length, entry-length, fit, convert-length)))
-        ∙ written-out xs (field heldTag h ++ block ++ entry) (3 + length h + (pl .end - pl .held) + 9 + length a) after convert-fields fit
+        l ∙ ap (λ r. take (fieldHead + length h + (pl .end - pl .held) + entryBytes + length a) r ++ replicate (length r - (fieldHead + length h + (pl .end - pl .held) + entryBytes + length a)) 0)
+        (k ∙ ap (λ r. pasted r (fieldHead + length h + (pl .end - pl .held)) entry) e
+        ∙ put-next xs (fieldHead + length h + (pl .end - pl .held)) (field heldTag h ++ block) entry (sym front-length) (omega (arith, front-length, entry-length, fit, convert-length)))
+        ∙ written-out xs (field heldTag h ++ block ++ entry) (fieldHead + length h + (pl .end - pl .held) + entryBytes + length a) after convert-fields fit
         (omega (arith, length-append (field heldTag h ++ block) entry, front-length, entry-length))
 
 ----------------------------------------------------------------
 -- Rollback
 
 module _ (pl : Places) (xs h : List ℕ) (s : Stands pl xs) (t : isValue h ≡ true) where
-  pub rollback-length : length (fields (rolledBack (journalIn xs) (valueIn h))) ≡ 3 + length h + (pl .newest - pl .held)
+  pub rollback-length : length (fields (rolledBack (journalIn xs) (valueIn h))) ≡ fieldHead + length h + (pl .newest - pl .held)
   rollback-length = length-fields (rolledBack (journalIn xs) (valueIn h)) ∙ omega (arith, is-value h t .long, newest-place (standing pl xs s))
 
   rollback-fields : field heldTag h ++ take (pl .newest - pl .held) (drop (pl .held) xs) ≡ fields (rolledBack (journalIn xs) (valueIn h))
@@ -157,7 +158,7 @@ module _ (pl : Places) (xs h : List ℕ) (s : Stands pl xs) (t : isValue h ≡ t
     pub record RollbackRoom : Type 0 where
       pub ordered : pl .held ≤ pl .newest
       pub inside : pl .newest ≤ length xs
-      pub whole : 3 + length h + (pl .newest - pl .held) ≤ length xs
+      pub whole : fieldHead + length h + (pl .newest - pl .held) ≤ length xs
       pub short : length h < 65536
 
     pub rollback-room : RollbackRoom
@@ -165,9 +166,9 @@ module _ (pl : Places) (xs h : List ℕ) (s : Stands pl xs) (t : isValue h ≡ t
         record { ordered = r₁; inside = omega arith; whole = omega (arith, fit, rollback-length); short = is-value h t .short }
 
     pub rollback-written : (ys zs : List ℕ) → ys ≡ pasted xs 0 (field heldTag h ++ take (pl .newest - pl .held) (drop (pl .held) xs))
-        → zs ≡ take (3 + length h + (pl .newest - pl .held)) ys ++ replicate (length ys - (3 + length h + (pl .newest - pl .held))) 0
+        → zs ≡ take (fieldHead + length h + (pl .newest - pl .held)) ys ++ replicate (length ys - (fieldHead + length h + (pl .newest - pl .held))) 0
         → zs ≡ writeOut (length xs) (rolledBack (journalIn xs) (valueIn h))
     rollback-written ys zs e k =
-        k ∙ ap (λ r. take (3 + length h + (pl .newest - pl .held)) r ++ replicate (length r - (3 + length h + (pl .newest - pl .held))) 0) e
-        ∙ written-out xs (field heldTag h ++ take (pl .newest - pl .held) (drop (pl .held) xs)) (3 + length h + (pl .newest - pl .held))
+        k ∙ ap (λ r. take (fieldHead + length h + (pl .newest - pl .held)) r ++ replicate (length r - (fieldHead + length h + (pl .newest - pl .held))) 0) e
+        ∙ written-out xs (field heldTag h ++ take (pl .newest - pl .held) (drop (pl .held) xs)) (fieldHead + length h + (pl .newest - pl .held))
         (rolledBack (journalIn xs) (valueIn h)) rollback-fields fit (omega (arith, ap length rollback-fields, rollback-length))

@@ -14,12 +14,13 @@ use package.Rattle.rules.specs.Val.{Val, size}
 use package.Rattle.rules.proofs.Basics.{given, none≢some, some-inj}
 use package.Rattle.rules.proofs.Val.{length-encode}
 use package.Rattle.calls.specs.Values.{value, encodeAll}
-use package.Rattle.calls.specs.Journal.{Entry, Journal, heldTag, entryTag, entryFields, fields, Opened, opened, readEntry, allZero, readEntries, readJournal, when, _>>=_}
+use package.Rattle.calls.specs.Journal.{entryBytes, Entry, Journal, heldTag, entryTag, entryFields, fields, Opened, opened, readEntry, allZero, readEntries, readJournal, when, _>>=_}
 use package.Rattle.calls.specs.Conversions.{Newest, newest}
 use package.Rattle.calls.proofs.Values.{value-sound}
 use package.Rattle.calls.proofs.Journal.Fields.{there, was-there, length-entryBody, readEntry-sound, opened-bytes}
 use package.Rattle.calls.proofs.Journal.Buffers.{length-fields, length-fields-snoc}
 use package.Rattle.calls.proofs.Book.Rows.{newest-snoc}
+use package.Rattle.calls.specs.Fields.{fieldHead}
 use package.Rattle.journal.specs.declared.places.Survey.the-variants as survey
 use package.Rattle.journal.specs.declared.places.Field.the-variants as field
 use package.Rattle.journal.specs.Places.{orElse, noNewest, heldField, entryField, endOf, newestOf, placesOf, surveyOf, Surveyed}
@@ -79,7 +80,7 @@ readEntries-over ys = refl
 pub record HeldRead (xs : List ℕ) (held : ℕ) : Type 0 where
   pub value : Val
   pub read : readJournal xs ≡ (readEntries (suc maxConversions) (drop held xs) >>= λ es. said value es)
-  pub place : held ≡ 3 + size value
+  pub place : held ≡ fieldHead + size value
   pub inside : held ≤ length xs
 
 held-read : (xs : List ℕ) (held : ℕ) → AreBytes xs → field.To held ≡ endOf 0 (heldField xs) → HeldRead xs held
@@ -99,7 +100,7 @@ held-read xs held h p =
 pub record EntryRead (xs : List ℕ) (end next : ℕ) : Type 0 where
   pub entry : Entry
   pub read : (n : ℕ) → (getD xs end 0 ≡ 0 → ⊥) → readEntries (suc n) (drop end xs) ≡ (readEntries n (drop next xs) >>= λ es. some (entry ∷ es))
-  pub place : next ≡ end + 9 + length (encodeAll (entry .ancillae))
+  pub place : next ≡ end + entryBytes + length (encodeAll (entry .ancillae))
   pub inside : next ≤ length xs
 
 -- the first byte behind a place
@@ -133,7 +134,7 @@ pub record Walk (xs : List ℕ) (held end newest count : ℕ) : Type 0 where
   pub value : Val
   pub entries : List Entry
   pub left : readJournal xs ≡ (readEntries (suc maxConversions - count) (drop end xs) >>= λ es. said value (entries ++ es))
-  pub head : held ≡ 3 + size value
+  pub head : held ≡ fieldHead + size value
   pub counted : count ≡ length entries
   pub few : count ≤ maxConversions
   pub last : newest ≡ length (fields (record { held = value; entries = newestOf entries .older }))

@@ -10,6 +10,7 @@ use package.Rattle.rules.specs.Val.{unit, size}
 use package.Rattle.calls.specs.Values.{value}
 use package.Rattle.calls.specs.Journal.{Entry, Journal, heldTag, entryTag, fields, _>>=_, Opened, opened, readEntry, readJournal}
 use package.Rattle.calls.specs.Conversions.{Newest, newest}
+use package.Rattle.calls.specs.Fields.{fieldHead}
 use package.Rattle.journal.specs.declared.places.Places.{Places}
 use package.Rattle.journal.specs.declared.places.Survey.{Survey}
 use package.Rattle.journal.specs.declared.places.Survey.the-variants as survey
@@ -41,7 +42,7 @@ entryField xs = do
 -- where a field that starts at `at` ends
 unfoldable pub endOf : ℕ → Option Opened → Field
 endOf at none = field.Malformed
-endOf at (some f) = field.To (at + 3 + length (f .body))
+endOf at (some f) = field.To (at + fieldHead + length (f .body))
 
 ----------------------------------------------------------------
 -- The form
@@ -60,7 +61,7 @@ journalIn xs = orElse (record { held = unit; entries = [] }) (readJournal xs)
 -- where its fields stand
 unfoldable pub placesOf : Journal → Places
 placesOf J = record {
-  held = 3 + size (J .held);
+  held = fieldHead + size (J .held);
   count = length (J .entries);
   newest = length (fields (record { held = J .held; entries = newestOf (J .entries) .older }));
   end = length (fields J);

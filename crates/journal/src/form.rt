@@ -2,31 +2,30 @@
 use crate::places::Field;
 use crate::places::Places;
 use crate::places::Survey;
+use crate::places::ENTRY_BYTES;
+use crate::places::ENTRY_TAG;
+use crate::places::HELD_TAG;
+use program::fields::FIELD_HEAD;
+use rules::MAX_CONVERSIONS;
 ghost use mathlib.Core.Path.{_≡_};
 ghost use Prim.Native.Nat.{_≤_};
 ghost use lib.ListN.{length, drop};
 ghost use Rattle.calls.specs.Journal.{opened, allZero};
 ghost use Rattle.journal.specs.Places.{heldField, entryField, endOf, Surveyed};
 
-const HELD_TAG: u8 = 0x21;
-
-const ENTRY_TAG: u8 = 0x22;
-
-const MAX_CONVERSIONS: usize = 64;
-
 // Where the field of this tag at a place ends: tag, two-byte length, body.
 fn field_end(journal: &[u8], at: usize, tag: u8) -> Field
     requires { ⌜ at ≤ length (now journal) ⌝ }
     ensures { λ r. ⌜ r ≡ endOf at (opened tag (drop at (now (journal .entry)))) ⌝ }
 {
-    if journal.len() - at < 3 {
+    if journal.len() - at < FIELD_HEAD {
         return Field::Malformed;
     }
     if journal[at] != tag {
         return Field::Malformed;
     }
     let n = octets::wide_index(octets::read16(journal, at + 1));
-    let start = at + 3;
+    let start = at + FIELD_HEAD;
     if journal.len() - start < n {
         return Field::Malformed;
     }
@@ -41,7 +40,7 @@ fn held_end(journal: &[u8]) -> Field
     let Field::To(end) = field else {
         return Field::Malformed;
     };
-    let value = &journal[3..end];
+    let value = &journal[FIELD_HEAD..end];
     let ok = reading::scan::one_value(value);
     if ok {
         return Field::To(end);
@@ -49,7 +48,7 @@ fn held_end(journal: &[u8]) -> Field
     Field::Malformed
 }
 
-// Where a conversion's field ends: its body is six bytes, and whole values within the limit.
+// Where a conversion's field ends: its body is a head, and whole values within the limit.
 fn entry_end(journal: &[u8], at: usize) -> Field
     requires { ⌜ at ≤ length (now journal) ⌝ }
     ensures { λ r. ⌜ r ≡ endOf at (entryField (drop at (now (journal .entry)))) ⌝ }
@@ -58,10 +57,10 @@ fn entry_end(journal: &[u8], at: usize) -> Field
     let Field::To(end) = field else {
         return Field::Malformed;
     };
-    if end - at < 9 {
+    if end - at < ENTRY_BYTES {
         return Field::Malformed;
     }
-    let from = at + 9;
+    let from = at + ENTRY_BYTES;
     let values = &journal[from..end];
     let counted = reading::scan::count_values(values);
     let reading::scan::Counted::Values(_) = counted else {
@@ -84,7 +83,7 @@ fn zero_from(journal: &[u8], at: usize) -> bool
     true
 }
 
-// The form of a journal: the held value's field, those of at most 64 conversions while the next byte is not zero, then zeros.
+// The form of a journal: the held value's field, those of at most so many conversions as may stand, while the next byte is not zero, then zeros.
 pub fn survey(journal: &[u8]) -> Survey
     ensures { λ r. ⌜ Surveyed r (now (journal .entry)) ⌝ }
 {

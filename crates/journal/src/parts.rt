@@ -1,6 +1,10 @@
 // What a journal in form says (document 01, section 5), read from its bytes: the held value, and the newest conversion. Values are
 // parts of the caller's slice, not copies.
 use crate::places::Places;
+use crate::places::ENTRY_BYTES;
+use crate::places::FUNCTION_AT;
+use crate::places::STEPS_AT;
+use program::fields::FIELD_HEAD;
 ghost use mathlib.Core.Path.{_≡_};
 ghost use Prim.Native.Nat.{_<_};
 ghost use Rattle.rules.specs.Val.{encode};
@@ -13,7 +17,7 @@ pub fn held_value(journal: &[u8], pl: Places) -> &[u8]
     ensures { λ r. ⌜ now r ≡ encode (journalIn (now (journal .entry)) .held) ⌝ }
 {
     let end = pl.held;
-    &journal[3..end]
+    &journal[FIELD_HEAD..end]
 }
 
 // The newest conversion, where one stands: its function, its steps, and the bytes of its ancilla values.
@@ -24,7 +28,7 @@ pub fn newest_function(journal: &[u8], pl: Places) -> u16
     ensures { λ r. ⌜ r ≡ newestOf (journalIn (now (journal .entry)) .entries) .newest .function ⌝ }
 {
     let at = pl.newest;
-    octets::read16(journal, at + 3)
+    octets::read16(journal, at + FUNCTION_AT)
 }
 
 pub fn newest_steps(journal: &[u8], pl: Places) -> u32
@@ -33,7 +37,7 @@ pub fn newest_steps(journal: &[u8], pl: Places) -> u32
     ensures { λ r. ⌜ r ≡ newestOf (journalIn (now (journal .entry)) .entries) .newest .steps ⌝ }
 {
     let at = pl.newest;
-    octets::read32(journal, at + 5)
+    octets::read32(journal, at + STEPS_AT)
 }
 
 pub fn newest_ancillae(journal: &[u8], pl: Places) -> &[u8]
@@ -41,7 +45,7 @@ pub fn newest_ancillae(journal: &[u8], pl: Places) -> &[u8]
     requires { ⌜ 0 < pl .count ⌝ }
     ensures { λ r. ⌜ now r ≡ encodeAll (newestOf (journalIn (now (journal .entry)) .entries) .newest .ancillae) ⌝ }
 {
-    let from = pl.newest + 9;
+    let from = pl.newest + ENTRY_BYTES;
     let end = pl.end;
     &journal[from..end]
 }

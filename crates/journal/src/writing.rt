@@ -2,6 +2,13 @@
 // there, in place. A call writes only after all its tests, so that a refused one leaves the journal as it was.
 use crate::moves;
 use crate::places::Places;
+use crate::places::ENTRY_BYTES;
+use crate::places::ENTRY_HEAD;
+use crate::places::ENTRY_TAG;
+use crate::places::FUNCTION_AT;
+use crate::places::HELD_TAG;
+use crate::places::STEPS_AT;
+use program::fields::FIELD_HEAD;
 ghost use mathlib.Core.Path.{_≡_};
 ghost use mathlib.Core.Bool.{true};
 ghost use mathlib.Core.List.{_∷_, _++_};
@@ -10,24 +17,24 @@ ghost use lib.ListN.{length, take, drop, replicate};
 ghost use lib.Dec.{leb};
 ghost use Rattle.octets.specs.Numbers.{bytes16, bytes32};
 ghost use Rattle.octets.specs.Runs.{pasted};
-ghost use Rattle.calls.specs.Journal.{field, heldTag, entryTag, fields, writeOut};
+ghost use Rattle.calls.specs.Journal.{entryHead, entryBytes, field, heldTag, entryTag, fields, writeOut};
+ghost use Rattle.calls.specs.Fields.{fieldHead};
 ghost use Rattle.reading.specs.Ends.{isValue, valueIn, valuesIn};
 ghost use Rattle.journal.specs.Places.{Stands, journalIn};
 ghost use Rattle.journal.specs.Turns.{areValues, conversion, opens, converted, rolledBack};
 
-const HELD_TAG: u8 = 0x21;
-
-const ENTRY_TAG: u8 = 0x22;
+// The bytes that the held value's field and a new conversion's have besides their values.
+const BOTH_HEADS: usize = FIELD_HEAD + ENTRY_BYTES;
 
 // Does the journal that open leaves fit?
 pub fn fits_open(journal: &[u8], held: &[u8]) -> bool
     requires { ⌜ isValue (now held) ≡ true ⌝ }
     ensures { λ r. ⌜ r ≡ leb (length (fields (opens (valueIn (now (held .entry)))))) (length (now (journal .entry))) ⌝ }
 {
-    3 + held.len() <= journal.len()
+    FIELD_HEAD + held.len() <= journal.len()
 }
 
-// And that convert leaves, whatever its function and steps? Three bytes of a field, six of an entry.
+// And that convert leaves, whatever its function and steps?
 pub fn fits_convert(journal: &[u8], pl: Places, held: &[u8], ancillae: &[u8]) -> bool
     requires { ⌜ Stands pl (now journal) ⌝ }
     requires { ⌜ (isValue (now held) ≡ true) × (areValues (now ancillae) ≡ true) ⌝ }
@@ -35,7 +42,7 @@ pub fn fits_convert(journal: &[u8], pl: Places, held: &[u8], ancillae: &[u8]) ->
 {
     let from = pl.held;
     let to = pl.end;
-    12 + held.len() + (to - from) + ancillae.len() <= journal.len()
+    BOTH_HEADS + held.len() + (to - from) + ancillae.len() <= journal.len()
 }
 
 // And that rollback leaves?
@@ -46,12 +53,12 @@ pub fn fits_rollback(journal: &[u8], pl: Places, held: &[u8]) -> bool
 {
     let from = pl.held;
     let to = pl.newest;
-    3 + held.len() + (to - from) <= journal.len()
+    FIELD_HEAD + held.len() + (to - from) <= journal.len()
 }
 
 // A field's tag and the length of its body.
 fn put_head(journal: &mut [u8], at: usize, tag: u8, n: usize)
-    requires { ⌜ (at + 3 ≤ length (now journal)) × (n < 65536) ⌝ }
+    requires { ⌜ (at + fieldHead ≤ length (now journal)) × (n < 65536) ⌝ }
     ensures { λ _. ⌜ now (journal .exit) ≡ pasted (now (journal .entry)) at (tag ∷ bytes16 n) ⌝ }
 {
     journal[at] = tag;
@@ -60,32 +67,32 @@ fn put_head(journal: &mut [u8], at: usize, tag: u8, n: usize)
 
 // The held value's field, at the start.
 fn put_held(journal: &mut [u8], held: &[u8])
-    requires { ⌜ (3 + length (now held) ≤ length (now journal)) × (length (now held) < 65536) ⌝ }
+    requires { ⌜ (fieldHead + length (now held) ≤ length (now journal)) × (length (now held) < 65536) ⌝ }
     ensures { λ _. ⌜ now (journal .exit) ≡ pasted (now (journal .entry)) 0 (field heldTag (now (held .entry))) ⌝ }
 {
     put_head(journal, 0, HELD_TAG, held.len());
-    octets::copy(journal, 3, held);
+    octets::copy(journal, FIELD_HEAD, held);
 }
 
 // The held value's field anew; the fields in the bytes from `from` to `to` stand directly behind it.
 fn set_held(journal: &mut [u8], from: usize, to: usize, held: &[u8])
     requires { ⌜ (from ≤ to) × (to ≤ length (now journal)) ⌝ }
-    requires { ⌜ (3 + length (now held) + (to - from) ≤ length (now journal)) × (length (now held) < 65536) ⌝ }
+    requires { ⌜ (fieldHead + length (now held) + (to - from) ≤ length (now journal)) × (length (now held) < 65536) ⌝ }
     ensures { λ _. ⌜ now (journal .exit) ≡ pasted (now (journal .entry)) 0 (field heldTag (now (held .entry)) ++ take (to - from) (drop from (now (journal .entry)))) ⌝ }
 {
-    moves::shift(journal, from, 3 + held.len(), to - from);
+    moves::shift(journal, from, FIELD_HEAD + held.len(), to - from);
     put_held(journal, held);
 }
 
 // A conversion's field.
 fn add_entry(journal: &mut [u8], at: usize, function: u16, steps: u32, ancillae: &[u8])
-    requires { ⌜ (at + 9 + length (now ancillae) ≤ length (now journal)) × (6 + length (now ancillae) < 65536) ⌝ }
+    requires { ⌜ (at + entryBytes + length (now ancillae) ≤ length (now journal)) × (entryHead + length (now ancillae) < 65536) ⌝ }
     ensures { λ _. ⌜ now (journal .exit) ≡ pasted (now (journal .entry)) at (field entryTag (bytes16 function ++ bytes32 steps ++ now (ancillae .entry))) ⌝ }
 {
-    put_head(journal, at, ENTRY_TAG, 6 + ancillae.len());
-    octets::write16(journal, at + 3, function);
-    octets::write32(journal, at + 5, steps);
-    octets::copy(journal, at + 9, ancillae);
+    put_head(journal, at, ENTRY_TAG, ENTRY_HEAD + ancillae.len());
+    octets::write16(journal, at + FUNCTION_AT, function);
+    octets::write32(journal, at + STEPS_AT, steps);
+    octets::copy(journal, at + ENTRY_BYTES, ancillae);
 }
 
 // Zeros from a place to the end.
@@ -103,7 +110,7 @@ pub fn write_open(journal: &mut [u8], held: &[u8])
     ensures { λ _. ⌜ now (journal .exit) ≡ writeOut (length (now (journal .entry))) (opens (valueIn (now (held .entry)))) ⌝ }
 {
     put_held(journal, held);
-    clear_from(journal, 3 + held.len());
+    clear_from(journal, FIELD_HEAD + held.len());
 }
 
 // The journal that convert leaves: the new held value, and one conversion more.
@@ -123,9 +130,9 @@ pub fn write_convert(
     let from = pl.held;
     let to = pl.end;
     set_held(journal, from, to, held);
-    let at = 3 + held.len() + (to - from);
+    let at = FIELD_HEAD + held.len() + (to - from);
     add_entry(journal, at, function, steps, ancillae);
-    clear_from(journal, at + 9 + ancillae.len());
+    clear_from(journal, at + ENTRY_BYTES + ancillae.len());
 }
 
 // The journal that rollback leaves: the earlier value, and the conversions but the newest.
@@ -138,5 +145,5 @@ pub fn write_rollback(journal: &mut [u8], pl: Places, held: &[u8])
     let from = pl.held;
     let to = pl.newest;
     set_held(journal, from, to, held);
-    clear_from(journal, 3 + held.len() + (to - from));
+    clear_from(journal, FIELD_HEAD + held.len() + (to - from));
 }

@@ -6,7 +6,7 @@ use mathlib.Core.List.{List}
 use lib.ListN.{length, getD, List·getD-eq-default}
 use lib.Dec.{eqb, leb}
 use borrow.Author.Tests.{le-leb, lt-leb, ne-eqb, not-true, not-false}
-use package.Rattle.calls.specs.Fields.{tagAt, lengthAt, nextAt, kindAt, parametersAt, typeLengths, termLengths, callLength, typeLength, termLength, functionLength, bodyFits, wellFormed}
+use package.Rattle.calls.specs.Fields.{callKind, typeTag, termTag, functionTag, tagAt, lengthAt, nextAt, kindAt, parametersAt, typeLengths, termLengths, callLength, typeLength, termLength, functionLength, bodyFits, wellFormed}
 use package.Rattle.rules.specs.Limits.{maxParameters}
 use package.Rattle.program.specs.Places.{parametersWithin}
 
@@ -51,20 +51,20 @@ pub term-empty : (kind n : ℕ) → n < 1 → false ≡ termLength kind n
 unfolding termLength
 term-empty kind n h = rw (lt-leb 1 n h)
 
-pub term-call : (kind n : ℕ) → 1 ≤ n → kind ≡ 8 → callLength n ≡ termLength kind n
+pub term-call : (kind n : ℕ) → 1 ≤ n → kind ≡ callKind → callLength n ≡ termLength kind n
 unfolding termLength
 term-call kind n h e = rw (le-leb 1 n h, e)
 
-pub term-by-kind : (kind n m : ℕ) → 1 ≤ n → (kind ≡ 8 → ⊥) → m ≡ getD termLengths kind 0 → eqb n m ≡ termLength kind n
+pub term-by-kind : (kind n m : ℕ) → 1 ≤ n → (kind ≡ callKind → ⊥) → m ≡ getD termLengths kind 0 → eqb n m ≡ termLength kind n
 unfolding termLength
-term-by-kind kind n m h k e = rw (le-leb 1 n h, ne-eqb kind 8 k, e)
+term-by-kind kind n m h k e = rw (le-leb 1 n h, ne-eqb kind callKind k, e)
 
 -- a count of parameters
 pub no-parameters : (n : ℕ) → n < 1 → false ≡ parametersWithin n
 unfolding parametersWithin
 no-parameters n h = rw (lt-leb 1 n h)
 
-pub some-parameters : (n : ℕ) → 1 ≤ n → leb n 8 ≡ parametersWithin n
+pub some-parameters : (n : ℕ) → 1 ≤ n → leb n maxParameters ≡ parametersWithin n
 unfolding parametersWithin maxParameters
 some-parameters n h = rw (le-leb 1 n h)
 
@@ -80,21 +80,21 @@ last-false true = refl
 last-false false = refl
 
 module _ (xs : List ℕ) (at : ℕ) where
-  pub fits-type : tagAt xs at ≡ 1 → typeLength (kindAt xs at) (lengthAt xs at) ≡ bodyFits xs at
+  pub fits-type : tagAt xs at ≡ typeTag → typeLength (kindAt xs at) (lengthAt xs at) ≡ bodyFits xs at
   unfolding bodyFits
   fits-type e = rw e (alone (typeLength (kindAt xs at) (lengthAt xs at)))
 
-  pub fits-term : tagAt xs at ≡ 2 → termLength (kindAt xs at) (lengthAt xs at) ≡ bodyFits xs at
+  pub fits-term : tagAt xs at ≡ termTag → termLength (kindAt xs at) (lengthAt xs at) ≡ bodyFits xs at
   unfolding bodyFits
   fits-term e = rw e (last-false (termLength (kindAt xs at) (lengthAt xs at)))
 
-  pub fits-function : tagAt xs at ≡ 3 → functionLength (parametersAt xs at) (lengthAt xs at) ≡ bodyFits xs at
+  pub fits-function : tagAt xs at ≡ functionTag → functionLength (parametersAt xs at) (lengthAt xs at) ≡ bodyFits xs at
   unfolding bodyFits
   fits-function e = rw e
 
-  pub fits-nothing : (tagAt xs at ≡ 1 → ⊥) → (tagAt xs at ≡ 2 → ⊥) → (tagAt xs at ≡ 3 → ⊥) → false ≡ bodyFits xs at
+  pub fits-nothing : (tagAt xs at ≡ typeTag → ⊥) → (tagAt xs at ≡ termTag → ⊥) → (tagAt xs at ≡ functionTag → ⊥) → false ≡ bodyFits xs at
   unfolding bodyFits
-  fits-nothing a b c = rw (ne-eqb (tagAt xs at) 1 a, ne-eqb (tagAt xs at) 2 b, ne-eqb (tagAt xs at) 3 c)
+  fits-nothing a b c = rw (ne-eqb (tagAt xs at) typeTag a, ne-eqb (tagAt xs at) termTag b, ne-eqb (tagAt xs at) functionTag c)
 
   ----------------------------------------------------------------
   -- The whole field

@@ -12,7 +12,7 @@ use package.Rattle.rules.specs.Limits.{maxTypes, maxTerms, maxFunctions, maxPar
 use package.Rattle.rules.proofs.Basics.{given, and-both, eqb-sound}
 use package.Rattle.rules.proofs.Typing.Tests.{leb-sound}
 use package.Rattle.calls.specs.Answer.{Answer, accepted}
-use package.Rattle.calls.specs.Fields.{Layout, tagAt, lengthAt, nextAt, kindAt, parametersAt, typeLength, termLength, functionLength, bodyFits, wellFormed, noFields, withField, withinCounts, readFields, layout}
+use package.Rattle.calls.specs.Fields.{typeTag, termTag, functionTag, Layout, tagAt, lengthAt, nextAt, kindAt, parametersAt, typeLength, termLength, functionLength, bodyFits, wellFormed, noFields, withField, withinCounts, readFields, layout}
 use package.Rattle.calls.proofs.Answer.{accepted-inj, unbind, required}
 use package.Rattle.program.specs.Parts.{TypeField, TermField, FunctionField, Formed}
 
@@ -45,13 +45,13 @@ module _ (xs : List ℕ) (at : ℕ) (fits : bodyFits xs at ≡ true) where
   unfolding bodyFits
   fits-tag tag e = subst (λ t. by-tag t ≡ true) (eqb-sound _ tag e) fits
 
-  fits-type : eqb (tagAt xs at) 1 ≡ true → typeLength (kindAt xs at) (lengthAt xs at) ≡ true
+  fits-type : eqb (tagAt xs at) typeTag ≡ true → typeLength (kindAt xs at) (lengthAt xs at) ≡ true
   fits-type e = only _ (only _ (fits-tag 1 e))
 
-  fits-term : eqb (tagAt xs at) 2 ≡ true → termLength (kindAt xs at) (lengthAt xs at) ≡ true
+  fits-term : eqb (tagAt xs at) termTag ≡ true → termLength (kindAt xs at) (lengthAt xs at) ≡ true
   fits-term e = only _ (fits-tag 2 e)
 
-  fits-function : eqb (tagAt xs at) 3 ≡ true → functionLength (parametersAt xs at) (lengthAt xs at) ≡ true
+  fits-function : eqb (tagAt xs at) functionTag ≡ true → functionLength (parametersAt xs at) (lengthAt xs at) ≡ true
   fits-function e = fits-tag 3 e
 
 -- a field that was accepted: inside the program, with a body that fits
@@ -69,12 +69,12 @@ record Counted (xs : List ℕ) (at : ℕ) (L : Layout) : Type 0 where
   few-types : length (L .types) ≤ maxTypes
   few-terms : length (L .terms) ≤ maxTerms
   few-functions : length (L .functions) ≤ maxFunctions
-  parameters : eqb (tagAt xs at) 3 ≡ true → (1 ≤ parametersAt xs at) × (parametersAt xs at ≤ maxParameters)
+  parameters : eqb (tagAt xs at) functionTag ≡ true → (1 ≤ parametersAt xs at) × (parametersAt xs at ≤ maxParameters)
 
 counted : (xs : List ℕ) (at : ℕ) (L : Layout) → withinCounts xs at L ≡ true → Counted xs at L
 unfolding withinCounts
 counted xs at L e =
-    given (and-both _ (cond (eqb (tagAt xs at) 3) (leb 1 (parametersAt xs at) && leb (parametersAt xs at) maxParameters) true) e) λ (e₁, d).
+    given (and-both _ (cond (eqb (tagAt xs at) functionTag) (leb 1 (parametersAt xs at) && leb (parametersAt xs at) maxParameters) true) e) λ (e₁, d).
     given (and-both _ (leb (length (L .functions)) maxFunctions) e₁) λ (e₂, functions).
     given (and-both _ (leb (length (L .terms)) maxTerms) e₂) λ (types, terms). record {
       few-types = leb-sound _ _ types;
@@ -87,7 +87,7 @@ counted xs at L e =
 
 -- a function's field that was accepted
 pub function-field : (xs : List ℕ) (at last : ℕ) (L : Layout) → wellFormed xs at last ≡ true → withinCounts xs at (withField xs at L) ≡ true
-    → eqb (tagAt xs at) 3 ≡ true → FunctionField xs at
+    → eqb (tagAt xs at) functionTag ≡ true → FunctionField xs at
 function-field xs at last L w n t =
     given (well-formed xs at last w) λ (inside, fits).
     given (counted xs at (withField xs at L) n .parameters t) λ (x, y). record { inside = inside; sized = fits-function xs at fits t; some = x; few = y }
@@ -98,9 +98,9 @@ unfolding withField
 formed-more xs at last L w n F =
     given (well-formed xs at last w) λ (inside, fits).
     given (counted xs at (withField xs at L) n) λ N. record {
-      types = holds-more (TypeField xs) (eqb (tagAt xs at) 1) (L .types) at (λ t. record { inside = inside; sized = fits-type xs at fits t }) (F .types);
-      terms = holds-more (TermField xs) (eqb (tagAt xs at) 2) (L .terms) at (λ t. record { inside = inside; sized = fits-term xs at fits t }) (F .terms);
-      functions = holds-more (FunctionField xs) (eqb (tagAt xs at) 3) (L .functions) at
+      types = holds-more (TypeField xs) (eqb (tagAt xs at) typeTag) (L .types) at (λ t. record { inside = inside; sized = fits-type xs at fits t }) (F .types);
+      terms = holds-more (TermField xs) (eqb (tagAt xs at) termTag) (L .terms) at (λ t. record { inside = inside; sized = fits-term xs at fits t }) (F .terms);
+      functions = holds-more (FunctionField xs) (eqb (tagAt xs at) functionTag) (L .functions) at
           (function-field xs at last L w n) (F .functions);
       few-types = N .few-types;
       few-terms = N .few-terms;

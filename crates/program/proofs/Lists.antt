@@ -9,7 +9,7 @@ use lib.Dec.{eqb}
 use borrow.Author.Tests.{ne-eqb}
 use package.Rattle.octets.specs.Numbers.{get16}
 use package.Rattle.rules.specs.Term.{Term, count}
-use package.Rattle.calls.specs.Fields.{kindAt, lengthAt, parametersAt, termLengths}
+use package.Rattle.calls.specs.Fields.{callKind, kindAt, lengthAt, parametersAt, termLengths}
 use package.Rattle.calls.specs.Entries.{typeAt, termAt, termTrees, functionAt, references, callAncillae}
 use package.Rattle.calls.specs.Named.{typesOfType, typesOfTerm, termsOfTerm, functionsOfTerm, typesOfFunction, below}
 use package.Rattle.calls.proofs.Entries.{below-head}
@@ -176,7 +176,7 @@ module _ {xs : List ℕ} {at : ℕ} (F : TermField xs at) where
 
   abbrev Terms : ℕ → Type 0
   Terms k = termsOfTerm (termAt xs at)
-      ≡ references xs (at + 4 + 2 * (getD termTypes k 0 + getD termFunctions k 0)) (cond (eqb k 8) (callAncillae (lengthAt xs at)) 0 + getD termTerms k 0)
+      ≡ references xs (at + 4 + 2 * (getD termTypes k 0 + getD termFunctions k 0)) (cond (eqb k callKind) (callAncillae (lengthAt xs at)) 0 + getD termTerms k 0)
 
   pub terms-of-term : termsOfTerm (termAt xs at) ≡ references xs (termsFrom xs at) (termsInTerm xs at)
   unfolding termsOfTerm termsFrom termsInTerm termTypes termFunctions termTerms references
@@ -196,7 +196,7 @@ module _ {xs : List ℕ} {at : ℕ} (F : TermField xs at) where
       (kindAt xs at) (term-kind F) refl
 
   abbrev Room : ℕ → Type 0
-  Room k = at + 4 + 2 * (getD termTypes k 0 + getD termFunctions k 0) + 2 * (cond (eqb k 8) (callAncillae (lengthAt xs at)) 0 + getD termTerms k 0) ≤ length xs
+  Room k = at + 4 + 2 * (getD termTypes k 0 + getD termFunctions k 0) + 2 * (cond (eqb k callKind) (callAncillae (lengthAt xs at)) 0 + getD termTerms k 0) ≤ length xs
 
   pub terms-in-term : termsFrom xs at + 2 * termsInTerm xs at ≤ length xs
   unfolding termsFrom termsInTerm termTypes termFunctions termTerms termLengths
@@ -225,14 +225,14 @@ module _ {xs : List ℕ} {at : ℕ} (F : TermField xs at) where
   functions-in-term = omega (arith, terms-in-term)
 
 -- how many terms: of a call, and of any other term
-pub terms-in-call : (xs : List ℕ) (at : ℕ) → kindAt xs at ≡ 8 → callAncillae (lengthAt xs at) + 1 ≡ termsInTerm xs at
+pub terms-in-call : (xs : List ℕ) (at : ℕ) → kindAt xs at ≡ callKind → callAncillae (lengthAt xs at) + 1 ≡ termsInTerm xs at
 unfolding termsInTerm termTerms
-terms-in-call xs at e = ap (λ k. cond (eqb k 8) (callAncillae (lengthAt xs at)) 0 + getD termTerms k 0) (sym e)
+terms-in-call xs at e = ap (λ k. cond (eqb k callKind) (callAncillae (lengthAt xs at)) 0 + getD termTerms k 0) (sym e)
 
-pub terms-by-kind : (xs : List ℕ) (at : ℕ) → (kindAt xs at ≡ 8 → ⊥) → getD termTerms (kindAt xs at) 0 ≡ termsInTerm xs at
+pub terms-by-kind : (xs : List ℕ) (at : ℕ) → (kindAt xs at ≡ callKind → ⊥) → getD termTerms (kindAt xs at) 0 ≡ termsInTerm xs at
 unfolding termsInTerm
 terms-by-kind xs at d =
-    (let z : getD termTerms (kindAt xs at) 0 ≡ 0 + getD termTerms (kindAt xs at) 0 = omega arith in z) ∙ ap (λ b. cond b (callAncillae (lengthAt xs at)) 0 + getD termTerms (kindAt xs at) 0) (sym (ne-eqb (kindAt xs at) 8 d))
+    (let z : getD termTerms (kindAt xs at) 0 ≡ 0 + getD termTerms (kindAt xs at) 0 = omega arith in z) ∙ ap (λ b. cond b (callAncillae (lengthAt xs at)) 0 + getD termTerms (kindAt xs at) 0) (sym (ne-eqb (kindAt xs at) callKind d))
 
 ----------------------------------------------------------------
 -- Functions

@@ -10,7 +10,7 @@ use lib.Seq.{length-take-le, take-suc-set}
 use lib.Dec.{eqb, leb}
 use borrow.Author.Tests.{le-leb, lt-leb, ne-eqb}
 use package.Rattle.rules.specs.Limits.{maxTypes, maxTerms, maxFunctions}
-use package.Rattle.calls.specs.Fields.{tagAt, parametersAt, withField, withinCounts}
+use package.Rattle.calls.specs.Fields.{typeTag, termTag, functionTag, tagAt, parametersAt, withField, withinCounts}
 use package.Rattle.program.specs.declared.fields.Counts.{Counts}
 use package.Rattle.program.specs.Places.{placesOf, frontsOf, Buffers, Placeable, Added, parametersWithin}
 
@@ -31,12 +31,12 @@ buffers-kept b e f g = record { forTypes = omega arith; forTerms = omega arith; 
 
 -- the count of a function's parameters; of another field nothing is asked
 abbrev parametersAllowed : List ℕ → ℕ → Bool
-parametersAllowed xs at = cond (eqb (tagAt xs at) 3) (parametersWithin (parametersAt xs at)) true
+parametersAllowed xs at = cond (eqb (tagAt xs at) functionTag) (parametersWithin (parametersAt xs at)) true
 
-allowed-unless : (xs : List ℕ) (at : ℕ) → (tagAt xs at ≡ 3 → ⊥) → parametersAllowed xs at ≡ true
-allowed-unless xs at h = rw (ne-eqb (tagAt xs at) 3 h)
+allowed-unless : (xs : List ℕ) (at : ℕ) → (tagAt xs at ≡ functionTag → ⊥) → parametersAllowed xs at ≡ true
+allowed-unless xs at h = rw (ne-eqb (tagAt xs at) functionTag h)
 
-allowed-function : (xs : List ℕ) (at : ℕ) {b : Bool} → tagAt xs at ≡ 3 → parametersWithin (parametersAt xs at) ≡ b → parametersAllowed xs at ≡ b
+allowed-function : (xs : List ℕ) (at : ℕ) {b : Bool} → tagAt xs at ≡ functionTag → parametersWithin (parametersAt xs at) ≡ b → parametersAllowed xs at ≡ b
 allowed-function xs at e h = rw e h
 
 and-false : (a : Bool) → (a && false) ≡ false
@@ -47,21 +47,21 @@ and-false false = refl
 -- The layout with one field more, by its tag
 
 module _ (xs : List ℕ) (at : ℕ) (types terms functions : List ℕ) where
-  with-type : tagAt xs at ≡ 1 → withField xs at (placesOf types terms functions) ≡ placesOf (types ++ (at ∷ [])) terms functions
+  with-type : tagAt xs at ≡ typeTag → withField xs at (placesOf types terms functions) ≡ placesOf (types ++ (at ∷ [])) terms functions
   unfolding withField
   with-type e = rw e
 
-  with-term : tagAt xs at ≡ 2 → withField xs at (placesOf types terms functions) ≡ placesOf types (terms ++ (at ∷ [])) functions
+  with-term : tagAt xs at ≡ termTag → withField xs at (placesOf types terms functions) ≡ placesOf types (terms ++ (at ∷ [])) functions
   unfolding withField
   with-term e = rw e
 
-  with-function : tagAt xs at ≡ 3 → withField xs at (placesOf types terms functions) ≡ placesOf types terms (functions ++ (at ∷ []))
+  with-function : tagAt xs at ≡ functionTag → withField xs at (placesOf types terms functions) ≡ placesOf types terms (functions ++ (at ∷ []))
   unfolding withField
   with-function e = rw e
 
-  with-nothing : (tagAt xs at ≡ 1 → ⊥) → (tagAt xs at ≡ 2 → ⊥) → (tagAt xs at ≡ 3 → ⊥) → withField xs at (placesOf types terms functions) ≡ placesOf types terms functions
+  with-nothing : (tagAt xs at ≡ typeTag → ⊥) → (tagAt xs at ≡ termTag → ⊥) → (tagAt xs at ≡ functionTag → ⊥) → withField xs at (placesOf types terms functions) ≡ placesOf types terms functions
   unfolding withField
-  with-nothing a b c = rw (ne-eqb (tagAt xs at) 1 a, ne-eqb (tagAt xs at) 2 b, ne-eqb (tagAt xs at) 3 c)
+  with-nothing a b c = rw (ne-eqb (tagAt xs at) typeTag a, ne-eqb (tagAt xs at) termTag b, ne-eqb (tagAt xs at) functionTag c)
 
   ----------------------------------------------------------------
   -- The counts
@@ -122,7 +122,7 @@ module _ (xs : List ℕ) (at : ℕ) (c : Counts) (types terms functions : List �
       → withField xs at (frontsOf types terms functions c) ≡ placesOf (take (c .types) types) (take (c .terms) terms) (take (c .functions) functions ++ (at ∷ []))
   function-in = with-function xs at (take (c .types) types) (take (c .terms) terms) (take (c .functions) functions)
 
-  pub type-placed : tagAt xs at ≡ 1 → c .types < maxTypes
+  pub type-placed : tagAt xs at ≡ typeTag → c .types < maxTypes
       → Added (record { types = c .types + 1; terms = c .terms; functions = c .functions }) xs at (frontsOf types terms functions c) (set types (c .types) at) terms functions
   type-placed e h = record {
     fronts = ap (λ l. placesOf l (take (c .terms) terms) (take (c .functions) functions)) (front-more types (c .types) at (omega arith)) ∙ sym (type-in e);
@@ -130,7 +130,7 @@ module _ (xs : List ℕ) (at : ℕ) (c : Counts) (types terms functions : List �
     allowed = ap (withinCounts xs at) (type-in e) ∙ counts-within xs at _ _ _ (rw type-more (omega arith)) few-terms few-functions (allowed-unless xs at (λ d. omega arith));
   }
 
-  pub term-placed : tagAt xs at ≡ 2 → c .terms < maxTerms
+  pub term-placed : tagAt xs at ≡ termTag → c .terms < maxTerms
       → Added (record { types = c .types; terms = c .terms + 1; functions = c .functions }) xs at (frontsOf types terms functions c) types (set terms (c .terms) at) functions
   term-placed e h = record {
     fronts = ap (λ l. placesOf (take (c .types) types) l (take (c .functions) functions)) (front-more terms (c .terms) at (omega arith)) ∙ sym (term-in e);
@@ -138,7 +138,7 @@ module _ (xs : List ℕ) (at : ℕ) (c : Counts) (types terms functions : List �
     allowed = ap (withinCounts xs at) (term-in e) ∙ counts-within xs at _ _ _ few-types (rw term-more (omega arith)) few-functions (allowed-unless xs at (λ d. omega arith));
   }
 
-  pub function-placed : tagAt xs at ≡ 3 → parametersWithin (parametersAt xs at) ≡ true → c .functions < maxFunctions
+  pub function-placed : tagAt xs at ≡ functionTag → parametersWithin (parametersAt xs at) ≡ true → c .functions < maxFunctions
       → Added (record { types = c .types; terms = c .terms; functions = c .functions + 1 }) xs at (frontsOf types terms functions c) types terms (set functions (c .functions) at)
   function-placed e t h = record {
     fronts = ap (λ l. placesOf (take (c .types) types) (take (c .terms) terms) l) (front-more functions (c .functions) at (omega arith)) ∙ sym (function-in e);
@@ -146,7 +146,7 @@ module _ (xs : List ℕ) (at : ℕ) (c : Counts) (types terms functions : List �
     allowed = ap (withinCounts xs at) (function-in e) ∙ counts-within xs at _ _ _ few-types few-terms (rw function-more (omega arith)) (allowed-function xs at e t);
   }
 
-  pub nothing-placed : (tagAt xs at ≡ 1 → ⊥) → (tagAt xs at ≡ 2 → ⊥) → (tagAt xs at ≡ 3 → ⊥) → Added c xs at (frontsOf types terms functions c) types terms functions
+  pub nothing-placed : (tagAt xs at ≡ typeTag → ⊥) → (tagAt xs at ≡ termTag → ⊥) → (tagAt xs at ≡ functionTag → ⊥) → Added c xs at (frontsOf types terms functions c) types terms functions
   nothing-placed h i j = record {
     fronts = sym w;
     within = p .within;
@@ -156,14 +156,14 @@ module _ (xs : List ℕ) (at : ℕ) (c : Counts) (types terms functions : List �
       w : withField xs at (frontsOf types terms functions c) ≡ frontsOf types terms functions c
       w = with-nothing xs at (take (c .types) types) (take (c .terms) terms) (take (c .functions) functions) h i j
 
-  pub type-full : tagAt xs at ≡ 1 → maxTypes ≤ c .types → withinCounts xs at (withField xs at (frontsOf types terms functions c)) ≡ false
+  pub type-full : tagAt xs at ≡ typeTag → maxTypes ≤ c .types → withinCounts xs at (withField xs at (frontsOf types terms functions c)) ≡ false
   type-full e h = ap (withinCounts xs at) (type-in e) ∙ types-over xs at _ _ _ (rw type-more (omega arith))
 
-  pub term-full : tagAt xs at ≡ 2 → maxTerms ≤ c .terms → withinCounts xs at (withField xs at (frontsOf types terms functions c)) ≡ false
+  pub term-full : tagAt xs at ≡ termTag → maxTerms ≤ c .terms → withinCounts xs at (withField xs at (frontsOf types terms functions c)) ≡ false
   term-full e h = ap (withinCounts xs at) (term-in e) ∙ terms-over xs at _ _ _ few-types (rw term-more (omega arith))
 
-  pub function-full : tagAt xs at ≡ 3 → maxFunctions ≤ c .functions → withinCounts xs at (withField xs at (frontsOf types terms functions c)) ≡ false
+  pub function-full : tagAt xs at ≡ functionTag → maxFunctions ≤ c .functions → withinCounts xs at (withField xs at (frontsOf types terms functions c)) ≡ false
   function-full e h = ap (withinCounts xs at) (function-in e) ∙ functions-over xs at _ _ _ few-types few-terms (rw function-more (omega arith))
 
-  pub function-refused : tagAt xs at ≡ 3 → parametersWithin (parametersAt xs at) ≡ false → withinCounts xs at (withField xs at (frontsOf types terms functions c)) ≡ false
+  pub function-refused : tagAt xs at ≡ functionTag → parametersWithin (parametersAt xs at) ≡ false → withinCounts xs at (withField xs at (frontsOf types terms functions c)) ≡ false
   function-refused e t = ap (withinCounts xs at) (function-in e) ∙ parameters-over xs at _ _ _ (allowed-function xs at e t)

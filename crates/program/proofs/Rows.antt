@@ -8,13 +8,13 @@ use mathlib.Core.List.{List, []}
 use lib.ListN.{length, getD, set, drop, replicate, length-set, getD-replicate, List·getD-eq-default}
 use lib.Seq.{getD-set-same, getD-set-other}
 use package.Rattle.octets.specs.Numbers.{get16}
-use package.Rattle.rules.specs.Limits.{maxParameters}
+use package.Rattle.rules.specs.Limits.{maxFunctions, maxParameters}
 use package.Rattle.calls.specs.Fields.{parametersAt}
 use package.Rattle.calls.specs.Entries.{references, functionAt}
 use package.Rattle.calls.specs.Named.{typesOfFunction}
 use package.Rattle.program.specs.Places.{Placed}
 use package.Rattle.program.specs.Parts.{FunctionField, listed}
-use package.Rattle.program.specs.Signatures.{parameterTypes, SignatureIs, FunctionFields, SignaturesAre}
+use package.Rattle.program.specs.Signatures.{parameterTypes, SignatureIs, FunctionFields, unsigned, SignaturesAre}
 use package.Rattle.program.proofs.Inside.{formed}
 use package.Rattle.program.proofs.Lists.{length-references, types-of-function}
 
@@ -77,14 +77,15 @@ zeros-at (suc n) (suc j) = zeros-at n j
 
 -- `k` of the parameters stand in the row, and zeros after them
 pub record Filled (xs : List ℕ) (at k : ℕ) (row : List ℕ) : Type 0 where
-  pub sized : length row ≡ 8
+  pub sized : length row ≡ maxParameters
   pub front : (j : ℕ) → j < k → getD row j 0 ≡ listed xs at j
   pub back : (j : ℕ) → k ≤ j → getD row j 0 ≡ 0
 
-pub none-filled : (xs : List ℕ) (at : ℕ) → Filled xs at 0 (replicate 8 0)
-none-filled xs at = record { sized = refl; front = λ j h. absurd (omega arith); back = λ j h. zeros-at 8 j }
+pub none-filled : (xs : List ℕ) (at : ℕ) → Filled xs at 0 (replicate maxParameters 0)
+unfolding maxParameters
+none-filled xs at = record { sized = refl; front = λ j h. absurd (omega arith); back = λ j h. zeros-at maxParameters j }
 
-pub one-filled : {xs : List ℕ} {at k : ℕ} {row : List ℕ} {x : ℕ} → k < 8 → x ≡ listed xs at k → Filled xs at k row → Filled xs at (k + 1) (set row k x)
+pub one-filled : {xs : List ℕ} {at k : ℕ} {row : List ℕ} {x : ℕ} → k < maxParameters → x ≡ listed xs at k → Filled xs at k row → Filled xs at (k + 1) (set row k x)
 one-filled {xs} {at} {k} {row} {x} h e f = record {
   sized = length-set row k x ∙ f .sized;
   front = stored-more 0 (λ j y. y ≡ listed xs at j) row k x (omega (arith, f .sized)) (f .front) e;
@@ -108,19 +109,19 @@ all-filled {xs} {at} {k} {row} F e f = record {
 
 -- the rows of `g` functions stand in the table, and rows of zeros after them
 pub record Tabled (xs functions : List ℕ) (g : ℕ) (table : List (List ℕ)) : Type 0 where
-  pub sized : length table ≡ 64
+  pub sized : length table ≡ maxFunctions
   pub front : (j : ℕ) → j < g → SignatureIs (functionAt xs (getD functions j 0)) (getD table j [])
-  pub back : (j : ℕ) → g ≤ j → j < 64 → getD table j [] ≡ replicate 8 0
+  pub back : (j : ℕ) → g ≤ j → j < maxFunctions → getD table j [] ≡ replicate maxParameters 0
 
-pub none-tabled : (xs functions : List ℕ) → Tabled xs functions 0 (replicate 64 (replicate 8 0))
-none-tabled xs functions = record { sized = refl; front = λ j h. absurd (omega arith); back = λ j h l. getD-replicate 64 j (replicate 8 0) [] l }
+pub none-tabled : (xs functions : List ℕ) → Tabled xs functions 0 unsigned
+none-tabled xs functions = record { sized = refl; front = λ j h. absurd (omega arith); back = λ j h l. getD-replicate maxFunctions j (replicate maxParameters 0) [] l }
 
-pub one-tabled : {xs functions : List ℕ} {g : ℕ} {table : List (List ℕ)} {row : List ℕ} → g < 64 → SignatureIs (functionAt xs (getD functions g 0)) row
+pub one-tabled : {xs functions : List ℕ} {g : ℕ} {table : List (List ℕ)} {row : List ℕ} → g < maxFunctions → SignatureIs (functionAt xs (getD functions g 0)) row
     → Tabled xs functions g table → Tabled xs functions (g + 1) (set table g row)
 one-tabled {xs} {functions} {g} {table} {row} h s t = record {
   sized = length-set table g row ∙ t .sized;
   front = stored-more [] (λ j y. SignatureIs (functionAt xs (getD functions j 0)) y) table g row (omega (arith, t .sized)) (t .front) s;
-  back = kept-beyond [] (λ j y. j < 64 → y ≡ replicate 8 0) table g row (t .back);
+  back = kept-beyond [] (λ j y. j < maxFunctions → y ≡ replicate maxParameters 0) table g row (t .back);
 }
 
 pub all-tabled : {xs functions : List ℕ} {g : ℕ} {table : List (List ℕ)} → g ≡ length functions → Tabled xs functions g table → SignaturesAre xs functions table

@@ -5,9 +5,10 @@ use native.Mathlib.Omega.{arith}
 use mathlib.Core.Path.{_≡_, refl, ap}
 use mathlib.Core.List.{List}
 use package.Rattle.octets.specs.Numbers.{get16}
-use package.Rattle.calls.specs.Fields.{kindAt, lengthAt, parametersAt}
+use package.Rattle.calls.specs.Fields.{callKind, kindAt, lengthAt, parametersAt}
 use package.Rattle.calls.specs.Entries.{y-unit, y-prod, y-sum, y-mu, y-var, typeOfKind, typeAt, n-var, n-unit, n-inl, n-inr, n-roll, n-unroll, n-pair, n-let, n-letp, n-case, n-call, termOfKind, termAt, callAncillae, references, functionAt}
 use package.Rattle.program.specs.Parts.{variable, first, second, third, listed, result, body}
+use package.Rattle.program.specs.Kinds.{unitTypeKind, productKind, sumKind, recursiveKind, typeVariableKind, variableKind, unitKind, inlKind, inrKind, pairKind, letKind, letPairKind, caseKind, rollKind}
 
 module _ (xs : List ℕ) (at : ℕ) where
   ----------------------------------------------------------------
@@ -17,23 +18,23 @@ module _ (xs : List ℕ) (at : ℕ) where
   unfolding typeAt
   type-by e = ap (λ k. typeOfKind k (first xs at) (second xs at) (variable xs at)) e
 
-  pub type-unit : kindAt xs at ≡ 0 → typeAt xs at ≡ y-unit
+  pub type-unit : kindAt xs at ≡ unitTypeKind → typeAt xs at ≡ y-unit
   unfolding typeOfKind
   type-unit e = type-by e
 
-  pub type-prod : kindAt xs at ≡ 1 → typeAt xs at ≡ y-prod (first xs at) (second xs at)
+  pub type-prod : kindAt xs at ≡ productKind → typeAt xs at ≡ y-prod (first xs at) (second xs at)
   unfolding typeOfKind
   type-prod e = type-by e
 
-  pub type-sum : kindAt xs at ≡ 2 → typeAt xs at ≡ y-sum (first xs at) (second xs at)
+  pub type-sum : kindAt xs at ≡ sumKind → typeAt xs at ≡ y-sum (first xs at) (second xs at)
   unfolding typeOfKind
   type-sum e = type-by e
 
-  pub type-mu : kindAt xs at ≡ 3 → typeAt xs at ≡ y-mu (first xs at)
+  pub type-mu : kindAt xs at ≡ recursiveKind → typeAt xs at ≡ y-mu (first xs at)
   unfolding typeOfKind
   type-mu e = type-by e
 
-  pub type-var : 4 ≤ kindAt xs at → typeAt xs at ≡ y-var (variable xs at)
+  pub type-var : typeVariableKind ≤ kindAt xs at → typeAt xs at ≡ y-var (variable xs at)
   unfolding typeOfKind
   type-var h = type-by (let e : kindAt xs at ≡ suc (suc (suc (suc (kindAt xs at - 4)))) = omega arith in e)
 
@@ -46,44 +47,44 @@ module _ (xs : List ℕ) (at : ℕ) where
   term-by e =
       ap (λ k. termOfKind k (first xs at) (second xs at) (third xs at) (variable xs at) (references xs (at + 6) (callAncillae (lengthAt xs at))) (listed xs at (callAncillae (lengthAt xs at)))) e
 
-  pub term-var : kindAt xs at ≡ 0 → termAt xs at ≡ n-var (variable xs at)
+  pub term-var : kindAt xs at ≡ variableKind → termAt xs at ≡ n-var (variable xs at)
   unfolding termOfKind
   term-var e = term-by e
 
-  pub term-unit : kindAt xs at ≡ 1 → termAt xs at ≡ n-unit
+  pub term-unit : kindAt xs at ≡ unitKind → termAt xs at ≡ n-unit
   unfolding termOfKind
   term-unit e = term-by e
 
-  pub term-inl : kindAt xs at ≡ 2 → termAt xs at ≡ n-inl (first xs at) (second xs at)
+  pub term-inl : kindAt xs at ≡ inlKind → termAt xs at ≡ n-inl (first xs at) (second xs at)
   unfolding termOfKind
   term-inl e = term-by e
 
-  pub term-inr : kindAt xs at ≡ 3 → termAt xs at ≡ n-inr (first xs at) (second xs at)
+  pub term-inr : kindAt xs at ≡ inrKind → termAt xs at ≡ n-inr (first xs at) (second xs at)
   unfolding termOfKind
   term-inr e = term-by e
 
-  pub term-pair : kindAt xs at ≡ 4 → termAt xs at ≡ n-pair (first xs at) (second xs at)
+  pub term-pair : kindAt xs at ≡ pairKind → termAt xs at ≡ n-pair (first xs at) (second xs at)
   unfolding termOfKind
   term-pair e = term-by e
 
-  pub term-let : kindAt xs at ≡ 5 → termAt xs at ≡ n-let (first xs at) (second xs at)
+  pub term-let : kindAt xs at ≡ letKind → termAt xs at ≡ n-let (first xs at) (second xs at)
   unfolding termOfKind
   term-let e = term-by e
 
-  pub term-letp : kindAt xs at ≡ 6 → termAt xs at ≡ n-letp (first xs at) (second xs at)
+  pub term-letp : kindAt xs at ≡ letPairKind → termAt xs at ≡ n-letp (first xs at) (second xs at)
   unfolding termOfKind
   term-letp e = term-by e
 
-  pub term-case : kindAt xs at ≡ 7 → termAt xs at ≡ n-case (first xs at) (second xs at) (third xs at)
+  pub term-case : kindAt xs at ≡ caseKind → termAt xs at ≡ n-case (first xs at) (second xs at) (third xs at)
   unfolding termOfKind
   term-case e = term-by e
 
-  pub term-call : kindAt xs at ≡ 8
+  pub term-call : kindAt xs at ≡ callKind
       → termAt xs at ≡ n-call (first xs at) (references xs (at + 6) (callAncillae (lengthAt xs at))) (listed xs at (callAncillae (lengthAt xs at)))
   unfolding termOfKind
   term-call e = term-by e
 
-  pub term-roll : kindAt xs at ≡ 9 → termAt xs at ≡ n-roll (first xs at) (second xs at)
+  pub term-roll : kindAt xs at ≡ rollKind → termAt xs at ≡ n-roll (first xs at) (second xs at)
   unfolding termOfKind
   term-roll e = term-by e
 

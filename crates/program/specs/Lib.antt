@@ -1,4 +1,6 @@
 -- What the code says of programs. The modules in reading order:
+-- the kinds of entries by name
+pub mod Kinds
 -- where the fields of a program's entries stand
 pub mod Places
 -- what reading one field answers

@@ -5,7 +5,7 @@ use mathlib.Core.Bool.{cond}
 use mathlib.Core.List.{List, [], _∷_}
 use lib.ListN.{getD}
 use lib.Dec.{eqb}
-use package.Rattle.calls.specs.Fields.{kindAt, lengthAt}
+use package.Rattle.calls.specs.Fields.{callKind, kindAt, lengthAt}
 use package.Rattle.calls.specs.Entries.{callAncillae}
 
 -- of each kind of type: unit, product, sum, recursive, bound variable
@@ -38,4 +38,4 @@ unfoldable pub termsFrom : List ℕ → ℕ → ℕ
 termsFrom xs at = at + 4 + 2 * (typesInTerm xs at + functionsInTerm xs at)
 
 unfoldable pub termsInTerm : List ℕ → ℕ → ℕ
-termsInTerm xs at = cond (eqb (kindAt xs at) 8) (callAncillae (lengthAt xs at)) 0 + getD termTerms (kindAt xs at) 0
+termsInTerm xs at = cond (eqb (kindAt xs at) callKind) (callAncillae (lengthAt xs at)) 0 + getD termTerms (kindAt xs at) 0

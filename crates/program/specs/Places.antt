@@ -8,7 +8,7 @@ use lib.ListN.{length, take}
 use lib.Dec.{leb}
 use package.Rattle.rules.specs.Limits.{maxTypes, maxTerms, maxFunctions, maxParameters, maxProgramBytes}
 use package.Rattle.calls.specs.Answer.{Answer, accepted, refused}
-use package.Rattle.calls.specs.Fields.{Layout, withField, withinCounts, layout}
+use package.Rattle.calls.specs.Fields.{fieldHead, Layout, withField, withinCounts, layout}
 use package.Rattle.program.specs.declared.fields.Counts.{Counts}
 use package.Rattle.program.specs.declared.fields.Fields.{Fields}
 use package.Rattle.program.specs.declared.fields.Fields.the-variants.{Read, Malformed, Over}
@@ -51,7 +51,7 @@ parametersWithin n = leb 1 n && leb n maxParameters
 
 -- a field to place: of its offset, that it fits two bytes
 pub record Placeable (xs : List ℕ) (at : ℕ) (c : Counts) (types terms functions : List ℕ) : Type 0 where
-  pub whole : at + 3 ≤ length xs
+  pub whole : at + fieldHead ≤ length xs
   pub small : length xs ≤ maxProgramBytes
   pub within : Within c
   pub buffers : Buffers types terms functions

@@ -2,18 +2,34 @@
 // The functions on one field equal the definitions of calls/specs/Fields; a definition reads 0 past the end, and so does `byte_at`.
 ghost use mathlib.Core.Path.{_≡_};
 ghost use Prim.Native.Nat.{_+_, _≤_};
-ghost use lib.ListN.{length, getD, replicate};
-ghost use Rattle.calls.specs.Fields.{tagAt, lengthAt, nextAt, kindAt, parametersAt, typeLengths, termLengths, callLength, typeLength, termLength, functionLength, bodyFits, wellFormed};
+ghost use lib.ListN.{length, getD};
+ghost use Rattle.calls.specs.Fields.{fieldHead, tagAt, lengthAt, nextAt, kindAt, parametersAt, typeLengths, termLengths, callLength, typeLength, termLength, functionLength, bodyFits, wellFormed};
 ghost use Rattle.program.specs.Places.{parametersWithin, frontsOf, Placeable, PlacingMeans, Buffers, FieldsMean};
-ghost use Rattle.program.specs.Signatures.{Signable, Signs, Tabulated};
+ghost use Rattle.program.specs.Signatures.{Signable, Signs, unsigned, Tabulated};
+use crate::kinds;
 use crate::reader;
 use crate::reader::Field;
 use crate::signatures;
+use rules::MAX_FUNCTIONS;
+use rules::MAX_PARAMETERS;
+use rules::MAX_PROGRAM_BYTES;
+use rules::MAX_TERMS;
+use rules::MAX_TYPES;
 
-// The body length of each kind of type, then of term; a call's (8) is by its own rule.
-const TYPE_LENGTHS: [u16; 5] = [1, 5, 5, 3, 2];
+// The tags of fields, and the bytes of a field before its body: tag and length.
 
-const TERM_LENGTHS: [u16; 11] = [2, 1, 5, 5, 5, 5, 5, 7, 0, 5, 5];
+pub const TYPE_TAG: u8 = 1;
+
+pub const TERM_TAG: u8 = 2;
+
+pub const FUNCTION_TAG: u8 = 3;
+
+pub const FIELD_HEAD: usize = 3;
+
+// The body length of each kind of type, then of term; a call's is by its own rule.
+const TYPE_LENGTHS: [u16; kinds::TYPE_KINDS] = [1, 5, 5, 3, 2];
+
+const TERM_LENGTHS: [u16; kinds::TERM_KINDS] = [2, 1, 5, 5, 5, 5, 5, 7, 0, 5, 5];
 
 // The byte at an offset, 0 past the end.
 fn byte_at(p: &[u8], at: usize) -> u8
@@ -33,7 +49,7 @@ pub fn tag_at(p: &[u8], at: usize) -> u8
 
 // The length of the body.
 pub fn length_at(p: &[u8], at: usize) -> u16
-    requires { ⌜ at + 3 ≤ length (now p) ⌝ }
+    requires { ⌜ at + fieldHead ≤ length (now p) ⌝ }
     ensures { λ r. ⌜ r ≡ lengthAt (now (p .entry)) at ⌝ }
 {
     octets::read16(p, at + 1)
@@ -41,21 +57,21 @@ pub fn length_at(p: &[u8], at: usize) -> u16
 
 // The offset of the next field.
 pub fn next_at(p: &[u8], at: usize) -> usize
-    requires { ⌜ at + 3 ≤ length (now p) ⌝ }
+    requires { ⌜ at + fieldHead ≤ length (now p) ⌝ }
     ensures { λ r. ⌜ r ≡ nextAt (now (p .entry)) at ⌝ }
 {
-    at + 3 + octets::wide_index(length_at(p, at))
+    at + FIELD_HEAD + octets::wide_index(length_at(p, at))
 }
 
 pub fn kind_at(p: &[u8], at: usize) -> u8
-    requires { ⌜ at + 3 ≤ length (now p) ⌝ }
+    requires { ⌜ at + fieldHead ≤ length (now p) ⌝ }
     ensures { λ r. ⌜ r ≡ kindAt (now (p .entry)) at ⌝ }
 {
-    byte_at(p, at + 3)
+    byte_at(p, at + FIELD_HEAD)
 }
 
 pub fn parameters_at(p: &[u8], at: usize) -> u8
-    requires { ⌜ at + 3 ≤ length (now p) ⌝ }
+    requires { ⌜ at + fieldHead ≤ length (now p) ⌝ }
     ensures { λ r. ⌜ r ≡ parametersAt (now (p .entry)) at ⌝ }
 {
     byte_at(p, at + 5)
@@ -66,7 +82,7 @@ fn type_bytes(kind: u8) -> u16
     ensures { λ r. ⌜ r ≡ getD typeLengths kind 0 ⌝ }
 {
     let k = octets::wide_index(octets::wide16(kind));
-    if k < 5 {
+    if k < kinds::TYPE_KINDS {
         return TYPE_LENGTHS[k];
     }
     0
@@ -76,7 +92,7 @@ fn term_bytes(kind: u8) -> u16
     ensures { λ r. ⌜ r ≡ getD termLengths kind 0 ⌝ }
 {
     let k = octets::wide_index(octets::wide16(kind));
-    if k < 11 {
+    if k < kinds::TERM_KINDS {
         return TERM_LENGTHS[k];
     }
     0
@@ -106,7 +122,7 @@ pub fn term_length(kind: u8, n: u16) -> bool
     if n < 1 {
         return false;
     }
-    if kind == 8 {
+    if kind == kinds::CALL {
         return call_length(n);
     }
     n == term_bytes(kind)
@@ -120,18 +136,18 @@ pub fn function_length(parameters: u8, n: u16) -> bool
 
 // Has the body a length that its tag and kind have? No other tag is known.
 pub fn body_fits(p: &[u8], at: usize) -> bool
-    requires { ⌜ at + 3 ≤ length (now p) ⌝ }
+    requires { ⌜ at + fieldHead ≤ length (now p) ⌝ }
     ensures { λ r. ⌜ r ≡ bodyFits (now (p .entry)) at ⌝ }
 {
     let tag = tag_at(p, at);
     let n = length_at(p, at);
-    if tag == 1 {
+    if tag == TYPE_TAG {
         return type_length(kind_at(p, at), n);
     }
-    if tag == 2 {
+    if tag == TERM_TAG {
         return term_length(kind_at(p, at), n);
     }
-    if tag == 3 {
+    if tag == FUNCTION_TAG {
         return function_length(parameters_at(p, at), n);
     }
     false
@@ -142,7 +158,7 @@ pub fn well_formed(p: &[u8], at: usize, last: u8) -> bool
     requires { ⌜ at ≤ length (now p) ⌝ }
     ensures { λ r. ⌜ r ≡ wellFormed (now (p .entry)) at last ⌝ }
 {
-    if p.len() < at + 3 {
+    if p.len() < at + FIELD_HEAD {
         return false;
     }
     if tag_at(p, at) < last {
@@ -153,17 +169,6 @@ pub fn well_formed(p: &[u8], at: usize, last: u8) -> bool
     }
     body_fits(p, at)
 }
-
-// The counts and the byte limit of section 1.
-const MAX_TYPES: usize = 256;
-
-const MAX_TERMS: usize = 1024;
-
-const MAX_FUNCTIONS: usize = 64;
-
-const MAX_PARAMETERS: u8 = 8;
-
-const MAX_PROGRAM_BYTES: usize = 32768;
 
 // How many entries of each tag were read: so many offsets stand at the front of each buffer.
 pub struct Counts {
@@ -185,13 +190,16 @@ enum Placing {
     Full,
 }
 
+// The limit on parameters, as wide as their count in a field.
+const MOST_PARAMETERS: u8 = MAX_PARAMETERS as u8;
+
 fn parameters_within(parameters: u8) -> bool
     ensures { λ r. ⌜ r ≡ parametersWithin parameters ⌝ }
 {
     if parameters < 1 {
         return false;
     }
-    parameters <= MAX_PARAMETERS
+    parameters <= MOST_PARAMETERS
 }
 
 // The offset of a well-formed field goes behind those of its tag, if the counts allow one more.
@@ -211,7 +219,7 @@ fn place(
     let i = counts.types;
     let j = counts.terms;
     let k = counts.functions;
-    if tag == 1 {
+    if tag == TYPE_TAG {
         if i < MAX_TYPES {
             types[i] = offset;
             return Placing::More(Counts {
@@ -222,7 +230,7 @@ fn place(
         }
         return Placing::Full;
     }
-    if tag == 2 {
+    if tag == TERM_TAG {
         if j < MAX_TERMS {
             terms[j] = offset;
             return Placing::More(Counts {
@@ -233,7 +241,7 @@ fn place(
         }
         return Placing::Full;
     }
-    if tag == 3 {
+    if tag == FUNCTION_TAG {
         if !parameters_within(parameters_at(p, at)) {
             return Placing::Full;
         }
@@ -251,11 +259,11 @@ fn place(
 }
 
 // The row of a function's field goes into the table of signatures, at the function's number.
-fn sign(p: &[u8], at: usize, tag: u8, g: usize, table: &mut [[u16; 8]; 64])
+fn sign(p: &[u8], at: usize, tag: u8, g: usize, table: &mut [[u16; MAX_PARAMETERS]; MAX_FUNCTIONS])
     requires { ⌜ Signable (now p) at tag g ⌝ }
     ensures { λ _. ⌜ Signs (now (p .entry)) at tag g (now (table .entry)) (now (table .exit)) ⌝ }
 {
-    if tag != 3 {
+    if tag != FUNCTION_TAG {
         return;
     }
     let row = signatures::signature(p, at);
@@ -269,10 +277,10 @@ pub fn layout(
     types: &mut [u16],
     terms: &mut [u16],
     functions: &mut [u16],
-    table: &mut [[u16; 8]; 64],
+    table: &mut [[u16; MAX_PARAMETERS]; MAX_FUNCTIONS],
 ) -> Fields
     requires { ⌜ Buffers (now types) (now terms) (now functions) ⌝ }
-    requires { ⌜ now table ≡ replicate 64 (replicate 8 0) ⌝ }
+    requires { ⌜ now table ≡ unsigned ⌝ }
     ensures fields { λ r. ⌜ FieldsMean r (now (p .entry)) (now (types .exit)) (now (terms .exit)) (now (functions .exit)) ⌝ }
     ensures signed { λ r. ⌜ Tabulated r (now (p .entry)) (now (functions .exit)) (now (table .exit)) ⌝ }
 {
@@ -285,7 +293,7 @@ pub fn layout(
         functions: 0,
     };
     let mut at = 0;
-    let mut last = 1;
+    let mut last = TYPE_TAG;
     while at < p.len() {
         let Field::Whole { tag, next } = reader::read_field(p, at, last) else {
             return Fields::Malformed(at);

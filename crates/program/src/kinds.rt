@@ -1,4 +1,4 @@
-// The kinds of type and term entries by their numbers (document 01, section 1). A match over kinds has an arm for each of them, and a last
+// The kinds of type and term entries by their numbers (document 01, section 1; specs/Kinds). A match over kinds has an arm for each of them, and a last
 // arm that is never met, since the fields of other kinds are refused when they are read.
 
 // Types.
@@ -12,6 +12,9 @@ pub const SUM: u8 = 2;
 pub const RECURSIVE: u8 = 3;
 
 pub const TYPE_VARIABLE: u8 = 4;
+
+// How many there are.
+pub const TYPE_KINDS: usize = 5;
 
 // Terms.
 
@@ -36,3 +39,5 @@ pub const CALL: u8 = 8;
 pub const ROLL: u8 = 9;
 
 pub const UNROLL: u8 = 10;
+
+pub const TERM_KINDS: usize = 11;

@@ -5,14 +5,15 @@ ghost use Rattle.calls.specs.Entries.{functionAt};
 ghost use Rattle.program.specs.Parts.{FunctionField};
 ghost use Rattle.program.specs.Signatures.{SignatureIs};
 use crate::views;
+use rules::MAX_PARAMETERS;
 
 // The row of the function whose field is at `at`.
-pub fn signature(p: &[u8], at: usize) -> [u16; 8]
+pub fn signature(p: &[u8], at: usize) -> [u16; MAX_PARAMETERS]
     requires { ⌜ FunctionField (now p) at ⌝ }
     ensures { λ r. ⌜ SignatureIs (functionAt (now (p .entry)) at) r ⌝ }
 {
     let n = views::function_parameters(p, at);
-    let mut row = [0u16; 8];
+    let mut row = [0u16; MAX_PARAMETERS];
     let mut k = 0;
     while k < n {
         let x = views::listed(p, at, k);

@@ -7,7 +7,9 @@ ghost use lib.ListN.{length};
 ghost use Rattle.calls.specs.Fields.{kindAt, lengthAt, parametersAt};
 ghost use Rattle.calls.specs.Entries.{callAncillae};
 ghost use Rattle.program.specs.Parts.{variable, first, second, third, listed, result, body, TypeField, TermField};
+ghost use Rattle.program.specs.Kinds.{typeKinds, termKinds};
 ghost use Rattle.program.specs.Lists.{typesInType, typesInTerm, functionsInTerm, termsInTerm, termsFrom};
+use crate::kinds;
 
 // Types and terms.
 
@@ -21,14 +23,14 @@ pub fn kind(p: &[u8], at: usize) -> u8
 // The same of a well-formed field: one of five kinds, one of eleven.
 pub fn type_kind(p: &[u8], at: usize) -> usize
     requires { ⌜ TypeField (now p) at ⌝ }
-    ensures { λ r. ⌜ (r ≡ kindAt (now (p .entry)) at) × (r < 5) ⌝ }
+    ensures { λ r. ⌜ (r ≡ kindAt (now (p .entry)) at) × (r < typeKinds) ⌝ }
 {
     octets::wide_index(octets::wide16(kind(p, at)))
 }
 
 pub fn term_kind(p: &[u8], at: usize) -> usize
     requires { ⌜ TermField (now p) at ⌝ }
-    ensures { λ r. ⌜ (r ≡ kindAt (now (p .entry)) at) × (r < 11) ⌝ }
+    ensures { λ r. ⌜ (r ≡ kindAt (now (p .entry)) at) × (r < termKinds) ⌝ }
 {
     octets::wide_index(octets::wide16(kind(p, at)))
 }
@@ -108,13 +110,16 @@ pub fn function_body(p: &[u8], at: usize) -> u16
 // How many references an entry has, by its kind, in the order of the bytes; specs/Lists has the tables. A term's stand for a type or a
 // function first, then for terms; a call has its ancilla terms besides. The numbers are bytes: each use of a table makes it anew.
 
-const TYPES_IN_TYPE: [usize; 5] = [0, 2, 2, 1, 0];
+const TYPES_IN_TYPE: [usize; kinds::TYPE_KINDS] = [0, 2, 2, 1, 0];
 
-const TYPES_IN_TERM: [u8; 11] = [0, 0, 1, 1, 0, 0, 0, 0, 0, 1, 1];
+const TYPES_IN_TERM: [u8; kinds::TERM_KINDS] = [0, 0, 1, 1, 0, 0, 0, 0, 0, 1, 1];
 
-const FUNCTIONS_IN_TERM: [u8; 11] = [0, 0, 0, 0, 0, 0, 0, 0, 1, 0, 0];
+const FUNCTIONS_IN_TERM: [u8; kinds::TERM_KINDS] = [0, 0, 0, 0, 0, 0, 0, 0, 1, 0, 0];
 
-const TERMS_IN_TERM: [u8; 11] = [0, 0, 1, 1, 2, 2, 2, 3, 1, 1, 1];
+const TERMS_IN_TERM: [u8; kinds::TERM_KINDS] = [0, 0, 1, 1, 2, 2, 2, 3, 1, 1, 1];
+
+// The kind of a call, as wide as a place of the tables.
+const CALL: usize = kinds::CALL as usize;
 
 pub fn types_in_type(p: &[u8], at: usize) -> usize
     requires { ⌜ TypeField (now p) at ⌝ }
@@ -145,7 +150,7 @@ pub fn terms_in_term(p: &[u8], at: usize) -> usize
     ensures { λ r. ⌜ r ≡ termsInTerm (now (p .entry)) at ⌝ }
 {
     let k = term_kind(p, at);
-    if k == 8 {
+    if k == CALL {
         return call_ancillae(p, at) + 1;
     }
     octets::wide_index(octets::wide16(TERMS_IN_TERM[k]))

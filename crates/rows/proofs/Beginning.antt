@@ -14,7 +14,7 @@ use package.Rattle.rows.specs.Calls.{preparedFrom, PrepareMeans}
 
 -- a workspace that is long enough has room for the types that typing makes
 pub enough-types : (fuel n : ℕ) → workspaceFor fuel ≤ n → nodeBytes * maxTerms ≤ n
-unfolding workspaceFor workspaceBase workspacePerFuel maxTerms
+unfolding workspaceFor workspaceBase workspacePerFuel
 enough-types fuel n l = omega arith
 
 ----------------------------------------------------------------

@@ -1,6 +1,6 @@
 -- The table of section 6's cases, by computation.
 use mathlib.Core.Path.{refl}
-use package.Rattle.rules.specs.Limits.{maxVariables, maxNodes, maxValueBytes, fits, maxHeight}
+use package.Rattle.rules.specs.Limits.{maxValueBytes, fits, maxHeight}
 use package.Rattle.rules.specs.Val.{size, same}
 use package.Rattle.rules.specs.Ty.{plug, unfoldTy, nodes, sameTy}
 use package.Rattle.rules.specs.Term.{entry, count, nth, look, scope}
@@ -12,7 +12,7 @@ use package.Rattle.rules.specs.Machine.{onSum, onPair, onRoll, onUnit, o
 use package.Rattle.rules.specs.Cases.{num, lets, crowded, Table}
 
 pub table : Table
-unfolding check checkFuns checkFun statics infer inferArguments sameTy nodes need asSum asProd asMu asFun visible room small spent mustUse sameUse bar barOne _>>_ _>>=_ count unfoldTy plug fits maxValueBytes maxHeight maxVariables maxNodes num runForward runBackward forward backward scope mayYield mayBe size same after enter test look entry nth onSome known each bindOr meet leave made forwardStep backwardStep onSum onPair onRoll onUnit lets crowded
+unfolding check checkFuns checkFun statics infer inferArguments sameTy nodes need asSum asProd asMu asFun visible room small spent mustUse sameUse bar barOne _>>_ _>>=_ count unfoldTy plug fits maxValueBytes maxHeight num runForward runBackward forward backward scope mayYield mayBe size same after enter test look entry nth onSome known each bindOr meet leave made forwardStep backwardStep onSum onPair onRoll onUnit lets crowded
 table = record {
   typed = refl;
   p1 = refl;

@@ -1,4 +1,6 @@
--- Every limit of document 01, named once. Definitions and theorems take a limit as a parameter, or name it from here.
+-- Every limit of document 01, named once; the code's constants of the same names are in src/lib.rt. Definitions and theorems take a limit as a
+-- parameter, or name it from here. A limit that the places of the code's arrays are reckoned with unfolds everywhere; a proof that needs
+-- the number of another one says so (`unfolding`).
 use Prim.Native.Nat.{ℕ}
 use mathlib.Core.Bool.{Bool}
 use lib.Dec.{leb}
@@ -7,13 +9,13 @@ use package.Rattle.rules.specs.Val.{Val, size}
 ----------------------------------------------------------------
 -- Programs (section 1)
 
-unfoldable pub maxTypes : ℕ
+abbrev pub maxTypes : ℕ
 maxTypes = 256
 
-unfoldable pub maxTerms : ℕ
+abbrev pub maxTerms : ℕ
 maxTerms = 1024
 
-unfoldable pub maxFunctions : ℕ
+abbrev pub maxFunctions : ℕ
 maxFunctions = 64
 
 unfoldable pub maxProgramBytes : ℕ
@@ -23,11 +25,11 @@ unfoldable pub maxParameters : ℕ
 maxParameters = 8
 
 -- variables in scope at one point
-unfoldable pub maxVariables : ℕ
+abbrev pub maxVariables : ℕ
 maxVariables = 32
 
 -- nodes of a type that a term or function names, or that typing gives a term
-unfoldable pub maxNodes : ℕ
+abbrev pub maxNodes : ℕ
 maxNodes = 1024
 
 ----------------------------------------------------------------

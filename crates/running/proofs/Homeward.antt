@@ -47,7 +47,6 @@ module _ {xs terms functions heap : List ℕ} {g : ℕ} {anc bytes : List ℕ} {
   value-slot = omega (arith, few-arguments R D B)
 
   bodies : Bodies code
-  unfolding maxVariables
   bodies = accepted-bodies (R .loaded .read) maxVariables maxNodes (omega arith) (R .loaded .typed) D
 
   low : (i : ℕ) → i ≤ start .count → getD slots′ (0 + i) 0 < start .top

@@ -7,6 +7,7 @@ use mathlib.Core.List.{List}
 use lib.ListN.{length}
 use lib.Dec.{eqb}
 use package.Rattle.rules.specs.Ty.{nodes, isUnit, sameTy}
+use package.Rattle.program.specs.Kinds.{unitTypeKind, recursiveKind, typeVariableKind}
 use package.Rattle.types.specs.declared.codes.Code.{Code}
 use package.Rattle.types.specs.Codes.{treeIn, Known}
 use package.Rattle.types.specs.Shapes.{plainShape, Settled}
@@ -18,14 +19,14 @@ module _ {xs types heap : List ℕ} {top : ℕ} {c v : Code} (S : Settled xs typ
   unit-by-kind = ap (λ n. eqb n 0) k ∙ is-unit (S .shaped)
 
   -- it has a first part
-  pub parted : ¬ (kind ≡ 4) → kind < 4
+  pub parted : ¬ (kind ≡ typeVariableKind) → kind < typeVariableKind
   parted n = omega (arith, k, below-four (S .shaped) λ q. n (k ∙ q))
 
-  pub twice-parted : ¬ (kind ≡ 4) → ¬ (kind ≡ 3) → kind < 3
+  pub twice-parted : ¬ (kind ≡ typeVariableKind) → ¬ (kind ≡ recursiveKind) → kind < recursiveKind
   twice-parted n m = omega (arith, k, two-parts (S .shaped) (λ q. n (k ∙ q)) λ q. m (k ∙ q))
 
   module _ {a : Code} (p : a ≡ plainShape xs types heap v .first) where
-    pub fewer-first : ¬ (kind ≡ 0) → kind < 4 → nodes (treeIn xs types heap a) < nodes (treeIn xs types heap c)
+    pub fewer-first : ¬ (kind ≡ unitTypeKind) → kind < typeVariableKind → nodes (treeIn xs types heap a) < nodes (treeIn xs types heap c)
     fewer-first z l =
         subst (λ a. nodes (treeIn xs types heap a) < nodes (treeIn xs types heap c)) (sym p)
         (less-first (S .shaped) (λ q. z (k ∙ q)) (omega (arith, k, l)))
@@ -34,7 +35,7 @@ module _ {xs types heap : List ℕ} {top : ℕ} {c v : Code} (S : Settled xs typ
     known-first = subst (Known (length types) top) (sym p) (S .shaped .first)
 
   module _ {b : Code} (p : b ≡ plainShape xs types heap v .second) where
-    pub fewer-second : ¬ (kind ≡ 0) → kind < 3 → nodes (treeIn xs types heap b) < nodes (treeIn xs types heap c)
+    pub fewer-second : ¬ (kind ≡ unitTypeKind) → kind < recursiveKind → nodes (treeIn xs types heap b) < nodes (treeIn xs types heap c)
     fewer-second z l =
         subst (λ b. nodes (treeIn xs types heap b) < nodes (treeIn xs types heap c)) (sym p)
         (less-second (S .shaped) (λ q. z (k ∙ q)) (omega (arith, k, l)))
@@ -60,10 +61,10 @@ module _ {xs types heap : List ℕ} {top : ℕ} {c d v w : Code} (S : Settled xs
     one-kind : plainShape xs types heap v .kind ≡ plainShape xs types heap w .kind
     one-kind = sym k ∙ e ∙ k′
 
-    pub units : kind ≡ 0 → Same true
+    pub units : kind ≡ unitTypeKind → Same true
     units z = both-units (S .shaped) (S′ .shaped) one-kind (sym k ∙ z)
 
-    pub variables : {n m : ℕ} → kind ≡ 4 → n ≡ plainShape xs types heap v .variable → m ≡ plainShape xs types heap w .variable → Same (eqb n m)
+    pub variables : {n m : ℕ} → kind ≡ typeVariableKind → n ≡ plainShape xs types heap v .variable → m ≡ plainShape xs types heap w .variable → Same (eqb n m)
     variables z p q = ap₂ eqb p q ∙ both-variables (S .shaped) (S′ .shaped) one-kind (sym k ∙ z)
 
     module _ {a b : Code} (p : a ≡ plainShape xs types heap v .first) (q : b ≡ plainShape xs types heap w .first)
@@ -71,10 +72,10 @@ module _ {xs types heap : List ℕ} {top : ℕ} {c d v w : Code} (S : Settled xs
       firsts : r ≡ sameTy (treeIn xs types heap (plainShape xs types heap v .first)) (treeIn xs types heap (plainShape xs types heap w .first))
       firsts = h ∙ ap₂ (λ a b. sameTy (treeIn xs types heap a) (treeIn xs types heap b)) p q
 
-      pub recursives : kind ≡ 3 → Same r
+      pub recursives : kind ≡ recursiveKind → Same r
       recursives z = firsts ∙ both-recursive (S .shaped) (S′ .shaped) one-kind (sym k ∙ z)
 
-      module _ (z : ¬ (kind ≡ 0)) (l : kind < 3) where
+      module _ (z : ¬ (kind ≡ unitTypeKind)) (l : kind < recursiveKind) where
         pub firsts-differ : r ≡ false → Same false
         firsts-differ f = first-differs (S .shaped) (S′ .shaped) one-kind (λ q. z (k ∙ q)) (omega (arith, k, l)) (sym f ∙ firsts)
 

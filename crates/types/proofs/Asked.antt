@@ -4,6 +4,7 @@ use mathlib.Core.Path.{_≡_, refl, sym, ap, _∙_}
 use mathlib.Core.List.{List}
 use package.Rattle.rules.specs.Ty.{Ty, prod, sum}
 use package.Rattle.rules.specs.Check.{Site, Checked, bad, asSum, asProd}
+use package.Rattle.program.specs.Kinds.{productKind, sumKind}
 use package.Rattle.types.specs.declared.codes.Code.{Code}
 use package.Rattle.types.specs.declared.shapes.Shape.{Shape}
 use package.Rattle.types.specs.Codes.{treeIn}
@@ -27,27 +28,27 @@ module _ {A : Type 0} (at : Site) (f : Ty → Ty → Checked A) where
   no-product-kind (suc (suc (suc (suc k)))) a b n d = refl
 
 module _ {xs types heap : List ℕ} {top : ℕ} {c : Code} {v : Shape} (S : Shaped xs types heap top c v) where
-  pub sum-tree : v .kind ≡ 2 → treeIn xs types heap c ≡ sum (treeIn xs types heap (v .first)) (treeIn xs types heap (v .second))
+  pub sum-tree : v .kind ≡ sumKind → treeIn xs types heap c ≡ sum (treeIn xs types heap (v .first)) (treeIn xs types heap (v .second))
   unfolding shapeTree ofKind
   sum-tree k = sym (S .tree) ∙ rw k
 
-  pub product-tree : v .kind ≡ 1 → treeIn xs types heap c ≡ prod (treeIn xs types heap (v .first)) (treeIn xs types heap (v .second))
+  pub product-tree : v .kind ≡ productKind → treeIn xs types heap c ≡ prod (treeIn xs types heap (v .first)) (treeIn xs types heap (v .second))
   unfolding shapeTree ofKind
   product-tree k = sym (S .tree) ∙ rw k
 
   module _ {A : Type 0} (at : Site) (f : Ty → Ty → Checked A) where
-    pub a-sum : v .kind ≡ 2 → asSum at (treeIn xs types heap c) f ≡ f (treeIn xs types heap (v .first)) (treeIn xs types heap (v .second))
+    pub a-sum : v .kind ≡ sumKind → asSum at (treeIn xs types heap c) f ≡ f (treeIn xs types heap (v .first)) (treeIn xs types heap (v .second))
     unfolding asSum
     a-sum k = rw (sum-tree k)
 
-    pub no-sum : ¬ (v .kind ≡ 2) → asSum at (treeIn xs types heap c) f ≡ bad 6 at
+    pub no-sum : ¬ (v .kind ≡ sumKind) → asSum at (treeIn xs types heap c) f ≡ bad 6 at
     unfolding shapeTree
     no-sum d = ap (λ t. asSum at t f) (sym (S .tree)) ∙ no-sum-kind at f (v .kind) _ _ _ d
 
-    pub a-product : v .kind ≡ 1 → asProd at (treeIn xs types heap c) f ≡ f (treeIn xs types heap (v .first)) (treeIn xs types heap (v .second))
+    pub a-product : v .kind ≡ productKind → asProd at (treeIn xs types heap c) f ≡ f (treeIn xs types heap (v .first)) (treeIn xs types heap (v .second))
     unfolding asProd
     a-product k = rw (product-tree k)
 
-    pub no-product : ¬ (v .kind ≡ 1) → asProd at (treeIn xs types heap c) f ≡ bad 6 at
+    pub no-product : ¬ (v .kind ≡ productKind) → asProd at (treeIn xs types heap c) f ≡ bad 6 at
     unfolding shapeTree
     no-product d = ap (λ t. asProd at t f) (sym (S .tree)) ∙ no-product-kind at f (v .kind) _ _ _ d

@@ -9,6 +9,7 @@ use borrow.Author.Tests.{ne-eqb}
 use package.Rattle.rules.specs.Ty.{Ty, one, prod, sum, mu, tyvar, nodes, isUnit, sameTy}
 use package.Rattle.rules.proofs.Typing.Tests.{sameTy-refl, sameTy-eq}
 use package.Rattle.calls.specs.Entries.{typeAt}
+use package.Rattle.program.specs.Kinds.{unitTypeKind, recursiveKind, typeVariableKind}
 use package.Rattle.types.specs.declared.codes.Code.{Code}
 use package.Rattle.types.specs.declared.shapes.Shape.{Shape}
 use package.Rattle.types.specs.Codes.{treeIn}
@@ -74,23 +75,23 @@ second-less (suc (suc (suc k))) a b n z l = absurd (omega arith)
 -- One type
 
 module _ {xs types heap : List ℕ} {top : ℕ} {c : Code} {v : Shape} (S : Shaped xs types heap top c v) where
-  pub is-unit : eqb (v .kind) 0 ≡ isUnit (treeIn xs types heap c)
+  pub is-unit : eqb (v .kind) unitTypeKind ≡ isUnit (treeIn xs types heap c)
   unfolding shapeTree
   is-unit = unit-kind (v .kind) _ _ _ ∙ ap isUnit (S .tree)
 
-  pub below-four : ¬ (v .kind ≡ 4) → v .kind < 4
+  pub below-four : ¬ (v .kind ≡ typeVariableKind) → v .kind < typeVariableKind
   below-four n = omega (arith, S .kind)
 
   -- neither a variable nor recursive
-  pub two-parts : ¬ (v .kind ≡ 4) → ¬ (v .kind ≡ 3) → v .kind < 3
+  pub two-parts : ¬ (v .kind ≡ typeVariableKind) → ¬ (v .kind ≡ recursiveKind) → v .kind < recursiveKind
   two-parts n m = omega (arith, S .kind)
 
   -- the parts have fewer nodes
-  pub less-first : ¬ (v .kind ≡ 0) → v .kind < 4 → nodes (treeIn xs types heap (v .first)) < nodes (treeIn xs types heap c)
+  pub less-first : ¬ (v .kind ≡ unitTypeKind) → v .kind < typeVariableKind → nodes (treeIn xs types heap (v .first)) < nodes (treeIn xs types heap c)
   unfolding shapeTree
   less-first z l = subst (λ a. nodes (treeIn xs types heap (v .first)) < nodes a) (S .tree) (first-less (v .kind) _ _ _ z l)
 
-  pub less-second : ¬ (v .kind ≡ 0) → v .kind < 3 → nodes (treeIn xs types heap (v .second)) < nodes (treeIn xs types heap c)
+  pub less-second : ¬ (v .kind ≡ unitTypeKind) → v .kind < recursiveKind → nodes (treeIn xs types heap (v .second)) < nodes (treeIn xs types heap c)
   unfolding shapeTree
   less-second z l = subst (λ a. nodes (treeIn xs types heap (v .second)) < nodes a) (S .tree) (second-less (v .kind) _ _ _ z l)
 
@@ -113,19 +114,19 @@ module _ {xs types heap : List ℕ} {top : ℕ} {c d : Code} {v w : Shape} (S : 
       by-nodes false (differing _ _ λ e. n (sym (kind-is (v .kind) _ _ _ (S .kind)) ∙ ap kindOf e ∙ kind-is (w .kind) _ _ _ (S′ .kind)))
 
   module _ (k : v .kind ≡ w .kind) where
-    pub both-units : v .kind ≡ 0 → Same true
+    pub both-units : v .kind ≡ unitTypeKind → Same true
     unfolding shapeTree ofKind sameTy
     both-units e = by-nodes true (rw (← k, e))
 
-    pub both-variables : v .kind ≡ 4 → Same (eqb (v .variable) (w .variable))
+    pub both-variables : v .kind ≡ typeVariableKind → Same (eqb (v .variable) (w .variable))
     unfolding shapeTree ofKind sameTy
     both-variables e = by-nodes (eqb (v .variable) (w .variable)) (rw (← k, e))
 
-    pub both-recursive : v .kind ≡ 3 → Same (sameTy (treeIn xs types heap (v .first)) (treeIn xs types heap (w .first)))
+    pub both-recursive : v .kind ≡ recursiveKind → Same (sameTy (treeIn xs types heap (v .first)) (treeIn xs types heap (w .first)))
     unfolding shapeTree ofKind sameTy
     both-recursive e = by-nodes _ (rw (← k, e))
 
-    module _ (z : ¬ (v .kind ≡ 0)) (l : v .kind < 3) where
+    module _ (z : ¬ (v .kind ≡ unitTypeKind)) (l : v .kind < recursiveKind) where
       two : Same (sameTy (treeIn xs types heap (v .first)) (treeIn xs types heap (w .first)) && sameTy (treeIn xs types heap (v .second)) (treeIn xs types heap (w .second)))
       unfolding shapeTree
       two = by-nodes _ (rw (← k) (two-same (v .kind) _ _ _ _ _ _ z l))

@@ -192,23 +192,23 @@ module _ {xs types heap : List ℕ} {top : ℕ} (S : Sources xs types heap top) 
   -- counted from 1 on, left then right
   module _ {n m : ℕ} (e : n ≡ min ceiling (1 + nodes a)) (e′ : m ≡ min ceiling (n + nodes b)) where
     both-counted : m ≡ min ceiling (nodes (prod a b))
-    unfolding nodes ceiling maxNodes
+    unfolding nodes ceiling
     both-counted = omega arith
 
-    pub made-old : 1024 < m → Made xs types heap heap top left right false
-    unfolding ceiling maxNodes
+    pub made-old : maxNodes < m → Made xs types heap heap top left right false
+    unfolding ceiling
     made-old h = record {
       answer = sym (lt-leb (nodes (prod a b)) maxNodes (omega (arith, both-counted)));
       new = λ e. absurd (false≢true e);
       old = λ e. refl;
     }
 
-    module _ (room : Room heap (top + 1)) (F : Fitting left) (F′ : Fitting right) (h : m ≤ 1024) where
+    module _ (room : Room heap (top + 1)) (F : Fitting left) (F′ : Fitting right) (h : m ≤ maxNodes) where
       new : List ℕ
       new = putNode heap top left right m
 
       exact : m ≡ nodes (prod a b)
-      unfolding ceiling maxNodes
+      unfolding ceiling
       exact = omega (arith, both-counted)
 
       agree : Agree top heap new
@@ -233,7 +233,7 @@ module _ {xs types heap : List ℕ} {top : ℕ} (S : Sources xs types heap top) 
       count-is = count-put heap top left right m room (omega arith)
 
       new-right : Right (map (typeAt xs) types) (length types) new top
-      unfolding new maxNodes
+      unfolding new
       new-right = record {
         left = subst (Known (length types) top) (sym (left-put heap top left right m room F)) K;
         right = subst (Known (length types) top) (sym (right-put heap top left right m room F′)) K′;
@@ -262,7 +262,7 @@ module _ {xs types heap : List ℕ} {top : ℕ} (S : Sources xs types heap top) 
           at-or-below k le = eq-or-lt-of-le le
 
       pub made-new : {heap′ : List ℕ} → heap′ ≡ putNode heap top left right m → Made xs types heap heap′ top left right true
-      unfolding new maxNodes
+      unfolding new
       made-new q = rw q (record {
         answer = sym (le-leb (nodes (prod a b)) maxNodes (omega (arith, exact)));
         new = λ e. grown;

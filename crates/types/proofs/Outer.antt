@@ -21,9 +21,10 @@ use package.Rattle.program.specs.Parts.{TypeField, first, second, variable}
 use package.Rattle.program.proofs.Formed.{type-beyond}
 use package.Rattle.program.proofs.Rooms.{type-kind-room, prod-room, sum-room, mu-room, tyvar-room}
 use package.Rattle.program.proofs.Shapes.{type-unit, type-prod, type-sum, type-mu, type-var}
+use package.Rattle.program.specs.Kinds.{unitTypeKind, recursiveKind, typeVariableKind}
 use package.Rattle.types.specs.declared.codes.Code.{Code}
 use package.Rattle.types.specs.declared.shapes.Shape.{Shape}
-use package.Rattle.types.specs.Codes.{Room, unitCode, entryCode, underCode, productCode, part, deeper, treeIn, Readable, Known, Sources}
+use package.Rattle.types.specs.Codes.{unitForm, entryForm, underForm, productForm, Room, unitCode, entryCode, underCode, productCode, part, deeper, treeIn, Readable, Known, Sources}
 use package.Rattle.types.specs.Shapes.{ofKind, shapeTree, node, leaf, entryShape, jump, underShape, productShape, Shaped}
 use package.Rattle.types.proofs.Trees.{tree-unit, tree-entry, tree-under, tree-product, product-parts}
 
@@ -76,18 +77,18 @@ module _ (xs types : List ℕ) (c : Code) (step : ℕ) {i at kind : ℕ} (e : i 
   found : {s : Shape} → s ≡ entryShape (typeAt xs at) c step → s ≡ entryShape (typeAt xs (getD types (c .at) 0)) c step
   found p = p ∙ ap (λ at. entryShape (typeAt xs at) c step) (f ∙ ap (λ i. getD types i 0) e)
 
-  pub found-unit : {s : Shape} → s ≡ leaf 0 0 → kind ≡ 0 → s ≡ entryShape (typeAt xs (getD types (c .at) 0)) c step
+  pub found-unit : {s : Shape} → s ≡ leaf unitTypeKind 0 → kind ≡ unitTypeKind → s ≡ entryShape (typeAt xs (getD types (c .at) 0)) c step
   found-unit p k = found (p ∙ unit-node xs at c step (sym g ∙ k))
 
-  pub found-two : {a b : Code} {x y : ℕ} → x ≡ first xs at → a ≡ part c x → y ≡ second xs at → b ≡ part c y → ¬ (kind ≡ 0) → kind < 3
+  pub found-two : {a b : Code} {x y : ℕ} → x ≡ first xs at → a ≡ part c x → y ≡ second xs at → b ≡ part c y → ¬ (kind ≡ unitTypeKind) → kind < recursiveKind
       → node kind 0 a b ≡ entryShape (typeAt xs (getD types (c .at) 0)) c step
   found-two q p q′ p′ z l = found (same-node kind 0 (p ∙ ap (part c) q) (p′ ∙ ap (part c) q′) ∙ two-node xs at c step kind (sym g) z l)
 
-  pub found-mu : {a b : Code} {x : ℕ} → x ≡ first xs at → a ≡ deeper c x step → b ≡ unitCode → kind ≡ 3
+  pub found-mu : {a b : Code} {x : ℕ} → x ≡ first xs at → a ≡ deeper c x step → b ≡ unitCode → kind ≡ recursiveKind
       → node 3 0 a b ≡ entryShape (typeAt xs (getD types (c .at) 0)) c step
   found-mu q p p′ k = found (same-node 3 0 (p ∙ ap (λ x. deeper c x step) q) p′ ∙ mu-node xs at c step (sym g ∙ k))
 
-  pub found-var : {s : Shape} {x : ℕ} → x ≡ variable xs at → s ≡ leaf 4 x → 3 ≤ kind → ¬ (kind ≡ 3)
+  pub found-var : {s : Shape} {x : ℕ} → x ≡ variable xs at → s ≡ leaf 4 x → 3 ≤ kind → ¬ (kind ≡ recursiveKind)
       → s ≡ entryShape (typeAt xs (getD types (c .at) 0)) c step
   found-var q p l n = found (p ∙ ap (leaf 4) q ∙ var-node xs at c step (omega (arith, g)))
 
@@ -103,18 +104,18 @@ module _ {xs types : List ℕ} (R : Readable xs types) {n i at : ℕ} (l : n < l
   kind-there = type-kind-room field-at
 
   module _ {kind : ℕ} (g : kind ≡ kindAt xs at) where
-    pub mu-there : kind ≡ 3 → at + 6 ≤ length xs
+    pub mu-there : kind ≡ recursiveKind → at + 6 ≤ length xs
     mu-there k = mu-room field-at (sym g ∙ k)
 
     -- and the recursive entry's part is lower
-    pub mu-lower : kind ≡ 3 → first xs at < n
+    pub mu-lower : kind ≡ recursiveKind → first xs at < n
     unfolding typesOfType
     mu-lower k = below-head n (first xs at) [] (subst (λ y. below n (typesOfType y) ≡ true) is (R .lower n)) .0
       where
         is : getD (map (typeAt xs) types) n y-unit ≡ y-mu (first xs at)
         is = at-place xs types n l ∙ ap (typeAt xs) (sym (f ∙ ap (λ i. getD types i 0) e)) ∙ type-mu xs at (sym g ∙ k)
 
-    pub two-there : ¬ (kind ≡ 0) → kind < 3 → at + 8 ≤ length xs
+    pub two-there : ¬ (kind ≡ unitTypeKind) → kind < recursiveKind → at + 8 ≤ length xs
     two-there z l = by kind (sym g) z l
       where
         by : (k : ℕ) → kindAt xs at ≡ k → ¬ (k ≡ 0) → k < 3 → at + 8 ≤ length xs
@@ -123,7 +124,7 @@ module _ {xs types : List ℕ} (R : Readable xs types) {n i at : ℕ} (l : n < l
         by (suc (suc zero)) q z l = sum-room field-at q
         by (suc (suc (suc k))) q z l = absurd (omega arith)
 
-    pub var-there : 3 ≤ kind → ¬ (kind ≡ 3) → at + 5 ≤ length xs
+    pub var-there : 3 ≤ kind → ¬ (kind ≡ recursiveKind) → at + 5 ≤ length xs
     var-there l n = tyvar-room field-at (omega (arith, g, few-kinds field-at))
 
 ----------------------------------------------------------------
@@ -131,7 +132,7 @@ module _ {xs types : List ℕ} (R : Readable xs types) {n i at : ℕ} (l : n < l
 
 module _ (ys : List TypeEntry) (heap : List ℕ) where
   -- as it stands
-  entry-tree : (c : Code) → c .form ≡ 1 → (y : TypeEntry) → shapeTree ys heap (entryShape y c 0) ≡ typeTree (typeOf ys) y
+  entry-tree : (c : Code) → c .form ≡ entryForm → (y : TypeEntry) → shapeTree ys heap (entryShape y c 0) ≡ typeTree (typeOf ys) y
   unfolding shapeTree ofKind entryShape typeTree
   entry-tree c e y-unit = refl
   entry-tree c e (y-prod a b) = ap₂ prod (tree-entry ys heap (part c a) e) (tree-entry ys heap (part c b) e)
@@ -144,7 +145,7 @@ module _ (ys : List TypeEntry) (heap : List ℕ) where
   either-tree false s s′ = refl
 
   -- with a variable that stands for the entry whose node is `s`
-  under-tree : (c : Code) → c .form ≡ 2 → (s : Shape) → shapeTree ys heap s ≡ typeOf ys (c .stands) → (y : TypeEntry)
+  under-tree : (c : Code) → c .form ≡ underForm → (s : Shape) → shapeTree ys heap s ≡ typeOf ys (c .stands) → (y : TypeEntry)
       → shapeTree ys heap (jump c s (entryShape y c 1)) ≡ plug (typeOf ys (c .stands)) (c .depth) (typeTree (typeOf ys) y)
   unfolding shapeTree ofKind entryShape typeTree jump plug
   under-tree c e s q y-unit = refl
@@ -172,7 +173,7 @@ module _ {n top : ℕ} where
   pub product-known : (k : ℕ) → k < top → Known n top (productCode k)
   product-known k h = record { form = omega arith; entry = λ l u. absurd (omega arith); stands = λ e. absurd (omega arith); product = λ e. h }
 
-  module _ (c : Code) (K : Known n top c) (f : c .form ≤ 2) (a : ℕ) (h : a < c .at) where
+  module _ (c : Code) (K : Known n top c) (f : c .form ≤ underForm) (a : ℕ) (h : a < c .at) where
     deeper-known : (step : ℕ) → step ≤ 1 → Known n top (deeper c a step)
     deeper-known step s =
         record { form = K .form; entry = λ l u. omega (arith, K .entry l u); stands = K .stands; product = λ e. absurd (omega (arith, f, e)) }
@@ -183,11 +184,11 @@ module _ {n top : ℕ} where
 
 -- the kind is one of five, and the parts are known
 record Parted (n top : ℕ) (s : Shape) : Type 0 where
-  kind : s .kind ≤ 4
+  kind : s .kind ≤ typeVariableKind
   first : Known n top (s .first)
   second : Known n top (s .second)
 
-module _ {n top : ℕ} (c : Code) (K : Known n top c) (f : c .form ≤ 2) (step : ℕ) (small : step ≤ 1) where
+module _ {n top : ℕ} (c : Code) (K : Known n top c) (f : c .form ≤ underForm) (step : ℕ) (small : step ≤ 1) where
   entry-parted : (y : TypeEntry) → below (c .at) (typesOfType y) ≡ true → Parted n top (entryShape y c step)
   unfolding entryShape typesOfType
   entry-parted y-unit e = record { kind = omega arith; first = unit-known; second = unit-known }
@@ -201,7 +202,7 @@ module _ {n top : ℕ} (c : Code) (K : Known n top c) (f : c .form ≤ 2) (step 
 
 jump-parted : {n top : ℕ} (c : Code) (s v : Shape) → Parted n top s → Parted n top v → Parted n top (jump c s v)
 unfolding jump
-jump-parted {n} {top} c s v p q = either (eqb (v .kind) 4 && eqb (v .variable) (c .depth))
+jump-parted {n} {top} c s v p q = either (eqb (v .kind) typeVariableKind && eqb (v .variable) (c .depth))
   where
     either : (b : Bool) → Parted n top (cond b s v)
     either true = p
@@ -224,23 +225,22 @@ module _ {xs types heap : List ℕ} {top : ℕ} (S : Sources xs types heap top) 
         → Shaped xs types heap top c r
     shaped q p e = subst (Shaped xs types heap top c) (sym q) (record { tree = e; kind = p .kind; first = p .first; second = p .second })
 
-    pub unit-shaped : {r : Shape} → c .form ≡ 0 → r ≡ leaf 0 0 → Shaped xs types heap top c r
+    pub unit-shaped : {r : Shape} → c .form ≡ unitForm → r ≡ leaf unitTypeKind 0 → Shaped xs types heap top c r
     unfolding shapeTree ofKind
     unit-shaped e q =
         shaped q (record { kind = omega arith; first = unit-known; second = unit-known }) (sym (tree-unit (map (typeAt xs) types) heap c e))
 
     -- the entry is there, and its number and the depth are small
-    pub entry-there : 1 ≤ c .form → c .form ≤ 2 → (c .at < length types) × (c .at + c .depth < 256)
-    unfolding maxTypes
+    pub entry-there : entryForm ≤ c .form → c .form ≤ underForm → (c .at < length types) × (c .at + c .depth < 256)
     entry-there l u = omega (arith, K .entry l u, S .entries .few)
 
-    pub entry-shaped : {r : Shape} → c .form ≡ 1 → r ≡ entryShape (typeAt xs (getD types (c .at) 0)) c 0 → Shaped xs types heap top c r
+    pub entry-shaped : {r : Shape} → c .form ≡ entryForm → r ≡ entryShape (typeAt xs (getD types (c .at) 0)) c 0 → Shaped xs types heap top c r
     entry-shaped e q =
         let l = entry-there (omega arith) (omega arith) .0 in
         shaped q (entry-parted c K (omega arith) 0 (omega arith) _ (lower-entry (c .at) l))
         (entry-tree (map (typeAt xs) types) heap c e _ ∙ entry-unfolds (c .at) l ∙ sym (tree-entry (map (typeAt xs) types) heap c e))
 
-    pub under-shaped : {r : Shape} → c .form ≡ 2 → r ≡ underShape xs types c → Shaped xs types heap top c r
+    pub under-shaped : {r : Shape} → c .form ≡ underForm → r ≡ underShape xs types c → Shaped xs types heap top c r
     unfolding underShape
     under-shaped e q = shaped q parted tree
       where
@@ -259,17 +259,17 @@ module _ {xs types heap : List ℕ} {top : ℕ} (S : Sources xs types heap top) 
             ∙ ap (plug (typeOf (map (typeAt xs) types) (c .stands)) (c .depth)) (entry-unfolds (c .at) there)
             ∙ sym (tree-under (map (typeAt xs) types) heap c e)
 
-    pub product-shaped : {r : Shape} → c .form ≡ 3 → r ≡ productShape heap (c .at) → Shaped xs types heap top c r
+    pub product-shaped : {r : Shape} → c .form ≡ productForm → r ≡ productShape heap (c .at) → Shaped xs types heap top c r
     unfolding shapeTree ofKind
     product-shaped e q =
         let N = S .products .node (c .at) (K .product e) in
         shaped q (record { kind = omega arith; first = known-up (omega (arith, K .product e)) (N .left); second = known-up (omega (arith, K .product e)) (N .right) })
         (sym (product-parts (S .products) (c .at) (K .product e)) ∙ sym (tree-product (map (typeAt xs) types) heap c e))
 
-    pub product-there : c .form ≡ 3 → Room heap (c .at + 1)
+    pub product-there : c .form ≡ productForm → Room heap (c .at + 1)
     product-there e = omega (arith, K .product e, S .products .held)
 
-pub product-form : {n top : ℕ} {c : Code} → Known n top c → ¬ (c .form ≡ 0) → ¬ (c .form ≡ 1) → ¬ (c .form ≡ 2) → c .form ≡ 3
+pub product-form : {n top : ℕ} {c : Code} → Known n top c → ¬ (c .form ≡ unitForm) → ¬ (c .form ≡ entryForm) → ¬ (c .form ≡ underForm) → c .form ≡ productForm
 product-form K a b d = omega (arith, K .form)
 
 ----------------------------------------------------------------
@@ -277,22 +277,21 @@ product-form K a b d = omega (arith, K .form)
 
 module _ (xs types : List ℕ) (c : Code) {s : Shape} (e : s ≡ entryShape (typeAt xs (getD types (c .at) 0)) c 1) where
   -- another kind, or another variable
-  pub no-variable : ¬ (s .kind ≡ 4) → s ≡ underShape xs types c
+  pub no-variable : ¬ (s .kind ≡ typeVariableKind) → s ≡ underShape xs types c
   unfolding underShape jump
-  no-variable n = rw (← e, ne-eqb (s .kind) 4 n)
+  no-variable n = rw (← e, ne-eqb (s .kind) typeVariableKind n)
 
-  pub other-variable : s .kind ≡ 4 → ¬ (s .variable ≡ c .depth) → s ≡ underShape xs types c
+  pub other-variable : s .kind ≡ typeVariableKind → ¬ (s .variable ≡ c .depth) → s ≡ underShape xs types c
   unfolding underShape jump
-  other-variable k n = rw (← e, eq-eqb (s .kind) 4 k, ne-eqb (s .variable) (c .depth) n)
+  other-variable k n = rw (← e, eq-eqb (s .kind) typeVariableKind k, ne-eqb (s .variable) (c .depth) n)
 
-  pub stood-for : {r : Shape} {d : Code} → s .kind ≡ 4 → s .variable ≡ c .depth → d ≡ entryCode (c .stands)
+  pub stood-for : {r : Shape} {d : Code} → s .kind ≡ typeVariableKind → s .variable ≡ c .depth → d ≡ entryCode (c .stands)
       → r ≡ entryShape (typeAt xs (getD types (d .at) 0)) d 0 → r ≡ underShape xs types c
   unfolding underShape jump
-  stood-for k v p q = rw (← e, eq-eqb (s .kind) 4 k, eq-eqb (s .variable) (c .depth) v) (q ∙ ap (λ d. entryShape (typeAt xs (getD types (d .at) 0)) d 0) p)
+  stood-for k v p q = rw (← e, eq-eqb (s .kind) typeVariableKind k, eq-eqb (s .variable) (c .depth) v) (q ∙ ap (λ d. entryShape (typeAt xs (getD types (d .at) 0)) d 0) p)
 
 -- the code of an entry asks for no more than the entry
 pub entry-within : {d : Code} {i n : ℕ} → d ≡ entryCode i → i < n → n ≤ maxTypes → (d .at < n) × (d .at + d .depth < 256) × (0 ≤ 1)
-unfolding maxTypes
 entry-within {d} {i} e l few =
     let a : d .at ≡ i = ap (λ (c : Code). c .at) e in
     let b : d .depth ≡ 0 = ap (λ (c : Code). c .depth) e in

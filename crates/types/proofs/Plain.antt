@@ -11,9 +11,10 @@ use borrow.Author.Tests.{ne-eqb}
 use package.Rattle.calls.specs.Fields.{kindAt}
 use package.Rattle.calls.specs.Entries.{typeAt}
 use package.Rattle.program.specs.Parts.{first, second, variable}
+use package.Rattle.program.specs.Kinds.{unitTypeKind, productKind, recursiveKind, typeVariableKind}
 use package.Rattle.types.specs.declared.codes.Code.{Code}
 use package.Rattle.types.specs.declared.shapes.Shape.{Shape}
-use package.Rattle.types.specs.Codes.{entryCode, part, deeper, leftAt, rightAt, Readable, Known, Sources}
+use package.Rattle.types.specs.Codes.{unitForm, entryForm, underForm, productForm, entryCode, part, deeper, leftAt, rightAt, Readable, Known, Sources}
 use package.Rattle.types.specs.Shapes.{leaf, entryShape, jump, underShape, productShape, plainForm, plainShape, isVariable, Shaped, Settled}
 use package.Rattle.types.proofs.Outer.{unit-node, two-node, mu-node, var-node, found-two, found-mu, found-var, few-at, kind-there, mu-there, mu-lower, two-there, var-there, entry-there, entry-known, unit-shaped, entry-shaped, under-shaped, product-shaped}
 
@@ -21,38 +22,38 @@ use package.Rattle.types.proofs.Outer.{unit-node, two-node, mu-node, va
 -- By form
 
 module _ (xs types heap : List ℕ) (c : Code) where
-  plain-unit : c .form ≡ 0 → plainShape xs types heap c ≡ leaf 0 0
+  plain-unit : c .form ≡ unitForm → plainShape xs types heap c ≡ leaf unitTypeKind 0
   unfolding plainForm
   plain-unit e = ap (λ n. plainForm xs types heap n c) e
 
-  plain-entry : c .form ≡ 1 → plainShape xs types heap c ≡ entryShape (typeAt xs (getD types (c .at) 0)) c 0
+  plain-entry : c .form ≡ entryForm → plainShape xs types heap c ≡ entryShape (typeAt xs (getD types (c .at) 0)) c 0
   unfolding plainForm
   plain-entry e = ap (λ n. plainForm xs types heap n c) e
 
-  plain-under : c .form ≡ 2 → plainShape xs types heap c ≡ entryShape (typeAt xs (getD types (c .at) 0)) c 1
+  plain-under : c .form ≡ underForm → plainShape xs types heap c ≡ entryShape (typeAt xs (getD types (c .at) 0)) c 1
   unfolding plainForm
   plain-under e = ap (λ n. plainForm xs types heap n c) e
 
-  plain-product : c .form ≡ 3 → plainShape xs types heap c ≡ productShape heap (c .at)
+  plain-product : c .form ≡ productForm → plainShape xs types heap c ≡ productShape heap (c .at)
   unfolding plainForm
   plain-product e = ap (λ n. plainForm xs types heap n c) e
 
   -- of an entry: its part is deeper where the form is 2
-  plain-at : (step : ℕ) → step + 1 ≡ c .form → c .form ≤ 2 → plainShape xs types heap c ≡ entryShape (typeAt xs (getD types (c .at) 0)) c step
+  plain-at : (step : ℕ) → step + 1 ≡ c .form → c .form ≤ underForm → plainShape xs types heap c ≡ entryShape (typeAt xs (getD types (c .at) 0)) c step
   plain-at zero e l = plain-entry (omega arith)
   plain-at (suc zero) e l = plain-under (omega arith)
   plain-at (suc (suc n)) e l = absurd (omega arith)
 
-  pub kind-unit : c .form ≡ 0 → 0 ≡ plainShape xs types heap c .kind
+  pub kind-unit : c .form ≡ unitForm → unitTypeKind ≡ plainShape xs types heap c .kind
   kind-unit e = sym (ap (λ (s : Shape). s .kind) (plain-unit e))
 
-  pub kind-product : c .form ≡ 3 → 1 ≡ plainShape xs types heap c .kind
+  pub kind-product : c .form ≡ productForm → productKind ≡ plainShape xs types heap c .kind
   kind-product e = sym (ap (λ (s : Shape). s .kind) (plain-product e))
 
-  pub first-product : {r : Code} → c .form ≡ 3 → r ≡ leftAt heap (c .at) → r ≡ plainShape xs types heap c .first
+  pub first-product : {r : Code} → c .form ≡ productForm → r ≡ leftAt heap (c .at) → r ≡ plainShape xs types heap c .first
   first-product e q = q ∙ sym (ap (λ (s : Shape). s .first) (plain-product e))
 
-  pub second-product : {r : Code} → c .form ≡ 3 → r ≡ rightAt heap (c .at) → r ≡ plainShape xs types heap c .second
+  pub second-product : {r : Code} → c .form ≡ productForm → r ≡ rightAt heap (c .at) → r ≡ plainShape xs types heap c .second
   second-product e q = q ∙ sym (ap (λ (s : Shape). s .second) (plain-product e))
 
 ----------------------------------------------------------------
@@ -81,17 +82,17 @@ module _ {xs types : List ℕ} (R : Readable xs types) (c : Code) (l : c .at < l
 -- Is it the variable that stands for an entry?
 module _ {xs types : List ℕ} (R : Readable xs types) (c : Code) (l : c .at < length types)
     {i at kind : ℕ} (e : i ≡ c .at) (f : at ≡ getD types i 0) (g : kind ≡ kindAt xs at) where
-  pub a-variable : {x : ℕ} → kind ≡ 4 → x ≡ variable xs at → eqb x (c .depth) ≡ isVariable xs types c
+  pub a-variable : {x : ℕ} → kind ≡ typeVariableKind → x ≡ variable xs at → eqb x (c .depth) ≡ isVariable xs types c
   unfolding isVariable
   a-variable {x} k q =
-      ap (λ (s : Shape). eqb (s .kind) 4 && eqb (s .variable) (c .depth))
+      ap (λ (s : Shape). eqb (s .kind) typeVariableKind && eqb (s .variable) (c .depth))
       (found-var xs types c 1 e f g {s = leaf 4 x} q refl (omega (arith, k)) λ n. absurd (omega (arith, k, n)))
 
-  pub another-kind : ¬ (kind ≡ 4) → false ≡ isVariable xs types c
+  pub another-kind : ¬ (kind ≡ typeVariableKind) → false ≡ isVariable xs types c
   unfolding isVariable
   another-kind n =
       sym (ap (λ b. b && eqb (entryShape (typeAt xs (getD types (c .at) 0)) c 1 .variable) (c .depth))
-      (ne-eqb (entryShape (typeAt xs (getD types (c .at) 0)) c 1 .kind) 4 λ q. n (kind-entry R c l 1 e f g ∙ q)))
+      (ne-eqb (entryShape (typeAt xs (getD types (c .at) 0)) c 1 .kind) typeVariableKind λ q. n (kind-entry R c l 1 e f g ∙ q)))
 
 ----------------------------------------------------------------
 -- Settling
@@ -106,7 +107,7 @@ module _ (xs types : List ℕ) (c : Code) where
   other-shape t = ap (λ b. cond b (entryShape (typeAt xs (getD types (c .stands) 0)) (entryCode (c .stands)) 0) (entryShape (typeAt xs (getD types (c .at) 0)) c 1)) t
 
 module _ {xs types heap : List ℕ} {top : ℕ} (S : Sources xs types heap top) (c : Code) (K : Known (length types) top c) where
-  pub stands-settled : {b : Bool} {r : Code} → c .form ≡ 2 → b ≡ isVariable xs types c → b ≡ true → r ≡ entryCode (c .stands)
+  pub stands-settled : {b : Bool} {r : Code} → c .form ≡ underForm → b ≡ isVariable xs types c → b ≡ true → r ≡ entryCode (c .stands)
       → Settled xs types heap top c r
   stands-settled e p t q =
       subst (Settled xs types heap top c) (sym q)
@@ -115,11 +116,11 @@ module _ {xs types heap : List ℕ} {top : ℕ} (S : Sources xs types heap top) 
         known = entry-known (c .stands) (K .stands e);
       })
 
-  pub itself-settled : {b : Bool} → c .form ≡ 2 → b ≡ isVariable xs types c → b ≡ false → Settled xs types heap top c c
+  pub itself-settled : {b : Bool} → c .form ≡ underForm → b ≡ isVariable xs types c → b ≡ false → Settled xs types heap top c c
   itself-settled e p t =
       record { shaped = under-shaped S c K e (plain-under xs types heap c e ∙ sym (other-shape xs types c (sym p ∙ t))); known = K }
 
-  pub other-settled : ¬ (c .form ≡ 2) → Settled xs types heap top c c
+  pub other-settled : ¬ (c .form ≡ underForm) → Settled xs types heap top c c
   other-settled n = record { shaped = go (c .form) refl; known = K }
     where
       go : (k : ℕ) → c .form ≡ k → Shaped xs types heap top c (plainShape xs types heap c)
@@ -127,30 +128,30 @@ module _ {xs types heap : List ℕ} {top : ℕ} (S : Sources xs types heap top) 
       go (suc zero) e = entry-shaped S c K e (plain-entry xs types heap c e)
       go (suc (suc zero)) e = absurd (n e)
       go (suc (suc (suc k))) e =
-          let three : c .form ≡ 3 = omega (arith, e, K .form) in product-shaped S c K three (plain-product xs types heap c three)
+          let three : c .form ≡ productForm = omega (arith, e, K .form) in product-shaped S c K three (plain-product xs types heap c three)
 
 ----------------------------------------------------------------
 -- The parts of an entry's node
 
 module _ {xs types heap : List ℕ} {top : ℕ} (S : Sources xs types heap top) (c : Code) (K : Known (length types) top c) where
   -- a node of some kinds is an entry's
-  pub no-unit-form : {kind : ℕ} → kind ≡ plainShape xs types heap c .kind → ¬ (kind ≡ 0) → 1 ≤ c .form
+  pub no-unit-form : {kind : ℕ} → kind ≡ plainShape xs types heap c .kind → ¬ (kind ≡ unitTypeKind) → entryForm ≤ c .form
   no-unit-form k z = go (c .form) refl
     where
-      go : (n : ℕ) → c .form ≡ n → 1 ≤ c .form
+      go : (n : ℕ) → c .form ≡ n → entryForm ≤ c .form
       go zero q = absurd (z (k ∙ sym (kind-unit xs types heap c q)))
       go (suc n) q = omega (arith, q)
 
-  pub no-product-form : ¬ (c .form ≡ 3) → c .form ≤ 2
+  pub no-product-form : ¬ (c .form ≡ productForm) → c .form ≤ underForm
   no-product-form n = omega (arith, n, K .form)
 
-  pub variable-form : plainShape xs types heap c .kind ≡ 4 → (1 ≤ c .form) × (c .form ≤ 2)
+  pub variable-form : plainShape xs types heap c .kind ≡ typeVariableKind → (entryForm ≤ c .form) × (c .form ≤ underForm)
   variable-form k = (
     no-unit-form {kind = 4} (sym k) (not-zero 3),
     no-product-form λ e. absurd (omega (arith, kind-product xs types heap c e, k)),
   )
 
-  module _ (lo : 1 ≤ c .form) (hi : c .form ≤ 2) {i at : ℕ} (e : i ≡ c .at) (f : at ≡ getD types i 0) where
+  module _ (lo : entryForm ≤ c .form) (hi : c .form ≤ underForm) {i at : ℕ} (e : i ≡ c .at) (f : at ≡ getD types i 0) where
     pub offset-there : i < length types
     offset-there = omega (arith, e, entry-there S c K lo hi .0)
 
@@ -170,27 +171,27 @@ module _ {xs types heap : List ℕ} {top : ℕ} (S : Sources xs types heap top) 
       known-kind : kind ≡ kindAt xs at
       known-kind = k ∙ sym (kind-read refl)
 
-      pub second-field : ¬ (kind ≡ 0) → kind < 3 → at + 8 ≤ length xs
+      pub second-field : ¬ (kind ≡ unitTypeKind) → kind < recursiveKind → at + 8 ≤ length xs
       second-field z l = two-there (S .entries) (entry-there S c K lo hi .0) e f known-kind z l
 
-      pub first-field : ¬ (kind ≡ 0) → kind < 4 → at + 6 ≤ length xs
+      pub first-field : ¬ (kind ≡ unitTypeKind) → kind < typeVariableKind → at + 6 ≤ length xs
       first-field z l = go (decLt kind 3)
         where
-          go : Dec (kind < 3) → at + 6 ≤ length xs
+          go : Dec (kind < recursiveKind) → at + 6 ≤ length xs
           go (yes h) = omega (arith, second-field z h)
           go (no h) = mu-there (S .entries) (entry-there S c K lo hi .0) e f known-kind (omega (arith, h, l))
 
-      pub depth-small : (step : ℕ) → step + 1 ≡ c .form → kind ≡ 3 → c .depth + step < 256
+      pub depth-small : (step : ℕ) → step + 1 ≡ c .form → kind ≡ recursiveKind → c .depth + step < 256
       depth-small step q m =
           omega (arith, q, hi, mu-lower (S .entries) (entry-there S c K lo hi .0) e f known-kind m, entry-there S c K lo hi .1)
 
-      pub first-mu : (step : ℕ) → step + 1 ≡ c .form → {n : ℕ} {r : Code} → n ≡ first xs at → r ≡ deeper c n step → kind ≡ 3
+      pub first-mu : (step : ℕ) → step + 1 ≡ c .form → {n : ℕ} {r : Code} → n ≡ first xs at → r ≡ deeper c n step → kind ≡ recursiveKind
           → r ≡ plainShape xs types heap c .first
       first-mu step q p p′ m =
           ap (λ (s : Shape). s .first) (found-mu xs types c step e f known-kind p p′ refl m)
           ∙ sym (ap (λ (s : Shape). s .first) (plain-at xs types heap c step q hi))
 
-      module _ (z : ¬ (kind ≡ 0)) (l : kind < 3) where
+      module _ (z : ¬ (kind ≡ unitTypeKind)) (l : kind < recursiveKind) where
         pub first-two : {n : ℕ} {r : Code} → n ≡ first xs at → r ≡ part c n → r ≡ plainShape xs types heap c .first
         first-two {n} {r} p p′ = go (c .form) refl
           where
@@ -209,7 +210,7 @@ module _ {xs types heap : List ℕ} {top : ℕ} (S : Sources xs types heap top) 
                 ap (λ (s : Shape). s .second) (found-two xs types c step e f known-kind {x = first xs at} refl refl p p′ z l)
                 ∙ sym (ap (λ (s : Shape). s .second) (plain-at xs types heap c step (omega (arith, q)) hi))
 
-    module _ (k : plainShape xs types heap c .kind ≡ 4) where
+    module _ (k : plainShape xs types heap c .kind ≡ typeVariableKind) where
       pub variable-field : at + 5 ≤ length xs
       variable-field =
           var-there (S .entries) (entry-there S c K lo hi .0) e f (known-kind {kind = 4} (sym k)) (omega arith) λ n. absurd (omega (arith, n))

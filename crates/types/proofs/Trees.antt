@@ -10,7 +10,7 @@ use package.Rattle.octets.specs.Runs.{Decides}
 use package.Rattle.rules.specs.Ty.{Ty, one, prod, plug}
 use package.Rattle.calls.specs.Entries.{TypeEntry, typeOf}
 use package.Rattle.types.specs.declared.codes.Code.{Code}
-use package.Rattle.types.specs.Codes.{leftAt, rightAt, ofForm, ofCode, productWithin, productAt, treeOf, Known, Products}
+use package.Rattle.types.specs.Codes.{unitForm, entryForm, underForm, productForm, leftAt, rightAt, ofForm, ofCode, productWithin, productAt, treeOf, Known, Products}
 
 ----------------------------------------------------------------
 -- Codes with the same numbers
@@ -43,19 +43,19 @@ decided false p e = absurd (false≢true e)
 -- By form
 
 module _ (ys : List TypeEntry) (heap : List ℕ) (c : Code) where
-  pub tree-unit : c .form ≡ 0 → treeOf ys heap c ≡ one
+  pub tree-unit : c .form ≡ unitForm → treeOf ys heap c ≡ one
   unfolding treeOf ofCode ofForm
   tree-unit e = rw e
 
-  pub tree-entry : c .form ≡ 1 → treeOf ys heap c ≡ typeOf ys (c .at)
+  pub tree-entry : c .form ≡ entryForm → treeOf ys heap c ≡ typeOf ys (c .at)
   unfolding treeOf ofCode ofForm
   tree-entry e = rw e
 
-  pub tree-under : c .form ≡ 2 → treeOf ys heap c ≡ plug (typeOf ys (c .stands)) (c .depth) (typeOf ys (c .at))
+  pub tree-under : c .form ≡ underForm → treeOf ys heap c ≡ plug (typeOf ys (c .stands)) (c .depth) (typeOf ys (c .at))
   unfolding treeOf ofCode ofForm
   tree-under e = rw e
 
-  pub tree-product : c .form ≡ 3 → treeOf ys heap c ≡ productAt ys heap (c .at)
+  pub tree-product : c .form ≡ productForm → treeOf ys heap c ≡ productAt ys heap (c .at)
   unfolding treeOf ofCode ofForm
   tree-product e = rw e
 

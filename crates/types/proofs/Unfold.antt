@@ -13,6 +13,7 @@ use package.Rattle.calls.specs.Named.{below, typesOfType}
 use package.Rattle.calls.proofs.Entries.{below-head}
 use package.Rattle.program.specs.Parts.{first}
 use package.Rattle.program.proofs.Shapes.{type-unit, type-prod, type-sum, type-mu, type-var}
+use package.Rattle.program.specs.Kinds.{recursiveKind}
 use package.Rattle.types.specs.declared.codes.Code.{Code}
 use package.Rattle.types.specs.declared.unfolding.Body.{Body}
 use package.Rattle.types.specs.declared.unfolding.Body.the-variants.{Of, Other}
@@ -28,7 +29,7 @@ module _ (xs types : List ℕ) (i : ℕ) {n at kind : ℕ} (e : n ≡ i) (f : at
   found : {r : Body} → r ≡ bodyOf (typeAt xs at) i → r ≡ bodyOf (typeAt xs (getD types i 0)) i
   found p = p ∙ ap (λ at. bodyOf (typeAt xs at) i) (f ∙ ap (λ n. getD types n 0) e)
 
-  pub no-body : ¬ (kind ≡ 3) → Other ≡ bodyOf (typeAt xs (getD types i 0)) i
+  pub no-body : ¬ (kind ≡ recursiveKind) → Other ≡ bodyOf (typeAt xs (getD types i 0)) i
   unfolding bodyOf
   no-body d = found (by kind (sym g) d)
     where
@@ -39,7 +40,7 @@ module _ (xs types : List ℕ) (i : ℕ) {n at kind : ℕ} (e : n ≡ i) (f : at
       by (suc (suc (suc zero))) q d = absurd (d refl)
       by (suc (suc (suc (suc k)))) q d = rw (type-var xs at (omega arith)) refl
 
-  pub a-body : {c : Code} {x : ℕ} → kind ≡ 3 → x ≡ first xs at → c ≡ underCode x i → Of c ≡ bodyOf (typeAt xs (getD types i 0)) i
+  pub a-body : {c : Code} {x : ℕ} → kind ≡ recursiveKind → x ≡ first xs at → c ≡ underCode x i → Of c ≡ bodyOf (typeAt xs (getD types i 0)) i
   unfolding bodyOf
   a-body k q p = found (ap Of (p ∙ ap (λ x. underCode x i) q) ∙ rw (type-mu xs at (sym g ∙ k)))
 

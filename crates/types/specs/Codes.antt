@@ -16,18 +16,31 @@ use package.Rattle.types.specs.declared.codes.Code.{Code}
 ----------------------------------------------------------------
 -- Codes
 
+-- their forms
+abbrev pub unitForm : ℕ
+unitForm = 0
+
+abbrev pub entryForm : ℕ
+entryForm = 1
+
+abbrev pub underForm : ℕ
+underForm = 2
+
+abbrev pub productForm : ℕ
+productForm = 3
+
 abbrev pub unitCode : Code
-unitCode = record { form = 0; depth = 0; at = 0; stands = 0 }
+unitCode = record { form = unitForm; depth = 0; at = 0; stands = 0 }
 
 abbrev pub entryCode : ℕ → Code
-entryCode i = record { form = 1; depth = 0; at = i; stands = 0 }
+entryCode i = record { form = entryForm; depth = 0; at = i; stands = 0 }
 
 -- the entry `i`, its variable 0 standing for the entry `j`
 abbrev pub underCode : ℕ → ℕ → Code
-underCode i j = record { form = 2; depth = 0; at = i; stands = j }
+underCode i j = record { form = underForm; depth = 0; at = i; stands = j }
 
 abbrev pub productCode : ℕ → Code
-productCode n = record { form = 3; depth = 0; at = n; stands = 0 }
+productCode n = record { form = productForm; depth = 0; at = n; stands = 0 }
 
 -- the entry `i`, a part of the entry that `c` is of; the same under a recursive entry
 abbrev pub part : Code → ℕ → Code
@@ -100,10 +113,10 @@ pub record Readable (xs types : List ℕ) : Type 0 where
 
 -- The code names one of `n` type entries, or a product node below `top`.
 pub record Known (n top : ℕ) (c : Code) : Type 0 where
-  pub form : c .form ≤ 3
-  pub entry : 1 ≤ c .form → c .form ≤ 2 → c .at + c .depth < n
-  pub stands : c .form ≡ 2 → c .stands < n
-  pub product : c .form ≡ 3 → c .at < top
+  pub form : c .form ≤ productForm
+  pub entry : entryForm ≤ c .form → c .form ≤ underForm → c .at + c .depth < n
+  pub stands : c .form ≡ underForm → c .stands < n
+  pub product : c .form ≡ productForm → c .at < top
 
 -- The parts of the product node are lower, its count of nodes is right, and it is within the limit on nodes (section 1).
 pub record Right (ys : List TypeEntry) (n : ℕ) (heap : List ℕ) (k : ℕ) : Type 0 where

@@ -7,6 +7,7 @@ use lib.ListN.{length, getD}
 use lib.Dec.{eqb}
 use package.Rattle.rules.specs.Ty.{Ty, one, prod, sum, mu, tyvar}
 use package.Rattle.calls.specs.Entries.{TypeEntry, y-unit, y-prod, y-sum, y-mu, y-var, typeAt}
+use package.Rattle.program.specs.Kinds.{unitTypeKind, productKind, sumKind, recursiveKind, typeVariableKind}
 use package.Rattle.types.specs.declared.codes.Code.{Code}
 use package.Rattle.types.specs.declared.shapes.Shape.{Shape}
 use package.Rattle.types.specs.Codes.{unitCode, entryCode, part, deeper, leftAt, rightAt, treeOf, treeIn, Known}
@@ -31,15 +32,15 @@ leaf kind variable = node kind variable unitCode unitCode
 
 -- the node of an entry, its parts in the form of the code `c`; a recursive entry's part is `step` deeper
 unfoldable pub entryShape : TypeEntry → Code → ℕ → Shape
-entryShape y-unit c step = leaf 0 0
-entryShape (y-prod a b) c step = node 1 0 (part c a) (part c b)
-entryShape (y-sum a b) c step = node 2 0 (part c a) (part c b)
-entryShape (y-mu a) c step = node 3 0 (deeper c a step) unitCode
-entryShape (y-var k) c step = leaf 4 k
+entryShape y-unit c step = leaf unitTypeKind 0
+entryShape (y-prod a b) c step = node productKind 0 (part c a) (part c b)
+entryShape (y-sum a b) c step = node sumKind 0 (part c a) (part c b)
+entryShape (y-mu a) c step = node recursiveKind 0 (deeper c a step) unitCode
+entryShape (y-var k) c step = leaf typeVariableKind k
 
 -- `s` if the node is the variable that stands for an entry in the code `c`
 unfoldable pub jump : Code → Shape → Shape → Shape
-jump c s v = cond (eqb (v .kind) 4 && eqb (v .variable) (c .depth)) s v
+jump c s v = cond (eqb (v .kind) typeVariableKind && eqb (v .variable) (c .depth)) s v
 
 -- the node of an entry whose variable number `depth` stands for an entry
 unfoldable pub underShape : List ℕ → List ℕ → Code → Shape
@@ -48,12 +49,12 @@ underShape xs types c =
     jump c (entryShape (typeAt xs (getD types (c .stands) 0)) (entryCode (c .stands)) 0) (entryShape (typeAt xs (getD types (c .at) 0)) c 1)
 
 abbrev pub productShape : List ℕ → ℕ → Shape
-productShape heap k = node 1 0 (leftAt heap k) (rightAt heap k)
+productShape heap k = node productKind 0 (leftAt heap k) (rightAt heap k)
 
 -- the node by form, no variable standing for an entry
 unfoldable pub plainForm : List ℕ → List ℕ → List ℕ → ℕ → Code → Shape
 unfolding entryShape
-plainForm xs types heap zero c = leaf 0 0
+plainForm xs types heap zero c = leaf unitTypeKind 0
 plainForm xs types heap (suc zero) c = entryShape (typeAt xs (getD types (c .at) 0)) c 0
 plainForm xs types heap (suc (suc zero)) c = entryShape (typeAt xs (getD types (c .at) 0)) c 1
 plainForm xs types heap (suc (suc (suc n))) c = productShape heap (c .at)
@@ -65,12 +66,12 @@ plainShape xs types heap c = plainForm xs types heap (c .form) c
 unfoldable pub isVariable : List ℕ → List ℕ → Code → Bool
 unfolding entryShape
 isVariable xs types c =
-    eqb (entryShape (typeAt xs (getD types (c .at) 0)) c 1 .kind) 4 && eqb (entryShape (typeAt xs (getD types (c .at) 0)) c 1 .variable) (c .depth)
+    eqb (entryShape (typeAt xs (getD types (c .at) 0)) c 1 .kind) typeVariableKind && eqb (entryShape (typeAt xs (getD types (c .at) 0)) c 1 .variable) (c .depth)
 
 -- The node is that of the code's tree, and its parts are known.
 pub record Shaped (xs types heap : List ℕ) (top : ℕ) (c : Code) (s : Shape) : Type 0 where
   pub tree : shapeTree (map (typeAt xs) types) heap s ≡ treeIn xs types heap c
-  pub kind : s .kind ≤ 4
+  pub kind : s .kind ≤ typeVariableKind
   pub first : Known (length types) top (s .first)
   pub second : Known (length types) top (s .second)
 

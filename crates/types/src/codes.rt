@@ -4,8 +4,18 @@ ghost use Prim.Native.Nat.{_+_, _<_};
 ghost use Rattle.octets.specs.Runs.{Decides};
 ghost use Rattle.types.specs.Codes.{unitCode, entryCode, productCode, underCode, part, deeper};
 
-// By its form: 0 unit; 1 the type entry `at`; 2 the type entry `at` with its variable number `depth` standing for the entry `stands`;
-// 3 the product node `at`. What a form does not name is 0.
+// The forms of codes: unit; the type entry `at`; the type entry `at` with its variable number `depth` standing for the entry `stands`; the
+// product node `at`.
+
+pub const UNIT: u8 = 0;
+
+pub const ENTRY: u8 = 1;
+
+pub const UNDER: u8 = 2;
+
+pub const PRODUCT: u8 = 3;
+
+// What a form does not name is 0.
 pub struct Code {
     pub form: u8,
     pub depth: u8,
@@ -17,7 +27,7 @@ pub fn unit() -> Code
     ensures { λ r. ⌜ r ≡ unitCode ⌝ }
 {
     Code {
-        form: 0,
+        form: UNIT,
         depth: 0,
         at: 0,
         stands: 0,
@@ -29,7 +39,7 @@ pub fn entry(i: u16) -> Code
     ensures { λ r. ⌜ r ≡ entryCode i ⌝ }
 {
     Code {
-        form: 1,
+        form: ENTRY,
         depth: 0,
         at: i,
         stands: 0,
@@ -41,7 +51,7 @@ pub fn under(i: u16, j: u16) -> Code
     ensures { λ r. ⌜ r ≡ underCode i j ⌝ }
 {
     Code {
-        form: 2,
+        form: UNDER,
         depth: 0,
         at: i,
         stands: j,
@@ -53,7 +63,7 @@ pub fn product(n: u16) -> Code
     ensures { λ r. ⌜ r ≡ productCode n ⌝ }
 {
     Code {
-        form: 3,
+        form: PRODUCT,
         depth: 0,
         at: n,
         stands: 0,

@@ -6,6 +6,7 @@ ghost use Rattle.types.specs.Codes.{treeIn, Sources, Known};
 use crate::codes;
 use crate::codes::Code;
 use crate::parts;
+use program::kinds;
 
 // Is the type exactly unit?
 pub fn is_unit(p: &[u8], types: &[u16], ws: &[u8], top: u32, c: Code) -> bool
@@ -14,7 +15,7 @@ pub fn is_unit(p: &[u8], types: &[u16], ws: &[u8], top: u32, c: Code) -> bool
     ensures { λ r. ⌜ r ≡ isUnit (treeIn (now (p .entry)) (now (types .entry)) (now (ws .entry)) c) ⌝ }
 {
     let d = parts::settled(p, types, ws, top, c);
-    parts::kind_of(p, types, ws, top, d) == 0
+    parts::kind_of(p, types, ws, top, d) == kinds::UNIT_TYPE
 }
 
 // Are the types equal? At most as many nodes are looked at as the smaller tree has; of codes that settle alike, no part. Parts are read one by
@@ -34,10 +35,10 @@ pub fn same(p: &[u8], types: &[u16], ws: &[u8], top: u32, c: Code, d: Code) -> b
     if kind != kind2 {
         return false;
     }
-    if kind == 0 {
+    if kind == kinds::UNIT_TYPE {
         return true;
     }
-    if kind == 4 {
+    if kind == kinds::TYPE_VARIABLE {
         let n = parts::variable_of(p, types, ws, top, v);
         let m = parts::variable_of(p, types, ws, top, w);
         return n == m;
@@ -45,7 +46,7 @@ pub fn same(p: &[u8], types: &[u16], ws: &[u8], top: u32, c: Code, d: Code) -> b
     let a = parts::first_of(p, types, ws, top, v, kind);
     let b = parts::first_of(p, types, ws, top, w, kind);
     let first = same(p, types, ws, top, a, b);
-    if kind == 3 {
+    if kind == kinds::RECURSIVE {
         return first;
     }
     if first {

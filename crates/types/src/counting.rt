@@ -8,14 +8,16 @@ ghost use Rattle.octets.specs.Runs.{Decides};
 ghost use Rattle.rules.specs.Limits.{maxNodes};
 ghost use Rattle.rules.specs.Ty.{nodes};
 ghost use Rattle.calls.specs.Named.{ceiling};
-ghost use Rattle.types.specs.Codes.{treeIn, Sources, Known};
+ghost use Rattle.types.specs.Codes.{underForm, treeIn, Sources, Known};
 ghost use Rattle.types.specs.Counts.{Counted, Held, Small};
 use crate::codes::Code;
 use crate::nodes;
 use crate::shapes;
+use crate::codes;
+use program::kinds;
 
-// Section 1's limit on the nodes of a type.
-pub const MAX_NODES: u16 = 1024;
+// The limit on the nodes of a type, as wide as a count of them.
+pub const MOST_NODES: u16 = rules::MAX_NODES as u16;
 
 // So many times itself is within the limit.
 const SMALL: u16 = 32;
@@ -23,8 +25,8 @@ const SMALL: u16 = 32;
 fn capped(n: u16) -> u16
     ensures { λ r. ⌜ r ≡ min ceiling n ⌝ }
 {
-    if MAX_NODES < n {
-        return MAX_NODES + 1;
+    if MOST_NODES < n {
+        return MOST_NODES + 1;
     }
     n
 }
@@ -45,27 +47,27 @@ pub fn add_nodes(
     requires { ⌜ n ≤ ceiling ⌝ }
     ensures { λ r. ⌜ r ≡ min ceiling (n + nodes (treeIn (now (p .entry)) (now (types .entry)) (now (ws .entry)) c)) ⌝ }
 {
-    if MAX_NODES < n {
+    if MOST_NODES < n {
         return n;
     }
     let form = c.form;
-    if form == 1 {
+    if form == codes::ENTRY {
         let i = octets::wide_index(c.at);
         return capped(n + counts[i]);
     }
-    if form == 3 {
+    if form == codes::PRODUCT {
         return capped(n + nodes::count_of(ws, c.at));
     }
     let s = shapes::shape_of(p, types, ws, top, c);
     let kind = s.kind;
-    if kind == 0 {
+    if kind == kinds::UNIT_TYPE {
         return n + 1;
     }
-    if kind == 4 {
+    if kind == kinds::TYPE_VARIABLE {
         return n + 1;
     }
     let m = add_nodes(p, types, counts, ws, top, s.first, n + 1);
-    if kind == 3 {
+    if kind == kinds::RECURSIVE {
         return m;
     }
     add_nodes(p, types, counts, ws, top, s.second, m)
@@ -84,11 +86,11 @@ pub fn node_count(p: &[u8], types: &[u16], counts: &[u16], ws: &[u8], top: u32, 
 // Is the type the unfolding of a small entry? Where a variable stands for an entry of so few nodes in one of so few, the limit is kept
 // without counting.
 fn surely_within(counts: &[u16], c: Code) -> bool
-    requires { ⌜ (c .form ≡ 2 → Held (now counts) c) ⌝ }
+    requires { ⌜ (c .form ≡ underForm → Held (now counts) c) ⌝ }
     ensures { λ r. ⌜ Decides r (Small (now (counts .entry)) c) ⌝ }
 {
     let form = c.form;
-    if form == 2 {
+    if form == codes::UNDER {
         let i = octets::wide_index(c.at);
         let j = octets::wide_index(c.stands);
         if SMALL < counts[i] {
@@ -109,5 +111,5 @@ pub fn within_limit(p: &[u8], types: &[u16], counts: &[u16], ws: &[u8], top: u32
     if surely_within(counts, c) {
         return true;
     }
-    node_count(p, types, counts, ws, top, c) <= MAX_NODES
+    node_count(p, types, counts, ws, top, c) <= MOST_NODES
 }

@@ -3,11 +3,13 @@
 ghost use mathlib.Core.Path.{_≡_};
 ghost use Prim.Native.Nat.{_<_};
 ghost use lib.ListN.{length};
+ghost use Rattle.program.specs.Kinds.{unitTypeKind, recursiveKind, typeVariableKind};
 ghost use Rattle.types.specs.Codes.{Readable, Sources, Known};
 ghost use Rattle.types.specs.Shapes.{isVariable, plainShape, Settled};
 use crate::codes;
 use crate::codes::Code;
 use crate::nodes;
+use program::kinds;
 
 // Is the entry the variable that stands for an entry in the code?
 fn stood_for(p: &[u8], types: &[u16], c: Code) -> bool
@@ -18,7 +20,7 @@ fn stood_for(p: &[u8], types: &[u16], c: Code) -> bool
     let i = octets::wide_index(c.at);
     let at = octets::wide_index(types[i]);
     let kind = program::views::kind(p, at);
-    if kind == 4 {
+    if kind == kinds::TYPE_VARIABLE {
         return program::views::variable(p, at) == c.depth;
     }
     false
@@ -31,7 +33,7 @@ pub fn settled(p: &[u8], types: &[u16], ws: &[u8], top: u32, c: Code) -> Code
     ensures { λ r. ⌜ Settled (now (p .entry)) (now (types .entry)) (now (ws .entry)) top c r ⌝ }
 {
     let form = c.form;
-    if form == 2 {
+    if form == codes::UNDER {
         if stood_for(p, types, c) {
             return codes::entry(c.stands);
         }
@@ -46,11 +48,11 @@ pub fn kind_of(p: &[u8], types: &[u16], ws: &[u8], top: u32, c: Code) -> u8
     ensures { λ r. ⌜ r ≡ plainShape (now (p .entry)) (now (types .entry)) (now (ws .entry)) c .kind ⌝ }
 {
     let form = c.form;
-    if form == 0 {
-        return 0;
+    if form == codes::UNIT {
+        return kinds::UNIT_TYPE;
     }
-    if form == 3 {
-        return 1;
+    if form == codes::PRODUCT {
+        return kinds::PRODUCT;
     }
     let i = octets::wide_index(c.at);
     let at = octets::wide_index(types[i]);
@@ -61,7 +63,7 @@ pub fn kind_of(p: &[u8], types: &[u16], ws: &[u8], top: u32, c: Code) -> u8
 pub fn variable_of(p: &[u8], types: &[u16], ws: &[u8], top: u32, c: Code) -> u8
     requires { ⌜ Sources (now p) (now types) (now ws) top ⌝ }
     requires { ⌜ Known (length (now types)) top c ⌝ }
-    requires { ⌜ plainShape (now p) (now types) (now ws) c .kind ≡ 4 ⌝ }
+    requires { ⌜ plainShape (now p) (now types) (now ws) c .kind ≡ typeVariableKind ⌝ }
     ensures { λ r. ⌜ r ≡ plainShape (now (p .entry)) (now (types .entry)) (now (ws .entry)) c .variable ⌝ }
 {
     let i = octets::wide_index(c.at);
@@ -73,17 +75,17 @@ pub fn variable_of(p: &[u8], types: &[u16], ws: &[u8], top: u32, c: Code) -> u8
 pub fn first_of(p: &[u8], types: &[u16], ws: &[u8], top: u32, c: Code, kind: u8) -> Code
     requires { ⌜ Sources (now p) (now types) (now ws) top ⌝ }
     requires { ⌜ Known (length (now types)) top c ⌝ }
-    requires { ⌜ (kind ≡ plainShape (now p) (now types) (now ws) c .kind) × (¬ (kind ≡ 0)) × (kind < 4) ⌝ }
+    requires { ⌜ (kind ≡ plainShape (now p) (now types) (now ws) c .kind) × (¬ (kind ≡ unitTypeKind)) × (kind < typeVariableKind) ⌝ }
     ensures { λ r. ⌜ r ≡ plainShape (now (p .entry)) (now (types .entry)) (now (ws .entry)) c .first ⌝ }
 {
     let form = c.form;
-    if form == 3 {
+    if form == codes::PRODUCT {
         return nodes::left_of(ws, c.at);
     }
     let i = octets::wide_index(c.at);
     let at = octets::wide_index(types[i]);
     let n = program::views::first(p, at);
-    if kind == 3 {
+    if kind == kinds::RECURSIVE {
         return codes::deeper(c, n, form - 1);
     }
     codes::part(c, n)
@@ -92,11 +94,11 @@ pub fn first_of(p: &[u8], types: &[u16], ws: &[u8], top: u32, c: Code, kind: u8)
 pub fn second_of(p: &[u8], types: &[u16], ws: &[u8], top: u32, c: Code, kind: u8) -> Code
     requires { ⌜ Sources (now p) (now types) (now ws) top ⌝ }
     requires { ⌜ Known (length (now types)) top c ⌝ }
-    requires { ⌜ (kind ≡ plainShape (now p) (now types) (now ws) c .kind) × (¬ (kind ≡ 0)) × (kind < 3) ⌝ }
+    requires { ⌜ (kind ≡ plainShape (now p) (now types) (now ws) c .kind) × (¬ (kind ≡ unitTypeKind)) × (kind < recursiveKind) ⌝ }
     ensures { λ r. ⌜ r ≡ plainShape (now (p .entry)) (now (types .entry)) (now (ws .entry)) c .second ⌝ }
 {
     let form = c.form;
-    if form == 3 {
+    if form == codes::PRODUCT {
         return nodes::right_of(ws, c.at);
     }
     let i = octets::wide_index(c.at);

@@ -6,7 +6,7 @@ ghost use Rattle.types.specs.Counts.{Counted};
 ghost use Rattle.types.specs.Growth.{Made};
 use crate::codes::Code;
 use crate::counting;
-use crate::counting::MAX_NODES;
+use crate::counting::MOST_NODES;
 use crate::nodes;
 
 // The product of two types, at node `top`: false, and nothing made, where it has more nodes than section 1 allows.
@@ -27,7 +27,7 @@ pub fn product(
 {
     let n = counting::add_nodes(p, types, counts, ws, top, left, 1);
     let m = counting::add_nodes(p, types, counts, ws, top, right, n);
-    if MAX_NODES < m {
+    if MOST_NODES < m {
         return false;
     }
     nodes::put_node(ws, top as u16, left, right, m);

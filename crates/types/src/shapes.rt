@@ -8,9 +8,10 @@ ghost use Rattle.types.specs.Shapes.{leaf, entryShape, underShape, produ
 use crate::codes;
 use crate::codes::Code;
 use crate::nodes;
+use program::kinds;
 
-// By its kind, as in the program's bytes: 0 unit; 1 product and 2 sum of `first` and `second`; 3 recursive over `first`;
-// 4 the bound variable `variable`. A part that a kind does not have is unit.
+// By its kind, as in the program's bytes (program::kinds): unit; product and sum of `first` and `second`; recursive over `first`;
+// the bound variable `variable`. A part that a kind does not have is unit.
 pub struct Shape {
     pub kind: u8,
     pub variable: u8,
@@ -40,20 +41,20 @@ fn entry_shape(p: &[u8], types: &[u16], c: Code, step: u8) -> Shape
     let i = octets::wide_index(c.at);
     let at = octets::wide_index(types[i]);
     let kind = program::views::kind(p, at);
-    if kind == 0 {
-        return leaf(0, 0);
+    if kind == kinds::UNIT_TYPE {
+        return leaf(kinds::UNIT_TYPE, 0);
     }
-    if kind == 3 {
+    if kind == kinds::RECURSIVE {
         let under = codes::deeper(c, program::views::first(p, at), step);
         let none = codes::unit();
         return Shape {
-            kind: 3,
+            kind: kinds::RECURSIVE,
             variable: 0,
             first: under,
             second: none,
         };
     }
-    if kind < 3 {
+    if kind < kinds::RECURSIVE {
         let left = codes::part(c, program::views::first(p, at));
         let right = codes::part(c, program::views::second(p, at));
         return Shape {
@@ -63,7 +64,7 @@ fn entry_shape(p: &[u8], types: &[u16], c: Code, step: u8) -> Shape
             second: right,
         };
     }
-    leaf(4, program::views::variable(p, at))
+    leaf(kinds::TYPE_VARIABLE, program::views::variable(p, at))
 }
 
 // The same of an entry whose variable number `depth` stands for the entry `stands`.
@@ -73,7 +74,7 @@ fn under_shape(p: &[u8], types: &[u16], c: Code) -> Shape
     ensures { λ r. ⌜ r ≡ underShape (now (p .entry)) (now (types .entry)) c ⌝ }
 {
     let s = entry_shape(p, types, c, 1);
-    if s.kind != 4 {
+    if s.kind != kinds::TYPE_VARIABLE {
         return s;
     }
     if s.variable != c.depth {
@@ -89,7 +90,7 @@ fn product_shape(ws: &[u8], n: u16) -> Shape
     let left = nodes::left_of(ws, n);
     let right = nodes::right_of(ws, n);
     Shape {
-        kind: 1,
+        kind: kinds::PRODUCT,
         variable: 0,
         first: left,
         second: right,
@@ -103,13 +104,13 @@ pub fn shape_of(p: &[u8], types: &[u16], ws: &[u8], top: u32, c: Code) -> Shape
     ensures { λ r. ⌜ Shaped (now (p .entry)) (now (types .entry)) (now (ws .entry)) top c r ⌝ }
 {
     let form = c.form;
-    if form == 0 {
-        return leaf(0, 0);
+    if form == codes::UNIT {
+        return leaf(kinds::UNIT_TYPE, 0);
     }
-    if form == 1 {
+    if form == codes::ENTRY {
         return entry_shape(p, types, c, 0);
     }
-    if form == 2 {
+    if form == codes::UNDER {
         return under_shape(p, types, c);
     }
     product_shape(ws, c.at)

@@ -7,6 +7,7 @@ ghost use Rattle.types.specs.Codes.{Readable};
 ghost use Rattle.types.specs.Unfolding.{bodyOf};
 use crate::codes;
 use crate::codes::Code;
+use program::kinds;
 
 // The unfolded type, if the entry is recursive.
 pub enum Body {
@@ -22,7 +23,7 @@ pub fn unfolded(p: &[u8], types: &[u16], i: u16) -> Body
     let n = octets::wide_index(i);
     let at = octets::wide_index(types[n]);
     let kind = program::views::kind(p, at);
-    if kind != 3 {
+    if kind != kinds::RECURSIVE {
         return Body::Other;
     }
     Body::Of(codes::under(program::views::first(p, at), i))

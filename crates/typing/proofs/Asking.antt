@@ -2,9 +2,11 @@
 use Prim.Native.Nat.{ℕ, _+_, _≤_, _<_}
 use mathlib.Core.List.{List}
 use lib.ListN.{length}
+use package.Rattle.rules.specs.Limits.{maxVariables}
 use package.Rattle.calls.specs.Fields.{kindAt}
 use package.Rattle.program.specs.Parts.{first, second, third}
 use package.Rattle.program.specs.Signatures.{SignaturesAre}
+use package.Rattle.program.specs.Kinds.{inlKind, inrKind, caseKind}
 use package.Rattle.types.specs.declared.codes.Code.{Code}
 use package.Rattle.types.specs.Codes.{Known}
 use package.Rattle.uses.specs.declared.Uses.{Uses}
@@ -21,7 +23,7 @@ module _ {p types terms functions : List ℕ} {table : List (List ℕ)} {nodes h
   ready-at R H = record { ready = R .ready; signed = R .signed; here = H }
 
   pub ready-inject : {at : ℕ} → ReadyFor p types terms functions table nodes heap vars sc top t
-      → Here p terms t at (kindAt p at) × (2 ≤ kindAt p at) × (kindAt p at ≤ 3)
+      → Here p terms t at (kindAt p at) × (inlKind ≤ kindAt p at) × (kindAt p at ≤ inrKind)
       → ReadyInject p types terms functions table nodes heap vars sc top t at
   ready-inject R (H, least, most) = record { ready = R .ready; signed = R .signed; here = H; least = least; most = most }
 
@@ -34,7 +36,7 @@ module _ {p types terms functions : List ℕ} {table : List (List ℕ)} {nodes h
     pub ready-branches : {at : ℕ} {u : Uses} {c d : Code}
         → Ready (termsIn (termIn p types terms (second p at)) + termsIn (termIn p types terms (third p at)))
         p types terms functions nodes heap vars sc top
-        → Here p terms t at 7 → sc .n < 32 → Known (length types) top c → Known (length types) top d
+        → Here p terms t at caseKind → sc .n < maxVariables → Known (length types) top c → Known (length types) top d
         → NamedBy u (termIn p types terms (first p at)) → ReadyBranches p types terms functions table nodes heap vars sc top t at u c d
     ready-branches rd H free K K′ named =
         record { ready = rd; signed = S; here = H; free = free; left = K; right = K′; named = named }

@@ -13,6 +13,7 @@ use package.Rattle.rules.specs.Term.{Term, tlet, tletp}
 use package.Rattle.rules.specs.Typing.{dynamic, Context}
 use package.Rattle.rules.specs.Check.{term, Checked, good, _>>=_, _>>_, need, asProd, names, spent, room, infer}
 use package.Rattle.program.specs.Parts.{first, second}
+use package.Rattle.program.specs.Kinds.{productKind, letKind, letPairKind}
 use package.Rattle.types.specs.declared.codes.Code.{Code}
 use package.Rattle.types.specs.declared.shapes.Shape.{Shape}
 use package.Rattle.types.specs.Codes.{treeIn, Known}
@@ -45,16 +46,14 @@ pub as-many : (p types heap vars : List ℕ) (sc : Scope) → length (contextIn 
 as-many p types heap vars sc = length-context (λ i. treeIn p types heap (variableAt vars i)) (sc .q) (sc .lo) (sc .n)
 
 module _ (k n : ℕ) {m : ℕ} (e : m ≡ n) where
-  pub fits : k + n ≤ 32 → leb (k + m) maxVariables ≡ true
-  unfolding maxVariables
-  fits h = le-leb (k + m) 32 (omega arith)
+  pub fits : k + n ≤ maxVariables → leb (k + m) maxVariables ≡ true
+  fits h = le-leb (k + m) maxVariables (omega arith)
 
-  pub over : 32 < k + n → leb (k + m) maxVariables ≡ false
-  unfolding maxVariables
-  over h = lt-leb (k + m) 32 (omega arith)
+  pub over : maxVariables < k + n → leb (k + m) maxVariables ≡ false
+  over h = lt-leb (k + m) maxVariables (omega arith)
 
 -- the test in code, on the heap after the body, is that of the rules
-pub spent-is : (p types heap : List ℕ) (c : Code) (i : ℕ) (u : Uses) (B : Term) {m : ℕ} {τ : Ty} → i < 32 → m ≡ i → τ ≡ treeIn p types heap c → NamedBy u B
+pub spent-is : (p types heap : List ℕ) (c : Code) (i : ℕ) (u : Uses) (B : Term) {m : ℕ} {τ : Ty} → i < maxVariables → m ≡ i → τ ≡ treeIn p types heap c → NamedBy u B
     → spentBy p types heap c i u ≡ spent m τ B
 unfolding spent
 spent-is p types heap c i u B h e t N = ap₂ _||_ (ap isUnit (sym t)) (N .each i h ∙ ap (λ i. names i B) (sym e))
@@ -64,7 +63,7 @@ spent-is p types heap c i u B h e t N = ap₂ _||_ (ap isUnit (sym t)) (N .each 
 
 module _ {p types terms functions nodes heap vars : List ℕ} {sc : Scope} {top t at : ℕ}
     (rd : Ready (termsIn (termIn p types terms t)) p types terms functions nodes heap vars sc top)
-    (H : Here p terms t at 5) where
+    (H : Here p terms t at letKind) where
   abbrev goal : Checked Ty
   goal = typeIn p types terms functions heap vars sc t
 
@@ -80,20 +79,20 @@ module _ {p types terms functions nodes heap vars : List ℕ} {sc : Scope} {top 
   rule-let e b q q′ = ap (typingOf p types terms functions Δ)
       (tree-let (rd .entries) H ∙ ap₂ (tlet t) (ap (termIn p types terms) (sym q)) (ap (termIn p types terms) (sym q′)))
 
-  pub let-full : {r : Out} → sc .n ≡ 32 → r .status ≡ Refused (Unscoped t) → r .top ≡ top
+  pub let-full : {r : Out} → sc .n ≡ maxVariables → r .status ≡ Refused (Unscoped t) → r .top ≡ top
       → Inferred (termsIn (termIn p types terms t)) (termIn p types terms t) p types heap heap (sc .n) vars vars top r goal
   unfolding faultOf
   let-full x s z = stopped _ (sc .n) vars (rd .scoped .sources) s z
       (rule-let _ _ refl refl ∙ need-no _ _ _ _ (over 1 (sc .n) (as-many p types heap vars sc) (omega arith)))
 
-  module _ (free : ¬ (sc .n ≡ 32)) {e b : ℕ} (q : e ≡ first p at) (q′ : b ≡ second p at) where
+  module _ (free : ¬ (sc .n ≡ maxVariables)) {e b : ℕ} (q : e ≡ first p at) (q′ : b ≡ second p at) where
     abbrev E : Term
     E = termIn p types terms e
 
     abbrev B : Term
     B = termIn p types terms b
 
-    pub let-free : sc .n < 32
+    pub let-free : sc .n < maxVariables
     let-free = omega (arith, rd .scoped .few)
 
     let-tree : termIn p types terms t ≡ tlet t E B
@@ -166,7 +165,7 @@ module _ {p types terms functions nodes heap vars : List ℕ} {sc : Scope} {top 
 
 module _ {p types terms functions nodes heap vars : List ℕ} {sc : Scope} {top t at : ℕ}
     (rd : Ready (termsIn (termIn p types terms t)) p types terms functions nodes heap vars sc top)
-    (H : Here p terms t at 6) where
+    (H : Here p terms t at letPairKind) where
   abbrev goal₂ : Checked Ty
   goal₂ = typeIn p types terms functions heap vars sc t
 
@@ -182,13 +181,13 @@ module _ {p types terms functions nodes heap vars : List ℕ} {sc : Scope} {top 
   rule-letp e b q q′ = ap (typingOf p types terms functions Δ₂)
       (tree-letp (rd .entries) H ∙ ap₂ (tletp t) (ap (termIn p types terms) (sym q)) (ap (termIn p types terms) (sym q′)))
 
-  pub letp-full : {r : Out} → 32 < sc .n + 2 → r .status ≡ Refused (Unscoped t) → r .top ≡ top
+  pub letp-full : {r : Out} → maxVariables < sc .n + 2 → r .status ≡ Refused (Unscoped t) → r .top ≡ top
       → Inferred (termsIn (termIn p types terms t)) (termIn p types terms t) p types heap heap (sc .n) vars vars top r goal₂
   unfolding faultOf
   letp-full x s z = stopped _ (sc .n) vars (rd .scoped .sources) s z
       (rule-letp _ _ refl refl ∙ need-no _ _ _ _ (over 2 (sc .n) (as-many p types heap vars sc) (omega arith)))
 
-  module _ (free : sc .n + 2 ≤ 32) {e b : ℕ} (q : e ≡ first p at) (q′ : b ≡ second p at) where
+  module _ (free : sc .n + 2 ≤ maxVariables) {e b : ℕ} (q : e ≡ first p at) (q′ : b ≡ second p at) where
     abbrev E₂ : Term
     E₂ = termIn p types terms e
 
@@ -226,7 +225,7 @@ module _ {p types terms functions nodes heap vars : List ℕ} {sc : Scope} {top 
       letp-later = ready-later rd (d .kept) _ (omega (arith, size-letp))
 
       module _ {f : Found} (x : o .status ≡ Typed f) {s : Shape} (S : Shaped p types heap₁ (o .top) (f .code) s) where
-        pub letp-no : {r : Out} → ¬ (s .kind ≡ 1) → r .status ≡ Refused (Differ t) → r .top ≡ o .top
+        pub letp-no : {r : Out} → ¬ (s .kind ≡ productKind) → r .status ≡ Refused (Differ t) → r .top ≡ o .top
             → Inferred (termsIn (termIn p types terms t)) (termIn p types terms t) p types heap heap₁ (sc .n) vars vars₁ top r goal₂
         unfolding faultOf
         letp-no n y z = inferred
@@ -234,9 +233,9 @@ module _ {p types terms functions nodes heap vars : List ℕ} {sc : Scope} {top 
             (kept-more _ (d .kept) (omega (arith, size-letp))))
             (ends-refused y (rule₂ ∙ good-then _ (answered d x) ∙ no-product S (term t) _ n))
 
-        module _ (product : s .kind ≡ 1) {vars₂ : List ℕ} {inner : Scope} (O : Opened p types heap₁ vars₁ vars₂ sc (o .top) (s .first) inner) where
+        module _ (product : s .kind ≡ productKind) {vars₂ : List ℕ} {inner : Scope} (O : Opened p types heap₁ vars₁ vars₂ sc (o .top) (s .first) inner) where
           -- the second variable can be bound
-          pub letp-second : inner .n < 32
+          pub letp-second : inner .n < maxVariables
           letp-second = omega (arith, O .one-more)
 
           module _ {vars₃ : List ℕ} {inner₂ : Scope} (O₂ : Opened p types heap₁ vars₂ vars₃ inner (o .top) (s .second) inner₂)

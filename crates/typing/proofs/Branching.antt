@@ -12,6 +12,7 @@ use package.Rattle.rules.specs.Term.{Term, tcase}
 use package.Rattle.rules.specs.Typing.{dynamic, Context}
 use package.Rattle.rules.specs.Check.{term, Checked, good, _>>=_, _>>_, need, asSum, names, spent, sameUse, room, infer}
 use package.Rattle.program.specs.Parts.{first, second, third}
+use package.Rattle.program.specs.Kinds.{sumKind, caseKind}
 use package.Rattle.types.specs.declared.codes.Code.{Code}
 use package.Rattle.types.specs.declared.shapes.Shape.{Shape}
 use package.Rattle.types.specs.Codes.{treeIn, Known}
@@ -42,7 +43,7 @@ use Rattle.typing.specs.declared.outcomes.Out.{Out}
 
 module _ {p types terms functions nodes heap vars : List ℕ} {sc : Scope} {top t at : ℕ}
     (rd : Ready (termsIn (termIn p types terms t)) p types terms functions nodes heap vars sc top)
-    (H : Here p terms t at 7) where
+    (H : Here p terms t at caseKind) where
   abbrev goal : Checked Ty
   goal = typeIn p types terms functions heap vars sc t
 
@@ -61,17 +62,17 @@ module _ {p types terms functions nodes heap vars : List ℕ} {sc : Scope} {top 
   unfolding infer room
   rule-case e q = ap (typingOf p types terms functions Δ) (tree-case (rd .entries) H ∙ ap (λ e. tcase t e B B′) (ap (termIn p types terms) (sym q)))
 
-  pub case-full : {r : Out} → sc .n ≡ 32 → r .status ≡ Refused (Unscoped t) → r .top ≡ top
+  pub case-full : {r : Out} → sc .n ≡ maxVariables → r .status ≡ Refused (Unscoped t) → r .top ≡ top
       → Inferred (termsIn (termIn p types terms t)) (termIn p types terms t) p types heap heap (sc .n) vars vars top r goal
   unfolding faultOf
   case-full x s z = stopped _ (sc .n) vars (rd .scoped .sources) s z
       (rule-case _ refl ∙ need-no _ _ _ _ (over 1 (sc .n) (as-many p types heap vars sc) (omega arith)))
 
-  module _ (free : ¬ (sc .n ≡ 32)) {e : ℕ} (q : e ≡ first p at) where
+  module _ (free : ¬ (sc .n ≡ maxVariables)) {e : ℕ} (q : e ≡ first p at) where
     abbrev E : Term
     E = termIn p types terms e
 
-    pub case-free : sc .n < 32
+    pub case-free : sc .n < maxVariables
     case-free = omega (arith, rd .scoped .few)
 
     size-case : suc (termsIn E + (termsIn B + termsIn B′)) ≡ termsIn (termIn p types terms t)
@@ -101,7 +102,7 @@ module _ {p types terms functions nodes heap vars : List ℕ} {sc : Scope} {top 
         pub case-named : NamedBy (f .uses) (termIn p types terms (first p at))
         case-named = subst (λ e. NamedBy (f .uses) (termIn p types terms e)) q (d .uses f x)
 
-        pub case-no : {r : Out} → ¬ (s .kind ≡ 2) → r .status ≡ Refused (Differ t) → r .top ≡ o .top
+        pub case-no : {r : Out} → ¬ (s .kind ≡ sumKind) → r .status ≡ Refused (Differ t) → r .top ≡ o .top
             → Inferred (termsIn (termIn p types terms t)) (termIn p types terms t) p types heap heap₁ (sc .n) vars vars₁ top r goal
         unfolding faultOf
         case-no n y z = inferred
@@ -109,7 +110,7 @@ module _ {p types terms functions nodes heap vars : List ℕ} {sc : Scope} {top 
             (kept-more _ (d .kept) (omega (arith, size-case))))
             (ends-refused y (rule ∙ good-then _ (answered d x) ∙ no-sum S (term t) _ n))
 
-        pub case-done : s .kind ≡ 2 → {heap₂ vars₂ : List ℕ} {out : Out}
+        pub case-done : s .kind ≡ sumKind → {heap₂ vars₂ : List ℕ} {out : Out}
             → Inferred (termsIn B + termsIn B′) (termIn p types terms t) p types heap₁ heap₂ (sc .n) vars₁ vars₂ (o .top) out
             (branchesOf p types terms functions (contextIn p types heap₁ vars₁ sc) t B B′ (treeIn p types heap₁ (s .first)) (treeIn p types heap₁ (s .second)))
             → Inferred (termsIn (termIn p types terms t)) (termIn p types terms t) p types heap heap₂ (sc .n) vars vars₂ top out goal
@@ -127,10 +128,10 @@ module _ {p types terms functions : List ℕ} {table : List (List ℕ)} {nodes h
       p types terms functions nodes heap vars sc top
   rd = asked .ready
 
-  abbrev H : Here p terms t at 7
+  abbrev H : Here p terms t at caseKind
   H = asked .here
 
-  abbrev free : sc .n < 32
+  abbrev free : sc .n < maxVariables
   free = asked .free
 
   abbrev K : Known (length types) top c

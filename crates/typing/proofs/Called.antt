@@ -48,8 +48,7 @@ module _ {p types terms functions nodes : List ℕ} (E : Entered p types terms f
   some-parameters = (function-field .some, function-field .few)
 
   -- its row of the table of signatures: it is there, and has the types of the parameters
-  pub row-there : g < 64
-  unfolding maxFunctions
+  pub row-there : g < maxFunctions
   row-there = omega (arith, there, E .formed .few-functions)
 
   pub row-parameter : {table : List (List ℕ)} → SignaturesAre p functions table → (k : ℕ) → k < parametersAt p h

@@ -17,6 +17,7 @@ use package.Rattle.rules.specs.Check.{mustUse, sameUse}
 use package.Rattle.rules.proofs.Basics.{given, none≢some, not-true}
 use package.Rattle.rules.proofs.Typing.Tests.{sameUse-yes, sameUse-sound}
 use package.Rattle.rules.proofs.Scope.{look-newest, look-skip, look-none}
+use package.Rattle.rules.specs.Limits.{maxVariables}
 use package.Rattle.uses.specs.declared.Uses.{Uses}
 use package.Rattle.uses.specs.Sets.{AgreeOn}
 use package.Rattle.typing.specs.Contexts.{standing, contextAt, NamedBy, mustUseAt, Owed}
@@ -159,11 +160,11 @@ look-below Δ i x p = go (decLt i (length Δ))
     go (no l) = absurd (none≢some (sym (look-none Δ i (omega arith)) ∙ p))
 
 -- the branches use the same of what must be used exactly if the sets agree there
-pub same-use-iff : (Δ : Context) (b b′ : Term) (u v w : Uses) → length Δ ≤ 32 → NamedBy u b → NamedBy v b′ → Owed w Δ
+pub same-use-iff : (Δ : Context) (b b′ : Term) (u v w : Uses) → length Δ ≤ maxVariables → NamedBy u b → NamedBy v b′ → Owed w Δ
     → (sameUse Δ b b′ ≡ true) ↔ AgreeOn u v w
 same-use-iff Δ b b′ u v w l nb nb′ ow = (
   λ e i h m. given (must-use-there Δ i (sym (ow .each i h) ∙ m)) λ (x, p, y). given (must-use-dynamic x y) λ (c, d, z).
       nb .each i h ∙ sameUse-sound Δ b b′ e i c (p ∙ ap some d) z ∙ sym (nb′ .each i h),
-  λ A. sameUse-yes Δ b b′ λ i c p z. given (look-below Δ i (dynamic c) p) λ k. let h : i < 32 = omega arith in
+  λ A. sameUse-yes Δ b b′ λ i c p z. given (look-below Δ i (dynamic c) p) λ k. let h : i < maxVariables = omega arith in
       sym (nb .each i h) ∙ A i h (ow .each i h ∙ dynamic-must-use Δ i c p z) ∙ nb′ .each i h,
 )

@@ -15,6 +15,7 @@ use package.Rattle.rules.specs.Ty.{Ty, isUnit}
 use package.Rattle.rules.specs.Term.{look}
 use package.Rattle.rules.specs.Typing.{dynamic, Context}
 use package.Rattle.rules.specs.Check.{term, good, visible}
+use package.Rattle.rules.specs.Limits.{maxVariables}
 use package.Rattle.types.specs.declared.codes.Code.{Code}
 use package.Rattle.types.specs.Codes.{treeIn, Known}
 use package.Rattle.types.specs.Growth.{putCode}
@@ -93,7 +94,7 @@ pub variable-same : (vars vars′ : List ℕ) (m : ℕ) → ((j : ℕ) → j < v
 variable-same vars vars′ m s i l = code-same vars vars′ (variableBytes * i) λ j h. s j (omega arith)
 
 module _ {p types heap vars : List ℕ} {sc : Scope} {top : ℕ} (S : Scoped p types heap vars sc top) (c : Code) (K : Known (length types) top c)
-    (h : sc .n < 32) (F : Fitting c)
+    (h : sc .n < maxVariables) (F : Fitting c)
     {at : ℕ} (a : at ≡ variableBytes * sc .n) {vars′ : List ℕ} (e : vars′ ≡ putCode vars at c) where
   put : vars′ ≡ putCode vars (variableBytes * sc .n) c
   put = e ∙ ap (λ at. putCode vars at c) a
@@ -152,17 +153,17 @@ module _ {p types heap vars : List ℕ} {sc : Scope} {top : ℕ} (S : Scoped p t
   as-many = length-context (λ i. treeIn p types heap (variableAt vars i)) (sc .q) (sc .lo) (sc .n)
 
   -- the newest, an older one, or none
-  owed-by : (u : Uses) → ((i : ℕ) → i < 32 → i < sc .n → has u i ≡ mustUseAt Δ i) → has u (sc .n) ≡ not (isUnit τ)
-      → ((i : ℕ) → i < 32 → sc .n < i → has u i ≡ false) → Owed u (dynamic τ ∷ Δ)
+  owed-by : (u : Uses) → ((i : ℕ) → i < maxVariables → i < sc .n → has u i ≡ mustUseAt Δ i) → has u (sc .n) ≡ not (isUnit τ)
+      → ((i : ℕ) → i < maxVariables → sc .n < i → has u i ≡ false) → Owed u (dynamic τ ∷ Δ)
   owed-by u low here high = record { each = λ i l. go i l (decLt i (sc .n)) (decLt (sc .n) i) }
     where
-      go : (i : ℕ) → i < 32 → Dec (i < sc .n) → Dec (sc .n < i) → has u i ≡ mustUseAt (dynamic τ ∷ Δ) i
+      go : (i : ℕ) → i < maxVariables → Dec (i < sc .n) → Dec (sc .n < i) → has u i ≡ mustUseAt (dynamic τ ∷ Δ) i
       go i l (yes x) y = low i l x ∙ sym (must-use-older Δ (dynamic τ) i (omega (arith, as-many)))
       go i l (no x) (yes y) = high i l y ∙ sym (must-use-outside (dynamic τ ∷ Δ) i (omega (arith, as-many)))
       go i l (no x) (no y) =
           let q : i ≡ sc .n = omega arith in ap (has u) q ∙ here ∙ sym (must-use-newest Δ τ i (q ∙ sym as-many))
 
-  outside : (i : ℕ) → i < 32 → sc .n ≤ i → has (sc .owed) i ≡ false
+  outside : (i : ℕ) → i < maxVariables → sc .n ≤ i → has (sc .owed) i ≡ false
   outside i l q = S .owed .each i l ∙ must-use-outside Δ i (omega (arith, as-many))
 
   -- of the unit type, it need not be used

@@ -12,6 +12,7 @@ use package.Rattle.rules.specs.Term.{Term, tpair}
 use package.Rattle.rules.specs.Check.{term, good, _>>=_, _>>_, need, names, small, infer}
 use package.Rattle.rules.proofs.Basics.{given}
 use package.Rattle.program.specs.Parts.{first, second}
+use package.Rattle.program.specs.Kinds.{pairKind}
 use package.Rattle.types.specs.Codes.{Room, treeIn, Known}
 use package.Rattle.types.proofs.Outer.{product-known}
 use package.Rattle.uses.specs.declared.Uses.{Uses}
@@ -38,7 +39,7 @@ named-both T L R e N N′ J = record { each = λ i l. J .each i l ∙ ap₂ _||_
 
 module _ {p types terms functions nodes heap vars : List ℕ} {sc : Scope} {top t at : ℕ}
     (rd : Ready (termsIn (termIn p types terms t)) p types terms functions nodes heap vars sc top)
-    (H : Here p terms t at 4) {l r : ℕ} (q : l ≡ first p at) (q′ : r ≡ second p at) where
+    (H : Here p terms t at pairKind) {l r : ℕ} (q : l ≡ first p at) (q′ : r ≡ second p at) where
   abbrev L : Term
   L = termIn p types terms l
 
@@ -84,8 +85,7 @@ module _ {p types terms functions nodes heap vars : List ℕ} {sc : Scope} {top 
       pub pair-up-left : Known (length types) (o₂ .top) (f .code)
       pair-up-left = known-later (d .kept .sources) (d₂ .kept) left-kept
 
-      pub pair-room : Room heap₂ (o₂ .top + 1) × (o₂ .top < 1024)
-      unfolding maxTerms
+      pub pair-room : Room heap₂ (o₂ .top + 1) × (o₂ .top < maxTerms)
       pair-room = (
         omega (arith, rd .room, rd .small, size-pair, d .kept .few, d₂ .kept .few, d .kept .agree .lengths, d₂ .kept .agree .lengths),
         omega

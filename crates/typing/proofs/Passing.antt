@@ -9,7 +9,7 @@ use lib.Dec.{eqb}
 use borrow.Author.Tests.{eq-eqb, ne-eqb}
 use package.Rattle.rules.specs.Ty.{Ty, sameTy}
 use package.Rattle.rules.specs.Term.{Term, Terms, tcall, count, Fun}
-use package.Rattle.rules.specs.Limits.{maxVariables, maxNodes}
+use package.Rattle.rules.specs.Limits.{maxFunctions, maxVariables, maxNodes}
 use package.Rattle.rules.specs.Typing.{Context, bar}
 use package.Rattle.rules.specs.Check.{term, Checked, good, _>>=_, _>>_, need, asFun, names, infer, inferArguments}
 use package.Rattle.calls.specs.Fields.{lengthAt, parametersAt}
@@ -19,6 +19,7 @@ use package.Rattle.program.specs.Signatures.{SignaturesAre}
 use package.Rattle.program.proofs.Shapes.{function-result, function-ancillae, function-dynamic}
 use package.Rattle.program.specs.Programs.{programIn}
 use package.Rattle.program.proofs.Lists.{count-trees, length-references}
+use package.Rattle.program.specs.Kinds.{callKind}
 use package.Rattle.types.specs.declared.codes.Code.{Code}
 use package.Rattle.types.specs.Codes.{entryCode, treeIn, Known}
 use package.Rattle.types.proofs.Trees.{tree-entry}
@@ -85,7 +86,7 @@ module _ {p types terms functions nodes heap vars : List ℕ} {sc : Scope} {top 
     args-read = omega (arith, read-call (rd .entries) (C .here) .0, C .ancillae, args-left)
 
     -- the parameter's place in the table of signatures, and what stands there
-    pub args-row : (g < 64) × (k < 8)
+    pub args-row : (g < maxFunctions) × (k < 8)
     args-row = (
       row-there (rd .entries) (C .called) refl,
       omega (arith, args-left, C .parameters, some-parameters (rd .entries) (C .called) refl .1),
@@ -183,14 +184,14 @@ barredScope sc u = record { q = sc .q; lo = sc .n; n = sc .n; owed = u }
 -- what call `t` has: function `g`, whose field is at `h`, `n` ancilla terms, and a function of `own` ancilla parameters
 pub record CallParts (p types terms functions nodes heap vars : List ℕ) (sc : Scope) (top t at g h n own : ℕ) : Type 0 where
   pub ready : Ready (termsIn (termIn p types terms t)) p types terms functions nodes heap vars sc top
-  pub here : Here p terms t at 8
+  pub here : Here p terms t at callKind
   pub callee : g ≡ first p at
   pub field : h ≡ getD functions g 0
   pub ancillae : n ≡ callAncillae (lengthAt p at)
   pub parameters : own ≡ parametersAt p h - 1
 
 module _ {p types terms functions nodes heap vars : List ℕ} {sc : Scope} {top t at : ℕ}
-    (rd : Ready (termsIn (termIn p types terms t)) p types terms functions nodes heap vars sc top) (H : Here p terms t at 8) where
+    (rd : Ready (termsIn (termIn p types terms t)) p types terms functions nodes heap vars sc top) (H : Here p terms t at callKind) where
   pub call-function : {g : ℕ} → g ≡ first p at → g < length functions
   call-function q = rw q (called-there (rd .entries) H)
 
@@ -203,7 +204,7 @@ module _ {p types terms functions nodes heap vars : List ℕ} {sc : Scope} {top 
   abbrev rd : Ready (termsIn (termIn p types terms t)) p types terms functions nodes heap vars sc top
   rd = C .ready
 
-  abbrev H : Here p terms t at 8
+  abbrev H : Here p terms t at callKind
   H = C .here
 
   abbrev qg : g ≡ first p at
@@ -319,7 +320,7 @@ module _ {p types terms functions nodes heap vars : List ℕ} {sc : Scope} {top 
     )
 
     -- the dynamic parameter's place in the table of signatures, and what stands there
-    pub call-row : (g < 64) × (n < 8)
+    pub call-row : (g < maxFunctions) × (n < 8)
     call-row = (row-there (rd .entries) (there) qh, omega (arith, call-few))
 
     pub call-parameter : {table : List (List ℕ)} → SignaturesAre p functions table → getD (getD table g []) n 0 ≡ listed p h n

@@ -14,6 +14,7 @@ use package.Rattle.rules.specs.Typing.{Binding, static, dynamic, barred, Contex
 use package.Rattle.rules.specs.Check.{mustUse, statics}
 use package.Rattle.rules.proofs.Basics.{some-inj}
 use package.Rattle.rules.proofs.Scope.{look-newest, look-skip}
+use package.Rattle.rules.specs.Limits.{maxVariables}
 use package.Rattle.calls.specs.Entries.{TypeEntry, typeAt, typeOf, functionAt}
 use package.Rattle.calls.specs.Fields.{parametersAt}
 use package.Rattle.types.specs.declared.codes.Code.{Code}
@@ -106,11 +107,11 @@ module _ {xs types heap vars vars′ : List ℕ} {sc r : Scope} {top : ℕ} {c :
 ----------------------------------------------------------------
 -- Parameters bound in order
 
-pub none-bound : {xs types heap vars row : List ℕ} → variableBytes * 32 ≤ length vars → Bound xs types heap vars row 0
+pub none-bound : {xs types heap vars row : List ℕ} → variableBytes * maxVariables ≤ length vars → Bound xs types heap vars row 0
 none-bound l = record { slots = l; known = λ i h. absurd (omega arith); tree = λ i h. absurd (omega arith) }
 
 -- the scope of ancillae alone, of which there are as many as `n` says
-pub ancillae-scoped : {xs types heap vars row : List ℕ} {n : ℕ} {u : Uses} → Sources xs types heap 0 → Bound xs types heap vars row n → n ≤ 32 → Holds u nobody
+pub ancillae-scoped : {xs types heap vars row : List ℕ} {n : ℕ} {u : Uses} → Sources xs types heap 0 → Bound xs types heap vars row n → n ≤ maxVariables → Holds u nobody
     → Scoped xs types heap vars (record { q = n; lo = 0; n = n; owed = u }) 0
 ancillae-scoped {n = n} {u = u} S B l h = record {
   sources = S;

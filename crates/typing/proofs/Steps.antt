@@ -14,6 +14,7 @@ use package.Rattle.rules.specs.Term.{Term, var, tunit, tinl, tinr, troll, tunro
 use package.Rattle.rules.specs.Check.{term, Checked, good, _>>_, need, names, small, infer}
 use package.Rattle.calls.specs.Entries.{typeAt, typeOf}
 use package.Rattle.program.specs.Parts.{variable, first, second}
+use package.Rattle.program.specs.Kinds.{inlKind, inrKind, sumKind, variableKind, unitKind, rollKind, unrollKind}
 use package.Rattle.types.specs.declared.codes.Code.{Code}
 use package.Rattle.types.specs.declared.shapes.Shape.{Shape}
 use package.Rattle.types.specs.Codes.{unitCode, entryCode, treeIn, Known, Sources}
@@ -69,7 +70,7 @@ module _ {p types heap heap₁ : List ℕ} {size m : ℕ} {vars vars₁ : List �
 
 module _ {p types terms functions nodes heap vars : List ℕ} {sc : Scope} {top t at : ℕ}
     (rd : Ready (termsIn (termIn p types terms t)) p types terms functions nodes heap vars sc top) where
-  pub var-done : Here p terms t at 0 → {i : ℕ} → i ≡ variable p at → {r : Out} → Seen vars sc top t i r
+  pub var-done : Here p terms t at variableKind → {i : ℕ} → i ≡ variable p at → {r : Out} → Seen vars sc top t i r
       → Infers p types terms functions heap heap vars vars sc top t r
   unfolding infer
   var-done H {i} e {r} N = inferred
@@ -85,7 +86,7 @@ module _ {p types terms functions nodes heap vars : List ℕ} {sc : Scope} {top 
       is : termIn p types terms t ≡ var t i
       is = tree-var (rd .entries) H ∙ ap (var t) (sym e)
 
-  pub unit-done : Here p terms t at 1 → {r : Out} → Bare top r
+  pub unit-done : Here p terms t at unitKind → {r : Out} → Bare top r
       → Infers p types terms functions heap heap vars vars sc top t r
   unfolding infer
   unit-done H {r} B = inferred
@@ -121,15 +122,15 @@ module _ {p types terms functions nodes heap vars : List ℕ} {sc : Scope} {top 
   E = termIn p types terms part
 
   -- inl over its part, inr over its part
-  tree-left : kind ≡ 2 → termIn p types terms t ≡ tinl t (treeIn p types heap whole) E
+  tree-left : kind ≡ inlKind → termIn p types terms t ≡ tinl t (treeIn p types heap whole) E
   tree-left e = tree-inl (rd .entries) (subst (Here p terms t at) e H)
       ∙ ap₂ (tinl t) (sym (whole-tree p types heap at q w)) (ap (termIn p types terms) (sym q′))
 
-  tree-right : kind ≡ 3 → termIn p types terms t ≡ tinr t (treeIn p types heap whole) E
+  tree-right : kind ≡ inrKind → termIn p types terms t ≡ tinr t (treeIn p types heap whole) E
   tree-right e = tree-inr (rd .entries) (subst (Here p terms t at) e H)
       ∙ ap₂ (tinr t) (sym (whole-tree p types heap at q w)) (ap (termIn p types terms) (sym q′))
 
-  two-or-three : (kind ≡ 2) ⊎ (kind ≡ 3)
+  two-or-three : (kind ≡ inlKind) ⊎ (kind ≡ inrKind)
   two-or-three = by kind lo hi
     where
       by : (k : ℕ) → 2 ≤ k → k ≤ 3 → (k ≡ 2) ⊎ (k ≡ 3)
@@ -139,11 +140,11 @@ module _ {p types terms functions nodes heap vars : List ℕ} {sc : Scope} {top 
       by (suc (suc (suc zero))) l u = right refl
       by (suc (suc (suc (suc k)))) l u = absurd (omega arith)
 
-  size-left : kind ≡ 2 → suc (termsIn E) ≡ termsIn (termIn p types terms t)
+  size-left : kind ≡ inlKind → suc (termsIn E) ≡ termsIn (termIn p types terms t)
   unfolding termsIn
   size-left e = sym (ap termsIn (tree-left e))
 
-  size-right : kind ≡ 3 → suc (termsIn E) ≡ termsIn (termIn p types terms t)
+  size-right : kind ≡ inrKind → suc (termsIn E) ≡ termsIn (termIn p types terms t)
   unfolding termsIn
   size-right e = sym (ap termsIn (tree-right e))
 
@@ -160,7 +161,7 @@ module _ {p types terms functions nodes heap vars : List ℕ} {sc : Scope} {top 
   inject-whole = whole-known p types heap at q w (parts-inject (rd .entries) kind H lo hi .0)
 
   module _ {s : Shape} (S : Shaped p types heap top whole s) where
-    pub inject-no : {r : Out} → ¬ (s .kind ≡ 2) → r .status ≡ Refused (Differ t) → r .top ≡ top
+    pub inject-no : {r : Out} → ¬ (s .kind ≡ sumKind) → r .status ≡ Refused (Differ t) → r .top ≡ top
         → Inferred (termsIn (termIn p types terms t)) (termIn p types terms t) p types heap heap (sc .n) vars vars top r rule
     unfolding infer faultOf
     inject-no n e x = stopped _ (sc .n) vars (rd .scoped .sources) e x (⊎-elim
@@ -168,8 +169,8 @@ module _ {p types terms functions nodes heap vars : List ℕ} {sc : Scope} {top 
         (λ k. ap (typingOf p types terms functions (contextIn p types heap vars sc)) (tree-right k) ∙ no-sum S (term t) _ n)
         two-or-three)
 
-    module _ (sum-kind : s .kind ≡ 2) {heap′ vars′ : List ℕ} {out : Out} where
-      pub inject-left : kind ≡ 2
+    module _ (sum-kind : s .kind ≡ sumKind) {heap′ vars′ : List ℕ} {out : Out} where
+      pub inject-left : kind ≡ inlKind
           → Inferred (termsIn E) E p types heap heap′ (sc .n) vars vars′ top out
           (demanded (typeIn p types terms functions heap vars sc part) (treeIn p types heap (s .first)) (treeIn p types heap whole) t)
           → Inferred (termsIn (termIn p types terms t)) (termIn p types terms t) p types heap heap′ (sc .n) vars vars′ top out rule
@@ -178,12 +179,12 @@ module _ {p types terms functions nodes heap vars : List ℕ} {sc : Scope} {top 
           (ap (typingOf p types terms functions (contextIn p types heap vars sc)) (tree-left k) ∙ a-sum S (term t) _ sum-kind
           ∙ ap (λ c. demanded (typeIn p types terms functions heap vars sc part) (treeIn p types heap (s .first)) c t) (sym (sum-tree S sum-kind)))
 
-      pub inject-right : ¬ (kind ≡ 2)
+      pub inject-right : ¬ (kind ≡ inlKind)
           → Inferred (termsIn E) E p types heap heap′ (sc .n) vars vars′ top out
           (demanded (typeIn p types terms functions heap vars sc part) (treeIn p types heap (s .second)) (treeIn p types heap whole) t)
           → Inferred (termsIn (termIn p types terms t)) (termIn p types terms t) p types heap heap′ (sc .n) vars vars′ top out rule
       unfolding infer
-      inject-right n d = let k : kind ≡ 3 = omega arith in
+      inject-right n d = let k : kind ≡ inrKind = omega arith in
           around d _ (λ i. ap (names i) (tree-right k)) (omega (arith, size-inject))
           (ap (typingOf p types terms functions (contextIn p types heap vars sc)) (tree-right k) ∙ a-sum S (term t) _ sum-kind
           ∙ ap (λ c. demanded (typeIn p types terms functions heap vars sc part) (treeIn p types heap (s .second)) c t) (sym (sum-tree S sum-kind)))
@@ -193,7 +194,7 @@ module _ {p types terms functions nodes heap vars : List ℕ} {sc : Scope} {top 
 
 module _ {p types terms functions nodes heap vars : List ℕ} {sc : Scope} {top t at : ℕ}
     (rd : Ready (termsIn (termIn p types terms t)) p types terms functions nodes heap vars sc top)
-    (H : Here p terms t at 9) {i part : ℕ} (q : i ≡ first p at) (q′ : part ≡ second p at) where
+    (H : Here p terms t at rollKind) {i part : ℕ} (q : i ≡ first p at) (q′ : part ≡ second p at) where
   rolled : termIn p types terms t ≡ troll t (treeIn p types heap (entryCode i)) (termIn p types terms part)
   rolled = tree-roll (rd .entries) H ∙ ap₂ (troll t) (sym (whole-tree p types heap at q refl)) (ap (termIn p types terms) (sym q′))
 
@@ -240,7 +241,7 @@ module _ {p types terms functions nodes heap vars : List ℕ} {sc : Scope} {top 
 
 module _ {p types terms functions nodes heap vars : List ℕ} {sc : Scope} {top t at : ℕ}
     (rd : Ready (termsIn (termIn p types terms t)) p types terms functions nodes heap vars sc top)
-    (H : Here p terms t at 10) {i part : ℕ} (q : i ≡ first p at) (q′ : part ≡ second p at) where
+    (H : Here p terms t at unrollKind) {i part : ℕ} (q : i ≡ first p at) (q′ : part ≡ second p at) where
   unrolled : termIn p types terms t ≡ tunroll t (treeIn p types heap (entryCode i)) (termIn p types terms part)
   unrolled = tree-unroll (rd .entries) H ∙ ap₂ (tunroll t) (sym (whole-tree p types heap at q refl)) (ap (termIn p types terms) (sym q′))
 

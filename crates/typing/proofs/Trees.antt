@@ -16,6 +16,7 @@ use package.Rattle.program.specs.Parts.{variable, first, second, third, listed,
 use package.Rattle.program.proofs.Rooms.{term-kind, term-kind-room, var-room, two-room, case-room, call-sized, call-room}
 use package.Rattle.program.proofs.Shapes.{term-var, term-unit, term-inl, term-inr, term-pair, term-let, term-letp, term-case, term-call, term-roll, term-unroll}
 use package.Rattle.program.proofs.Lists.{below-last, below-each}
+use package.Rattle.program.specs.Kinds.{variableKind, unitKind, pairKind, letKind, letPairKind, callKind, rollKind, unrollKind, inlKind, inrKind, caseKind}
 use package.Rattle.typing.specs.Ready.{termIn, Entered, Here}
 
 -- the kind that was read
@@ -24,13 +25,13 @@ here l e g q = record { there = l; place = e; form = sym g ∙ q }
 
 -- inl and inr, which one function takes
 injected : {p terms : List ℕ} {t at k : ℕ} → Here p terms t at k → 2 ≤ k → k ≤ 3
-    → Here p terms t at (kindAt p at) × (2 ≤ kindAt p at) × (kindAt p at ≤ 3)
+    → Here p terms t at (kindAt p at) × (inlKind ≤ kindAt p at) × (kindAt p at ≤ inrKind)
 injected h lo hi = (record { there = h .there; place = h .place; form = refl }, omega (arith, h .form), omega (arith, h .form))
 
-pub here-inl : {p terms : List ℕ} {t at : ℕ} → Here p terms t at 2 → Here p terms t at (kindAt p at) × (2 ≤ kindAt p at) × (kindAt p at ≤ 3)
+pub here-inl : {p terms : List ℕ} {t at : ℕ} → Here p terms t at inlKind → Here p terms t at (kindAt p at) × (inlKind ≤ kindAt p at) × (kindAt p at ≤ inrKind)
 here-inl h = injected h (omega arith) (omega arith)
 
-pub here-inr : {p terms : List ℕ} {t at : ℕ} → Here p terms t at 3 → Here p terms t at (kindAt p at) × (2 ≤ kindAt p at) × (kindAt p at ≤ 3)
+pub here-inr : {p terms : List ℕ} {t at : ℕ} → Here p terms t at inrKind → Here p terms t at (kindAt p at) × (inlKind ≤ kindAt p at) × (kindAt p at ≤ inrKind)
 here-inr h = injected h (omega arith) (omega arith)
 
 -- there is no twelfth kind
@@ -84,7 +85,7 @@ module _ {p types terms functions nodes : List ℕ} (E : Entered p types terms f
   ----------------------------------------------------------------
   -- Variables and unit
 
-  module _ {t at : ℕ} (H : Here p terms t at 0) where
+  module _ {t at : ℕ} (H : Here p terms t at variableKind) where
     pub tree-var : termIn p types terms t ≡ var t (variable p at)
     unfolding termTree
     tree-var = tree-is H (term-var p at (H .form))
@@ -92,7 +93,7 @@ module _ {p types terms functions nodes : List ℕ} (E : Entered p types terms f
     pub read-var : at + 5 ≤ length p
     read-var = var-room (field-here H) (H .form)
 
-  pub tree-unit : {t at : ℕ} → Here p terms t at 1 → termIn p types terms t ≡ tunit t
+  pub tree-unit : {t at : ℕ} → Here p terms t at unitKind → termIn p types terms t ≡ tunit t
   unfolding termTree
   tree-unit {t} {at} H = tree-is H (term-unit p at (H .form))
 
@@ -106,7 +107,7 @@ module _ {p types terms functions nodes : List ℕ} (E : Entered p types terms f
         let l : second p at < t = below-head t (second p at) [] (subst (λ is. below t is ≡ true) q′ (lower-is H e)) .0 in
         (below-head (length types) (first p at) [] (subst (λ is. below (length types) is ≡ true) q (types-are H e)) .0, (l, omega (arith, H .there)))
 
-  module _ {t at : ℕ} (H : Here p terms t at 2) where
+  module _ {t at : ℕ} (H : Here p terms t at inlKind) where
     pub tree-inl : termIn p types terms t ≡ tinl t (typeOf (map (typeAt p) types) (first p at)) (termIn p types terms (second p at))
     unfolding termTree
     tree-inl = tree-is H (term-inl p at (H .form))
@@ -115,7 +116,7 @@ module _ {p types terms functions nodes : List ℕ} (E : Entered p types terms f
     unfolding typesOfTerm termsOfTerm
     parts-inl = typed-part H (term-inl p at (H .form)) refl refl
 
-  module _ {t at : ℕ} (H : Here p terms t at 3) where
+  module _ {t at : ℕ} (H : Here p terms t at inrKind) where
     pub tree-inr : termIn p types terms t ≡ tinr t (typeOf (map (typeAt p) types) (first p at)) (termIn p types terms (second p at))
     unfolding termTree
     tree-inr = tree-is H (term-inr p at (H .form))
@@ -140,7 +141,7 @@ module _ {p types terms functions nodes : List ℕ} (E : Entered p types terms f
   read-inject (suc (suc (suc zero))) H l u = two-room (field-here H) (H .form) refl
   read-inject (suc (suc (suc (suc k)))) H l u = absurd (omega arith)
 
-  module _ {t at : ℕ} (H : Here p terms t at 9) where
+  module _ {t at : ℕ} (H : Here p terms t at rollKind) where
     pub tree-roll : termIn p types terms t ≡ troll t (typeOf (map (typeAt p) types) (first p at)) (termIn p types terms (second p at))
     unfolding termTree
     tree-roll = tree-is H (term-roll p at (H .form))
@@ -153,7 +154,7 @@ module _ {p types terms functions nodes : List ℕ} (E : Entered p types terms f
     unfolding termLengths
     read-roll = two-room (field-here H) (H .form) refl
 
-  module _ {t at : ℕ} (H : Here p terms t at 10) where
+  module _ {t at : ℕ} (H : Here p terms t at unrollKind) where
     ten : 10 ≤ kindAt p at
     ten = omega (arith, H .form)
 
@@ -183,7 +184,7 @@ module _ {p types terms functions nodes : List ℕ} (E : Entered p types terms f
         let l′ : second p at < t = below-head t (second p at) is (below-head t (first p at) _ lower-two .1) .0 in
         ((l, omega (arith, H .there)), (l′, omega (arith, H .there)))
 
-  module _ {t at : ℕ} (H : Here p terms t at 4) where
+  module _ {t at : ℕ} (H : Here p terms t at pairKind) where
     pub tree-pair : termIn p types terms t ≡ tpair t (termIn p types terms (first p at)) (termIn p types terms (second p at))
     unfolding termTree
     tree-pair = tree-is H (term-pair p at (H .form))
@@ -196,7 +197,7 @@ module _ {p types terms functions nodes : List ℕ} (E : Entered p types terms f
     unfolding termLengths
     read-pair = two-room (field-here H) (H .form) refl
 
-  module _ {t at : ℕ} (H : Here p terms t at 5) where
+  module _ {t at : ℕ} (H : Here p terms t at letKind) where
     pub tree-let : termIn p types terms t ≡ tlet t (termIn p types terms (first p at)) (termIn p types terms (second p at))
     unfolding termTree
     tree-let = tree-is H (term-let p at (H .form))
@@ -209,7 +210,7 @@ module _ {p types terms functions nodes : List ℕ} (E : Entered p types terms f
     unfolding termLengths
     read-let = two-room (field-here H) (H .form) refl
 
-  module _ {t at : ℕ} (H : Here p terms t at 6) where
+  module _ {t at : ℕ} (H : Here p terms t at letPairKind) where
     pub tree-letp : termIn p types terms t ≡ tletp t (termIn p types terms (first p at)) (termIn p types terms (second p at))
     unfolding termTree
     tree-letp = tree-is H (term-letp p at (H .form))
@@ -225,7 +226,7 @@ module _ {p types terms functions nodes : List ℕ} (E : Entered p types terms f
   ----------------------------------------------------------------
   -- Case
 
-  module _ {t at : ℕ} (H : Here p terms t at 7) where
+  module _ {t at : ℕ} (H : Here p terms t at caseKind) where
     pub tree-case : termIn p types terms t ≡ tcase t (termIn p types terms (first p at)) (termIn p types terms (second p at))
         (termIn p types terms (third p at))
     unfolding termTree
@@ -245,7 +246,7 @@ module _ {p types terms functions nodes : List ℕ} (E : Entered p types terms f
   ----------------------------------------------------------------
   -- Calls
 
-  module _ {t at : ℕ} (H : Here p terms t at 8) where
+  module _ {t at : ℕ} (H : Here p terms t at callKind) where
     pub tree-call : termIn p types terms t
         ≡ tcall t (first p at) (termTrees (termIn p types terms) (references p (at + 6) (callAncillae (lengthAt p at))))
         (termIn p types terms (listed p at (callAncillae (lengthAt p at))))

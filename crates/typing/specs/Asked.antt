@@ -3,9 +3,11 @@
 use Prim.Native.Nat.{ℕ, _+_, _≤_, _<_}
 use mathlib.Core.List.{List}
 use lib.ListN.{length, getD}
+use package.Rattle.rules.specs.Limits.{maxVariables}
 use package.Rattle.calls.specs.Fields.{kindAt}
 use package.Rattle.program.specs.Parts.{first, second, third}
 use package.Rattle.program.specs.Signatures.{SignaturesAre}
+use package.Rattle.program.specs.Kinds.{inlKind, inrKind, caseKind}
 use package.Rattle.types.specs.declared.codes.Code.{Code}
 use package.Rattle.types.specs.Codes.{treeIn, Known}
 use package.Rattle.uses.specs.declared.Uses.{Uses}
@@ -37,8 +39,8 @@ pub record ReadyInject (p types terms functions : List ℕ) (table : List (List 
   pub ready : Ready (termsIn (termIn p types terms t)) p types terms functions nodes heap vars sc top
   pub signed : SignaturesAre p functions table
   pub here : Here p terms t at (kindAt p at)
-  pub least : 2 ≤ kindAt p at
-  pub most : kindAt p at ≤ 3
+  pub least : inlKind ≤ kindAt p at
+  pub most : kindAt p at ≤ inrKind
 
 -- of the branches of case `t`, which bind variables of the types of `c` and `d`; the scrutinee has the uses `uses`
 pub record ReadyBranches (p types terms functions : List ℕ) (table : List (List ℕ)) (nodes heap vars : List ℕ) (sc : Scope)
@@ -46,8 +48,8 @@ pub record ReadyBranches (p types terms functions : List ℕ) (table : List (Lis
   pub ready : Ready (termsIn (termIn p types terms (second p at)) + termsIn (termIn p types terms (third p at)))
       p types terms functions nodes heap vars sc top
   pub signed : SignaturesAre p functions table
-  pub here : Here p terms t at 7
-  pub free : sc .n < 32
+  pub here : Here p terms t at caseKind
+  pub free : sc .n < maxVariables
   pub left : Known (length types) top c
   pub right : Known (length types) top d
   pub named : NamedBy uses (termIn p types terms (first p at))

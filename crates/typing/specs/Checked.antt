@@ -49,7 +49,7 @@ pub record Signed (xs types : List ℕ) (at : ℕ) (row : List ℕ) : Type 0 whe
 
 -- The first `n` variables have the types of the first `n` parameters.
 pub record Bound (xs types heap vars row : List ℕ) (n : ℕ) : Type 0 where
-  pub slots : variableBytes * 32 ≤ length vars
+  pub slots : variableBytes * maxVariables ≤ length vars
   pub known : (i : ℕ) → i < n → Known (length types) 0 (variableAt vars i)
   pub tree : (i : ℕ) → i < n → treeIn xs types heap (variableAt vars i) ≡ typeOf (map (typeAt xs) types) (getD row i 0)
 

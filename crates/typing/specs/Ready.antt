@@ -16,6 +16,7 @@ use package.Rattle.calls.specs.Tested.{Good}
 use package.Rattle.program.specs.Parts.{Formed, first}
 use package.Rattle.program.specs.Places.{placesOf}
 use package.Rattle.program.specs.Programs.{programIn}
+use package.Rattle.program.specs.Kinds.{callKind}
 use package.Rattle.types.specs.declared.codes.Code.{Code}
 use package.Rattle.types.specs.Codes.{Room, codeAt, unitCode, productCode, treeIn, Known, Sources}
 use package.Rattle.types.specs.Counts.{Counted}
@@ -70,10 +71,10 @@ pub record Entered (p types terms functions nodes : List ℕ) : Type 0 where
 -- Every variable in scope has a type, and the scope's set has those that must be used.
 pub record Scoped (p types heap vars : List ℕ) (sc : Scope) (top : ℕ) : Type 0 where
   pub sources : Sources p types heap top
-  pub slots : variableBytes * 32 ≤ length vars
+  pub slots : variableBytes * maxVariables ≤ length vars
   pub static : sc .q ≤ sc .n
   pub low : sc .lo ≤ sc .n
-  pub few : sc .n ≤ 32
+  pub few : sc .n ≤ maxVariables
   pub known : (i : ℕ) → i < sc .n → Known (length types) top (variableAt vars i)
   pub owed : Owed (sc .owed) (contextIn p types heap vars sc)
 
@@ -139,7 +140,7 @@ typesFrom p types h k count = map (typeOf (map (typeAt p) types)) (references p 
 
 -- a call of `count` ancilla terms, of which number `k` is next; it names function `g`, which has as many ancilla parameters
 pub record Calls (p terms functions : List ℕ) (t at g k count : ℕ) : Type 0 where
-  pub here : Here p terms t at 8
+  pub here : Here p terms t at callKind
   pub ancillae : count ≡ callAncillae (lengthAt p at)
   pub next : k ≤ count
   pub callee : g ≡ first p at

@@ -7,12 +7,16 @@ use crate::outcomes::Scope;
 use crate::outcomes::Status;
 use crate::tests;
 use crate::variables;
+use program::kinds;
+use rules::MAX_FUNCTIONS;
+use rules::MAX_PARAMETERS;
 use types::codes::Code;
 use uses::Uses;
+ghost use Rattle.program.specs.Kinds.{letKind, letPairKind, caseKind};
 ghost use Rattle.typing.specs.Asked.{ReadyAt, ReadyBranches, Infers, InfersBranches};
 
-// Section 1's limit on variables in scope.
-const MAX_VARIABLES: u8 = 32;
+// The limit on variables in scope, as wide as a scope's count.
+const MOST_VARIABLES: u8 = rules::MAX_VARIABLES as u8;
 
 // let x = e in b
 pub fn let_one(
@@ -20,7 +24,7 @@ pub fn let_one(
     types: &[u16],
     terms: &[u16],
     funs: &[u16],
-    sigs: &[[u16; 8]; 64],
+    sigs: &[[u16; MAX_PARAMETERS]; MAX_FUNCTIONS],
     nodes: &[u16],
     ws: &mut [u8],
     vars: &mut [u8],
@@ -29,12 +33,12 @@ pub fn let_one(
     t: u16,
     at: usize,
 ) -> Out
-    requires { ⌜ ReadyAt (now p) (now types) (now terms) (now funs) (now sigs) (now nodes) (now ws) (now vars) sc top t at 5 ⌝ }
+    requires { ⌜ ReadyAt (now p) (now types) (now terms) (now funs) (now sigs) (now nodes) (now ws) (now vars) sc top t at letKind ⌝ }
     ensures { λ r. ⌜ Infers (now (p .entry)) (now (types .entry)) (now (terms .entry)) (now (funs .entry))
         (now (ws .entry)) (now (ws .exit)) (now (vars .entry)) (now (vars .exit)) sc top t r ⌝ }
 {
     let n = sc.n;
-    if n == MAX_VARIABLES {
+    if n == MOST_VARIABLES {
         return outcomes::unscoped(top, t);
     }
     let bound = program::views::first(p, at);
@@ -58,7 +62,7 @@ pub fn let_two(
     types: &[u16],
     terms: &[u16],
     funs: &[u16],
-    sigs: &[[u16; 8]; 64],
+    sigs: &[[u16; MAX_PARAMETERS]; MAX_FUNCTIONS],
     nodes: &[u16],
     ws: &mut [u8],
     vars: &mut [u8],
@@ -67,11 +71,11 @@ pub fn let_two(
     t: u16,
     at: usize,
 ) -> Out
-    requires { ⌜ ReadyAt (now p) (now types) (now terms) (now funs) (now sigs) (now nodes) (now ws) (now vars) sc top t at 6 ⌝ }
+    requires { ⌜ ReadyAt (now p) (now types) (now terms) (now funs) (now sigs) (now nodes) (now ws) (now vars) sc top t at letPairKind ⌝ }
     ensures { λ r. ⌜ Infers (now (p .entry)) (now (types .entry)) (now (terms .entry)) (now (funs .entry))
         (now (ws .entry)) (now (ws .exit)) (now (vars .entry)) (now (vars .exit)) sc top t r ⌝ }
 {
-    if MAX_VARIABLES < sc.n + 2 {
+    if MOST_VARIABLES < sc.n + 2 {
         return outcomes::unscoped(top, t);
     }
     let bound = program::views::first(p, at);
@@ -83,7 +87,7 @@ pub fn let_two(
         Status::Typed(f) => {
             let s = types::shapes::shape_of(p, types, ws, m, f.code);
             let form = s.kind;
-            if form != 1 {
+            if form != kinds::PRODUCT {
                 return outcomes::differ(m, t);
             }
             let one = variables::bind(p, types, ws, vars, sc, m, s.first);
@@ -101,7 +105,7 @@ pub fn choose(
     types: &[u16],
     terms: &[u16],
     funs: &[u16],
-    sigs: &[[u16; 8]; 64],
+    sigs: &[[u16; MAX_PARAMETERS]; MAX_FUNCTIONS],
     nodes: &[u16],
     ws: &mut [u8],
     vars: &mut [u8],
@@ -110,12 +114,12 @@ pub fn choose(
     t: u16,
     at: usize,
 ) -> Out
-    requires { ⌜ ReadyAt (now p) (now types) (now terms) (now funs) (now sigs) (now nodes) (now ws) (now vars) sc top t at 7 ⌝ }
+    requires { ⌜ ReadyAt (now p) (now types) (now terms) (now funs) (now sigs) (now nodes) (now ws) (now vars) sc top t at caseKind ⌝ }
     ensures { λ r. ⌜ Infers (now (p .entry)) (now (types .entry)) (now (terms .entry)) (now (funs .entry))
         (now (ws .entry)) (now (ws .exit)) (now (vars .entry)) (now (vars .exit)) sc top t r ⌝ }
 {
     let n = sc.n;
-    if n == MAX_VARIABLES {
+    if n == MOST_VARIABLES {
         return outcomes::unscoped(top, t);
     }
     let sum = program::views::first(p, at);
@@ -126,7 +130,7 @@ pub fn choose(
         Status::Typed(f) => {
             let s = types::shapes::shape_of(p, types, ws, m, f.code);
             let form = s.kind;
-            if form != 2 {
+            if form != kinds::SUM {
                 return outcomes::differ(m, t);
             }
             arms(
@@ -157,7 +161,7 @@ fn arms(
     types: &[u16],
     terms: &[u16],
     funs: &[u16],
-    sigs: &[[u16; 8]; 64],
+    sigs: &[[u16; MAX_PARAMETERS]; MAX_FUNCTIONS],
     nodes: &[u16],
     ws: &mut [u8],
     vars: &mut [u8],

@@ -7,7 +7,10 @@ use crate::outcomes::Out;
 use crate::outcomes::Scope;
 use crate::outcomes::Status;
 use crate::tests;
+use rules::MAX_FUNCTIONS;
+use rules::MAX_PARAMETERS;
 use uses::Uses;
+ghost use Rattle.program.specs.Kinds.{callKind};
 ghost use Rattle.typing.specs.Asked.{ReadyAt, ReadyArguments, Infers, InfersArguments};
 
 // The ancilla arguments of call t, of function g, from number k of `count` on. Their uses count for nothing: they name no dynamic variable bound outside.
@@ -16,7 +19,7 @@ fn arguments(
     types: &[u16],
     terms: &[u16],
     funs: &[u16],
-    sigs: &[[u16; 8]; 64],
+    sigs: &[[u16; MAX_PARAMETERS]; MAX_FUNCTIONS],
     nodes: &[u16],
     ws: &mut [u8],
     vars: &mut [u8],
@@ -73,7 +76,7 @@ pub fn call(
     types: &[u16],
     terms: &[u16],
     funs: &[u16],
-    sigs: &[[u16; 8]; 64],
+    sigs: &[[u16; MAX_PARAMETERS]; MAX_FUNCTIONS],
     nodes: &[u16],
     ws: &mut [u8],
     vars: &mut [u8],
@@ -82,7 +85,7 @@ pub fn call(
     t: u16,
     at: usize,
 ) -> Out
-    requires { ⌜ ReadyAt (now p) (now types) (now terms) (now funs) (now sigs) (now nodes) (now ws) (now vars) sc top t at 8 ⌝ }
+    requires { ⌜ ReadyAt (now p) (now types) (now terms) (now funs) (now sigs) (now nodes) (now ws) (now vars) sc top t at callKind ⌝ }
     ensures { λ r. ⌜ Infers (now (p .entry)) (now (types .entry)) (now (terms .entry)) (now (funs .entry))
         (now (ws .entry)) (now (ws .exit)) (now (vars .entry)) (now (vars .exit)) sc top t r ⌝ }
 {

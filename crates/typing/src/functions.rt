@@ -6,6 +6,10 @@ use crate::outcomes::Fault;
 use crate::outcomes::Scope;
 use crate::outcomes::Status;
 use crate::variables;
+use crate::variables::VARIABLE_BYTES;
+use rules::MAX_FUNCTIONS;
+use rules::MAX_PARAMETERS;
+use rules::MAX_VARIABLES;
 use types::codes;
 use types::codes::Code;
 use types::compare;
@@ -13,6 +17,7 @@ use uses::Uses;
 ghost use mathlib.Core.Path.{_≡_};
 ghost use Prim.Native.Nat.{_*_, _-_, _≤_, _<_};
 ghost use lib.ListN.{length, getD};
+ghost use Rattle.rules.specs.Limits.{maxVariables};
 ghost use Rattle.calls.specs.Fields.{parametersAt};
 ghost use Rattle.program.specs.Signatures.{SignaturesAre};
 ghost use Rattle.types.specs.Codes.{treeIn, Sources, Known};
@@ -35,12 +40,12 @@ fn bind_ancillae(
     ws: &[u8],
     vars: &mut [u8],
     at: usize,
-    row: [u16; 8],
+    row: [u16; MAX_PARAMETERS],
     q: u8,
 )
     requires { ⌜ Sources (now p) (now types) (now ws) 0 ⌝ }
     requires { ⌜ Signed (now p) (now types) at row ⌝ }
-    requires { ⌜ (q < parametersAt (now p) at) × (variableBytes * 32 ≤ length (now vars)) ⌝ }
+    requires { ⌜ (q < parametersAt (now p) at) × (variableBytes * maxVariables ≤ length (now vars)) ⌝ }
     ensures { λ _. ⌜ Bound (now (p .entry)) (now (types .entry)) (now (ws .entry)) (now (vars .exit)) row q ⌝ }
 {
     let none = Uses::none();
@@ -66,11 +71,11 @@ fn bind_parameters(
     ws: &[u8],
     vars: &mut [u8],
     at: usize,
-    row: [u16; 8],
+    row: [u16; MAX_PARAMETERS],
 ) -> Scope
     requires { ⌜ Sources (now p) (now types) (now ws) 0 ⌝ }
     requires { ⌜ Signed (now p) (now types) at row ⌝ }
-    requires { ⌜ variableBytes * 32 ≤ length (now vars) ⌝ }
+    requires { ⌜ variableBytes * maxVariables ≤ length (now vars) ⌝ }
     ensures { λ r. ⌜ Started (now (p .entry)) (now (types .entry)) (now (ws .entry)) (now (vars .exit)) at r ⌝ }
 {
     let last = program::views::function_parameters(p, at) - 1;
@@ -94,7 +99,7 @@ fn finish(
     ws: &[u8],
     top: u32,
     at: usize,
-    row: [u16; 8],
+    row: [u16; MAX_PARAMETERS],
     code: Code,
     used: Uses,
 ) -> Verdict
@@ -147,7 +152,7 @@ fn check_function(
     types: &[u16],
     terms: &[u16],
     functions: &[u16],
-    table: &[[u16; 8]; 64],
+    table: &[[u16; MAX_PARAMETERS]; MAX_FUNCTIONS],
     nodes: &[u16],
     ws: &mut [u8],
     g: usize,
@@ -159,7 +164,7 @@ fn check_function(
     let row = table[g];
     let at = octets::wide_index(functions[g]);
     let body = program::views::function_body(p, at);
-    let mut vars = [0u8; 192];
+    let mut vars = [0u8; VARIABLE_BYTES * MAX_VARIABLES];
     let sc = bind_parameters(p, types, ws, &mut vars, at, row);
     let out = infer::infer(
         p,
@@ -189,7 +194,7 @@ pub fn check_functions(
     types: &[u16],
     terms: &[u16],
     functions: &[u16],
-    table: &[[u16; 8]; 64],
+    table: &[[u16; MAX_PARAMETERS]; MAX_FUNCTIONS],
     nodes: &[u16],
     ws: &mut [u8],
 ) -> Verdict

@@ -10,7 +10,10 @@ use crate::outcomes::Status;
 use crate::tests;
 use crate::variables;
 use program::kinds;
+use rules::MAX_FUNCTIONS;
+use rules::MAX_PARAMETERS;
 use types::unfolding::Body;
+ghost use Rattle.program.specs.Kinds.{pairKind, rollKind, unrollKind};
 ghost use Rattle.typing.specs.Asked.{ReadyFor, ReadyAt, ReadyInject, Infers};
 
 // Term t, in a scope.
@@ -19,7 +22,7 @@ pub fn infer(
     types: &[u16],
     terms: &[u16],
     funs: &[u16],
-    sigs: &[[u16; 8]; 64],
+    sigs: &[[u16; MAX_PARAMETERS]; MAX_FUNCTIONS],
     nodes: &[u16],
     ws: &mut [u8],
     vars: &mut [u8],
@@ -69,7 +72,7 @@ fn inject(
     types: &[u16],
     terms: &[u16],
     funs: &[u16],
-    sigs: &[[u16; 8]; 64],
+    sigs: &[[u16; MAX_PARAMETERS]; MAX_FUNCTIONS],
     nodes: &[u16],
     ws: &mut [u8],
     vars: &mut [u8],
@@ -87,7 +90,7 @@ fn inject(
     let whole = types::codes::entry(i);
     let s = types::shapes::shape_of(p, types, ws, top, whole);
     let form = s.kind;
-    if form != 2 {
+    if form != kinds::SUM {
         return outcomes::differ(top, t);
     }
     let r = infer(p, types, terms, funs, sigs, nodes, ws, vars, sc, top, part);
@@ -104,7 +107,7 @@ fn pair(
     types: &[u16],
     terms: &[u16],
     funs: &[u16],
-    sigs: &[[u16; 8]; 64],
+    sigs: &[[u16; MAX_PARAMETERS]; MAX_FUNCTIONS],
     nodes: &[u16],
     ws: &mut [u8],
     vars: &mut [u8],
@@ -113,7 +116,7 @@ fn pair(
     t: u16,
     at: usize,
 ) -> Out
-    requires { ⌜ ReadyAt (now p) (now types) (now terms) (now funs) (now sigs) (now nodes) (now ws) (now vars) sc top t at 4 ⌝ }
+    requires { ⌜ ReadyAt (now p) (now types) (now terms) (now funs) (now sigs) (now nodes) (now ws) (now vars) sc top t at pairKind ⌝ }
     ensures { λ r. ⌜ Infers (now (p .entry)) (now (types .entry)) (now (terms .entry)) (now (funs .entry))
         (now (ws .entry)) (now (ws .exit)) (now (vars .entry)) (now (vars .exit)) sc top t r ⌝ }
 {
@@ -137,7 +140,7 @@ fn roll(
     types: &[u16],
     terms: &[u16],
     funs: &[u16],
-    sigs: &[[u16; 8]; 64],
+    sigs: &[[u16; MAX_PARAMETERS]; MAX_FUNCTIONS],
     nodes: &[u16],
     ws: &mut [u8],
     vars: &mut [u8],
@@ -146,7 +149,7 @@ fn roll(
     t: u16,
     at: usize,
 ) -> Out
-    requires { ⌜ ReadyAt (now p) (now types) (now terms) (now funs) (now sigs) (now nodes) (now ws) (now vars) sc top t at 9 ⌝ }
+    requires { ⌜ ReadyAt (now p) (now types) (now terms) (now funs) (now sigs) (now nodes) (now ws) (now vars) sc top t at rollKind ⌝ }
     ensures { λ r. ⌜ Infers (now (p .entry)) (now (types .entry)) (now (terms .entry)) (now (funs .entry))
         (now (ws .entry)) (now (ws .exit)) (now (vars .entry)) (now (vars .exit)) sc top t r ⌝ }
 {
@@ -169,7 +172,7 @@ fn unroll(
     types: &[u16],
     terms: &[u16],
     funs: &[u16],
-    sigs: &[[u16; 8]; 64],
+    sigs: &[[u16; MAX_PARAMETERS]; MAX_FUNCTIONS],
     nodes: &[u16],
     ws: &mut [u8],
     vars: &mut [u8],
@@ -178,7 +181,7 @@ fn unroll(
     t: u16,
     at: usize,
 ) -> Out
-    requires { ⌜ ReadyAt (now p) (now types) (now terms) (now funs) (now sigs) (now nodes) (now ws) (now vars) sc top t at 10 ⌝ }
+    requires { ⌜ ReadyAt (now p) (now types) (now terms) (now funs) (now sigs) (now nodes) (now ws) (now vars) sc top t at unrollKind ⌝ }
     ensures { λ r. ⌜ Infers (now (p .entry)) (now (types .entry)) (now (terms .entry)) (now (funs .entry))
         (now (ws .entry)) (now (ws .exit)) (now (vars .entry)) (now (vars .exit)) sc top t r ⌝ }
 {

@@ -8,6 +8,7 @@ use uses::Uses;
 ghost use mathlib.Core.Path.{_≡_};
 ghost use Prim.Native.Nat.{_+_, _<_};
 ghost use lib.ListN.{length};
+ghost use Rattle.rules.specs.Limits.{maxVariables, maxTerms};
 ghost use Rattle.types.specs.Codes.{Room, Known, Sources};
 ghost use Rattle.types.specs.Counts.{Counted};
 ghost use Rattle.typing.specs.Ready.{Told, After, Joins, Expects, spentBy, ClosesOne, ClosesTwo, Meets, Pairs};
@@ -38,7 +39,7 @@ pub fn expect(p: &[u8], types: &[u16], ws: &[u8], out: Out, want: Code, answer: 
 // Is variable i, of the code's type, used? If its type is exactly unit, it need not be.
 pub fn spent(p: &[u8], types: &[u16], ws: &[u8], top: u32, c: Code, i: u8, uses: Uses) -> bool
     requires { ⌜ Sources (now p) (now types) (now ws) top ⌝ }
-    requires { ⌜ Known (length (now types)) top c × (i < 32) ⌝ }
+    requires { ⌜ Known (length (now types)) top c × (i < maxVariables) ⌝ }
     ensures { λ r. ⌜ r ≡ spentBy (now (p .entry)) (now (types .entry)) (now (ws .entry)) c i uses ⌝ }
 {
     if types::compare::is_unit(p, types, ws, top, c) {
@@ -71,7 +72,7 @@ pub fn close_one(
     t: u16,
 ) -> Out
     requires { ⌜ Told (now p) (now types) (now ws) out ⌝ }
-    requires { ⌜ Known (length (now types)) (out .top) c × (i < 32) ⌝ }
+    requires { ⌜ Known (length (now types)) (out .top) c × (i < maxVariables) ⌝ }
     ensures { λ r. ⌜ After out r (ClosesOne (now (p .entry)) (now (types .entry)) (now (ws .entry)) uses i c t) ⌝ }
 {
     let status = out.status;
@@ -100,7 +101,7 @@ pub fn close_two(
     t: u16,
 ) -> Out
     requires { ⌜ Told (now p) (now types) (now ws) out ⌝ }
-    requires { ⌜ Known (length (now types)) (out .top) c × Known (length (now types)) (out .top) d × (i + 1 < 32) ⌝ }
+    requires { ⌜ Known (length (now types)) (out .top) c × Known (length (now types)) (out .top) d × (i + 1 < maxVariables) ⌝ }
     ensures { λ r. ⌜ After out r (ClosesTwo (now (p .entry)) (now (types .entry)) (now (ws .entry)) uses i c d t) ⌝ }
 {
     let status = out.status;
@@ -133,7 +134,7 @@ pub fn meet(
     t: u16,
 ) -> Out
     requires { ⌜ Told (now p) (now types) (now ws) out ⌝ }
-    requires { ⌜ Known (length (now types)) (out .top) (left .code) × Known (length (now types)) (out .top) d × (i < 32) ⌝ }
+    requires { ⌜ Known (length (now types)) (out .top) (left .code) × Known (length (now types)) (out .top) d × (i < maxVariables) ⌝ }
     ensures { λ r. ⌜ After out r (Meets (now (p .entry)) (now (types .entry)) (now (ws .entry)) left uses i d owed t) ⌝ }
 {
     let status = out.status;
@@ -171,7 +172,7 @@ pub fn pair_up(
     requires { ⌜ Told (now p) (now types) (now ws) out ⌝ }
     requires { ⌜ Known (length (now types)) (out .top) (left .code) ⌝ }
     requires { ⌜ Counted (now p) (now types) (now nodes) ⌝ }
-    requires { ⌜ Room (now ws) (out .top + 1) × (out .top < 1024) ⌝ }
+    requires { ⌜ Room (now ws) (out .top + 1) × (out .top < maxTerms) ⌝ }
     ensures { λ r. ⌜ Pairs (now (p .entry)) (now (types .entry)) (now (ws .entry)) (now (ws .exit)) left t out r ⌝ }
 {
     let status = out.status;

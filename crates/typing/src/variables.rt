@@ -9,20 +9,21 @@ use uses::Uses;
 ghost use mathlib.Core.Path.{_≡_};
 ghost use Prim.Native.Nat.{_*_, _≤_, _<_};
 ghost use lib.ListN.{length};
+ghost use Rattle.rules.specs.Limits.{maxVariables};
 ghost use Rattle.types.specs.Codes.{Known};
 ghost use Rattle.typing.specs.Ready.{variableBytes, variableAt, Scoped, Reads, Seen, Opened};
 
-const VARIABLE_BYTES: usize = 6;
+pub const VARIABLE_BYTES: usize = 6;
 
 fn slot(i: u8) -> usize
-    requires { ⌜ i < 32 ⌝ }
-    ensures { λ r. ⌜ (r ≡ variableBytes * i) × (r < 192) ⌝ }
+    requires { ⌜ i < maxVariables ⌝ }
+    ensures { λ r. ⌜ (r ≡ variableBytes * i) × (r < variableBytes * maxVariables) ⌝ }
 {
     VARIABLE_BYTES * octets::wide_index(octets::wide16(i))
 }
 
 fn code_of(vars: &[u8], i: u8) -> Code
-    requires { ⌜ (i < 32) × (variableBytes * 32 ≤ length (now vars)) ⌝ }
+    requires { ⌜ (i < maxVariables) × (variableBytes * maxVariables ≤ length (now vars)) ⌝ }
     ensures { λ r. ⌜ r ≡ variableAt (now (vars .entry)) i ⌝ }
 {
     types::nodes::code_at(vars, slot(i))
@@ -30,7 +31,7 @@ fn code_of(vars: &[u8], i: u8) -> Code
 
 // A variable that may be named.
 fn named(vars: &[u8], top: u32, i: u8) -> Out
-    requires { ⌜ (i < 32) × (variableBytes * 32 ≤ length (now vars)) ⌝ }
+    requires { ⌜ (i < maxVariables) × (variableBytes * maxVariables ≤ length (now vars)) ⌝ }
     ensures { λ r. ⌜ Reads (now (vars .entry)) top i r ⌝ }
 {
     let code = code_of(vars, i);
@@ -43,7 +44,7 @@ fn named(vars: &[u8], top: u32, i: u8) -> Out
 
 // Variable i as a term: its type, unless it is not in scope, or barred.
 pub fn variable(vars: &[u8], sc: Scope, top: u32, t: u16, i: u8) -> Out
-    requires { ⌜ (sc .n ≤ 32) × (variableBytes * 32 ≤ length (now vars)) ⌝ }
+    requires { ⌜ (sc .n ≤ maxVariables) × (variableBytes * maxVariables ≤ length (now vars)) ⌝ }
     ensures { λ r. ⌜ Seen (now (vars .entry)) sc top t i r ⌝ }
 {
     if sc.n <= i {
@@ -69,7 +70,7 @@ pub fn bind(
     c: Code,
 ) -> Scope
     requires { ⌜ Scoped (now p) (now types) (now ws) (now vars) sc top ⌝ }
-    requires { ⌜ Known (length (now types)) top c × (sc .n < 32) ⌝ }
+    requires { ⌜ Known (length (now types)) top c × (sc .n < maxVariables) ⌝ }
     ensures { λ r. ⌜ Opened (now (p .entry)) (now (types .entry)) (now (ws .entry)) (now (vars .entry)) (now (vars .exit)) sc top c r ⌝ }
 {
     let n = sc.n;

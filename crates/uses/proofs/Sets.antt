@@ -9,6 +9,7 @@ use lib.Pow.{pow-pos, shl-exact}
 use borrow.Author.Tests.{eqb-true, eqb-false}
 use package.Rattle.uses.specs.Sets.{has, Holds, nobody, alone, firsts, joined, below, AgreeOn}
 use package.Rattle.octets.specs.Runs.{Decides}
+use package.Rattle.rules.specs.Limits.{maxVariables}
 use package.Rattle.uses.proofs.Bits.{bit, bit-or, bit-and, bit-xor, bit-zero, bit-power, bit-ones, all-clear}
 use Rattle.uses.specs.declared.Uses.{Uses}
 
@@ -17,23 +18,23 @@ unfolding has
 holds-none = record { each = λ i l. bit-zero i }
 
 -- a power of two that a number holds
-power : (i : ℕ) → i < 32 → 1 * 2 ^ i % 4294967296 ≡ 2 ^ i
+power : (i : ℕ) → i < maxVariables → 1 * 2 ^ i % 4294967296 ≡ 2 ^ i
 power i l = shl-exact {a = 1} 1 i 32 (omega arith) (omega arith) ∙ (let z : 1 * 2 ^ i ≡ 2 ^ i = omega arith in z)
 
-pub power-some : (i : ℕ) → i < 32 → 1 ≤ 1 * 2 ^ i % 4294967296
+pub power-some : (i : ℕ) → i < maxVariables → 1 ≤ 1 * 2 ^ i % 4294967296
 power-some i l = omega (arith, power i l, pow-pos i)
 
-pub holds-only : (i : ℕ) → i < 32 → Holds (record { bits = 1 * 2 ^ i % 4294967296 }) (alone i)
+pub holds-only : (i : ℕ) → i < maxVariables → Holds (record { bits = 1 * 2 ^ i % 4294967296 }) (alone i)
 unfolding has
 holds-only i l = record {
   each = λ j h. ap (λ n. bit n j) (power i l) ∙ bit-power i j;
 }
 
-pub holds-first : (n : ℕ) → n < 32 → Holds (record { bits = 1 * 2 ^ n % 4294967296 - 1 }) (firsts n)
+pub holds-first : (n : ℕ) → n < maxVariables → Holds (record { bits = 1 * 2 ^ n % 4294967296 - 1 }) (firsts n)
 unfolding has
 holds-first n l = record { each = λ i h. ap (λ m. bit (m - 1) i) (power n l) ∙ bit-ones n i }
 
-pub holds-below : (u : Uses) (n : ℕ) → n < 32 → Holds (record { bits = bitAnd (u .bits) (1 * 2 ^ n % 4294967296 - 1) }) (below n (has u))
+pub holds-below : (u : Uses) (n : ℕ) → n < maxVariables → Holds (record { bits = bitAnd (u .bits) (1 * 2 ^ n % 4294967296 - 1) }) (below n (has u))
 unfolding has
 holds-below u n l = record {
   each = λ i h.

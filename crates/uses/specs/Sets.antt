@@ -3,6 +3,7 @@ use Prim.Native.Nat.{ℕ, _/_, _%_, _^_, _<_}
 use mathlib.Core.Path.{_≡_}
 use mathlib.Core.Bool.{Bool, true, false, _||_, _&&_}
 use lib.Dec.{eqb, ltb}
+use package.Rattle.rules.specs.Limits.{maxVariables}
 use Rattle.uses.specs.declared.Uses.{Uses}
 
 -- Is variable `i` in the set?
@@ -11,7 +12,7 @@ has u i = eqb (u .bits / 2 ^ i % 2) 1
 
 -- the set holds, of the variables that there can be, those that `S` says
 pub record Holds (u : Uses) (S : ℕ → Bool) : Type 0 where
-  pub each : (i : ℕ) → i < 32 → has u i ≡ S i
+  pub each : (i : ℕ) → i < maxVariables → has u i ≡ S i
 
 abbrev pub nobody : ℕ → Bool
 nobody i = false
@@ -32,4 +33,4 @@ below n S i = S i && ltb i n
 
 -- two sets have the same variables among those of a third
 abbrev pub AgreeOn : Uses → Uses → Uses → Type 0
-AgreeOn u v among = (i : ℕ) → i < 32 → has among i ≡ true → has u i ≡ has v i
+AgreeOn u v among = (i : ℕ) → i < maxVariables → has among i ≡ true → has u i ≡ has v i

@@ -4,6 +4,7 @@ ghost use mathlib.Core.Path.{_≡_};
 ghost use Prim.Native.Nat.{_<_};
 ghost use Rattle.uses.specs.Sets.{Holds, nobody, alone, firsts, joined, below, has, AgreeOn};
 ghost use Rattle.octets.specs.Runs.{Decides};
+ghost use Rattle.rules.specs.Limits.{maxVariables};
 
 pub struct Uses {
     pub bits: u32,
@@ -18,7 +19,7 @@ impl Uses {
 
     // Variable i alone.
     pub fn only(i: u8) -> Self
-        requires { ⌜ i < 32 ⌝ }
+        requires { ⌜ i < maxVariables ⌝ }
         ensures { λ r. ⌜ Holds r (alone i) ⌝ }
     {
         Self { bits: 1 << i }
@@ -26,7 +27,7 @@ impl Uses {
 
     // The first n variables.
     pub fn first(n: u8) -> Self
-        requires { ⌜ n < 32 ⌝ }
+        requires { ⌜ n < maxVariables ⌝ }
         ensures { λ r. ⌜ Holds r (firsts n) ⌝ }
     {
         let power: u32 = 1 << n;
@@ -43,7 +44,7 @@ impl Uses {
 
     // Those of the set that are among the first n variables.
     pub fn among_first(self, n: u8) -> Uses
-        requires { ⌜ n < 32 ⌝ }
+        requires { ⌜ n < maxVariables ⌝ }
         ensures { λ r. ⌜ Holds r (below n (has self)) ⌝ }
     {
         let power: u32 = 1 << n;
@@ -54,7 +55,7 @@ impl Uses {
 
     // Is variable i in the set?
     pub fn contains(self, i: u8) -> bool
-        requires { ⌜ i < 32 ⌝ }
+        requires { ⌜ i < maxVariables ⌝ }
         ensures { λ r. ⌜ r ≡ has self i ⌝ }
     {
         (self.bits >> i) % 2 == 1

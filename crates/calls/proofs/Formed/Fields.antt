@@ -11,7 +11,7 @@ use package.Rattle.rules.specs.Limits.{maxTypes, maxTerms, maxFunctions, maxPar
 use package.Rattle.rules.proofs.Basics.{given, and-both, eqb-sound, eqb-yes, eqb-differs, or-elim}
 use package.Rattle.rules.proofs.Typing.Tests.{leb-yes, leb-sound}
 use package.Rattle.calls.specs.Answer.{Answer, accepted, _>>=_, require}
-use package.Rattle.calls.specs.Fields.{tagAt, lengthAt, nextAt, parametersAt, bodyFits, wellFormed, Layout, noFields, withField, withinCounts, readFields, layout}
+use package.Rattle.calls.specs.Fields.{functionTag, tagAt, lengthAt, nextAt, parametersAt, bodyFits, wellFormed, Layout, noFields, withField, withinCounts, readFields, layout}
 use package.Rattle.calls.specs.Named.{member}
 use package.Rattle.calls.specs.Formed.{FieldsAt, no-more, one-more, tagged, byTag, Few}
 use package.Rattle.calls.proofs.Answer.{accepted-inj, via, unbind, require-yes, required}
@@ -76,7 +76,7 @@ module _ (xs : List ℕ) where
         types = leb-sound _ maxTypes y;
         terms = leb-sound _ maxTerms t;
         functions = leb-sound _ maxFunctions f;
-        parameters = of (eqb (tagAt xs at) 3) p;
+        parameters = of (eqb (tagAt xs at) functionTag) p;
       }
     where
       of : (b : Bool) → cond b (leb 1 (parametersAt xs at) && leb (parametersAt xs at) maxParameters) true ≡ true
@@ -92,7 +92,7 @@ module _ (xs : List ℕ) where
     leb-yes (length (withField xs at L .terms)) maxTerms (omega (arith, G .terms, length-append (withField xs at L .terms) (tagged xs 2 places))),
     leb-yes (length (withField xs at L .functions)) maxFunctions
         (omega (arith, G .functions, length-append (withField xs at L .functions) (tagged xs 3 places))),
-    of (eqb (tagAt xs at) 3) (F .parameters at),
+    of (eqb (tagAt xs at) functionTag) (F .parameters at),
   )
     where
       of : (b : Bool) → (member at (L .functions ++ cond b (at ∷ tagged xs 3 places) (tagged xs 3 places)) ≡ true → Parameters at)

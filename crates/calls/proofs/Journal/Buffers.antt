@@ -15,6 +15,7 @@ use package.Rattle.rules.specs.Val.{Val, size, encode}
 use package.Rattle.rules.proofs.Basics.{given, some-inj}
 use package.Rattle.rules.proofs.Val.{length-encode}
 use package.Rattle.calls.specs.Values.{value, encodeAll}
+use package.Rattle.calls.specs.Fields.{fieldHead}
 use package.Rattle.calls.specs.Journal.{Entry, Journal, field, heldTag, entryTag, entryBody, entryFields, fields, writeOut, opened, readEntries, readJournal}
 use package.Rattle.calls.specs.Book.{resized}
 use package.Rattle.calls.specs.Claims.{lastField}
@@ -31,7 +32,7 @@ pub record Writable (J : Journal) : Type 0 where
 ----------------------------------------------------------------
 -- Fields
 
-pub length-fields : (J : Journal) → length (fields J) ≡ 3 + size (J .held) + length (entryFields (J .entries))
+pub length-fields : (J : Journal) → length (fields J) ≡ fieldHead + size (J .held) + length (entryFields (J .entries))
 unfolding fields
 length-fields J =
     length-append (field heldTag (encode (J .held))) (entryFields (J .entries))

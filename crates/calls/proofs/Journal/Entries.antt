@@ -11,7 +11,7 @@ use lib.Dec.{eqb}
 use package.Rattle.octets.specs.Numbers.{AreBytes}
 use package.Rattle.rules.proofs.Basics.{given, none≢some, some-inj, and-both, eqb-sound}
 use package.Rattle.calls.specs.Values.{encodeAll}
-use package.Rattle.calls.specs.Journal.{Entry, field, entryTag, entryBody, entryFields, when, opened, readEntry, allZero, readEntries}
+use package.Rattle.calls.specs.Journal.{Entry, entryBytes, field, entryTag, entryBody, entryFields, when, opened, readEntry, allZero, readEntries}
 use package.Rattle.calls.proofs.Journal.Fields.{there, was-there, when-true, when-some, length-field, opened-field, opened-sound, opened-bytes, WritableEntry, length-entryBody, entry-fits, readEntry-body, readEntry-sound}
 
 ----------------------------------------------------------------
@@ -39,11 +39,11 @@ entryFields-snoc (d ∷ es) e =
     ap (λ xs. field entryTag (entryBody d) ++ xs) (entryFields-snoc es e) ∙ sym (append-assoc (field entryTag (entryBody d)) (entryFields es) (field entryTag (entryBody e)))
 
 -- three bytes of a field, six of an entry, and the ancillae
-pub length-entry : (e : Entry) → length (field entryTag (entryBody e)) ≡ 9 + length (encodeAll (e .ancillae))
+pub length-entry : (e : Entry) → length (field entryTag (entryBody e)) ≡ entryBytes + length (encodeAll (e .ancillae))
 length-entry e = omega (arith, length-field entryTag (entryBody e), length-entryBody e)
 
 pub length-entryFields-snoc : (es : List Entry) (e : Entry)
-    → length (entryFields (es ++ (e ∷ []))) ≡ length (entryFields es) + 9 + length (encodeAll (e .ancillae))
+    → length (entryFields (es ++ (e ∷ []))) ≡ length (entryFields es) + entryBytes + length (encodeAll (e .ancillae))
 length-entryFields-snoc es e = ap length (entryFields-snoc es e) ∙ length-append (entryFields es) (field entryTag (entryBody e)) ∙ omega (arith, length-entry e)
 
 ----------------------------------------------------------------

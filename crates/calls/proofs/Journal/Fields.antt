@@ -16,7 +16,8 @@ use package.Rattle.rules.specs.Val.{Val, size}
 use package.Rattle.rules.proofs.Basics.{given, none≢some, some-inj, eqb-yes, eqb-sound}
 use package.Rattle.rules.proofs.Typing.Tests.{leb-yes, leb-sound}
 use package.Rattle.calls.specs.Values.{encodeAll, ancillae}
-use package.Rattle.calls.specs.Journal.{Entry, field, entryBody, _>>=_, when, Opened, opened, readEntry}
+use package.Rattle.calls.specs.Fields.{fieldHead}
+use package.Rattle.calls.specs.Journal.{Entry, entryHead, field, entryBody, _>>=_, when, Opened, opened, readEntry}
 use package.Rattle.calls.proofs.Values.{ancillae-encode, ancillae-sound}
 
 ----------------------------------------------------------------
@@ -52,14 +53,14 @@ unfolding fits maxValueBytes
 fits-below v e = omega (arith, leb-sound (size v) maxValueBytes e)
 
 -- the body of an entry fits a field
-pub ancillae-below : {n : ℕ} → n ≤ maxAncillaBytes → 6 + n < 65536
+pub ancillae-below : {n : ℕ} → n ≤ maxAncillaBytes → entryHead + n < 65536
 unfolding maxAncillaBytes
 ancillae-below h = omega arith
 
 ----------------------------------------------------------------
 -- A field
 
-pub length-field : (tag : ℕ) (body : List ℕ) → length (field tag body) ≡ 3 + length body
+pub length-field : (tag : ℕ) (body : List ℕ) → length (field tag body) ≡ fieldHead + length body
 unfolding field bytes16
 length-field tag body = omega arith
 
@@ -109,7 +110,7 @@ pub record WritableEntry (e : Entry) : Type 0 where
   pub steps-below : e .steps < 65536 * 65536
   pub ancillae-within : length (encodeAll (e .ancillae)) ≤ maxAncillaBytes
 
-pub length-entryBody : (e : Entry) → length (entryBody e) ≡ 6 + length (encodeAll (e .ancillae))
+pub length-entryBody : (e : Entry) → length (entryBody e) ≡ entryHead + length (encodeAll (e .ancillae))
 unfolding entryBody bytes16 bytes32
 length-entryBody e = omega arith
 
@@ -119,30 +120,30 @@ entry-fits e w = omega (arith, length-entryBody e, ancillae-below (w .ancillae-w
 pub readEntry-body : (e : Entry) → WritableEntry e → readEntry (entryBody e) ≡ some e
 unfolding readEntry entryBody bytes16 bytes32
 readEntry-body e w =
-    there _ (when-true (leb-yes 6 (length (entryBody e)) (omega (arith, length-entryBody e)))) (there _ (ancillae-encode (e .ancillae) (w .ancillae-within))
+    there _ (when-true (leb-yes entryHead (length (entryBody e)) (omega (arith, length-entryBody e)))) (there _ (ancillae-encode (e .ancillae) (w .ancillae-within))
     (ap₂ (λ f s. some (record { function = f; steps = s; ancillae = e .ancillae }))
     (get16-bytes16 (e .function) (bytes32 (e .steps) ++ encodeAll (e .ancillae)) (w .function-below))
     (get32-behind (bytes16 (e .function)) (bytes32 (e .steps) ++ encodeAll (e .ancillae)) 0
     ∙ get32-bytes32 (e .steps) (encodeAll (e .ancillae)) (w .steps-below))))
 
 -- a function, steps, and the rest
-six-bytes : (xs : List ℕ) → AreBytes xs → 6 ≤ length xs → bytes16 (get16 xs 0) ++ bytes32 (get32 xs 2) ++ drop 6 xs ≡ xs
+head-whole : (xs : List ℕ) → AreBytes xs → entryHead ≤ length xs → bytes16 (get16 xs 0) ++ bytes32 (get32 xs 2) ++ drop entryHead xs ≡ xs
 unfolding get16 get32
-six-bytes [] h l = absurd (omega arith)
-six-bytes (a ∷ []) h l = absurd (omega arith)
-six-bytes (a ∷ b ∷ []) h l = absurd (omega arith)
-six-bytes (a ∷ b ∷ c ∷ []) h l = absurd (omega arith)
-six-bytes (a ∷ b ∷ c ∷ d ∷ []) h l = absurd (omega arith)
-six-bytes (a ∷ b ∷ c ∷ d ∷ e ∷ []) h l = absurd (omega arith)
-six-bytes (a ∷ b ∷ c ∷ d ∷ e ∷ f ∷ xs) h l =
+head-whole [] h l = absurd (omega arith)
+head-whole (a ∷ []) h l = absurd (omega arith)
+head-whole (a ∷ b ∷ []) h l = absurd (omega arith)
+head-whole (a ∷ b ∷ c ∷ []) h l = absurd (omega arith)
+head-whole (a ∷ b ∷ c ∷ d ∷ []) h l = absurd (omega arith)
+head-whole (a ∷ b ∷ c ∷ d ∷ e ∷ []) h l = absurd (omega arith)
+head-whole (a ∷ b ∷ c ∷ d ∷ e ∷ f ∷ xs) h l =
     ap₂ (λ x y. x ++ y ++ xs) (bytes16-get16 a b [] (h 0) (h 1)) (bytes32-get32 c d e f [] (h 2) (h 3) (h 4) (h 5))
 
 pub readEntry-sound : (xs : List ℕ) {e : Entry} → AreBytes xs → readEntry xs ≡ some e → (xs ≡ entryBody e) × WritableEntry e
 unfolding readEntry entryBody
 readEntry-sound xs h e =
-    given (was-there (when (leb 6 (length xs))) _ e) λ (u, long, next). given (was-there (ancillae (drop 6 xs)) _ next) λ (vs, anc, last).
-    given (ancillae-sound (drop 6 xs) anc) λ (same, within).
+    given (was-there (when (leb entryHead (length xs))) _ e) λ (u, long, next). given (was-there (ancillae (drop entryHead xs)) _ next) λ (vs, anc, last).
+    given (ancillae-sound (drop entryHead xs) anc) λ (same, within).
     subst (λ e. (xs ≡ entryBody e) × WritableEntry e) (some-inj last) (
-      sym (six-bytes xs h (leb-sound 6 (length xs) (when-some (leb 6 (length xs)) long))) ∙ ap (λ ys. bytes16 (get16 xs 0) ++ bytes32 (get32 xs 2) ++ ys) same,
+      sym (head-whole xs h (leb-sound entryHead (length xs) (when-some (leb entryHead (length xs)) long))) ∙ ap (λ ys. bytes16 (get16 xs 0) ++ bytes32 (get32 xs 2) ++ ys) same,
       record { function-below = get16-below xs 0 h; steps-below = get32-below xs 2 h; ancillae-within = rw same at within },
     )

@@ -1,5 +1,4 @@
 use native.Mathlib.Omega.{arith}
-use Rattle.rules.specs.Limits.{maxNodes}
 use Rattle.calls.specs.Named.{ceiling}
 use borrow.Author.Needs.{needs}
 use Rattle.entries.proofs.measures.joined.Statement.{statement}
@@ -21,11 +20,11 @@ cast-result : tie.Need-cast-result
 cast-result c = search needs
 
 returns : tie.Need-returns
-unfolding ceiling maxNodes
+unfolding ceiling
 returns c = omega arith
 
 returns-2 : tie.Need-returns-2
-unfolding ceiling maxNodes
+unfolding ceiling
 returns-2 c = omega arith
 
 pub joined-spec : {M : Type 1} → statement M

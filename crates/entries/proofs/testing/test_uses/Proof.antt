@@ -1,5 +1,6 @@
 use native.Mathlib.Omega.{arith}
 use mathlib.Core.List.{[]}
+use Rattle.rules.specs.Limits.{maxTerms}
 use Rattle.entries.proofs.Whole.{ends-sound, ends-bad-reference, ends-bad-type, marks-none, uses-ready}
 use borrow.Author.Needs.{needs}
 use Rattle.entries.proofs.testing.test_uses.Statement.{statement}
@@ -27,13 +28,13 @@ enum-known-v-2 : tie.Need-enum-known-v-2
 enum-known-v-2 c = search needs
 
 returns : tie.Need-returns
-returns c = ends-sound _ _ _ _ (c .before .before .before .before .before .before .test-terms .ensures [] (marks-none 1024)) (c .before .before .before .enum-told .given .1) (c .before .test-bodies .result) (c .before .test-bodies .ensures)
+returns c = ends-sound _ _ _ _ (c .before .before .before .before .before .before .test-terms .ensures [] (marks-none maxTerms)) (c .before .before .before .enum-told .given .1) (c .before .test-bodies .result) (c .before .test-bodies .ensures)
 
 returns-2 : tie.Need-returns-2
-returns-2 c = ends-bad-reference _ _ _ _ (c .before .before .before .before .test-terms .ensures [] (marks-none 1024)) _ (c .before .v .given .1)
+returns-2 c = ends-bad-reference _ _ _ _ (c .before .before .before .before .test-terms .ensures [] (marks-none maxTerms)) _ (c .before .v .given .1)
 
 returns-3 : tie.Need-returns-3
-returns-3 c = ends-bad-type _ _ _ _ (c .before .before .before .before .test-terms .ensures [] (marks-none 1024)) _ (c .before .v2 .given .1)
+returns-3 c = ends-bad-type _ _ _ _ (c .before .before .before .before .test-terms .ensures [] (marks-none maxTerms)) _ (c .before .v2 .given .1)
 
 pub test-uses-spec : {M : Type 1} → statement M
 test-uses-spec =

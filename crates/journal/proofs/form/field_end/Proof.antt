@@ -1,6 +1,7 @@
 use Prim.Native.Nat.{_+_}
 use mathlib.Core.Path.{ap, _∙_}
 use borrow.Author.Needs.{needs}
+use Rattle.calls.specs.Fields.{fieldHead}
 use Rattle.journal.specs.declared.places.Field.the-variants.{To}
 use Rattle.journal.proofs.Ends.{end-short, end-other, end-cut, end-whole}
 use borrow.Author.Needs.{needs}
@@ -42,7 +43,7 @@ add-t7 c = search needs
 
 returns-4 : tie.Need-returns-4
 returns-4 c = let e = c .before .wide-index .ensures .0 ∙ c .before .before .read16 .ensures in
-    ap (λ n. To (c .before .before .before .before .before .before .before .args .at + 3 + n)) e ∙ end-whole _ _ _ (c .before .before .before .before .before .if1 .left) (c .before .before .before .if2 .left) (rw e at (c .if3 .left))
+    ap (λ n. To (c .before .before .before .before .before .before .before .args .at + fieldHead + n)) e ∙ end-whole _ _ _ (c .before .before .before .before .before .if1 .left) (c .before .before .before .if2 .left) (rw e at (c .if3 .left))
 
 pub field-end-spec : {M : Type 1} → statement M
 field-end-spec =

@@ -3,7 +3,8 @@ use mathlib.Core.Path.{ap, _∙_}
 use borrow.Author.Needs.{needs}
 use Rattle.octets.specs.Numbers.{put16, put32}
 use Rattle.octets.specs.Runs.{pasted}
-use Rattle.calls.specs.Journal.{entryTag}
+use Rattle.calls.specs.Journal.{entryBytes, entryTag}
+use Rattle.calls.specs.Fields.{fieldHead}
 use Rattle.journal.proofs.Writes.{put-entry}
 use borrow.Author.Needs.{needs}
 use Rattle.journal.proofs.writing.add_entry.Statement.{statement}
@@ -41,9 +42,9 @@ unfolding entryTag
 returns c = let a = c .before .before .before .before .before .before .before .before .before .before .before .before .before .before .before .before .before .before in
     let x = a .args in
     c .before .before .copy .ensures
-    ∙ ap (λ s. pasted s (x .at + 9) (x .ancillae .now)) (c .before .before .before .before .before .before .write32 .ensures
+    ∙ ap (λ s. pasted s (x .at + entryBytes) (x .ancillae .now)) (c .before .before .before .before .before .before .write32 .ensures
     ∙ ap (λ s. put32 s (x .at + 5) (x .steps)) (c .before .before .before .before .before .before .before .before .before .before .write16 .ensures
-    ∙ ap (λ s. put16 s (x .at + 3) (x .function)) (c .before .before .before .before .before .before .before .before .before .before .before .before .before .before .put-head .ensures)))
+    ∙ ap (λ s. put16 s (x .at + fieldHead) (x .function)) (c .before .before .before .before .before .before .before .before .before .before .before .before .before .before .put-head .ensures)))
     ∙ put-entry (x .journal .now) (x .at) (x .function) (x .steps) (x .ancillae .now) (a .pre .0)
 
 pub add-entry-spec : {M : Type 1} → statement M

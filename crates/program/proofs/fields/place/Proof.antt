@@ -1,7 +1,7 @@
 use native.Mathlib.Omega.{arith}
 use mathlib.Core.Path.{_∙_, sym, ap}
 use borrow.Author.Needs.{needs}
-use Rattle.rules.specs.Limits.{maxTypes, maxTerms, maxFunctions, maxProgramBytes}
+use Rattle.rules.specs.Limits.{maxProgramBytes}
 use Rattle.program.specs.Places.{parametersWithin}
 use Rattle.program.proofs.Formed.{denied, not-denied}
 use Rattle.program.proofs.Placing.{type-placed, term-placed, function-placed, nothing-placed, type-full, term-full, function-full, function-refused}
@@ -19,7 +19,6 @@ mul-types : tie.Need-mul-types
 mul-types c = search needs
 
 slice-write-types : tie.Need-slice-write-types
-unfolding maxTypes
 slice-write-types c = omega arith
 
 add-t14 : tie.Need-add-t14
@@ -29,18 +28,15 @@ same-length : tie.Need-same-length
 same-length c = search needs
 
 returns : tie.Need-returns
-unfolding maxTypes
 returns c = type-placed _ _ _ _ _ _ (c .before .before .before .before .before .before .before .pre) (sym (c .before .before .tag-at .ensures) ∙ c .before .if1 .taken) (omega arith)
 
 returns-2 : tie.Need-returns-2
-unfolding maxTypes
 returns-2 c = type-full _ _ _ _ _ _ (c .before .before .before .before .before .before .before .pre) (sym (c .before .before .tag-at .ensures) ∙ c .before .if1 .taken) (omega arith)
 
 mul-terms : tie.Need-mul-terms
 mul-terms c = search needs
 
 slice-write-terms : tie.Need-slice-write-terms
-unfolding maxTerms
 slice-write-terms c = omega arith
 
 add-t18 : tie.Need-add-t18
@@ -50,11 +46,9 @@ same-length-2 : tie.Need-same-length-2
 same-length-2 c = search needs
 
 returns-3 : tie.Need-returns-3
-unfolding maxTerms
 returns-3 c = term-placed _ _ _ _ _ _ (c .before .before .before .before .before .before .before .before .pre) (sym (c .before .before .before .tag-at .ensures) ∙ c .before .if3 .taken) (omega arith)
 
 returns-4 : tie.Need-returns-4
-unfolding maxTerms
 returns-4 c = term-full _ _ _ _ _ _ (c .before .before .before .before .before .before .before .before .pre) (sym (c .before .before .before .tag-at .ensures) ∙ c .before .if3 .taken) (omega arith)
 
 parameters-at-requires : tie.Need-parameters-at-requires
@@ -72,7 +66,6 @@ mul-functions : tie.Need-mul-functions
 mul-functions c = search needs
 
 slice-write-functions : tie.Need-slice-write-functions
-unfolding maxFunctions
 slice-write-functions c = omega arith
 
 add-t24 : tie.Need-add-t24
@@ -82,13 +75,11 @@ same-length-3 : tie.Need-same-length-3
 same-length-3 c = search needs
 
 returns-6 : tie.Need-returns-6
-unfolding maxFunctions
 returns-6 c = let tagged = c .before .before .before .before .before .before .before in
     function-placed _ _ _ _ _ _ (c .before .before .before .before .before .before .before .before .before .before .before .before .pre) (sym (tagged .tag-at .ensures) ∙ c .before .before .before .before .if5 .taken)
     (not-denied (c .before .before .parameters-within .ensures ∙ ap parametersWithin (c .before .before .before .parameters-at .ensures)) (c .before .if6 .left)) (omega arith)
 
 returns-7 : tie.Need-returns-7
-unfolding maxFunctions
 returns-7 c = function-full _ _ _ _ _ _ (c .before .before .before .before .before .before .before .before .before .before .before .before .pre) (sym (c .before .before .before .before .before .before .before .tag-at .ensures) ∙ c .before .before .before .before .if5 .taken) (omega arith)
 
 returns-8 : tie.Need-returns-8

@@ -17,6 +17,7 @@ function-parameters-requires : tie.Need-function-parameters-requires Inv-loop μ
 function-parameters-requires c κs = omega (arith, function-room (c .before .pre))
 
 loop-holds : tie.Need-loop-holds Inv-loop μ-loop
+unfolding maxParameters
 loop-holds c = (omega arith, none-filled _ _)
 
 listed-requires : tie.Need-listed-requires Inv-loop μ-loop

@@ -1,6 +1,5 @@
 use native.Mathlib.Omega.{arith}
 use Rattle.calls.specs.Named.{ceiling}
-use Rattle.rules.specs.Limits.{maxNodes}
 use Rattle.types.proofs.Growing.{made-old, made-new}
 use Rattle.types.proofs.Figures.{below-ceiling}
 use borrow.Author.Needs.{needs}
@@ -8,7 +7,7 @@ use Rattle.types.proofs.products.product.Statement.{statement}
 use Rattle.types.proofs.products.product.Tie as tie
 
 add-nodes-requires : tie.Need-add-nodes-requires
-unfolding ceiling maxNodes
+unfolding ceiling
 add-nodes-requires c κs = let a = c .before .before .before .before .before .pre in (a .0, (a .1 .0 .0, (a .1 .1 .0, omega arith)))
 
 add-nodes-requires-2 : tie.Need-add-nodes-requires-2

@@ -1,12 +1,10 @@
 use Rattle.types.proofs.Outer.{no-variable, other-variable, stood-for, entry-within}
 use native.Mathlib.Omega.{arith}
-use Rattle.rules.specs.Limits.{maxTypes}
 use borrow.Author.Needs.{needs}
 use Rattle.types.proofs.shapes.under_shape.Statement.{statement}
 use Rattle.types.proofs.shapes.under_shape.Tie as tie
 
 entry-shape-requires : tie.Need-entry-shape-requires
-unfolding maxTypes
 entry-shape-requires c κs = let a = c .before .before .pre in (a .0, (omega (arith, a .1 .0), omega (arith, a .1 .0, a .0 .few), omega arith))
 
 returns : tie.Need-returns

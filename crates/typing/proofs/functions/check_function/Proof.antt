@@ -1,5 +1,4 @@
 use native.Mathlib.Omega.{arith}
-use Rattle.rules.specs.Limits.{maxFunctions}
 use Rattle.program.proofs.Rooms.{function-room}
 use Rattle.program.proofs.Rows.{function-fields}
 use Rattle.typing.proofs.Asking.{ready-for}
@@ -105,11 +104,9 @@ returns-2 c =
     (at-function-body .function-body .ensures) (at-infer .infer .ensures) (at-status2 .status2 .given .1) (at-refusal .refusal .ensures)
 
 mul-row : tie.Need-mul-row
-unfolding maxFunctions
 mul-row c = omega (arith, function-fields (c .before .before .before .before .before .before .pre .0 .read) .few)
 
 element-copy-out-row : tie.Need-element-copy-out-row
-unfolding maxFunctions
 element-copy-out-row c = omega (arith, function-fields (c .before .before .before .before .before .before .pre .0 .read) .few)
 
 pub check-function-spec : {M : Type 1} → statement M
