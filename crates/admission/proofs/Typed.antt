@@ -8,6 +8,7 @@ use lib.ListN.{length, getD, drop, length-map, drop-of-length-le, List·getD-map
 use lib.Seq.{drop-cons}
 use package.Rattle.rules.specs.Val.{Val, unit, size}
 use package.Rattle.rules.specs.Ty.{Ty}
+use package.Rattle.rules.specs.Limits.{maxParameters}
 use package.Rattle.calls.specs.Entries.{TypeEntry, typeOf, functionAt}
 use package.Rattle.calls.specs.Named.{plain}
 use package.Rattle.calls.specs.Values.{value, hasTy, hasTys}
@@ -128,6 +129,7 @@ module _ {xs types : List ℕ} {at : ℕ} {anc row : List ℕ} {k next : ℕ} (w
     there = omega (arith, walked-there (w .walked) more, length-map (functionAt xs at .ancillae) ty)
 
     pub walking-index : k < 8
+    unfolding maxParameters
     walking-index = omega (arith, row-there (w .callable) (w .row-is) k there, w .row-is .sized)
 
     pub walking-asked : (getD row k 0 < length types) × (plain (entriesOf xs types) (getD row k 0) ≡ true)

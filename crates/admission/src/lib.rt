@@ -3,6 +3,8 @@
 use program::views;
 use reading::scan;
 use reading::typed;
+use rules::MAX_FUNCTIONS;
+use rules::MAX_PARAMETERS;
 ghost use mathlib.Core.Path.{_≡_};
 ghost use mathlib.Core.Bool.{true};
 ghost use mathlib.Core.List.{map};
@@ -42,7 +44,13 @@ fn values_right(p: &[u8], at: usize, ancillae: &[u8], value: &[u8]) -> bool
 
 // Is each ancilla of its parameter's type, which the function's row of the table of signatures has? They are taken one after another, each
 // from where the one before it ends.
-fn ancillae_typed(p: &[u8], types: &[u16], at: usize, row: [u16; 8], bytes: &[u8]) -> bool
+fn ancillae_typed(
+    p: &[u8],
+    types: &[u16],
+    at: usize,
+    row: [u16; MAX_PARAMETERS],
+    bytes: &[u8],
+) -> bool
     requires { ⌜ Table (now p) (now types) ⌝ }
     requires { ⌜ Callable (now p) (now types) at ⌝ }
     requires { ⌜ AsMany (now p) at (now bytes) ⌝ }
@@ -63,7 +71,7 @@ fn ancillae_typed(p: &[u8], types: &[u16], at: usize, row: [u16; 8], bytes: &[u8
 }
 
 // The type that the value is held to: a forward run's the dynamic parameter's, which is the last of the row, a backward run's the result's.
-fn side(p: &[u8], at: usize, row: [u16; 8], back: bool) -> u16
+fn side(p: &[u8], at: usize, row: [u16; MAX_PARAMETERS], back: bool) -> u16
     requires { ⌜ FunctionField (now p) at ⌝ }
     requires { ⌜ SignatureIs (functionAt (now p) at) row ⌝ }
     ensures { λ r. ⌜ r ≡ sideNumber back (functionAt (now (p .entry)) at) ⌝ }
@@ -80,7 +88,7 @@ fn values_typed(
     p: &[u8],
     types: &[u16],
     at: usize,
-    row: [u16; 8],
+    row: [u16; MAX_PARAMETERS],
     ancillae: &[u8],
     value: &[u8],
     back: bool,
@@ -112,7 +120,7 @@ pub fn admit(
     p: &[u8],
     types: &[u16],
     functions: &[u16],
-    table: &[[u16; 8]; 64],
+    table: &[[u16; MAX_PARAMETERS]; MAX_FUNCTIONS],
     function: u16,
     ancillae: &[u8],
     value: &[u8],

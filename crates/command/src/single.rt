@@ -1,8 +1,10 @@
 // The calls check, forward and backward, made and reported. The output is as long as a value may be, so it is never too short.
 use crate::reports;
+use rules::MAX_VALUE_BYTES;
 ghost use mathlib.Core.Path.{_≡_};
-ghost use Prim.Native.Nat.{_≤_};
+ghost use Prim.Native.Nat.{_+_, _*_, _≤_};
 ghost use lib.ListN.{length};
+ghost use Rattle.rules.specs.Limits.{maxValueBytes};
 ghost use Rattle.calls.specs.Answer.{cleared};
 ghost use Rattle.calls.specs.Runs.{checkCall, forwardCall, backwardCall};
 ghost use Rattle.lines.specs.Wrote.{Wrote};
@@ -28,11 +30,11 @@ pub fn forward(
     workspace: &mut [u8],
     out: &mut [u8],
 ) -> usize
-    requires { ⌜ 2304 ≤ length (now out) ⌝ }
-    ensures report { λ end. ⌜ Wrote (now (out .entry)) (now (out .exit)) 0 end (runReport (forwardCall (length (now (workspace .entry))) 1024 fuel function (now (program .entry)) (now (ancillae .entry)) (now (value .entry)))) ⌝ }
-    ensures clear { λ _. ⌜ now (workspace .exit) ≡ cleared (forwardCall (length (now (workspace .entry))) 1024 fuel function (now (program .entry)) (now (ancillae .entry)) (now (value .entry))) (now (workspace .entry)) ⌝ }
+    requires { ⌜ 2 * maxValueBytes + 256 ≤ length (now out) ⌝ }
+    ensures report { λ end. ⌜ Wrote (now (out .entry)) (now (out .exit)) 0 end (runReport (forwardCall (length (now (workspace .entry))) maxValueBytes fuel function (now (program .entry)) (now (ancillae .entry)) (now (value .entry)))) ⌝ }
+    ensures clear { λ _. ⌜ now (workspace .exit) ≡ cleared (forwardCall (length (now (workspace .entry))) maxValueBytes fuel function (now (program .entry)) (now (ancillae .entry)) (now (value .entry))) (now (workspace .entry)) ⌝ }
 {
-    let mut output = [0u8; 1024];
+    let mut output = [0u8; MAX_VALUE_BYTES];
     let answer = engine::forward(
         program,
         function,
@@ -55,11 +57,11 @@ pub fn backward(
     workspace: &mut [u8],
     out: &mut [u8],
 ) -> usize
-    requires { ⌜ 2304 ≤ length (now out) ⌝ }
-    ensures report { λ end. ⌜ Wrote (now (out .entry)) (now (out .exit)) 0 end (runReport (backwardCall (length (now (workspace .entry))) 1024 fuel function (now (program .entry)) (now (ancillae .entry)) (now (value .entry)))) ⌝ }
-    ensures clear { λ _. ⌜ now (workspace .exit) ≡ cleared (backwardCall (length (now (workspace .entry))) 1024 fuel function (now (program .entry)) (now (ancillae .entry)) (now (value .entry))) (now (workspace .entry)) ⌝ }
+    requires { ⌜ 2 * maxValueBytes + 256 ≤ length (now out) ⌝ }
+    ensures report { λ end. ⌜ Wrote (now (out .entry)) (now (out .exit)) 0 end (runReport (backwardCall (length (now (workspace .entry))) maxValueBytes fuel function (now (program .entry)) (now (ancillae .entry)) (now (value .entry)))) ⌝ }
+    ensures clear { λ _. ⌜ now (workspace .exit) ≡ cleared (backwardCall (length (now (workspace .entry))) maxValueBytes fuel function (now (program .entry)) (now (ancillae .entry)) (now (value .entry))) (now (workspace .entry)) ⌝ }
 {
-    let mut output = [0u8; 1024];
+    let mut output = [0u8; MAX_VALUE_BYTES];
     let answer = engine::backward(
         program,
         function,

@@ -12,11 +12,11 @@ use input::ANSWER;
 use input::HALF;
 use input::LINE;
 
-// What the largest fuel asks for: 32,768 bytes and 32 a step (document 01, section 2).
-const WORKSPACE: usize = 2129888;
+// What the largest fuel asks for (document 01, section 2).
+const WORKSPACE: usize = rules::WORKSPACE_BASE + rules::WORKSPACE_PER_FUEL * rules::MAX_FUEL;
 
 // A value has at most so many bytes (document 01, section 1).
-const OUTPUT: usize = 1024;
+const OUTPUT: usize = rules::MAX_VALUE_BYTES;
 
 enum Command {
     Check,

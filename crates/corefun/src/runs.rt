@@ -6,6 +6,7 @@ use crate::printing;
 use command::single;
 use lines::decimal::Number;
 use lines::hexadecimal::Decoded;
+use rules::MAX_VALUE_BYTES;
 ghost use Prim.Native.Nat.{_*_, _≤_};
 ghost use lib.ListN.{length};
 
@@ -24,6 +25,9 @@ pub(crate) fn check(word: &mut [u8], program: &mut [u8], workspace: &mut [u8]) {
     report_check(&program[..p], workspace);
 }
 
+// Room for a run's report: a value in hexadecimal, and the words about it.
+const REPORT: usize = 2 * MAX_VALUE_BYTES + 256;
+
 // A run, reported on standard output.
 fn report_run(
     back: bool,
@@ -34,7 +38,7 @@ fn report_run(
     value: &[u8],
     workspace: &mut [u8],
 ) {
-    let mut out = [0u8; 2304];
+    let mut out = [0u8; REPORT];
     if back {
         let n = single::backward(
             program,

@@ -95,7 +95,14 @@ fn put_call(code: &mut [u16; CODE], t: usize, p: &[u8], at: usize)
     ensures { λ _. ⌜ TermPut (now (code .entry)) (now (code .exit)) t (now (p .entry)) at ⌝ }
 {
     let n = views::call_ancillae(p, at);
-    put_heads(code, t, crate::kinds::CALL, views::first(p, at), 0, n as u16);
+    put_heads(
+        code,
+        t,
+        crate::kinds::CALL,
+        views::first(p, at),
+        0,
+        n as u16,
+    );
     put_listed(code, t, p, at + 6, n + 1);
 }
 

@@ -1,10 +1,10 @@
 // Has a buffer the journal's form (document 01, section 5; section 4, row Journal: refusal 18)? In one pass, without recursion.
-use crate::places::Field;
-use crate::places::Places;
-use crate::places::Survey;
 use crate::places::ENTRY_BYTES;
 use crate::places::ENTRY_TAG;
+use crate::places::Field;
 use crate::places::HELD_TAG;
+use crate::places::Places;
+use crate::places::Survey;
 use program::fields::FIELD_HEAD;
 use rules::MAX_CONVERSIONS;
 ghost use mathlib.Core.Path.{_≡_};

@@ -1,8 +1,8 @@
 // What a journal in form says (document 01, section 5), read from its bytes: the held value, and the newest conversion. Values are
 // parts of the caller's slice, not copies.
-use crate::places::Places;
 use crate::places::ENTRY_BYTES;
 use crate::places::FUNCTION_AT;
+use crate::places::Places;
 use crate::places::STEPS_AT;
 use program::fields::FIELD_HEAD;
 ghost use mathlib.Core.Path.{_≡_};

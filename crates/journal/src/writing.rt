@@ -1,12 +1,12 @@
 // Whether the journal that open, convert or rollback leaves fits its buffer (document 01, section 4: refusal 20), and writing it
 // there, in place. A call writes only after all its tests, so that a refused one leaves the journal as it was.
 use crate::moves;
-use crate::places::Places;
 use crate::places::ENTRY_BYTES;
 use crate::places::ENTRY_HEAD;
 use crate::places::ENTRY_TAG;
 use crate::places::FUNCTION_AT;
 use crate::places::HELD_TAG;
+use crate::places::Places;
 use crate::places::STEPS_AT;
 use program::fields::FIELD_HEAD;
 ghost use mathlib.Core.Path.{_≡_};

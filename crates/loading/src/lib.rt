@@ -4,13 +4,16 @@
 use entries::testing;
 use program::fields;
 use program::fields::Counts;
+use rules::MAX_FUNCTIONS;
+use rules::MAX_PARAMETERS;
+use rules::MAX_TYPES;
 use typing::functions;
 ghost use Prim.Native.Nat.{_*_, _≤_};
 ghost use mathlib.Core.Path.{_≡_};
-ghost use lib.ListN.{length, replicate};
+ghost use lib.ListN.{length};
 ghost use Rattle.rules.specs.Limits.{maxTerms};
 ghost use Rattle.program.specs.Places.{Placed, Buffers};
-ghost use Rattle.program.specs.Signatures.{SignaturesAre};
+ghost use Rattle.program.specs.Signatures.{unsigned, SignaturesAre};
 ghost use Rattle.types.specs.Codes.{nodeBytes};
 ghost use Rattle.typing.specs.Checked.{Typeable};
 ghost use Rattle.loading.specs.Loading.{Examined, LoadMeans};
@@ -34,7 +37,7 @@ fn infer(
     types: &[u16],
     terms: &[u16],
     functions: &[u16],
-    table: &[[u16; 8]; 64],
+    table: &[[u16; MAX_PARAMETERS]; MAX_FUNCTIONS],
     nodes: &[u16],
     ws: &mut [u8],
 ) -> Loaded
@@ -58,7 +61,7 @@ fn examine(
     types: &[u16],
     terms: &[u16],
     functions: &[u16],
-    table: &[[u16; 8]; 64],
+    table: &[[u16; MAX_PARAMETERS]; MAX_FUNCTIONS],
     ws: &mut [u8],
 ) -> Loaded
     requires { ⌜ Placed (now p) (now types) (now terms) (now functions) ⌝ }
@@ -66,7 +69,7 @@ fn examine(
     requires { ⌜ SignaturesAre (now p) (now functions) (now table) ⌝ }
     ensures { λ r. ⌜ Examined r counts (now (p .entry)) (now (types .entry)) (now (terms .entry)) (now (functions .entry)) (now (table .entry)) ⌝ }
 {
-    let mut nodes = [0u16; 256];
+    let mut nodes = [0u16; MAX_TYPES];
     let v = testing::test_entries(p, types, terms, functions, &mut nodes);
     match v {
         testing::Verdict::Sound => infer(p, counts, types, terms, functions, table, &nodes, ws),
@@ -81,12 +84,12 @@ pub fn load(
     types: &mut [u16],
     terms: &mut [u16],
     functions: &mut [u16],
-    table: &mut [[u16; 8]; 64],
+    table: &mut [[u16; MAX_PARAMETERS]; MAX_FUNCTIONS],
     ws: &mut [u8],
 ) -> Loaded
     requires { ⌜ Buffers (now types) (now terms) (now functions) ⌝ }
     requires { ⌜ nodeBytes * maxTerms ≤ length (now ws) ⌝ }
-    requires { ⌜ now table ≡ replicate 64 (replicate 8 0) ⌝ }
+    requires { ⌜ now table ≡ unsigned ⌝ }
     ensures { λ r. ⌜ LoadMeans r (now (p .entry)) (now (types .exit)) (now (terms .exit)) (now (functions .exit)) (now (table .exit)) ⌝ }
 {
     let v = fields::layout(p, types, terms, functions, table);

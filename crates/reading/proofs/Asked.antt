@@ -9,6 +9,7 @@ use lib.ListN.{length, getD, set, replicate, length-map, length-set, length-repl
 use package.Rattle.rules.specs.Val.{size}
 use package.Rattle.rules.specs.Ty.{Ty}
 use package.Rattle.rules.proofs.Basics.{given}
+use package.Rattle.rules.specs.Limits.{maxValueBytes}
 use package.Rattle.calls.specs.Answer.{accepted}
 use package.Rattle.calls.specs.Fields.{Layout, layout}
 use package.Rattle.calls.specs.Entries.{typeAt, typeOf}
@@ -41,9 +42,11 @@ module _ (xs os : List ℕ) (T : Table xs os) (i : ℕ) (l : i < length os) (p :
   -- the entry alone is written to both tables, which are zero
   module _ (binders outer : List ℕ) {entries cells : List ℕ} (we : entries ≡ set (replicate room 0) 0 i) (wc : cells ≡ set (replicate room 0) 0 0) where
     at-entries : getD entries 0 0 ≡ i
+    unfolding maxValueBytes
     at-entries = ap (λ l. getD l 0 0) we
 
     at-cells : getD cells 0 0 ≡ 0
+    unfolding maxValueBytes
     at-cells = ap (λ l. getD l 0 0) wc
 
     pub stack-start : length binders ≡ room → length outer ≡ room → Stack xs os binders outer entries cells 0 1

@@ -13,6 +13,7 @@ use package.Rattle.calls.specs.Fields.{kindAt}
 use package.Rattle.calls.specs.Entries.{TypeEntry, typeOf}
 use package.Rattle.calls.specs.Tested.{closed}
 use package.Rattle.program.specs.Parts.{variable}
+use package.Rattle.program.specs.Kinds.{recursiveKind, typeVariableKind}
 use package.Rattle.reading.specs.declared.typed.Scoped.{Scoped}
 use package.Rattle.reading.specs.Scopes.{plugs, outward, scopeBelow, scopeOf, typeUnder}
 use package.Rattle.reading.specs.Typing.{entriesOf, Table, Cell, Cells, Bound, Resolved}
@@ -103,7 +104,7 @@ module _ (xs os binders outer : List ℕ) (t : Scoped) (T : Table xs os) (C : Ce
       let deep : variable xs (getD os (t .entry) 0) < length (scopeOf (entriesOf xs os) binders outer (t .cell)) = variable-deep xs os binders outer (t .cell) C (t .entry) T B h in
       outward-within xs os binders outer (t .cell) C k (omega arith) n l
 
-  pub resolved-shown : kindAt xs (getD os (t .entry) 0) < 4 → Resolved xs os binders outer t t
+  pub resolved-shown : kindAt xs (getD os (t .entry) 0) < typeVariableKind → Resolved xs os binders outer t t
   resolved-shown h = record { bound = B; shown = h; same = refl }
 
   -- the entry and the outer cell of the cell that a variable names
@@ -117,7 +118,7 @@ module _ (xs os binders outer : List ℕ) (t : Scoped) (T : Table xs os) (C : Ce
       let w : (0 < e) × (e ≤ t .cell) = subst (λ e. (0 < e) × (e ≤ t .cell)) (sym p) (outward-within xs os binders outer (t .cell) C k deep k (omega arith)) in
       let c = C .cell e (w .0) (w .1) in
       let low : getD outer e 0 < e = c .lower in
-      let kind : kindAt xs (getD os (getD binders e 0) 0) ≡ 3 = c .recursive in
+      let kind : kindAt xs (getD os (getD binders e 0) 0) ≡ recursiveKind = c .recursive in
       record {
         bound = record { known = c .known; within = omega arith; closes = c .closes };
         shown = omega arith;
@@ -153,7 +154,7 @@ module _ (xs os binders outer binders′ outer′ : List ℕ) (top : ℕ) (C : C
         record {
           lower = subst (λ n. n < e) o low;
           known = subst (λ n. n < length os) b (c .known);
-          recursive = subst (λ n. kindAt xs (getD os n 0) ≡ 3) b (c .recursive);
+          recursive = subst (λ n. kindAt xs (getD os n 0) ≡ recursiveKind) b (c .recursive);
           closes = subst (λ n. closed (length (scopeOf (entriesOf xs os) binders′ outer′ n)) (typeOf (entriesOf xs os) (getD binders′ e 0)) ≡ true) o
               (subst (λ σ. closed (length σ) (typeOf (entriesOf xs os) (getD binders′ e 0)) ≡ true) (sym (same-scope (getD outer e 0) (omega arith)))
               (subst (λ n. closed (length (scopeOf (entriesOf xs os) binders outer (getD outer e 0))) (typeOf (entriesOf xs os) n) ≡ true) b (c .closes)));
@@ -189,7 +190,7 @@ module _ (xs os binders outer : List ℕ) (top cell entry : ℕ) (C : Cells xs o
   bound⁺ : Bound xs os binders⁺ outer⁺ top cell entry
   bound⁺ = bound-kept xs os binders outer binders⁺ outer⁺ top C binders-push outer-push cell entry B
 
-  pub cells-push : kindAt xs (getD os entry 0) ≡ 3 → Cells xs os binders⁺ outer⁺ (top + 1)
+  pub cells-push : kindAt xs (getD os entry 0) ≡ recursiveKind → Cells xs os binders⁺ outer⁺ (top + 1)
   cells-push k = record { cell = λ e p l. go e p l (decLt top e) }
     where
       last : Cell xs os binders⁺ outer⁺ (top + 1)
@@ -198,7 +199,7 @@ module _ (xs os binders outer : List ℕ) (top cell entry : ℕ) (C : Cells xs o
           record {
             lower = subst (λ n. n < top + 1) (sym new-outer) (omega arith);
             known = subst (λ n. n < length os) (sym new-binder) (B .known);
-            recursive = subst (λ n. kindAt xs (getD os n 0) ≡ 3) (sym new-binder) k;
+            recursive = subst (λ n. kindAt xs (getD os n 0) ≡ recursiveKind) (sym new-binder) k;
             closes = subst (λ n. closed (length (scopeOf (entriesOf xs os) binders⁺ outer⁺ n)) (typeOf (entriesOf xs os) (getD binders⁺ (top + 1) 0)) ≡ true) (sym new-outer)
                 (subst (λ n. closed (length (scopeOf (entriesOf xs os) binders⁺ outer⁺ cell)) (typeOf (entriesOf xs os) n) ≡ true) (sym new-binder) (bound⁺ .closes));
           }
@@ -208,7 +209,7 @@ module _ (xs os binders outer : List ℕ) (top cell entry : ℕ) (C : Cells xs o
       go e p l (yes h) = subst (λ e. Cell xs os binders⁺ outer⁺ e) (let z : top + 1 ≡ e = omega arith in z) last
 
   -- the new cell's scope
-  pub scope-push : kindAt xs (getD os entry 0) ≡ 3
+  pub scope-push : kindAt xs (getD os entry 0) ≡ recursiveKind
       → scopeOf (entriesOf xs os) binders⁺ outer⁺ (top + 1) ≡ typeUnder (entriesOf xs os) binders outer cell entry ∷ scopeOf (entriesOf xs os) binders outer cell
   scope-push k =
       scope-unfolds (entriesOf xs os) binders⁺ outer⁺ (top + 1) (λ e p l. cells-push k .cell e p l .lower) (top + 1) (omega arith) (omega arith)

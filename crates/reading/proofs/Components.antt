@@ -18,6 +18,7 @@ use package.Rattle.calls.specs.Values.{value, hasTy}
 use package.Rattle.calls.proofs.Entries.{Plain, plain-iff}
 use package.Rattle.calls.proofs.Values.{size-positive}
 use package.Rattle.program.specs.Parts.{first, second}
+use package.Rattle.program.specs.Kinds.{productKind}
 use package.Rattle.reading.specs.Ends.{isValue, partOf}
 use package.Rattle.reading.specs.Typing.{entriesOf, Table, valueHas}
 use package.Rattle.reading.proofs.Trees.{tree-prod, prod-known}
@@ -76,7 +77,7 @@ module _ (s : List ℕ) (e : isValue s ≡ true) (t : getD s 0 0 ≡ 3) where
 ----------------------------------------------------------------
 -- By a product's entry
 
-module _ (xs os : List ℕ) (T : Table xs os) (i : ℕ) (l : i < length os) (k : kindAt xs (getD os i 0) ≡ 1) where
+module _ (xs os : List ℕ) (T : Table xs os) (i : ℕ) (l : i < length os) (k : kindAt xs (getD os i 0) ≡ productKind) where
   abbrev tree : ℕ → Ty
   tree j = typeOf (entriesOf xs os) j
 

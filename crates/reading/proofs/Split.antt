@@ -14,6 +14,7 @@ use package.Rattle.calls.specs.Entries.{typeAt, typeOf}
 use package.Rattle.calls.specs.Tested.{closed}
 use package.Rattle.program.specs.Parts.{first, second}
 use package.Rattle.program.proofs.Shapes.{type-unit, type-prod, type-sum, type-mu}
+use package.Rattle.program.specs.Kinds.{unitTypeKind, productKind, sumKind, recursiveKind, typeVariableKind}
 use package.Rattle.reading.specs.declared.typed.Parts.{Parts}
 use package.Rattle.reading.specs.declared.typed.Parts.the-variants as parts
 use package.Rattle.reading.specs.Scopes.{plugs, scopeOf, typeUnder}
@@ -38,7 +39,7 @@ module _ (xs os binders outer : List ℕ) (top cell entry b : ℕ) where
     double : {i j : ℕ} → partTypes b (typeUnder (entriesOf xs os) binders outer cell entry) ≡ some (under i ∷ under j ∷ []) → Part i → Part j → Split (parts.Two i j)
     body : {i : ℕ} → partTypes b (typeUnder (entriesOf xs os) binders outer cell entry)
         ≡ some (unfoldTy (plugs 1 (scopeOf (entriesOf xs os) binders outer cell) (typeOf (entriesOf xs os) i)) ∷ [])
-        → kindAt xs (getD os entry 0) ≡ 3 → i ≡ first xs (getD os entry 0) → Split (parts.Body i)
+        → kindAt xs (getD os entry 0) ≡ recursiveKind → i ≡ first xs (getD os entry 0) → Split (parts.Body i)
     wrong : partTypes b (typeUnder (entriesOf xs os) binders outer cell entry) ≡ none → Split parts.Wrong
 
   module _ (T : Table xs os) (B : Bound xs os binders outer top cell entry) where
@@ -56,11 +57,11 @@ module _ (xs os binders outer : List ℕ) (top cell entry b : ℕ) where
     ----------------------------------------------------------------
     -- By kind
 
-    under-one : kindAt xs (getD os entry 0) ≡ 0 → under entry ≡ one
+    under-one : kindAt xs (getD os entry 0) ≡ unitTypeKind → under entry ≡ one
     unfolding plugs
     under-one k = under-tree (tree-unit xs os T entry (B .known) k)
 
-    by-unit : kindAt xs (getD os entry 0) ≡ 0 → Split (partsOf b (typeAt xs (getD os entry 0)))
+    by-unit : kindAt xs (getD os entry 0) ≡ unitTypeKind → Split (partsOf b (typeAt xs (getD os entry 0)))
     unfolding partsOf partTypes
     by-unit k = subst (λ y. Split (partsOf b y)) (sym (type-unit xs (getD os entry 0) k)) (go (eqb b 0) refl)
       where
@@ -68,11 +69,11 @@ module _ (xs os binders outer : List ℕ) (top cell entry b : ℕ) where
         go true e = nothing (ap (partTypes b) (under-one k) ∙ ap (λ x. cond x (some []) none) e)
         go false e = wrong (ap (partTypes b) (under-one k) ∙ ap (λ x. cond x (some []) none) e)
 
-    under-prod : kindAt xs (getD os entry 0) ≡ 1 → under entry ≡ prod (under (first xs (getD os entry 0))) (under (second xs (getD os entry 0)))
+    under-prod : kindAt xs (getD os entry 0) ≡ productKind → under entry ≡ prod (under (first xs (getD os entry 0))) (under (second xs (getD os entry 0)))
     unfolding typeUnder plugs
     under-prod k = under-tree (tree-prod xs os T entry (B .known) k)
 
-    by-prod : kindAt xs (getD os entry 0) ≡ 1 → Split (partsOf b (typeAt xs (getD os entry 0)))
+    by-prod : kindAt xs (getD os entry 0) ≡ productKind → Split (partsOf b (typeAt xs (getD os entry 0)))
     unfolding partsOf partTypes closed
     by-prod k = subst (λ y. Split (partsOf b y)) (sym (type-prod xs (getD os entry 0) k)) (go (eqb b 3) refl)
       where
@@ -91,11 +92,11 @@ module _ (xs os binders outer : List ℕ) (top cell entry b : ℕ) where
             given (and-both _ _ (closes-tree (tree-prod xs os T entry (B .known) k))) λ (x, y). double (types true e) (part left l x) (part right r y)
         go false e = wrong (types false e)
 
-    under-sum : kindAt xs (getD os entry 0) ≡ 2 → under entry ≡ sum (under (first xs (getD os entry 0))) (under (second xs (getD os entry 0)))
+    under-sum : kindAt xs (getD os entry 0) ≡ sumKind → under entry ≡ sum (under (first xs (getD os entry 0))) (under (second xs (getD os entry 0)))
     unfolding typeUnder plugs
     under-sum k = under-tree (tree-sum xs os T entry (B .known) k)
 
-    by-sum : kindAt xs (getD os entry 0) ≡ 2 → Split (partsOf b (typeAt xs (getD os entry 0)))
+    by-sum : kindAt xs (getD os entry 0) ≡ sumKind → Split (partsOf b (typeAt xs (getD os entry 0)))
     unfolding partsOf partTypes closed
     by-sum k = subst (λ y. Split (partsOf b y)) (sym (type-sum xs (getD os entry 0) k)) (go (eqb b 1) (eqb b 2) refl refl)
       where
@@ -118,12 +119,12 @@ module _ (xs os binders outer : List ℕ) (top cell entry b : ℕ) where
         go false true e f = single (types false true e f) (sides .1)
         go false false e f = wrong (types false false e f)
 
-    under-mu : kindAt xs (getD os entry 0) ≡ 3
+    under-mu : kindAt xs (getD os entry 0) ≡ recursiveKind
         → under entry ≡ mu (plugs 1 (scopeOf (entriesOf xs os) binders outer cell) (typeOf (entriesOf xs os) (first xs (getD os entry 0))))
     unfolding plugs
     under-mu k = under-tree (tree-mu xs os T entry (B .known) k)
 
-    by-mu : kindAt xs (getD os entry 0) ≡ 3 → Split (partsOf b (typeAt xs (getD os entry 0)))
+    by-mu : kindAt xs (getD os entry 0) ≡ recursiveKind → Split (partsOf b (typeAt xs (getD os entry 0)))
     unfolding partsOf partTypes
     by-mu k = subst (λ y. Split (partsOf b y)) (sym (type-mu xs (getD os entry 0) k)) (go (eqb b 4) refl)
       where
@@ -138,7 +139,7 @@ module _ (xs os binders outer : List ℕ) (top cell entry b : ℕ) where
         go false e = wrong (types false e)
 
     -- of an entry that is no variable
-    pub split : kindAt xs (getD os entry 0) < 4 → Split (partsOf b (typeAt xs (getD os entry 0)))
+    pub split : kindAt xs (getD os entry 0) < typeVariableKind → Split (partsOf b (typeAt xs (getD os entry 0)))
     split h = go (kindAt xs (getD os entry 0)) refl h
       where
         go : (k : ℕ) → kindAt xs (getD os entry 0) ≡ k → k < 4 → Split (partsOf b (typeAt xs (getD os entry 0)))
@@ -149,7 +150,7 @@ module _ (xs os binders outer : List ℕ) (top cell entry b : ℕ) where
         go (suc (suc (suc (suc k)))) e l = absurd (omega arith)
 
     -- the body of a recursive type under one more cell is what the type unfolds to
-    module _ (C : Cells xs os binders outer top) (lb : top + 1 < length binders) (lo : top + 1 < length outer) (k : kindAt xs (getD os entry 0) ≡ 3) where
+    module _ (C : Cells xs os binders outer top) (lb : top + 1 < length binders) (lo : top + 1 < length outer) (k : kindAt xs (getD os entry 0) ≡ recursiveKind) where
       body-scope : scopeOf (entriesOf xs os) (set binders (top + 1) entry) (set outer (top + 1) cell) (top + 1) ≡ under entry ∷ scopeOf (entriesOf xs os) binders outer cell
       body-scope = scope-push xs os binders outer top cell entry C B lb lo k
 

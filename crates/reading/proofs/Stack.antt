@@ -8,6 +8,7 @@ use lib.ListN.{getD, set, length-set}
 use lib.Seq.{getD-set-same, getD-set-other, take-set-le}
 use package.Rattle.calls.specs.Fields.{kindAt}
 use package.Rattle.calls.specs.Entries.{TypeEntry}
+use package.Rattle.program.specs.Kinds.{recursiveKind}
 use package.Rattle.reading.specs.Scopes.{typeUnder}
 use package.Rattle.reading.specs.Typing.{entriesOf, room, Bound}
 use package.Rattle.reading.specs.Stack.{pendingTypes, Stack}
@@ -75,7 +76,7 @@ widen : {xs os binders outer : List ℕ} {top e i : ℕ} → Bound xs os binders
 widen {top = top} {e = e} B = record { known = B .known; within = let w : e ≤ top = B .within in omega arith; closes = B .closes }
 
 module _ {xs os binders outer entries cells : List ℕ} {top n : ℕ} (S : Stack xs os binders outer entries cells top n) (e i : ℕ)
-    (B : Bound xs os binders outer top e i) (k : kindAt xs (getD os i 0) ≡ 3) (h : top + 1 < room) where
+    (B : Bound xs os binders outer top e i) (k : kindAt xs (getD os i 0) ≡ recursiveKind) (h : top + 1 < room) where
   kept-binders : Kept top binders (set binders (top + 1) i)
   kept-binders = take-set-le (suc top) binders (top + 1) i (omega arith)
 

@@ -13,6 +13,7 @@ use package.Rattle.calls.specs.Named.{typesOfType, below}
 use package.Rattle.calls.proofs.Entries.{below-head, type-unfolds}
 use package.Rattle.program.specs.Parts.{variable, first, second}
 use package.Rattle.program.proofs.Shapes.{type-unit, type-prod, type-sum, type-mu, type-var}
+use package.Rattle.program.specs.Kinds.{unitTypeKind, productKind, sumKind, recursiveKind}
 use package.Rattle.reading.specs.Typing.{entriesOf, Table}
 
 getD-map : {A B : Type 0} (f : A → B) (l : List A) (a : A) (b : B) (i : ℕ) → i < length l → getD (map f l) i b ≡ f (getD l i a)
@@ -33,21 +34,21 @@ module _ (xs os : List ℕ) (T : Table xs os) (i : ℕ) (l : i < length os) wher
   ----------------------------------------------------------------
   -- By kind
 
-  pub tree-unit : kindAt xs (getD os i 0) ≡ 0 → typeOf (entriesOf xs os) i ≡ one
+  pub tree-unit : kindAt xs (getD os i 0) ≡ unitTypeKind → typeOf (entriesOf xs os) i ≡ one
   unfolding typeTree
   tree-unit e = tree-by (type-unit xs (getD os i 0) e)
 
-  pub tree-prod : kindAt xs (getD os i 0) ≡ 1
+  pub tree-prod : kindAt xs (getD os i 0) ≡ productKind
       → typeOf (entriesOf xs os) i ≡ prod (typeOf (entriesOf xs os) (first xs (getD os i 0))) (typeOf (entriesOf xs os) (second xs (getD os i 0)))
   unfolding typeTree
   tree-prod e = tree-by (type-prod xs (getD os i 0) e)
 
-  pub tree-sum : kindAt xs (getD os i 0) ≡ 2
+  pub tree-sum : kindAt xs (getD os i 0) ≡ sumKind
       → typeOf (entriesOf xs os) i ≡ sum (typeOf (entriesOf xs os) (first xs (getD os i 0))) (typeOf (entriesOf xs os) (second xs (getD os i 0)))
   unfolding typeTree
   tree-sum e = tree-by (type-sum xs (getD os i 0) e)
 
-  pub tree-mu : kindAt xs (getD os i 0) ≡ 3 → typeOf (entriesOf xs os) i ≡ mu (typeOf (entriesOf xs os) (first xs (getD os i 0)))
+  pub tree-mu : kindAt xs (getD os i 0) ≡ recursiveKind → typeOf (entriesOf xs os) i ≡ mu (typeOf (entriesOf xs os) (first xs (getD os i 0)))
   unfolding typeTree
   tree-mu e = tree-by (type-mu xs (getD os i 0) e)
 
@@ -63,14 +64,14 @@ module _ (xs os : List ℕ) (T : Table xs os) (i : ℕ) (l : i < length os) wher
       given (below-head i a (b ∷ []) (subst (λ l. below i l ≡ true) t (names-by e))) λ (h, r).
       given (below-head i b [] r) λ (h′, r′). (omega arith, omega arith)
 
-  pub prod-known : kindAt xs (getD os i 0) ≡ 1 → (first xs (getD os i 0) < length os) × (second xs (getD os i 0) < length os)
+  pub prod-known : kindAt xs (getD os i 0) ≡ productKind → (first xs (getD os i 0) < length os) × (second xs (getD os i 0) < length os)
   unfolding typesOfType
   prod-known e = two-known (type-prod xs (getD os i 0) e) refl
 
-  pub sum-known : kindAt xs (getD os i 0) ≡ 2 → (first xs (getD os i 0) < length os) × (second xs (getD os i 0) < length os)
+  pub sum-known : kindAt xs (getD os i 0) ≡ sumKind → (first xs (getD os i 0) < length os) × (second xs (getD os i 0) < length os)
   unfolding typesOfType
   sum-known e = two-known (type-sum xs (getD os i 0) e) refl
 
-  pub mu-known : kindAt xs (getD os i 0) ≡ 3 → first xs (getD os i 0) < length os
+  pub mu-known : kindAt xs (getD os i 0) ≡ recursiveKind → first xs (getD os i 0) < length os
   unfolding typesOfType
   mu-known e = given (below-head i (first xs (getD os i 0)) [] (names-by (type-mu xs (getD os i 0) e))) λ (h, r). omega arith

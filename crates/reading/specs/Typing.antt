@@ -5,7 +5,7 @@ use mathlib.Core.Bool.{Bool, true, false, _&&_}
 use mathlib.Core.Option.{Option, none, some}
 use mathlib.Core.List.{List, map}
 use lib.ListN.{length, getD}
-use package.Rattle.rules.specs.Limits.{fits}
+use package.Rattle.rules.specs.Limits.{maxValueBytes, fits}
 use package.Rattle.rules.specs.Val.{Val, size}
 use package.Rattle.rules.specs.Ty.{Ty}
 use package.Rattle.calls.specs.Fields.{kindAt}
@@ -14,6 +14,7 @@ use package.Rattle.calls.specs.Named.{typesOfType, below}
 use package.Rattle.calls.specs.Values.{Read, got, malformed, value, hasTy}
 use package.Rattle.calls.specs.Tested.{closed}
 use package.Rattle.program.specs.Parts.{TypeField}
+use package.Rattle.program.specs.Kinds.{typeVariableKind, recursiveKind}
 use package.Rattle.reading.specs.declared.typed.Scoped.{Scoped}
 use package.Rattle.reading.specs.declared.typed.Step.{Step}
 use package.Rattle.reading.specs.declared.typed.Step.the-variants as step
@@ -36,13 +37,13 @@ pub record Table (xs os : List ℕ) : Type 0 where
 
 -- room for cells, and for pending types: one at the start, and one more for each byte of a value
 abbrev pub room : ℕ
-room = 1025
+room = maxValueBytes + 1
 
 -- cell `e` has a recursive entry that is closed under lower cells
 pub record Cell (xs os binders outer : List ℕ) (e : ℕ) : Type 0 where
   pub lower : getD outer e 0 < e
   pub known : getD binders e 0 < length os
-  pub recursive : kindAt xs (getD os (getD binders e 0) 0) ≡ 3
+  pub recursive : kindAt xs (getD os (getD binders e 0) 0) ≡ recursiveKind
   pub closes : closed (length (scopeOf (entriesOf xs os) binders outer (getD outer e 0))) (typeOf (entriesOf xs os) (getD binders e 0)) ≡ true
 
 -- cells 1 to `top`
@@ -58,7 +59,7 @@ pub record Bound (xs os binders outer : List ℕ) (top e i : ℕ) : Type 0 where
 -- the same type, by an entry that is no variable
 pub record Resolved (xs os binders outer : List ℕ) (t r : Scoped) : Type 0 where
   pub bound : Bound xs os binders outer (t .cell) (r .cell) (r .entry)
-  pub shown : kindAt xs (getD os (r .entry) 0) < 4
+  pub shown : kindAt xs (getD os (r .entry) 0) < typeVariableKind
   pub same : typeUnder (entriesOf xs os) binders outer (r .cell) (r .entry) ≡ typeUnder (entriesOf xs os) binders outer (t .cell) (t .entry)
 
 ----------------------------------------------------------------

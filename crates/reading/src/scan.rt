@@ -6,6 +6,8 @@ ghost use Prim.Native.Nat.{_+_, _-_, _<_, _^_};
 ghost use lib.ListN.{getD, drop};
 ghost use Rattle.calls.specs.Values.{value, ancillae};
 ghost use Rattle.reading.specs.Ends.{pending, endOf, firstOf, isValue, counted, partOf};
+use rules::MAX_ANCILLA_BYTES;
+use rules::MAX_VALUE_BYTES;
 
 // The first byte of a value, by its kind (section 1).
 pub const UNIT: u8 = 0;
@@ -17,12 +19,6 @@ pub const INR: u8 = 2;
 pub const PAIR: u8 = 3;
 
 pub const ROLL: u8 = 4;
-
-// A value has at most so many bytes.
-pub const MAX_VALUE_BYTES: usize = 1024;
-
-// The ancillae of one call have at most so many bytes, together.
-const MAX_ANCILLA_BYTES: usize = 1024;
 
 // Where a value ends.
 pub enum End {

@@ -5,6 +5,7 @@
 use crate::scan;
 use program::kinds;
 use program::views;
+use rules::MAX_VALUE_BYTES;
 ghost use mathlib.Core.Path.{_≡_};
 ghost use mathlib.Core.Bool.{true};
 ghost use Prim.Native.Nat.{ℕ, suc, _+_, _<_};
@@ -14,13 +15,14 @@ ghost use Rattle.calls.specs.Entries.{typeAt, typeOf};
 ghost use Rattle.calls.specs.Named.{plain};
 ghost use Rattle.calls.specs.Values.{value};
 ghost use Rattle.program.specs.Parts.{variable, TypeField};
+ghost use Rattle.program.specs.Kinds.{productKind};
 ghost use Rattle.reading.specs.Ends.{firstOf, isValue};
 ghost use Rattle.reading.specs.Scopes.{outward, typeUnder};
 ghost use Rattle.reading.specs.Typing.{entriesOf, Table, room, Cells, Bound, Resolved, valueHas, nextOf};
 ghost use Rattle.reading.specs.Stack.{partsOf, Stack, Turned};
 
 // Room for cells, and for pending types: the one at the start, and one more for each byte of a value.
-const ROOM: usize = 1025;
+const ROOM: usize = MAX_VALUE_BYTES + 1;
 
 // A type entry under the recursive entries that enclose it: the cell of the nearest, or 0.
 pub struct Scoped {
@@ -221,7 +223,7 @@ fn walk(
         if s.len() <= i {
             return Step::Other;
         }
-        if scan::MAX_VALUE_BYTES <= i - at {
+        if MAX_VALUE_BYTES <= i - at {
             return Step::Other;
         }
         let turned = advance(
@@ -286,7 +288,7 @@ fn are_of(program: &[u8], types: &[u16], entry: u16, s: &[u8]) -> bool
     requires { ⌜ Table (now program) (now types) ⌝ }
     requires { ⌜ (entry < length (now types)) × (plain (entriesOf (now program) (now types)) entry ≡ true) ⌝ }
     requires { ⌜ isValue (now s) ≡ true ⌝ }
-    requires { ⌜ kindAt (now program) (getD (now types) entry 0) ≡ 1 ⌝ }
+    requires { ⌜ kindAt (now program) (getD (now types) entry 0) ≡ productKind ⌝ }
     ensures { λ r. ⌜ r ≡ valueHas (value (now (s .entry))) (typeOf (entriesOf (now (program .entry)) (now (types .entry))) entry) ⌝ }
 {
     if s[0] != 3 {

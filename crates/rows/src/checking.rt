@@ -2,6 +2,10 @@
 use crate::answers::CheckAnswer;
 use crate::preparing;
 use crate::preparing::Prepared;
+use rules::MAX_FUNCTIONS;
+use rules::MAX_PARAMETERS;
+use rules::MAX_TERMS;
+use rules::MAX_TYPES;
 ghost use Prim.Native.Nat.{_*_, _≤_};
 ghost use lib.ListN.{length};
 ghost use Rattle.rules.specs.Limits.{maxTerms};
@@ -13,10 +17,10 @@ pub fn check_program(program: &[u8], workspace: &mut [u8]) -> CheckAnswer
     requires { ⌜ nodeBytes * maxTerms ≤ length (now workspace) ⌝ }
     ensures { λ r. ⌜ CheckMeans r (now (program .entry)) ⌝ }
 {
-    let mut types = [0u16; 256];
-    let mut terms = [0u16; 1024];
-    let mut functions = [0u16; 64];
-    let mut table = [[0u16; 8]; 64];
+    let mut types = [0u16; MAX_TYPES];
+    let mut terms = [0u16; MAX_TERMS];
+    let mut functions = [0u16; MAX_FUNCTIONS];
+    let mut table = [[0u16; MAX_PARAMETERS]; MAX_FUNCTIONS];
     let prepared = preparing::prepare(
         program,
         &mut types,

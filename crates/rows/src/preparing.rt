@@ -2,20 +2,20 @@
 use crate::answers::Refusal;
 use loading::Loaded;
 use program::fields::Counts;
+use rules::MAX_FUNCTIONS;
+use rules::MAX_PARAMETERS;
+use rules::WORKSPACE_BASE;
+use rules::WORKSPACE_PER_FUEL;
 ghost use mathlib.Core.Path.{_≡_};
 ghost use Prim.Native.Nat.{_*_, _≤_};
-ghost use lib.ListN.{length, replicate};
+ghost use lib.ListN.{length};
 ghost use lib.Dec.{leb};
 ghost use Rattle.rules.specs.Limits.{maxTerms};
 ghost use Rattle.calls.specs.Runs.{workspaceFor};
 ghost use Rattle.program.specs.Places.{Buffers};
+ghost use Rattle.program.specs.Signatures.{unsigned};
 ghost use Rattle.types.specs.Codes.{nodeBytes};
 ghost use Rattle.rows.specs.Calls.{preparedFrom, PrepareMeans};
-
-// The workspace that a call needs, and for each step of fuel (section 2).
-const WORKSPACE_BASE: usize = 32768;
-
-const WORKSPACE_PER_FUEL: usize = 32;
 
 // Is a workspace of `n` bytes long enough?
 pub fn enough(n: usize, fuel: u16) -> bool
@@ -52,12 +52,12 @@ pub fn prepare(
     types: &mut [u16],
     terms: &mut [u16],
     functions: &mut [u16],
-    table: &mut [[u16; 8]; 64],
+    table: &mut [[u16; MAX_PARAMETERS]; MAX_FUNCTIONS],
     workspace: &mut [u8],
 ) -> Prepared
     requires { ⌜ Buffers (now types) (now terms) (now functions) ⌝ }
     requires { ⌜ nodeBytes * maxTerms ≤ length (now workspace) ⌝ }
-    requires { ⌜ now table ≡ replicate 64 (replicate 8 0) ⌝ }
+    requires { ⌜ now table ≡ unsigned ⌝ }
     ensures { λ r. ⌜ PrepareMeans r (now (program .entry)) (now (types .exit)) (now (terms .exit)) (now (functions .exit)) (now (table .exit)) ⌝ }
 {
     let loaded = loading::load(program, types, terms, functions, table, workspace);

@@ -7,6 +7,10 @@ use crate::preparing;
 use crate::preparing::Prepared;
 use admission::Admitted;
 use program::fields::Counts;
+use rules::MAX_FUNCTIONS;
+use rules::MAX_PARAMETERS;
+use rules::MAX_TERMS;
+use rules::MAX_TYPES;
 use running::ended::Ended;
 ghost use mathlib.Core.Path.{_≡_};
 ghost use Prim.Native.Nat.{_≤_};
@@ -83,7 +87,7 @@ pub fn run(
     types: &[u16],
     terms: &[u16],
     functions: &[u16],
-    table: &[[u16; 8]; 64],
+    table: &[[u16; MAX_PARAMETERS]; MAX_FUNCTIONS],
     function: u16,
     ancillae: &[u8],
     value: &[u8],
@@ -137,7 +141,7 @@ fn run_fronts(
     types: &[u16],
     terms: &[u16],
     functions: &[u16],
-    table: &[[u16; 8]; 64],
+    table: &[[u16; MAX_PARAMETERS]; MAX_FUNCTIONS],
     function: u16,
     ancillae: &[u8],
     value: &[u8],
@@ -183,10 +187,10 @@ pub fn run_program(
     requires { ⌜ workspaceFor fuel ≤ length (now workspace) ⌝ }
     ensures { λ r. ⌜ RunMeans r (ofProgram back (now (program .entry)) function (now (ancillae .entry)) (now (value .entry)) fuel (length (now (output .entry)))) (now (output .entry)) (now (output .exit)) ⌝ }
 {
-    let mut types = [0u16; 256];
-    let mut terms = [0u16; 1024];
-    let mut functions = [0u16; 64];
-    let mut table = [[0u16; 8]; 64];
+    let mut types = [0u16; MAX_TYPES];
+    let mut terms = [0u16; MAX_TERMS];
+    let mut functions = [0u16; MAX_FUNCTIONS];
+    let mut table = [[0u16; MAX_PARAMETERS]; MAX_FUNCTIONS];
     let prepared = preparing::prepare(
         program,
         &mut types,

@@ -9,7 +9,7 @@ ghost use Rattle.scopes.specs.Slots.{stateCount, slotsOf};
 ghost use Rattle.running.specs.Begun.{Enough, Beginning, AncillaeIn, BegunIn};
 
 // Section 1's limit of a run's height.
-pub const MAX_HEIGHT: u16 = 1024;
+pub const MAX_HEIGHT: u16 = rules::MAX_HEIGHT as u16;
 
 // How many ancillae there are, and the first free node.
 pub struct Start {

@@ -8,7 +8,7 @@ use mathlib.Core.Option.{some}
 use mathlib.Core.List.{List}
 use lib.ListN.{length, take}
 use lib.Dec.{ltb, leb}
-use package.Rattle.rules.specs.Limits.{maxConversions}
+use package.Rattle.rules.specs.Limits.{maxValueBytes, maxConversions}
 use package.Rattle.rules.specs.Val.{encode}
 use package.Rattle.rules.specs.Term.{Program}
 use package.Rattle.rules.proofs.Basics.{given}
@@ -72,22 +72,22 @@ module _ (P : Program) (fuel fn : ℕ) (anc j : List ℕ) where
     there = standing pl j s .read
 
     -- 20: as many conversions stand as may
-    pub convert-many : 64 ≤ pl .count → TurnMeans (runs.Refused Full) (convertOf P fuel fn anc j) j j
+    pub convert-many : maxConversions ≤ pl .count → TurnMeans (runs.Refused Full) (convertOf P fuel fn anc j) j j
     unfolding convertOf maxConversions
     convert-many l = turn-refused Full j
-        (via _ (present-some 18 there) (stops _ (require-no 20 0 (le-ltb (length (journalIn j .entries)) 64 (omega (arith, count-place (standing pl j s)))))))
+        (via _ (present-some 18 there) (stops _ (require-no 20 0 (le-ltb (length (journalIn j .entries)) maxConversions (omega (arith, count-place (standing pl j s)))))))
         (refuses {n = 20} (omega arith))
 
-    module _ (less : pl .count < 64) {bytes : List ℕ} (held-is : bytes ≡ encode (journalIn j .held)) (out out′ : List ℕ) (room : length out ≡ 1024) {a : RunAnswer}
+    module _ (less : pl .count < maxConversions) {bytes : List ℕ} (held-is : bytes ≡ encode (journalIn j .held)) (out out′ : List ℕ) (room : length out ≡ maxValueBytes) {a : RunAnswer}
         (R : RunMeans a (called false P fn anc bytes fuel (length out)) out out′) where
       few : ltb (length (journalIn j .entries)) maxConversions ≡ true
       unfolding maxConversions
-      few = lt-ltb (length (journalIn j .entries)) 64 (omega (arith, count-place (standing pl j s)))
+      few = lt-ltb (length (journalIn j .entries)) maxConversions (omega (arith, count-place (standing pl j s)))
 
       held-read : value bytes ≡ some (journalIn j .held)
       held-read = ap value held-is ∙ value-encode (journalIn j .held) (standing pl j s .writable .held-fits)
 
-      whole : called false P fn anc bytes fuel 1024 ≡ called false P fn anc bytes fuel (length out)
+      whole : called false P fn anc bytes fuel maxValueBytes ≡ called false P fn anc bytes fuel (length out)
       whole = ap (called false P fn anc bytes fuel) (sym room)
 
       run-as : {w : RunAnswer} → a ≡ w → RunMeans w (called false P fn anc bytes fuel (length out)) out out′

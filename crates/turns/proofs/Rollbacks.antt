@@ -62,10 +62,10 @@ module _ {A B : Type 0} where
 
 -- in an output of 1,024 bytes row Output refuses nothing
 back-whole : (P : Program) (g fuel : ℕ) (anc bytes : List ℕ) (vs : List Val) (v : Val) → ancillae anc ≡ some vs → value bytes ≡ some v
-    → called true P g anc bytes fuel 1024 ≡ (admit P g (some vs) (some v) (λ h. h .result) >>= returns P fuel)
+    → called true P g anc bytes fuel maxValueBytes ≡ (admit P g (some vs) (some v) (λ h. h .result) >>= returns P fuel)
 unfolding called runOf
 back-whole P g fuel anc bytes vs v p q =
-    ap₂ (λ a b. admit P g a b (sideOf true) >>= λ a. finished 1024 (runOf true P fuel a)) p q
+    ap₂ (λ a b. admit P g a b (sideOf true) >>= λ a. finished maxValueBytes (runOf true P fuel a)) p q
     ∙ goes-alike _ _ _ λ a. finished-whole (returns P fuel a) λ r e. run-fits true P fuel a e
 
 -- its value fits

@@ -72,12 +72,12 @@ run-fits true P fuel a e = ran-fits fuel (run-backward-ends fits P unit-fits max
 run-fits false P fuel a e = ran-fits fuel (run-forward-ends fits P maxHeight (a .fun) (a .ancillae) (a .value) fuel) e
 
 -- so an output of 1,024 bytes is long enough
-pub finished-whole : (x : Answer Ran) → ((r : Ran) → x ≡ accepted r → fits (r .value) ≡ true) → finished 1024 x ≡ x
+pub finished-whole : (x : Answer Ran) → ((r : Ran) → x ≡ accepted r → fits (r .value) ≡ true) → finished maxValueBytes x ≡ x
 unfolding finished _>>=_ fits maxValueBytes
 finished-whole (accepted r) f = via _ (require-yes 17 0 (f r refl)) refl
 finished-whole (refused n p) f = refl
 
-run-whole : (back : Bool) (P : Program) (fuel : ℕ) (a : Given) → finished 1024 (runOf back P fuel a) ≡ runOf back P fuel a
+run-whole : (back : Bool) (P : Program) (fuel : ℕ) (a : Given) → finished maxValueBytes (runOf back P fuel a) ≡ runOf back P fuel a
 run-whole back P fuel a = finished-whole (runOf back P fuel a) λ r e. run-fits back P fuel a e
 
 ----------------------------------------------------------------
@@ -95,7 +95,7 @@ module _ (back : Bool) (P : Program) (g fuel : ℕ) (anc bytes : List ℕ) (as? 
   admitted-so = ap₂ (λ a v. admit P g a v (sideOf back)) as-read v-read
 
   -- its value, with what it was given
-  pub carried : {r : Ran} → called back P g anc bytes fuel 1024 ≡ accepted r → Carried r
+  pub carried : {r : Ran} → called back P g anc bytes fuel maxValueBytes ≡ accepted r → Carried r
   unfolding called
   carried {r} e =
       given (unbind (admit P g (ancillae anc) (value bytes) (sideOf back)) _ e) λ (a, p, q).
@@ -109,7 +109,7 @@ module _ (back : Bool) (P : Program) (g fuel : ℕ) (anc bytes : List ℕ) (as? 
       }
 
   -- its refusal is the call's
-  pub not-carried : {B : Type 0} {n p : ℕ} (k : Given → Ran → Answer B) → called back P g anc bytes fuel 1024 ≡ refused n p
+  pub not-carried : {B : Type 0} {n p : ℕ} (k : Given → Ran → Answer B) → called back P g anc bytes fuel maxValueBytes ≡ refused n p
       → (admit P g as? v? (sideOf back) >>= λ a. runOf back P fuel a >>= k a) ≡ refused n p
   unfolding called
   not-carried {B} {n} {p} k e = elim (unstop (admit P g (ancillae anc) (value bytes) (sideOf back)) _ e) [

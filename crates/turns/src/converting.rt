@@ -9,10 +9,15 @@ use rows::answers::Done;
 use rows::answers::Refusal;
 use rows::answers::RunAnswer;
 use rows::runs;
+use rules::MAX_CONVERSIONS;
+use rules::MAX_FUNCTIONS;
+use rules::MAX_PARAMETERS;
+use rules::MAX_VALUE_BYTES;
 ghost use mathlib.Core.Path.{_≡_};
 ghost use mathlib.Core.Bool.{true};
 ghost use Prim.Native.Nat.{_≤_, _<_};
 ghost use lib.ListN.{length, take};
+ghost use Rattle.rules.specs.Limits.{maxConversions, maxValueBytes};
 ghost use Rattle.calls.specs.Runs.{workspaceFor};
 ghost use Rattle.reading.specs.Ends.{isValue};
 ghost use Rattle.journal.specs.Places.{Stands};
@@ -21,8 +26,6 @@ ghost use Rattle.program.specs.Programs.{programIn};
 ghost use Rattle.loading.specs.Loading.{Accepted};
 ghost use Rattle.turns.specs.Turns.{convertOf, TurnMeans};
 ghost use Rattle.turns.specs.Converting.{convertedTo};
-
-const MAX_CONVERSIONS: usize = 64;
 
 // The new held value and one conversion more, if they fit the journal (20).
 fn keep(
@@ -71,7 +74,7 @@ fn convert_held(
     types: &[u16],
     terms: &[u16],
     functions: &[u16],
-    table: &[[u16; 8]; 64],
+    table: &[[u16; MAX_PARAMETERS]; MAX_FUNCTIONS],
     function: u16,
     ancillae: &[u8],
     fuel: u16,
@@ -82,7 +85,7 @@ fn convert_held(
 ) -> RunAnswer
     requires { ⌜ (Accepted (now program) (now types) (now terms) (now functions) (now table)) × (workspaceFor fuel ≤ length (now workspace)) ⌝ }
     requires { ⌜ Stands pl (now journal) ⌝ }
-    requires { ⌜ (pl .count < 64) × (length (now output) ≡ 1024) ⌝ }
+    requires { ⌜ (pl .count < maxConversions) × (length (now output) ≡ maxValueBytes) ⌝ }
     ensures { λ r. ⌜ TurnMeans r (convertOf (programIn (now (program .entry)) (now (types .entry)) (now (terms .entry)) (now (functions .entry))) fuel function (now (ancillae .entry)) (now (journal .entry))) (now (journal .entry)) (now (journal .exit)) ⌝ }
 {
     let value = parts::held_value(journal, pl);
@@ -112,7 +115,7 @@ pub fn convert(
     types: &[u16],
     terms: &[u16],
     functions: &[u16],
-    table: &[[u16; 8]; 64],
+    table: &[[u16; MAX_PARAMETERS]; MAX_FUNCTIONS],
     function: u16,
     ancillae: &[u8],
     fuel: u16,
@@ -130,7 +133,7 @@ pub fn convert(
     if MAX_CONVERSIONS <= pl.count {
         return RunAnswer::Refused(Refusal::Full);
     }
-    let mut output = [0u8; 1024];
+    let mut output = [0u8; MAX_VALUE_BYTES];
     convert_held(
         program,
         types,

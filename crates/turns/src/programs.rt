@@ -7,6 +7,10 @@ use program::fields::Counts;
 use rows::answers::CheckAnswer;
 use rows::answers::RunAnswer;
 use rows::preparing::Prepared;
+use rules::MAX_FUNCTIONS;
+use rules::MAX_PARAMETERS;
+use rules::MAX_TERMS;
+use rules::MAX_TYPES;
 ghost use Prim.Native.Nat.{_*_, _≤_};
 ghost use lib.ListN.{length};
 ghost use Rattle.rules.specs.Limits.{maxTerms};
@@ -34,7 +38,7 @@ fn convert_fronts(
     types: &[u16],
     terms: &[u16],
     functions: &[u16],
-    table: &[[u16; 8]; 64],
+    table: &[[u16; MAX_PARAMETERS]; MAX_FUNCTIONS],
     function: u16,
     ancillae: &[u8],
     fuel: u16,
@@ -74,10 +78,10 @@ pub fn convert(
     requires { ⌜ workspaceFor fuel ≤ length (now workspace) ⌝ }
     ensures { λ r. ⌜ TurnMeans r (convertIn (now (program .entry)) fuel function (now (ancillae .entry)) (now (journal .entry))) (now (journal .entry)) (now (journal .exit)) ⌝ }
 {
-    let mut types = [0u16; 256];
-    let mut terms = [0u16; 1024];
-    let mut functions = [0u16; 64];
-    let mut table = [[0u16; 8]; 64];
+    let mut types = [0u16; MAX_TYPES];
+    let mut terms = [0u16; MAX_TERMS];
+    let mut functions = [0u16; MAX_FUNCTIONS];
+    let mut table = [[0u16; MAX_PARAMETERS]; MAX_FUNCTIONS];
     let prepared = rows::preparing::prepare(
         program,
         &mut types,
@@ -111,7 +115,7 @@ fn rollback_fronts(
     types: &[u16],
     terms: &[u16],
     functions: &[u16],
-    table: &[[u16; 8]; 64],
+    table: &[[u16; MAX_PARAMETERS]; MAX_FUNCTIONS],
     fuel: u16,
     workspace: &mut [u8],
     journal: &mut [u8],
@@ -140,10 +144,10 @@ pub fn rollback(program: &[u8], fuel: u16, workspace: &mut [u8], journal: &mut [
     requires { ⌜ workspaceFor fuel ≤ length (now workspace) ⌝ }
     ensures { λ r. ⌜ TurnMeans r (rollbackIn (now (program .entry)) fuel (now (journal .entry))) (now (journal .entry)) (now (journal .exit)) ⌝ }
 {
-    let mut types = [0u16; 256];
-    let mut terms = [0u16; 1024];
-    let mut functions = [0u16; 64];
-    let mut table = [[0u16; 8]; 64];
+    let mut types = [0u16; MAX_TYPES];
+    let mut terms = [0u16; MAX_TERMS];
+    let mut functions = [0u16; MAX_FUNCTIONS];
+    let mut table = [[0u16; MAX_PARAMETERS]; MAX_FUNCTIONS];
     let prepared = rows::preparing::prepare(
         program,
         &mut types,

@@ -5,6 +5,9 @@ use journal::places::Survey;
 use rows::answers::Done;
 use rows::answers::Refusal;
 use rows::answers::RunAnswer;
+use rules::MAX_FUNCTIONS;
+use rules::MAX_PARAMETERS;
+use rules::MAX_VALUE_BYTES;
 ghost use mathlib.Core.Path.{_≡_};
 ghost use mathlib.Core.Bool.{true};
 ghost use Prim.Native.Nat.{_≤_, _<_};
@@ -25,7 +28,7 @@ fn run_newest(
     types: &[u16],
     terms: &[u16],
     functions: &[u16],
-    table: &[[u16; 8]; 64],
+    table: &[[u16; MAX_PARAMETERS]; MAX_FUNCTIONS],
     fuel: u16,
     journal: &[u8],
     pl: Places,
@@ -81,7 +84,7 @@ fn roll_newest(
     types: &[u16],
     terms: &[u16],
     functions: &[u16],
-    table: &[[u16; 8]; 64],
+    table: &[[u16; MAX_PARAMETERS]; MAX_FUNCTIONS],
     fuel: u16,
     workspace: &mut [u8],
     journal: &mut [u8],
@@ -120,7 +123,7 @@ pub fn rollback(
     types: &[u16],
     terms: &[u16],
     functions: &[u16],
-    table: &[[u16; 8]; 64],
+    table: &[[u16; MAX_PARAMETERS]; MAX_FUNCTIONS],
     fuel: u16,
     workspace: &mut [u8],
     journal: &mut [u8],
@@ -137,7 +140,7 @@ pub fn rollback(
     if count == 0 {
         return RunAnswer::Refused(Refusal::Standing);
     }
-    let mut output = [0u8; 1024];
+    let mut output = [0u8; MAX_VALUE_BYTES];
     roll_newest(
         program,
         types,

@@ -10,10 +10,10 @@ ghost use Rattle.rules.specs.Ty.{nodes};
 ghost use Rattle.calls.specs.Named.{ceiling};
 ghost use Rattle.types.specs.Codes.{underForm, treeIn, Sources, Known};
 ghost use Rattle.types.specs.Counts.{Counted, Held, Small};
+use crate::codes;
 use crate::codes::Code;
 use crate::nodes;
 use crate::shapes;
-use crate::codes;
 use program::kinds;
 
 // The limit on the nodes of a type, as wide as a count of them.

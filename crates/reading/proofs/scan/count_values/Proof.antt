@@ -9,7 +9,7 @@ use Rattle.reading.proofs.scan.count_values.Statement.{statement}
 use Rattle.reading.proofs.scan.count_values.Tie as tie
 
 abbrev Inv-loop : tie.InvT-loop
-Inv-loop s at₀ n₀ at n = (at ≤ length s) × (n ≤ at) × (length s ≤ 1024) × Counting s n (drop at s)
+Inv-loop s at₀ n₀ at n = (at ≤ length s) × (n ≤ at) × (length s ≤ maxAncillaBytes) × Counting s n (drop at s)
 
 abbrev μ-loop : tie.MeasureT-loop
 μ-loop s at₀ n₀ at n = length s - at
@@ -32,7 +32,7 @@ enum-told : tie.Need-enum-told Inv-loop μ-loop
 enum-told c = search needs
 
 returns-2 : tie.Need-returns-2 Inv-loop μ-loop
-unfolding maxValueBytes
+unfolding maxValueBytes maxAncillaBytes
 returns-2 c = let k = c .before .before .before .before in
     let v = k .loop .inv in
     count-stops _ _ _ (c .before .before .before .loop-test .taken) (v .1) (v .3) (v .2) (sym (c .enum-told .given .1) ∙ c .before .before .value-end .ensures)

@@ -9,7 +9,7 @@ use Rattle.reading.proofs.scan.value_end.Statement.{statement}
 use Rattle.reading.proofs.scan.value_end.Tie as tie
 
 abbrev Inv-loop : tie.InvT-loop
-Inv-loop s at i₀ count₀ i count = (at ≤ i) × (i - at ≤ 1024) × (count ≤ i - at + 1) × Scanned (drop at s) (i - at) (drop i s) count
+Inv-loop s at i₀ count₀ i count = (at ≤ i) × (i - at ≤ maxValueBytes) × (count ≤ i - at + 1) × Scanned (drop at s) (i - at) (drop i s) count
 
 abbrev μ-loop : tie.MeasureT-loop
 μ-loop s at i₀ count₀ i count = length s - i
@@ -44,6 +44,7 @@ loop-less : tie.Need-loop-less Inv-loop μ-loop
 loop-less c = search needs
 
 loop-again : tie.Need-loop-again Inv-loop μ-loop
+unfolding maxValueBytes
 loop-again c = let k = c .before .before .before .before .before .before in
     let v = k .loop .inv in (
       omega arith,

@@ -2,6 +2,7 @@ use native.Mathlib.Omega.{arith}
 use mathlib.Core.Path.{_≡_}
 use lib.ListN.{getD}
 use borrow.Author.Needs.{needs}
+use Rattle.rules.specs.Limits.{maxValueBytes}
 use Rattle.calls.specs.Entries.{typeAt}
 use Rattle.reading.specs.declared.typed.Parts.{Parts}
 use Rattle.reading.specs.Stack.{partsOf}
@@ -18,15 +19,19 @@ found-at : (m : tie.After-parts-of) {p : Parts} → m .parts-of .result ≡ p
 found-at m e = found (start-of m .args .program .now) (start-of m .args .b) (m .parts-of .ensures) (m .before .field .ensures .0) e
 
 mul-t20 : tie.Need-mul-t20
+unfolding maxValueBytes
 mul-t20 c = search needs
 
 element-copy-out-t23 : tie.Need-element-copy-out-t23
+unfolding maxValueBytes
 element-copy-out-t23 c = search needs
 
 mul-t24 : tie.Need-mul-t24
+unfolding maxValueBytes
 mul-t24 c = search needs
 
 element-copy-out-t27 : tie.Need-element-copy-out-t27
+unfolding maxValueBytes
 element-copy-out-t27 c = search needs
 
 resolve-requires : tie.Need-resolve-requires
@@ -51,6 +56,7 @@ put-requires : tie.Need-put-requires
 put-requires c κs = search needs
 
 add-t34 : tie.Need-add-t34
+unfolding maxValueBytes
 add-t34 c = search needs
 
 enum-known-parts-2 : tie.Need-enum-known-parts-2
@@ -60,18 +66,21 @@ put-requires-2 : tie.Need-put-requires-2
 put-requires-2 c κs = search needs
 
 add-put : tie.Need-add-put
+unfolding maxValueBytes
 add-put c = search needs
 
 put-requires-3 : tie.Need-put-requires-3
 put-requires-3 c κs = search needs
 
 add-t40 : tie.Need-add-t40
+unfolding maxValueBytes
 add-t40 c = omega (arith, start-of (c .before .before .before .before .before .before .before .before .before) .pre .1 .1)
 
 enum-known-parts-3 : tie.Need-enum-known-parts-3
 enum-known-parts-3 c = search needs
 
 add-next : tie.Need-add-next
+unfolding maxValueBytes
 add-next c = search needs
 
 wide-index-requires : tie.Need-wide-index-requires
@@ -84,6 +93,7 @@ put-requires-5 : tie.Need-put-requires-5
 put-requires-5 c κs = search needs
 
 add-t44 : tie.Need-add-t44
+unfolding maxValueBytes
 add-t44 c = omega (arith, start-of (c .before .before .before .before .before .before .before .before .before .before) .pre .1 .1)
 
 enum-told-2 : tie.Need-enum-told-2

@@ -2,6 +2,7 @@ use Prim.Native.Nat.{_-_, _≤_}
 use native.Mathlib.Omega.{arith}
 use mathlib.Core.Path.{_≡_, ap, _∙_}
 use borrow.Author.Needs.{needs}
+use Rattle.rules.specs.Limits.{maxValueBytes}
 use Rattle.reading.specs.Scopes.{outward}
 use Rattle.reading.proofs.Cells.{outward-start, outward-turn}
 use Rattle.reading.proofs.typed.enclosing.Statement.{statement}
@@ -23,6 +24,7 @@ mul-e : tie.Need-mul-e Inv-loop μ-loop
 mul-e c = search needs
 
 element-copy-out-e : tie.Need-element-copy-out-e Inv-loop μ-loop
+unfolding maxValueBytes
 element-copy-out-e c =
     let l = c .before .before in
     omega (arith, c .wide-index .ensures .0, l .loop .inv .1, l .before .pre (l .loop .n) (c .before .loop-test .taken))

@@ -2,6 +2,7 @@ use Prim.Native.Nat.{ℕ}
 use mathlib.Core.Path.{ap, _∙_}
 use lib.ListN.{drop, length-replicate}
 use borrow.Author.Needs.{needs}
+use Rattle.rules.specs.Limits.{maxValueBytes}
 use Rattle.reading.specs.Ends.{firstOf}
 use Rattle.reading.specs.Typing.{room, nextOf}
 use Rattle.reading.proofs.Asked.{stack-start, type-start}
@@ -12,12 +13,14 @@ put-requires : tie.Need-put-requires
 put-requires c κs = search needs
 
 walk-requires : tie.Need-walk-requires
+unfolding maxValueBytes
 walk-requires c κs =
     let p = c .before .before .before .before .before .before .before .before .before .before .pre in
     let w = c .before .before .before .before .put .ensures in
     stack-start _ _ (p .0) _ (p .1 .0) (p .1 .1) _ _ (w .0) (w .1) (length-replicate {A = ℕ} room 0) (length-replicate {A = ℕ} room 0)
 
 returns : tie.Need-returns
+unfolding maxValueBytes
 returns c =
     let a = c .before .before .before .before .before .before .before .before .before .before .before in
     let p = a .pre in

@@ -2,6 +2,7 @@ use Prim.Native.Nat.{ℕ, _≤_}
 use native.Mathlib.Omega.{arith}
 use mathlib.Core.Path.{_≡_, ap, _∙_}
 use lib.ListN.{getD}
+use Rattle.rules.specs.Limits.{maxValueBytes}
 use Rattle.calls.specs.Fields.{kindAt}
 use Rattle.program.specs.Parts.{variable}
 use Rattle.program.proofs.Rooms.{type-kind, type-kind-room, tyvar-room}
@@ -79,12 +80,14 @@ mul-t14 : tie.Need-mul-t14
 mul-t14 c = search needs
 
 element-copy-out-t13 : tie.Need-element-copy-out-t13
+unfolding maxValueBytes
 element-copy-out-t13 c = omega (arith, cell-within c, c .before .before .before .before .before .before .before .before .pre .1 .1 .1)
 
 mul-t17 : tie.Need-mul-t17
 mul-t17 c = search needs
 
 element-copy-out-t20 : tie.Need-element-copy-out-t20
+unfolding maxValueBytes
 element-copy-out-t20 c = omega (arith, cell-within (c .before), c .before .before .before .before .before .before .before .before .before .pre .1 .1 .1)
 
 returns-2 : tie.Need-returns-2

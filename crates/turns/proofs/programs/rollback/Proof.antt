@@ -1,5 +1,6 @@
 use mathlib.Core.Path.{refl}
 use native.Mathlib.Omega.{arith}
+use Rattle.rules.specs.Limits.{maxParameters}
 use Rattle.rows.proofs.Beginning.{enough-types}
 use Rattle.rows.proofs.Rows.{fronts, kept-enough}
 use Rattle.turns.specs.Turns.{rollbackOf}
@@ -18,6 +19,7 @@ slice-aggregate-prepare-3 : tie.Need-slice-aggregate-prepare-3
 slice-aggregate-prepare-3 c = search needs
 
 prepare-requires : tie.Need-prepare-requires
+unfolding maxParameters
 prepare-requires c κs =
     let start = c .before .before .before .before .before .before .before .before in
     (record { forTypes = omega arith; forTerms = omega arith; forFunctions = omega arith }, (enough-types _ _ (start .pre), refl))
