@@ -12,7 +12,7 @@ use package.Rattle.rules.specs.Term.{Term, count, Fun, Program, nth}
 use package.Rattle.rules.specs.Typing.{Context, Vars, Subject, _∶_, arguments, Types, t-var1, t-var2, t-unit, t-unit-elm, t-inl, t-inr, t-prod, t-let1, t-let2, t-sum, t-app1, t-app2, t-app2-end}
 use package.Rattle.rules.specs.Typing.{t-roll, t-unroll, WellTyped}
 use package.Rattle.rules.specs.Check.{statics}
-use package.Rattle.rules.specs.Limits.{maxParameters}
+use package.Rattle.rules.specs.Limits.{maxParameters, maxVariables}
 use package.Rattle.rules.proofs.Basics.{given}
 use package.Rattle.rules.proofs.Scope.{look-lt}
 use package.Rattle.rules.proofs.Typing.Functions.{length-parameters, body-typed}
@@ -32,7 +32,7 @@ use package.Rattle.backward.specs.Scoped.{Scoped, ScopedAt, Bodies}
 ----------------------------------------------------------------
 -- Typed terms are in scope
 
-module _ (variables most : ℕ) (most-variables : variables ≤ 32) (P : Program) (arity : ℕ → ℕ)
+module _ (variables most : ℕ) (most-variables : variables ≤ maxVariables) (P : Program) (arity : ℕ → ℕ)
     (parameters : (g : ℕ) (h : Fun) → nth P g ≡ some h → length (h .ancillae) + 1 ≡ arity g) where
   abbrev ScopedAs : Context → Subject → Type 0
   ScopedAs Δ (t ∶ τ) = Scoped arity (length Δ) t
@@ -104,7 +104,7 @@ unfolding functionOf
 parameter-count {p} {at} ys ts F =
     omega (arith, F .some, length-map (functionAt p at .ancillae) (typeOf ys), ancillae-count p at)
 
-module _ {p types terms functions : List ℕ} (read : Placed p types terms functions) (variables most : ℕ) (most-variables : variables ≤ 32)
+module _ {p types terms functions : List ℕ} (read : Placed p types terms functions) (variables most : ℕ) (most-variables : variables ≤ maxVariables)
     (typed : WellTyped variables most (programOf (entriesAt p (placesOf types terms functions)))) {code : List ℕ} (D : Decodes code p terms functions) where
   abbrev types-read : List TypeEntry
   types-read = map (typeAt p) types

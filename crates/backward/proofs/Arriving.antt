@@ -9,6 +9,8 @@ use lib.ListN.{length, getD, set, length-set}
 use lib.Seq.{getD-set-other}
 use lib.Dec.{eqb}
 use borrow.Author.Tests.{eq-eqb, eqb-true, eqb-false}
+use package.Rattle.rules.specs.Limits.{maxVariables}
+use package.Rattle.program.specs.Kinds.{variableKind, unitKind}
 use package.Rattle.rules.specs.Val.{Val, same}
 use package.Rattle.rules.specs.Run.{give}
 use package.Rattle.rules.specs.Machine.{meet, onUnit}
@@ -108,14 +110,14 @@ module _ {code heap slots : List ℕ} {m : Machine} {b : Bindings} {sc : Scope} 
 
 module _ {code heap slots : List ℕ} {m : Machine} {b : Bindings} {sc : Scope} {t room : ℕ}
     (P : Prepared 2 1 code heap slots m b sc (sc .n) t room) {node : ℕ} (low : node < m .top) where
-  module _ (kind : kindIn code t ≡ 0) where
+  module _ (kind : kindIn code t ≡ variableKind) where
     in-scope : firstIn code t < sc .n
     in-scope = scoped-var (P .ready) kind
 
-    few : sc .n ≤ 32
+    few : sc .n ≤ maxVariables
     few = P .ready .binds .bound .few
 
-    here : getD (slotsFrom slots (sc .base) 32) (firstIn code t) 0 ≡ getD slots (sc .base + firstIn code t) 0
+    here : getD (slotsFrom slots (sc .base) maxVariables) (firstIn code t) 0 ≡ getD slots (sc .base + firstIn code t) 0
     here = view-at slots (sc .base) (firstIn code t) (omega (arith, in-scope, few))
 
     pub variable-slot : Slot heap (getD slots (sc .base + firstIn code t) 0) (m .top)
@@ -177,7 +179,7 @@ module _ {code heap slots : List ℕ} {m : Machine} {b : Bindings} {sc : Scope} 
   ----------------------------------------------------------------
   -- The unit
 
-  pub unit-gone : kindIn code t ≡ 1 → {r : Out} → UnitMet heap b node r
+  pub unit-gone : kindIn code t ≡ unitKind → {r : Out} → UnitMet heap b node r
       → Gone 2 heap heap slots slots m m sc r (stepAt code heap slots m sc t (valueAt heap node) room)
   unit-gone kind {r} U = go (eqb (nodeKind heap node) 0) refl
     where
@@ -202,7 +204,7 @@ module _ {code heap slots : List ℕ} {m : Machine} {b : Bindings} {sc : Scope} 
 -- By the numbers that a run is lent
 
 -- the variable can be met
-pub variable-meetable : {code heap st : List ℕ} {b : Bindings} {scope t room : ℕ} → PreparedIn 2 1 code heap st b scope t room → kindIn code t ≡ 0
+pub variable-meetable : {code heap st : List ℕ} {b : Bindings} {scope t room : ℕ} → PreparedIn 2 1 code heap st b scope t room → kindIn code t ≡ variableKind
     → {node : ℕ} → node < machineOf st .top → Meetable heap st b (scopeIn scope) (firstIn code t)
 variable-meetable Q kind low = let P = Q .prepared in record {
   cell = record {
@@ -219,7 +221,7 @@ variable-meetable Q kind low = let P = Q .prepared in record {
 }
 
 pub variable-step : {code heap heap′ st st′ : List ℕ} {b : Bindings} {scope t room : ℕ} → PreparedIn 2 1 code heap st b scope t room → {node : ℕ}
-    → node < machineOf st .top → kindIn code t ≡ 0
+    → node < machineOf st .top → kindIn code t ≡ variableKind
     → {r : Out} → Variable heap heap′ st st′ b (scopeIn scope) (firstIn code t) node t r → StepsBack code heap heap′ st st′ scope t node room r
 variable-step {code} {heap} {heap′} {st} {st′} {b} {scope} {t} {room} Q {node} low kind {r} E =
     let P = Q .prepared in
@@ -237,7 +239,7 @@ variable-step {code} {heap} {heap′} {st} {st′} {b} {scope} {t} {room} Q {nod
     step-same p q R = rw (p, q) R
 
 pub unit-step : {code heap st : List ℕ} {b : Bindings} {scope t room : ℕ} → PreparedIn 2 1 code heap st b scope t room → {node : ℕ}
-    → node < machineOf st .top → kindIn code t ≡ 1
+    → node < machineOf st .top → kindIn code t ≡ unitKind
     → {r : Out} → UnitMet heap b node r → StepsBack code heap heap st st scope t node room r
 unit-step Q low kind U = record { lengths = refl; gone = unit-gone (Q .prepared) low kind U }
 

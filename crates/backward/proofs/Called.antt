@@ -4,6 +4,7 @@ use native.Mathlib.Omega.{arith}
 use mathlib.Core.Path.{_≡_, refl, ap, _∙_}
 use mathlib.Core.List.{List}
 use lib.ListN.{length, getD}
+use package.Rattle.rules.specs.Limits.{maxVariables}
 use package.Rattle.decoded.specs.Rows.{argumentIn, bodyIn, firstIn}
 use package.Rattle.values.specs.Nodes.{valueAt, Agree}
 use package.Rattle.values.proofs.Places.{agree-trans, agree-down}
@@ -41,7 +42,7 @@ module _ {code heap slots : List ℕ} {m : Machine} {b : Bindings} {sc : Scope} 
   }
 
   module _ (e : stop ≡ 0) {g u : ℕ} (qg : g ≡ firstIn code t) (qu : u ≡ bodyIn code g) where
-    pub called-space : k < 32
+    pub called-space : k < maxVariables
     called-space = call-space (P .ready) low C (arguments-done P C D) (is-done e) qg qu
 
     there : sc .base + sc .n + k < slotCount
@@ -64,7 +65,7 @@ module _ {code heap slots : List ℕ} {m : Machine} {b : Bindings} {sc : Scope} 
         space = omega (arith, P .space, P .ready .tall, few-count (scope-ready P) C);
       })
 
-      pub called-few : sc₁ .n < 32
+      pub called-few : sc₁ .n < maxVariables
       called-few = rw w called-space
 
       module _ {heap₂ slots₂ : List ℕ} {m₂ : Machine} {r : Out}

@@ -5,7 +5,7 @@ use native.Mathlib.Omega.{arith}
 use mathlib.Core.Path.{_≡_, sym, ap, ap₂, subst, _∙_}
 use mathlib.Core.Option.{none, some}
 use mathlib.Core.List.{List, [], _∷_, map}
-use package.Rattle.rules.specs.Limits.{fits}
+use package.Rattle.rules.specs.Limits.{fits, maxVariables}
 use package.Rattle.rules.specs.Val.{Val}
 use package.Rattle.rules.specs.Term.{Term, Fun, nth, scope}
 use package.Rattle.rules.specs.Run.{Res, Run, after}
@@ -130,7 +130,7 @@ module _ {code heap slots : List ℕ} {st : Machine} {b : View} {q t room : ℕ}
     pub call-body : Ready 0 0 code heap₁ slots₁ (made .state) args count (args .len + 1) u (room - 1)
     call-body = body-ready (held-less (held-later (rd .machine) 2 (omega arith) (D .moves)) 0 (room - 1) (omega arith) (omega arith)) known (rw qg called) parameters qu
 
-    pub call-space : args .len < 32
+    pub call-space : args .len < maxVariables
     call-space = omega (arith, known .all, C .ancillae, rd .machine .rows .few t (rd .term) (C .kind))
 
     pub call-node : node < made .state .top

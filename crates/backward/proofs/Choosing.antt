@@ -7,7 +7,8 @@ use mathlib.Core.Bool.{Bool, true, false, cond}
 use mathlib.Core.Option.{none}
 use mathlib.Core.Logic.{inl as left, inr as right}
 use mathlib.Core.List.{List, _∷_}
-use package.Rattle.rules.specs.Limits.{fits}
+use package.Rattle.program.specs.Kinds.{caseKind}
+use package.Rattle.rules.specs.Limits.{fits, maxVariables}
 use package.Rattle.rules.specs.Val.{Val, inl, inr}
 use package.Rattle.rules.specs.Run.{Res, Run, after}
 use package.Rattle.rules.specs.Yield.{mayYield}
@@ -30,11 +31,11 @@ side-single true e = left e
 side-single false e = right (left e)
 
 module _ {code heap slots : List ℕ} {st : Machine} {b : View} {q t room : ℕ} (rd : Ready 2 1 code heap slots st b q (b .len) t room)
-    {node : ℕ} (low : node < st .top) (kind : kindIn code t ≡ 7) where
+    {node : ℕ} (low : node < st .top) (kind : kindIn code t ≡ caseKind) where
   abbrev step : List TypeEntry → Res State
   step = stepOf code heap st b q t (valueAt heap node) room
 
-  pub case-space : b .len < 32
+  pub case-space : b .len < maxVariables
   case-space = scoped-case rd kind .0
 
   module _ {f : ℕ} (qf : f ≡ secondIn code t) (l : Bool) (Y : (ys : List TypeEntry)

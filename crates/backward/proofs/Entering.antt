@@ -10,7 +10,7 @@ use mathlib.Core.Logic.{inl as left}
 use mathlib.Core.List.{List, _∷_}
 use lib.ListN.{getD}
 use lib.Seq.{getD-set-other}
-use package.Rattle.rules.specs.Limits.{fits}
+use package.Rattle.rules.specs.Limits.{fits, maxVariables}
 use package.Rattle.rules.specs.Val.{Val}
 use package.Rattle.rules.specs.Term.{Term, Program, entry}
 use package.Rattle.rules.specs.Run.{Res, stop, after, enter, test}
@@ -207,7 +207,7 @@ module _ {code heap slots : List ℕ} {st : Machine} {b : View} {q t room : ℕ}
 ----------------------------------------------------------------
 -- A variable more, of which nothing is known
 
-module _ {heap : List ℕ} {b : View} {q top : ℕ} (B : Binds heap b q top) (space : b .len < 32) {b₁ : View} (O : Opens b unknown b₁) where
+module _ {heap : List ℕ} {b : View} {q top : ℕ} (B : Binds heap b q top) (space : b .len < maxVariables) {b₁ : View} (O : Opens b unknown b₁) where
   pub inner-state : stateOf heap b₁ ≡ none ∷ stateOf heap b
   inner-state = opens-state heap b unknown top b₁ O (B .bound) space ∙ ap (λ f. slotMeaning heap f ∷ stateOf heap b) (found-mark heap unknown refl)
 
@@ -217,7 +217,7 @@ module _ {heap : List ℕ} {b : View} {q top : ℕ} (B : Binds heap b q top) (sp
       (λ j h. ap (λ (l : List ℕ). getD l j 0) (O .slots) ∙ getD-set-other (b .slots) (b .len) j unknown 0 (λ e. omega (arith, B .within)))
 
 module _ {code heap slots : List ℕ} {st : Machine} {b : View} {q t room : ℕ} (rd : Ready 0 0 code heap slots st b q (b .len + 1) t room)
-    (space : b .len < 32) {b₁ : View} (O : Opens b unknown b₁) where
+    (space : b .len < maxVariables) {b₁ : View} (O : Opens b unknown b₁) where
   pub inner-ready : Ready 0 0 code heap slots st b₁ q (b₁ .len) t room
   inner-ready = record {
     machine = rd .machine;
@@ -250,7 +250,7 @@ module _ {code heap slots : List ℕ} {st : Machine} {b : View} {q t room : ℕ}
       after-it = held-later (rd .machine) 0 (omega arith) (d .moves)
 
       -- there is one to leave
-      pub inner-some : (0 < r .bindings .len) × (r .bindings .len ≤ 32)
+      pub inner-some : (0 < r .bindings .len) × (r .bindings .len ≤ maxVariables)
       inner-some = (omega (arith, d .follows s .len, O .len), d .follows s .bound .few)
 
       pub inner-done : {l : Left} → Goes heap₁ (r .bindings) l

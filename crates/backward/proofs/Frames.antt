@@ -7,14 +7,14 @@ use mathlib.Core.List.{List, _∷_}
 use lib.ListN.{length, getD}
 use lib.Dec.{eqb}
 use borrow.Author.Tests.{eqb-true, eqb-false}
-use package.Rattle.rules.specs.Limits.{fits}
+use package.Rattle.rules.specs.Limits.{fits, maxVariables, maxTerms}
 use package.Rattle.rules.specs.Run.{Res, ok}
 use package.Rattle.rules.specs.Machine.{State, backward}
 use package.Rattle.rules.specs.Yield.{mayYield}
 use package.Rattle.calls.specs.Entries.{TypeEntry}
 use package.Rattle.decoded.specs.Rows.{treeIn, programIn}
 use package.Rattle.values.specs.Nodes.{valueAt, Agree}
-use package.Rattle.scopes.specs.Slots.{Slots, Machine, Scope, machineOf, scopeIn, slotsOf}
+use package.Rattle.scopes.specs.Slots.{Slots, Machine, Scope, machineOf, scopeIn, slotsOf, slotsPerHeight}
 use package.Rattle.scopes.specs.Bindings.{slotsFrom, viewOf, stateOf, stateIn, Bound, Tells}
 use package.Rattle.scopes.specs.declared.bindings.Bindings.{Bindings}
 use package.Rattle.scopes.proofs.Marks.{slot-later}
@@ -31,15 +31,15 @@ use Rattle.backward.specs.declared.outcomes.Out.{Out}
 ----------------------------------------------------------------
 -- Ancillae
 
-pub view-ancillae : (heap slots : List ℕ) (base q : ℕ) → q ≤ 32 → ancillaeAt heap (slotsFrom slots base 32) 0 q ≡ ancillaeAt heap slots base q
+pub view-ancillae : (heap slots : List ℕ) (base q : ℕ) → q ≤ maxVariables → ancillaeAt heap (slotsFrom slots base maxVariables) 0 q ≡ ancillaeAt heap slots base q
 unfolding ancillaeAt
 view-ancillae heap slots base zero l = refl
 view-ancillae heap slots base (suc q) l =
-    ap₂ _∷_ (ap (valueAt heap) (ap (λ j. getD (slotsFrom slots base 32) j 0) (let z : 0 + q ≡ q = omega arith in z) ∙ view-at slots base q (omega arith)))
+    ap₂ _∷_ (ap (valueAt heap) (ap (λ j. getD (slotsFrom slots base maxVariables) j 0) (let z : 0 + q ≡ q = omega arith in z) ∙ view-at slots base q (omega arith)))
     (view-ancillae heap slots base q (omega arith))
 
 -- as the code's slots have it
-pub view-yields : {code heap st : List ℕ} {scope t node : ℕ} {r : Bool} → MayYield code heap st scope t node r → scopeIn scope .q ≤ 32
+pub view-yields : {code heap st : List ℕ} {scope t node : ℕ} {r : Bool} → MayYield code heap st scope t node r → scopeIn scope .q ≤ maxVariables
     → (ys : List TypeEntry) → r ≡ mayYield (ancillaeOf heap (scopeView (slotsOf st) (scopeIn scope)) (scopeIn scope .q)) (treeIn code ys t) (valueAt heap node)
 view-yields {code} {heap} {st} {scope} {t} {node} M few ys =
     M .answer ys ∙ ap (λ ρ. mayYield ρ (treeIn code ys t) (valueAt heap node))
@@ -59,7 +59,7 @@ module _ (slots slots′ : List ℕ) (base n : ℕ) (same : (j : ℕ) → j < ba
   tells-stay top′ T A le = tells-later slots′ top′ T A le (λ i l. same (base + i) (omega arith))
 
   module _ {heap : List ℕ} {top : ℕ} (B : Bound heap (viewOf slots base n) top) where
-    in-view : (i : ℕ) → i < n → getD (slotsFrom slots′ base 32) i 0 ≡ getD (slotsFrom slots base 32) i 0
+    in-view : (i : ℕ) → i < n → getD (slotsFrom slots′ base maxVariables) i 0 ≡ getD (slotsFrom slots base maxVariables) i 0
     in-view i l =
         view-at slots′ base i (omega (arith, B .few)) ∙ sym (same (base + i) (omega arith)) ∙ sym (view-at slots base i (omega (arith, B .few)))
 
@@ -81,22 +81,22 @@ module _ (slots slots′ : List ℕ) (base n : ℕ) (same : (j : ℕ) → j < ba
 
 module _ {k h : ℕ} {code heap slots : List ℕ} {m : Machine} {b : Bindings} {sc : Scope} {s t room : ℕ} (P : Prepared k h code heap slots m b sc s t room) where
   -- a row is one of the table's
-  pub row-there : t < 1024
+  pub row-there : t < maxTerms
   row-there = omega (arith, P .ready .term, P .ready .machine .rows .few-terms)
 
   -- the ancilla parameters are among the variables that a state holds
-  pub few-ancillae : sc .q ≤ 32
+  pub few-ancillae : sc .q ≤ maxVariables
   few-ancillae = omega (arith, P .ready .binds .within, P .ready .binds .bound .few)
 
   -- another term in the same scope
-  pub beside : {k′ h′ s′ u room′ : ℕ} → Ready k′ h′ code heap slots m (scopeView slots sc) (sc .q) s′ u room′ → s′ + 8 * room′ ≤ s + 8 * room
+  pub beside : {k′ h′ s′ u room′ : ℕ} → Ready k′ h′ code heap slots m (scopeView slots sc) (sc .q) s′ u room′ → s′ + slotsPerHeight * room′ ≤ s + slotsPerHeight * room
       → Prepared k′ h′ code heap slots m b sc s′ u room′
   beside rd le = record { ready = rd; tells = P .tells; older = P .older; space = omega (arith, P .space) }
 
   -- and after a run
   pub onward : {j k′ h′ s′ u room′ : ℕ} {heap′ slots′ : List ℕ} {m′ : Machine} {b′ : Bindings} → Moves j heap heap′ slots slots′ m m′
       → ((j : ℕ) → j < sc .base → getD slots j 0 ≡ getD slots′ j 0) → Tells heap′ slots′ b′ (sc .base) (sc .q) (sc .n) (m′ .top)
-      → Ready k′ h′ code heap′ slots′ m′ (scopeView slots′ sc) (sc .q) s′ u room′ → s′ + 8 * room′ ≤ s + 8 * room
+      → Ready k′ h′ code heap′ slots′ m′ (scopeView slots′ sc) (sc .q) s′ u room′ → s′ + slotsPerHeight * room′ ≤ s + slotsPerHeight * room
       → Prepared k′ h′ code heap′ slots′ m′ b′ sc s′ u room′
   onward M same T rd le = record { ready = rd; tells = T; older = older-later _ (P .older) same (M .agree) (M .grows); space = omega (arith, P .space) }
 
@@ -124,7 +124,7 @@ gone-then same G R = record { ran = R; below = λ j l. same j l ∙ G .below j l
 
 -- the state that is handed back, by value and by the slots
 handed-on : (heap slots : List ℕ) (m : Machine) (sc : Scope) (r : Out) → (r .stop ≡ 0 → Tells heap slots (r .state) (sc .base) (sc .q) (sc .n) (m .top))
-    → sc .n ≤ 32 → toldOf (stateIn heap slots (r .state) sc) (m .fuel) (statusOf (r .stop)) ≡ meaning heap (outcomeOf (r .stop) slots m sc)
+    → sc .n ≤ maxVariables → toldOf (stateIn heap slots (r .state) sc) (m .fuel) (statusOf (r .stop)) ≡ meaning heap (outcomeOf (r .stop) slots m sc)
 unfolding toldOf
 handed-on heap slots m sc r T few = go (eqb (r .stop) 0) refl
   where
@@ -156,7 +156,7 @@ runs-back {code} {heap} {heap′} {st} {st′} {b} {scope} {t} {room} {node} Q {
       (sym (view-told heap (slotsOf st) b (scopeIn scope) (machineOf st .top) (Q .prepared .tells) few));
 }
   where
-    few : scopeIn scope .n ≤ 32
+    few : scopeIn scope .n ≤ maxVariables
     few = Q .prepared .ready .binds .bound .few
 
 -- a run under one variable more, which was stopped

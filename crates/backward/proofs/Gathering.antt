@@ -8,7 +8,7 @@ use mathlib.Core.Logic.{inl as left, inr as right}
 use mathlib.Core.List.{List, [], _∷_}
 use lib.ListN.{getD, set, length-set}
 use lib.Seq.{getD-set-same, getD-set-other}
-use package.Rattle.rules.specs.Limits.{fits}
+use package.Rattle.rules.specs.Limits.{fits, maxVariables}
 use package.Rattle.rules.specs.Val.{Val}
 use package.Rattle.rules.specs.Term.{Term, scope}
 use package.Rattle.rules.specs.Run.{Res, ok, Run, after}
@@ -238,7 +238,7 @@ module _ {code heap slots : List ℕ} {m : Machine} {b : Bindings} {sc : Scope} 
     abbrev pub callee : Scope
     callee = record { base = sc .base + sc .n; q = count; n = count }
 
-    few : count ≤ 32
+    few : count ≤ maxVariables
     few = omega (arith, few-count scope-ready C)
 
     pub placed : statusOf s ≡ Done → (i : ℕ) → i < count → getD slots₁ (sc .base + sc .n + i) 0 < m₁ .top

@@ -9,6 +9,7 @@ use lib.ListN.{length, getD, set, length-set}
 use lib.Seq.{getD-set-same, getD-set-other}
 use lib.Dec.{eqb}
 use borrow.Author.Tests.{eq-eqb, ne-eqb, eqb-true, eqb-false}
+use package.Rattle.rules.specs.Limits.{maxVariables}
 use package.Rattle.rules.specs.Val.{Val, unit}
 use package.Rattle.rules.specs.Run.{stuck, Run, give}
 use package.Rattle.rules.specs.Machine.{State, meet, leave, onUnit}
@@ -230,11 +231,11 @@ unit-missing b node n e s = record { met = λ k. absurd (n k); differs = λ _. e
 -- A variable comes into scope, not known, and leaves it
 
 -- the newest of the variables that stand in slots from `base` on
-pub view-goes : (heap slots : List ℕ) (base n : ℕ) → n < 32 → Goes heap (viewOf slots base (n + 1))
+pub view-goes : (heap slots : List ℕ) (base n : ℕ) → n < maxVariables → Goes heap (viewOf slots base (n + 1))
     (record { newest = nodeOr (found heap (getD slots (base + n) 0)); state = viewOf slots base n })
 view-goes heap slots base n l = record {
   newest = ap (λ x. nodeOr (found heap x))
-      (sym (ap (λ j. getD (slotsFrom slots base 32) j 0) (let z : n + 1 - 1 ≡ n = omega arith in z) ∙ view-at slots base n l));
+      (sym (ap (λ j. getD (slotsFrom slots base maxVariables) j 0) (let z : n + 1 - 1 ≡ n = omega arith in z) ∙ view-at slots base n l));
   slots = refl;
   len = let z : n ≡ n + 1 - 1 = omega arith in z;
 }
@@ -275,7 +276,7 @@ module _ {heap : List ℕ} {b : View} {r : Left} (L : Goes heap b r) {top : ℕ}
       front = leaves-state heap b (record { newest = getD (b .slots) (b .len - 1) 0; state = r .state }) as-left some
 
   -- an outer state that `b` follows, with one variable more
-  pub goes-follows : {c c₁ : View} → Opens c unknown c₁ → length (c .slots) ≡ 32 → Follows heap c₁ b top → Follows heap c (r .state) top
+  pub goes-follows : {c c₁ : View} → Opens c unknown c₁ → length (c .slots) ≡ maxVariables → Follows heap c₁ b top → Follows heap c (r .state) top
   goes-follows {c} {c₁} O full F = record {
     bound = record {
       full = ap length (L .slots) ∙ B .full;
@@ -291,7 +292,7 @@ module _ {heap : List ℕ} {b : View} {r : Left} (L : Goes heap b r) {top : ℕ}
       same : (i : ℕ) → i < c .len → getD (c₁ .slots) i 0 ≡ getD (c .slots) i 0
       same i h = ap (λ (l : List ℕ). getD l i 0) (O .slots) ∙ getD-set-other (c .slots) (c .len) i unknown 0 (λ q. omega arith)
 
-module _ {heap : List ℕ} {c c₁ : View} {x : ℕ} (O : Opens c x c₁) {top : ℕ} (B : Bound heap c top) (room : c .len < 32) (low : Slot heap x top) where
+module _ {heap : List ℕ} {c c₁ : View} {x : ℕ} (O : Opens c x c₁) {top : ℕ} (B : Bound heap c top) (room : c .len < maxVariables) (low : Slot heap x top) where
   pub opened-bound : Bound heap c₁ top
   opened-bound = record {
     full = ap length (O .slots) ∙ length-set (c .slots) (c .len) x ∙ B .full;

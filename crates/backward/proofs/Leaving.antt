@@ -4,6 +4,7 @@ use native.Mathlib.Omega.{arith}
 use mathlib.Core.Path.{_≡_, refl, sym, ap, ap₂, subst, _∙_}
 use mathlib.Core.List.{List}
 use lib.ListN.{length, getD}
+use package.Rattle.rules.specs.Limits.{maxVariables}
 use package.Rattle.rules.specs.Run.{Res}
 use package.Rattle.rules.specs.Machine.{State}
 use package.Rattle.calls.specs.Entries.{TypeEntry}
@@ -94,7 +95,7 @@ module _ {k : ℕ} {code heap₁ slots₁ : List ℕ} {m₁ : Machine} {room : �
   in-slot i q l e′ = e′ ∙ ap (λ s. nodeOr (found heap₁ s)) (sym (G .tells e .index i q (omega arith)))
 
   -- a cell can be made
-  pub cell-ready : {st₁ : List ℕ} → length st₁ ≡ stateCount → machineOf st₁ ≡ m₁ → 0 < k → (n : ℕ) → n ≤ 32 → CellReady heap₁ st₁ (r .state) n
+  pub cell-ready : {st₁ : List ℕ} → length st₁ ≡ stateCount → machineOf st₁ ≡ m₁ → 0 < k → (n : ℕ) → n ≤ maxVariables → CellReady heap₁ st₁ (r .state) n
   cell-ready {st₁} full em some n few =
       let top-is : machineOf st₁ .top ≡ m₁ .top = ap (λ (m : Machine). m .top) em in
       record {

@@ -5,7 +5,8 @@ use mathlib.Core.Path.{_≡_, refl, sym, ap, ap₂, subst, _∙_}
 use mathlib.Core.Logic.{inl as left}
 use mathlib.Core.Option.{none}
 use mathlib.Core.List.{List, _∷_}
-use package.Rattle.rules.specs.Limits.{fits}
+use package.Rattle.program.specs.Kinds.{letKind, letPairKind}
+use package.Rattle.rules.specs.Limits.{fits, maxVariables}
 use package.Rattle.rules.specs.Val.{Val, pair}
 use package.Rattle.rules.specs.Run.{Res, Run, after}
 use package.Rattle.rules.specs.Machine.{State, leave, backwardStep, backward}
@@ -33,12 +34,12 @@ module _ {code heap slots : List ℕ} {st : Machine} {b : View} {q t room : ℕ}
   ----------------------------------------------------------------
   -- let
 
-  module _ (kind : kindIn code t ≡ 5) {u u′ : ℕ} (qu : u ≡ firstIn code t) (qu′ : u′ ≡ secondIn code t) where
+  module _ (kind : kindIn code t ≡ letKind) {u u′ : ℕ} (qu : u ≡ firstIn code t) (qu′ : u′ ≡ secondIn code t) where
     -- the body
     pub let-body : Ready 0 0 code heap slots st b q (b .len + 1) u′ (room - 1)
     let-body = rw qu′ (owing-none (part rd (secondIn code t) (b .len + 1) (parts-let (rd .machine .rows) t (rd .term) kind .1) (scoped-let rd kind .2)))
 
-    pub let-space : b .len < 32
+    pub let-space : b .len < maxVariables
     let-space = scoped-let rd kind .0
 
     abbrev let-next : List TypeEntry → Val → State → Run State
@@ -74,8 +75,8 @@ module _ {code heap slots : List ℕ} {st : Machine} {b : View} {q t room : ℕ}
   ----------------------------------------------------------------
   -- let pair
 
-  module _ (kind : kindIn code t ≡ 6) {u u′ : ℕ} (qu : u ≡ firstIn code t) (qu′ : u′ ≡ secondIn code t) where
-    pub letp-space : b .len < 32
+  module _ (kind : kindIn code t ≡ letPairKind) {u u′ : ℕ} (qu : u ≡ firstIn code t) (qu′ : u′ ≡ secondIn code t) where
+    pub letp-space : b .len < maxVariables
     letp-space = omega (arith, scoped-letp rd kind .0)
 
     -- the body, with two variables
@@ -92,7 +93,7 @@ module _ {code heap slots : List ℕ} {st : Machine} {b : View} {q t room : ℕ}
         tall = omega arith;
       }
 
-      pub letp-second : b₁ .len < 32
+      pub letp-second : b₁ .len < maxVariables
       letp-second = omega (arith, O .len, scoped-letp rd kind .0)
 
       abbrev letp-next : List TypeEntry → Val → State → Run State
@@ -118,7 +119,7 @@ module _ {code heap slots : List ℕ} {st : Machine} {b : View} {q t room : ℕ}
           after-it = held-later (rd .machine) 1 (omega arith) (d .moves)
 
           -- the first variable is there to leave
-          pub letp-some : (0 < r .out .bindings .len) × (r .out .bindings .len ≤ 32)
+          pub letp-some : (0 < r .out .bindings .len) × (r .out .bindings .len ≤ maxVariables)
           letp-some = (omega (arith, d .follows s .len, O .len), d .follows s .bound .few)
 
           module _ {l : Left} (L : Goes heap₁ (r .out .bindings) l) where

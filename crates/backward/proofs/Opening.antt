@@ -8,9 +8,10 @@ use lib.ListN.{length, getD, set, length-set}
 use lib.Seq.{getD-set-other}
 use lib.Dec.{eqb}
 use borrow.Author.Tests.{eqb-true, eqb-false}
+use package.Rattle.rules.specs.Limits.{maxVariables}
 use package.Rattle.values.specs.Nodes.{valueAt}
 use package.Rattle.values.proofs.Places.{agree-refl}
-use package.Rattle.scopes.specs.Slots.{unknown, slotCount, Machine, Scope, machineOf, scopeIn, slotsOf, found, nodeOr}
+use package.Rattle.scopes.specs.Slots.{unknown, slotCount, Machine, Scope, machineOf, scopeIn, slotsOf, found, nodeOr, slotsPerHeight}
 use package.Rattle.scopes.specs.Bindings.{Opens}
 use package.Rattle.scopes.specs.declared.bindings.Bindings.{Bindings}
 use package.Rattle.scopes.proofs.Views.{view-at, view-opens, tells-opened}
@@ -38,7 +39,7 @@ pub marked : {st st₁ : List ℕ} {scope wide : ℕ} → Widened st st₁ scope
 marked W = record { slots-are = W .slots; machine-is = W .machine }
 
 module _ {k h : ℕ} {code heap slots : List ℕ} {m : Machine} {b : Bindings} {sc : Scope} {s t room : ℕ} (P : Prepared k h code heap slots m b sc s t room)
-    (few : sc .n < 32) (there : sc .base + sc .n < slotCount) {slots₀ : List ℕ} {m₀ : Machine} (K : Marked slots slots₀ m m₀ sc) where
+    (few : sc .n < maxVariables) (there : sc .base + sc .n < slotCount) {slots₀ : List ℕ} {m₀ : Machine} (K : Marked slots slots₀ m m₀ sc) where
   inside : sc .base + sc .n < length slots
   inside = omega (arith, P .ready .machine .all)
 
@@ -53,7 +54,7 @@ module _ {k h : ℕ} {code heap slots : List ℕ} {m : Machine} {b : Bindings} {
 
   -- a term in the scope with the variable
   pub opened : {sc₁ : Scope} → sc₁ ≡ wider sc → {k′ h′ s′ u room′ : ℕ} → Ready k′ h′ code heap slots m (scopeView slots₀ (wider sc)) (sc .q) s′ u room′
-      → s′ + 8 * room′ ≤ s + 8 * room
+      → s′ + slotsPerHeight * room′ ≤ s + slotsPerHeight * room
       → Prepared k′ h′ code heap slots₀ m₀ b sc₁ s′ u room′
   opened w rd le = rw (w, K .machine-is) (record {
     ready = record { machine = held-slots (rd .machine) as-many; binds = rd .binds; term = rd .term; scoped = rd .scoped; tall = rd .tall };
@@ -63,7 +64,7 @@ module _ {k h : ℕ} {code heap slots : List ℕ} {m : Machine} {b : Bindings} {
   })
 
 module _ {code heap slots : List ℕ} {m : Machine} {b : Bindings} {sc : Scope} {t room : ℕ} (P : Prepared 0 0 code heap slots m b sc (sc .n + 1) t room)
-    (few : sc .n < 32) where
+    (few : sc .n < maxVariables) where
   pub under-there : sc .base + sc .n < slotCount
   under-there = omega (arith, P .space)
 
@@ -106,7 +107,7 @@ module _ {code heap slots : List ℕ} {m : Machine} {b : Bindings} {sc : Scope} 
 ----------------------------------------------------------------
 -- By the numbers that a run is lent
 
-module _ {code heap st : List ℕ} {b : Bindings} {scope t room : ℕ} (Q : PreparedUnder code heap st b scope t room) (few : scopeIn scope .n < 32) where
+module _ {code heap st : List ℕ} {b : Bindings} {scope t room : ℕ} (Q : PreparedUnder code heap st b scope t room) (few : scopeIn scope .n < maxVariables) where
   pub widen-ready : WidenReady st scope
   widen-ready = record { full = Q .full; there = under-there (Q .prepared) few; few = few }
 

@@ -5,6 +5,8 @@ use native.Mathlib.Omega.{arith}
 use mathlib.Core.Path.{_≡_, sym, ap, subst, _∙_}
 use mathlib.Core.Logic.{⊎-elim}
 use mathlib.Core.List.{List, []}
+use package.Rattle.rules.specs.Limits.{maxVariables}
+use package.Rattle.program.specs.Kinds.{variableKind, pairKind, letKind, letPairKind, caseKind, callKind, unrollKind}
 use package.Rattle.rules.specs.Term.{Term}
 use package.Rattle.decoded.specs.Rows.{argumentIn, firstIn, kindIn, parametersIn, secondIn, thirdIn, treeIn}
 use package.Rattle.decoded.proofs.Trees.{count-arguments, tree-call, tree-case, tree-inl, tree-inr, tree-let, tree-letp, tree-pair, tree-roll, tree-unroll, tree-var}
@@ -81,7 +83,7 @@ module _ {k h : ℕ} {code heap slots : List ℕ} {st : Machine} {b : View} {q n
   scoped-of : {x : Term} → treeIn code [] t ≡ x → Scoped (parametersIn code) n x
   scoped-of e = subst (Scoped (parametersIn code) n) e (rd .scoped)
 
-  pub scoped-var : kindIn code t ≡ 0 → firstIn code t < n
+  pub scoped-var : kindIn code t ≡ variableKind → firstIn code t < n
   unfolding Scoped
   scoped-var e = scoped-of (tree-var (rd .machine .rows) t (rd .term) [] e)
 
@@ -92,29 +94,29 @@ module _ {k h : ℕ} {code heap slots : List ℕ} {st : Machine} {b : View} {q n
       (λ y. ⊎-elim (λ x. scoped-of (tree-inr (rd .machine .rows) t (rd .term) [] (x .0)))
       (λ x. scoped-of (tree-roll (rd .machine .rows) t (rd .term) [] (x .0))) y) w
 
-  pub scoped-pair : kindIn code t ≡ 4 → In n (firstIn code t) × In n (secondIn code t)
+  pub scoped-pair : kindIn code t ≡ pairKind → In n (firstIn code t) × In n (secondIn code t)
   unfolding Scoped
   scoped-pair e = scoped-of (tree-pair (rd .machine .rows) t (rd .term) [] e)
 
-  pub scoped-let : kindIn code t ≡ 5 → (n < 32) × In n (firstIn code t) × In (n + 1) (secondIn code t)
+  pub scoped-let : kindIn code t ≡ letKind → (n < maxVariables) × In n (firstIn code t) × In (n + 1) (secondIn code t)
   unfolding Scoped
   scoped-let e = scoped-of (tree-let (rd .machine .rows) t (rd .term) [] e)
 
-  pub scoped-letp : kindIn code t ≡ 6 → (n + 1 < 32) × In n (firstIn code t) × In (n + 1 + 1) (secondIn code t)
+  pub scoped-letp : kindIn code t ≡ letPairKind → (n + 1 < maxVariables) × In n (firstIn code t) × In (n + 1 + 1) (secondIn code t)
   unfolding Scoped
   scoped-letp e = scoped-of (tree-letp (rd .machine .rows) t (rd .term) [] e)
 
-  pub scoped-case : kindIn code t ≡ 7 → (n < 32) × In n (firstIn code t) × In (n + 1) (secondIn code t) × In (n + 1) (thirdIn code t)
+  pub scoped-case : kindIn code t ≡ caseKind → (n < maxVariables) × In n (firstIn code t) × In (n + 1) (secondIn code t) × In (n + 1) (thirdIn code t)
   unfolding Scoped
   scoped-case e = scoped-of (tree-case (rd .machine .rows) t (rd .term) [] e)
 
-  pub scoped-call : kindIn code t ≡ 8 → (thirdIn code t + 1 ≡ parametersIn code (firstIn code t)) × In n (argumentIn code t (thirdIn code t))
+  pub scoped-call : kindIn code t ≡ callKind → (thirdIn code t + 1 ≡ parametersIn code (firstIn code t)) × In n (argumentIn code t (thirdIn code t))
   unfolding Scoped
   scoped-call e = (
     ap (λ m. m + 1) (sym (count-arguments (treeIn code []) code t 0 (thirdIn code t))) ∙ scoped-of (tree-call (rd .machine .rows) t (rd .term) [] e) .0,
     scoped-of (tree-call (rd .machine .rows) t (rd .term) [] e) .1,
   )
 
-  pub scoped-unroll : kindIn code t ≡ 10 → In n (secondIn code t)
+  pub scoped-unroll : kindIn code t ≡ unrollKind → In n (secondIn code t)
   unfolding Scoped
   scoped-unroll e = scoped-of (tree-unroll (rd .machine .rows) t (rd .term) [] e)

@@ -5,6 +5,8 @@ use mathlib.Core.Bool.{Bool, cond}
 use mathlib.Core.List.{List}
 use mathlib.Core.Path.{_≡_, refl, ap, _∙_}
 use lib.ListN.{length, getD}
+use package.Rattle.rules.specs.Limits.{maxVariables}
+use package.Rattle.program.specs.Kinds.{letKind, letPairKind, caseKind}
 use package.Rattle.rules.specs.Yield.{mayYield}
 use package.Rattle.rules.specs.Val.{pair}
 use package.Rattle.calls.specs.Entries.{TypeEntry}
@@ -42,8 +44,8 @@ module _ {code heap slots : List ℕ} {m : Machine} {b : Bindings} {sc : Scope} 
   ----------------------------------------------------------------
   -- let
 
-  module _ (kind : kindIn code t ≡ 5) {u u′ : ℕ} (qu : u ≡ firstIn code t) (qu′ : u′ ≡ secondIn code t) where
-    pub let-few : sc .n < 32
+  module _ (kind : kindIn code t ≡ letKind) {u u′ : ℕ} (qu : u ≡ firstIn code t) (qu′ : u′ ≡ secondIn code t) where
+    pub let-few : sc .n < maxVariables
     let-few = let-space (P .ready) low kind qu qu′
 
     pub let-prepared : Prepared 0 0 code heap slots m b sc (sc .n + 1) u′ (room - 1)
@@ -93,8 +95,8 @@ module _ {code heap slots : List ℕ} {m : Machine} {b : Bindings} {sc : Scope} 
   ----------------------------------------------------------------
   -- let pair
 
-  module _ (kind : kindIn code t ≡ 6) {u u′ : ℕ} (qu : u ≡ firstIn code t) (qu′ : u′ ≡ secondIn code t) where
-    pub letp-few : sc .n < 32
+  module _ (kind : kindIn code t ≡ letPairKind) {u u′ : ℕ} (qu : u ≡ firstIn code t) (qu′ : u′ ≡ secondIn code t) where
+    pub letp-few : sc .n < maxVariables
     letp-few = letp-space (P .ready) low kind qu qu′
 
     pub letp-there : sc .base + sc .n < slotCount
@@ -104,10 +106,10 @@ module _ {code heap slots : List ℕ} {m : Machine} {b : Bindings} {sc : Scope} 
       abbrev first-open : Opens (scopeView slots sc) unknown (scopeView slots₀ (wider sc))
       first-open = opens P letp-few letp-there K
 
-      more : sc .n + 1 < 32
+      more : sc .n + 1 < maxVariables
       more = letp-second (P .ready) low kind qu qu′ first-open
 
-      pub letp-more : sc₁ .n < 32
+      pub letp-more : sc₁ .n < maxVariables
       letp-more = rw w more
 
       pub letp-prepared : Prepared 0 0 code heap slots₀ m₀ b sc₁ (sc₁ .n + 1) u′ (room - 1)
@@ -192,8 +194,8 @@ module _ {code heap slots : List ℕ} {m : Machine} {b : Bindings} {sc : Scope} 
   ----------------------------------------------------------------
   -- case
 
-  module _ (kind : kindIn code t ≡ 7) where
-    pub case-few : sc .n < 32
+  module _ (kind : kindIn code t ≡ caseKind) where
+    pub case-few : sc .n < maxVariables
     case-few = case-space (P .ready) low kind
 
     module _ {f : ℕ} (qf : f ≡ secondIn code t) (l : Bool)
@@ -249,11 +251,11 @@ module _ {code heap slots : List ℕ} {m : Machine} {b : Bindings} {sc : Scope} 
 
 module _ {code heap st : List ℕ} {b : Bindings} {scope t room : ℕ} (Q : PreparedIn 2 1 code heap st b scope t room) {node : ℕ}
     (low : node < machineOf st .top) {u u′ : ℕ} (qu : u ≡ firstIn code t) (qu′ : u′ ≡ secondIn code t) where
-  module _ (kind : kindIn code t ≡ 5) where
+  module _ (kind : kindIn code t ≡ letKind) where
     abbrev let-inner : PreparedUnder code heap st b scope u′ (room - 1)
     let-inner = record { full = Q .full; prepared = let-prepared (Q .prepared) low kind qu qu′ }
 
-    abbrev let-fits : scopeIn scope .n < 32
+    abbrev let-fits : scopeIn scope .n < maxVariables
     let-fits = let-few (Q .prepared) low kind qu qu′
 
     pub let-widens : WidenReady st scope
@@ -267,7 +269,7 @@ module _ {code heap st : List ℕ} {b : Bindings} {scope t room : ℕ} (Q : Prep
           → RunsUnder code heap heap′ st st′ scope u′ node (room - 1) r
       let-ran R = ran-under let-inner let-fits W low R
 
-  module _ (kind : kindIn code t ≡ 6) where
+  module _ (kind : kindIn code t ≡ letPairKind) where
     -- the scope with the first of the two
     pub letp-ready : WidenReady st scope
     letp-ready = record { full = Q .full; there = letp-there (Q .prepared) low kind qu qu′; few = letp-few (Q .prepared) low kind qu qu′ }
@@ -276,7 +278,7 @@ module _ {code heap st : List ℕ} {b : Bindings} {scope t room : ℕ} (Q : Prep
       abbrev letp-inner : PreparedUnder code heap st₁ b one u′ (room - 1)
       letp-inner = record { full = W .lengths ∙ Q .full; prepared = letp-prepared (Q .prepared) low kind qu qu′ (marked W) (W .scope-is) }
 
-      abbrev letp-fits : scopeIn one .n < 32
+      abbrev letp-fits : scopeIn one .n < maxVariables
       letp-fits = letp-more (Q .prepared) low kind qu qu′ (marked W) (W .scope-is)
 
       pub letp-widens : WidenReady st₁ one
@@ -294,14 +296,14 @@ module _ {code heap st : List ℕ} {b : Bindings} {scope t room : ℕ} (Q : Prep
         letp-ran R = ran-under letp-inner letp-fits W₂ letp-low R
 
 module _ {code heap st : List ℕ} {b : Bindings} {scope t room : ℕ} (Q : PreparedIn 2 1 code heap st b scope t room) {node : ℕ}
-    (low : node < machineOf st .top) (kind : kindIn code t ≡ 7) {f : ℕ} (qf : f ≡ secondIn code t) (l : Bool)
+    (low : node < machineOf st .top) (kind : kindIn code t ≡ caseKind) {f : ℕ} (qf : f ≡ secondIn code t) (l : Bool)
     (Y : (ys : List TypeEntry)
     → l ≡ mayYield (ancillaeOf heap (scopeView (slotsOf st) (scopeIn scope)) (scopeIn scope .q)) (treeIn code ys f) (valueAt heap node))
     {u : ℕ} (qu : u ≡ firstIn code t) {v : ℕ} (qv : v ≡ cond l (secondIn code t) (thirdIn code t)) {side : ℕ} (qs : side ≡ cond l 1 2) where
   abbrev case-inner : PreparedUnder code heap st b scope v (room - 1)
   case-inner = record { full = Q .full; prepared = case-prepared (Q .prepared) low kind qf l Y qu qv qs }
 
-  abbrev case-fits : scopeIn scope .n < 32
+  abbrev case-fits : scopeIn scope .n < maxVariables
   case-fits = case-few (Q .prepared) low kind
 
   pub case-widens : WidenReady st scope
@@ -317,7 +319,7 @@ module _ {code heap st : List ℕ} {b : Bindings} {scope t room : ℕ} (Q : Prep
 
 -- the left branch's form can be asked
 pub case-asked : {code heap st : List ℕ} {b : Bindings} {scope t room : ℕ} → PreparedIn 2 1 code heap st b scope t room → {node : ℕ}
-    → node < machineOf st .top → kindIn code t ≡ 7
+    → node < machineOf st .top → kindIn code t ≡ caseKind
     → {f : ℕ} → f ≡ secondIn code t → Asks code heap st scope f node
 case-asked {st = st} {scope = scope} {t = t} Q low kind q =
     let P = Q .prepared in

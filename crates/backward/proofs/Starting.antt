@@ -6,7 +6,7 @@ use mathlib.Core.Path.{_≡_, refl, sym, ap, ap₂, _∙_}
 use mathlib.Core.Option.{none, some}
 use mathlib.Core.List.{List, [], _∷_, map}
 use lib.ListN.{getD}
-use package.Rattle.rules.specs.Limits.{fits}
+use package.Rattle.rules.specs.Limits.{fits, maxVariables}
 use package.Rattle.rules.specs.Val.{Val}
 use package.Rattle.rules.specs.Term.{Term}
 use package.Rattle.rules.specs.Run.{Res, ok, stop, stuck, Run, after, give, lost}
@@ -62,7 +62,7 @@ module _ {code heap slots : List ℕ} {st : Machine} {args : View} {q g node roo
   pub start-reads : g < 64
   start-reads = omega (arith, S .function, S .machine .rows .few-functions)
 
-  pub start-space : args .len < 32
+  pub start-space : args .len < maxVariables
   start-space = omega (arith, S .arguments .all, S .parameters, S .machine .bodies .few g (S .function))
 
   module _ {u : ℕ} (qu : u ≡ bodyIn code g) where
@@ -94,11 +94,11 @@ module _ {code heap slots : List ℕ} {st : Machine} {args : View} {q g node roo
 -- In code
 
 module _ {code heap st : List ℕ} {q g node room : ℕ} (S : StartsIn code heap st q g node room) where
-  pub begin-space : q < 32
+  pub begin-space : q < maxVariables
   begin-space = start-space (S .starts)
 
   module _ {sc : Scope} (w : sc ≡ valuesScope q) {u : ℕ} (qu : u ≡ bodyIn code g) where
-    pub begin-few : sc .n < 32
+    pub begin-few : sc .n < maxVariables
     begin-few = rw w begin-space
 
     pub begin-prepared : {args : Bindings} → args .head ≡ 0 → Prepared 0 0 code heap (slotsOf st) (machineOf st) args sc (sc .n + 1) u room

@@ -3,6 +3,7 @@ use Prim.Native.Nat.{ℕ, _-_, _<_}
 use native.Mathlib.Omega.{arith}
 use mathlib.Core.List.{List}
 use mathlib.Core.Path.{_≡_, refl, sym, ap, _∙_}
+use package.Rattle.program.specs.Kinds.{pairKind, unrollKind}
 use package.Rattle.decoded.specs.Rows.{firstIn, kindIn, secondIn}
 use package.Rattle.values.specs.Nodes.{leftAt, ofKind, rightAt, valueAt, kindAt as nodeKind}
 use package.Rattle.scopes.specs.Slots.{Machine, Scope}
@@ -44,7 +45,7 @@ module _ {code heap slots : List ℕ} {m : Machine} {b : Bindings} {sc : Scope} 
   ----------------------------------------------------------------
   -- Pair
 
-  module _ (kind : kindIn code t ≡ 4) {found : ℕ} (f : found ≡ nodeKind heap node) where
+  module _ (kind : kindIn code t ≡ pairKind) {found : ℕ} (f : found ≡ nodeKind heap node) where
     pub paired-stuck : ¬ (found ≡ 3) → {r : Out} → statusOf (r .stop) ≡ Refused (carried (refusalIn 0 t)) → Stepped heap slots m r
     paired-stuck n e = gone-refused e (pair-stuck (P .ready) low kind f n _ (e ∙ ap Refused (number-stuck t)) refl)
 
@@ -78,7 +79,7 @@ module _ {code heap slots : List ℕ} {m : Machine} {b : Bindings} {sc : Scope} 
   ----------------------------------------------------------------
   -- Unroll
 
-  module _ (kind : kindIn code t ≡ 10) {u : ℕ} (qu : u ≡ secondIn code t) where
+  module _ (kind : kindIn code t ≡ unrollKind) {u : ℕ} (qu : u ≡ secondIn code t) where
     pub unrolled-prepared : Prepared 1 0 code heap slots m b sc (sc .n) u (room - 1)
     unrolled-prepared = beside P (unroll-ready (P .ready) low kind qu) (omega (arith, P .ready .tall))
 

@@ -5,6 +5,7 @@ use mathlib.Core.Path.{_≡_, refl, sym, ap, ap₂, _∙_}
 use mathlib.Core.Logic.{⊎-elim, inr as right}
 use mathlib.Core.List.{List}
 use lib.ListN.{length}
+use package.Rattle.program.specs.Kinds.{variableKind, unitKind, pairKind, unrollKind}
 use package.Rattle.rules.specs.Limits.{fits}
 use package.Rattle.rules.specs.Val.{Val, inl, inr, pair, roll}
 use package.Rattle.rules.specs.Term.{Term}
@@ -86,18 +87,18 @@ module _ {code heap slots : List ℕ} {st : Machine} {b : View} {q t room : ℕ}
   ----------------------------------------------------------------
   -- Variables and unit
 
-  pub var-done : kindIn code t ≡ 0 → {slots′ : List ℕ} → length slots ≡ length slots′ → {r : Outcome}
+  pub var-done : kindIn code t ≡ variableKind → {slots′ : List ℕ} → length slots ≡ length slots′ → {r : Outcome}
       → Stays heap st b r (meet t (stateOf heap b) (firstIn code t) value (st .fuel)) → Ran 2 heap heap slots slots′ st b r step
   unfolding backwardStep
   var-done kind l S = slack (stays (rd .machine .graph) l S (λ ys. sym (stepped ys (tree-var (rd .machine .rows) t (rd .term) ys kind)))) 2 (omega arith)
 
   -- a variable that is bound makes a cell
-  pub var-bound : kindIn code t ≡ 0 → {heap′ slots′ : List ℕ} {r : Outcome}
+  pub var-bound : kindIn code t ≡ variableKind → {heap′ slots′ : List ℕ} {r : Outcome}
       → Ran 1 heap heap′ slots slots′ st b r (λ ys. meet t (stateOf heap b) (firstIn code t) value (st .fuel)) → Ran 2 heap heap′ slots slots′ st b r step
   unfolding backwardStep
   var-bound kind d = slack (says d (λ ys. sym (stepped ys (tree-var (rd .machine .rows) t (rd .term) ys kind)))) 2 (omega arith)
 
-  pub unit-done : kindIn code t ≡ 1 → {r : Outcome} → Stays heap st b r (onUnit value (give (stateOf heap b)) (st .fuel))
+  pub unit-done : kindIn code t ≡ unitKind → {r : Outcome} → Stays heap st b r (onUnit value (give (stateOf heap b)) (st .fuel))
       → Ran 2 heap heap slots slots st b r step
   unfolding backwardStep
   unit-done kind S = slack (stays (rd .machine .graph) refl S (λ ys. sym (stepped ys (tree-unit (rd .machine .rows) t (rd .term) ys kind)))) 2 (omega arith)
@@ -173,7 +174,7 @@ module _ {code heap slots : List ℕ} {st : Machine} {b : View} {q t room : ℕ}
   ----------------------------------------------------------------
   -- Pair
 
-  module _ (kind : kindIn code t ≡ 4) where
+  module _ (kind : kindIn code t ≡ pairKind) where
     pub pair-stuck : {found : ℕ} → found ≡ nodeKind heap node → ¬ (found ≡ 3) → (r : Outcome) → r .status ≡ Refused Stuck → r .state ≡ st
         → Ran 2 heap heap slots slots st b r step
     unfolding backwardStep valueAt valueWithin refusalOf
@@ -229,7 +230,7 @@ module _ {code heap slots : List ℕ} {st : Machine} {b : View} {q t room : ℕ}
   ----------------------------------------------------------------
   -- Unroll
 
-  module _ (kind : kindIn code t ≡ 10) {u : ℕ} (qu : u ≡ secondIn code t) where
+  module _ (kind : kindIn code t ≡ unrollKind) {u : ℕ} (qu : u ≡ secondIn code t) where
     pub unroll-ready : Ready 1 0 code heap slots st b q (b .len) u (room - 1)
     unroll-ready = rw qu (owing 1 (omega arith) (part rd (secondIn code t) (b .len) (part-unroll (rd .machine .rows) t (rd .term) kind) (scoped-unroll rd kind)))
 

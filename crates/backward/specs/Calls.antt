@@ -11,7 +11,7 @@ use package.Rattle.rules.specs.Machine.{State, each, forward, runBackward}
 use package.Rattle.calls.specs.Entries.{TypeEntry, termTrees, functionOf}
 use package.Rattle.decoded.specs.Rows.{parametersIn, argumentsIn, functionCount, functionIn, termsIn, treeIn, programIn}
 use package.Rattle.values.specs.Nodes.{valueAt}
-use package.Rattle.scopes.specs.Slots.{slotCount, stateCount, Machine, Scope, machineOf, slotsOf, scopeIn}
+use package.Rattle.scopes.specs.Slots.{slotCount, stateCount, Machine, Scope, machineOf, slotsOf, scopeIn, slotsPerHeight}
 use package.Rattle.scopes.specs.Bindings.{View, stateOf}
 use package.Rattle.yields.specs.Yields.{ancillaeAt}
 use package.Rattle.forward.specs.Ready.{valuesAt, ancillaeOf as forwardAncillae, stateOf as forwardState}
@@ -106,7 +106,7 @@ valuesScope q = record { base = 0; q = q; n = q }
 pub record StartsIn (code heap st : List ℕ) (q g node room : ℕ) : Type 0 where
   pub full : length st ≡ stateCount
   pub starts : Starts code heap (slotsOf st) (machineOf st) (scopeView (slotsOf st) (valuesScope q)) q g node room
-  pub space : q + 1 + 8 * room ≤ slotCount
+  pub space : q + 1 + slotsPerHeight * room ≤ slotCount
 
 pub record ReturnsIn (code heap heap′ st st′ : List ℕ) (q g node room : ℕ) (r : Input) : Type 0 where
   pub lengths : length st′ ≡ length st

@@ -9,7 +9,7 @@ use package.Rattle.rules.specs.Val.{Val}
 use package.Rattle.rules.specs.Run.{Res, ok, stop, stuck, Run}
 use package.Rattle.rules.specs.Machine.{State}
 use package.Rattle.values.specs.Nodes.{valueAt}
-use package.Rattle.scopes.specs.Slots.{Machine, Scope, found, nodeOr}
+use package.Rattle.scopes.specs.Slots.{part, Machine, Scope, found, nodeOr}
 use package.Rattle.scopes.specs.Bindings.{View, viewOf, stateOf}
 use package.Rattle.forward.specs.Outcomes.{stopped, refusalIn}
 use package.Rattle.forward.specs.declared.outcomes.Refusal.{Refusal as Carried}
@@ -47,11 +47,15 @@ carried cStuck = Stuck
 
 -- A number that stops a run: from `stopped` on a refusal as forward has it, below it the term, and one more, that has no input (16).
 unfoldable pub whyOf : ℕ → Refusal
-whyOf s = elim (ltb s stopped) [ true ↦ NoInput ((s - 1) % 65536) | false ↦ carried (refusalIn ((s - stopped) / 65536) ((s - stopped) % 65536)) ]
+whyOf s = elim (ltb s stopped) [ true ↦ NoInput ((s - 1) % part) | false ↦ carried (refusalIn ((s - stopped) / part) ((s - stopped) % part)) ]
+
+-- a number of 64 bits holds two below this one
+abbrev pub half : ℕ
+half = 4294967296
 
 -- the outcome that one number is: what stopped the run, and the newest cell of the state
 unfoldable pub outIn : ℕ → Out
-outIn r = record { stop = r / 4294967296; state = record { head = r % 4294967296 } }
+outIn r = record { stop = r / half; state = record { head = r % half } }
 
 -- 0 stops nothing
 unfoldable pub statusOf : ℕ → Status

@@ -8,14 +8,14 @@ use mathlib.Core.Option.{none}
 use mathlib.Core.List.{List, _∷_}
 use lib.ListN.{length, getD, set}
 use lib.Dec.{eqb}
-use package.Rattle.rules.specs.Limits.{fits}
+use package.Rattle.rules.specs.Limits.{fits, maxVariables}
 use package.Rattle.rules.specs.Val.{Val, unit, pair}
 use package.Rattle.rules.specs.Run.{Res, Run, after}
 use package.Rattle.rules.specs.Machine.{State, leave, forward, backwardStep, backward}
 use package.Rattle.calls.specs.Entries.{TypeEntry}
 use package.Rattle.decoded.specs.Rows.{termCount, treeIn, programIn, Rows}
 use package.Rattle.values.specs.Nodes.{nodeBytes, ofKind, valueAt, Agree, kindAt as nodeKind}
-use package.Rattle.scopes.specs.Slots.{unknown, slotCount, stateCount, Machine, Scope, machineOf, slotsOf, scopeIn, found, nodeOr, Slot, Slots}
+use package.Rattle.scopes.specs.Slots.{unknown, slotCount, stateCount, Machine, Scope, machineOf, slotsOf, scopeIn, found, nodeOr, Slot, Slots, slotsPerHeight}
 use package.Rattle.scopes.specs.Cells.{cellCount}
 use package.Rattle.scopes.specs.Bindings.{View, stateOf, stateIn, Bound, Left, Tells, bound, seen, Looks, MeetsAt}
 use package.Rattle.scopes.specs.declared.bindings.Bindings.{Bindings}
@@ -40,7 +40,7 @@ pub record Held (k : ℕ) (code heap slots : List ℕ) (st : Machine) (room : �
   pub unit-there : valueAt heap 0 ≡ unit
   pub nodes : nodeBytes * (st .top + 2 * st .fuel + k) ≤ length heap
   pub small : st .top + 2 * st .fuel + k ≤ cellCount
-  pub variables : 8 * room ≤ length slots
+  pub variables : slotsPerHeight * room ≤ length slots
   pub all : length slots ≡ slotCount
 
 -- the view of a scope holds nodes and cells of the graph, and of the ancilla parameters nodes
@@ -133,7 +133,7 @@ pub record Prepared (k h : ℕ) (code heap slots : List ℕ) (m : Machine) (b : 
   pub ready : Ready k h code heap slots m (scopeView slots sc) (sc .q) s t room
   pub tells : Tells heap slots b (sc .base) (sc .q) (sc .n) (m .top)
   pub older : Slots heap slots (sc .base) (m .top)
-  pub space : sc .base + s + 8 * room ≤ slotCount
+  pub space : sc .base + s + slotsPerHeight * room ≤ slotCount
 
 -- A run in a scope, which leaves the slots below as they were.
 pub record Gone (k : ℕ) (heap heap′ slots slots′ : List ℕ) (m m′ : Machine) (sc : Scope) (r : Out) (res : List TypeEntry → Res State) : Type 0 where
@@ -180,7 +180,7 @@ pub record PreparedUnder (code heap st : List ℕ) (b : Bindings) (scope t room 
 pub record WidenReady (st : List ℕ) (scope : ℕ) : Type 0 where
   pub full : length st ≡ stateCount
   pub there : scopeIn scope .base + scopeIn scope .n < slotCount
-  pub few : scopeIn scope .n < 32
+  pub few : scopeIn scope .n < maxVariables
 
 -- it came into scope, not known
 pub record Widened (st st′ : List ℕ) (scope wide : ℕ) : Type 0 where

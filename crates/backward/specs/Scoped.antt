@@ -4,6 +4,7 @@
 use Prim.Native.Nat.{ℕ, _+_, _≤_, _<_}
 use mathlib.Core.Path.{_≡_}
 use mathlib.Core.List.{List, []}
+use package.Rattle.rules.specs.Limits.{maxVariables}
 use package.Rattle.rules.specs.Term.{Term, var, tunit, tinl, tinr, tpair, tlet, tletp, tcase, tcall, troll, tunroll, count}
 use package.Rattle.decoded.specs.Rows.{parametersIn, bodyIn, functionCount, treeIn}
 
@@ -14,9 +15,9 @@ Scoped arity n (tunit k) = Unit {0}
 Scoped arity n (tinl k c e) = Scoped arity n e
 Scoped arity n (tinr k c e) = Scoped arity n e
 Scoped arity n (tpair k e e′) = Scoped arity n e × Scoped arity n e′
-Scoped arity n (tlet k e b) = (n < 32) × Scoped arity n e × Scoped arity (n + 1) b
-Scoped arity n (tletp k e b) = (n + 1 < 32) × Scoped arity n e × Scoped arity (n + 1 + 1) b
-Scoped arity n (tcase k e b b′) = (n < 32) × Scoped arity n e × Scoped arity (n + 1) b × Scoped arity (n + 1) b′
+Scoped arity n (tlet k e b) = (n < maxVariables) × Scoped arity n e × Scoped arity (n + 1) b
+Scoped arity n (tletp k e b) = (n + 1 < maxVariables) × Scoped arity n e × Scoped arity (n + 1 + 1) b
+Scoped arity n (tcase k e b b′) = (n < maxVariables) × Scoped arity n e × Scoped arity (n + 1) b × Scoped arity (n + 1) b′
 Scoped arity n (tcall k g ts e) = (count ts + 1 ≡ arity g) × Scoped arity n e
 Scoped arity n (troll k c e) = Scoped arity n e
 Scoped arity n (tunroll k c e) = Scoped arity n e
@@ -27,5 +28,5 @@ ScopedAt code n t = Scoped (parametersIn code) n (treeIn code [] t)
 
 -- the body of every function, its parameters in scope, which are as many as a state holds
 pub record Bodies (code : List ℕ) : Type 0 where
-  pub few : (g : ℕ) → g < functionCount code → parametersIn code g ≤ 32
+  pub few : (g : ℕ) → g < functionCount code → parametersIn code g ≤ maxVariables
   pub scoped : (g : ℕ) → g < functionCount code → ScopedAt code (parametersIn code g) (bodyIn code g)

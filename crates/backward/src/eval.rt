@@ -19,6 +19,7 @@ use scopes::state::STATE;
 use values::nodes;
 ghost use mathlib.Core.Path.{_≡_};
 ghost use Prim.Native.Nat.{_<_};
+ghost use Rattle.program.specs.Kinds.{pairKind, letKind, letPairKind, caseKind, callKind, unrollKind};
 ghost use Rattle.values.specs.Nodes.{Single};
 ghost use Rattle.decoded.specs.Rows.{kindIn};
 ghost use Rattle.scopes.specs.Slots.{machineOf};
@@ -181,7 +182,7 @@ fn pair(
     room: u16,
 ) -> Next
     requires { ⌜ PreparedIn 2 1 (now code) (now ws) (now st) b scope t room ⌝ }
-    requires { ⌜ (node < machineOf (now st) .top) × (kindIn (now code) t ≡ 4) ⌝ }
+    requires { ⌜ (node < machineOf (now st) .top) × (kindIn (now code) t ≡ pairKind) ⌝ }
     ensures { λ r. ⌜ StepsTo (now (code .entry)) (now (ws .entry)) (now (ws .exit)) (now (st .entry)) (now (st .exit)) scope t node room r ⌝ }
 {
     let found = nodes::kind_of(ws, node);
@@ -213,7 +214,7 @@ fn let_one(
     room: u16,
 ) -> Next
     requires { ⌜ PreparedIn 2 1 (now code) (now ws) (now st) b scope t room ⌝ }
-    requires { ⌜ (node < machineOf (now st) .top) × (kindIn (now code) t ≡ 5) ⌝ }
+    requires { ⌜ (node < machineOf (now st) .top) × (kindIn (now code) t ≡ letKind) ⌝ }
     ensures { λ r. ⌜ StepsTo (now (code .entry)) (now (ws .entry)) (now (ws .exit)) (now (st .entry)) (now (st .exit)) scope t node room r ⌝ }
 {
     let bound = rows::first_of(code, t);
@@ -242,7 +243,7 @@ fn let_two(
     room: u16,
 ) -> Next
     requires { ⌜ PreparedIn 2 1 (now code) (now ws) (now st) b scope t room ⌝ }
-    requires { ⌜ (node < machineOf (now st) .top) × (kindIn (now code) t ≡ 6) ⌝ }
+    requires { ⌜ (node < machineOf (now st) .top) × (kindIn (now code) t ≡ letPairKind) ⌝ }
     ensures { λ r. ⌜ StepsTo (now (code .entry)) (now (ws .entry)) (now (ws .exit)) (now (st .entry)) (now (st .exit)) scope t node room r ⌝ }
 {
     let bound = rows::first_of(code, t);
@@ -273,7 +274,7 @@ fn choose(
     room: u16,
 ) -> Next
     requires { ⌜ PreparedIn 2 1 (now code) (now ws) (now st) b scope t room ⌝ }
-    requires { ⌜ (node < machineOf (now st) .top) × (kindIn (now code) t ≡ 7) ⌝ }
+    requires { ⌜ (node < machineOf (now st) .top) × (kindIn (now code) t ≡ caseKind) ⌝ }
     ensures { λ r. ⌜ StepsTo (now (code .entry)) (now (ws .entry)) (now (ws .exit)) (now (st .entry)) (now (st .exit)) scope t node room r ⌝ }
 {
     let sum = rows::first_of(code, t);
@@ -305,7 +306,7 @@ fn call(
     room: u16,
 ) -> Next
     requires { ⌜ PreparedIn 2 1 (now code) (now ws) (now st) b scope t room ⌝ }
-    requires { ⌜ (node < machineOf (now st) .top) × (kindIn (now code) t ≡ 8) ⌝ }
+    requires { ⌜ (node < machineOf (now st) .top) × (kindIn (now code) t ≡ callKind) ⌝ }
     ensures { λ r. ⌜ StepsTo (now (code .entry)) (now (ws .entry)) (now (ws .exit)) (now (st .entry)) (now (st .exit)) scope t node room r ⌝ }
 {
     let k = octets::wide_index(rows::third_of(code, t));
@@ -339,7 +340,7 @@ fn unroll(
     room: u16,
 ) -> Next
     requires { ⌜ PreparedIn 2 1 (now code) (now ws) (now st) b scope t room ⌝ }
-    requires { ⌜ (node < machineOf (now st) .top) × (kindIn (now code) t ≡ 10) ⌝ }
+    requires { ⌜ (node < machineOf (now st) .top) × (kindIn (now code) t ≡ unrollKind) ⌝ }
     ensures { λ r. ⌜ StepsTo (now (code .entry)) (now (ws .entry)) (now (ws .exit)) (now (st .entry)) (now (st .exit)) scope t node room r ⌝ }
 {
     let part = rows::second_of(code, t);

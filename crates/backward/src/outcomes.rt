@@ -17,6 +17,7 @@ use values::nodes;
 ghost use mathlib.Core.Path.{_≡_};
 ghost use mathlib.Core.Bool.{true, false, cond};
 ghost use Prim.Native.Nat.{_+_, _≤_, _<_};
+ghost use Rattle.rules.specs.Limits.{maxTerms};
 ghost use Rattle.decoded.specs.Rows.{firstIn, secondIn, thirdIn};
 ghost use Rattle.values.specs.Nodes.{Room};
 ghost use Rattle.scopes.specs.Slots.{unknown, machineOf, slotsOf, scopeIn, nodeOr};
@@ -188,7 +189,7 @@ pub fn variable(
     t: u16,
     node: u32,
 ) -> Out
-    requires { ⌜ t < 1024 ⌝ }
+    requires { ⌜ t < maxTerms ⌝ }
     requires { ⌜ Meetable (now ws) (now st) b (scopeIn scope) (firstIn (now code) t) ⌝ }
     requires { ⌜ node < machineOf (now st) .top ⌝ }
     ensures { λ r. ⌜ Variable (now (ws .entry)) (now (ws .exit)) (now (st .entry)) (now (st .exit)) b (scopeIn scope) (firstIn (now (code .entry)) t) node t r ⌝ }
@@ -243,7 +244,7 @@ pub fn outer(ws: &mut [u8], st: &mut [u32; STATE], b: Bindings, scope: u64) -> B
 
 // The branch of case t that is run: the left exactly if it may yield the value (section 3).
 pub fn branch_of(code: &[u16; CODE], t: u16, left: bool) -> u16
-    requires { ⌜ t < 1024 ⌝ }
+    requires { ⌜ t < maxTerms ⌝ }
     ensures { λ r. ⌜ r ≡ cond left (secondIn (now (code .entry)) t) (thirdIn (now (code .entry)) t) ⌝ }
 {
     if left {

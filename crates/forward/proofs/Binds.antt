@@ -9,6 +9,7 @@ use mathlib.Core.Option.{some}
 use mathlib.Core.List.{List, _∷_}
 use lib.ListN.{length, getD, set, length-set}
 use lib.Seq.{getD-set-other}
+use package.Rattle.program.specs.Kinds.{letKind, letPairKind, caseKind}
 use package.Rattle.rules.specs.Limits.{fits}
 use package.Rattle.rules.specs.Val.{Val, inl, inr, pair}
 use package.Rattle.rules.specs.Run.{Res, stuck, Run, after, give, test}
@@ -180,7 +181,7 @@ module _ {code heap slots : List ℕ} {st : Machine} {sc : Scope} {t room : ℕ}
   ----------------------------------------------------------------
   -- let
 
-  module _ (kind : kindIn code t ≡ 5) where
+  module _ (kind : kindIn code t ≡ letKind) where
     abbrev let-next : ℕ → List TypeEntry → Val → Run Val
     let-next b ys v = within b ys (some v ∷ state)
 
@@ -210,7 +211,7 @@ module _ {code heap slots : List ℕ} {st : Machine} {sc : Scope} {t room : ℕ}
   ----------------------------------------------------------------
   -- let pair
 
-  module _ (kind : kindIn code t ≡ 6) where
+  module _ (kind : kindIn code t ≡ letPairKind) where
     abbrev both-next : ℕ → List TypeEntry → Val → Val → Run Val
     both-next b ys v w = within b ys (some w ∷ some v ∷ state)
 
@@ -261,7 +262,7 @@ module _ {code heap slots : List ℕ} {st : Machine} {sc : Scope} {t room : ℕ}
   ----------------------------------------------------------------
   -- case
 
-  module _ (kind : kindIn code t ≡ 7) where
+  module _ (kind : kindIn code t ≡ caseKind) where
     abbrev left-next : ℕ → List TypeEntry → Val → Run Val
     left-next b ys v = within b ys (some v ∷ state)
 

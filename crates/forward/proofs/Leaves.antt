@@ -8,7 +8,7 @@ use mathlib.Core.List.{List}
 use lib.ListN.{getD}
 use lib.Dec.{eqb}
 use borrow.Author.Tests.{eqb-true, eqb-false}
-use package.Rattle.rules.specs.Limits.{fits}
+use package.Rattle.rules.specs.Limits.{fits, maxTerms}
 use package.Rattle.rules.specs.Val.{Val, roll}
 use package.Rattle.rules.specs.Run.{stuck, Run, after, give, test}
 use package.Rattle.rules.specs.Yield.{mayYield}
@@ -146,7 +146,7 @@ module _ {code heap st : List ℕ} {scope t out : ℕ} (C : CheckReady code heap
   abbrev Checked : Out → Type 0
   Checked r = Checks code heap (slotsOf st) (scopeIn scope .base) (scopeIn scope .q) t before r
 
-  pub check-row : t < 1024
+  pub check-row : t < maxTerms
   check-row = omega (arith, C .term, C .rows .few-terms)
 
   pub check-refused : {why : Refusal} → statusOf out ≡ Refused why → Checked before

@@ -6,6 +6,7 @@ use mathlib.Core.Path.{_≡_, refl, sym, subst, ap, _∙_}
 use mathlib.Core.List.{List, _∷_}
 use mathlib.Core.Option.{some}
 use lib.ListN.{length, getD, set, length-drop}
+use package.Rattle.program.specs.Kinds.{variableKind, unitKind, caseKind}
 use package.Rattle.rules.specs.Val.{Val, unit}
 use package.Rattle.rules.specs.Run.{Res}
 use package.Rattle.rules.specs.Limits.{fits}
@@ -62,14 +63,14 @@ module _ {code heap st st₁ : List ℕ} {scope t room : ℕ} (rd : ReadyIn 0 0 
 
 -- steps without parts
 module _ {code heap st : List ℕ} {scope t room : ℕ} (rd : ReadyIn 1 0 code heap st scope t room) where
-  pub variable-step : {i r : ℕ} → kindIn code t ≡ 0 → i ≡ firstIn code t → Finds r (slotAt heap (slotsOf st) (scopeIn scope .base) (scopeIn scope .n) i)
+  pub variable-step : {i r : ℕ} → kindIn code t ≡ variableKind → i ≡ firstIn code t → Finds r (slotAt heap (slotsOf st) (scopeIn scope .base) (scopeIn scope .n) i)
       → Steps code heap heap st st scope t room r
   variable-step {r = r} kind e F = record {
     lengths = refl;
     ran = var-done (rd .ready) kind (outOf r st) (subst (λ i. Finds r (slotAt heap (slotsOf st) (scopeIn scope .base) (scopeIn scope .n) i)) e F .is (machineOf st));
   }
 
-  pub unit-step : {heap′ st′ : List ℕ} {r : ℕ} → kindIn code t ≡ 1 → MakesIn heap heap′ st st′ r t unit → Steps code heap heap′ st st′ scope t room r
+  pub unit-step : {heap′ st′ : List ℕ} {r : ℕ} → kindIn code t ≡ unitKind → MakesIn heap heap′ st st′ r t unit → Steps code heap heap′ st st′ scope t room r
   unit-step kind M = record { lengths = M .lengths; ran = with-slots (unit-done (rd .ready) kind (M .makes)) (M .slots) }
 
 ----------------------------------------------------------------
@@ -129,7 +130,7 @@ module _ {v : ℕ} {code heap st st₁ : List ℕ} (scope′ : ℕ) {scope t roo
 pub make-ready : {k v : ℕ} {code heap st : List ℕ} {scope t room : ℕ} → ReadyIn (suc k) v code heap st scope t room → MakeReady heap st
 make-ready rd = record { full = rd .full; graph = rd .ready .graph; room = omega (arith, rd .ready .nodes); small = omega (arith, rd .ready .small) }
 
-module _ {code heap heap₁ heap₂ st st₁ st₂ : List ℕ} {scope t room r₁ r₂ b y b′ : ℕ} (rd : ReadyIn 1 0 code heap st scope t room) (kind : kindIn code t ≡ 7)
+module _ {code heap heap₁ heap₂ st st₁ st₂ : List ℕ} {scope t room r₁ r₂ b y b′ : ℕ} (rd : ReadyIn 1 0 code heap st scope t room) (kind : kindIn code t ≡ caseKind)
     (d : Evaluates code heap heap₁ st st₁ scope b (room - 1) r₁) (d₂ : EvaluatesUnder code heap₁ heap₂ st₁ st₂ scope y b′ (room - 1) r₂) where
   -- the left branch's form can be asked
   pub case-check : CheckReady code heap₂ st₂ scope t r₂

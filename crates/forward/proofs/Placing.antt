@@ -7,6 +7,7 @@ use mathlib.Core.Logic.{inr as right}
 use mathlib.Core.List.{List, [], _∷_}
 use lib.ListN.{getD, set, length-set}
 use lib.Seq.{getD-set-same, getD-set-other}
+use package.Rattle.program.specs.Kinds.{callKind}
 use package.Rattle.rules.specs.Limits.{fits}
 use package.Rattle.rules.specs.Val.{Val}
 use package.Rattle.rules.specs.Term.{Term}
@@ -249,5 +250,5 @@ module _ {code heap slots : List ℕ} {st : Machine} {sc : Scope} {t room : ℕ}
               slot n q j low high (no h) = rw (let z : m + j ≡ m + k = omega arith in z, here) (omega (arith, d .node x s, D .ran .grows))
 
 -- the arguments of a call, none placed yet
-pub all-to-place : {code : List ℕ} {t count : ℕ} → kindIn code t ≡ 8 → count ≡ thirdIn code t → Calls code t 0 count
+pub all-to-place : {code : List ℕ} {t count : ℕ} → kindIn code t ≡ callKind → count ≡ thirdIn code t → Calls code t 0 count
 all-to-place e q = record { kind = e; ancillae = q; next = omega arith }

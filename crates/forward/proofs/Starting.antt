@@ -13,7 +13,7 @@ use package.Rattle.rules.specs.Term.{Term, scope}
 use package.Rattle.rules.specs.Machine.{forward, runForward}
 use package.Rattle.calls.specs.Entries.{TypeEntry}
 use package.Rattle.values.specs.Nodes.{nodeBytes, valueAt}
-use package.Rattle.scopes.specs.Slots.{unknown, slotCount, meaning as slotMeaning, stateAt, Machine, Scope}
+use package.Rattle.scopes.specs.Slots.{unknown, slotCount, meaning as slotMeaning, stateAt, Machine, Scope, slotsPerHeight}
 use package.Rattle.scopes.proofs.Marks.{found-node}
 use package.Rattle.scopes.proofs.Scopes.{state-front}
 use package.Rattle.yields.specs.Yields.{ancillaeAt, Ancillae}
@@ -77,7 +77,7 @@ module _ (code heap slots : List ℕ) (st : Machine) (base count : ℕ) (A : Anc
 -- The first function of a run has its arguments in the first slots.
 pub start-ready : {code heap slots : List ℕ} {st : Machine} {count g b room : ℕ} → Rows code → g < functionCount code → b ≡ bodyIn code g
     → Graph heap (st .top) → ((i : ℕ) → i ≤ count → getD slots i 0 < st .top) → nodeBytes * (st .top + st .fuel) ≤ length heap → st .top + st .fuel ≤ stopped
-    → count + 1 + 8 * room ≤ slotCount → length slots ≡ slotCount → Ready 0 0 code heap slots st (argumentScope 0 count) b room
+    → count + 1 + slotsPerHeight * room ≤ slotCount → length slots ≡ slotCount → Ready 0 0 code heap slots st (argumentScope 0 count) b room
 start-ready {slots = slots} {st = st} {count = count} {g = g} K l q G low nodes small fit full = record {
   rows = K;
   term = rw q (K .bodies g l);

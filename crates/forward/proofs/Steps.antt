@@ -6,6 +6,7 @@ use native.Mathlib.Nat.{pos-of-ne-zero}
 use mathlib.Core.Path.{_≡_, refl, sym, ap, ap₂, _∙_}
 use mathlib.Core.Logic.{⊎-elim, inl as left, inr as right}
 use mathlib.Core.List.{List}
+use package.Rattle.program.specs.Kinds.{variableKind, unitKind, pairKind, unrollKind}
 use package.Rattle.rules.specs.Limits.{fits}
 use package.Rattle.rules.specs.Val.{Val, unit, pair}
 use package.Rattle.rules.specs.Term.{Term, Program, entry}
@@ -143,7 +144,7 @@ module _ {code heap slots : List ℕ} {st : Machine} {sc : Scope} {t room : ℕ}
   ----------------------------------------------------------------
   -- Variables and unit
 
-  module _ (kind : kindIn code t ≡ 0) where
+  module _ (kind : kindIn code t ≡ variableKind) where
     step-var : (ys : List TypeEntry) → step ys ≡ onSome (slotMeaning heap (slotAt heap slots (sc .base) (sc .n) (firstIn code t)))
         (λ v. test (fits v) 14 t (give v)) (st .fuel)
     unfolding forwardStep made
@@ -170,7 +171,7 @@ module _ {code heap slots : List ℕ} {st : Machine} {sc : Scope} {t room : ℕ}
             halted (rd .graph) m slots r (ap (λ (r : Out). r .state) (read q)) (ap (λ (r : Out). r .status) (read q))
             (λ ys. step-var ys ∙ ap (λ f. onSome (slotMeaning heap f) (λ v. test (fits v) 14 t (give v)) (st .fuel)) q)
 
-  module _ (kind : kindIn code t ≡ 1) where
+  module _ (kind : kindIn code t ≡ unitKind) where
     pub unit-done : {heap₂ : List ℕ} {r : Out} → Makes heap heap₂ st r t unit → Ran 1 heap heap₂ m slots slots st r step
     unfolding forwardStep made
     unit-done d = one-node m slots d (λ ys. d .answer ∙ sym (stepped ys (tree-unit (rd .rows) t (rd .term) ys kind)))
@@ -217,7 +218,7 @@ module _ {code heap slots : List ℕ} {st : Machine} {sc : Scope} {t room : ℕ}
   ----------------------------------------------------------------
   -- Unroll
 
-  module _ (kind : kindIn code t ≡ 10) where
+  module _ (kind : kindIn code t ≡ unrollKind) where
     abbrev unwrapped : Val → Run Val
     unwrapped v = onRoll v (λ v. test (fits v) 14 t (give v))
 
@@ -244,7 +245,7 @@ module _ {code heap slots : List ℕ} {st : Machine} {sc : Scope} {t room : ℕ}
   ----------------------------------------------------------------
   -- Pair
 
-  module _ (kind : kindIn code t ≡ 4) where
+  module _ (kind : kindIn code t ≡ pairKind) where
     abbrev paired : Val → Val → Run Val
     paired v w = test (fits (pair v w)) 14 t (give (pair v w))
 

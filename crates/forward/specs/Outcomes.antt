@@ -8,7 +8,7 @@ use lib.Dec.{eqb, ltb}
 use package.Rattle.rules.specs.Val.{Val}
 use package.Rattle.rules.specs.Run.{Res, ok, stop, stuck}
 use package.Rattle.values.specs.Nodes.{valueAt}
-use package.Rattle.scopes.specs.Slots.{Machine, machineOf}
+use package.Rattle.scopes.specs.Slots.{part, Machine, machineOf}
 use package.Rattle.scopes.specs.declared.slots.Found.{Found}
 use package.Rattle.scopes.specs.declared.slots.Found.the-variants.{Node, Unknown}
 use Rattle.forward.specs.declared.outcomes.Refusal.{Refusal}
@@ -19,7 +19,7 @@ use Rattle.forward.specs.declared.outcomes.Status.the-variants.{Value, R
 ----------------------------------------------------------------
 -- Answers
 
--- An answer below this number is a node. From here on it is a refusal: its number, of which the place is 65536, and its term.
+-- An answer below this number is a node. From here on it is a refusal: its number, of which the place is `part`, and its term.
 abbrev pub stopped : ℕ
 stopped = 2147483648
 
@@ -37,11 +37,11 @@ refusalIn number t = elim (eqb number 12) [
 ]
 
 unfoldable pub statusOf : ℕ → Status
-statusOf r = elim (ltb r stopped) [ true ↦ Value r | false ↦ Refused (refusalIn ((r - stopped) / 65536) ((r - stopped) % 65536)) ]
+statusOf r = elim (ltb r stopped) [ true ↦ Value r | false ↦ Refused (refusalIn ((r - stopped) / part) ((r - stopped) % part)) ]
 
 -- the answer that is this refusal
 pub record Stops (r number t : ℕ) : Type 0 where
-  pub is : r ≡ stopped + 65536 * number + t
+  pub is : r ≡ stopped + part * number + t
   pub status : statusOf r ≡ Refused (refusalIn number t)
 
 -- an answer, with the machine that is left

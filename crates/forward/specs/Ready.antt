@@ -7,6 +7,7 @@ use mathlib.Core.Bool.{Bool, true, not}
 use mathlib.Core.Option.{some}
 use mathlib.Core.List.{List, [], _∷_}
 use lib.ListN.{length, getD}
+use package.Rattle.program.specs.Kinds.{caseKind, callKind}
 use package.Rattle.rules.specs.Limits.{fits}
 use package.Rattle.rules.specs.Val.{Val}
 use package.Rattle.rules.specs.Run.{Res, Run, after, give, test}
@@ -15,7 +16,7 @@ use package.Rattle.rules.specs.Machine.{State, onRoll, each, forwardStep, forwa
 use package.Rattle.calls.specs.Entries.{TypeEntry, termTrees}
 use package.Rattle.decoded.specs.Rows.{kindIn, secondIn, thirdIn, argumentIn, argumentsIn, termCount, treeIn, programIn, Rows}
 use package.Rattle.values.specs.Nodes.{nodeBytes, Room, valueAt, Agree, Heap}
-use package.Rattle.scopes.specs.Slots.{unknown, slotCount, stateCount, Machine, Scope, machineOf, slotsOf, scopeIn, stateAt, Slots}
+use package.Rattle.scopes.specs.Slots.{unknown, slotCount, stateCount, Machine, Scope, machineOf, slotsOf, scopeIn, stateAt, Slots, slotsPerHeight}
 use package.Rattle.yields.specs.Yields.{ancillaeAt, AncillaeIn}
 use package.Rattle.forward.specs.Outcomes.{Out, stopped, statusOf, outOf, refusalOf, meaning, finished}
 use Rattle.forward.specs.declared.outcomes.Status.{Status}
@@ -43,7 +44,7 @@ pub record Ready (k v : ℕ) (code heap slots : List ℕ) (st : Machine) (sc : S
   pub within : sc .q ≤ sc .n
   pub nodes : nodeBytes * (st .top + st .fuel + k) ≤ length heap
   pub small : st .top + st .fuel + k ≤ stopped
-  pub variables : sc .base + sc .n + v + 8 * room ≤ length slots
+  pub variables : sc .base + sc .n + v + slotsPerHeight * room ≤ length slots
   pub full : length slots ≡ slotCount
   pub tall : k ≤ room
 
@@ -131,7 +132,7 @@ pub record Places (code heap heap′ slots slots′ : List ℕ) (st : Machine) (
 
 -- a call of `count` ancilla terms, of which argument `k` is next
 pub record Calls (code : List ℕ) (t k count : ℕ) : Type 0 where
-  pub kind : kindIn code t ≡ 8
+  pub kind : kindIn code t ≡ callKind
   pub ancillae : count ≡ thirdIn code t
   pub next : k ≤ count
 
@@ -152,7 +153,7 @@ pub record Unrolled (heap : List ℕ) (node r : ℕ) : Type 0 where
 pub record CheckReady (code heap st : List ℕ) (scope t out : ℕ) : Type 0 where
   pub rows : Rows code
   pub term : t < termCount code
-  pub kind : kindIn code t ≡ 7
+  pub kind : kindIn code t ≡ caseKind
   pub graph : Heap heap (machineOf st .top)
   pub small : machineOf st .top ≤ unknown
   pub ancillae : AncillaeIn st scope

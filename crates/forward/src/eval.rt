@@ -17,6 +17,7 @@ use scopes::state::STATE;
 use values::nodes;
 ghost use mathlib.Core.Path.{_≡_};
 ghost use Prim.Native.Nat.{_+_, _≤_, _<_};
+ghost use Rattle.program.specs.Kinds.{pairKind, letKind, letPairKind, caseKind, callKind, unrollKind};
 ghost use Rattle.decoded.specs.Rows.{kindIn};
 ghost use Rattle.scopes.specs.Slots.{machineOf};
 ghost use Rattle.yields.specs.Yields.{Wraps};
@@ -107,7 +108,7 @@ fn pair(
     room: u16,
 ) -> u32
     requires { ⌜ ReadyIn 1 0 (now code) (now ws) (now st) scope t room ⌝ }
-    requires { ⌜ kindIn (now code) t ≡ 4 ⌝ }
+    requires { ⌜ kindIn (now code) t ≡ pairKind ⌝ }
     ensures { λ r. ⌜ Steps (now (code .entry)) (now (ws .entry)) (now (ws .exit)) (now (st .entry)) (now (st .exit)) scope t room r ⌝ }
 {
     let left = rows::first_of(code, t);
@@ -133,7 +134,7 @@ fn let_one(
     room: u16,
 ) -> u32
     requires { ⌜ ReadyIn 1 0 (now code) (now ws) (now st) scope t room ⌝ }
-    requires { ⌜ kindIn (now code) t ≡ 5 ⌝ }
+    requires { ⌜ kindIn (now code) t ≡ letKind ⌝ }
     ensures { λ r. ⌜ Steps (now (code .entry)) (now (ws .entry)) (now (ws .exit)) (now (st .entry)) (now (st .exit)) scope t room r ⌝ }
 {
     let bound = rows::first_of(code, t);
@@ -155,7 +156,7 @@ fn let_two(
     room: u16,
 ) -> u32
     requires { ⌜ ReadyIn 1 0 (now code) (now ws) (now st) scope t room ⌝ }
-    requires { ⌜ kindIn (now code) t ≡ 6 ⌝ }
+    requires { ⌜ kindIn (now code) t ≡ letPairKind ⌝ }
     ensures { λ r. ⌜ Steps (now (code .entry)) (now (ws .entry)) (now (ws .exit)) (now (st .entry)) (now (st .exit)) scope t room r ⌝ }
 {
     let bound = rows::first_of(code, t);
@@ -185,7 +186,7 @@ fn choose(
     room: u16,
 ) -> u32
     requires { ⌜ ReadyIn 1 0 (now code) (now ws) (now st) scope t room ⌝ }
-    requires { ⌜ kindIn (now code) t ≡ 7 ⌝ }
+    requires { ⌜ kindIn (now code) t ≡ caseKind ⌝ }
     ensures { λ r. ⌜ Steps (now (code .entry)) (now (ws .entry)) (now (ws .exit)) (now (st .entry)) (now (st .exit)) scope t room r ⌝ }
 {
     let sum = rows::first_of(code, t);
@@ -217,7 +218,7 @@ fn unroll(
     room: u16,
 ) -> u32
     requires { ⌜ ReadyIn 1 0 (now code) (now ws) (now st) scope t room ⌝ }
-    requires { ⌜ kindIn (now code) t ≡ 10 ⌝ }
+    requires { ⌜ kindIn (now code) t ≡ unrollKind ⌝ }
     ensures { λ r. ⌜ Steps (now (code .entry)) (now (ws .entry)) (now (ws .exit)) (now (st .entry)) (now (st .exit)) scope t room r ⌝ }
 {
     let part = rows::second_of(code, t);
@@ -270,7 +271,7 @@ fn call(
     room: u16,
 ) -> u32
     requires { ⌜ ReadyIn 1 0 (now code) (now ws) (now st) scope t room ⌝ }
-    requires { ⌜ kindIn (now code) t ≡ 8 ⌝ }
+    requires { ⌜ kindIn (now code) t ≡ callKind ⌝ }
     ensures { λ r. ⌜ Steps (now (code .entry)) (now (ws .entry)) (now (ws .exit)) (now (st .entry)) (now (st .exit)) scope t room r ⌝ }
 {
     let count = octets::wide_index(rows::third_of(code, t));

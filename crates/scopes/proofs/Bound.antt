@@ -10,6 +10,7 @@ use lib.ListN.{length, getD, set}
 use lib.Seq.{getD-set-other}
 use lib.Dec.{eqb}
 use borrow.Author.Tests.{eqb-true, eqb-false}
+use package.Rattle.rules.specs.Limits.{maxVariables}
 use package.Rattle.rules.specs.Val.{Val, same}
 use package.Rattle.rules.specs.Run.{Res, ok, stop, Run, after, test, give}
 use package.Rattle.rules.specs.Machine.{State, bindOr, meet}
@@ -136,7 +137,7 @@ module _ (heap : List ℕ) (b : View) (i node x top k f : ℕ) (agrees : Bool) (
 ----------------------------------------------------------------
 -- Variables come and go
 
-pub opens-state : (heap : List ℕ) (b : View) (node top : ℕ) (r : View) → Opens b node r → Bound heap b top → b .len < 32
+pub opens-state : (heap : List ℕ) (b : View) (node top : ℕ) (r : View) → Opens b node r → Bound heap b top → b .len < maxVariables
     → stateOf heap r ≡ meaning heap (found heap node) ∷ stateOf heap b
 unfolding stateOf
 opens-state heap b node top r O B l =

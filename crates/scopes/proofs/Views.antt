@@ -10,6 +10,7 @@ use lib.ListN.{length, getD, set, length-set}
 use lib.Seq.{getD-set-same, getD-set-other, ext-getD}
 use lib.Dec.{eqb}
 use borrow.Author.Tests.{eqb-true, eqb-false, lt-ltb, le-ltb}
+use package.Rattle.rules.specs.Limits.{maxVariables}
 use package.Rattle.rules.specs.Val.{same}
 use package.Rattle.values.specs.Nodes.{leftAt, valueAt, Agree, Celled}
 use package.Rattle.scopes.specs.Slots.{unknown, found, nodeOr, meaning, stateAt, Scope, slotsOf, Slot}
@@ -30,8 +31,8 @@ unfolding slotsFrom
 length-from slots base zero = refl
 length-from slots base (suc n) = ap suc (length-from slots (base + 1) n)
 
-pub view-full : (slots : List ℕ) (base : ℕ) → length (slotsFrom slots base 32) ≡ 32
-view-full slots base = length-from slots base 32
+pub view-full : (slots : List ℕ) (base : ℕ) → length (slotsFrom slots base maxVariables) ≡ maxVariables
+view-full slots base = length-from slots base maxVariables
 
 from-at : (slots : List ℕ) (base n i : ℕ) → i < n → getD (slotsFrom slots base n) i 0 ≡ getD slots (base + i) 0
 unfolding slotsFrom
@@ -39,30 +40,30 @@ from-at slots base zero i l = absurd (omega arith)
 from-at slots base (suc n) zero l = ap (λ j. getD slots j 0) (let z : base ≡ base + 0 = omega arith in z)
 from-at slots base (suc n) (suc i) l = from-at slots (base + 1) n i (omega arith) ∙ ap (λ j. getD slots j 0) (let z : base + 1 + i ≡ base + suc i = omega arith in z)
 
-pub view-at : (slots : List ℕ) (base i : ℕ) → i < 32 → getD (slotsFrom slots base 32) i 0 ≡ getD slots (base + i) 0
-view-at slots base i l = from-at slots base 32 i l
+pub view-at : (slots : List ℕ) (base i : ℕ) → i < maxVariables → getD (slotsFrom slots base maxVariables) i 0 ≡ getD slots (base + i) 0
+view-at slots base i l = from-at slots base maxVariables i l
 
 -- one slot is written
-pub view-set : (slots : List ℕ) (base i x : ℕ) → i < 32 → base + i < length slots → slotsFrom (set slots (base + i) x) base 32 ≡ set (slotsFrom slots base 32) i x
+pub view-set : (slots : List ℕ) (base i x : ℕ) → i < maxVariables → base + i < length slots → slotsFrom (set slots (base + i) x) base maxVariables ≡ set (slotsFrom slots base maxVariables) i x
 view-set slots base i x l h =
-    ext-getD 0 _ _ (view-full (set slots (base + i) x) base ∙ sym (length-set (slotsFrom slots base 32) i x ∙ view-full slots base)) λ j m. go j (low j m) (decLt j i) (decLt i j)
+    ext-getD 0 _ _ (view-full (set slots (base + i) x) base ∙ sym (length-set (slotsFrom slots base maxVariables) i x ∙ view-full slots base)) λ j m. go j (low j m) (decLt j i) (decLt i j)
   where
-    low : (j : ℕ) → j < length (slotsFrom (set slots (base + i) x) base 32) → j < 32
+    low : (j : ℕ) → j < length (slotsFrom (set slots (base + i) x) base maxVariables) → j < maxVariables
     low j m = omega (arith, view-full (set slots (base + i) x) base)
 
-    other : (j : ℕ) → j < 32 → (j ≡ i → ⊥) → getD (slotsFrom (set slots (base + i) x) base 32) j 0 ≡ getD (set (slotsFrom slots base 32) i x) j 0
+    other : (j : ℕ) → j < maxVariables → (j ≡ i → ⊥) → getD (slotsFrom (set slots (base + i) x) base maxVariables) j 0 ≡ getD (set (slotsFrom slots base maxVariables) i x) j 0
     other j m n =
         view-at (set slots (base + i) x) base j m ∙ getD-set-other slots (base + i) (base + j) x 0 (λ e. n (omega arith))
-        ∙ sym (getD-set-other (slotsFrom slots base 32) i j x 0 n ∙ view-at slots base j m)
+        ∙ sym (getD-set-other (slotsFrom slots base maxVariables) i j x 0 n ∙ view-at slots base j m)
 
-    go : (j : ℕ) → j < 32 → Dec (j < i) → Dec (i < j) → getD (slotsFrom (set slots (base + i) x) base 32) j 0 ≡ getD (set (slotsFrom slots base 32) i x) j 0
+    go : (j : ℕ) → j < maxVariables → Dec (j < i) → Dec (i < j) → getD (slotsFrom (set slots (base + i) x) base maxVariables) j 0 ≡ getD (set (slotsFrom slots base maxVariables) i x) j 0
     go j m (yes a) d = other j m (λ e. omega arith)
     go j m (no a) (yes b) = other j m (λ e. omega arith)
     go j m (no a) (no b) = let e : j ≡ i = omega arith in
-        rw e (view-at (set slots (base + i) x) base i l ∙ getD-set-same slots (base + i) x 0 h ∙ sym (getD-set-same (slotsFrom slots base 32) i x 0 (omega (arith, view-full slots base))))
+        rw e (view-at (set slots (base + i) x) base i l ∙ getD-set-same slots (base + i) x 0 h ∙ sym (getD-set-same (slotsFrom slots base maxVariables) i x 0 (omega (arith, view-full slots base))))
 
 -- the view of a scope has its slots
-pub view-bound : (heap slots : List ℕ) (base n top : ℕ) → n ≤ 32 → ((i : ℕ) → i < n → Slot heap (getD slots (base + i) 0) top)
+pub view-bound : (heap slots : List ℕ) (base n top : ℕ) → n ≤ maxVariables → ((i : ℕ) → i < n → Slot heap (getD slots (base + i) 0) top)
     → Bound heap (viewOf slots base n) top
 view-bound heap slots base n top few held = record {
   full = view-full slots base;
@@ -79,13 +80,13 @@ state-moved heap slots slots′ base base′ (suc n) same =
     ap₂ _∷_ (ap (λ k. meaning heap (found heap k)) (same n (omega arith))) (state-moved heap slots slots′ base base′ n λ i l. same i (omega arith))
 
 -- the view is the state that the slots hold
-pub view-state : (heap slots : List ℕ) (base n : ℕ) → n ≤ 32 → stateOf heap (viewOf slots base n) ≡ stateAt heap slots base n
+pub view-state : (heap slots : List ℕ) (base n : ℕ) → n ≤ maxVariables → stateOf heap (viewOf slots base n) ≡ stateAt heap slots base n
 unfolding stateOf
 view-state heap slots base n few =
-    state-moved heap (slotsFrom slots base 32) slots 0 base n
-    λ i l. ap (λ j. getD (slotsFrom slots base 32) j 0) (let z : 0 + i ≡ i = omega arith in z) ∙ view-at slots base i (omega arith)
+    state-moved heap (slotsFrom slots base maxVariables) slots 0 base n
+    λ i l. ap (λ j. getD (slotsFrom slots base maxVariables) j 0) (let z : 0 + i ≡ i = omega arith in z) ∙ view-at slots base i (omega arith)
 
-pub view-opens : (slots : List ℕ) (base n x : ℕ) → n < 32 → base + n < length slots → Opens (viewOf slots base n) x (viewOf (set slots (base + n) x) base (n + 1))
+pub view-opens : (slots : List ℕ) (base n x : ℕ) → n < maxVariables → base + n < length slots → Opens (viewOf slots base n) x (viewOf (set slots (base + n) x) base (n + 1))
 view-opens slots base n x l h = record { slots = view-set slots base n x l h; len = refl }
 
 ----------------------------------------------------------------
@@ -114,7 +115,7 @@ state-told heap slots b sc n top T (suc m) le =
     ap₂ (λ x σ. meaning heap (found heap x) ∷ σ) (number-told heap slots b sc n top T m (omega arith)) (state-told heap slots b sc n top T m (omega arith))
 
 -- The rules' state that a state by value is: that of the view.
-pub view-told : (heap slots : List ℕ) (b : Bindings) (sc : Scope) (top : ℕ) → Tells heap slots b (sc .base) (sc .q) (sc .n) top → sc .n ≤ 32
+pub view-told : (heap slots : List ℕ) (b : Bindings) (sc : Scope) (top : ℕ) → Tells heap slots b (sc .base) (sc .q) (sc .n) top → sc .n ≤ maxVariables
     → stateWith heap slots (b .head) sc (sc .n) ≡ stateOf heap (viewOf slots (sc .base) (sc .n))
 view-told heap slots b sc top T few = state-told heap slots b sc (sc .n) top T (sc .n) (omega arith) ∙ sym (view-state heap slots (sc .base) (sc .n) few)
 
@@ -218,15 +219,15 @@ pub new-found : {heap heap′ : List ℕ} {top node link : ℕ} → Celled heap 
 new-found {heap′ = heap′} {top = top} C some =
     found-cell heap′ (unknown + top) (omega arith) ∙ ap Node (ap (λ c. leftAt heap′ c) (let z : unknown + top - unknown ≡ top = omega arith in z) ∙ C .left-is)
 
-module _ (slots : List ℕ) (base i n : ℕ) (l : i < n) (few : n ≤ 32) where
-  here : getD (slotsFrom slots base 32) i 0 ≡ getD slots (base + i) 0
+module _ (slots : List ℕ) (base i n : ℕ) (l : i < n) (few : n ≤ maxVariables) where
+  here : getD (slotsFrom slots base maxVariables) i 0 ≡ getD slots (base + i) 0
   here = view-at slots base i (omega arith)
 
   -- it is bound
   pub binds-view : {slots′ : List ℕ} (heap : List ℕ) (node : ℕ) {agrees : Bool} {x : ℕ} → base + i < length slots → getD slots (base + i) 0 ≡ unknown
       → agrees ≡ true → slots′ ≡ set slots (base + i) x → Meets heap (viewOf slots base n) i node x agrees (viewOf slots′ base n)
   binds-view heap node {x = x} there u a s = record {
-    binds = λ _. (a, ap (λ s. slotsFrom s base 32) s ∙ view-set slots base i x (omega arith) there, refl);
+    binds = λ _. (a, ap (λ s. slotsFrom s base maxVariables) s ∙ view-set slots base i x (omega arith) there, refl);
     compares = λ d. absurd (d (here ∙ u));
   }
 

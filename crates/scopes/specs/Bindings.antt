@@ -7,6 +7,7 @@ use mathlib.Core.Bool.{Bool, true, false}
 use mathlib.Core.List.{List, [], _∷_}
 use lib.ListN.{length, getD, set}
 use lib.Dec.{ltb}
+use package.Rattle.rules.specs.Limits.{maxVariables}
 use package.Rattle.rules.specs.Val.{same}
 use package.Rattle.rules.specs.Machine.{State}
 use package.Rattle.values.specs.Nodes.{valueAt, Room, Heap}
@@ -31,7 +32,7 @@ slotsFrom slots base (suc n) = getD slots base 0 ∷ slotsFrom slots (base + 1) 
 
 -- the scope of `n` variables from slot `base` on
 abbrev pub viewOf : List ℕ → ℕ → ℕ → View
-viewOf slots base n = record { slots = slotsFrom slots base 32; len = n }
+viewOf slots base n = record { slots = slotsFrom slots base maxVariables; len = n }
 
 -- the state, the newest variable first
 unfoldable pub stateOf : List ℕ → View → State
@@ -39,8 +40,8 @@ stateOf heap b = stateAt heap (b .slots) 0 (b .len)
 
 -- the view holds nodes and cells below `top`
 pub record Bound (heap : List ℕ) (b : View) (top : ℕ) : Type 0 where
-  pub full : length (b .slots) ≡ 32
-  pub few : b .len ≤ 32
+  pub full : length (b .slots) ≡ maxVariables
+  pub few : b .len ≤ maxVariables
   pub held : Slots heap (b .slots) (b .len) top
 
 -- a variable comes into scope
@@ -103,7 +104,7 @@ pub record CellReady (heap st : List ℕ) (b : Bindings) (i : ℕ) : Type 0 wher
   pub room : Room heap (machineOf st .top + 1)
   pub small : machineOf st .top < cellCount
   pub within : b .head < machineOf st .top
-  pub few : i ≤ 32
+  pub few : i ≤ maxVariables
 
 -- A cell is made, with the left part `x`: the state that it is the newest cell of.
 pub record Adds (heap heap′ st st′ : List ℕ) (b : Bindings) (x i : ℕ) (r : Bindings) : Type 0 where

@@ -1,6 +1,6 @@
 -- Scopes in slots: slot base + i holds variable i's node; backward, the cell that says what the variable is bound to (specs/Cells); or a
 -- mark if the variable is not known. A scope is the state that the rules' runs have (rules/specs/Machine). Laws: proofs/Scopes.
-use Prim.Native.Nat.{ℕ, zero, suc, _+_, _-_, _<_, _/_, _%_}
+use Prim.Native.Nat.{ℕ, zero, suc, _+_, _*_, _-_, _<_, _/_, _%_}
 use mathlib.Core.Path.{_≡_}
 use mathlib.Core.Bool.{true, false}
 use mathlib.Core.Option.{Option, none, some}
@@ -8,6 +8,7 @@ use mathlib.Core.List.{List, [], _∷_}
 use mathlib.Core.Logic.{_⊎_}
 use lib.ListN.{length, getD, set, drop}
 use lib.Dec.{eqb, ltb}
+use package.Rattle.rules.specs.Limits.{maxVariables}
 use package.Rattle.rules.specs.Val.{Val}
 use package.Rattle.rules.specs.Machine.{State}
 use package.Rattle.values.specs.Nodes.{leftAt, valueAt}
@@ -18,13 +19,21 @@ use Rattle.scopes.specs.declared.slots.Found.the-variants.{Node, Unknown
 unfoldable pub unknown : ℕ
 unknown = 2147483648
 
--- how many slots there are: room for the variables of a run of the greatest height
+-- how many variables a height may add: a function's parameters are more than any term binds
+abbrev pub slotsPerHeight : ℕ
+slotsPerHeight = 8
+
+-- how many slots there are: room for the variables of a run of the greatest height (section 2), and those of one scope more
 abbrev pub slotCount : ℕ
-slotCount = 8232
+slotCount = maxVariables + slotsPerHeight * 1025
 
 -- all numbers that a run is lent: the machine, then the slots
 abbrev pub stateCount : ℕ
-stateCount = 8234
+stateCount = slotCount + 2
+
+-- a part of a number that holds several is below this one
+abbrev pub part : ℕ
+part = 65536
 
 ----------------------------------------------------------------
 -- The machine, and scopes as numbers
@@ -48,7 +57,7 @@ slotsOf st = drop 2 st
 
 -- a scope in one number
 abbrev pub scopeIn : ℕ → Scope
-scopeIn x = record { base = x / 65536 / 65536; q = x / 65536 % 65536; n = x % 65536 }
+scopeIn x = record { base = x / part / part; q = x / part % part; n = x % part }
 
 -- the machine is another one, and the slots are as they were
 pub record Moved (st st′ : List ℕ) (m : Machine) : Type 0 where

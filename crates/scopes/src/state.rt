@@ -1,15 +1,18 @@
 // The numbers that a run is lent: the machine, which is the first free node and the fuel, then the slots of scopes (specs/Slots). A scope is one
 // number too: its first slot, how many variables of it are ancilla parameters, and how many variables it has.
+use rules::MAX_HEIGHT;
+use rules::MAX_PARAMETERS;
+use rules::MAX_VARIABLES;
 ghost use mathlib.Core.Path.{_≡_};
 ghost use Prim.Native.Nat.{_+_, _-_, _≤_, _<_};
 ghost use lib.ListN.{length};
-ghost use Rattle.scopes.specs.Slots.{slotCount, stateCount, slotsOf, machineOf, scopeIn, Moved};
+ghost use Rattle.scopes.specs.Slots.{slotCount, stateCount, part, slotsOf, machineOf, scopeIn, Moved};
 
-// The machine and the slots of a run of the greatest height.
-pub const STATE: usize = 8234;
-
-// Where the slots begin.
+// Where the slots begin, behind the machine.
 pub const SLOTS_FROM: usize = 2;
+
+// The machine, and slots for the variables of a run of the greatest height and of one scope more: a height adds no more than a function has parameters.
+pub const STATE: usize = SLOTS_FROM + MAX_VARIABLES + MAX_PARAMETERS * (MAX_HEIGHT + 1);
 
 // A part of a scope is below this number, but for its base.
 const PART: u64 = 65536;
@@ -54,7 +57,7 @@ pub fn begin(st: &mut [u32; STATE], top: u32, fuel: u32)
 
 // A scope of n variables from slot `base` on, of which the first q are ancilla parameters.
 pub fn scope(base: usize, q: usize, n: usize) -> u64
-    requires { ⌜ (base ≤ slotCount) × (q < 65536) × (n < 65536) ⌝ }
+    requires { ⌜ (base ≤ slotCount) × (q < part) × (n < part) ⌝ }
     ensures { λ r. ⌜ scopeIn r ≡ record { base = base; q = q; n = n } ⌝ }
 {
     PART * (PART * (base as u64) + q as u64) + n as u64
@@ -87,7 +90,7 @@ pub fn end_of(scope: u64) -> usize
 
 // The scope with one variable more.
 pub fn wider(scope: u64) -> u64
-    requires { ⌜ (scopeIn scope .base ≤ slotCount) × (scopeIn scope .n + 1 < 65536) ⌝ }
+    requires { ⌜ (scopeIn scope .base ≤ slotCount) × (scopeIn scope .n + 1 < part) ⌝ }
     ensures { λ r. ⌜ scopeIn r ≡ record { base = scopeIn scope .base; q = scopeIn scope .q; n = scopeIn scope .n + 1 } ⌝ }
 {
     scope + 1

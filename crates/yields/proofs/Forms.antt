@@ -6,6 +6,8 @@ use mathlib.Core.Bool.{Bool, true, cond, _&&_, _||_}
 use mathlib.Core.Logic.{⊎-elim}
 use mathlib.Core.List.{List, []}
 use lib.Dec.{eqb}
+use package.Rattle.rules.specs.Limits.{maxTerms}
+use package.Rattle.program.specs.Kinds.{variableKind, unitKind, inlKind, inrKind, pairKind, caseKind, callKind, rollKind, unrollKind}
 use package.Rattle.rules.specs.Val.{Val}
 use package.Rattle.rules.specs.Term.{Term, look}
 use package.Rattle.rules.specs.Yield.{mayBe, mayYield}
@@ -24,7 +26,7 @@ module _ {code heap st : List ℕ} {scope t node : ℕ} (Y : Asks code heap st s
   top = machineOf st .top
 
   -- a row is one of the table's
-  pub row-read : t < 1024
+  pub row-read : t < maxTerms
   row-read = omega (arith, Y .term, Y .rows .few-terms)
 
   pub node-read : Room heap (node + 1)
@@ -51,20 +53,20 @@ module _ {code heap st : List ℕ} {scope t node : ℕ} (Y : Asks code heap st s
   ----------------------------------------------------------------
   -- Terms without parts; call and unroll
 
-  pub variable-answer : {i : ℕ} → kindIn code t ≡ 0 → i ≡ firstIn code t → {r : ℕ}
+  pub variable-answer : {i : ℕ} → kindIn code t ≡ variableKind → i ≡ firstIn code t → {r : ℕ}
       → Judges exact r (mayBe (look (ancillaeIn heap st scope) i) (valueAt heap node)) → Answer r
   unfolding mayYield termTree
   variable-answer f e h = by-tree (rows.entry-var code t f) λ ys. judged-as h (rw e refl)
 
-  pub unit-answer : {k r : ℕ} → kindIn code t ≡ 1 → k ≡ kindAt heap node → r ≡ cond (eqb k 0) 2 0 → Answer r
+  pub unit-answer : {k r : ℕ} → kindIn code t ≡ unitKind → k ≡ kindAt heap node → r ≡ cond (eqb k 0) 2 0 → Answer r
   unfolding termTree valueAt valueWithin
   unit-answer {k = k} f e q = by-tree (rows.entry-unit code t f) λ ys. judged {yes = eqb k 0} q (rw e (unit-only (ancillaeIn heap st scope) t _ _ (kindAt heap node)))
 
-  pub call-answer : kindIn code t ≡ 8 → Answer 2
+  pub call-answer : kindIn code t ≡ callKind → Answer 2
   unfolding mayYield termTree
   call-answer f = by-tree (rows.entry-call code t f (Y .rows .few t (Y .term) f)) λ ys. judged-yes refl
 
-  pub unroll-answer : kindIn code t ≡ 10 → Answer 2
+  pub unroll-answer : kindIn code t ≡ unrollKind → Answer 2
   unfolding mayYield termTree
   unroll-answer f = by-tree (rows.entry-unroll code t f) λ ys. judged-yes refl
 
@@ -76,7 +78,7 @@ module _ {code heap st : List ℕ} {scope t node : ℕ} (Y : Asks code heap st s
 
   module _ {kind : ℕ} (w : Wraps (kindIn code t) kind) where
     -- by the three forms
-    by-wrap : {C : Type 0} → (kindIn code t ≡ 2 → kind ≡ 1 → C) → (kindIn code t ≡ 3 → kind ≡ 2 → C) → (kindIn code t ≡ 9 → kind ≡ 4 → C) → C
+    by-wrap : {C : Type 0} → (kindIn code t ≡ inlKind → kind ≡ 1 → C) → (kindIn code t ≡ inrKind → kind ≡ 2 → C) → (kindIn code t ≡ rollKind → kind ≡ 4 → C) → C
     by-wrap f g h = ⊎-elim (λ (x, y). f x y) (λ w. ⊎-elim (λ (x, y). g x y) (λ (x, y). h x y) w) w
 
     pub part-fails : {n : ℕ} → n ≡ kindAt heap node → ¬ (n ≡ kind) → Answer 0
@@ -110,7 +112,7 @@ module _ {code heap st : List ℕ} {scope t node : ℕ} (Y : Asks code heap st s
   ----------------------------------------------------------------
   -- A pair
 
-  module _ (f : kindIn code t ≡ 4) where
+  module _ (f : kindIn code t ≡ pairKind) where
     pub pair-fails : {n : ℕ} → n ≡ kindAt heap node → ¬ (n ≡ 3) → Answer 0
     unfolding termTree valueAt valueWithin
     pair-fails e d = by-tree (rows.entry-pair code t f) λ ys. judged-no (sym (pair-only _ t _ _ _ _ (kindAt heap node) (λ z. d (e ∙ z))))
@@ -173,7 +175,7 @@ module _ {code heap st : List ℕ} {scope t node : ℕ} (Y : Asks code heap st s
   ----------------------------------------------------------------
   -- case
 
-  module _ (f : kindIn code t ≡ 7) {e : ℕ} (ee : e ≡ secondIn code t) where
+  module _ (f : kindIn code t ≡ caseKind) {e : ℕ} (ee : e ≡ secondIn code t) where
     pub left-branch : (e < t) × Asks code heap st scope e node
     left-branch = let le : e < t = rw ee (rows.parts-case (Y .rows) t (Y .term) f .1) in (le, asks e node le (Y .value))
 

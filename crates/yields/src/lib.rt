@@ -5,6 +5,7 @@
 ghost use mathlib.Core.Path.{_≡_};
 ghost use mathlib.Core.Bool.{cond};
 ghost use Prim.Native.Nat.{_<_, _≤_};
+ghost use Rattle.program.specs.Kinds.{pairKind, caseKind};
 ghost use Rattle.rules.specs.Val.{same};
 ghost use Rattle.rules.specs.Term.{look};
 ghost use Rattle.rules.specs.Yield.{mayBe};
@@ -133,7 +134,7 @@ fn yield_pair(
     exact: bool,
 ) -> u8
     requires { ⌜ Asks (now code) (now ws) (now st) scope t node ⌝ }
-    requires { ⌜ kindIn (now code) t ≡ 4 ⌝ }
+    requires { ⌜ kindIn (now code) t ≡ pairKind ⌝ }
     ensures { λ r. ⌜ YieldsIn (now (code .entry)) (now (ws .entry)) (now (st .entry)) scope t node exact r ⌝ }
 {
     let found = nodes::kind_of(ws, node);
@@ -184,7 +185,7 @@ fn yield_case(
     exact: bool,
 ) -> u8
     requires { ⌜ Asks (now code) (now ws) (now st) scope t node ⌝ }
-    requires { ⌜ kindIn (now code) t ≡ 7 ⌝ }
+    requires { ⌜ kindIn (now code) t ≡ caseKind ⌝ }
     ensures { λ r. ⌜ YieldsIn (now (code .entry)) (now (ws .entry)) (now (st .entry)) scope t node exact r ⌝ }
 {
     let left = rows::second_of(code, t);
