@@ -1,4 +1,5 @@
 use mathlib.Core.Path.{refl}
+use Rattle.rules.specs.Limits.{maxValueBytes, maxConversions}
 use Rattle.turns.proofs.Converts.{stands-at, convert-malformed, convert-many}
 use borrow.Author.Needs.{needs}
 use Rattle.turns.proofs.converting.convert.Statement.{statement}
@@ -23,6 +24,7 @@ same-length-2 : tie.Need-same-length-2
 same-length-2 c = search needs
 
 returns-2 : tie.Need-returns-2
+unfolding maxConversions
 returns-2 c =
     let at-if1 = c in
     let at-survey2 = at-if1 .before .before .before in
@@ -33,6 +35,7 @@ slice-aggregate-convert-held : tie.Need-slice-aggregate-convert-held
 slice-aggregate-convert-held c = search needs
 
 convert-held-requires : tie.Need-convert-held-requires
+unfolding maxConversions maxValueBytes
 convert-held-requires c κs =
     let at-if1 = c .before .before .before in
     let at-survey2 = at-if1 .before .before .before in
