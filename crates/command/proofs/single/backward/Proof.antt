@@ -1,4 +1,5 @@
 use native.Mathlib.Omega.{arith}
+use Rattle.rules.specs.Limits.{maxValueBytes}
 use Rattle.lines.proofs.Writing.{wrote-as}
 use Rattle.command.proofs.Reporting.{within, run-reported}
 use borrow.Author.Needs.{needs}
@@ -15,6 +16,7 @@ slice-aggregate-run-report : tie.Need-slice-aggregate-run-report
 slice-aggregate-run-report c = search needs
 
 run-report-requires : tie.Need-run-report-requires
+unfolding maxValueBytes
 run-report-requires c κs = (within (c .before .before .before .before .before .backward .result) _ _ (c .before .before .before .before .before .backward .ensures .0) (c .before .before .before .before .before .backward .ensures .1 .0) (c .before .before .before .before .before .backward .kept .1 .1 .1 .1 .1 .1 .0), omega (arith, c .before .before .before .before .before .backward .kept .1 .1 .1 .1 .1 .1 .0, c .before .before .before .before .before .before .before .before .before .before .before .before .before .pre))
 
 same-length : tie.Need-same-length
@@ -24,6 +26,7 @@ same-length-2 : tie.Need-same-length-2
 same-length-2 c = search needs
 
 returns : tie.Need-returns
+unfolding maxValueBytes
 returns c = (wrote-as (c .before .before .run-report .ensures) (run-reported (c .before .before .before .before .before .before .before .before .backward .result) _ _ (c .before .before .before .before .before .before .before .before .backward .ensures .0) (c .before .before .before .before .before .before .before .before .backward .ensures .1 .0)), c .before .before .before .before .before .before .before .before .backward .ensures .1 .1)
 
 pub backward-spec : {M : Type 1} → statement M

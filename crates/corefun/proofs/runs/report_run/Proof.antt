@@ -1,3 +1,4 @@
+use Rattle.rules.specs.Limits.{maxValueBytes}
 use Rattle.command.proofs.Behind.{wrote-within}
 use borrow.Author.Needs.{needs}
 use Rattle.corefun.proofs.runs.report_run.Statement.{statement}
@@ -7,6 +8,7 @@ slice-aggregate-backward : tie.Need-slice-aggregate-backward
 slice-aggregate-backward c = search needs
 
 backward-requires : tie.Need-backward-requires
+unfolding maxValueBytes
 backward-requires c κs = search needs
 
 slice-aggregate-print : tie.Need-slice-aggregate-print
@@ -25,6 +27,7 @@ slice-aggregate-forward : tie.Need-slice-aggregate-forward
 slice-aggregate-forward c = search needs
 
 forward-requires : tie.Need-forward-requires
+unfolding maxValueBytes
 forward-requires c κs = search needs
 
 slice-aggregate-print-2 : tie.Need-slice-aggregate-print-2
