@@ -15,6 +15,9 @@ use package.Rattle.calls.specs.Entries.{typeOf, termAt, FunctionEntry, function
 use package.Rattle.calls.specs.Values.{value, ancillae, hasTy, hasTys}
 use package.Rattle.calls.specs.Runs.{Given, admit}
 use package.Rattle.calls.proofs.Answer.{via, present-some, require-yes}
+use package.Rattle.answers.specs.declared.Refusal.the-variants.{Function, Values, ValueType}
+use package.Rattle.answers.specs.Answers.{accepts}
+use package.Rattle.answers.proofs.Answers.{refused-later}
 use package.Rattle.reading.specs.Typing.{entriesOf}
 use package.Rattle.reading.specs.Ends.{valueIn, valuesIn}
 use package.Rattle.admission.specs.declared.Admitted.the-variants as admitted
@@ -49,9 +52,9 @@ wrong h (some vs) none k e = refl
 wrong h (some vs) (some v) k e = untrue 10 (k vs v) e
 
 module _ (xs types functions : List ℕ) (g : ℕ) (anc bytes : List ℕ) (back : Bool) where
-  pub no-function : length functions ≤ g → AdmitMeans admitted.NoFunction xs types functions g anc bytes back
+  pub no-function : length functions ≤ g → AdmitMeans (admitted.Refused Function) xs types functions g anc bytes back
   unfolding admit
-  no-function l = record { answer = λ terms. sym (absent 9 _ (function-none xs functions g types terms l)) }
+  no-function l = record { answer = λ terms. sym (absent 9 _ (function-none xs functions g types terms l)); later = λ terms. refused-later Function (omega arith) }
 
   -- the function is there, its field at `at`
   module _ (l : g < length functions) {at : ℕ} (q : at ≡ getD functions g 0) where
@@ -69,11 +72,12 @@ module _ (xs types functions : List ℕ) (g : ℕ) (anc bytes : List ℕ) (back 
     unfolding functionOf
     count-same terms = sym (ap (λ h. length (h .ancillae)) (function-is terms) ∙ length-map (h .ancillae) (typeOf (entriesOf xs types)))
 
-    pub bad-values : {b : Bool} → b ≡ rightIn anc bytes h → b ≡ false → AdmitMeans admitted.BadValues xs types functions g anc bytes back
+    pub bad-values : {b : Bool} → b ≡ rightIn anc bytes h → b ≡ false → AdmitMeans (admitted.Refused Values) xs types functions g anc bytes back
     unfolding admit
     bad-values e f = record {
       answer = λ terms. sym (via _ (present-some 9 (there terms)) (wrong (functionIn xs types terms (getD functions g 0)) (ancillae anc) (value bytes) _
           (ap (inNumber (ancillae anc) (value bytes)) (sym (count-same terms)) ∙ sym e ∙ f)));
+      later = λ terms. refused-later Values (omega arith);
     }
 
     module _ (right : rightIn anc bytes h ≡ true) where
@@ -107,11 +111,11 @@ module _ (xs types functions : List ℕ) (g : ℕ) (anc bytes : List ℕ) (back 
           ∙ ap (λ c. hasTys (valuesIn anc) (map (typeOf (entriesOf xs types)) (h .ancillae)) && hasTy (valueIn bytes) c) (side-same back terms)
 
       module _ {b : Bool} (e : b ≡ allTyped (entriesOf xs types) h back anc bytes) where
-        pub wrong-type : b ≡ false → AdmitMeans admitted.WrongType xs types functions g anc bytes back
-        wrong-type f = record { answer = λ terms. sym (reached terms ∙ untrue 11 _ (typed-same terms ∙ sym e ∙ f)) }
+        pub wrong-type : b ≡ false → AdmitMeans (admitted.Refused ValueType) xs types functions g anc bytes back
+        wrong-type f = record { answer = λ terms. sym (reached terms ∙ untrue 11 _ (typed-same terms ∙ sym e ∙ f)); later = λ terms. refused-later ValueType (omega arith) }
 
         pub all-given : b ≡ true → AdmitMeans admitted.Given xs types functions g anc bytes back
-        all-given y = record { answer = λ terms. sym (reached terms ∙ via _ (require-yes 11 0 (typed-same terms ∙ sym e ∙ y)) refl) }
+        all-given y = record { answer = λ terms. sym (reached terms ∙ via _ (require-yes 11 0 (typed-same terms ∙ sym e ∙ y)) refl); later = λ terms. accepts }
 
 -- a number that was widened
 pub index-there : {i g n : ℕ} → i ≡ g → i < n → g < n

@@ -16,6 +16,7 @@ use package.Rattle.calls.specs.Entries.{TypeEntry, typeOf, FunctionEntry, funct
 use package.Rattle.calls.specs.Named.{typesOfFunction, below, allPlain}
 use package.Rattle.calls.specs.Values.{value, ancillae, hasTy, hasTys}
 use package.Rattle.calls.specs.Runs.{Given, admit}
+use package.Rattle.answers.specs.Answers.{numberOf, placeOf, Later}
 use package.Rattle.program.specs.Parts.{FunctionField}
 use package.Rattle.program.specs.Signatures.{SignaturesAre}
 use package.Rattle.program.specs.Programs.{programIn}
@@ -77,10 +78,9 @@ allTyped ys h back anc bytes = hasTys (valuesIn anc) (map (typeOf ys) (h .ancill
 
 abbrev pub answerOf : Admitted → Given → Answer Given
 answerOf admitted.Given a = accepted a
-answerOf admitted.NoFunction a = refused 9 0
-answerOf admitted.BadValues a = refused 10 0
-answerOf admitted.WrongType a = refused 11 0
+answerOf (admitted.Refused r) a = refused (numberOf r) (placeOf r)
 
 pub record AdmitMeans (r : Admitted) (xs types functions : List ℕ) (g : ℕ) (anc bytes : List ℕ) (back : Bool) : Type 0 where
   pub answer : (terms : List ℕ) → answerOf r (givenIn xs types terms functions g anc bytes)
       ≡ admit (programIn xs types terms functions) g (ancillae anc) (value bytes) (sideOf back)
+  pub later : (terms : List ℕ) → Later (answerOf r (givenIn xs types terms functions g anc bytes))

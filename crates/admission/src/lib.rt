@@ -1,5 +1,6 @@
 // What a call gives a run, admitted or refused (document 01, section 4, row Call): 9 no such function; then all of 10, value bytes
 // malformed, over the limit or wrong in number; then all of 11, a value not of its type. For programs that are loaded.
+use answers::Refusal;
 use program::views;
 use reading::scan;
 use reading::typed;
@@ -21,9 +22,7 @@ ghost use Rattle.admission.specs.Admitting.{Callable, Admittable, rightI
 // What becomes of a call's function, ancillae and value: they are given to a run, or refused with 9, 10 or 11.
 pub enum Admitted {
     Given,
-    NoFunction,
-    BadValues,
-    WrongType,
+    Refused(Refusal),
 }
 
 // All of 10: ancillae and value are values within the limits, and there are as many ancillae as the function whose field is at `at` has.
@@ -131,7 +130,7 @@ pub fn admit(
 {
     let g = octets::wide_index(function);
     if functions.len() <= g {
-        return Admitted::NoFunction;
+        return Admitted::Refused(Refusal::Function);
     }
     let at = field(functions, function);
     let right = values_right(p, at, ancillae, value);
@@ -141,7 +140,7 @@ pub fn admit(
         if ok {
             return Admitted::Given;
         }
-        return Admitted::WrongType;
+        return Admitted::Refused(Refusal::ValueType);
     }
-    Admitted::BadValues
+    Admitted::Refused(Refusal::Values)
 }

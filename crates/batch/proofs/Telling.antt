@@ -13,11 +13,10 @@ use package.Rattle.calls.specs.Runs.{Ran, written}
 use package.Rattle.calls.specs.Conversions.{Turned}
 use package.Rattle.calls.specs.Book.{afterOpen, afterTurned}
 use package.Rattle.calls.proofs.Answer.{refused≢accepted, accepted-inj}
-use package.Rattle.rows.specs.declared.answers.CheckAnswer.{CheckAnswer}
-use package.Rattle.rows.specs.declared.answers.RunAnswer.{RunAnswer}
-use package.Rattle.rows.specs.declared.answers.RunAnswer.the-variants.{Ran as RanTo, Refused}
-use package.Rattle.running.specs.Ended.{summary}
-use package.Rattle.rows.specs.Answers.{checkAnswer, runAnswer, openAnswer, heldAnswer}
+use package.Rattle.answers.specs.declared.CheckAnswer.{CheckAnswer}
+use package.Rattle.answers.specs.declared.RunAnswer.{RunAnswer}
+use package.Rattle.answers.specs.declared.RunAnswer.the-variants.{Ran as RanTo, Refused}
+use package.Rattle.answers.specs.Answers.{checkAnswer, runAnswer, openAnswer, heldAnswer, summary}
 use package.Rattle.engine.specs.Runs.{CallMeans}
 use package.Rattle.lines.specs.Answers.{valueLine}
 use package.Rattle.wording.specs.Replies.{runText, openedText, heldText, lengthOf}

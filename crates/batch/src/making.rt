@@ -1,7 +1,7 @@
 // The calls that a line says, made in a workspace and an output of the lengths that it names, and answered by a line.
+use answers::RunAnswer;
 use lines::calls::CheckCall;
 use lines::calls::RunCall;
-use rows::answers::RunAnswer;
 use wording::replies;
 ghost use mathlib.Core.Path.{_≡_};
 ghost use Prim.Native.Nat.{_+_, _*_, _≤_};

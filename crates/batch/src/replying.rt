@@ -1,7 +1,7 @@
 // The line that answers what was read of a line: a call's answer, or what is wrong with the line.
 use crate::keeping;
 use crate::making;
-use lines::answers;
+use lines::answers as texts;
 use lines::calls::Parsed;
 use lines::decimal;
 ghost use Prim.Native.Nat.{_+_, _*_, _≤_};
@@ -16,9 +16,9 @@ fn word_error(k: u8, what: &[u8], out: &mut [u8]) -> usize
     requires { ⌜ length (now what) + 32 ≤ length (now out) ⌝ }
     ensures { λ r. ⌜ Wrote (now (out .entry)) (now (out .exit)) 0 r (wordError k (now (what .entry))) ⌝ }
 {
-    let named = answers::put(b"error word ", out, 0);
+    let named = texts::put(b"error word ", out, 0);
     let counted = decimal::put_number(k as u64, out, named);
-    answers::put(what, out, counted)
+    texts::put(what, out, counted)
 }
 
 // The line that answers what was read, its byte strings at the starts of the buffers. A call on a journal leaves the new journal where
@@ -43,8 +43,8 @@ pub fn reply(
         Parsed::Opens(call) => keeping::open(call, program, ancillae, value, workspace, out),
         Parsed::Converts(call) => keeping::convert(call, program, ancillae, value, workspace, out),
         Parsed::RollsBack(call) => keeping::rollback(call, program, value, workspace, out),
-        Parsed::NoCall => answers::put(b"error no call of this name\n", out, 0),
-        Parsed::WordCount => answers::put(b"error too few or too many words\n", out, 0),
+        Parsed::NoCall => texts::put(b"error no call of this name\n", out, 0),
+        Parsed::WordCount => texts::put(b"error too few or too many words\n", out, 0),
         Parsed::NoNumber(k) => word_error(k, b" is no number in its range\n", out),
         Parsed::NoBytes(k) => word_error(k, b" is no bytes in hexadecimal\n", out),
     }

@@ -9,11 +9,10 @@ use package.Rattle.rules.specs.Val.{size, encode}
 use package.Rattle.rules.proofs.Val.{length-encode}
 use package.Rattle.calls.specs.Answer.{Answer, accepted, refused}
 use package.Rattle.calls.specs.Runs.{Ran, written}
-use package.Rattle.running.specs.Ended.{summary}
-use package.Rattle.rows.specs.Answers.{numberOf, placeOf, runAnswer}
-use package.Rattle.rows.specs.declared.answers.Refusal.{Refusal}
-use package.Rattle.rows.specs.declared.answers.RunAnswer.{RunAnswer}
-use package.Rattle.rows.specs.declared.answers.RunAnswer.the-variants.{Ran as Done, Refused}
+use package.Rattle.answers.specs.Answers.{numberOf, placeOf, runAnswer, summary}
+use package.Rattle.answers.specs.declared.Refusal.{Refusal}
+use package.Rattle.answers.specs.declared.RunAnswer.{RunAnswer}
+use package.Rattle.answers.specs.declared.RunAnswer.the-variants.{Ran as Done, Refused}
 use package.Rattle.lines.specs.Answers.{valueLine}
 use package.Rattle.wording.specs.Replies.{lengthOf, refusalText}
 use package.Rattle.command.specs.Reports.{refusedReport, runReport, filledReport}

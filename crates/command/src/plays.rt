@@ -1,12 +1,12 @@
 // What a script's playing answered, as text: a line for each call, and a line that says how it ended.
 use crate::reports;
-use lines::answers;
+use answers::Refusal;
+use lines::answers as texts;
 use replay::replies::ReplayAnswer;
-use rows::answers::Refusal;
 ghost use Prim.Native.Nat.{_≤_};
 ghost use mathlib.Core.List.{_++_};
 ghost use lib.ListN.{length};
-ghost use Rattle.rows.specs.Answers.{numberOf, placeOf};
+ghost use Rattle.answers.specs.Answers.{numberOf, placeOf};
 ghost use Rattle.lines.specs.Decimal.{decimalText};
 ghost use Rattle.lines.specs.Wrote.{Wrote};
 ghost use Rattle.replay.specs.Playing.{replyOf};
@@ -28,15 +28,15 @@ pub fn told_line(line: &[u8], out: &mut [u8]) -> usize
     let number = octets::read16(line, 1);
     let detail = octets::read32(line, 3);
     if kind == OPENED {
-        return answers::put(b"ok\n", out, 0);
+        return texts::put(b"ok\n", out, 0);
     }
     if kind == HELD {
         return reports::held(number as u64, detail as u64, out);
     }
     if kind == REFUSED {
-        return answers::refused_line(number as u64, detail as u64, out);
+        return texts::refused_line(number as u64, detail as u64, out);
     }
-    answers::put(b"", out, 0)
+    texts::put(b"", out, 0)
 }
 
 // A number between two texts.
@@ -45,9 +45,9 @@ fn put_between(front: &[u8], n: u64, behind: &[u8], out: &mut [u8]) -> usize
     requires { ⌜ 256 ≤ length (now out) ⌝ }
     ensures { λ end. ⌜ Wrote (now (out .entry)) (now (out .exit)) 0 end (now (front .entry) ++ decimalText n ++ now (behind .entry)) ⌝ }
 {
-    let named = answers::put(front, out, 0);
+    let named = texts::put(front, out, 0);
     let counted = reports::put_figure(n, out, named);
-    answers::put(behind, out, counted)
+    texts::put(behind, out, counted)
 }
 
 // The first open is refused.
@@ -55,7 +55,7 @@ fn unopened(r: Refusal, out: &mut [u8]) -> usize
     requires { ⌜ 512 ≤ length (now out) ⌝ }
     ensures { λ end. ⌜ Wrote (now (out .entry)) (now (out .exit)) 0 end (unopenedText (numberOf r) (placeOf r)) ⌝ }
 {
-    let named = answers::put(b"not opened: ", out, 0);
+    let named = texts::put(b"not opened: ", out, 0);
     let told = reports::refusal(r, &mut out[named..]);
     named + told
 }
@@ -79,7 +79,7 @@ pub fn ended_line(answer: ReplayAnswer, out: &mut [u8]) -> usize
             b": the call's buffer is longer than 131072 bytes\n",
             out,
         ),
-        ReplayAnswer::ShortAnswers => answers::put(b"answers do not fit\n", out, 0),
+        ReplayAnswer::ShortAnswers => texts::put(b"answers do not fit\n", out, 0),
         ReplayAnswer::Unopened(r) => unopened(r, out),
         ReplayAnswer::Cut(at) => put_between(
             b"cut at ",

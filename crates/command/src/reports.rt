@@ -1,13 +1,13 @@
 // What a call answered, as text: as a line of calls and answers has it (crate lines), a refusal with its meaning.
-use lines::answers;
+use answers::CheckAnswer;
+use answers::Refusal;
+use answers::RunAnswer;
+use lines::answers as texts;
 use lines::decimal;
-use rows::answers::CheckAnswer;
-use rows::answers::Refusal;
-use rows::answers::RunAnswer;
 use wording::replies;
 ghost use Prim.Native.Nat.{_+_, _*_, _≤_};
 ghost use lib.ListN.{length};
-ghost use Rattle.rows.specs.Answers.{numberOf, placeOf, checkAnswer, runAnswer};
+ghost use Rattle.answers.specs.Answers.{numberOf, placeOf, checkAnswer, runAnswer};
 ghost use Rattle.lines.specs.Decimal.{decimalText};
 ghost use Rattle.lines.specs.Wrote.{Wrote};
 ghost use Rattle.wording.specs.Replies.{lengthOf};
@@ -27,7 +27,7 @@ pub fn check_report(answer: CheckAnswer, out: &mut [u8]) -> usize
     ensures { λ end. ⌜ Wrote (now (out .entry)) (now (out .exit)) 0 end (checkReport (checkAnswer answer)) ⌝ }
 {
     match answer {
-        CheckAnswer::Accepted => answers::put(b"ok\n", out, 0),
+        CheckAnswer::Accepted => texts::put(b"ok\n", out, 0),
         CheckAnswer::Refused(r) => refusal(r, out),
     }
 }
@@ -57,9 +57,9 @@ pub(crate) fn held(len: u64, steps: u64, out: &mut [u8]) -> usize
     requires { ⌜ 64 ≤ length (now out) ⌝ }
     ensures { λ end. ⌜ Wrote (now (out .entry)) (now (out .exit)) 0 end (heldText len steps) ⌝ }
 {
-    let named = answers::put(b"held ", out, 0);
+    let named = texts::put(b"held ", out, 0);
     let counted = put_figure(len, out, named);
-    let spaced = answers::put(b" ", out, counted);
+    let spaced = texts::put(b" ", out, counted);
     let stepped = put_figure(steps, out, spaced);
-    answers::put(b"\n", out, stepped)
+    texts::put(b"\n", out, stepped)
 }

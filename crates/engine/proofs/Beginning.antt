@@ -15,10 +15,8 @@ use package.Rattle.calls.specs.Runs.{Ran, workspaceFor, prepared}
 use package.Rattle.calls.specs.Conversions.{Turned}
 use package.Rattle.types.specs.Codes.{nodeBytes}
 use package.Rattle.rows.proofs.Beginning.{enough-types}
-use package.Rattle.rows.specs.Answers.{runAnswer, openAnswer, heldAnswer}
-use package.Rattle.rows.specs.Calls.{Later, accepts, refuses}
-use package.Rattle.rows.specs.declared.answers.RunAnswer.{RunAnswer}
-use package.Rattle.running.specs.Ended.{summary}
+use package.Rattle.answers.specs.Answers.{runAnswer, openAnswer, heldAnswer, summary, Later, accepts, refuses}
+use package.Rattle.answers.specs.declared.RunAnswer.{RunAnswer}
 
 ----------------------------------------------------------------
 -- Row Workspace

@@ -7,9 +7,9 @@ use lib.ListN.{length, replicate}
 use lib.Dec.{leb}
 use package.Rattle.calls.specs.Answer.{accepted, refused, _>>=_, cleared}
 use package.Rattle.calls.specs.Runs.{workspaceFor, checkCall}
-use package.Rattle.rows.specs.Answers.{checkAnswer}
+use package.Rattle.answers.specs.Answers.{checkAnswer}
 use package.Rattle.rows.specs.Calls.{CheckMeans}
-use package.Rattle.rows.specs.declared.answers.CheckAnswer.{CheckAnswer}
+use package.Rattle.answers.specs.declared.CheckAnswer.{CheckAnswer}
 use package.Rattle.engine.proofs.Beginning.{prepared-enough, prepared-short, cleared-later}
 
 module _ (xs ws : List ℕ) where

@@ -11,12 +11,12 @@ use package.Rattle.calls.specs.Load.{load}
 use package.Rattle.calls.specs.Runs.{workspaceFor, prepared}
 use package.Rattle.calls.specs.Conversions.{Turned, openCall, convertCall, rollbackCall}
 use package.Rattle.calls.specs.Book.{afterOpen, afterTurned}
-use package.Rattle.rows.specs.declared.answers.Refusal.the-variants.{Workspace}
-use package.Rattle.rows.specs.declared.answers.CheckAnswer.{CheckAnswer}
-use package.Rattle.rows.specs.declared.answers.CheckAnswer.the-variants as checks
-use package.Rattle.rows.specs.declared.answers.RunAnswer.{RunAnswer}
-use package.Rattle.rows.specs.declared.answers.RunAnswer.the-variants as runs
-use package.Rattle.rows.specs.Answers.{checkAnswer, runAnswer, openAnswer, heldAnswer}
+use package.Rattle.answers.specs.declared.Refusal.the-variants.{Workspace}
+use package.Rattle.answers.specs.declared.CheckAnswer.{CheckAnswer}
+use package.Rattle.answers.specs.declared.CheckAnswer.the-variants as checks
+use package.Rattle.answers.specs.declared.RunAnswer.{RunAnswer}
+use package.Rattle.answers.specs.declared.RunAnswer.the-variants as runs
+use package.Rattle.answers.specs.Answers.{checkAnswer, runAnswer, openAnswer, heldAnswer}
 use package.Rattle.turns.specs.Turns.{openOf, convertOf, rollbackOf, OpenMeans, TurnMeans}
 use package.Rattle.engine.proofs.Beginning.{prepared-enough, prepared-short, cleared-later, cleared-held, cleared-opened}
 

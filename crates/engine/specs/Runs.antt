@@ -5,9 +5,8 @@ use mathlib.Core.Bool.{Bool, true, false}
 use mathlib.Core.List.{List}
 use package.Rattle.calls.specs.Answer.{Answer, cleared}
 use package.Rattle.calls.specs.Runs.{Ran, forwardCall, backwardCall, written}
-use package.Rattle.rows.specs.declared.answers.RunAnswer.{RunAnswer}
-use package.Rattle.rows.specs.Answers.{runAnswer}
-use package.Rattle.running.specs.Ended.{summary}
+use package.Rattle.answers.specs.declared.RunAnswer.{RunAnswer}
+use package.Rattle.answers.specs.Answers.{runAnswer, summary}
 
 -- all rows
 unfoldable pub runCall : Bool → ℕ → ℕ → ℕ → ℕ → List ℕ → List ℕ → List ℕ → Answer Ran

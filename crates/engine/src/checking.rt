@@ -1,11 +1,11 @@
 // The call that checks a program (document 01, section 4).
-use rows::answers::CheckAnswer;
-use rows::answers::Refusal;
+use answers::CheckAnswer;
+use answers::Refusal;
 ghost use mathlib.Core.Path.{_≡_};
 ghost use lib.ListN.{length};
 ghost use Rattle.calls.specs.Answer.{cleared};
 ghost use Rattle.calls.specs.Runs.{checkCall};
-ghost use Rattle.rows.specs.Answers.{checkAnswer};
+ghost use Rattle.answers.specs.Answers.{checkAnswer};
 
 // Is the program accepted? The workspace is all zero afterwards, but unchanged if it is too short.
 pub fn check(program: &[u8], workspace: &mut [u8]) -> CheckAnswer

@@ -1,14 +1,14 @@
 // The calls on a journal: open, convert and rollback (document 01, sections 4 and 5). A call that is refused leaves the journal as it was;
 // the workspace is all zero after every call, but unchanged if it is too short.
-use rows::answers::CheckAnswer;
-use rows::answers::Refusal;
-use rows::answers::RunAnswer;
+use answers::CheckAnswer;
+use answers::Refusal;
+use answers::RunAnswer;
 ghost use mathlib.Core.Path.{_≡_};
 ghost use lib.ListN.{length};
 ghost use Rattle.calls.specs.Answer.{cleared};
 ghost use Rattle.calls.specs.Conversions.{openCall, convertCall, rollbackCall};
 ghost use Rattle.calls.specs.Book.{afterOpen, afterTurned};
-ghost use Rattle.rows.specs.Answers.{checkAnswer, runAnswer, openAnswer, heldAnswer};
+ghost use Rattle.answers.specs.Answers.{checkAnswer, runAnswer, openAnswer, heldAnswer};
 
 // Opens a journal with a record: whatever the buffer holds, it says the record and no conversion afterwards.
 pub fn open(program: &[u8], record: &[u8], workspace: &mut [u8], journal: &mut [u8]) -> CheckAnswer

@@ -1,13 +1,12 @@
 // The calls that run a function, forward and backward (document 01, section 4), with `back` the direction.
-use rows::answers::Refusal;
-use rows::answers::RunAnswer;
+use answers::Refusal;
+use answers::RunAnswer;
 ghost use mathlib.Core.Path.{_≡_};
 ghost use lib.ListN.{length};
 ghost use Rattle.calls.specs.Answer.{cleared};
 ghost use Rattle.calls.specs.Runs.{forwardCall, backwardCall, written};
-ghost use Rattle.rows.specs.Answers.{runAnswer};
+ghost use Rattle.answers.specs.Answers.{runAnswer, summary};
 ghost use Rattle.engine.specs.Runs.{runCall, CallMeans};
-ghost use Rattle.running.specs.Ended.{summary};
 
 // All rows. The workspace is all zero afterwards, but unchanged if it is too short.
 fn call(

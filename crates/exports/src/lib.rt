@@ -1,16 +1,15 @@
 // The public calls for C and for Rust, as a static library (`rt staticlib exports`): a slice is a pointer and a length. What a call
 // answers is told in four numbers: the refusal's number, or 0 where it is accepted; its place; the value's length; the steps.
+use answers::CheckAnswer;
+use answers::RunAnswer;
 use replay::replies::ReplayAnswer;
-use rows::answers::CheckAnswer;
-use rows::answers::RunAnswer;
 ghost use mathlib.Core.Path.{_≡_};
 ghost use lib.ListN.{length};
 ghost use Rattle.calls.specs.Answer.{cleared};
 ghost use Rattle.calls.specs.Runs.{checkCall, forwardCall, backwardCall, written};
 ghost use Rattle.calls.specs.Conversions.{openCall, convertCall, rollbackCall};
 ghost use Rattle.calls.specs.Book.{afterOpen, afterTurned};
-ghost use Rattle.running.specs.Ended.{summary};
-ghost use Rattle.rows.specs.Answers.{checkAnswer, runAnswer, openAnswer, heldAnswer};
+ghost use Rattle.answers.specs.Answers.{checkAnswer, runAnswer, openAnswer, heldAnswer, summary};
 ghost use Rattle.replay.specs.Playing.{replyOf, replayed};
 ghost use Rattle.replay.specs.Booked.{Stood, Booked};
 ghost use Rattle.exports.specs.Told.{checkTold, runTold, replayTold};

@@ -6,15 +6,19 @@ use mathlib.Core.List.{List}
 use lib.ListN.{length, take}
 use package.Rattle.rules.specs.Limits.{maxTerms, maxVariables, maxNodes}
 use package.Rattle.rules.specs.Typing.{WellTyped}
-use package.Rattle.calls.specs.Answer.{Answer, refused, _>>=_}
+use package.Rattle.calls.specs.Answer.{Answer, accepted, refused, _>>=_}
 use package.Rattle.calls.specs.Entries.{entriesAt, programOf}
 use package.Rattle.calls.specs.Load.{load}
 use package.Rattle.calls.proofs.Answer.{via}
 use package.Rattle.calls.proofs.Trees.{entries-good}
 use package.Rattle.calls.proofs.Load.{load-iff}
 use package.Rattle.calls.specs.Tested.{Good}
+use package.Rattle.answers.specs.declared.Refusal.{Refusal}
+use package.Rattle.answers.specs.declared.Refusal.the-variants.{Field, Limit}
+use package.Rattle.answers.specs.Answers.{numberOf, placeOf, Later, accepts, refuses}
+use package.Rattle.answers.proofs.Answers.{later-number}
 use package.Rattle.program.specs.Signatures.{SignaturesAre}
-use package.Rattle.program.specs.Places.{placesOf, Placed, Within, Counted, FieldsMean, answerOf}
+use package.Rattle.program.specs.Places.{placesOf, frontsOf, Placed, Within, Counted, FieldsMean, answerOf}
 use package.Rattle.program.specs.declared.fields.Counts.{Counts}
 use package.Rattle.program.specs.declared.fields.Fields.{Fields}
 use package.Rattle.program.specs.declared.fields.Fields.the-variants.{Read, Malformed, Over}
@@ -27,7 +31,7 @@ use package.Rattle.typing.specs.Checked.{Typeable, typingAnswer}
 use package.Rattle.typing.specs.Checked as typing
 use package.Rattle.typing.specs.declared.functions.Verdict as typings
 use package.Rattle.typing.specs.declared.functions.Verdict.the-variants.{Typed}
-use package.Rattle.loading.specs.Loading.{Accepted, Examined, LoadMeans}
+use package.Rattle.loading.specs.Loading.{Accepted, loadedOf, WhenReady, Examined, LoadMeans}
 use package.Rattle.loading.specs.declared.Loaded.{Loaded}
 use package.Rattle.loading.specs.declared.Loaded.the-variants as loaded
 
@@ -35,6 +39,10 @@ use package.Rattle.loading.specs.declared.Loaded.the-variants as loaded
 stops : {A B : Type 0} {x : Answer A} (k : A → Answer B) {n p : ℕ} → x ≡ refused n p → (x >>= k) ≡ refused n p
 unfolding _>>=_
 stops k e = ap (λ x. x >>= k) e
+
+-- none of these rows refuses with 1
+later-refused : {A : Type 0} {x : Answer A} {n p : ℕ} → x ≡ refused n p → 2 ≤ n → Later x
+later-refused e l = subst Later (sym e) (refuses l)
 
 ----------------------------------------------------------------
 -- Row Typing
@@ -52,12 +60,19 @@ module _ {xs types terms functions nodes heap : List ℕ} (T : Typeable xs types
 
   pub infer-typed : v ≡ Typed → {table : List (List ℕ)} → SignaturesAre xs functions table → {c : Counts}
       → Examined (loaded.Ready c) c xs types terms functions table
-  infer-typed e S = record { answer = infer-accepted e S .loads; ready = (refl, infer-accepted e S) }
+  infer-typed e S = record {
+    answer = infer-accepted e S .loads;
+    later = subst Later (sym (infer-accepted e S .loads)) accepts;
+    ready = (refl, infer-accepted e S);
+  }
 
-  pub infer-refused : (n at : ℕ) → typing.verdictOf v ≡ refused n at → load xs ≡ refused n at
+  pub infer-refused : (r : Refusal) → typing.verdictOf v ≡ refused (numberOf r) (placeOf r) → 2 ≤ numberOf r → {table : List (List ℕ)} {c : Counts}
+      → Examined (loaded.Refused r) c xs types terms functions table
   unfolding load
-  infer-refused n at e =
-      via _ (T .read .read) (via _ (T .tested) (stops _ (sym answered ∙ e)))
+  infer-refused r e l = record { answer = stopped; later = later-refused stopped l; ready = tt }
+    where
+      stopped : load xs ≡ refused (numberOf r) (placeOf r)
+      stopped = via _ (T .read .read) (via _ (T .tested) (stops _ (sym answered ∙ e)))
 
 ----------------------------------------------------------------
 -- Row Entries
@@ -73,9 +88,13 @@ module _ {xs types terms functions nodes : List ℕ} (P : Placed xs types terms 
     room = room;
   }
 
-  pub examine-refused : (n at : ℕ) → entries.verdictOf v ≡ refused n at → load xs ≡ refused n at
+  pub examine-refused : (r : Refusal) → entries.verdictOf v ≡ refused (numberOf r) (placeOf r) → 2 ≤ numberOf r → {table : List (List ℕ)} {c : Counts}
+      → Examined (loaded.Refused r) c xs types terms functions table
   unfolding load
-  examine-refused n at e = via _ (P .read) (stops _ (sym (answered .answer) ∙ e))
+  examine-refused r e l = record { answer = stopped; later = later-refused stopped l; ready = tt }
+    where
+      stopped : load xs ≡ refused (numberOf r) (placeOf r)
+      stopped = via _ (P .read) (stops _ (sym (answered .answer) ∙ e))
 
 -- the nodes of each type have their place
 pub types-held : {xs types terms functions : List ℕ} → Placed xs types terms functions → length types ≤ 256
@@ -85,9 +104,13 @@ types-held {xs} P = formed xs (P .read) .few-types
 -- Row Field reading
 
 module _ {xs types terms functions : List ℕ} (v : Fields) (F : FieldsMean v xs types terms functions) where
-  pub fields-refused : (n at : ℕ) → answerOf v types terms functions ≡ refused n at → load xs ≡ refused n at
+  fields-refused : {table : List (List ℕ)} (r : Refusal) → answerOf v types terms functions ≡ refused (numberOf r) (placeOf r) → 2 ≤ numberOf r
+      → LoadMeans (loaded.Refused r) xs types terms functions table
   unfolding load
-  fields-refused n at e = stops _ (F .answer ∙ e)
+  fields-refused r e l = record { answer = stopped; later = later-refused stopped l; ready = tt; buffers = F .buffers }
+    where
+      stopped : load xs ≡ refused (numberOf r) (placeOf r)
+      stopped = stops _ (F .answer ∙ e)
 
   module _ (c : Counts) (e : v ≡ Read c) where
     pub fields-within : Within c
@@ -108,20 +131,33 @@ module _ {xs types terms functions : List ℕ} (v : Fields) (F : FieldsMean v xs
     pub load-read : {table : List (List ℕ)} (r : Loaded) → Examined r c xs (take (c .types) types) (take (c .terms) terms) (take (c .functions) functions) table
         → LoadMeans r xs types terms functions table
     load-read {table} (loaded.Ready d) E = subst (λ d. LoadMeans (loaded.Ready d) xs types terms functions table) (sym (E .ready .0))
-        (record { answer = E .answer; ready = (fields-within, E .ready .1); buffers = F .buffers })
-    load-read (loaded.Malformed at) E = record { answer = E .answer; ready = tt; buffers = F .buffers }
-    load-read (loaded.Over at) E = record { answer = E .answer; ready = tt; buffers = F .buffers }
-    load-read (loaded.BadReference at) E = record { answer = E .answer; ready = tt; buffers = F .buffers }
-    load-read (loaded.BadType at) E = record { answer = E .answer; ready = tt; buffers = F .buffers }
-    load-read (loaded.Differ at) E = record { answer = E .answer; ready = tt; buffers = F .buffers }
-    load-read (loaded.Unscoped at) E = record { answer = E .answer; ready = tt; buffers = F .buffers }
-    load-read (loaded.Misused at) E = record { answer = E .answer; ready = tt; buffers = F .buffers }
+        (record { answer = E .answer; later = E .later; ready = (fields-within, E .ready .1); buffers = F .buffers })
+    load-read (loaded.Refused r) E = record { answer = E .answer; later = E .later; ready = tt; buffers = F .buffers }
 
-  pub load-malformed : {table : List (List ℕ)} (at : ℕ) → v ≡ Malformed at → LoadMeans (loaded.Malformed at) xs types terms functions table
-  load-malformed at e = record { answer = fields-refused 2 at (ap (λ v. answerOf v types terms functions) e); ready = tt; buffers = F .buffers }
+  pub load-malformed : {table : List (List ℕ)} (at : ℕ) → v ≡ Malformed at → LoadMeans (loaded.Refused (Field at)) xs types terms functions table
+  load-malformed at e = fields-refused (Field at) (ap (λ v. answerOf v types terms functions) e) (omega arith)
 
-  pub load-over : {table : List (List ℕ)} (at : ℕ) → v ≡ Over at → LoadMeans (loaded.Over at) xs types terms functions table
-  load-over at e = record { answer = fields-refused 3 at (ap (λ v. answerOf v types terms functions) e); ready = tt; buffers = F .buffers }
+  pub load-over : {table : List (List ℕ)} (at : ℕ) → v ≡ Over at → LoadMeans (loaded.Refused (Limit at)) xs types terms functions table
+  load-over at e = fields-refused (Limit at) (ap (λ v. answerOf v types terms functions) e) (omega arith)
+
+----------------------------------------------------------------
+-- What is loaded, or why not
+
+module _ {r : Loaded} {xs types terms functions : List ℕ} {table : List (List ℕ)} (M : LoadMeans r xs types terms functions table) where
+  module _ {c : Counts} (e : r ≡ loaded.Ready c) where
+    pub loaded-is : load xs ≡ accepted (programOf (entriesAt xs (frontsOf types terms functions c)))
+    loaded-is = M .answer ∙ ap (λ r. loadedOf r λ c. programOf (entriesAt xs (frontsOf types terms functions c))) e
+
+    pub loaded-accepted : Within c × Accepted xs (take (c .types) types) (take (c .terms) terms) (take (c .functions) functions) table
+    loaded-accepted = subst (λ r. WhenReady r λ c. Within c × Accepted xs (take (c .types) types) (take (c .terms) terms) (take (c .functions) functions) table) e
+        (M .ready)
+
+  module _ {why : Refusal} (e : r ≡ loaded.Refused why) where
+    pub refused-is : load xs ≡ refused (numberOf why) (placeOf why)
+    refused-is = M .answer ∙ ap (λ r. loadedOf r λ c. programOf (entriesAt xs (frontsOf types terms functions c))) e
+
+    pub refused-number : 2 ≤ numberOf why
+    refused-number = later-number (subst Later refused-is (M .later))
 
 ----------------------------------------------------------------
 -- What a run may begin with

@@ -1,6 +1,7 @@
 // A program, read and typed: rows Field reading, Entries and Typing of document 01's section 4 (refusals 2 to 8), against
 // calls/specs/Load. The offsets of the entries' fields stand in buffers that the caller lends, so that a run finds them there, and the functions'
 // signatures in a table that it lends, so that admission asks it.
+use answers::Refusal;
 use entries::testing;
 use program::fields;
 use program::fields::Counts;
@@ -21,13 +22,7 @@ ghost use Rattle.loading.specs.Loading.{Examined, LoadMeans};
 // What loading answers: how many entries of each tag are ready, at the fronts of the buffers, or refusal 2 to 8 at a field's offset.
 pub enum Loaded {
     Ready(Counts),
-    Malformed(usize),
-    Over(usize),
-    BadReference(usize),
-    BadType(usize),
-    Differ(usize),
-    Unscoped(usize),
-    Misused(usize),
+    Refused(Refusal),
 }
 
 // Row Typing, for entries that are tested.
@@ -48,9 +43,9 @@ fn infer(
     let v = functions::check_functions(p, types, terms, functions, table, nodes, ws);
     match v {
         functions::Verdict::Typed => Loaded::Ready(counts),
-        functions::Verdict::Differ(at) => Loaded::Differ(at),
-        functions::Verdict::Unscoped(at) => Loaded::Unscoped(at),
-        functions::Verdict::Misused(at) => Loaded::Misused(at),
+        functions::Verdict::Differ(at) => Loaded::Refused(Refusal::Mismatch(at)),
+        functions::Verdict::Unscoped(at) => Loaded::Refused(Refusal::Scope(at)),
+        functions::Verdict::Misused(at) => Loaded::Refused(Refusal::Usage(at)),
     }
 }
 
@@ -73,8 +68,8 @@ fn examine(
     let v = testing::test_entries(p, types, terms, functions, &mut nodes);
     match v {
         testing::Verdict::Sound => infer(p, counts, types, terms, functions, table, &nodes, ws),
-        testing::Verdict::BadReference(at) => Loaded::BadReference(at),
-        testing::Verdict::BadType(at) => Loaded::BadType(at),
+        testing::Verdict::BadReference(at) => Loaded::Refused(Refusal::Reference(at)),
+        testing::Verdict::BadType(at) => Loaded::Refused(Refusal::NamedType(at)),
     }
 }
 
@@ -108,7 +103,7 @@ pub fn load(
                 ws,
             )
         }
-        fields::Fields::Malformed(at) => Loaded::Malformed(at),
-        fields::Fields::Over(at) => Loaded::Over(at),
+        fields::Fields::Malformed(at) => Loaded::Refused(Refusal::Field(at)),
+        fields::Fields::Over(at) => Loaded::Refused(Refusal::Limit(at)),
     }
 }

@@ -12,7 +12,7 @@ use package.Rattle.calls.specs.Answer.{Answer, accepted, refused}
 use package.Rattle.calls.specs.Conversions.{openCall}
 use package.Rattle.calls.specs.Book.{Call, buffer, Told, isOpen, holds, refuses, Left, resized, call}
 use package.Rattle.calls.specs.Claims.{lastField}
-use package.Rattle.rows.specs.Answers.{numberOf, placeOf}
+use package.Rattle.answers.specs.Answers.{numberOf, placeOf}
 use package.Rattle.replay.specs.Scripts.{pick, openTag, stepAt, givenOf, callOf}
 use package.Rattle.replay.specs.Lines.{line}
 use package.Rattle.replay.specs.declared.scripts.Part.{Part}

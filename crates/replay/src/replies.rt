@@ -1,5 +1,5 @@
 // What playing a script answers.
-use rows::answers::Refusal;
+use answers::Refusal;
 
 // How many calls were played; or why the playing stopped, with the place in the script.
 pub enum ReplayAnswer {

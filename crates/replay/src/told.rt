@@ -1,8 +1,8 @@
 // The line of seven bytes that answers a call (specs/Lines).
-use rows::answers::CheckAnswer;
-use rows::answers::RunAnswer;
+use answers::CheckAnswer;
+use answers::RunAnswer;
 ghost use mathlib.Core.Path.{_≡_};
-ghost use Rattle.rows.specs.Answers.{checkAnswer, runAnswer};
+ghost use Rattle.answers.specs.Answers.{checkAnswer, runAnswer};
 ghost use Rattle.replay.specs.Lines.{lineOf, checkLine, runLine};
 
 const OPENED: u8 = 0x41;

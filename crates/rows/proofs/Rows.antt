@@ -7,12 +7,16 @@ use mathlib.Core.List.{List}
 use lib.ListN.{length}
 use package.Rattle.rules.specs.Limits.{maxVariables, maxNodes}
 use package.Rattle.rules.specs.Typing.{WellTyped}
-use package.Rattle.rules.proofs.Basics.{given}
 use package.Rattle.calls.specs.Answer.{Answer, refused, _>>=_}
 use package.Rattle.calls.specs.Values.{value, ancillae}
 use package.Rattle.calls.specs.Runs.{workspaceFor, admit, Ran, written}
 use package.Rattle.calls.proofs.Answer.{via}
 use package.Rattle.calls.proofs.Load.{load-iff}
+use package.Rattle.answers.specs.declared.Refusal.{Refusal}
+use package.Rattle.answers.specs.declared.RunAnswer.{RunAnswer}
+use package.Rattle.answers.specs.declared.RunAnswer.the-variants as runs
+use package.Rattle.answers.specs.Answers.{numberOf, placeOf, summary, Later, refuses}
+use package.Rattle.answers.proofs.Answers.{later-number}
 use package.Rattle.program.specs.declared.fields.Counts.{Counts}
 use package.Rattle.program.specs.Programs.{programIn}
 use package.Rattle.admission.specs.declared.Admitted.{Admitted}
@@ -20,45 +24,19 @@ use package.Rattle.admission.specs.declared.Admitted.the-variants as admitted
 use package.Rattle.admission.specs.Given.{givenIn}
 use package.Rattle.admission.specs.Admitting.{sideOf, Admittable, answerOf, AdmitMeans}
 use package.Rattle.admission.proofs.Tested.{admittable}
-use package.Rattle.running.specs.declared.ended.Ended.{Ended}
-use package.Rattle.running.specs.declared.ended.Ended.the-variants as ended
-use package.Rattle.running.specs.Ended.{finished, endOf, summary}
+use package.Rattle.running.specs.Ended.{finished}
 use package.Rattle.running.specs.Ahead.{Admitted as Allowed, Runnable, Goes}
 use package.Rattle.running.specs.Back.{Returnable, Returns}
-use package.Rattle.loading.specs.Loading.{Accepted}
-use package.Rattle.rows.specs.declared.answers.Refusal.{Refusal}
-use package.Rattle.rows.specs.declared.answers.Refusal.the-variants.{Function, Values, ValueType}
-use package.Rattle.rows.specs.declared.answers.RunAnswer.{RunAnswer}
-use package.Rattle.rows.specs.declared.answers.RunAnswer.the-variants as runs
-use package.Rattle.rows.specs.declared.preparing.Prepared.{Prepared}
-use package.Rattle.rows.specs.declared.preparing.Prepared.the-variants.{Ready, Refused}
-use package.Rattle.rows.specs.Answers.{numberOf, placeOf, runAnswer}
-use package.Rattle.rows.specs.Calls.{Later, accepts, refuses, preparedOf, Begins, PrepareMeans}
-use package.Rattle.rows.specs.Runs.{endedFrom, runOf, called, calledOf, frontsRun, Fronts, ofProgram, EndMeans, RunMeans}
+use package.Rattle.loading.specs.declared.Loaded.{Loaded}
+use package.Rattle.loading.specs.declared.Loaded.the-variants.{Ready, Refused}
+use package.Rattle.loading.specs.Loading.{Accepted, LoadMeans}
+use package.Rattle.loading.proofs.Loading.{loaded-is, loaded-accepted, refused-is, refused-number}
+use package.Rattle.rows.specs.Runs.{runOf, called, calledOf, frontsRun, Fronts, ofProgram, EndMeans, RunMeans}
 
 -- a refusal of the definitions is one of the answer, and the output is unchanged
-refused-as : {x : Answer Ran} {n p : ℕ} (r : Refusal) (out : List ℕ) → x ≡ refused n p → numberOf r ≡ n → placeOf r ≡ p → 2 ≤ n
-    → RunMeans (runs.Refused r) x out out
+refused-as : {x : Answer Ran} (r : Refusal) (out : List ℕ) → x ≡ refused (numberOf r) (placeOf r) → 2 ≤ numberOf r → RunMeans (runs.Refused r) x out out
 unfolding written
-refused-as {x} {n} {p} r out e q s l = rw (e, ← q, ← s) (record { answer = refl; later = refuses {n = numberOf r} (rw q l); output = refl })
-
-end-is : (e : Ended) → runAnswer (endedFrom e) ≡ endOf e
-end-is (ended.Done s) = refl
-end-is (ended.Fuel k) = refl
-end-is (ended.Height k) = refl
-end-is (ended.Long k) = refl
-end-is (ended.FirstMatch k) = refl
-end-is (ended.NoInput k) = refl
-end-is ended.Short = refl
-
-end-later : (e : Ended) → Later (runAnswer (endedFrom e))
-end-later (ended.Done s) = accepts
-end-later (ended.Fuel k) = refuses {n = 12} (omega arith)
-end-later (ended.Height k) = refuses {n = 13} (omega arith)
-end-later (ended.Long k) = refuses {n = 14} (omega arith)
-end-later (ended.FirstMatch k) = refuses {n = 15} (omega arith)
-end-later (ended.NoInput k) = refuses {n = 16} (omega arith)
-end-later ended.Short = refuses {n = 17} (omega arith)
+refused-as r out e l = rw e (record { answer = refl; later = refuses {n = numberOf r} l; output = refl })
 
 ----------------------------------------------------------------
 -- Rows Call, Run and Output, of a program that is accepted
@@ -80,21 +58,11 @@ module _ {xs types terms functions : List ℕ} {table : List (List ℕ)} (A : Ac
     allowed e l = record { types = types; loaded = record { read = A .read; tested = A .tested; typed = typed }; given = gave e; enough = l }
 
     module _ (fuel : ℕ) (out : List ℕ) where
-      not-called : {n : ℕ} (r : Refusal) → admit (programIn xs types terms functions) g (ancillae anc) (value bytes) (sideOf back) ≡ refused n 0
-          → numberOf r ≡ n → placeOf r ≡ 0 → 2 ≤ n
-          → RunMeans (runs.Refused r) (calledOf back xs types terms functions g anc bytes fuel (length out)) out out
+      pub not-called : {r : Refusal} → v ≡ admitted.Refused r → RunMeans (runs.Refused r) (calledOf back xs types terms functions g anc bytes fuel (length out)) out out
       unfolding called _>>=_
-      not-called r e q s l = refused-as r out (ap (λ a. a >>= λ a. finished (length out) (runOf back (programIn xs types terms functions) fuel a)) e) q s l
-
-      pub no-function : v ≡ admitted.NoFunction → RunMeans (runs.Refused Function) (calledOf back xs types terms functions g anc bytes fuel (length out)) out
-          out
-      no-function e = not-called Function (gave e) refl refl (omega arith)
-
-      pub bad-values : v ≡ admitted.BadValues → RunMeans (runs.Refused Values) (calledOf back xs types terms functions g anc bytes fuel (length out)) out out
-      bad-values e = not-called Values (gave e) refl refl (omega arith)
-
-      pub wrong-type : v ≡ admitted.WrongType → RunMeans (runs.Refused ValueType) (calledOf back xs types terms functions g anc bytes fuel (length out)) out out
-      wrong-type e = not-called ValueType (gave e) refl refl (omega arith)
+      not-called {r} e =
+          refused-as r out (ap (λ a. a >>= λ a. finished (length out) (runOf back (programIn xs types terms functions) fuel a)) (gave e))
+          (later-number (subst (λ v. Later (answerOf v (givenIn xs types terms functions g anc bytes))) e (M .later terms)))
 
       reached : v ≡ admitted.Given
           → calledOf back xs types terms functions g anc bytes fuel (length out) ≡ finished (length out)
@@ -103,12 +71,11 @@ module _ {xs types terms functions : List ℕ} {table : List (List ℕ)} (A : Ac
       reached y = via _ (gave y) refl
 
       -- what the run gave is the answer
-      pub ran-as : v ≡ admitted.Given → {e : Ended} {r : RunAnswer} {out′ : List ℕ} → EndMeans back e xs terms functions g anc bytes fuel out out′
-          → r ≡ endedFrom e
+      pub ran-as : v ≡ admitted.Given → {r : RunAnswer} {out′ : List ℕ} → EndMeans back r xs terms functions g anc bytes fuel out out′
           → RunMeans r (calledOf back xs types terms functions g anc bytes fuel (length out)) out out′
-      ran-as y {e} {r} {out′} G q = record {
-        answer = ap runAnswer q ∙ end-is e ∙ G .means types .answer ∙ ap summary (sym (reached y));
-        later = subst (λ r. Later (runAnswer r)) (sym q) (end-later e);
+      ran-as y G = record {
+        answer = G .means types .answer ∙ ap summary (sym (reached y));
+        later = G .means types .later;
         output = G .means types .output ∙ ap (λ x. written x out) (sym (reached y));
       }
 
@@ -126,24 +93,22 @@ module _ {c : Counts} {xs types terms functions : List ℕ} {table : List (List 
 ----------------------------------------------------------------
 -- After the rows of the program
 
-module _ {xs types terms functions : List ℕ} {table : List (List ℕ)} {v : Prepared} (M : PrepareMeans v xs types terms functions table) where
+module _ {xs types terms functions : List ℕ} {table : List (List ℕ)} {v : Loaded} (M : LoadMeans v xs types terms functions table) where
   pub fronts : {c : Counts} → v ≡ Ready c → Fronts c xs types terms functions table
-  fronts e = given (subst (λ v. Begins v xs types terms functions table) e (M .begins)) λ (w, a). record { within = w; buffers = M .buffers; accepts = a }
+  fronts e = record { within = loaded-accepted M e .0; buffers = M .buffers; accepts = loaded-accepted M e .1 }
 
   module _ (back : Bool) (g : ℕ) (anc bytes : List ℕ) (fuel : ℕ) {out out′ : List ℕ} where
-    pub prepared-run : {c : Counts} → v ≡ Ready c → {r : RunAnswer}
+    pub loaded-run : {c : Counts} → v ≡ Ready c → {r : RunAnswer}
         → RunMeans r (frontsRun c back xs types terms functions g anc bytes fuel (length out)) out out′
         → RunMeans r (ofProgram back xs g anc bytes fuel (length out)) out out′
     unfolding _>>=_
-    prepared-run e {r} R = subst (λ x. RunMeans r x out out′) (sym (via _ (M .answer ∙ ap (λ v. preparedOf v xs types terms functions) e) refl)) R
+    loaded-run e {r} R = subst (λ x. RunMeans r x out out′) (sym (via _ (loaded-is M e) refl)) R
 
-  pub prepared-refused : (back : Bool) (g : ℕ) (anc bytes : List ℕ) (fuel : ℕ) (out : List ℕ) {r : Refusal} → v ≡ Refused r
+  pub loaded-refused : (back : Bool) (g : ℕ) (anc bytes : List ℕ) (fuel : ℕ) (out : List ℕ) {r : Refusal} → v ≡ Refused r
       → RunMeans (runs.Refused r) (ofProgram back xs g anc bytes fuel (length out)) out out
   unfolding _>>=_
-  prepared-refused back g anc bytes fuel out {r} e =
-      refused-as r out (ap (λ a. a >>= λ P. called back P g anc bytes fuel (length out)) (M .answer ∙ ap (λ v. preparedOf v xs types terms functions) e))
-      refl refl
-      (subst (λ v. Begins v xs types terms functions table) e (M .begins))
+  loaded-refused back g anc bytes fuel out {r} e =
+      refused-as r out (ap (λ a. a >>= λ P. called back P g anc bytes fuel (length out)) (refused-is M e)) (refused-number M e)
 
 ----------------------------------------------------------------
 -- The run in a direction
@@ -157,7 +122,7 @@ module _ {back : Bool} {xs terms functions : List ℕ} {g : ℕ} {anc bytes : Li
       → Runnable xs terms functions heap g anc bytes fuel
   allowed-ahead {heap} A e = subst (λ b. Allowed (sideOf b) xs terms functions heap g anc bytes fuel) e A
 
-  module _ {r : Ended} {out out′ : List ℕ} where
+  module _ {r : RunAnswer} {out out′ : List ℕ} where
     pub ends-back : back ≡ true → Returns r xs terms functions g anc bytes fuel out out′ → EndMeans back r xs terms functions g anc bytes fuel out out′
     unfolding runOf
     ends-back e R = rw e (record { means = R .means })

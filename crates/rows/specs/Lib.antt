@@ -1,6 +1,4 @@
 -- The rows of section 4 for a program in bytes. The modules in reading order:
--- the number and place of a refusal, and answers in the definitions' terms
-pub mod Answers
 -- what the rows of the program answer
 pub mod Calls
 -- what the rows of a run answer

@@ -15,24 +15,9 @@ use package.Rattle.program.specs.Programs.{programIn}
 use package.Rattle.admission.specs.Given.{givenIn}
 use package.Rattle.admission.specs.Admitting.{sideOf}
 use package.Rattle.loading.specs.Loading.{Accepted}
-use package.Rattle.running.specs.declared.ended.Ended.{Ended}
-use package.Rattle.running.specs.declared.ended.Ended.the-variants as ended
-use package.Rattle.running.specs.Ended.{finished, Means, summary}
-use package.Rattle.rows.specs.declared.answers.Refusal.the-variants.{Fuel, Height, Long, FirstMatch, NoInput, Output}
-use package.Rattle.rows.specs.declared.answers.RunAnswer.{RunAnswer}
-use package.Rattle.rows.specs.declared.answers.RunAnswer.the-variants as runs
-use package.Rattle.rows.specs.Answers.{runAnswer}
-use package.Rattle.rows.specs.Calls.{Later}
-
--- the kind of each refusal
-abbrev pub endedFrom : Ended → RunAnswer
-endedFrom (ended.Done s) = runs.Ran (record { len = s .len; steps = s .steps })
-endedFrom (ended.Fuel k) = runs.Refused (Fuel k)
-endedFrom (ended.Height k) = runs.Refused (Height k)
-endedFrom (ended.Long k) = runs.Refused (Long k)
-endedFrom (ended.FirstMatch k) = runs.Refused (FirstMatch k)
-endedFrom (ended.NoInput k) = runs.Refused (NoInput k)
-endedFrom ended.Short = runs.Refused Output
+use package.Rattle.running.specs.Ended.{finished, Means}
+use package.Rattle.answers.specs.declared.RunAnswer.{RunAnswer}
+use package.Rattle.answers.specs.Answers.{runAnswer, summary, Later}
 
 -- the run of what is given, back or forward
 unfoldable pub runOf : Bool → Program → ℕ → Given → Answer Ran
@@ -64,7 +49,7 @@ abbrev pub ofProgram : Bool → List ℕ → ℕ → List ℕ → List ℕ → �
 ofProgram back xs g anc bytes fuel out = load xs >>= λ P. called back P g anc bytes fuel out
 
 -- how the run of a function that was admitted ends, whatever the types are
-pub record EndMeans (back : Bool) (r : Ended) (xs terms functions : List ℕ) (g : ℕ) (anc bytes : List ℕ) (fuel : ℕ) (out out′ : List ℕ) : Type 0 where
+pub record EndMeans (back : Bool) (r : RunAnswer) (xs terms functions : List ℕ) (g : ℕ) (anc bytes : List ℕ) (fuel : ℕ) (out out′ : List ℕ) : Type 0 where
   pub means : (types : List ℕ) → Means r out out′ (runOf back (programIn xs types terms functions) fuel (givenIn xs types terms functions g anc bytes))
 
 -- An answer whose meaning is `x`, in a workspace that is long enough, and the output before and after it.

@@ -1,7 +1,6 @@
 // Rows Field reading, Entries and Typing of document 01's section 4, as the call check answers them.
-use crate::answers::CheckAnswer;
-use crate::preparing;
-use crate::preparing::Prepared;
+use answers::CheckAnswer;
+use loading::Loaded;
 use rules::MAX_FUNCTIONS;
 use rules::MAX_PARAMETERS;
 use rules::MAX_TERMS;
@@ -21,7 +20,7 @@ pub fn check_program(program: &[u8], workspace: &mut [u8]) -> CheckAnswer
     let mut terms = [0u16; MAX_TERMS];
     let mut functions = [0u16; MAX_FUNCTIONS];
     let mut table = [[0u16; MAX_PARAMETERS]; MAX_FUNCTIONS];
-    let prepared = preparing::prepare(
+    let loaded = loading::load(
         program,
         &mut types,
         &mut terms,
@@ -29,8 +28,8 @@ pub fn check_program(program: &[u8], workspace: &mut [u8]) -> CheckAnswer
         &mut table,
         workspace,
     );
-    match prepared {
-        Prepared::Ready(_) => CheckAnswer::Accepted,
-        Prepared::Refused(refusal) => CheckAnswer::Refused(refusal),
+    match loaded {
+        Loaded::Ready(_) => CheckAnswer::Accepted,
+        Loaded::Refused(refusal) => CheckAnswer::Refused(refusal),
     }
 }

@@ -1,43 +1,20 @@
 // Rows Call, Run and Output of document 01's section 4, for the calls that run a function. Forward and backward differ in the type that
 // the value is held to, and in the run: all else they share, with `back` the direction.
-use crate::answers::Done;
-use crate::answers::Refusal;
-use crate::answers::RunAnswer;
-use crate::preparing;
-use crate::preparing::Prepared;
 use admission::Admitted;
+use answers::RunAnswer;
+use loading::Loaded;
 use program::fields::Counts;
 use rules::MAX_FUNCTIONS;
 use rules::MAX_PARAMETERS;
 use rules::MAX_TERMS;
 use rules::MAX_TYPES;
-use running::ended::Ended;
-ghost use mathlib.Core.Path.{_≡_};
 ghost use Prim.Native.Nat.{_≤_};
 ghost use lib.ListN.{length};
 ghost use Rattle.calls.specs.Runs.{workspaceFor};
 ghost use Rattle.admission.specs.Admitting.{sideOf};
 ghost use Rattle.running.specs.Ahead.{Admitted as Allowed};
 ghost use Rattle.loading.specs.Loading.{Accepted};
-ghost use Rattle.rows.specs.Runs.{endedFrom, EndMeans, RunMeans, ofProgram, calledOf, Fronts, frontsRun};
-
-// The kind of each refusal.
-fn from_ended(ended: Ended) -> RunAnswer
-    ensures { λ r. ⌜ r ≡ endedFrom ended ⌝ }
-{
-    match ended {
-        Ended::Done(s) => RunAnswer::Ran(Done {
-            len: s.len,
-            steps: s.steps,
-        }),
-        Ended::Fuel(k) => RunAnswer::Refused(Refusal::Fuel(k)),
-        Ended::Height(k) => RunAnswer::Refused(Refusal::Height(k)),
-        Ended::Long(k) => RunAnswer::Refused(Refusal::Long(k)),
-        Ended::FirstMatch(k) => RunAnswer::Refused(Refusal::FirstMatch(k)),
-        Ended::NoInput(k) => RunAnswer::Refused(Refusal::NoInput(k)),
-        Ended::Short => RunAnswer::Refused(Refusal::Output),
-    }
-}
+ghost use Rattle.rows.specs.Runs.{EndMeans, RunMeans, ofProgram, calledOf, Fronts, frontsRun};
 
 // The run of a function that was admitted.
 fn run_function(
@@ -51,7 +28,7 @@ fn run_function(
     fuel: u16,
     workspace: &mut [u8],
     output: &mut [u8],
-) -> Ended
+) -> RunAnswer
     requires { ⌜ Allowed (sideOf back) (now program) (now terms) (now functions) (now workspace) function (now ancillae) (now value) fuel ⌝ }
     ensures { λ r. ⌜ EndMeans back r (now (program .entry)) (now (terms .entry)) (now (functions .entry)) function (now (ancillae .entry)) (now (value .entry)) fuel (now (output .entry)) (now (output .exit)) ⌝ }
 {
@@ -113,24 +90,19 @@ pub fn run(
         by_result,
     );
     match admitted {
-        Admitted::Given => {
-            let ended = run_function(
-                program,
-                terms,
-                functions,
-                function,
-                ancillae,
-                value,
-                back,
-                fuel,
-                workspace,
-                output,
-            );
-            from_ended(ended)
-        }
-        Admitted::NoFunction => RunAnswer::Refused(Refusal::Function),
-        Admitted::BadValues => RunAnswer::Refused(Refusal::Values),
-        Admitted::WrongType => RunAnswer::Refused(Refusal::ValueType),
+        Admitted::Given => run_function(
+            program,
+            terms,
+            functions,
+            function,
+            ancillae,
+            value,
+            back,
+            fuel,
+            workspace,
+            output,
+        ),
+        Admitted::Refused(refusal) => RunAnswer::Refused(refusal),
     }
 }
 
@@ -191,7 +163,7 @@ pub fn run_program(
     let mut terms = [0u16; MAX_TERMS];
     let mut functions = [0u16; MAX_FUNCTIONS];
     let mut table = [[0u16; MAX_PARAMETERS]; MAX_FUNCTIONS];
-    let prepared = preparing::prepare(
+    let loaded = loading::load(
         program,
         &mut types,
         &mut terms,
@@ -199,8 +171,8 @@ pub fn run_program(
         &mut table,
         workspace,
     );
-    match prepared {
-        Prepared::Ready(counts) => run_fronts(
+    match loaded {
+        Loaded::Ready(counts) => run_fronts(
             program,
             counts,
             &types,
@@ -215,6 +187,6 @@ pub fn run_program(
             workspace,
             output,
         ),
-        Prepared::Refused(refusal) => RunAnswer::Refused(refusal),
+        Loaded::Refused(refusal) => RunAnswer::Refused(refusal),
     }
 }

@@ -11,13 +11,16 @@ use package.Rattle.rules.specs.Run.{ok}
 use package.Rattle.rules.proofs.Val.{length-encode}
 use package.Rattle.calls.specs.Answer.{accepted, refused, _>>=_, require}
 use package.Rattle.calls.specs.Runs.{Ran, ran, written}
+use package.Rattle.answers.specs.declared.Refusal.the-variants.{Fuel, Height, Long, FirstMatch, NoInput, Output}
+use package.Rattle.answers.specs.declared.RunAnswer.the-variants as runs
+use package.Rattle.answers.specs.Answers.{summary, accepts}
+use package.Rattle.answers.proofs.Answers.{refused-later}
 use package.Rattle.values.specs.Nodes.{nodeBytes, lengthAt, valueAt}
 use package.Rattle.values.specs.Stores.{StoreReady, StoreDone}
 use package.Rattle.backward.specs.declared.outcomes.Refusal.{Refusal}
 use package.Rattle.backward.specs.declared.outcomes.Refusal.the-variants as why
 use package.Rattle.backward.specs.Outcomes.{refusalOf}
-use package.Rattle.running.specs.declared.ended.Ended.the-variants.{Done, Fuel, Height, Long, FirstMatch, NoInput, Short}
-use package.Rattle.running.specs.Ended.{finished, summary, Means, Gives}
+use package.Rattle.running.specs.Ended.{finished, Means, Gives}
 
 ----------------------------------------------------------------
 -- A value
@@ -43,9 +46,9 @@ module _ {heap : List ℕ} {node fuel left : ℕ} (G : Gives heap node fuel left
       abbrev answer : Ran
       answer = record { value = valueAt heap node; steps = fuel - left }
 
-      pub give-short : {i : ℕ} → i ≡ len → length out < i → Means Short out out (ran fuel (ok (valueAt heap node) left))
+      pub give-short : {i : ℕ} → i ≡ len → length out < i → Means (runs.Refused Output) out out (ran fuel (ok (valueAt heap node) left))
       unfolding ran written
-      give-short q h = record { answer = ap summary (sym short); output = ap (λ x. written x out) (sym short) }
+      give-short q h = record { answer = ap summary (sym short); later = refused-later Output (omega arith); output = ap (λ x. written x out) (sym short) }
         where
           short : finished (length out) (accepted answer) ≡ refused 17 0
           short = too-short out answer (omega (arith, sized))
@@ -60,10 +63,11 @@ module _ {heap : List ℕ} {node fuel left : ℕ} (G : Gives heap node fuel left
             (let z : 0 + length (encode (valueAt heap node)) ≡ size (valueAt heap node) = omega (arith, length-encode (valueAt heap node)) in z)
 
         pub give-done : {out′ : List ℕ} {next steps : ℕ} → StoreDone heap node out out′ 0 next → steps ≡ fuel - left
-            → Means (Done (record { len = len; steps = steps })) out out′ (ran fuel (ok (valueAt heap node) left))
+            → Means (runs.Ran (record { len = len; steps = steps })) out out′ (ran fuel (ok (valueAt heap node) left))
         unfolding ran written
         give-done d s = record {
           answer = ap₂ (λ l n. accepted (l, n)) sized s ∙ ap summary (sym enough);
+          later = accepts;
           output = d .bytes ∙ filled ∙ ap (λ x. written x out) (sym enough);
         }
           where
@@ -74,22 +78,22 @@ module _ {heap : List ℕ} {node fuel left : ℕ} (G : Gives heap node fuel left
 -- A refusal
 
 module _ (out : List ℕ) (fuel : ℕ) {w : Refusal} {t : ℕ} where
-  pub refused-fuel : w ≡ why.Fuel t → Means (Fuel t) out out (ran fuel (refusalOf w))
+  pub refused-fuel : w ≡ why.Fuel t → Means (runs.Refused (Fuel t)) out out (ran fuel (refusalOf w))
   unfolding ran refusalOf finished _>>=_ written
-  refused-fuel e = rw e (record { answer = refl; output = refl })
+  refused-fuel e = rw e (record { answer = refl; later = refused-later (Fuel t) (omega arith); output = refl })
 
-  pub refused-height : w ≡ why.Height t → Means (Height t) out out (ran fuel (refusalOf w))
+  pub refused-height : w ≡ why.Height t → Means (runs.Refused (Height t)) out out (ran fuel (refusalOf w))
   unfolding ran refusalOf finished _>>=_ written
-  refused-height e = rw e (record { answer = refl; output = refl })
+  refused-height e = rw e (record { answer = refl; later = refused-later (Height t) (omega arith); output = refl })
 
-  pub refused-long : w ≡ why.Long t → Means (Long t) out out (ran fuel (refusalOf w))
+  pub refused-long : w ≡ why.Long t → Means (runs.Refused (Long t)) out out (ran fuel (refusalOf w))
   unfolding ran refusalOf finished _>>=_ written
-  refused-long e = rw e (record { answer = refl; output = refl })
+  refused-long e = rw e (record { answer = refl; later = refused-later (Long t) (omega arith); output = refl })
 
-  pub refused-match : w ≡ why.FirstMatch t → Means (FirstMatch t) out out (ran fuel (refusalOf w))
+  pub refused-match : w ≡ why.FirstMatch t → Means (runs.Refused (FirstMatch t)) out out (ran fuel (refusalOf w))
   unfolding ran refusalOf finished _>>=_ written
-  refused-match e = rw e (record { answer = refl; output = refl })
+  refused-match e = rw e (record { answer = refl; later = refused-later (FirstMatch t) (omega arith); output = refl })
 
-  pub refused-input : w ≡ why.NoInput t → Means (NoInput t) out out (ran fuel (refusalOf w))
+  pub refused-input : w ≡ why.NoInput t → Means (runs.Refused (NoInput t)) out out (ran fuel (refusalOf w))
   unfolding ran refusalOf finished _>>=_ written
-  refused-input e = rw e (record { answer = refl; output = refl })
+  refused-input e = rw e (record { answer = refl; later = refused-later (NoInput t) (omega arith); output = refl })

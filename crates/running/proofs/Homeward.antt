@@ -13,6 +13,7 @@ use package.Rattle.calls.specs.Entries.{typeAt}
 use package.Rattle.calls.specs.Values.{value, ancillae}
 use package.Rattle.calls.specs.Runs.{ran, returns}
 use package.Rattle.calls.proofs.Runs.Calls.{back}
+use package.Rattle.answers.specs.declared.RunAnswer.{RunAnswer}
 use package.Rattle.program.specs.Programs.{programIn, functionIn}
 use package.Rattle.decoded.specs.Decoding.{Decodes}
 use package.Rattle.values.specs.Nodes.{valueAt}
@@ -31,7 +32,6 @@ use package.Rattle.backward.proofs.Accepted.{accepted-bodies}
 use package.Rattle.reading.specs.Ends.{valueIn, valuesIn}
 use package.Rattle.admission.specs.Given.{givenIn}
 use package.Rattle.running.specs.declared.begin.Start.{Start}
-use package.Rattle.running.specs.declared.ended.Ended.{Ended}
 use package.Rattle.running.specs.Begun.{Begun, BegunIn}
 use package.Rattle.running.specs.Ended.{Shaped, Means, Gives}
 use package.Rattle.running.specs.Back.{Returnable, inputOf, Undone, Returns}
@@ -164,7 +164,7 @@ module _ {xs terms functions heap′ : List ℕ} {g : ℕ} {anc bytes : List ℕ
   pub shaped : {w : Refusal} → s ≡ Refused w → Shaped w
   shaped {w} e = shaped-of w λ z. U .shaped (refused e ∙ z)
 
-  module _ {a : Ended} {out out′ : List ℕ} where
+  module _ {a : RunAnswer} {out out′ : List ℕ} where
     returns-as : {x : Res Val} → inputOf heap′ s node st ≡ x → Means a out out′ (ran fuel x) → Returns a xs terms functions g anc bytes fuel out out′
     unfolding returns
     returns-as e m = record { means = λ types. subst (λ x. Means a out out′ (ran fuel x)) (sym e ∙ U .answer types) m }

@@ -9,6 +9,7 @@ use package.Rattle.rules.specs.Machine.{runForward}
 use package.Rattle.calls.specs.Entries.{typeAt}
 use package.Rattle.calls.specs.Values.{value, ancillae}
 use package.Rattle.calls.proofs.Runs.Calls.{onward}
+use package.Rattle.answers.specs.declared.RunAnswer.{RunAnswer}
 use package.Rattle.program.specs.Programs.{programIn, functionIn}
 use package.Rattle.decoded.specs.Rows.{bodyIn}
 use package.Rattle.decoded.specs.Decoding.{Decodes}
@@ -34,7 +35,6 @@ use package.Rattle.forward.proofs.Runs.{meaning-value, meaning-refused}
 use package.Rattle.backward.specs.declared.outcomes.Refusal.{Refusal as Carried}
 use package.Rattle.backward.specs.Outcomes.{refusalOf, carried}
 use package.Rattle.backward.proofs.Runs.{carried-means}
-use package.Rattle.running.specs.declared.ended.Ended.{Ended}
 use package.Rattle.running.specs.Ended.{Shaped, Means, Gives}
 use package.Rattle.running.proofs.Starts.{admits, rows, in-rows, few-arguments, nodes-room, nodes-small, nodes-answer, same-program, same-function, shaped-of}
 
@@ -134,7 +134,7 @@ module _ {xs terms functions heap heap′ : List ℕ} {g : ℕ} {anc bytes : Lis
   pub shaped : {w : Refusal} {why : Carried} → r .status ≡ Refused w → why ≡ carried w → Shaped why
   shaped {why = why} e c = shaped-of why λ s. E .shaped (means-refused e c ∙ s)
 
-  module _ {a : Ended} {out out′ : List ℕ} where
+  module _ {a : RunAnswer} {out out′ : List ℕ} where
     goes-as : {x : Res Val} → meaning heap′ r ≡ x → Means a out out′ (ran fuel x) → Goes a xs terms functions g anc bytes fuel out out′
     unfolding goes
     goes-as e m = record { means = λ types. subst (λ x. Means a out out′ (ran fuel x)) (sym e ∙ E .answer types) m }

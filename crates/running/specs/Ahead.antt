@@ -15,13 +15,13 @@ use package.Rattle.calls.specs.Entries.{entriesAt}
 use package.Rattle.calls.specs.Named.{testEntries}
 use package.Rattle.calls.specs.Values.{value, ancillae}
 use package.Rattle.calls.specs.Runs.{workspaceFor, admit, goes}
+use package.Rattle.answers.specs.declared.RunAnswer.{RunAnswer}
 use package.Rattle.program.specs.Places.{placesOf, Placed}
 use package.Rattle.program.specs.Programs.{programIn, functionIn}
 use package.Rattle.forward.specs.declared.outcomes.Status.the-variants.{Value}
 use package.Rattle.forward.specs.Outcomes.{Out, meaning}
 use package.Rattle.forward.specs.Ready.{Graph}
 use package.Rattle.admission.specs.Given.{givenIn}
-use package.Rattle.running.specs.declared.ended.Ended.{Ended}
 use package.Rattle.running.specs.Ended.{Means}
 use package.Rattle.reading.specs.Ends.{valueIn, valuesIn}
 
@@ -57,5 +57,5 @@ pub record Evaluated (xs terms functions heap heap′ : List ℕ) (g : ℕ) (anc
   pub shaped : meaning heap′ r ≡ stuck → ⊥
 
 -- The run as the definition has it (calls/specs/Runs, `goes`), with row Output.
-pub record Goes (r : Ended) (xs terms functions : List ℕ) (g : ℕ) (anc bytes : List ℕ) (fuel : ℕ) (out out′ : List ℕ) : Type 0 where
+pub record Goes (r : RunAnswer) (xs terms functions : List ℕ) (g : ℕ) (anc bytes : List ℕ) (fuel : ℕ) (out out′ : List ℕ) : Type 0 where
   pub means : (types : List ℕ) → Means r out out′ (goes (programIn xs types terms functions) fuel (givenIn xs types terms functions g anc bytes))

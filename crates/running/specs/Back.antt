@@ -8,12 +8,12 @@ use package.Rattle.rules.specs.Val.{Val}
 use package.Rattle.rules.specs.Run.{Res, stuck}
 use package.Rattle.rules.specs.Machine.{runBackward}
 use package.Rattle.calls.specs.Runs.{returns}
+use package.Rattle.answers.specs.declared.RunAnswer.{RunAnswer}
 use package.Rattle.scopes.specs.Slots.{Machine}
 use package.Rattle.forward.specs.Ready.{Graph}
 use package.Rattle.backward.specs.Outcomes.{Status, Done}
 use package.Rattle.backward.specs.Calls.{returned}
 use package.Rattle.admission.specs.Given.{givenIn}
-use package.Rattle.running.specs.declared.ended.Ended.{Ended}
 use package.Rattle.running.specs.Ended.{Means}
 use package.Rattle.running.specs.Ahead.{Admitted}
 use package.Rattle.program.specs.Programs.{programIn, functionIn}
@@ -37,5 +37,5 @@ pub record Undone (xs terms functions heap′ : List ℕ) (g : ℕ) (anc bytes :
   pub shaped : inputOf heap′ s node st ≡ stuck → ⊥
 
 -- The run as the definition has it (calls/specs/Runs, `returns`), with row Output.
-pub record Returns (r : Ended) (xs terms functions : List ℕ) (g : ℕ) (anc bytes : List ℕ) (fuel : ℕ) (out out′ : List ℕ) : Type 0 where
+pub record Returns (r : RunAnswer) (xs terms functions : List ℕ) (g : ℕ) (anc bytes : List ℕ) (fuel : ℕ) (out out′ : List ℕ) : Type 0 where
   pub means : (types : List ℕ) → Means r out out′ (returns (programIn xs types terms functions) fuel (givenIn xs types terms functions g anc bytes))

@@ -1,7 +1,7 @@
 // The run of a function forward (refusals 12 to 15, then 17).
 use crate::begin;
 use crate::ended;
-use crate::ended::Ended;
+use answers::RunAnswer;
 use decoded::decode;
 use decoded::rows;
 use decoded::rows::CODE;
@@ -50,7 +50,7 @@ pub fn run(
     value: &[u8],
     fuel: u16,
     out: &mut [u8],
-) -> Ended
+) -> RunAnswer
     requires { ⌜ Runnable (now p) (now terms) (now functions) (now ws) function (now ancillae) (now value) fuel ⌝ }
     ensures { λ r. ⌜ Goes r (now (p .entry)) (now (terms .entry)) (now (functions .entry)) function (now (ancillae .entry)) (now (value .entry)) fuel (now (out .entry)) (now (out .exit)) ⌝ }
 {

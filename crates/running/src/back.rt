@@ -1,7 +1,7 @@
 // The run of a function backward (refusals 12 to 16, then 17).
 use crate::begin;
 use crate::ended;
-use crate::ended::Ended;
+use answers::RunAnswer;
 use backward::start::Input;
 use decoded::decode;
 use decoded::rows::CODE;
@@ -50,7 +50,7 @@ pub fn run(
     value: &[u8],
     fuel: u16,
     out: &mut [u8],
-) -> Ended
+) -> RunAnswer
     requires { ⌜ Returnable (now p) (now terms) (now functions) (now ws) function (now ancillae) (now value) fuel ⌝ }
     ensures { λ r. ⌜ Returns r (now (p .entry)) (now (terms .entry)) (now (functions .entry)) function (now (ancillae .entry)) (now (value .entry)) fuel (now (out .entry)) (now (out .exit)) ⌝ }
 {

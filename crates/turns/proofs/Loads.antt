@@ -9,15 +9,18 @@ use package.Rattle.calls.specs.Conversions.{Turned}
 use package.Rattle.calls.specs.Book.{afterOpen}
 use package.Rattle.calls.proofs.Answer.{via, refused≢accepted}
 use package.Rattle.program.specs.declared.fields.Counts.{Counts}
-use package.Rattle.rows.specs.declared.answers.Refusal.{Refusal}
-use package.Rattle.rows.specs.declared.answers.CheckAnswer.{CheckAnswer}
-use package.Rattle.rows.specs.declared.answers.CheckAnswer.the-variants as checks
-use package.Rattle.rows.specs.declared.answers.RunAnswer.{RunAnswer}
-use package.Rattle.rows.specs.declared.answers.RunAnswer.the-variants as runs
-use package.Rattle.rows.specs.declared.preparing.Prepared.{Prepared}
-use package.Rattle.rows.specs.declared.preparing.Prepared.the-variants.{Ready, Refused}
-use package.Rattle.rows.specs.Answers.{numberOf, placeOf, checkAnswer}
-use package.Rattle.rows.specs.Calls.{Later, refuses, preparedOf, Begins, PrepareMeans, CheckMeans}
+use package.Rattle.answers.specs.declared.Refusal.{Refusal}
+use package.Rattle.answers.specs.declared.CheckAnswer.{CheckAnswer}
+use package.Rattle.answers.specs.declared.CheckAnswer.the-variants as checks
+use package.Rattle.answers.specs.declared.RunAnswer.{RunAnswer}
+use package.Rattle.answers.specs.declared.RunAnswer.the-variants as runs
+use package.Rattle.answers.specs.Answers.{numberOf, placeOf, checkAnswer, Later, refuses}
+use package.Rattle.answers.proofs.Answers.{later-number}
+use package.Rattle.loading.specs.declared.Loaded.{Loaded}
+use package.Rattle.loading.specs.declared.Loaded.the-variants.{Ready, Refused}
+use package.Rattle.loading.specs.Loading.{LoadMeans}
+use package.Rattle.loading.proofs.Loading.{loaded-is, refused-is, refused-number}
+use package.Rattle.rows.specs.Calls.{CheckMeans}
 use package.Rattle.turns.specs.Turns.{OpenMeans, TurnMeans, inFronts}
 use package.Rattle.turns.proofs.Values.{turn-refused as left-alone}
 
@@ -43,10 +46,6 @@ refused-open : {x : Answer (List ℕ)} (r : Refusal) (j : List ℕ) → refused 
 unfolding afterOpen
 refused-open r j e l = rw (← e) (record { answer = refl; later = refuses {n = numberOf r} l; journal = refl })
 
--- a refusal that a workspace long enough lets stand is none of 1
-later-number : {A : Type 0} {n p : ℕ} → Later {A = A} (refused n p) → 2 ≤ n
-later-number (refuses l) = l
-
 module _ {xs : List ℕ} {v : CheckAnswer} (C : CheckMeans v xs) (x : Answer (List ℕ)) {j : List ℕ} where
   pub open-ready : v ≡ checks.Accepted → {r : CheckAnswer} {j′ : List ℕ} → OpenMeans r x j j′ → OpenMeans r (load xs >>= λ P. x) j j′
   open-ready e {r} {j′} O = subst (λ x. OpenMeans r x j j′) (kind-accepted (load xs) x (ap checkAnswer (sym e) ∙ C .answer)) O
@@ -58,15 +57,13 @@ module _ {xs : List ℕ} {v : CheckAnswer} (C : CheckMeans v xs) (x : Answer (Li
 ----------------------------------------------------------------
 -- Convert and rollback
 
-module _ {xs types terms functions : List ℕ} {table : List (List ℕ)} {v : Prepared} (M : PrepareMeans v xs types terms functions table)
+module _ {xs types terms functions : List ℕ} {table : List (List ℕ)} {v : Loaded} (M : LoadMeans v xs types terms functions table)
     (turn : Program → Answer Turned) {j : List ℕ} where
   pub turn-ready : {c : Counts} → v ≡ Ready c → {r : RunAnswer} {j′ : List ℕ} → TurnMeans r (turn (inFronts c xs types terms functions)) j j′
       → TurnMeans r (load xs >>= turn) j j′
   unfolding _>>=_
-  turn-ready e {r} {j′} T = subst (λ x. TurnMeans r x j j′) (sym (via _ (M .answer ∙ ap (λ v. preparedOf v xs types terms functions) e) refl)) T
+  turn-ready e {r} {j′} T = subst (λ x. TurnMeans r x j j′) (sym (via _ (loaded-is M e) refl)) T
 
   pub turn-refused : {r : Refusal} → v ≡ Refused r → TurnMeans (runs.Refused r) (load xs >>= turn) j j
   unfolding _>>=_
-  turn-refused {r} e =
-      left-alone r j (ap (λ a. a >>= turn) (M .answer ∙ ap (λ v. preparedOf v xs types terms functions) e))
-      (refuses {n = numberOf r} (subst (λ v. Begins v xs types terms functions table) e (M .begins)))
+  turn-refused {r} e = left-alone r j (ap (λ a. a >>= turn) (refused-is M e)) (refuses {n = numberOf r} (refused-number M e))

@@ -18,11 +18,10 @@ use package.Rattle.calls.proofs.Answer.{via, require-yes, present-some}
 use package.Rattle.reading.specs.Ends.{isSome, isValue, valueIn}
 use package.Rattle.journal.specs.Turns.{opens}
 use package.Rattle.journal.proofs.Ends.{no-value}
-use package.Rattle.rows.specs.declared.answers.Refusal.{Refusal}
-use package.Rattle.rows.specs.declared.answers.Refusal.the-variants.{Values, Full}
-use package.Rattle.rows.specs.declared.answers.CheckAnswer.the-variants as checks
-use package.Rattle.rows.specs.Answers.{numberOf, placeOf}
-use package.Rattle.rows.specs.Calls.{accepts, refuses}
+use package.Rattle.answers.specs.declared.Refusal.{Refusal}
+use package.Rattle.answers.specs.declared.Refusal.the-variants.{Values, Full}
+use package.Rattle.answers.specs.declared.CheckAnswer.the-variants as checks
+use package.Rattle.answers.specs.Answers.{numberOf, placeOf, accepts, refuses}
 use package.Rattle.turns.specs.Turns.{openOf, OpenMeans}
 use package.Rattle.turns.proofs.Values.{stops, present-none, require-no}
 

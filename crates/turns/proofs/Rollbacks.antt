@@ -32,12 +32,12 @@ use package.Rattle.journal.specs.Places.{newestOf, journalIn, Surveyed, Stands}
 use package.Rattle.journal.specs.Turns.{rolledBack}
 use package.Rattle.journal.proofs.Stands.{standing, count-place, unformed, newest-split, newest-none, newest-some}
 use package.Rattle.journal.proofs.Turns.{is-value}
-use package.Rattle.rows.specs.declared.answers.Done.{Done}
-use package.Rattle.rows.specs.declared.answers.Refusal.{Refusal}
-use package.Rattle.rows.specs.declared.answers.Refusal.the-variants.{Journal as Unread, Standing, Full}
-use package.Rattle.rows.specs.declared.answers.RunAnswer.{RunAnswer}
-use package.Rattle.rows.specs.declared.answers.RunAnswer.the-variants as runs
-use package.Rattle.rows.specs.Calls.{refuses}
+use package.Rattle.answers.specs.declared.Done.{Done}
+use package.Rattle.answers.specs.declared.Refusal.{Refusal}
+use package.Rattle.answers.specs.declared.Refusal.the-variants.{Journal as Unread, Standing, Full}
+use package.Rattle.answers.specs.declared.RunAnswer.{RunAnswer}
+use package.Rattle.answers.specs.declared.RunAnswer.the-variants as runs
+use package.Rattle.answers.specs.Answers.{refuses}
 use package.Rattle.rows.specs.Runs.{runOf, called, RunMeans}
 use package.Rattle.turns.specs.Turns.{rollbackOf, TurnMeans}
 use package.Rattle.turns.specs.Rollbacks.{ranTo, takenBack, struck}

@@ -29,14 +29,13 @@ use package.Rattle.calls.proofs.Runs.Parts.{admit-iff}
 use package.Rattle.calls.proofs.Runs.Calls.{unit-fits}
 use package.Rattle.reading.specs.Ends.{isSome, isValue, valueIn}
 use package.Rattle.admission.specs.Admitting.{sideOf}
-use package.Rattle.running.specs.Ended.{finished, summary}
+use package.Rattle.running.specs.Ended.{finished}
 use package.Rattle.journal.proofs.Turns.{valueIn-is}
-use package.Rattle.rows.specs.declared.answers.Done.{Done}
-use package.Rattle.rows.specs.declared.answers.Refusal.{Refusal}
-use package.Rattle.rows.specs.declared.answers.Refusal.the-variants.{Full}
-use package.Rattle.rows.specs.declared.answers.RunAnswer.the-variants as runs
-use package.Rattle.rows.specs.Answers.{numberOf, placeOf}
-use package.Rattle.rows.specs.Calls.{Later, accepts, refuses as rejects}
+use package.Rattle.answers.specs.declared.Done.{Done}
+use package.Rattle.answers.specs.declared.Refusal.{Refusal}
+use package.Rattle.answers.specs.declared.Refusal.the-variants.{Full}
+use package.Rattle.answers.specs.declared.RunAnswer.the-variants as runs
+use package.Rattle.answers.specs.Answers.{numberOf, placeOf, summary, Later, accepts, refuses as rejects}
 use package.Rattle.rows.specs.Runs.{runOf, called, RunMeans}
 use package.Rattle.turns.specs.Turns.{TurnMeans}
 

@@ -17,10 +17,9 @@ use package.Rattle.calls.specs.Conversions.{Turned, kept, turned, newest}
 use package.Rattle.calls.specs.Book.{afterOpen, afterTurned}
 use package.Rattle.program.specs.declared.fields.Counts.{Counts}
 use package.Rattle.program.specs.Programs.{programIn}
-use package.Rattle.rows.specs.declared.answers.CheckAnswer.{CheckAnswer}
-use package.Rattle.rows.specs.declared.answers.RunAnswer.{RunAnswer}
-use package.Rattle.rows.specs.Answers.{checkAnswer, runAnswer, openAnswer, heldAnswer}
-use package.Rattle.rows.specs.Calls.{Later}
+use package.Rattle.answers.specs.declared.CheckAnswer.{CheckAnswer}
+use package.Rattle.answers.specs.declared.RunAnswer.{RunAnswer}
+use package.Rattle.answers.specs.Answers.{checkAnswer, runAnswer, openAnswer, heldAnswer, Later}
 
 ----------------------------------------------------------------
 -- The calls

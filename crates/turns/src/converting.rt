@@ -1,13 +1,13 @@
 // Convert (document 01, section 4, rows Journal, Call and Run; section 5), for a program that is accepted and a workspace that is long
 // enough. The run's value goes to an output of its own, so that the journal is written only after all tests.
+use answers::Done;
+use answers::Refusal;
+use answers::RunAnswer;
 use journal::form;
 use journal::parts;
 use journal::places::Places;
 use journal::places::Survey;
 use journal::writing;
-use rows::answers::Done;
-use rows::answers::Refusal;
-use rows::answers::RunAnswer;
 use rows::runs;
 use rules::MAX_CONVERSIONS;
 use rules::MAX_FUNCTIONS;

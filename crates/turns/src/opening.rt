@@ -1,7 +1,7 @@
 // Open, from the rows of the program on (document 01, sections 4 and 5): the record, and room for its field. Open reads no byte of
 // the journal, and strikes whatever stood there.
-use rows::answers::CheckAnswer;
-use rows::answers::Refusal;
+use answers::CheckAnswer;
+use answers::Refusal;
 ghost use lib.ListN.{length};
 ghost use Rattle.turns.specs.Turns.{openOf, OpenMeans};
 

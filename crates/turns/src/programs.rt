@@ -3,10 +3,10 @@
 use crate::converting;
 use crate::opening;
 use crate::returning;
+use answers::CheckAnswer;
+use answers::RunAnswer;
+use loading::Loaded;
 use program::fields::Counts;
-use rows::answers::CheckAnswer;
-use rows::answers::RunAnswer;
-use rows::preparing::Prepared;
 use rules::MAX_FUNCTIONS;
 use rules::MAX_PARAMETERS;
 use rules::MAX_TERMS;
@@ -82,7 +82,7 @@ pub fn convert(
     let mut terms = [0u16; MAX_TERMS];
     let mut functions = [0u16; MAX_FUNCTIONS];
     let mut table = [[0u16; MAX_PARAMETERS]; MAX_FUNCTIONS];
-    let prepared = rows::preparing::prepare(
+    let loaded = loading::load(
         program,
         &mut types,
         &mut terms,
@@ -90,8 +90,8 @@ pub fn convert(
         &mut table,
         workspace,
     );
-    match prepared {
-        Prepared::Ready(counts) => convert_fronts(
+    match loaded {
+        Loaded::Ready(counts) => convert_fronts(
             program,
             counts,
             &types,
@@ -104,7 +104,7 @@ pub fn convert(
             workspace,
             journal,
         ),
-        Prepared::Refused(refusal) => RunAnswer::Refused(refusal),
+        Loaded::Refused(refusal) => RunAnswer::Refused(refusal),
     }
 }
 
@@ -148,7 +148,7 @@ pub fn rollback(program: &[u8], fuel: u16, workspace: &mut [u8], journal: &mut [
     let mut terms = [0u16; MAX_TERMS];
     let mut functions = [0u16; MAX_FUNCTIONS];
     let mut table = [[0u16; MAX_PARAMETERS]; MAX_FUNCTIONS];
-    let prepared = rows::preparing::prepare(
+    let loaded = loading::load(
         program,
         &mut types,
         &mut terms,
@@ -156,8 +156,8 @@ pub fn rollback(program: &[u8], fuel: u16, workspace: &mut [u8], journal: &mut [
         &mut table,
         workspace,
     );
-    match prepared {
-        Prepared::Ready(counts) => rollback_fronts(
+    match loaded {
+        Loaded::Ready(counts) => rollback_fronts(
             program,
             counts,
             &types,
@@ -168,6 +168,6 @@ pub fn rollback(program: &[u8], fuel: u16, workspace: &mut [u8], journal: &mut [
             workspace,
             journal,
         ),
-        Prepared::Refused(refusal) => RunAnswer::Refused(refusal),
+        Loaded::Refused(refusal) => RunAnswer::Refused(refusal),
     }
 }

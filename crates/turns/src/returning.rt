@@ -1,10 +1,10 @@
 // Rollback, from the rows of the program on (document 01, sections 4 and 5): the newest conversion's function is run backward on the held
 // value. The run's value goes to an array as long as a value can be, so that it always has room there.
+use answers::Done;
+use answers::Refusal;
+use answers::RunAnswer;
 use journal::places::Places;
 use journal::places::Survey;
-use rows::answers::Done;
-use rows::answers::Refusal;
-use rows::answers::RunAnswer;
 use rules::MAX_FUNCTIONS;
 use rules::MAX_PARAMETERS;
 use rules::MAX_VALUE_BYTES;

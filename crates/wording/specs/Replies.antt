@@ -3,10 +3,10 @@ use Prim.Native.Nat.{ℕ}
 use mathlib.Core.List.{List, _++_}
 use lib.ListN.{take}
 use package.Rattle.calls.specs.Answer.{Answer, accepted, refused}
-use package.Rattle.rows.specs.Answers.{numberOf, placeOf}
-use package.Rattle.rows.specs.declared.answers.Refusal.{Refusal}
-use package.Rattle.rows.specs.declared.answers.RunAnswer.{RunAnswer}
-use package.Rattle.rows.specs.declared.answers.RunAnswer.the-variants.{Ran, Refused}
+use package.Rattle.answers.specs.Answers.{numberOf, placeOf}
+use package.Rattle.answers.specs.declared.Refusal.{Refusal}
+use package.Rattle.answers.specs.declared.RunAnswer.{RunAnswer}
+use package.Rattle.answers.specs.declared.RunAnswer.the-variants.{Ran, Refused}
 use package.Rattle.lines.specs.Text.{text}
 use package.Rattle.lines.specs.Decimal.{decimalText}
 use package.Rattle.lines.specs.Answers.{valueLine, refusedLine, openedLine, heldLine}

@@ -5,9 +5,9 @@ pub mod meanings;
 // answers as text
 pub mod replies;
 
-use rows::answers::Refusal;
+use answers::Refusal;
 ghost use mathlib.Core.Path.{_≡_};
-ghost use Rattle.rows.specs.Answers.{numberOf, placeOf};
+ghost use Rattle.answers.specs.Answers.{numberOf, placeOf};
 
 pub fn number(r: Refusal) -> u64
     ensures { λ n. ⌜ n ≡ numberOf r ⌝ }

@@ -1,14 +1,14 @@
 // Answers as text: a line of calls and answers each (crate lines), and a refusal with its meaning.
 use crate::meanings;
-use lines::answers;
+use answers::CheckAnswer;
+use answers::Done;
+use answers::Refusal;
+use answers::RunAnswer;
+use lines::answers as texts;
 use lines::decimal;
-use rows::answers::CheckAnswer;
-use rows::answers::Done;
-use rows::answers::Refusal;
-use rows::answers::RunAnswer;
 ghost use Prim.Native.Nat.{_+_, _*_, _≤_};
 ghost use lib.ListN.{length, take};
-ghost use Rattle.rows.specs.Answers.{numberOf, placeOf, checkAnswer, runAnswer};
+ghost use Rattle.answers.specs.Answers.{numberOf, placeOf, checkAnswer, runAnswer};
 ghost use Rattle.lines.specs.Wrote.{Wrote};
 ghost use Rattle.lines.specs.Answers.{valueLine, heldLine, refusedLine};
 ghost use Rattle.wording.specs.Replies.{checkText, runText, openedText, heldText, lengthOf, whereText, refusalText};
@@ -20,7 +20,7 @@ fn refusal_line(r: Refusal, out: &mut [u8]) -> usize
 {
     let number = crate::number(r);
     let place = crate::place(r);
-    answers::refused_line(number, place, out)
+    texts::refused_line(number, place, out)
 }
 
 // The line of a run that was done, whose value the output starts with.
@@ -31,7 +31,7 @@ fn done_line(d: Done, output: &[u8], out: &mut [u8]) -> usize
 {
     let n = octets::wide_index(d.len);
     let steps = d.steps as u64;
-    answers::value_line(&output[..n], steps, out)
+    texts::value_line(&output[..n], steps, out)
 }
 
 // The line that answers a check.
@@ -40,7 +40,7 @@ pub fn check_line(answer: CheckAnswer, out: &mut [u8]) -> usize
     ensures { λ end. ⌜ Wrote (now (out .entry)) (now (out .exit)) 0 end (checkText (checkAnswer answer)) ⌝ }
 {
     match answer {
-        CheckAnswer::Accepted => answers::put(b"ok\n", out, 0),
+        CheckAnswer::Accepted => texts::put(b"ok\n", out, 0),
         CheckAnswer::Refused(r) => refusal_line(r, out),
     }
 }
@@ -63,7 +63,7 @@ pub fn opened_line(answer: CheckAnswer, journal: &[u8], out: &mut [u8]) -> usize
     ensures { λ end. ⌜ Wrote (now (out .entry)) (now (out .exit)) 0 end (openedText (checkAnswer answer) (now (journal .entry))) ⌝ }
 {
     match answer {
-        CheckAnswer::Accepted => answers::opened_line(journal, out),
+        CheckAnswer::Accepted => texts::opened_line(journal, out),
         CheckAnswer::Refused(r) => refusal_line(r, out),
     }
 }
@@ -75,7 +75,7 @@ fn turned_line(d: Done, journal: &[u8], out: &mut [u8]) -> usize
 {
     let len = d.len as u64;
     let steps = d.steps as u64;
-    answers::held_line(len, steps, journal, out)
+    texts::held_line(len, steps, journal, out)
 }
 
 // The line that answers a convert or rollback, with the journal as it left it.
@@ -94,11 +94,11 @@ fn put_where(r: Refusal, out: &mut [u8]) -> usize
     requires { ⌜ 64 ≤ length (now out) ⌝ }
     ensures { λ end. ⌜ Wrote (now (out .entry)) (now (out .exit)) 0 end (whereText (numberOf r) (placeOf r)) × (end ≤ 54) ⌝ }
 {
-    let named = answers::put(b"refused ", out, 0);
+    let named = texts::put(b"refused ", out, 0);
     let numbered = decimal::put_number(crate::number(r), out, named);
-    let behind = answers::put(b" at ", out, numbered);
+    let behind = texts::put(b" at ", out, numbered);
     let placed = decimal::put_number(crate::place(r), out, behind);
-    answers::put(b": ", out, placed)
+    texts::put(b": ", out, placed)
 }
 
 // A refusal: its number, its place and its meaning.
@@ -109,5 +109,5 @@ pub fn refusal_text(r: Refusal, out: &mut [u8]) -> usize
     let told = put_where(r, out);
     let n = crate::number(r);
     let meant = meanings::put_meaning(n, out, told);
-    answers::put(b"\n", out, meant)
+    texts::put(b"\n", out, meant)
 }

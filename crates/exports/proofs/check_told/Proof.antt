@@ -1,5 +1,5 @@
 use mathlib.Core.Path.{sym, ap, _∙_}
-use Rattle.rows.specs.Answers.{checkAnswer}
+use Rattle.answers.specs.Answers.{checkAnswer}
 use Rattle.exports.specs.Told.{checkTold}
 use Rattle.exports.proofs.Numbers.{refused-told}
 use borrow.Author.Needs.{needs}

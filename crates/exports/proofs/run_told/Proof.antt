@@ -1,5 +1,5 @@
 use mathlib.Core.Path.{sym, ap, _∙_}
-use Rattle.rows.specs.Answers.{runAnswer}
+use Rattle.answers.specs.Answers.{runAnswer}
 use Rattle.exports.specs.Told.{runTold}
 use Rattle.exports.proofs.Numbers.{refused-told}
 use borrow.Author.Needs.{needs}

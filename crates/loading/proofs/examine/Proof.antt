@@ -1,3 +1,4 @@
+use native.Mathlib.Omega.{arith}
 use mathlib.Core.Path.{ap}
 use Rattle.entries.specs.Tested.{verdictOf}
 use Rattle.loading.proofs.Loading.{types-held, examine-sound, examine-refused}
@@ -34,10 +35,18 @@ returns : tie.Need-returns
 returns c = search needs
 
 returns-2 : tie.Need-returns-2
-returns-2 c = record { answer = examine-refused (c .before .before .before .before .before .before .before .before .before .before .before .pre .0) _ (c .before .before .before .before .test-entries .ensures) 4 _ (ap verdictOf (c .before .v .given .1)); ready = tt }
+returns-2 c =
+    let at-v = c .before in
+    let at-test-entries = at-v .before .before .before in
+    let start = at-test-entries .before .before .before .before .before .before .before in
+    examine-refused (start .pre .0) _ (at-test-entries .test-entries .ensures) _ (ap verdictOf (at-v .v .given .1)) (omega arith)
 
 returns-3 : tie.Need-returns-3
-returns-3 c = record { answer = examine-refused (c .before .before .before .before .before .before .before .before .before .before .before .pre .0) _ (c .before .before .before .before .test-entries .ensures) 5 _ (ap verdictOf (c .before .v2 .given .1)); ready = tt }
+returns-3 c =
+    let at-v2 = c .before in
+    let at-test-entries = at-v2 .before .before .before in
+    let start = at-test-entries .before .before .before .before .before .before .before in
+    examine-refused (start .pre .0) _ (at-test-entries .test-entries .ensures) _ (ap verdictOf (at-v2 .v2 .given .1)) (omega arith)
 
 pub examine-spec : {M : Type 1} → statement M
 examine-spec =

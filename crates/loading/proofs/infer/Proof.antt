@@ -1,3 +1,4 @@
+use native.Mathlib.Omega.{arith}
 use mathlib.Core.Path.{ap}
 use Rattle.typing.specs.Checked.{verdictOf}
 use Rattle.loading.proofs.Loading.{infer-typed, infer-refused}
@@ -39,11 +40,8 @@ returns-2 c =
     let at-v = c .before in
     let at-check-functions = at-v .before .before .before .before in
     let start = at-check-functions .before .before .before .before .before .before .before .before in
-    record {
-      answer = infer-refused (start .pre .0) (at-check-functions .check-functions .result) (at-check-functions .check-functions .ensures) 6 _
-          (ap verdictOf (at-v .v .given .1));
-      ready = tt;
-    }
+    infer-refused (start .pre .0) (at-check-functions .check-functions .result) (at-check-functions .check-functions .ensures) _
+    (ap verdictOf (at-v .v .given .1)) (omega arith)
 
 same-length-3 : tie.Need-same-length-3
 same-length-3 c = search needs
@@ -53,11 +51,8 @@ returns-3 c =
     let at-v2 = c .before in
     let at-check-functions = at-v2 .before .before .before .before in
     let start = at-check-functions .before .before .before .before .before .before .before .before in
-    record {
-      answer = infer-refused (start .pre .0) (at-check-functions .check-functions .result) (at-check-functions .check-functions .ensures) 7 _
-          (ap verdictOf (at-v2 .v2 .given .1));
-      ready = tt;
-    }
+    infer-refused (start .pre .0) (at-check-functions .check-functions .result) (at-check-functions .check-functions .ensures) _
+    (ap verdictOf (at-v2 .v2 .given .1)) (omega arith)
 
 same-length-4 : tie.Need-same-length-4
 same-length-4 c = search needs
@@ -67,11 +62,8 @@ returns-4 c =
     let at-v3 = c .before in
     let at-check-functions = at-v3 .before .before .before .before in
     let start = at-check-functions .before .before .before .before .before .before .before .before in
-    record {
-      answer = infer-refused (start .pre .0) (at-check-functions .check-functions .result) (at-check-functions .check-functions .ensures) 8 _
-          (ap verdictOf (at-v3 .v3 .given .1));
-      ready = tt;
-    }
+    infer-refused (start .pre .0) (at-check-functions .check-functions .result) (at-check-functions .check-functions .ensures) _
+    (ap verdictOf (at-v3 .v3 .given .1)) (omega arith)
 
 pub infer-spec : {M : Type 1} → statement M
 infer-spec =

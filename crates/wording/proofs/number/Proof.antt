@@ -1,5 +1,5 @@
 use mathlib.Core.Path.{sym, ap}
-use Rattle.rows.specs.Answers.{numberOf}
+use Rattle.answers.specs.Answers.{numberOf}
 use borrow.Author.Needs.{needs}
 use Rattle.wording.proofs.number.Statement.{statement}
 use Rattle.wording.proofs.number.Tie as tie

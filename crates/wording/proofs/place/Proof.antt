@@ -1,5 +1,5 @@
 use mathlib.Core.Path.{sym, ap}
-use Rattle.rows.specs.Answers.{placeOf}
+use Rattle.answers.specs.Answers.{placeOf}
 use borrow.Author.Needs.{needs}
 use Rattle.wording.proofs.place.Statement.{statement}
 use Rattle.wording.proofs.place.Tie as tie

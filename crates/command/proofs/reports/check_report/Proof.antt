@@ -1,5 +1,5 @@
 use mathlib.Core.Path.{sym, ap}
-use Rattle.rows.specs.Answers.{checkAnswer}
+use Rattle.answers.specs.Answers.{checkAnswer}
 use Rattle.lines.proofs.Writing.{wrote-as}
 use Rattle.command.specs.Reports.{checkReport}
 use borrow.Author.Needs.{needs}

@@ -1,6 +1,6 @@
 use native.Mathlib.Omega.{arith}
 use mathlib.Core.Path.{sym, ap}
-use Rattle.rows.specs.Answers.{runAnswer}
+use Rattle.answers.specs.Answers.{runAnswer}
 use Rattle.lines.proofs.Writing.{wrote-as}
 use Rattle.wording.specs.Replies.{runText, lengthOf}
 use Rattle.command.specs.Reports.{filledReport}

@@ -20,11 +20,11 @@ store-requires c κs = store-ready (c .before .before .before .before .before .b
 wide32-requires : tie.Need-wide32-requires
 wide32-requires c κs = search needs
 
-sub-steps : tie.Need-sub-steps
-sub-steps c = let h = c .before .before .before .before .before .before .before .before .before .before .pre .less in search needs
+sub-spent : tie.Need-sub-spent
+sub-spent c = let h = c .before .before .before .before .before .before .before .before .before .before .pre .less in search needs
 
-cast-t14 : tie.Need-cast-t14
-cast-t14 c = search needs
+cast-steps : tie.Need-cast-steps
+cast-steps c = search needs
 
 same-length : tie.Need-same-length
 same-length c = search needs
@@ -41,7 +41,7 @@ give-spec =
     returns
     store-requires
     wide32-requires
-    sub-steps
-    cast-t14
+    sub-spent
+    cast-steps
     same-length
     returns-2)

@@ -1,5 +1,5 @@
 use mathlib.Core.Path.{sym, ap}
-use Rattle.rows.specs.Answers.{runAnswer}
+use Rattle.answers.specs.Answers.{runAnswer}
 use Rattle.lines.proofs.Writing.{wrote-as}
 use Rattle.wording.specs.Replies.{heldText}
 use borrow.Author.Needs.{needs}

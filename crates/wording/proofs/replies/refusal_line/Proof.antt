@@ -1,5 +1,5 @@
 use mathlib.Core.Path.{ap, _∙_}
-use Rattle.rows.specs.Answers.{numberOf}
+use Rattle.answers.specs.Answers.{numberOf}
 use Rattle.lines.specs.Answers.{refusedLine}
 use Rattle.lines.proofs.Writing.{wrote-as}
 use borrow.Author.Needs.{needs}

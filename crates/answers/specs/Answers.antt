@@ -1,16 +1,17 @@
 -- The answers of the public calls in the definitions' terms (section 4): of each kind of refusal its number and place, of each answer
 -- what calls/specs/Runs says it is.
-use Prim.Native.Nat.{ℕ}
+use Prim.Native.Nat.{ℕ, _≤_}
 use mathlib.Core.List.{List}
+use package.Rattle.rules.specs.Val.{size}
 use package.Rattle.calls.specs.Answer.{Answer, accepted, refused}
 use package.Rattle.calls.specs.Runs.{Ran}
 use package.Rattle.calls.specs.Conversions.{Turned}
-use package.Rattle.rows.specs.declared.answers.Refusal.{Refusal}
-use package.Rattle.rows.specs.declared.answers.Refusal.the-variants.{Workspace, Field, Limit, Reference, NamedType, Mismatch, Scope, Usage, Function, Values, ValueType, Fuel, Height, Long, FirstMatch, NoInput, Output, Journal, Standing, Full}
-use package.Rattle.rows.specs.declared.answers.CheckAnswer.{CheckAnswer}
-use package.Rattle.rows.specs.declared.answers.CheckAnswer.the-variants as checks
-use package.Rattle.rows.specs.declared.answers.RunAnswer.{RunAnswer}
-use package.Rattle.rows.specs.declared.answers.RunAnswer.the-variants as runs
+use package.Rattle.answers.specs.declared.Refusal.{Refusal}
+use package.Rattle.answers.specs.declared.Refusal.the-variants.{Workspace, Field, Limit, Reference, NamedType, Mismatch, Scope, Usage, Function, Values, ValueType, Fuel, Height, Long, FirstMatch, NoInput, Output, Journal, Standing, Full}
+use package.Rattle.answers.specs.declared.CheckAnswer.{CheckAnswer}
+use package.Rattle.answers.specs.declared.CheckAnswer.the-variants as checks
+use package.Rattle.answers.specs.declared.RunAnswer.{RunAnswer}
+use package.Rattle.answers.specs.declared.RunAnswer.the-variants as runs
 
 -- the number of a refusal: section 4's table
 abbrev pub numberOf : Refusal → ℕ
@@ -68,6 +69,11 @@ abbrev pub runAnswer : RunAnswer → Answer (ℕ × ℕ)
 runAnswer (runs.Ran d) = accepted (d .len, d .steps)
 runAnswer (runs.Refused r) = refused (numberOf r) (placeOf r)
 
+-- of a run's value the length alone is answered, since the value itself fills the output (section 4)
+abbrev pub summary : Answer Ran → Answer (ℕ × ℕ)
+summary (accepted r) = accepted (size (r .value), r .steps)
+summary (refused n p) = refused n p
+
 -- open answers only that it accepts (section 4)
 abbrev pub openAnswer : Answer (List ℕ) → Answer (Unit {0})
 openAnswer (accepted journal) = accepted tt
@@ -77,3 +83,8 @@ openAnswer (refused n p) = refused n p
 abbrev pub heldAnswer : Answer Turned → Answer (ℕ × ℕ)
 heldAnswer (accepted t) = accepted (t .held, t .steps)
 heldAnswer (refused n p) = refused n p
+
+-- Answered in a workspace that is long enough: whatever is refused, not with 1. Such a call clears its workspace (section 4).
+pub data Later {A : Type 0} : Answer A → Type 0 where
+  accepts : {a : A} → Later (accepted a)
+  refuses : {n p : ℕ} → 2 ≤ n → Later (refused n p)
