@@ -54,7 +54,10 @@ wrong h (some vs) (some v) k e = untrue 10 (k vs v) e
 module _ (xs types functions : List ℕ) (g : ℕ) (anc bytes : List ℕ) (back : Bool) where
   pub no-function : length functions ≤ g → AdmitMeans (admitted.Refused Function) xs types functions g anc bytes back
   unfolding admit
-  no-function l = record { answer = λ terms. sym (absent 9 _ (function-none xs functions g types terms l)); later = λ terms. refused-later Function (omega arith) }
+  no-function l = record {
+    answer = λ terms. sym (absent 9 _ (function-none xs functions g types terms l));
+    later = λ terms. refused-later Function (omega arith);
+  }
 
   -- the function is there, its field at `at`
   module _ (l : g < length functions) {at : ℕ} (q : at ≡ getD functions g 0) where
@@ -112,10 +115,16 @@ module _ (xs types functions : List ℕ) (g : ℕ) (anc bytes : List ℕ) (back 
 
       module _ {b : Bool} (e : b ≡ allTyped (entriesOf xs types) h back anc bytes) where
         pub wrong-type : b ≡ false → AdmitMeans (admitted.Refused ValueType) xs types functions g anc bytes back
-        wrong-type f = record { answer = λ terms. sym (reached terms ∙ untrue 11 _ (typed-same terms ∙ sym e ∙ f)); later = λ terms. refused-later ValueType (omega arith) }
+        wrong-type f = record {
+          answer = λ terms. sym (reached terms ∙ untrue 11 _ (typed-same terms ∙ sym e ∙ f));
+          later = λ terms. refused-later ValueType (omega arith);
+        }
 
         pub all-given : b ≡ true → AdmitMeans admitted.Given xs types functions g anc bytes back
-        all-given y = record { answer = λ terms. sym (reached terms ∙ via _ (require-yes 11 0 (typed-same terms ∙ sym e ∙ y)) refl); later = λ terms. accepts }
+        all-given y = record {
+          answer = λ terms. sym (reached terms ∙ via _ (require-yes 11 0 (typed-same terms ∙ sym e ∙ y)) refl);
+          later = λ terms. accepts;
+        }
 
 -- a number that was widened
 pub index-there : {i g n : ℕ} → i ≡ g → i < n → g < n

@@ -149,8 +149,9 @@ module _ {r : Loaded} {xs types terms functions : List ℕ} {table : List (List 
     loaded-is = M .answer ∙ ap (λ r. loadedOf r λ c. programOf (entriesAt xs (frontsOf types terms functions c))) e
 
     pub loaded-accepted : Within c × Accepted xs (take (c .types) types) (take (c .terms) terms) (take (c .functions) functions) table
-    loaded-accepted = subst (λ r. WhenReady r λ c. Within c × Accepted xs (take (c .types) types) (take (c .terms) terms) (take (c .functions) functions) table) e
-        (M .ready)
+    loaded-accepted =
+        subst (λ r. WhenReady r λ c. Within c × Accepted xs (take (c .types) types) (take (c .terms) terms) (take (c .functions) functions) table)
+        e (M .ready)
 
   module _ {why : Refusal} (e : r ≡ loaded.Refused why) where
     pub refused-is : load xs ≡ refused (numberOf why) (placeOf why)

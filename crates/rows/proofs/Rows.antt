@@ -58,7 +58,8 @@ module _ {xs types terms functions : List ℕ} {table : List (List ℕ)} (A : Ac
     allowed e l = record { types = types; loaded = record { read = A .read; tested = A .tested; typed = typed }; given = gave e; enough = l }
 
     module _ (fuel : ℕ) (out : List ℕ) where
-      pub not-called : {r : Refusal} → v ≡ admitted.Refused r → RunMeans (runs.Refused r) (calledOf back xs types terms functions g anc bytes fuel (length out)) out out
+      pub not-called : {r : Refusal} → v ≡ admitted.Refused r
+          → RunMeans (runs.Refused r) (calledOf back xs types terms functions g anc bytes fuel (length out)) out out
       unfolding called _>>=_
       not-called {r} e =
           refused-as r out (ap (λ a. a >>= λ a. finished (length out) (runOf back (programIn xs types terms functions) fuel a)) (gave e))
