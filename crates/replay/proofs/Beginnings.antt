@@ -16,7 +16,8 @@ use package.Rattle.answers.specs.declared.Refusal.{Refusal}
 use package.Rattle.answers.specs.declared.CheckAnswer.{CheckAnswer}
 use package.Rattle.answers.specs.declared.CheckAnswer.the-variants as checks
 use package.Rattle.replay.specs.Lines.{line, checkLine}
-use package.Rattle.replay.specs.Playing.{unopened, swept, ends, play, follows, opened, begins, beginsAt, ReplayMeans}
+use package.Rattle.replay.specs.Playing.{unopened, ends, ReplayMeans}
+use package.Rattle.replay.specs.Inner.Steps.{swept, play, follows, opensTo, begins, beginsAt}
 use package.Rattle.replay.specs.declared.scripts.Part.{Part}
 use package.Rattle.replay.specs.declared.scripts.Step.{Step}
 use package.Rattle.replay.specs.declared.scripts.Step.the-variants as steps
@@ -53,8 +54,8 @@ module _ (program s : List ℕ) (p : Part) (J A W : List ℕ) where
 
   -- the buffers that the open leaves
   follows-opened : (x : Answer (List ℕ)) → p .n ≤ length J → length (afterOpen (take (p .n) J) x .journal) ≡ p .n
-      → follows (openAnswer x) program s p (afterOpen (take (p .n) J) x .journal ++ drop (p .n) J) A (cleared x W) ≡ opened x program s (p .next) J A W
-  unfolding follows opened afterOpen cleared swept
+      → follows (openAnswer x) program s p (afterOpen (take (p .n) J) x .journal ++ drop (p .n) J) A (cleared x W) ≡ opensTo x program s (p .next) J A W
+  unfolding follows opensTo afterOpen cleared swept
   follows-opened (refused m q) h e = ap (λ j. ends (unopened m q) j A (cond (eqb m 1) W (replicate (length W) 0))) (take-append-drop (p .n) J)
   follows-opened (accepted xs) h e =
       ap₂ (λ k j. play (length s) program s (p .next) 1 (resized k j) (pasted A 0 (line isOpen)) (replicate (length W) 0))
@@ -66,14 +67,14 @@ module _ (program s : List ℕ) (p : Part) (J A W : List ℕ) where
       → f ≡ afterOpen (take (p .n) J) (openCall (length W) program held (length (take (p .n) J))) .journal
       → W₁ ≡ cleared (openCall (length W) program held (length (take (p .n) J))) W
       → ReplayMeans a (follows (checkAnswer r) program s p (f ++ drop (p .n) J) A W₁) J′ A′ W′
-      → ReplayMeans a (opened (openCall (length W) program held (p .n)) program s (p .next) J A W) J′ A′ W′
+      → ReplayMeans a (opensTo (openCall (length W) program held (p .n)) program s (p .next) J A W) J′ A′ W′
   opened-begins a r held f W₁ J′ A′ W′ h e er ef ew M =
       let k : length (take (p .n) J) ≡ p .n = length-take-le (p .n) J h in
       subst (λ z. ReplayMeans a z J′ A′ W′)
       (ap (λ y. follows y program s p (f ++ drop (p .n) J) A W₁) er
       ∙ ap₂ (λ g w. follows (openAnswer (openCall (length W) program held (length (take (p .n) J)))) program s p (g ++ drop (p .n) J) A w) ef ew
       ∙ follows-opened (openCall (length W) program held (length (take (p .n) J))) h (ap length (sym ef) ∙ e ∙ k)
-      ∙ ap (λ i. opened (openCall (length W) program held i) program s (p .next) J A W) k) M
+      ∙ ap (λ i. opensTo (openCall (length W) program held i) program s (p .next) J A W) k) M
 
 ----------------------------------------------------------------
 -- What stands at the start

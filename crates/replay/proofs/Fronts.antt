@@ -18,7 +18,7 @@ use package.Rattle.answers.specs.Answers.{checkAnswer, runAnswer, openAnswer, h
 use package.Rattle.answers.specs.declared.CheckAnswer.{CheckAnswer}
 use package.Rattle.answers.specs.declared.RunAnswer.{RunAnswer}
 use package.Rattle.replay.specs.Lines.{line, checkLine, runLine}
-use package.Rattle.replay.specs.Playing.{swept, leaves, Made}
+use package.Rattle.replay.specs.Inner.Steps.{swept, leaves, Made}
 use package.Rattle.replay.proofs.Lines.{opened-line, turned-line, opened-swept, turned-swept}
 
 pub resized-front : (n : ℕ) (xs : List ℕ) → n ≤ length xs → resized n xs ≡ take n xs

@@ -11,6 +11,13 @@ pub mod Turns
 pub mod Scans
 -- the first call
 pub mod Beginnings
--- the plain book: the calls of a script, and demand 3 of all of it
+-- a script parsed, and what hinders its playing
+pub mod Parsed
+-- calls split before the first that would cut the fields
+pub mod Splits
+-- the calls in turn, on a journal that the plain book keeps
 pub mod Book
+-- playing step by step is playing the parsed calls
+pub mod Played
+-- demand 3 of a script
 pub mod Demand

@@ -1,6 +1,6 @@
 -- The lines of answers, and the workspace after a call, by what the call told.
 use Prim.Native.Nat.{ℕ}
-use mathlib.Core.Path.{_≡_, refl}
+use mathlib.Core.Path.{_≡_, refl, ap}
 use mathlib.Core.Bool.{Bool, true, false, cond}
 use mathlib.Core.List.{List}
 use lib.ListN.{length, replicate, length-replicate}
@@ -11,7 +11,7 @@ use package.Rattle.calls.specs.Conversions.{Turned}
 use package.Rattle.calls.specs.Book.{Told, isOpen, holds, refuses, afterOpen, afterTurned}
 use package.Rattle.answers.specs.Answers.{openAnswer, heldAnswer}
 use package.Rattle.replay.specs.Lines.{lineOf, line, checkLine, runLine}
-use package.Rattle.replay.specs.Playing.{swept}
+use package.Rattle.replay.specs.Inner.Steps.{swept}
 
 pub opened-line : (j : List ℕ) (x : Answer (List ℕ)) → checkLine (openAnswer x) ≡ line (afterOpen j x .told)
 unfolding checkLine afterOpen
@@ -42,12 +42,19 @@ length-line isOpen = refl
 length-line (holds l s) = refl
 length-line (refuses n p) = refl
 
-length-cond : (b : Bool) (ws : List ℕ) → length (cond b ws (replicate (length ws) 0)) ≡ length ws
-length-cond true ws = refl
-length-cond false ws = length-replicate {A = ℕ} (length ws) 0
+abbrev pub zeros : ℕ → List ℕ
+zeros k = replicate k 0
 
-pub length-swept : (t : Told) (ws : List ℕ) → length (swept t ws) ≡ length ws
+pub zeros-length : (k : ℕ) → length (zeros k) ≡ k
+zeros-length k = length-replicate {A = ℕ} k 0
+
+cond-zeros : (b : Bool) (k : ℕ) → cond b (zeros k) (zeros (length (zeros k))) ≡ zeros k
+cond-zeros true k = refl
+cond-zeros false k = ap zeros (zeros-length k)
+
+-- a clear workspace stays so
+pub swept-zeros : (t : Told) (k : ℕ) → swept t (zeros k) ≡ zeros k
 unfolding swept
-length-swept isOpen ws = length-replicate {A = ℕ} (length ws) 0
-length-swept (holds l s) ws = length-replicate {A = ℕ} (length ws) 0
-length-swept (refuses n p) ws = length-cond (eqb n 1) ws
+swept-zeros isOpen k = ap zeros (zeros-length k)
+swept-zeros (holds l s) k = ap zeros (zeros-length k)
+swept-zeros (refuses n p) k = cond-zeros (eqb n 1) k

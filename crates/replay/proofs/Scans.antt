@@ -6,7 +6,8 @@ use mathlib.Core.List.{List}
 use lib.ListN.{length}
 use borrow.Author.Tests.{eq-eqb}
 use package.Rattle.replay.specs.Scripts.{stepAt}
-use package.Rattle.replay.specs.Playing.{Reply, malformed, halts, on, roomFor, scan}
+use package.Rattle.replay.specs.Playing.{Reply, malformed}
+use package.Rattle.replay.specs.Inner.Steps.{halts, on, roomFor, scan}
 use package.Rattle.replay.specs.declared.scripts.Part.{Part}
 use package.Rattle.replay.specs.declared.scripts.Step.the-variants as steps
 use package.Rattle.replay.proofs.Parts.{Within, within}

@@ -12,7 +12,8 @@ use package.Rattle.calls.specs.Book.{Call}
 use package.Rattle.calls.specs.Claims.{lastField}
 use package.Rattle.replay.specs.Scripts.{pick, stepAt, callOf}
 use package.Rattle.replay.specs.Lines.{line}
-use package.Rattle.replay.specs.Playing.{Reply, tooWide, shortAnswers, cut, replyOf, Next, halts, on, roomFor, uncut, tested, makes, turnOf, play, Made, TurnMeans, ReplayMeans}
+use package.Rattle.replay.specs.Playing.{Reply, tooWide, shortAnswers, cut, replyOf, ReplayMeans}
+use package.Rattle.replay.specs.Inner.Steps.{Next, halts, on, roomFor, uncut, tested, makes, turnOf, play, Made, TurnMeans}
 use package.Rattle.replay.specs.declared.scripts.Part.{Part}
 use package.Rattle.replay.specs.declared.scripts.Step.{Step}
 use package.Rattle.replay.specs.declared.scripts.Step.the-variants as steps

@@ -1,10 +1,10 @@
--- Demand 3 (section 5) of a script: what playing it leaves is what the plain book writes out and answers, fed the calls of the script.
--- Proof: proofs/Book.
-use Prim.Native.Nat.{ℕ, suc}
+-- Demand 3 (section 5) of a script: what playing it leaves is what the plain book writes out and answers, fed the calls of the script that
+-- were played; and where none was, journal and answers are as they were. Proof: proofs/Demand.
+use Prim.Native.Nat.{ℕ, suc, _<_}
 use mathlib.Core.Path.{_≡_}
-use mathlib.Core.Option.{some}
-use mathlib.Core.List.{List, _∷_}
-use lib.ListN.{length, take}
+use mathlib.Core.Option.{none, some}
+use mathlib.Core.List.{List, [], _∷_, _++_}
+use lib.ListN.{length}
 use package.Rattle.octets.specs.Runs.{pasted}
 use package.Rattle.rules.specs.Val.{Val}
 use package.Rattle.rules.specs.Term.{Program}
@@ -12,36 +12,63 @@ use package.Rattle.calls.specs.Answer.{accepted}
 use package.Rattle.calls.specs.Load.{load}
 use package.Rattle.calls.specs.Values.{value}
 use package.Rattle.calls.specs.Journal.{writeOut}
-use package.Rattle.calls.specs.Book.{Call, isOpen, journalOf, bookRun}
-use package.Rattle.calls.specs.Claims.{CarriedThrough, begun}
-use package.Rattle.replay.specs.Scripts.{stepAt, givenOf, callsFrom}
+use package.Rattle.calls.specs.Book.{opens, buffer, isOpen, journalOf, BookRun, bookRun}
+use package.Rattle.calls.specs.Claims.{lastField, CarriedThrough, begun}
+use package.Rattle.replay.specs.Scripts.{Placed, callsOf, parse}
 use package.Rattle.replay.specs.Lines.{lines}
 use package.Rattle.replay.specs.Playing.{Reply, played, malformed, tooWide, shortAnswers, unopened, cut}
-use package.Rattle.replay.specs.declared.scripts.Part.{Part}
-use package.Rattle.replay.specs.declared.scripts.Step.the-variants.{Play}
 
--- the answers after which calls stand played
-abbrev pub Stood : Reply → Type 0
-Stood (played k) = Unit {0}
-Stood (malformed at) = ⊥
-Stood (tooWide at) = ⊥
-Stood shortAnswers = ⊥
-Stood (unopened n p) = ⊥
-Stood (cut at) = Unit {0}
+-- The call that stands at `at` is the first of `rest`, and its buffer would cut the fields of the journal as it stands.
+pub record CutAt (at : ℕ) (rest : List Placed) (journal : List ℕ) : Type 0 where
+  pub next : Placed
+  pub behind : List Placed
+  pub stands : rest ≡ next ∷ behind
+  pub place : next .place ≡ at
+  pub cuts : buffer (next .call) < lastField journal
 
--- The first call opened a journal for the program `P` with the record `first`; the calls behind it were made, all of them if the answer is
--- `played`, else the front ones. The answers' buffer starts with the book's answers, and the journal's is what the book writes out there.
-pub record Booked (program s journal answers : List ℕ) (ws : ℕ) (r : Reply) (journal′ answers′ : List ℕ) : Type 0 where
-  pub P : Program
-  pub loads : load program ≡ accepted P
-  pub part : Part
-  pub stands : stepAt s 0 ≡ Play part
-  pub first : Val
-  pub reads : value (givenOf s part) ≡ some first
-  pub calls : List Call
-  pub front : calls ≡ take (length calls) (callsFrom (length s) ws s (part .next))
-  pub all : (k : ℕ) → r ≡ played k → (k ≡ suc (length calls)) × (calls ≡ callsFrom (length s) ws s (part .next))
-  pub told : answers′ ≡ pasted answers 0 (lines (isOpen ∷ bookRun program P calls (begun first) .answers))
-  pub kept : journal′ ≡ writeOut (length journal) (journalOf P (bookRun program P calls (begun first) .book))
-  pub carried : CarriedThrough P (bookRun program P calls (begun first) .book .rows) (journalOf P (bookRun program P calls (begun first) .book) .entries)
-      (bookRun program P calls (begun first) .book .first) (journalOf P (bookRun program P calls (begun first) .book) .held)
+-- Why no more than `made` was played of the calls behind the first open, with `rest` behind them, by the answer: there are no more, or a cut.
+abbrev pub Stopped : Reply → List Placed → List Placed → List ℕ → Type 0
+Stopped (played k) made rest journal = (k ≡ suc (length made)) × (rest ≡ [])
+Stopped (malformed at) made rest journal = ⊥
+Stopped (tooWide at) made rest journal = ⊥
+Stopped shortAnswers made rest journal = ⊥
+Stopped (unopened n p) made rest journal = ⊥
+Stopped (cut at) made rest journal = CutAt at rest journal
+
+-- The script is an open of a journal for the program `P` with the record `first`, the calls `made`, and `rest`. It was played up to `rest`: the
+-- answers' buffer starts with the book's answers, and the journal's is what the book writes out there.
+module _ (program script journal answers workspace : List ℕ) (r : Reply) (journal′ answers′ : List ℕ) where
+  pub record ByTheBook : Type 0 where
+    pub P : Program
+    pub loads : load program ≡ accepted P
+    pub bytes : List ℕ
+    pub n : ℕ
+    pub first : Val
+    pub reads : value bytes ≡ some first
+    pub made : List Placed
+    pub rest : List Placed
+    pub stands : parse (length workspace) script
+        ≡ record { calls = record { place = 0; call = opens (length workspace) bytes n } ∷ (made ++ rest); broken = none }
+    pub stopped : Stopped r made rest journal′
+    pub book : BookRun
+    pub books : book ≡ bookRun program P (callsOf made) (begun first)
+    pub told : answers′ ≡ pasted answers 0 (lines (isOpen ∷ book .answers))
+    pub kept : journal′ ≡ writeOut (length journal) (journalOf P (book .book))
+    pub carried : CarriedThrough P (book .book .rows) (journalOf P (book .book) .entries) (book .book .first) (journalOf P (book .book) .held)
+
+-- nothing was touched
+pub record Untouched (journal answers workspace journal′ answers′ workspace′ : List ℕ) : Type 0 where
+  pub kept : journal′ ≡ journal
+  pub told : answers′ ≡ answers
+  pub clear : workspace′ ≡ workspace
+
+-- by the answer; an open that is refused clears the workspace (section 4)
+abbrev pub Booked : List ℕ → List ℕ → List ℕ → List ℕ → List ℕ → Reply → List ℕ → List ℕ → List ℕ → Type 0
+Booked program script journal answers workspace (played k) journal′ answers′ workspace′ =
+    ByTheBook program script journal answers workspace (played k) journal′ answers′
+Booked program script journal answers workspace (malformed at) journal′ answers′ workspace′ = Untouched journal answers workspace journal′ answers′ workspace′
+Booked program script journal answers workspace (tooWide at) journal′ answers′ workspace′ = Untouched journal answers workspace journal′ answers′ workspace′
+Booked program script journal answers workspace shortAnswers journal′ answers′ workspace′ = Untouched journal answers workspace journal′ answers′ workspace′
+Booked program script journal answers workspace (unopened n p) journal′ answers′ workspace′ = (journal′ ≡ journal) × (answers′ ≡ answers)
+Booked program script journal answers workspace (cut at) journal′ answers′ workspace′ =
+    ByTheBook program script journal answers workspace (cut at) journal′ answers′

@@ -3,7 +3,9 @@
 pub mod Scripts
 -- the lines that answer its calls
 pub mod Lines
--- playing it, call by call
+-- playing it
 pub mod Playing
 -- the plain book of a script
 pub mod Booked
+-- what functions below the public one promise
+pub mod Inner

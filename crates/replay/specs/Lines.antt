@@ -6,6 +6,9 @@ use package.Rattle.octets.specs.Numbers.{bytes16, bytes32}
 use package.Rattle.calls.specs.Answer.{Answer, accepted, refused}
 use package.Rattle.calls.specs.Book.{Told, isOpen, holds, refuses}
 
+abbrev pub lineLength : ℕ
+lineLength = 7
+
 unfoldable pub lineOf : ℕ → ℕ → ℕ → List ℕ
 unfolding bytes16 bytes32
 lineOf kind number detail = kind ∷ (bytes16 number ++ bytes32 detail)

@@ -3,6 +3,7 @@
 -- function, open and convert the length of the bytes behind: the record, or the ancilla values. Laws: proofs/Parts.
 use Prim.Native.Nat.{ℕ, zero, suc, _+_, _-_}
 use mathlib.Core.Bool.{Bool, true, false}
+use mathlib.Core.Option.{Option, none, some}
 use mathlib.Core.List.{List, [], _∷_}
 use lib.ListN.{length, take, drop, getD}
 use lib.Dec.{eqb, ltb}
@@ -69,12 +70,32 @@ callOf ws s p =
 ----------------------------------------------------------------
 -- All calls
 
--- the calls from a place on; `left` bounds how many there are
-unfoldable pub callsFrom : ℕ → ℕ → List ℕ → ℕ → List Call
+-- a call, and where it stands in the script
+pub record Placed : Type 0 where
+  pub place : ℕ
+  pub call : Call
+
+unfoldable pub callsOf : List Placed → List Call
+callsOf [] = []
+callsOf (c ∷ cs) = c .call ∷ callsOf cs
+
+-- the calls that a script begins with; and if it is malformed, the place behind them, where no call stands
+pub record Script : Type 0 where
+  pub calls : List Placed
+  pub broken : Option ℕ
+
+-- the script from a place on; `left` bounds how many calls there are
+unfoldable pub parseFrom : ℕ → ℕ → List ℕ → ℕ → Script
 unfolding stepAt callOf
-callsFrom zero ws s at = []
-callsFrom (suc left) ws s at = elim (stepAt s at) [
-  | End ↦ []
-  | Malformed ↦ []
-  | Play p ↦ callOf ws s p ∷ callsFrom left ws s (p .next)
+parseFrom zero ws s at = record { calls = []; broken = some at }
+parseFrom (suc left) ws s at = elim (stepAt s at) [
+  | End ↦ record { calls = []; broken = none }
+  | Malformed ↦ record { calls = []; broken = some at }
+  | Play p ↦ let behind = parseFrom left ws s (p .next) in
+      record { calls = record { place = at; call = callOf ws s p } ∷ behind .calls; broken = behind .broken }
 ]
+
+-- a call has at least one byte
+unfoldable pub parse : ℕ → List ℕ → Script
+unfolding parseFrom
+parse ws s = parseFrom (suc (length s)) ws s 0

@@ -10,7 +10,7 @@ ghost use lib.ListN.{length, take, replicate};
 ghost use Rattle.calls.specs.Book.{opens, converts, rollsBack};
 ghost use Rattle.calls.specs.Claims.{lastField};
 ghost use Rattle.replay.specs.Scripts.{callOf};
-ghost use Rattle.replay.specs.Playing.{Made};
+ghost use Rattle.replay.specs.Inner.Steps.{Made};
 
 // Zeros from a place to the end.
 pub(crate) fn clear_from(journal: &mut [u8], at: usize)

@@ -12,8 +12,9 @@ ghost use Prim.Native.Nat.{suc, _+_, _*_, _≤_};
 ghost use lib.ListN.{length};
 ghost use Rattle.answers.specs.Answers.{checkAnswer};
 ghost use Rattle.replay.specs.Scripts.{stepAt, callOf};
-ghost use Rattle.replay.specs.Booked.{Stood, Booked};
-ghost use Rattle.replay.specs.Playing.{replyOf, nextOf, roomFor, tested, scan, beginsAt, makes, turnOf, play, follows, begins, replayed, TurnMeans, ReplayMeans};
+ghost use Rattle.replay.specs.Booked.{Booked};
+ghost use Rattle.replay.specs.Playing.{replyOf, replayed, ReplayMeans};
+ghost use Rattle.replay.specs.Inner.Steps.{nextOf, roomFor, tested, scan, beginsAt, makes, turnOf, play, follows, begins, TurnMeans};
 
 // Is there room for the call at a place, with a buffer of `n` bytes, and for its line?
 fn fits(n: usize, at: usize, next: usize, count: usize, width: usize, room: usize) -> Move
@@ -254,7 +255,7 @@ pub fn replay(
     answers: &mut [u8],
 ) -> ReplayAnswer
     ensures result { λ r. ⌜ ReplayMeans r (replayed (now (program .entry)) (now (script .entry)) (now (journal .entry)) (now (answers .entry)) (now (workspace .entry))) (now (journal .exit)) (now (answers .exit)) (now (workspace .exit)) ⌝ }
-    ensures book { λ r. ⌜ (Stood (replyOf r) → Booked (now (program .entry)) (now (script .entry)) (now (journal .entry)) (now (answers .entry)) (length (now (workspace .entry))) (replyOf r) (now (journal .exit)) (now (answers .exit))) ⌝ }
+    ensures book { λ r. ⌜ Booked (now (program .entry)) (now (script .entry)) (now (journal .entry)) (now (answers .entry)) (now (workspace .entry)) (replyOf r) (now (journal .exit)) (now (answers .exit)) (now (workspace .exit)) ⌝ }
 {
     let read = read_all(script, journal.len(), answers.len());
     match read {

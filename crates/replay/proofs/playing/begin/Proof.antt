@@ -2,7 +2,7 @@ use mathlib.Core.Path.{refl, sym}
 use Rattle.replay.proofs.Beginnings.{opened-begins}
 use borrow.Author.Tests.{lt-ltb, le-ltb, eq-eqb, ne-eqb}
 use lib.Seq.{length-take-le}
-use Rattle.replay.specs.Playing.{begins}
+use Rattle.replay.specs.Inner.Steps.{begins}
 use borrow.Author.Needs.{needs}
 use Rattle.replay.proofs.playing.begin.Statement.{statement}
 use Rattle.replay.proofs.playing.begin.Tie as tie

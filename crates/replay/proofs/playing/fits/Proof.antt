@@ -1,7 +1,7 @@
 use borrow.Author.Tests.{lt-ltb, le-ltb}
 use native.Mathlib.Omega.{arith}
 use Prim.Native.Nat.{_+_, _*_, _<_, _≤_}
-use Rattle.replay.specs.Playing.{roomFor}
+use Rattle.replay.specs.Inner.Steps.{roomFor}
 use borrow.Author.Needs.{needs}
 use Rattle.replay.proofs.playing.fits.Statement.{statement}
 use Rattle.replay.proofs.playing.fits.Tie as tie

@@ -1,5 +1,5 @@
 use mathlib.Core.Path.{sym, ap, _∙_}
-use Rattle.replay.specs.Playing.{nextOf}
+use Rattle.replay.specs.Inner.Steps.{nextOf}
 use Rattle.replay.proofs.Scans.{Reading, reading-starts, reading-ends, reading-over, reading-breaks, reading-stops, reading-further, reading-inside, reading-goes}
 use native.Mathlib.Omega.{arith}
 use Prim.Native.Nat.{_-_}

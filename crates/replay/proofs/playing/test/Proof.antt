@@ -1,5 +1,5 @@
 use mathlib.Core.Path.{sym, ap, _∙_}
-use Rattle.replay.specs.Playing.{nextOf, tested}
+use Rattle.replay.specs.Inner.Steps.{nextOf, tested}
 use Rattle.replay.proofs.Turns.{test-stops, test-cuts, test-goes}
 use borrow.Author.Needs.{needs}
 use Rattle.replay.proofs.playing.test.Statement.{statement}

@@ -1,6 +1,6 @@
 use mathlib.Core.Path.{sym, ap, _∙_}
 use Rattle.replay.proofs.Turns.{allowed, call-stops, call-goes}
-use Rattle.replay.specs.Playing.{nextOf}
+use Rattle.replay.specs.Inner.Steps.{nextOf}
 use native.Mathlib.Omega.{arith}
 use borrow.Author.Needs.{needs}
 use Rattle.replay.proofs.playing.turn.Statement.{statement}

@@ -1,0 +1,3 @@
+-- What functions below the public one promise.
+-- playing a script step by step
+pub mod Steps
