@@ -11,7 +11,7 @@ ghost use Rattle.calls.specs.Conversions.{openCall, convertCall, rollbackCall};
 ghost use Rattle.calls.specs.Book.{afterOpen, afterTurned};
 ghost use Rattle.answers.specs.Answers.{checkAnswer, runAnswer, openAnswer, heldAnswer, summary};
 ghost use Rattle.replay.specs.Playing.{replyOf, replayed};
-ghost use Rattle.replay.specs.Booked.{Stood, Booked};
+ghost use Rattle.replay.specs.Booked.{Booked};
 ghost use Rattle.exports.specs.Told.{checkTold, runTold, replayTold};
 
 fn check_told(answer: CheckAnswer) -> [u64; 4]
@@ -149,8 +149,8 @@ pub extern "C" fn corefun_rollback(
 }
 
 // Plays a script of calls on a journal. What is told: how it ended (0 played, 1 malformed, 2 a buffer too wide, 3 answers too short, 4 not
-// opened, 5 fields cut); how many calls were played, or the place in the script; and of a refused open the number and the place. What stands
-// played is the plain book's.
+// opened, 5 fields cut); how many calls were played, or the place in the script; and of a refused open the number and the place. The calls
+// before a cut are played, and those that are played are answered and written out as the plain book has it; after 1, 2 and 3 nothing is touched.
 #[no_mangle]
 pub extern "C" fn corefun_replay(
     program: &[u8],
@@ -164,7 +164,7 @@ pub extern "C" fn corefun_replay(
     ensures keeps { λ _. ⌜ now (journal .exit) ≡ (replayed (now (program .entry)) (now (script .entry)) (now (journal .entry)) (now (answers .entry)) (now (workspace .entry))) .journal ⌝ }
     ensures fills { λ _. ⌜ now (answers .exit) ≡ (replayed (now (program .entry)) (now (script .entry)) (now (journal .entry)) (now (answers .entry)) (now (workspace .entry))) .answers ⌝ }
     ensures clear { λ _. ⌜ now (workspace .exit) ≡ (replayed (now (program .entry)) (now (script .entry)) (now (journal .entry)) (now (answers .entry)) (now (workspace .entry))) .workspace ⌝ }
-    ensures book { λ _. ⌜ (Stood ((replayed (now (program .entry)) (now (script .entry)) (now (journal .entry)) (now (answers .entry)) (now (workspace .entry))) .reply) → Booked (now (program .entry)) (now (script .entry)) (now (journal .entry)) (now (answers .entry)) (length (now (workspace .entry))) ((replayed (now (program .entry)) (now (script .entry)) (now (journal .entry)) (now (answers .entry)) (now (workspace .entry))) .reply) (now (journal .exit)) (now (answers .exit))) ⌝ }
+    ensures book { λ _. ⌜ Booked (now (program .entry)) (now (script .entry)) (now (journal .entry)) (now (answers .entry)) (now (workspace .entry)) (now (journal .exit)) (now (answers .exit)) (now (workspace .exit)) ((replayed (now (program .entry)) (now (script .entry)) (now (journal .entry)) (now (answers .entry)) (now (workspace .entry))) .reply) ⌝ }
 {
     let answer = replay::replay(program, script, workspace, journal, answers);
     *told = replay_told(answer);

@@ -28,14 +28,14 @@ use package.Rattle.octets.proofs.Pastes.{length-pasted, pasted-behind}
 use package.Rattle.replay.specs.Scripts.{pick, stepAt, callOf, Placed, Script, callsOf, parseFrom}
 use package.Rattle.replay.specs.Lines.{line, lines}
 use package.Rattle.replay.specs.Playing.{Reply, played, cut, replyTo, Split, split, Result, ends}
-use package.Rattle.replay.specs.Inner.Steps.{halts, on, swept, leaves, roomFor, uncut, tested, Turn, unplayed, makes, turnOf, play}
+use package.Rattle.replay.specs.Inner.Steps.{hinders, halts, on, swept, leaves, roomFor, uncut, tested, Turn, unplayed, makes, turnOf, play}
 use package.Rattle.replay.specs.declared.scripts.Part.{Part}
 use package.Rattle.replay.specs.declared.scripts.Step.{Step}
 use package.Rattle.replay.specs.declared.scripts.Step.the-variants as steps
 use package.Rattle.replay.proofs.Parts.{small}
 use package.Rattle.replay.proofs.Lines.{length-line, zeros, zeros-length, swept-zeros}
 use package.Rattle.replay.proofs.Splits.{split-cuts, split-goes}
-use package.Rattle.replay.proofs.Parsed.{buffer-is, sized-is, placedAt, parse-ends, parse-breaks, parse-goes, hinders, Unhindered, unhindered, unbroken}
+use package.Rattle.replay.proofs.Parsed.{buffer-is, sized-is, placedAt, parse-ends, parse-breaks, parse-goes, Unhindered, unhindered, unbroken}
 
 ----------------------------------------------------------------
 -- Buffers
@@ -146,16 +146,21 @@ module _ (program s : List ℕ) (ws N : ℕ) where
       }
 
   module _ (P : Program) (loads : load program ≡ accepted P) (typed : WellTyped maxVariables maxNodes P) (bytes : AreBytes s) where
-    -- what is claimed of playing with this room, where nothing hinders it
+    -- the turn at a place, and what is claimed of playing from there on
+    abbrev turnAt : ℕ → ℕ → List ℕ → List ℕ → Turn
+    turnAt at count A j = turnOf program s (stepAt s at) at count (resized N j) A (zeros ws)
+
+    abbrev Plays : ℕ → ℕ → ℕ → List ℕ → List ℕ → Type 0
+    Plays room at count A j = Booking count A j (play room program s at count (resized N j) A (zeros ws)) (split program (parseFrom room ws s at .calls) j)
+
+    -- where the book keeps the journal and nothing hinders the calls
     abbrev Books : ℕ → Type 0
     Books room = (at count : ℕ) (A j : List ℕ) (b : Book) (ms : List Met) → Keeps P b j ms → length j ≤ N → 7 * count ≤ length A
-        → hinders N (length A - 7 * count) (parseFrom room ws s at) ≡ none
-        → Booking count A j (play room program s at count (resized N j) A (zeros ws)) (split program (parseFrom room ws s at .calls) j)
+        → hinders N (length A - 7 * count) (parseFrom room ws s at) ≡ none → Plays room at count A j
 
     halted-books : (room at count : ℕ) (A j : List ℕ) (r : Reply) (rest : List Placed) → length j ≤ N → 7 * count ≤ length A
-        → turnOf program s (stepAt s at) at count (resized N j) A (zeros ws) ≡ unplayed r (resized N j) A (zeros ws) → r ≡ replyTo (count + 0) rest
-        → split program (parseFrom (suc room) ws s at .calls) j ≡ record { made = []; rest = rest }
-        → Booking count A j (play (suc room) program s at count (resized N j) A (zeros ws)) (split program (parseFrom (suc room) ws s at .calls) j)
+        → turnAt at count A j ≡ unplayed r (resized N j) A (zeros ws) → r ≡ replyTo (count + 0) rest
+        → split program (parseFrom (suc room) ws s at .calls) j ≡ record { made = []; rest = rest } → Plays (suc room) at count A j
     halted-books room at count A j r rest h l t e g =
         subst (λ x. Booking count A j (play (suc room) program s at count (resized N j) A (zeros ws)) x) (sym g)
         (subst (λ y. Booking count A j y (record { made = []; rest = rest })) (sym (halted-play program s room at count (resized N j) A (zeros ws) r t))
@@ -194,15 +199,14 @@ module _ (program s : List ℕ) (ws N : ℕ) where
           roomy-tested (p .n) at (p .next) count (resized N j) (length A) (omega (arith, may .narrow, same-buffer, resized-length N j)) line-fits
           ∙ ap₂ (λ n m. pick (ltb n m) (halts (cut at)) (on (p .next))) (sym same-buffer) same-last ∙ ap (λ t. pick t (halts (cut at)) (on (p .next))) e
 
-      turn-is : (t : Bool) → ltb (buffer (c .call)) (lastField j) ≡ t → turnOf program s (stepAt s at) at count (resized N j) A (zeros ws)
+      turn-is : (t : Bool) → ltb (buffer (c .call)) (lastField j) ≡ t → turnAt at count A j
           ≡ makes (pick t (halts (cut at)) (on (p .next))) program (callOf (length (zeros ws)) s p) count (resized N j) A (zeros ws)
       unfolding turnOf
       turn-is t e =
           ap (λ x. turnOf program s x at count (resized N j) A (zeros ws)) q
           ∙ ap (λ m. makes m program (callOf (length (zeros ws)) s p) count (resized N j) A (zeros ws)) (tests t e)
 
-      cut-books : ltb (buffer (c .call)) (lastField j) ≡ true
-          → Booking count A j (play (suc room) program s at count (resized N j) A (zeros ws)) (split program (parseFrom (suc room) ws s at .calls) j)
+      cut-books : ltb (buffer (c .call)) (lastField j) ≡ true → Plays (suc room) at count A j
       unfolding makes replyTo c
       cut-books e =
           halted-books room at count A j (cut at) (c ∷ behind .calls) h l (turn-is true e) refl
@@ -232,7 +236,7 @@ module _ (program s : List ℕ) (ws N : ℕ) where
         leaves-is = ap (λ k. leaves program (callOf k s p) (resized N j)) (zeros-length ws)
             ∙ ap (call program (c .call)) (narrowed K N h (buffer (c .call)) fit)
 
-        turned : turnOf program s (stepAt s at) at count (resized N j) A (zeros ws) ≡ wentTo (p .next) N left count A (zeros ws)
+        turned : turnAt at count A j ≡ wentTo (p .next) N left count A (zeros ws)
         unfolding makes
         turned =
             turn-is false whole ∙ ap (λ (l : Left). wentTo (p .next) (length (resized N j)) l count A (zeros ws)) leaves-is
@@ -247,8 +251,7 @@ module _ (program s : List ℕ) (ws N : ℕ) where
         long : length (pasted A (7 * count) (line (left .told))) ≡ length A
         long = length-pasted A (7 * count) (line (left .told)) (omega (arith, line-fits, length-line (left .told)))
 
-        went-books : Books room
-            → Booking count A j (play (suc room) program s at count (resized N j) A (zeros ws)) (split program (parseFrom (suc room) ws s at .calls) j)
+        went-books : Books room → Plays (suc room) at count A j
         unfolding left behind
         went-books rec =
             given (rec (p .next) (count + 1) (pasted A (7 * count) (line (left .told))) (left .journal) _ _ (agrees .keeps) narrow (omega (arith, long, line-fits))
@@ -256,25 +259,24 @@ module _ (program s : List ℕ) (ws N : ℕ) where
             ∙ may .behind)) λ B.
             subst (λ x. Booking count A j (play (suc room) program s at count (resized N j) A (zeros ws)) x)
             (sym (ap (λ cs. split program cs j) calls-are ∙ split-goes program c (behind .calls) j (ltb-false _ _ whole)))
-            (subst (λ y. Booking count A j y (record { made = c ∷ split program (behind .calls) (left .journal) .made; rest = split program (behind .calls) (left .journal) .rest }))
+            (subst (λ y. Booking count A j y (let x = split program (behind .calls) (left .journal) in record { made = c ∷ x .made; rest = x .rest }))
             (sym went) (one-made count A j c _ _ sized (ltb-false _ _ whole) line-fits B))
 
-      call-books : Books room → (t : Bool) → ltb (buffer (c .call)) (lastField j) ≡ t
-          → Booking count A j (play (suc room) program s at count (resized N j) A (zeros ws)) (split program (parseFrom (suc room) ws s at .calls) j)
+      call-books : Books room → (t : Bool) → ltb (buffer (c .call)) (lastField j) ≡ t → Plays (suc room) at count A j
       call-books rec true e = cut-books e
       call-books rec false e = went-books e rec
 
     -- by what stands at the place
     step-books : (room : ℕ) → Books room → (at count : ℕ) (A j : List ℕ) (b : Book) (ms : List Met) → Keeps P b j ms → length j ≤ N → 7 * count ≤ length A
-        → hinders N (length A - 7 * count) (parseFrom (suc room) ws s at) ≡ none → (x : Step) → stepAt s at ≡ x
-        → Booking count A j (play (suc room) program s at count (resized N j) A (zeros ws)) (split program (parseFrom (suc room) ws s at .calls) j)
+        → hinders N (length A - 7 * count) (parseFrom (suc room) ws s at) ≡ none → (x : Step) → stepAt s at ≡ x → Plays (suc room) at count A j
     unfolding turnOf split replyTo c
     step-books room rec at count A j b ms K h l free steps.End q =
         halted-books room at count A j (played count) [] h l (ap (λ x. turnOf program s x at count (resized N j) A (zeros ws)) q)
         (ap played (let z : count ≡ count + 0 = omega arith in z)) (ap (λ (x : Script). split program (x .calls) j) (parse-ends ws s room at q))
     step-books room rec at count A j b ms K h l free steps.Malformed q =
         absurd (unbroken N (length A - 7 * count) at (sym (ap (hinders N (length A - 7 * count)) (parse-breaks ws s room at q)) ∙ free))
-    step-books room rec at count A j b ms K h l free (steps.Play p) q = call-books room at count A j b ms K h l p q free rec (ltb (buffer (callOf ws s p)) (lastField j)) refl
+    step-books room rec at count A j b ms K h l free (steps.Play p) q =
+        call-books room at count A j b ms K h l p q free rec (ltb (buffer (callOf ws s p)) (lastField j)) refl
 
     pub books : (room : ℕ) → Books room
     unfolding parseFrom

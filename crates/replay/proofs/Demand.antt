@@ -4,7 +4,7 @@ use mathlib.Core.Path.{_≡_, refl, sym, ap, ap₂, subst, _∙_}
 use mathlib.Core.Bool.{Bool, true, false}
 use mathlib.Core.Option.{Option, none, some}
 use mathlib.Core.List.{List, [], _∷_, _++_}
-use lib.ListN.{length, replicate}
+use lib.ListN.{length}
 use lib.Dec.{eqb, ltb}
 use package.Rattle.octets.specs.Runs.{pasted}
 use package.Rattle.octets.specs.Numbers.{AreBytes}
@@ -22,16 +22,17 @@ use package.Rattle.calls.proofs.Book.Turn.{Keeps}
 use package.Rattle.replay.specs.Scripts.{pick, openTag, convertTag, stepAt, givenOf, callOf, Placed, Script, callsOf, parseFrom, parse}
 use package.Rattle.replay.specs.Lines.{lines}
 use package.Rattle.replay.specs.Playing.{Reply, played, malformed, cut, tooWide, shortAnswers, replyOf, hindrance, Split, split, replyTo, Result, ends, opened, startsWith, playsUnless, replayed, ReplayMeans}
-use package.Rattle.replay.specs.Inner.Steps.{Next, halts, on, beginsAt, plays}
+use package.Rattle.replay.specs.Inner.Steps.{hinders}
 use package.Rattle.replay.specs.Booked.{CutAt, Stopped, ByTheBook, Untouched, Booked}
 use package.Rattle.replay.specs.declared.scripts.Part.{Part}
 use package.Rattle.replay.specs.declared.scripts.Step.{Step}
 use package.Rattle.replay.specs.declared.scripts.Step.the-variants as steps
 use package.Rattle.replay.specs.declared.replies.ReplayAnswer.{ReplayAnswer}
-use package.Rattle.replay.proofs.Parsed.{parse-ends, parse-breaks, parse-goes, hinders, unbroken, Unhindered, unhindered}
+use package.Rattle.replay.proofs.Lines.{zeros}
+use package.Rattle.replay.proofs.Parsed.{parse-ends, parse-breaks, parse-goes, unbroken, Unhindered, unhindered}
 use package.Rattle.replay.proofs.Splits.{split-all, rest-cuts}
 use package.Rattle.replay.proofs.Book.{kept-wide, last-is, last-wide}
-use package.Rattle.replay.proofs.Played.{behind, Free, free, playedOn, Opened, opened-books, told-is}
+use package.Rattle.replay.proofs.Played.{behind, Free, free, Opened, opened-books}
 
 ----------------------------------------------------------------
 -- Nothing was touched
@@ -39,9 +40,9 @@ use package.Rattle.replay.proofs.Played.{behind, Free, free, playedOn, 
 module _ (program s J A W : List ℕ) where
   -- what is claimed of a result
   abbrev Claimed : Result → Type 0
-  Claimed r = Booked program s J A W (r .reply) (r .journal) (r .answers) (r .workspace)
+  Claimed r = Booked program s J A W (r .journal) (r .answers) (r .workspace) (r .reply)
 
-  untouched : Untouched J A W J A W
+  untouched : Untouched program s J A W J A W
   untouched = record { kept = refl; told = refl; clear = refl }
 
   picked : (b : Bool) (r r′ : Reply) (m : Option Reply) → Claimed (ends r J A W) → (m ≡ some r′ → Claimed (ends r′ J A W)) → pick b (some r) m ≡ some r′
@@ -68,13 +69,13 @@ whole-script width room (c ∷ cs) broken e = whole-script width (room - 7) cs b
 
 module _ (program s J A W : List ℕ) (bytes : AreBytes s) where
   -- the open was accepted
-  module _ (p : Part) (q : stepAt s 0 ≡ steps.Play p) (F : Free program s J A W bytes p) (xs : List ℕ)
+  module _ (p : Part) (q : stepAt s 0 ≡ steps.Play p) (F : Free J A (length W) s p) (xs : List ℕ)
       (opening : callOf (length W) s p ≡ opens (length W) (givenOf s p) (p .n)) (op : openCall (length W) program (givenOf s p) (p .n) ≡ accepted xs) where
     O : Opened program s J A W bytes p xs
     O = opened-books program s J A W bytes p xs F op
 
     x : Split
-    x = split program (behind program s J A W bytes p .calls) xs
+    x = split program (behind (length W) s p .calls) xs
 
     run : CallRun
     run = callRun program (callsOf (x .made)) xs
@@ -83,9 +84,9 @@ module _ (program s J A W : List ℕ) (bytes : AreBytes s) where
     unfolding parse x
     stands =
         parse-goes (length W) s (length s) 0 p q
-        ∙ ap (λ c. record { calls = record { place = 0; call = c } ∷ behind program s J A W bytes p .calls; broken = behind program s J A W bytes p .broken }) opening
+        ∙ ap (λ c. record { calls = record { place = 0; call = c } ∷ behind (length W) s p .calls; broken = behind (length W) s p .broken }) opening
         ∙ ap₂ (λ cs b. record { calls = record { place = 0; call = opens (length W) (givenOf s p) (p .n) } ∷ cs; broken = b })
-        (sym (split-all program (behind program s J A W bytes p .calls) xs)) (whole-script (length J) (length A - 7) _ _ (F .behind))
+        (sym (split-all program (behind (length W) s p .calls) xs)) (whole-script (length J) (length A - 7) _ _ (F .behind))
 
     keeps : Keeps (O .P) (bookRun program (O .P) (callsOf (x .made)) (begun (O .v)) .book) (run .journal) (standing program (callsOf (x .made)) xs [])
     unfolding x run
@@ -96,7 +97,7 @@ module _ (program s J A W : List ℕ) (bytes : AreBytes s) where
     short = O .booking .short
 
     by-the-book : (r : Reply) (rest : List Placed) → x .rest ≡ rest → Stopped r (x .made) rest (resized (length J) (run .journal))
-        → ByTheBook program s J A W r (resized (length J) (run .journal)) (pasted A 0 (lines (isOpen ∷ run .answers)))
+        → ByTheBook program s J A W (resized (length J) (run .journal)) (pasted A 0 (lines (isOpen ∷ run .answers))) (zeros (length W)) r
     unfolding x run
     by-the-book r rest e st =
         given (demand3 program (O .P) (length W) (p .n) (givenOf s p) xs (O .v) (O .loads) (O .reads) op (callsOf (x .made)) (O .booking .premises)) λ D.
@@ -115,12 +116,13 @@ module _ (program s J A W : List ℕ) (bytes : AreBytes s) where
           books = refl;
           told = ap (λ ts. pasted A 0 (lines (isOpen ∷ ts))) (D .answers);
           kept = kept-wide keeps (length J) short ∙ ap (writeOut (length J)) (sym (standing-journal (keeps .rows)));
+          clear = refl;
           carried = D .carried;
         }
 
     -- by whether calls are left
     rest-booked : (rest : List Placed) → x .rest ≡ rest
-        → Claimed program s J A W (ends (replyTo (suc (length (x .made))) rest) (resized (length J) (run .journal)) (pasted A 0 (lines (isOpen ∷ run .answers))) (replicate (length W) 0))
+        → Claimed program s J A W (ends (replyTo (suc (length (x .made))) rest) (resized (length J) (run .journal)) (pasted A 0 (lines (isOpen ∷ run .answers))) (zeros (length W)))
     unfolding replyTo x run
     rest-booked [] e = by-the-book (played (suc (length (x .made)))) [] e (refl, refl)
     rest-booked (c ∷ more) e =
@@ -130,21 +132,21 @@ module _ (program s J A W : List ℕ) (bytes : AreBytes s) where
           stands = refl;
           place = refl;
           cuts = subst (λ k. buffer (c .call) < k) (last-is keeps (length J) short ∙ sym (last-wide keeps (length J) short))
-              (rest-cuts program (behind program s J A W bytes p .calls) xs c more e);
+              (rest-cuts program (behind (length W) s p .calls) xs c more e);
         })
 
-    accepted-booked : Claimed program s J A W (opened (accepted xs) program (behind program s J A W bytes p .calls) J A W)
+    accepted-booked : Claimed program s J A W (opened (accepted xs) program (behind (length W) s p .calls) J A W)
     unfolding opened cleared x run
     accepted-booked = rest-booked (x .rest) refl
 
-  open-booked : (p : Part) → stepAt s 0 ≡ steps.Play p → Free program s J A W bytes p → callOf (length W) s p ≡ opens (length W) (givenOf s p) (p .n)
-      → (x : Answer (List ℕ)) → openCall (length W) program (givenOf s p) (p .n) ≡ x → Claimed program s J A W (opened x program (behind program s J A W bytes p .calls) J A W)
+  open-booked : (p : Part) → stepAt s 0 ≡ steps.Play p → Free J A (length W) s p → callOf (length W) s p ≡ opens (length W) (givenOf s p) (p .n)
+      → (x : Answer (List ℕ)) → openCall (length W) program (givenOf s p) (p .n) ≡ x → Claimed program s J A W (opened x program (behind (length W) s p .calls) J A W)
   unfolding opened
   open-booked p q F o (refused n k) e = (refl, refl)
   open-booked p q F o (accepted xs) e = accepted-booked p q F xs o e
 
-  first-booked : (p : Part) → stepAt s 0 ≡ steps.Play p → Free program s J A W bytes p → (a b : Bool) → eqb (p .kind) openTag ≡ a → eqb (p .kind) convertTag ≡ b
-      → Claimed program s J A W (startsWith (callOf (length W) s p) program (behind program s J A W bytes p .calls) J A W)
+  first-booked : (p : Part) → stepAt s 0 ≡ steps.Play p → Free J A (length W) s p → (a b : Bool) → eqb (p .kind) openTag ≡ a → eqb (p .kind) convertTag ≡ b
+      → Claimed program s J A W (startsWith (callOf (length W) s p) program (behind (length W) s p .calls) J A W)
   unfolding startsWith callOf
   first-booked p q F true b e g = simp e (open-booked p q F (simp e) (openCall (length W) program (givenOf s p) (p .n)) refl)
   first-booked p q F false true e g = simp (e, g) (untouched program s J A W)
@@ -158,7 +160,7 @@ module _ (program s J A W : List ℕ) (bytes : AreBytes s) where
       subst (λ (x : Script). Claimed program s J A W (playsUnless none program (x .calls) J A W)) (sym (parse-breaks (length W) s (length s) 0 q)) (untouched program s J A W)
   start-booked e (steps.Play p) q =
       subst (λ (x : Script). Claimed program s J A W (playsUnless none program (x .calls) J A W)) (sym (parse-goes (length W) s (length s) 0 p q))
-      (first-booked p q (free program s J A W bytes p q e) (eqb (p .kind) openTag) (eqb (p .kind) convertTag) refl refl)
+      (first-booked p q (free J A (length W) s p q e) (eqb (p .kind) openTag) (eqb (p .kind) convertTag) refl refl)
 
   unless-booked : (x : Option Reply) → hinders (length J) (length A) (parse (length W) s) ≡ x → Claimed program s J A W (playsUnless x program (parse (length W) s .calls) J A W)
   unfolding playsUnless
@@ -170,22 +172,10 @@ module _ (program s J A W : List ℕ) (bytes : AreBytes s) where
   replay-book = unless-booked (hinders (length J) (length A) (parse (length W) s)) refl
 
   -- for an answer in code
-  pub replay-booked : (a : ReplayAnswer) (J′ A′ W′ : List ℕ) → ReplayMeans a (replayed program s J A W) J′ A′ W′ → Booked program s J A W (replyOf a) J′ A′ W′
+  pub replay-booked : (a : ReplayAnswer) (J′ A′ W′ : List ℕ) → ReplayMeans a (replayed program s J A W) J′ A′ W′ → Booked program s J A W J′ A′ W′ (replyOf a)
   replay-booked a J′ A′ W′ M =
-      subst (λ r. Booked program s J A W r J′ A′ W′) (sym (M .answer))
-      (subst (λ j. Booked program s J A W (replayed program s J A W .reply) j A′ W′) (sym (M .kept))
-      (subst (λ b. Booked program s J A W (replayed program s J A W .reply) (replayed program s J A W .journal) b W′) (sym (M .told))
-      (subst (λ w. Booked program s J A W (replayed program s J A W .reply) (replayed program s J A W .journal) (replayed program s J A W .answers) w) (sym (M .clear)) replay-book)))
-
-----------------------------------------------------------------
--- In code
-
-module _ (program s J A W : List ℕ) where
-  pub plays-stops : (a : ReplayAnswer) (m : Next) → halts (replyOf a) ≡ m → ReplayMeans a (plays m program s J A W) J A W
-  unfolding plays
-  plays-stops a m e = subst (λ m. ReplayMeans a (plays m program s J A W) J A W) e (record { answer = refl; kept = refl; told = refl; clear = refl })
-
-  pub plays-goes : (a : ReplayAnswer) (k : ℕ) (m : Next) (J′ A′ W′ : List ℕ) → on k ≡ m → ReplayMeans a (beginsAt (stepAt s 0) program s J A W) J′ A′ W′
-      → ReplayMeans a (plays m program s J A W) J′ A′ W′
-  unfolding plays
-  plays-goes a k m J′ A′ W′ e M = subst (λ m. ReplayMeans a (plays m program s J A W) J′ A′ W′) e M
+      let r = replayed program s J A W in
+      subst (Booked program s J A W J′ A′ W′) (sym (M .answer))
+      (subst (λ j. Booked program s J A W j A′ W′ (r .reply)) (sym (M .kept))
+      (subst (λ b. Booked program s J A W (r .journal) b W′ (r .reply)) (sym (M .told))
+      (subst (λ w. Booked program s J A W (r .journal) (r .answers) w (r .reply)) (sym (M .clear)) replay-book)))

@@ -7,12 +7,12 @@ pub mod Lines
 pub mod Fronts
 -- one turn, and the calls in turn
 pub mod Turns
--- reading all calls first
-pub mod Scans
 -- the first call
 pub mod Beginnings
 -- a script parsed, and what hinders its playing
 pub mod Parsed
+-- reading all calls first
+pub mod Scans
 -- calls split before the first that would cut the fields
 pub mod Splits
 -- the calls in turn, on a journal that the plain book keeps

@@ -1,4 +1,4 @@
--- A script parsed: its calls one by one, what hinders their playing, and that reading them in code finds just that.
+-- A script parsed: its calls one by one, and what hinders their playing.
 use Prim.Native.Nat.{ℕ, zero, suc, _+_, _*_, _-_, _≤_, _<_}
 use native.Mathlib.Omega.{arith}
 use mathlib.Core.Path.{_≡_, refl, sym, ap, ap₂, _∙_}
@@ -11,13 +11,12 @@ use borrow.Author.Tests.{ltb-true, ltb-false, lt-ltb, le-ltb}
 use package.Rattle.rules.specs.Limits.{maxFuel}
 use package.Rattle.calls.specs.Book.{Call, opens, converts, rollsBack, buffer}
 use package.Rattle.calls.specs.Claims.{Sized}
-use package.Rattle.replay.specs.Scripts.{pick, openTag, convertTag, stepAt, givenOf, callOf, Placed, Script, parseFrom}
-use package.Rattle.replay.specs.Playing.{Reply, malformed, tooWide, shortAnswers, hindrance}
-use package.Rattle.replay.specs.Inner.Steps.{Next, halts, on, roomFor, scan}
+use package.Rattle.replay.specs.Scripts.{pick, openTag, convertTag, stepAt, givenOf, callOf, Placed, parseFrom}
+use package.Rattle.replay.specs.Playing.{Reply, tooWide, shortAnswers, hindrance}
+use package.Rattle.replay.specs.Inner.Steps.{Next, halts, on, hinders, roomFor}
 use package.Rattle.replay.specs.declared.scripts.Part.{Part}
 use package.Rattle.replay.specs.declared.scripts.Step.{Step}
 use package.Rattle.replay.specs.declared.scripts.Step.the-variants as steps
-use package.Rattle.replay.proofs.Scans.{scan-end, scan-breaks, scan-stops, scan-goes}
 
 ----------------------------------------------------------------
 -- A call of a script
@@ -60,9 +59,6 @@ module _ (ws : ℕ) (s : List ℕ) (left at : ℕ) where
 ----------------------------------------------------------------
 -- What hinders the playing
 
-abbrev pub hinders : ℕ → ℕ → Script → Option Reply
-hinders width room x = hindrance width room (x .calls) (x .broken)
-
 some≢none : {A : Type 0} {a : A} → some a ≡ none → ⊥
 some≢none e = let z : _≡_ {A = ℕ} 0 1 = cc in omega arith
 
@@ -89,65 +85,54 @@ unfolding hindrance
 unbroken width room at e = some≢none e
 
 ----------------------------------------------------------------
--- Reading
+-- The tests of a call in code
 
--- what reading finds, `k` calls being there
-abbrev pub found : Option Reply → ℕ → Next
-found (some r) k = halts r
-found none k = on k
+-- what hinders, by the tests of a call and the calls behind it
+abbrev pub orElse : Next → Option Reply → Option Reply
+orElse (halts r) behind = some r
+orElse (on next) behind = behind
 
 -- the room behind `k` bytes
 room-behind : (room k : ℕ) → k ≤ room → (b : Bool) → ltb room (k + 7) ≡ b → ltb (room - k) 7 ≡ b
 room-behind room k h true e = let z : room < k + 7 = ltb-true room (k + 7) e in lt-ltb (room - k) 7 (omega arith)
 room-behind room k h false e = let z : k + 7 ≤ room = ltb-false room (k + 7) e in le-ltb (room - k) 7 (omega arith)
 
-module _ (ws width room : ℕ) (s : List ℕ) where
-  abbrev Finds : ℕ → ℕ → ℕ → Type 0
-  Finds left at count = scan left width room s at count
-      ≡ found (hinders width (room - 7 * count) (parseFrom left ws s at)) (count + length (parseFrom left ws s at .calls))
+by-tests : (a b : Bool) (at next : ℕ) (x : Option Reply)
+    → pick a (some (tooWide at)) (pick b (some shortAnswers) x) ≡ orElse (pick a (halts (tooWide at)) (pick b (halts shortAnswers) (on next))) x
+by-tests true b at next x = refl
+by-tests false true at next x = refl
+by-tests false false at next x = refl
 
-  -- by what the two tests of a call find
-  module _ (left at count : ℕ) (rec : (at count : ℕ) → 7 * count ≤ room → Finds left at count) (h : 7 * count ≤ room) (p : Part) (q : stepAt s at ≡ steps.Play p) where
-    -- the script behind the call
-    abbrev rest : Script
-    rest = parseFrom left ws s (p .next)
+pub call-hinders : (ws width room : ℕ) (s : List ℕ) (at count : ℕ) (p : Part) (cs : List Placed) (broken : Option ℕ) → 7 * count ≤ room
+    → hindrance width (room - 7 * count) (placedAt at ws s p ∷ cs) broken
+    ≡ orElse (roomFor (p .n) at (p .next) count width room) (hindrance width (room - 7 * (count + 1)) cs broken)
+unfolding hindrance roomFor
+call-hinders ws width room s at count p cs broken h =
+    ap₂ (λ n b. pick (ltb width n) (some (tooWide at)) (pick b (some shortAnswers) (hindrance width (room - 7 * count - 7) cs broken)))
+    (buffer-is ws s p) (room-behind room (7 * count) h (ltb room (7 * count + 7)) refl)
+    ∙ by-tests (ltb width (p .n)) (ltb room (7 * count + 7)) at (p .next) (hindrance width (room - 7 * count - 7) cs broken)
+    ∙ ap (λ r. orElse (roomFor (p .n) at (p .next) count width room) (hindrance width r cs broken))
+    (let z : room - 7 * count - 7 ≡ room - 7 * (count + 1) = omega arith in z)
 
-    abbrev hindered : Bool → Bool → Option Reply
-    hindered a b = pick a (some (tooWide at)) (pick b (some shortAnswers) (hindrance width (room - 7 * count - 7) (rest .calls) (rest .broken)))
+----------------------------------------------------------------
+-- The workspace's length, which calls carry, makes no difference there
 
-    abbrev next : Bool → Bool → Next
-    next a b = pick a (halts (tooWide at)) (pick b (halts shortAnswers) (on (p .next)))
+module _ (ws ws′ width : ℕ) (s : List ℕ) where
+  abbrev Same : ℕ → Type 0
+  Same left = (room at : ℕ) → hinders width room (parseFrom left ws s at) ≡ hinders width room (parseFrom left ws′ s at)
 
-    by-tests : (a b : Bool) → ltb room (7 * count + 7) ≡ b → roomFor (p .n) at (p .next) count width room ≡ next a b
-        → scan (suc left) width room s at count ≡ found (hindered a b) (count + suc (length (rest .calls)))
-    by-tests true b t e = sym (scan-stops s width room left at count p (tooWide at) (sym q) (sym e))
-    by-tests false true t e = sym (scan-stops s width room left at count p shortAnswers (sym q) (sym e))
-    by-tests false false t e =
-        let l : 7 * count + 7 ≤ room = ltb-false room (7 * count + 7) t in
-        sym (scan-goes s width room left at count p (p .next) (sym q) (sym e)) ∙ rec (p .next) (count + 1) (omega arith)
-        ∙ ap₂ (λ r k. found (hinders width r rest) k)
-        (let z : room - 7 * (count + 1) ≡ room - 7 * count - 7 = omega arith in z)
-        (let z : count + 1 + length (rest .calls) ≡ count + suc (length (rest .calls)) = omega arith in z)
-
-    call-finds : Finds (suc left) at count
-    unfolding roomFor hindrance
-    call-finds =
-        by-tests (ltb width (p .n)) (ltb room (7 * count + 7)) refl refl
-        ∙ ap₂ (λ n b. found (pick (ltb width n) (some (tooWide at)) (pick b (some shortAnswers) (hinders width (room - 7 * count - 7) rest))) (count + suc (length (rest .calls))))
-        (sym (buffer-is ws s p)) (sym (room-behind room (7 * count) h (ltb room (7 * count + 7)) refl))
-        ∙ ap (λ (x : Script). found (hinders width (room - 7 * count) x) (count + length (x .calls))) (sym (parse-goes ws s left at p q))
-
-  step-finds : (left at count : ℕ) → ((at count : ℕ) → 7 * count ≤ room → Finds left at count) → 7 * count ≤ room → (x : Step) → stepAt s at ≡ x → Finds (suc left) at count
+  step-same : (left : ℕ) → Same left → (room at : ℕ) (x : Step) → stepAt s at ≡ x
+      → hinders width room (parseFrom (suc left) ws s at) ≡ hinders width room (parseFrom (suc left) ws′ s at)
   unfolding hindrance
-  step-finds left at count rec h steps.End q =
-      sym (scan-end s width room left at count (sym q)) ∙ ap on (let z : count ≡ count + 0 = omega arith in z)
-      ∙ ap (λ (x : Script). found (hinders width (room - 7 * count) x) (count + length (x .calls))) (sym (parse-ends ws s left at q))
-  step-finds left at count rec h steps.Malformed q =
-      sym (scan-breaks s width room left at count (sym q))
-      ∙ ap (λ (x : Script). found (hinders width (room - 7 * count) x) (count + length (x .calls))) (sym (parse-breaks ws s left at q))
-  step-finds left at count rec h (steps.Play p) q = call-finds left at count rec h p q
+  step-same left rec room at steps.End q = ap (hinders width room) (parse-ends ws s left at q ∙ sym (parse-ends ws′ s left at q))
+  step-same left rec room at steps.Malformed q = ap (hinders width room) (parse-breaks ws s left at q ∙ sym (parse-breaks ws′ s left at q))
+  step-same left rec room at (steps.Play p) q =
+      ap (hinders width room) (parse-goes ws s left at p q)
+      ∙ ap₂ (λ n x. pick (ltb width n) (some (tooWide at)) (pick (ltb room 7) (some shortAnswers) x))
+      (buffer-is ws s p ∙ sym (buffer-is ws′ s p)) (rec (room - 7) (p .next))
+      ∙ ap (hinders width room) (sym (parse-goes ws′ s left at p q))
 
-  pub scan-finds : (left at count : ℕ) → 7 * count ≤ room → Finds left at count
-  unfolding scan parseFrom hindrance
-  scan-finds zero at count h = refl
-  scan-finds (suc left) at count h = step-finds left at count (scan-finds left) h (stepAt s at) refl
+  pub same-hindrance : (left : ℕ) → Same left
+  unfolding parseFrom
+  same-hindrance zero room at = refl
+  same-hindrance (suc left) room at = step-same left (same-hindrance left) room at (stepAt s at) refl

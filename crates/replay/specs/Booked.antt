@@ -4,7 +4,7 @@ use Prim.Native.Nat.{ℕ, suc, _<_}
 use mathlib.Core.Path.{_≡_}
 use mathlib.Core.Option.{none, some}
 use mathlib.Core.List.{List, [], _∷_, _++_}
-use lib.ListN.{length}
+use lib.ListN.{length, replicate}
 use package.Rattle.octets.specs.Runs.{pasted}
 use package.Rattle.rules.specs.Val.{Val}
 use package.Rattle.rules.specs.Term.{Program}
@@ -35,10 +35,10 @@ Stopped shortAnswers made rest journal = ⊥
 Stopped (unopened n p) made rest journal = ⊥
 Stopped (cut at) made rest journal = CutAt at rest journal
 
--- The script is an open of a journal for the program `P` with the record `first`, the calls `made`, and `rest`. It was played up to `rest`: the
--- answers' buffer starts with the book's answers, and the journal's is what the book writes out there.
-module _ (program script journal answers workspace : List ℕ) (r : Reply) (journal′ answers′ : List ℕ) where
-  pub record ByTheBook : Type 0 where
+module _ (program script journal answers workspace journal′ answers′ workspace′ : List ℕ) where
+  -- The script is an open of a journal for the program `P` with the record `first`, the calls `made`, and `rest`. It was played up to `rest`:
+  -- the answers' buffer starts with the book's answers, the journal's is what the book writes out there, and the workspace is clear.
+  pub record ByTheBook (r : Reply) : Type 0 where
     pub P : Program
     pub loads : load program ≡ accepted P
     pub bytes : List ℕ
@@ -54,21 +54,19 @@ module _ (program script journal answers workspace : List ℕ) (r : Reply) (jour
     pub books : book ≡ bookRun program P (callsOf made) (begun first)
     pub told : answers′ ≡ pasted answers 0 (lines (isOpen ∷ book .answers))
     pub kept : journal′ ≡ writeOut (length journal) (journalOf P (book .book))
+    pub clear : workspace′ ≡ replicate (length workspace) 0
     pub carried : CarriedThrough P (book .book .rows) (journalOf P (book .book) .entries) (book .book .first) (journalOf P (book .book) .held)
 
--- nothing was touched
-pub record Untouched (journal answers workspace journal′ answers′ workspace′ : List ℕ) : Type 0 where
-  pub kept : journal′ ≡ journal
-  pub told : answers′ ≡ answers
-  pub clear : workspace′ ≡ workspace
+  pub record Untouched : Type 0 where
+    pub kept : journal′ ≡ journal
+    pub told : answers′ ≡ answers
+    pub clear : workspace′ ≡ workspace
 
--- by the answer; an open that is refused clears the workspace (section 4)
-abbrev pub Booked : List ℕ → List ℕ → List ℕ → List ℕ → List ℕ → Reply → List ℕ → List ℕ → List ℕ → Type 0
-Booked program script journal answers workspace (played k) journal′ answers′ workspace′ =
-    ByTheBook program script journal answers workspace (played k) journal′ answers′
-Booked program script journal answers workspace (malformed at) journal′ answers′ workspace′ = Untouched journal answers workspace journal′ answers′ workspace′
-Booked program script journal answers workspace (tooWide at) journal′ answers′ workspace′ = Untouched journal answers workspace journal′ answers′ workspace′
-Booked program script journal answers workspace shortAnswers journal′ answers′ workspace′ = Untouched journal answers workspace journal′ answers′ workspace′
-Booked program script journal answers workspace (unopened n p) journal′ answers′ workspace′ = (journal′ ≡ journal) × (answers′ ≡ answers)
-Booked program script journal answers workspace (cut at) journal′ answers′ workspace′ =
-    ByTheBook program script journal answers workspace (cut at) journal′ answers′
+  -- by the answer; an open that is refused clears the workspace (`replayed`)
+  abbrev pub Booked : Reply → Type 0
+  Booked (played k) = ByTheBook (played k)
+  Booked (malformed at) = Untouched
+  Booked (tooWide at) = Untouched
+  Booked shortAnswers = Untouched
+  Booked (unopened n p) = (journal′ ≡ journal) × (answers′ ≡ answers)
+  Booked (cut at) = ByTheBook (cut at)

@@ -3,7 +3,6 @@
 use Prim.Native.Nat.{ℕ}
 use mathlib.Core.List.{List, [], _∷_, _++_}
 use package.Rattle.octets.specs.Numbers.{bytes16, bytes32}
-use package.Rattle.calls.specs.Answer.{Answer, accepted, refused}
 use package.Rattle.calls.specs.Book.{Told, isOpen, holds, refuses}
 
 abbrev pub lineLength : ℕ
@@ -24,14 +23,3 @@ unfoldable pub lines : List Told → List ℕ
 unfolding line
 lines [] = []
 lines (t ∷ ts) = line t ++ lines ts
-
--- the line of what a public call answers
-unfoldable pub checkLine : Answer (Unit {0}) → List ℕ
-unfolding line
-checkLine (accepted a) = line isOpen
-checkLine (refused n p) = line (refuses n p)
-
-unfoldable pub runLine : Answer (ℕ × ℕ) → List ℕ
-unfolding line
-runLine (accepted a) = line (holds (a .0) (a .1))
-runLine (refused n p) = line (refuses n p)

@@ -8,13 +8,13 @@ use crate::scripts::Step;
 use crate::told;
 use answers::CheckAnswer;
 ghost use mathlib.Core.Path.{_≡_};
-ghost use Prim.Native.Nat.{suc, _+_, _*_, _≤_};
+ghost use Prim.Native.Nat.{_*_, _≤_};
 ghost use lib.ListN.{length};
-ghost use Rattle.answers.specs.Answers.{checkAnswer};
-ghost use Rattle.replay.specs.Scripts.{stepAt, callOf};
+ghost use Rattle.rows.specs.Answers.{checkAnswer};
+ghost use Rattle.replay.specs.Scripts.{stepAt, callOf, parse};
 ghost use Rattle.replay.specs.Booked.{Booked};
 ghost use Rattle.replay.specs.Playing.{replyOf, replayed, ReplayMeans};
-ghost use Rattle.replay.specs.Inner.Steps.{nextOf, roomFor, tested, scan, beginsAt, makes, turnOf, play, follows, begins, TurnMeans};
+ghost use Rattle.replay.specs.Inner.Steps.{nextOf, stopOf, hinders, roomFor, tested, beginsAt, makes, turnOf, play, follows, begins, TurnMeans};
 
 // Is there room for the call at a place, with a buffer of `n` bytes, and for its line?
 fn fits(n: usize, at: usize, next: usize, count: usize, width: usize, room: usize) -> Move
@@ -50,7 +50,7 @@ fn test(n: usize, at: usize, next: usize, count: usize, journal: &[u8], room: us
 
 // Reads a script to its end: how many calls it has, all whole and with room.
 fn read_all(script: &[u8], width: usize, room: usize) -> Move
-    ensures { λ r. ⌜ nextOf r ≡ scan (suc (length (now (script .entry)))) width room (now (script .entry)) 0 0 ⌝ }
+    ensures { λ r. ⌜ stopOf r ≡ hinders width room (parse 0 (now (script .entry))) ⌝ }
 {
     let mut at: usize = 0;
     let mut count: usize = 0;
@@ -255,7 +255,7 @@ pub fn replay(
     answers: &mut [u8],
 ) -> ReplayAnswer
     ensures result { λ r. ⌜ ReplayMeans r (replayed (now (program .entry)) (now (script .entry)) (now (journal .entry)) (now (answers .entry)) (now (workspace .entry))) (now (journal .exit)) (now (answers .exit)) (now (workspace .exit)) ⌝ }
-    ensures book { λ r. ⌜ Booked (now (program .entry)) (now (script .entry)) (now (journal .entry)) (now (answers .entry)) (now (workspace .entry)) (replyOf r) (now (journal .exit)) (now (answers .exit)) (now (workspace .exit)) ⌝ }
+    ensures book { λ r. ⌜ Booked (now (program .entry)) (now (script .entry)) (now (journal .entry)) (now (answers .entry)) (now (workspace .entry)) (now (journal .exit)) (now (answers .exit)) (now (workspace .exit)) (replyOf r) ⌝ }
 {
     let read = read_all(script, journal.len(), answers.len());
     match read {

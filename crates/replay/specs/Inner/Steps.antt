@@ -1,8 +1,9 @@
--- Playing a script step by step, as the code does: what functions below the public one promise. It is `replayed` (Playing): proofs/Played. Laws:
--- proofs/Turns, proofs/Scans, proofs/Beginnings.
+-- A script that was read, played step by step as the code does: what functions below the public one promise. It is `replayed` (Playing):
+-- proofs/Played. Laws: proofs/Turns, proofs/Scans, proofs/Beginnings.
 use Prim.Native.Nat.{ℕ, zero, suc, _+_, _*_, _-_}
 use mathlib.Core.Path.{_≡_}
 use mathlib.Core.Bool.{cond}
+use mathlib.Core.Option.{Option, none, some}
 use mathlib.Core.List.{List, [], _∷_}
 use lib.ListN.{length, take, replicate}
 use lib.Dec.{eqb, ltb}
@@ -11,9 +12,9 @@ use package.Rattle.calls.specs.Answer.{Answer, accepted, refused}
 use package.Rattle.calls.specs.Conversions.{openCall}
 use package.Rattle.calls.specs.Book.{Call, buffer, Told, isOpen, holds, refuses, Left, resized, call}
 use package.Rattle.calls.specs.Claims.{lastField}
-use package.Rattle.replay.specs.Scripts.{pick, openTag, stepAt, givenOf, callOf}
+use package.Rattle.replay.specs.Scripts.{pick, openTag, stepAt, givenOf, callOf, Script}
 use package.Rattle.replay.specs.Lines.{line}
-use package.Rattle.replay.specs.Playing.{Reply, played, malformed, tooWide, shortAnswers, unopened, cut, replyOf, Result, ends}
+use package.Rattle.replay.specs.Playing.{Reply, played, malformed, tooWide, shortAnswers, unopened, cut, replyOf, hindrance, Result, ends}
 use package.Rattle.replay.specs.declared.scripts.Part.{Part}
 use package.Rattle.replay.specs.declared.scripts.Step.{Step}
 use package.Rattle.replay.specs.declared.scripts.Step.the-variants as steps
@@ -28,6 +29,14 @@ pub data Next : Type 0 where
 abbrev pub nextOf : Move → Next
 nextOf (moves.Stop r) = halts (replyOf r)
 nextOf (moves.To at) = on at
+
+-- what reading a script answers: why it is not played, if so
+abbrev pub stopOf : Move → Option Reply
+stopOf (moves.Stop r) = some (replyOf r)
+stopOf (moves.To count) = none
+
+abbrev pub hinders : ℕ → ℕ → Script → Option Reply
+hinders width room s = hindrance width room (s .calls) (s .broken)
 
 ----------------------------------------------------------------
 -- One call
@@ -89,7 +98,7 @@ turnOf program script (steps.Play p) at count journal answers workspace =
 -- All calls
 
 -- The calls from a place on, `count` calls being made; `left` bounds how many there are. Each is tested where it is made, with the tests
--- that the reading made (below) among them, so that a turn asks nothing of the script.
+-- that the reading made (`hindrance`) among them, so that a turn asks nothing of the script.
 unfoldable pub play : ℕ → List ℕ → List ℕ → ℕ → ℕ → List ℕ → List ℕ → List ℕ → Result
 unfolding turnOf
 play zero program script at count journal answers workspace = ends (malformed at) journal answers workspace
@@ -133,29 +142,6 @@ unfolding begins
 beginsAt steps.End program script journal answers workspace = ends (malformed 0) journal answers workspace
 beginsAt steps.Malformed program script journal answers workspace = ends (malformed 0) journal answers workspace
 beginsAt (steps.Play p) program script journal answers workspace = begins program script p journal answers workspace
-
--- A script is read to its end before any call is made: each call stands there whole, and there is room for it. `left` bounds how many
--- calls there are.
-unfoldable pub scan : ℕ → ℕ → ℕ → List ℕ → ℕ → ℕ → Next
-unfolding stepAt roomFor
-scan zero width room s at count = halts (malformed at)
-scan (suc left) width room s at count = elim (stepAt s at) [
-  | steps.End ↦ on count
-  | steps.Malformed ↦ halts (malformed at)
-  | steps.Play p ↦ elim (roomFor (p .n) at (p .next) count width room) [ halts r ↦ halts r | on next ↦ scan left width room s next (count + 1) ]
-]
-
--- what was read, played
-unfoldable pub plays : Next → List ℕ → List ℕ → List ℕ → List ℕ → List ℕ → Result
-unfolding beginsAt stepAt
-plays (halts r) program script journal answers workspace = ends r journal answers workspace
-plays (on k) program script journal answers workspace = beginsAt (stepAt script 0) program script journal answers workspace
-
--- a script, step by step
-unfoldable pub stepped : List ℕ → List ℕ → List ℕ → List ℕ → List ℕ → Result
-unfolding scan plays
-stepped program script journal answers workspace =
-    plays (scan (suc (length script)) (length journal) (length answers) script 0 0) program script journal answers workspace
 
 ----------------------------------------------------------------
 -- What the functions promise

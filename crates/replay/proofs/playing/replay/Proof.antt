@@ -1,7 +1,7 @@
 use mathlib.Core.Path.{sym, ap, _∙_}
-use Rattle.replay.proofs.Played.{played-means}
-use Rattle.replay.proofs.Demand.{plays-stops, plays-goes, replay-booked}
-use Rattle.replay.specs.Inner.Steps.{nextOf, stepped}
+use Rattle.replay.proofs.Played.{replay-stops, replay-goes}
+use Rattle.replay.proofs.Demand.{replay-booked}
+use Rattle.replay.specs.Inner.Steps.{stopOf}
 use Rattle.journal.proofs.Ends.{are-bytes}
 use borrow.Author.Needs.{needs}
 use Rattle.replay.proofs.playing.replay.Statement.{statement}
@@ -20,13 +20,11 @@ start-requires : tie.Need-start-requires
 start-requires c κs = search needs
 
 returns : tie.Need-returns
-unfolding stepped
 returns c =
     let a = c .before .before .before .before .before .before .before .before .before .args in
     let bytes = are-bytes (a .script .now) (c .before .before .before .before .before .before .before .shared-slice-known2 .given) in
-    let m = played-means (a .program .now) (a .script .now) (a .journal .now) (a .answers .now) (a .workspace .now) bytes _ _ _ _
-    (plays-stops (a .program .now) (a .script .now) (a .journal .now) (a .answers .now) (a .workspace .now) _ _
-    (sym (ap nextOf (c .before .read .given .1)) ∙ c .before .before .before .read-all .ensures)) in
+    let m = replay-stops (a .program .now) (a .script .now) (a .journal .now) (a .answers .now) (a .workspace .now) bytes _
+    (sym (ap stopOf (c .before .read .given .1)) ∙ c .before .before .before .read-all .ensures) in
     (m, replay-booked (a .program .now) (a .script .now) (a .journal .now) (a .answers .now) (a .workspace .now) bytes _ _ _ _ m)
 
 same-length : tie.Need-same-length
@@ -39,13 +37,11 @@ same-length-3 : tie.Need-same-length-3
 same-length-3 c = search needs
 
 returns-2 : tie.Need-returns-2
-unfolding stepped
 returns-2 c =
     let a = c .before .before .before .before .before .before .before .before .before .before .before .before .before .before .before .before .before .before .args in
     let bytes = are-bytes (a .script .now) (c .before .before .before .before .before .before .before .before .before .before .before .before .before .before .before .before .shared-slice-known2 .given) in
-    let m = played-means (a .program .now) (a .script .now) (a .journal .now) (a .answers .now) (a .workspace .now) bytes _ _ _ _
-    (plays-goes (a .program .now) (a .script .now) (a .journal .now) (a .answers .now) (a .workspace .now) _ _ _ _ _ _
-    (sym (ap nextOf (c .before .before .before .before .before .before .before .before .before .before .enum-told .given .1)) ∙ c .before .before .before .before .before .before .before .before .before .before .before .before .read-all .ensures) (c .before .before .before .before .before .before .start .ensures)) in
+    let m = replay-goes (a .program .now) (a .script .now) (a .journal .now) (a .answers .now) (a .workspace .now) bytes _ _ _ _
+    (sym (ap stopOf (c .before .before .before .before .before .before .before .before .before .before .enum-told .given .1)) ∙ c .before .before .before .before .before .before .before .before .before .before .before .before .read-all .ensures) (c .before .before .before .before .before .before .start .ensures) in
     (m, replay-booked (a .program .now) (a .script .now) (a .journal .now) (a .answers .now) (a .workspace .now) bytes _ _ _ _ m)
 
 pub replay-spec : {M : Type 1} → statement M

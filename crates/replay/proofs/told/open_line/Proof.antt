@@ -1,6 +1,7 @@
 use mathlib.Core.Path.{sym, ap, _∙_}
-use Rattle.answers.specs.Answers.{checkAnswer}
-use Rattle.replay.specs.Lines.{line, checkLine}
+use Rattle.rows.specs.Answers.{checkAnswer}
+use Rattle.replay.specs.Lines.{line}
+use Rattle.replay.specs.Inner.Told.{checkLine}
 use Rattle.replay.proofs.Lines.{refused-line}
 use borrow.Author.Needs.{needs}
 use Rattle.replay.proofs.told.open_line.Statement.{statement}

@@ -1,6 +1,7 @@
 use mathlib.Core.Path.{sym, ap, _∙_}
-use Rattle.answers.specs.Answers.{runAnswer}
-use Rattle.replay.specs.Lines.{line, runLine}
+use Rattle.rows.specs.Answers.{runAnswer}
+use Rattle.replay.specs.Lines.{line}
+use Rattle.replay.specs.Inner.Told.{runLine}
 use Rattle.replay.proofs.Lines.{refused-line}
 use borrow.Author.Needs.{needs}
 use Rattle.replay.proofs.told.turn_line.Statement.{statement}
