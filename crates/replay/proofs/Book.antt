@@ -79,7 +79,8 @@ wentTo to N l count A W = record {
 }
 
 module _ (program s : List ℕ) (room at count : ℕ) (J A W : List ℕ) where
-  halted-play : (r : Reply) → turnOf program s (stepAt s at) at count J A W ≡ unplayed r J A W → play (suc room) program s at count J A W ≡ ends r J A W
+  halted-play : (r : Reply) → turnOf program s (stepAt s at) at count J A W ≡ unplayed r J A W
+      → play (suc room) program s at count J A W ≡ ends r J A W
   unfolding play
   halted-play r e =
       let n : turnOf program s (stepAt s at) at count J A W .next ≡ halts r = ap (λ (t : Turn). t .next) e in
@@ -120,7 +121,8 @@ module _ (program s : List ℕ) (ws N : ℕ) where
       record { premises = tt; reply = e; kept = refl; short = h; told = sym (pasted-none A (7 * count)); within = omega arith; clear = refl }
 
   -- one call, and those behind it
-  one-made : (count : ℕ) (A j : List ℕ) (c : Placed) (r : Result) (x : Split) → Sized (c .call) → lastField j ≤ buffer (c .call) → 7 * count + 7 ≤ length A
+  one-made : (count : ℕ) (A j : List ℕ) (c : Placed) (r : Result) (x : Split) → Sized (c .call) → lastField j ≤ buffer (c .call)
+      → 7 * count + 7 ≤ length A
       → Booking (count + 1) (pasted A (7 * count) (line (call program (c .call) (resized (buffer (c .call)) j) .told)))
       (call program (c .call) (resized (buffer (c .call)) j) .journal) r x
       → Booking count A j r (record { made = c ∷ x .made; rest = x .rest })
@@ -139,7 +141,8 @@ module _ (program s : List ℕ) (ws N : ℕ) where
         reply = B .reply ∙ ap (λ k. replyTo k (x .rest)) (let y : count + 1 + length (x .made) ≡ count + suc (length (x .made)) = omega arith in y);
         kept = B .kept;
         short = B .short;
-        told = B .told ∙ ap (λ i. pasted (pasted A (7 * count) (line t)) i (lines ts)) (let q : 7 * (count + 1) ≡ 7 * count + length (line t) = omega arith in q)
+        told = B .told
+            ∙ ap (λ i. pasted (pasted A (7 * count) (line t)) i (lines ts)) (let q : 7 * (count + 1) ≡ 7 * count + length (line t) = omega arith in q)
             ∙ pasted-behind A (7 * count) (line t) h (lines ts);
         within = omega arith;
         clear = B .clear;
@@ -151,7 +154,8 @@ module _ (program s : List ℕ) (ws N : ℕ) where
     turnAt at count A j = turnOf program s (stepAt s at) at count (resized N j) A (zeros ws)
 
     abbrev Plays : ℕ → ℕ → ℕ → List ℕ → List ℕ → Type 0
-    Plays room at count A j = Booking count A j (play room program s at count (resized N j) A (zeros ws)) (split program (parseFrom room ws s at .calls) j)
+    Plays room at count A j =
+        Booking count A j (play room program s at count (resized N j) A (zeros ws)) (split program (parseFrom room ws s at .calls) j)
 
     -- where the book keeps the journal and nothing hinders the calls
     abbrev Books : ℕ → Type 0
@@ -163,8 +167,8 @@ module _ (program s : List ℕ) (ws N : ℕ) where
         → split program (parseFrom (suc room) ws s at .calls) j ≡ record { made = []; rest = rest } → Plays (suc room) at count A j
     halted-books room at count A j r rest h l t e g =
         subst (λ x. Booking count A j (play (suc room) program s at count (resized N j) A (zeros ws)) x) (sym g)
-        (subst (λ y. Booking count A j y (record { made = []; rest = rest })) (sym (halted-play program s room at count (resized N j) A (zeros ws) r t))
-        (none-made count A j r rest h l e))
+        (subst (λ y. Booking count A j y (record { made = []; rest = rest }))
+        (sym (halted-play program s room at count (resized N j) A (zeros ws) r t)) (none-made count A j r rest h l e))
 
     -- a call with room
     module _ (room at count : ℕ) (A j : List ℕ) (b : Book) (ms : List Met) (K : Keeps P b j ms) (h : length j ≤ N) (l : 7 * count ≤ length A)
@@ -181,7 +185,8 @@ module _ (program s : List ℕ) (ws N : ℕ) where
 
       may : Unhindered N (length A - 7 * count) (buffer (c .call)) (behind .calls) (behind .broken)
       unfolding c behind
-      may = unhindered N (length A - 7 * count) (placedAt at ws s p) _ _ (sym (ap (hinders N (length A - 7 * count)) (parse-goes ws s room at p q)) ∙ free)
+      may =
+          unhindered N (length A - 7 * count) (placedAt at ws s p) _ _ (sym (ap (hinders N (length A - 7 * count)) (parse-goes ws s room at p q)) ∙ free)
 
       same-buffer : buffer (c .call) ≡ p .n
       unfolding c
@@ -194,10 +199,12 @@ module _ (program s : List ℕ) (ws N : ℕ) where
       same-last : lastField (resized N j) ≡ lastField j
       same-last = last-wide K N h ∙ sym (last-is K N h)
 
-      tests : (t : Bool) → ltb (buffer (c .call)) (lastField j) ≡ t → tested (p .n) at (p .next) count (resized N j) (length A) ≡ pick t (halts (cut at)) (on (p .next))
+      tests : (t : Bool) → ltb (buffer (c .call)) (lastField j) ≡ t
+          → tested (p .n) at (p .next) count (resized N j) (length A) ≡ pick t (halts (cut at)) (on (p .next))
       tests t e =
           roomy-tested (p .n) at (p .next) count (resized N j) (length A) (omega (arith, may .narrow, same-buffer, resized-length N j)) line-fits
-          ∙ ap₂ (λ n m. pick (ltb n m) (halts (cut at)) (on (p .next))) (sym same-buffer) same-last ∙ ap (λ t. pick t (halts (cut at)) (on (p .next))) e
+          ∙ ap₂ (λ n m. pick (ltb n m) (halts (cut at)) (on (p .next))) (sym same-buffer) same-last
+          ∙ ap (λ t. pick t (halts (cut at)) (on (p .next))) e
 
       turn-is : (t : Bool) → ltb (buffer (c .call)) (lastField j) ≡ t → turnAt at count A j
           ≡ makes (pick t (halts (cut at)) (on (p .next))) program (callOf (length (zeros ws)) s p) count (resized N j) A (zeros ws)
@@ -242,21 +249,26 @@ module _ (program s : List ℕ) (ws N : ℕ) where
             turn-is false whole ∙ ap (λ (l : Left). wentTo (p .next) (length (resized N j)) l count A (zeros ws)) leaves-is
             ∙ ap (λ n. wentTo (p .next) n left count A (zeros ws)) (resized-length N j)
 
+        -- the answers with its line
+        A₁ : List ℕ
+        A₁ = pasted A (7 * count) (line (left .told))
+
         went : play (suc room) program s at count (resized N j) A (zeros ws)
-            ≡ play room program s (p .next) (count + 1) (resized N (left .journal)) (pasted A (7 * count) (line (left .told))) (zeros ws)
+            ≡ play room program s (p .next) (count + 1) (resized N (left .journal)) A₁ (zeros ws)
+        unfolding A₁
         went =
             went-play program s room at count (resized N j) A (zeros ws) (p .next) _ _ _ turned
-            ∙ ap (play room program s (p .next) (count + 1) (resized N (left .journal)) (pasted A (7 * count) (line (left .told)))) (swept-zeros (left .told) ws)
+            ∙ ap (play room program s (p .next) (count + 1) (resized N (left .journal)) A₁) (swept-zeros (left .told) ws)
 
-        long : length (pasted A (7 * count) (line (left .told))) ≡ length A
+        long : length A₁ ≡ length A
+        unfolding A₁
         long = length-pasted A (7 * count) (line (left .told)) (omega (arith, line-fits, length-line (left .told)))
 
         went-books : Books room → Plays (suc room) at count A j
-        unfolding left behind
+        unfolding left behind A₁
         went-books rec =
-            given (rec (p .next) (count + 1) (pasted A (7 * count) (line (left .told))) (left .journal) _ _ (agrees .keeps) narrow (omega (arith, long, line-fits))
-            (ap (λ r. hinders N r behind) (let z : length (pasted A (7 * count) (line (left .told))) - 7 * (count + 1) ≡ length A - 7 * count - 7 = omega (arith, long) in z)
-            ∙ may .behind)) λ B.
+            given (rec (p .next) (count + 1) A₁ (left .journal) _ _ (agrees .keeps) narrow (omega (arith, long, line-fits))
+            (ap (λ r. hinders N r behind) (let z : length A₁ - 7 * (count + 1) ≡ length A - 7 * count - 7 = omega (arith, long) in z) ∙ may .behind)) λ B.
             subst (λ x. Booking count A j (play (suc room) program s at count (resized N j) A (zeros ws)) x)
             (sym (ap (λ cs. split program cs j) calls-are ∙ split-goes program c (behind .calls) j (ltb-false _ _ whole)))
             (subst (λ y. Booking count A j y (let x = split program (behind .calls) (left .journal) in record { made = c ∷ x .made; rest = x .rest }))
@@ -267,8 +279,8 @@ module _ (program s : List ℕ) (ws N : ℕ) where
       call-books rec false e = went-books e rec
 
     -- by what stands at the place
-    step-books : (room : ℕ) → Books room → (at count : ℕ) (A j : List ℕ) (b : Book) (ms : List Met) → Keeps P b j ms → length j ≤ N → 7 * count ≤ length A
-        → hinders N (length A - 7 * count) (parseFrom (suc room) ws s at) ≡ none → (x : Step) → stepAt s at ≡ x → Plays (suc room) at count A j
+    step-books : (room : ℕ) → Books room → (at count : ℕ) (A j : List ℕ) (b : Book) (ms : List Met) → Keeps P b j ms → length j ≤ N
+        → 7 * count ≤ length A → hinders N (length A - 7 * count) (parseFrom (suc room) ws s at) ≡ none → (x : Step) → stepAt s at ≡ x → Plays (suc room) at count A j
     unfolding turnOf split replyTo c
     step-books room rec at count A j b ms K h l free steps.End q =
         halted-books room at count A j (played count) [] h l (ap (λ x. turnOf program s x at count (resized N j) A (zeros ws)) q)

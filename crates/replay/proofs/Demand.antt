@@ -21,7 +21,8 @@ use package.Rattle.calls.proofs.Book.Rows.{standing-journal}
 use package.Rattle.calls.proofs.Book.Turn.{Keeps}
 use package.Rattle.replay.specs.Scripts.{pick, openTag, convertTag, stepAt, givenOf, callOf, Placed, Script, callsOf, parseFrom, parse}
 use package.Rattle.replay.specs.Lines.{lines}
-use package.Rattle.replay.specs.Playing.{Reply, played, malformed, cut, tooWide, shortAnswers, replyOf, hindrance, Split, split, replyTo, Result, ends, opened, startsWith, playsUnless, replayed, ReplayMeans}
+use package.Rattle.replay.specs.Playing.{Reply, played, tooWide, shortAnswers, cut, replyOf, hindrance, Split, split, replyTo}
+use package.Rattle.replay.specs.Playing.{Result, ends, opened, startsWith, playsUnless, replayed, ReplayMeans}
 use package.Rattle.replay.specs.Inner.Steps.{hinders}
 use package.Rattle.replay.specs.Booked.{CutAt, Stopped, ByTheBook, Untouched, Booked}
 use package.Rattle.replay.specs.declared.scripts.Part.{Part}
@@ -45,8 +46,8 @@ module _ (program s J A W : List ℕ) where
   untouched : Untouched program s J A W J A W
   untouched = record { kept = refl; told = refl; clear = refl }
 
-  picked : (b : Bool) (r r′ : Reply) (m : Option Reply) → Claimed (ends r J A W) → (m ≡ some r′ → Claimed (ends r′ J A W)) → pick b (some r) m ≡ some r′
-      → Claimed (ends r′ J A W)
+  picked : (b : Bool) (r r′ : Reply) (m : Option Reply) → Claimed (ends r J A W) → (m ≡ some r′ → Claimed (ends r′ J A W))
+      → pick b (some r) m ≡ some r′ → Claimed (ends r′ J A W)
   picked true r r′ m h f e = subst (λ r. Claimed (ends r J A W)) (some-inj e) h
   picked false r r′ m h f e = f e
 
@@ -70,7 +71,8 @@ whole-script width room (c ∷ cs) broken e = whole-script width (room - 7) cs b
 module _ (program s J A W : List ℕ) (bytes : AreBytes s) where
   -- the open was accepted
   module _ (p : Part) (q : stepAt s 0 ≡ steps.Play p) (F : Free J A (length W) s p) (xs : List ℕ)
-      (opening : callOf (length W) s p ≡ opens (length W) (givenOf s p) (p .n)) (op : openCall (length W) program (givenOf s p) (p .n) ≡ accepted xs) where
+      (opening : callOf (length W) s p ≡ opens (length W) (givenOf s p) (p .n))
+      (op : openCall (length W) program (givenOf s p) (p .n) ≡ accepted xs) where
     O : Opened program s J A W bytes p xs
     O = opened-books program s J A W bytes p xs F op
 
@@ -80,17 +82,23 @@ module _ (program s J A W : List ℕ) (bytes : AreBytes s) where
     run : CallRun
     run = callRun program (callsOf (x .made)) xs
 
-    stands : parse (length W) s ≡ record { calls = record { place = 0; call = opens (length W) (givenOf s p) (p .n) } ∷ (x .made ++ x .rest); broken = none }
+    -- the open first
+    abbrev first : Placed
+    first = record { place = 0; call = opens (length W) (givenOf s p) (p .n) }
+
+    stands : parse (length W) s ≡ record { calls = first ∷ (x .made ++ x .rest); broken = none }
     unfolding parse x
     stands =
         parse-goes (length W) s (length s) 0 p q
         ∙ ap (λ c. record { calls = record { place = 0; call = c } ∷ behind (length W) s p .calls; broken = behind (length W) s p .broken }) opening
-        ∙ ap₂ (λ cs b. record { calls = record { place = 0; call = opens (length W) (givenOf s p) (p .n) } ∷ cs; broken = b })
+        ∙ ap₂ (λ cs b. record { calls = first ∷ cs; broken = b })
         (sym (split-all program (behind (length W) s p .calls) xs)) (whole-script (length J) (length A - 7) _ _ (F .behind))
 
     keeps : Keeps (O .P) (bookRun program (O .P) (callsOf (x .made)) (begun (O .v)) .book) (run .journal) (standing program (callsOf (x .made)) xs [])
     unfolding x run
-    keeps = runs program (O .P) (O .loads) (load-iff program (O .P) .0 (O .loads) .1) (callsOf (x .made)) (begun (O .v)) xs [] (O .keeps) (O .booking .premises) .1
+    keeps =
+        runs program (O .P) (O .loads) (load-iff program (O .P) .0 (O .loads) .1) (callsOf (x .made)) (begun (O .v)) xs [] (O .keeps)
+        (O .booking .premises) .1
 
     short : length (run .journal) ≤ length J
     unfolding x run
@@ -100,7 +108,8 @@ module _ (program s J A W : List ℕ) (bytes : AreBytes s) where
         → ByTheBook program s J A W (resized (length J) (run .journal)) (pasted A 0 (lines (isOpen ∷ run .answers))) (zeros (length W)) r
     unfolding x run
     by-the-book r rest e st =
-        given (demand3 program (O .P) (length W) (p .n) (givenOf s p) xs (O .v) (O .loads) (O .reads) op (callsOf (x .made)) (O .booking .premises)) λ D.
+        given (demand3 program (O .P) (length W) (p .n) (givenOf s p) xs (O .v) (O .loads) (O .reads) op (callsOf (x .made))
+        (O .booking .premises)) λ D.
         record {
           P = O .P;
           loads = O .loads;
@@ -110,7 +119,7 @@ module _ (program s J A W : List ℕ) (bytes : AreBytes s) where
           reads = O .reads;
           made = x .made;
           rest = rest;
-          stands = stands ∙ ap (λ cs. record { calls = record { place = 0; call = opens (length W) (givenOf s p) (p .n) } ∷ (x .made ++ cs); broken = none }) e;
+          stands = stands ∙ ap (λ cs. record { calls = first ∷ (x .made ++ cs); broken = none }) e;
           stopped = st;
           book = bookRun program (O .P) (callsOf (x .made)) (begun (O .v));
           books = refl;
@@ -122,7 +131,8 @@ module _ (program s J A W : List ℕ) (bytes : AreBytes s) where
 
     -- by whether calls are left
     rest-booked : (rest : List Placed) → x .rest ≡ rest
-        → Claimed program s J A W (ends (replyTo (suc (length (x .made))) rest) (resized (length J) (run .journal)) (pasted A 0 (lines (isOpen ∷ run .answers))) (zeros (length W)))
+        → Claimed program s J A W (ends (replyTo (suc (length (x .made))) rest) (resized (length J) (run .journal))
+        (pasted A 0 (lines (isOpen ∷ run .answers))) (zeros (length W)))
     unfolding replyTo x run
     rest-booked [] e = by-the-book (played (suc (length (x .made)))) [] e (refl, refl)
     rest-booked (c ∷ more) e =
@@ -135,34 +145,38 @@ module _ (program s J A W : List ℕ) (bytes : AreBytes s) where
               (rest-cuts program (behind (length W) s p .calls) xs c more e);
         })
 
-    accepted-booked : Claimed program s J A W (opened (accepted xs) program (behind (length W) s p .calls) J A W)
+    accepted-booked : Claimed program s J A W (opened program J A W (accepted xs) (behind (length W) s p .calls))
     unfolding opened cleared x run
     accepted-booked = rest-booked (x .rest) refl
 
   open-booked : (p : Part) → stepAt s 0 ≡ steps.Play p → Free J A (length W) s p → callOf (length W) s p ≡ opens (length W) (givenOf s p) (p .n)
-      → (x : Answer (List ℕ)) → openCall (length W) program (givenOf s p) (p .n) ≡ x → Claimed program s J A W (opened x program (behind (length W) s p .calls) J A W)
+      → (x : Answer (List ℕ)) → openCall (length W) program (givenOf s p) (p .n) ≡ x
+      → Claimed program s J A W (opened program J A W x (behind (length W) s p .calls))
   unfolding opened
   open-booked p q F o (refused n k) e = (refl, refl)
   open-booked p q F o (accepted xs) e = accepted-booked p q F xs o e
 
-  first-booked : (p : Part) → stepAt s 0 ≡ steps.Play p → Free J A (length W) s p → (a b : Bool) → eqb (p .kind) openTag ≡ a → eqb (p .kind) convertTag ≡ b
-      → Claimed program s J A W (startsWith (callOf (length W) s p) program (behind (length W) s p .calls) J A W)
+  first-booked : (p : Part) → stepAt s 0 ≡ steps.Play p → Free J A (length W) s p
+      → (a b : Bool) → eqb (p .kind) openTag ≡ a → eqb (p .kind) convertTag ≡ b
+      → Claimed program s J A W (startsWith program J A W (callOf (length W) s p) (behind (length W) s p .calls))
   unfolding startsWith callOf
   first-booked p q F true b e g = simp e (open-booked p q F (simp e) (openCall (length W) program (givenOf s p) (p .n)) refl)
   first-booked p q F false true e g = simp (e, g) (untouched program s J A W)
   first-booked p q F false false e g = simp (e, g) (untouched program s J A W)
 
-  start-booked : hinders (length J) (length A) (parse (length W) s) ≡ none → (x : Step) → stepAt s 0 ≡ x
-      → Claimed program s J A W (playsUnless none program (parse (length W) s .calls) J A W)
+  -- of the script's result, by what hinders it
+  abbrev Unless : Option Reply → Script → Type 0
+  Unless x y = Claimed program s J A W (playsUnless program J A W x (y .calls))
+
+  start-booked : hinders (length J) (length A) (parse (length W) s) ≡ none → (x : Step) → stepAt s 0 ≡ x → Unless none (parse (length W) s)
   unfolding playsUnless parse
-  start-booked e steps.End q = subst (λ (x : Script). Claimed program s J A W (playsUnless none program (x .calls) J A W)) (sym (parse-ends (length W) s (length s) 0 q)) (untouched program s J A W)
-  start-booked e steps.Malformed q =
-      subst (λ (x : Script). Claimed program s J A W (playsUnless none program (x .calls) J A W)) (sym (parse-breaks (length W) s (length s) 0 q)) (untouched program s J A W)
+  start-booked e steps.End q = subst (Unless none) (sym (parse-ends (length W) s (length s) 0 q)) (untouched program s J A W)
+  start-booked e steps.Malformed q = subst (Unless none) (sym (parse-breaks (length W) s (length s) 0 q)) (untouched program s J A W)
   start-booked e (steps.Play p) q =
-      subst (λ (x : Script). Claimed program s J A W (playsUnless none program (x .calls) J A W)) (sym (parse-goes (length W) s (length s) 0 p q))
+      subst (Unless none) (sym (parse-goes (length W) s (length s) 0 p q))
       (first-booked p q (free J A (length W) s p q e) (eqb (p .kind) openTag) (eqb (p .kind) convertTag) refl refl)
 
-  unless-booked : (x : Option Reply) → hinders (length J) (length A) (parse (length W) s) ≡ x → Claimed program s J A W (playsUnless x program (parse (length W) s .calls) J A W)
+  unless-booked : (x : Option Reply) → hinders (length J) (length A) (parse (length W) s) ≡ x → Unless x (parse (length W) s)
   unfolding playsUnless
   unless-booked (some r) e = hindered program s J A W (length J) (length A) _ _ r e
   unless-booked none e = start-booked e (stepAt s 0) refl
@@ -172,7 +186,8 @@ module _ (program s J A W : List ℕ) (bytes : AreBytes s) where
   replay-book = unless-booked (hinders (length J) (length A) (parse (length W) s)) refl
 
   -- for an answer in code
-  pub replay-booked : (a : ReplayAnswer) (J′ A′ W′ : List ℕ) → ReplayMeans a (replayed program s J A W) J′ A′ W′ → Booked program s J A W J′ A′ W′ (replyOf a)
+  pub replay-booked : (a : ReplayAnswer) (J′ A′ W′ : List ℕ) → ReplayMeans a (replayed program s J A W) J′ A′ W′
+      → Booked program s J A W J′ A′ W′ (replyOf a)
   replay-booked a J′ A′ W′ M =
       let r = replayed program s J A W in
       subst (Booked program s J A W J′ A′ W′) (sym (M .answer))

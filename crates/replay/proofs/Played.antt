@@ -28,7 +28,8 @@ use package.Rattle.calls.proofs.Journal.Buffers.{length-writeOut}
 use package.Rattle.octets.proofs.Pastes.{length-pasted, pasted-behind}
 use package.Rattle.replay.specs.Scripts.{pick, openTag, convertTag, stepAt, givenOf, callOf, Script, callsOf, parseFrom, parse}
 use package.Rattle.replay.specs.Lines.{line, lines}
-use package.Rattle.replay.specs.Playing.{Reply, malformed, replyOf, split, replyTo, Result, ends, opened, startsWith, playsUnless, replayed, ReplayMeans}
+use package.Rattle.replay.specs.Playing.{Reply, malformed, replyOf, split, replyTo}
+use package.Rattle.replay.specs.Playing.{Result, ends, opened, startsWith, playsUnless, replayed, ReplayMeans}
 use package.Rattle.replay.specs.Inner.Steps.{hinders, swept, play, opensTo, begins, beginsAt}
 use package.Rattle.replay.specs.declared.scripts.Part.{Part}
 use package.Rattle.replay.specs.declared.scripts.Step.{Step}
@@ -39,7 +40,8 @@ use package.Rattle.replay.proofs.Parsed.{buffer-is, placedAt, parse-end
 use package.Rattle.replay.proofs.Book.{Booking, books}
 
 same-result : {r : Result} {a : Reply} {j b w : List ℕ} → r .reply ≡ a → r .journal ≡ j → r .answers ≡ b → r .workspace ≡ w → r ≡ ends a j b w
-same-result {r} {a} {j} {b} {w} e f g h = let z : ends (r .reply) (r .journal) (r .answers) (r .workspace) ≡ ends a j b w = cc in z
+same-result {r} {a} {j} {b} {w} e f g h =
+    let z : ends (r .reply) (r .journal) (r .answers) (r .workspace) ≡ ends a j b w = cc in z
 
 -- the script behind its first call
 abbrev pub behind : ℕ → List ℕ → Part → Script
@@ -49,7 +51,8 @@ behind ws s p = parseFrom (length s) ws s (p .next)
 abbrev pub Free : List ℕ → List ℕ → ℕ → List ℕ → Part → Type 0
 Free J A ws s p = Unhindered (length J) (length A) (p .n) (behind ws s p .calls) (behind ws s p .broken)
 
-pub free : (J A : List ℕ) (ws : ℕ) (s : List ℕ) (p : Part) → stepAt s 0 ≡ steps.Play p → hinders (length J) (length A) (parse ws s) ≡ none → Free J A ws s p
+pub free : (J A : List ℕ) (ws : ℕ) (s : List ℕ) (p : Part) → stepAt s 0 ≡ steps.Play p → hinders (length J) (length A) (parse ws s) ≡ none
+    → Free J A ws s p
 unfolding parse
 free J A ws s p q e =
     subst (λ n. Unhindered (length J) (length A) n (behind ws s p .calls) (behind ws s p .broken)) (buffer-is ws s p)
@@ -70,9 +73,11 @@ module _ (program s J A W : List ℕ) (bytes : AreBytes s) where
     pub loads : load program ≡ accepted P
     pub reads : value (givenOf s p) ≡ some v
     pub keeps : Keeps P (begun v) xs []
-    pub booking : Booking program s (length W) (length J) 1 (pasted A 0 (line isOpen)) xs (playedOn p xs) (split program (behind (length W) s p .calls) xs)
+    pub booking : Booking program s (length W) (length J) 1 (pasted A 0 (line isOpen)) xs (playedOn p xs)
+        (split program (behind (length W) s p .calls) xs)
 
-  pub opened-books : (p : Part) (xs : List ℕ) → Free J A (length W) s p → openCall (length W) program (givenOf s p) (p .n) ≡ accepted xs → Opened p xs
+  pub opened-books : (p : Part) (xs : List ℕ) → Free J A (length W) s p → openCall (length W) program (givenOf s p) (p .n) ≡ accepted xs
+      → Opened p xs
   opened-books p xs F op =
       given (open-says (length W) program (givenOf s p) (p .n) op) λ (P, v, lp, vr, l, x).
       let A₁ = pasted A 0 (line isOpen) in
@@ -87,12 +92,13 @@ module _ (program s J A W : List ℕ) (bytes : AreBytes s) where
         keeps = K;
         booking = books program s (length W) (length J) P lp (load-iff program P .0 lp .1) bytes (length s) (p .next) 1 A₁ xs (begun v) [] K
             (omega (arith, ap length x, length-writeOut (p .n) (journal v []) l, F .narrow)) (omega (arith, long, F .line))
-            (ap (λ r. hinders (length J) r (behind (length W) s p)) (let z : length A₁ - 7 * 1 ≡ length A - 7 = omega (arith, long) in z) ∙ F .behind);
+            (ap (λ r. hinders (length J) r (behind (length W) s p)) (let z : length A₁ - 7 * 1 ≡ length A - 7 = omega (arith, long) in z)
+            ∙ F .behind);
       }
 
   -- what it and the calls behind it answered, as lines
-  told-is : (p : Part) (xs : List ℕ) → Free J A (length W) s p → Opened p xs
-      → playedOn p xs .answers ≡ pasted A 0 (lines (isOpen ∷ callRun program (callsOf (split program (behind (length W) s p .calls) xs .made)) xs .answers))
+  told-is : (p : Part) (xs : List ℕ) → Free J A (length W) s p → Opened p xs → playedOn p xs .answers
+      ≡ pasted A 0 (lines (isOpen ∷ callRun program (callsOf (split program (behind (length W) s p .calls) xs .made)) xs .answers))
   unfolding lines
   told-is p xs F O =
       let ls = lines (callRun program (callsOf (split program (behind (length W) s p .calls) xs .made)) xs .answers) in
@@ -105,7 +111,7 @@ module _ (program s J A W : List ℕ) (bytes : AreBytes s) where
 
   -- by the open's answer
   open-is : (p : Part) → Free J A (length W) s p → (x : Answer (List ℕ)) → openCall (length W) program (givenOf s p) (p .n) ≡ x
-      → opensTo x program s (p .next) J A W ≡ opened x program (behind (length W) s p .calls) J A W
+      → opensTo x program s (p .next) J A W ≡ opened program J A W x (behind (length W) s p .calls)
   unfolding opensTo opened swept cleared
   open-is p F (refused n q) e = refl
   open-is p F (accepted xs) e =
@@ -115,27 +121,31 @@ module _ (program s J A W : List ℕ) (bytes : AreBytes s) where
       (O .booking .kept) (told-is p xs F O) (O .booking .clear)
 
   -- by its kind
-  first-is : (p : Part) → Free J A (length W) s p → begins program s p J A W ≡ startsWith (callOf (length W) s p) program (behind (length W) s p .calls) J A W
+  first-is : (p : Part) → Free J A (length W) s p
+      → begins program s p J A W ≡ startsWith program J A W (callOf (length W) s p) (behind (length W) s p .calls)
   unfolding begins callOf startsWith
   first-is p F =
       simp (le-ltb _ _ (F .narrow), le-ltb _ _ (F .line)) (by (eqb (p .kind) openTag) (eqb (p .kind) convertTag))
     where
       by : (a b : Bool) → pick a (opensTo (openCall (length W) program (givenOf s p) (p .n)) program s (p .next) J A W) (ends (malformed 0) J A W)
-          ≡ startsWith (pick a (opens (length W) (givenOf s p) (p .n))
+          ≡ startsWith program J A W (pick a (opens (length W) (givenOf s p) (p .n))
           (pick b (converts (length W) (p .fuel) (p .function) (givenOf s p) (p .n)) (rollsBack (length W) (p .fuel) (p .n))))
-          program (behind (length W) s p .calls) J A W
+          (behind (length W) s p .calls)
       by true b = open-is p F (openCall (length W) program (givenOf s p) (p .n)) refl
       by false true = refl
       by false false = refl
 
+  -- the script's result, by what hinders it
+  abbrev unless : Option Reply → Script → Result
+  unless x y = playsUnless program J A W x (y .calls)
+
   -- by what stands at the start
   start-is : hinders (length J) (length A) (parse (length W) s) ≡ none → (x : Step) → stepAt s 0 ≡ x
-      → beginsAt x program s J A W ≡ playsUnless none program (parse (length W) s .calls) J A W
+      → beginsAt x program s J A W ≡ unless none (parse (length W) s)
   unfolding beginsAt playsUnless parse
-  start-is e steps.End q = ap (λ (x : Script). playsUnless none program (x .calls) J A W) (sym (parse-ends (length W) s (length s) 0 q))
-  start-is e steps.Malformed q = ap (λ (x : Script). playsUnless none program (x .calls) J A W) (sym (parse-breaks (length W) s (length s) 0 q))
-  start-is e (steps.Play p) q =
-      first-is p (free J A (length W) s p q e) ∙ ap (λ (x : Script). playsUnless none program (x .calls) J A W) (sym (parse-goes (length W) s (length s) 0 p q))
+  start-is e steps.End q = ap (unless none) (sym (parse-ends (length W) s (length s) 0 q))
+  start-is e steps.Malformed q = ap (unless none) (sym (parse-breaks (length W) s (length s) 0 q))
+  start-is e (steps.Play p) q = first-is p (free J A (length W) s p q e) ∙ ap (unless none) (sym (parse-goes (length W) s (length s) 0 p q))
 
   ----------------------------------------------------------------
   -- In code
@@ -145,15 +155,16 @@ module _ (program s J A W : List ℕ) (bytes : AreBytes s) where
   unfolding parse
   reading-is x e = same-hindrance (length W) 0 (length J) s (suc (length s)) (length A) 0 ∙ sym e
 
-  pub replay-stops : (a : ReplayAnswer) → some (replyOf a) ≡ hinders (length J) (length A) (parse 0 s) → ReplayMeans a (replayed program s J A W) J A W
+  pub replay-stops : (a : ReplayAnswer) → some (replyOf a) ≡ hinders (length J) (length A) (parse 0 s)
+      → ReplayMeans a (replayed program s J A W) J A W
   unfolding replayed playsUnless
   replay-stops a e =
-      subst (λ x. ReplayMeans a (playsUnless x program (parse (length W) s .calls) J A W) J A W) (sym (reading-is (some (replyOf a)) e))
+      subst (λ x. ReplayMeans a (unless x (parse (length W) s)) J A W) (sym (reading-is (some (replyOf a)) e))
       (record { answer = refl; kept = refl; told = refl; clear = refl })
 
   pub replay-goes : (a : ReplayAnswer) (J′ A′ W′ : List ℕ) → none ≡ hinders (length J) (length A) (parse 0 s)
       → ReplayMeans a (beginsAt (stepAt s 0) program s J A W) J′ A′ W′ → ReplayMeans a (replayed program s J A W) J′ A′ W′
   unfolding replayed
   replay-goes a J′ A′ W′ e M =
-      subst (λ x. ReplayMeans a (playsUnless x program (parse (length W) s .calls) J A W) J′ A′ W′) (sym (reading-is none e))
+      subst (λ x. ReplayMeans a (unless x (parse (length W) s)) J′ A′ W′) (sym (reading-is none e))
       (subst (λ r. ReplayMeans a r J′ A′ W′) (start-is (reading-is none e) (stepAt s 0) refl) M)

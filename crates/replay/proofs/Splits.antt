@@ -22,7 +22,8 @@ module _ (program : List ℕ) where
   abbrev left : Placed → List ℕ → List ℕ
   left c j = call program (c .call) (resized (buffer (c .call)) j) .journal
 
-  pub split-cuts : (c : Placed) (cs : List Placed) (j : List ℕ) → buffer (c .call) < lastField j → split program (c ∷ cs) j ≡ record { made = []; rest = c ∷ cs }
+  pub split-cuts : (c : Placed) (cs : List Placed) (j : List ℕ) → buffer (c .call) < lastField j
+      → split program (c ∷ cs) j ≡ record { made = []; rest = c ∷ cs }
   unfolding split
   split-cuts c cs j h = simp (lt-ltb _ _ h)
 
@@ -46,13 +47,15 @@ module _ (program : List ℕ) where
 
   -- the first call that is not made would cut the fields of the journal as it stands
   abbrev Cuts : Split → List ℕ → Type 0
-  Cuts x j = (c : Placed) (more : List Placed) → x .rest ≡ c ∷ more → buffer (c .call) < lastField (callRun program (callsOf (x .made)) j .journal)
+  Cuts x j = (c : Placed) (more : List Placed) → x .rest ≡ c ∷ more
+      → buffer (c .call) < lastField (callRun program (callsOf (x .made)) j .journal)
 
-  cuts-by : (c : Placed) (cs : List Placed) (j : List ℕ) → Cuts (split program cs (left c j)) (left c j) → (b : Bool) → ltb (buffer (c .call)) (lastField j) ≡ b
-      → Cuts (split program (c ∷ cs) j) j
+  cuts-by : (c : Placed) (cs : List Placed) (j : List ℕ) → Cuts (split program cs (left c j)) (left c j)
+      → (b : Bool) → ltb (buffer (c .call)) (lastField j) ≡ b → Cuts (split program (c ∷ cs) j) j
   unfolding callRun callsOf
   cuts-by c cs j rec true e =
-      subst (λ x. Cuts x j) (sym (split-cuts c cs j (ltb-true _ _ e))) λ c′ more q. subst (λ (y : Placed). buffer (y .call) < lastField j) (head-is q) (ltb-true _ _ e)
+      subst (λ x. Cuts x j) (sym (split-cuts c cs j (ltb-true _ _ e))) λ c′ more q.
+      subst (λ (y : Placed). buffer (y .call) < lastField j) (head-is q) (ltb-true _ _ e)
   cuts-by c cs j rec false e = subst (λ x. Cuts x j) (sym (split-goes c cs j (ltb-false _ _ e))) rec
 
   pub rest-cuts : (cs : List Placed) (j : List ℕ) → Cuts (split program cs j) j

@@ -46,8 +46,8 @@ replyOf (replies.Cut at) = cut at
 ----------------------------------------------------------------
 -- Before a call is made
 
--- Why the calls are not played in a journal's buffer of `width` bytes, with `room` bytes for their lines, if so: what is met first from the
--- script's start, a buffer that is too wide, a line too many, or the place where the script is broken.
+-- Why a script is not played in a journal's buffer of `width` bytes, with `room` bytes for the lines, if so: the first of these, from its
+-- start on: a call with a wider buffer, a line without room, the place where the script is broken.
 unfoldable pub hindrance : ℕ → ℕ → List Placed → Option ℕ → Option Reply
 unfolding buffer
 hindrance width room [] none = none
@@ -90,36 +90,42 @@ pub record Result : Type 0 where
 abbrev pub ends : Reply → List ℕ → List ℕ → List ℕ → Result
 ends r journal answers workspace = record { reply = r; journal = journal; answers = answers; workspace = workspace }
 
--- The first open, answered so; if it is accepted, the calls `cs` behind it: `callRun` of those that are made, zeros behind the journal's fields.
-unfoldable pub opened : Answer (List ℕ) → List ℕ → List Placed → List ℕ → List ℕ → List ℕ → Result
-unfolding cleared split callRun callsOf resized pasted lines replyTo
-opened (refused n p) program cs journal answers workspace = ends (unopened n p) journal answers (cleared {A = List ℕ} (refused n p) workspace)
-opened (accepted xs) program cs journal answers workspace =
-    let behind = split program cs xs in
-    let run = callRun program (callsOf (behind .made)) xs in
-    ends (replyTo (suc (length (behind .made))) (behind .rest)) (resized (length journal) (run .journal)) (pasted answers 0 (lines (isOpen ∷ run .answers)))
-    (cleared (accepted xs) workspace)
+module _ (program journal answers workspace : List ℕ) where
+  -- The first open's answer, and the calls `cs` behind it. If it leaves `xs` in its buffer, they are `callRun` up to a cut; in the whole buffer
+  -- zeros stand behind.
+  unfoldable pub opened : Answer (List ℕ) → List Placed → Result
+  unfolding cleared split callRun callsOf resized pasted lines replyTo
+  opened (refused n p) cs = ends (unopened n p) journal answers (cleared {A = List ℕ} (refused n p) workspace)
+  opened (accepted xs) cs =
+      let x = split program cs xs in
+      let run = callRun program (callsOf (x .made)) xs in
+      record {
+        reply = replyTo (suc (length (x .made))) (x .rest);
+        journal = resized (length journal) (run .journal);
+        answers = pasted answers 0 (lines (isOpen ∷ run .answers));
+        workspace = cleared (accepted xs) workspace;
+      }
 
--- the first call is an open
-unfoldable pub startsWith : Call → List ℕ → List Placed → List ℕ → List ℕ → List ℕ → Result
-unfolding opened openCall
-startsWith (opens ws v n) program cs journal answers workspace = opened (openCall ws program v n) program cs journal answers workspace
-startsWith (converts ws fuel fn anc n) program cs journal answers workspace = ends (malformed 0) journal answers workspace
-startsWith (rollsBack ws fuel n) program cs journal answers workspace = ends (malformed 0) journal answers workspace
+  -- the first call is an open
+  unfoldable pub startsWith : Call → List Placed → Result
+  unfolding opened openCall
+  startsWith (opens ws v n) cs = opened (openCall ws program v n) cs
+  startsWith (converts ws fuel fn anc n) cs = ends (malformed 0) journal answers workspace
+  startsWith (rollsBack ws fuel n) cs = ends (malformed 0) journal answers workspace
 
--- the calls of a script, unless something hinders their playing
-unfoldable pub playsUnless : Option Reply → List ℕ → List Placed → List ℕ → List ℕ → List ℕ → Result
-unfolding startsWith
-playsUnless (some r) program cs journal answers workspace = ends r journal answers workspace
-playsUnless none program [] journal answers workspace = ends (malformed 0) journal answers workspace
-playsUnless none program (c ∷ cs) journal answers workspace = startsWith (c .call) program cs journal answers workspace
+  -- all calls, unless something hinders their playing: then nothing is touched
+  unfoldable pub playsUnless : Option Reply → List Placed → Result
+  unfolding startsWith
+  playsUnless (some r) cs = ends r journal answers workspace
+  playsUnless none [] = ends (malformed 0) journal answers workspace
+  playsUnless none (c ∷ cs) = startsWith (c .call) cs
 
 -- what playing a script answers and leaves
 unfoldable pub replayed : List ℕ → List ℕ → List ℕ → List ℕ → List ℕ → Result
 unfolding parse hindrance playsUnless
 replayed program script journal answers workspace =
     let s = parse (length workspace) script in
-    playsUnless (hindrance (length journal) (length answers) (s .calls) (s .broken)) program (s .calls) journal answers workspace
+    playsUnless program journal answers workspace (hindrance (length journal) (length answers) (s .calls) (s .broken)) (s .calls)
 
 -- a script was played: the answer, and what the buffers are afterwards
 pub record ReplayMeans (a : ReplayAnswer) (r : Result) (journal′ answers′ workspace′ : List ℕ) : Type 0 where

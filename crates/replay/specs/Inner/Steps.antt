@@ -158,4 +158,3 @@ pub record TurnMeans (m : Move) (t : Turn) (journal′ answers′ workspace′ :
   pub kept : journal′ ≡ t .journal
   pub told : answers′ ≡ t .answers
   pub clear : workspace′ ≡ t .workspace
-
