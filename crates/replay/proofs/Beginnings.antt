@@ -18,13 +18,21 @@ use package.Rattle.rows.specs.declared.answers.CheckAnswer.the-variants as chec
 use package.Rattle.replay.specs.Lines.{line}
 use package.Rattle.replay.specs.Inner.Told.{checkLine}
 use package.Rattle.replay.specs.Playing.{unopened, ends, ReplayMeans}
-use package.Rattle.replay.specs.Inner.Steps.{swept, play, follows, opensTo, begins, beginsAt}
+use package.Rattle.replay.specs.Inner.Steps.{swept, play, follows, opensTo, begins, beginsAt, Ahead}
 use package.Rattle.replay.specs.declared.scripts.Part.{Part}
 use package.Rattle.replay.specs.declared.scripts.Step.{Step}
 use package.Rattle.replay.specs.declared.scripts.Step.the-variants as steps
 use package.Rattle.replay.specs.declared.replies.ReplayAnswer.{ReplayAnswer}
 use package.Rattle.replay.specs.declared.replies.ReplayAnswer.the-variants as replies
 use package.Rattle.replay.proofs.Fronts.{resized-longer}
+use package.Rattle.replay.proofs.Parsed.{ahead-as}
+
+-- the journal's buffer with a front part of the same length written anew
+pub front-ahead : (s : List ℕ) (n : ℕ) (f J : List ℕ) (room at : ℕ) → n ≤ length J → length f ≡ length (take n J) → Ahead s (length J) room at 1
+    → (n ≤ length (f ++ drop n J)) × Ahead s (length (f ++ drop n J)) room at 1
+front-ahead s n f J room at h e H =
+    let z : length (f ++ drop n J) ≡ length J = omega (arith, length-append f (drop n J), length-drop n J, e, length-take-le n J h) in
+    (omega arith, ahead-as s z refl H)
 
 module _ (program s : List ℕ) (p : Part) (J A W : List ℕ) where
   ----------------------------------------------------------------

@@ -8,7 +8,7 @@ use mathlib.Core.Option.{none}
 use mathlib.Core.List.{List, [], _∷_, _++_, append-nil}
 use lib.ListN.{length, take, drop, length-append, take-append-drop}
 use lib.Dec.{ltb}
-use borrow.Author.Tests.{ltb-true, ltb-false, le-ltb}
+use borrow.Author.Tests.{ltb-true, ltb-false}
 use package.Rattle.octets.specs.Runs.{pasted}
 use package.Rattle.octets.specs.Numbers.{AreBytes}
 use package.Rattle.rules.specs.Limits.{maxVariables, maxNodes}
@@ -28,7 +28,7 @@ use package.Rattle.octets.proofs.Pastes.{length-pasted, pasted-behind}
 use package.Rattle.replay.specs.Scripts.{pick, stepAt, callOf, Placed, Script, callsOf, parseFrom}
 use package.Rattle.replay.specs.Lines.{line, lines}
 use package.Rattle.replay.specs.Playing.{Reply, played, cut, replyTo, Split, split, Result, ends}
-use package.Rattle.replay.specs.Inner.Steps.{hinders, halts, on, swept, leaves, roomFor, uncut, tested, Turn, unplayed, makes, turnOf, play}
+use package.Rattle.replay.specs.Inner.Steps.{hinders, halts, on, swept, leaves, tested, Turn, unplayed, makes, turnOf, play}
 use package.Rattle.replay.specs.declared.scripts.Part.{Part}
 use package.Rattle.replay.specs.declared.scripts.Step.{Step}
 use package.Rattle.replay.specs.declared.scripts.Step.the-variants as steps
@@ -93,12 +93,6 @@ module _ (program s : List ℕ) (room at count : ℕ) (J A W : List ℕ) where
   went-play to J′ A′ W′ e =
       let n : turnOf program s (stepAt s at) at count J A W .next ≡ on to = ap (λ (t : Turn). t .next) e in
       rw (n, play) (ap (λ (t : Turn). play room program s to (count + 1) (t .journal) (t .answers) (t .workspace)) e)
-
--- a call that has room is tested for a cut alone
-roomy-tested : (n at next count : ℕ) (J : List ℕ) (room : ℕ) → n ≤ length J → 7 * count + 7 ≤ room
-    → tested n at next count J room ≡ pick (ltb n (lastField J)) (halts (cut at)) (on next)
-unfolding tested roomFor uncut
-roomy-tested n at next count J room h l = simp (le-ltb _ _ h, le-ltb _ _ l)
 
 ----------------------------------------------------------------
 -- All calls
@@ -199,12 +193,9 @@ module _ (program s : List ℕ) (ws N : ℕ) where
       same-last : lastField (resized N j) ≡ lastField j
       same-last = last-wide K N h ∙ sym (last-is K N h)
 
-      tests : (t : Bool) → ltb (buffer (c .call)) (lastField j) ≡ t
-          → tested (p .n) at (p .next) count (resized N j) (length A) ≡ pick t (halts (cut at)) (on (p .next))
-      tests t e =
-          roomy-tested (p .n) at (p .next) count (resized N j) (length A) (omega (arith, may .narrow, same-buffer, resized-length N j)) line-fits
-          ∙ ap₂ (λ n m. pick (ltb n m) (halts (cut at)) (on (p .next))) (sym same-buffer) same-last
-          ∙ ap (λ t. pick t (halts (cut at)) (on (p .next))) e
+      tests : (t : Bool) → ltb (buffer (c .call)) (lastField j) ≡ t → tested (p .n) at (p .next) (resized N j) ≡ pick t (halts (cut at)) (on (p .next))
+      unfolding tested
+      tests t e = ap₂ (λ n m. pick (ltb n m) (halts (cut at)) (on (p .next))) (sym same-buffer) same-last ∙ ap (λ t. pick t (halts (cut at)) (on (p .next))) e
 
       turn-is : (t : Bool) → ltb (buffer (c .call)) (lastField j) ≡ t → turnAt at count A j
           ≡ makes (pick t (halts (cut at)) (on (p .next))) program (callOf (length (zeros ws)) s p) count (resized N j) A (zeros ws)

@@ -1,6 +1,8 @@
 -- Laws of scripts, by subject.
 -- a call that stands in a script
 pub mod Parts
+-- a script parsed, and what hinders its playing
+pub mod Parsed
 -- the lines of answers, and the workspace after a call
 pub mod Lines
 -- front parts of a buffer, and one call made there
@@ -9,8 +11,6 @@ pub mod Fronts
 pub mod Turns
 -- the first call
 pub mod Beginnings
--- a script parsed, and what hinders its playing
-pub mod Parsed
 -- reading all calls first
 pub mod Scans
 -- calls split before the first that would cut the fields

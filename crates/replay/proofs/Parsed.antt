@@ -1,7 +1,7 @@
 -- A script parsed: its calls one by one, and what hinders their playing.
 use Prim.Native.Nat.{ℕ, zero, suc, _+_, _*_, _-_, _≤_, _<_}
 use native.Mathlib.Omega.{arith}
-use mathlib.Core.Path.{_≡_, refl, sym, ap, ap₂, _∙_}
+use mathlib.Core.Path.{_≡_, refl, sym, ap, ap₂, subst, _∙_}
 use mathlib.Core.Bool.{Bool, true, false}
 use mathlib.Core.Option.{Option, none, some}
 use mathlib.Core.List.{List, [], _∷_}
@@ -11,12 +11,13 @@ use borrow.Author.Tests.{ltb-true, ltb-false, lt-ltb, le-ltb}
 use package.Rattle.rules.specs.Limits.{maxFuel}
 use package.Rattle.calls.specs.Book.{Call, opens, converts, rollsBack, buffer}
 use package.Rattle.calls.specs.Claims.{Sized}
-use package.Rattle.replay.specs.Scripts.{pick, openTag, convertTag, stepAt, givenOf, callOf, Placed, parseFrom}
+use package.Rattle.replay.specs.Scripts.{pick, openTag, convertTag, stepAt, givenOf, callOf, Placed, parseFrom, parse}
 use package.Rattle.replay.specs.Playing.{Reply, tooWide, shortAnswers, hindrance}
-use package.Rattle.replay.specs.Inner.Steps.{Next, halts, on, hinders, roomFor}
+use package.Rattle.replay.specs.Inner.Steps.{Next, halts, on, hinders, roomFor, Ahead}
 use package.Rattle.replay.specs.declared.scripts.Part.{Part}
 use package.Rattle.replay.specs.declared.scripts.Step.{Step}
 use package.Rattle.replay.specs.declared.scripts.Step.the-variants as steps
+use package.Rattle.replay.proofs.Parts.{Within, within}
 
 ----------------------------------------------------------------
 -- A call of a script
@@ -138,3 +139,45 @@ module _ (ws ws′ width : ℕ) (s : List ℕ) where
   unfolding parseFrom
   same-hindrance zero room at = refl
   same-hindrance (suc left) room at = step-same left (same-hindrance left) room at (stepAt s at) refl
+
+----------------------------------------------------------------
+-- Nothing hinders the calls from a place on
+
+pub ahead-starts : (s : List ℕ) (width room : ℕ) → none ≡ hinders width room (parse 0 s) → Ahead s width room 0 0
+unfolding parse
+ahead-starts s width room e = record {
+  inside = omega arith;
+  few = omega arith;
+  line = omega arith;
+  free = ap₂ (λ l r. hinders width r (parseFrom l 0 s 0)) (let z : suc (length s) - 0 ≡ suc (length s) = omega arith in z)
+      (let z : room - 7 * 0 ≡ room = omega arith in z) ∙ sym e;
+}
+
+module _ (s : List ℕ) (width room at count : ℕ) (H : Ahead s width room at count) (p : Part) (q : stepAt s at ≡ steps.Play p) where
+  -- the call there has room, and so have those behind it
+  ahead-free : Unhindered width (room - 7 * count) (buffer (callOf 0 s p)) (parseFrom (length s - count) 0 s (p .next) .calls)
+      (parseFrom (length s - count) 0 s (p .next) .broken)
+  ahead-free =
+      unhindered width (room - 7 * count) (placedAt at 0 s p) _ _ (sym (ap (hinders width (room - 7 * count)) (parse-goes 0 s (length s - count) at p q))
+      ∙ ap (λ l. hinders width (room - 7 * count) (parseFrom l 0 s at))
+      (let z : suc (length s - count) ≡ suc (length s) - count = omega (arith, H .few, H .inside) in z) ∙ H .free)
+
+  pub ahead-narrow : p .n ≤ width
+  ahead-narrow = omega (arith, ahead-free .narrow, buffer-is 0 s p)
+
+  pub ahead-line : 7 * count + 7 ≤ room
+  ahead-line = omega (arith, ahead-free .line)
+
+  pub ahead-goes : Ahead s width room (p .next) (count + 1)
+  ahead-goes = record {
+    inside = within s at q .inside;
+    few = omega (arith, within s at q .further, H .few);
+    line = omega (arith, ahead-line);
+    free = ap₂ (λ l r. hinders width r (parseFrom l 0 s (p .next))) (let z : suc (length s) - (count + 1) ≡ length s - count = omega arith in z)
+        (let z : room - 7 * (count + 1) ≡ room - 7 * count - 7 = omega arith in z) ∙ ahead-free .behind;
+  }
+
+-- in buffers as long
+pub ahead-as : (s : List ℕ) {width width′ room room′ at count : ℕ} → width′ ≡ width → room′ ≡ room → Ahead s width room at count → Ahead s width′ room′ at count
+ahead-as s {width} {width′} {room} {room′} {at} {count} e f H =
+    subst (λ w. Ahead s w room′ at count) (sym e) (subst (λ r. Ahead s width r at count) (sym f) H)

@@ -6,8 +6,7 @@ use mathlib.Core.Bool.{Bool, true, false}
 use mathlib.Core.Option.{Option, none, some}
 use mathlib.Core.List.{List, [], _∷_}
 use lib.ListN.{length}
-use lib.Dec.{eqb, ltb}
-use borrow.Author.Tests.{le-ltb}
+use lib.Dec.{eqb}
 use package.Rattle.octets.specs.Runs.{pasted}
 use package.Rattle.octets.specs.Numbers.{AreBytes}
 use package.Rattle.rules.specs.Val.{Val}
@@ -124,8 +123,7 @@ module _ (program s J A W : List ℕ) (bytes : AreBytes s) where
   first-is : (p : Part) → Free J A (length W) s p
       → begins program s p J A W ≡ startsWith program J A W (callOf (length W) s p) (behind (length W) s p .calls)
   unfolding begins callOf startsWith
-  first-is p F =
-      simp (le-ltb _ _ (F .narrow), le-ltb _ _ (F .line)) (by (eqb (p .kind) openTag) (eqb (p .kind) convertTag))
+  first-is p F = by (eqb (p .kind) openTag) (eqb (p .kind) convertTag)
     where
       by : (a b : Bool) → pick a (opensTo (openCall (length W) program (givenOf s p) (p .n)) program s (p .next) J A W) (ends (malformed 0) J A W)
           ≡ startsWith program J A W (pick a (opens (length W) (givenOf s p) (p .n))

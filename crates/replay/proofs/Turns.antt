@@ -13,7 +13,7 @@ use package.Rattle.calls.specs.Claims.{lastField}
 use package.Rattle.replay.specs.Scripts.{pick, stepAt, callOf}
 use package.Rattle.replay.specs.Lines.{line}
 use package.Rattle.replay.specs.Playing.{Reply, tooWide, shortAnswers, cut, replyOf, ReplayMeans}
-use package.Rattle.replay.specs.Inner.Steps.{Next, halts, on, roomFor, uncut, tested, makes, turnOf, play, Made, TurnMeans}
+use package.Rattle.replay.specs.Inner.Steps.{Next, halts, on, roomFor, tested, makes, turnOf, play, Made, Ahead, TurnMeans}
 use package.Rattle.replay.specs.declared.scripts.Part.{Part}
 use package.Rattle.replay.specs.declared.scripts.Step.{Step}
 use package.Rattle.replay.specs.declared.scripts.Step.the-variants as steps
@@ -21,7 +21,8 @@ use package.Rattle.replay.specs.declared.replies.ReplayAnswer.{ReplayAns
 use package.Rattle.replay.specs.declared.replies.ReplayAnswer.the-variants as replies
 use package.Rattle.replay.specs.declared.replies.Move.{Move}
 use package.Rattle.replay.specs.declared.replies.Move.the-variants as moves
-use package.Rattle.replay.proofs.Parts.{within}
+use package.Rattle.replay.proofs.Parts.{Within, within}
+use package.Rattle.replay.proofs.Parsed.{ahead-goes, ahead-as}
 
 ----------------------------------------------------------------
 -- The tests
@@ -31,13 +32,6 @@ halts≢on e = let z : _≡_ {A = ℕ} 0 1 = cc in omega arith
 
 on-inj : {k l : ℕ} → on k ≡ on l → k ≡ l
 on-inj e = cc
-
--- a call that may be made
-pub record Allowed (n next to count room : ℕ) (journal : List ℕ) : Type 0 where
-  pub place : next ≡ to
-  pub narrow : n ≤ length journal
-  pub line : 7 * count + 7 ≤ room
-  pub whole : lastField journal ≤ n
 
 -- by the test that picked an end
 passed : {R : Type 0} (b : Bool) (r : Reply) (m : Next) {to : ℕ} → pick b (halts r) m ≡ on to → (b ≡ false → m ≡ on to → R) → R
@@ -56,34 +50,18 @@ roomy n at next to count width room e =
     passed (ltb width n) (tooWide at) _ e λ t₁ e₁. passed (ltb room (7 * count + 7)) shortAnswers _ e₁ λ t₂ e₂.
     record { place = on-inj e₂; narrow = ltb-false width n t₁; line = ltb-false room (7 * count + 7) t₂ }
 
-uncut-on : (m : Next) (n at to : ℕ) (journal : List ℕ) → uncut m n at journal ≡ on to → (m ≡ on to) × (lastField journal ≤ n)
-unfolding uncut
-uncut-on (halts r) n at to journal e = absurd (halts≢on e)
-uncut-on (on k) n at to journal e = passed (ltb n (lastField journal)) (cut at) (on k) e λ t m. (m, ltb-false n (lastField journal) t)
-
-pub allowed : (n at next to count : ℕ) (journal : List ℕ) (room : ℕ) → tested n at next count journal room ≡ on to → Allowed n next to count room journal
+tested-on : (n at next to : ℕ) (journal : List ℕ) → tested n at next journal ≡ on to → next ≡ to
 unfolding tested
-allowed n at next to count journal room e =
-    let u = uncut-on (roomFor n at next count (length journal) room) n at to journal e in
-    let r = roomy n at next to count (length journal) room (u .0) in
-    record { place = r .place; narrow = r .narrow; line = r .line; whole = u .1 }
+tested-on n at next to journal e = passed (ltb n (lastField journal)) (cut at) (on next) e λ t m. on-inj m
 
 -- the tests in code
-pub test-stops : (r : Reply) (m : Next) (n at : ℕ) (journal : List ℕ) → halts r ≡ m → halts r ≡ uncut m n at journal
-unfolding uncut
-test-stops r m n at journal e = ap (λ m. uncut m n at journal) e
+pub test-cuts : (n at next end : ℕ) (journal : List ℕ) → end ≡ lastField journal → n < end → halts (cut at) ≡ tested n at next journal
+unfolding tested
+test-cuts n at next end journal q l = let z : n < lastField journal = omega (arith, q) in simp (lt-ltb n (lastField journal) z)
 
-pub test-cuts : (m : Next) (n at to end : ℕ) (journal : List ℕ) → on to ≡ m → end ≡ lastField journal → n < end → halts (cut at) ≡ uncut m n at journal
-unfolding uncut
-test-cuts m n at to end journal e q l =
-    let z : n < lastField journal = omega (arith, q) in
-    ap (λ b. pick b (halts (cut at)) (on to)) (sym (lt-ltb n (lastField journal) z)) ∙ ap (λ m. uncut m n at journal) e
-
-pub test-goes : (m : Next) (n at to end : ℕ) (journal : List ℕ) → on to ≡ m → end ≡ lastField journal → end ≤ n → on to ≡ uncut m n at journal
-unfolding uncut
-test-goes m n at to end journal e q l =
-    let z : lastField journal ≤ n = omega (arith, q) in
-    ap (λ b. pick b (halts (cut at)) (on to)) (sym (le-ltb n (lastField journal) z)) ∙ ap (λ m. uncut m n at journal) e
+pub test-goes : (n at next end : ℕ) (journal : List ℕ) → end ≡ lastField journal → end ≤ n → on next ≡ tested n at next journal
+unfolding tested
+test-goes n at next end journal q l = let z : lastField journal ≤ n = omega (arith, q) in simp (le-ltb n (lastField journal) z)
 
 ----------------------------------------------------------------
 -- One call
@@ -112,16 +90,16 @@ module _ (program s : List ℕ) (at count : ℕ) (J A W : List ℕ) where
       (record { next-is = refl; kept = refl; told = refl; clear = refl })
 
   pub turn-plays : (m : Move) (p : Part) (x : Step) (J′ A′ W′ : List ℕ) → steps.Play p ≡ x
-      → TurnMeans m (makes (tested (p .n) at (p .next) count J (length A)) program (callOf (length W) s p) count J A W) J′ A′ W′
+      → TurnMeans m (makes (tested (p .n) at (p .next) J) program (callOf (length W) s p) count J A W) J′ A′ W′
       → TurnMeans m (turnOf program s x at count J A W) J′ A′ W′
   unfolding turnOf
   turn-plays m p x J′ A′ W′ e T = subst (λ x. TurnMeans m (turnOf program s x at count J A W) J′ A′ W′) e T
 
-  -- the place of the next call
+  -- a call stands there, and the next at `to`
   pub record Onward (to : ℕ) : Type 0 where
-    pub further : at + 7 ≤ to
-    pub inside : to ≤ length s
-    pub line : 7 * count + 7 ≤ length A
+    pub part : Part
+    pub stands : stepAt s at ≡ steps.Play part
+    pub next : part .next ≡ to
 
   made-on : (m : Next) (c : Call) {to : ℕ} → makes m program c count J A W .next ≡ on to → m ≡ on to
   unfolding makes
@@ -133,9 +111,7 @@ module _ (program s : List ℕ) (at count : ℕ) (J A W : List ℕ) where
   onward-by steps.End q e = absurd (halts≢on e)
   onward-by steps.Malformed q e = absurd (halts≢on e)
   onward-by (steps.Play p) {to} q e =
-      let a = allowed (p .n) at (p .next) to count J (length A) (made-on (tested (p .n) at (p .next) count J (length A)) (callOf (length W) s p) e) in
-      let w = within s at q in
-      record { further = omega (arith, w .further, a .place); inside = omega (arith, w .inside, a .place); line = a .line }
+      record { part = p; stands = q; next = tested-on (p .n) at (p .next) to J (made-on (tested (p .n) at (p .next) J) (callOf (length W) s p) e) }
 
   pub onward : {to : ℕ} → turnOf program s (stepAt s at) at count J A W .next ≡ on to → Onward to
   onward e = onward-by (stepAt s at) refl e
@@ -170,19 +146,15 @@ module _ (program s : List ℕ) (at count : ℕ) (J A W : List ℕ) where
 -- `count` calls being made, the rest of the script is played from `at` on
 module _ (program s : List ℕ) (start : ℕ) (J₀ A₀ W₀ : List ℕ) where
   pub record Going (J A W : List ℕ) (at count : ℕ) : Type 0 where
-    pub inside : at ≤ length s
-    pub few : count ≤ at
-    pub line : 7 * count ≤ length A
+    pub ahead : Ahead s (length J) (length A) at count
     pub journal-long : length J ≡ length J₀
     pub answers-long : length A ≡ length A₀
     pub workspace-long : length W ≡ length W₀
     pub same : play (suc (length s) - count) program s at count J A W ≡ play (length s) program s start 1 J₀ A₀ W₀
 
-  pub going-starts : 1 ≤ start → start ≤ length s → 7 ≤ length A₀ → Going J₀ A₀ W₀ start 1
-  going-starts h k l = record {
-    inside = k;
-    few = h;
-    line = omega arith;
+  pub going-starts : Ahead s (length J₀) (length A₀) start 1 → Going J₀ A₀ W₀ start 1
+  going-starts H = record {
+    ahead = H;
     journal-long = refl;
     answers-long = refl;
     workspace-long = refl;
@@ -192,7 +164,7 @@ module _ (program s : List ℕ) (start : ℕ) (J₀ A₀ W₀ : List ℕ) where
   module _ {J A W : List ℕ} {at count : ℕ} (G : Going J A W at count) where
     -- there is room for one call more
     one-more : suc (length s) - count ≡ suc (length s - count)
-    one-more = omega (arith, G .few, G .inside)
+    one-more = omega (arith, G .ahead .few, G .ahead .inside)
 
     again : play (suc (length s - count)) program s at count J A W ≡ play (length s) program s start 1 J₀ A₀ W₀
     again = ap (λ r. play r program s at count J A W) (sym one-more) ∙ G .same
@@ -211,14 +183,20 @@ module _ (program s : List ℕ) (start : ℕ) (J₀ A₀ W₀ : List ℕ) where
       turned : TurnMeans (moves.To next) (turnOf program s (stepAt s at) at count J A W) J′ A′ W′
       turned = subst (λ m. TurnMeans m (turnOf program s (stepAt s at) at count J A W) J′ A′ W′) e T
 
-      pub going-further : Onward program s at count J A W next
-      going-further = onward program s at count J A W (sym (turned .next-is))
+      called : Onward program s at count J A W next
+      called = onward program s at count J A W (sym (turned .next-is))
+
+      pub going-further : at + 7 ≤ next
+      going-further = omega (arith, within s at (called .stands) .further, called .next)
+
+      pub going-ahead : Ahead s (length J) (length A) next (count + 1)
+      going-ahead =
+          subst (λ to. Ahead s (length J) (length A) to (count + 1)) (called .next)
+          (ahead-goes s (length J) (length A) at count (G .ahead) (called .part) (called .stands))
 
       pub going-goes : length J′ ≡ length J → length A′ ≡ length A → length W′ ≡ length W → Going J′ A′ W′ next (count + 1)
       going-goes ej ea ew = record {
-        inside = going-further .inside;
-        few = omega (arith, going-further .further, G .few);
-        line = omega (arith, going-further .line);
+        ahead = ahead-as s ej ea going-ahead;
         journal-long = ej ∙ G .journal-long;
         answers-long = ea ∙ G .answers-long;
         workspace-long = ew ∙ G .workspace-long;

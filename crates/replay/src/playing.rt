@@ -8,13 +8,13 @@ use crate::scripts::Step;
 use crate::told;
 use answers::CheckAnswer;
 ghost use mathlib.Core.Path.{_≡_};
-ghost use Prim.Native.Nat.{_*_, _≤_};
+ghost use Prim.Native.Nat.{_+_, _*_, _≤_};
 ghost use lib.ListN.{length};
 ghost use Rattle.rows.specs.Answers.{checkAnswer};
 ghost use Rattle.replay.specs.Scripts.{stepAt, callOf, parse};
 ghost use Rattle.replay.specs.Booked.{Booked};
 ghost use Rattle.replay.specs.Playing.{replyOf, replayed, ReplayMeans};
-ghost use Rattle.replay.specs.Inner.Steps.{nextOf, stopOf, hinders, roomFor, tested, beginsAt, makes, turnOf, play, follows, begins, TurnMeans};
+ghost use Rattle.replay.specs.Inner.Steps.{nextOf, stopOf, hinders, roomFor, tested, beginsAt, makes, turnOf, play, follows, begins, Ahead, TurnMeans};
 
 // Is there room for the call at a place, with a buffer of `n` bytes, and for its line?
 fn fits(n: usize, at: usize, next: usize, count: usize, width: usize, room: usize) -> Move
@@ -30,22 +30,15 @@ fn fits(n: usize, at: usize, next: usize, count: usize, width: usize, room: usiz
     Move::To(next)
 }
 
-// And does its buffer leave the journal's fields whole?
-fn test(n: usize, at: usize, next: usize, count: usize, journal: &[u8], room: usize) -> Move
-    requires { ⌜ 7 * count ≤ room ⌝ }
-    ensures { λ r. ⌜ nextOf r ≡ tested n at next count (now (journal .entry)) room ⌝ }
+// Does the call's buffer leave the journal's fields whole?
+fn test(n: usize, at: usize, next: usize, journal: &[u8]) -> Move
+    ensures { λ r. ⌜ nextOf r ≡ tested n at next (now (journal .entry)) ⌝ }
 {
-    let fit = fits(n, at, next, count, journal.len(), room);
-    match fit {
-        Move::Stop(answer) => Move::Stop(answer),
-        Move::To(to) => {
-            let end = making::last_field(journal);
-            if n < end {
-                return Move::Stop(ReplayAnswer::Cut(at));
-            }
-            Move::To(to)
-        }
+    let end = making::last_field(journal);
+    if n < end {
+        return Move::Stop(ReplayAnswer::Cut(at));
     }
+    Move::To(next)
 }
 
 // Reads a script to its end: how many calls it has, all whole and with room.
@@ -92,12 +85,12 @@ fn turn(
     answers: &mut [u8],
 ) -> Move
     requires { ⌜ (part .from ≤ part .next) × (part .next ≤ length (now script)) ⌝ }
-    requires { ⌜ 7 * count ≤ length (now answers) ⌝ }
-    ensures { λ r. ⌜ TurnMeans r (makes (tested (part .n) at (part .next) count (now (journal .entry)) (length (now (answers .entry)))) (now (program .entry)) (callOf (length (now (workspace .entry))) (now (script .entry)) part) count (now (journal .entry)) (now (answers .entry)) (now (workspace .entry))) (now (journal .exit)) (now (answers .exit)) (now (workspace .exit)) ⌝ }
+    requires { ⌜ (part .n ≤ length (now journal)) × (7 * count + 7 ≤ length (now answers)) ⌝ }
+    ensures { λ r. ⌜ TurnMeans r (makes (tested (part .n) at (part .next) (now (journal .entry))) (now (program .entry)) (callOf (length (now (workspace .entry))) (now (script .entry)) part) count (now (journal .entry)) (now (answers .entry)) (now (workspace .entry))) (now (journal .exit)) (now (answers .exit)) (now (workspace .exit)) ⌝ }
 {
     let n = part.n;
     let next = part.next;
-    let tested = test(n, at, next, count, journal, answers.len());
+    let tested = test(n, at, next, journal);
     match tested {
         Move::Stop(answer) => Move::Stop(answer),
         Move::To(to) => {
@@ -118,8 +111,7 @@ fn turn_at(
     journal: &mut [u8],
     answers: &mut [u8],
 ) -> Move
-    requires { ⌜ at ≤ length (now script) ⌝ }
-    requires { ⌜ 7 * count ≤ length (now answers) ⌝ }
+    requires { ⌜ Ahead (now script) (length (now journal)) (length (now answers)) at count ⌝ }
     ensures { λ r. ⌜ TurnMeans r (turnOf (now (program .entry)) (now (script .entry)) (stepAt (now (script .entry)) at) at count (now (journal .entry)) (now (answers .entry)) (now (workspace .entry))) (now (journal .exit)) (now (answers .exit)) (now (workspace .exit)) ⌝ }
 {
     let step = scripts::step_at(script, at);
@@ -148,8 +140,7 @@ fn play_on(
     journal: &mut [u8],
     answers: &mut [u8],
 ) -> ReplayAnswer
-    requires { ⌜ (1 ≤ start) × (start ≤ length (now script)) ⌝ }
-    requires { ⌜ 7 ≤ length (now answers) ⌝ }
+    requires { ⌜ Ahead (now script) (length (now journal)) (length (now answers)) start 1 ⌝ }
     ensures { λ r. ⌜ ReplayMeans r (play (length (now (script .entry))) (now (program .entry)) (now (script .entry)) start 1 (now (journal .entry)) (now (answers .entry)) (now (workspace .entry))) (now (journal .exit)) (now (answers .exit)) (now (workspace .exit)) ⌝ }
 {
     let mut at = start;
@@ -179,8 +170,8 @@ fn opened_on(
     journal: &mut [u8],
     answers: &mut [u8],
 ) -> ReplayAnswer
-    requires { ⌜ (1 ≤ part .next) × (part .next ≤ length (now script)) ⌝ }
-    requires { ⌜ (part .n ≤ length (now journal)) × (7 ≤ length (now answers)) ⌝ }
+    requires { ⌜ part .n ≤ length (now journal) ⌝ }
+    requires { ⌜ Ahead (now script) (length (now journal)) (length (now answers)) (part .next) 1 ⌝ }
     ensures { λ r. ⌜ ReplayMeans r (follows (checkAnswer answer) (now (program .entry)) (now (script .entry)) part (now (journal .entry)) (now (answers .entry)) (now (workspace .entry))) (now (journal .exit)) (now (answers .exit)) (now (workspace .exit)) ⌝ }
 {
     let n = part.n;
@@ -206,7 +197,8 @@ fn begin(
     answers: &mut [u8],
 ) -> ReplayAnswer
     requires { ⌜ (part .from ≤ part .next) × (part .next ≤ length (now script)) ⌝ }
-    requires { ⌜ 1 ≤ part .next ⌝ }
+    requires { ⌜ part .n ≤ length (now journal) ⌝ }
+    requires { ⌜ Ahead (now script) (length (now journal)) (length (now answers)) (part .next) 1 ⌝ }
     ensures { λ r. ⌜ ReplayMeans r (begins (now (program .entry)) (now (script .entry)) part (now (journal .entry)) (now (answers .entry)) (now (workspace .entry))) (now (journal .exit)) (now (answers .exit)) (now (workspace .exit)) ⌝ }
 {
     let kind = part.kind;
@@ -215,12 +207,6 @@ fn begin(
     let end = part.next;
     if kind != scripts::OPEN {
         return ReplayAnswer::Malformed(0);
-    }
-    if journal.len() < n {
-        return ReplayAnswer::TooWide(0);
-    }
-    if answers.len() < 7 {
-        return ReplayAnswer::ShortAnswers;
     }
     let held = &script[from..end];
     let answer = engine::open(program, held, workspace, &mut journal[..n]);
@@ -235,6 +221,7 @@ fn start(
     journal: &mut [u8],
     answers: &mut [u8],
 ) -> ReplayAnswer
+    requires { ⌜ Ahead (now script) (length (now journal)) (length (now answers)) 0 0 ⌝ }
     ensures { λ r. ⌜ ReplayMeans r (beginsAt (stepAt (now (script .entry)) 0) (now (program .entry)) (now (script .entry)) (now (journal .entry)) (now (answers .entry)) (now (workspace .entry))) (now (journal .exit)) (now (answers .exit)) (now (workspace .exit)) ⌝ }
 {
     let step = scripts::step_at(script, 0);

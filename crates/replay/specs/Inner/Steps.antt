@@ -1,6 +1,6 @@
 -- A script that was read, played step by step as the code does: what functions below the public one promise. It is `replayed` (Playing):
 -- proofs/Played. Laws: proofs/Turns, proofs/Scans, proofs/Beginnings.
-use Prim.Native.Nat.{ℕ, zero, suc, _+_, _*_, _-_}
+use Prim.Native.Nat.{ℕ, zero, suc, _+_, _*_, _-_, _≤_}
 use mathlib.Core.Path.{_≡_}
 use mathlib.Core.Bool.{cond}
 use mathlib.Core.Option.{Option, none, some}
@@ -12,7 +12,7 @@ use package.Rattle.calls.specs.Answer.{Answer, accepted, refused}
 use package.Rattle.calls.specs.Conversions.{openCall}
 use package.Rattle.calls.specs.Book.{Call, buffer, Told, isOpen, holds, refuses, Left, resized, call}
 use package.Rattle.calls.specs.Claims.{lastField}
-use package.Rattle.replay.specs.Scripts.{pick, openTag, stepAt, givenOf, callOf, Script}
+use package.Rattle.replay.specs.Scripts.{pick, openTag, stepAt, givenOf, callOf, Script, parseFrom}
 use package.Rattle.replay.specs.Lines.{line}
 use package.Rattle.replay.specs.Playing.{Reply, played, malformed, tooWide, shortAnswers, unopened, cut, replyOf, hindrance, Result, ends}
 use package.Rattle.replay.specs.declared.scripts.Part.{Part}
@@ -56,14 +56,9 @@ unfoldable pub roomFor : ℕ → ℕ → ℕ → ℕ → ℕ → ℕ → Next
 roomFor n at next count width room =
     pick (ltb width n) (halts (tooWide at)) (pick (ltb room (7 * count + 7)) (halts shortAnswers) (on next))
 
--- And does its buffer leave the journal's fields whole?
-unfoldable pub uncut : Next → ℕ → ℕ → List ℕ → Next
-uncut (halts r) n at journal = halts r
-uncut (on next) n at journal = pick (ltb n (lastField journal)) (halts (cut at)) (on next)
-
-unfoldable pub tested : ℕ → ℕ → ℕ → ℕ → List ℕ → ℕ → Next
-unfolding roomFor uncut
-tested n at next count journal room = uncut (roomFor n at next count (length journal) room) n at journal
+-- Does the call's buffer leave the journal's fields whole?
+unfoldable pub tested : ℕ → ℕ → ℕ → List ℕ → Next
+tested n at next journal = pick (ltb n (lastField journal)) (halts (cut at)) (on next)
 
 -- what comes next, and the buffers
 pub record Turn : Type 0 where
@@ -92,13 +87,12 @@ unfolding makes tested callOf
 turnOf program script steps.End at count journal answers workspace = unplayed (played count) journal answers workspace
 turnOf program script steps.Malformed at count journal answers workspace = unplayed (malformed at) journal answers workspace
 turnOf program script (steps.Play p) at count journal answers workspace =
-    makes (tested (p .n) at (p .next) count journal (length answers)) program (callOf (length workspace) script p) count journal answers workspace
+    makes (tested (p .n) at (p .next) journal) program (callOf (length workspace) script p) count journal answers workspace
 
 ----------------------------------------------------------------
 -- All calls
 
--- The calls from a place on, `count` calls being made; `left` bounds how many there are. Each is tested where it is made, with the tests
--- that the reading made (`hindrance`) among them, so that a turn asks nothing of the script.
+-- The calls from a place on, `count` calls being made; `left` bounds how many there are. That all have room was tested before.
 unfoldable pub play : ℕ → List ℕ → List ℕ → ℕ → ℕ → List ℕ → List ℕ → List ℕ → Result
 unfolding turnOf
 play zero program script at count journal answers workspace = ends (malformed at) journal answers workspace
@@ -131,9 +125,7 @@ unfoldable pub begins : List ℕ → List ℕ → Part → List ℕ → List ℕ
 unfolding opensTo
 begins program script p journal answers workspace =
     pick (eqb (p .kind) openTag)
-    (pick (ltb (length journal) (p .n)) (ends (tooWide 0) journal answers workspace)
-    (pick (ltb (length answers) 7) (ends shortAnswers journal answers workspace)
-    (opensTo (openCall (length workspace) program (givenOf script p) (p .n)) program script (p .next) journal answers workspace)))
+    (opensTo (openCall (length workspace) program (givenOf script p) (p .n)) program script (p .next) journal answers workspace)
     (ends (malformed 0) journal answers workspace)
 
 -- what stands at the start
@@ -144,7 +136,14 @@ beginsAt steps.Malformed program script journal answers workspace = ends (malfor
 beginsAt (steps.Play p) program script journal answers workspace = begins program script p journal answers workspace
 
 ----------------------------------------------------------------
--- What the functions promise
+-- What the functions ask and promise
+
+-- nothing hinders the calls from `at` on, `count` calls being made
+pub record Ahead (script : List ℕ) (width room at count : ℕ) : Type 0 where
+  pub inside : at ≤ length script
+  pub few : count ≤ at
+  pub line : 7 * count ≤ room
+  pub free : hinders width (room - 7 * count) (parseFrom (suc (length script) - count) 0 script at) ≡ none
 
 -- a call was made, its line is `l`
 pub record Made (program : List ℕ) (c : Call) (journal workspace l journal′ workspace′ : List ℕ) : Type 0 where

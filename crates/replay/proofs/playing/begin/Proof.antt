@@ -1,6 +1,6 @@
 use mathlib.Core.Path.{refl, sym}
-use Rattle.replay.proofs.Beginnings.{opened-begins}
-use borrow.Author.Tests.{lt-ltb, le-ltb, eq-eqb, ne-eqb}
+use Rattle.replay.proofs.Beginnings.{front-ahead, opened-begins}
+use borrow.Author.Tests.{eq-eqb, ne-eqb}
 use lib.Seq.{length-take-le}
 use Rattle.replay.specs.Inner.Steps.{begins}
 use borrow.Author.Needs.{needs}
@@ -10,14 +10,6 @@ use Rattle.replay.proofs.playing.begin.Tie as tie
 returns : tie.Need-returns
 unfolding begins
 returns c = simp (ne-eqb _ _ (c .if1 .taken)) (record { answer = refl; kept = refl; told = refl; clear = refl })
-
-returns-2 : tie.Need-returns-2
-unfolding begins
-returns-2 c = simp (eq-eqb _ _ (c .before .if1 .left), lt-ltb _ _ (c .if2 .taken)) (record { answer = refl; kept = refl; told = refl; clear = refl })
-
-returns-3 : tie.Need-returns-3
-unfolding begins
-returns-3 c = simp (eq-eqb _ _ (c .before .before .if1 .left), le-ltb _ _ (c .before .if2 .left), lt-ltb _ _ (c .if3 .taken)) (record { answer = refl; kept = refl; told = refl; clear = refl })
 
 sub-held : tie.Need-sub-held
 sub-held c = search needs
@@ -32,13 +24,15 @@ slice-relend-prefix-open : tie.Need-slice-relend-prefix-open
 slice-relend-prefix-open c = search needs
 
 slice-aggregate-open : tie.Need-slice-aggregate-open
-slice-aggregate-open c = sym (length-take-le _ _ (c .before .before .before .before .if2 .left))
+slice-aggregate-open c = sym (length-take-le _ _ (c .before .before .before .before .before .before .before .before .before .pre .1 .0))
 
 open-requires : tie.Need-open-requires
 open-requires c κs = search needs
 
 opened-on-requires : tie.Need-opened-on-requires
-opened-on-requires c κs = search needs
+opened-on-requires c κs =
+    let a = c .before .before .before .before .before .before .before .before .before .before .before .before .before .before .before .before .before .args in
+    front-ahead (a .script .now) (a .part .n) (c .before .before .before .before .before .before .before .«open» .last .1 .1 .1 .0) (a .journal .now) _ _ (c .before .before .before .before .before .before .before .before .before .before .before .before .before .before .before .before .before .pre .1 .0) (c .before .before .before .before .before .before .before .«open» .kept .1 .1 .1 .0) (c .before .before .before .before .before .before .before .before .before .before .before .before .before .before .before .before .before .pre .1 .1)
 
 same-length : tie.Need-same-length
 same-length c = search needs
@@ -49,20 +43,20 @@ same-length-2 c = search needs
 same-length-3 : tie.Need-same-length-3
 same-length-3 c = search needs
 
-returns-4 : tie.Need-returns-4
+returns-2 : tie.Need-returns-2
 unfolding begins
-returns-4 c = let a = c .before .before .before .before .before .before .before .before .before .before .before .before .before .before .before .before .before .before .before .before .before .before .before .before .before .before .args in let o = c .before .before .before .before .before .before .before .before .before .before .before .before .before .before .«open» in
-    simp (eq-eqb _ _ (c .before .before .before .before .before .before .before .before .before .before .before .before .before .before .before .before .before .before .before .before .if1 .left), le-ltb _ _ (c .before .before .before .before .before .before .before .before .before .before .before .before .before .before .before .before .before .before .before .if2 .left), le-ltb _ _ (c .before .before .before .before .before .before .before .before .before .before .before .before .before .before .before .before .before .before .if3 .left))
-    (opened-begins (a .program .now) (a .script .now) (a .part) (a .journal .now) (a .answers .now) (a .workspace .now) _ (o .result) _ (o .last .1 .1 .1 .0) _ _ _ _ (c .before .before .before .before .before .before .before .before .before .before .before .before .before .before .before .before .before .before .before .if2 .left) (o .kept .1 .1 .1 .0)
-    (o .ensures .0) (o .ensures .1 .0) (o .ensures .1 .1) (c .before .before .before .before .before .before .opened-on .ensures))
+returns-2 c =
+    let a = c .before .before .before .before .before .before .before .before .before .before .before .before .before .before .before .before .before .before .before .before .before .before .before .before .args in
+    let o = c .before .before .before .before .before .before .before .before .before .before .before .before .before .before .«open» in
+    simp (eq-eqb _ _ (c .before .before .before .before .before .before .before .before .before .before .before .before .before .before .before .before .before .before .if1 .left))
+    (opened-begins (a .program .now) (a .script .now) (a .part) (a .journal .now) (a .answers .now) (a .workspace .now) _ (o .result) _ (o .last .1 .1 .1 .0) _ _ _ _
+    (c .before .before .before .before .before .before .before .before .before .before .before .before .before .before .before .before .before .before .before .before .before .before .before .before .pre .1 .0) (o .kept .1 .1 .1 .0) (o .ensures .0) (o .ensures .1 .0) (o .ensures .1 .1) (c .before .before .before .before .before .before .opened-on .ensures))
 
 pub begin-spec : {M : Type 1} → statement M
 begin-spec =
     tie.close
     (tie.spec
     returns
-    returns-2
-    returns-3
     sub-held
     part-held-start
     part-held-end
@@ -73,4 +67,4 @@ begin-spec =
     same-length
     same-length-2
     same-length-3
-    returns-4)
+    returns-2)

@@ -1,5 +1,5 @@
 use mathlib.Core.Path.{_∙_}
-use Rattle.replay.proofs.Turns.{Going, going-starts, going-stops, going-ends, going-further, going-goes}
+use Rattle.replay.proofs.Turns.{Going, going-starts, going-stops, going-ends, going-further, going-ahead, going-goes}
 use native.Mathlib.Omega.{arith}
 use Prim.Native.Nat.{_-_}
 use lib.ListN.{length}
@@ -15,10 +15,10 @@ abbrev μ-loop : tie.MeasureT-loop
 μ-loop program script start workspace₀ journal₀ answers₀ at₀ count₀ workspace journal answers at count = length script - at
 
 loop-holds : tie.Need-loop-holds Inv-loop μ-loop
-loop-holds c = going-starts (c .before .before .before .before .before .args .program .now) (c .before .before .before .before .before .args .script .now) (c .before .before .before .before .before .args .start) (c .before .before .before .before .before .args .journal .now) (c .before .before .before .before .before .args .answers .now) (c .before .before .before .before .before .args .workspace .now) (c .before .before .before .before .before .pre .0 .0) (c .before .before .before .before .before .pre .0 .1) (c .before .before .before .before .before .pre .1)
+loop-holds c = let a = c .before .before .before .before .before .args in going-starts (a .program .now) (a .script .now) (a .start) (a .journal .now) (a .answers .now) (a .workspace .now) (c .before .before .before .before .before .pre)
 
 turn-at-requires : tie.Need-turn-at-requires Inv-loop μ-loop
-turn-at-requires c κs = (c .before .before .before .before .loop .inv .inside, c .before .before .before .before .loop .inv .line)
+turn-at-requires c κs = c .before .before .before .before .loop .inv .ahead
 
 enum-known-moved : tie.Need-enum-known-moved Inv-loop μ-loop
 enum-known-moved c = search needs
@@ -39,10 +39,17 @@ enum-known-moved-2 : tie.Need-enum-known-moved-2 Inv-loop μ-loop
 enum-known-moved-2 c = search needs
 
 add-count : tie.Need-add-count Inv-loop μ-loop
-add-count c = let o = going-further (c .before .before .before .before .before .before .before .before .before .before .before .before .before .before .before .before .before .before .before .before .args .program .now) (c .before .before .before .before .before .before .before .before .before .before .before .before .before .before .before .before .before .before .before .before .args .script .now) (c .before .before .before .before .before .before .before .before .before .before .before .before .before .before .before .before .before .before .before .before .args .start) (c .before .before .before .before .before .before .before .before .before .before .before .before .before .before .before .before .before .before .before .before .args .journal .now) (c .before .before .before .before .before .before .before .before .before .before .before .before .before .before .before .before .before .before .before .before .args .answers .now) (c .before .before .before .before .before .before .before .before .before .before .before .before .before .before .before .before .before .before .before .before .args .workspace .now) (c .before .before .before .before .before .before .before .before .before .before .before .before .before .before .loop .inv) _ _ _ _ _ (c .before .moved2 .given .1) (c .before .before .before .before .before .before .before .before .before .turn-at .ensures) in omega (arith, o .line, c .before .before .before .before .before .before .before .before .before .before .before .before .before .before .loop .inv .few, c .before .before .before .before .before .before .before .before .before .before .before .before .before .before .loop .inv .inside)
+add-count c =
+    let a = c .before .before .before .before .before .before .before .before .before .before .before .before .before .before .before .before .before .before .before .before .args in
+    let h = going-ahead (a .program .now) (a .script .now) (a .start) (a .journal .now) (a .answers .now) (a .workspace .now) (c .before .before .before .before .before .before .before .before .before .before .before .before .before .before .loop .inv) _ _ _ _ _ (c .before .moved2 .given .1) (c .before .before .before .before .before .before .before .before .before .turn-at .ensures) in
+    omega (arith, h .few, h .inside)
 
 loop-less : tie.Need-loop-less Inv-loop μ-loop
-loop-less c = let o = going-further (c .before .before .before .before .before .before .before .before .before .before .before .before .before .before .before .before .before .before .before .before .args .program .now) (c .before .before .before .before .before .before .before .before .before .before .before .before .before .before .before .before .before .before .before .before .args .script .now) (c .before .before .before .before .before .before .before .before .before .before .before .before .before .before .before .before .before .before .before .before .args .start) (c .before .before .before .before .before .before .before .before .before .before .before .before .before .before .before .before .before .before .before .before .args .journal .now) (c .before .before .before .before .before .before .before .before .before .before .before .before .before .before .before .before .before .before .before .before .args .answers .now) (c .before .before .before .before .before .before .before .before .before .before .before .before .before .before .before .before .before .before .before .before .args .workspace .now) (c .before .before .before .before .before .before .before .before .before .before .before .before .before .before .loop .inv) _ _ _ _ _ (c .before .moved2 .given .1) (c .before .before .before .before .before .before .before .before .before .turn-at .ensures) in omega (arith, o .further, o .inside)
+loop-less c =
+    let a = c .before .before .before .before .before .before .before .before .before .before .before .before .before .before .before .before .before .before .before .before .args in
+    let h = going-ahead (a .program .now) (a .script .now) (a .start) (a .journal .now) (a .answers .now) (a .workspace .now) (c .before .before .before .before .before .before .before .before .before .before .before .before .before .before .loop .inv) _ _ _ _ _ (c .before .moved2 .given .1) (c .before .before .before .before .before .before .before .before .before .turn-at .ensures) in
+    let f = going-further (a .program .now) (a .script .now) (a .start) (a .journal .now) (a .answers .now) (a .workspace .now) (c .before .before .before .before .before .before .before .before .before .before .before .before .before .before .loop .inv) _ _ _ _ _ (c .before .moved2 .given .1) (c .before .before .before .before .before .before .before .before .before .turn-at .ensures) in
+    omega (arith, h .inside, f)
 
 loop-again : tie.Need-loop-again Inv-loop μ-loop
 loop-again c = going-goes (c .before .before .before .before .before .before .before .before .before .before .before .before .before .before .before .before .before .before .before .before .args .program .now) (c .before .before .before .before .before .before .before .before .before .before .before .before .before .before .before .before .before .before .before .before .args .script .now) (c .before .before .before .before .before .before .before .before .before .before .before .before .before .before .before .before .before .before .before .before .args .start) (c .before .before .before .before .before .before .before .before .before .before .before .before .before .before .before .before .before .before .before .before .args .journal .now) (c .before .before .before .before .before .before .before .before .before .before .before .before .before .before .before .before .before .before .before .before .args .answers .now) (c .before .before .before .before .before .before .before .before .before .before .before .before .before .before .before .before .before .before .before .before .args .workspace .now) (c .before .before .before .before .before .before .before .before .before .before .before .before .before .before .loop .inv) _ _ _ _ _ (c .before .moved2 .given .1) (c .before .before .before .before .before .before .before .before .before .turn-at .ensures) (c .before .before .before .before .before .before .before .before .before .turn-at .kept .1 .1 .1 .1 .1 .0) (c .before .before .before .before .before .before .before .before .before .turn-at .kept .1 .1 .1 .1 .1 .1 .0) (c .before .before .before .before .before .before .before .before .before .turn-at .kept .1 .1 .1 .1 .0)

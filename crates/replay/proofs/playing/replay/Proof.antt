@@ -1,4 +1,5 @@
 use mathlib.Core.Path.{sym, ap, _∙_}
+use Rattle.replay.proofs.Parsed.{ahead-starts}
 use Rattle.replay.proofs.Played.{replay-stops, replay-goes}
 use Rattle.replay.proofs.Demand.{replay-booked}
 use Rattle.replay.specs.Inner.Steps.{stopOf}
@@ -17,7 +18,8 @@ enum-told : tie.Need-enum-told
 enum-told c = search needs
 
 start-requires : tie.Need-start-requires
-start-requires c κs = search needs
+start-requires c κs =
+    ahead-starts (c .before .before .before .before .before .before .before .before .before .before .before .args .script .now) _ _ (sym (ap stopOf (c .before .before .before .enum-told .given .1)) ∙ c .before .before .before .before .before .read-all .ensures)
 
 returns : tie.Need-returns
 returns c =

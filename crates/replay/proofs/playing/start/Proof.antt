@@ -1,7 +1,7 @@
 use mathlib.Core.Path.{sym, _∙_}
 use Rattle.replay.proofs.Beginnings.{begins-end, begins-malformed, begins-play}
 use Rattle.replay.proofs.Parts.{within}
-use native.Mathlib.Omega.{arith}
+use Rattle.replay.proofs.Parsed.{ahead-narrow, ahead-goes}
 use borrow.Author.Needs.{needs}
 use Rattle.replay.proofs.playing.start.Statement.{statement}
 use Rattle.replay.proofs.playing.start.Tie as tie
@@ -19,7 +19,11 @@ enum-known-step : tie.Need-enum-known-step
 enum-known-step c = search needs
 
 begin-requires : tie.Need-begin-requires
-begin-requires c κs = let w = within (c .before .before .before .before .before .before .before .before .before .before .before .before .args .script .now) 0 (sym (c .before .before .before .before .before .before .step-at .ensures) ∙ c .before .before .before .before .step .given .1) in ((w .ordered, w .inside), omega (arith, w .further))
+begin-requires c κs =
+    let a = c .before .before .before .before .before .before .before .before .before .before .before .before .args in
+    let q = sym (c .before .before .before .before .before .before .step-at .ensures) ∙ c .before .before .before .before .step .given .1 in
+    let w = within (a .script .now) 0 q in
+    ((w .ordered, w .inside), (ahead-narrow (a .script .now) _ _ 0 0 (c .before .before .before .before .before .before .before .before .before .before .before .before .pre) _ q, ahead-goes (a .script .now) _ _ 0 0 (c .before .before .before .before .before .before .before .before .before .before .before .before .pre) _ q))
 
 returns : tie.Need-returns
 returns c = begins-end (c .before .before .before .before .before .before .before .before .args .program .now) (c .before .before .before .before .before .before .before .before .args .script .now) (c .before .before .before .before .before .before .before .before .args .journal .now) (c .before .before .before .before .before .before .before .before .args .answers .now) (c .before .before .before .before .before .before .before .before .args .workspace .now) _ (sym (c .enum-told .given .1) ∙ c .before .before .step-at .ensures)

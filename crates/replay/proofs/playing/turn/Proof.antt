@@ -1,5 +1,5 @@
 use mathlib.Core.Path.{sym, ap, _∙_}
-use Rattle.replay.proofs.Turns.{allowed, call-stops, call-goes}
+use Rattle.replay.proofs.Turns.{call-stops, call-goes}
 use Rattle.replay.specs.Inner.Steps.{nextOf}
 use native.Mathlib.Omega.{arith}
 use borrow.Author.Needs.{needs}
@@ -16,7 +16,7 @@ enum-known-tested-2 : tie.Need-enum-known-tested-2
 enum-known-tested-2 c = search needs
 
 make-requires : tie.Need-make-requires
-make-requires c κs = let a = allowed _ (c .before .before .before .before .before .before .before .before .before .before .before .before .args .at) _ _ _ (c .before .before .before .before .before .before .before .before .before .before .before .before .args .journal .now) _ (sym (sym (ap nextOf (c .before .before .before .tested2 .given .1)) ∙ c .before .before .before .before .before .test .ensures)) in (c .before .before .before .before .before .before .before .before .before .before .before .before .pre .0, a .narrow)
+make-requires c κs = (c .before .before .before .before .before .before .before .before .before .before .before .before .pre .0, c .before .before .before .before .before .before .before .before .before .before .before .before .pre .1 .0)
 
 mul-copy : tie.Need-mul-copy
 mul-copy c = search needs
@@ -25,7 +25,7 @@ slice-aggregate-copy : tie.Need-slice-aggregate-copy
 slice-aggregate-copy c = search needs
 
 copy-requires : tie.Need-copy-requires
-copy-requires c κs = let a = allowed _ (c .before .before .before .before .before .before .before .before .before .before .before .before .before .before .before .before .before .before .before .args .at) _ _ _ (c .before .before .before .before .before .before .before .before .before .before .before .before .before .before .before .before .before .before .before .args .journal .now) _ (sym (sym (ap nextOf (c .before .before .before .before .before .before .before .before .before .before .tested2 .given .1)) ∙ c .before .before .before .before .before .before .before .before .before .before .before .before .test .ensures)) in omega (arith, a .line)
+copy-requires c κs = omega (arith, c .before .before .before .before .before .before .before .before .before .before .before .before .before .before .before .before .before .before .before .pre .1 .1)
 
 same-length : tie.Need-same-length
 same-length c = search needs

@@ -1,12 +1,13 @@
 use mathlib.Core.Path.{sym, _∙_}
 use Rattle.replay.proofs.Turns.{turn-ends, turn-breaks, turn-plays}
 use Rattle.replay.proofs.Parts.{within}
+use Rattle.replay.proofs.Parsed.{ahead-narrow, ahead-line}
 use borrow.Author.Needs.{needs}
 use Rattle.replay.proofs.playing.turn_at.Statement.{statement}
 use Rattle.replay.proofs.playing.turn_at.Tie as tie
 
 step-at-requires : tie.Need-step-at-requires
-step-at-requires c κs = search needs
+step-at-requires c κs = c .before .before .before .before .before .pre .inside
 
 enum-told : tie.Need-enum-told
 enum-told c = search needs
@@ -18,7 +19,11 @@ enum-known-step : tie.Need-enum-known-step
 enum-known-step c = search needs
 
 turn-requires : tie.Need-turn-requires
-turn-requires c κs = let w = within (c .before .before .before .before .before .before .before .before .before .before .before .before .args .script .now) (c .before .before .before .before .before .before .before .before .before .before .before .before .args .at) (sym (c .before .before .before .before .before .before .step-at .ensures) ∙ c .before .before .before .before .step .given .1) in ((w .ordered, w .inside), c .before .before .before .before .before .before .before .before .before .before .before .before .pre .1)
+turn-requires c κs =
+    let a = c .before .before .before .before .before .before .before .before .before .before .before .before .args in
+    let q = sym (c .before .before .before .before .before .before .step-at .ensures) ∙ c .before .before .before .before .step .given .1 in
+    let w = within (a .script .now) (a .at) q in
+    ((w .ordered, w .inside), (ahead-narrow (a .script .now) _ _ _ _ (c .before .before .before .before .before .before .before .before .before .before .before .before .pre) _ q, ahead-line (a .script .now) _ _ _ _ (c .before .before .before .before .before .before .before .before .before .before .before .before .pre) _ q))
 
 returns : tie.Need-returns
 returns c = let a = c .before .before .before .before .before .before .before .before .args in turn-ends (a .program .now) (a .script .now) (a .at) (a .count) (a .journal .now) (a .answers .now) (a .workspace .now) _ (sym (c .enum-told .given .1) ∙ c .before .before .step-at .ensures)
