@@ -1,6 +1,6 @@
 -- The calls of a script in turn, on a journal that the plain book keeps: they are `callRun` of the calls before the first that would cut the
 -- journal's fields.
-use Prim.Native.Nat.{ℕ, zero, suc, _+_, _*_, _-_, _≤_, _<_}
+use Prim.Native.Nat.{ℕ, zero, suc, _+_, _*_, _-_, _≤_}
 use native.Mathlib.Omega.{arith}
 use mathlib.Core.Path.{_≡_, refl, sym, ap, ap₂, subst, _∙_}
 use mathlib.Core.Bool.{Bool, true, false}
@@ -18,7 +18,7 @@ use package.Rattle.rules.proofs.Basics.{given}
 use package.Rattle.calls.specs.Answer.{accepted}
 use package.Rattle.calls.specs.Load.{load}
 use package.Rattle.calls.specs.Journal.{fields, writeOut}
-use package.Rattle.calls.specs.Book.{Call, buffer, Book, Left, bookTurn, call, callRun, resized}
+use package.Rattle.calls.specs.Book.{buffer, Book, Left, bookTurn, call, callRun, resized}
 use package.Rattle.calls.specs.Claims.{Sized, lastField, Premises, Met}
 use package.Rattle.calls.proofs.Book.Rows.{journal}
 use package.Rattle.calls.proofs.Book.Turn.{Keeps, keeps-writable, Agrees}

@@ -12,25 +12,25 @@ use package.Rattle.rules.proofs.Basics.{given, none≢some, some-inj}
 use package.Rattle.calls.specs.Answer.{Answer, accepted, refused, cleared}
 use package.Rattle.calls.specs.Journal.{writeOut}
 use package.Rattle.calls.specs.Conversions.{openCall}
-use package.Rattle.calls.specs.Book.{opens, converts, rollsBack, buffer, isOpen, bookRun, CallRun, callRun, resized}
-use package.Rattle.calls.specs.Claims.{lastField, begun, standing}
+use package.Rattle.calls.specs.Book.{opens, buffer, isOpen, bookRun, CallRun, callRun, resized}
+use package.Rattle.calls.specs.Claims.{begun, standing}
 use package.Rattle.calls.proofs.Theorems.{demand3}
 use package.Rattle.calls.proofs.Load.{load-iff}
 use package.Rattle.calls.proofs.Book.List.{runs}
 use package.Rattle.calls.proofs.Book.Rows.{standing-journal}
 use package.Rattle.calls.proofs.Book.Turn.{Keeps}
-use package.Rattle.replay.specs.Scripts.{pick, openTag, convertTag, stepAt, givenOf, callOf, Placed, Script, callsOf, parseFrom, parse}
+use package.Rattle.replay.specs.Scripts.{pick, openTag, convertTag, stepAt, givenOf, callOf, Placed, Script, callsOf, parse}
 use package.Rattle.replay.specs.Lines.{lines}
 use package.Rattle.replay.specs.Playing.{Reply, played, tooWide, shortAnswers, cut, replyOf, hindrance, Split, split, replyTo}
 use package.Rattle.replay.specs.Playing.{Result, ends, opened, startsWith, playsUnless, replayed, ReplayMeans}
 use package.Rattle.replay.specs.Inner.Steps.{hinders}
-use package.Rattle.replay.specs.Booked.{CutAt, Stopped, ByTheBook, Untouched, Booked}
+use package.Rattle.replay.specs.Booked.{Stopped, ByTheBook, Untouched, Booked}
 use package.Rattle.replay.specs.declared.scripts.Part.{Part}
 use package.Rattle.replay.specs.declared.scripts.Step.{Step}
 use package.Rattle.replay.specs.declared.scripts.Step.the-variants as steps
 use package.Rattle.replay.specs.declared.replies.ReplayAnswer.{ReplayAnswer}
 use package.Rattle.replay.proofs.Lines.{zeros}
-use package.Rattle.replay.proofs.Parsed.{parse-ends, parse-breaks, parse-goes, unbroken, Unhindered, unhindered}
+use package.Rattle.replay.proofs.Parsed.{parse-ends, parse-breaks, parse-goes, unbroken, unhindered}
 use package.Rattle.replay.proofs.Splits.{split-all, rest-cuts}
 use package.Rattle.replay.proofs.Book.{kept-wide, last-is, last-wide}
 use package.Rattle.replay.proofs.Played.{behind, Free, free, Opened, opened-books}

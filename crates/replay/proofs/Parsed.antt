@@ -9,7 +9,7 @@ use lib.ListN.{length}
 use lib.Dec.{eqb, ltb}
 use borrow.Author.Tests.{ltb-true, ltb-false, lt-ltb, le-ltb}
 use package.Rattle.rules.specs.Limits.{maxFuel}
-use package.Rattle.calls.specs.Book.{Call, opens, converts, rollsBack, buffer}
+use package.Rattle.calls.specs.Book.{opens, converts, rollsBack, buffer}
 use package.Rattle.calls.specs.Claims.{Sized}
 use package.Rattle.replay.specs.Scripts.{pick, openTag, convertTag, stepAt, givenOf, callOf, Placed, parseFrom, parse}
 use package.Rattle.replay.specs.Playing.{Reply, tooWide, shortAnswers, hindrance}
@@ -17,7 +17,7 @@ use package.Rattle.replay.specs.Inner.Steps.{Next, halts, on, hinders, r
 use package.Rattle.replay.specs.declared.scripts.Part.{Part}
 use package.Rattle.replay.specs.declared.scripts.Step.{Step}
 use package.Rattle.replay.specs.declared.scripts.Step.the-variants as steps
-use package.Rattle.replay.proofs.Parts.{Within, within}
+use package.Rattle.replay.proofs.Parts.{within}
 
 ----------------------------------------------------------------
 -- A call of a script

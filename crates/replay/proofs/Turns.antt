@@ -21,7 +21,7 @@ use package.Rattle.replay.specs.declared.replies.ReplayAnswer.{ReplayAns
 use package.Rattle.replay.specs.declared.replies.ReplayAnswer.the-variants as replies
 use package.Rattle.replay.specs.declared.replies.Move.{Move}
 use package.Rattle.replay.specs.declared.replies.Move.the-variants as moves
-use package.Rattle.replay.proofs.Parts.{Within, within}
+use package.Rattle.replay.proofs.Parts.{within}
 use package.Rattle.replay.proofs.Parsed.{ahead-goes, ahead-as}
 
 ----------------------------------------------------------------

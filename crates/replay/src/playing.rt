@@ -1,4 +1,4 @@
-// Playing a script (specs/Playing).
+// Playing a script (specs/Playing). What the functions below `replay` promise: specs/Inner/Steps.
 use crate::making;
 use crate::replies::Move;
 use crate::replies::ReplayAnswer;

@@ -4,7 +4,7 @@ use Prim.Native.Nat.{ℕ, zero, suc, _+_, _*_, _-_, _≤_}
 use mathlib.Core.Path.{_≡_}
 use mathlib.Core.Bool.{cond}
 use mathlib.Core.Option.{Option, none, some}
-use mathlib.Core.List.{List, [], _∷_}
+use mathlib.Core.List.{List}
 use lib.ListN.{length, take, replicate}
 use lib.Dec.{eqb, ltb}
 use package.Rattle.octets.specs.Runs.{pasted}
@@ -35,6 +35,7 @@ abbrev pub stopOf : Move → Option Reply
 stopOf (moves.Stop r) = some (replyOf r)
 stopOf (moves.To count) = none
 
+-- what hinders a script (`hindrance`)
 abbrev pub hinders : ℕ → ℕ → Script → Option Reply
 hinders width room s = hindrance width room (s .calls) (s .broken)
 
