@@ -195,7 +195,8 @@ module _ (program s : List ℕ) (ws N : ℕ) where
 
       tests : (t : Bool) → ltb (buffer (c .call)) (lastField j) ≡ t → tested (p .n) at (p .next) (resized N j) ≡ pick t (halts (cut at)) (on (p .next))
       unfolding tested
-      tests t e = ap₂ (λ n m. pick (ltb n m) (halts (cut at)) (on (p .next))) (sym same-buffer) same-last ∙ ap (λ t. pick t (halts (cut at)) (on (p .next))) e
+      tests t e =
+          ap₂ (λ n m. pick (ltb n m) (halts (cut at)) (on (p .next))) (sym same-buffer) same-last ∙ ap (λ t. pick t (halts (cut at)) (on (p .next))) e
 
       turn-is : (t : Bool) → ltb (buffer (c .call)) (lastField j) ≡ t → turnAt at count A j
           ≡ makes (pick t (halts (cut at)) (on (p .next))) program (callOf (length (zeros ws)) s p) count (resized N j) A (zeros ws)
@@ -271,7 +272,8 @@ module _ (program s : List ℕ) (ws N : ℕ) where
 
     -- by what stands at the place
     step-books : (room : ℕ) → Books room → (at count : ℕ) (A j : List ℕ) (b : Book) (ms : List Met) → Keeps P b j ms → length j ≤ N
-        → 7 * count ≤ length A → hinders N (length A - 7 * count) (parseFrom (suc room) ws s at) ≡ none → (x : Step) → stepAt s at ≡ x → Plays (suc room) at count A j
+        → 7 * count ≤ length A → hinders N (length A - 7 * count) (parseFrom (suc room) ws s at) ≡ none → (x : Step) → stepAt s at ≡ x
+        → Plays (suc room) at count A j
     unfolding turnOf split replyTo c
     step-books room rec at count A j b ms K h l free steps.End q =
         halted-books room at count A j (played count) [] h l (ap (λ x. turnOf program s x at count (resized N j) A (zeros ws)) q)

@@ -24,7 +24,7 @@ use package.Rattle.replay.specs.Lines.{lines}
 use package.Rattle.replay.specs.Playing.{Reply, played, tooWide, shortAnswers, cut, replyOf, hindrance, Split, split, replyTo}
 use package.Rattle.replay.specs.Playing.{Result, ends, opened, startsWith, playsUnless, replayed, ReplayMeans}
 use package.Rattle.replay.specs.Inner.Steps.{hinders}
-use package.Rattle.replay.specs.Booked.{Stopped, ByTheBook, Untouched, Booked}
+use package.Rattle.replay.specs.Booked.{CutAt, ByTheBook, Untouched, Booked}
 use package.Rattle.replay.specs.declared.scripts.Part.{Part}
 use package.Rattle.replay.specs.declared.scripts.Step.{Step}
 use package.Rattle.replay.specs.declared.scripts.Step.the-variants as steps
@@ -104,10 +104,10 @@ module _ (program s J A W : List ℕ) (bytes : AreBytes s) where
     unfolding x run
     short = O .booking .short
 
-    by-the-book : (r : Reply) (rest : List Placed) → x .rest ≡ rest → Stopped r (x .made) rest (resized (length J) (run .journal))
-        → ByTheBook program s J A W (resized (length J) (run .journal)) (pasted A 0 (lines (isOpen ∷ run .answers))) (zeros (length W)) r
+    by-the-book : (Ends : List Placed → List Placed → Type 0) (rest : List Placed) → x .rest ≡ rest → Ends (x .made) rest
+        → ByTheBook program s J A W (resized (length J) (run .journal)) (pasted A 0 (lines (isOpen ∷ run .answers))) (zeros (length W)) Ends
     unfolding x run
-    by-the-book r rest e st =
+    by-the-book Ends rest e st =
         given (demand3 program (O .P) (length W) (p .n) (givenOf s p) xs (O .v) (O .loads) (O .reads) op (callsOf (x .made))
         (O .booking .premises)) λ D.
         record {
@@ -120,7 +120,7 @@ module _ (program s J A W : List ℕ) (bytes : AreBytes s) where
           made = x .made;
           rest = rest;
           stands = stands ∙ ap (λ cs. record { calls = first ∷ (x .made ++ cs); broken = none }) e;
-          stopped = st;
+          ended = st;
           book = bookRun program (O .P) (callsOf (x .made)) (begun (O .v));
           books = refl;
           told = ap (λ ts. pasted A 0 (lines (isOpen ∷ ts))) (D .answers);
@@ -134,9 +134,9 @@ module _ (program s J A W : List ℕ) (bytes : AreBytes s) where
         → Claimed program s J A W (ends (replyTo (suc (length (x .made))) rest) (resized (length J) (run .journal))
         (pasted A 0 (lines (isOpen ∷ run .answers))) (zeros (length W)))
     unfolding replyTo x run
-    rest-booked [] e = by-the-book (played (suc (length (x .made)))) [] e (refl, refl)
+    rest-booked [] e = by-the-book _ [] e (refl, refl)
     rest-booked (c ∷ more) e =
-        by-the-book (cut (c .place)) (c ∷ more) e (record {
+        by-the-book (λ made rest. CutAt (c .place) rest (resized (length J) (run .journal))) (c ∷ more) e (record {
           next = c;
           behind = more;
           stands = refl;

@@ -26,19 +26,10 @@ pub record CutAt (at : ℕ) (rest : List Placed) (journal : List ℕ) : Type 0 w
   pub place : next .place ≡ at
   pub cuts : buffer (next .call) < lastField journal
 
--- Why no more than `made` was played of the calls behind the first open, with `rest` behind them, by the answer: there are no more, or a cut.
-abbrev pub Stopped : Reply → List Placed → List Placed → List ℕ → Type 0
-Stopped (played k) made rest journal = (k ≡ suc (length made)) × (rest ≡ [])
-Stopped (malformed at) made rest journal = ⊥
-Stopped (tooWide at) made rest journal = ⊥
-Stopped shortAnswers made rest journal = ⊥
-Stopped (unopened n p) made rest journal = ⊥
-Stopped (cut at) made rest journal = CutAt at rest journal
-
 module _ (program script journal answers workspace journal′ answers′ workspace′ : List ℕ) where
   -- The script is an open of a journal for the program `P` with the record `first`, the calls `made`, and `rest`. It was played up to `rest`:
   -- the answers' buffer starts with the book's answers, the journal's is what the book writes out there, and the workspace is clear.
-  pub record ByTheBook (r : Reply) : Type 0 where
+  pub record ByTheBook (Ends : List Placed → List Placed → Type 0) : Type 0 where
     pub P : Program
     pub loads : load program ≡ accepted P
     pub bytes : List ℕ
@@ -49,7 +40,7 @@ module _ (program script journal answers workspace journal′ answers′ workspa
     pub rest : List Placed
     pub stands : parse (length workspace) script
         ≡ record { calls = record { place = 0; call = opens (length workspace) bytes n } ∷ (made ++ rest); broken = none }
-    pub stopped : Stopped r made rest journal′
+    pub ended : Ends made rest
     pub book : BookRun
     pub books : book ≡ bookRun program P (callsOf made) (begun first)
     pub told : answers′ ≡ pasted answers 0 (lines (isOpen ∷ book .answers))
@@ -64,9 +55,9 @@ module _ (program script journal answers workspace journal′ answers′ workspa
 
   -- by the answer; an open that is refused clears the workspace (`replayed`)
   abbrev pub Booked : Reply → Type 0
-  Booked (played k) = ByTheBook (played k)
+  Booked (played k) = ByTheBook λ made rest. (k ≡ suc (length made)) × (rest ≡ [])
   Booked (malformed at) = Untouched
   Booked (tooWide at) = Untouched
   Booked shortAnswers = Untouched
   Booked (unopened n p) = (journal′ ≡ journal) × (answers′ ≡ answers)
-  Booked (cut at) = ByTheBook (cut at)
+  Booked (cut at) = ByTheBook λ made rest. CutAt at rest journal′
