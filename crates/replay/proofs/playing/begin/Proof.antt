@@ -32,7 +32,11 @@ open-requires c κs = search needs
 opened-on-requires : tie.Need-opened-on-requires
 opened-on-requires c κs =
     let a = c .before .before .before .before .before .before .before .before .before .before .before .before .before .before .before .before .before .args in
-    front-ahead (a .script .now) (a .part .n) (c .before .before .before .before .before .before .before .«open» .last .1 .1 .1 .0) (a .journal .now) _ _ (c .before .before .before .before .before .before .before .before .before .before .before .before .before .before .before .before .before .pre .1 .0) (c .before .before .before .before .before .before .before .«open» .kept .1 .1 .1 .0) (c .before .before .before .before .before .before .before .before .before .before .before .before .before .before .before .before .before .pre .1 .1)
+    front-ahead (a .script .now) (a .part .n) (c .before .before .before .before .before .before .before .«open» .last .1 .1 .1 .0) (a .journal .now)
+    _ _
+    (c .before .before .before .before .before .before .before .before .before .before .before .before .before .before .before .before .before .pre .1 .0)
+    (c .before .before .before .before .before .before .before .«open» .kept .1 .1 .1 .0)
+    (c .before .before .before .before .before .before .before .before .before .before .before .before .before .before .before .before .before .pre .1 .1)
 
 same-length : tie.Need-same-length
 same-length c = search needs
@@ -50,7 +54,9 @@ returns-2 c =
     let o = c .before .before .before .before .before .before .before .before .before .before .before .before .before .before .«open» in
     simp (eq-eqb _ _ (c .before .before .before .before .before .before .before .before .before .before .before .before .before .before .before .before .before .before .if1 .left))
     (opened-begins (a .program .now) (a .script .now) (a .part) (a .journal .now) (a .answers .now) (a .workspace .now) _ (o .result) _ (o .last .1 .1 .1 .0) _ _ _ _
-    (c .before .before .before .before .before .before .before .before .before .before .before .before .before .before .before .before .before .before .before .before .before .before .before .before .pre .1 .0) (o .kept .1 .1 .1 .0) (o .ensures .0) (o .ensures .1 .0) (o .ensures .1 .1) (c .before .before .before .before .before .before .opened-on .ensures))
+    (c .before .before .before .before .before .before .before .before .before .before .before .before .before .before .before .before .before .before .before .before .before .before .before .before .pre .1 .0)
+    (o .kept .1 .1 .1 .0) (o .ensures .0) (o .ensures .1 .0) (o .ensures .1 .1)
+    (c .before .before .before .before .before .before .opened-on .ensures))
 
 pub begin-spec : {M : Type 1} → statement M
 begin-spec =

@@ -24,13 +24,19 @@ enum-told : tie.Need-enum-told Inv-loop μ-loop
 enum-told c = search needs
 
 returns : tie.Need-returns Inv-loop μ-loop
-returns c = reading-ends (c .before .before .before .before .before .before .args .script .now) (c .before .before .before .before .before .before .args .width) (c .before .before .before .before .before .before .args .room) _ _ (c .before .before .before .before .loop .inv) (sym (c .enum-told .given .1) ∙ c .before .before .step-at .ensures)
+returns c =
+    let a = c .before .before .before .before .before .before .args in
+    reading-ends (a .script .now) (a .width) (a .room) _ _ (c .before .before .before .before .loop .inv)
+    (sym (c .enum-told .given .1) ∙ c .before .before .step-at .ensures)
 
 enum-told-2 : tie.Need-enum-told-2 Inv-loop μ-loop
 enum-told-2 c = search needs
 
 returns-2 : tie.Need-returns-2 Inv-loop μ-loop
-returns-2 c = reading-breaks (c .before .before .before .before .before .before .args .script .now) (c .before .before .before .before .before .before .args .width) (c .before .before .before .before .before .before .args .room) _ _ (c .before .before .before .before .loop .inv) (sym (c .enum-told2 .given .1) ∙ c .before .before .step-at .ensures)
+returns-2 c =
+    let a = c .before .before .before .before .before .before .args in
+    reading-breaks (a .script .now) (a .width) (a .room) _ _ (c .before .before .before .before .loop .inv)
+    (sym (c .enum-told2 .given .1) ∙ c .before .before .step-at .ensures)
 
 enum-known-step : tie.Need-enum-known-step Inv-loop μ-loop
 enum-known-step c = search needs
@@ -42,22 +48,52 @@ enum-known-fit : tie.Need-enum-known-fit Inv-loop μ-loop
 enum-known-fit c = search needs
 
 returns-3 : tie.Need-returns-3 Inv-loop μ-loop
-returns-3 c = reading-stops (c .before .before .before .before .before .before .before .before .before .before .before .args .script .now) (c .before .before .before .before .before .before .before .before .before .before .before .args .width) (c .before .before .before .before .before .before .before .before .before .before .before .args .room) _ _ (c .before .before .before .before .before .before .before .before .before .loop .inv) _ _ (sym (c .before .before .before .before .before .step .given .1) ∙ c .before .before .before .before .before .before .before .step-at .ensures) (sym (ap nextOf (c .before .fit .given .1)) ∙ c .before .before .before .fits2 .ensures)
+returns-3 c =
+    let a = c .before .before .before .before .before .before .before .before .before .before .before .args in
+    reading-stops (a .script .now) (a .width) (a .room) _ _ (c .before .before .before .before .before .before .before .before .before .loop .inv) _
+    _ (sym (c .before .before .before .before .before .step .given .1) ∙ c .before .before .before .before .before .before .before .step-at .ensures)
+    (sym (ap nextOf (c .before .fit .given .1)) ∙ c .before .before .before .fits2 .ensures)
 
 enum-known-fit-2 : tie.Need-enum-known-fit-2 Inv-loop μ-loop
 enum-known-fit-2 c = search needs
 
 add-count : tie.Need-add-count Inv-loop μ-loop
-add-count c = let f = reading-further (c .before .before .before .before .before .before .before .before .before .before .before .args .script .now) (c .before .before .before .before .before .before .before .before .before .before .before .args .width) (c .before .before .before .before .before .before .before .before .before .before .before .args .room) _ _ (c .before .before .before .before .before .before .before .before .before .loop .inv) _ _ (sym (c .before .before .before .before .before .step .given .1) ∙ c .before .before .before .before .before .before .before .step-at .ensures) (sym (ap nextOf (c .before .fit2 .given .1)) ∙ c .before .before .before .fits2 .ensures) in let i = reading-inside (c .before .before .before .before .before .before .before .before .before .before .before .args .script .now) (c .before .before .before .before .before .before .before .before .before .before .before .args .width) (c .before .before .before .before .before .before .before .before .before .before .before .args .room) _ _ (c .before .before .before .before .before .before .before .before .before .loop .inv) _ _ (sym (c .before .before .before .before .before .step .given .1) ∙ c .before .before .before .before .before .before .before .step-at .ensures) (sym (ap nextOf (c .before .fit2 .given .1)) ∙ c .before .before .before .fits2 .ensures) in omega (arith, c .before .before .before .before .before .before .before .before .before .loop .inv .few)
+add-count c =
+    let a = c .before .before .before .before .before .before .before .before .before .before .before .args in
+    let f = reading-further (a .script .now) (a .width) (a .room) _ _
+    (c .before .before .before .before .before .before .before .before .before .loop .inv) _ _
+    (sym (c .before .before .before .before .before .step .given .1) ∙ c .before .before .before .before .before .before .before .step-at .ensures)
+    (sym (ap nextOf (c .before .fit2 .given .1)) ∙ c .before .before .before .fits2 .ensures) in
+    let i = reading-inside (a .script .now) (a .width) (a .room) _ _
+    (c .before .before .before .before .before .before .before .before .before .loop .inv) _ _
+    (sym (c .before .before .before .before .before .step .given .1) ∙ c .before .before .before .before .before .before .before .step-at .ensures)
+    (sym (ap nextOf (c .before .fit2 .given .1)) ∙ c .before .before .before .fits2 .ensures) in
+    omega (arith, c .before .before .before .before .before .before .before .before .before .loop .inv .few)
 
 loop-less : tie.Need-loop-less Inv-loop μ-loop
-loop-less c = let f = reading-further (c .before .before .before .before .before .before .before .before .before .before .before .args .script .now) (c .before .before .before .before .before .before .before .before .before .before .before .args .width) (c .before .before .before .before .before .before .before .before .before .before .before .args .room) _ _ (c .before .before .before .before .before .before .before .before .before .loop .inv) _ _ (sym (c .before .before .before .before .before .step .given .1) ∙ c .before .before .before .before .before .before .before .step-at .ensures) (sym (ap nextOf (c .before .fit2 .given .1)) ∙ c .before .before .before .fits2 .ensures) in let i = reading-inside (c .before .before .before .before .before .before .before .before .before .before .before .args .script .now) (c .before .before .before .before .before .before .before .before .before .before .before .args .width) (c .before .before .before .before .before .before .before .before .before .before .before .args .room) _ _ (c .before .before .before .before .before .before .before .before .before .loop .inv) _ _ (sym (c .before .before .before .before .before .step .given .1) ∙ c .before .before .before .before .before .before .before .step-at .ensures) (sym (ap nextOf (c .before .fit2 .given .1)) ∙ c .before .before .before .fits2 .ensures) in omega arith
+loop-less c =
+    let a = c .before .before .before .before .before .before .before .before .before .before .before .args in
+    let f = reading-further (a .script .now) (a .width) (a .room) _ _
+    (c .before .before .before .before .before .before .before .before .before .loop .inv) _ _
+    (sym (c .before .before .before .before .before .step .given .1) ∙ c .before .before .before .before .before .before .before .step-at .ensures)
+    (sym (ap nextOf (c .before .fit2 .given .1)) ∙ c .before .before .before .fits2 .ensures) in
+    let i = reading-inside (a .script .now) (a .width) (a .room) _ _
+    (c .before .before .before .before .before .before .before .before .before .loop .inv) _ _
+    (sym (c .before .before .before .before .before .step .given .1) ∙ c .before .before .before .before .before .before .before .step-at .ensures)
+    (sym (ap nextOf (c .before .fit2 .given .1)) ∙ c .before .before .before .fits2 .ensures) in
+    omega arith
 
 loop-again : tie.Need-loop-again Inv-loop μ-loop
-loop-again c = reading-goes (c .before .before .before .before .before .before .before .before .before .before .before .args .script .now) (c .before .before .before .before .before .before .before .before .before .before .before .args .width) (c .before .before .before .before .before .before .before .before .before .before .before .args .room) _ _ (c .before .before .before .before .before .before .before .before .before .loop .inv) _ _ (sym (c .before .before .before .before .before .step .given .1) ∙ c .before .before .before .before .before .before .before .step-at .ensures) (sym (ap nextOf (c .before .fit2 .given .1)) ∙ c .before .before .before .fits2 .ensures)
+loop-again c =
+    let a = c .before .before .before .before .before .before .before .before .before .before .before .args in
+    reading-goes (a .script .now) (a .width) (a .room) _ _ (c .before .before .before .before .before .before .before .before .before .loop .inv) _ _
+    (sym (c .before .before .before .before .before .step .given .1) ∙ c .before .before .before .before .before .before .before .step-at .ensures)
+    (sym (ap nextOf (c .before .fit2 .given .1)) ∙ c .before .before .before .fits2 .ensures)
 
 returns-4 : tie.Need-returns-4 Inv-loop μ-loop
-returns-4 c = reading-over (c .before .before .before .args .script .now) (c .before .before .before .args .width) (c .before .before .before .args .room) _ _ (c .before .loop .inv) (c .loop-test .left)
+returns-4 c =
+    let a = c .before .before .before .args in
+    reading-over (a .script .now) (a .width) (a .room) _ _ (c .before .loop .inv) (c .loop-test .left)
 
 pub read-all-spec : {M : Type 1} → statement M
 read-all-spec =

@@ -19,7 +19,8 @@ enum-told c = search needs
 
 start-requires : tie.Need-start-requires
 start-requires c κs =
-    ahead-starts (c .before .before .before .before .before .before .before .before .before .before .before .args .script .now) _ _ (sym (ap stopOf (c .before .before .before .enum-told .given .1)) ∙ c .before .before .before .before .before .read-all .ensures)
+    ahead-starts (c .before .before .before .before .before .before .before .before .before .before .before .args .script .now) _ _
+    (sym (ap stopOf (c .before .before .before .enum-told .given .1)) ∙ c .before .before .before .before .before .read-all .ensures)
 
 returns : tie.Need-returns
 returns c =
@@ -41,9 +42,11 @@ same-length-3 c = search needs
 returns-2 : tie.Need-returns-2
 returns-2 c =
     let a = c .before .before .before .before .before .before .before .before .before .before .before .before .before .before .before .before .before .before .args in
-    let bytes = are-bytes (a .script .now) (c .before .before .before .before .before .before .before .before .before .before .before .before .before .before .before .before .shared-slice-known2 .given) in
+    let bytes = are-bytes (a .script .now)
+    (c .before .before .before .before .before .before .before .before .before .before .before .before .before .before .before .before .shared-slice-known2 .given) in
     let m = replay-goes (a .program .now) (a .script .now) (a .journal .now) (a .answers .now) (a .workspace .now) bytes _ _ _ _
-    (sym (ap stopOf (c .before .before .before .before .before .before .before .before .before .before .enum-told .given .1)) ∙ c .before .before .before .before .before .before .before .before .before .before .before .before .read-all .ensures) (c .before .before .before .before .before .before .start .ensures) in
+    (sym (ap stopOf (c .before .before .before .before .before .before .before .before .before .before .enum-told .given .1)) ∙ c .before .before .before .before .before .before .before .before .before .before .before .before .read-all .ensures)
+    (c .before .before .before .before .before .before .start .ensures) in
     (m, replay-booked (a .program .now) (a .script .now) (a .journal .now) (a .answers .now) (a .workspace .now) bytes _ _ _ _ m)
 
 pub replay-spec : {M : Type 1} → statement M

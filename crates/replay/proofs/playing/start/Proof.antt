@@ -26,10 +26,16 @@ begin-requires c κs =
     ((w .ordered, w .inside), (ahead-narrow (a .script .now) _ _ 0 0 (c .before .before .before .before .before .before .before .before .before .before .before .before .pre) _ q, ahead-goes (a .script .now) _ _ 0 0 (c .before .before .before .before .before .before .before .before .before .before .before .before .pre) _ q))
 
 returns : tie.Need-returns
-returns c = begins-end (c .before .before .before .before .before .before .before .before .args .program .now) (c .before .before .before .before .before .before .before .before .args .script .now) (c .before .before .before .before .before .before .before .before .args .journal .now) (c .before .before .before .before .before .before .before .before .args .answers .now) (c .before .before .before .before .before .before .before .before .args .workspace .now) _ (sym (c .enum-told .given .1) ∙ c .before .before .step-at .ensures)
+returns c =
+    let a = c .before .before .before .before .before .before .before .before .args in
+    begins-end (a .program .now) (a .script .now) (a .journal .now) (a .answers .now) (a .workspace .now) _
+    (sym (c .enum-told .given .1) ∙ c .before .before .step-at .ensures)
 
 returns-2 : tie.Need-returns-2
-returns-2 c = begins-malformed (c .before .before .before .before .before .before .before .before .args .program .now) (c .before .before .before .before .before .before .before .before .args .script .now) (c .before .before .before .before .before .before .before .before .args .journal .now) (c .before .before .before .before .before .before .before .before .args .answers .now) (c .before .before .before .before .before .before .before .before .args .workspace .now) _ (sym (c .enum-told2 .given .1) ∙ c .before .before .step-at .ensures)
+returns-2 c =
+    let a = c .before .before .before .before .before .before .before .before .args in
+    begins-malformed (a .program .now) (a .script .now) (a .journal .now) (a .answers .now) (a .workspace .now) _
+    (sym (c .enum-told2 .given .1) ∙ c .before .before .step-at .ensures)
 
 same-length : tie.Need-same-length
 same-length c = search needs
@@ -41,7 +47,11 @@ same-length-3 : tie.Need-same-length-3
 same-length-3 c = search needs
 
 returns-3 : tie.Need-returns-3
-returns-3 c = begins-play (c .before .before .before .before .before .before .before .before .before .before .before .before .before .before .before .before .before .before .before .args .program .now) (c .before .before .before .before .before .before .before .before .before .before .before .before .before .before .before .before .before .before .before .args .script .now) (c .before .before .before .before .before .before .before .before .before .before .before .before .before .before .before .before .before .before .before .args .journal .now) (c .before .before .before .before .before .before .before .before .before .before .before .before .before .before .before .before .before .before .before .args .answers .now) (c .before .before .before .before .before .before .before .before .before .before .before .before .before .before .before .before .before .before .before .args .workspace .now) _ _ _ _ _ _ (sym (c .before .before .before .before .before .before .before .before .before .before .before .step .given .1) ∙ c .before .before .before .before .before .before .before .before .before .before .before .before .before .step-at .ensures) (c .before .before .before .before .before .before .begin .ensures)
+returns-3 c =
+    let a = c .before .before .before .before .before .before .before .before .before .before .before .before .before .before .before .before .before .before .before .args in
+    begins-play (a .program .now) (a .script .now) (a .journal .now) (a .answers .now) (a .workspace .now) _ _ _ _ _ _
+    (sym (c .before .before .before .before .before .before .before .before .before .before .before .step .given .1) ∙ c .before .before .before .before .before .before .before .before .before .before .before .before .before .step-at .ensures)
+    (c .before .before .before .before .before .before .begin .ensures)
 
 pub start-spec : {M : Type 1} → statement M
 start-spec =

@@ -16,7 +16,8 @@ enum-known-tested-2 : tie.Need-enum-known-tested-2
 enum-known-tested-2 c = search needs
 
 make-requires : tie.Need-make-requires
-make-requires c κs = (c .before .before .before .before .before .before .before .before .before .before .before .before .pre .0, c .before .before .before .before .before .before .before .before .before .before .before .before .pre .1 .0)
+make-requires c κs =
+    (c .before .before .before .before .before .before .before .before .before .before .before .before .pre .0, c .before .before .before .before .before .before .before .before .before .before .before .before .pre .1 .0)
 
 mul-copy : tie.Need-mul-copy
 mul-copy c = search needs
@@ -25,7 +26,8 @@ slice-aggregate-copy : tie.Need-slice-aggregate-copy
 slice-aggregate-copy c = search needs
 
 copy-requires : tie.Need-copy-requires
-copy-requires c κs = omega (arith, c .before .before .before .before .before .before .before .before .before .before .before .before .before .before .before .before .before .before .before .pre .1 .1)
+copy-requires c κs =
+    omega (arith, c .before .before .before .before .before .before .before .before .before .before .before .before .before .before .before .before .before .before .before .pre .1 .1)
 
 same-length : tie.Need-same-length
 same-length c = search needs
@@ -43,7 +45,10 @@ same-length-4 : tie.Need-same-length-4
 same-length-4 c = search needs
 
 returns-2 : tie.Need-returns-2
-returns-2 c = call-goes _ _ _ _ _ _ _ _ _ _ _ _ (sym (ap nextOf (c .before .before .before .before .before .before .before .before .before .before .before .before .before .tested2 .given .1)) ∙ c .before .before .before .before .before .before .before .before .before .before .before .before .before .before .before .test .ensures) (c .before .before .before .before .before .before .before .before .before .make .ensures) (c .before .before .copy .ensures)
+returns-2 c =
+    call-goes _ _ _ _ _ _ _ _ _ _ _ _
+    (sym (ap nextOf (c .before .before .before .before .before .before .before .before .before .before .before .before .before .tested2 .given .1)) ∙ c .before .before .before .before .before .before .before .before .before .before .before .before .before .before .before .test .ensures)
+    (c .before .before .before .before .before .before .before .before .before .make .ensures) (c .before .before .copy .ensures)
 
 pub turn-spec : {M : Type 1} → statement M
 turn-spec =

@@ -26,10 +26,16 @@ turn-requires c κs =
     ((w .ordered, w .inside), (ahead-narrow (a .script .now) _ _ _ _ (c .before .before .before .before .before .before .before .before .before .before .before .before .pre) _ q, ahead-line (a .script .now) _ _ _ _ (c .before .before .before .before .before .before .before .before .before .before .before .before .pre) _ q))
 
 returns : tie.Need-returns
-returns c = let a = c .before .before .before .before .before .before .before .before .args in turn-ends (a .program .now) (a .script .now) (a .at) (a .count) (a .journal .now) (a .answers .now) (a .workspace .now) _ (sym (c .enum-told .given .1) ∙ c .before .before .step-at .ensures)
+returns c =
+    let a = c .before .before .before .before .before .before .before .before .args in
+    turn-ends (a .program .now) (a .script .now) (a .at) (a .count) (a .journal .now) (a .answers .now) (a .workspace .now) _
+    (sym (c .enum-told .given .1) ∙ c .before .before .step-at .ensures)
 
 returns-2 : tie.Need-returns-2
-returns-2 c = let a = c .before .before .before .before .before .before .before .before .args in turn-breaks (a .program .now) (a .script .now) (a .at) (a .count) (a .journal .now) (a .answers .now) (a .workspace .now) _ (sym (c .enum-told2 .given .1) ∙ c .before .before .step-at .ensures)
+returns-2 c =
+    let a = c .before .before .before .before .before .before .before .before .args in
+    turn-breaks (a .program .now) (a .script .now) (a .at) (a .count) (a .journal .now) (a .answers .now) (a .workspace .now) _
+    (sym (c .enum-told2 .given .1) ∙ c .before .before .step-at .ensures)
 
 same-length : tie.Need-same-length
 same-length c = search needs
@@ -41,7 +47,11 @@ same-length-3 : tie.Need-same-length-3
 same-length-3 c = search needs
 
 returns-3 : tie.Need-returns-3
-returns-3 c = let a = c .before .before .before .before .before .before .before .before .before .before .before .before .before .before .before .before .before .before .before .args in turn-plays (a .program .now) (a .script .now) (a .at) (a .count) (a .journal .now) (a .answers .now) (a .workspace .now) _ _ _ _ _ _ (sym (c .before .before .before .before .before .before .before .before .before .before .before .step .given .1) ∙ c .before .before .before .before .before .before .before .before .before .before .before .before .before .step-at .ensures) (c .before .before .before .before .before .before .turn .ensures)
+returns-3 c =
+    let a = c .before .before .before .before .before .before .before .before .before .before .before .before .before .before .before .before .before .before .before .args in
+    turn-plays (a .program .now) (a .script .now) (a .at) (a .count) (a .journal .now) (a .answers .now) (a .workspace .now) _ _ _ _ _ _
+    (sym (c .before .before .before .before .before .before .before .before .before .before .before .step .given .1) ∙ c .before .before .before .before .before .before .before .before .before .before .before .before .before .step-at .ensures)
+    (c .before .before .before .before .before .before .turn .ensures)
 
 pub turn-at-spec : {M : Type 1} → statement M
 turn-at-spec =
