@@ -14,7 +14,8 @@ use package.Rattle.lines.specs.Words.{first, behind, from, wordAt, space
 use package.Rattle.lines.specs.Numbered.{numberOf, valueOf, Numbers}
 use package.Rattle.lines.specs.Decoded.{decodedOf, sizeOf, Decodes}
 use package.Rattle.lines.specs.Calls.{Line, noCall, wordCount, readCheck, readRun, readOpen, readConvert, readRollback, nameOf, ofLength, readNamed, readLine}
-use package.Rattle.lines.specs.Parsed.{Parses}
+use package.Rattle.lines.specs.Left.{ByteWords, wordsOf, reads, leftIn, Leaves, bytesOf}
+use package.Rattle.lines.specs.Parsed.{lineOf, Within, Parses}
 use package.Rattle.lines.specs.declared.decimal.Number.{Number}
 use package.Rattle.lines.specs.declared.decimal.Number.the-variants as number
 use package.Rattle.lines.specs.declared.hexadecimal.Decoded.{Decoded}
@@ -35,13 +36,13 @@ told-no-number h e = sym (h .said) ∙ ap numberOf e
 pub number-within : {r : Number} {most : ℕ} {o : Option ℕ} → Numbers r most o → {n : ℕ} → r ≡ number.Is n → n ≤ most
 number-within h e = omega (arith, h .within, ap valueOf e)
 
-pub told-bytes : {r : Decoded} {out : List ℕ} {o : Option (List ℕ)} → Decodes r out o → {n : ℕ} → r ≡ decoded.Bytes n → o ≡ some (take n out)
+pub told-bytes : {r : Decoded} {word before out : List ℕ} {o : Option (List ℕ)} → Decodes r word before out o → {n : ℕ} → r ≡ decoded.Bytes n → o ≡ some (take n out)
 told-bytes {out = out} h e = sym (h .said) ∙ ap (λ d. decodedOf d out) e
 
-pub told-no-bytes : {r : Decoded} {out : List ℕ} {o : Option (List ℕ)} → Decodes r out o → r ≡ decoded.Not → o ≡ none
+pub told-no-bytes : {r : Decoded} {word before out : List ℕ} {o : Option (List ℕ)} → Decodes r word before out o → r ≡ decoded.Not → o ≡ none
 told-no-bytes {out = out} h e = sym (h .said) ∙ ap (λ d. decodedOf d out) e
 
-pub bytes-within : {r : Decoded} {out : List ℕ} {o : Option (List ℕ)} → Decodes r out o → {n : ℕ} → r ≡ decoded.Bytes n → n ≤ length out
+pub bytes-within : {r : Decoded} {word before out : List ℕ} {o : Option (List ℕ)} → Decodes r word before out o → {n : ℕ} → r ≡ decoded.Bytes n → n ≤ length out
 bytes-within h e = omega (arith, h .within, ap sizeOf e)
 
 ----------------------------------------------------------------
@@ -117,10 +118,32 @@ module _ (w : List ℕ) where
       name-other e f = rw (e₁, e₂, e₃, e₄, e, f)
 
 ----------------------------------------------------------------
+-- What was read, and what the reading left
+
+-- no word of bytes was come to
+pub unread : {text p anc v : List ℕ} {words : ByteWords} (l : Line) → ((k : ℕ) → reads l k ≡ false) → Leaves l text words p anc v p anc v
+unread {text} {p} {anc} {v} {words} l e = record { program = same (words .program) p; ancillae = same (words .ancillae) anc; value = same (words .value) v }
+  where
+    same : (o : Option ℕ) (buffer : List ℕ) → buffer ≡ leftIn l text o buffer
+    same none buffer = refl
+    same (some k) buffer = sym (rw (e k))
+
+----------------------------------------------------------------
 -- A line of a known name
 
-pub parses-as : {r : Parsed} {p anc v : List ℕ} {l m : Line} → Parses r p anc v l → l ≡ m → Parses r p anc v m
-parses-as {r} {p} {anc} {v} h e = subst (λ x. Parses r p anc v x) e h
+module _ {r : Parsed} {text p₀ anc₀ v₀ p anc v : List ℕ} where
+  -- what was read, and what the reading left
+  pub parses : {words : ByteWords} {l : Line} → lineOf r p anc v ≡ l → Within r p anc v → Leaves (lineOf r p anc v) text words p₀ anc₀ v₀ p anc v
+      → Parses r text words p₀ anc₀ v₀ p anc v l
+  parses {words} e h left = record { said = e; within = h; left = subst (λ x. Leaves x text words p₀ anc₀ v₀ p anc v) e left }
+
+  -- the same line, and its words, by other names
+  pub parses-as : {words : ByteWords} {l m : Line} → Parses r text words p₀ anc₀ v₀ p anc v l → words ≡ bytesOf text → l ≡ m → Parses r text (bytesOf text) p₀ anc₀ v₀ p anc v m
+  parses-as {words} {l} h f e = subst (λ x. Parses r text (bytesOf text) p₀ anc₀ v₀ p anc v x) e (subst (λ w. Parses r text w p₀ anc₀ v₀ p anc v l) f h)
+
+pub words-of : (text : List ℕ) {n : Name} → nameOf (wordAt 0 text) ≡ n → wordsOf n ≡ bytesOf text
+unfolding bytesOf
+words-of text e = sym (ap wordsOf e)
 
 module _ (line : List ℕ) where
   named : (n : Name) → nameOf (wordAt 0 line) ≡ n → readLine line ≡ readNamed n line

@@ -4,6 +4,7 @@ use mathlib.Core.Path.{_≡_}
 use mathlib.Core.Option.{Option, none, some}
 use mathlib.Core.List.{List}
 use lib.ListN.{length, take}
+use package.Rattle.lines.specs.Hexadecimal.{filled}
 use package.Rattle.lines.specs.declared.hexadecimal.Decoded.{Decoded}
 use package.Rattle.lines.specs.declared.hexadecimal.Decoded.the-variants.{Bytes, Not}
 
@@ -16,6 +17,8 @@ abbrev pub sizeOf : Decoded → ℕ
 sizeOf (Bytes n) = n
 sizeOf Not = 0
 
-pub record Decodes (r : Decoded) (out : List ℕ) (bytes : Option (List ℕ)) : Type 0 where
+-- the buffer before and after, and the bytes that the word is
+pub record Decodes (r : Decoded) (word before out : List ℕ) (bytes : Option (List ℕ)) : Type 0 where
   pub said : decodedOf r out ≡ bytes
   pub within : sizeOf r ≤ length out
+  pub left : out ≡ filled word before

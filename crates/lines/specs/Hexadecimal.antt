@@ -3,6 +3,7 @@ use Prim.Native.Nat.{ℕ, _+_, _*_, _-_, _/_, _%_}
 use mathlib.Core.Bool.{cond}
 use mathlib.Core.Option.{Option, none, some}
 use mathlib.Core.List.{List, [], _∷_, _++_}
+use lib.ListN.{length, drop}
 use lib.Dec.{eqb, ltb, leb}
 
 -- the number of a digit, of either case; 16 for a byte that is none
@@ -42,6 +43,22 @@ unfolding pairsOf
 bytesIn [] = none
 bytesIn (x ∷ []) = cond (eqb x 45) (some []) none
 bytesIn (x ∷ y ∷ rest) = pairsOf (x ∷ y ∷ rest)
+
+-- the byte of two digits in front of the rest; nothing if one is no digit
+unfoldable pub leads : ℕ → ℕ → List ℕ → List ℕ
+leads high low rest = cond (leb 16 high) [] (cond (leb 16 low) [] ((high * 16 + low) ∷ rest))
+
+-- the bytes of the pairs of digits that a word starts with, whatever stands behind them
+unfoldable pub leading : List ℕ → List ℕ
+unfolding digitOf leads
+leading [] = []
+leading (x ∷ []) = []
+leading (x ∷ y ∷ rest) = leads (digitOf x) (digitOf y) (leading rest)
+
+-- a buffer with these at its start, the rest unchanged
+unfoldable pub filled : List ℕ → List ℕ → List ℕ
+unfolding leading
+filled word buffer = leading word ++ drop (length (leading word)) buffer
 
 -- the digits of bytes
 unfoldable pub digitsOf : List ℕ → List ℕ

@@ -15,6 +15,8 @@ pub mod Words
 pub mod Text
 -- the call that a line says
 pub mod Calls
+-- what reading a line leaves in the buffers
+pub mod Left
 -- what a parsed call says in code
 pub mod Parsed
 -- answers as lines

@@ -4,6 +4,7 @@ use mathlib.Core.Path.{_≡_}
 use mathlib.Core.List.{List}
 use lib.ListN.{length, take}
 use package.Rattle.lines.specs.Calls.{Line, checkLine, runLine, openLine, convertLine, rollbackLine, noCall, wordCount, noNumber, noBytes}
+use package.Rattle.lines.specs.Left.{ByteWords, Leaves}
 use package.Rattle.lines.specs.declared.calls.Parsed.{Parsed}
 use package.Rattle.lines.specs.declared.calls.Parsed.the-variants.{Checks, Runs, Opens, Converts, RollsBack, NoCall, WordCount, NoNumber, NoBytes}
 
@@ -54,6 +55,8 @@ Within WordCount p anc v = Unit {0}
 Within (NoNumber k) p anc v = Unit {0}
 Within (NoBytes k) p anc v = Unit {0}
 
-pub record Parses (r : Parsed) (p anc v : List ℕ) (line : Line) : Type 0 where
+-- the text that was read, its words that are to be bytes, and the buffers before and after
+pub record Parses (r : Parsed) (text : List ℕ) (words : ByteWords) (p₀ anc₀ v₀ p anc v : List ℕ) (line : Line) : Type 0 where
   pub said : lineOf r p anc v ≡ line
   pub within : Within r p anc v
+  pub left : Leaves line text words p₀ anc₀ v₀ p anc v

@@ -14,7 +14,9 @@ ghost use Rattle.lines.specs.Numbered.{Numbers};
 ghost use Rattle.lines.specs.Hexadecimal.{bytesIn};
 ghost use Rattle.lines.specs.Decoded.{Decodes};
 ghost use Rattle.lines.specs.Calls.{nameOf, readCheck, readRun, readOpen, readConvert, readRollback, ofLength, readLine};
+ghost use Rattle.lines.specs.Left.{wordsOf, bytesOf};
 ghost use Rattle.lines.specs.Parsed.{Parses};
+ghost use Rattle.lines.specs.declared.calls.Name.the-variants.{Check, Forward, Open, Convert, Rollback};
 
 // The greatest length that a line can name.
 const MOST_LENGTH: u64 = 999999999;
@@ -122,14 +124,14 @@ fn number_at(line: &[u8], k: u8, most: u64) -> Number
 // The bytes that word k is, at the start of `out`.
 fn bytes_at(line: &[u8], k: u8, out: &mut [u8]) -> Decoded
     requires { ⌜ length (now line) ≤ 2 * length (now out) ⌝ }
-    ensures { λ r. ⌜ Decodes r (now (out .exit)) (bytesIn (wordAt k (now (line .entry)))) ⌝ }
+    ensures { λ r. ⌜ Decodes r (wordAt k (now (line .entry))) (now (out .entry)) (now (out .exit)) (bytesIn (wordAt k (now (line .entry)))) ⌝ }
 {
     hexadecimal::decode(words::word(line, k), out)
 }
 
 fn check_call(line: &[u8], program: &mut [u8], ancillae: &mut [u8], value: &mut [u8]) -> Parsed
     requires { ⌜ length (now line) ≤ 2 * length (now program) ⌝ }
-    ensures { λ r. ⌜ Parses r (now (program .exit)) (now (ancillae .exit)) (now (value .exit)) (readCheck (now (line .entry))) ⌝ }
+    ensures { λ r. ⌜ Parses r (now (line .entry)) (wordsOf Check) (now (program .entry)) (now (ancillae .entry)) (now (value .entry)) (now (program .exit)) (now (ancillae .exit)) (now (value .exit)) (readCheck (now (line .entry))) ⌝ }
 {
     let Number::Is(workspace) = number_at(line, 1, MOST_LENGTH) else {
         return Parsed::NoNumber(1);
@@ -153,7 +155,7 @@ fn run_call(
     requires { ⌜ length (now line) ≤ 2 * length (now program) ⌝ }
     requires { ⌜ length (now line) ≤ 2 * length (now ancillae) ⌝ }
     requires { ⌜ length (now line) ≤ 2 * length (now value) ⌝ }
-    ensures { λ r. ⌜ Parses r (now (program .exit)) (now (ancillae .exit)) (now (value .exit)) (readRun backward (now (line .entry))) ⌝ }
+    ensures { λ r. ⌜ Parses r (now (line .entry)) (wordsOf Forward) (now (program .entry)) (now (ancillae .entry)) (now (value .entry)) (now (program .exit)) (now (ancillae .exit)) (now (value .exit)) (readRun backward (now (line .entry))) ⌝ }
 {
     let Number::Is(workspace) = number_at(line, 1, MOST_LENGTH) else {
         return Parsed::NoNumber(1);
@@ -192,7 +194,7 @@ fn open_call(line: &[u8], program: &mut [u8], ancillae: &mut [u8], value: &mut [
     requires { ⌜ length (now line) ≤ 2 * length (now program) ⌝ }
     requires { ⌜ length (now line) ≤ 2 * length (now ancillae) ⌝ }
     requires { ⌜ length (now line) ≤ 2 * length (now value) ⌝ }
-    ensures { λ r. ⌜ Parses r (now (program .exit)) (now (ancillae .exit)) (now (value .exit)) (ofLength (spaces (now (line .entry))) 4 (readOpen (now (line .entry)))) ⌝ }
+    ensures { λ r. ⌜ Parses r (now (line .entry)) (wordsOf Open) (now (program .entry)) (now (ancillae .entry)) (now (value .entry)) (now (program .exit)) (now (ancillae .exit)) (now (value .exit)) (ofLength (spaces (now (line .entry))) 4 (readOpen (now (line .entry)))) ⌝ }
 {
     let count = words::count_spaces(line);
     if count != 4 {
@@ -222,7 +224,7 @@ fn convert_call(line: &[u8], program: &mut [u8], ancillae: &mut [u8], value: &mu
     requires { ⌜ length (now line) ≤ 2 * length (now program) ⌝ }
     requires { ⌜ length (now line) ≤ 2 * length (now ancillae) ⌝ }
     requires { ⌜ length (now line) ≤ 2 * length (now value) ⌝ }
-    ensures { λ r. ⌜ Parses r (now (program .exit)) (now (ancillae .exit)) (now (value .exit)) (ofLength (spaces (now (line .entry))) 6 (readConvert (now (line .entry)))) ⌝ }
+    ensures { λ r. ⌜ Parses r (now (line .entry)) (wordsOf Convert) (now (program .entry)) (now (ancillae .entry)) (now (value .entry)) (now (program .exit)) (now (ancillae .exit)) (now (value .exit)) (ofLength (spaces (now (line .entry))) 6 (readConvert (now (line .entry)))) ⌝ }
 {
     let count = words::count_spaces(line);
     if count != 6 {
@@ -259,7 +261,7 @@ fn convert_call(line: &[u8], program: &mut [u8], ancillae: &mut [u8], value: &mu
 fn rollback_call(line: &[u8], program: &mut [u8], ancillae: &mut [u8], value: &mut [u8]) -> Parsed
     requires { ⌜ length (now line) ≤ 2 * length (now program) ⌝ }
     requires { ⌜ length (now line) ≤ 2 * length (now value) ⌝ }
-    ensures { λ r. ⌜ Parses r (now (program .exit)) (now (ancillae .exit)) (now (value .exit)) (ofLength (spaces (now (line .entry))) 4 (readRollback (now (line .entry)))) ⌝ }
+    ensures { λ r. ⌜ Parses r (now (line .entry)) (wordsOf Rollback) (now (program .entry)) (now (ancillae .entry)) (now (value .entry)) (now (program .exit)) (now (ancillae .exit)) (now (value .exit)) (ofLength (spaces (now (line .entry))) 4 (readRollback (now (line .entry)))) ⌝ }
 {
     let count = words::count_spaces(line);
     if count != 4 {
@@ -290,7 +292,7 @@ pub fn parse(line: &[u8], program: &mut [u8], ancillae: &mut [u8], value: &mut [
     requires { ⌜ length (now line) ≤ 2 * length (now program) ⌝ }
     requires { ⌜ length (now line) ≤ 2 * length (now ancillae) ⌝ }
     requires { ⌜ length (now line) ≤ 2 * length (now value) ⌝ }
-    ensures { λ r. ⌜ Parses r (now (program .exit)) (now (ancillae .exit)) (now (value .exit)) (readLine (now (line .entry))) ⌝ }
+    ensures { λ r. ⌜ Parses r (now (line .entry)) (bytesOf (now (line .entry))) (now (program .entry)) (now (ancillae .entry)) (now (value .entry)) (now (program .exit)) (now (ancillae .exit)) (now (value .exit)) (readLine (now (line .entry))) ⌝ }
 {
     let spaces = words::count_spaces(line);
     match name_of(words::word(line, 0)) {

@@ -1,4 +1,5 @@
-use Rattle.lines.proofs.Saying.{told-number, told-no-number, told-bytes, told-no-bytes, bytes-within}
+use mathlib.Core.Path.{refl}
+use Rattle.lines.proofs.Saying.{told-number, told-no-number, told-bytes, told-no-bytes, bytes-within, parses, unread}
 use Rattle.lines.proofs.Heard.{check-1, check-2, check-all}
 use borrow.Author.Needs.{needs}
 use Rattle.lines.proofs.calls.check_call.Statement.{statement}
@@ -14,7 +15,8 @@ enum-told : tie.Need-enum-told
 enum-told c = search needs
 
 returns : tie.Need-returns
-returns c = record { said = check-1 _ (told-no-number (c .before .before .number-at .ensures) (c .enum-told .given .1)); within = tt }
+returns c = parses (check-1 _ (told-no-number (c .before .before .number-at .ensures) (c .enum-told .given .1))) tt
+    (unread _ λ k. refl)
 
 bytes-at-requires : tie.Need-bytes-at-requires
 bytes-at-requires c κs = search needs
@@ -29,13 +31,15 @@ same-length : tie.Need-same-length
 same-length c = search needs
 
 returns-2 : tie.Need-returns-2
-returns-2 c = record { said = check-2 _ (told-number (c .before .before .before .before .before .before .before .before .before .number-at .ensures) (c .before .before .before .before .before .before .before .workspace .given .1)) (told-no-bytes (c .before .before .before .before .bytes-at .ensures) (c .enum-told2 .given .1)); within = tt }
+returns-2 c = parses (check-2 _ (told-number (c .before .before .before .before .before .before .before .before .before .number-at .ensures) (c .before .before .before .before .before .before .before .workspace .given .1)) (told-no-bytes (c .before .before .before .before .bytes-at .ensures) (c .enum-told2 .given .1))) tt
+    (record { program = c .before .before .before .before .bytes-at .ensures .left; ancillae = refl; value = refl })
 
 same-length-2 : tie.Need-same-length-2
 same-length-2 c = search needs
 
 returns-3 : tie.Need-returns-3
-returns-3 c = record { said = check-all _ (told-number (c .before .before .before .before .before .before .before .before .before .before .number-at .ensures) (c .before .before .before .before .before .before .before .before .workspace .given .1)) (told-bytes (c .before .before .before .before .before .bytes-at .ensures) (c .before .n .given .1)); within = bytes-within (c .before .before .before .before .before .bytes-at .ensures) (c .before .n .given .1) }
+returns-3 c = parses (check-all _ (told-number (c .before .before .before .before .before .before .before .before .before .before .number-at .ensures) (c .before .before .before .before .before .before .before .before .workspace .given .1)) (told-bytes (c .before .before .before .before .before .bytes-at .ensures) (c .before .n .given .1))) (bytes-within (c .before .before .before .before .before .bytes-at .ensures) (c .before .n .given .1))
+    (record { program = c .before .before .before .before .before .bytes-at .ensures .left; ancillae = refl; value = refl })
 
 pub check-call-spec : {M : Type 1} → statement M
 check-call-spec =

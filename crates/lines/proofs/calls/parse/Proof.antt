@@ -1,6 +1,6 @@
-use mathlib.Core.Path.{sym, ap, _∙_}
+use mathlib.Core.Path.{refl, sym, ap, _∙_}
 use Rattle.lines.specs.Calls.{nameOf}
-use Rattle.lines.proofs.Saying.{parses-as, is-check, is-forward, is-backward, no-check, no-forward, no-backward, is-open, is-convert, is-rollback, is-other}
+use Rattle.lines.proofs.Saying.{parses, parses-as, unread, words-of, is-check, is-forward, is-backward, no-check, no-forward, no-backward, is-open, is-convert, is-rollback, is-other}
 use borrow.Author.Needs.{needs}
 use Rattle.lines.proofs.calls.parse.Statement.{statement}
 use Rattle.lines.proofs.calls.parse.Tie as tie
@@ -18,7 +18,7 @@ enum-told : tie.Need-enum-told
 enum-told c = search needs
 
 returns : tie.Need-returns
-returns c = record { said = no-check _ (ap nameOf (sym (c .before .before .before .before .word .ensures)) ∙ sym (c .before .before .before .name-of .ensures) ∙ c .before .enum-told .given .1) λ e. c .if1 .taken (c .before .before .before .before .before .count-spaces .ensures ∙ e); within = tt }
+returns c = parses (no-check _ (ap nameOf (sym (c .before .before .before .before .word .ensures)) ∙ sym (c .before .before .before .name-of .ensures) ∙ c .before .enum-told .given .1) λ e. c .if1 .taken (c .before .before .before .before .before .count-spaces .ensures ∙ e)) tt (unread _ λ k. refl)
 
 check-call-requires : tie.Need-check-call-requires
 check-call-requires c κs = search needs
@@ -27,7 +27,7 @@ enum-told-2 : tie.Need-enum-told-2
 enum-told-2 c = search needs
 
 returns-2 : tie.Need-returns-2
-returns-2 c = record { said = no-forward _ (ap nameOf (sym (c .before .before .before .before .word .ensures)) ∙ sym (c .before .before .before .name-of .ensures) ∙ c .before .enum-told2 .given .1) λ e. c .if2 .taken (c .before .before .before .before .before .count-spaces .ensures ∙ e); within = tt }
+returns-2 c = parses (no-forward _ (ap nameOf (sym (c .before .before .before .before .word .ensures)) ∙ sym (c .before .before .before .name-of .ensures) ∙ c .before .enum-told2 .given .1) λ e. c .if2 .taken (c .before .before .before .before .before .count-spaces .ensures ∙ e)) tt (unread _ λ k. refl)
 
 run-call-requires : tie.Need-run-call-requires
 run-call-requires c κs = search needs
@@ -36,7 +36,7 @@ enum-told-3 : tie.Need-enum-told-3
 enum-told-3 c = search needs
 
 returns-3 : tie.Need-returns-3
-returns-3 c = record { said = no-backward _ (ap nameOf (sym (c .before .before .before .before .word .ensures)) ∙ sym (c .before .before .before .name-of .ensures) ∙ c .before .enum-told3 .given .1) λ e. c .if3 .taken (c .before .before .before .before .before .count-spaces .ensures ∙ e); within = tt }
+returns-3 c = parses (no-backward _ (ap nameOf (sym (c .before .before .before .before .word .ensures)) ∙ sym (c .before .before .before .name-of .ensures) ∙ c .before .enum-told3 .given .1) λ e. c .if3 .taken (c .before .before .before .before .before .count-spaces .ensures ∙ e)) tt (unread _ λ k. refl)
 
 run-call-requires-2 : tie.Need-run-call-requires-2
 run-call-requires-2 c κs = search needs
@@ -72,7 +72,8 @@ same-length-3 : tie.Need-same-length-3
 same-length-3 c = search needs
 
 returns-4 : tie.Need-returns-4
-returns-4 c = parses-as (c .before .before .before .before .before .before .check-call .ensures) (is-check _ (ap nameOf (sym (c .before .before .before .before .before .before .before .before .before .before .before .before .before .before .word .ensures)) ∙ sym (c .before .before .before .before .before .before .before .before .before .before .before .before .before .name-of .ensures) ∙ c .before .before .before .before .before .before .before .before .before .before .before .enum-told .given .1) (sym (c .before .before .before .before .before .before .before .before .before .before .before .before .before .before .before .count-spaces .ensures) ∙ c .before .before .before .before .before .before .before .before .before .before .if1 .left))
+returns-4 c = let e = ap nameOf (sym (c .before .before .before .before .before .before .before .before .before .before .before .before .before .before .word .ensures)) ∙ sym (c .before .before .before .before .before .before .before .before .before .before .before .before .before .name-of .ensures) ∙ c .before .before .before .before .before .before .before .before .before .before .before .enum-told .given .1 in
+    parses-as (c .before .before .before .before .before .before .check-call .ensures) (words-of _ e) (is-check _ e (sym (c .before .before .before .before .before .before .before .before .before .before .before .before .before .before .before .count-spaces .ensures) ∙ c .before .before .before .before .before .before .before .before .before .before .if1 .left))
 
 same-length-4 : tie.Need-same-length-4
 same-length-4 c = search needs
@@ -84,7 +85,8 @@ same-length-6 : tie.Need-same-length-6
 same-length-6 c = search needs
 
 returns-5 : tie.Need-returns-5
-returns-5 c = parses-as (c .before .before .before .before .before .before .run-call .ensures) (is-forward _ (ap nameOf (sym (c .before .before .before .before .before .before .before .before .before .before .before .before .before .before .word .ensures)) ∙ sym (c .before .before .before .before .before .before .before .before .before .before .before .before .before .name-of .ensures) ∙ c .before .before .before .before .before .before .before .before .before .before .before .enum-told2 .given .1) (sym (c .before .before .before .before .before .before .before .before .before .before .before .before .before .before .before .count-spaces .ensures) ∙ c .before .before .before .before .before .before .before .before .before .before .if2 .left))
+returns-5 c = let e = ap nameOf (sym (c .before .before .before .before .before .before .before .before .before .before .before .before .before .before .word .ensures)) ∙ sym (c .before .before .before .before .before .before .before .before .before .before .before .before .before .name-of .ensures) ∙ c .before .before .before .before .before .before .before .before .before .before .before .enum-told2 .given .1 in
+    parses-as (c .before .before .before .before .before .before .run-call .ensures) (words-of _ e) (is-forward _ e (sym (c .before .before .before .before .before .before .before .before .before .before .before .before .before .before .before .count-spaces .ensures) ∙ c .before .before .before .before .before .before .before .before .before .before .if2 .left))
 
 same-length-7 : tie.Need-same-length-7
 same-length-7 c = search needs
@@ -96,7 +98,8 @@ same-length-9 : tie.Need-same-length-9
 same-length-9 c = search needs
 
 returns-6 : tie.Need-returns-6
-returns-6 c = parses-as (c .before .before .before .before .before .before .run-call2 .ensures) (is-backward _ (ap nameOf (sym (c .before .before .before .before .before .before .before .before .before .before .before .before .before .before .word .ensures)) ∙ sym (c .before .before .before .before .before .before .before .before .before .before .before .before .before .name-of .ensures) ∙ c .before .before .before .before .before .before .before .before .before .before .before .enum-told3 .given .1) (sym (c .before .before .before .before .before .before .before .before .before .before .before .before .before .before .before .count-spaces .ensures) ∙ c .before .before .before .before .before .before .before .before .before .before .if3 .left))
+returns-6 c = let e = ap nameOf (sym (c .before .before .before .before .before .before .before .before .before .before .before .before .before .before .word .ensures)) ∙ sym (c .before .before .before .before .before .before .before .before .before .before .before .before .before .name-of .ensures) ∙ c .before .before .before .before .before .before .before .before .before .before .before .enum-told3 .given .1 in
+    parses-as (c .before .before .before .before .before .before .run-call2 .ensures) (words-of _ e) (is-backward _ e (sym (c .before .before .before .before .before .before .before .before .before .before .before .before .before .before .before .count-spaces .ensures) ∙ c .before .before .before .before .before .before .before .before .before .before .if3 .left))
 
 same-length-10 : tie.Need-same-length-10
 same-length-10 c = search needs
@@ -108,7 +111,8 @@ same-length-12 : tie.Need-same-length-12
 same-length-12 c = search needs
 
 returns-7 : tie.Need-returns-7
-returns-7 c = parses-as (c .before .before .before .before .before .before .open-call .ensures) (is-open _ (ap nameOf (sym (c .before .before .before .before .before .before .before .before .before .before .before .before .before .word .ensures)) ∙ sym (c .before .before .before .before .before .before .before .before .before .before .before .before .name-of .ensures) ∙ c .before .before .before .before .before .before .before .before .before .before .enum-told4 .given .1))
+returns-7 c = let e = ap nameOf (sym (c .before .before .before .before .before .before .before .before .before .before .before .before .before .word .ensures)) ∙ sym (c .before .before .before .before .before .before .before .before .before .before .before .before .name-of .ensures) ∙ c .before .before .before .before .before .before .before .before .before .before .enum-told4 .given .1 in
+    parses-as (c .before .before .before .before .before .before .open-call .ensures) (words-of _ e) (is-open _ e)
 
 same-length-13 : tie.Need-same-length-13
 same-length-13 c = search needs
@@ -120,7 +124,8 @@ same-length-15 : tie.Need-same-length-15
 same-length-15 c = search needs
 
 returns-8 : tie.Need-returns-8
-returns-8 c = parses-as (c .before .before .before .before .before .before .convert-call .ensures) (is-convert _ (ap nameOf (sym (c .before .before .before .before .before .before .before .before .before .before .before .before .before .word .ensures)) ∙ sym (c .before .before .before .before .before .before .before .before .before .before .before .before .name-of .ensures) ∙ c .before .before .before .before .before .before .before .before .before .before .enum-told5 .given .1))
+returns-8 c = let e = ap nameOf (sym (c .before .before .before .before .before .before .before .before .before .before .before .before .before .word .ensures)) ∙ sym (c .before .before .before .before .before .before .before .before .before .before .before .before .name-of .ensures) ∙ c .before .before .before .before .before .before .before .before .before .before .enum-told5 .given .1 in
+    parses-as (c .before .before .before .before .before .before .convert-call .ensures) (words-of _ e) (is-convert _ e)
 
 same-length-16 : tie.Need-same-length-16
 same-length-16 c = search needs
@@ -132,10 +137,11 @@ same-length-18 : tie.Need-same-length-18
 same-length-18 c = search needs
 
 returns-9 : tie.Need-returns-9
-returns-9 c = parses-as (c .before .before .before .before .before .before .rollback-call .ensures) (is-rollback _ (ap nameOf (sym (c .before .before .before .before .before .before .before .before .before .before .before .before .before .word .ensures)) ∙ sym (c .before .before .before .before .before .before .before .before .before .before .before .before .name-of .ensures) ∙ c .before .before .before .before .before .before .before .before .before .before .enum-told6 .given .1))
+returns-9 c = let e = ap nameOf (sym (c .before .before .before .before .before .before .before .before .before .before .before .before .before .word .ensures)) ∙ sym (c .before .before .before .before .before .before .before .before .before .before .before .before .name-of .ensures) ∙ c .before .before .before .before .before .before .before .before .before .before .enum-told6 .given .1 in
+    parses-as (c .before .before .before .before .before .before .rollback-call .ensures) (words-of _ e) (is-rollback _ e)
 
 returns-10 : tie.Need-returns-10
-returns-10 c = record { said = is-other _ (ap nameOf (sym (c .before .before .before .word .ensures)) ∙ sym (c .before .before .name-of .ensures) ∙ c .enum-told7 .given .1); within = tt }
+returns-10 c = parses (is-other _ (ap nameOf (sym (c .before .before .before .word .ensures)) ∙ sym (c .before .before .name-of .ensures) ∙ c .enum-told7 .given .1)) tt (unread _ λ k. refl)
 
 pub parse-spec : {M : Type 1} → statement M
 parse-spec =

@@ -1,5 +1,6 @@
 use native.Mathlib.Omega.{arith}
-use Rattle.lines.proofs.Saying.{told-number, told-no-number, told-bytes, told-no-bytes, number-within, bytes-within}
+use mathlib.Core.Path.{refl}
+use Rattle.lines.proofs.Saying.{told-number, told-no-number, told-bytes, told-no-bytes, number-within, bytes-within, parses, unread}
 use Rattle.lines.proofs.Heard.{run-1, run-2, run-3, run-4, run-5, run-6, run-7, run-all}
 use borrow.Author.Needs.{needs}
 use Rattle.lines.proofs.calls.run_call.Statement.{statement}
@@ -15,7 +16,8 @@ enum-told : tie.Need-enum-told
 enum-told c = search needs
 
 returns : tie.Need-returns
-returns c = record { said = run-1 _ _ (told-no-number (c .before .before .number-at .ensures) (c .enum-told .given .1)); within = tt }
+returns c = parses (run-1 _ _ (told-no-number (c .before .before .number-at .ensures) (c .enum-told .given .1))) tt
+    (unread _ λ k. refl)
 
 number-at-requires-2 : tie.Need-number-at-requires-2
 number-at-requires-2 c κs = search needs
@@ -27,7 +29,8 @@ enum-told-2 : tie.Need-enum-told-2
 enum-told-2 c = search needs
 
 returns-2 : tie.Need-returns-2
-returns-2 c = record { said = run-2 _ _ (told-number (c .before .before .before .before .before .before .number-at .ensures) (c .before .before .before .before .workspace .given .1)) (told-no-number (c .before .before .number-at2 .ensures) (c .enum-told2 .given .1)); within = tt }
+returns-2 c = parses (run-2 _ _ (told-number (c .before .before .before .before .before .before .number-at .ensures) (c .before .before .before .before .workspace .given .1)) (told-no-number (c .before .before .number-at2 .ensures) (c .enum-told2 .given .1))) tt
+    (unread _ λ k. refl)
 
 number-at-requires-3 : tie.Need-number-at-requires-3
 number-at-requires-3 c κs = search needs
@@ -39,7 +42,8 @@ enum-told-3 : tie.Need-enum-told-3
 enum-told-3 c = search needs
 
 returns-3 : tie.Need-returns-3
-returns-3 c = record { said = run-3 _ _ (told-number (c .before .before .before .before .before .before .before .before .before .before .number-at .ensures) (c .before .before .before .before .before .before .before .before .workspace .given .1)) (told-number (c .before .before .before .before .before .before .number-at2 .ensures) (c .before .before .before .before .output .given .1)) (told-no-number (c .before .before .number-at3 .ensures) (c .enum-told3 .given .1)); within = tt }
+returns-3 c = parses (run-3 _ _ (told-number (c .before .before .before .before .before .before .before .before .before .before .number-at .ensures) (c .before .before .before .before .before .before .before .before .workspace .given .1)) (told-number (c .before .before .before .before .before .before .number-at2 .ensures) (c .before .before .before .before .output .given .1)) (told-no-number (c .before .before .number-at3 .ensures) (c .enum-told3 .given .1))) tt
+    (unread _ λ k. refl)
 
 number-at-requires-4 : tie.Need-number-at-requires-4
 number-at-requires-4 c κs = search needs
@@ -51,7 +55,8 @@ enum-told-4 : tie.Need-enum-told-4
 enum-told-4 c = search needs
 
 returns-4 : tie.Need-returns-4
-returns-4 c = record { said = run-4 _ _ (told-number (c .before .before .before .before .before .before .before .before .before .before .before .before .before .before .number-at .ensures) (c .before .before .before .before .before .before .before .before .before .before .before .before .workspace .given .1)) (told-number (c .before .before .before .before .before .before .before .before .before .before .number-at2 .ensures) (c .before .before .before .before .before .before .before .before .output .given .1)) (told-number (c .before .before .before .before .before .before .number-at3 .ensures) (c .before .before .before .before .fuel .given .1)) (told-no-number (c .before .before .number-at4 .ensures) (c .enum-told4 .given .1)); within = tt }
+returns-4 c = parses (run-4 _ _ (told-number (c .before .before .before .before .before .before .before .before .before .before .before .before .before .before .number-at .ensures) (c .before .before .before .before .before .before .before .before .before .before .before .before .workspace .given .1)) (told-number (c .before .before .before .before .before .before .before .before .before .before .number-at2 .ensures) (c .before .before .before .before .before .before .before .before .output .given .1)) (told-number (c .before .before .before .before .before .before .number-at3 .ensures) (c .before .before .before .before .fuel .given .1)) (told-no-number (c .before .before .number-at4 .ensures) (c .enum-told4 .given .1))) tt
+    (unread _ λ k. refl)
 
 bytes-at-requires : tie.Need-bytes-at-requires
 bytes-at-requires c κs = search needs
@@ -66,7 +71,8 @@ same-length : tie.Need-same-length
 same-length c = search needs
 
 returns-5 : tie.Need-returns-5
-returns-5 c = record { said = run-5 _ _ (told-number (c .before .before .before .before .before .before .before .before .before .before .before .before .before .before .before .before .before .before .before .before .before .number-at .ensures) (c .before .before .before .before .before .before .before .before .before .before .before .before .before .before .before .before .before .before .before .workspace .given .1)) (told-number (c .before .before .before .before .before .before .before .before .before .before .before .before .before .before .before .before .before .number-at2 .ensures) (c .before .before .before .before .before .before .before .before .before .before .before .before .before .before .before .output .given .1)) (told-number (c .before .before .before .before .before .before .before .before .before .before .before .before .before .number-at3 .ensures) (c .before .before .before .before .before .before .before .before .before .before .before .fuel .given .1)) (told-number (c .before .before .before .before .before .before .before .before .before .number-at4 .ensures) (c .before .before .before .before .before .before .before .function .given .1)) (told-no-bytes (c .before .before .before .before .bytes-at .ensures) (c .enum-told5 .given .1)); within = tt }
+returns-5 c = parses (run-5 _ _ (told-number (c .before .before .before .before .before .before .before .before .before .before .before .before .before .before .before .before .before .before .before .before .before .number-at .ensures) (c .before .before .before .before .before .before .before .before .before .before .before .before .before .before .before .before .before .before .before .workspace .given .1)) (told-number (c .before .before .before .before .before .before .before .before .before .before .before .before .before .before .before .before .before .number-at2 .ensures) (c .before .before .before .before .before .before .before .before .before .before .before .before .before .before .before .output .given .1)) (told-number (c .before .before .before .before .before .before .before .before .before .before .before .before .before .number-at3 .ensures) (c .before .before .before .before .before .before .before .before .before .before .before .fuel .given .1)) (told-number (c .before .before .before .before .before .before .before .before .before .number-at4 .ensures) (c .before .before .before .before .before .before .before .function .given .1)) (told-no-bytes (c .before .before .before .before .bytes-at .ensures) (c .enum-told5 .given .1))) tt
+    (record { program = c .before .before .before .before .bytes-at .ensures .left; ancillae = refl; value = refl })
 
 bytes-at-requires-2 : tie.Need-bytes-at-requires-2
 bytes-at-requires-2 c κs = omega (arith, c .before .before .before .before .before .before .before .before .before .before .before .before .before .before .before .before .before .before .before .before .before .before .before .before .before .before .before .before .pre .1)
@@ -84,7 +90,8 @@ same-length-3 : tie.Need-same-length-3
 same-length-3 c = search needs
 
 returns-6 : tie.Need-returns-6
-returns-6 c = record { said = run-6 _ _ (told-number (c .before .before .before .before .before .before .before .before .before .before .before .before .before .before .before .before .before .before .before .before .before .before .before .before .before .before .before .before .number-at .ensures) (c .before .before .before .before .before .before .before .before .before .before .before .before .before .before .before .before .before .before .before .before .before .before .before .before .before .before .workspace .given .1)) (told-number (c .before .before .before .before .before .before .before .before .before .before .before .before .before .before .before .before .before .before .before .before .before .before .before .before .number-at2 .ensures) (c .before .before .before .before .before .before .before .before .before .before .before .before .before .before .before .before .before .before .before .before .before .before .output .given .1)) (told-number (c .before .before .before .before .before .before .before .before .before .before .before .before .before .before .before .before .before .before .before .before .number-at3 .ensures) (c .before .before .before .before .before .before .before .before .before .before .before .before .before .before .before .before .before .before .fuel .given .1)) (told-number (c .before .before .before .before .before .before .before .before .before .before .before .before .before .before .before .before .number-at4 .ensures) (c .before .before .before .before .before .before .before .before .before .before .before .before .before .before .function .given .1)) (told-bytes (c .before .before .before .before .before .before .before .before .before .before .before .bytes-at .ensures) (c .before .before .before .before .before .before .before .p .given .1)) (told-no-bytes (c .before .before .before .before .bytes-at2 .ensures) (c .enum-told6 .given .1)); within = tt }
+returns-6 c = parses (run-6 _ _ (told-number (c .before .before .before .before .before .before .before .before .before .before .before .before .before .before .before .before .before .before .before .before .before .before .before .before .before .before .before .before .number-at .ensures) (c .before .before .before .before .before .before .before .before .before .before .before .before .before .before .before .before .before .before .before .before .before .before .before .before .before .before .workspace .given .1)) (told-number (c .before .before .before .before .before .before .before .before .before .before .before .before .before .before .before .before .before .before .before .before .before .before .before .before .number-at2 .ensures) (c .before .before .before .before .before .before .before .before .before .before .before .before .before .before .before .before .before .before .before .before .before .before .output .given .1)) (told-number (c .before .before .before .before .before .before .before .before .before .before .before .before .before .before .before .before .before .before .before .before .number-at3 .ensures) (c .before .before .before .before .before .before .before .before .before .before .before .before .before .before .before .before .before .before .fuel .given .1)) (told-number (c .before .before .before .before .before .before .before .before .before .before .before .before .before .before .before .before .number-at4 .ensures) (c .before .before .before .before .before .before .before .before .before .before .before .before .before .before .function .given .1)) (told-bytes (c .before .before .before .before .before .before .before .before .before .before .before .bytes-at .ensures) (c .before .before .before .before .before .before .before .p .given .1)) (told-no-bytes (c .before .before .before .before .bytes-at2 .ensures) (c .enum-told6 .given .1))) tt
+    (record { program = c .before .before .before .before .before .before .before .before .before .before .before .bytes-at .ensures .left; ancillae = c .before .before .before .before .bytes-at2 .ensures .left; value = refl })
 
 bytes-at-requires-3 : tie.Need-bytes-at-requires-3
 bytes-at-requires-3 c κs = omega (arith, c .before .before .before .before .before .before .before .before .before .before .before .before .before .before .before .before .before .before .before .before .before .before .before .before .before .before .before .before .before .before .before .before .before .before .before .pre .1)
@@ -105,7 +112,8 @@ same-length-6 : tie.Need-same-length-6
 same-length-6 c = search needs
 
 returns-7 : tie.Need-returns-7
-returns-7 c = record { said = run-7 _ _ (told-number (c .before .before .before .before .before .before .before .before .before .before .before .before .before .before .before .before .before .before .before .before .before .before .before .before .before .before .before .before .before .before .before .before .before .before .before .number-at .ensures) (c .before .before .before .before .before .before .before .before .before .before .before .before .before .before .before .before .before .before .before .before .before .before .before .before .before .before .before .before .before .before .before .before .before .workspace .given .1)) (told-number (c .before .before .before .before .before .before .before .before .before .before .before .before .before .before .before .before .before .before .before .before .before .before .before .before .before .before .before .before .before .before .before .number-at2 .ensures) (c .before .before .before .before .before .before .before .before .before .before .before .before .before .before .before .before .before .before .before .before .before .before .before .before .before .before .before .before .before .output .given .1)) (told-number (c .before .before .before .before .before .before .before .before .before .before .before .before .before .before .before .before .before .before .before .before .before .before .before .before .before .before .before .number-at3 .ensures) (c .before .before .before .before .before .before .before .before .before .before .before .before .before .before .before .before .before .before .before .before .before .before .before .before .before .fuel .given .1)) (told-number (c .before .before .before .before .before .before .before .before .before .before .before .before .before .before .before .before .before .before .before .before .before .before .before .number-at4 .ensures) (c .before .before .before .before .before .before .before .before .before .before .before .before .before .before .before .before .before .before .before .before .before .function .given .1)) (told-bytes (c .before .before .before .before .before .before .before .before .before .before .before .before .before .before .before .before .before .before .bytes-at .ensures) (c .before .before .before .before .before .before .before .before .before .before .before .before .before .before .p .given .1)) (told-bytes (c .before .before .before .before .before .before .before .before .before .before .before .bytes-at2 .ensures) (c .before .before .before .before .before .before .before .a .given .1)) (told-no-bytes (c .before .before .before .before .bytes-at3 .ensures) (c .enum-told7 .given .1)); within = tt }
+returns-7 c = parses (run-7 _ _ (told-number (c .before .before .before .before .before .before .before .before .before .before .before .before .before .before .before .before .before .before .before .before .before .before .before .before .before .before .before .before .before .before .before .before .before .before .before .number-at .ensures) (c .before .before .before .before .before .before .before .before .before .before .before .before .before .before .before .before .before .before .before .before .before .before .before .before .before .before .before .before .before .before .before .before .before .workspace .given .1)) (told-number (c .before .before .before .before .before .before .before .before .before .before .before .before .before .before .before .before .before .before .before .before .before .before .before .before .before .before .before .before .before .before .before .number-at2 .ensures) (c .before .before .before .before .before .before .before .before .before .before .before .before .before .before .before .before .before .before .before .before .before .before .before .before .before .before .before .before .before .output .given .1)) (told-number (c .before .before .before .before .before .before .before .before .before .before .before .before .before .before .before .before .before .before .before .before .before .before .before .before .before .before .before .number-at3 .ensures) (c .before .before .before .before .before .before .before .before .before .before .before .before .before .before .before .before .before .before .before .before .before .before .before .before .before .fuel .given .1)) (told-number (c .before .before .before .before .before .before .before .before .before .before .before .before .before .before .before .before .before .before .before .before .before .before .before .number-at4 .ensures) (c .before .before .before .before .before .before .before .before .before .before .before .before .before .before .before .before .before .before .before .before .before .function .given .1)) (told-bytes (c .before .before .before .before .before .before .before .before .before .before .before .before .before .before .before .before .before .before .bytes-at .ensures) (c .before .before .before .before .before .before .before .before .before .before .before .before .before .before .p .given .1)) (told-bytes (c .before .before .before .before .before .before .before .before .before .before .before .bytes-at2 .ensures) (c .before .before .before .before .before .before .before .a .given .1)) (told-no-bytes (c .before .before .before .before .bytes-at3 .ensures) (c .enum-told7 .given .1))) tt
+    (record { program = c .before .before .before .before .before .before .before .before .before .before .before .before .before .before .before .before .before .before .bytes-at .ensures .left; ancillae = c .before .before .before .before .before .before .before .before .before .before .before .bytes-at2 .ensures .left; value = c .before .before .before .before .bytes-at3 .ensures .left })
 
 cast-t28 : tie.Need-cast-t28
 cast-t28 c = record { fits = omega (arith, number-within (c .before .before .before .before .before .before .before .before .before .before .before .before .before .before .before .before .before .before .before .before .before .before .before .before .before .before .before .before .number-at3 .ensures) (c .before .before .before .before .before .before .before .before .before .before .before .before .before .before .before .before .before .before .before .before .before .before .before .before .before .before .fuel .given .1)) }
@@ -123,10 +131,8 @@ same-length-9 : tie.Need-same-length-9
 same-length-9 c = search needs
 
 returns-8 : tie.Need-returns-8
-returns-8 c = record {
-  said = run-all _ _ (told-number (c .before .before .before .before .before .before .before .before .before .before .before .before .before .before .before .before .before .before .before .before .before .before .before .before .before .before .before .before .before .before .before .before .before .before .before .before .number-at .ensures) (c .before .before .before .before .before .before .before .before .before .before .before .before .before .before .before .before .before .before .before .before .before .before .before .before .before .before .before .before .before .before .before .before .before .before .workspace .given .1)) (told-number (c .before .before .before .before .before .before .before .before .before .before .before .before .before .before .before .before .before .before .before .before .before .before .before .before .before .before .before .before .before .before .before .before .number-at2 .ensures) (c .before .before .before .before .before .before .before .before .before .before .before .before .before .before .before .before .before .before .before .before .before .before .before .before .before .before .before .before .before .before .output .given .1)) (told-number (c .before .before .before .before .before .before .before .before .before .before .before .before .before .before .before .before .before .before .before .before .before .before .before .before .before .before .before .before .number-at3 .ensures) (c .before .before .before .before .before .before .before .before .before .before .before .before .before .before .before .before .before .before .before .before .before .before .before .before .before .before .fuel .given .1)) (told-number (c .before .before .before .before .before .before .before .before .before .before .before .before .before .before .before .before .before .before .before .before .before .before .before .before .number-at4 .ensures) (c .before .before .before .before .before .before .before .before .before .before .before .before .before .before .before .before .before .before .before .before .before .before .function .given .1)) (told-bytes (c .before .before .before .before .before .before .before .before .before .before .before .before .before .before .before .before .before .before .before .bytes-at .ensures) (c .before .before .before .before .before .before .before .before .before .before .before .before .before .before .before .p .given .1)) (told-bytes (c .before .before .before .before .before .before .before .before .before .before .before .before .bytes-at2 .ensures) (c .before .before .before .before .before .before .before .before .a .given .1)) (told-bytes (c .before .before .before .before .before .bytes-at3 .ensures) (c .before .v .given .1));
-  within = (bytes-within (c .before .before .before .before .before .before .before .before .before .before .before .before .before .before .before .before .before .before .before .bytes-at .ensures) (c .before .before .before .before .before .before .before .before .before .before .before .before .before .before .before .p .given .1), bytes-within (c .before .before .before .before .before .before .before .before .before .before .before .before .bytes-at2 .ensures) (c .before .before .before .before .before .before .before .before .a .given .1), bytes-within (c .before .before .before .before .before .bytes-at3 .ensures) (c .before .v .given .1));
-}
+returns-8 c = parses (run-all _ _ (told-number (c .before .before .before .before .before .before .before .before .before .before .before .before .before .before .before .before .before .before .before .before .before .before .before .before .before .before .before .before .before .before .before .before .before .before .before .before .number-at .ensures) (c .before .before .before .before .before .before .before .before .before .before .before .before .before .before .before .before .before .before .before .before .before .before .before .before .before .before .before .before .before .before .before .before .before .before .workspace .given .1)) (told-number (c .before .before .before .before .before .before .before .before .before .before .before .before .before .before .before .before .before .before .before .before .before .before .before .before .before .before .before .before .before .before .before .before .number-at2 .ensures) (c .before .before .before .before .before .before .before .before .before .before .before .before .before .before .before .before .before .before .before .before .before .before .before .before .before .before .before .before .before .before .output .given .1)) (told-number (c .before .before .before .before .before .before .before .before .before .before .before .before .before .before .before .before .before .before .before .before .before .before .before .before .before .before .before .before .number-at3 .ensures) (c .before .before .before .before .before .before .before .before .before .before .before .before .before .before .before .before .before .before .before .before .before .before .before .before .before .before .fuel .given .1)) (told-number (c .before .before .before .before .before .before .before .before .before .before .before .before .before .before .before .before .before .before .before .before .before .before .before .before .number-at4 .ensures) (c .before .before .before .before .before .before .before .before .before .before .before .before .before .before .before .before .before .before .before .before .before .before .function .given .1)) (told-bytes (c .before .before .before .before .before .before .before .before .before .before .before .before .before .before .before .before .before .before .before .bytes-at .ensures) (c .before .before .before .before .before .before .before .before .before .before .before .before .before .before .before .p .given .1)) (told-bytes (c .before .before .before .before .before .before .before .before .before .before .before .before .bytes-at2 .ensures) (c .before .before .before .before .before .before .before .before .a .given .1)) (told-bytes (c .before .before .before .before .before .bytes-at3 .ensures) (c .before .v .given .1))) (bytes-within (c .before .before .before .before .before .before .before .before .before .before .before .before .before .before .before .before .before .before .before .bytes-at .ensures) (c .before .before .before .before .before .before .before .before .before .before .before .before .before .before .before .p .given .1), bytes-within (c .before .before .before .before .before .before .before .before .before .before .before .before .bytes-at2 .ensures) (c .before .before .before .before .before .before .before .before .a .given .1), bytes-within (c .before .before .before .before .before .bytes-at3 .ensures) (c .before .v .given .1))
+    (record { program = c .before .before .before .before .before .before .before .before .before .before .before .before .before .before .before .before .before .before .before .bytes-at .ensures .left; ancillae = c .before .before .before .before .before .before .before .before .before .before .before .before .bytes-at2 .ensures .left; value = c .before .before .before .before .before .bytes-at3 .ensures .left })
 
 pub run-call-spec : {M : Type 1} → statement M
 run-call-spec =
