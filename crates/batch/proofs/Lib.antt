@@ -3,3 +3,5 @@
 pub mod Capping
 -- a run's answer as a line
 pub mod Telling
+-- what the buffers hold afterwards
+pub mod Lending

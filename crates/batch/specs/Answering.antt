@@ -9,7 +9,7 @@ use package.Rattle.calls.specs.Conversions.{Turned, openCall, convertCall, roll
 use package.Rattle.engine.specs.Runs.{runCall}
 use package.Rattle.lines.specs.Text.{text}
 use package.Rattle.lines.specs.Decimal.{decimalText}
-use package.Rattle.lines.specs.Calls.{Line, checkLine, runLine, openLine, convertLine, rollbackLine, noCall, wordCount, noNumber, noBytes, readLine}
+use package.Rattle.lines.specs.Calls.{RunLine, OpenLine, ConvertLine, RollbackLine, Line, checkLine, runLine, openLine, convertLine, rollbackLine, noCall, wordCount, noNumber, noBytes, readLine}
 use package.Rattle.lines.specs.Answers.{valueLine, refusedLine, openedLine, heldLine}
 use package.Rattle.wording.specs.Replies.{checkText}
 
@@ -31,13 +31,26 @@ turnText (refused n p) = refusedLine n p
 unfoldable pub wordError : ℕ → List ℕ → List ℕ
 wordError k what = text "error word " ++ decimalText k ++ what
 
+-- the calls, with the arguments that a line says
+abbrev pub ranBy : RunLine → Answer Ran
+ranBy c = runCall (c .backward) (c .workspace) (c .output) (c .fuel) (c .function) (c .program) (c .ancillae) (c .value)
+
+abbrev pub openedBy : OpenLine → Answer (List ℕ)
+openedBy c = openCall (c .workspace) (c .program) (c .held) (length (c .journal))
+
+abbrev pub convertedBy : ConvertLine → Answer Turned
+convertedBy c = convertCall (c .workspace) (c .fuel) (c .function) (c .program) (c .ancillae) (c .journal)
+
+abbrev pub rolledBackBy : RollbackLine → Answer Turned
+rolledBackBy c = rollbackCall (c .workspace) (c .fuel) (c .program) (c .journal)
+
 unfoldable pub answerTo : Line → List ℕ
 unfolding ranText openText turnText wordError
 answerTo (checkLine ws p) = checkText (checkCall ws p)
-answerTo (runLine c) = ranText (runCall (c .backward) (c .workspace) (c .output) (c .fuel) (c .function) (c .program) (c .ancillae) (c .value))
-answerTo (openLine c) = openText (openCall (c .workspace) (c .program) (c .held) (length (c .journal)))
-answerTo (convertLine c) = turnText (convertCall (c .workspace) (c .fuel) (c .function) (c .program) (c .ancillae) (c .journal))
-answerTo (rollbackLine c) = turnText (rollbackCall (c .workspace) (c .fuel) (c .program) (c .journal))
+answerTo (runLine c) = ranText (ranBy c)
+answerTo (openLine c) = openText (openedBy c)
+answerTo (convertLine c) = turnText (convertedBy c)
+answerTo (rollbackLine c) = turnText (rolledBackBy c)
 answerTo noCall = text "error no call of this name\n"
 answerTo wordCount = text "error too few or too many words\n"
 answerTo (noNumber k) = wordError k (text " is no number in its range\n")

@@ -12,6 +12,10 @@ mostWorkspace = 2129888
 abbrev pub mostOutput : ℕ
 mostOutput = 1024
 
+-- the room that an answer needs beside a journal in hexadecimal: for a value in hexadecimal, and for words and numbers
+abbrev pub answerRoom : ℕ
+answerRoom = 2112
+
 -- a length, at most `most`
 unfoldable pub capped : ℕ → ℕ → ℕ
 capped most n = cond (leb n most) n most

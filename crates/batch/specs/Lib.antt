@@ -3,3 +3,5 @@
 pub mod Capped
 -- the line that answers a line
 pub mod Answering
+-- what the buffers hold afterwards
+pub mod Lent

@@ -4,12 +4,16 @@ use lines::calls::ConvertCall;
 use lines::calls::OpenCall;
 use lines::calls::RollbackCall;
 use wording::replies;
+ghost use mathlib.Core.Path.{_≡_};
 ghost use Prim.Native.Nat.{_+_, _*_, _≤_};
 ghost use lib.ListN.{length, take};
+ghost use Rattle.calls.specs.Answer.{cleared};
 ghost use Rattle.calls.specs.Conversions.{openCall, convertCall, rollbackCall};
+ghost use Rattle.calls.specs.Book.{afterOpen, afterTurned};
 ghost use Rattle.lines.specs.Wrote.{Wrote};
-ghost use Rattle.batch.specs.Capped.{mostWorkspace};
+ghost use Rattle.batch.specs.Capped.{mostWorkspace, capped};
 ghost use Rattle.batch.specs.Answering.{openText, turnText};
+ghost use Rattle.batch.specs.Lent.{onFront};
 
 // An open in a workspace as it is lent.
 fn open_lent(
@@ -20,14 +24,16 @@ fn open_lent(
     out: &mut [u8],
 ) -> usize
     requires { ⌜ 2 * length (now journal) + 64 ≤ length (now out) ⌝ }
-    ensures { λ r. ⌜ Wrote (now (out .entry)) (now (out .exit)) 0 r (openText (openCall (length (now (workspace .entry))) (now (program .entry)) (now (held .entry)) (length (now (journal .entry))))) ⌝ }
+    ensures answer { λ r. ⌜ Wrote (now (out .entry)) (now (out .exit)) 0 r (openText (openCall (length (now (workspace .entry))) (now (program .entry)) (now (held .entry)) (length (now (journal .entry))))) ⌝ }
+    ensures keeps { λ _. ⌜ now (journal .exit) ≡ afterOpen (now (journal .entry)) (openCall (length (now (workspace .entry))) (now (program .entry)) (now (held .entry)) (length (now (journal .entry)))) .journal ⌝ }
+    ensures clear { λ _. ⌜ now (workspace .exit) ≡ cleared (openCall (length (now (workspace .entry))) (now (program .entry)) (now (held .entry)) (length (now (journal .entry)))) (now (workspace .entry)) ⌝ }
 {
     let answer = engine::open(program, held, workspace, journal);
     replies::opened_line(answer, journal, out)
 }
 
 // An open, made and answered.
-pub fn open(
+pub(crate) fn open(
     call: OpenCall,
     program: &[u8],
     held: &[u8],
@@ -38,7 +44,9 @@ pub fn open(
     requires { ⌜ (call .program ≤ length (now program)) × (call .held ≤ length (now held)) × (call .journal ≤ length (now journal)) ⌝ }
     requires { ⌜ mostWorkspace ≤ length (now workspace) ⌝ }
     requires { ⌜ 2 * length (now journal) + 64 ≤ length (now out) ⌝ }
-    ensures { λ r. ⌜ Wrote (now (out .entry)) (now (out .exit)) 0 r (openText (openCall (call .workspace) (take (call .program) (now (program .entry))) (take (call .held) (now (held .entry))) (length (take (call .journal) (now (journal .entry)))))) ⌝ }
+    ensures answer { λ r. ⌜ Wrote (now (out .entry)) (now (out .exit)) 0 r (openText (openCall (call .workspace) (take (call .program) (now (program .entry))) (take (call .held) (now (held .entry))) (length (take (call .journal) (now (journal .entry)))))) ⌝ }
+    ensures keeps { λ _. ⌜ now (journal .exit) ≡ onFront (length (take (call .journal) (now (journal .entry)))) (λ j. afterOpen j (openCall (call .workspace) (take (call .program) (now (program .entry))) (take (call .held) (now (held .entry))) (length (take (call .journal) (now (journal .entry))))) .journal) (now (journal .entry)) ⌝ }
+    ensures clear { λ _. ⌜ now (workspace .exit) ≡ onFront (capped mostWorkspace (call .workspace)) (cleared (openCall (call .workspace) (take (call .program) (now (program .entry))) (take (call .held) (now (held .entry))) (length (take (call .journal) (now (journal .entry)))))) (now (workspace .entry)) ⌝ }
 {
     let p = call.program;
     let h = call.held;
@@ -64,14 +72,16 @@ fn convert_lent(
     out: &mut [u8],
 ) -> usize
     requires { ⌜ 2 * length (now journal) + 64 ≤ length (now out) ⌝ }
-    ensures { λ r. ⌜ Wrote (now (out .entry)) (now (out .exit)) 0 r (turnText (convertCall (length (now (workspace .entry))) fuel function (now (program .entry)) (now (ancillae .entry)) (now (journal .entry)))) ⌝ }
+    ensures answer { λ r. ⌜ Wrote (now (out .entry)) (now (out .exit)) 0 r (turnText (convertCall (length (now (workspace .entry))) fuel function (now (program .entry)) (now (ancillae .entry)) (now (journal .entry)))) ⌝ }
+    ensures keeps { λ _. ⌜ now (journal .exit) ≡ afterTurned (now (journal .entry)) (convertCall (length (now (workspace .entry))) fuel function (now (program .entry)) (now (ancillae .entry)) (now (journal .entry))) .journal ⌝ }
+    ensures clear { λ _. ⌜ now (workspace .exit) ≡ cleared (convertCall (length (now (workspace .entry))) fuel function (now (program .entry)) (now (ancillae .entry)) (now (journal .entry))) (now (workspace .entry)) ⌝ }
 {
     let answer = engine::convert(program, function, ancillae, fuel, workspace, journal);
     replies::held_line(answer, journal, out)
 }
 
 // A convert, made and answered.
-pub fn convert(
+pub(crate) fn convert(
     call: ConvertCall,
     program: &[u8],
     ancillae: &[u8],
@@ -82,7 +92,9 @@ pub fn convert(
     requires { ⌜ (call .program ≤ length (now program)) × (call .ancillae ≤ length (now ancillae)) × (call .journal ≤ length (now journal)) ⌝ }
     requires { ⌜ mostWorkspace ≤ length (now workspace) ⌝ }
     requires { ⌜ 2 * length (now journal) + 64 ≤ length (now out) ⌝ }
-    ensures { λ r. ⌜ Wrote (now (out .entry)) (now (out .exit)) 0 r (turnText (convertCall (call .workspace) (call .fuel) (call .function) (take (call .program) (now (program .entry))) (take (call .ancillae) (now (ancillae .entry))) (take (call .journal) (now (journal .entry))))) ⌝ }
+    ensures answer { λ r. ⌜ Wrote (now (out .entry)) (now (out .exit)) 0 r (turnText (convertCall (call .workspace) (call .fuel) (call .function) (take (call .program) (now (program .entry))) (take (call .ancillae) (now (ancillae .entry))) (take (call .journal) (now (journal .entry))))) ⌝ }
+    ensures keeps { λ _. ⌜ now (journal .exit) ≡ onFront (length (take (call .journal) (now (journal .entry)))) (λ j. afterTurned j (convertCall (call .workspace) (call .fuel) (call .function) (take (call .program) (now (program .entry))) (take (call .ancillae) (now (ancillae .entry))) (take (call .journal) (now (journal .entry)))) .journal) (now (journal .entry)) ⌝ }
+    ensures clear { λ _. ⌜ now (workspace .exit) ≡ onFront (capped mostWorkspace (call .workspace)) (cleared (convertCall (call .workspace) (call .fuel) (call .function) (take (call .program) (now (program .entry))) (take (call .ancillae) (now (ancillae .entry))) (take (call .journal) (now (journal .entry))))) (now (workspace .entry)) ⌝ }
 {
     let p = call.program;
     let a = call.ancillae;
@@ -108,14 +120,16 @@ fn rollback_lent(
     out: &mut [u8],
 ) -> usize
     requires { ⌜ 2 * length (now journal) + 64 ≤ length (now out) ⌝ }
-    ensures { λ r. ⌜ Wrote (now (out .entry)) (now (out .exit)) 0 r (turnText (rollbackCall (length (now (workspace .entry))) fuel (now (program .entry)) (now (journal .entry)))) ⌝ }
+    ensures answer { λ r. ⌜ Wrote (now (out .entry)) (now (out .exit)) 0 r (turnText (rollbackCall (length (now (workspace .entry))) fuel (now (program .entry)) (now (journal .entry)))) ⌝ }
+    ensures keeps { λ _. ⌜ now (journal .exit) ≡ afterTurned (now (journal .entry)) (rollbackCall (length (now (workspace .entry))) fuel (now (program .entry)) (now (journal .entry))) .journal ⌝ }
+    ensures clear { λ _. ⌜ now (workspace .exit) ≡ cleared (rollbackCall (length (now (workspace .entry))) fuel (now (program .entry)) (now (journal .entry))) (now (workspace .entry)) ⌝ }
 {
     let answer = engine::rollback(program, fuel, workspace, journal);
     replies::held_line(answer, journal, out)
 }
 
 // A rollback, made and answered.
-pub fn rollback(
+pub(crate) fn rollback(
     call: RollbackCall,
     program: &[u8],
     journal: &mut [u8],
@@ -125,7 +139,9 @@ pub fn rollback(
     requires { ⌜ (call .program ≤ length (now program)) × (call .journal ≤ length (now journal)) ⌝ }
     requires { ⌜ mostWorkspace ≤ length (now workspace) ⌝ }
     requires { ⌜ 2 * length (now journal) + 64 ≤ length (now out) ⌝ }
-    ensures { λ r. ⌜ Wrote (now (out .entry)) (now (out .exit)) 0 r (turnText (rollbackCall (call .workspace) (call .fuel) (take (call .program) (now (program .entry))) (take (call .journal) (now (journal .entry))))) ⌝ }
+    ensures answer { λ r. ⌜ Wrote (now (out .entry)) (now (out .exit)) 0 r (turnText (rollbackCall (call .workspace) (call .fuel) (take (call .program) (now (program .entry))) (take (call .journal) (now (journal .entry))))) ⌝ }
+    ensures keeps { λ _. ⌜ now (journal .exit) ≡ onFront (length (take (call .journal) (now (journal .entry)))) (λ j. afterTurned j (rollbackCall (call .workspace) (call .fuel) (take (call .program) (now (program .entry))) (take (call .journal) (now (journal .entry)))) .journal) (now (journal .entry)) ⌝ }
+    ensures clear { λ _. ⌜ now (workspace .exit) ≡ onFront (capped mostWorkspace (call .workspace)) (cleared (rollbackCall (call .workspace) (call .fuel) (take (call .program) (now (program .entry))) (take (call .journal) (now (journal .entry))))) (now (workspace .entry)) ⌝ }
 {
     let p = call.program;
     let j = call.journal;

@@ -6,21 +6,23 @@ use wording::replies;
 ghost use mathlib.Core.Path.{_≡_};
 ghost use Prim.Native.Nat.{_+_, _*_, _≤_};
 ghost use lib.ListN.{length, take};
-ghost use Rattle.calls.specs.Runs.{checkCall};
+ghost use Rattle.calls.specs.Answer.{cleared};
+ghost use Rattle.calls.specs.Runs.{checkCall, written};
 ghost use Rattle.engine.specs.Runs.{runCall, CallMeans};
 ghost use Rattle.lines.specs.Wrote.{Wrote};
 ghost use Rattle.wording.specs.Replies.{checkText};
-ghost use Rattle.batch.specs.Capped.{mostWorkspace, mostOutput, capped};
+ghost use Rattle.batch.specs.Capped.{mostWorkspace, mostOutput, answerRoom, capped};
 ghost use Rattle.batch.specs.Answering.{ranText};
+ghost use Rattle.batch.specs.Lent.{onFront};
 
 // The workspace for the most fuel.
-pub const MOST_WORKSPACE: usize = 2129888;
+pub(crate) const MOST_WORKSPACE: usize = 2129888;
 
 // The most bytes of a value.
-const MOST_OUTPUT: usize = 1024;
+pub(crate) const MOST_OUTPUT: usize = 1024;
 
 // A length, at most `most`.
-pub fn least(n: usize, most: usize) -> usize
+pub(crate) fn least(n: usize, most: usize) -> usize
     ensures { λ r. ⌜ r ≡ capped most n ⌝ }
 {
     if n <= most {
@@ -30,11 +32,12 @@ pub fn least(n: usize, most: usize) -> usize
 }
 
 // A check, made and answered.
-pub fn check(call: CheckCall, program: &[u8], workspace: &mut [u8], out: &mut [u8]) -> usize
+pub(crate) fn check(call: CheckCall, program: &[u8], workspace: &mut [u8], out: &mut [u8]) -> usize
     requires { ⌜ call .program ≤ length (now program) ⌝ }
     requires { ⌜ mostWorkspace ≤ length (now workspace) ⌝ }
     requires { ⌜ 64 ≤ length (now out) ⌝ }
-    ensures { λ r. ⌜ Wrote (now (out .entry)) (now (out .exit)) 0 r (checkText (checkCall (call .workspace) (take (call .program) (now (program .entry))))) ⌝ }
+    ensures answer { λ r. ⌜ Wrote (now (out .entry)) (now (out .exit)) 0 r (checkText (checkCall (call .workspace) (take (call .program) (now (program .entry))))) ⌝ }
+    ensures clear { λ _. ⌜ now (workspace .exit) ≡ onFront (capped mostWorkspace (call .workspace)) (cleared (checkCall (call .workspace) (take (call .program) (now (program .entry))))) (now (workspace .entry)) ⌝ }
 {
     let n = call.program;
     let ws = least(call.workspace, MOST_WORKSPACE);
@@ -74,7 +77,9 @@ fn run_lent(
     out: &mut [u8],
 ) -> usize
     requires { ⌜ 2 * length (now output) + 64 ≤ length (now out) ⌝ }
-    ensures { λ r. ⌜ Wrote (now (out .entry)) (now (out .exit)) 0 r (ranText (runCall backward (length (now (workspace .entry))) (length (now (output .entry))) fuel function (now (program .entry)) (now (ancillae .entry)) (now (value .entry)))) ⌝ }
+    ensures answer { λ r. ⌜ Wrote (now (out .entry)) (now (out .exit)) 0 r (ranText (runCall backward (length (now (workspace .entry))) (length (now (output .entry))) fuel function (now (program .entry)) (now (ancillae .entry)) (now (value .entry)))) ⌝ }
+    ensures fills { λ _. ⌜ now (output .exit) ≡ written (runCall backward (length (now (workspace .entry))) (length (now (output .entry))) fuel function (now (program .entry)) (now (ancillae .entry)) (now (value .entry))) (now (output .entry)) ⌝ }
+    ensures clear { λ _. ⌜ now (workspace .exit) ≡ cleared (runCall backward (length (now (workspace .entry))) (length (now (output .entry))) fuel function (now (program .entry)) (now (ancillae .entry)) (now (value .entry))) (now (workspace .entry)) ⌝ }
 {
     let answer = run_either(
         backward,
@@ -90,7 +95,7 @@ fn run_lent(
 }
 
 // A run, made and answered.
-pub fn run(
+pub(crate) fn run(
     call: RunCall,
     program: &[u8],
     ancillae: &[u8],
@@ -101,8 +106,10 @@ pub fn run(
 ) -> usize
     requires { ⌜ (call .program ≤ length (now program)) × (call .ancillae ≤ length (now ancillae)) × (call .value ≤ length (now value)) ⌝ }
     requires { ⌜ (mostWorkspace ≤ length (now workspace)) × (mostOutput ≤ length (now output)) ⌝ }
-    requires { ⌜ 2112 ≤ length (now out) ⌝ }
-    ensures { λ r. ⌜ Wrote (now (out .entry)) (now (out .exit)) 0 r (ranText (runCall (call .backward) (call .workspace) (call .output) (call .fuel) (call .function) (take (call .program) (now (program .entry))) (take (call .ancillae) (now (ancillae .entry))) (take (call .value) (now (value .entry))))) ⌝ }
+    requires { ⌜ answerRoom ≤ length (now out) ⌝ }
+    ensures answer { λ r. ⌜ Wrote (now (out .entry)) (now (out .exit)) 0 r (ranText (runCall (call .backward) (call .workspace) (call .output) (call .fuel) (call .function) (take (call .program) (now (program .entry))) (take (call .ancillae) (now (ancillae .entry))) (take (call .value) (now (value .entry))))) ⌝ }
+    ensures fills { λ _. ⌜ now (output .exit) ≡ onFront (capped mostOutput (call .output)) (written (runCall (call .backward) (call .workspace) (call .output) (call .fuel) (call .function) (take (call .program) (now (program .entry))) (take (call .ancillae) (now (ancillae .entry))) (take (call .value) (now (value .entry))))) (now (output .entry)) ⌝ }
+    ensures clear { λ _. ⌜ now (workspace .exit) ≡ onFront (capped mostWorkspace (call .workspace)) (cleared (runCall (call .backward) (call .workspace) (call .output) (call .fuel) (call .function) (take (call .program) (now (program .entry))) (take (call .ancillae) (now (ancillae .entry))) (take (call .value) (now (value .entry))))) (now (workspace .entry)) ⌝ }
 {
     let p = call.program;
     let a = call.ancillae;

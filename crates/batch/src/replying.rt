@@ -8,8 +8,9 @@ ghost use Prim.Native.Nat.{_+_, _*_, _≤_};
 ghost use lib.ListN.{length};
 ghost use Rattle.lines.specs.Parsed.{lineOf, Within};
 ghost use Rattle.lines.specs.Wrote.{Wrote};
-ghost use Rattle.batch.specs.Capped.{mostWorkspace, mostOutput};
-ghost use Rattle.batch.specs.Answering.{wordError, answerTo};
+ghost use Rattle.batch.specs.Capped.{mostWorkspace, mostOutput, answerRoom};
+ghost use Rattle.batch.specs.Answering.{wordError};
+ghost use Rattle.batch.specs.Lent.{Replies};
 
 // What is wrong with word k.
 fn word_error(k: u8, what: &[u8], out: &mut [u8]) -> usize
@@ -23,7 +24,7 @@ fn word_error(k: u8, what: &[u8], out: &mut [u8]) -> usize
 
 // The line that answers what was read, its byte strings at the starts of the buffers. A call on a journal leaves the new journal where
 // the old one stood.
-pub fn reply(
+pub(crate) fn reply(
     parsed: Parsed,
     program: &[u8],
     ancillae: &[u8],
@@ -34,8 +35,8 @@ pub fn reply(
 ) -> usize
     requires { ⌜ Within parsed (now program) (now ancillae) (now value) ⌝ }
     requires { ⌜ (mostWorkspace ≤ length (now workspace)) × (mostOutput ≤ length (now output)) ⌝ }
-    requires { ⌜ 2 * length (now value) + 2112 ≤ length (now out) ⌝ }
-    ensures { λ r. ⌜ Wrote (now (out .entry)) (now (out .exit)) 0 r (answerTo (lineOf parsed (now (program .entry)) (now (ancillae .entry)) (now (value .entry)))) ⌝ }
+    requires { ⌜ 2 * length (now value) + answerRoom ≤ length (now out) ⌝ }
+    ensures { λ r. ⌜ Replies (lineOf parsed (now (program .entry)) (now (ancillae .entry)) (now (value .entry))) r (now (value .entry)) (now (value .exit)) (now (workspace .entry)) (now (workspace .exit)) (now (output .entry)) (now (output .exit)) (now (out .entry)) (now (out .exit)) ⌝ }
 {
     match parsed {
         Parsed::Checks(call) => making::check(call, program, workspace, out),

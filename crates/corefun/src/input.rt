@@ -2,6 +2,7 @@
 use crate::OUTPUT;
 use crate::WORKSPACE;
 use crate::printing;
+use batch::LineAnswer;
 ghost use Prim.Native.Nat.{_+_, _≤_, _<_};
 ghost use lib.ListN.{length};
 ghost use Rattle.corefun.specs.Bounds.{Fits};
@@ -24,7 +25,7 @@ pub(crate) struct Window {
     pub open: bool,
 }
 
-// Answers a line: may there be another?
+// Answers a line: may there be another? (The buffers are long enough for every line that the input's buffer holds.)
 fn answer(
     line: &[u8],
     program: &mut [u8; HALF],
@@ -36,8 +37,11 @@ fn answer(
 ) -> bool
     requires { ⌜ length (now line) ≤ 262144 ⌝ }
 {
-    let n = batch::answer(line, program, ancillae, value, workspace, output, out);
-    printing::print(out, n)
+    let answered = batch::answer(line, program, ancillae, value, workspace, output, out);
+    match answered {
+        LineAnswer::Ends(n) => printing::print(out, n),
+        LineAnswer::Short => false,
+    }
 }
 
 // Reads behind the window.

@@ -1,17 +1,17 @@
-use native.Mathlib.Omega.{arith}
-use mathlib.Core.Path.{ap}
-use Rattle.lines.proofs.Writing.{wrote-as}
-use Rattle.batch.specs.Answering.{answerTo, answerLine}
+use mathlib.Core.Path.{refl, sym, _∙_}
+use lib.ListN.{length}
+use Rattle.batch.proofs.Lending.{enough-all, short-line, answered-line}
 use borrow.Author.Needs.{needs}
 use Rattle.batch.proofs.answer.Statement.{statement}
 use Rattle.batch.proofs.answer.Tie as tie
 
-parse-requires : tie.Need-parse-requires
-parse-requires c κs = search needs
+enough-requires : tie.Need-enough-requires
+enough-requires c κs = search needs
 
-reply-requires : tie.Need-reply-requires
-reply-requires c κs = let s = c .before .before .before .before .before .before .before .before .before .before .before .before .before .before .before .before .before .before .before .before .before .before .before in
-    (c .before .before .before .before .before .before .before .before .before .before .before .before .parse .ensures .within, ((s .pre .1 .1 .1 .0, s .pre .1 .1 .1 .1 .0), omega (arith, s .pre .1 .1 .1 .1 .1, c .before .before .before .before .before .before .before .before .before .before .before .before .parse .kept .1 .1 .1 .0)))
+answer-within-requires : tie.Need-answer-within-requires
+answer-within-requires c κs = let s = c .before .before .before .before .before .before .before .before .before .before .before .before .before .before .before in
+    let a = s .args in
+    enough-all (length (a .line .now)) (length (a .program .now)) (length (a .ancillae .now)) (length (a .value .now)) (length (a .workspace .now)) (length (a .output .now)) (length (a .out .now)) (sym (c .before .before .before .before .before .before .before .enough .ensures) ∙ c .before .before .before .before .before .before .if1 .taken)
 
 same-length : tie.Need-same-length
 same-length c = search needs
@@ -32,19 +32,23 @@ same-length-6 : tie.Need-same-length-6
 same-length-6 c = search needs
 
 returns : tie.Need-returns
-unfolding answerLine
-returns c = wrote-as (c .before .before .before .before .before .before .before .before .reply .ensures) (ap answerTo (c .before .before .before .before .before .before .before .before .before .before .before .before .before .before .before .before .before .before .before .before .before .parse .ensures .said))
+returns c = let made = c .before .before .before .before .before .before .before .before .before .before .before .before .answer-within in
+    answered-line (sym (c .before .before .before .before .before .before .before .before .before .before .before .before .before .before .before .before .before .before .before .before .enough .ensures) ∙ c .before .before .before .before .before .before .before .before .before .before .before .before .before .before .before .before .before .before .before .if1 .taken) (made .ensures .0) (made .ensures .1 .0) (made .ensures .1 .1)
+
+returns-2 : tie.Need-returns-2
+returns-2 c = short-line (sym (c .before .enough .ensures) ∙ c .if1 .left) refl
 
 pub answer-spec : {M : Type 1} → statement M
 answer-spec =
     tie.close
     (tie.spec
-    parse-requires
-    reply-requires
+    enough-requires
+    answer-within-requires
     same-length
     same-length-2
     same-length-3
     same-length-4
     same-length-5
     same-length-6
-    returns)
+    returns
+    returns-2)

@@ -1,11 +1,14 @@
 use native.Mathlib.Omega.{arith}
-use mathlib.Core.Path.{sym, ap}
+use mathlib.Core.Path.{sym, ap, _∙_}
 use lib.ListN.{take}
 use lib.Seq.{length-take-le}
+use Rattle.calls.specs.Answer.{cleared}
+use Rattle.calls.specs.Book.{afterTurned}
 use Rattle.lines.proofs.Writing.{wrote-as}
 use Rattle.batch.specs.Capped.{mostWorkspace}
 use Rattle.batch.specs.Answering.{turnText}
 use Rattle.batch.proofs.Capping.{lent-within, convert-lent}
+use Rattle.batch.proofs.Lending.{on-front}
 use borrow.Author.Needs.{needs}
 use Rattle.batch.proofs.keeping.convert.Statement.{statement}
 use Rattle.batch.proofs.keeping.convert.Tie as tie
@@ -46,7 +49,12 @@ same-length-3 c = search needs
 returns : tie.Need-returns
 returns c = let s = c .before .before .before .before .before .before .before .before .before .before .before .before .before .before .before .before .before .before in
     let a = s .args in
-    wrote-as (c .before .before .before .before .before .before .convert-lent .ensures) (ap turnText (convert-lent (a .call .workspace) (c .before .before .before .before .before .before .before .before .before .before .before .before .least .ensures) (a .workspace .now) (s .pre .1 .0) (take (a .call .program) (a .program .now)) (a .call .fuel) (a .call .function) (take (a .call .ancillae) (a .ancillae .now)) (take (a .call .journal) (a .journal .now)) (search needs)))
+    let l = c .before .before .before .before .before .before .before .before .before .before .before .before .least in
+    let made = c .before .before .before .before .before .before .convert-lent in
+    let same = convert-lent (a .call .workspace) (l .ensures) (a .workspace .now) (s .pre .1 .0) (take (a .call .program) (a .program .now)) (a .call .fuel) (a .call .function) (take (a .call .ancillae) (a .ancillae .now)) (take (a .call .journal) (a .journal .now)) (search needs) in
+    (wrote-as (made .ensures .0) (ap turnText same),
+    (on-front (sym (length-take-le (a .call .journal) (a .journal .now) (s .pre .0 .2))) (a .journal .now) _ (made .ensures .1 .0 ∙ ap (λ x. afterTurned (take (a .call .journal) (a .journal .now)) x .journal) same),
+    on-front (l .ensures) (a .workspace .now) _ (made .ensures .1 .1 ∙ ap (λ x. cleared x (take (l .result) (a .workspace .now))) same)))
 
 pub convert-spec : {M : Type 1} → statement M
 convert-spec =

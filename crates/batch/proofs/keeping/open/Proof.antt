@@ -1,11 +1,14 @@
 use native.Mathlib.Omega.{arith}
-use mathlib.Core.Path.{sym, ap}
+use mathlib.Core.Path.{sym, ap, _∙_}
 use lib.ListN.{length, take}
 use lib.Seq.{length-take-le}
+use Rattle.calls.specs.Answer.{cleared}
+use Rattle.calls.specs.Book.{afterOpen}
 use Rattle.lines.proofs.Writing.{wrote-as}
 use Rattle.batch.specs.Capped.{mostWorkspace}
 use Rattle.batch.specs.Answering.{openText}
 use Rattle.batch.proofs.Capping.{lent-within, open-lent}
+use Rattle.batch.proofs.Lending.{on-front}
 use borrow.Author.Needs.{needs}
 use Rattle.batch.proofs.keeping.open.Statement.{statement}
 use Rattle.batch.proofs.keeping.open.Tie as tie
@@ -46,7 +49,12 @@ same-length-3 c = search needs
 returns : tie.Need-returns
 returns c = let s = c .before .before .before .before .before .before .before .before .before .before .before .before .before .before .before .before .before .before in
     let a = s .args in
-    wrote-as (c .before .before .before .before .before .before .open-lent .ensures) (ap openText (open-lent (a .call .workspace) (c .before .before .before .before .before .before .before .before .before .before .before .before .least .ensures) (a .workspace .now) (s .pre .1 .0) (take (a .call .program) (a .program .now)) (take (a .call .held) (a .held .now)) (length (take (a .call .journal) (a .journal .now)))))
+    let l = c .before .before .before .before .before .before .before .before .before .before .before .before .least in
+    let made = c .before .before .before .before .before .before .open-lent in
+    let same = open-lent (a .call .workspace) (l .ensures) (a .workspace .now) (s .pre .1 .0) (take (a .call .program) (a .program .now)) (take (a .call .held) (a .held .now)) (length (take (a .call .journal) (a .journal .now))) in
+    (wrote-as (made .ensures .0) (ap openText same),
+    (on-front (sym (length-take-le (a .call .journal) (a .journal .now) (s .pre .0 .2))) (a .journal .now) _ (made .ensures .1 .0 ∙ ap (λ x. afterOpen (take (a .call .journal) (a .journal .now)) x .journal) same),
+    on-front (l .ensures) (a .workspace .now) _ (made .ensures .1 .1 ∙ ap (λ x. cleared x (take (l .result) (a .workspace .now))) same)))
 
 pub open-spec : {M : Type 1} → statement M
 open-spec =

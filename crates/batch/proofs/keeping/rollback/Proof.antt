@@ -1,11 +1,14 @@
 use native.Mathlib.Omega.{arith}
-use mathlib.Core.Path.{sym, ap}
+use mathlib.Core.Path.{sym, ap, _∙_}
 use lib.ListN.{take}
 use lib.Seq.{length-take-le}
+use Rattle.calls.specs.Answer.{cleared}
+use Rattle.calls.specs.Book.{afterTurned}
 use Rattle.lines.proofs.Writing.{wrote-as}
 use Rattle.batch.specs.Capped.{mostWorkspace}
 use Rattle.batch.specs.Answering.{turnText}
 use Rattle.batch.proofs.Capping.{lent-within, rollback-lent}
+use Rattle.batch.proofs.Lending.{on-front}
 use borrow.Author.Needs.{needs}
 use Rattle.batch.proofs.keeping.rollback.Statement.{statement}
 use Rattle.batch.proofs.keeping.rollback.Tie as tie
@@ -43,7 +46,12 @@ same-length-3 c = search needs
 returns : tie.Need-returns
 returns c = let s = c .before .before .before .before .before .before .before .before .before .before .before .before .before .before .before .before in
     let a = s .args in
-    wrote-as (c .before .before .before .before .before .before .rollback-lent .ensures) (ap turnText (rollback-lent (a .call .workspace) (c .before .before .before .before .before .before .before .before .before .before .before .least .ensures) (a .workspace .now) (s .pre .1 .0) (take (a .call .program) (a .program .now)) (a .call .fuel) (take (a .call .journal) (a .journal .now)) (search needs)))
+    let l = c .before .before .before .before .before .before .before .before .before .before .before .least in
+    let made = c .before .before .before .before .before .before .rollback-lent in
+    let same = rollback-lent (a .call .workspace) (l .ensures) (a .workspace .now) (s .pre .1 .0) (take (a .call .program) (a .program .now)) (a .call .fuel) (take (a .call .journal) (a .journal .now)) (search needs) in
+    (wrote-as (made .ensures .0) (ap turnText same),
+    (on-front (sym (length-take-le (a .call .journal) (a .journal .now) (s .pre .0 .1))) (a .journal .now) _ (made .ensures .1 .0 ∙ ap (λ x. afterTurned (take (a .call .journal) (a .journal .now)) x .journal) same),
+    on-front (l .ensures) (a .workspace .now) _ (made .ensures .1 .1 ∙ ap (λ x. cleared x (take (l .result) (a .workspace .now))) same)))
 
 pub rollback-spec : {M : Type 1} → statement M
 rollback-spec =

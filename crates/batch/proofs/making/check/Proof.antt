@@ -1,10 +1,12 @@
 use mathlib.Core.Path.{sym, ap, _∙_}
 use lib.ListN.{take}
 use lib.Seq.{length-take-le}
+use Rattle.calls.specs.Answer.{cleared}
 use Rattle.lines.proofs.Writing.{wrote-as}
 use Rattle.wording.specs.Replies.{checkText}
 use Rattle.batch.specs.Capped.{mostWorkspace}
 use Rattle.batch.proofs.Capping.{lent-within, check-lent}
+use Rattle.batch.proofs.Lending.{on-front}
 use borrow.Author.Needs.{needs}
 use Rattle.batch.proofs.making.check.Statement.{statement}
 use Rattle.batch.proofs.making.check.Tie as tie
@@ -36,8 +38,11 @@ same-length-2 c = search needs
 
 returns : tie.Need-returns
 returns c = let s = c .before .before .before .before .before .before .before .before .before .before .before .before .before in
-    wrote-as (c .before .before .check-line .ensures)
-    (ap checkText (c .before .before .before .before .before .before .check .ensures .0 ∙ check-lent (s .args .call .workspace) (c .before .before .before .before .before .before .before .before .before .least .ensures) (s .args .workspace .now) (s .pre .1 .0) (take (s .args .call .program) (s .args .program .now))))
+    let l = c .before .before .before .before .before .before .before .before .before .least in
+    let done = c .before .before .before .before .before .before .check in
+    let same = check-lent (s .args .call .workspace) (l .ensures) (s .args .workspace .now) (s .pre .1 .0) (take (s .args .call .program) (s .args .program .now)) in
+    (wrote-as (c .before .before .check-line .ensures) (ap checkText (done .ensures .0 ∙ same)),
+      on-front (l .ensures) (s .args .workspace .now) _ (done .ensures .1 ∙ ap (λ x. cleared x (take (l .result) (s .args .workspace .now))) same))
 
 pub check-spec : {M : Type 1} → statement M
 check-spec =

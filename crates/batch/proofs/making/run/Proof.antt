@@ -1,11 +1,14 @@
 use native.Mathlib.Omega.{arith}
-use mathlib.Core.Path.{sym, ap}
+use mathlib.Core.Path.{sym, ap, _∙_}
 use lib.ListN.{take}
 use lib.Seq.{length-take-le}
+use Rattle.calls.specs.Answer.{cleared}
+use Rattle.calls.specs.Runs.{written}
 use Rattle.lines.proofs.Writing.{wrote-as}
 use Rattle.batch.specs.Capped.{mostWorkspace, mostOutput}
 use Rattle.batch.specs.Answering.{ranText}
 use Rattle.batch.proofs.Capping.{capped-most, lent-within, lent-length, run-lent}
+use Rattle.batch.proofs.Lending.{on-front}
 use borrow.Author.Needs.{needs}
 use Rattle.batch.proofs.making.run.Statement.{statement}
 use Rattle.batch.proofs.making.run.Tie as tie
@@ -55,10 +58,14 @@ same-length-3 c = search needs
 returns : tie.Need-returns
 returns c = let s = c .before .before .before .before .before .before .before .before .before .before .before .before .before .before .before .before .before .before .before .before .before in
     let a = s .args in
-    wrote-as (c .before .before .before .before .before .before .run-lent .ensures)
-    (ap ranText
-    (run-lent (a .call .backward) (a .call .workspace) (a .call .output) (c .before .before .before .before .before .before .before .before .before .before .before .before .before .before .least .ensures) (c .before .before .before .before .before .before .before .before .before .before .before .before .before .least2 .ensures) (a .workspace .now) (a .output .now) (s .pre .1 .0 .0) (s .pre .1 .0 .1) (a .call .fuel) (a .call .function)
-    (take (a .call .program) (a .program .now)) (take (a .call .ancillae) (a .ancillae .now)) (take (a .call .value) (a .value .now)) (search needs)))
+    let l = c .before .before .before .before .before .before .before .before .before .before .before .before .before .before .least in
+    let o = c .before .before .before .before .before .before .before .before .before .before .before .before .before .least2 in
+    let ran = c .before .before .before .before .before .before .run-lent in
+    let same = run-lent (a .call .backward) (a .call .workspace) (a .call .output) (l .ensures) (o .ensures) (a .workspace .now) (a .output .now) (s .pre .1 .0 .0) (s .pre .1 .0 .1) (a .call .fuel) (a .call .function)
+    (take (a .call .program) (a .program .now)) (take (a .call .ancillae) (a .ancillae .now)) (take (a .call .value) (a .value .now)) (search needs) in
+    (wrote-as (ran .ensures .0) (ap ranText same),
+    (on-front (o .ensures) (a .output .now) _ (ran .ensures .1 .0 ∙ ap (λ x. written x (take (o .result) (a .output .now))) same),
+    on-front (l .ensures) (a .workspace .now) _ (ran .ensures .1 .1 ∙ ap (λ x. cleared x (take (l .result) (a .workspace .now))) same)))
 
 pub run-spec : {M : Type 1} → statement M
 run-spec =

@@ -1,8 +1,9 @@
 use native.Mathlib.Omega.{arith}
-use mathlib.Core.Path.{sym, ap, subst}
+use mathlib.Core.Path.{refl, sym, ap, subst}
 use Rattle.lines.specs.Parsed.{lineOf, Within}
-use Rattle.lines.proofs.Writing.{wrote-as}
 use Rattle.batch.specs.Answering.{answerTo}
+use Rattle.batch.specs.Lent.{workspaceAfter, outputAfter, journalAfter}
+use Rattle.batch.proofs.Lending.{replies-as}
 use borrow.Author.Needs.{needs}
 use Rattle.batch.proofs.replying.reply.Statement.{statement}
 use Rattle.batch.proofs.replying.reply.Tie as tie
@@ -90,9 +91,9 @@ same-length-2 : tie.Need-same-length-2
 same-length-2 c = search needs
 
 returns : tie.Need-returns
-unfolding answerTo
+unfolding answerTo workspaceAfter outputAfter journalAfter
 returns c = let a = c .before .before .before .before .before .before .before .before .before .before .before .before .before .before .before .before .args in
-    wrote-as (c .before .before .before .before .check .ensures) (ap (λ q. answerTo (lineOf q (a .program .now) (a .ancillae .now) (a .value .now))) (sym (c .before .before .before .before .before .before .before .before .parsed .given .1)))
+    replies-as (record { told = c .before .before .before .before .check .ensures .0; value = refl; workspace = c .before .before .before .before .check .ensures .1; output = refl }) (ap (λ q. lineOf q (a .program .now) (a .ancillae .now) (a .value .now)) (sym (c .before .before .before .before .before .before .before .before .parsed .given .1))) refl
 
 same-length-3 : tie.Need-same-length-3
 same-length-3 c = search needs
@@ -107,9 +108,10 @@ same-length-6 : tie.Need-same-length-6
 same-length-6 c = search needs
 
 returns-2 : tie.Need-returns-2
-unfolding answerTo
+unfolding answerTo workspaceAfter outputAfter journalAfter
 returns-2 c = let a = c .before .before .before .before .before .before .before .before .before .before .before .before .before .before .before .before .before .before .before .before .args in
-    wrote-as (c .before .before .before .before .before .before .run .ensures) (ap (λ q. answerTo (lineOf q (a .program .now) (a .ancillae .now) (a .value .now))) (sym (c .before .before .before .before .before .before .before .before .before .before .before .before .parsed2 .given .1)))
+    let made = c .before .before .before .before .before .before .run in
+    replies-as (record { told = made .ensures .0; value = refl; workspace = made .ensures .1 .1; output = made .ensures .1 .0 }) (ap (λ q. lineOf q (a .program .now) (a .ancillae .now) (a .value .now)) (sym (c .before .before .before .before .before .before .before .before .before .before .before .before .parsed2 .given .1))) refl
 
 same-length-7 : tie.Need-same-length-7
 same-length-7 c = search needs
@@ -121,9 +123,10 @@ same-length-9 : tie.Need-same-length-9
 same-length-9 c = search needs
 
 returns-3 : tie.Need-returns-3
-unfolding answerTo
+unfolding answerTo workspaceAfter outputAfter journalAfter
 returns-3 c = let a = c .before .before .before .before .before .before .before .before .before .before .before .before .before .before .before .before .before .before .before .args in
-    wrote-as (c .before .before .before .before .before .before .«open» .ensures) (ap (λ q. answerTo (lineOf q (a .program .now) (a .ancillae .now) (a .value .now))) (sym (c .before .before .before .before .before .before .before .before .before .before .before .parsed3 .given .1)))
+    let made = c .before .before .before .before .before .before .«open» in
+    replies-as (record { told = made .ensures .0; value = made .ensures .1 .0; workspace = made .ensures .1 .1; output = refl }) (ap (λ q. lineOf q (a .program .now) (a .ancillae .now) (a .value .now)) (sym (c .before .before .before .before .before .before .before .before .before .before .before .parsed3 .given .1))) refl
 
 same-length-10 : tie.Need-same-length-10
 same-length-10 c = search needs
@@ -135,9 +138,10 @@ same-length-12 : tie.Need-same-length-12
 same-length-12 c = search needs
 
 returns-4 : tie.Need-returns-4
-unfolding answerTo
+unfolding answerTo workspaceAfter outputAfter journalAfter
 returns-4 c = let a = c .before .before .before .before .before .before .before .before .before .before .before .before .before .before .before .before .before .before .before .args in
-    wrote-as (c .before .before .before .before .before .before .convert .ensures) (ap (λ q. answerTo (lineOf q (a .program .now) (a .ancillae .now) (a .value .now))) (sym (c .before .before .before .before .before .before .before .before .before .before .before .parsed4 .given .1)))
+    let made = c .before .before .before .before .before .before .convert in
+    replies-as (record { told = made .ensures .0; value = made .ensures .1 .0; workspace = made .ensures .1 .1; output = refl }) (ap (λ q. lineOf q (a .program .now) (a .ancillae .now) (a .value .now)) (sym (c .before .before .before .before .before .before .before .before .before .before .before .parsed4 .given .1))) refl
 
 same-length-13 : tie.Need-same-length-13
 same-length-13 c = search needs
@@ -149,41 +153,42 @@ same-length-15 : tie.Need-same-length-15
 same-length-15 c = search needs
 
 returns-5 : tie.Need-returns-5
-unfolding answerTo
+unfolding answerTo workspaceAfter outputAfter journalAfter
 returns-5 c = let a = c .before .before .before .before .before .before .before .before .before .before .before .before .before .before .before .before .before .before .before .args in
-    wrote-as (c .before .before .before .before .before .before .rollback .ensures) (ap (λ q. answerTo (lineOf q (a .program .now) (a .ancillae .now) (a .value .now))) (sym (c .before .before .before .before .before .before .before .before .before .before .before .parsed5 .given .1)))
+    let made = c .before .before .before .before .before .before .rollback in
+    replies-as (record { told = made .ensures .0; value = made .ensures .1 .0; workspace = made .ensures .1 .1; output = refl }) (ap (λ q. lineOf q (a .program .now) (a .ancillae .now) (a .value .now)) (sym (c .before .before .before .before .before .before .before .before .before .before .before .parsed5 .given .1))) refl
 
 same-length-16 : tie.Need-same-length-16
 same-length-16 c = search needs
 
 returns-6 : tie.Need-returns-6
-unfolding answerTo
+unfolding answerTo workspaceAfter outputAfter journalAfter
 returns-6 c = let a = c .before .before .before .before .before .before .before .before .before .before .before .before .before .args in
-    wrote-as (c .before .before .put .ensures) (ap (λ q. answerTo (lineOf q (a .program .now) (a .ancillae .now) (a .value .now))) (sym (c .before .before .before .before .before .enum-told .given .1)))
+    replies-as (record { told = c .before .before .put .ensures; value = refl; workspace = refl; output = refl }) (ap (λ q. lineOf q (a .program .now) (a .ancillae .now) (a .value .now)) (sym (c .before .before .before .before .before .enum-told .given .1))) refl
 
 same-length-17 : tie.Need-same-length-17
 same-length-17 c = search needs
 
 returns-7 : tie.Need-returns-7
-unfolding answerTo
+unfolding answerTo workspaceAfter outputAfter journalAfter
 returns-7 c = let a = c .before .before .before .before .before .before .before .before .before .before .before .before .before .args in
-    wrote-as (c .before .before .put2 .ensures) (ap (λ q. answerTo (lineOf q (a .program .now) (a .ancillae .now) (a .value .now))) (sym (c .before .before .before .before .before .enum-told2 .given .1)))
+    replies-as (record { told = c .before .before .put2 .ensures; value = refl; workspace = refl; output = refl }) (ap (λ q. lineOf q (a .program .now) (a .ancillae .now) (a .value .now)) (sym (c .before .before .before .before .before .enum-told2 .given .1))) refl
 
 same-length-18 : tie.Need-same-length-18
 same-length-18 c = search needs
 
 returns-8 : tie.Need-returns-8
-unfolding answerTo
+unfolding answerTo workspaceAfter outputAfter journalAfter
 returns-8 c = let a = c .before .before .before .before .before .before .before .before .before .before .before .before .before .before .args in
-    wrote-as (c .before .before .word-error .ensures) (ap (λ q. answerTo (lineOf q (a .program .now) (a .ancillae .now) (a .value .now))) (sym (c .before .before .before .before .before .before .parsed6 .given .1)))
+    replies-as (record { told = c .before .before .word-error .ensures; value = refl; workspace = refl; output = refl }) (ap (λ q. lineOf q (a .program .now) (a .ancillae .now) (a .value .now)) (sym (c .before .before .before .before .before .before .parsed6 .given .1))) refl
 
 same-length-19 : tie.Need-same-length-19
 same-length-19 c = search needs
 
 returns-9 : tie.Need-returns-9
-unfolding answerTo
+unfolding answerTo workspaceAfter outputAfter journalAfter
 returns-9 c = let a = c .before .before .before .before .before .before .before .before .before .before .before .before .before .before .args in
-    wrote-as (c .before .before .word-error2 .ensures) (ap (λ q. answerTo (lineOf q (a .program .now) (a .ancillae .now) (a .value .now))) (sym (c .before .before .before .before .before .before .parsed7 .given .1)))
+    replies-as (record { told = c .before .before .word-error2 .ensures; value = refl; workspace = refl; output = refl }) (ap (λ q. lineOf q (a .program .now) (a .ancillae .now) (a .value .now)) (sym (c .before .before .before .before .before .before .parsed7 .given .1))) refl
 
 pub reply-spec : {M : Type 1} → statement M
 reply-spec =
