@@ -49,9 +49,10 @@ pub enough-all : (n p anc v ws o out : ℕ) → enough n p anc v ws o out ≡ tr
 unfolding enough holds
 enough-all n p anc v ws o out e =
     let (p?, anc?, v?, ws?, o?, out?) =
-        all-six (leb n (2 * p)) (leb n (2 * anc)) (leb n (2 * v)) (leb mostWorkspace ws) (leb mostOutput o) (leb (2 * v + answerRoom) out) e in
-    ((leb-true n (2 * p) p?, leb-true n (2 * anc) anc?, leb-true n (2 * v) v?),
-    ((leb-true mostWorkspace ws ws?, leb-true mostOutput o o?), leb-true (2 * v + answerRoom) out out?))
+    all-six (leb n (2 * p)) (leb n (2 * anc)) (leb n (2 * v)) (leb mostWorkspace ws) (leb mostOutput o) (leb (2 * v + answerRoom) out) e in (
+      (leb-true n (2 * p) p?, leb-true n (2 * anc) anc?, leb-true n (2 * v) v?),
+      ((leb-true mostWorkspace ws ws?, leb-true mostOutput o o?), leb-true (2 * v + answerRoom) out out?),
+    )
 
 -- one test after another
 module _ (n p anc v ws o out : ℕ) where

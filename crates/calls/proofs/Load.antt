@@ -13,7 +13,7 @@ use package.Rattle.rules.specs.Typing.{WellTyped}
 use package.Rattle.rules.specs.Check.{Site, Checked, good, bad, check}
 use package.Rattle.rules.proofs.Basics.{given}
 use package.Rattle.rules.proofs.Numbers.{TypingNumber, check-number}
-use package.Rattle.rules.proofs.Theorems.{check-iff-typed}
+use package.Rattle.rules.proofs.Theorems.{tree-check-iff-typed}
 use package.Rattle.rules.proofs.Typing.Tests.{leb-yes, leb-sound}
 use package.Rattle.calls.specs.Answer.{accepted}
 use package.Rattle.calls.specs.Fields.{Layout, wellFormed, readFields, layout}
@@ -99,10 +99,10 @@ load-iff program P = (
       given (unbind (testEntries L (entriesAt program L)) _ e₁) λ (named, q, e₂).
       given (unbind (typed L (check maxVariables maxNodes (programOf (entriesAt program L)))) _ e₂) λ (checked, r, e₃). (
         passes-iff program P .0 (record { places = L; fields = p; entries = q; trees = accepted-inj e₃ }),
-        subst (WellTyped maxVariables maxNodes) (accepted-inj e₃) (check-iff-typed maxVariables maxNodes (programOf (entriesAt program L)) .0 (typed-good L _ r)),
+        subst (WellTyped maxVariables maxNodes) (accepted-inj e₃) (tree-check-iff-typed maxVariables maxNodes (programOf (entriesAt program L)) .0 (typed-good L _ r)),
       ),
   λ (W, T). given (passes-iff program P .1 W) λ F. via _ (F .fields) (via _ (F .entries)
-      (via _ (ap (typed (F .places)) (check-iff-typed maxVariables maxNodes (programOf (entriesAt program (F .places))) .1
+      (via _ (ap (typed (F .places)) (tree-check-iff-typed maxVariables maxNodes (programOf (entriesAt program (F .places))) .1
       (subst (WellTyped maxVariables maxNodes) (sym (F .trees)) T))) (ap accepted (F .trees)))),
 )
 

@@ -1,5 +1,6 @@
 -- Border cases, computed: each limit at its edge and one past it, what buffers hold after each outcome, and a list of calls on the journal and
--- in the book. A limit moved by one, or another `cleared` or `written`, is refused here.
+-- in the book. A limit moved by one, or another `cleared` or `written`, is refused here. (1,024 terms are too many to compute with: that edge is
+-- proved by a law over how many there are, proofs/Counted.)
 use Prim.Native.Nat.{ℕ, zero, suc, _+_, _*_}
 use mathlib.Core.Path.{_≡_}
 use mathlib.Core.Bool.{true, false}
@@ -9,7 +10,7 @@ use package.Rattle.rules.specs.Val.{unit, inl, inr, encode}
 use package.Rattle.rules.specs.Cases.{num}
 use package.Rattle.rules.specs.Cases as trees
 use package.Rattle.calls.specs.Answer.{accepted, refused, cleared}
-use package.Rattle.calls.specs.Fields.{Layout, withinCounts}
+use package.Rattle.calls.specs.Fields.{layout}
 use package.Rattle.calls.specs.Runs.{Ran, checkCall, forwardCall, backwardCall, written}
 use package.Rattle.calls.specs.Journal.{field, heldTag, entryTag}
 use package.Rattle.calls.specs.Conversions.{openCall, convertCall, rollbackCall}
@@ -24,9 +25,20 @@ unfoldable pub copies : ℕ → List ℕ → List ℕ
 copies zero xs = []
 copies (suc n) xs = xs ++ copies n xs
 
--- fields of so many types, terms and functions have been read
-abbrev pub counted : ℕ → ℕ → ℕ → Layout
-counted types terms functions = record { types = replicate types 0; terms = replicate terms 0; functions = replicate functions 0 }
+-- where so many fields of four bytes stand, from a place on
+unfoldable pub offsets : ℕ → ℕ → List ℕ
+offsets zero at = []
+offsets (suc n) at = at ∷ offsets n (at + 4)
+
+-- so many functions that give unit, each with a body of its own
+unfoldable pub functionsFrom : ℕ → ℕ → List ℕ
+unfolding functionField
+functionsFrom zero i = []
+functionsFrom (suc n) i = functionField 0 (0 ∷ []) i ++ functionsFrom n (i + 1)
+
+unfoldable pub unitFunctions : ℕ → List ℕ
+unfolding typeField termField copies functionsFrom
+unitFunctions n = typeField 0 [] ++ copies n (termField 1 []) ++ functionsFrom n 0
 
 -- a function of so many units
 unfoldable pub ofUnits : ℕ → List ℕ
@@ -87,10 +99,12 @@ pub record Edges : Type 0 where
   pub workspace-past : checkCall 32767 [] ≡ refused 1 0
   pub workspace-fuel : forwardCall 32800 2 1 0 collapse [] (encode (inl unit)) ≡ refused 12 0
   pub workspace-fuel-past : forwardCall 32799 2 1 0 collapse [] (encode (inl unit)) ≡ refused 1 0
-  pub counts : withinCounts [] 0 (counted 256 1024 64) ≡ true
-  pub types-past : withinCounts [] 0 (counted 257 1024 64) ≡ false
-  pub terms-past : withinCounts [] 0 (counted 256 1025 64) ≡ false
-  pub functions-past : withinCounts [] 0 (counted 256 1024 65) ≡ false
+  pub types : checkCall ample (copies 256 (typeField 0 [])) ≡ accepted tt
+  pub types-past : checkCall ample (copies 257 (typeField 0 [])) ≡ refused 3 1024
+  pub terms : layout (copies 1024 (termField 1 [])) ≡ accepted (record { types = []; terms = offsets 1024 0; functions = [] })
+  pub terms-past : checkCall ample (copies 1025 (termField 1 [])) ≡ refused 3 4096
+  pub functions : checkCall ample (unitFunctions 64) ≡ accepted tt
+  pub functions-past : checkCall ample (unitFunctions 65) ≡ refused 3 904
   pub bytes : checkCall ample (replicate 32768 1) ≡ refused 2 0
   pub bytes-past : checkCall ample (replicate 32769 1) ≡ refused 3 0
   pub parameters : checkCall ample (ofUnits 8) ≡ accepted tt

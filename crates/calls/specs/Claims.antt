@@ -4,7 +4,7 @@ use mathlib.Core.Path.{_≡_}
 use mathlib.Core.Bool.{Bool, true}
 use mathlib.Core.Option.{none, some}
 use mathlib.Core.List.{List, [], _∷_, _++_}
-use mathlib.Core.Logic.{_↔_}
+use mathlib.Core.Logic.{_⊎_, _↔_}
 use lib.ListN.{length, replicate}
 use package.Rattle.octets.specs.Numbers.{AreBytes}
 use package.Rattle.rules.specs.Limits.{fits, maxHeight, maxVariables, maxNodes, maxAncillaBytes, maxFuel}
@@ -108,12 +108,15 @@ abbrev pub Injective : Type 0
 Injective = (ws ws′ out out′ fuel fuel′ fn : ℕ) (program anc bytes bytes′ : List ℕ) (w : Val) (n n′ : ℕ)
     → forwardCall ws out fuel fn program anc bytes ≡ answer w n → forwardCall ws′ out′ fuel′ fn program anc bytes′ ≡ answer w n′ → bytes ≡ bytes′
 
--- More fuel, workspace or output never changes a value or its steps, either way.
+-- What a call answered another answers too: a value with its steps, and 15 and 16 with their places.
+abbrev pub AnswersAlike : Answer Ran → Answer Ran → Type 0
+AnswersAlike x y = ((w : Val) (n : ℕ) → x ≡ answer w n → y ≡ answer w n) × ((c k : ℕ) → (c ≡ 15) ⊎ (c ≡ 16) → x ≡ refused c k → y ≡ refused c k)
+
+-- More fuel, workspace or output never changes an answer, either way: neither a value with its steps, nor 15, nor 16.
 abbrev pub MoreNeverChanges : Type 0
-MoreNeverChanges = (ws ws′ out out′ fuel fuel′ fn : ℕ) (program anc bytes : List ℕ) (w : Val) (n : ℕ)
-    → workspaceFor fuel′ ≤ ws′ → out ≤ out′ → fuel ≤ fuel′
-    → (forwardCall ws out fuel fn program anc bytes ≡ answer w n → forwardCall ws′ out′ fuel′ fn program anc bytes ≡ answer w n)
-    × (backwardCall ws out fuel fn program anc bytes ≡ answer w n → backwardCall ws′ out′ fuel′ fn program anc bytes ≡ answer w n)
+MoreNeverChanges = (ws ws′ out out′ fuel fuel′ fn : ℕ) (program anc bytes : List ℕ) → workspaceFor fuel′ ≤ ws′ → out ≤ out′ → fuel ≤ fuel′
+    → AnswersAlike (forwardCall ws out fuel fn program anc bytes) (forwardCall ws′ out′ fuel′ fn program anc bytes)
+    × AnswersAlike (backwardCall ws out fuel fn program anc bytes) (backwardCall ws′ out′ fuel′ fn program anc bytes)
 
 -- Demand 1: no call stops on a value of wrong shape (which would be the number 0).
 abbrev pub NeverStuck : Type 0

@@ -141,7 +141,7 @@ module _ (w before out : List ℕ) (i n : ℕ) (d : Decoding w before out i n) w
       let byte = high * 16 + low in
       let same : digitOf (getD w i 0) * 16 + digitOf (getD w (i + 1) 0) ≡ byte = sym (ap (λ k. k * 16 + low) e ∙ ap (λ k. digitOf (getD w i 0) * 16 + k) e′) in
       let wrote : take n out ++ (byte ∷ []) ≡ take (n + 1) (set out n byte) =
-          sym (take-suc-set out n byte room) ∙ ap (λ k. take k (set out n byte)) (let z : suc n ≡ n + 1 = omega arith in z) in
+      sym (take-suc-set out n byte room) ∙ ap (λ k. take k (set out n byte)) (let z : suc n ≡ n + 1 = omega arith in z) in
       record {
         left =
             d .left

@@ -9,10 +9,10 @@ use package.Rattle.rules.specs.Typing.{barOne, bar}
 use package.Rattle.rules.specs.Check.{_>>=_, _>>_, need, asSum, asProd, asMu, asFun, visible, spent, mustUse, sameUse, room, small, infer, inferArguments, statics, checkFun, checkFuns, check}
 use package.Rattle.rules.specs.Run.{after, enter, test}
 use package.Rattle.rules.specs.Machine.{onSum, onPair, onRoll, onUnit, onSome, known, bindOr, meet, leave, each, made, forwardStep, forward, backwardStep, backward, runForward, runBackward}
-use package.Rattle.rules.specs.Cases.{num, lets, crowded, Table}
+use package.Rattle.rules.specs.Cases.{num, lets, crowded, TreeTable}
 
-pub table : Table
-unfolding check checkFuns checkFun statics infer inferArguments sameTy nodes need asSum asProd asMu asFun visible room small spent mustUse sameUse bar barOne _>>_ _>>=_ count unfoldTy plug fits maxValueBytes maxHeight num runForward runBackward forward backward scope mayYield mayBe size same after enter test look entry nth onSome known each bindOr meet leave made forwardStep backwardStep onSum onPair onRoll onUnit lets crowded
+pub table : TreeTable
+unfolding check checkFuns checkFun statics infer inferArguments sameTy nodes need asSum asProd asMu asFun visible room small spent mustUse sameUse bar barOne _>>_ _>>=_ count unfoldTy plug fits maxValueBytes maxHeight maxVariables maxNodes num runForward runBackward forward backward scope mayYield mayBe size same after enter test look entry nth onSome known each bindOr meet leave made forwardStep backwardStep onSum onPair onRoll onUnit lets crowded
 table = record {
   typed = refl;
   p1 = refl;

@@ -13,9 +13,9 @@ use package.Rattle.rules.specs.Term.{Fun, Program, scope}
 use package.Rattle.rules.specs.Typing.{dynamic}
 use package.Rattle.rules.specs.Run.{Res, ok, stop, Run, give}
 use package.Rattle.rules.specs.Machine.{backward, runForward, runBackward}
-use package.Rattle.rules.specs.Claims.{CheckIffTyped, InferIffTypes, TypeUnique, BranchesUseTheSame, Carries, Wider, ForwardIffRules, NoValue, Steady}
-use package.Rattle.rules.specs.Claims.{MoreNeverChanges, StepsAreTheRules, BackwardThenForward, OfTyped, BackwardIffRules, BackwardIffForward, Injective}
-use package.Rattle.rules.specs.Claims.{NoInput, NeverStuck, KeepsTypes}
+use package.Rattle.rules.specs.Claims.{TreeCheckIffTyped, InferIffTypes, TypeUnique, BranchesUseTheSame, Carries, Wider, TreeForwardIffRules, TreeNoValue, Steady}
+use package.Rattle.rules.specs.Claims.{TreeMoreNeverChanges, StepsAreTheRules, BackwardThenForward, OfTyped, TreeBackwardIffRules, TreeBackwardIffForward, TreeInjective}
+use package.Rattle.rules.specs.Claims.{TreeNoInput, TreeNeverStuck, KeepsTypes}
 use package.Rattle.rules.proofs.OfType.{OfType, OfTypes, of-type-iff, of-types-iff}
 use package.Rattle.rules.proofs.Backward.Outcome.{back-outcome}
 use package.Rattle.rules.proofs.Backward.Pop.{ready-call, call-pop}
@@ -64,8 +64,8 @@ not-refused l (short (size-short u x y z)) = omega arith
 ----------------------------------------------------------------
 -- Typing
 
-pub check-iff-typed : (variables most : ℕ) (P : Program) → CheckIffTyped variables most P
-check-iff-typed variables most P = (check-sound variables most P, check-complete variables most P)
+pub tree-check-iff-typed : (variables most : ℕ) (P : Program) → TreeCheckIffTyped variables most P
+tree-check-iff-typed variables most P = (check-sound variables most P, check-complete variables most P)
 
 pub infer-iff-types : (variables most : ℕ) (P : Program) → InferIffTypes variables most P
 infer-iff-types variables most P Δ t τ = (λ e. (used Δ t, infer-sound variables most P e), λ (U, d). infer-complete variables most P d)
@@ -87,9 +87,9 @@ module _ (P : Program) where
   forward-good fits fits′ r r′ h vs v w n d f =
       outcome fits fits′ P r r′ (scope vs []) (v ∷ scope vs []) (h .body) w n d any _ (full any (v ∷ scope vs [])) (within-any (h .body)) f
 
-  pub forward-iff-rules : ForwardIffRules P
+  pub tree-forward-iff-rules : TreeForwardIffRules P
   unfolding runForward
-  forward-iff-rules fits r h vs v w f g = (
+  tree-forward-iff-rules fits r h vs v w f g = (
     λ p. sound fits P r (scope vs []) _ (v ∷ scope vs []) (agree-full (v ∷ scope vs [])) (h .body) f w g p,
     λ (n, d, e). back n d e,
   )
@@ -98,8 +98,8 @@ module _ (P : Program) where
       back n d e = given (enough fits fits f n r r _ (same-limits fits) (omega arith) (omega arith) (forward-good fits fits r r h vs v w n d f)) λ (u, g′, x, y, z).
           x ∙ ap (λ u. ok u g′) (sym z) ∙ ap (ok w) (let q : g′ ≡ g = omega arith in q)
 
-  pub no-value : NoValue P
-  no-value fits fits′ r r′ h vs v w f k n p d =
+  pub tree-no-value : TreeNoValue P
+  tree-no-value fits fits′ r r′ h vs v w f k n p d =
       not-refused (omega arith) (subst (λ x. Good fits fits′ (λ u. w ≡ u) f n r r′ x) p (forward-good fits fits′ r r′ h vs v w n d f))
 
   steady : {run : (Val → Bool) → ℕ → Run Val}
@@ -113,16 +113,16 @@ module _ (P : Program) where
       least c (left e) = omega arith
       least c (right e) = omega arith
 
-  pub more-never-changes : MoreNeverChanges P
+  pub tree-more-never-changes : TreeMoreNeverChanges P
   unfolding runForward runBackward
-  more-never-changes h vs v = (
+  tree-more-never-changes h vs v = (
     steady λ fits fits′ r r′ f d wd l. forward-grows fits fits′ wd P d r r′ l (scope vs []) (some v ∷ map some (scope vs [])) (h .body) f,
     steady λ fits fits′ r r′ f d wd l. run-back-grows fits fits′ wd P d r r′ l h vs v f,
   )
 
   pub steps-are-the-rules : StepsAreTheRules P
   steps-are-the-rules fits fits′ r r′ h vs v w w′ f f′ g g′ p p′ =
-      given (forward-iff-rules fits r h vs v w f g .0 p) λ (n, d, e).
+      given (tree-forward-iff-rules fits r h vs v w f g .0 p) λ (n, d, e).
       given (answered (subst (λ x. Good fits′ fits (λ u. w ≡ u) f′ n r′ r x) p′ (forward-good fits′ fits r′ r h vs v w n d f′))) λ (e′, q).
       (q, omega arith)
 
@@ -134,7 +134,7 @@ module _ (P : Program) where
       given (back-sound fits P r (scope vs []) (none ∷ map some (scope vs [])) (h .body) w f (m ∷ σ₂) f₁ (p₁ ∙ ap (λ σ. ok σ f₁) x) (u ∷ fill σ₂) (fit, agree-fill σ₂)) λ (y, ag).
       given (full-agree (scope vs []) (fill σ₂) (ag .1)) λ e.
       subst (λ v. runForward fits P r h vs v f ≡ ok w g) (ok-value z)
-      (forward-iff-rules fits r h vs u w f g .1
+      (tree-forward-iff-rules fits r h vs u w f g .1
       (subst (λ g. Yields fits P r (scope vs []) (u ∷ scope vs []) (h .body) w f g) (ok-fuel z)
       (subst (λ ρ. Yields fits P r (scope vs []) (u ∷ ρ) (h .body) w f f₁) (sym e) y)))
 
@@ -178,14 +178,14 @@ module _ (variables most : ℕ) (P : Program) where
     λ hw p. of-type-iff v (h .dynamic) .1 (fine-answer (backward-fine fits P D h T vs hs r f w (of-type-iff w (h .result) .0 hw)) p),
   )
 
-  pub never-stuck : NeverStuck variables most P
-  never-stuck = of-typed λ D h T vs hs fits r f v. (
+  pub tree-never-stuck : TreeNeverStuck variables most P
+  tree-never-stuck = of-typed λ D h T vs hs fits r f v. (
     λ hv. fine-not-stuck (forward-fine fits P D h T vs hs r f v (of-type-iff v (h .dynamic) .0 hv)),
     λ hv. fine-not-stuck (backward-fine fits P D h T vs hs r f v (of-type-iff v (h .result) .0 hv)),
   )
 
-  pub backward-iff-forward : BackwardIffForward variables most P
-  backward-iff-forward = of-typed λ D h T vs hs fits r v w f g hw. (
+  pub tree-backward-iff-forward : TreeBackwardIffForward variables most P
+  tree-backward-iff-forward = of-typed λ D h T vs hs fits r v w f g hw. (
     λ p. (
       of-type-iff v (h .dynamic) .1 (fine-answer (backward-fine fits P D h T vs hs r f w (of-type-iff w (h .result) .0 hw)) p),
       backward-then-forward P fits r h vs v w f g p,
@@ -196,18 +196,18 @@ module _ (variables most : ℕ) (P : Program) where
       again : TypedProgram P → (h : Fun) → TypedFun P h → (vs : List Val) → OfTypes vs (h .ancillae) → (fits : Val → Bool) (r : ℕ) (v w : Val) (f g : ℕ)
           → OfType v (h .dynamic) → runForward fits P r h vs v f ≡ ok w g → runBackward fits P r h vs w f ≡ ok v g
       again D h T vs hs fits r v w f g hv p =
-          given (forward-iff-rules P fits r h vs v w f g .0 p) λ (n, d, e).
+          given (tree-forward-iff-rules P fits r h vs v w f g .0 p) λ (n, d, e).
           given (enough fits fits f n r r _ (same-limits fits) (omega arith) (omega arith) (back-good fits fits P D h T vs hs v w hv r r n d f)) λ (u, g′, x, y, z).
           x ∙ ap (λ u. ok u g′) (sym z) ∙ ap (ok v) (let q : g′ ≡ g = omega arith in q)
 
-  pub backward-iff-rules : BackwardIffRules variables most P
-  backward-iff-rules W j h p vs hs fits r v w f g hw = (
-    λ x. given (backward-iff-forward W j h p vs hs fits r v w f g hw .0 x) λ (hv, y). (hv, forward-iff-rules P fits r h vs v w f g .0 y),
-    λ (hv, d). backward-iff-forward W j h p vs hs fits r v w f g hw .1 (hv, forward-iff-rules P fits r h vs v w f g .1 d),
+  pub tree-backward-iff-rules : TreeBackwardIffRules variables most P
+  tree-backward-iff-rules W j h p vs hs fits r v w f g hw = (
+    λ x. given (tree-backward-iff-forward W j h p vs hs fits r v w f g hw .0 x) λ (hv, y). (hv, tree-forward-iff-rules P fits r h vs v w f g .0 y),
+    λ (hv, d). tree-backward-iff-forward W j h p vs hs fits r v w f g hw .1 (hv, tree-forward-iff-rules P fits r h vs v w f g .1 d),
   )
 
-  pub injective : Injective variables most P
-  injective = of-typed λ D h T vs hs fits fits′ r r′ v v′ w n n′ hv hv′ d d′.
+  pub tree-injective : TreeInjective variables most P
+  tree-injective = of-typed λ D h T vs hs fits fits′ r r′ v v′ w n n′ hv hv′ d d′.
       let e : Val → Bool = λ u. fits u || fits′ u in
       given (enough e fits (n + n′) n (r + r′) r _ (λ u p. or-left (fits′ u) p) (omega arith) (omega arith)
       (back-good e fits P D h T vs hs v w (of-type-iff v (h .dynamic) .0 hv) (r + r′) r n d (n + n′))) λ (u, g, x, y, z).
@@ -215,7 +215,7 @@ module _ (variables most : ℕ) (P : Program) where
       (back-good e fits′ P D h T vs hs v′ w (of-type-iff v′ (h .dynamic) .0 hv′) (r + r′) r′ n′ d′ (n + n′))) λ (u′, g′, x′, y′, z′).
       z ∙ ok-value (sym x ∙ x′) ∙ sym z′
 
-  pub no-input : NoInput variables most P
-  no-input = of-typed λ D h T vs hs fits fits′ r r′ v w f k n hv p d.
+  pub tree-no-input : TreeNoInput variables most P
+  tree-no-input = of-typed λ D h T vs hs fits fits′ r r′ v w f k n hv p d.
       not-refused (omega arith) (subst (λ x. Good fits fits′ (λ u. v ≡ u) f n r r′ x) p
       (back-good fits fits′ P D h T vs hs v w (of-type-iff v (h .dynamic) .0 hv) r r′ n d f))

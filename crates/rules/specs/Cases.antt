@@ -103,7 +103,7 @@ runs P h vs v f = runForward fits P maxHeight h vs v f
 abbrev pub returns : Program → Fun → List Val → Val → ℕ → Res Val
 returns P h vs v f = runBackward fits P maxHeight h vs v f
 
-pub record Table : Type 0 where
+pub record TreeTable : Type 0 where
   pub typed : checked numbers ≡ good tt
   pub p1 : runs numbers plus (num 2 ∷ []) (num 0) 65535 ≡ ok (num 2) 65531
   pub p2 : runs numbers plus (num 2 ∷ []) (num 3) 28 ≡ ok (num 5) 0

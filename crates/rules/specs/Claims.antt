@@ -21,8 +21,8 @@ use package.Rattle.rules.specs.Machine.{runForward, runBackward}
 
 module _ (variables most : ℕ) (P : Program) where
   -- The typing function accepts exactly the programs that the rules type within the limits.
-  abbrev pub CheckIffTyped : Type 0
-  CheckIffTyped = (check variables most P ≡ good tt) ↔ WellTyped variables most P
+  abbrev pub TreeCheckIffTyped : Type 0
+  TreeCheckIffTyped = (check variables most P ≡ good tt) ↔ WellTyped variables most P
 
   -- It gives a term a type exactly if the rules do, for some set of dynamic variables.
   abbrev pub InferIffTypes : Type 0
@@ -51,8 +51,8 @@ Wider fits fits′ = (v : Val) → fits v ≡ true → fits′ v ≡ true
 
 module _ (P : Program) where
   -- Forward answers `w` with `g` of its fuel left exactly if the rules carry the input to `w` in the steps between.
-  abbrev pub ForwardIffRules : Type 0
-  ForwardIffRules = (fits : Val → Bool) (r : ℕ) (h : Fun) (vs : List Val) (v w : Val) (f g : ℕ)
+  abbrev pub TreeForwardIffRules : Type 0
+  TreeForwardIffRules = (fits : Val → Bool) (r : ℕ) (h : Fun) (vs : List Val) (v w : Val) (f g : ℕ)
       → (runForward fits P r h vs v f ≡ ok w g) ↔ ((n : ℕ) × Carries fits P r h vs v w n × (f ≡ n + g))
 
   -- The source's Theorem 1: what a term yields, it may yield. In scope are the ancilla parameters' values `a` and newer ones `vs`.
@@ -60,8 +60,8 @@ module _ (P : Program) where
   Theorem1 = (fits : Val → Bool) (r : ℕ) (a vs : List Val) (t : Term) (v : Val) (n : ℕ) → Ev fits P r a (vs ++ a) t v n → mayYield a t v ≡ true
 
   -- Refusal 15 forward: the rules yield nothing, at any height or size.
-  abbrev pub NoValue : Type 0
-  NoValue = (fits fits′ : Val → Bool) (r r′ : ℕ) (h : Fun) (vs : List Val) (v w : Val) (f k n : ℕ)
+  abbrev pub TreeNoValue : Type 0
+  TreeNoValue = (fits fits′ : Val → Bool) (r r′ : ℕ) (h : Fun) (vs : List Val) (v w : Val) (f k n : ℕ)
       → runForward fits P r h vs v f ≡ stop 15 k → Carries fits′ P r′ h vs v w n → ⊥
 
   -- More fuel, height or size never changes an answer, forward or backward: neither a value with its steps, nor 15, nor 16.
@@ -70,8 +70,8 @@ module _ (P : Program) where
       → ((w : Val) (g : ℕ) → run fits r f ≡ ok w g → run fits′ r′ (f + d) ≡ ok w (g + d))
       × ((c k : ℕ) → (c ≡ 15) ⊎ (c ≡ 16) → run fits r f ≡ stop c k → run fits′ r′ (f + d) ≡ stop c k)
 
-  abbrev pub MoreNeverChanges : Type 0
-  MoreNeverChanges = (h : Fun) (vs : List Val) (v : Val)
+  abbrev pub TreeMoreNeverChanges : Type 0
+  TreeMoreNeverChanges = (h : Fun) (vs : List Val) (v : Val)
       → Steady (λ fits r. runForward fits P r h vs v) × Steady (λ fits r. runBackward fits P r h vs v)
 
   -- Steps depend on neither fuel nor limits: two runs forward that answer give one value in equally many steps.
@@ -93,28 +93,28 @@ module _ (variables most : ℕ) (P : Program) where
   OfTyped C = WellTyped variables most P → (j : ℕ) (h : Fun) → nth P j ≡ some h → (vs : List Val) → HasTys vs (h .ancillae) → C h vs
 
   -- Demand 2: backward gives an input, with `g` of its fuel left, exactly if the rules carry it to the value in the steps between.
-  abbrev pub BackwardIffRules : Type 0
-  BackwardIffRules = OfTyped λ h vs. (fits : Val → Bool) (r : ℕ) (v w : Val) (f g : ℕ) → HasTy w (h .result)
+  abbrev pub TreeBackwardIffRules : Type 0
+  TreeBackwardIffRules = OfTyped λ h vs. (fits : Val → Bool) (r : ℕ) (v w : Val) (f g : ℕ) → HasTy w (h .result)
       → (runBackward fits P r h vs w f ≡ ok v g) ↔ (HasTy v (h .dynamic) × ((n : ℕ) × Carries fits P r h vs v w n × (f ≡ n + g)))
 
   -- So it gives an input if and only if forward carries it to the value, same steps, same fuel and limits.
-  abbrev pub BackwardIffForward : Type 0
-  BackwardIffForward = OfTyped λ h vs. (fits : Val → Bool) (r : ℕ) (v w : Val) (f g : ℕ) → HasTy w (h .result)
+  abbrev pub TreeBackwardIffForward : Type 0
+  TreeBackwardIffForward = OfTyped λ h vs. (fits : Val → Bool) (r : ℕ) (v w : Val) (f g : ℕ) → HasTy w (h .result)
       → (runBackward fits P r h vs w f ≡ ok v g) ↔ (HasTy v (h .dynamic) × (runForward fits P r h vs v f ≡ ok w g))
 
   -- Two inputs never share a value.
-  abbrev pub Injective : Type 0
-  Injective = OfTyped λ h vs. (fits fits′ : Val → Bool) (r r′ : ℕ) (v v′ w : Val) (n n′ : ℕ) → HasTy v (h .dynamic) → HasTy v′ (h .dynamic)
+  abbrev pub TreeInjective : Type 0
+  TreeInjective = OfTyped λ h vs. (fits fits′ : Val → Bool) (r r′ : ℕ) (v v′ w : Val) (n n′ : ℕ) → HasTy v (h .dynamic) → HasTy v′ (h .dynamic)
       → Carries fits P r h vs v w n → Carries fits′ P r′ h vs v′ w n′ → v ≡ v′
 
   -- Refusal 16: no input exists, at any fuel, height or size.
-  abbrev pub NoInput : Type 0
-  NoInput = OfTyped λ h vs. (fits fits′ : Val → Bool) (r r′ : ℕ) (v w : Val) (f k n : ℕ) → HasTy v (h .dynamic)
+  abbrev pub TreeNoInput : Type 0
+  TreeNoInput = OfTyped λ h vs. (fits fits′ : Val → Bool) (r r′ : ℕ) (v w : Val) (f k n : ℕ) → HasTy v (h .dynamic)
       → runBackward fits P r h vs w f ≡ stop 16 k → Carries fits′ P r′ h vs v w n → ⊥
 
   -- Demand 1: a checked program never stops on a value of wrong shape, either way.
-  abbrev pub NeverStuck : Type 0
-  NeverStuck = OfTyped λ h vs. (fits : Val → Bool) (r f : ℕ) (v : Val)
+  abbrev pub TreeNeverStuck : Type 0
+  TreeNeverStuck = OfTyped λ h vs. (fits : Val → Bool) (r f : ℕ) (v : Val)
       → (HasTy v (h .dynamic) → ¬ (runForward fits P r h vs v f ≡ stuck)) × (HasTy v (h .result) → ¬ (runBackward fits P r h vs v f ≡ stuck))
 
   -- Values keep their types, either way.

@@ -29,7 +29,7 @@ use package.Rattle.calls.proofs.Journal.Entries.{WritableEntries}
 use package.Rattle.calls.proofs.Load.{load-iff}
 use package.Rattle.calls.proofs.Values.{value-sound}
 use package.Rattle.rules.proofs.Basics.{given, some-inj}
-use package.Rattle.rules.proofs.Theorems.{forward-iff-rules, backward-iff-forward}
+use package.Rattle.rules.proofs.Theorems.{tree-forward-iff-rules, tree-backward-iff-forward}
 
 -- the book right after the open before the list
 opened-keeps : (program bytes : List ℕ) (ws n : ℕ) {xs : List ℕ} {P : Program} {origin : Val} → value bytes ≡ some origin → openCall ws program bytes n ≡ accepted xs
@@ -61,8 +61,8 @@ module _ (program : List ℕ) (P : Program) (loads : load program ≡ accepted P
   row-returns : {row : Row} {es : List Entry} {v w : Val} {s k : ℕ} (R : Passed P row es v w s k) (fuel g : ℕ) → fuel ≡ s + g
       → runBackward fits P maxHeight (R .fun) (row .ancillae) w fuel ≡ ok v g
   row-returns {row} {es} {v} {w} {s} R fuel g e =
-      backward-iff-forward maxVariables maxNodes P typed (row .function) (R .fun) (R .named) (row .ancillae) (R .ancillae-typed) fits maxHeight v w fuel g (R .result-typed) .1
-      (R .value-typed, forward-iff-rules P fits maxHeight (R .fun) (row .ancillae) v w fuel g .1 (s, R .carried, e))
+      tree-backward-iff-forward maxVariables maxNodes P typed (row .function) (R .fun) (R .named) (row .ancillae) (R .ancillae-typed) fits maxHeight v w fuel g (R .result-typed) .1
+      (R .value-typed, tree-forward-iff-rules P fits maxHeight (R .fun) (row .ancillae) v w fuel g .1 (s, R .carried, e))
 
   rolls-back : {origin held : Val} {rows : List Row} {es : List Entry} {m : Met} {ms : List Met} → Standing P origin rows es held (m ∷ ms)
       → (xs : List ℕ) → xs ≡ writeOut (length xs) (journal held es) → length (fields (journal held es)) ≤ length xs → fits held ≡ true → length es ≤ maxConversions

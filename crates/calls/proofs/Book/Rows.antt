@@ -20,7 +20,7 @@ use package.Rattle.calls.specs.Values.{encodeAll}
 use package.Rattle.calls.proofs.Answer.{first}
 use package.Rattle.calls.proofs.Journal.Entries.{WritableEntries, no-entries, entries-snoc}
 use package.Rattle.rules.proofs.Outcome.{steps, short}
-use package.Rattle.rules.proofs.Theorems.{forward-iff-rules}
+use package.Rattle.rules.proofs.Theorems.{tree-forward-iff-rules}
 
 ----------------------------------------------------------------
 -- Rows in order, the newest last
@@ -91,7 +91,7 @@ pub carry-ran : {P : Program} {row : Row} {es : List Entry} {v w : Val} {n k : �
 unfolding carry carryBy orStays ran
 carry-ran {P} {row} {es} {v} {w} {n} R =
     ap (λ o. carryBy P o row v) (R .named)
-    ∙ ap (λ x. orStays v (ran maxFuel x)) (forward-iff-rules P fits maxHeight (R .fun) (row .ancillae) v w maxFuel (maxFuel - n) .1 (n, R .carried, omega (arith, R .steps)))
+    ∙ ap (λ x. orStays v (ran maxFuel x)) (tree-forward-iff-rules P fits maxHeight (R .fun) (row .ancillae) v w maxFuel (maxFuel - n) .1 (n, R .carried, omega (arith, R .steps)))
     ∙ ap (answered w) (let z : maxFuel - (maxFuel - n) ≡ n = omega (arith, R .steps) in z)
 
 -- the record that the rows carry the first one to

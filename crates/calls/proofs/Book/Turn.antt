@@ -28,7 +28,7 @@ use package.Rattle.calls.proofs.Journal.Buffers.{Writable, read-written
 use package.Rattle.calls.proofs.Values.{ancillae-sound}
 use package.Rattle.rules.proofs.Backward.Outcome.{fits-of}
 use package.Rattle.rules.proofs.Basics.{given, some-inj}
-use package.Rattle.rules.proofs.Theorems.{forward-iff-rules, keeps-types, backward-iff-forward, injective}
+use package.Rattle.rules.proofs.Theorems.{tree-forward-iff-rules, keeps-types, tree-backward-iff-forward, tree-injective}
 use package.Rattle.rules.proofs.Typing.ToDirected.{directed}
 
 ----------------------------------------------------------------
@@ -102,7 +102,7 @@ module _ (program : List ℕ) (P : Program) (loads : load program ≡ accepted P
 
     passed : Passed P row es held (C .ran .value) (C .ran .steps) n
     passed =
-        given (forward-iff-rules P fits maxHeight (C .given .fun) (C .given .ancillae) (C .given .value) (C .ran .value) fuel (C .left) .0 (C .runs)) λ (m, d, e).
+        given (tree-forward-iff-rules P fits maxHeight (C .given .fun) (C .given .ancillae) (C .given .value) (C .ran .value) fuel (C .left) .0 (C .runs)) λ (m, d, e).
         given (let z : m ≡ C .ran .steps = omega (arith, C .steps) in z) λ m-is.
         given (ancillae-sound anc (C .row .ancillae-read)) λ (a-bytes, a-short).
         record {
@@ -168,9 +168,9 @@ module _ (program : List ℕ) (P : Program) (loads : load program ≡ accepted P
   came-from {row} {es} {v} {w} {u} {m} {k} fuel left R h p hw run =
       given (some-inj (sym (R .named) ∙ p)) λ same.
       given (subst (λ (h : Fun). HasTys (row .ancillae) (h .ancillae)) same (R .ancillae-typed)) λ hs.
-      given (backward-iff-forward maxVariables maxNodes P typed (row .function) h p (row .ancillae) hs fits maxHeight u w fuel left hw .0 run) λ (hu, forth).
-      given (forward-iff-rules P fits maxHeight h (row .ancillae) u w fuel left .0 forth) λ (m′, d, e).
-      injective maxVariables maxNodes P typed (row .function) h p (row .ancillae) hs fits fits maxHeight maxHeight u v w m′ m hu
+      given (tree-backward-iff-forward maxVariables maxNodes P typed (row .function) h p (row .ancillae) hs fits maxHeight u w fuel left hw .0 run) λ (hu, forth).
+      given (tree-forward-iff-rules P fits maxHeight h (row .ancillae) u w fuel left .0 forth) λ (m′, d, e).
+      tree-injective maxVariables maxNodes P typed (row .function) h p (row .ancillae) hs fits fits maxHeight maxHeight u v w m′ m hu
       (subst (λ (h : Fun). HasTy v (h .dynamic)) same (R .value-typed)) d (subst (λ (h : Fun). Carries fits P maxHeight h (row .ancillae) v w m) same (R .carried))
 
   -- an accepted rollback, where the newest row is `row` and the older ones are `rows`

@@ -2,7 +2,7 @@
 -- both runs obey is a direction, and a call in any direction is answered and refused alike.
 use Prim.Native.Nat.{ℕ, _-_, _≤_}
 use native.Mathlib.Omega.{arith}
-use mathlib.Core.Path.{_≡_, refl, sym, subst, _∙_}
+use mathlib.Core.Path.{_≡_, refl, sym, ap, subst, _∙_}
 use mathlib.Core.Bool.{true}
 use mathlib.Core.Option.{Option}
 use mathlib.Core.List.{List}
@@ -18,7 +18,7 @@ use package.Rattle.rules.specs.Machine.{runForward, runBackward}
 use package.Rattle.rules.proofs.Backward.Fits.{run-backward-ends}
 use package.Rattle.rules.proofs.Basics.{given}
 use package.Rattle.rules.proofs.Numbers.{EndsBy, Ends, ends-wider, run-forward-numbers, run-forward-ends}
-use package.Rattle.rules.proofs.Theorems.{forward-iff-rules, backward-then-forward, never-stuck}
+use package.Rattle.rules.proofs.Theorems.{tree-forward-iff-rules, backward-then-forward, tree-never-stuck}
 use package.Rattle.rules.proofs.Typing.Tests.{leb-yes, leb-sound}
 use package.Rattle.calls.specs.Answer.{Answer, accepted, refused, _>>=_, require}
 use package.Rattle.calls.specs.Named.{below, member}
@@ -53,7 +53,7 @@ pub record Direction : Type 0 where
       → Admits P fn as? v? side a → ¬ (run P a f ≡ stuck)
 
 pub forward-left : (P : Program) (h : Fun) (vs : List Val) (v w : Val) (f g : ℕ) → runForward fits P maxHeight h vs v f ≡ ok w g → g ≤ f
-forward-left P h vs v w f g p = given (forward-iff-rules P fits maxHeight h vs v w f g .0 p) λ (n, d, e). omega arith
+forward-left P h vs v w f g p = given (tree-forward-iff-rules P fits maxHeight h vs v w f g .0 p) λ (n, d, e). omega arith
 
 pub unit-fits : fits unit ≡ true
 unfolding fits maxValueBytes size
@@ -77,7 +77,7 @@ onward = record {
   ends = λ P a f. run-forward-ends fits P maxHeight (a .fun) (a .ancillae) (a .value) f;
   numbers = forwardNumbers;
   numbered = λ P a f. forward-numbers P (a .fun) (a .ancillae) (a .value) f;
-  safe = λ P fn as? v? a f T A. never-stuck maxVariables maxNodes P T fn (a .fun) (A .function) (a .ancillae) (A .ancillae-typed) fits maxHeight f (a .value) .0 (A .value-typed);
+  safe = λ P fn as? v? a f T A. tree-never-stuck maxVariables maxNodes P T fn (a .fun) (A .function) (a .ancillae) (A .ancillae-typed) fits maxHeight f (a .value) .0 (A .value-typed);
 }
 
 abbrev pub back : Direction
@@ -89,7 +89,7 @@ back = record {
   ends = λ P a f. run-backward-ends fits P unit-fits maxHeight (a .fun) (a .ancillae) (a .value) f;
   numbers = backwardNumbers;
   numbered = λ P a f. backward-numbers P (a .fun) (a .ancillae) (a .value) f;
-  safe = λ P fn as? v? a f T A. never-stuck maxVariables maxNodes P T fn (a .fun) (A .function) (a .ancillae) (A .ancillae-typed) fits maxHeight f (a .value) .1 (A .value-typed);
+  safe = λ P fn as? v? a f T A. tree-never-stuck maxVariables maxNodes P T fn (a .fun) (A .function) (a .ancillae) (A .ancillae-typed) fits maxHeight f (a .value) .1 (A .value-typed);
 }
 
 ----------------------------------------------------------------
@@ -193,6 +193,13 @@ module _ (D : Direction) (ws out fuel fn : ℕ) (program anc bytes : List ℕ) w
       during P a p q s = running P (a .fun) (a .ancillae) (a .value) (admitted-iff (D .side) ws fuel fn program anc bytes P a .0 (p, q))
           (ran-refused fuel (D .run P a fuel) (D .safe P fn (ancillae anc) (value bytes) a fuel (prepared-iff ws fuel program P .0 p .2)
           (admit-iff P fn (ancillae anc) (value bytes) (D .side) a .0 q)) s)
+
+  -- what is admitted is refused as its run is
+  pub directed-stops : (P : Program) (h : Fun) (vs : List Val) (v : Val) → Admitted ws fuel fn program anc bytes (D .side) P h vs v
+      → {n k : ℕ} → D .run P (gives h vs v) fuel ≡ stop n k → directed ≡ refused n k
+  unfolding directed ran _>>=_
+  directed-stops P h vs v A x = given (admitted-iff (D .side) ws fuel fn program anc bytes P (gives h vs v) .1 A) λ (p, q).
+      via _ p (via _ q (ap (λ y. ran fuel y >>= λ r. require (leb (size (r .value)) out) 17 0 >>= λ room. accepted r) x))
 
 ----------------------------------------------------------------
 -- The calls

@@ -5,13 +5,13 @@ use mathlib.Core.Path.{_≡_, refl, sym, ap, subst, _∙_}
 use mathlib.Core.Bool.{false, false≢true}
 use mathlib.Core.Option.{some}
 use mathlib.Core.List.{List, [], _++_}
-use mathlib.Core.Logic.{_↔_}
+use mathlib.Core.Logic.{_⊎_, inl as left, inr as right, _↔_}
 use package.Rattle.rules.specs.Limits.{fits, maxHeight, maxVariables, maxNodes}
 use package.Rattle.rules.specs.Val.{Val, size, encode}
 use package.Rattle.rules.specs.Ty.{Ty, HasTy, HasTys}
 use package.Rattle.rules.specs.Term.{Fun, Program, nth}
 use package.Rattle.rules.specs.Typing.{WellTyped}
-use package.Rattle.rules.specs.Run.{ok}
+use package.Rattle.rules.specs.Run.{ok, stop}
 use package.Rattle.rules.specs.Machine.{runBackward}
 use package.Rattle.rules.specs.Claims.{Carries}
 use package.Rattle.rules.proofs.Basics.{given, some-inj}
@@ -20,13 +20,13 @@ use package.Rattle.rules.proofs.Theorems as Rules
 use package.Rattle.calls.specs.Answer.{Answer, refused}
 use package.Rattle.calls.specs.Named.{member}
 use package.Rattle.calls.specs.Values.{read, value}
-use package.Rattle.calls.specs.Runs.{workspaceFor, prepared, checkCall}
+use package.Rattle.calls.specs.Runs.{workspaceFor, prepared, goes, returns, checkCall, forwardCall, backwardCall}
 use package.Rattle.calls.specs.Claims.{CheckIffTyped, Admitted, ForwardIffRules, BackwardIffRules, BackwardIffForward, NoInput, NoValue, Injective, MoreNeverChanges, NeverStuck, OldConversionsReturn}
 use package.Rattle.calls.proofs.Answer.{accepted-inj, via, unbind}
 use package.Rattle.calls.proofs.Values.{got-value, read-encode, value-encode, value-sound}
 use package.Rattle.calls.proofs.Refusals.{Numbered, number}
 use package.Rattle.calls.proofs.Load.{load-iff, prepared-iff}
-use package.Rattle.calls.proofs.Runs.Calls.{gives, Direction, onward, back, Answers, before, running, short, forward-call-iff, backward-call-iff, forward-call-refused, backward-call-refused}
+use package.Rattle.calls.proofs.Runs.Calls.{gives, Direction, onward, back, directed, Answers, Refuses, before, running, short, directed-stops, forward-call-iff, backward-call-iff, forward-call-refused, backward-call-refused}
 use package.Rattle.calls.proofs.Runs.Numbers.{forward-numbered, backward-numbered, convert-numbered, rollback-numbered}
 
 ----------------------------------------------------------------
@@ -43,11 +43,11 @@ pub forward-iff-rules : ForwardIffRules
 forward-iff-rules ws out fuel fn program anc bytes w n = (
   λ e.
       given (forward-call-iff ws out fuel fn program anc bytes w n .0 e) λ (P, h, vs, v, A, x, l, s).
-      given (Rules.forward-iff-rules P fits maxHeight h vs v w fuel (fuel - n) .0 x) λ (m, d, y).
+      given (Rules.tree-forward-iff-rules P fits maxHeight h vs v w fuel (fuel - n) .0 x) λ (m, d, y).
       (P, h, vs, v, A, subst (Carries fits P maxHeight h vs v w) (let z : m ≡ n = omega arith in z) d, l, s),
   λ (P, h, vs, v, A, d, l, s).
       forward-call-iff ws out fuel fn program anc bytes w n .1
-      (P, h, vs, v, A, Rules.forward-iff-rules P fits maxHeight h vs v w fuel (fuel - n) .1 (n, d, omega arith), l, s),
+      (P, h, vs, v, A, Rules.tree-forward-iff-rules P fits maxHeight h vs v w fuel (fuel - n) .1 (n, d, omega arith), l, s),
 )
 
 pub backward-iff-rules : BackwardIffRules
@@ -63,7 +63,7 @@ backward-iff-rules ws out fuel fn program anc bytes v n = (
         → (runBackward fits P maxHeight h vs w fuel ≡ ok v (fuel - n))
         ↔ (HasTy v (h .dynamic) × ((m : ℕ) × Carries fits P maxHeight h vs v w m × (fuel ≡ m + (fuel - n))))
     of P h vs w A =
-        Rules.backward-iff-rules maxVariables maxNodes P (A .typed) fn h (A .function) vs (A .ancillae-typed)
+        Rules.tree-backward-iff-rules maxVariables maxNodes P (A .typed) fn h (A .function) vs (A .ancillae-typed)
         fits maxHeight v w fuel (fuel - n) (A .value-typed)
 
 ----------------------------------------------------------------
@@ -107,10 +107,10 @@ module _ (D D′ : Direction) where
 onward-turns : Turns onward back
 onward-turns P T fn h p vs hs v w f g hv x =
     given (Rules.keeps-types maxVariables maxNodes P T fn h p vs hs fits maxHeight f g v w .0 hv x) λ hw.
-    (hw, Rules.backward-iff-forward maxVariables maxNodes P T fn h p vs hs fits maxHeight v w f g hw .1 (hv, x))
+    (hw, Rules.tree-backward-iff-forward maxVariables maxNodes P T fn h p vs hs fits maxHeight v w f g hw .1 (hv, x))
 
 back-turns : Turns back onward
-back-turns P T fn h p vs hs w v f g hw x = Rules.backward-iff-forward maxVariables maxNodes P T fn h p vs hs fits maxHeight v w f g hw .0 x
+back-turns P T fn h p vs hs w v f g hw x = Rules.tree-backward-iff-forward maxVariables maxNodes P T fn h p vs hs fits maxHeight v w f g hw .0 x
 
 pub backward-iff-forward : BackwardIffForward
 backward-iff-forward ws out out′ fuel fn program anc v w n s s′ = (
@@ -133,7 +133,7 @@ no-input ws out fuel fn program anc bytes k e = elim (backward-call-refused ws o
     w,
     A,
     λ fits′ r n v hv d.
-        Rules.no-input maxVariables maxNodes P (A .typed) fn h (A .function) vs (A .ancillae-typed) fits fits′ maxHeight r v w fuel k n hv x d,
+        Rules.tree-no-input maxVariables maxNodes P (A .typed) fn h (A .function) vs (A .ancillae-typed) fits fits′ maxHeight r v w fuel k n hv x d,
   )
   | short e′ ↦ absurd (omega arith)
 ]
@@ -141,7 +141,7 @@ no-input ws out fuel fn program anc bytes k e = elim (backward-call-refused ws o
 pub no-value : NoValue
 no-value ws out fuel fn program anc bytes k e = elim (forward-call-refused ws out fuel fn program anc bytes e) [
   | before l ↦ absurd (omega arith)
-  | running P h vs v A x ↦ (P, h, vs, v, A, λ fits′ r n w d. Rules.no-value P fits fits′ maxHeight r h vs v w fuel k n x d)
+  | running P h vs v A x ↦ (P, h, vs, v, A, λ fits′ r n w d. Rules.tree-no-value P fits fits′ maxHeight r h vs v w fuel k n x d)
   | short e′ ↦ absurd (omega arith)
 ]
 
@@ -174,7 +174,7 @@ injective ws ws′ out out′ fuel fuel′ fn program anc bytes bytes′ w n n�
     given (accepted-inj (sym (load-iff program P′ .1 (A′ .formed, A′ .typed)) ∙ load-iff program P .1 (A .formed, A .typed))) λ p.
     given (some-inj (sym (A′ .function) ∙ ap (λ P. nth P fn) p ∙ A .function)) λ q.
     given (some-inj (sym (A′ .ancillae-read) ∙ A .ancillae-read)) λ r.
-    given (Rules.injective maxVariables maxNodes P (A .typed) fn h (A .function) vs (A .ancillae-typed) fits fits maxHeight maxHeight v v′ w n n′
+    given (Rules.tree-injective maxVariables maxNodes P (A .typed) fn h (A .function) vs (A .ancillae-typed) fits fits maxHeight maxHeight v v′ w n n′
     (A .value-typed) (subst (λ h. HasTy v′ (h .dynamic)) q (A′ .value-typed)) d (carried v′ w n′ p q r d′)) λ same.
     value-sound bytes (A .value-read) .0 ∙ ap encode same ∙ sym (value-sound bytes′ (A′ .value-read) .0)
 
@@ -192,12 +192,36 @@ enough ws′ fuel′ m A = record {
   value-typed = A .value-typed;
 }
 
+-- a refusal 15 or 16 is the run's, and the run meets it with more fuel too
+module _ {ws out fuel fn : ℕ} {program anc bytes : List ℕ} (ws′ out′ fuel′ : ℕ) (m : workspaceFor fuel′ ≤ ws′) (f : fuel ≤ fuel′) where
+  still-refused : (D : Direction) {c k : ℕ}
+      → ((P : Program) (h : Fun) (vs : List Val) (v : Val) → D .run P (gives h vs v) fuel ≡ stop c k → D .run P (gives h vs v) (fuel + (fuel′ - fuel)) ≡ stop c k)
+      → (c ≡ 15) ⊎ (c ≡ 16) → Refuses D ws out fuel fn program anc bytes c k → directed D ws′ out′ fuel′ fn program anc bytes ≡ refused c k
+  still-refused D grows (left e) (before l) = absurd (omega arith)
+  still-refused D grows (right e) (before l) = absurd (omega arith)
+  still-refused D grows c (running P h vs v A x) =
+      directed-stops D ws′ out′ fuel′ fn program anc bytes P h vs v (enough ws′ fuel′ m A)
+      (ap (D .run P (gives h vs v)) (let z : fuel′ ≡ fuel + (fuel′ - fuel) = omega arith in z) ∙ grows P h vs v x)
+  still-refused D grows (left e) (short e′) = absurd (omega arith)
+  still-refused D grows (right e) (short e′) = absurd (omega arith)
+
 pub more-never-changes : MoreNeverChanges
-more-never-changes ws ws′ out out′ fuel fuel′ fn program anc bytes w n m o f = (
-  λ e. given (forward-iff-rules ws out fuel fn program anc bytes w n .0 e) λ (P, h, vs, v, A, d, l, s).
-      forward-iff-rules ws′ out′ fuel′ fn program anc bytes w n .1 (P, h, vs, v, enough ws′ fuel′ m A, d, omega arith, omega arith),
-  λ e. given (backward-iff-rules ws out fuel fn program anc bytes w n .0 e) λ (P, h, vs, v, A, hw, d, l, s).
-      backward-iff-rules ws′ out′ fuel′ fn program anc bytes w n .1 (P, h, vs, v, enough ws′ fuel′ m A, hw, d, omega arith, omega arith),
+unfolding forwardCall backwardCall goes returns directed
+more-never-changes ws ws′ out out′ fuel fuel′ fn program anc bytes m o f = (
+  (
+    λ w n e. given (forward-iff-rules ws out fuel fn program anc bytes w n .0 e) λ (P, h, vs, v, A, d, l, s).
+        forward-iff-rules ws′ out′ fuel′ fn program anc bytes w n .1 (P, h, vs, v, enough ws′ fuel′ m A, d, omega arith, omega arith),
+    λ c k n e. still-refused ws′ out′ fuel′ m f onward
+        (λ P h vs v x. Rules.tree-more-never-changes P h vs v .0 fits fits maxHeight maxHeight fuel (fuel′ - fuel) (λ u t. t) (omega arith) .1 c k n x)
+        n (forward-call-refused ws out fuel fn program anc bytes e),
+  ),
+  (
+    λ w n e. given (backward-iff-rules ws out fuel fn program anc bytes w n .0 e) λ (P, h, vs, v, A, hw, d, l, s).
+        backward-iff-rules ws′ out′ fuel′ fn program anc bytes w n .1 (P, h, vs, v, enough ws′ fuel′ m A, hw, d, omega arith, omega arith),
+    λ c k n e. still-refused ws′ out′ fuel′ m f back
+        (λ P h vs v x. Rules.tree-more-never-changes P h vs v .1 fits fits maxHeight maxHeight fuel (fuel′ - fuel) (λ u t. t) (omega arith) .1 c k n x)
+        n (backward-call-refused ws out fuel fn program anc bytes e),
+  ),
 )
 
 ----------------------------------------------------------------
@@ -205,8 +229,8 @@ more-never-changes ws ws′ out out′ fuel fuel′ fn program anc bytes w n m o
 
 pub old-conversions-return : OldConversionsReturn
 old-conversions-return variables most P T fn h p vs hs narrow wide r r′ f g n v w wider l hv d e =
-    given (Rules.forward-iff-rules P narrow r h vs v w f g .1 (n, d, e)) λ x.
+    given (Rules.tree-forward-iff-rules P narrow r h vs v w f g .1 (n, d, e)) λ x.
     given (Rules.keeps-types variables most P T fn h p vs hs narrow r f g v w .0 hv x) λ hw.
-    given (Rules.backward-iff-forward variables most P T fn h p vs hs narrow r v w f g hw .1 (hv, x)) λ y.
-    given (Rules.more-never-changes P h vs w .1 narrow wide r r′ f 0 wider l .0 v g y) λ z.
+    given (Rules.tree-backward-iff-forward variables most P T fn h p vs hs narrow r v w f g hw .1 (hv, x)) λ y.
+    given (Rules.tree-more-never-changes P h vs w .1 narrow wide r r′ f 0 wider l .0 v g y) λ z.
     ap (runBackward wide P r′ h vs w) (let q : f ≡ f + 0 = omega arith in q) ∙ z ∙ ap (ok v) (let q : g + 0 ≡ g = omega arith in q)

@@ -51,10 +51,13 @@ returns c = let s = c .before .before .before .before .before .before .before .b
     let a = s .args in
     let l = c .before .before .before .before .before .before .before .before .before .before .before .before .least in
     let made = c .before .before .before .before .before .before .convert-lent in
-    let same = convert-lent (a .call .workspace) (l .ensures) (a .workspace .now) (s .pre .1 .0) (take (a .call .program) (a .program .now)) (a .call .fuel) (a .call .function) (take (a .call .ancillae) (a .ancillae .now)) (take (a .call .journal) (a .journal .now)) (search needs) in
-    (wrote-as (made .ensures .0) (ap turnText same),
-    (on-front (sym (length-take-le (a .call .journal) (a .journal .now) (s .pre .0 .2))) (a .journal .now) _ (made .ensures .1 .0 ∙ ap (λ x. afterTurned (take (a .call .journal) (a .journal .now)) x .journal) same),
-    on-front (l .ensures) (a .workspace .now) _ (made .ensures .1 .1 ∙ ap (λ x. cleared x (take (l .result) (a .workspace .now))) same)))
+    let same = convert-lent (a .call .workspace) (l .ensures) (a .workspace .now) (s .pre .1 .0) (take (a .call .program) (a .program .now)) (a .call .fuel) (a .call .function) (take (a .call .ancillae) (a .ancillae .now)) (take (a .call .journal) (a .journal .now)) (search needs) in (
+      wrote-as (made .ensures .0) (ap turnText same),
+      (
+        on-front (sym (length-take-le (a .call .journal) (a .journal .now) (s .pre .0 .2))) (a .journal .now) _ (made .ensures .1 .0 ∙ ap (λ x. afterTurned (take (a .call .journal) (a .journal .now)) x .journal) same),
+        on-front (l .ensures) (a .workspace .now) _ (made .ensures .1 .1 ∙ ap (λ x. cleared x (take (l .result) (a .workspace .now))) same),
+      ),
+    )
 
 pub convert-spec : {M : Type 1} → statement M
 convert-spec =

@@ -23,9 +23,10 @@ same-length-3 c = search needs
 
 returns : tie.Need-returns
 returns c = let a = c .before .before .before .before .before .before .before .before .before .before .before .before .before .before .before .before .args in
-    let made = c .before .before .before .before .before .before .before .before .before .rollback in
-    (wrote-as (c .before .before .held-line .ensures) (tells-turn (made .result) (rollbackCall (length (a .workspace .now)) (a .fuel) (a .program .now) (a .journal .now)) (a .journal .now) (made .ensures .0) (made .ensures .1 .0)),
-    (made .ensures .1 .0, made .ensures .1 .1))
+    let made = c .before .before .before .before .before .before .before .before .before .rollback in (
+      wrote-as (c .before .before .held-line .ensures) (tells-turn (made .result) (rollbackCall (length (a .workspace .now)) (a .fuel) (a .program .now) (a .journal .now)) (a .journal .now) (made .ensures .0) (made .ensures .1 .0)),
+      (made .ensures .1 .0, made .ensures .1 .1),
+    )
 
 pub rollback-lent-spec : {M : Type 1} → statement M
 rollback-lent-spec =

@@ -40,9 +40,10 @@ returns : tie.Need-returns
 returns c = let s = c .before .before .before .before .before .before .before .before .before .before .before .before .before in
     let l = c .before .before .before .before .before .before .before .before .before .least in
     let done = c .before .before .before .before .before .before .check in
-    let same = check-lent (s .args .call .workspace) (l .ensures) (s .args .workspace .now) (s .pre .1 .0) (take (s .args .call .program) (s .args .program .now)) in
-    (wrote-as (c .before .before .check-line .ensures) (ap checkText (done .ensures .0 ∙ same)),
-      on-front (l .ensures) (s .args .workspace .now) _ (done .ensures .1 ∙ ap (λ x. cleared x (take (l .result) (s .args .workspace .now))) same))
+    let same = check-lent (s .args .call .workspace) (l .ensures) (s .args .workspace .now) (s .pre .1 .0) (take (s .args .call .program) (s .args .program .now)) in (
+      wrote-as (c .before .before .check-line .ensures) (ap checkText (done .ensures .0 ∙ same)),
+      on-front (l .ensures) (s .args .workspace .now) _ (done .ensures .1 ∙ ap (λ x. cleared x (take (l .result) (s .args .workspace .now))) same),
+    )
 
 pub check-spec : {M : Type 1} → statement M
 check-spec =

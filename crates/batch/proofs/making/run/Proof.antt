@@ -62,10 +62,13 @@ returns c = let s = c .before .before .before .before .before .before .before .b
     let o = c .before .before .before .before .before .before .before .before .before .before .before .before .before .least2 in
     let ran = c .before .before .before .before .before .before .run-lent in
     let same = run-lent (a .call .backward) (a .call .workspace) (a .call .output) (l .ensures) (o .ensures) (a .workspace .now) (a .output .now) (s .pre .1 .0 .0) (s .pre .1 .0 .1) (a .call .fuel) (a .call .function)
-    (take (a .call .program) (a .program .now)) (take (a .call .ancillae) (a .ancillae .now)) (take (a .call .value) (a .value .now)) (search needs) in
-    (wrote-as (ran .ensures .0) (ap ranText same),
-    (on-front (o .ensures) (a .output .now) _ (ran .ensures .1 .0 ∙ ap (λ x. written x (take (o .result) (a .output .now))) same),
-    on-front (l .ensures) (a .workspace .now) _ (ran .ensures .1 .1 ∙ ap (λ x. cleared x (take (l .result) (a .workspace .now))) same)))
+    (take (a .call .program) (a .program .now)) (take (a .call .ancillae) (a .ancillae .now)) (take (a .call .value) (a .value .now)) (search needs) in (
+      wrote-as (ran .ensures .0) (ap ranText same),
+      (
+        on-front (o .ensures) (a .output .now) _ (ran .ensures .1 .0 ∙ ap (λ x. written x (take (o .result) (a .output .now))) same),
+        on-front (l .ensures) (a .workspace .now) _ (ran .ensures .1 .1 ∙ ap (λ x. cleared x (take (l .result) (a .workspace .now))) same),
+      ),
+    )
 
 pub run-spec : {M : Type 1} → statement M
 run-spec =

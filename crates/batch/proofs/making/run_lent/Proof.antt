@@ -30,10 +30,11 @@ same-length-3 c = search needs
 
 returns : tie.Need-returns
 returns c = let a = c .before .before .before .before .before .before .before .before .before .before .before .before .before .before .before .before .before .before .args in
-    let ran = c .before .before .before .before .before .before .before .before .before .run-either in
-    (wrote-as (c .before .before .run-line .ensures)
-    (tells-run (ran .result) (runCall (a .backward) (length (a .workspace .now)) (length (a .output .now)) (a .fuel) (a .function) (a .program .now) (a .ancillae .now) (a .value .now)) (a .output .now) (ran .ensures .answer) (ran .ensures .fills)),
-    (ran .ensures .fills, ran .ensures .clear))
+    let ran = c .before .before .before .before .before .before .before .before .before .run-either in (
+      wrote-as (c .before .before .run-line .ensures)
+          (tells-run (ran .result) (runCall (a .backward) (length (a .workspace .now)) (length (a .output .now)) (a .fuel) (a .function) (a .program .now) (a .ancillae .now) (a .value .now)) (a .output .now) (ran .ensures .answer) (ran .ensures .fills)),
+      (ran .ensures .fills, ran .ensures .clear),
+    )
 
 pub run-lent-spec : {M : Type 1} → statement M
 run-lent-spec =
