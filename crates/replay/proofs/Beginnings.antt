@@ -11,7 +11,7 @@ use package.Rattle.octets.specs.Runs.{pasted}
 use package.Rattle.calls.specs.Answer.{Answer, accepted, refused, cleared}
 use package.Rattle.calls.specs.Conversions.{openCall}
 use package.Rattle.calls.specs.Book.{isOpen, resized, afterOpen}
-use package.Rattle.rows.specs.Answers.{checkAnswer, openAnswer}
+use package.Rattle.answers.specs.Answers.{checkAnswer, openAnswer}
 use package.Rattle.rows.specs.declared.answers.Refusal.{Refusal}
 use package.Rattle.rows.specs.declared.answers.CheckAnswer.{CheckAnswer}
 use package.Rattle.rows.specs.declared.answers.CheckAnswer.the-variants as checks

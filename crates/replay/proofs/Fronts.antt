@@ -14,7 +14,7 @@ use package.Rattle.calls.specs.Journal.{Journal, readJournal}
 use package.Rattle.journal.specs.Places.{placesOf, surveyOf}
 use package.Rattle.journal.specs.declared.places.Places.{Places}
 use package.Rattle.journal.specs.declared.places.Survey.the-variants as survey
-use package.Rattle.rows.specs.Answers.{checkAnswer, runAnswer, openAnswer, heldAnswer}
+use package.Rattle.answers.specs.Answers.{checkAnswer, runAnswer, openAnswer, heldAnswer}
 use package.Rattle.rows.specs.declared.answers.CheckAnswer.{CheckAnswer}
 use package.Rattle.rows.specs.declared.answers.RunAnswer.{RunAnswer}
 use package.Rattle.replay.specs.Lines.{line}

@@ -9,7 +9,7 @@ use package.Rattle.octets.specs.Numbers.{bytes16, bytes32}
 use package.Rattle.calls.specs.Answer.{Answer, accepted, refused, cleared}
 use package.Rattle.calls.specs.Conversions.{Turned}
 use package.Rattle.calls.specs.Book.{Told, isOpen, holds, refuses, afterOpen, afterTurned}
-use package.Rattle.rows.specs.Answers.{openAnswer, heldAnswer}
+use package.Rattle.answers.specs.Answers.{openAnswer, heldAnswer}
 use package.Rattle.replay.specs.Lines.{lineOf, line}
 use package.Rattle.replay.specs.Inner.Told.{checkLine, runLine}
 use package.Rattle.replay.specs.Inner.Steps.{swept}

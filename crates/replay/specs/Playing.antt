@@ -11,7 +11,7 @@ use package.Rattle.calls.specs.Answer.{Answer, accepted, refused, cleared}
 use package.Rattle.calls.specs.Conversions.{openCall}
 use package.Rattle.calls.specs.Book.{Call, opens, converts, rollsBack, buffer, isOpen, resized, call, callRun}
 use package.Rattle.calls.specs.Claims.{lastField}
-use package.Rattle.rows.specs.Answers.{numberOf, placeOf}
+use package.Rattle.answers.specs.Answers.{numberOf, placeOf}
 use package.Rattle.replay.specs.Scripts.{pick, Placed, callsOf, parse}
 use package.Rattle.replay.specs.Lines.{lineLength, lines}
 use package.Rattle.replay.specs.declared.replies.ReplayAnswer.{ReplayAnswer}

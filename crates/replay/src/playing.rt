@@ -10,7 +10,7 @@ use answers::CheckAnswer;
 ghost use mathlib.Core.Path.{_≡_};
 ghost use Prim.Native.Nat.{_+_, _*_, _≤_};
 ghost use lib.ListN.{length};
-ghost use Rattle.rows.specs.Answers.{checkAnswer};
+ghost use Rattle.answers.specs.Answers.{checkAnswer};
 ghost use Rattle.replay.specs.Scripts.{stepAt, callOf, parse};
 ghost use Rattle.replay.specs.Booked.{Booked};
 ghost use Rattle.replay.specs.Playing.{replyOf, replayed, ReplayMeans};

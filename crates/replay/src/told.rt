@@ -2,7 +2,7 @@
 use answers::CheckAnswer;
 use answers::RunAnswer;
 ghost use mathlib.Core.Path.{_≡_};
-ghost use Rattle.rows.specs.Answers.{checkAnswer, runAnswer};
+ghost use Rattle.answers.specs.Answers.{checkAnswer, runAnswer};
 ghost use Rattle.replay.specs.Lines.{lineOf};
 ghost use Rattle.replay.specs.Inner.Told.{checkLine, runLine};
 

@@ -1,5 +1,5 @@
 use mathlib.Core.Path.{sym, ap, _∙_}
-use Rattle.rows.specs.Answers.{checkAnswer}
+use Rattle.answers.specs.Answers.{checkAnswer}
 use Rattle.replay.specs.Lines.{line}
 use Rattle.replay.specs.Inner.Told.{checkLine}
 use Rattle.replay.proofs.Lines.{refused-line}

@@ -1,5 +1,5 @@
 use mathlib.Core.Path.{sym, ap, _∙_}
-use Rattle.rows.specs.Answers.{runAnswer}
+use Rattle.answers.specs.Answers.{runAnswer}
 use Rattle.replay.specs.Lines.{line}
 use Rattle.replay.specs.Inner.Told.{runLine}
 use Rattle.replay.proofs.Lines.{refused-line}
