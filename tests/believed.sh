@@ -24,7 +24,7 @@ mapfile -t of_calls < <(definitions calls)
 trees=$(lines "${of_rules[@]}")
 bytes=$(lines "${of_calls[@]}")
 claims=$(lines crates/rules/specs/Claims.antt crates/calls/specs/Claims.antt)
-words=$(lines crates/octets/specs/*.antt crates/rows/specs/Answers.antt crates/engine/specs/*.antt crates/replay/specs/*.antt)
+words=$(lines crates/octets/specs/*.antt crates/answers/specs/Answers.antt crates/engine/specs/*.antt crates/replay/specs/*.antt)
 cases=$(lines crates/rules/specs/Cases.antt crates/calls/specs/{Cases,Borders,Samples}.antt)
 
 row "definitions over trees (rules/specs)" "$trees"

@@ -33,7 +33,7 @@ listings() {
 refusals() {
     local status=0
     diff <(awk -F' [|] ' '/^[|] [0-9]+ [|]/ { print $2 }' "$page") \
-        <(sed -n 's/.*b"\([^"]*\)".*/\1/p' crates/wording/src/meanings.rt) || status=$?
+        <(sed -n 's/.*b"\([^"]*\)".*/\1/p' crates/messages/src/meanings.rt) || status=$?
     verdict "the words of the refusals" "$status"
 }
 

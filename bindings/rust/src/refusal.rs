@@ -188,7 +188,7 @@ mod tests {
 
     #[test]
     fn every_meaning_is_the_engine_s_own_text() {
-        let mut rest = include_str!("../../../crates/wording/src/meanings.rt");
+        let mut rest = include_str!("../../../crates/messages/src/meanings.rt");
         for meaning in MEANINGS {
             let text = format!("b\"{meaning}\"");
             rest = rest.split_once(&text).unwrap_or_else(|| panic!("{text} is not next")).1;

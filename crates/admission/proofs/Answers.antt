@@ -18,8 +18,8 @@ use package.Rattle.calls.proofs.Answer.{via, present-some, require-yes}
 use package.Rattle.answers.specs.declared.Refusal.the-variants.{Function, Values, ValueType}
 use package.Rattle.answers.specs.Answers.{accepts}
 use package.Rattle.answers.proofs.Answers.{refused-later}
-use package.Rattle.reading.specs.Typing.{entriesOf}
-use package.Rattle.reading.specs.Ends.{valueIn, valuesIn}
+use package.Rattle.valuebytes.specs.Typing.{entriesOf}
+use package.Rattle.valuebytes.specs.Ends.{valueIn, valuesIn}
 use package.Rattle.admission.specs.declared.Admitted.the-variants as admitted
 use package.Rattle.admission.specs.Given.{givenIn}
 use package.Rattle.admission.specs.Admitting.{Callable, Admittable, inNumber, rightIn, sideNumber, sideOf, allTyped, AdmitMeans}

@@ -17,7 +17,7 @@ use package.Rattle.program.specs.Signatures.{parameterTypes, SignatureIs}
 use package.Rattle.program.proofs.Rooms.{function-room}
 use package.Rattle.program.proofs.Lists.{ancillae-count}
 use package.Rattle.program.proofs.Shapes.{function-result}
-use package.Rattle.reading.specs.Typing.{entriesOf}
+use package.Rattle.valuebytes.specs.Typing.{entriesOf}
 use package.Rattle.admission.specs.Admitting.{Callable, sideNumber}
 
 ----------------------------------------------------------------

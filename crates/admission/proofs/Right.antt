@@ -12,8 +12,8 @@ use package.Rattle.rules.proofs.Basics.{eqb-sound}
 use package.Rattle.calls.specs.Entries.{FunctionEntry, functionAt}
 use package.Rattle.calls.specs.Values.{value, ancillae}
 use package.Rattle.calls.specs.Book.{orUnit, orNone}
-use package.Rattle.reading.specs.declared.scan.Counted.the-variants as count
-use package.Rattle.reading.specs.Ends.{isSome, isValue, counted}
+use package.Rattle.valuebytes.specs.declared.scan.Counted.the-variants as count
+use package.Rattle.valuebytes.specs.Ends.{isSome, isValue, counted}
 use package.Rattle.admission.specs.Admitting.{inNumber, rightIn}
 
 ----------------------------------------------------------------

@@ -14,11 +14,11 @@ use package.Rattle.calls.specs.Named.{plain}
 use package.Rattle.calls.specs.Values.{value, hasTy, hasTys}
 use package.Rattle.calls.proofs.Values.{size-positive}
 use package.Rattle.program.specs.Signatures.{SignatureIs}
-use package.Rattle.reading.specs.declared.typed.Step.{Step}
-use package.Rattle.reading.specs.declared.typed.Step.the-variants as step
-use package.Rattle.reading.specs.Ends.{firstOf, valueIn, valuesIn}
-use package.Rattle.reading.specs.Typing.{entriesOf, valueHas, nextIf, nextOf}
-use package.Rattle.reading.proofs.Walks.{Begins, walk-start, walk-done, walk-more, walk-first, walk-inside, walk-fits, walk-next}
+use package.Rattle.valuebytes.specs.declared.typed.Step.{Step}
+use package.Rattle.valuebytes.specs.declared.typed.Step.the-variants as step
+use package.Rattle.valuebytes.specs.Ends.{firstOf, valueIn, valuesIn}
+use package.Rattle.valuebytes.specs.Typing.{entriesOf, valueHas, nextIf, nextOf}
+use package.Rattle.valuebytes.proofs.Walks.{Begins, walk-start, walk-done, walk-more, walk-first, walk-inside, walk-fits, walk-next}
 use package.Rattle.admission.specs.Admitting.{Callable, AsMany, sideNumber, allTyped, rightIn}
 use package.Rattle.admission.proofs.Parameters.{row-type, row-asked, row-there}
 use package.Rattle.admission.proofs.Right.{right-values}

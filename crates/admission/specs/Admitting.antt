@@ -20,8 +20,8 @@ use package.Rattle.answers.specs.Answers.{numberOf, placeOf, Later}
 use package.Rattle.program.specs.Parts.{FunctionField}
 use package.Rattle.program.specs.Signatures.{SignaturesAre}
 use package.Rattle.program.specs.Programs.{programIn}
-use package.Rattle.reading.specs.Typing.{entriesOf, Table}
-use package.Rattle.reading.specs.Ends.{valueIn, valuesIn}
+use package.Rattle.valuebytes.specs.Typing.{entriesOf, Table}
+use package.Rattle.valuebytes.specs.Ends.{valueIn, valuesIn}
 use package.Rattle.admission.specs.declared.Admitted.{Admitted}
 use package.Rattle.admission.specs.declared.Admitted.the-variants as admitted
 use package.Rattle.admission.specs.Given.{givenIn}

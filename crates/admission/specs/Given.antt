@@ -5,7 +5,7 @@ use lib.ListN.{getD}
 use package.Rattle.calls.specs.Values.{value, ancillae}
 use package.Rattle.calls.specs.Runs.{Given}
 use package.Rattle.program.specs.Programs.{functionIn}
-use package.Rattle.reading.specs.Ends.{valuesIn, valueIn}
+use package.Rattle.valuebytes.specs.Ends.{valuesIn, valueIn}
 
 -- what a run is given
 abbrev pub givenIn : (xs types terms functions : List ℕ) → ℕ → List ℕ → List ℕ → Given

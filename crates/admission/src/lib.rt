@@ -2,8 +2,8 @@
 // malformed, over the limit or wrong in number; then all of 11, a value not of its type. For programs that are loaded.
 use answers::Refusal;
 use program::views;
-use reading::scan;
-use reading::typed;
+use valuebytes::scan;
+use valuebytes::typed;
 use rules::MAX_FUNCTIONS;
 use rules::MAX_PARAMETERS;
 ghost use mathlib.Core.Path.{_≡_};
@@ -15,8 +15,8 @@ ghost use Rattle.calls.specs.Entries.{typeOf, functionAt};
 ghost use Rattle.calls.specs.Values.{hasTys};
 ghost use Rattle.program.specs.Parts.{FunctionField};
 ghost use Rattle.program.specs.Signatures.{SignatureIs};
-ghost use Rattle.reading.specs.Typing.{entriesOf, Table};
-ghost use Rattle.reading.specs.Ends.{valuesIn};
+ghost use Rattle.valuebytes.specs.Typing.{entriesOf, Table};
+ghost use Rattle.valuebytes.specs.Ends.{valuesIn};
 ghost use Rattle.admission.specs.Admitting.{Callable, Admittable, rightIn, AsMany, sideNumber, allTyped, AdmitMeans};
 
 // What becomes of a call's function, ancillae and value: they are given to a run, or refused with 9, 10 or 11.

@@ -16,7 +16,7 @@ use package.Rattle.rules.specs.Run.{give}
 use package.Rattle.rules.specs.Machine.{meet, onUnit}
 use package.Rattle.decoded.specs.Rows.{firstIn, kindIn}
 use package.Rattle.decoded.proofs.Trees.{NoKind, none-left}
-use package.Rattle.values.specs.Nodes.{Made, valueAt, kindAt as nodeKind}
+use package.Rattle.valuegraph.specs.Nodes.{Made, valueAt, kindAt as nodeKind}
 use package.Rattle.scopes.specs.Slots.{unknown, found, Slot, Machine, Scope, machineOf, slotsOf, scopeIn, Moved}
 use package.Rattle.scopes.specs.Cells.{Linked}
 use package.Rattle.scopes.specs.declared.slots.Found.the-variants.{Node}

@@ -6,8 +6,8 @@ use mathlib.Core.List.{List}
 use lib.ListN.{length, getD}
 use package.Rattle.rules.specs.Limits.{maxVariables}
 use package.Rattle.decoded.specs.Rows.{argumentIn, bodyIn, firstIn}
-use package.Rattle.values.specs.Nodes.{valueAt, Agree}
-use package.Rattle.values.proofs.Places.{agree-trans, agree-down}
+use package.Rattle.valuegraph.specs.Nodes.{valueAt, Agree}
+use package.Rattle.valuegraph.proofs.Places.{agree-trans, agree-down}
 use package.Rattle.scopes.specs.Slots.{slotCount, Machine, Scope, machineOf, slotsOf, scopeIn, found, nodeOr}
 use package.Rattle.scopes.specs.Bindings.{stateOf, bound}
 use package.Rattle.scopes.specs.declared.bindings.Bindings.{Bindings}

@@ -13,8 +13,8 @@ use package.Rattle.rules.specs.Machine.{State, onSome, each, leave, forward, ba
 use package.Rattle.calls.specs.Entries.{TypeEntry, termTrees}
 use package.Rattle.decoded.specs.Rows.{argumentIn, argumentsIn, bodyIn, firstIn, functionCount, parametersIn, programIn, thirdIn, treeIn}
 use package.Rattle.decoded.proofs.Trees.{called-body, called-function, called-there, called-tree, part-argument, tree-call}
-use package.Rattle.values.specs.Nodes.{valueAt}
-use package.Rattle.values.proofs.Heaps.{value-kept}
+use package.Rattle.valuegraph.specs.Nodes.{valueAt}
+use package.Rattle.valuegraph.proofs.Heaps.{value-kept}
 use package.Rattle.scopes.specs.Slots.{unknown, stateAt, Machine}
 use package.Rattle.scopes.specs.Bindings.{View, stateOf}
 use package.Rattle.yields.specs.Yields.{ancillaeAt}

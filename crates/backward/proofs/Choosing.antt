@@ -16,7 +16,7 @@ use package.Rattle.rules.specs.Machine.{State, leave, backwardStep, backward}
 use package.Rattle.calls.specs.Entries.{TypeEntry}
 use package.Rattle.decoded.specs.Rows.{firstIn, kindIn, programIn, secondIn, thirdIn, treeIn}
 use package.Rattle.decoded.proofs.Trees.{parts-case, tree-case}
-use package.Rattle.values.specs.Nodes.{ofKind, Single, valueAt}
+use package.Rattle.valuegraph.specs.Nodes.{ofKind, Single, valueAt}
 use package.Rattle.scopes.specs.Bindings.{View, stateOf}
 use package.Rattle.scopes.specs.Slots.{Machine}
 use package.Rattle.backward.specs.Outcomes.{Done, Refused, Outcome, Inner}

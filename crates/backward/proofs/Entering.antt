@@ -19,9 +19,9 @@ use package.Rattle.rules.proofs.Run.{via}
 use package.Rattle.calls.specs.Entries.{TypeEntry}
 use package.Rattle.decoded.specs.Rows.{programIn, treeIn}
 use package.Rattle.decoded.proofs.Trees.{tree-entry}
-use package.Rattle.values.specs.Nodes.{Room, valueAt, Grown, Made}
-use package.Rattle.values.proofs.Heaps.{value-kept}
-use package.Rattle.values.proofs.Places.{agree-trans, agree-down}
+use package.Rattle.valuegraph.specs.Nodes.{Room, valueAt, Grown, Made}
+use package.Rattle.valuegraph.proofs.Heaps.{value-kept}
+use package.Rattle.valuegraph.proofs.Places.{agree-trans, agree-down}
 use package.Rattle.scopes.specs.Slots.{unknown, meaning as slotMeaning, Machine}
 use package.Rattle.scopes.specs.Bindings.{View, Left, stateOf, Opens}
 use package.Rattle.scopes.proofs.Marks.{found-mark}

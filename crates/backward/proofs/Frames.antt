@@ -13,7 +13,7 @@ use package.Rattle.rules.specs.Machine.{State, backward}
 use package.Rattle.rules.specs.Yield.{mayYield}
 use package.Rattle.calls.specs.Entries.{TypeEntry}
 use package.Rattle.decoded.specs.Rows.{treeIn, programIn}
-use package.Rattle.values.specs.Nodes.{valueAt, Agree}
+use package.Rattle.valuegraph.specs.Nodes.{valueAt, Agree}
 use package.Rattle.scopes.specs.Slots.{Slots, Machine, Scope, machineOf, scopeIn, slotsOf, slotsPerHeight}
 use package.Rattle.scopes.specs.Bindings.{slotsFrom, viewOf, stateOf, stateIn, Bound, Tells}
 use package.Rattle.scopes.specs.declared.bindings.Bindings.{Bindings}

@@ -16,8 +16,8 @@ use package.Rattle.rules.specs.Machine.{State, each, forward}
 use package.Rattle.rules.proofs.Run.{after-after}
 use package.Rattle.calls.specs.Entries.{TypeEntry, termTrees}
 use package.Rattle.decoded.specs.Rows.{argumentIn, argumentsIn, programIn, treeIn}
-use package.Rattle.values.specs.Nodes.{valueAt}
-use package.Rattle.values.proofs.Heaps.{value-kept}
+use package.Rattle.valuegraph.specs.Nodes.{valueAt}
+use package.Rattle.valuegraph.proofs.Heaps.{value-kept}
 use package.Rattle.scopes.specs.Slots.{Slot, Machine, Scope}
 use package.Rattle.scopes.specs.Bindings.{View, stateOf}
 use package.Rattle.scopes.specs.declared.bindings.Bindings.{Bindings}

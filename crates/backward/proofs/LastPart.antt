@@ -8,7 +8,7 @@ use lib.ListN.{length}
 use package.Rattle.rules.specs.Run.{Res}
 use package.Rattle.rules.specs.Machine.{State}
 use package.Rattle.calls.specs.Entries.{TypeEntry}
-use package.Rattle.values.specs.Nodes.{valueAt}
+use package.Rattle.valuegraph.specs.Nodes.{valueAt}
 use package.Rattle.scopes.specs.Slots.{Machine, machineOf, slotsOf, scopeIn, Moved}
 use package.Rattle.scopes.specs.declared.bindings.Bindings.{Bindings}
 use package.Rattle.forward.specs.Outcomes.{refusalIn}

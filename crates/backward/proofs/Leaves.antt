@@ -13,8 +13,8 @@ use package.Rattle.rules.specs.Limits.{maxVariables}
 use package.Rattle.rules.specs.Val.{Val, unit}
 use package.Rattle.rules.specs.Run.{stuck, Run, give}
 use package.Rattle.rules.specs.Machine.{State, meet, leave, onUnit}
-use package.Rattle.values.specs.Nodes.{kindAt, ofKind, valueWithin, valueAt}
-use package.Rattle.values.proofs.Heaps.{value-unit, value-kept}
+use package.Rattle.valuegraph.specs.Nodes.{kindAt, ofKind, valueWithin, valueAt}
+use package.Rattle.valuegraph.proofs.Heaps.{value-unit, value-kept}
 use package.Rattle.scopes.specs.Slots.{unknown, found, nodeOr, meaning as slotMeaning, Slot, Slots, Machine, Scope}
 use package.Rattle.scopes.specs.Cells.{Linked}
 use package.Rattle.scopes.specs.declared.slots.Found.the-variants.{Node, Unknown}

@@ -8,8 +8,8 @@ use package.Rattle.rules.specs.Limits.{maxVariables}
 use package.Rattle.rules.specs.Run.{Res}
 use package.Rattle.rules.specs.Machine.{State}
 use package.Rattle.calls.specs.Entries.{TypeEntry}
-use package.Rattle.values.specs.Nodes.{valueAt, Heap}
-use package.Rattle.values.proofs.Heaps.{value-kept}
+use package.Rattle.valuegraph.specs.Nodes.{valueAt, Heap}
+use package.Rattle.valuegraph.proofs.Heaps.{value-kept}
 use package.Rattle.scopes.specs.Slots.{unknown, slotCount, stateCount, Machine, Scope, machineOf, slotsOf, found, nodeOr, Slot}
 use package.Rattle.scopes.specs.Cells.{Linked}
 use package.Rattle.scopes.specs.Bindings.{View, Tells, bound, CellReady, Adds}

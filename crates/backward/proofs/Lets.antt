@@ -13,7 +13,7 @@ use package.Rattle.rules.specs.Machine.{State, leave, backwardStep, backward}
 use package.Rattle.calls.specs.Entries.{TypeEntry}
 use package.Rattle.decoded.specs.Rows.{firstIn, kindIn, programIn, secondIn, treeIn}
 use package.Rattle.decoded.proofs.Trees.{parts-let, parts-letp, tree-let, tree-letp}
-use package.Rattle.values.specs.Nodes.{valueAt}
+use package.Rattle.valuegraph.specs.Nodes.{valueAt}
 use package.Rattle.scopes.specs.Slots.{unknown, Machine}
 use package.Rattle.scopes.specs.Bindings.{View, Left, stateOf, Opens}
 use package.Rattle.backward.specs.Scoped.{ScopedAt}

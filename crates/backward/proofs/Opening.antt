@@ -9,8 +9,8 @@ use lib.Seq.{getD-set-other}
 use lib.Dec.{eqb}
 use borrow.Author.Tests.{eqb-true, eqb-false}
 use package.Rattle.rules.specs.Limits.{maxVariables}
-use package.Rattle.values.specs.Nodes.{valueAt}
-use package.Rattle.values.proofs.Places.{agree-refl}
+use package.Rattle.valuegraph.specs.Nodes.{valueAt}
+use package.Rattle.valuegraph.proofs.Places.{agree-refl}
 use package.Rattle.scopes.specs.Slots.{unknown, slotCount, Machine, Scope, machineOf, scopeIn, slotsOf, found, nodeOr, slotsPerHeight}
 use package.Rattle.scopes.specs.Bindings.{Opens}
 use package.Rattle.scopes.specs.declared.bindings.Bindings.{Bindings}

@@ -9,9 +9,9 @@ use package.Rattle.rules.specs.Run.{Res, ok, Run, after}
 use package.Rattle.rules.specs.Machine.{State, leave}
 use package.Rattle.rules.proofs.Run.{via}
 use package.Rattle.calls.specs.Entries.{TypeEntry}
-use package.Rattle.values.specs.Nodes.{valueAt, Agree}
-use package.Rattle.values.proofs.Heaps.{value-kept}
-use package.Rattle.values.proofs.Places.{agree-refl, agree-trans, agree-down}
+use package.Rattle.valuegraph.specs.Nodes.{valueAt, Agree}
+use package.Rattle.valuegraph.proofs.Heaps.{value-kept}
+use package.Rattle.valuegraph.proofs.Places.{agree-refl, agree-trans, agree-down}
 use package.Rattle.scopes.specs.Slots.{unknown, Slots, Machine}
 use package.Rattle.scopes.specs.Bindings.{View, stateOf, Bound}
 use package.Rattle.scopes.proofs.Marks.{slots-later}

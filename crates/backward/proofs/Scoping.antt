@@ -12,7 +12,7 @@ use package.Rattle.rules.specs.Val.{pair}
 use package.Rattle.calls.specs.Entries.{TypeEntry}
 use package.Rattle.decoded.specs.Rows.{firstIn, kindIn, secondIn, thirdIn, treeIn}
 use package.Rattle.decoded.proofs.Trees.{parts-case}
-use package.Rattle.values.specs.Nodes.{ofKind, valueAt}
+use package.Rattle.valuegraph.specs.Nodes.{ofKind, valueAt}
 use package.Rattle.scopes.specs.Slots.{Machine, Scope, Slot, found, nodeOr, machineOf, scopeIn, slotCount, stateCount, slotsOf, unknown}
 use package.Rattle.scopes.specs.Bindings.{Opens, bound, CellReady}
 use package.Rattle.scopes.specs.declared.bindings.Bindings.{Bindings}

@@ -14,7 +14,7 @@ use package.Rattle.rules.specs.Machine.{State, leave, backward, runBackward}
 use package.Rattle.calls.specs.Entries.{TypeEntry}
 use package.Rattle.decoded.specs.Rows.{bodyIn, programIn, treeIn}
 use package.Rattle.decoded.proofs.Trees.{called-body, called-tree}
-use package.Rattle.values.specs.Nodes.{valueAt}
+use package.Rattle.valuegraph.specs.Nodes.{valueAt}
 use package.Rattle.scopes.specs.Bindings.{View, bound}
 use package.Rattle.scopes.specs.Slots.{Machine, Scope, machineOf, slotsOf, scopeIn, found, nodeOr}
 use package.Rattle.scopes.specs.declared.bindings.Bindings.{Bindings}

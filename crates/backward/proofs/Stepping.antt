@@ -5,7 +5,7 @@ use mathlib.Core.List.{List}
 use mathlib.Core.Path.{_≡_, refl, sym, ap, _∙_}
 use package.Rattle.program.specs.Kinds.{pairKind, unrollKind}
 use package.Rattle.decoded.specs.Rows.{firstIn, kindIn, secondIn}
-use package.Rattle.values.specs.Nodes.{leftAt, ofKind, rightAt, valueAt, kindAt as nodeKind}
+use package.Rattle.valuegraph.specs.Nodes.{leftAt, ofKind, rightAt, valueAt, kindAt as nodeKind}
 use package.Rattle.scopes.specs.Slots.{Machine, Scope}
 use package.Rattle.scopes.specs.declared.bindings.Bindings.{Bindings}
 use package.Rattle.yields.specs.Yields.{Wraps}

@@ -14,8 +14,8 @@ use package.Rattle.rules.specs.Machine.{State, meet, onSum, onPair, onRoll, onU
 use package.Rattle.calls.specs.Entries.{TypeEntry}
 use package.Rattle.decoded.specs.Rows.{firstIn, kindIn, programIn, secondIn, treeIn}
 use package.Rattle.decoded.proofs.Trees.{part-inl, part-inr, part-roll, part-unroll, parts-pair, tree-inl, tree-inr, tree-pair, tree-roll, tree-unit, tree-unroll, tree-var}
-use package.Rattle.values.specs.Nodes.{Room, ofKind, Single, valueWithin, valueAt, leftAt, rightAt, kindAt as nodeKind}
-use package.Rattle.values.proofs.Heaps.{value-inl, value-inr, value-pair, value-roll, value-kept}
+use package.Rattle.valuegraph.specs.Nodes.{Room, ofKind, Single, valueWithin, valueAt, leftAt, rightAt, kindAt as nodeKind}
+use package.Rattle.valuegraph.proofs.Heaps.{value-inl, value-inr, value-pair, value-roll, value-kept}
 use package.Rattle.scopes.specs.Bindings.{View, stateOf}
 use package.Rattle.scopes.specs.Slots.{Machine}
 use package.Rattle.yields.specs.Yields.{Wraps}

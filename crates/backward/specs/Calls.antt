@@ -10,7 +10,7 @@ use package.Rattle.rules.specs.Run.{Res, ok, Run, after}
 use package.Rattle.rules.specs.Machine.{State, each, forward, runBackward}
 use package.Rattle.calls.specs.Entries.{TypeEntry, termTrees, functionOf}
 use package.Rattle.decoded.specs.Rows.{parametersIn, argumentsIn, functionCount, functionIn, termsIn, treeIn, programIn}
-use package.Rattle.values.specs.Nodes.{valueAt}
+use package.Rattle.valuegraph.specs.Nodes.{valueAt}
 use package.Rattle.scopes.specs.Slots.{slotCount, stateCount, Machine, Scope, machineOf, slotsOf, scopeIn, slotsPerHeight}
 use package.Rattle.scopes.specs.Bindings.{View, stateOf}
 use package.Rattle.yields.specs.Yields.{ancillaeAt}

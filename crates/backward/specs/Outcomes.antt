@@ -8,7 +8,7 @@ use lib.Dec.{eqb, ltb}
 use package.Rattle.rules.specs.Val.{Val}
 use package.Rattle.rules.specs.Run.{Res, ok, stop, stuck, Run}
 use package.Rattle.rules.specs.Machine.{State}
-use package.Rattle.values.specs.Nodes.{valueAt}
+use package.Rattle.valuegraph.specs.Nodes.{valueAt}
 use package.Rattle.scopes.specs.Slots.{part, Machine, Scope, found, nodeOr}
 use package.Rattle.scopes.specs.Bindings.{View, viewOf, stateOf}
 use package.Rattle.forward.specs.Outcomes.{stopped, refusalIn}

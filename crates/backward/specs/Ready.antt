@@ -14,7 +14,7 @@ use package.Rattle.rules.specs.Run.{Res, Run, after}
 use package.Rattle.rules.specs.Machine.{State, leave, forward, backwardStep, backward}
 use package.Rattle.calls.specs.Entries.{TypeEntry}
 use package.Rattle.decoded.specs.Rows.{termCount, treeIn, programIn, Rows}
-use package.Rattle.values.specs.Nodes.{nodeBytes, ofKind, valueAt, Agree, kindAt as nodeKind}
+use package.Rattle.valuegraph.specs.Nodes.{nodeBytes, ofKind, valueAt, Agree, kindAt as nodeKind}
 use package.Rattle.scopes.specs.Slots.{unknown, slotCount, stateCount, Machine, Scope, machineOf, slotsOf, scopeIn, found, nodeOr, Slot, Slots, slotsPerHeight}
 use package.Rattle.scopes.specs.Cells.{cellCount}
 use package.Rattle.scopes.specs.Bindings.{View, stateOf, stateIn, Bound, Left, Tells, bound, seen, Looks, MeetsAt}

@@ -7,10 +7,10 @@ use mathlib.Core.List.{List, _++_}
 use lib.ListN.{length, take, drop}
 use lib.Dec.{leb}
 use borrow.Author.Tests.{le-leb, lt-leb, leb-true}
-use package.Rattle.lines.specs.Calls.{Line, readLine}
-use package.Rattle.lines.specs.Left.{programLeft, ancillaeLeft, valueLeft}
-use package.Rattle.lines.specs.Wrote.{Wrote}
-use package.Rattle.lines.proofs.Writing.{wrote-to}
+use package.Rattle.calltext.specs.Calls.{Line, readLine}
+use package.Rattle.calltext.specs.Left.{programLeft, ancillaeLeft, valueLeft}
+use package.Rattle.calltext.specs.Wrote.{Wrote}
+use package.Rattle.calltext.proofs.Writing.{wrote-to}
 use package.Rattle.batch.specs.Capped.{mostWorkspace, mostOutput, answerRoom}
 use package.Rattle.batch.specs.Answering.{answerLine}
 use package.Rattle.batch.specs.Lent.{onFront, Replies, Lent, holds, enough, enoughFor, Means, LineMeans}

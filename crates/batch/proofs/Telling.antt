@@ -18,8 +18,8 @@ use package.Rattle.answers.specs.declared.RunAnswer.{RunAnswer}
 use package.Rattle.answers.specs.declared.RunAnswer.the-variants.{Ran as RanTo, Refused}
 use package.Rattle.answers.specs.Answers.{checkAnswer, runAnswer, openAnswer, heldAnswer, summary}
 use package.Rattle.engine.specs.Runs.{CallMeans}
-use package.Rattle.lines.specs.Answers.{valueLine}
-use package.Rattle.wording.specs.Replies.{runText, openedText, heldText, lengthOf}
+use package.Rattle.calltext.specs.Answers.{valueLine}
+use package.Rattle.messages.specs.Replies.{runText, openedText, heldText, lengthOf}
 use package.Rattle.batch.specs.Answering.{ranText, openText, turnText}
 
 -- the output starts with the value

@@ -7,11 +7,11 @@ use package.Rattle.calls.specs.Answer.{Answer, accepted, refused}
 use package.Rattle.calls.specs.Runs.{Ran, checkCall}
 use package.Rattle.calls.specs.Conversions.{Turned, openCall, convertCall, rollbackCall}
 use package.Rattle.engine.specs.Runs.{runCall}
-use package.Rattle.lines.specs.Text.{text}
-use package.Rattle.lines.specs.Decimal.{decimalText}
-use package.Rattle.lines.specs.Calls.{RunLine, OpenLine, ConvertLine, RollbackLine, Line, checkLine, runLine, openLine, convertLine, rollbackLine, noCall, wordCount, noNumber, noBytes, readLine}
-use package.Rattle.lines.specs.Answers.{valueLine, refusedLine, openedLine, heldLine}
-use package.Rattle.wording.specs.Replies.{checkText}
+use package.Rattle.calltext.specs.Text.{text}
+use package.Rattle.calltext.specs.Decimal.{decimalText}
+use package.Rattle.calltext.specs.Calls.{RunLine, OpenLine, ConvertLine, RollbackLine, Line, checkLine, runLine, openLine, convertLine, rollbackLine, noCall, wordCount, noNumber, noBytes, readLine}
+use package.Rattle.calltext.specs.Answers.{valueLine, refusedLine, openedLine, heldLine}
+use package.Rattle.messages.specs.Replies.{checkText}
 
 -- the line that answers a run: its value and steps, or its refusal
 unfoldable pub ranText : Answer Ran → List ℕ

@@ -8,9 +8,9 @@ use lib.Dec.{leb}
 use package.Rattle.calls.specs.Answer.{cleared}
 use package.Rattle.calls.specs.Runs.{checkCall, written}
 use package.Rattle.calls.specs.Book.{afterOpen, afterTurned}
-use package.Rattle.lines.specs.Calls.{Line, checkLine, runLine, openLine, convertLine, rollbackLine, noCall, wordCount, noNumber, noBytes, readLine}
-use package.Rattle.lines.specs.Left.{programLeft, ancillaeLeft, valueLeft}
-use package.Rattle.lines.specs.Wrote.{Wrote}
+use package.Rattle.calltext.specs.Calls.{Line, checkLine, runLine, openLine, convertLine, rollbackLine, noCall, wordCount, noNumber, noBytes, readLine}
+use package.Rattle.calltext.specs.Left.{programLeft, ancillaeLeft, valueLeft}
+use package.Rattle.calltext.specs.Wrote.{Wrote}
 use package.Rattle.batch.specs.Capped.{mostWorkspace, mostOutput, capped, answerRoom}
 use package.Rattle.batch.specs.Answering.{ranBy, openedBy, convertedBy, rolledBackBy, answerTo, answerLine}
 use package.Rattle.batch.specs.declared.LineAnswer.{LineAnswer}

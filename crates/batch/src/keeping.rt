@@ -1,16 +1,16 @@
 // The calls on a journal that a line says, made in a workspace of the length that it names, and answered by a line with the journal.
 use crate::making;
-use lines::calls::ConvertCall;
-use lines::calls::OpenCall;
-use lines::calls::RollbackCall;
-use wording::replies;
+use calltext::calls::ConvertCall;
+use calltext::calls::OpenCall;
+use calltext::calls::RollbackCall;
+use messages::replies;
 ghost use mathlib.Core.Path.{_≡_};
 ghost use Prim.Native.Nat.{_+_, _*_, _≤_};
 ghost use lib.ListN.{length, take};
 ghost use Rattle.calls.specs.Answer.{cleared};
 ghost use Rattle.calls.specs.Conversions.{openCall, convertCall, rollbackCall};
 ghost use Rattle.calls.specs.Book.{afterOpen, afterTurned};
-ghost use Rattle.lines.specs.Wrote.{Wrote};
+ghost use Rattle.calltext.specs.Wrote.{Wrote};
 ghost use Rattle.batch.specs.Capped.{mostWorkspace, capped};
 ghost use Rattle.batch.specs.Answering.{openText, turnText};
 ghost use Rattle.batch.specs.Lent.{onFront};

@@ -13,8 +13,8 @@ mod room;
 ghost use Prim.Native.Nat.{_+_, _*_, _≤_};
 ghost use mathlib.Core.Path.{_≡_};
 ghost use lib.ListN.{length};
-ghost use Rattle.lines.specs.Calls.{readLine};
-ghost use Rattle.lines.specs.Left.{programLeft, ancillaeLeft, valueLeft};
+ghost use Rattle.calltext.specs.Calls.{readLine};
+ghost use Rattle.calltext.specs.Left.{programLeft, ancillaeLeft, valueLeft};
 ghost use Rattle.batch.specs.Capped.{mostWorkspace, mostOutput, answerRoom};
 ghost use Rattle.batch.specs.Lent.{Replies, lent, LineMeans};
 
@@ -40,7 +40,7 @@ fn answer_within(
     ensures { λ r. ⌜ Replies (readLine (now (line .entry))) r (valueLeft (now (line .entry)) (now (value .entry))) (now (value .exit)) (now (workspace .entry)) (now (workspace .exit)) (now (output .entry)) (now (output .exit)) (now (out .entry)) (now (out .exit)) ⌝ }
     ensures { λ _. ⌜ (now (program .exit) ≡ programLeft (now (line .entry)) (now (program .entry))) × (now (ancillae .exit) ≡ ancillaeLeft (now (line .entry)) (now (ancillae .entry))) ⌝ }
 {
-    let parsed = lines::calls::parse(line, program, ancillae, value);
+    let parsed = calltext::calls::parse(line, program, ancillae, value);
     replying::reply(parsed, program, ancillae, value, workspace, output, out)
 }
 

@@ -1,16 +1,16 @@
 // The calls that a line says, made in a workspace and an output of the lengths that it names, and answered by a line.
 use answers::RunAnswer;
-use lines::calls::CheckCall;
-use lines::calls::RunCall;
-use wording::replies;
+use calltext::calls::CheckCall;
+use calltext::calls::RunCall;
+use messages::replies;
 ghost use mathlib.Core.Path.{_≡_};
 ghost use Prim.Native.Nat.{_+_, _*_, _≤_};
 ghost use lib.ListN.{length, take};
 ghost use Rattle.calls.specs.Answer.{cleared};
 ghost use Rattle.calls.specs.Runs.{checkCall, written};
 ghost use Rattle.engine.specs.Runs.{runCall, CallMeans};
-ghost use Rattle.lines.specs.Wrote.{Wrote};
-ghost use Rattle.wording.specs.Replies.{checkText};
+ghost use Rattle.calltext.specs.Wrote.{Wrote};
+ghost use Rattle.messages.specs.Replies.{checkText};
 ghost use Rattle.batch.specs.Capped.{mostWorkspace, mostOutput, answerRoom, capped};
 ghost use Rattle.batch.specs.Answering.{ranText};
 ghost use Rattle.batch.specs.Lent.{onFront};

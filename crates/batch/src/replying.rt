@@ -1,13 +1,13 @@
 // The line that answers what was read of a line: a call's answer, or what is wrong with the line.
 use crate::keeping;
 use crate::making;
-use lines::answers as texts;
-use lines::calls::Parsed;
-use lines::decimal;
+use calltext::answers as texts;
+use calltext::calls::Parsed;
+use calltext::decimal;
 ghost use Prim.Native.Nat.{_+_, _*_, _≤_};
 ghost use lib.ListN.{length};
-ghost use Rattle.lines.specs.Parsed.{lineOf, Within};
-ghost use Rattle.lines.specs.Wrote.{Wrote};
+ghost use Rattle.calltext.specs.Parsed.{lineOf, Within};
+ghost use Rattle.calltext.specs.Wrote.{Wrote};
 ghost use Rattle.batch.specs.Capped.{mostWorkspace, mostOutput, answerRoom};
 ghost use Rattle.batch.specs.Answering.{wordError};
 ghost use Rattle.batch.specs.Lent.{Replies};

@@ -90,13 +90,13 @@ module _ (front rest : List ℕ) where
   with-term ts = rw tag-is
 
   within : (ts : List ℕ) → withinCounts xs (length front) (only ts) ≡ leb (length ts) maxTerms
-  unfolding withinCounts maxTypes maxFunctions
+  unfolding withinCounts
   within ts = rw tag-is (and-true (leb (length ts) maxTerms))
 
   -- a term more, if it is within the count
   one-more : (m last : ℕ) (ts : List ℕ) → last ≤ 2 → length ts + 1 ≤ 1024
       → readFields (suc m) xs (length front) last (only ts) ≡ readFields m xs (length front + 4) 2 (only (ts ++ (length front ∷ [])))
-  unfolding readFields maxTerms
+  unfolding readFields
   one-more m last ts h few =
       rw (readFields, ne-eqb (length front) (length xs) (λ e. omega (arith, longer, e)))
       (via _ (require-yes 2 (length front) (formed last h))
@@ -107,7 +107,7 @@ module _ (front rest : List ℕ) where
 
   -- or 3
   one-over : (m last : ℕ) (ts : List ℕ) → last ≤ 2 → length ts ≡ 1024 → readFields (suc m) xs (length front) last (only ts) ≡ refused 3 (length front)
-  unfolding readFields maxTerms
+  unfolding readFields
   one-over m last ts h full =
       rw (readFields, ne-eqb (length front) (length xs) (λ e. omega (arith, longer, e)))
       (via _ (require-yes 2 (length front) (formed last h))

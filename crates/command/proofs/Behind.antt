@@ -5,7 +5,7 @@ use mathlib.Core.Path.{_≡_, ap, ap₂, sym, _∙_}
 use mathlib.Core.List.{List, [], _++_, append-nil, append-assoc}
 use lib.ListN.{length, take, drop, length-append, length-take, length-drop, drop-of-length-le}
 use lib.Seq.{length-take-le, take-append-add}
-use package.Rattle.lines.specs.Wrote.{Wrote}
+use package.Rattle.calltext.specs.Wrote.{Wrote}
 
 -- the whole of it, where the part is what is behind the first `k` bytes
 pub wrote-behind : {a b part : List ℕ} {k e : ℕ} {s t : List ℕ} → Wrote a b 0 k s → k ≤ length b

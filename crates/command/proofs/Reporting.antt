@@ -13,8 +13,8 @@ use package.Rattle.answers.specs.Answers.{numberOf, placeOf, runAnswer, summary
 use package.Rattle.answers.specs.declared.Refusal.{Refusal}
 use package.Rattle.answers.specs.declared.RunAnswer.{RunAnswer}
 use package.Rattle.answers.specs.declared.RunAnswer.the-variants.{Ran as Done, Refused}
-use package.Rattle.lines.specs.Answers.{valueLine}
-use package.Rattle.wording.specs.Replies.{lengthOf, refusalText}
+use package.Rattle.calltext.specs.Answers.{valueLine}
+use package.Rattle.messages.specs.Replies.{lengthOf, refusalText}
 use package.Rattle.command.specs.Reports.{refusedReport, runReport, filledReport}
 
 -- a refusal's text goes by its number and place

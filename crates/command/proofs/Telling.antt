@@ -5,8 +5,8 @@ use mathlib.Core.List.{List, []}
 use lib.ListN.{getD}
 use borrow.Author.Tests.{eq-eqb, ne-eqb}
 use package.Rattle.octets.specs.Numbers.{get16, get32}
-use package.Rattle.lines.specs.Text.{text}
-use package.Rattle.lines.specs.Answers.{refusedLine}
+use package.Rattle.calltext.specs.Text.{text}
+use package.Rattle.calltext.specs.Answers.{refusedLine}
 use package.Rattle.command.specs.Reports.{heldText}
 use package.Rattle.command.specs.Plays.{toldText}
 

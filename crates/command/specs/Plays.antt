@@ -5,9 +5,9 @@ use mathlib.Core.List.{List, [], _++_}
 use lib.ListN.{getD}
 use lib.Dec.{eqb}
 use package.Rattle.octets.specs.Numbers.{get16, get32}
-use package.Rattle.lines.specs.Text.{text}
-use package.Rattle.lines.specs.Decimal.{decimalText}
-use package.Rattle.lines.specs.Answers.{refusedLine}
+use package.Rattle.calltext.specs.Text.{text}
+use package.Rattle.calltext.specs.Decimal.{decimalText}
+use package.Rattle.calltext.specs.Answers.{refusedLine}
 use package.Rattle.replay.specs.Playing.{Reply, played, malformed, tooWide, shortAnswers, unopened, cut}
 use package.Rattle.command.specs.Reports.{heldText, refusedReport}
 

@@ -1,4 +1,4 @@
--- What a call answered, as text. What is accepted reads as in a line of calls and answers (crate lines); a refusal has its meaning in
+-- What a call answered, as text. What is accepted reads as in a line of calls and answers (crate calltext); a refusal has its meaning in
 -- words behind its number and place.
 use Prim.Native.Nat.{ℕ}
 use mathlib.Core.List.{List, _++_}
@@ -6,11 +6,11 @@ use lib.ListN.{take}
 use package.Rattle.rules.specs.Val.{encode}
 use package.Rattle.calls.specs.Answer.{Answer, accepted, refused}
 use package.Rattle.calls.specs.Runs.{Ran}
-use package.Rattle.lines.specs.Text.{text}
-use package.Rattle.lines.specs.Decimal.{decimalText}
-use package.Rattle.lines.specs.Answers.{valueLine}
-use package.Rattle.wording.specs.Meanings.{meaningOf}
-use package.Rattle.wording.specs.Replies.{whereText}
+use package.Rattle.calltext.specs.Text.{text}
+use package.Rattle.calltext.specs.Decimal.{decimalText}
+use package.Rattle.calltext.specs.Answers.{valueLine}
+use package.Rattle.messages.specs.Meanings.{meaningOf}
+use package.Rattle.messages.specs.Replies.{whereText}
 
 -- a refusal: its number, its place and its meaning
 unfoldable pub refusedReport : ℕ → ℕ → List ℕ

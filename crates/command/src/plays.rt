@@ -1,14 +1,14 @@
 // What a script's playing answered, as text: a line for each call, and a line that says how it ended.
 use crate::reports;
 use answers::Refusal;
-use lines::answers as texts;
+use calltext::answers as texts;
 use replay::replies::ReplayAnswer;
 ghost use Prim.Native.Nat.{_≤_};
 ghost use mathlib.Core.List.{_++_};
 ghost use lib.ListN.{length};
 ghost use Rattle.answers.specs.Answers.{numberOf, placeOf};
-ghost use Rattle.lines.specs.Decimal.{decimalText};
-ghost use Rattle.lines.specs.Wrote.{Wrote};
+ghost use Rattle.calltext.specs.Decimal.{decimalText};
+ghost use Rattle.calltext.specs.Wrote.{Wrote};
 ghost use Rattle.replay.specs.Playing.{replyOf};
 ghost use Rattle.command.specs.Plays.{toldText, endedText, unopenedText};
 

@@ -1,16 +1,16 @@
-// What a call answered, as text: as a line of calls and answers has it (crate lines), a refusal with its meaning.
+// What a call answered, as text: as a line of calls and answers has it (crate calltext), a refusal with its meaning.
 use answers::CheckAnswer;
 use answers::Refusal;
 use answers::RunAnswer;
-use lines::answers as texts;
-use lines::decimal;
-use wording::replies;
+use calltext::answers as texts;
+use calltext::decimal;
+use messages::replies;
 ghost use Prim.Native.Nat.{_+_, _*_, _≤_};
 ghost use lib.ListN.{length};
 ghost use Rattle.answers.specs.Answers.{numberOf, placeOf, checkAnswer, runAnswer};
-ghost use Rattle.lines.specs.Decimal.{decimalText};
-ghost use Rattle.lines.specs.Wrote.{Wrote};
-ghost use Rattle.wording.specs.Replies.{lengthOf};
+ghost use Rattle.calltext.specs.Decimal.{decimalText};
+ghost use Rattle.calltext.specs.Wrote.{Wrote};
+ghost use Rattle.messages.specs.Replies.{lengthOf};
 ghost use Rattle.command.specs.Reports.{refusedReport, checkReport, filledReport, heldText};
 
 // A refusal: its number, its place and its meaning.

@@ -7,7 +7,7 @@ ghost use lib.ListN.{length};
 ghost use Rattle.rules.specs.Limits.{maxValueBytes};
 ghost use Rattle.calls.specs.Answer.{cleared};
 ghost use Rattle.calls.specs.Runs.{checkCall, forwardCall, backwardCall};
-ghost use Rattle.lines.specs.Wrote.{Wrote};
+ghost use Rattle.calltext.specs.Wrote.{Wrote};
 ghost use Rattle.command.specs.Reports.{checkReport, runReport};
 
 // Is the program accepted?

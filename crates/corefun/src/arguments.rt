@@ -1,13 +1,13 @@
 // Arguments: numbers and byte strings. Where one is not what it should be, standard error says so.
 use crate::printing;
-use lines::decimal;
-use lines::decimal::Number;
-use lines::hexadecimal;
-use lines::hexadecimal::Decoded;
+use calltext::decimal;
+use calltext::decimal::Number;
+use calltext::hexadecimal;
+use calltext::hexadecimal::Decoded;
 ghost use Prim.Native.Nat.{_*_, _≤_};
 ghost use lib.ListN.{length};
-ghost use Rattle.lines.specs.Numbered.{valueOf};
-ghost use Rattle.lines.specs.Decoded.{sizeOf};
+ghost use Rattle.calltext.specs.Numbered.{valueOf};
+ghost use Rattle.calltext.specs.Decoded.{sizeOf};
 
 // Fuel and function have two bytes.
 const MOST_SHORT: u64 = 65535;

@@ -6,7 +6,7 @@ mod files;
 mod input;
 mod playing;
 mod printing;
-mod runs;
+mod running;
 
 use input::ANSWER;
 use input::HALF;
@@ -96,9 +96,9 @@ fn carry_out(
     out: &mut [u8; ANSWER],
 ) {
     match asked(word) {
-        Command::Check => runs::check(word, program, workspace),
-        Command::Forward => runs::run(false, word, program, ancillae, value, workspace),
-        Command::Backward => runs::run(true, word, program, ancillae, value, workspace),
+        Command::Check => running::check(word, program, workspace),
+        Command::Forward => running::run(false, word, program, ancillae, value, workspace),
+        Command::Backward => running::run(true, word, program, ancillae, value, workspace),
         Command::Batch => input::answer_all(word, program, ancillae, value, workspace, output, out),
         Command::Replay => playing::replay(word, program, ancillae, value, workspace, out),
         Command::Unknown => usage(),

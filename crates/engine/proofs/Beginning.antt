@@ -14,7 +14,7 @@ use package.Rattle.calls.specs.Load.{load}
 use package.Rattle.calls.specs.Runs.{Ran, workspaceFor, prepared}
 use package.Rattle.calls.specs.Conversions.{Turned}
 use package.Rattle.types.specs.Codes.{nodeBytes}
-use package.Rattle.rows.proofs.Beginning.{enough-types}
+use package.Rattle.requests.proofs.Beginning.{enough-types}
 use package.Rattle.answers.specs.Answers.{runAnswer, openAnswer, heldAnswer, summary, Later, accepts, refuses}
 use package.Rattle.answers.specs.declared.RunAnswer.{RunAnswer}
 

@@ -8,7 +8,7 @@ use lib.Dec.{leb}
 use package.Rattle.calls.specs.Answer.{accepted, refused, _>>=_, cleared}
 use package.Rattle.calls.specs.Runs.{workspaceFor, checkCall}
 use package.Rattle.answers.specs.Answers.{checkAnswer}
-use package.Rattle.rows.specs.Calls.{CheckMeans}
+use package.Rattle.requests.specs.Calls.{CheckMeans}
 use package.Rattle.answers.specs.declared.CheckAnswer.{CheckAnswer}
 use package.Rattle.engine.proofs.Beginning.{prepared-enough, prepared-short, cleared-later}
 

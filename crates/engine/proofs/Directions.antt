@@ -7,12 +7,12 @@ use lib.ListN.{length, replicate}
 use lib.Dec.{leb}
 use package.Rattle.calls.specs.Answer.{Answer, refused, _>>=_, cleared}
 use package.Rattle.calls.specs.Runs.{workspaceFor, prepared, Ran, forwardCall, backwardCall, written}
-use package.Rattle.running.specs.Ended.{finished}
+use package.Rattle.runs.specs.Ended.{finished}
 use package.Rattle.answers.specs.declared.Refusal.the-variants.{Workspace}
 use package.Rattle.answers.specs.declared.RunAnswer.{RunAnswer}
 use package.Rattle.answers.specs.declared.RunAnswer.the-variants as runs
 use package.Rattle.answers.specs.Answers.{runAnswer, summary}
-use package.Rattle.rows.specs.Runs.{runOf, called, ofProgram, RunMeans}
+use package.Rattle.requests.specs.Runs.{runOf, called, ofProgram, RunMeans}
 use package.Rattle.engine.specs.Runs.{runCall, CallMeans}
 use package.Rattle.engine.proofs.Beginning.{prepared-enough, prepared-short, cleared-run}
 

@@ -1,4 +1,4 @@
--- Laws of the calls on a journal: the workspace's test before, and its clearing after, what the crate turns does.
+-- Laws of the calls on a journal: the workspace's test before, and its clearing after, what the crate conversions does.
 use Prim.Native.Nat.{ℕ}
 use mathlib.Core.Path.{_≡_, refl, sym, ap, _∙_}
 use mathlib.Core.Bool.{true, false}
@@ -17,7 +17,7 @@ use package.Rattle.answers.specs.declared.CheckAnswer.the-variants as checks
 use package.Rattle.answers.specs.declared.RunAnswer.{RunAnswer}
 use package.Rattle.answers.specs.declared.RunAnswer.the-variants as runs
 use package.Rattle.answers.specs.Answers.{checkAnswer, runAnswer, openAnswer, heldAnswer}
-use package.Rattle.turns.specs.Turns.{openOf, convertOf, rollbackOf, OpenMeans, TurnMeans}
+use package.Rattle.conversions.specs.Turns.{openOf, convertOf, rollbackOf, OpenMeans, TurnMeans}
 use package.Rattle.engine.proofs.Beginning.{prepared-enough, prepared-short, cleared-later, cleared-held, cleared-opened}
 
 ----------------------------------------------------------------

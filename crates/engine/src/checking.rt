@@ -12,8 +12,8 @@ pub fn check(program: &[u8], workspace: &mut [u8]) -> CheckAnswer
     ensures answer { λ r. ⌜ checkAnswer r ≡ checkCall (length (now (workspace .entry))) (now (program .entry)) ⌝ }
     ensures clear { λ _. ⌜ now (workspace .exit) ≡ cleared (checkCall (length (now (workspace .entry))) (now (program .entry))) (now (workspace .entry)) ⌝ }
 {
-    if rows::preparing::enough(workspace.len(), 0) {
-        let answer = rows::checking::check_program(program, workspace);
+    if requests::preparing::enough(workspace.len(), 0) {
+        let answer = requests::checking::check_program(program, workspace);
         octets::clear(workspace);
         return answer;
     }

@@ -16,8 +16,8 @@ pub fn open(program: &[u8], record: &[u8], workspace: &mut [u8], journal: &mut [
     ensures keeps { λ _. ⌜ now (journal .exit) ≡ afterOpen (now (journal .entry)) (openCall (length (now (workspace .entry))) (now (program .entry)) (now («record» .entry)) (length (now (journal .entry)))) .journal ⌝ }
     ensures clear { λ _. ⌜ now (workspace .exit) ≡ cleared (openCall (length (now (workspace .entry))) (now (program .entry)) (now («record» .entry)) (length (now (journal .entry)))) (now (workspace .entry)) ⌝ }
 {
-    if rows::preparing::enough(workspace.len(), 0) {
-        let answer = turns::programs::open(program, record, workspace, journal);
+    if requests::preparing::enough(workspace.len(), 0) {
+        let answer = conversions::programs::open(program, record, workspace, journal);
         octets::clear(workspace);
         return answer;
     }
@@ -37,8 +37,8 @@ pub fn convert(
     ensures keeps { λ _. ⌜ now (journal .exit) ≡ afterTurned (now (journal .entry)) (convertCall (length (now (workspace .entry))) fuel function (now (program .entry)) (now (ancillae .entry)) (now (journal .entry))) .journal ⌝ }
     ensures clear { λ _. ⌜ now (workspace .exit) ≡ cleared (convertCall (length (now (workspace .entry))) fuel function (now (program .entry)) (now (ancillae .entry)) (now (journal .entry))) (now (workspace .entry)) ⌝ }
 {
-    if rows::preparing::enough(workspace.len(), fuel) {
-        let answer = turns::programs::convert(
+    if requests::preparing::enough(workspace.len(), fuel) {
+        let answer = conversions::programs::convert(
             program,
             function,
             ancillae,
@@ -58,8 +58,8 @@ pub fn rollback(program: &[u8], fuel: u16, workspace: &mut [u8], journal: &mut [
     ensures keeps { λ _. ⌜ now (journal .exit) ≡ afterTurned (now (journal .entry)) (rollbackCall (length (now (workspace .entry))) fuel (now (program .entry)) (now (journal .entry))) .journal ⌝ }
     ensures clear { λ _. ⌜ now (workspace .exit) ≡ cleared (rollbackCall (length (now (workspace .entry))) fuel (now (program .entry)) (now (journal .entry))) (now (workspace .entry)) ⌝ }
 {
-    if rows::preparing::enough(workspace.len(), fuel) {
-        let answer = turns::programs::rollback(program, fuel, workspace, journal);
+    if requests::preparing::enough(workspace.len(), fuel) {
+        let answer = conversions::programs::rollback(program, fuel, workspace, journal);
         octets::clear(workspace);
         return answer;
     }

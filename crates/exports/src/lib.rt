@@ -19,7 +19,7 @@ fn check_told(answer: CheckAnswer) -> [u64; 4]
 {
     match answer {
         CheckAnswer::Accepted => [0, 0, 0, 0],
-        CheckAnswer::Refused(r) => [wording::number(r), wording::place(r), 0, 0],
+        CheckAnswer::Refused(r) => [messages::number(r), messages::place(r), 0, 0],
     }
 }
 
@@ -28,7 +28,7 @@ fn run_told(answer: RunAnswer) -> [u64; 4]
 {
     match answer {
         RunAnswer::Ran(d) => [0, 0, d.len as u64, d.steps as u64],
-        RunAnswer::Refused(r) => [wording::number(r), wording::place(r), 0, 0],
+        RunAnswer::Refused(r) => [messages::number(r), messages::place(r), 0, 0],
     }
 }
 
@@ -40,7 +40,7 @@ fn replay_told(answer: ReplayAnswer) -> [u64; 4]
         ReplayAnswer::Malformed(at) => [1, at as u64, 0, 0],
         ReplayAnswer::TooWide(at) => [2, at as u64, 0, 0],
         ReplayAnswer::ShortAnswers => [3, 0, 0, 0],
-        ReplayAnswer::Unopened(r) => [4, 0, wording::number(r), wording::place(r)],
+        ReplayAnswer::Unopened(r) => [4, 0, messages::number(r), messages::place(r)],
         ReplayAnswer::Cut(at) => [5, at as u64, 0, 0],
     }
 }

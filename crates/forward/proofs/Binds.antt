@@ -16,8 +16,8 @@ use package.Rattle.rules.specs.Run.{Res, stuck, Run, after, give, test}
 use package.Rattle.rules.specs.Yield.{mayYield}
 use package.Rattle.rules.specs.Machine.{State, onSum, onPair, forwardStep, forward}
 use package.Rattle.calls.specs.Entries.{TypeEntry}
-use package.Rattle.values.specs.Nodes.{valueWithin, valueAt, ofKind, leftAt, rightAt, kindAt as nodeKind}
-use package.Rattle.values.proofs.Heaps.{value-inl, value-inr, value-pair}
+use package.Rattle.valuegraph.specs.Nodes.{valueWithin, valueAt, ofKind, leftAt, rightAt, kindAt as nodeKind}
+use package.Rattle.valuegraph.proofs.Heaps.{value-inl, value-inr, value-pair}
 use package.Rattle.scopes.specs.Slots.{slotCount, meaning as slotMeaning, stateAt, Slots, Machine, Scope}
 use package.Rattle.scopes.proofs.Marks.{found-node}
 use package.Rattle.scopes.proofs.Scopes.{state-bind, slots-bind}

@@ -14,7 +14,7 @@ use package.Rattle.rules.specs.Run.{Res, Run}
 use package.Rattle.rules.specs.Machine.{runForward, onSome, forwardStep, forward}
 use package.Rattle.calls.specs.Entries.{TypeEntry}
 use package.Rattle.program.specs.Parts.{body}
-use package.Rattle.values.specs.Nodes.{valueAt}
+use package.Rattle.valuegraph.specs.Nodes.{valueAt}
 use package.Rattle.scopes.specs.Slots.{unknown, Machine, Scope, Slot}
 use package.Rattle.yields.specs.Yields.{Ancillae}
 use package.Rattle.forward.specs.Outcomes.{Out}

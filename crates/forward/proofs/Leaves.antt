@@ -15,8 +15,8 @@ use package.Rattle.rules.specs.Yield.{mayYield}
 use package.Rattle.rules.specs.Machine.{onRoll}
 use package.Rattle.rules.proofs.Run.{via}
 use package.Rattle.calls.specs.Entries.{TypeEntry}
-use package.Rattle.values.specs.Nodes.{kindAt, leftAt, Room, ofKind, valueWithin, valueAt}
-use package.Rattle.values.proofs.Heaps.{value-roll}
+use package.Rattle.valuegraph.specs.Nodes.{kindAt, leftAt, Room, ofKind, valueWithin, valueAt}
+use package.Rattle.valuegraph.proofs.Heaps.{value-roll}
 use package.Rattle.scopes.specs.Slots.{unknown, slotAt, Slots, Machine, machineOf, scopeIn, slotsOf}
 use package.Rattle.scopes.proofs.Marks.{found-mark, found-below, slot-in, slot-out}
 use package.Rattle.scopes.specs.declared.slots.Found.{Found}

@@ -12,7 +12,7 @@ use package.Rattle.rules.specs.Run.{Res}
 use package.Rattle.rules.specs.Limits.{fits}
 use package.Rattle.rules.specs.Machine.{forward}
 use package.Rattle.calls.specs.Entries.{TypeEntry}
-use package.Rattle.values.specs.Nodes.{valueAt}
+use package.Rattle.valuegraph.specs.Nodes.{valueAt}
 use package.Rattle.decoded.specs.Rows.{kindIn, firstIn, treeIn, programIn}
 use package.Rattle.scopes.specs.Slots.{unknown, slotCount, stateCount, Machine, Scope, machineOf, slotsOf, scopeIn, slotAt, Moved, Written}
 use package.Rattle.forward.specs.Outcomes.{Out, stopped, statusOf, outOf, Finds}

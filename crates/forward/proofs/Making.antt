@@ -9,9 +9,9 @@ use mathlib.Core.List.{List}
 use package.Rattle.rules.specs.Limits.{fits}
 use package.Rattle.rules.specs.Val.{Val}
 use package.Rattle.rules.specs.Run.{give, test}
-use package.Rattle.values.specs.Nodes.{valueAt, Grown, Made}
-use package.Rattle.values.proofs.Heaps.{value-kept}
-use package.Rattle.values.proofs.Places.{agree-refl}
+use package.Rattle.valuegraph.specs.Nodes.{valueAt, Grown, Made}
+use package.Rattle.valuegraph.proofs.Heaps.{value-kept}
+use package.Rattle.valuegraph.proofs.Places.{agree-refl}
 use package.Rattle.forward.specs.Outcomes.{Out, stopped, statusOf, refusalOf, finished}
 use package.Rattle.forward.specs.Ready.{Graph, Makes}
 use package.Rattle.forward.proofs.Answers.{is-value}

@@ -15,8 +15,8 @@ use package.Rattle.rules.specs.Run.{Res, ok, Run, after}
 use package.Rattle.rules.proofs.Run.{via, after-after}
 use package.Rattle.rules.specs.Machine.{each, forward}
 use package.Rattle.calls.specs.Entries.{TypeEntry, termTrees}
-use package.Rattle.values.specs.Nodes.{valueAt}
-use package.Rattle.values.proofs.Heaps.{value-kept}
+use package.Rattle.valuegraph.specs.Nodes.{valueAt}
+use package.Rattle.valuegraph.proofs.Heaps.{value-kept}
 use package.Rattle.scopes.specs.Slots.{slotCount, Machine, Scope}
 use package.Rattle.forward.specs.Outcomes.{Out, refusalOf}
 use package.Rattle.forward.specs.Ready.{Ready, Ran, ancillaeOf, stateOf, runOf, valuesAt, argumentsOf, placedOf, Places, Calls}

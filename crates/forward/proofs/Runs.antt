@@ -8,8 +8,8 @@ use package.Rattle.rules.specs.Val.{Val}
 use package.Rattle.rules.specs.Run.{Res, ok, Run, after}
 use package.Rattle.rules.proofs.Run.{via}
 use package.Rattle.calls.specs.Entries.{TypeEntry}
-use package.Rattle.values.specs.Nodes.{valueAt}
-use package.Rattle.values.proofs.Places.{agree-refl, agree-trans, agree-down}
+use package.Rattle.valuegraph.specs.Nodes.{valueAt}
+use package.Rattle.valuegraph.proofs.Places.{agree-refl, agree-trans, agree-down}
 use package.Rattle.scopes.specs.Slots.{Slots, Machine, Scope}
 use package.Rattle.scopes.proofs.Marks.{slot-later}
 use package.Rattle.scopes.proofs.Scopes.{state-same, state-kept}

@@ -12,7 +12,7 @@ use package.Rattle.rules.specs.Val.{Val}
 use package.Rattle.rules.specs.Term.{Term, scope}
 use package.Rattle.rules.specs.Machine.{forward, runForward}
 use package.Rattle.calls.specs.Entries.{TypeEntry}
-use package.Rattle.values.specs.Nodes.{nodeBytes, valueAt}
+use package.Rattle.valuegraph.specs.Nodes.{nodeBytes, valueAt}
 use package.Rattle.scopes.specs.Slots.{unknown, slotCount, meaning as slotMeaning, stateAt, Machine, Scope, slotsPerHeight}
 use package.Rattle.scopes.proofs.Marks.{found-node}
 use package.Rattle.scopes.proofs.Scopes.{state-front}

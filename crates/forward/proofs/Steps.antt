@@ -13,8 +13,8 @@ use package.Rattle.rules.specs.Term.{Term, Program, entry}
 use package.Rattle.rules.specs.Run.{Res, stop, Run, after, enter, give, test}
 use package.Rattle.rules.specs.Machine.{State, onSome, onRoll, made, forwardStep, forward}
 use package.Rattle.calls.specs.Entries.{TypeEntry}
-use package.Rattle.values.specs.Nodes.{Room, ofKind, Single, valueAt}
-use package.Rattle.values.proofs.Heaps.{value-kept}
+use package.Rattle.valuegraph.specs.Nodes.{Room, ofKind, Single, valueAt}
+use package.Rattle.valuegraph.proofs.Heaps.{value-kept}
 use package.Rattle.scopes.specs.Slots.{slotAt, meaning as slotMeaning, Machine, Scope}
 use package.Rattle.scopes.specs.declared.slots.Found.{Found}
 use package.Rattle.scopes.specs.declared.slots.Found.the-variants.{Node, Unknown}

@@ -15,7 +15,7 @@ use package.Rattle.rules.specs.Yield.{mayYield}
 use package.Rattle.rules.specs.Machine.{State, onRoll, each, forwardStep, forward}
 use package.Rattle.calls.specs.Entries.{TypeEntry, termTrees}
 use package.Rattle.decoded.specs.Rows.{kindIn, secondIn, thirdIn, argumentIn, argumentsIn, termCount, treeIn, programIn, Rows}
-use package.Rattle.values.specs.Nodes.{nodeBytes, Room, valueAt, Agree, Heap}
+use package.Rattle.valuegraph.specs.Nodes.{nodeBytes, Room, valueAt, Agree, Heap}
 use package.Rattle.scopes.specs.Slots.{unknown, slotCount, stateCount, Machine, Scope, machineOf, slotsOf, scopeIn, stateAt, Slots, slotsPerHeight}
 use package.Rattle.yields.specs.Yields.{ancillaeAt, AncillaeIn}
 use package.Rattle.forward.specs.Outcomes.{Out, stopped, statusOf, outOf, refusalOf, meaning, finished}

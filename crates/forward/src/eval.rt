@@ -14,7 +14,7 @@ use decoded::rows::CODE;
 use scopes::slots;
 use scopes::state;
 use scopes::state::STATE;
-use values::nodes;
+use valuegraph::nodes;
 ghost use mathlib.Core.Path.{_≡_};
 ghost use Prim.Native.Nat.{_+_, _≤_, _<_};
 ghost use Rattle.program.specs.Kinds.{pairKind, letKind, letPairKind, caseKind, callKind, unrollKind};

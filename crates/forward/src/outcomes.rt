@@ -6,12 +6,12 @@ use decoded::rows::CODE;
 use scopes::slots::Found;
 use scopes::state;
 use scopes::state::STATE;
-use values::nodes;
+use valuegraph::nodes;
 ghost use mathlib.Core.Path.{_≡_};
 ghost use Prim.Native.Nat.{_+_, _≤_, _<_};
 ghost use lib.ListN.{length};
 ghost use Rattle.rules.specs.Val.{unit, pair};
-ghost use Rattle.values.specs.Nodes.{Room, ofKind, Single, valueAt};
+ghost use Rattle.valuegraph.specs.Nodes.{Room, ofKind, Single, valueAt};
 ghost use Rattle.scopes.specs.Slots.{stateCount, machineOf, slotsOf, scopeIn, slotAt};
 ghost use Rattle.forward.specs.Outcomes.{stopped, refusalIn, statusOf, Stops, Finds};
 ghost use Rattle.forward.specs.Ready.{FindReady, Finishes, MakeReady, MakesIn, Unrolled, CheckReady, ChecksIn};
@@ -106,7 +106,7 @@ pub fn make_unit(ws: &mut [u8], st: &mut [u32; STATE], t: u16) -> u32
     finish(true, st, t)
 }
 
-// inl, inr and roll, by the kind of node (values::nodes).
+// inl, inr and roll, by the kind of node (valuegraph::nodes).
 pub fn make_single(ws: &mut [u8], st: &mut [u32; STATE], t: u16, kind: u8, part: u32) -> u32
     requires { ⌜ MakeReady (now ws) (now st) ⌝ }
     requires { ⌜ (part < machineOf (now st) .top) × Single kind ⌝ }

@@ -20,8 +20,8 @@ use package.Rattle.calls.specs.Journal.{entryHead, entryBytes, Opened, opened, 
 use package.Rattle.calls.specs.Journal as journal
 use package.Rattle.calls.proofs.Journal.Fields.{there, when-true, length-field, opened-sound}
 use package.Rattle.calls.specs.Fields.{fieldHead}
-use package.Rattle.reading.specs.Ends.{isSome, isValue, counted}
-use package.Rattle.reading.specs.declared.scan.Counted.the-variants as count
+use package.Rattle.valuebytes.specs.Ends.{isSome, isValue, counted}
+use package.Rattle.valuebytes.specs.declared.scan.Counted.the-variants as count
 use package.Rattle.journal.specs.declared.places.Field.the-variants as field
 use package.Rattle.journal.specs.Places.{heldField, entryField, endOf}
 

@@ -19,7 +19,7 @@ use package.Rattle.calls.proofs.Journal.Fields.{fits-below, ancillae-below, len
 use package.Rattle.calls.proofs.Journal.Buffers.{length-fields, length-fields-snoc, fields-snoc}
 use package.Rattle.calls.specs.Book.{orUnit, orNone}
 use package.Rattle.calls.specs.Fields.{fieldHead}
-use package.Rattle.reading.specs.Ends.{isSome, isValue, valueIn, valuesIn}
+use package.Rattle.valuebytes.specs.Ends.{isSome, isValue, valueIn, valuesIn}
 use package.Rattle.journal.specs.declared.places.Places.{Places}
 use package.Rattle.journal.specs.Places.{journalIn, Stands}
 use package.Rattle.journal.specs.Turns.{areValues, conversion, opens, converted, rolledBack}

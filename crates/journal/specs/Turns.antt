@@ -5,7 +5,7 @@ use mathlib.Core.List.{List, [], _∷_, _++_}
 use package.Rattle.rules.specs.Val.{Val}
 use package.Rattle.calls.specs.Values.{ancillae}
 use package.Rattle.calls.specs.Journal.{Entry, Journal}
-use package.Rattle.reading.specs.Ends.{isSome}
+use package.Rattle.valuebytes.specs.Ends.{isSome}
 use package.Rattle.journal.specs.Places.{newestOf}
 
 -- Are the bytes values within the limits?

@@ -41,7 +41,7 @@ fn held_end(journal: &[u8]) -> Field
         return Field::Malformed;
     };
     let value = &journal[FIELD_HEAD..end];
-    let ok = reading::scan::one_value(value);
+    let ok = valuebytes::scan::one_value(value);
     if ok {
         return Field::To(end);
     }
@@ -62,8 +62,8 @@ fn entry_end(journal: &[u8], at: usize) -> Field
     }
     let from = at + ENTRY_BYTES;
     let values = &journal[from..end];
-    let counted = reading::scan::count_values(values);
-    let reading::scan::Counted::Values(_) = counted else {
+    let counted = valuebytes::scan::count_values(values);
+    let valuebytes::scan::Counted::Values(_) = counted else {
         return Field::Malformed;
     };
     Field::To(end)

@@ -19,7 +19,7 @@ ghost use Rattle.octets.specs.Numbers.{bytes16, bytes32};
 ghost use Rattle.octets.specs.Runs.{pasted};
 ghost use Rattle.calls.specs.Journal.{entryHead, entryBytes, field, heldTag, entryTag, fields, writeOut};
 ghost use Rattle.calls.specs.Fields.{fieldHead};
-ghost use Rattle.reading.specs.Ends.{isValue, valueIn, valuesIn};
+ghost use Rattle.valuebytes.specs.Ends.{isValue, valueIn, valuesIn};
 ghost use Rattle.journal.specs.Places.{Stands, journalIn};
 ghost use Rattle.journal.specs.Turns.{areValues, conversion, opens, converted, rolledBack};
 

@@ -33,7 +33,7 @@ pub(crate) fn open_line(answer: CheckAnswer) -> [u8; 7]
 {
     match answer {
         CheckAnswer::Accepted => line_of(OPENED, 0, 0),
-        CheckAnswer::Refused(r) => line_of(REFUSED, wording::number(r), wording::place(r)),
+        CheckAnswer::Refused(r) => line_of(REFUSED, messages::number(r), messages::place(r)),
     }
 }
 
@@ -43,6 +43,6 @@ pub(crate) fn turn_line(answer: RunAnswer) -> [u8; 7]
 {
     match answer {
         RunAnswer::Ran(d) => line_of(HELD, d.len as u64, d.steps as u64),
-        RunAnswer::Refused(r) => line_of(REFUSED, wording::number(r), wording::place(r)),
+        RunAnswer::Refused(r) => line_of(REFUSED, messages::number(r), messages::place(r)),
     }
 }

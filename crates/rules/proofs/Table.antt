@@ -12,7 +12,7 @@ use package.Rattle.rules.specs.Machine.{onSum, onPair, onRoll, onUnit, o
 use package.Rattle.rules.specs.Cases.{num, lets, crowded, TreeTable}
 
 pub table : TreeTable
-unfolding check checkFuns checkFun statics infer inferArguments sameTy nodes need asSum asProd asMu asFun visible room small spent mustUse sameUse bar barOne _>>_ _>>=_ count unfoldTy plug fits maxValueBytes maxHeight maxVariables maxNodes num runForward runBackward forward backward scope mayYield mayBe size same after enter test look entry nth onSome known each bindOr meet leave made forwardStep backwardStep onSum onPair onRoll onUnit lets crowded
+unfolding check checkFuns checkFun statics infer inferArguments sameTy nodes need asSum asProd asMu asFun visible room small spent mustUse sameUse bar barOne _>>_ _>>=_ count unfoldTy plug fits maxValueBytes maxHeight num runForward runBackward forward backward scope mayYield mayBe size same after enter test look entry nth onSome known each bindOr meet leave made forwardStep backwardStep onSum onPair onRoll onUnit lets crowded
 table = record {
   typed = refl;
   p1 = refl;

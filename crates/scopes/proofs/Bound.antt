@@ -15,7 +15,7 @@ use package.Rattle.rules.specs.Val.{Val, same}
 use package.Rattle.rules.specs.Run.{Res, ok, stop, Run, after, test, give}
 use package.Rattle.rules.specs.Machine.{State, bindOr, meet}
 use package.Rattle.rules.proofs.Basics.{given, eqb-yes, eqb-no}
-use package.Rattle.values.specs.Nodes.{valueAt}
+use package.Rattle.valuegraph.specs.Nodes.{valueAt}
 use package.Rattle.scopes.specs.Slots.{unknown, found, meaning, stateAt}
 use package.Rattle.scopes.specs.Bindings.{View, stateOf, Bound, Opens, Meets, Left, Leaves}
 use package.Rattle.scopes.proofs.Marks.{found-mark, found-below, node-or}

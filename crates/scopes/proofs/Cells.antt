@@ -7,8 +7,8 @@ use mathlib.Core.Bool.{Bool, true, false, cond}
 use mathlib.Core.List.{List}
 use lib.Dec.{eqb, ltb}
 use borrow.Author.Tests.{eq-eqb, ne-eqb, lt-ltb, le-ltb}
-use package.Rattle.values.specs.Nodes.{leftAt, rightAt, Agree, Celled}
-use package.Rattle.values.proofs.Places.{agree-left, agree-right}
+use package.Rattle.valuegraph.specs.Nodes.{leftAt, rightAt, Agree, Celled}
+use package.Rattle.valuegraph.proofs.Places.{agree-left, agree-right}
 use package.Rattle.scopes.specs.Slots.{unknown}
 use package.Rattle.scopes.specs.Cells.{cellCount, Linked, variableAt, beforeAt, cellStep, cellWithin, cellAt}
 

@@ -6,8 +6,8 @@ use mathlib.Core.Logic.{⊎-elim, inl as left, inr as right}
 use mathlib.Core.List.{List}
 use lib.ListN.{getD}
 use borrow.Author.Tests.{eq-eqb, ne-eqb, lt-ltb, le-ltb}
-use package.Rattle.values.specs.Nodes.{leftAt, Room, Heap, Agree}
-use package.Rattle.values.proofs.Places.{agree-left}
+use package.Rattle.valuegraph.specs.Nodes.{leftAt, Room, Heap, Agree}
+use package.Rattle.valuegraph.proofs.Places.{agree-left}
 use package.Rattle.scopes.specs.Slots.{unknown, found, nodeOr, slotAt, Slot, Slots}
 use Rattle.scopes.specs.declared.slots.Found.{Found}
 use Rattle.scopes.specs.declared.slots.Found.the-variants.{Node, Unknown}

@@ -6,7 +6,7 @@ use mathlib.Core.Bool.{Bool, true}
 use mathlib.Core.List.{List}
 use lib.ListN.{getD, set}
 use package.Rattle.rules.specs.Val.{same}
-use package.Rattle.values.specs.Nodes.{valueAt}
+use package.Rattle.valuegraph.specs.Nodes.{valueAt}
 use package.Rattle.scopes.specs.Slots.{unknown, Scope, machineOf, slotsOf, nodeOr, Written}
 use package.Rattle.scopes.specs.Bindings.{said, seen, Looks, Adds, Meetable, MeetsBy, MeetsAt}
 use package.Rattle.scopes.proofs.Views.{seen-low}

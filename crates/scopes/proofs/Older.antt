@@ -10,8 +10,8 @@ use lib.ListN.{length, getD, set}
 use lib.Seq.{getD-set-same, getD-set-other}
 use lib.Dec.{eqb}
 use borrow.Author.Tests.{eqb-true, eqb-false, lt-ltb, le-ltb}
-use package.Rattle.values.specs.Nodes.{leftAt, Heap, Agree}
-use package.Rattle.values.proofs.Places.{agree-left}
+use package.Rattle.valuegraph.specs.Nodes.{leftAt, Heap, Agree}
+use package.Rattle.valuegraph.proofs.Places.{agree-left}
 use package.Rattle.scopes.specs.Slots.{unknown, found, meaning, Scope, Slot}
 use package.Rattle.scopes.specs.Cells.{cellAt, numberIn, stateWith}
 use package.Rattle.scopes.specs.Bindings.{stateIn, Tells, seen}

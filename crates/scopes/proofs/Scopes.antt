@@ -13,8 +13,8 @@ use borrow.Author.Tests.{eqb-true, eqb-false}
 use package.Rattle.rules.specs.Val.{Val}
 use package.Rattle.rules.specs.Machine.{known}
 use package.Rattle.rules.proofs.Known.{known-new, known-skip, known-none}
-use package.Rattle.values.specs.Nodes.{Heap, Agree}
-use package.Rattle.values.proofs.Heaps.{value-kept}
+use package.Rattle.valuegraph.specs.Nodes.{Heap, Agree}
+use package.Rattle.valuegraph.proofs.Heaps.{value-kept}
 use package.Rattle.scopes.specs.Slots.{unknown, found, slotAt, meaning, stateAt, Slot, Slots}
 use package.Rattle.scopes.proofs.Marks.{found-mark, found-below, found-later, slot-in, slot-out}
 

@@ -12,7 +12,7 @@ use lib.Dec.{eqb}
 use borrow.Author.Tests.{eqb-true, eqb-false, lt-ltb, le-ltb}
 use package.Rattle.rules.specs.Limits.{maxVariables}
 use package.Rattle.rules.specs.Val.{same}
-use package.Rattle.values.specs.Nodes.{leftAt, valueAt, Agree, Celled}
+use package.Rattle.valuegraph.specs.Nodes.{leftAt, valueAt, Agree, Celled}
 use package.Rattle.scopes.specs.Slots.{unknown, found, nodeOr, meaning, stateAt, Scope, slotsOf, Slot}
 use package.Rattle.scopes.specs.Cells.{cellCount, Linked, cellAt, numberIn, stateWith}
 use package.Rattle.scopes.specs.Bindings.{slotsFrom, viewOf, stateOf, Bound, Opens, Meets, Tells, said, seen, Compared, Assigns, MeetsBy, MeetsAt}

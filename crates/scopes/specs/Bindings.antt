@@ -10,7 +10,7 @@ use lib.Dec.{ltb}
 use package.Rattle.rules.specs.Limits.{maxVariables}
 use package.Rattle.rules.specs.Val.{same}
 use package.Rattle.rules.specs.Machine.{State}
-use package.Rattle.values.specs.Nodes.{valueAt, Room, Heap}
+use package.Rattle.valuegraph.specs.Nodes.{valueAt, Room, Heap}
 use package.Rattle.scopes.specs.Slots.{unknown, slotCount, stateCount, Scope, machineOf, slotsOf, Moved, found, nodeOr, stateAt, Slot, Slots}
 use package.Rattle.scopes.specs.Cells.{cellCount, Linked, cellAt, numberIn, stateWith}
 use Rattle.scopes.specs.declared.slots.Found.{Found}

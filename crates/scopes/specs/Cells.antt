@@ -8,7 +8,7 @@ use mathlib.Core.List.{List, [], _∷_}
 use lib.ListN.{getD}
 use lib.Dec.{eqb, ltb}
 use package.Rattle.rules.specs.Machine.{State}
-use package.Rattle.values.specs.Nodes.{leftAt, rightAt, Celled}
+use package.Rattle.valuegraph.specs.Nodes.{leftAt, rightAt, Celled}
 use package.Rattle.scopes.specs.Slots.{unknown, found, meaning, Scope}
 
 -- cells and nodes have numbers below this one

@@ -11,7 +11,7 @@ use lib.Dec.{eqb, ltb}
 use package.Rattle.rules.specs.Limits.{maxVariables}
 use package.Rattle.rules.specs.Val.{Val}
 use package.Rattle.rules.specs.Machine.{State}
-use package.Rattle.values.specs.Nodes.{leftAt, valueAt}
+use package.Rattle.valuegraph.specs.Nodes.{leftAt, valueAt}
 use Rattle.scopes.specs.declared.slots.Found.{Found}
 use Rattle.scopes.specs.declared.slots.Found.the-variants.{Node, Unknown}
 

@@ -50,7 +50,7 @@ impl Bindings {
         ensures { λ r. ⌜ Adds (now (ws .entry)) (now (ws .exit)) (now (st .entry)) (now (st .exit)) self part i r ⌝ }
     {
         let top = state::top(st);
-        values::nodes::cell(ws, top, part, CELLS * octets::wide32(i) + self.head);
+        valuegraph::nodes::cell(ws, top, part, CELLS * octets::wide32(i) + self.head);
         state::grow(st);
         Bindings { head: top }
     }
@@ -65,7 +65,7 @@ impl Bindings {
         let at = state::base_in(scope) + octets::wide_index(i);
         match self.seen(ws, top, slots::at(st, at)) {
             Found::Node(old) => Met {
-                agrees: values::nodes::same(ws, top, old, node),
+                agrees: valuegraph::nodes::same(ws, top, old, node),
                 state: self,
             },
             Found::Unknown => {

@@ -7,7 +7,7 @@ use crate::state::STATE;
 ghost use mathlib.Core.Path.{_≡_};
 ghost use Prim.Native.Nat.{_+_, _≤_, _<_};
 ghost use lib.ListN.{length, getD};
-ghost use Rattle.values.specs.Nodes.{Heap};
+ghost use Rattle.valuegraph.specs.Nodes.{Heap};
 ghost use Rattle.scopes.specs.Slots.{slotCount, stateCount, machineOf, slotsOf, found, slotAt, Slot, Slots, Written};
 
 // The mark of a variable that is not known: no node has this number. Numbers above it name cells.
@@ -30,7 +30,7 @@ pub fn known(ws: &[u8], top: u32, number: u32) -> Found
     if number == UNKNOWN {
         return Found::Unknown;
     }
-    Found::Node(values::nodes::left_of(ws, number - UNKNOWN))
+    Found::Node(valuegraph::nodes::left_of(ws, number - UNKNOWN))
 }
 
 // Slot `at`.

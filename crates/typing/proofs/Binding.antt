@@ -19,7 +19,7 @@ use package.Rattle.types.specs.declared.shapes.Shape.{Shape}
 use package.Rattle.types.specs.Codes.{treeIn, Known}
 use package.Rattle.types.specs.Shapes.{Shaped}
 use package.Rattle.types.proofs.Asked.{a-product, no-product}
-use package.Rattle.uses.specs.declared.Uses.{Uses}
+use package.Rattle.varsets.specs.declared.Uses.{Uses}
 use package.Rattle.typing.specs.Contexts.{NamedBy}
 use package.Rattle.typing.specs.Sizes.{termsIn}
 use package.Rattle.typing.specs.Outcomes.{faultOf}

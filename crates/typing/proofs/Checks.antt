@@ -29,7 +29,7 @@ use package.Rattle.program.proofs.Lists.{ancillae-count}
 use package.Rattle.types.specs.Codes.{treeIn, Readable, Sources}
 use package.Rattle.types.specs.Counts.{Counted}
 use package.Rattle.types.proofs.Beginning.{readable, no-products, counted}
-use package.Rattle.uses.specs.Sets.{has}
+use package.Rattle.varsets.specs.Sets.{has}
 use package.Rattle.typing.specs.declared.outcomes.Scope.{Scope}
 use package.Rattle.typing.specs.declared.outcomes.Found.{Found}
 use package.Rattle.typing.specs.declared.outcomes.Fault.{Fault}

@@ -18,8 +18,8 @@ use package.Rattle.rules.proofs.Basics.{given, none≢some, not-true}
 use package.Rattle.rules.proofs.Typing.Tests.{sameUse-yes, sameUse-sound}
 use package.Rattle.rules.proofs.Scope.{look-newest, look-skip, look-none}
 use package.Rattle.rules.specs.Limits.{maxVariables}
-use package.Rattle.uses.specs.declared.Uses.{Uses}
-use package.Rattle.uses.specs.Sets.{AgreeOn}
+use package.Rattle.varsets.specs.declared.Uses.{Uses}
+use package.Rattle.varsets.specs.Sets.{AgreeOn}
 use package.Rattle.typing.specs.Contexts.{standing, contextAt, NamedBy, mustUseAt, Owed}
 
 ----------------------------------------------------------------

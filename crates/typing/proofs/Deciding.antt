@@ -9,8 +9,8 @@ use package.Rattle.rules.specs.Ty.{sameTy}
 use package.Rattle.types.specs.declared.codes.Code.{Code}
 use package.Rattle.types.specs.Codes.{productCode, treeIn}
 use package.Rattle.types.specs.Growth.{Made}
-use package.Rattle.uses.specs.declared.Uses.{Uses}
-use package.Rattle.uses.specs.Sets.{Holds, has, joined, AgreeOn}
+use package.Rattle.varsets.specs.declared.Uses.{Uses}
+use package.Rattle.varsets.specs.Sets.{Holds, has, joined, AgreeOn}
 use package.Rattle.typing.specs.Ready.{After, Joins, Picks, spentBy, Meets, Paired, Pairs}
 use Rattle.typing.specs.declared.outcomes.Found.{Found}
 use Rattle.typing.specs.declared.outcomes.Fault.{Fault}

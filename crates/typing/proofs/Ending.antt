@@ -15,8 +15,8 @@ use package.Rattle.types.specs.declared.codes.Code.{Code}
 use package.Rattle.types.specs.Codes.{entryCode, treeIn, Known}
 use package.Rattle.types.proofs.Trees.{tree-entry}
 use package.Rattle.types.proofs.Outer.{entry-known}
-use package.Rattle.uses.specs.declared.Uses.{Uses}
-use package.Rattle.uses.specs.Sets.{has}
+use package.Rattle.varsets.specs.declared.Uses.{Uses}
+use package.Rattle.varsets.specs.Sets.{has}
 use package.Rattle.typing.specs.Checked.{Signed, endAnswer}
 use package.Rattle.typing.proofs.Parameters.{row-dynamic, parameter-there, result-there}
 

@@ -20,8 +20,8 @@ use package.Rattle.types.specs.declared.codes.Code.{Code}
 use package.Rattle.types.specs.Codes.{treeIn, Known}
 use package.Rattle.types.specs.Growth.{putCode}
 use package.Rattle.types.proofs.Growing.{length-code, code-low, code-same, code-put, Fitting}
-use package.Rattle.uses.specs.declared.Uses.{Uses}
-use package.Rattle.uses.specs.Sets.{Holds, has, alone, joined}
+use package.Rattle.varsets.specs.declared.Uses.{Uses}
+use package.Rattle.varsets.specs.Sets.{Holds, has, alone, joined}
 use package.Rattle.typing.specs.Contexts.{contextAt, mustUseAt, Owed}
 use package.Rattle.typing.specs.Outcomes.{statusOf, faultOf}
 use package.Rattle.typing.specs.Ready.{variableBytes, variableAt, contextIn, Scoped, Reads, Seen, Opened}

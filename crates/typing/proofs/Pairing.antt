@@ -15,8 +15,8 @@ use package.Rattle.program.specs.Parts.{first, second}
 use package.Rattle.program.specs.Kinds.{pairKind}
 use package.Rattle.types.specs.Codes.{Room, treeIn, Known}
 use package.Rattle.types.proofs.Outer.{product-known}
-use package.Rattle.uses.specs.declared.Uses.{Uses}
-use package.Rattle.uses.specs.Sets.{Holds, has, joined}
+use package.Rattle.varsets.specs.declared.Uses.{Uses}
+use package.Rattle.varsets.specs.Sets.{Holds, has, joined}
 use package.Rattle.typing.specs.Contexts.{NamedBy}
 use package.Rattle.typing.specs.Sizes.{termsIn}
 use package.Rattle.typing.specs.Outcomes.{faultOf}

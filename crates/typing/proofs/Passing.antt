@@ -24,8 +24,8 @@ use package.Rattle.types.specs.declared.codes.Code.{Code}
 use package.Rattle.types.specs.Codes.{entryCode, treeIn, Known}
 use package.Rattle.types.proofs.Trees.{tree-entry}
 use package.Rattle.types.proofs.Outer.{entry-known}
-use package.Rattle.uses.specs.declared.Uses.{Uses}
-use package.Rattle.uses.specs.Sets.{Holds, nobody}
+use package.Rattle.varsets.specs.declared.Uses.{Uses}
+use package.Rattle.varsets.specs.Sets.{Holds, nobody}
 use package.Rattle.typing.specs.Sizes.{termsIn, termsInAll}
 use package.Rattle.typing.specs.Outcomes.{faultOf, doneOf}
 use package.Rattle.typing.specs.Ready.{termIn, variableAt, contextIn, typingOf, typeIn, demanded, termsFrom, typesFrom, Ready, Here, Kept, Inferred}

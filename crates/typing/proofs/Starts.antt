@@ -19,8 +19,8 @@ use package.Rattle.calls.specs.Entries.{TypeEntry, typeAt, typeOf, functionAt}
 use package.Rattle.calls.specs.Fields.{parametersAt}
 use package.Rattle.types.specs.declared.codes.Code.{Code}
 use package.Rattle.types.specs.Codes.{entryCode, treeIn, Sources}
-use package.Rattle.uses.specs.declared.Uses.{Uses}
-use package.Rattle.uses.specs.Sets.{Holds, nobody}
+use package.Rattle.varsets.specs.declared.Uses.{Uses}
+use package.Rattle.varsets.specs.Sets.{Holds, nobody}
 use package.Rattle.typing.specs.declared.outcomes.Scope.{Scope}
 use package.Rattle.typing.specs.Contexts.{standing, contextAt, mustUseAt, Owed}
 use package.Rattle.typing.specs.Ready.{variableBytes, variableAt, contextIn, Scoped, Opened}

@@ -10,7 +10,7 @@ use package.Rattle.program.specs.Signatures.{SignaturesAre}
 use package.Rattle.program.specs.Kinds.{inlKind, inrKind, caseKind}
 use package.Rattle.types.specs.declared.codes.Code.{Code}
 use package.Rattle.types.specs.Codes.{treeIn, Known}
-use package.Rattle.uses.specs.declared.Uses.{Uses}
+use package.Rattle.varsets.specs.declared.Uses.{Uses}
 use package.Rattle.typing.specs.Contexts.{NamedBy}
 use package.Rattle.typing.specs.Sizes.{termsIn, termsInAll}
 use package.Rattle.typing.specs.Ready.{termIn, contextIn, typeIn, branchesOf, termsFrom, Ready, Here, Inferred, Calls, Argued}

@@ -10,8 +10,8 @@ use package.Rattle.rules.specs.Ty.{Ty}
 use package.Rattle.rules.specs.Term.{Term, look}
 use package.Rattle.rules.specs.Typing.{Binding, static, dynamic, barred, Context}
 use package.Rattle.rules.specs.Check.{names, mustUse}
-use package.Rattle.uses.specs.declared.Uses.{Uses}
-use package.Rattle.uses.specs.Sets.{Holds}
+use package.Rattle.varsets.specs.declared.Uses.{Uses}
+use package.Rattle.varsets.specs.Sets.{Holds}
 
 -- how variable `i` stands
 unfoldable pub standing : ℕ → ℕ → ℕ → Ty → Binding

@@ -21,8 +21,8 @@ use package.Rattle.types.specs.declared.codes.Code.{Code}
 use package.Rattle.types.specs.Codes.{Room, codeAt, unitCode, productCode, treeIn, Known, Sources}
 use package.Rattle.types.specs.Counts.{Counted}
 use package.Rattle.types.specs.Growth.{Agree, Made}
-use package.Rattle.uses.specs.declared.Uses.{Uses}
-use package.Rattle.uses.specs.Sets.{Holds, has, nobody, alone, joined, AgreeOn}
+use package.Rattle.varsets.specs.declared.Uses.{Uses}
+use package.Rattle.varsets.specs.Sets.{Holds, has, nobody, alone, joined, AgreeOn}
 use package.Rattle.typing.specs.Contexts.{contextAt, NamedBy, Owed}
 use package.Rattle.typing.specs.Sizes.{termsInAll}
 use package.Rattle.typing.specs.Outcomes.{statusOf, meaning, doneOf}

@@ -11,7 +11,7 @@ use program::kinds;
 use rules::MAX_FUNCTIONS;
 use rules::MAX_PARAMETERS;
 use types::codes::Code;
-use uses::Uses;
+use varsets::Uses;
 ghost use Rattle.program.specs.Kinds.{letKind, letPairKind, caseKind};
 ghost use Rattle.typing.specs.Asked.{ReadyAt, ReadyBranches, Infers, InfersBranches};
 

@@ -9,7 +9,7 @@ use crate::outcomes::Status;
 use crate::tests;
 use rules::MAX_FUNCTIONS;
 use rules::MAX_PARAMETERS;
-use uses::Uses;
+use varsets::Uses;
 ghost use Rattle.program.specs.Kinds.{callKind};
 ghost use Rattle.typing.specs.Asked.{ReadyAt, ReadyArguments, Infers, InfersArguments};
 

@@ -13,7 +13,7 @@ use rules::MAX_VARIABLES;
 use types::codes;
 use types::codes::Code;
 use types::compare;
-use uses::Uses;
+use varsets::Uses;
 ghost use mathlib.Core.Path.{_≡_};
 ghost use Prim.Native.Nat.{_*_, _-_, _≤_, _<_};
 ghost use lib.ListN.{length, getD};
@@ -21,7 +21,7 @@ ghost use Rattle.rules.specs.Limits.{maxVariables};
 ghost use Rattle.calls.specs.Fields.{parametersAt};
 ghost use Rattle.program.specs.Signatures.{SignaturesAre};
 ghost use Rattle.types.specs.Codes.{treeIn, Sources, Known};
-ghost use Rattle.uses.specs.Sets.{has};
+ghost use Rattle.varsets.specs.Sets.{has};
 ghost use Rattle.typing.specs.Ready.{variableBytes};
 ghost use Rattle.typing.specs.Checked.{verdictOf, Typeable, Signed, Bound, Started, typingAnswer, functionAnswer, endAnswer, faultAnswer};
 

@@ -2,7 +2,7 @@
 use crate::outcomes::Found;
 use crate::outcomes::Out;
 use crate::outcomes::Status;
-use uses::Uses;
+use varsets::Uses;
 ghost use mathlib.Core.Path.{_≡_};
 ghost use Prim.Native.Nat.{_<_};
 ghost use lib.ListN.{length, getD};

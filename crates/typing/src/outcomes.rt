@@ -1,6 +1,6 @@
 // Outcomes of typing, and the scope that a term is typed in. specs/Outcomes says what an outcome means.
 use types::codes::Code;
-use uses::Uses;
+use varsets::Uses;
 ghost use mathlib.Core.Path.{_≡_};
 ghost use Rattle.typing.specs.declared.outcomes.Fault.the-variants.{Differ, Unscoped, Misused};
 ghost use Rattle.typing.specs.declared.outcomes.Status.the-variants.{Refused};

@@ -5,7 +5,7 @@ use crate::outcomes::Out;
 use crate::outcomes::Scope;
 use crate::outcomes::Status;
 use types::codes::Code;
-use uses::Uses;
+use varsets::Uses;
 ghost use mathlib.Core.Path.{_≡_};
 ghost use Prim.Native.Nat.{_*_, _≤_, _<_};
 ghost use lib.ListN.{length};

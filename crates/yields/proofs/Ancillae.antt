@@ -12,8 +12,8 @@ use package.Rattle.rules.specs.Val.{Val, same}
 use package.Rattle.rules.specs.Term.{look}
 use package.Rattle.rules.specs.Yield.{mayBe}
 use package.Rattle.rules.proofs.Scope.{look-skip, look-newest, look-none}
-use package.Rattle.values.specs.Nodes.{valueAt, Heap, Agree}
-use package.Rattle.values.proofs.Heaps.{value-kept}
+use package.Rattle.valuegraph.specs.Nodes.{valueAt, Heap, Agree}
+use package.Rattle.valuegraph.proofs.Heaps.{value-kept}
 use package.Rattle.scopes.specs.Slots.{unknown, meaning, stateAt}
 use package.Rattle.scopes.proofs.Marks.{found-node}
 use package.Rattle.yields.proofs.Judging.{judged-yes, judged-as}

@@ -12,8 +12,8 @@ use package.Rattle.rules.specs.Val.{Val}
 use package.Rattle.rules.specs.Term.{Term, look}
 use package.Rattle.rules.specs.Yield.{mayBe, mayYield}
 use package.Rattle.calls.specs.Entries.{TypeEntry, typeOf, TermEntry, termTree}
-use package.Rattle.values.specs.Nodes.{kindAt, leftAt, rightAt, Room, valueWithin, valueAt}
-use package.Rattle.values.proofs.Heaps.{lower, value-inl, value-inr, value-pair, value-roll}
+use package.Rattle.valuegraph.specs.Nodes.{kindAt, leftAt, rightAt, Room, valueWithin, valueAt}
+use package.Rattle.valuegraph.proofs.Heaps.{lower, value-inl, value-inr, value-pair, value-roll}
 use package.Rattle.scopes.specs.Slots.{machineOf}
 use package.Rattle.decoded.specs.Rows.{kindIn, firstIn, secondIn, thirdIn, entryIn, treeIn}
 use package.Rattle.decoded.proofs.Trees as rows

@@ -9,7 +9,7 @@ use package.Rattle.rules.specs.Val.{Val, same}
 use package.Rattle.rules.specs.Ty.{Ty}
 use package.Rattle.rules.specs.Term.{Term, tunit, tinl, tinr, tpair, troll}
 use package.Rattle.rules.specs.Yield.{mayYield}
-use package.Rattle.values.specs.Nodes.{ofKind}
+use package.Rattle.valuegraph.specs.Nodes.{ofKind}
 
 ----------------------------------------------------------------
 -- Values of another kind than the form makes

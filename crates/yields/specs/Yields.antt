@@ -8,7 +8,7 @@ use lib.ListN.{getD}
 use package.Rattle.rules.specs.Val.{Val}
 use package.Rattle.rules.specs.Yield.{mayYield}
 use package.Rattle.calls.specs.Entries.{TypeEntry}
-use package.Rattle.values.specs.Nodes.{valueAt, Heap}
+use package.Rattle.valuegraph.specs.Nodes.{valueAt, Heap}
 use package.Rattle.scopes.specs.Slots.{unknown, slotCount, slotsOf, machineOf, scopeIn}
 use package.Rattle.decoded.specs.Rows.{termCount, treeIn, Rows}
 

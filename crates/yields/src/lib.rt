@@ -9,7 +9,7 @@ ghost use Rattle.program.specs.Kinds.{pairKind, caseKind};
 ghost use Rattle.rules.specs.Val.{same};
 ghost use Rattle.rules.specs.Term.{look};
 ghost use Rattle.rules.specs.Yield.{mayBe};
-ghost use Rattle.values.specs.Nodes.{valueAt, Heap};
+ghost use Rattle.valuegraph.specs.Nodes.{valueAt, Heap};
 ghost use Rattle.scopes.specs.Slots.{unknown, machineOf};
 ghost use Rattle.decoded.specs.Rows.{kindIn};
 ghost use Rattle.yields.specs.Yields.{ancillaeIn, AncillaeIn, Judges, Asks, MayYield, YieldsIn, Wraps, Binds};
@@ -19,7 +19,7 @@ use decoded::rows::CODE;
 use scopes::slots;
 use scopes::state;
 use scopes::state::STATE;
-use values::nodes;
+use valuegraph::nodes;
 
 // Answers: no; perhaps, at a glance; yes.
 const NO: u8 = 0;

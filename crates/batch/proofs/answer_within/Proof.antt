@@ -1,5 +1,5 @@
 use native.Mathlib.Omega.{arith}
-use Rattle.lines.specs.Left.{programLeft, ancillaeLeft, valueLeft}
+use Rattle.calltext.specs.Left.{programLeft, ancillaeLeft, valueLeft}
 use Rattle.batch.proofs.Lending.{replies-as}
 use borrow.Author.Needs.{needs}
 use Rattle.batch.proofs.answer_within.Statement.{statement}

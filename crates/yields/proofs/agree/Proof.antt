@@ -1,7 +1,7 @@
 use native.Mathlib.Omega.{arith}
 use mathlib.Core.Path.{refl, sym, _∙_}
 use borrow.Author.Needs.{needs}
-use Rattle.values.proofs.Equal.{alike-false}
+use Rattle.valuegraph.proofs.Equal.{alike-false}
 use Rattle.yields.proofs.Judging.{judged, judged-no, glanced}
 use Rattle.yields.proofs.agree.Statement.{statement}
 use Rattle.yields.proofs.agree.Tie as tie

@@ -3,7 +3,7 @@ use native.Mathlib.Omega.{arith}
 use mathlib.Core.Path.{ap₂, _∙_}
 use lib.ListN.{getD}
 use borrow.Author.Needs.{needs}
-use Rattle.values.specs.Nodes.{valueAt}
+use Rattle.valuegraph.specs.Nodes.{valueAt}
 use Rattle.scopes.specs.Slots.{slotsOf, scopeIn}
 use Rattle.yields.proofs.Ancillae.{yields-own, yields-any}
 use Rattle.yields.proofs.yield_variable.Statement.{statement}

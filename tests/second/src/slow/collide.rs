@@ -11,7 +11,7 @@ pub type Fingerprint = fn(&[u8]) -> u64;
 /// values by their nodes alone.
 pub const FINGERPRINT: Option<Fingerprint> = Some(byte_of_node);
 
-/// A unit's fingerprint, and the factors of a node's kind and of its parts' fingerprints (crates/values, specs/Nodes).
+/// A unit's fingerprint, and the factors of a node's kind and of its parts' fingerprints (crates/valuegraph, specs/Nodes).
 const UNIT: u64 = 17;
 const KIND: u64 = 59;
 const FIRST: u64 = 141;

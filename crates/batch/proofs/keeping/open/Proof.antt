@@ -4,7 +4,7 @@ use lib.ListN.{length, take}
 use lib.Seq.{length-take-le}
 use Rattle.calls.specs.Answer.{cleared}
 use Rattle.calls.specs.Book.{afterOpen}
-use Rattle.lines.proofs.Writing.{wrote-as}
+use Rattle.calltext.proofs.Writing.{wrote-as}
 use Rattle.batch.specs.Capped.{mostWorkspace}
 use Rattle.batch.specs.Answering.{openText}
 use Rattle.batch.proofs.Capping.{lent-within, open-lent}

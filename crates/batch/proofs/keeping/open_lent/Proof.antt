@@ -1,6 +1,6 @@
 use lib.ListN.{length}
 use Rattle.calls.specs.Conversions.{openCall}
-use Rattle.lines.proofs.Writing.{wrote-as}
+use Rattle.calltext.proofs.Writing.{wrote-as}
 use Rattle.batch.proofs.Telling.{tells-open}
 use borrow.Author.Needs.{needs}
 use Rattle.batch.proofs.keeping.open_lent.Statement.{statement}

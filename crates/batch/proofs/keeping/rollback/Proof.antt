@@ -4,7 +4,7 @@ use lib.ListN.{take}
 use lib.Seq.{length-take-le}
 use Rattle.calls.specs.Answer.{cleared}
 use Rattle.calls.specs.Book.{afterTurned}
-use Rattle.lines.proofs.Writing.{wrote-as}
+use Rattle.calltext.proofs.Writing.{wrote-as}
 use Rattle.batch.specs.Capped.{mostWorkspace}
 use Rattle.batch.specs.Answering.{turnText}
 use Rattle.batch.proofs.Capping.{lent-within, rollback-lent}

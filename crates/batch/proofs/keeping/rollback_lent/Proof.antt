@@ -1,6 +1,6 @@
 use lib.ListN.{length}
 use Rattle.calls.specs.Conversions.{rollbackCall}
-use Rattle.lines.proofs.Writing.{wrote-as}
+use Rattle.calltext.proofs.Writing.{wrote-as}
 use Rattle.batch.proofs.Telling.{tells-turn}
 use borrow.Author.Needs.{needs}
 use Rattle.batch.proofs.keeping.rollback_lent.Statement.{statement}

@@ -2,8 +2,8 @@ use mathlib.Core.Path.{sym, ap, _∙_}
 use lib.ListN.{take}
 use lib.Seq.{length-take-le}
 use Rattle.calls.specs.Answer.{cleared}
-use Rattle.lines.proofs.Writing.{wrote-as}
-use Rattle.wording.specs.Replies.{checkText}
+use Rattle.calltext.proofs.Writing.{wrote-as}
+use Rattle.messages.specs.Replies.{checkText}
 use Rattle.batch.specs.Capped.{mostWorkspace}
 use Rattle.batch.proofs.Capping.{lent-within, check-lent}
 use Rattle.batch.proofs.Lending.{on-front}

@@ -4,7 +4,7 @@ use lib.ListN.{take}
 use lib.Seq.{length-take-le}
 use Rattle.calls.specs.Answer.{cleared}
 use Rattle.calls.specs.Runs.{written}
-use Rattle.lines.proofs.Writing.{wrote-as}
+use Rattle.calltext.proofs.Writing.{wrote-as}
 use Rattle.batch.specs.Capped.{mostWorkspace, mostOutput}
 use Rattle.batch.specs.Answering.{ranText}
 use Rattle.batch.proofs.Capping.{capped-most, lent-within, lent-length, run-lent}

@@ -1,7 +1,7 @@
 use native.Mathlib.Omega.{arith}
 use lib.ListN.{length}
 use Rattle.engine.specs.Runs.{runCall}
-use Rattle.lines.proofs.Writing.{wrote-as}
+use Rattle.calltext.proofs.Writing.{wrote-as}
 use Rattle.batch.proofs.Capping.{run-within}
 use Rattle.batch.proofs.Telling.{tells-run, length-within}
 use borrow.Author.Needs.{needs}

@@ -1,6 +1,6 @@
 use native.Mathlib.Omega.{arith}
 use mathlib.Core.Path.{refl, sym, ap, subst}
-use Rattle.lines.specs.Parsed.{lineOf, Within}
+use Rattle.calltext.specs.Parsed.{lineOf, Within}
 use Rattle.batch.specs.Answering.{answerTo}
 use Rattle.batch.specs.Lent.{workspaceAfter, outputAfter, journalAfter}
 use Rattle.batch.proofs.Lending.{replies-as}

@@ -1,6 +1,6 @@
 use native.Mathlib.Omega.{arith}
-use Rattle.lines.proofs.Writing.{wrote-both}
-use Rattle.lines.proofs.Figures.{at-most-twenty}
+use Rattle.calltext.proofs.Writing.{wrote-both}
+use Rattle.calltext.proofs.Figures.{at-most-twenty}
 use Rattle.batch.specs.Answering.{wordError}
 use borrow.Author.Needs.{needs}
 use Rattle.batch.proofs.replying.word_error.Statement.{statement}

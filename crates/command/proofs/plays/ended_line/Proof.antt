@@ -1,5 +1,5 @@
 use mathlib.Core.Path.{sym, ap}
-use Rattle.lines.proofs.Writing.{wrote-as}
+use Rattle.calltext.proofs.Writing.{wrote-as}
 use Rattle.replay.specs.Playing.{replyOf}
 use Rattle.command.specs.Plays.{endedText}
 use borrow.Author.Needs.{needs}

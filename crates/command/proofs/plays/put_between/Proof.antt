@@ -1,4 +1,4 @@
-use Rattle.lines.proofs.Writing.{wrote-both}
+use Rattle.calltext.proofs.Writing.{wrote-both}
 use borrow.Author.Needs.{needs}
 use Rattle.command.proofs.plays.put_between.Statement.{statement}
 use Rattle.command.proofs.plays.put_between.Tie as tie

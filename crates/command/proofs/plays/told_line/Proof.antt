@@ -1,4 +1,4 @@
-use Rattle.lines.proofs.Writing.{wrote-as}
+use Rattle.calltext.proofs.Writing.{wrote-as}
 use Rattle.command.proofs.Telling.{told-open, told-held, told-refused, told-none}
 use borrow.Author.Needs.{needs}
 use Rattle.command.proofs.plays.told_line.Statement.{statement}

@@ -1,6 +1,6 @@
 use mathlib.Core.Path.{sym, ap}
 use Rattle.answers.specs.Answers.{checkAnswer}
-use Rattle.lines.proofs.Writing.{wrote-as}
+use Rattle.calltext.proofs.Writing.{wrote-as}
 use Rattle.command.specs.Reports.{checkReport}
 use borrow.Author.Needs.{needs}
 use Rattle.command.proofs.reports.check_report.Statement.{statement}

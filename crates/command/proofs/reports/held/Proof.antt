@@ -1,4 +1,4 @@
-use Rattle.lines.proofs.Writing.{wrote-five}
+use Rattle.calltext.proofs.Writing.{wrote-five}
 use Rattle.command.specs.Reports.{heldText}
 use borrow.Author.Needs.{needs}
 use Rattle.command.proofs.reports.held.Statement.{statement}

@@ -1,5 +1,5 @@
 use native.Mathlib.Omega.{arith}
-use Rattle.lines.proofs.Figures.{at-most-twenty}
+use Rattle.calltext.proofs.Figures.{at-most-twenty}
 use borrow.Author.Needs.{needs}
 use Rattle.command.proofs.reports.put_figure.Statement.{statement}
 use Rattle.command.proofs.reports.put_figure.Tie as tie

@@ -1,4 +1,4 @@
-use Rattle.lines.proofs.Writing.{wrote-as}
+use Rattle.calltext.proofs.Writing.{wrote-as}
 use Rattle.command.proofs.Reporting.{refusal-reported}
 use borrow.Author.Needs.{needs}
 use Rattle.command.proofs.reports.refusal.Statement.{statement}

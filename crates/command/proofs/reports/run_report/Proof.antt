@@ -1,8 +1,8 @@
 use native.Mathlib.Omega.{arith}
 use mathlib.Core.Path.{sym, ap}
 use Rattle.answers.specs.Answers.{runAnswer}
-use Rattle.lines.proofs.Writing.{wrote-as}
-use Rattle.wording.specs.Replies.{runText, lengthOf}
+use Rattle.calltext.proofs.Writing.{wrote-as}
+use Rattle.messages.specs.Replies.{runText, lengthOf}
 use Rattle.command.specs.Reports.{filledReport}
 use borrow.Author.Needs.{needs}
 use Rattle.command.proofs.reports.run_report.Statement.{statement}

@@ -1,6 +1,6 @@
 use native.Mathlib.Omega.{arith}
 use Rattle.rules.specs.Limits.{maxValueBytes}
-use Rattle.lines.proofs.Writing.{wrote-as}
+use Rattle.calltext.proofs.Writing.{wrote-as}
 use Rattle.command.proofs.Reporting.{within, run-reported}
 use borrow.Author.Needs.{needs}
 use Rattle.command.proofs.single.backward.Statement.{statement}

@@ -1,5 +1,5 @@
 use mathlib.Core.Path.{ap}
-use Rattle.lines.proofs.Writing.{wrote-as}
+use Rattle.calltext.proofs.Writing.{wrote-as}
 use Rattle.command.specs.Reports.{checkReport}
 use borrow.Author.Needs.{needs}
 use Rattle.command.proofs.single.check.Statement.{statement}

@@ -1,6 +1,6 @@
 use native.Mathlib.Omega.{arith}
 use mathlib.Core.Path.{ap}
-use Rattle.lines.specs.Decoded.{sizeOf}
+use Rattle.calltext.specs.Decoded.{sizeOf}
 use borrow.Author.Needs.{needs}
 use Rattle.corefun.proofs.arguments.byte_string.Statement.{statement}
 use Rattle.corefun.proofs.arguments.byte_string.Tie as tie

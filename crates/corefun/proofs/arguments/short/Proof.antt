@@ -1,6 +1,6 @@
 use native.Mathlib.Omega.{arith}
 use mathlib.Core.Path.{ap}
-use Rattle.lines.specs.Numbered.{valueOf}
+use Rattle.calltext.specs.Numbered.{valueOf}
 use borrow.Author.Needs.{needs}
 use Rattle.corefun.proofs.arguments.short.Statement.{statement}
 use Rattle.corefun.proofs.arguments.short.Tie as tie

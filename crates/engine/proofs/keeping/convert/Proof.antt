@@ -1,6 +1,6 @@
 use mathlib.Core.Path.{sym, ap, _∙_}
 use lib.ListN.{replicate}
-use Rattle.turns.specs.Turns.{convertOf}
+use Rattle.conversions.specs.Turns.{convertOf}
 use Rattle.engine.proofs.Beginning.{enough-le}
 use Rattle.engine.proofs.Turns.{convert-whole, turn-enough, turn-short}
 use borrow.Author.Needs.{needs}

@@ -1,6 +1,6 @@
 use mathlib.Core.Path.{sym, ap, _∙_}
 use lib.ListN.{replicate}
-use Rattle.turns.specs.Turns.{rollbackOf}
+use Rattle.conversions.specs.Turns.{rollbackOf}
 use Rattle.engine.proofs.Beginning.{enough-le}
 use Rattle.engine.proofs.Turns.{rollback-whole, turn-enough, turn-short}
 use borrow.Author.Needs.{needs}

@@ -65,7 +65,7 @@ use own.tests.pair_up.Reads as pair-up-reads
 use own.tests.spent.Reads as spent-reads
 use own.variables.bind.Reads as bind-reads
 use own.variables.variable.Reads as variables-variable-reads
-use Rattle.uses.proofs.Uses.none.Reads as none-reads
+use Rattle.varsets.proofs.Uses.none.Reads as none-reads
 use Rattle.octets.proofs.wide_index.Reads as wide-index-reads
 
 abbrev pub μ-arms : Measures 8 arms-kinds.ps ℕ

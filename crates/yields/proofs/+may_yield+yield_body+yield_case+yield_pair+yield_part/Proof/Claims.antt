@@ -22,9 +22,9 @@ use Rattle.decoded.proofs.rows.first_of.Reads as first-of-reads
 use Rattle.decoded.proofs.rows.kind_of.Reads as rows-kind-of-reads
 use Rattle.decoded.proofs.rows.second_of.Reads as second-of-reads
 use Rattle.decoded.proofs.rows.third_of.Reads as third-of-reads
-use Rattle.values.proofs.nodes.kind_of.Reads as nodes-kind-of-reads
-use Rattle.values.proofs.nodes.left_of.Reads as left-of-reads
-use Rattle.values.proofs.nodes.right_of.Reads as right-of-reads
+use Rattle.valuegraph.proofs.nodes.kind_of.Reads as nodes-kind-of-reads
+use Rattle.valuegraph.proofs.nodes.left_of.Reads as left-of-reads
+use Rattle.valuegraph.proofs.nodes.right_of.Reads as right-of-reads
 use Rattle.yields.proofs.surely.Reads as surely-reads
 use Rattle.yields.proofs.yield_variable.Reads as yield-variable-reads
 

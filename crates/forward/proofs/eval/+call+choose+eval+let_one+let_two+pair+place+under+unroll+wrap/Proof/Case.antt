@@ -6,7 +6,7 @@ use native.Mathlib.Omega.{arith}
 use mathlib.Core.Path.{refl, sym, _∙_}
 use mathlib.Core.Logic.{inl as left, inr as right}
 use borrow.Author.Needs.{needs}
-use Rattle.values.proofs.Heaps.{value-inl, value-inr}
+use Rattle.valuegraph.proofs.Heaps.{value-inl, value-inr}
 use own.Answers.{is-value, is-refused, is-stuck}
 use own.Runs.{later}
 use own.Bounds.{row-read, lower-part}

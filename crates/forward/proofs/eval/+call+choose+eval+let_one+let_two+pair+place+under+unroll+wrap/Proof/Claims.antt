@@ -54,9 +54,9 @@ use Rattle.scopes.proofs.state.fuel.Reads as fuel-reads
 use Rattle.scopes.proofs.state.scope.Reads as scope-reads
 use Rattle.scopes.proofs.state.spend.Reads as spend-reads
 use Rattle.scopes.proofs.state.wider.Reads as wider-reads
-use Rattle.values.proofs.nodes.kind_of.Reads as nodes-kind-of-reads
-use Rattle.values.proofs.nodes.left_of.Reads as left-of-reads
-use Rattle.values.proofs.nodes.right_of.Reads as right-of-reads
+use Rattle.valuegraph.proofs.nodes.kind_of.Reads as nodes-kind-of-reads
+use Rattle.valuegraph.proofs.nodes.left_of.Reads as left-of-reads
+use Rattle.valuegraph.proofs.nodes.right_of.Reads as right-of-reads
 
 abbrev pub μ-call : Measures 3 call-kinds.ps ℕ
 μ-call κs a = 16 * getD (a .1 .1 .0 .now) 1 0 + 10

@@ -6,7 +6,7 @@ use native.Mathlib.Omega.{arith}
 use mathlib.Core.Path.{refl, sym, ap, _∙_}
 use mathlib.Core.Logic.{inl as left, inr as right}
 use borrow.Author.Needs.{needs}
-use Rattle.values.proofs.Heaps.{value-pair}
+use Rattle.valuegraph.proofs.Heaps.{value-pair}
 use Rattle.scopes.specs.Slots.{Machine}
 use own.Answers.{is-value, is-refused, is-stuck}
 use own.Runs.{later}

@@ -1,0 +1,41 @@
+use native.Mathlib.Omega.{arith}
+use Rattle.calltext.specs.Answers.{openedLine}
+use Rattle.calltext.proofs.Writing.{wrote-both}
+use Rattle.calltext.proofs.Digits.{hex-length}
+use borrow.Author.Needs.{needs}
+use Rattle.calltext.proofs.answers.opened_line.Statement.{statement}
+use Rattle.calltext.proofs.answers.opened_line.Tie as tie
+
+slice-aggregate-put : tie.Need-slice-aggregate-put
+slice-aggregate-put c = search needs
+
+put-requires : tie.Need-put-requires
+put-requires c κs = search needs
+
+encode-requires : tie.Need-encode-requires
+encode-requires c κs = search needs
+
+slice-aggregate-put-2 : tie.Need-slice-aggregate-put-2
+slice-aggregate-put-2 c = search needs
+
+put-requires-2 : tie.Need-put-requires-2
+put-requires-2 c κs = omega (arith, c .before .before .before .before .before .before .before .before .put .ensures .ends, c .before .before .before .before .before .before .before .before .put .ensures .kept, c .before .before .before .before .encode .ensures .ends, c .before .before .before .before .encode .ensures .kept, c .before .before .before .before .before .before .before .before .before .before .before .before .before .pre, hex-length (c .before .before .before .before .before .before .before .before .before .before .before .before .before .args .journal .now))
+
+same-length : tie.Need-same-length
+same-length c = search needs
+
+returns : tie.Need-returns
+unfolding openedLine
+returns c = wrote-both (wrote-both (c .before .before .before .before .before .before .before .before .before .before .before .put .ensures) (c .before .before .before .before .before .before .before .encode .ensures)) (c .before .before .put2 .ensures)
+
+pub opened-line-spec : {M : Type 1} → statement M
+opened-line-spec =
+    tie.close
+    (tie.spec
+    slice-aggregate-put
+    put-requires
+    encode-requires
+    slice-aggregate-put-2
+    put-requires-2
+    same-length
+    returns)

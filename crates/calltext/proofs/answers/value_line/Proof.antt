@@ -1,0 +1,54 @@
+use native.Mathlib.Omega.{arith}
+use Rattle.calltext.specs.Answers.{valueLine}
+use Rattle.calltext.proofs.Writing.{wrote-five}
+use Rattle.calltext.proofs.Figures.{at-most-twenty}
+use Rattle.calltext.proofs.Digits.{hex-length}
+use borrow.Author.Needs.{needs}
+use Rattle.calltext.proofs.answers.value_line.Statement.{statement}
+use Rattle.calltext.proofs.answers.value_line.Tie as tie
+
+slice-aggregate-put : tie.Need-slice-aggregate-put
+slice-aggregate-put c = search needs
+
+put-requires : tie.Need-put-requires
+put-requires c κs = search needs
+
+encode-requires : tie.Need-encode-requires
+encode-requires c κs = search needs
+
+slice-aggregate-put-2 : tie.Need-slice-aggregate-put-2
+slice-aggregate-put-2 c = search needs
+
+put-requires-2 : tie.Need-put-requires-2
+put-requires-2 c κs = omega (arith, c .before .before .before .before .before .before .before .before .put .ensures .ends, c .before .before .before .before .before .before .before .before .put .ensures .kept, c .before .before .before .before .encode .ensures .ends, c .before .before .before .before .encode .ensures .kept, c .before .before .before .before .before .before .before .before .before .before .before .before .before .pre, hex-length (c .before .before .before .before .before .before .before .before .before .before .before .before .before .args .value .now))
+
+put-number-requires : tie.Need-put-number-requires
+put-number-requires c κs = omega (arith, c .before .before .before .before .before .before .before .before .before .before .before .before .put .ensures .ends, c .before .before .before .before .before .before .before .before .before .before .before .before .put .ensures .kept, c .before .before .before .before .before .before .before .before .encode .ensures .ends, c .before .before .before .before .before .before .before .before .encode .ensures .kept, c .before .before .before .put2 .ensures .ends, c .before .before .before .put2 .ensures .kept, c .before .before .before .before .before .before .before .before .before .before .before .before .before .before .before .before .before .pre, hex-length (c .before .before .before .before .before .before .before .before .before .before .before .before .before .before .before .before .before .args .value .now), at-most-twenty (c .before .before .before .before .before .before .before .before .before .before .before .before .before .before .before .before .before .args .steps) (search needs))
+
+slice-aggregate-put-3 : tie.Need-slice-aggregate-put-3
+slice-aggregate-put-3 c = search needs
+
+put-requires-3 : tie.Need-put-requires-3
+put-requires-3 c κs = omega (arith, c .before .before .before .before .before .before .before .before .before .before .before .before .before .before .before .before .before .put .ensures .ends, c .before .before .before .before .before .before .before .before .before .before .before .before .before .before .before .before .before .put .ensures .kept, c .before .before .before .before .before .before .before .before .before .before .before .before .before .encode .ensures .ends, c .before .before .before .before .before .before .before .before .before .before .before .before .before .encode .ensures .kept, c .before .before .before .before .before .before .before .before .put2 .ensures .ends, c .before .before .before .before .before .before .before .before .put2 .ensures .kept, c .before .before .before .before .put-number .ensures .ends, c .before .before .before .before .put-number .ensures .kept, c .before .before .before .before .before .before .before .before .before .before .before .before .before .before .before .before .before .before .before .before .before .before .pre, hex-length (c .before .before .before .before .before .before .before .before .before .before .before .before .before .before .before .before .before .before .before .before .before .before .args .value .now), at-most-twenty (c .before .before .before .before .before .before .before .before .before .before .before .before .before .before .before .before .before .before .before .before .before .before .args .steps) (search needs))
+
+same-length : tie.Need-same-length
+same-length c = let w = wrote-five (c .before .before .before .before .before .before .before .before .before .before .before .before .before .before .before .before .before .before .before .before .put .ensures) (c .before .before .before .before .before .before .before .before .before .before .before .before .before .before .before .before .encode .ensures) (c .before .before .before .before .before .before .before .before .before .before .before .put2 .ensures) (c .before .before .before .before .before .before .before .put-number .ensures) (c .before .before .put3 .ensures) in w .kept
+
+returns : tie.Need-returns
+unfolding valueLine
+returns c = wrote-five (c .before .before .before .before .before .before .before .before .before .before .before .before .before .before .before .before .before .before .before .before .put .ensures) (c .before .before .before .before .before .before .before .before .before .before .before .before .before .before .before .before .encode .ensures) (c .before .before .before .before .before .before .before .before .before .before .before .put2 .ensures) (c .before .before .before .before .before .before .before .put-number .ensures) (c .before .before .put3 .ensures)
+
+pub value-line-spec : {M : Type 1} → statement M
+value-line-spec =
+    tie.close
+    (tie.spec
+    slice-aggregate-put
+    put-requires
+    encode-requires
+    slice-aggregate-put-2
+    put-requires-2
+    put-number-requires
+    slice-aggregate-put-3
+    put-requires-3
+    same-length
+    returns)

@@ -1,0 +1,63 @@
+use mathlib.Core.Path.{ap}
+use Rattle.corefun.specs.Bounds.{heldIn}
+use Rattle.corefun.proofs.Parts.{counted, counted-within}
+use borrow.Author.Needs.{needs}
+use Rattle.corefun.proofs.running.check.Statement.{statement}
+use Rattle.corefun.proofs.running.check.Tie as tie
+
+load-requires : tie.Need-load-requires
+load-requires c κs = search needs
+
+enum-known-p : tie.Need-enum-known-p
+enum-known-p c = search needs
+
+enum-told : tie.Need-enum-told
+enum-told c = search needs
+
+same-length : tie.Need-same-length
+same-length c = search needs
+
+same-length-2 : tie.Need-same-length-2
+same-length-2 c = search needs
+
+returns : tie.Need-returns
+returns c = search needs
+
+slice-reshare-prefix-report-check : tie.Need-slice-reshare-prefix-report-check
+slice-reshare-prefix-report-check c = counted-within (ap heldIn (c .before .p .given .1)) (c .before .before .before .before .before .before .before .load .ensures)
+
+slice-aggregate-report-check : tie.Need-slice-aggregate-report-check
+slice-aggregate-report-check c = counted _ (ap heldIn (c .before .before .p .given .1)) (c .before .before .before .before .before .before .before .before .load .ensures)
+
+report-check-requires : tie.Need-report-check-requires
+report-check-requires c κs = search needs
+
+same-length-3 : tie.Need-same-length-3
+same-length-3 c = search needs
+
+same-length-4 : tie.Need-same-length-4
+same-length-4 c = search needs
+
+same-length-5 : tie.Need-same-length-5
+same-length-5 c = search needs
+
+returns-2 : tie.Need-returns-2
+returns-2 c = search needs
+
+pub check-spec : {M : Type 1} → statement M
+check-spec =
+    tie.close
+    (tie.spec
+    load-requires
+    enum-known-p
+    enum-told
+    same-length
+    same-length-2
+    returns
+    slice-reshare-prefix-report-check
+    slice-aggregate-report-check
+    report-check-requires
+    same-length-3
+    same-length-4
+    same-length-5
+    returns-2)

@@ -1,0 +1,47 @@
+use native.Mathlib.Omega.{arith}
+use mathlib.Core.Path.{sym, ap}
+use Rattle.answers.specs.Answers.{runAnswer}
+use Rattle.calltext.proofs.Writing.{wrote-as}
+use Rattle.messages.specs.Replies.{runText, lengthOf}
+use borrow.Author.Needs.{needs}
+use Rattle.messages.proofs.replies.run_line.Statement.{statement}
+use Rattle.messages.proofs.replies.run_line.Tie as tie
+
+enum-known-answer : tie.Need-enum-known-answer
+enum-known-answer c = search needs
+
+done-line-requires : tie.Need-done-line-requires
+done-line-requires c κs = (omega (arith, c .before .before .before .before .before .before .pre .0, ap lengthOf (c .before .before .answer .given .1)), c .before .before .before .before .before .before .pre .1 .0)
+
+enum-known-answer-2 : tie.Need-enum-known-answer-2
+enum-known-answer-2 c = search needs
+
+refusal-line-requires : tie.Need-refusal-line-requires
+refusal-line-requires c κs = search needs
+
+same-length : tie.Need-same-length
+same-length c = search needs
+
+returns : tie.Need-returns
+unfolding runText
+returns c = wrote-as (c .before .before .done-line .ensures) (sym (ap (λ a. runText (runAnswer a) (c .before .before .before .before .before .before .before .before .before .args .output .now)) (c .before .before .before .before .before .answer .given .1)))
+
+same-length-2 : tie.Need-same-length-2
+same-length-2 c = search needs
+
+returns-2 : tie.Need-returns-2
+unfolding runText
+returns-2 c = wrote-as (c .before .before .refusal-line .ensures) (sym (ap (λ a. runText (runAnswer a) (c .before .before .before .before .before .before .before .before .before .args .output .now)) (c .before .before .before .before .before .answer2 .given .1)))
+
+pub run-line-spec : {M : Type 1} → statement M
+run-line-spec =
+    tie.close
+    (tie.spec
+    enum-known-answer
+    done-line-requires
+    enum-known-answer-2
+    refusal-line-requires
+    same-length
+    returns
+    same-length-2
+    returns-2)

@@ -1,0 +1,29 @@
+use mathlib.Core.Path.{_∙_}
+use borrow.Author.Needs.{needs}
+use Rattle.runs.proofs.Loads.{begun-ready, begun}
+use Rattle.runs.proofs.begin.begin.Statement.{statement}
+use Rattle.runs.proofs.begin.begin.Tie as tie
+
+load-ancillae-requires : tie.Need-load-ancillae-requires
+load-ancillae-requires c κs = search needs
+
+load-requires : tie.Need-load-requires
+load-requires c κs = begun-ready (c .before .before .before .before .before .before .before .before .before .pre .1) (c .before .before .before .load-ancillae .ensures .loaded)
+
+sub-bind : tie.Need-sub-bind
+sub-bind c = search needs
+
+bind-requires : tie.Need-bind-requires
+bind-requires c κs = search needs
+
+same-length : tie.Need-same-length
+same-length c = search needs
+
+returns : tie.Need-returns
+returns c = let loaded = c .before .before .before .before .before .before .before .before .load-ancillae .ensures in
+    record { lengths = c .bind .ensures .lengths ∙ loaded .lengths; begun = begun (c .before .before .before .before .before .before .before .before .before .before .before .before .before .before .pre .1) (loaded .loaded) (c .before .before .before .before .load .ensures) (c .bind .ensures .slots) }
+
+pub begin-spec : {M : Type 1} → statement M
+begin-spec =
+    tie.close
+    (tie.spec load-ancillae-requires load-requires sub-bind bind-requires same-length returns)

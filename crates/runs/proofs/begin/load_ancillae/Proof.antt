@@ -1,0 +1,78 @@
+use native.Mathlib.Omega.{arith}
+use mathlib.Core.Path.{_≡_, refl, sym, _∙_}
+use lib.ListN.{length}
+use borrow.Author.Needs.{needs}
+use Rattle.valuegraph.proofs.Heaps.{heap-empty}
+use Rattle.scopes.specs.Slots.{stateCount, slotsOf}
+use Rattle.runs.specs.Begun.{startNodes}
+use Rattle.runs.proofs.Loads.{Named, ancillae-ready, named-start, named-room, named-length, named-less, named-bind, named-small}
+use Rattle.runs.proofs.Loads.{named-next, named-done}
+use Rattle.runs.proofs.begin.load_ancillae.Statement.{statement}
+use Rattle.runs.proofs.begin.load_ancillae.Tie as tie
+
+abbrev Inv-loop : tie.InvT-loop
+Inv-loop ws st₀ bytes top node₀ count₀ st node count = (length st ≡ stateCount) × (length st ≡ length st₀) × Named ws (slotsOf st₀) (slotsOf st) bytes count node top
+
+abbrev μ-loop : tie.MeasureT-loop
+μ-loop ws st₀ bytes top node₀ count₀ st node count = node
+
+unit-requires : tie.Need-unit-requires Inv-loop μ-loop
+unfolding startNodes
+unit-requires c κs = (heap-empty _, omega (arith, c .before .before .before .pre .1 .nodes-there))
+
+load-requires : tie.Need-load-requires Inv-loop μ-loop
+load-requires c κs = ancillae-ready (c .before .before .before .before .before .before .before .pre .1) (c .before .before .before .unit .ensures)
+
+sub-node : tie.Need-sub-node Inv-loop μ-loop
+sub-node c = omega (arith, c .before .before .load .ensures .nodes)
+
+loop-holds : tie.Need-loop-holds Inv-loop μ-loop
+loop-holds c = (c .before .before .before .before .before .before .before .before .before .before .pre .0, refl, named-start (c .before .before .before .before .before .before .before .before .before .before .pre .1) (c .before .before .before .before .before .before .unit .ensures) (c .before .before .load .ensures))
+
+bind-requires : tie.Need-bind-requires Inv-loop μ-loop
+bind-requires c κs = (c .before .before .loop .inv .0, named-bind (c .before .before .loop .inv .2) (c .before .loop-test .taken))
+
+length-of-requires : tie.Need-length-of-requires Inv-loop μ-loop
+length-of-requires c κs = named-room (c .before .before .before .before .loop .inv .2) (c .before .before .before .loop-test .taken)
+
+wide32-requires : tie.Need-wide32-requires Inv-loop μ-loop
+wide32-requires c κs = search needs
+
+sub-node-2 : tie.Need-sub-node-2 Inv-loop μ-loop
+sub-node-2 c = omega (arith, named-length (c .before .before .before .before .before .before .loop .inv .2) (c .before .before .before .before .before .loop-test .taken), c .wide32 .ensures .0, c .before .length-of .ensures)
+
+add-count : tie.Need-add-count Inv-loop μ-loop
+add-count c = omega (arith, named-small (c .before .before .before .before .before .before .loop .inv .2) (c .before .before .before .before .before .loop-test .taken))
+
+loop-less : tie.Need-loop-less Inv-loop μ-loop
+loop-less c = named-less (c .before .before .before .before .before .before .loop .inv .2) (c .before .before .before .before .before .loop-test .taken) _ (c .wide32 .ensures .0 ∙ c .before .length-of .ensures)
+
+loop-again : tie.Need-loop-again Inv-loop μ-loop
+loop-again c = let b = c .before .before .before .bind .ensures in
+    (b .lengths ∙ c .before .before .before .before .before .before .loop .inv .0, b .lengths ∙ c .before .before .before .before .before .before .loop .inv .1, named-next (c .before .before .before .before .before .before .loop .inv .2) (c .before .before .before .before .before .loop-test .taken) (b .slots) (c .wide32 .ensures .0 ∙ c .before .length-of .ensures))
+
+same-length : tie.Need-same-length Inv-loop μ-loop
+same-length c = c .before .before .before .before .load .kept .0 ∙ c .before .before .before .before .before .before .before .before .unit .kept .0
+
+returns : tie.Need-returns Inv-loop μ-loop
+returns c = record { lengths = c .before .loop .inv .1; loaded = named-done (c .before .loop .inv .2) (c .loop-test .left) (sym (c .before .before .before .before .load .kept .0 ∙ c .before .before .before .before .before .before .before .before .unit .kept .0)) }
+
+pub load-ancillae-spec : {M : Type 1} → statement M
+load-ancillae-spec =
+    tie.close
+    (tie.spec
+    Inv-loop
+    μ-loop
+    unit-requires
+    load-requires
+    sub-node
+    loop-holds
+    bind-requires
+    length-of-requires
+    wide32-requires
+    sub-node-2
+    add-count
+    loop-less
+    loop-again
+    same-length
+    returns)

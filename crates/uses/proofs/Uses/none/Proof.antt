@@ -1,9 +1,0 @@
-use Rattle.uses.proofs.Sets.{holds-none}
-use Rattle.uses.proofs.Uses.none.Statement.{statement}
-use Rattle.uses.proofs.Uses.none.Tie as tie
-
-returns : tie.Need-returns
-returns c = holds-none
-
-pub none-spec : {M : Type 1} → statement M
-none-spec = tie.close (tie.spec returns)

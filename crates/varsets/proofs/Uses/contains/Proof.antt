@@ -1,0 +1,15 @@
+use mathlib.Core.Path.{refl}
+use Rattle.varsets.specs.Sets.{has}
+use borrow.Author.Needs.{needs}
+use Rattle.varsets.proofs.Uses.contains.Statement.{statement}
+use Rattle.varsets.proofs.Uses.contains.Tie as tie
+
+shr-result : tie.Need-shr-result
+shr-result c = search needs
+
+returns : tie.Need-returns
+unfolding has
+returns c = refl
+
+pub contains-spec : {M : Type 1} → statement M
+contains-spec = tie.close (tie.spec shr-result returns)

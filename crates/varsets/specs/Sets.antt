@@ -1,0 +1,36 @@
+-- Sets of variables as the code has them, and what they hold. Laws: proofs/Bits.
+use Prim.Native.Nat.{ℕ, _/_, _%_, _^_, _<_}
+use mathlib.Core.Path.{_≡_}
+use mathlib.Core.Bool.{Bool, true, false, _||_, _&&_}
+use lib.Dec.{eqb, ltb}
+use package.Rattle.rules.specs.Limits.{maxVariables}
+use Rattle.varsets.specs.declared.Uses.{Uses}
+
+-- Is variable `i` in the set?
+unfoldable pub has : Uses → ℕ → Bool
+has u i = eqb (u .bits / 2 ^ i % 2) 1
+
+-- the set holds, of the variables that there can be, those that `S` says
+pub record Holds (u : Uses) (S : ℕ → Bool) : Type 0 where
+  pub each : (i : ℕ) → i < maxVariables → has u i ≡ S i
+
+abbrev pub nobody : ℕ → Bool
+nobody i = false
+
+abbrev pub alone : ℕ → ℕ → Bool
+alone i j = eqb j i
+
+-- the first `n` variables
+abbrev pub firsts : ℕ → ℕ → Bool
+firsts n i = ltb i n
+
+abbrev pub joined : (ℕ → Bool) → (ℕ → Bool) → ℕ → Bool
+joined S S′ i = S i || S′ i
+
+-- those of a set that are among the first `n` variables
+abbrev pub below : ℕ → (ℕ → Bool) → ℕ → Bool
+below n S i = S i && ltb i n
+
+-- two sets have the same variables among those of a third
+abbrev pub AgreeOn : Uses → Uses → Uses → Type 0
+AgreeOn u v among = (i : ℕ) → i < maxVariables → has among i ≡ true → has u i ≡ has v i
