@@ -1,5 +1,5 @@
 -- Cells: a binding state (section 2, backward) is the number of its newest cell, 0 for the empty state. A cell is a unit of the value graph
--- (values/specs/Nodes, `Celled`): its left part is the node that a variable is bound to, or the mark, which says that all variables from that
+-- (valuegraph/specs/Nodes, `Celled`): its left part is the node that a variable is bound to, or the mark, which says that all variables from that
 -- one on are not known; its right part is the variable and the cell before. Cells are appended and never changed, so an older state stays what
 -- it was. What a state says of a variable is a function of its number and of the cells below it alone. Laws: proofs/Cells.
 use Prim.Native.Nat.{ℕ, zero, suc, _+_, _*_, _/_, _%_}
