@@ -24,9 +24,9 @@ pub fn check(program: &[u8], workspace: &mut [u8], out: &mut [u8]) -> usize
 pub fn forward(
     program: &[u8],
     function: u16,
-    fuel: u16,
     ancillae: &[u8],
     value: &[u8],
+    fuel: u16,
     workspace: &mut [u8],
     out: &mut [u8],
 ) -> usize
@@ -51,9 +51,9 @@ pub fn forward(
 pub fn backward(
     program: &[u8],
     function: u16,
-    fuel: u16,
     ancillae: &[u8],
     value: &[u8],
+    fuel: u16,
     workspace: &mut [u8],
     out: &mut [u8],
 ) -> usize

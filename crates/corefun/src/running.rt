@@ -33,9 +33,9 @@ fn report_run(
     back: bool,
     program: &[u8],
     function: u16,
-    fuel: u16,
     ancillae: &[u8],
     value: &[u8],
+    fuel: u16,
     workspace: &mut [u8],
 ) {
     let mut out = [0u8; REPORT];
@@ -43,9 +43,9 @@ fn report_run(
         let n = single::backward(
             program,
             function,
-            fuel,
             ancillae,
             value,
+            fuel,
             workspace,
             &mut out,
         );
@@ -55,9 +55,9 @@ fn report_run(
     let n = single::forward(
         program,
         function,
-        fuel,
         ancillae,
         value,
+        fuel,
         workspace,
         &mut out,
     );
@@ -84,9 +84,9 @@ fn run_given(
         back,
         program,
         function,
-        fuel,
         ancillae,
         &value[..v],
+        fuel,
         workspace,
     );
 }

@@ -37,11 +37,11 @@ fn run_function(
             program,
             terms,
             functions,
-            workspace,
             function,
             ancillae,
             value,
             fuel,
+            workspace,
             output,
         );
     }
@@ -49,11 +49,11 @@ fn run_function(
         program,
         terms,
         functions,
-        workspace,
         function,
         ancillae,
         value,
         fuel,
+        workspace,
         output,
     )
 }

@@ -16,12 +16,12 @@ fn evaluate(
     p: &[u8],
     terms: &[u16],
     functions: &[u16],
-    ws: &mut [u8],
-    m: &mut [u32; 2],
     function: u16,
     ancillae: &[u8],
     value: &[u8],
     fuel: u16,
+    ws: &mut [u8],
+    m: &mut [u32; 2],
 ) -> u32
     requires { ⌜ Runnable (now p) (now terms) (now functions) (now ws) function (now ancillae) (now value) fuel ⌝ }
     ensures { λ r. ⌜ Evaluated (now (p .entry)) (now (terms .entry)) (now (functions .entry)) (now (ws .entry)) (now (ws .exit)) function (now (ancillae .entry)) (now (value .entry)) fuel (outOf r (now (m .exit))) ⌝ }
@@ -44,11 +44,11 @@ pub fn run(
     p: &[u8],
     terms: &[u16],
     functions: &[u16],
-    ws: &mut [u8],
     function: u16,
     ancillae: &[u8],
     value: &[u8],
     fuel: u16,
+    ws: &mut [u8],
     out: &mut [u8],
 ) -> RunAnswer
     requires { ⌜ Runnable (now p) (now terms) (now functions) (now ws) function (now ancillae) (now value) fuel ⌝ }
@@ -59,12 +59,12 @@ pub fn run(
         p,
         terms,
         functions,
-        ws,
-        &mut m,
         function,
         ancillae,
         value,
         fuel,
+        ws,
+        &mut m,
     );
     match forward::outcomes::status_of(answer) {
         Status::Value(node) => ended::give(ws, node, fuel, m[1], out),

@@ -17,12 +17,12 @@ fn undo(
     p: &[u8],
     terms: &[u16],
     functions: &[u16],
-    ws: &mut [u8],
-    m: &mut [u32; 2],
     function: u16,
     ancillae: &[u8],
     value: &[u8],
     fuel: u16,
+    ws: &mut [u8],
+    m: &mut [u32; 2],
 ) -> Input
     requires { ⌜ Returnable (now p) (now terms) (now functions) (now ws) function (now ancillae) (now value) fuel ⌝ }
     ensures { λ r. ⌜ Undone (now (p .entry)) (now (terms .entry)) (now (functions .entry)) (now (ws .exit)) function (now (ancillae .entry)) (now (value .entry)) fuel (statusOf (r .stop)) (r .node) (machineOf (now (m .exit))) ⌝ }
@@ -44,11 +44,11 @@ pub fn run(
     p: &[u8],
     terms: &[u16],
     functions: &[u16],
-    ws: &mut [u8],
     function: u16,
     ancillae: &[u8],
     value: &[u8],
     fuel: u16,
+    ws: &mut [u8],
     out: &mut [u8],
 ) -> RunAnswer
     requires { ⌜ Returnable (now p) (now terms) (now functions) (now ws) function (now ancillae) (now value) fuel ⌝ }
@@ -59,12 +59,12 @@ pub fn run(
         p,
         terms,
         functions,
-        ws,
-        &mut m,
         function,
         ancillae,
         value,
         fuel,
+        ws,
+        &mut m,
     );
     let stop = r.stop;
     let node = r.node;
