@@ -2,10 +2,10 @@
 // malformed, over the limit or wrong in number; then all of 11, a value not of its type. For programs that are loaded.
 use answers::Refusal;
 use program::views;
-use valuebytes::scan;
-use valuebytes::typed;
 use rules::MAX_FUNCTIONS;
 use rules::MAX_PARAMETERS;
+use valuebytes::scan;
+use valuebytes::typed;
 ghost use mathlib.Core.Path.{_≡_};
 ghost use mathlib.Core.Bool.{true};
 ghost use mathlib.Core.List.{map};

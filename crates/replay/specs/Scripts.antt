@@ -26,6 +26,16 @@ convertTag = 0x32
 abbrev pub rollbackTag : ℕ
 rollbackTag = 0x33
 
+-- how many bytes a call has before the record or the ancilla values
+abbrev pub openBytes : ℕ
+openBytes = 7
+
+abbrev pub convertBytes : ℕ
+convertBytes = 11
+
+abbrev pub rollbackBytes : ℕ
+rollbackBytes = 7
+
 ----------------------------------------------------------------
 -- One call
 
@@ -37,16 +47,16 @@ givenAt s kind n fuel function at =
 
 unfoldable pub openAt : List ℕ → ℕ → Step
 unfolding givenAt
-openAt s at = pick (ltb (length s - at) 7) Malformed (givenAt s openTag (get32 s (at + 1)) 0 0 (at + 5))
+openAt s at = pick (ltb (length s - at) openBytes) Malformed (givenAt s openTag (get32 s (at + 1)) 0 0 (at + 5))
 
 unfoldable pub convertAt : List ℕ → ℕ → Step
 unfolding givenAt
-convertAt s at = pick (ltb (length s - at) 11) Malformed (givenAt s convertTag (get32 s (at + 1)) (get16 s (at + 5)) (get16 s (at + 7)) (at + 9))
+convertAt s at = pick (ltb (length s - at) convertBytes) Malformed (givenAt s convertTag (get32 s (at + 1)) (get16 s (at + 5)) (get16 s (at + 7)) (at + 9))
 
 unfoldable pub rollbackAt : List ℕ → ℕ → Step
 rollbackAt s at =
-    pick (ltb (length s - at) 7) Malformed
-    (Play (record { kind = rollbackTag; n = get32 s (at + 1); fuel = get16 s (at + 5); function = 0; from = at + 7; next = at + 7 }))
+    pick (ltb (length s - at) rollbackBytes) Malformed
+    (Play (record { kind = rollbackTag; n = get32 s (at + 1); fuel = get16 s (at + 5); function = 0; from = at + rollbackBytes; next = at + rollbackBytes }))
 
 -- what stands at a place of a script
 unfoldable pub stepAt : List ℕ → ℕ → Step

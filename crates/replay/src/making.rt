@@ -3,6 +3,7 @@
 use crate::scripts;
 use crate::scripts::Part;
 use crate::told;
+use crate::told::LINE;
 ghost use mathlib.Core.Path.{_≡_};
 ghost use mathlib.Core.List.{_++_};
 ghost use Prim.Native.Nat.{_-_, _≤_};
@@ -26,7 +27,7 @@ fn make_open(
     n: usize,
     workspace: &mut [u8],
     journal: &mut [u8],
-) -> [u8; 7]
+) -> [u8; LINE]
     requires { ⌜ n ≤ length (now journal) ⌝ }
     ensures { λ r. ⌜ Made (now (program .entry)) (opens (length (now (workspace .entry))) (now (held .entry)) n) (now (journal .entry)) (now (workspace .entry)) r (now (journal .exit)) (now (workspace .exit)) ⌝ }
 {
@@ -43,7 +44,7 @@ fn make_convert(
     n: usize,
     workspace: &mut [u8],
     journal: &mut [u8],
-) -> [u8; 7]
+) -> [u8; LINE]
     requires { ⌜ n ≤ length (now journal) ⌝ }
     ensures { λ r. ⌜ Made (now (program .entry)) (converts (length (now (workspace .entry))) fuel function (now (ancillae .entry)) n) (now (journal .entry)) (now (workspace .entry)) r (now (journal .exit)) (now (workspace .exit)) ⌝ }
 {
@@ -65,7 +66,7 @@ fn make_rollback(
     n: usize,
     workspace: &mut [u8],
     journal: &mut [u8],
-) -> [u8; 7]
+) -> [u8; LINE]
     requires { ⌜ n ≤ length (now journal) ⌝ }
     ensures { λ r. ⌜ Made (now (program .entry)) (rollsBack (length (now (workspace .entry))) fuel n) (now (journal .entry)) (now (workspace .entry)) r (now (journal .exit)) (now (workspace .exit)) ⌝ }
 {
@@ -81,7 +82,7 @@ pub(crate) fn make(
     part: Part,
     workspace: &mut [u8],
     journal: &mut [u8],
-) -> [u8; 7]
+) -> [u8; LINE]
     requires { ⌜ (part .from ≤ part .next) × (part .next ≤ length (now script)) ⌝ }
     requires { ⌜ part .n ≤ length (now journal) ⌝ }
     ensures { λ r. ⌜ Made (now (program .entry)) (callOf (length (now (workspace .entry))) (now (script .entry)) part) (now (journal .entry)) (now (workspace .entry)) r (now (journal .exit)) (now (workspace .exit)) ⌝ }

@@ -6,25 +6,27 @@ use crate::scripts;
 use crate::scripts::Part;
 use crate::scripts::Step;
 use crate::told;
+use crate::told::LINE;
 use answers::CheckAnswer;
 ghost use mathlib.Core.Path.{_≡_};
 ghost use Prim.Native.Nat.{_+_, _*_, _≤_};
 ghost use lib.ListN.{length};
 ghost use Rattle.answers.specs.Answers.{checkAnswer};
 ghost use Rattle.replay.specs.Scripts.{stepAt, callOf, parse};
+ghost use Rattle.replay.specs.Lines.{lineLength};
 ghost use Rattle.replay.specs.Booked.{Booked};
 ghost use Rattle.replay.specs.Playing.{replyOf, replayed, ReplayMeans};
 ghost use Rattle.replay.specs.Inner.Steps.{nextOf, stopOf, hinders, roomFor, tested, beginsAt, makes, turnOf, play, follows, begins, Ahead, TurnMeans};
 
 // Is there room for the call at a place, with a buffer of `n` bytes, and for its line?
 fn fits(n: usize, at: usize, next: usize, count: usize, width: usize, room: usize) -> Move
-    requires { ⌜ 7 * count ≤ room ⌝ }
+    requires { ⌜ lineLength * count ≤ room ⌝ }
     ensures { λ r. ⌜ nextOf r ≡ roomFor n at next count width room ⌝ }
 {
     if width < n {
         return Move::Stop(ReplayAnswer::TooWide(at));
     }
-    if room - 7 * count < 7 {
+    if room - LINE * count < LINE {
         return Move::Stop(ReplayAnswer::ShortAnswers);
     }
     Move::To(next)
@@ -85,7 +87,7 @@ fn turn(
     answers: &mut [u8],
 ) -> Move
     requires { ⌜ (part .from ≤ part .next) × (part .next ≤ length (now script)) ⌝ }
-    requires { ⌜ (part .n ≤ length (now journal)) × (7 * count + 7 ≤ length (now answers)) ⌝ }
+    requires { ⌜ (part .n ≤ length (now journal)) × (lineLength * count + lineLength ≤ length (now answers)) ⌝ }
     ensures { λ r. ⌜ TurnMeans r (makes (tested (part .n) at (part .next) (now (journal .entry))) (now (program .entry)) (callOf (length (now (workspace .entry))) (now (script .entry)) part) count (now (journal .entry)) (now (answers .entry)) (now (workspace .entry))) (now (journal .exit)) (now (answers .exit)) (now (workspace .exit)) ⌝ }
 {
     let n = part.n;
@@ -95,7 +97,7 @@ fn turn(
         Move::Stop(answer) => Move::Stop(answer),
         Move::To(to) => {
             let line = making::make(program, script, part, workspace, journal);
-            octets::copy(answers, 7 * count, &line);
+            octets::copy(answers, LINE * count, &line);
             Move::To(to)
         }
     }

@@ -10,6 +10,13 @@ pub const CONVERT: u8 = 0x32;
 
 pub const ROLLBACK: u8 = 0x33;
 
+// How many bytes a call has before the record or the ancilla values.
+const OPEN_BYTES: usize = 7;
+
+const CONVERT_BYTES: usize = 11;
+
+const ROLLBACK_BYTES: usize = 7;
+
 // One call: its tag, the length of the journal's buffer, fuel and function where it has them, where the record or the ancilla values
 // start, and where the next call starts.
 pub struct Part {
@@ -52,7 +59,7 @@ fn open_at(script: &[u8], at: usize) -> Step
     requires { ⌜ at ≤ length (now script) ⌝ }
     ensures { λ r. ⌜ r ≡ openAt (now (script .entry)) at ⌝ }
 {
-    if script.len() - at < 7 {
+    if script.len() - at < OPEN_BYTES {
         return Step::Malformed;
     }
     let n = octets::read32(script, at + 1) as usize;
@@ -63,7 +70,7 @@ fn convert_at(script: &[u8], at: usize) -> Step
     requires { ⌜ at ≤ length (now script) ⌝ }
     ensures { λ r. ⌜ r ≡ convertAt (now (script .entry)) at ⌝ }
 {
-    if script.len() - at < 11 {
+    if script.len() - at < CONVERT_BYTES {
         return Step::Malformed;
     }
     let n = octets::read32(script, at + 1) as usize;
@@ -76,12 +83,12 @@ fn rollback_at(script: &[u8], at: usize) -> Step
     requires { ⌜ at ≤ length (now script) ⌝ }
     ensures { λ r. ⌜ r ≡ rollbackAt (now (script .entry)) at ⌝ }
 {
-    if script.len() - at < 7 {
+    if script.len() - at < ROLLBACK_BYTES {
         return Step::Malformed;
     }
     let n = octets::read32(script, at + 1) as usize;
     let fuel = octets::read16(script, at + 5);
-    let end = at + 7;
+    let end = at + ROLLBACK_BYTES;
     Step::Play(Part {
         kind: ROLLBACK,
         n,

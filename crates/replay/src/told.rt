@@ -1,10 +1,13 @@
-// The line of seven bytes that answers a call (specs/Lines).
+// The line that answers a call (specs/Lines).
 use answers::CheckAnswer;
 use answers::RunAnswer;
 ghost use mathlib.Core.Path.{_≡_};
 ghost use Rattle.answers.specs.Answers.{checkAnswer, runAnswer};
 ghost use Rattle.replay.specs.Lines.{lineOf};
 ghost use Rattle.replay.specs.Inner.Told.{checkLine, runLine};
+
+// How long a line is.
+pub(crate) const LINE: usize = 7;
 
 const OPENED: u8 = 0x41;
 
@@ -13,7 +16,7 @@ const HELD: u8 = 0x42;
 const REFUSED: u8 = 0x43;
 
 // A kind, two bytes and four bytes, the high byte first.
-fn line_of(kind: u8, number: u64, detail: u64) -> [u8; 7]
+fn line_of(kind: u8, number: u64, detail: u64) -> [u8; LINE]
     ensures { λ r. ⌜ r ≡ lineOf kind number detail ⌝ }
 {
     [
@@ -28,7 +31,7 @@ fn line_of(kind: u8, number: u64, detail: u64) -> [u8; 7]
 }
 
 // The line that answers an open.
-pub(crate) fn open_line(answer: CheckAnswer) -> [u8; 7]
+pub(crate) fn open_line(answer: CheckAnswer) -> [u8; LINE]
     ensures { λ r. ⌜ r ≡ checkLine (checkAnswer answer) ⌝ }
 {
     match answer {
@@ -38,7 +41,7 @@ pub(crate) fn open_line(answer: CheckAnswer) -> [u8; 7]
 }
 
 // The line that answers a convert or a rollback.
-pub(crate) fn turn_line(answer: RunAnswer) -> [u8; 7]
+pub(crate) fn turn_line(answer: RunAnswer) -> [u8; LINE]
     ensures { λ r. ⌜ r ≡ runLine (runAnswer answer) ⌝ }
 {
     match answer {

@@ -13,7 +13,7 @@ use package.Rattle.calls.specs.Conversions.{openCall}
 use package.Rattle.calls.specs.Book.{Call, buffer, Told, isOpen, holds, refuses, Left, resized, call}
 use package.Rattle.calls.specs.Claims.{lastField}
 use package.Rattle.replay.specs.Scripts.{pick, openTag, stepAt, givenOf, callOf, Script, parseFrom}
-use package.Rattle.replay.specs.Lines.{line}
+use package.Rattle.replay.specs.Lines.{lineLength, line}
 use package.Rattle.replay.specs.Playing.{Reply, played, malformed, tooWide, shortAnswers, unopened, cut, replyOf, hindrance, Result, ends}
 use package.Rattle.replay.specs.declared.scripts.Part.{Part}
 use package.Rattle.replay.specs.declared.scripts.Step.{Step}
@@ -55,7 +55,7 @@ leaves program c journal = call program c (resized (buffer c) journal)
 -- Is there room for the call at `at`, with a buffer of `n` bytes, in a journal's buffer of `width` bytes, and for its line in `room` bytes?
 unfoldable pub roomFor : ℕ → ℕ → ℕ → ℕ → ℕ → ℕ → Next
 roomFor n at next count width room =
-    pick (ltb width n) (halts (tooWide at)) (pick (ltb room (7 * count + 7)) (halts shortAnswers) (on next))
+    pick (ltb width n) (halts (tooWide at)) (pick (ltb room (lineLength * count + lineLength)) (halts shortAnswers) (on next))
 
 -- Does the call's buffer leave the journal's fields whole?
 unfoldable pub tested : ℕ → ℕ → ℕ → List ℕ → Next
@@ -78,7 +78,7 @@ makes (halts r) program c count journal answers workspace = unplayed r journal a
 makes (on next) program c count journal answers workspace = record {
   next = on next;
   journal = resized (length journal) (leaves program c journal .journal);
-  answers = pasted answers (7 * count) (line (leaves program c journal .told));
+  answers = pasted answers (lineLength * count) (line (leaves program c journal .told));
   workspace = swept (leaves program c journal .told) workspace;
 }
 
@@ -143,8 +143,8 @@ beginsAt (steps.Play p) program script journal answers workspace = begins progra
 pub record Ahead (script : List ℕ) (width room at count : ℕ) : Type 0 where
   pub inside : at ≤ length script
   pub few : count ≤ at
-  pub line : 7 * count ≤ room
-  pub free : hinders width (room - 7 * count) (parseFrom (suc (length script) - count) 0 script at) ≡ none
+  pub line : lineLength * count ≤ room
+  pub free : hinders width (room - lineLength * count) (parseFrom (suc (length script) - count) 0 script at) ≡ none
 
 -- a call was made, its line is `l`
 pub record Made (program : List ℕ) (c : Call) (journal workspace l journal′ workspace′ : List ℕ) : Type 0 where
