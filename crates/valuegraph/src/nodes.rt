@@ -12,7 +12,7 @@ ghost use Rattle.valuegraph.specs.Stores.{StoreReady, StoreDone};
 const NODE_BYTES: usize = 12;
 
 // Section 1's limit on values.
-const MAX_VALUE_BYTES: u32 = 1024;
+const MAX_VALUE_BYTES: u32 = rules::MAX_VALUE_BYTES as u32;
 
 // Kinds are those of the value bytes.
 pub const UNIT: u8 = 0;
