@@ -13,7 +13,7 @@ use package.Rattle.calltext.specs.Wrote.{Wrote}
 use package.Rattle.calltext.proofs.Writing.{wrote-to}
 use package.Rattle.batch.specs.Capped.{mostWorkspace, mostOutput, answerRoom}
 use package.Rattle.batch.specs.Answering.{answerLine}
-use package.Rattle.batch.specs.Lent.{onFront, Replies, Lent, holds, enough, enoughFor, Means, LineMeans}
+use package.Rattle.batch.specs.Lent.{onFront, Replies, Lent, digitsFit, enough, enoughFor, LineCase, LineMeans}
 use package.Rattle.batch.specs.declared.LineAnswer.{LineAnswer}
 use package.Rattle.batch.specs.declared.LineAnswer.the-variants.{Ends, Short}
 
@@ -46,7 +46,7 @@ all-six a b c d e f h =
 
 pub enough-all : (n p anc v ws o out : ℕ) → enough n p anc v ws o out ≡ true
     → ((n ≤ 2 * p) × (n ≤ 2 * anc) × (n ≤ 2 * v)) × (((mostWorkspace ≤ ws) × (mostOutput ≤ o)) × (2 * v + answerRoom ≤ out))
-unfolding enough holds
+unfolding enough digitsFit
 enough-all n p anc v ws o out e =
     let (p?, anc?, v?, ws?, o?, out?) =
     all-six (leb n (2 * p)) (leb n (2 * anc)) (leb n (2 * v)) (leb mostWorkspace ws) (leb mostOutput o) (leb (2 * v + answerRoom) out) e in (
@@ -56,21 +56,21 @@ enough-all n p anc v ws o out e =
 
 -- one test after another
 module _ (n p anc v ws o out : ℕ) where
-  pub short-program : holds n p ≡ false → false ≡ enough n p anc v ws o out
+  pub short-program : digitsFit n p ≡ false → false ≡ enough n p anc v ws o out
   unfolding enough
   short-program e = sym (rw e)
 
-  module _ (e₁ : holds n p ≡ true) where
-    pub short-ancillae : holds n anc ≡ false → false ≡ enough n p anc v ws o out
+  module _ (e₁ : digitsFit n p ≡ true) where
+    pub short-ancillae : digitsFit n anc ≡ false → false ≡ enough n p anc v ws o out
     unfolding enough
     short-ancillae e = sym (rw (e₁, e))
 
-    module _ (e₂ : holds n anc ≡ true) where
-      pub short-value : holds n v ≡ false → false ≡ enough n p anc v ws o out
+    module _ (e₂ : digitsFit n anc ≡ true) where
+      pub short-value : digitsFit n v ≡ false → false ≡ enough n p anc v ws o out
       unfolding enough
       short-value e = sym (rw (e₁, e₂, e))
 
-      module _ (e₃ : holds n v ≡ true) where
+      module _ (e₃ : digitsFit n v ≡ true) where
         pub short-workspace : ws < mostWorkspace → false ≡ enough n p anc v ws o out
         unfolding enough
         short-workspace h = sym (rw (e₁, e₂, e₃, lt-leb mostWorkspace ws h))
@@ -89,7 +89,7 @@ module _ (n p anc v ws o out : ℕ) where
 
 module _ {line : List ℕ} {b b′ : Lent} where
   pub short-line : enoughFor line b ≡ false → b′ ≡ b → LineMeans Short line b b′
-  short-line e h = record { means = subst (λ t. Means t Short line b b′) (sym e) (record { short = refl; kept = h }) }
+  short-line e h = record { means = subst (λ t. LineCase t Short line b b′) (sym e) (record { short = refl; kept = h }) }
 
   pub answered-line : {end : ℕ} → enoughFor line b ≡ true
       → Replies (readLine line) end (valueLeft line (b .value)) (b′ .value) (b .workspace) (b′ .workspace) (b .output) (b′ .output) (b .out) (b′ .out)
@@ -99,7 +99,7 @@ module _ {line : List ℕ} {b b′ : Lent} where
       let ends : end ≡ length (answerLine line) = omega (arith, h .told .ends) in
       record {
         means =
-            subst (λ t. Means t (Ends end) line b b′) (sym e)
+            subst (λ t. LineCase t (Ends end) line b b′) (sym e)
             (record {
               ends = ap Ends ends;
               told = wrote-to (h .told) ends;
@@ -120,6 +120,6 @@ endOf Short = 0
 pub ends-told : {r : LineAnswer} {line : List ℕ} {b b′ : Lent} → LineMeans r line b b′ → {n : ℕ} → r ≡ Ends n → Wrote (b .out) (b′ .out) 0 n (answerLine line)
 ends-told {r} {line} {b} {b′} h {n} e = by (enoughFor line b) (h .means)
   where
-    by : (t : Bool) → Means t r line b b′ → Wrote (b .out) (b′ .out) 0 n (answerLine line)
+    by : (t : Bool) → LineCase t r line b b′ → Wrote (b .out) (b′ .out) 0 n (answerLine line)
     by true m = wrote-to (m .told) (sym (ap endOf (m .ends)) ∙ ap endOf e)
     by false m = absurd (let short = m .short in let z : _≡_ {A = ℕ} 0 1 = cc in omega arith)

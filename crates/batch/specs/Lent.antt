@@ -85,14 +85,14 @@ abbrev pub lent : List ℕ → List ℕ → List ℕ → List ℕ → List ℕ �
 lent p anc v ws o out = record { program = p; ancillae = anc; value = v; workspace = ws; output = o; out = out }
 
 -- Is there room for `n` digits, two a byte?
-unfoldable pub holds : ℕ → ℕ → Bool
-holds n len = leb n (2 * len)
+unfoldable pub digitsFit : ℕ → ℕ → Bool
+digitsFit n len = leb n (2 * len)
 
 -- Is each buffer long enough for a line of `n` bytes? (A journal is answered from the value's buffer, two digits a byte.)
 unfoldable pub enough : ℕ → ℕ → ℕ → ℕ → ℕ → ℕ → ℕ → Bool
-unfolding holds
+unfolding digitsFit
 enough n p anc v ws o out =
-    holds n p && holds n anc && holds n v && leb mostWorkspace ws && leb mostOutput o && leb (2 * v + answerRoom) out
+    digitsFit n p && digitsFit n anc && digitsFit n v && leb mostWorkspace ws && leb mostOutput o && leb (2 * v + answerRoom) out
 
 abbrev pub enoughFor : List ℕ → Lent → Bool
 enoughFor line b =
@@ -113,10 +113,10 @@ pub record Answered (r : LineAnswer) (line : List ℕ) (b b′ : Lent) : Type 0 
   pub workspace : b′ .workspace ≡ workspaceAfter (readLine line) (b .workspace)
   pub output : b′ .output ≡ outputAfter (readLine line) (b .output)
 
-abbrev pub Means : Bool → LineAnswer → List ℕ → Lent → Lent → Type 0
-Means true r line b b′ = Answered r line b b′
-Means false r line b b′ = Untouched r b b′
+abbrev pub LineCase : Bool → LineAnswer → List ℕ → Lent → Lent → Type 0
+LineCase true r line b b′ = Answered r line b b′
+LineCase false r line b b′ = Untouched r b b′
 
 -- what a line is answered, with the buffers before and after
 pub record LineMeans (r : LineAnswer) (line : List ℕ) (b b′ : Lent) : Type 0 where
-  pub means : Means (enoughFor line b) r line b b′
+  pub means : LineCase (enoughFor line b) r line b b′

@@ -4,14 +4,14 @@ ghost use mathlib.Core.Path.{_≡_};
 ghost use Prim.Native.Nat.{_+_, _*_};
 ghost use lib.Dec.{leb};
 ghost use Rattle.batch.specs.Capped.{answerRoom};
-ghost use Rattle.batch.specs.Lent.{holds, enough};
+ghost use Rattle.batch.specs.Lent.{digitsFit, enough};
 
 // The room that an answer needs beside a journal in hexadecimal.
 const ANSWER_ROOM: usize = 2112;
 
 // Is there room for so many digits in so many bytes, two a byte?
 fn fits_digits(digits: usize, len: usize) -> bool
-    ensures { λ r. ⌜ r ≡ holds digits len ⌝ }
+    ensures { λ r. ⌜ r ≡ digitsFit digits len ⌝ }
 {
     if len < digits / 2 + digits % 2 {
         return false;
