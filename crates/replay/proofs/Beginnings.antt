@@ -12,9 +12,9 @@ use package.Rattle.calls.specs.Answer.{Answer, accepted, refused, cleared}
 use package.Rattle.calls.specs.Conversions.{openCall}
 use package.Rattle.calls.specs.Book.{isOpen, resized, afterOpen}
 use package.Rattle.answers.specs.Answers.{checkAnswer, openAnswer}
-use package.Rattle.requests.specs.declared.answers.Refusal.{Refusal}
-use package.Rattle.requests.specs.declared.answers.CheckAnswer.{CheckAnswer}
-use package.Rattle.requests.specs.declared.answers.CheckAnswer.the-variants as checks
+use package.Rattle.answers.specs.declared.Refusal.{Refusal}
+use package.Rattle.answers.specs.declared.CheckAnswer.{CheckAnswer}
+use package.Rattle.answers.specs.declared.CheckAnswer.the-variants as checks
 use package.Rattle.replay.specs.Lines.{line}
 use package.Rattle.replay.specs.Inner.Told.{checkLine}
 use package.Rattle.replay.specs.Playing.{unopened, ends, ReplayMeans}

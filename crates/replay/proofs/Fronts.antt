@@ -15,8 +15,8 @@ use package.Rattle.journal.specs.Places.{placesOf, surveyOf}
 use package.Rattle.journal.specs.declared.places.Places.{Places}
 use package.Rattle.journal.specs.declared.places.Survey.the-variants as survey
 use package.Rattle.answers.specs.Answers.{checkAnswer, runAnswer, openAnswer, heldAnswer}
-use package.Rattle.requests.specs.declared.answers.CheckAnswer.{CheckAnswer}
-use package.Rattle.requests.specs.declared.answers.RunAnswer.{RunAnswer}
+use package.Rattle.answers.specs.declared.CheckAnswer.{CheckAnswer}
+use package.Rattle.answers.specs.declared.RunAnswer.{RunAnswer}
 use package.Rattle.replay.specs.Lines.{line}
 use package.Rattle.replay.specs.Inner.Told.{checkLine, runLine}
 use package.Rattle.replay.specs.Inner.Steps.{swept, leaves, Made}
