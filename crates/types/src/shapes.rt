@@ -64,7 +64,11 @@ fn entry_shape(p: &[u8], types: &[u16], c: Code, step: u8) -> Shape
             second: right,
         };
     }
-    leaf(kinds::TYPE_VARIABLE, program::views::variable(p, at))
+    if kind == kinds::TYPE_VARIABLE {
+        return leaf(kinds::TYPE_VARIABLE, program::views::variable(p, at));
+    }
+    // never met: there is no other kind
+    leaf(kinds::UNIT_TYPE, 0)
 }
 
 // The same of an entry whose variable number `depth` stands for the entry `stands`.
