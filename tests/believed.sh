@@ -17,21 +17,21 @@ row() { printf '%-58s %5d\n' "$1" "$2"; }
 definitions() { find "crates/$1/specs" -name '*.antt' | grep -vE '/(Claims|Cases|Borders|Samples|Tested)\.antt$' | LC_ALL=C sort; }
 
 # Clauses of the functions that strangers call.
-clauses() { cat crates/engine/src/*.rt crates/replay/src/lib.rt crates/exports/src/*.rt | grep -cE '^ *(ensures|requires) '; }
+clauses() { cat crates/engine/src/*.rt crates/replay/src/lib.rt crates/batch/src/lib.rt crates/exports/src/*.rt | grep -cE '^ *(ensures|requires) '; }
 
 mapfile -t of_rules < <(definitions rules)
 mapfile -t of_calls < <(definitions calls)
 trees=$(lines "${of_rules[@]}")
 bytes=$(lines "${of_calls[@]}")
 claims=$(lines crates/rules/specs/Claims.antt crates/calls/specs/Claims.antt)
-words=$(lines crates/octets/specs/*.antt crates/answers/specs/Answers.antt crates/engine/specs/*.antt crates/replay/specs/*.antt)
+words=$(lines crates/octets/specs/*.antt crates/answers/specs/Answers.antt crates/engine/specs/*.antt crates/replay/specs/*.antt crates/batch/specs/*.antt)
 cases=$(lines crates/rules/specs/Cases.antt crates/calls/specs/{Cases,Borders,Samples}.antt)
 
 row "definitions over trees (rules/specs)" "$trees"
 row "definitions on bytes (calls/specs)" "$bytes"
 row "claims (both)" "$claims"
-row "words of public contracts (octets, rows, engine, replay)" "$words"
-row "clauses of public contracts (engine, replay, exports)" "$(clauses)"
+row "words of public contracts (octets, answers, engine, replay, batch)" "$words"
+row "clauses of public contracts (engine, replay, batch, exports)" "$(clauses)"
 row "cases, computed (not believed)" "$cases"
 row "definitions and claims of rules and calls" "$((trees + bytes + claims))"
 row "the same with their cases" "$((trees + bytes + claims + cases))"

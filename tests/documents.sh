@@ -44,7 +44,6 @@ modules() {
     local path crate
     while IFS= read -r path; do
         crate=${path%%/*}
-        if [ ! -d "crates/$crate" ]; then continue; fi
         there "crates/$path" "crates/$path.antt"
         verdict "$1 names $path" $?
     done < <(named "$1" '\b[a-z]+/(specs|proofs)/[A-Z][A-Za-z0-9/]*')

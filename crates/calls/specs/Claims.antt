@@ -112,7 +112,7 @@ Injective = (ws ws′ out out′ fuel fuel′ fn : ℕ) (program anc bytes bytes
 abbrev pub AnswersAlike : Answer Ran → Answer Ran → Type 0
 AnswersAlike x y = ((w : Val) (n : ℕ) → x ≡ answer w n → y ≡ answer w n) × ((c k : ℕ) → (c ≡ 15) ⊎ (c ≡ 16) → x ≡ refused c k → y ≡ refused c k)
 
--- More fuel, workspace or output never changes an answer, either way: neither a value with its steps, nor 15, nor 16.
+-- More fuel, workspace or output never changes a value with its steps, nor 15, nor 16, either way.
 abbrev pub MoreNeverChanges : Type 0
 MoreNeverChanges = (ws ws′ out out′ fuel fuel′ fn : ℕ) (program anc bytes : List ℕ) → workspaceFor fuel′ ≤ ws′ → out ≤ out′ → fuel ≤ fuel′
     → AnswersAlike (forwardCall ws out fuel fn program anc bytes) (forwardCall ws′ out′ fuel′ fn program anc bytes)

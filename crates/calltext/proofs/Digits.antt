@@ -206,7 +206,7 @@ digits-append (x ∷ xs) ys = ap (λ l. glyphOf (x / 16) ∷ glyphOf (x % 16) �
 
 pub encode-start : (bytes out : List ℕ) (at : ℕ) → Wrote out out at at (digitsOf (take 0 bytes))
 unfolding digitsOf
-encode-start bytes out at = record { front = sym (append-nil (take at out)); ends = omega arith; kept = refl }
+encode-start bytes out at = record { front = sym (append-nil (take at out)); ends = omega arith; kept = refl; behind = refl }
 
 pub encode-more : (bytes a b : List ℕ) (at end i : ℕ) → Wrote a b at end (digitsOf (take i bytes)) → i < length bytes → end + 1 < length b
     → Wrote a (set (set b end (glyphOf (getD bytes i 0 / 16))) (end + 1) (glyphOf (getD bytes i 0 % 16))) at (end + 2) (digitsOf (take (i + 1) bytes))

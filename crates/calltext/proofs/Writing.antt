@@ -1,10 +1,10 @@
 -- Text put into a buffer: one byte, and one piece behind another.
 use Prim.Native.Nat.{ℕ, suc, _+_, _≤_, _<_}
 use native.Mathlib.Omega.{arith}
-use mathlib.Core.Path.{_≡_, refl, ap, subst, _∙_}
+use mathlib.Core.Path.{_≡_, refl, sym, ap, subst, _∙_}
 use mathlib.Core.List.{List, [], _∷_, _++_, append-assoc}
 use lib.ListN.{length, take, drop, set, length-set, length-append, length-drop}
-use lib.Seq.{take-suc-set, take-at, length-take-le}
+use lib.Seq.{take-suc-set, take-at, drop-at, drop-set-lt, drop-drop, length-take-le}
 use package.Rattle.octets.specs.Runs.{pasted}
 use package.Rattle.calltext.specs.Wrote.{Wrote}
 
@@ -14,6 +14,7 @@ wrote-byte out at b h =
       front = ap (λ k. take k (set out at b)) (let z : at + 1 ≡ suc at = omega arith in z) ∙ take-suc-set out at b h;
       ends = refl;
       kept = length-set out at b;
+      behind = drop-set-lt (at + 1) out at b (omega arith);
     }
 
 pub wrote-both : {a b c : List ℕ} {i j k : ℕ} {s t : List ℕ} → Wrote a b i j s → Wrote b c j k t → Wrote a c i k (s ++ t)
@@ -22,6 +23,9 @@ wrote-both {a} {b} {c} {i} {j} {k} {s} {t} p q =
       front = q .front ∙ ap (λ l. l ++ t) (p .front) ∙ append-assoc (take i a) s t;
       ends = omega (arith, p .ends, q .ends, length-append s t);
       kept = q .kept ∙ p .kept;
+      behind =
+          q .behind ∙ ap (λ n. drop n b) (q .ends) ∙ sym (drop-drop (length t) j b) ∙ ap (drop (length t)) (p .behind) ∙ drop-drop (length t) j a
+          ∙ ap (λ n. drop n a) (sym (q .ends));
     }
 
 -- the same text by another name
@@ -44,6 +48,9 @@ wrote-copy out at s h =
       kept =
           omega
           (arith, length-append (take at out ++ s) (drop (at + length s) out), length-append (take at out) s, length-take-le at out (omega arith), length-drop (at + length s) out);
+      behind =
+          drop-at (take at out ++ s) (drop (at + length s) out) (at + length s)
+          (length-append (take at out) s ∙ ap (λ n. n + length s) (length-take-le at out (omega arith)));
     }
 
 -- five pieces, one behind another

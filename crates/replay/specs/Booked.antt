@@ -53,7 +53,7 @@ module _ (program script journal answers workspace journal′ answers′ workspa
     pub told : answers′ ≡ answers
     pub clear : workspace′ ≡ workspace
 
-  -- by the answer; an open that is refused clears the workspace (`replayed`)
+  -- by the answer; an open that is refused clears the workspace, but not after refusal 1 (`replayed`)
   abbrev pub Booked : Reply → Type 0
   Booked (played k) = ByTheBook λ made rest. (k ≡ suc (length made)) × (rest ≡ [])
   Booked (malformed at) = Untouched

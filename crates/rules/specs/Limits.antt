@@ -1,4 +1,4 @@
--- Every limit of document 01, named once; the code's constants of the same names are in src/lib.rt. Definitions and theorems take a limit as a
+-- Every limit of document 01 by its name; the code's constants of the same names are in src/lib.rt. Definitions and theorems take a limit as a
 -- parameter, or name it from here. A limit that the places of the code's arrays are reckoned with unfolds everywhere; a proof that needs
 -- the number of another one says so (`unfolding`).
 use Prim.Native.Nat.{ℕ}
