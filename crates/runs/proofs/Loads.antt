@@ -7,7 +7,7 @@ use mathlib.Core.Path.{_≡_, refl, sym, ap, ap₂, subst, _∙_}
 use mathlib.Core.List.{List, [], _∷_, _++_, append-nil}
 use lib.ListN.{length, getD, set, drop, length-set, List·getD-append}
 use lib.Seq.{getD-set-same, getD-set-other, getD-append-seam}
-use package.Rattle.rules.specs.Limits.{fits, maxValueBytes}
+use package.Rattle.rules.specs.Limits.{fits, maxValueBytes, maxAncillaBytes}
 use package.Rattle.rules.specs.Val.{Val, unit, size, encode}
 use package.Rattle.rules.proofs.Basics.{given}
 use package.Rattle.rules.proofs.Val.{length-encode}
@@ -68,7 +68,7 @@ module _ {heap slots anc : List ℕ} (E : Enough heap slots anc) where
 
   module _ {heap₁ : List ℕ} (g : Grown heap heap₁ 0 unit) where
     pub ancillae-ready : LoadReady heap₁ 1 anc
-    unfolding startNodes maxValueBytes
+    unfolding startNodes maxAncillaBytes maxValueBytes
     ancillae-ready = record {
       right = g .right;
       values = valuesIn anc;
@@ -222,7 +222,7 @@ module _ {heap slots anc bytes : List ℕ} (B : Beginning heap slots anc bytes) 
 
   module _ {heap₁ slots₁ : List ℕ} {start : Start} (A : AncillaeLoaded heap heap₁ slots slots₁ anc start) where
     pub begun-ready : LoadReady heap₁ (start .top) bytes
-    unfolding startNodes maxValueBytes encodeAll
+    unfolding startNodes maxAncillaBytes maxValueBytes encodeAll
     begun-ready = record {
       right = A .graph .right;
       values = valueIn bytes ∷ [];
@@ -269,7 +269,7 @@ module _ {heap slots anc bytes : List ℕ} (B : Beginning heap slots anc bytes) 
       now = held-more earlier (d .agree) last-there (d .right) (omega (arith, d .nodes)) (omega (arith, d .nodes, some)) (is-value ∙ sym all-last)
 
       begun-set : Begun heap heap′ slots slots′ anc bytes (record { count = start .count; top = top })
-      unfolding startNodes maxValueBytes
+      unfolding startNodes maxAncillaBytes maxValueBytes
       begun-set = record {
         graph = graph-of (now .right);
         few = omega (arith, A .nodes, few-bytes, d .nodes, value-short);

@@ -5,7 +5,7 @@ use mathlib.Core.Path.{_≡_, refl, sym, ap₂, subst}
 use mathlib.Core.Option.{some}
 use mathlib.Core.List.{List, map}
 use lib.ListN.{length, getD, length-map}
-use package.Rattle.rules.specs.Limits.{maxVariables, maxNodes, maxParameters, workspaceBase, workspacePerFuel}
+use package.Rattle.rules.specs.Limits.{maxVariables, maxNodes, maxParameters, workspaceBase, workspacePerFuel, maxAncillaBytes, maxValueBytes}
 use package.Rattle.rules.specs.Ty.{Ty}
 use package.Rattle.rules.specs.Term.{Fun, nth}
 use package.Rattle.rules.proofs.Preserve.{env-length}
@@ -82,7 +82,7 @@ module _ {side : Fun → Ty} {xs terms functions heap : List ℕ} {g : ℕ} {anc
     few = omega (arith, as-many, D .function g there .parameters, field .few)
 
     pub beginning : {slots : List ℕ} → 8 ≤ length slots → Beginning heap slots anc bytes
-    unfolding startNodes workspaceFor workspaceBase workspacePerFuel
+    unfolding startNodes maxValueBytes maxAncillaBytes workspaceFor workspaceBase workspacePerFuel
     beginning l = record {
       for-ancillae = record { read = admits .ancillae-read; few = few; slots-there = l; nodes-there = omega (arith, R .enough) };
       read = admits .value-read;
@@ -102,21 +102,21 @@ module _ {side : Fun → Ty} {xs terms functions heap : List ℕ} {g : ℕ} {anc
 
       -- two nodes for each unit of fuel, after those of the values
       pub nodes-room : nodeBytes * (start .top + 2 * fuel) ≤ length heap′
-      unfolding startNodes workspaceFor workspaceBase workspacePerFuel
+      unfolding startNodes maxValueBytes maxAncillaBytes workspaceFor workspaceBase workspacePerFuel
       nodes-room = omega (arith, R .enough, B .few, B .heap-length)
 
       -- every node is an answer
       pub nodes-answer : fuel < 65536 → start .top + fuel ≤ stopped
-      unfolding startNodes
+      unfolding startNodes maxValueBytes maxAncillaBytes
       nodes-answer l = omega (arith, B .few)
 
       -- every node may be named by a cell
       pub nodes-cells : fuel < 65536 → start .top + 2 * fuel ≤ cellCount
-      unfolding startNodes
+      unfolding startNodes maxValueBytes maxAncillaBytes
       nodes-cells l = omega (arith, B .few)
 
       pub nodes-small : fuel < 65536 → start .top + fuel ≤ unknown
-      unfolding startNodes unknown
+      unfolding startNodes maxValueBytes maxAncillaBytes unknown
       nodes-small l = omega (arith, B .few)
 
 ----------------------------------------------------------------

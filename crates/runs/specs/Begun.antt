@@ -4,6 +4,7 @@ use mathlib.Core.Path.{_≡_}
 use mathlib.Core.Option.{some}
 use mathlib.Core.List.{List}
 use lib.ListN.{length, getD}
+use package.Rattle.rules.specs.Limits.{maxAncillaBytes, maxValueBytes}
 use package.Rattle.rules.specs.Val.{unit}
 use package.Rattle.calls.specs.Values.{value, ancillae}
 use package.Rattle.valuegraph.specs.Nodes.{nodeBytes, valueAt}
@@ -12,9 +13,9 @@ use package.Rattle.forward.specs.Ready.{Graph, valuesAt}
 use package.Rattle.runs.specs.declared.begin.Start.{Start}
 use package.Rattle.valuebytes.specs.Ends.{valueIn, valuesIn}
 
--- the most nodes that the values of a run have: a unit, 1,024 bytes of ancillae and 1,024 of the value
+-- the most nodes that the values of a run have: a unit, and one for each byte of the ancillae and of the value
 unfoldable pub startNodes : ℕ
-startNodes = 2049
+startNodes = 1 + maxAncillaBytes + maxValueBytes
 
 -- room for the ancillae that bytes are: seven at most, a slot for each and one more
 pub record Enough (heap slots anc : List ℕ) : Type 0 where

@@ -2,6 +2,7 @@ use native.Mathlib.Omega.{arith}
 use mathlib.Core.Path.{_≡_, refl, sym, _∙_}
 use lib.ListN.{length}
 use borrow.Author.Needs.{needs}
+use Rattle.rules.specs.Limits.{maxAncillaBytes, maxValueBytes}
 use Rattle.valuegraph.proofs.Heaps.{heap-empty}
 use Rattle.scopes.specs.Slots.{stateCount, slotsOf}
 use Rattle.runs.specs.Begun.{startNodes}
@@ -17,7 +18,7 @@ abbrev μ-loop : tie.MeasureT-loop
 μ-loop ws st₀ bytes top node₀ count₀ st node count = node
 
 unit-requires : tie.Need-unit-requires Inv-loop μ-loop
-unfolding startNodes
+unfolding startNodes maxValueBytes maxAncillaBytes
 unit-requires c κs = (heap-empty _, omega (arith, c .before .before .before .pre .1 .nodes-there))
 
 load-requires : tie.Need-load-requires Inv-loop μ-loop
