@@ -3,6 +3,10 @@ use answers::RunAnswer;
 use calltext::calls::CheckCall;
 use calltext::calls::RunCall;
 use messages::replies;
+use rules::MAX_FUEL;
+use rules::MAX_VALUE_BYTES;
+use rules::WORKSPACE_BASE;
+use rules::WORKSPACE_PER_FUEL;
 ghost use mathlib.Core.Path.{_≡_};
 ghost use Prim.Native.Nat.{_+_, _*_, _≤_};
 ghost use lib.ListN.{length, take};
@@ -16,10 +20,10 @@ ghost use Rattle.batch.specs.Answering.{ranText};
 ghost use Rattle.batch.specs.Lent.{onFront};
 
 // The workspace for the most fuel.
-pub(crate) const MOST_WORKSPACE: usize = 2129888;
+pub(crate) const MOST_WORKSPACE: usize = WORKSPACE_BASE + WORKSPACE_PER_FUEL * MAX_FUEL;
 
 // The most bytes of a value.
-pub(crate) const MOST_OUTPUT: usize = 1024;
+pub(crate) const MOST_OUTPUT: usize = MAX_VALUE_BYTES;
 
 // A length, at most `most`.
 pub(crate) fn least(n: usize, most: usize) -> usize
