@@ -36,13 +36,15 @@ fn bench_given(what: &str, call: &RunCall) -> Result<(), String> {
     bench_run(&format!("before the first step, {record} + {ancillae} bytes"), call, what)
 }
 
-/// Section 6's P1 and its way back, four steps each, with the most fuel and the workspace for it.
+/// Section 6's P1 and its way back, four steps each, with just that fuel and with the most, and the workspace for it.
 fn bench_lent_fuel() -> Result<(), String> {
     let (program, two) = (library().bytes(), nat_bytes(2));
     for (direction, value) in [(Direction::Forward, nat_bytes(0)), (Direction::Backward, two.clone())] {
-        let call = run(&program, direction, two.clone(), value, FUEL);
-        bench_run(&format!("{}, four steps lent fuel {FUEL}", name(direction)), &call, "")?;
-        bench_beside_reading(&call);
+        for fuel in [4, FUEL] {
+            let call = run(&program, direction, two.clone(), value.clone(), fuel);
+            bench_run(&format!("{}, four steps lent fuel {fuel}", name(direction)), &call, "")?;
+        }
+        bench_beside_reading(&run(&program, direction, two.clone(), value, FUEL));
     }
     Ok(())
 }
