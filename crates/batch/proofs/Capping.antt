@@ -66,11 +66,11 @@ most-enough : (fuel : ℕ) → fuel < 65536 → workspaceFor fuel ≤ mostWorksp
 unfolding workspaceFor workspaceBase workspacePerFuel
 most-enough fuel h = omega arith
 
-pub prepared-capped : (ws fuel : ℕ) (program : List ℕ) → fuel < 65536 → prepared (capped mostWorkspace ws) fuel program ≡ prepared ws fuel program
+pub prepared-capped : (ws fuel : ℕ) (program : List ℕ) → fuel < 65536 → prepared program fuel (capped mostWorkspace ws) ≡ prepared program fuel ws
 unfolding prepared
 prepared-capped ws fuel program h = ap (λ t. require t 1 0 >>= λ enough. load program) (leb-capped mostWorkspace (workspaceFor fuel) ws (most-enough fuel h))
 
-pub check-capped : (ws : ℕ) (program : List ℕ) → checkCall (capped mostWorkspace ws) program ≡ checkCall ws program
+pub check-capped : (ws : ℕ) (program : List ℕ) → checkCall program (capped mostWorkspace ws) ≡ checkCall program ws
 unfolding checkCall
 check-capped ws program = ap (λ a. a >>= λ P. accepted tt) (prepared-capped ws 0 program (omega arith))
 
@@ -96,7 +96,7 @@ module _ (D : Direction) (ws out fuel fn : ℕ) (program anc bytes : List ℕ) w
   directed-capped h =
       ap (λ x. x >>= λ P. admit P fn (ancillae anc) (value bytes) (D .side) >>= λ a. ran fuel (D .run P a fuel) >>= λ r. require (leb (size (r .value)) (capped mostOutput out)) 17 0 >>= λ room. accepted r)
       (prepared-capped ws fuel program h)
-      ∙ go-on (prepared ws fuel program) _ _ λ P p.
+      ∙ go-on (prepared program fuel ws) _ _ λ P p.
       go-on (admit P fn (ancillae anc) (value bytes) (D .side)) _ _ λ a q.
       go-on (ran fuel (D .run P a fuel)) _ _ λ r s.
       ap (λ t. require t 17 0 >>= λ room. accepted r) (leb-capped mostOutput (size (r .value)) out (ran-fits fuel (D .run P a fuel) r (D .ends P a fuel) s))
@@ -104,20 +104,20 @@ module _ (D : Direction) (ws out fuel fn : ℕ) (program anc bytes : List ℕ) w
   directed-within : (r : Ran) → directed D ws out fuel fn program anc bytes ≡ accepted r → size (r .value) ≤ out
   unfolding directed
   directed-within r e =
-      let (P, p, e₁) = unbind (prepared ws fuel program) _ e in
+      let (P, p, e₁) = unbind (prepared program fuel ws) _ e in
       let (a, q, e₂) = unbind (admit P fn (ancillae anc) (value bytes) (D .side)) _ e₁ in
       let (r′, s, e₃) = unbind (ran fuel (D .run P a fuel)) _ e₂ in
       let (room, t, e₄) = unbind (require (leb (size (r′ .value)) out) 17 0) _ e₃ in
       omega (arith, leb-true (size (r′ .value)) out (required _ 17 0 t), ap (λ r. size (r .value)) (accepted-inj e₄))
 
 pub run-capped : (b : Bool) (ws out fuel fn : ℕ) (program anc bytes : List ℕ) → fuel < 65536
-    → runCall b (capped mostWorkspace ws) (capped mostOutput out) fuel fn program anc bytes ≡ runCall b ws out fuel fn program anc bytes
+    → runCall b program fn anc bytes fuel (capped mostWorkspace ws) (capped mostOutput out) ≡ runCall b program fn anc bytes fuel ws out
 unfolding runCall forwardCall backwardCall goes returns directed
 run-capped true ws out fuel fn program anc bytes h = directed-capped back ws out fuel fn program anc bytes h
 run-capped false ws out fuel fn program anc bytes h = directed-capped onward ws out fuel fn program anc bytes h
 
 -- an accepted value is within the output
-pub run-within : (b : Bool) (ws out fuel fn : ℕ) (program anc bytes : List ℕ) (r : Ran) → runCall b ws out fuel fn program anc bytes ≡ accepted r → size (r .value) ≤ out
+pub run-within : (b : Bool) (ws out fuel fn : ℕ) (program anc bytes : List ℕ) (r : Ran) → runCall b program fn anc bytes fuel ws out ≡ accepted r → size (r .value) ≤ out
 unfolding runCall forwardCall backwardCall goes returns directed
 run-within true ws out fuel fn program anc bytes r e = directed-within back ws out fuel fn program anc bytes r e
 run-within false ws out fuel fn program anc bytes r e = directed-within onward ws out fuel fn program anc bytes r e
@@ -126,15 +126,15 @@ run-within false ws out fuel fn program anc bytes r e = directed-within onward w
 -- Calls in what is lent
 
 pub check-lent : (ws : ℕ) {k : ℕ} → k ≡ capped mostWorkspace ws → (buffer : List ℕ) → mostWorkspace ≤ length buffer → (program : List ℕ)
-    → checkCall (length (take k buffer)) program ≡ checkCall ws program
-check-lent ws e buffer h program = ap (λ n. checkCall n program) (lent-length mostWorkspace ws e buffer h) ∙ check-capped ws program
+    → checkCall program (length (take k buffer)) ≡ checkCall program ws
+check-lent ws e buffer h program = ap (λ n. checkCall program n) (lent-length mostWorkspace ws e buffer h) ∙ check-capped ws program
 
 pub run-lent : (b : Bool) (ws out : ℕ) {k l : ℕ} → k ≡ capped mostWorkspace ws → l ≡ capped mostOutput out
     → (buffer space : List ℕ) → mostWorkspace ≤ length buffer → mostOutput ≤ length space
     → (fuel fn : ℕ) (program anc bytes : List ℕ) → fuel < 65536
-    → runCall b (length (take k buffer)) (length (take l space)) fuel fn program anc bytes ≡ runCall b ws out fuel fn program anc bytes
+    → runCall b program fn anc bytes fuel (length (take k buffer)) (length (take l space)) ≡ runCall b program fn anc bytes fuel ws out
 run-lent b ws out e f buffer space h h′ fuel fn program anc bytes fuelled =
-    ap₂ (λ n m. runCall b n m fuel fn program anc bytes) (lent-length mostWorkspace ws e buffer h) (lent-length mostOutput out f space h′)
+    ap₂ (λ n m. runCall b program fn anc bytes fuel n m) (lent-length mostWorkspace ws e buffer h) (lent-length mostOutput out f space h′)
     ∙ run-capped b ws out fuel fn program anc bytes fuelled
 
 -- the program comes after the workspace, in every call
@@ -142,19 +142,19 @@ first-same : {A B : Type 0} {x y : Answer A} (f : A → Answer B) → x ≡ y �
 first-same f e = ap (λ x. x >>= f) e
 
 module _ (ws : ℕ) {k : ℕ} (e : k ≡ capped mostWorkspace ws) (buffer : List ℕ) (h : mostWorkspace ≤ length buffer) (program : List ℕ) where
-  prepared-lent : (fuel : ℕ) → fuel < 65536 → prepared (length (take k buffer)) fuel program ≡ prepared ws fuel program
-  prepared-lent fuel fuelled = ap (λ n. prepared n fuel program) (lent-length mostWorkspace ws e buffer h) ∙ prepared-capped ws fuel program fuelled
+  prepared-lent : (fuel : ℕ) → fuel < 65536 → prepared program fuel (length (take k buffer)) ≡ prepared program fuel ws
+  prepared-lent fuel fuelled = ap (λ n. prepared program fuel n) (lent-length mostWorkspace ws e buffer h) ∙ prepared-capped ws fuel program fuelled
 
-  pub open-lent : (held : List ℕ) (n : ℕ) → openCall (length (take k buffer)) program held n ≡ openCall ws program held n
+  pub open-lent : (held : List ℕ) (n : ℕ) → openCall program held (length (take k buffer)) n ≡ openCall program held ws n
   unfolding openCall
   open-lent held n = first-same _ (prepared-lent 0 (omega arith))
 
   pub convert-lent : (fuel fn : ℕ) (anc journal : List ℕ) → fuel < 65536
-      → convertCall (length (take k buffer)) fuel fn program anc journal ≡ convertCall ws fuel fn program anc journal
+      → convertCall program fn anc fuel (length (take k buffer)) journal ≡ convertCall program fn anc fuel ws journal
   unfolding convertCall
   convert-lent fuel fn anc journal fuelled = first-same _ (prepared-lent fuel fuelled)
 
   pub rollback-lent : (fuel : ℕ) (journal : List ℕ) → fuel < 65536
-      → rollbackCall (length (take k buffer)) fuel program journal ≡ rollbackCall ws fuel program journal
+      → rollbackCall program fuel (length (take k buffer)) journal ≡ rollbackCall program fuel ws journal
   unfolding rollbackCall
   rollback-lent fuel journal fuelled = first-same _ (prepared-lent fuel fuelled)

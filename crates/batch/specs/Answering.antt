@@ -33,20 +33,20 @@ wordError k what = text "error word " ++ decimalText k ++ what
 
 -- the calls, with the arguments that a line says
 abbrev pub ranBy : RunLine → Answer Ran
-ranBy c = runCall (c .backward) (c .workspace) (c .output) (c .fuel) (c .function) (c .program) (c .ancillae) (c .value)
+ranBy c = runCall (c .backward) (c .program) (c .function) (c .ancillae) (c .value) (c .fuel) (c .workspace) (c .output)
 
 abbrev pub openedBy : OpenLine → Answer (List ℕ)
-openedBy c = openCall (c .workspace) (c .program) (c .held) (length (c .journal))
+openedBy c = openCall (c .program) (c .held) (c .workspace) (length (c .journal))
 
 abbrev pub convertedBy : ConvertLine → Answer Turned
-convertedBy c = convertCall (c .workspace) (c .fuel) (c .function) (c .program) (c .ancillae) (c .journal)
+convertedBy c = convertCall (c .program) (c .function) (c .ancillae) (c .fuel) (c .workspace) (c .journal)
 
 abbrev pub rolledBackBy : RollbackLine → Answer Turned
-rolledBackBy c = rollbackCall (c .workspace) (c .fuel) (c .program) (c .journal)
+rolledBackBy c = rollbackCall (c .program) (c .fuel) (c .workspace) (c .journal)
 
 unfoldable pub answerTo : Line → List ℕ
 unfolding ranText openText turnText wordError
-answerTo (checkLine ws p) = checkText (checkCall ws p)
+answerTo (checkLine ws p) = checkText (checkCall p ws)
 answerTo (runLine c) = ranText (ranBy c)
 answerTo (openLine c) = openText (openedBy c)
 answerTo (convertLine c) = turnText (convertedBy c)

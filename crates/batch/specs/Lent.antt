@@ -26,7 +26,7 @@ onFront n f buffer = f (take n buffer) ++ drop n buffer
 -- the part of the workspace that a line names is what section 4 says of the call
 unfoldable pub workspaceAfter : Line → List ℕ → List ℕ
 unfolding onFront
-workspaceAfter (checkLine ws p) buffer = onFront (capped mostWorkspace ws) (cleared (checkCall ws p)) buffer
+workspaceAfter (checkLine ws p) buffer = onFront (capped mostWorkspace ws) (cleared (checkCall p ws)) buffer
 workspaceAfter (runLine c) buffer = onFront (capped mostWorkspace (c .workspace)) (cleared (ranBy c)) buffer
 workspaceAfter (openLine c) buffer = onFront (capped mostWorkspace (c .workspace)) (cleared (openedBy c)) buffer
 workspaceAfter (convertLine c) buffer = onFront (capped mostWorkspace (c .workspace)) (cleared (convertedBy c)) buffer

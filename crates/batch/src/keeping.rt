@@ -24,9 +24,9 @@ fn open_lent(
     out: &mut [u8],
 ) -> usize
     requires { ⌜ 2 * length (now journal) + 64 ≤ length (now out) ⌝ }
-    ensures answer { λ r. ⌜ Wrote (now (out .entry)) (now (out .exit)) 0 r (openText (openCall (length (now (workspace .entry))) (now (program .entry)) (now (held .entry)) (length (now (journal .entry))))) ⌝ }
-    ensures keeps { λ _. ⌜ now (journal .exit) ≡ afterOpen (now (journal .entry)) (openCall (length (now (workspace .entry))) (now (program .entry)) (now (held .entry)) (length (now (journal .entry)))) .journal ⌝ }
-    ensures clear { λ _. ⌜ now (workspace .exit) ≡ cleared (openCall (length (now (workspace .entry))) (now (program .entry)) (now (held .entry)) (length (now (journal .entry)))) (now (workspace .entry)) ⌝ }
+    ensures answer { λ r. ⌜ Wrote (now (out .entry)) (now (out .exit)) 0 r (openText (openCall (now (program .entry)) (now (held .entry)) (length (now (workspace .entry))) (length (now (journal .entry))))) ⌝ }
+    ensures keeps { λ _. ⌜ now (journal .exit) ≡ afterOpen (now (journal .entry)) (openCall (now (program .entry)) (now (held .entry)) (length (now (workspace .entry))) (length (now (journal .entry)))) .journal ⌝ }
+    ensures clear { λ _. ⌜ now (workspace .exit) ≡ cleared (openCall (now (program .entry)) (now (held .entry)) (length (now (workspace .entry))) (length (now (journal .entry)))) (now (workspace .entry)) ⌝ }
 {
     let answer = engine::open(program, held, workspace, journal);
     replies::opened_line(answer, journal, out)
@@ -44,9 +44,9 @@ pub(crate) fn open(
     requires { ⌜ (call .program ≤ length (now program)) × (call .held ≤ length (now held)) × (call .journal ≤ length (now journal)) ⌝ }
     requires { ⌜ mostWorkspace ≤ length (now workspace) ⌝ }
     requires { ⌜ 2 * length (now journal) + 64 ≤ length (now out) ⌝ }
-    ensures answer { λ r. ⌜ Wrote (now (out .entry)) (now (out .exit)) 0 r (openText (openCall (call .workspace) (take (call .program) (now (program .entry))) (take (call .held) (now (held .entry))) (length (take (call .journal) (now (journal .entry)))))) ⌝ }
-    ensures keeps { λ _. ⌜ now (journal .exit) ≡ onFront (length (take (call .journal) (now (journal .entry)))) (λ j. afterOpen j (openCall (call .workspace) (take (call .program) (now (program .entry))) (take (call .held) (now (held .entry))) (length (take (call .journal) (now (journal .entry))))) .journal) (now (journal .entry)) ⌝ }
-    ensures clear { λ _. ⌜ now (workspace .exit) ≡ onFront (capped mostWorkspace (call .workspace)) (cleared (openCall (call .workspace) (take (call .program) (now (program .entry))) (take (call .held) (now (held .entry))) (length (take (call .journal) (now (journal .entry)))))) (now (workspace .entry)) ⌝ }
+    ensures answer { λ r. ⌜ Wrote (now (out .entry)) (now (out .exit)) 0 r (openText (openCall (take (call .program) (now (program .entry))) (take (call .held) (now (held .entry))) (call .workspace) (length (take (call .journal) (now (journal .entry)))))) ⌝ }
+    ensures keeps { λ _. ⌜ now (journal .exit) ≡ onFront (length (take (call .journal) (now (journal .entry)))) (λ j. afterOpen j (openCall (take (call .program) (now (program .entry))) (take (call .held) (now (held .entry))) (call .workspace) (length (take (call .journal) (now (journal .entry))))) .journal) (now (journal .entry)) ⌝ }
+    ensures clear { λ _. ⌜ now (workspace .exit) ≡ onFront (capped mostWorkspace (call .workspace)) (cleared (openCall (take (call .program) (now (program .entry))) (take (call .held) (now (held .entry))) (call .workspace) (length (take (call .journal) (now (journal .entry)))))) (now (workspace .entry)) ⌝ }
 {
     let p = call.program;
     let h = call.held;
@@ -72,9 +72,9 @@ fn convert_lent(
     out: &mut [u8],
 ) -> usize
     requires { ⌜ 2 * length (now journal) + 64 ≤ length (now out) ⌝ }
-    ensures answer { λ r. ⌜ Wrote (now (out .entry)) (now (out .exit)) 0 r (turnText (convertCall (length (now (workspace .entry))) fuel function (now (program .entry)) (now (ancillae .entry)) (now (journal .entry)))) ⌝ }
-    ensures keeps { λ _. ⌜ now (journal .exit) ≡ afterTurned (now (journal .entry)) (convertCall (length (now (workspace .entry))) fuel function (now (program .entry)) (now (ancillae .entry)) (now (journal .entry))) .journal ⌝ }
-    ensures clear { λ _. ⌜ now (workspace .exit) ≡ cleared (convertCall (length (now (workspace .entry))) fuel function (now (program .entry)) (now (ancillae .entry)) (now (journal .entry))) (now (workspace .entry)) ⌝ }
+    ensures answer { λ r. ⌜ Wrote (now (out .entry)) (now (out .exit)) 0 r (turnText (convertCall (now (program .entry)) function (now (ancillae .entry)) fuel (length (now (workspace .entry))) (now (journal .entry)))) ⌝ }
+    ensures keeps { λ _. ⌜ now (journal .exit) ≡ afterTurned (now (journal .entry)) (convertCall (now (program .entry)) function (now (ancillae .entry)) fuel (length (now (workspace .entry))) (now (journal .entry))) .journal ⌝ }
+    ensures clear { λ _. ⌜ now (workspace .exit) ≡ cleared (convertCall (now (program .entry)) function (now (ancillae .entry)) fuel (length (now (workspace .entry))) (now (journal .entry))) (now (workspace .entry)) ⌝ }
 {
     let answer = engine::convert(program, function, ancillae, fuel, workspace, journal);
     replies::held_line(answer, journal, out)
@@ -92,9 +92,9 @@ pub(crate) fn convert(
     requires { ⌜ (call .program ≤ length (now program)) × (call .ancillae ≤ length (now ancillae)) × (call .journal ≤ length (now journal)) ⌝ }
     requires { ⌜ mostWorkspace ≤ length (now workspace) ⌝ }
     requires { ⌜ 2 * length (now journal) + 64 ≤ length (now out) ⌝ }
-    ensures answer { λ r. ⌜ Wrote (now (out .entry)) (now (out .exit)) 0 r (turnText (convertCall (call .workspace) (call .fuel) (call .function) (take (call .program) (now (program .entry))) (take (call .ancillae) (now (ancillae .entry))) (take (call .journal) (now (journal .entry))))) ⌝ }
-    ensures keeps { λ _. ⌜ now (journal .exit) ≡ onFront (length (take (call .journal) (now (journal .entry)))) (λ j. afterTurned j (convertCall (call .workspace) (call .fuel) (call .function) (take (call .program) (now (program .entry))) (take (call .ancillae) (now (ancillae .entry))) (take (call .journal) (now (journal .entry)))) .journal) (now (journal .entry)) ⌝ }
-    ensures clear { λ _. ⌜ now (workspace .exit) ≡ onFront (capped mostWorkspace (call .workspace)) (cleared (convertCall (call .workspace) (call .fuel) (call .function) (take (call .program) (now (program .entry))) (take (call .ancillae) (now (ancillae .entry))) (take (call .journal) (now (journal .entry))))) (now (workspace .entry)) ⌝ }
+    ensures answer { λ r. ⌜ Wrote (now (out .entry)) (now (out .exit)) 0 r (turnText (convertCall (take (call .program) (now (program .entry))) (call .function) (take (call .ancillae) (now (ancillae .entry))) (call .fuel) (call .workspace) (take (call .journal) (now (journal .entry))))) ⌝ }
+    ensures keeps { λ _. ⌜ now (journal .exit) ≡ onFront (length (take (call .journal) (now (journal .entry)))) (λ j. afterTurned j (convertCall (take (call .program) (now (program .entry))) (call .function) (take (call .ancillae) (now (ancillae .entry))) (call .fuel) (call .workspace) (take (call .journal) (now (journal .entry)))) .journal) (now (journal .entry)) ⌝ }
+    ensures clear { λ _. ⌜ now (workspace .exit) ≡ onFront (capped mostWorkspace (call .workspace)) (cleared (convertCall (take (call .program) (now (program .entry))) (call .function) (take (call .ancillae) (now (ancillae .entry))) (call .fuel) (call .workspace) (take (call .journal) (now (journal .entry))))) (now (workspace .entry)) ⌝ }
 {
     let p = call.program;
     let a = call.ancillae;
@@ -120,9 +120,9 @@ fn rollback_lent(
     out: &mut [u8],
 ) -> usize
     requires { ⌜ 2 * length (now journal) + 64 ≤ length (now out) ⌝ }
-    ensures answer { λ r. ⌜ Wrote (now (out .entry)) (now (out .exit)) 0 r (turnText (rollbackCall (length (now (workspace .entry))) fuel (now (program .entry)) (now (journal .entry)))) ⌝ }
-    ensures keeps { λ _. ⌜ now (journal .exit) ≡ afterTurned (now (journal .entry)) (rollbackCall (length (now (workspace .entry))) fuel (now (program .entry)) (now (journal .entry))) .journal ⌝ }
-    ensures clear { λ _. ⌜ now (workspace .exit) ≡ cleared (rollbackCall (length (now (workspace .entry))) fuel (now (program .entry)) (now (journal .entry))) (now (workspace .entry)) ⌝ }
+    ensures answer { λ r. ⌜ Wrote (now (out .entry)) (now (out .exit)) 0 r (turnText (rollbackCall (now (program .entry)) fuel (length (now (workspace .entry))) (now (journal .entry)))) ⌝ }
+    ensures keeps { λ _. ⌜ now (journal .exit) ≡ afterTurned (now (journal .entry)) (rollbackCall (now (program .entry)) fuel (length (now (workspace .entry))) (now (journal .entry))) .journal ⌝ }
+    ensures clear { λ _. ⌜ now (workspace .exit) ≡ cleared (rollbackCall (now (program .entry)) fuel (length (now (workspace .entry))) (now (journal .entry))) (now (workspace .entry)) ⌝ }
 {
     let answer = engine::rollback(program, fuel, workspace, journal);
     replies::held_line(answer, journal, out)
@@ -139,9 +139,9 @@ pub(crate) fn rollback(
     requires { ⌜ (call .program ≤ length (now program)) × (call .journal ≤ length (now journal)) ⌝ }
     requires { ⌜ mostWorkspace ≤ length (now workspace) ⌝ }
     requires { ⌜ 2 * length (now journal) + 64 ≤ length (now out) ⌝ }
-    ensures answer { λ r. ⌜ Wrote (now (out .entry)) (now (out .exit)) 0 r (turnText (rollbackCall (call .workspace) (call .fuel) (take (call .program) (now (program .entry))) (take (call .journal) (now (journal .entry))))) ⌝ }
-    ensures keeps { λ _. ⌜ now (journal .exit) ≡ onFront (length (take (call .journal) (now (journal .entry)))) (λ j. afterTurned j (rollbackCall (call .workspace) (call .fuel) (take (call .program) (now (program .entry))) (take (call .journal) (now (journal .entry)))) .journal) (now (journal .entry)) ⌝ }
-    ensures clear { λ _. ⌜ now (workspace .exit) ≡ onFront (capped mostWorkspace (call .workspace)) (cleared (rollbackCall (call .workspace) (call .fuel) (take (call .program) (now (program .entry))) (take (call .journal) (now (journal .entry))))) (now (workspace .entry)) ⌝ }
+    ensures answer { λ r. ⌜ Wrote (now (out .entry)) (now (out .exit)) 0 r (turnText (rollbackCall (take (call .program) (now (program .entry))) (call .fuel) (call .workspace) (take (call .journal) (now (journal .entry))))) ⌝ }
+    ensures keeps { λ _. ⌜ now (journal .exit) ≡ onFront (length (take (call .journal) (now (journal .entry)))) (λ j. afterTurned j (rollbackCall (take (call .program) (now (program .entry))) (call .fuel) (call .workspace) (take (call .journal) (now (journal .entry)))) .journal) (now (journal .entry)) ⌝ }
+    ensures clear { λ _. ⌜ now (workspace .exit) ≡ onFront (capped mostWorkspace (call .workspace)) (cleared (rollbackCall (take (call .program) (now (program .entry))) (call .fuel) (call .workspace) (take (call .journal) (now (journal .entry))))) (now (workspace .entry)) ⌝ }
 {
     let p = call.program;
     let j = call.journal;

@@ -40,8 +40,8 @@ pub(crate) fn check(call: CheckCall, program: &[u8], workspace: &mut [u8], out: 
     requires { ⌜ call .program ≤ length (now program) ⌝ }
     requires { ⌜ mostWorkspace ≤ length (now workspace) ⌝ }
     requires { ⌜ 64 ≤ length (now out) ⌝ }
-    ensures answer { λ r. ⌜ Wrote (now (out .entry)) (now (out .exit)) 0 r (checkText (checkCall (call .workspace) (take (call .program) (now (program .entry))))) ⌝ }
-    ensures clear { λ _. ⌜ now (workspace .exit) ≡ onFront (capped mostWorkspace (call .workspace)) (cleared (checkCall (call .workspace) (take (call .program) (now (program .entry))))) (now (workspace .entry)) ⌝ }
+    ensures answer { λ r. ⌜ Wrote (now (out .entry)) (now (out .exit)) 0 r (checkText (checkCall (take (call .program) (now (program .entry))) (call .workspace))) ⌝ }
+    ensures clear { λ _. ⌜ now (workspace .exit) ≡ onFront (capped mostWorkspace (call .workspace)) (cleared (checkCall (take (call .program) (now (program .entry))) (call .workspace))) (now (workspace .entry)) ⌝ }
 {
     let n = call.program;
     let ws = least(call.workspace, MOST_WORKSPACE);
@@ -60,7 +60,7 @@ fn run_either(
     workspace: &mut [u8],
     output: &mut [u8],
 ) -> RunAnswer
-    ensures { λ r. ⌜ CallMeans r (runCall backward (length (now (workspace .entry))) (length (now (output .entry))) fuel function (now (program .entry)) (now (ancillae .entry)) (now (value .entry))) (now (output .entry)) (now (output .exit)) (now (workspace .entry)) (now (workspace .exit)) ⌝ }
+    ensures { λ r. ⌜ CallMeans r (runCall backward (now (program .entry)) function (now (ancillae .entry)) (now (value .entry)) fuel (length (now (workspace .entry))) (length (now (output .entry)))) (now (output .entry)) (now (output .exit)) (now (workspace .entry)) (now (workspace .exit)) ⌝ }
 {
     if backward {
         return engine::backward(program, function, ancillae, value, fuel, workspace, output);
@@ -81,9 +81,9 @@ fn run_lent(
     out: &mut [u8],
 ) -> usize
     requires { ⌜ 2 * length (now output) + 64 ≤ length (now out) ⌝ }
-    ensures answer { λ r. ⌜ Wrote (now (out .entry)) (now (out .exit)) 0 r (ranText (runCall backward (length (now (workspace .entry))) (length (now (output .entry))) fuel function (now (program .entry)) (now (ancillae .entry)) (now (value .entry)))) ⌝ }
-    ensures fills { λ _. ⌜ now (output .exit) ≡ written (runCall backward (length (now (workspace .entry))) (length (now (output .entry))) fuel function (now (program .entry)) (now (ancillae .entry)) (now (value .entry))) (now (output .entry)) ⌝ }
-    ensures clear { λ _. ⌜ now (workspace .exit) ≡ cleared (runCall backward (length (now (workspace .entry))) (length (now (output .entry))) fuel function (now (program .entry)) (now (ancillae .entry)) (now (value .entry))) (now (workspace .entry)) ⌝ }
+    ensures answer { λ r. ⌜ Wrote (now (out .entry)) (now (out .exit)) 0 r (ranText (runCall backward (now (program .entry)) function (now (ancillae .entry)) (now (value .entry)) fuel (length (now (workspace .entry))) (length (now (output .entry))))) ⌝ }
+    ensures fills { λ _. ⌜ now (output .exit) ≡ written (runCall backward (now (program .entry)) function (now (ancillae .entry)) (now (value .entry)) fuel (length (now (workspace .entry))) (length (now (output .entry)))) (now (output .entry)) ⌝ }
+    ensures clear { λ _. ⌜ now (workspace .exit) ≡ cleared (runCall backward (now (program .entry)) function (now (ancillae .entry)) (now (value .entry)) fuel (length (now (workspace .entry))) (length (now (output .entry)))) (now (workspace .entry)) ⌝ }
 {
     let answer = run_either(
         backward,
@@ -111,9 +111,9 @@ pub(crate) fn run(
     requires { ⌜ (call .program ≤ length (now program)) × (call .ancillae ≤ length (now ancillae)) × (call .value ≤ length (now value)) ⌝ }
     requires { ⌜ (mostWorkspace ≤ length (now workspace)) × (mostOutput ≤ length (now output)) ⌝ }
     requires { ⌜ answerRoom ≤ length (now out) ⌝ }
-    ensures answer { λ r. ⌜ Wrote (now (out .entry)) (now (out .exit)) 0 r (ranText (runCall (call .backward) (call .workspace) (call .output) (call .fuel) (call .function) (take (call .program) (now (program .entry))) (take (call .ancillae) (now (ancillae .entry))) (take (call .value) (now (value .entry))))) ⌝ }
-    ensures fills { λ _. ⌜ now (output .exit) ≡ onFront (capped mostOutput (call .output)) (written (runCall (call .backward) (call .workspace) (call .output) (call .fuel) (call .function) (take (call .program) (now (program .entry))) (take (call .ancillae) (now (ancillae .entry))) (take (call .value) (now (value .entry))))) (now (output .entry)) ⌝ }
-    ensures clear { λ _. ⌜ now (workspace .exit) ≡ onFront (capped mostWorkspace (call .workspace)) (cleared (runCall (call .backward) (call .workspace) (call .output) (call .fuel) (call .function) (take (call .program) (now (program .entry))) (take (call .ancillae) (now (ancillae .entry))) (take (call .value) (now (value .entry))))) (now (workspace .entry)) ⌝ }
+    ensures answer { λ r. ⌜ Wrote (now (out .entry)) (now (out .exit)) 0 r (ranText (runCall (call .backward) (take (call .program) (now (program .entry))) (call .function) (take (call .ancillae) (now (ancillae .entry))) (take (call .value) (now (value .entry))) (call .fuel) (call .workspace) (call .output))) ⌝ }
+    ensures fills { λ _. ⌜ now (output .exit) ≡ onFront (capped mostOutput (call .output)) (written (runCall (call .backward) (take (call .program) (now (program .entry))) (call .function) (take (call .ancillae) (now (ancillae .entry))) (take (call .value) (now (value .entry))) (call .fuel) (call .workspace) (call .output))) (now (output .entry)) ⌝ }
+    ensures clear { λ _. ⌜ now (workspace .exit) ≡ onFront (capped mostWorkspace (call .workspace)) (cleared (runCall (call .backward) (take (call .program) (now (program .entry))) (call .function) (take (call .ancillae) (now (ancillae .entry))) (take (call .value) (now (value .entry))) (call .fuel) (call .workspace) (call .output))) (now (workspace .entry)) ⌝ }
 {
     let p = call.program;
     let a = call.ancillae;

@@ -164,7 +164,7 @@ unfolding layout noFields maxProgramBytes copies
 over-terms = via _ (require-yes 3 0 refl) (overflows 1024 4099 (omega arith) [] [] 1 (omega arith) refl)
 
 -- what the reading refuses, a call refuses
-layout-refused : (ws : ℕ) (program : List ℕ) {n p : ℕ} → leb (workspaceFor 0) ws ≡ true → layout program ≡ refused n p → checkCall ws program ≡ refused n p
+layout-refused : (ws : ℕ) (program : List ℕ) {n p : ℕ} → leb (workspaceFor 0) ws ≡ true → layout program ≡ refused n p → checkCall program ws ≡ refused n p
 unfolding checkCall prepared load
 layout-refused ws program h e = stopped _ (via _ (require-yes 1 0 h) (stopped _ e))
 
@@ -180,5 +180,5 @@ written-out = refl
 pub most-terms : layout (copies 1024 (termField 1 [])) ≡ accepted (only (offsets 1024 0))
 most-terms = ap (λ t. layout (copies 1024 t)) written-out ∙ full-terms
 
-pub terms-over : checkCall ample (copies 1025 (termField 1 [])) ≡ refused 3 4096
+pub terms-over : checkCall (copies 1025 (termField 1 [])) ample ≡ refused 3 4096
 terms-over = layout-refused ample (copies 1025 (termField 1 [])) ample-enough (ap (λ t. layout (copies 1025 t)) written-out ∙ over-terms)

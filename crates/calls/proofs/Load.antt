@@ -79,7 +79,7 @@ load-numbered program = numbered-bind _ (numbered-wider refl (layout-numbered pr
     numbered-bind _ (numbered-wider refl (entries-numbered L (entriesAt program L))) λ named e.
     numbered-bind _ (numbered-wider refl (typed-numbered L _ λ n p e. check-number maxVariables maxNodes _ e)) λ checked e. accepts
 
-pub prepared-numbered : (ws fuel : ℕ) (program : List ℕ) → Numbered programNumbers (prepared ws fuel program)
+pub prepared-numbered : (ws fuel : ℕ) (program : List ℕ) → Numbered programNumbers (prepared program fuel ws)
 unfolding prepared member within
 prepared-numbered ws fuel program = numbered-test _ _ 0 _ refl λ enough. load-numbered program
 
@@ -107,7 +107,7 @@ load-iff program P = (
 )
 
 pub prepared-iff : (ws fuel : ℕ) (program : List ℕ) (P : Program)
-    → (prepared ws fuel program ≡ accepted P) ↔ ((workspaceFor fuel ≤ ws) × WellFormed program P × WellTyped maxVariables maxNodes P)
+    → (prepared program fuel ws ≡ accepted P) ↔ ((workspaceFor fuel ≤ ws) × WellFormed program P × WellTyped maxVariables maxNodes P)
 unfolding prepared
 prepared-iff ws fuel program P = (
   λ e.

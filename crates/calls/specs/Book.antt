@@ -17,17 +17,17 @@ use package.Rattle.calls.specs.Conversions.{Turned, Last, newest, openCa
 ----------------------------------------------------------------
 -- Calls that write a journal, and what they answer
 
--- with workspace length, fuel where the call has it, function, the given bytes, and last the length of the journal's buffer
+-- with the given bytes or the function and its ancillae, fuel where the call has it, and the lengths of the workspace and of the journal's buffer
 pub data Call : Type 0 where
-  opens : ℕ → List ℕ → ℕ → Call
-  converts : ℕ → ℕ → ℕ → List ℕ → ℕ → Call
+  opens : List ℕ → ℕ → ℕ → Call
+  converts : ℕ → List ℕ → ℕ → ℕ → ℕ → Call
   rollsBack : ℕ → ℕ → ℕ → Call
 
 -- the length of the journal's buffer
 unfoldable pub buffer : Call → ℕ
-buffer (opens ws v n) = n
-buffer (converts ws fuel fn anc n) = n
-buffer (rollsBack ws fuel n) = n
+buffer (opens v ws n) = n
+buffer (converts fn anc fuel ws n) = n
+buffer (rollsBack fuel ws n) = n
 
 -- open answers that it accepts; convert and rollback the new held value's length and the steps; a refusal its number and place
 pub data Told : Type 0 where
@@ -91,9 +91,9 @@ refusalOf (refused n p) = some (refuses n p)
 
 unfoldable pub refusal : List ℕ → Call → List ℕ → Option Told
 unfolding refusalOf
-refusal program (opens ws v n) journal = refusalOf (openCall ws program v n)
-refusal program (converts ws fuel fn anc n) journal = refusalOf (convertCall ws fuel fn program anc journal)
-refusal program (rollsBack ws fuel n) journal = refusalOf (rollbackCall ws fuel program journal)
+refusal program (opens v ws n) journal = refusalOf (openCall program v ws n)
+refusal program (converts fn anc fuel ws n) journal = refusalOf (convertCall program fn anc fuel ws journal)
+refusal program (rollsBack fuel ws n) journal = refusalOf (rollbackCall program fuel ws journal)
 
 -- the book after a call, and the answer
 pub record Turn : Type 0 where
@@ -117,14 +117,14 @@ orEmpty (some s) = s
 -- rollback strikes the newest. A rollback's steps are the struck row's.
 unfoldable pub enters : Program → Call → Book → Turn
 unfolding through carry orUnit orNone orEmpty newest
-enters P (opens ws v n) b = record { book = record { first = orUnit (value v); rows = [] }; told = isOpen }
-enters P (converts ws fuel fn anc n) b =
+enters P (opens v ws n) b = record { book = record { first = orUnit (value v); rows = [] }; told = isOpen }
+enters P (converts fn anc fuel ws n) b =
     let r : Row = record { function = fn; ancillae = orNone (ancillae anc) } in
     record {
       book = record { first = b .first; rows = b .rows ++ (r ∷ []) };
       told = holds (size (carry P r (through P (b .rows) (b .first)) .value)) (carry P r (through P (b .rows) (b .first)) .steps);
     }
-enters P (rollsBack ws fuel n) b =
+enters P (rollsBack fuel ws n) b =
     let s = orEmpty (newest (b .rows)) in
     record {
       book = record { first = b .first; rows = s .older };
@@ -177,9 +177,9 @@ afterOpen journal (refused n p) = record { journal = journal; told = refuses n p
 -- the call on a buffer that holds `journal`
 unfoldable pub call : List ℕ → Call → List ℕ → Left
 unfolding afterTurned afterOpen
-call program (opens ws v n) journal = afterOpen journal (openCall ws program v n)
-call program (converts ws fuel fn anc n) journal = afterTurned journal (convertCall ws fuel fn program anc journal)
-call program (rollsBack ws fuel n) journal = afterTurned journal (rollbackCall ws fuel program journal)
+call program (opens v ws n) journal = afterOpen journal (openCall program v ws n)
+call program (converts fn anc fuel ws n) journal = afterTurned journal (convertCall program fn anc fuel ws journal)
+call program (rollsBack fuel ws n) journal = afterTurned journal (rollbackCall program fuel ws journal)
 
 pub record CallRun : Type 0 where
   pub journal : List ℕ

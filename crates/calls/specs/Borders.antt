@@ -95,42 +95,42 @@ withEntries n = field heldTag (0 ∷ []) ++ copies n (field entryTag (replicate 
 -- Limits, at the edge and one past it
 
 pub record Edges : Type 0 where
-  pub workspace : checkCall 32768 [] ≡ accepted tt
-  pub workspace-past : checkCall 32767 [] ≡ refused 1 0
-  pub workspace-fuel : forwardCall 32800 2 1 0 collapse [] (encode (inl unit)) ≡ refused 12 0
-  pub workspace-fuel-past : forwardCall 32799 2 1 0 collapse [] (encode (inl unit)) ≡ refused 1 0
-  pub types : checkCall ample (copies 256 (typeField 0 [])) ≡ accepted tt
-  pub types-past : checkCall ample (copies 257 (typeField 0 [])) ≡ refused 3 1024
+  pub workspace : checkCall [] 32768 ≡ accepted tt
+  pub workspace-past : checkCall [] 32767 ≡ refused 1 0
+  pub workspace-fuel : forwardCall collapse 0 [] (encode (inl unit)) 1 32800 2 ≡ refused 12 0
+  pub workspace-fuel-past : forwardCall collapse 0 [] (encode (inl unit)) 1 32799 2 ≡ refused 1 0
+  pub types : checkCall (copies 256 (typeField 0 [])) ample ≡ accepted tt
+  pub types-past : checkCall (copies 257 (typeField 0 [])) ample ≡ refused 3 1024
   pub terms : layout (copies 1024 (termField 1 [])) ≡ accepted (record { types = []; terms = offsets 1024 0; functions = [] })
-  pub terms-past : checkCall ample (copies 1025 (termField 1 [])) ≡ refused 3 4096
-  pub functions : checkCall ample (unitFunctions 64) ≡ accepted tt
-  pub functions-past : checkCall ample (unitFunctions 65) ≡ refused 3 904
-  pub bytes : checkCall ample (replicate 32768 1) ≡ refused 2 0
-  pub bytes-past : checkCall ample (replicate 32769 1) ≡ refused 3 0
-  pub parameters : checkCall ample (ofUnits 8) ≡ accepted tt
-  pub parameters-past : checkCall ample (ofUnits 9) ≡ refused 3 8
-  pub no-parameters : checkCall ample (ofUnits 0) ≡ refused 3 8
-  pub variables : checkCall ample (unitLets 31) ≡ accepted tt
-  pub variables-past : checkCall ample (unitLets 32) ≡ refused 7 12
-  pub nodes : checkCall ample (namesType 10) ≡ accepted tt
-  pub nodes-past : checkCall ample (namesType 11) ≡ refused 5 106
-  pub nodes-given : checkCall ample (pairsTypes 8 12 13) ≡ accepted tt
-  pub nodes-given-past : checkCall ample (pairsTypes 12 12 13) ≡ refused 6 112
-  pub value-bytes : forwardCall ample 1024 1 2 wide [] (encode (inr (num 510))) ≡ value (inr (num 510)) 1
-  pub value-bytes-past : forwardCall ample 1024 1 2 wide [] (encode (num 511)) ≡ refused 10 0
-  pub ancilla-bytes : forwardCall ample 1 1 0 wide (encode (inr (num 510))) (encode unit) ≡ value unit 1
-  pub ancilla-bytes-past : forwardCall ample 1 1 1 wide (encode unit ++ encode (inr (num 510))) (encode unit) ≡ refused 10 0
-  pub height : forwardCall ample 1024 65535 2 higher (encode (num 0)) (encode (num 255)) ≡ value (num 255) 2047
-  pub height-past : forwardCall ample 1024 65535 3 higher (encode (num 0)) (encode (num 255)) ≡ refused 13 0
-  pub output : forwardCall ample 2 4 0 collapse [] (encode (inl unit)) ≡ value (inl unit) 4
-  pub output-past : forwardCall ample 1 4 0 collapse [] (encode (inl unit)) ≡ refused 17 0
-  pub function-past : forwardCall ample 2 4 1 collapse [] (encode (inl unit)) ≡ refused 9 0
-  pub conversions : convertCall ample 0 9 [] [] (withEntries 63) ≡ refused 9 0
-  pub conversions-past : convertCall ample 0 9 [] [] (withEntries 64) ≡ refused 20 0
-  pub entries : rollbackCall ample 0 [] (withEntries 64) ≡ refused 9 0
-  pub entries-past : rollbackCall ample 0 [] (withEntries 65) ≡ refused 18 0
-  pub room : openCall ample [] (encode (num 3)) 12 ≡ accepted (field heldTag (encode (num 3)))
-  pub room-past : openCall ample [] (encode (num 3)) 11 ≡ refused 20 0
+  pub terms-past : checkCall (copies 1025 (termField 1 [])) ample ≡ refused 3 4096
+  pub functions : checkCall (unitFunctions 64) ample ≡ accepted tt
+  pub functions-past : checkCall (unitFunctions 65) ample ≡ refused 3 904
+  pub bytes : checkCall (replicate 32768 1) ample ≡ refused 2 0
+  pub bytes-past : checkCall (replicate 32769 1) ample ≡ refused 3 0
+  pub parameters : checkCall (ofUnits 8) ample ≡ accepted tt
+  pub parameters-past : checkCall (ofUnits 9) ample ≡ refused 3 8
+  pub no-parameters : checkCall (ofUnits 0) ample ≡ refused 3 8
+  pub variables : checkCall (unitLets 31) ample ≡ accepted tt
+  pub variables-past : checkCall (unitLets 32) ample ≡ refused 7 12
+  pub nodes : checkCall (namesType 10) ample ≡ accepted tt
+  pub nodes-past : checkCall (namesType 11) ample ≡ refused 5 106
+  pub nodes-given : checkCall (pairsTypes 8 12 13) ample ≡ accepted tt
+  pub nodes-given-past : checkCall (pairsTypes 12 12 13) ample ≡ refused 6 112
+  pub value-bytes : forwardCall wide 2 [] (encode (inr (num 510))) 1 ample 1024 ≡ value (inr (num 510)) 1
+  pub value-bytes-past : forwardCall wide 2 [] (encode (num 511)) 1 ample 1024 ≡ refused 10 0
+  pub ancilla-bytes : forwardCall wide 0 (encode (inr (num 510))) (encode unit) 1 ample 1 ≡ value unit 1
+  pub ancilla-bytes-past : forwardCall wide 1 (encode unit ++ encode (inr (num 510))) (encode unit) 1 ample 1 ≡ refused 10 0
+  pub height : forwardCall higher 2 (encode (num 0)) (encode (num 255)) 65535 ample 1024 ≡ value (num 255) 2047
+  pub height-past : forwardCall higher 3 (encode (num 0)) (encode (num 255)) 65535 ample 1024 ≡ refused 13 0
+  pub output : forwardCall collapse 0 [] (encode (inl unit)) 4 ample 2 ≡ value (inl unit) 4
+  pub output-past : forwardCall collapse 0 [] (encode (inl unit)) 4 ample 1 ≡ refused 17 0
+  pub function-past : forwardCall collapse 1 [] (encode (inl unit)) 4 ample 2 ≡ refused 9 0
+  pub conversions : convertCall [] 9 [] 0 ample (withEntries 63) ≡ refused 9 0
+  pub conversions-past : convertCall [] 9 [] 0 ample (withEntries 64) ≡ refused 20 0
+  pub entries : rollbackCall [] 0 ample (withEntries 64) ≡ refused 9 0
+  pub entries-past : rollbackCall [] 0 ample (withEntries 65) ≡ refused 18 0
+  pub room : openCall [] (encode (num 3)) ample 12 ≡ accepted (field heldTag (encode (num 3)))
+  pub room-past : openCall [] (encode (num 3)) ample 11 ≡ refused 20 0
 
 ----------------------------------------------------------------
 -- What buffers hold after each outcome
@@ -138,8 +138,8 @@ pub record Edges : Type 0 where
 pub record Outcomes : Type 0 where
   pub clear : cleared (plusOf 28 2 3) (7 ∷ 7 ∷ []) ≡ 0 ∷ 0 ∷ []
   pub clear-refused : cleared (plusOf 27 2 3) (7 ∷ 7 ∷ []) ≡ 0 ∷ 0 ∷ []
-  pub clear-2 : cleared (checkCall ample (0 ∷ [])) (7 ∷ 7 ∷ []) ≡ 0 ∷ 0 ∷ []
-  pub untouched : cleared (checkCall 0 []) (7 ∷ 7 ∷ []) ≡ 7 ∷ 7 ∷ []
+  pub clear-2 : cleared (checkCall (0 ∷ []) ample) (7 ∷ 7 ∷ []) ≡ 0 ∷ 0 ∷ []
+  pub untouched : cleared (checkCall [] 0) (7 ∷ 7 ∷ []) ≡ 7 ∷ 7 ∷ []
   pub filled : written (plusOf 4 0 0) (9 ∷ 9 ∷ 9 ∷ 9 ∷ []) ≡ 4 ∷ 1 ∷ 0 ∷ 9 ∷ []
   pub kept : written (plusOf 3 0 0) (9 ∷ 9 ∷ 9 ∷ 9 ∷ []) ≡ 9 ∷ 9 ∷ 9 ∷ 9 ∷ []
 
@@ -149,11 +149,11 @@ pub record Outcomes : Type 0 where
 -- plus 2; again, with too little fuel; rollback with too little fuel, in a shorter buffer; rollback, in a longer one; rollback with nothing
 -- standing, in one of the field alone; open with 0
 abbrev pub someCalls : List Call
-someCalls = converts ample 65535 0 (encode (num 2)) 40 ∷ converts ample 27 0 (encode (num 2)) 40 ∷ rollsBack ample 27 36 ∷ rollsBack ample 28 41
-    ∷ rollsBack ample 28 12 ∷ opens ample (encode (num 0)) 9 ∷ []
+someCalls = converts 0 (encode (num 2)) 65535 ample 40 ∷ converts 0 (encode (num 2)) 27 ample 40 ∷ rollsBack 27 ample 36 ∷ rollsBack 28 ample 41
+    ∷ rollsBack 28 ample 12 ∷ opens (encode (num 0)) ample 9 ∷ []
 
 abbrev pub moreCalls : List Call
-moreCalls = converts ample 65535 0 (encode (num 2)) 40 ∷ converts ample 65535 0 (encode (num 2)) 60 ∷ rollsBack ample 44 60 ∷ rollsBack ample 0 40 ∷ []
+moreCalls = converts 0 (encode (num 2)) 65535 ample 40 ∷ converts 0 (encode (num 2)) 65535 ample 60 ∷ rollsBack 44 ample 60 ∷ rollsBack 0 ample 40 ∷ []
 
 abbrev pub told : List Told
 told = holds 13 28 ∷ refuses 12 7 ∷ refuses 12 0 ∷ holds 9 28 ∷ refuses 19 0 ∷ isOpen ∷ []

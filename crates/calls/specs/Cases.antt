@@ -113,13 +113,13 @@ ample = 2200000
 
 -- plus, dup: forward and backward, with fuel, the ancilla's number if there is one, and the value
 abbrev pub plusOf : ℕ → ℕ → ℕ → Answer Ran
-plusOf fuel a n = forwardCall ample 1024 fuel 0 numbers (encode (num a)) (encode (num n))
+plusOf fuel a n = forwardCall numbers 0 (encode (num a)) (encode (num n)) fuel ample 1024
 
 abbrev pub plusBack : ℕ → ℕ → ℕ → Answer Ran
-plusBack fuel a n = backwardCall ample 1024 fuel 0 numbers (encode (num a)) (encode (num n))
+plusBack fuel a n = backwardCall numbers 0 (encode (num a)) (encode (num n)) fuel ample 1024
 
 abbrev pub dupBack : ℕ → ℕ → ℕ → Answer Ran
-dupBack fuel n m = backwardCall ample 1024 fuel 1 numbers [] (encode (pair (num n) (num m)))
+dupBack fuel n m = backwardCall numbers 1 [] (encode (pair (num n) (num m))) fuel ample 1024
 
 abbrev pub value : Val → ℕ → Answer Ran
 value v n = accepted (record { value = v; steps = n })
@@ -139,7 +139,7 @@ abbrev pub treesOf : List ℕ → Answer Program
 treesOf xs = layout xs >>= λ L. accepted (programOf (entriesAt xs L))
 
 abbrev pub flipped : Val → Answer Ran
-flipped v = forwardCall ample 1024 65535 0 flip [] (encode v)
+flipped v = forwardCall flip 0 [] (encode v) 65535 ample 1024
 
 pub record Table : Type 0 where
   -- the programs of rules/specs/Cases are those that the bytes load to
@@ -147,7 +147,7 @@ pub record Table : Type 0 where
   pub p10-loads : load collapse ≡ accepted (trees.collapse ∷ [])
   pub p11-trees : treesOf drop ≡ accepted (trees.drop ∷ [])
   pub p12-loads : load flip ≡ accepted (trees.flip ∷ [])
-  pub checked : checkCall ample numbers ≡ accepted tt
+  pub checked : checkCall numbers ample ≡ accepted tt
   pub p1 : plusOf 65535 2 0 ≡ value (num 2) 4
   pub p2 : plusOf 28 2 3 ≡ value (num 5) 28
   pub p2-fuel : plusOf 27 2 3 ≡ refused 12 2
@@ -159,24 +159,24 @@ pub record Table : Type 0 where
   pub p5-lower : runForward fits trees.numbers 1022 plus (num 0 ∷ []) (num 255) 2044 ≡ stop 13 0
   pub p9 : dupBack 3 3 4 ≡ refused 16 10
   pub p9-equal : dupBack 3 3 3 ≡ value (num 3) 3
-  pub p10-inl : forwardCall ample 1024 4 0 collapse [] (encode (inl unit)) ≡ value (inl unit) 4
-  pub p10-inr : forwardCall ample 1024 4 0 collapse [] (encode (inr unit)) ≡ refused 15 5
+  pub p10-inl : forwardCall collapse 0 [] (encode (inl unit)) 4 ample 1024 ≡ value (inl unit) 4
+  pub p10-inr : forwardCall collapse 0 [] (encode (inr unit)) 4 ample 1024 ≡ refused 15 5
   -- placed at the function's field, the last
-  pub p11 : checkCall ample drop ≡ refused 8 16
+  pub p11 : checkCall drop ample ≡ refused 8 16
   pub p12-left-inl : flipped (pair (inl unit) (inl unit)) ≡ value (inl unit) 5
   pub p12-left-inr : flipped (pair (inl unit) (inr unit)) ≡ value (inr unit) 5
   pub p12-right-inl : flipped (pair (inr unit) (inl unit)) ≡ refused 15 9
   pub p12-right-inr : flipped (pair (inr unit) (inr unit)) ≡ refused 15 9
-  pub p13-open : openCall ample numbers (encode (num 3)) 40 ≡ accepted opened
-  pub p13-convert : convertCall ample 65535 0 numbers (encode (num 2)) opened ≡ held 13 28 converted
-  pub p13-rollback : rollbackCall ample 65535 numbers converted ≡ held 9 28 opened
+  pub p13-open : openCall numbers (encode (num 3)) ample 40 ≡ accepted opened
+  pub p13-convert : convertCall numbers 0 (encode (num 2)) 65535 ample opened ≡ held 13 28 converted
+  pub p13-rollback : rollbackCall numbers 65535 ample converted ≡ held 9 28 opened
 
 -- P6 to P8
 pub record Limits : Type 0 where
   pub p6 : plusOf 65535 0 256 ≡ refused 13 3
-  pub p7 : forwardCall ample 1024 65535 1 numbers [] (encode (num 254)) ≡ value (pair (num 254) (num 254)) 3
-  pub p7-short : forwardCall ample 1022 65535 1 numbers [] (encode (num 254)) ≡ refused 17 0
-  pub p8 : forwardCall ample 1024 65535 1 numbers [] (encode (num 255)) ≡ refused 14 11
+  pub p7 : forwardCall numbers 1 [] (encode (num 254)) 65535 ample 1024 ≡ value (pair (num 254) (num 254)) 3
+  pub p7-short : forwardCall numbers 1 [] (encode (num 254)) 65535 ample 1022 ≡ refused 17 0
+  pub p8 : forwardCall numbers 1 [] (encode (num 255)) 65535 ample 1024 ≡ refused 14 11
 
 ----------------------------------------------------------------
 -- Orders of section 4
@@ -191,13 +191,13 @@ unitHeld steps = 0x21 ∷ 0 ∷ 1 ∷ 0 ∷ 0x22 ∷ 0 ∷ 6 ∷ 0 ∷ 0 ∷ 0 �
 
 pub record Orders : Type 0 where
   -- the conversion takes 11 steps, and fits
-  pub converts : convertCall ample 65535 0 units [] (0x21 ∷ 0 ∷ 11 ∷ (encode sixUnits ++ replicate 9 0)) ≡ held 1 11 (unitHeld 11 ++ replicate 10 0)
+  pub converts : convertCall units 0 [] 65535 ample (0x21 ∷ 0 ∷ 11 ∷ (encode sixUnits ++ replicate 9 0)) ≡ held 1 11 (unitHeld 11 ++ replicate 10 0)
   -- rolled back in a buffer of 13 bytes, the record of 11 does not fit; steps that differ are met before that
-  pub room : rollbackCall ample 65535 units (unitHeld 11) ≡ refused 20 0
-  pub steps-before-room : rollbackCall ample 65535 units (unitHeld 12) ≡ refused 18 0
+  pub room : rollbackCall units 65535 ample (unitHeld 11) ≡ refused 20 0
+  pub steps-before-room : rollbackCall units 65535 ample (unitHeld 12) ≡ refused 18 0
   -- a malformed value goes before an ancilla of another type
-  pub malformed-before-typed : forwardCall ample 1024 28 0 numbers (encode unit) (5 ∷ []) ≡ refused 10 0
-  pub typed : forwardCall ample 1024 28 0 numbers (encode unit) (encode (num 3)) ≡ refused 11 0
+  pub malformed-before-typed : forwardCall numbers 0 (encode unit) (5 ∷ []) 28 ample 1024 ≡ refused 10 0
+  pub typed : forwardCall numbers 0 (encode unit) (encode (num 3)) 28 ample 1024 ≡ refused 11 0
   -- a second conversion carries the record too, and both go back
-  pub second : convertCall ample 65535 0 numbers (encode (num 2)) (converted ++ replicate 20 0)
+  pub second : convertCall numbers 0 (encode (num 2)) 65535 ample (converted ++ replicate 20 0)
       ≡ held 17 44 (0x21 ∷ 0 ∷ 17 ∷ (encode (num 7) ++ 0x22 ∷ 0 ∷ 13 ∷ 0 ∷ 0 ∷ 0 ∷ 0 ∷ 0 ∷ 28 ∷ (encode (num 2) ++ 0x22 ∷ 0 ∷ 13 ∷ 0 ∷ 0 ∷ 0 ∷ 0 ∷ 0 ∷ 44 ∷ (encode (num 2) ++ replicate 8 0))))

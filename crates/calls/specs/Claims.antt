@@ -50,13 +50,13 @@ WrittenAndRead = (xs : List ℕ) (J : Journal) → AreBytes xs → readJournal x
 -- Check accepts exactly the programs that are well-formed by section 1 and typed by the rules, given its workspace.
 abbrev pub CheckIffTyped : Type 0
 CheckIffTyped = (ws : ℕ) (program : List ℕ)
-    → (checkCall ws program ≡ accepted tt) ↔ ((workspaceFor 0 ≤ ws) × ((P : Program) × WellFormed program P × WellTyped maxVariables maxNodes P))
+    → (checkCall program ws ≡ accepted tt) ↔ ((workspaceFor 0 ≤ ws) × ((P : Program) × WellFormed program P × WellTyped maxVariables maxNodes P))
 
 ----------------------------------------------------------------
 -- Forward and backward
 
 -- A call with these arguments reaches its run: function `h` of program `P`, ancillae `vs`, and a value `v` of the type that `side` gives.
-pub record Admitted (ws fuel fn : ℕ) (program anc bytes : List ℕ) (side : Fun → Ty) (P : Program) (h : Fun) (vs : List Val) (v : Val) : Type 0 where
+pub record Admitted (program : List ℕ) (fn : ℕ) (anc bytes : List ℕ) (fuel ws : ℕ) (side : Fun → Ty) (P : Program) (h : Fun) (vs : List Val) (v : Val) : Type 0 where
   pub enough : workspaceFor fuel ≤ ws
   pub formed : WellFormed program P
   pub typed : WellTyped maxVariables maxNodes P
@@ -73,40 +73,40 @@ answer v n = accepted (record { value = v; steps = n })
 -- and the limits, and the output is long enough.
 abbrev pub ForwardIffRules : Type 0
 ForwardIffRules = (ws out fuel fn : ℕ) (program anc bytes : List ℕ) (w : Val) (n : ℕ)
-    → (forwardCall ws out fuel fn program anc bytes ≡ answer w n)
-    ↔ ((P : Program) × (h : Fun) × (vs : List Val) × (v : Val) × Admitted ws fuel fn program anc bytes (λ h. h .dynamic) P h vs v
+    → (forwardCall program fn anc bytes fuel ws out ≡ answer w n)
+    ↔ ((P : Program) × (h : Fun) × (vs : List Val) × (v : Val) × Admitted program fn anc bytes fuel ws (λ h. h .dynamic) P h vs v
     × Carries fits P maxHeight h vs v w n × (n ≤ fuel) × (size w ≤ out))
 
 -- Demand 2: backward gives the input `v` in `n` steps exactly if the call is admitted and the rules carry `v`, of the dynamic parameter's
 -- type, to the given value in `n` steps, within the fuel and the limits, and the output is long enough.
 abbrev pub BackwardIffRules : Type 0
 BackwardIffRules = (ws out fuel fn : ℕ) (program anc bytes : List ℕ) (v : Val) (n : ℕ)
-    → (backwardCall ws out fuel fn program anc bytes ≡ answer v n)
-    ↔ ((P : Program) × (h : Fun) × (vs : List Val) × (w : Val) × Admitted ws fuel fn program anc bytes (λ h. h .result) P h vs w
+    → (backwardCall program fn anc bytes fuel ws out ≡ answer v n)
+    ↔ ((P : Program) × (h : Fun) × (vs : List Val) × (w : Val) × Admitted program fn anc bytes fuel ws (λ h. h .result) P h vs w
     × HasTy v (h .dynamic) × Carries fits P maxHeight h vs v w n × (n ≤ fuel) × (size v ≤ out))
 
 -- So backward gives an input in `n` steps if and only if forward carries that input to the given value in `n` steps, with the same fuel
 -- and limits, the outputs being long enough.
 abbrev pub BackwardIffForward : Type 0
 BackwardIffForward = (ws out out′ fuel fn : ℕ) (program anc : List ℕ) (v w : Val) (n : ℕ) → size v ≤ out → size w ≤ out′
-    → (backwardCall ws out fuel fn program anc (encode w) ≡ answer v n) ↔ (forwardCall ws out′ fuel fn program anc (encode v) ≡ answer w n)
+    → (backwardCall program fn anc (encode w) fuel ws out ≡ answer v n) ↔ (forwardCall program fn anc (encode v) fuel ws out′ ≡ answer w n)
 
 -- Refusal 16: the call was admitted, and no input exists at any fuel, height or size.
 abbrev pub NoInput : Type 0
-NoInput = (ws out fuel fn : ℕ) (program anc bytes : List ℕ) (k : ℕ) → backwardCall ws out fuel fn program anc bytes ≡ refused 16 k
-    → (P : Program) × (h : Fun) × (vs : List Val) × (w : Val) × Admitted ws fuel fn program anc bytes (λ h. h .result) P h vs w
+NoInput = (ws out fuel fn : ℕ) (program anc bytes : List ℕ) (k : ℕ) → backwardCall program fn anc bytes fuel ws out ≡ refused 16 k
+    → (P : Program) × (h : Fun) × (vs : List Val) × (w : Val) × Admitted program fn anc bytes fuel ws (λ h. h .result) P h vs w
     × ((fits′ : Val → Bool) (r n : ℕ) (v : Val) → HasTy v (h .dynamic) → Carries fits′ P r h vs v w n → ⊥)
 
 -- Refusal 15 forward: the call was admitted, and the rules yield nothing, at any fuel, height or size.
 abbrev pub NoValue : Type 0
-NoValue = (ws out fuel fn : ℕ) (program anc bytes : List ℕ) (k : ℕ) → forwardCall ws out fuel fn program anc bytes ≡ refused 15 k
-    → (P : Program) × (h : Fun) × (vs : List Val) × (v : Val) × Admitted ws fuel fn program anc bytes (λ h. h .dynamic) P h vs v
+NoValue = (ws out fuel fn : ℕ) (program anc bytes : List ℕ) (k : ℕ) → forwardCall program fn anc bytes fuel ws out ≡ refused 15 k
+    → (P : Program) × (h : Fun) × (vs : List Val) × (v : Val) × Admitted program fn anc bytes fuel ws (λ h. h .dynamic) P h vs v
     × ((fits′ : Val → Bool) (r n : ℕ) (w : Val) → Carries fits′ P r h vs v w n → ⊥)
 
 -- Two inputs never share a value, whatever the workspace, output and fuel.
 abbrev pub Injective : Type 0
 Injective = (ws ws′ out out′ fuel fuel′ fn : ℕ) (program anc bytes bytes′ : List ℕ) (w : Val) (n n′ : ℕ)
-    → forwardCall ws out fuel fn program anc bytes ≡ answer w n → forwardCall ws′ out′ fuel′ fn program anc bytes′ ≡ answer w n′ → bytes ≡ bytes′
+    → forwardCall program fn anc bytes fuel ws out ≡ answer w n → forwardCall program fn anc bytes′ fuel′ ws′ out′ ≡ answer w n′ → bytes ≡ bytes′
 
 -- What a call answered another answers too: a value with its steps, and 15 and 16 with their places.
 abbrev pub AnswersAlike : Answer Ran → Answer Ran → Type 0
@@ -115,14 +115,14 @@ AnswersAlike x y = ((w : Val) (n : ℕ) → x ≡ answer w n → y ≡ answer w 
 -- More fuel, workspace or output never changes a value with its steps, nor 15, nor 16, either way.
 abbrev pub MoreNeverChanges : Type 0
 MoreNeverChanges = (ws ws′ out out′ fuel fuel′ fn : ℕ) (program anc bytes : List ℕ) → workspaceFor fuel′ ≤ ws′ → out ≤ out′ → fuel ≤ fuel′
-    → AnswersAlike (forwardCall ws out fuel fn program anc bytes) (forwardCall ws′ out′ fuel′ fn program anc bytes)
-    × AnswersAlike (backwardCall ws out fuel fn program anc bytes) (backwardCall ws′ out′ fuel′ fn program anc bytes)
+    → AnswersAlike (forwardCall program fn anc bytes fuel ws out) (forwardCall program fn anc bytes fuel′ ws′ out′)
+    × AnswersAlike (backwardCall program fn anc bytes fuel ws out) (backwardCall program fn anc bytes fuel′ ws′ out′)
 
 -- Demand 1: no call stops on a value of wrong shape (which would be the number 0).
 abbrev pub NeverStuck : Type 0
 NeverStuck = (ws out fuel fn : ℕ) (program anc bytes : List ℕ) (k : ℕ)
-    → ¬ (forwardCall ws out fuel fn program anc bytes ≡ refused 0 k) × ¬ (backwardCall ws out fuel fn program anc bytes ≡ refused 0 k)
-    × ¬ (convertCall ws fuel fn program anc bytes ≡ refused 0 k) × ¬ (rollbackCall ws fuel program bytes ≡ refused 0 k)
+    → ¬ (forwardCall program fn anc bytes fuel ws out ≡ refused 0 k) × ¬ (backwardCall program fn anc bytes fuel ws out ≡ refused 0 k)
+    × ¬ (convertCall program fn anc fuel ws bytes ≡ refused 0 k) × ¬ (rollbackCall program fuel ws bytes ≡ refused 0 k)
 
 -- the numbers of section 4's rows from Workspace to Typing, of row Call, and of row Run: a run forward never meets 16
 abbrev pub programNumbers : List ℕ
@@ -144,17 +144,17 @@ Exactly ns Met = (n : ℕ) → (member n ns ≡ true) ↔ Met n
 -- Demand 1: what a call does not accept it refuses under a number of document 01, and these are the numbers of each call.
 abbrev pub RefusalNumbers : Type 0
 RefusalNumbers =
-    Exactly programNumbers (λ n. (ws : ℕ) × (program : List ℕ) × (k : ℕ) × (checkCall ws program ≡ refused n k))
+    Exactly programNumbers (λ n. (ws : ℕ) × (program : List ℕ) × (k : ℕ) × (checkCall program ws ≡ refused n k))
     × Exactly (programNumbers ++ callNumbers ++ forwardNumbers ++ (17 ∷ [])) (λ n. (ws : ℕ) × (out : ℕ) × (fuel : ℕ) × (fn : ℕ)
-    × (program : List ℕ) × (anc : List ℕ) × (bytes : List ℕ) × (k : ℕ) × (forwardCall ws out fuel fn program anc bytes ≡ refused n k))
+    × (program : List ℕ) × (anc : List ℕ) × (bytes : List ℕ) × (k : ℕ) × (forwardCall program fn anc bytes fuel ws out ≡ refused n k))
     × Exactly (programNumbers ++ callNumbers ++ backwardNumbers ++ (17 ∷ [])) (λ n. (ws : ℕ) × (out : ℕ) × (fuel : ℕ) × (fn : ℕ)
-    × (program : List ℕ) × (anc : List ℕ) × (bytes : List ℕ) × (k : ℕ) × (backwardCall ws out fuel fn program anc bytes ≡ refused n k))
+    × (program : List ℕ) × (anc : List ℕ) × (bytes : List ℕ) × (k : ℕ) × (backwardCall program fn anc bytes fuel ws out ≡ refused n k))
     × Exactly (programNumbers ++ (10 ∷ 20 ∷ [])) (λ n. (ws : ℕ) × (program : List ℕ) × (bytes : List ℕ) × (m : ℕ) × (k : ℕ)
-    × (openCall ws program bytes m ≡ refused n k))
+    × (openCall program bytes ws m ≡ refused n k))
     × Exactly (programNumbers ++ (18 ∷ 20 ∷ []) ++ callNumbers ++ forwardNumbers) (λ n. (ws : ℕ) × (fuel : ℕ) × (fn : ℕ)
-    × (program : List ℕ) × (anc : List ℕ) × (journal : List ℕ) × (k : ℕ) × (convertCall ws fuel fn program anc journal ≡ refused n k))
+    × (program : List ℕ) × (anc : List ℕ) × (journal : List ℕ) × (k : ℕ) × (convertCall program fn anc fuel ws journal ≡ refused n k))
     × Exactly (programNumbers ++ (18 ∷ 19 ∷ 20 ∷ []) ++ callNumbers ++ backwardNumbers) (λ n. (ws : ℕ) × (fuel : ℕ)
-    × (program : List ℕ) × (journal : List ℕ) × (k : ℕ) × (rollbackCall ws fuel program journal ≡ refused n k))
+    × (program : List ℕ) × (journal : List ℕ) × (k : ℕ) × (rollbackCall program fuel ws journal ≡ refused n k))
 
 -- A conversion that was accepted under narrower limits goes back under wider ones, in as many steps, given fuel for them.
 abbrev pub OldConversionsReturn : Type 0
@@ -167,9 +167,9 @@ OldConversionsReturn = (variables most : ℕ) (P : Program) → OfTyped variable
 
 -- fuel is 0 to 65,535 and a function number two bytes, by their types
 abbrev pub Sized : Call → Type 0
-Sized (opens ws v n) = Unit {0}
-Sized (converts ws fuel fn anc n) = (fuel ≤ maxFuel) × (fn < 65536)
-Sized (rollsBack ws fuel n) = fuel ≤ maxFuel
+Sized (opens v ws n) = Unit {0}
+Sized (converts fn anc fuel ws n) = (fuel ≤ maxFuel) × (fn < 65536)
+Sized (rollsBack fuel ws n) = fuel ≤ maxFuel
 
 -- the end of the journal's last field
 unfoldable pub lastField : List ℕ → ℕ
@@ -208,7 +208,7 @@ module _ (program : List ℕ) (P : Program) (first : Val) (n : ℕ) (journal : L
 -- For every list of calls, refused ones included, from a journal just left by an open that is accepted.
 abbrev pub Demand3 : Type 0
 Demand3 = (program : List ℕ) (P : Program) (ws n : ℕ) (bytes journal : List ℕ) (first : Val) → load program ≡ accepted P → value bytes ≡ some first
-    → openCall ws program bytes n ≡ accepted journal → (cs : List Call) → Premises program cs journal → AsTheBook program P first n journal cs
+    → openCall program bytes ws n ≡ accepted journal → (cs : List Call) → Premises program cs journal → AsTheBook program P first n journal cs
 
 ----------------------------------------------------------------
 -- Demand 3: the rollback that is never refused
@@ -220,16 +220,16 @@ pub record Met : Type 0 where
 
 -- The conversions that stand after a call on `journal` was answered, newest first: an open strikes all, a rollback the newest.
 unfoldable pub remember : Call → List ℕ → Told → List Met → List Met
-remember (opens ws v n) journal isOpen ms = []
-remember (opens ws v n) journal (holds l s) ms = ms
-remember (opens ws v n) journal (refuses c p) ms = ms
-remember (converts ws fuel fn anc n) journal isOpen ms = ms
-remember (converts ws fuel fn anc n) journal (holds l s) ms = record { journal = journal; steps = s } ∷ ms
-remember (converts ws fuel fn anc n) journal (refuses c p) ms = ms
-remember (rollsBack ws fuel n) journal isOpen ms = ms
-remember (rollsBack ws fuel n) journal (holds l s) [] = []
-remember (rollsBack ws fuel n) journal (holds l s) (m ∷ ms) = ms
-remember (rollsBack ws fuel n) journal (refuses c p) ms = ms
+remember (opens v ws n) journal isOpen ms = []
+remember (opens v ws n) journal (holds l s) ms = ms
+remember (opens v ws n) journal (refuses c p) ms = ms
+remember (converts fn anc fuel ws n) journal isOpen ms = ms
+remember (converts fn anc fuel ws n) journal (holds l s) ms = record { journal = journal; steps = s } ∷ ms
+remember (converts fn anc fuel ws n) journal (refuses c p) ms = ms
+remember (rollsBack fuel ws n) journal isOpen ms = ms
+remember (rollsBack fuel ws n) journal (holds l s) [] = []
+remember (rollsBack fuel ws n) journal (holds l s) (m ∷ ms) = ms
+remember (rollsBack fuel ws n) journal (refuses c p) ms = ms
 
 unfoldable pub standing : List ℕ → List Call → List ℕ → List Met → List Met
 unfolding remember
@@ -242,9 +242,9 @@ standing program (c ∷ cs) journal ms =
 -- The newest standing conversion rolls back, whatever calls came between, if the buffer is no shorter than it had, the fuel no less than
 -- its steps, and the workspace suffices: the journal that it met, byte by byte, with zeros behind, in as many steps.
 abbrev pub NewestRollsBack : Type 0
-NewestRollsBack = (program : List ℕ) (ws n : ℕ) (bytes journal : List ℕ) → openCall ws program bytes n ≡ accepted journal
+NewestRollsBack = (program : List ℕ) (ws n : ℕ) (bytes journal : List ℕ) → openCall program bytes ws n ≡ accepted journal
     → (cs : List Call) → Premises program cs journal → (m : Met) (ms : List Met) → standing program cs journal [] ≡ m ∷ ms
     → (ws′ fuel n′ : ℕ) → workspaceFor fuel ≤ ws′ → m .steps ≤ fuel → length (m .journal) ≤ n′
     → (J : Journal) × (readJournal (m .journal) ≡ some J)
-    × (rollbackCall ws′ fuel program (resized n′ (callRun program cs journal .journal))
+    × (rollbackCall program fuel ws′ (resized n′ (callRun program cs journal .journal))
     ≡ accepted (record { held = size (J .held); steps = m .steps; journal = m .journal ++ replicate (n′ - length (m .journal)) 0 }))

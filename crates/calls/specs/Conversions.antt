@@ -52,27 +52,27 @@ newest (e ∷ es) = behind e (newest es)
 ----------------------------------------------------------------
 -- The calls
 
-unfoldable pub openCall : ℕ → List ℕ → List ℕ → ℕ → Answer (List ℕ)
+unfoldable pub openCall : List ℕ → List ℕ → ℕ → ℕ → Answer (List ℕ)
 unfolding prepared kept
-openCall ws program bytes n = do
-  P ← prepared ws 0 program
+openCall program bytes ws n = do
+  P ← prepared program 0 ws
   v ← present (value bytes) 10
   kept n (record { held = v; entries = [] })
 
-unfoldable pub convertCall : ℕ → ℕ → ℕ → List ℕ → List ℕ → List ℕ → Answer Turned
+unfoldable pub convertCall : List ℕ → ℕ → List ℕ → ℕ → ℕ → List ℕ → Answer Turned
 unfolding prepared admit goes turned
-convertCall ws fuel fn program anc journal = do
-  P ← prepared ws fuel program
+convertCall program fn anc fuel ws journal = do
+  P ← prepared program fuel ws
   J ← present (readJournal journal) 18
   few ← require (ltb (length (J .entries)) maxConversions) 20 0
   a ← admit P fn (ancillae anc) (some (J .held)) λ h. h .dynamic
   r ← goes P fuel a
   turned (length journal) r (record { held = r .value; entries = J .entries ++ (record { function = fn; steps = r .steps; ancillae = a .ancillae } ∷ []) })
 
-unfoldable pub rollbackCall : ℕ → ℕ → List ℕ → List ℕ → Answer Turned
+unfoldable pub rollbackCall : List ℕ → ℕ → ℕ → List ℕ → Answer Turned
 unfolding prepared admit returns turned newest
-rollbackCall ws fuel program journal = do
-  P ← prepared ws fuel program
+rollbackCall program fuel ws journal = do
+  P ← prepared program fuel ws
   J ← present (readJournal journal) 18
   s ← present (newest (J .entries)) 19
   a ← admit P (s .newest .function) (some (s .newest .ancillae)) (some (J .held)) λ h. h .result

@@ -25,9 +25,9 @@ unfoldable pub workspaceFor : ℕ → ℕ
 workspaceFor fuel = workspaceBase + workspacePerFuel * fuel
 
 -- refusal 1, then the rows of the program
-unfoldable pub prepared : ℕ → ℕ → List ℕ → Answer Program
+unfoldable pub prepared : List ℕ → ℕ → ℕ → Answer Program
 unfolding workspaceFor
-prepared ws fuel program = do
+prepared program fuel ws = do
   enough ← require (leb (workspaceFor fuel) ws) 1 0
   load program
 
@@ -74,25 +74,25 @@ returns P fuel a = ran fuel (runBackward fits P maxHeight (a .fun) (a .ancillae)
 ----------------------------------------------------------------
 -- The calls
 
-unfoldable pub checkCall : ℕ → List ℕ → Answer (Unit {0})
+unfoldable pub checkCall : List ℕ → ℕ → Answer (Unit {0})
 unfolding prepared
-checkCall ws program = do
-  P ← prepared ws 0 program
+checkCall program ws = do
+  P ← prepared program 0 ws
   accepted tt
 
-unfoldable pub forwardCall : ℕ → ℕ → ℕ → ℕ → List ℕ → List ℕ → List ℕ → Answer Ran
+unfoldable pub forwardCall : List ℕ → ℕ → List ℕ → List ℕ → ℕ → ℕ → ℕ → Answer Ran
 unfolding prepared admit goes
-forwardCall ws out fuel fn program anc v = do
-  P ← prepared ws fuel program
+forwardCall program fn anc v fuel ws out = do
+  P ← prepared program fuel ws
   a ← admit P fn (ancillae anc) (value v) λ h. h .dynamic
   r ← goes P fuel a
   room ← require (leb (size (r .value)) out) 17 0
   accepted r
 
-unfoldable pub backwardCall : ℕ → ℕ → ℕ → ℕ → List ℕ → List ℕ → List ℕ → Answer Ran
+unfoldable pub backwardCall : List ℕ → ℕ → List ℕ → List ℕ → ℕ → ℕ → ℕ → Answer Ran
 unfolding prepared admit returns
-backwardCall ws out fuel fn program anc v = do
-  P ← prepared ws fuel program
+backwardCall program fn anc v fuel ws out = do
+  P ← prepared program fuel ws
   a ← admit P fn (ancillae anc) (value v) λ h. h .result
   r ← returns P fuel a
   room ← require (leb (size (r .value)) out) 17 0

@@ -13,8 +13,8 @@ ghost use Rattle.command.specs.Reports.{checkReport, runReport};
 // Is the program accepted?
 pub fn check(program: &[u8], workspace: &mut [u8], out: &mut [u8]) -> usize
     requires { ⌜ 256 ≤ length (now out) ⌝ }
-    ensures report { λ end. ⌜ Wrote (now (out .entry)) (now (out .exit)) 0 end (checkReport (checkCall (length (now (workspace .entry))) (now (program .entry)))) ⌝ }
-    ensures clear { λ _. ⌜ now (workspace .exit) ≡ cleared (checkCall (length (now (workspace .entry))) (now (program .entry))) (now (workspace .entry)) ⌝ }
+    ensures report { λ end. ⌜ Wrote (now (out .entry)) (now (out .exit)) 0 end (checkReport (checkCall (now (program .entry)) (length (now (workspace .entry))))) ⌝ }
+    ensures clear { λ _. ⌜ now (workspace .exit) ≡ cleared (checkCall (now (program .entry)) (length (now (workspace .entry)))) (now (workspace .entry)) ⌝ }
 {
     let answer = engine::check(program, workspace);
     reports::check_report(answer, out)
@@ -31,8 +31,8 @@ pub fn forward(
     out: &mut [u8],
 ) -> usize
     requires { ⌜ 2 * maxValueBytes + 256 ≤ length (now out) ⌝ }
-    ensures report { λ end. ⌜ Wrote (now (out .entry)) (now (out .exit)) 0 end (runReport (forwardCall (length (now (workspace .entry))) maxValueBytes fuel function (now (program .entry)) (now (ancillae .entry)) (now (value .entry)))) ⌝ }
-    ensures clear { λ _. ⌜ now (workspace .exit) ≡ cleared (forwardCall (length (now (workspace .entry))) maxValueBytes fuel function (now (program .entry)) (now (ancillae .entry)) (now (value .entry))) (now (workspace .entry)) ⌝ }
+    ensures report { λ end. ⌜ Wrote (now (out .entry)) (now (out .exit)) 0 end (runReport (forwardCall (now (program .entry)) function (now (ancillae .entry)) (now (value .entry)) fuel (length (now (workspace .entry))) maxValueBytes)) ⌝ }
+    ensures clear { λ _. ⌜ now (workspace .exit) ≡ cleared (forwardCall (now (program .entry)) function (now (ancillae .entry)) (now (value .entry)) fuel (length (now (workspace .entry))) maxValueBytes) (now (workspace .entry)) ⌝ }
 {
     let mut output = [0u8; MAX_VALUE_BYTES];
     let answer = engine::forward(
@@ -58,8 +58,8 @@ pub fn backward(
     out: &mut [u8],
 ) -> usize
     requires { ⌜ 2 * maxValueBytes + 256 ≤ length (now out) ⌝ }
-    ensures report { λ end. ⌜ Wrote (now (out .entry)) (now (out .exit)) 0 end (runReport (backwardCall (length (now (workspace .entry))) maxValueBytes fuel function (now (program .entry)) (now (ancillae .entry)) (now (value .entry)))) ⌝ }
-    ensures clear { λ _. ⌜ now (workspace .exit) ≡ cleared (backwardCall (length (now (workspace .entry))) maxValueBytes fuel function (now (program .entry)) (now (ancillae .entry)) (now (value .entry))) (now (workspace .entry)) ⌝ }
+    ensures report { λ end. ⌜ Wrote (now (out .entry)) (now (out .exit)) 0 end (runReport (backwardCall (now (program .entry)) function (now (ancillae .entry)) (now (value .entry)) fuel (length (now (workspace .entry))) maxValueBytes)) ⌝ }
+    ensures clear { λ _. ⌜ now (workspace .exit) ≡ cleared (backwardCall (now (program .entry)) function (now (ancillae .entry)) (now (value .entry)) fuel (length (now (workspace .entry))) maxValueBytes) (now (workspace .entry)) ⌝ }
 {
     let mut output = [0u8; MAX_VALUE_BYTES];
     let answer = engine::backward(

@@ -28,11 +28,11 @@ enough-le fuel n e = leb-sound (workspaceFor fuel) n e
 pub enough-room : (fuel n : ℕ) → leb (workspaceFor fuel) n ≡ true → nodeBytes * maxTerms ≤ n
 enough-room fuel n e = enough-types fuel n (enough-le fuel n e)
 
-pub prepared-enough : (fuel n : ℕ) (xs : List ℕ) → leb (workspaceFor fuel) n ≡ true → prepared n fuel xs ≡ load xs
+pub prepared-enough : (fuel n : ℕ) (xs : List ℕ) → leb (workspaceFor fuel) n ≡ true → prepared xs fuel n ≡ load xs
 unfolding prepared require _>>=_
 prepared-enough fuel n xs e = ap (λ b. require b 1 0 >>= λ u. load xs) e
 
-pub prepared-short : (fuel n : ℕ) (xs : List ℕ) → leb (workspaceFor fuel) n ≡ false → prepared n fuel xs ≡ refused 1 0
+pub prepared-short : (fuel n : ℕ) (xs : List ℕ) → leb (workspaceFor fuel) n ≡ false → prepared xs fuel n ≡ refused 1 0
 unfolding prepared require _>>=_
 prepared-short fuel n xs e = ap (λ b. require b 1 0 >>= λ u. load xs) e
 

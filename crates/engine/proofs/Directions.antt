@@ -18,14 +18,14 @@ use package.Rattle.engine.proofs.Beginning.{prepared-enough, prepared-s
 
 module _ (xs : List ℕ) (g : ℕ) (anc bytes : List ℕ) (fuel : ℕ) (ws out : List ℕ) where
   -- after the workspace test comes the program
-  whole : (back : Bool) → runCall back (length ws) (length out) fuel g xs anc bytes ≡ (prepared (length ws) fuel xs >>= λ P. called back P g anc bytes fuel (length out))
+  whole : (back : Bool) → runCall back xs g anc bytes fuel (length ws) (length out) ≡ (prepared xs fuel (length ws) >>= λ P. called back P g anc bytes fuel (length out))
   unfolding runCall forwardCall backwardCall called finished runOf
   whole true = refl
   whole false = refl
 
 module _ (back : Bool) (xs : List ℕ) (g : ℕ) (anc bytes : List ℕ) (fuel : ℕ) (ws out : List ℕ) where
   abbrev answer : Answer Ran
-  answer = runCall back (length ws) (length out) fuel g xs anc bytes
+  answer = runCall back xs g anc bytes fuel (length ws) (length out)
 
   whole-enough : leb (workspaceFor fuel) (length ws) ≡ true → answer ≡ ofProgram back xs g anc bytes fuel (length out)
   whole-enough e = whole xs g anc bytes fuel ws out back ∙ ap (λ a. a >>= λ P. called back P g anc bytes fuel (length out)) (prepared-enough fuel (length ws) xs e)
@@ -35,7 +35,7 @@ module _ (back : Bool) (xs : List ℕ) (g : ℕ) (anc bytes : List ℕ) (fuel : 
   whole-short e = whole xs g anc bytes fuel ws out back ∙ ap (λ a. a >>= λ P. called back P g anc bytes fuel (length out)) (prepared-short fuel (length ws) xs e)
 
   pub call-means : leb (workspaceFor fuel) (length ws) ≡ true → {r : RunAnswer} {out′ ws′ : List ℕ} → RunMeans r (ofProgram back xs g anc bytes fuel (length out)) out out′
-      → ws′ ≡ replicate (length ws) 0 → CallMeans r (runCall back (length ws) (length out) fuel g xs anc bytes) out out′ ws ws′
+      → ws′ ≡ replicate (length ws) 0 → CallMeans r (runCall back xs g anc bytes fuel (length ws) (length out)) out out′ ws ws′
   call-means e {r} R w = record {
     answer = same;
     fills = R .output ∙ ap (λ x. written x out) (sym (whole-enough e));
@@ -45,7 +45,7 @@ module _ (back : Bool) (xs : List ℕ) (g : ℕ) (anc bytes : List ℕ) (fuel : 
       same : runAnswer r ≡ summary answer
       same = R .answer ∙ ap summary (sym (whole-enough e))
 
-  pub call-short : leb (workspaceFor fuel) (length ws) ≡ false → CallMeans (runs.Refused Workspace) (runCall back (length ws) (length out) fuel g xs anc bytes) out out ws ws
+  pub call-short : leb (workspaceFor fuel) (length ws) ≡ false → CallMeans (runs.Refused Workspace) (runCall back xs g anc bytes fuel (length ws) (length out)) out out ws ws
   unfolding written cleared
   call-short e = record {
     answer = ap summary (sym (whole-short e));

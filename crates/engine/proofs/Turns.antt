@@ -23,19 +23,19 @@ use package.Rattle.engine.proofs.Beginning.{prepared-enough, prepared-s
 ----------------------------------------------------------------
 -- After the workspace's test come the rows of the program and those of the journal
 
-pub open-whole : (ws : ℕ) (xs bytes : List ℕ) (n : ℕ) → openCall ws xs bytes n ≡ (prepared ws 0 xs >>= λ P. openOf bytes n)
+pub open-whole : (ws : ℕ) (xs bytes : List ℕ) (n : ℕ) → openCall xs bytes ws n ≡ (prepared xs 0 ws >>= λ P. openOf bytes n)
 unfolding openCall openOf
 open-whole ws xs bytes n = refl
 
-pub convert-whole : (ws fuel fn : ℕ) (xs anc j : List ℕ) → convertCall ws fuel fn xs anc j ≡ (prepared ws fuel xs >>= λ P. convertOf P fuel fn anc j)
+pub convert-whole : (ws fuel fn : ℕ) (xs anc j : List ℕ) → convertCall xs fn anc fuel ws j ≡ (prepared xs fuel ws >>= λ P. convertOf P fuel fn anc j)
 unfolding convertCall convertOf
 convert-whole ws fuel fn xs anc j = refl
 
-pub rollback-whole : (ws fuel : ℕ) (xs j : List ℕ) → rollbackCall ws fuel xs j ≡ (prepared ws fuel xs >>= λ P. rollbackOf P fuel j)
+pub rollback-whole : (ws fuel : ℕ) (xs j : List ℕ) → rollbackCall xs fuel ws j ≡ (prepared xs fuel ws >>= λ P. rollbackOf P fuel j)
 unfolding rollbackCall rollbackOf
 rollback-whole ws fuel xs j = refl
 
-module _ {A : Type 0} (then : Program → Answer A) (fuel : ℕ) (xs ws : List ℕ) {x : Answer A} (whole : x ≡ (prepared (length ws) fuel xs >>= then)) where
+module _ {A : Type 0} (then : Program → Answer A) (fuel : ℕ) (xs ws : List ℕ) {x : Answer A} (whole : x ≡ (prepared xs fuel (length ws) >>= then)) where
   whole-enough : leb (workspaceFor fuel) (length ws) ≡ true → x ≡ (load xs >>= then)
   whole-enough e = whole ∙ ap (λ a. a >>= then) (prepared-enough fuel (length ws) xs e)
 
@@ -46,7 +46,7 @@ module _ {A : Type 0} (then : Program → Answer A) (fuel : ℕ) (xs ws : List �
 ----------------------------------------------------------------
 -- Convert and rollback
 
-module _ (turn : Program → Answer Turned) (fuel : ℕ) (xs ws j : List ℕ) {x : Answer Turned} (whole : x ≡ (prepared (length ws) fuel xs >>= turn)) where
+module _ (turn : Program → Answer Turned) (fuel : ℕ) (xs ws j : List ℕ) {x : Answer Turned} (whole : x ≡ (prepared xs fuel (length ws) >>= turn)) where
   pub turn-enough : leb (workspaceFor fuel) (length ws) ≡ true → {r : RunAnswer} {j′ ws′ : List ℕ} → TurnMeans r (load xs >>= turn) j j′ → ws′ ≡ replicate (length ws) 0
       → (runAnswer r ≡ heldAnswer x) × ((j′ ≡ afterTurned j x .journal) × (ws′ ≡ cleared x ws))
   turn-enough e {r} T w = (same, (T .journal ∙ ap (λ x. afterTurned j x .journal) (sym (whole-enough turn fuel xs ws whole e)), w ∙ sym clear))
@@ -67,9 +67,9 @@ module _ (turn : Program → Answer Turned) (fuel : ℕ) (xs ws j : List ℕ) {x
 
 module _ (bytes xs ws j : List ℕ) where
   abbrev opened : Answer (List ℕ)
-  opened = openCall (length ws) xs bytes (length j)
+  opened = openCall xs bytes (length ws) (length j)
 
-  whole-open : opened ≡ (prepared (length ws) 0 xs >>= λ P. openOf bytes (length j))
+  whole-open : opened ≡ (prepared xs 0 (length ws) >>= λ P. openOf bytes (length j))
   whole-open = open-whole (length ws) xs bytes (length j)
 
   pub open-enough : leb (workspaceFor 0) (length ws) ≡ true → {r : CheckAnswer} {j′ ws′ : List ℕ} → OpenMeans r (load xs >>= λ P. openOf bytes (length j)) j j′ → ws′ ≡ replicate (length ws) 0

@@ -9,7 +9,7 @@ use package.Rattle.answers.specs.declared.RunAnswer.{RunAnswer}
 use package.Rattle.answers.specs.Answers.{runAnswer, summary}
 
 -- all rows
-unfoldable pub runCall : Bool → ℕ → ℕ → ℕ → ℕ → List ℕ → List ℕ → List ℕ → Answer Ran
+unfoldable pub runCall : Bool → List ℕ → ℕ → List ℕ → List ℕ → ℕ → ℕ → ℕ → Answer Ran
 runCall true = backwardCall
 runCall false = forwardCall
 

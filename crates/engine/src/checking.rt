@@ -9,8 +9,8 @@ ghost use Rattle.answers.specs.Answers.{checkAnswer};
 
 // Is the program accepted? The workspace is all zero afterwards, but unchanged if it is too short.
 pub fn check(program: &[u8], workspace: &mut [u8]) -> CheckAnswer
-    ensures answer { λ r. ⌜ checkAnswer r ≡ checkCall (length (now (workspace .entry))) (now (program .entry)) ⌝ }
-    ensures clear { λ _. ⌜ now (workspace .exit) ≡ cleared (checkCall (length (now (workspace .entry))) (now (program .entry))) (now (workspace .entry)) ⌝ }
+    ensures answer { λ r. ⌜ checkAnswer r ≡ checkCall (now (program .entry)) (length (now (workspace .entry))) ⌝ }
+    ensures clear { λ _. ⌜ now (workspace .exit) ≡ cleared (checkCall (now (program .entry)) (length (now (workspace .entry)))) (now (workspace .entry)) ⌝ }
 {
     if requests::preparing::enough(workspace.len(), 0) {
         let answer = requests::checking::check_program(program, workspace);

@@ -12,9 +12,9 @@ ghost use Rattle.answers.specs.Answers.{checkAnswer, runAnswer, openAnswer, hel
 
 // Opens a journal with a record: whatever the buffer holds, it says the record and no conversion afterwards.
 pub fn open(program: &[u8], record: &[u8], workspace: &mut [u8], journal: &mut [u8]) -> CheckAnswer
-    ensures answer { λ r. ⌜ checkAnswer r ≡ openAnswer (openCall (length (now (workspace .entry))) (now (program .entry)) (now («record» .entry)) (length (now (journal .entry)))) ⌝ }
-    ensures keeps { λ _. ⌜ now (journal .exit) ≡ afterOpen (now (journal .entry)) (openCall (length (now (workspace .entry))) (now (program .entry)) (now («record» .entry)) (length (now (journal .entry)))) .journal ⌝ }
-    ensures clear { λ _. ⌜ now (workspace .exit) ≡ cleared (openCall (length (now (workspace .entry))) (now (program .entry)) (now («record» .entry)) (length (now (journal .entry)))) (now (workspace .entry)) ⌝ }
+    ensures answer { λ r. ⌜ checkAnswer r ≡ openAnswer (openCall (now (program .entry)) (now («record» .entry)) (length (now (workspace .entry))) (length (now (journal .entry)))) ⌝ }
+    ensures keeps { λ _. ⌜ now (journal .exit) ≡ afterOpen (now (journal .entry)) (openCall (now (program .entry)) (now («record» .entry)) (length (now (workspace .entry))) (length (now (journal .entry)))) .journal ⌝ }
+    ensures clear { λ _. ⌜ now (workspace .exit) ≡ cleared (openCall (now (program .entry)) (now («record» .entry)) (length (now (workspace .entry))) (length (now (journal .entry)))) (now (workspace .entry)) ⌝ }
 {
     if requests::preparing::enough(workspace.len(), 0) {
         let answer = conversions::programs::open(program, record, workspace, journal);
@@ -33,9 +33,9 @@ pub fn convert(
     workspace: &mut [u8],
     journal: &mut [u8],
 ) -> RunAnswer
-    ensures answer { λ r. ⌜ runAnswer r ≡ heldAnswer (convertCall (length (now (workspace .entry))) fuel function (now (program .entry)) (now (ancillae .entry)) (now (journal .entry))) ⌝ }
-    ensures keeps { λ _. ⌜ now (journal .exit) ≡ afterTurned (now (journal .entry)) (convertCall (length (now (workspace .entry))) fuel function (now (program .entry)) (now (ancillae .entry)) (now (journal .entry))) .journal ⌝ }
-    ensures clear { λ _. ⌜ now (workspace .exit) ≡ cleared (convertCall (length (now (workspace .entry))) fuel function (now (program .entry)) (now (ancillae .entry)) (now (journal .entry))) (now (workspace .entry)) ⌝ }
+    ensures answer { λ r. ⌜ runAnswer r ≡ heldAnswer (convertCall (now (program .entry)) function (now (ancillae .entry)) fuel (length (now (workspace .entry))) (now (journal .entry))) ⌝ }
+    ensures keeps { λ _. ⌜ now (journal .exit) ≡ afterTurned (now (journal .entry)) (convertCall (now (program .entry)) function (now (ancillae .entry)) fuel (length (now (workspace .entry))) (now (journal .entry))) .journal ⌝ }
+    ensures clear { λ _. ⌜ now (workspace .exit) ≡ cleared (convertCall (now (program .entry)) function (now (ancillae .entry)) fuel (length (now (workspace .entry))) (now (journal .entry))) (now (workspace .entry)) ⌝ }
 {
     if requests::preparing::enough(workspace.len(), fuel) {
         let answer = conversions::programs::convert(
@@ -54,9 +54,9 @@ pub fn convert(
 
 // Runs the newest conversion backward on the held record, and strikes it: no earlier record is stored.
 pub fn rollback(program: &[u8], fuel: u16, workspace: &mut [u8], journal: &mut [u8]) -> RunAnswer
-    ensures answer { λ r. ⌜ runAnswer r ≡ heldAnswer (rollbackCall (length (now (workspace .entry))) fuel (now (program .entry)) (now (journal .entry))) ⌝ }
-    ensures keeps { λ _. ⌜ now (journal .exit) ≡ afterTurned (now (journal .entry)) (rollbackCall (length (now (workspace .entry))) fuel (now (program .entry)) (now (journal .entry))) .journal ⌝ }
-    ensures clear { λ _. ⌜ now (workspace .exit) ≡ cleared (rollbackCall (length (now (workspace .entry))) fuel (now (program .entry)) (now (journal .entry))) (now (workspace .entry)) ⌝ }
+    ensures answer { λ r. ⌜ runAnswer r ≡ heldAnswer (rollbackCall (now (program .entry)) fuel (length (now (workspace .entry))) (now (journal .entry))) ⌝ }
+    ensures keeps { λ _. ⌜ now (journal .exit) ≡ afterTurned (now (journal .entry)) (rollbackCall (now (program .entry)) fuel (length (now (workspace .entry))) (now (journal .entry))) .journal ⌝ }
+    ensures clear { λ _. ⌜ now (workspace .exit) ≡ cleared (rollbackCall (now (program .entry)) fuel (length (now (workspace .entry))) (now (journal .entry))) (now (workspace .entry)) ⌝ }
 {
     if requests::preparing::enough(workspace.len(), fuel) {
         let answer = conversions::programs::rollback(program, fuel, workspace, journal);

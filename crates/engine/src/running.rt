@@ -19,7 +19,7 @@ fn call(
     workspace: &mut [u8],
     output: &mut [u8],
 ) -> RunAnswer
-    ensures { λ r. ⌜ CallMeans r (runCall back (length (now (workspace .entry))) (length (now (output .entry))) fuel function (now (program .entry)) (now (ancillae .entry)) (now (value .entry))) (now (output .entry)) (now (output .exit)) (now (workspace .entry)) (now (workspace .exit)) ⌝ }
+    ensures { λ r. ⌜ CallMeans r (runCall back (now (program .entry)) function (now (ancillae .entry)) (now (value .entry)) fuel (length (now (workspace .entry))) (length (now (output .entry)))) (now (output .entry)) (now (output .exit)) (now (workspace .entry)) (now (workspace .exit)) ⌝ }
 {
     if requests::preparing::enough(workspace.len(), fuel) {
         let answer = requests::running::run_program(
@@ -48,9 +48,9 @@ pub fn forward(
     workspace: &mut [u8],
     output: &mut [u8],
 ) -> RunAnswer
-    ensures answer { λ r. ⌜ runAnswer r ≡ summary (forwardCall (length (now (workspace .entry))) (length (now (output .entry))) fuel function (now (program .entry)) (now (ancillae .entry)) (now (value .entry))) ⌝ }
-    ensures fills { λ _. ⌜ now (output .exit) ≡ written (forwardCall (length (now (workspace .entry))) (length (now (output .entry))) fuel function (now (program .entry)) (now (ancillae .entry)) (now (value .entry))) (now (output .entry)) ⌝ }
-    ensures clear { λ _. ⌜ now (workspace .exit) ≡ cleared (forwardCall (length (now (workspace .entry))) (length (now (output .entry))) fuel function (now (program .entry)) (now (ancillae .entry)) (now (value .entry))) (now (workspace .entry)) ⌝ }
+    ensures answer { λ r. ⌜ runAnswer r ≡ summary (forwardCall (now (program .entry)) function (now (ancillae .entry)) (now (value .entry)) fuel (length (now (workspace .entry))) (length (now (output .entry)))) ⌝ }
+    ensures fills { λ _. ⌜ now (output .exit) ≡ written (forwardCall (now (program .entry)) function (now (ancillae .entry)) (now (value .entry)) fuel (length (now (workspace .entry))) (length (now (output .entry)))) (now (output .entry)) ⌝ }
+    ensures clear { λ _. ⌜ now (workspace .exit) ≡ cleared (forwardCall (now (program .entry)) function (now (ancillae .entry)) (now (value .entry)) fuel (length (now (workspace .entry))) (length (now (output .entry)))) (now (workspace .entry)) ⌝ }
 {
     call(
         program,
@@ -74,9 +74,9 @@ pub fn backward(
     workspace: &mut [u8],
     output: &mut [u8],
 ) -> RunAnswer
-    ensures answer { λ r. ⌜ runAnswer r ≡ summary (backwardCall (length (now (workspace .entry))) (length (now (output .entry))) fuel function (now (program .entry)) (now (ancillae .entry)) (now (value .entry))) ⌝ }
-    ensures fills { λ _. ⌜ now (output .exit) ≡ written (backwardCall (length (now (workspace .entry))) (length (now (output .entry))) fuel function (now (program .entry)) (now (ancillae .entry)) (now (value .entry))) (now (output .entry)) ⌝ }
-    ensures clear { λ _. ⌜ now (workspace .exit) ≡ cleared (backwardCall (length (now (workspace .entry))) (length (now (output .entry))) fuel function (now (program .entry)) (now (ancillae .entry)) (now (value .entry))) (now (workspace .entry)) ⌝ }
+    ensures answer { λ r. ⌜ runAnswer r ≡ summary (backwardCall (now (program .entry)) function (now (ancillae .entry)) (now (value .entry)) fuel (length (now (workspace .entry))) (length (now (output .entry)))) ⌝ }
+    ensures fills { λ _. ⌜ now (output .exit) ≡ written (backwardCall (now (program .entry)) function (now (ancillae .entry)) (now (value .entry)) fuel (length (now (workspace .entry))) (length (now (output .entry)))) (now (output .entry)) ⌝ }
+    ensures clear { λ _. ⌜ now (workspace .exit) ≡ cleared (backwardCall (now (program .entry)) function (now (ancillae .entry)) (now (value .entry)) fuel (length (now (workspace .entry))) (length (now (output .entry)))) (now (workspace .entry)) ⌝ }
 {
     call(
         program,

@@ -48,8 +48,8 @@ fn replay_told(answer: ReplayAnswer) -> [u64; 4]
 // Is the program accepted?
 #[no_mangle]
 pub extern "C" fn corefun_check(program: &[u8], workspace: &mut [u8], told: &mut [u64; 4])
-    ensures answer { λ _. ⌜ now (told .exit) ≡ checkTold (checkCall (length (now (workspace .entry))) (now (program .entry))) ⌝ }
-    ensures clear { λ _. ⌜ now (workspace .exit) ≡ cleared (checkCall (length (now (workspace .entry))) (now (program .entry))) (now (workspace .entry)) ⌝ }
+    ensures answer { λ _. ⌜ now (told .exit) ≡ checkTold (checkCall (now (program .entry)) (length (now (workspace .entry)))) ⌝ }
+    ensures clear { λ _. ⌜ now (workspace .exit) ≡ cleared (checkCall (now (program .entry)) (length (now (workspace .entry)))) (now (workspace .entry)) ⌝ }
 {
     let answer = engine::check(program, workspace);
     *told = check_told(answer);
@@ -67,9 +67,9 @@ pub extern "C" fn corefun_forward(
     output: &mut [u8],
     told: &mut [u64; 4],
 )
-    ensures answer { λ _. ⌜ now (told .exit) ≡ runTold (summary (forwardCall (length (now (workspace .entry))) (length (now (output .entry))) fuel function (now (program .entry)) (now (ancillae .entry)) (now (value .entry)))) ⌝ }
-    ensures fills { λ _. ⌜ now (output .exit) ≡ written (forwardCall (length (now (workspace .entry))) (length (now (output .entry))) fuel function (now (program .entry)) (now (ancillae .entry)) (now (value .entry))) (now (output .entry)) ⌝ }
-    ensures clear { λ _. ⌜ now (workspace .exit) ≡ cleared (forwardCall (length (now (workspace .entry))) (length (now (output .entry))) fuel function (now (program .entry)) (now (ancillae .entry)) (now (value .entry))) (now (workspace .entry)) ⌝ }
+    ensures answer { λ _. ⌜ now (told .exit) ≡ runTold (summary (forwardCall (now (program .entry)) function (now (ancillae .entry)) (now (value .entry)) fuel (length (now (workspace .entry))) (length (now (output .entry))))) ⌝ }
+    ensures fills { λ _. ⌜ now (output .exit) ≡ written (forwardCall (now (program .entry)) function (now (ancillae .entry)) (now (value .entry)) fuel (length (now (workspace .entry))) (length (now (output .entry)))) (now (output .entry)) ⌝ }
+    ensures clear { λ _. ⌜ now (workspace .exit) ≡ cleared (forwardCall (now (program .entry)) function (now (ancillae .entry)) (now (value .entry)) fuel (length (now (workspace .entry))) (length (now (output .entry)))) (now (workspace .entry)) ⌝ }
 {
     let answer = engine::forward(program, function, ancillae, value, fuel, workspace, output);
     *told = run_told(answer);
@@ -87,9 +87,9 @@ pub extern "C" fn corefun_backward(
     output: &mut [u8],
     told: &mut [u64; 4],
 )
-    ensures answer { λ _. ⌜ now (told .exit) ≡ runTold (summary (backwardCall (length (now (workspace .entry))) (length (now (output .entry))) fuel function (now (program .entry)) (now (ancillae .entry)) (now (value .entry)))) ⌝ }
-    ensures fills { λ _. ⌜ now (output .exit) ≡ written (backwardCall (length (now (workspace .entry))) (length (now (output .entry))) fuel function (now (program .entry)) (now (ancillae .entry)) (now (value .entry))) (now (output .entry)) ⌝ }
-    ensures clear { λ _. ⌜ now (workspace .exit) ≡ cleared (backwardCall (length (now (workspace .entry))) (length (now (output .entry))) fuel function (now (program .entry)) (now (ancillae .entry)) (now (value .entry))) (now (workspace .entry)) ⌝ }
+    ensures answer { λ _. ⌜ now (told .exit) ≡ runTold (summary (backwardCall (now (program .entry)) function (now (ancillae .entry)) (now (value .entry)) fuel (length (now (workspace .entry))) (length (now (output .entry))))) ⌝ }
+    ensures fills { λ _. ⌜ now (output .exit) ≡ written (backwardCall (now (program .entry)) function (now (ancillae .entry)) (now (value .entry)) fuel (length (now (workspace .entry))) (length (now (output .entry)))) (now (output .entry)) ⌝ }
+    ensures clear { λ _. ⌜ now (workspace .exit) ≡ cleared (backwardCall (now (program .entry)) function (now (ancillae .entry)) (now (value .entry)) fuel (length (now (workspace .entry))) (length (now (output .entry)))) (now (workspace .entry)) ⌝ }
 {
     let answer = engine::backward(program, function, ancillae, value, fuel, workspace, output);
     *told = run_told(answer);
@@ -104,9 +104,9 @@ pub extern "C" fn corefun_open(
     journal: &mut [u8],
     told: &mut [u64; 4],
 )
-    ensures answer { λ _. ⌜ now (told .exit) ≡ checkTold (openAnswer (openCall (length (now (workspace .entry))) (now (program .entry)) (now («record» .entry)) (length (now (journal .entry))))) ⌝ }
-    ensures keeps { λ _. ⌜ now (journal .exit) ≡ afterOpen (now (journal .entry)) (openCall (length (now (workspace .entry))) (now (program .entry)) (now («record» .entry)) (length (now (journal .entry)))) .journal ⌝ }
-    ensures clear { λ _. ⌜ now (workspace .exit) ≡ cleared (openCall (length (now (workspace .entry))) (now (program .entry)) (now («record» .entry)) (length (now (journal .entry)))) (now (workspace .entry)) ⌝ }
+    ensures answer { λ _. ⌜ now (told .exit) ≡ checkTold (openAnswer (openCall (now (program .entry)) (now («record» .entry)) (length (now (workspace .entry))) (length (now (journal .entry))))) ⌝ }
+    ensures keeps { λ _. ⌜ now (journal .exit) ≡ afterOpen (now (journal .entry)) (openCall (now (program .entry)) (now («record» .entry)) (length (now (workspace .entry))) (length (now (journal .entry)))) .journal ⌝ }
+    ensures clear { λ _. ⌜ now (workspace .exit) ≡ cleared (openCall (now (program .entry)) (now («record» .entry)) (length (now (workspace .entry))) (length (now (journal .entry)))) (now (workspace .entry)) ⌝ }
 {
     let answer = engine::open(program, record, workspace, journal);
     *told = check_told(answer);
@@ -123,9 +123,9 @@ pub extern "C" fn corefun_convert(
     journal: &mut [u8],
     told: &mut [u64; 4],
 )
-    ensures answer { λ _. ⌜ now (told .exit) ≡ runTold (heldAnswer (convertCall (length (now (workspace .entry))) fuel function (now (program .entry)) (now (ancillae .entry)) (now (journal .entry)))) ⌝ }
-    ensures keeps { λ _. ⌜ now (journal .exit) ≡ afterTurned (now (journal .entry)) (convertCall (length (now (workspace .entry))) fuel function (now (program .entry)) (now (ancillae .entry)) (now (journal .entry))) .journal ⌝ }
-    ensures clear { λ _. ⌜ now (workspace .exit) ≡ cleared (convertCall (length (now (workspace .entry))) fuel function (now (program .entry)) (now (ancillae .entry)) (now (journal .entry))) (now (workspace .entry)) ⌝ }
+    ensures answer { λ _. ⌜ now (told .exit) ≡ runTold (heldAnswer (convertCall (now (program .entry)) function (now (ancillae .entry)) fuel (length (now (workspace .entry))) (now (journal .entry)))) ⌝ }
+    ensures keeps { λ _. ⌜ now (journal .exit) ≡ afterTurned (now (journal .entry)) (convertCall (now (program .entry)) function (now (ancillae .entry)) fuel (length (now (workspace .entry))) (now (journal .entry))) .journal ⌝ }
+    ensures clear { λ _. ⌜ now (workspace .exit) ≡ cleared (convertCall (now (program .entry)) function (now (ancillae .entry)) fuel (length (now (workspace .entry))) (now (journal .entry))) (now (workspace .entry)) ⌝ }
 {
     let answer = engine::convert(program, function, ancillae, fuel, workspace, journal);
     *told = run_told(answer);
@@ -140,9 +140,9 @@ pub extern "C" fn corefun_rollback(
     journal: &mut [u8],
     told: &mut [u64; 4],
 )
-    ensures answer { λ _. ⌜ now (told .exit) ≡ runTold (heldAnswer (rollbackCall (length (now (workspace .entry))) fuel (now (program .entry)) (now (journal .entry)))) ⌝ }
-    ensures keeps { λ _. ⌜ now (journal .exit) ≡ afterTurned (now (journal .entry)) (rollbackCall (length (now (workspace .entry))) fuel (now (program .entry)) (now (journal .entry))) .journal ⌝ }
-    ensures clear { λ _. ⌜ now (workspace .exit) ≡ cleared (rollbackCall (length (now (workspace .entry))) fuel (now (program .entry)) (now (journal .entry))) (now (workspace .entry)) ⌝ }
+    ensures answer { λ _. ⌜ now (told .exit) ≡ runTold (heldAnswer (rollbackCall (now (program .entry)) fuel (length (now (workspace .entry))) (now (journal .entry)))) ⌝ }
+    ensures keeps { λ _. ⌜ now (journal .exit) ≡ afterTurned (now (journal .entry)) (rollbackCall (now (program .entry)) fuel (length (now (workspace .entry))) (now (journal .entry))) .journal ⌝ }
+    ensures clear { λ _. ⌜ now (workspace .exit) ≡ cleared (rollbackCall (now (program .entry)) fuel (length (now (workspace .entry))) (now (journal .entry))) (now (workspace .entry)) ⌝ }
 {
     let answer = engine::rollback(program, fuel, workspace, journal);
     *told = run_told(answer);

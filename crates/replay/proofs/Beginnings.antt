@@ -72,18 +72,18 @@ module _ (program s : List ℕ) (p : Part) (J A W : List ℕ) where
       (take-at xs (drop (p .n) J) (p .n) e)
 
   pub opened-begins : (a : ReplayAnswer) (r : CheckAnswer) (held f W₁ J′ A′ W′ : List ℕ) → p .n ≤ length J → length f ≡ length (take (p .n) J)
-      → checkAnswer r ≡ openAnswer (openCall (length W) program held (length (take (p .n) J)))
-      → f ≡ afterOpen (take (p .n) J) (openCall (length W) program held (length (take (p .n) J))) .journal
-      → W₁ ≡ cleared (openCall (length W) program held (length (take (p .n) J))) W
+      → checkAnswer r ≡ openAnswer (openCall program held (length W) (length (take (p .n) J)))
+      → f ≡ afterOpen (take (p .n) J) (openCall program held (length W) (length (take (p .n) J))) .journal
+      → W₁ ≡ cleared (openCall program held (length W) (length (take (p .n) J))) W
       → ReplayMeans a (follows (checkAnswer r) program s p (f ++ drop (p .n) J) A W₁) J′ A′ W′
-      → ReplayMeans a (opensTo (openCall (length W) program held (p .n)) program s (p .next) J A W) J′ A′ W′
+      → ReplayMeans a (opensTo (openCall program held (length W) (p .n)) program s (p .next) J A W) J′ A′ W′
   opened-begins a r held f W₁ J′ A′ W′ h e er ef ew M =
       let k : length (take (p .n) J) ≡ p .n = length-take-le (p .n) J h in
       subst (λ z. ReplayMeans a z J′ A′ W′)
       (ap (λ y. follows y program s p (f ++ drop (p .n) J) A W₁) er
-      ∙ ap₂ (λ g w. follows (openAnswer (openCall (length W) program held (length (take (p .n) J)))) program s p (g ++ drop (p .n) J) A w) ef ew
-      ∙ follows-opened (openCall (length W) program held (length (take (p .n) J))) h (ap length (sym ef) ∙ e ∙ k)
-      ∙ ap (λ i. opensTo (openCall (length W) program held i) program s (p .next) J A W) k) M
+      ∙ ap₂ (λ g w. follows (openAnswer (openCall program held (length W) (length (take (p .n) J)))) program s p (g ++ drop (p .n) J) A w) ef ew
+      ∙ follows-opened (openCall program held (length W) (length (take (p .n) J))) h (ap length (sym ef) ∙ e ∙ k)
+      ∙ ap (λ i. opensTo (openCall program held (length W) i) program s (p .next) J A W) k) M
 
 ----------------------------------------------------------------
 -- What stands at the start

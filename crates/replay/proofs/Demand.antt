@@ -71,8 +71,8 @@ whole-script width room (c ∷ cs) broken e = whole-script width (room - 7) cs b
 module _ (program s J A W : List ℕ) (bytes : AreBytes s) where
   -- the open was accepted
   module _ (p : Part) (q : stepAt s 0 ≡ steps.Play p) (F : Free J A (length W) s p) (xs : List ℕ)
-      (opening : callOf (length W) s p ≡ opens (length W) (givenOf s p) (p .n))
-      (op : openCall (length W) program (givenOf s p) (p .n) ≡ accepted xs) where
+      (opening : callOf (length W) s p ≡ opens (givenOf s p) (length W) (p .n))
+      (op : openCall program (givenOf s p) (length W) (p .n) ≡ accepted xs) where
     O : Opened program s J A W bytes p xs
     O = opened-books program s J A W bytes p xs F op
 
@@ -84,7 +84,7 @@ module _ (program s J A W : List ℕ) (bytes : AreBytes s) where
 
     -- the open first
     abbrev first : Placed
-    first = record { place = 0; call = opens (length W) (givenOf s p) (p .n) }
+    first = record { place = 0; call = opens (givenOf s p) (length W) (p .n) }
 
     stands : parse (length W) s ≡ record { calls = first ∷ (x .made ++ x .rest); broken = none }
     unfolding parse x
@@ -149,8 +149,8 @@ module _ (program s J A W : List ℕ) (bytes : AreBytes s) where
     unfolding opened cleared x run
     accepted-booked = rest-booked (x .rest) refl
 
-  open-booked : (p : Part) → stepAt s 0 ≡ steps.Play p → Free J A (length W) s p → callOf (length W) s p ≡ opens (length W) (givenOf s p) (p .n)
-      → (x : Answer (List ℕ)) → openCall (length W) program (givenOf s p) (p .n) ≡ x
+  open-booked : (p : Part) → stepAt s 0 ≡ steps.Play p → Free J A (length W) s p → callOf (length W) s p ≡ opens (givenOf s p) (length W) (p .n)
+      → (x : Answer (List ℕ)) → openCall program (givenOf s p) (length W) (p .n) ≡ x
       → Claimed program s J A W (opened program J A W x (behind (length W) s p .calls))
   unfolding opened
   open-booked p q F o (refused n k) e = (refl, refl)
@@ -160,7 +160,7 @@ module _ (program s J A W : List ℕ) (bytes : AreBytes s) where
       → (a b : Bool) → eqb (p .kind) openTag ≡ a → eqb (p .kind) convertTag ≡ b
       → Claimed program s J A W (startsWith program J A W (callOf (length W) s p) (behind (length W) s p .calls))
   unfolding startsWith callOf
-  first-booked p q F true b e g = simp e (open-booked p q F (simp e) (openCall (length W) program (givenOf s p) (p .n)) refl)
+  first-booked p q F true b e g = simp e (open-booked p q F (simp e) (openCall program (givenOf s p) (length W) (p .n)) refl)
   first-booked p q F false true e g = simp (e, g) (untouched program s J A W)
   first-booked p q F false false e g = simp (e, g) (untouched program s J A W)
 

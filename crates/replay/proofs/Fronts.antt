@@ -85,36 +85,36 @@ module _ (program : List ℕ) (J W f l J′ W′ : List ℕ) where
       }
 
   pub open-made : (held : List ℕ) (n : ℕ) (r : CheckAnswer) → n ≤ length J → length f ≡ length (take n J)
-      → checkAnswer r ≡ openAnswer (openCall (length W) program held (length (take n J)))
-      → f ≡ afterOpen (take n J) (openCall (length W) program held (length (take n J))) .journal
-      → W′ ≡ cleared (openCall (length W) program held (length (take n J))) W → l ≡ checkLine (checkAnswer r) → J′ ≡ cleared-behind n f J
-      → Made program (opens (length W) held n) J W l J′ W′
+      → checkAnswer r ≡ openAnswer (openCall program held (length W) (length (take n J)))
+      → f ≡ afterOpen (take n J) (openCall program held (length W) (length (take n J))) .journal
+      → W′ ≡ cleared (openCall program held (length W) (length (take n J))) W → l ≡ checkLine (checkAnswer r) → J′ ≡ cleared-behind n f J
+      → Made program (opens held (length W) n) J W l J′ W′
   unfolding call buffer
   open-made held n r h e er ef ew el ej =
       let k : length (take n J) ≡ n = length-take-le n J h in
-      let same : openCall (length W) program held (length (take n J)) ≡ openCall (length W) program held n = ap (openCall (length W) program held) k in
-      made-front (opens (length W) held n) n refl h (e ∙ k) (ef ∙ ap (λ x. afterOpen (take n J) x .journal) same)
-      (el ∙ ap checkLine (er ∙ ap openAnswer same) ∙ opened-line (take n J) (openCall (length W) program held n))
-      (ew ∙ ap (λ x. cleared x W) same ∙ opened-swept (take n J) W (openCall (length W) program held n)) ej
+      let same : openCall program held (length W) (length (take n J)) ≡ openCall program held (length W) n = ap (openCall program held (length W)) k in
+      made-front (opens held (length W) n) n refl h (e ∙ k) (ef ∙ ap (λ x. afterOpen (take n J) x .journal) same)
+      (el ∙ ap checkLine (er ∙ ap openAnswer same) ∙ opened-line (take n J) (openCall program held (length W) n))
+      (ew ∙ ap (λ x. cleared x W) same ∙ opened-swept (take n J) W (openCall program held (length W) n)) ej
 
   pub convert-made : (fuel fn : ℕ) (anc : List ℕ) (n : ℕ) (r : RunAnswer) → n ≤ length J → length f ≡ length (take n J)
-      → runAnswer r ≡ heldAnswer (convertCall (length W) fuel fn program anc (take n J))
-      → f ≡ afterTurned (take n J) (convertCall (length W) fuel fn program anc (take n J)) .journal
-      → W′ ≡ cleared (convertCall (length W) fuel fn program anc (take n J)) W → l ≡ runLine (runAnswer r) → J′ ≡ cleared-behind n f J
-      → Made program (converts (length W) fuel fn anc n) J W l J′ W′
+      → runAnswer r ≡ heldAnswer (convertCall program fn anc fuel (length W) (take n J))
+      → f ≡ afterTurned (take n J) (convertCall program fn anc fuel (length W) (take n J)) .journal
+      → W′ ≡ cleared (convertCall program fn anc fuel (length W) (take n J)) W → l ≡ runLine (runAnswer r) → J′ ≡ cleared-behind n f J
+      → Made program (converts fn anc fuel (length W) n) J W l J′ W′
   unfolding call buffer
   convert-made fuel fn anc n r h e er ef ew el ej =
-      made-front (converts (length W) fuel fn anc n) n refl h (e ∙ length-take-le n J h) ef
-      (el ∙ ap runLine er ∙ turned-line (take n J) (convertCall (length W) fuel fn program anc (take n J)))
-      (ew ∙ turned-swept (take n J) W (convertCall (length W) fuel fn program anc (take n J))) ej
+      made-front (converts fn anc fuel (length W) n) n refl h (e ∙ length-take-le n J h) ef
+      (el ∙ ap runLine er ∙ turned-line (take n J) (convertCall program fn anc fuel (length W) (take n J)))
+      (ew ∙ turned-swept (take n J) W (convertCall program fn anc fuel (length W) (take n J))) ej
 
   pub rollback-made : (fuel n : ℕ) (r : RunAnswer) → n ≤ length J → length f ≡ length (take n J)
-      → runAnswer r ≡ heldAnswer (rollbackCall (length W) fuel program (take n J))
-      → f ≡ afterTurned (take n J) (rollbackCall (length W) fuel program (take n J)) .journal
-      → W′ ≡ cleared (rollbackCall (length W) fuel program (take n J)) W → l ≡ runLine (runAnswer r) → J′ ≡ cleared-behind n f J
-      → Made program (rollsBack (length W) fuel n) J W l J′ W′
+      → runAnswer r ≡ heldAnswer (rollbackCall program fuel (length W) (take n J))
+      → f ≡ afterTurned (take n J) (rollbackCall program fuel (length W) (take n J)) .journal
+      → W′ ≡ cleared (rollbackCall program fuel (length W) (take n J)) W → l ≡ runLine (runAnswer r) → J′ ≡ cleared-behind n f J
+      → Made program (rollsBack fuel (length W) n) J W l J′ W′
   unfolding call buffer
   rollback-made fuel n r h e er ef ew el ej =
-      made-front (rollsBack (length W) fuel n) n refl h (e ∙ length-take-le n J h) ef
-      (el ∙ ap runLine er ∙ turned-line (take n J) (rollbackCall (length W) fuel program (take n J)))
-      (ew ∙ turned-swept (take n J) W (rollbackCall (length W) fuel program (take n J))) ej
+      made-front (rollsBack fuel (length W) n) n refl h (e ∙ length-take-le n J h) ef
+      (el ∙ ap runLine er ∙ turned-line (take n J) (rollbackCall program fuel (length W) (take n J)))
+      (ew ∙ turned-swept (take n J) W (rollbackCall program fuel (length W) (take n J))) ej

@@ -26,8 +26,8 @@ pub buffer-is : (ws : ℕ) (s : List ℕ) (p : Part) → buffer (callOf ws s p) 
 unfolding callOf buffer
 buffer-is ws s p = by (eqb (p .kind) openTag) (eqb (p .kind) convertTag)
   where
-    by : (a b : Bool) → buffer (pick a (opens ws (givenOf s p) (p .n))
-        (pick b (converts ws (p .fuel) (p .function) (givenOf s p) (p .n)) (rollsBack ws (p .fuel) (p .n)))) ≡ p .n
+    by : (a b : Bool) → buffer (pick a (opens (givenOf s p) ws (p .n))
+        (pick b (converts (p .function) (givenOf s p) (p .fuel) ws (p .n)) (rollsBack (p .fuel) ws (p .n)))) ≡ p .n
     by true b = refl
     by false true = refl
     by false false = refl
@@ -36,8 +36,8 @@ pub sized-is : (ws : ℕ) (s : List ℕ) (p : Part) → p .fuel < 65536 → p .f
 unfolding callOf maxFuel
 sized-is ws s p f g = by (eqb (p .kind) openTag) (eqb (p .kind) convertTag)
   where
-    by : (a b : Bool) → Sized (pick a (opens ws (givenOf s p) (p .n))
-        (pick b (converts ws (p .fuel) (p .function) (givenOf s p) (p .n)) (rollsBack ws (p .fuel) (p .n))))
+    by : (a b : Bool) → Sized (pick a (opens (givenOf s p) ws (p .n))
+        (pick b (converts (p .function) (givenOf s p) (p .fuel) ws (p .n)) (rollsBack (p .fuel) ws (p .n))))
     by true b = tt
     by false true = (omega arith, g)
     by false false = omega arith

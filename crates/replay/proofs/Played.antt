@@ -75,7 +75,7 @@ module _ (program s J A W : List ℕ) (bytes : AreBytes s) where
     pub booking : Booking program s (length W) (length J) 1 (pasted A 0 (line isOpen)) xs (playedOn p xs)
         (split program (behind (length W) s p .calls) xs)
 
-  pub opened-books : (p : Part) (xs : List ℕ) → Free J A (length W) s p → openCall (length W) program (givenOf s p) (p .n) ≡ accepted xs
+  pub opened-books : (p : Part) (xs : List ℕ) → Free J A (length W) s p → openCall program (givenOf s p) (length W) (p .n) ≡ accepted xs
       → Opened p xs
   opened-books p xs F op =
       given (open-says (length W) program (givenOf s p) (p .n) op) λ (P, v, lp, vr, l, x).
@@ -109,7 +109,7 @@ module _ (program s J A W : List ℕ) (bytes : AreBytes s) where
   -- The first call
 
   -- by the open's answer
-  open-is : (p : Part) → Free J A (length W) s p → (x : Answer (List ℕ)) → openCall (length W) program (givenOf s p) (p .n) ≡ x
+  open-is : (p : Part) → Free J A (length W) s p → (x : Answer (List ℕ)) → openCall program (givenOf s p) (length W) (p .n) ≡ x
       → opensTo x program s (p .next) J A W ≡ opened program J A W x (behind (length W) s p .calls)
   unfolding opensTo opened swept cleared
   open-is p F (refused n q) e = refl
@@ -125,11 +125,11 @@ module _ (program s J A W : List ℕ) (bytes : AreBytes s) where
   unfolding begins callOf startsWith
   first-is p F = by (eqb (p .kind) openTag) (eqb (p .kind) convertTag)
     where
-      by : (a b : Bool) → pick a (opensTo (openCall (length W) program (givenOf s p) (p .n)) program s (p .next) J A W) (ends (malformed 0) J A W)
-          ≡ startsWith program J A W (pick a (opens (length W) (givenOf s p) (p .n))
-          (pick b (converts (length W) (p .fuel) (p .function) (givenOf s p) (p .n)) (rollsBack (length W) (p .fuel) (p .n))))
+      by : (a b : Bool) → pick a (opensTo (openCall program (givenOf s p) (length W) (p .n)) program s (p .next) J A W) (ends (malformed 0) J A W)
+          ≡ startsWith program J A W (pick a (opens (givenOf s p) (length W) (p .n))
+          (pick b (converts (p .function) (givenOf s p) (p .fuel) (length W) (p .n)) (rollsBack (p .fuel) (length W) (p .n))))
           (behind (length W) s p .calls)
-      by true b = open-is p F (openCall (length W) program (givenOf s p) (p .n)) refl
+      by true b = open-is p F (openCall program (givenOf s p) (length W) (p .n)) refl
       by false true = refl
       by false false = refl
 

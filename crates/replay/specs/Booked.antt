@@ -39,7 +39,7 @@ module _ (program script journal answers workspace journal′ answers′ workspa
     pub made : List Placed
     pub rest : List Placed
     pub stands : parse (length workspace) script
-        ≡ record { calls = record { place = 0; call = opens (length workspace) bytes n } ∷ (made ++ rest); broken = none }
+        ≡ record { calls = record { place = 0; call = opens bytes (length workspace) n } ∷ (made ++ rest); broken = none }
     pub ended : Ends made rest
     pub book : BookRun
     pub books : book ≡ bookRun program P (callsOf made) (begun first)

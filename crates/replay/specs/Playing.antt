@@ -109,9 +109,9 @@ module _ (program journal answers workspace : List ℕ) where
   -- the first call is an open
   unfoldable pub startsWith : Call → List Placed → Result
   unfolding opened openCall
-  startsWith (opens ws v n) cs = opened (openCall ws program v n) cs
-  startsWith (converts ws fuel fn anc n) cs = ends (malformed 0) journal answers workspace
-  startsWith (rollsBack ws fuel n) cs = ends (malformed 0) journal answers workspace
+  startsWith (opens v ws n) cs = opened (openCall program v ws n) cs
+  startsWith (converts fn anc fuel ws n) cs = ends (malformed 0) journal answers workspace
+  startsWith (rollsBack fuel ws n) cs = ends (malformed 0) journal answers workspace
 
   -- all calls, unless something hinders their playing: then nothing is touched
   unfoldable pub playsUnless : Option Reply → List Placed → Result

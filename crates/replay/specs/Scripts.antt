@@ -74,8 +74,8 @@ givenOf s p = take (p .next - p .from) (drop (p .from) s)
 -- the call, with a workspace of `ws` bytes
 unfoldable pub callOf : ℕ → List ℕ → Part → Call
 callOf ws s p =
-    pick (eqb (p .kind) openTag) (opens ws (givenOf s p) (p .n))
-    (pick (eqb (p .kind) convertTag) (converts ws (p .fuel) (p .function) (givenOf s p) (p .n)) (rollsBack ws (p .fuel) (p .n)))
+    pick (eqb (p .kind) openTag) (opens (givenOf s p) ws (p .n))
+    (pick (eqb (p .kind) convertTag) (converts (p .function) (givenOf s p) (p .fuel) ws (p .n)) (rollsBack (p .fuel) ws (p .n)))
 
 ----------------------------------------------------------------
 -- All calls

@@ -29,7 +29,7 @@ fn make_open(
     journal: &mut [u8],
 ) -> [u8; LINE]
     requires { ⌜ n ≤ length (now journal) ⌝ }
-    ensures { λ r. ⌜ Made (now (program .entry)) (opens (length (now (workspace .entry))) (now (held .entry)) n) (now (journal .entry)) (now (workspace .entry)) r (now (journal .exit)) (now (workspace .exit)) ⌝ }
+    ensures { λ r. ⌜ Made (now (program .entry)) (opens (now (held .entry)) (length (now (workspace .entry))) n) (now (journal .entry)) (now (workspace .entry)) r (now (journal .exit)) (now (workspace .exit)) ⌝ }
 {
     let answer = engine::open(program, held, workspace, &mut journal[..n]);
     clear_from(journal, n);
@@ -46,7 +46,7 @@ fn make_convert(
     journal: &mut [u8],
 ) -> [u8; LINE]
     requires { ⌜ n ≤ length (now journal) ⌝ }
-    ensures { λ r. ⌜ Made (now (program .entry)) (converts (length (now (workspace .entry))) fuel function (now (ancillae .entry)) n) (now (journal .entry)) (now (workspace .entry)) r (now (journal .exit)) (now (workspace .exit)) ⌝ }
+    ensures { λ r. ⌜ Made (now (program .entry)) (converts function (now (ancillae .entry)) fuel (length (now (workspace .entry))) n) (now (journal .entry)) (now (workspace .entry)) r (now (journal .exit)) (now (workspace .exit)) ⌝ }
 {
     let answer = engine::convert(
         program,
@@ -68,7 +68,7 @@ fn make_rollback(
     journal: &mut [u8],
 ) -> [u8; LINE]
     requires { ⌜ n ≤ length (now journal) ⌝ }
-    ensures { λ r. ⌜ Made (now (program .entry)) (rollsBack (length (now (workspace .entry))) fuel n) (now (journal .entry)) (now (workspace .entry)) r (now (journal .exit)) (now (workspace .exit)) ⌝ }
+    ensures { λ r. ⌜ Made (now (program .entry)) (rollsBack fuel (length (now (workspace .entry))) n) (now (journal .entry)) (now (workspace .entry)) r (now (journal .exit)) (now (workspace .exit)) ⌝ }
 {
     let answer = engine::rollback(program, fuel, workspace, &mut journal[..n]);
     clear_from(journal, n);

@@ -26,13 +26,13 @@ use package.Rattle.rules.proofs.Outcome.{steps}
 ----------------------------------------------------------------
 -- Workspace, program and run
 
-prepared-says : (ws fuel : ℕ) (program : List ℕ) {P : Program} → prepared ws fuel program ≡ accepted P → (workspaceFor fuel ≤ ws) × (load program ≡ accepted P)
+prepared-says : (ws fuel : ℕ) (program : List ℕ) {P : Program} → prepared program fuel ws ≡ accepted P → (workspaceFor fuel ≤ ws) × (load program ≡ accepted P)
 unfolding prepared
 prepared-says ws fuel program e =
     given (unbind (require (leb (workspaceFor fuel) ws) 1 0) _ e) λ (u, p, q).
     (leb→le (workspaceFor fuel) ws (rw (required (leb (workspaceFor fuel) ws) 1 0 p) tt), q)
 
-prepared-so : (ws fuel : ℕ) (program : List ℕ) {P : Program} → workspaceFor fuel ≤ ws → load program ≡ accepted P → prepared ws fuel program ≡ accepted P
+prepared-so : (ws fuel : ℕ) (program : List ℕ) {P : Program} → workspaceFor fuel ≤ ws → load program ≡ accepted P → prepared program fuel ws ≡ accepted P
 unfolding prepared
 prepared-so ws fuel program l e = via _ (require-yes 1 0 (T-true (le→leb (workspaceFor fuel) ws l))) e
 
@@ -77,12 +77,12 @@ turned-so n r J l = via _ (kept-so n J l) refl
 ----------------------------------------------------------------
 -- Open
 
-pub open-says : (ws : ℕ) (program bytes : List ℕ) (n : ℕ) {xs : List ℕ} → openCall ws program bytes n ≡ accepted xs
+pub open-says : (ws : ℕ) (program bytes : List ℕ) (n : ℕ) {xs : List ℕ} → openCall program bytes ws n ≡ accepted xs
     → (P : Program) × (v : Val) × (load program ≡ accepted P) × (value bytes ≡ some v) × (length (fields (record { held = v; entries = [] })) ≤ n)
     × (writeOut n (record { held = v; entries = [] }) ≡ xs)
 unfolding openCall
 open-says ws program bytes n e =
-    given (unbind (prepared ws 0 program) _ e) λ (P, p, e₁).
+    given (unbind (prepared program 0 ws) _ e) λ (P, p, e₁).
     given (unbind (present (value bytes) 10) _ e₁) λ (v, q, e₂).
     given (kept-says n (record { held = v; entries = [] }) e₂) λ (l, x).
     (P, v, prepared-says ws 0 program p .1, presented (value bytes) 10 q, l, x)
@@ -110,10 +110,10 @@ same-some : {A : Type 0} {x : Option A} {a b : A} → x ≡ some a → x ≡ som
 same-some p q = some-inj (sym p ∙ q)
 
 pub convert-says : (ws fuel fn : ℕ) (program anc journal : List ℕ) {P : Program} {J : Journal} {t : Turned} → load program ≡ accepted P → readJournal journal ≡ some J
-    → convertCall ws fuel fn program anc journal ≡ accepted t → Converts P J (length journal) fuel fn anc t
+    → convertCall program fn anc fuel ws journal ≡ accepted t → Converts P J (length journal) fuel fn anc t
 unfolding convertCall goes
 convert-says ws fuel fn program anc journal {P} {J} {t} lp rj e =
-    given (unbind (prepared ws fuel program) _ e) λ (P′, p₁, e₁).
+    given (unbind (prepared program fuel ws) _ e) λ (P′, p₁, e₁).
     given (unbind (present (readJournal journal) 18) _ e₁) λ (J′, p₂, e₂).
     given (unbind (require (ltb (length (J′ .entries)) maxConversions) 20 0) _ e₂) λ (u, p₃, e₃).
     given (unbind (admit P′ fn (ancillae anc) (some (J′ .held)) λ h. h .dynamic) _ e₃) λ (a, p₄, e₄).
@@ -152,10 +152,10 @@ pub record Returns (P : Program) (J : Journal) (n fuel : ℕ) (t : Turned) : Typ
   pub turned : turnedTo n ran (record { held = ran .value; entries = newer .older }) ≡ t
 
 pub rollback-says : (ws fuel : ℕ) (program journal : List ℕ) {P : Program} {J : Journal} {t : Turned} → load program ≡ accepted P → readJournal journal ≡ some J
-    → rollbackCall ws fuel program journal ≡ accepted t → Returns P J (length journal) fuel t
+    → rollbackCall program fuel ws journal ≡ accepted t → Returns P J (length journal) fuel t
 unfolding rollbackCall returns
 rollback-says ws fuel program journal {P} {J} {t} lp rj e =
-    given (unbind (prepared ws fuel program) _ e) λ (P′, p₁, e₁).
+    given (unbind (prepared program fuel ws) _ e) λ (P′, p₁, e₁).
     given (unbind (present (readJournal journal) 18) _ e₁) λ (J′, p₂, e₂).
     given (unbind (present (newest (J′ .entries)) 19) _ e₂) λ (s, p₃, e₃).
     given (unbind (admit P′ (s .newest .function) (some (s .newest .ancillae)) (some (J′ .held)) λ h. h .result) _ e₃) λ (a, p₄, e₄).
@@ -185,7 +185,7 @@ pub rollback-so : (ws fuel : ℕ) (program journal : List ℕ) (P : Program) (J 
     → Admits P (s .newest .function) (some (s .newest .ancillae)) (some (J .held)) (λ h. h .result) a
     → runBackward fits P maxHeight (a .fun) (a .ancillae) (a .value) fuel ≡ ok w g → fuel ≡ s .newest .steps + g
     → length (fields (record { held = w; entries = s .older })) ≤ length journal
-    → rollbackCall ws fuel program journal
+    → rollbackCall program fuel ws journal
     ≡ accepted (turnedTo (length journal) (record { value = w; steps = s .newest .steps }) (record { held = w; entries = s .older }))
 unfolding rollbackCall returns
 rollback-so ws fuel program journal P J s a w g l lp rj st A run e fit =

@@ -32,7 +32,7 @@ use package.Rattle.rules.proofs.Basics.{given, some-inj}
 use package.Rattle.rules.proofs.Theorems.{tree-forward-iff-rules, tree-backward-iff-forward}
 
 -- the book right after the open before the list
-opened-keeps : (program bytes : List ℕ) (ws n : ℕ) {xs : List ℕ} {P : Program} {origin : Val} → value bytes ≡ some origin → openCall ws program bytes n ≡ accepted xs
+opened-keeps : (program bytes : List ℕ) (ws n : ℕ) {xs : List ℕ} {P : Program} {origin : Val} → value bytes ≡ some origin → openCall program bytes ws n ≡ accepted xs
     → Keeps P (begun origin) xs []
 opened-keeps program bytes ws n {xs} {P} {origin} vr op =
     given (open-says ws program bytes n op) λ (P′, u, lp, vu, l, x).
@@ -41,7 +41,7 @@ opened-keeps program bytes ws n {xs} {P} {origin} vr op =
     (written-keeps [] origin n empty (subst (λ v. length (fields (journal v [])) ≤ n) u-is l) (value-sound bytes vr .1) (omega arith))
 
 -- it fills its buffer
-opened-length : (program bytes : List ℕ) (ws n : ℕ) {xs : List ℕ} → openCall ws program bytes n ≡ accepted xs → length xs ≡ n
+opened-length : (program bytes : List ℕ) (ws n : ℕ) {xs : List ℕ} → openCall program bytes ws n ≡ accepted xs → length xs ≡ n
 opened-length program bytes ws n op = given (open-says ws program bytes n op) λ (P, u, lp, vu, l, x). ap length (sym x) ∙ length-writeOut n (journal u []) l
 
 pub demand3 : Demand3
@@ -68,7 +68,7 @@ module _ (program : List ℕ) (P : Program) (loads : load program ≡ accepted P
       → (xs : List ℕ) → xs ≡ writeOut (length xs) (journal held es) → length (fields (journal held es)) ≤ length xs → fits held ≡ true → length es ≤ maxConversions
       → (ws fuel n : ℕ) → workspaceFor fuel ≤ ws → m .steps ≤ fuel → length (m .journal) ≤ n
       → (J : Journal) × (readJournal (m .journal) ≡ some J)
-      × (rollbackCall ws fuel program (resized n xs)
+      × (rollbackCall program fuel ws (resized n xs)
       ≡ accepted (record { held = size (J .held); steps = m .steps; journal = m .journal ++ replicate (n - length (m .journal)) 0 }))
   rolls-back (next {es = es} {v = v} row w s k S R) xs b l f few ws fuel n wl sl nl =
       let k-is : length (writeOut k (journal v es)) ≡ k = length-writeOut k (journal v es) (R .older-fits) in

@@ -27,9 +27,9 @@ use package.Rattle.rules.proofs.Basics.{given, none≢some}
 -- a refusal strikes and adds no conversion
 refusal-remembers : (c : Call) (ys : List ℕ) (m p : ℕ) (ms : List Met) → remember c ys (refuses m p) ms ≡ ms
 unfolding remember
-refusal-remembers (opens ws v n) ys m p ms = refl
-refusal-remembers (converts ws fuel fn anc n) ys m p ms = refl
-refusal-remembers (rollsBack ws fuel n) ys m p ms = refl
+refusal-remembers (opens v ws n) ys m p ms = refl
+refusal-remembers (converts fn anc fuel ws n) ys m p ms = refl
+refusal-remembers (rollsBack fuel ws n) ys m p ms = refl
 
 abbrev bookOf : Val → List Row → Book
 bookOf origin rows = record { first = origin; rows = rows }
@@ -47,10 +47,10 @@ module _ (program : List ℕ) (P : Program) (loads : load program ≡ accepted P
       record { told = refl; keeps = subst (Keeps P (bookOf origin rows) ys) (sym (refusal-remembers c ys m p ms)) (ready-keeps program P loads typed R); long = refl }
 
   open-turn : {origin : Val} {rows : List Row} {es : List Entry} {held : Val} {ms : List Met} {n : ℕ} {ys : List ℕ} (ws : ℕ) (v : List ℕ)
-      → Ready program P loads typed origin rows es held ms n ys → (x : Answer (List ℕ)) → openCall ws program v n ≡ x
-      → Agrees P (opens ws v n) ys ms (afterOpen ys x) (turnUnless (refusalOf x) P (opens ws v n) (bookOf origin rows))
+      → Ready program P loads typed origin rows es held ms n ys → (x : Answer (List ℕ)) → openCall program v ws n ≡ x
+      → Agrees P (opens v ws n) ys ms (afterOpen ys x) (turnUnless (refusalOf x) P (opens v ws n) (bookOf origin rows))
   unfolding afterOpen turnUnless refusalOf enters remember
-  open-turn {n = n} ws v R (refused m p) e = refused-agrees (opens ws v n) m p R
+  open-turn {n = n} ws v R (refused m p) e = refused-agrees (opens v ws n) m p R
   open-turn {n = n} ws v R (accepted xs) e =
       given (open-says ws program v n e) λ (P′, u, lp, vr, l, x).
       record {
@@ -64,17 +64,17 @@ module _ (program : List ℕ) (P : Program) (loads : load program ≡ accepted P
       opened u l f = written-keeps [] u n empty l f (omega arith)
 
   convert-turn : {origin : Val} {rows : List Row} {es : List Entry} {held : Val} {ms : List Met} {n : ℕ} {ys : List ℕ} (ws fuel fn : ℕ) (anc : List ℕ)
-      → Ready program P loads typed origin rows es held ms n ys → fuel ≤ maxFuel → fn < 65536 → (x : Answer Turned) → convertCall ws fuel fn program anc ys ≡ x
-      → Agrees P (converts ws fuel fn anc n) ys ms (afterTurned ys x) (turnUnless (refusalOf x) P (converts ws fuel fn anc n) (bookOf origin rows))
+      → Ready program P loads typed origin rows es held ms n ys → fuel ≤ maxFuel → fn < 65536 → (x : Answer Turned) → convertCall program fn anc fuel ws ys ≡ x
+      → Agrees P (converts fn anc fuel ws n) ys ms (afterTurned ys x) (turnUnless (refusalOf x) P (converts fn anc fuel ws n) (bookOf origin rows))
   unfolding refusalOf afterTurned
-  convert-turn {n = n} ws fuel fn anc R lf ln (refused m p) e = refused-agrees (converts ws fuel fn anc n) m p R
+  convert-turn {n = n} ws fuel fn anc R lf ln (refused m p) e = refused-agrees (converts fn anc fuel ws n) m p R
   convert-turn {ys = ys} ws fuel fn anc R lf ln (accepted t) e =
       convert-agrees program P loads typed R ws fuel fn anc lf ln t (convert-says ws fuel fn program anc ys loads (ready-reads program P loads typed R) e)
 
   -- an accepted rollback, by the rows that stand
   returns-agree : {origin : Val} {rows : List Row} {es : List Entry} {held : Val} {ms : List Met} (n : ℕ) (ys : List ℕ) (ws fuel : ℕ) (t : Turned)
       → Standing P origin rows es held ms → length es ≤ maxConversions → Returns P (journal held es) (length ys) fuel t
-      → Agrees P (rollsBack ws fuel n) ys ms (afterTurned ys (accepted t)) (turnUnless none P (rollsBack ws fuel n) (bookOf origin rows))
+      → Agrees P (rollsBack fuel ws n) ys ms (afterTurned ys (accepted t)) (turnUnless none P (rollsBack fuel ws n) (bookOf origin rows))
   unfolding newest
   returns-agree n ys ws fuel t empty few B = absurd (none≢some (B .stands))
   returns-agree n ys ws fuel t (next {es = es} row w m k S R) few B =
@@ -82,10 +82,10 @@ module _ (program : List ℕ) (P : Program) (loads : load program ≡ accepted P
       (let z : length (es ++ (entryOf row m ∷ [])) ≡ length es + 1 = length-append es _ in omega arith) B
 
   rollback-turn : {origin : Val} {rows : List Row} {es : List Entry} {held : Val} {ms : List Met} {n : ℕ} {ys : List ℕ} (ws fuel : ℕ)
-      → Ready program P loads typed origin rows es held ms n ys → (x : Answer Turned) → rollbackCall ws fuel program ys ≡ x
-      → Agrees P (rollsBack ws fuel n) ys ms (afterTurned ys x) (turnUnless (refusalOf x) P (rollsBack ws fuel n) (bookOf origin rows))
+      → Ready program P loads typed origin rows es held ms n ys → (x : Answer Turned) → rollbackCall program fuel ws ys ≡ x
+      → Agrees P (rollsBack fuel ws n) ys ms (afterTurned ys x) (turnUnless (refusalOf x) P (rollsBack fuel ws n) (bookOf origin rows))
   unfolding refusalOf afterTurned
-  rollback-turn {n = n} ws fuel R (refused m p) e = refused-agrees (rollsBack ws fuel n) m p R
+  rollback-turn {n = n} ws fuel R (refused m p) e = refused-agrees (rollsBack fuel ws n) m p R
   rollback-turn {n = n} {ys} ws fuel R (accepted t) e =
       returns-agree n ys ws fuel t (R .standing) (R .few) (rollback-says ws fuel program ys loads (ready-reads program P loads typed R) e)
 
@@ -96,17 +96,17 @@ module _ (program : List ℕ) (P : Program) (loads : load program ≡ accepted P
       → Ready program P loads typed origin rows es held ms (buffer c) ys
       → Agrees P c ys ms (call program c ys) (bookTurn program P c (bookOf origin rows))
   unfolding call bookTurn refusal buffer
-  turn (opens ws v n) sz R = open-turn ws v R (openCall ws program v n) refl
-  turn {origin} {rows} {ms = ms} {ys} (converts ws fuel fn anc n) (lf, ln) R =
-      subst (λ zs. Agrees P (converts ws fuel fn anc n) ys ms (afterTurned ys (convertCall ws fuel fn program anc ys))
-      (turnUnless (refusalOf (convertCall ws fuel fn program anc zs)) P (converts ws fuel fn anc n) (bookOf origin rows)))
+  turn (opens v ws n) sz R = open-turn ws v R (openCall program v ws n) refl
+  turn {origin} {rows} {ms = ms} {ys} (converts fn anc fuel ws n) (lf, ln) R =
+      subst (λ zs. Agrees P (converts fn anc fuel ws n) ys ms (afterTurned ys (convertCall program fn anc fuel ws ys))
+      (turnUnless (refusalOf (convertCall program fn anc fuel ws zs)) P (converts fn anc fuel ws n) (bookOf origin rows)))
       (R .bytes ∙ ap (writeOut n) (sym (standing-journal (R .standing))))
-      (convert-turn ws fuel fn anc R lf ln (convertCall ws fuel fn program anc ys) refl)
-  turn {origin} {rows} {ms = ms} {ys} (rollsBack ws fuel n) lf R =
-      subst (λ zs. Agrees P (rollsBack ws fuel n) ys ms (afterTurned ys (rollbackCall ws fuel program ys))
-      (turnUnless (refusalOf (rollbackCall ws fuel program zs)) P (rollsBack ws fuel n) (bookOf origin rows)))
+      (convert-turn ws fuel fn anc R lf ln (convertCall program fn anc fuel ws ys) refl)
+  turn {origin} {rows} {ms = ms} {ys} (rollsBack fuel ws n) lf R =
+      subst (λ zs. Agrees P (rollsBack fuel ws n) ys ms (afterTurned ys (rollbackCall program fuel ws ys))
+      (turnUnless (refusalOf (rollbackCall program fuel ws zs)) P (rollsBack fuel ws n) (bookOf origin rows)))
       (R .bytes ∙ ap (writeOut n) (sym (standing-journal (R .standing))))
-      (rollback-turn ws fuel R (rollbackCall ws fuel program ys) refl)
+      (rollback-turn ws fuel R (rollbackCall program fuel ws ys) refl)
 
   ----------------------------------------------------------------
   -- A list of calls

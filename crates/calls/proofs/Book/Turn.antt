@@ -136,13 +136,13 @@ module _ (program : List ℕ) (P : Program) (loads : load program ≡ accepted P
         (sym (R .bytes)) (next row (C .ran .value) (C .ran .steps) n (R .standing) passed))
         (C .fit) result-fits (let z : length (es ++ (entryOf row (C .ran .steps) ∷ [])) ≡ length es + 1 = length-append es _ in omega (arith, C .few))
 
-    pub convert-agrees : Agrees P (converts ws fuel fn anc n) ys ms (afterTurned ys (accepted t))
-        (turnUnless none P (converts ws fuel fn anc n) (record { first = origin; rows = rows }))
+    pub convert-agrees : Agrees P (converts fn anc fuel ws n) ys ms (afterTurned ys (accepted t))
+        (turnUnless none P (converts fn anc fuel ws n) (record { first = origin; rows = rows }))
     unfolding afterTurned turnUnless enters remember orNone
     convert-agrees =
-        subst (λ t. Agrees P (converts ws fuel fn anc n) ys ms (afterTurned ys (accepted t)) (turnUnless none P (converts ws fuel fn anc n) (record { first = origin; rows = rows })))
+        subst (λ t. Agrees P (converts fn anc fuel ws n) ys ms (afterTurned ys (accepted t)) (turnUnless none P (converts fn anc fuel ws n) (record { first = origin; rows = rows })))
         (C .turned)
-        (subst (λ o. Agrees P (converts ws fuel fn anc n) ys ms
+        (subst (λ o. Agrees P (converts fn anc fuel ws n) ys ms
         (afterTurned ys (accepted (turnedTo (length ys) (C .ran) (journal (C .ran .value) (es ++ (entryOf row (C .ran .steps) ∷ []))))))
         (converted o))
         (sym (C .row .ancillae-read))
@@ -201,13 +201,13 @@ module _ (program : List ℕ) (P : Program) (loads : load program ≡ accepted P
     returned-fits : length (fields (journal v es)) ≤ length ys
     returned-fits = subst (λ x. length (fields (journal x es)) ≤ length ys) returned (subst (λ (s : Newest). length (fields (journal (B .ran .value) (s .older))) ≤ length ys) newer-is (B .fit))
 
-    pub rollback-agrees : Agrees P (rollsBack ws fuel n) ys (record { journal = writeOut k (journal v es); steps = m } ∷ ms) (afterTurned ys (accepted t))
-        (turnUnless none P (rollsBack ws fuel n) (record { first = origin; rows = rows ++ (row ∷ []) }))
+    pub rollback-agrees : Agrees P (rollsBack fuel ws n) ys (record { journal = writeOut k (journal v es); steps = m } ∷ ms) (afterTurned ys (accepted t))
+        (turnUnless none P (rollsBack fuel ws n) (record { first = origin; rows = rows ++ (row ∷ []) }))
     unfolding afterTurned turnUnless enters remember orEmpty
     rollback-agrees =
-        subst (λ t. Agrees P (rollsBack ws fuel n) ys (record { journal = writeOut k (journal v es); steps = m } ∷ ms) (afterTurned ys (accepted t))
-        (turnUnless none P (rollsBack ws fuel n) (record { first = origin; rows = rows ++ (row ∷ []) }))) returned-to
-        (subst (λ o. Agrees P (rollsBack ws fuel n) ys (record { journal = writeOut k (journal v es); steps = m } ∷ ms)
+        subst (λ t. Agrees P (rollsBack fuel ws n) ys (record { journal = writeOut k (journal v es); steps = m } ∷ ms) (afterTurned ys (accepted t))
+        (turnUnless none P (rollsBack fuel ws n) (record { first = origin; rows = rows ++ (row ∷ []) }))) returned-to
+        (subst (λ o. Agrees P (rollsBack fuel ws n) ys (record { journal = writeOut k (journal v es); steps = m } ∷ ms)
         (afterTurned ys (accepted (turnedTo (length ys) (answered v m) (journal v es)))) (struck o))
         (sym (newest-snoc rows row))
         (record {

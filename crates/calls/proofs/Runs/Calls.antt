@@ -98,8 +98,8 @@ back = record {
 module _ (side : Fun → Ty) (ws fuel fn : ℕ) (program anc bytes : List ℕ) where
   -- they are accepted exactly if the call is admitted
   pub admitted-iff : (P : Program) (a : Given)
-      → ((prepared ws fuel program ≡ accepted P) × (admit P fn (ancillae anc) (value bytes) side ≡ accepted a))
-      ↔ Admitted ws fuel fn program anc bytes side P (a .fun) (a .ancillae) (a .value)
+      → ((prepared program fuel ws ≡ accepted P) × (admit P fn (ancillae anc) (value bytes) side ≡ accepted a))
+      ↔ Admitted program fn anc bytes fuel ws side P (a .fun) (a .ancillae) (a .value)
   admitted-iff P a = (
     λ (p, q). given (prepared-iff ws fuel program P .0 p) λ (l, F, T). given (admit-iff P fn (ancillae anc) (value bytes) side a .0 q) λ A. record {
       enough = l;
@@ -130,7 +130,7 @@ module _ (D : Direction) (ws out fuel fn : ℕ) (program anc bytes : List ℕ) w
   -- forward and backward are this call, each in its direction
   unfoldable pub directed : Answer Ran
   directed = do
-    P ← prepared ws fuel program
+    P ← prepared program fuel ws
     a ← admit P fn (ancillae anc) (value bytes) (D .side)
     r ← ran fuel (D .run P a fuel)
     room ← require (leb (size (r .value)) out) 17 0
@@ -138,14 +138,14 @@ module _ (D : Direction) (ws out fuel fn : ℕ) (program anc bytes : List ℕ) w
 
   -- it was admitted, its run answers within the fuel, and the output is long enough
   abbrev pub Answers : Val → ℕ → Type 0
-  Answers w n = (P : Program) × (h : Fun) × (vs : List Val) × (v : Val) × Admitted ws fuel fn program anc bytes (D .side) P h vs v
+  Answers w n = (P : Program) × (h : Fun) × (vs : List Val) × (v : Val) × Admitted program fn anc bytes fuel ws (D .side) P h vs v
       × (D .run P (gives h vs v) fuel ≡ ok w (fuel - n)) × (n ≤ fuel) × (size w ≤ out)
 
   directed-iff : (w : Val) (n : ℕ) → (directed ≡ answer w n) ↔ Answers w n
   unfolding directed
   directed-iff w n = (
     λ e.
-        given (unbind (prepared ws fuel program) _ e) λ (P, p, e₁).
+        given (unbind (prepared program fuel ws) _ e) λ (P, p, e₁).
         given (unbind (admit P fn (ancillae anc) (value bytes) (D .side)) _ e₁) λ (a, q, e₂).
         given (unbind (ran fuel (D .run P a fuel)) _ e₂) λ (r, s, e₃).
         given (unbind (require (leb (size (r .value)) out) 17 0) _ e₃) λ (room, t, e₄).
@@ -168,13 +168,13 @@ module _ (D : Direction) (ws out fuel fn : ℕ) (program anc bytes : List ℕ) w
   -- a refusal: before the run, of the run, or of the output
   pub data Refuses (n k : ℕ) : Type 0 where
     before : n ≤ 11 → Refuses n k
-    running : (P : Program) (h : Fun) (vs : List Val) (v : Val) → Admitted ws fuel fn program anc bytes (D .side) P h vs v
+    running : (P : Program) (h : Fun) (vs : List Val) (v : Val) → Admitted program fn anc bytes fuel ws (D .side) P h vs v
         → D .run P (gives h vs v) fuel ≡ stop n k → Refuses n k
     short : n ≡ 17 → Refuses n k
 
   directed-refused : {n k : ℕ} → directed ≡ refused n k → Refuses n k
   unfolding directed below
-  directed-refused {n} {k} e = elim (unstop (prepared ws fuel program) _ e) [
+  directed-refused {n} {k} e = elim (unstop (prepared program fuel ws) _ e) [
     | first p ↦ before (omega (arith, member-below n 9 programNumbers refl (number (prepared-numbered ws fuel program) p)))
     | later P p e₁ ↦ elim (unstop (admit P fn (ancillae anc) (value bytes) (D .side)) _ e₁) [
       | first q ↦ before (omega (arith, member-below n 12 callNumbers refl (number (admit-numbered P fn (ancillae anc) (value bytes) (D .side)) q)))
@@ -188,14 +188,14 @@ module _ (D : Direction) (ws out fuel fn : ℕ) (program anc bytes : List ℕ) w
     ]
   ]
     where
-      during : (P : Program) (a : Given) → prepared ws fuel program ≡ accepted P → admit P fn (ancillae anc) (value bytes) (D .side) ≡ accepted a
+      during : (P : Program) (a : Given) → prepared program fuel ws ≡ accepted P → admit P fn (ancillae anc) (value bytes) (D .side) ≡ accepted a
           → ran fuel (D .run P a fuel) ≡ refused n k → Refuses n k
       during P a p q s = running P (a .fun) (a .ancillae) (a .value) (admitted-iff (D .side) ws fuel fn program anc bytes P a .0 (p, q))
           (ran-refused fuel (D .run P a fuel) (D .safe P fn (ancillae anc) (value bytes) a fuel (prepared-iff ws fuel program P .0 p .2)
           (admit-iff P fn (ancillae anc) (value bytes) (D .side) a .0 q)) s)
 
   -- what is admitted is refused as its run is
-  pub directed-stops : (P : Program) (h : Fun) (vs : List Val) (v : Val) → Admitted ws fuel fn program anc bytes (D .side) P h vs v
+  pub directed-stops : (P : Program) (h : Fun) (vs : List Val) (v : Val) → Admitted program fn anc bytes fuel ws (D .side) P h vs v
       → {n k : ℕ} → D .run P (gives h vs v) fuel ≡ stop n k → directed ≡ refused n k
   unfolding directed ran _>>=_
   directed-stops P h vs v A x = given (admitted-iff (D .side) ws fuel fn program anc bytes P (gives h vs v) .1 A) λ (p, q).
@@ -205,18 +205,18 @@ module _ (D : Direction) (ws out fuel fn : ℕ) (program anc bytes : List ℕ) w
 -- The calls
 
 module _ (ws out fuel fn : ℕ) (program anc bytes : List ℕ) where
-  pub forward-call-iff : (w : Val) (n : ℕ) → (forwardCall ws out fuel fn program anc bytes ≡ answer w n) ↔ Answers onward ws out fuel fn program anc bytes w n
+  pub forward-call-iff : (w : Val) (n : ℕ) → (forwardCall program fn anc bytes fuel ws out ≡ answer w n) ↔ Answers onward ws out fuel fn program anc bytes w n
   unfolding forwardCall directed
   forward-call-iff w n = directed-iff onward ws out fuel fn program anc bytes w n
 
-  pub backward-call-iff : (w : Val) (n : ℕ) → (backwardCall ws out fuel fn program anc bytes ≡ answer w n) ↔ Answers back ws out fuel fn program anc bytes w n
+  pub backward-call-iff : (w : Val) (n : ℕ) → (backwardCall program fn anc bytes fuel ws out ≡ answer w n) ↔ Answers back ws out fuel fn program anc bytes w n
   unfolding backwardCall directed
   backward-call-iff w n = directed-iff back ws out fuel fn program anc bytes w n
 
-  pub forward-call-refused : {n k : ℕ} → forwardCall ws out fuel fn program anc bytes ≡ refused n k → Refuses onward ws out fuel fn program anc bytes n k
+  pub forward-call-refused : {n k : ℕ} → forwardCall program fn anc bytes fuel ws out ≡ refused n k → Refuses onward ws out fuel fn program anc bytes n k
   unfolding forwardCall directed
   forward-call-refused e = directed-refused onward ws out fuel fn program anc bytes e
 
-  pub backward-call-refused : {n k : ℕ} → backwardCall ws out fuel fn program anc bytes ≡ refused n k → Refuses back ws out fuel fn program anc bytes n k
+  pub backward-call-refused : {n k : ℕ} → backwardCall program fn anc bytes fuel ws out ≡ refused n k → Refuses back ws out fuel fn program anc bytes n k
   unfolding backwardCall directed
   backward-call-refused e = directed-refused back ws out fuel fn program anc bytes e

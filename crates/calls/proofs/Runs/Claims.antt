@@ -35,7 +35,7 @@ use package.Rattle.calls.proofs.Runs.Numbers.{forward-numbered, backwar
 pub check-iff-typed : CheckIffTyped
 unfolding checkCall
 check-iff-typed ws program = (
-  λ e. given (unbind (prepared ws 0 program) _ e) λ (P, p, q). given (prepared-iff ws 0 program P .0 p) λ (l, F, T). (l, (P, F, T)),
+  λ e. given (unbind (prepared program 0 ws) _ e) λ (P, p, q). given (prepared-iff ws 0 program P .0 p) λ (l, F, T). (l, (P, F, T)),
   λ (l, (P, F, T)). via _ (prepared-iff ws 0 program P .1 (l, F, T)) refl,
 )
 
@@ -59,7 +59,7 @@ backward-iff-rules ws out fuel fn program anc bytes v n = (
   λ (P, h, vs, w, A, hv, d, l, s). backward-call-iff ws out fuel fn program anc bytes v n .1 (P, h, vs, w, A, of P h vs w A .1 (hv, (n, d, omega arith)), l, s),
 )
   where
-    of : (P : Program) (h : Fun) (vs : List Val) (w : Val) → Admitted ws fuel fn program anc bytes (λ h. h .result) P h vs w
+    of : (P : Program) (h : Fun) (vs : List Val) (w : Val) → Admitted program fn anc bytes fuel ws (λ h. h .result) P h vs w
         → (runBackward fits P maxHeight h vs w fuel ≡ ok v (fuel - n))
         ↔ (HasTy v (h .dynamic) × ((m : ℕ) × Carries fits P maxHeight h vs v w m × (fuel ≡ m + (fuel - n))))
     of P h vs w A =
@@ -180,7 +180,7 @@ injective ws ws′ out out′ fuel fuel′ fn program anc bytes bytes′ w n n�
 
 -- a call that is admitted, with another workspace that suffices for other fuel
 enough : {ws fuel fn : ℕ} {program anc bytes : List ℕ} {side : Fun → Ty} {P : Program} {h : Fun} {vs : List Val} {v : Val} (ws′ fuel′ : ℕ)
-    → workspaceFor fuel′ ≤ ws′ → Admitted ws fuel fn program anc bytes side P h vs v → Admitted ws′ fuel′ fn program anc bytes side P h vs v
+    → workspaceFor fuel′ ≤ ws′ → Admitted program fn anc bytes fuel ws side P h vs v → Admitted program fn anc bytes fuel′ ws′ side P h vs v
 enough ws′ fuel′ m A = record {
   enough = m;
   formed = A .formed;

@@ -47,7 +47,7 @@ module _ (Met : ℕ → Type 0) where
 -- Programs that are refused, by number
 
 abbrev Unprepared : ℕ → Type 0
-Unprepared n = (ws : ℕ) × (program : List ℕ) × (k : ℕ) × (prepared ws 0 program ≡ refused n k)
+Unprepared n = (ws : ℕ) × (program : List ℕ) × (k : ℕ) × (prepared program 0 ws ≡ refused n k)
 
 -- no workspace; no field; a function without parameters; an unused term; an open type; another result; a variable out of scope; an unused one
 unprepared : Each Unprepared programNumbers
@@ -93,7 +93,7 @@ asks = bitTypes
 -- Check, forward, backward
 
 abbrev CheckMet : ℕ → Type 0
-CheckMet n = (ws : ℕ) × (program : List ℕ) × (k : ℕ) × (checkCall ws program ≡ refused n k)
+CheckMet n = (ws : ℕ) × (program : List ℕ) × (k : ℕ) × (checkCall program ws ≡ refused n k)
 
 check-exactly : Exactly programNumbers CheckMet
 unfolding checkCall
@@ -104,7 +104,7 @@ check-exactly n = (
 
 abbrev ForwardMet : ℕ → Type 0
 ForwardMet n = (ws : ℕ) × (out : ℕ) × (fuel : ℕ) × (fn : ℕ) × (program : List ℕ) × (anc : List ℕ) × (bytes : List ℕ) × (k : ℕ)
-    × (forwardCall ws out fuel fn program anc bytes ≡ refused n k)
+    × (forwardCall program fn anc bytes fuel ws out ≡ refused n k)
 
 forward-unprepared : Each ForwardMet programNumbers
 unfolding forwardCall
@@ -132,7 +132,7 @@ forward-exactly n = (
 
 abbrev BackwardMet : ℕ → Type 0
 BackwardMet n = (ws : ℕ) × (out : ℕ) × (fuel : ℕ) × (fn : ℕ) × (program : List ℕ) × (anc : List ℕ) × (bytes : List ℕ) × (k : ℕ)
-    × (backwardCall ws out fuel fn program anc bytes ≡ refused n k)
+    × (backwardCall program fn anc bytes fuel ws out ≡ refused n k)
 
 backward-unprepared : Each BackwardMet programNumbers
 unfolding backwardCall
@@ -164,7 +164,7 @@ backward-exactly n = (
 -- Open, convert, rollback
 
 abbrev OpenMet : ℕ → Type 0
-OpenMet n = (ws : ℕ) × (program : List ℕ) × (bytes : List ℕ) × (m : ℕ) × (k : ℕ) × (openCall ws program bytes m ≡ refused n k)
+OpenMet n = (ws : ℕ) × (program : List ℕ) × (bytes : List ℕ) × (m : ℕ) × (k : ℕ) × (openCall program bytes ws m ≡ refused n k)
 
 open-unprepared : Each OpenMet programNumbers
 unfolding openCall
@@ -192,7 +192,7 @@ standing fn anc = field entryTag (bytes16 fn ++ replicate 4 0 ++ anc)
 
 abbrev ConvertMet : ℕ → Type 0
 ConvertMet n = (ws : ℕ) × (fuel : ℕ) × (fn : ℕ) × (program : List ℕ) × (anc : List ℕ) × (journal : List ℕ) × (k : ℕ)
-    × (convertCall ws fuel fn program anc journal ≡ refused n k)
+    × (convertCall program fn anc fuel ws journal ≡ refused n k)
 
 convert-unprepared : Each ConvertMet programNumbers
 unfolding convertCall
@@ -220,7 +220,7 @@ convert-exactly n = (
 )
 
 abbrev RollbackMet : ℕ → Type 0
-RollbackMet n = (ws : ℕ) × (fuel : ℕ) × (program : List ℕ) × (journal : List ℕ) × (k : ℕ) × (rollbackCall ws fuel program journal ≡ refused n k)
+RollbackMet n = (ws : ℕ) × (fuel : ℕ) × (program : List ℕ) × (journal : List ℕ) × (k : ℕ) × (rollbackCall program fuel ws journal ≡ refused n k)
 
 rollback-unprepared : Each RollbackMet programNumbers
 unfolding rollbackCall

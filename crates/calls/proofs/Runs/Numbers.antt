@@ -21,7 +21,7 @@ use package.Rattle.calls.proofs.Runs.Calls.{Direction, onward, back, di
 ----------------------------------------------------------------
 -- Parts
 
-module _ (D : Direction) (ws fuel : ℕ) (program : List ℕ) (P : Program) (p : prepared ws fuel program ≡ accepted P) where
+module _ (D : Direction) (ws fuel : ℕ) (program : List ℕ) (P : Program) (p : prepared program fuel ws ≡ accepted P) where
   -- a run that was prepared and admitted
   run-numbered : (fn : ℕ) (as? : Option (List Val)) (v? : Option Val) (a : Given) → admit P fn as? v? (D .side) ≡ accepted a
       → Numbered (D .numbers) (ran fuel (D .run P a fuel))
@@ -39,7 +39,7 @@ turned-numbered n r J = numbered-bind _ (kept-numbered n J) λ journal e. accept
 ----------------------------------------------------------------
 -- Check, forward, backward
 
-pub check-numbered : (ws : ℕ) (program : List ℕ) → Numbered programNumbers (checkCall ws program)
+pub check-numbered : (ws : ℕ) (program : List ℕ) → Numbered programNumbers (checkCall program ws)
 unfolding checkCall
 check-numbered ws program = numbered-bind _ (prepared-numbered ws 0 program) λ P e. accepts
 
@@ -53,19 +53,19 @@ directed-numbered D ns i j k l ws out fuel fn program anc bytes =
     numbered-test _ _ 0 _ l λ room. accepts
 
 pub forward-numbered : (ws out fuel fn : ℕ) (program anc bytes : List ℕ)
-    → Numbered (programNumbers ++ callNumbers ++ forwardNumbers ++ (17 ∷ [])) (forwardCall ws out fuel fn program anc bytes)
+    → Numbered (programNumbers ++ callNumbers ++ forwardNumbers ++ (17 ∷ [])) (forwardCall program fn anc bytes fuel ws out)
 unfolding forwardCall directed within member
 forward-numbered = directed-numbered onward _ refl refl refl refl
 
 pub backward-numbered : (ws out fuel fn : ℕ) (program anc bytes : List ℕ)
-    → Numbered (programNumbers ++ callNumbers ++ backwardNumbers ++ (17 ∷ [])) (backwardCall ws out fuel fn program anc bytes)
+    → Numbered (programNumbers ++ callNumbers ++ backwardNumbers ++ (17 ∷ [])) (backwardCall program fn anc bytes fuel ws out)
 unfolding backwardCall directed within member
 backward-numbered = directed-numbered back _ refl refl refl refl
 
 ----------------------------------------------------------------
 -- Open, convert, rollback
 
-pub open-numbered : (ws : ℕ) (program bytes : List ℕ) (n : ℕ) → Numbered (programNumbers ++ (10 ∷ 20 ∷ [])) (openCall ws program bytes n)
+pub open-numbered : (ws : ℕ) (program bytes : List ℕ) (n : ℕ) → Numbered (programNumbers ++ (10 ∷ 20 ∷ [])) (openCall program bytes ws n)
 unfolding openCall within member
 open-numbered ws program bytes n =
     numbered-bind _ (numbered-wider refl (prepared-numbered ws 0 program)) λ P p.
@@ -73,7 +73,7 @@ open-numbered ws program bytes n =
     numbered-wider refl (kept-numbered n _)
 
 pub convert-numbered : (ws fuel fn : ℕ) (program anc journal : List ℕ)
-    → Numbered (programNumbers ++ (18 ∷ 20 ∷ []) ++ callNumbers ++ forwardNumbers) (convertCall ws fuel fn program anc journal)
+    → Numbered (programNumbers ++ (18 ∷ 20 ∷ []) ++ callNumbers ++ forwardNumbers) (convertCall program fn anc fuel ws journal)
 unfolding convertCall goes within member
 convert-numbered ws fuel fn program anc journal =
     numbered-bind _ (numbered-wider refl (prepared-numbered ws fuel program)) λ P p.
@@ -84,7 +84,7 @@ convert-numbered ws fuel fn program anc journal =
     numbered-wider refl (turned-numbered _ r _)
 
 pub rollback-numbered : (ws fuel : ℕ) (program journal : List ℕ)
-    → Numbered (programNumbers ++ (18 ∷ 19 ∷ 20 ∷ []) ++ callNumbers ++ backwardNumbers) (rollbackCall ws fuel program journal)
+    → Numbered (programNumbers ++ (18 ∷ 19 ∷ 20 ∷ []) ++ callNumbers ++ backwardNumbers) (rollbackCall program fuel ws journal)
 unfolding rollbackCall returns within member
 rollback-numbered ws fuel program journal =
     numbered-bind _ (numbered-wider refl (prepared-numbered ws fuel program)) λ P p.

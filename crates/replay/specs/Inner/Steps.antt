@@ -126,7 +126,7 @@ unfoldable pub begins : List ℕ → List ℕ → Part → List ℕ → List ℕ
 unfolding opensTo
 begins program script p journal answers workspace =
     pick (eqb (p .kind) openTag)
-    (opensTo (openCall (length workspace) program (givenOf script p) (p .n)) program script (p .next) journal answers workspace)
+    (opensTo (openCall program (givenOf script p) (length workspace) (p .n)) program script (p .next) journal answers workspace)
     (ends (malformed 0) journal answers workspace)
 
 -- what stands at the start

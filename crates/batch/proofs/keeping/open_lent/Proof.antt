@@ -24,7 +24,7 @@ same-length-3 c = search needs
 returns : tie.Need-returns
 returns c = let a = c .before .before .before .before .before .before .before .before .before .before .before .before .before .before .before .before .before .args in
     let made = c .before .before .before .before .before .before .before .before .before .«open» in (
-      wrote-as (c .before .before .opened-line .ensures) (tells-open (made .result) (openCall (length (a .workspace .now)) (a .program .now) (a .held .now) (length (a .journal .now))) (a .journal .now) (made .ensures .0) (made .ensures .1 .0)),
+      wrote-as (c .before .before .opened-line .ensures) (tells-open (made .result) (openCall (a .program .now) (a .held .now) (length (a .workspace .now)) (length (a .journal .now))) (a .journal .now) (made .ensures .0) (made .ensures .1 .0)),
       (made .ensures .1 .0, made .ensures .1 .1),
     )
 

@@ -24,7 +24,7 @@ same-length-3 c = search needs
 returns : tie.Need-returns
 returns c = let a = c .before .before .before .before .before .before .before .before .before .before .before .before .before .before .before .before .args in
     let made = c .before .before .before .before .before .before .before .before .before .rollback in (
-      wrote-as (c .before .before .held-line .ensures) (tells-turn (made .result) (rollbackCall (length (a .workspace .now)) (a .fuel) (a .program .now) (a .journal .now)) (a .journal .now) (made .ensures .0) (made .ensures .1 .0)),
+      wrote-as (c .before .before .held-line .ensures) (tells-turn (made .result) (rollbackCall (a .program .now) (a .fuel) (length (a .workspace .now)) (a .journal .now)) (a .journal .now) (made .ensures .0) (made .ensures .1 .0)),
       (made .ensures .1 .0, made .ensures .1 .1),
     )
 

@@ -19,7 +19,7 @@ returns : tie.Need-returns
 unfolding runCall
 returns c = let a = c .before .before .before .before .before .before .before .before .before .before .before .before .before .args in
     means-as (record { answer = c .before .before .before .before .backward .ensures .0; fills = c .before .before .before .before .backward .ensures .1 .0; clear = c .before .before .before .before .backward .ensures .1 .1 })
-    (ap (λ b. runCall b (length (a .workspace .now)) (length (a .output .now)) (a .fuel) (a .function) (a .program .now) (a .ancillae .now) (a .value .now)) (sym (c .before .before .before .before .before .before .before .if1 .taken)))
+    (ap (λ b. runCall b (a .program .now) (a .function) (a .ancillae .now) (a .value .now) (a .fuel) (length (a .workspace .now)) (length (a .output .now))) (sym (c .before .before .before .before .before .before .before .if1 .taken)))
 
 forward-requires : tie.Need-forward-requires
 forward-requires c κs = search needs
@@ -34,7 +34,7 @@ returns-2 : tie.Need-returns-2
 unfolding runCall
 returns-2 c = let a = c .before .before .before .before .before .before .before .before .before .before .before .before .before .args in
     means-as (record { answer = c .before .before .before .before .forward .ensures .0; fills = c .before .before .before .before .forward .ensures .1 .0; clear = c .before .before .before .before .forward .ensures .1 .1 })
-    (ap (λ b. runCall b (length (a .workspace .now)) (length (a .output .now)) (a .fuel) (a .function) (a .program .now) (a .ancillae .now) (a .value .now)) (sym (c .before .before .before .before .before .before .before .if1 .left)))
+    (ap (λ b. runCall b (a .program .now) (a .function) (a .ancillae .now) (a .value .now) (a .fuel) (length (a .workspace .now)) (length (a .output .now))) (sym (c .before .before .before .before .before .before .before .if1 .left)))
 
 pub run-either-spec : {M : Type 1} → statement M
 run-either-spec =

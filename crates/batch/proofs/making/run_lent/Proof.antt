@@ -14,7 +14,7 @@ run-either-requires c κs = search needs
 run-line-requires : tie.Need-run-line-requires
 run-line-requires c κs = let s = c .before .before .before .before .before .before .before .before .before .before .before .before .before .before .before in
     let a = s .args in
-    let fits = length-within (c .before .before .before .before .before .before .run-either .result) (runCall (a .backward) (length (a .workspace .now)) (length (a .output .now)) (a .fuel) (a .function) (a .program .now) (a .ancillae .now) (a .value .now)) (length (a .output .now)) (c .before .before .before .before .before .before .run-either .ensures .answer)
+    let fits = length-within (c .before .before .before .before .before .before .run-either .result) (runCall (a .backward) (a .program .now) (a .function) (a .ancillae .now) (a .value .now) (a .fuel) (length (a .workspace .now)) (length (a .output .now))) (length (a .output .now)) (c .before .before .before .before .before .before .run-either .ensures .answer)
     (λ y e. run-within (a .backward) (length (a .workspace .now)) (length (a .output .now)) (a .fuel) (a .function) (a .program .now) (a .ancillae .now) (a .value .now) y e) in
     let same = c .before .before .before .before .before .before .run-either .kept .1 .1 .1 .1 .1 .1 .1 .0 in
     (omega (arith, fits, same), (omega (arith, same, s .pre), omega (arith, s .pre)))
@@ -32,7 +32,7 @@ returns : tie.Need-returns
 returns c = let a = c .before .before .before .before .before .before .before .before .before .before .before .before .before .before .before .before .before .before .args in
     let ran = c .before .before .before .before .before .before .before .before .before .run-either in (
       wrote-as (c .before .before .run-line .ensures)
-          (tells-run (ran .result) (runCall (a .backward) (length (a .workspace .now)) (length (a .output .now)) (a .fuel) (a .function) (a .program .now) (a .ancillae .now) (a .value .now)) (a .output .now) (ran .ensures .answer) (ran .ensures .fills)),
+          (tells-run (ran .result) (runCall (a .backward) (a .program .now) (a .function) (a .ancillae .now) (a .value .now) (a .fuel) (length (a .workspace .now)) (length (a .output .now))) (a .output .now) (ran .ensures .answer) (ran .ensures .fills)),
       (ran .ensures .fills, ran .ensures .clear),
     )
 
