@@ -20,7 +20,7 @@ use package.Rattle.answers.specs.Answers.{numberOf, placeOf, Later}
 use package.Rattle.program.specs.Parts.{FunctionField}
 use package.Rattle.program.specs.Signatures.{SignaturesAre}
 use package.Rattle.program.specs.Programs.{programIn}
-use package.Rattle.valuebytes.specs.Typing.{entriesOf, Table}
+use package.Rattle.valuebytes.specs.Typing.{entriesOf, TypesRead}
 use package.Rattle.valuebytes.specs.Ends.{valueIn, valuesIn}
 use package.Rattle.admission.specs.declared.Admitted.{Admitted}
 use package.Rattle.admission.specs.declared.Admitted.the-variants as admitted
@@ -37,7 +37,7 @@ pub record Callable (xs types : List ℕ) (at : ℕ) : Type 0 where
 
 -- So it is in a program whose fields were read and whose entries were tested (proofs/Tested).
 pub record Admittable (xs types functions : List ℕ) (signatures : List (List ℕ)) : Type 0 where
-  pub table : Table xs types
+  pub table : TypesRead xs types
   pub function : (g : ℕ) → g < length functions → Callable xs types (getD functions g 0)
   pub few : length functions ≤ maxFunctions
   pub signed : SignaturesAre xs functions signatures

@@ -15,7 +15,7 @@ ghost use Rattle.calls.specs.Entries.{typeOf, functionAt};
 ghost use Rattle.calls.specs.Values.{hasTys};
 ghost use Rattle.program.specs.Parts.{FunctionField};
 ghost use Rattle.program.specs.Signatures.{SignatureIs};
-ghost use Rattle.valuebytes.specs.Typing.{entriesOf, Table};
+ghost use Rattle.valuebytes.specs.Typing.{entriesOf, TypesRead};
 ghost use Rattle.valuebytes.specs.Ends.{valuesIn};
 ghost use Rattle.admission.specs.Admitting.{Callable, Admittable, rightIn, AsMany, sideNumber, allTyped, AdmitMeans};
 
@@ -50,7 +50,7 @@ fn ancillae_typed(
     row: [u16; MAX_PARAMETERS],
     bytes: &[u8],
 ) -> bool
-    requires { ⌜ Table (now p) (now types) ⌝ }
+    requires { ⌜ TypesRead (now p) (now types) ⌝ }
     requires { ⌜ Callable (now p) (now types) at ⌝ }
     requires { ⌜ AsMany (now p) at (now bytes) ⌝ }
     requires { ⌜ SignatureIs (functionAt (now p) at) row ⌝ }
@@ -92,7 +92,7 @@ fn values_typed(
     value: &[u8],
     back: bool,
 ) -> bool
-    requires { ⌜ Table (now p) (now types) ⌝ }
+    requires { ⌜ TypesRead (now p) (now types) ⌝ }
     requires { ⌜ Callable (now p) (now types) at ⌝ }
     requires { ⌜ rightIn (now ancillae) (now value) (functionAt (now p) at) ≡ true ⌝ }
     requires { ⌜ SignatureIs (functionAt (now p) at) row ⌝ }

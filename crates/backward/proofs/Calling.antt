@@ -22,7 +22,7 @@ use package.Rattle.yields.proofs.Ancillae.{state-ancillae}
 use package.Rattle.forward.specs.Ready.{Calls}
 use package.Rattle.backward.specs.Scoped.{ScopedAt}
 use package.Rattle.backward.specs.Outcomes.{Done, Refused, Outcome, Inner}
-use package.Rattle.backward.specs.Ready.{Ready, Held, Follows, Moves, Ran, RanUnder, ancillaeOf, runOf, underOf, stepOf}
+use package.Rattle.backward.specs.Ready.{Ready, Held, Follows, Moves, RanBackward, RanUnder, ancillaeOf, runOf, underOf, stepOf}
 use package.Rattle.backward.specs.Calls.{Collected, argumentsOf, Arguments}
 use package.Rattle.backward.proofs.Runs.{meaning-refused, not-done, ancillae-held, state-later, moves-then, held-later, held-less, small-top, says, slack, under-refused, under-done}
 use package.Rattle.backward.proofs.Parts.{later, ancillae-after, owing-none, part, scoped-call}
@@ -32,7 +32,7 @@ use Rattle.backward.specs.declared.outcomes.Refusal.{Refusal}
 
 -- what went before a run
 before-run : {k : ℕ} {heap heap₁ heap₂ slots slots₁ slots₂ : List ℕ} {st st₁ : Machine} {b : View} {out : Outcome} {res : List TypeEntry → Res State}
-    → Moves 0 heap heap₁ slots slots₁ st st₁ → Ran k heap₁ heap₂ slots₁ slots₂ st₁ b out res → Ran k heap heap₂ slots slots₂ st b out res
+    → Moves 0 heap heap₁ slots slots₁ st st₁ → RanBackward k heap₁ heap₂ slots₁ slots₂ st₁ b out res → RanBackward k heap heap₂ slots slots₂ st b out res
 before-run M d = record { moves = moves-then _ (omega arith) M (d .moves); follows = d .follows; answer = d .answer }
 
 -- all ancilla terms were run, and the dynamic one is next
@@ -108,7 +108,7 @@ module _ {code heap slots : List ℕ} {st : Machine} {b : View} {q t room : ℕ}
   from-arguments : (ys : List TypeEntry) → step ys ≡ argumentsOf code heap st b q t room count ys (callee (function ys) ys)
   from-arguments ys = step-call ys (function ys) (called-there code ys (firstIn code t) called)
 
-  pub call-refused : {why : Refusal} → made .status ≡ Refused why → Ran 2 heap heap₁ slots slots₁ st b made step
+  pub call-refused : {why : Refusal} → made .status ≡ Refused why → RanBackward 2 heap heap₁ slots slots₁ st b made step
   call-refused s = slack (record {
     moves = D .moves;
     follows = λ n. absurd (not-done s n);
@@ -150,7 +150,7 @@ module _ {code heap slots : List ℕ} {st : Machine} {b : View} {q t room : ℕ}
 
     module _ {heap₂ slots₂ : List ℕ} {r : Inner}
         (d : RanUnder 0 heap₁ heap₂ slots₁ slots₂ (made .state) args r (underOf code heap₁ (made .state) args count u (valueAt heap₁ node) (room - 1))) where
-      pub call-refused-2 : {why : Refusal} → r .out .status ≡ Refused why → Ran 2 heap heap₂ slots slots₂ st b (r .out) step
+      pub call-refused-2 : {why : Refusal} → r .out .status ≡ Refused why → RanBackward 2 heap heap₂ slots slots₂ st b (r .out) step
       call-refused-2 s₂ = slack (before-run (D .moves) (under-refused d call-next s₂ from-body)) 2 (omega arith)
 
       pub all-moves : Moves 0 heap heap₂ slots slots₂ st (r .out .state)
@@ -165,8 +165,8 @@ module _ {code heap slots : List ℕ} {st : Machine} {b : View} {q t room : ℕ}
             (part-argument (rd .machine .rows) t (rd .term) (C .kind) ancillae (omega arith)) (scoped-call rd (C .kind) .1)) all-moves F 2 (omega arith)))
 
         pub call-done : r .out .status ≡ Done → {heap₃ slots₃ : List ℕ} {r₂ : Outcome}
-            → Ran 0 heap₂ heap₃ slots₂ slots₃ (r .out .state) b′ r₂ (runOf code heap₂ (r .out .state) b′ q w (valueAt heap₂ (r .newest)) (room - 1))
-            → Ran 2 heap heap₃ slots slots₃ st b r₂ step
+            → RanBackward 0 heap₂ heap₃ slots₂ slots₃ (r .out .state) b′ r₂ (runOf code heap₂ (r .out .state) b′ q w (valueAt heap₂ (r .newest)) (room - 1))
+            → RanBackward 2 heap heap₃ slots slots₃ st b r₂ step
         call-done s₂ d₂ =
             slack (before-run (D .moves) (under-done d call-next s₂ from-body 0 (omega arith) (says d₂ (λ ys.
             ap₂ (λ a σ. backward fits (programIn code ys) (room - 1) a σ (treeIn code ys w) (valueAt heap₂ (r .newest)) (r .out .state .fuel))

@@ -20,7 +20,7 @@ use package.Rattle.valuegraph.specs.Nodes.{ofKind, Single, valueAt}
 use package.Rattle.scopes.specs.Bindings.{View, stateOf}
 use package.Rattle.scopes.specs.Slots.{Machine}
 use package.Rattle.backward.specs.Outcomes.{Done, Refused, Outcome, Inner}
-use package.Rattle.backward.specs.Ready.{Ready, Ran, RanUnder, ancillaeOf, runOf, underOf, stepOf}
+use package.Rattle.backward.specs.Ready.{Ready, RanBackward, RanUnder, ancillaeOf, runOf, underOf, stepOf}
 use package.Rattle.backward.proofs.Runs.{says, slack, under-refused, under-done}
 use package.Rattle.backward.proofs.Parts.{later, ancillae-after, owing-none, in-scope, part, scoped-case}
 use package.Rattle.backward.proofs.Steps.{go, stepped}
@@ -79,7 +79,7 @@ module _ {code heap slots : List ℕ} {st : Machine} {b : View} {q t room : ℕ}
             (λ σ. leave σ (λ w σ. go rd low ys σ (firstIn code t) (ofKind side w w)))) (sym e) (sym e′)
 
     module _ {j : ℕ} {heap₁ slots₁ : List ℕ} {r : Inner} (d : RanUnder j heap heap₁ slots slots₁ st b r (underOf code heap st b q v (valueAt heap node) (room - 1))) where
-      pub case-refused : j ≤ 1 → {why : Refusal} → r .out .status ≡ Refused why → Ran 2 heap heap₁ slots slots₁ st b (r .out) step
+      pub case-refused : j ≤ 1 → {why : Refusal} → r .out .status ≡ Refused why → RanBackward 2 heap heap₁ slots slots₁ st b (r .out) step
       case-refused few s = slack (under-refused d case-next s step-case) 2 (omega arith)
 
       module _ (few : j ≤ 1) (s : r .out .status ≡ Done) where
@@ -88,9 +88,9 @@ module _ {code heap slots : List ℕ} {st : Machine} {b : View} {q t room : ℕ}
             (rw qu (later (part rd (firstIn code t) (b .len) (parts-case (rd .machine .rows) t (rd .term) kind .0) (scoped-case rd kind .1)) (d .moves)
             (d .follows s) 1 (omega arith)))
 
-        pub case-done : {heap₂ slots₂ : List ℕ} {r₂ : Outcome} → Ran 1 heap₁ heap₂ slots₁ slots₂ (r .out .state) (r .out .bindings) r₂
+        pub case-done : {heap₂ slots₂ : List ℕ} {r₂ : Outcome} → RanBackward 1 heap₁ heap₂ slots₁ slots₂ (r .out .state) (r .out .bindings) r₂
             (runOf code heap₁ (r .out .state) (r .out .bindings) q u (ofKind side (valueAt heap₁ (r .newest)) (valueAt heap₁ (r .newest))) (room - 1))
-            → Ran 2 heap heap₂ slots slots₂ st b r₂ step
+            → RanBackward 2 heap heap₂ slots slots₂ st b r₂ step
         case-done d₂ =
             under-done d case-next s step-case 2 (omega arith) (says d₂ (λ ys.
             ap (λ a. backward fits (programIn code ys) (room - 1) a (stateOf heap₁ (r .out .bindings)) (treeIn code ys u)

@@ -23,7 +23,7 @@ use package.Rattle.valuegraph.specs.Nodes.{Room, valueAt, Grown, Made}
 use package.Rattle.valuegraph.proofs.Heaps.{value-kept}
 use package.Rattle.valuegraph.proofs.Places.{agree-trans, agree-down}
 use package.Rattle.scopes.specs.Slots.{unknown, meaning as slotMeaning, Machine}
-use package.Rattle.scopes.specs.Bindings.{View, Left, stateOf, Opens}
+use package.Rattle.scopes.specs.Bindings.{View, AfterLeaving, stateOf, Opens}
 use package.Rattle.scopes.proofs.Marks.{found-mark}
 use package.Rattle.scopes.proofs.Bound.{opens-state}
 use package.Rattle.yields.proofs.Ancillae.{ancillae-same}
@@ -32,7 +32,7 @@ use package.Rattle.forward.specs.Ready.{Graph}
 use package.Rattle.forward.proofs.Making.{makes}
 use package.Rattle.backward.specs.Scoped.{ScopedAt}
 use package.Rattle.backward.specs.Outcomes.{Done, Refused, Outcome, refusalOf, tooLong}
-use package.Rattle.backward.specs.Ready.{Ready, Held, Binds, Ran, RanUnder, Goes, ancillaeOf, runOf, underOf, stepOf}
+use package.Rattle.backward.specs.Ready.{Ready, Held, Binds, RanBackward, RanUnder, Goes, ancillaeOf, runOf, underOf, stepOf}
 use package.Rattle.backward.proofs.Runs.{meaning-done, meaning-refused, refusal-after, not-done, left-done, left-refused, binds-later, ancillae-later, state-later, held-later, small-top}
 use package.Rattle.backward.proofs.Runs.{refuses, slack}
 use package.Rattle.backward.proofs.Leaves.{opened-binds, goes-node, goes-state, goes-follows}
@@ -80,12 +80,12 @@ module _ {code heap slots : List ℕ} {st : Machine} {b : View} {q t room : ℕ}
   abbrev run : List TypeEntry → Res State
   run = runOf code heap st b q t (valueAt heap node) room
 
-  pub term-spent : (r : Outcome) → r .status ≡ Refused (Fuel t) → r .state ≡ st → st .fuel ≡ 0 → Ran 0 heap heap slots slots st b r run
+  pub term-spent : (r : Outcome) → r .status ≡ Refused (Fuel t) → r .state ≡ st → st .fuel ≡ 0 → RanBackward 0 heap heap slots slots st b r run
   unfolding refusalOf
   term-spent r s e z = refuses r (rd .machine .graph) s e (λ ys. spent (programIn code ys) _ _ _ _ room (st .fuel) z ∙ ap (stop 12) (place ys))
 
   module _ (some-fuel : ¬ (st .fuel ≡ 0)) where
-    pub term-high : (r : Outcome) → r .status ≡ Refused (Height t) → r .state ≡ st → room ≡ 0 → Ran 0 heap heap slots slots st b r run
+    pub term-high : (r : Outcome) → r .status ≡ Refused (Height t) → r .state ≡ st → room ≡ 0 → RanBackward 0 heap heap slots slots st b r run
     unfolding refusalOf
     term-high r s e z =
         refuses r (rd .machine .graph) s e (λ ys. high (programIn code ys) _ _ _ _ room (st .fuel) z (pos-of-ne-zero some-fuel) ∙ ap (stop 13) (place ys))
@@ -117,8 +117,8 @@ module _ {code heap slots : List ℕ} {st : Machine} {b : View} {q t room : ℕ}
             tall = omega arith;
           }
 
-      pub term-done : {heap′ slots′ : List ℕ} {r : Outcome} → Ran 2 heap heap′ slots slots′ taken b r (stepOf code heap taken b q t (valueAt heap node) room)
-          → Ran 0 heap heap′ slots slots′ st b r run
+      pub term-done : {heap′ slots′ : List ℕ} {r : Outcome} → RanBackward 2 heap heap′ slots slots′ taken b r (stepOf code heap taken b q t (valueAt heap node) room)
+          → RanBackward 0 heap heap′ slots slots′ st b r run
       term-done d =
           let pos = pos-of-ne-zero some-fuel in
           record {
@@ -178,9 +178,9 @@ module _ {code heap slots : List ℕ} {st : Machine} {b : View} {q t room : ℕ}
         tall = omega arith;
       }
 
-      pub over-done : {heap₂ slots₂ : List ℕ} {r : Outcome} → Ran 0 heap₁ heap₂ slots slots₂ grown b r
+      pub over-done : {heap₂ slots₂ : List ℕ} {r : Outcome} → RanBackward 0 heap₁ heap₂ slots slots₂ grown b r
           (runOf code heap₁ grown b q t (valueAt heap₁ (st .top)) room)
-          → Ran 1 heap heap₂ slots slots₂ st b r (runOf code heap st b q t v room)
+          → RanBackward 1 heap heap₂ slots slots₂ st b r (runOf code heap st b q t v room)
       over-done d = record {
         moves = record {
           agree = agree-trans (grows .agree) (agree-down (st .top) (omega arith) (d .moves .agree));
@@ -199,7 +199,7 @@ module _ {code heap slots : List ℕ} {st : Machine} {b : View} {q t room : ℕ}
       }
 
     pub over-long : made ≡ false → (r : Outcome) → r .status ≡ Refused (tooLong (st .fuel) room t) → r .state ≡ st
-        → Ran 1 heap heap₁ slots slots st b r (runOf code heap st b q t v room)
+        → RanBackward 1 heap heap₁ slots slots st b r (runOf code heap st b q t v room)
     over-long e r s q′ = rw (M .old e)
         (slack (refuses r (rd .machine .graph) s q′ (λ ys. too-long (programIn code ys) _ _ _ v room (st .fuel) (sym (M .answer) ∙ e)
         ∙ ap (λ k. refusalOf (tooLong (st .fuel) room k)) (tree-entry (rd .machine .rows) t (rd .term) ys))) 1 (omega arith))
@@ -232,8 +232,8 @@ module _ {code heap slots : List ℕ} {st : Machine} {b : View} {q t room : ℕ}
       (inner-state (rd .binds) space O)
 
   module _ {node : ℕ} (low : node < st .top) {heap₁ slots₁ : List ℕ} {r : Outcome}
-      (d : Ran 0 heap heap₁ slots slots₁ st b₁ r (runOf code heap st b₁ q t (valueAt heap node) room)) where
-    pub inner-stopped : {w : Refusal} → r .status ≡ Refused w → (l : Left)
+      (d : RanBackward 0 heap heap₁ slots slots₁ st b₁ r (runOf code heap st b₁ q t (valueAt heap node) room)) where
+    pub inner-stopped : {w : Refusal} → r .status ≡ Refused w → (l : AfterLeaving)
         → RanUnder 0 heap heap₁ slots slots₁ st b (record { out = record { status = r .status; state = r .state; bindings = l .state }; newest = l .newest })
         (underOf code heap st b q t (valueAt heap node) room)
     inner-stopped {w} s l = record {
@@ -253,7 +253,7 @@ module _ {code heap slots : List ℕ} {st : Machine} {b : View} {q t room : ℕ}
       pub inner-some : (0 < r .bindings .len) × (r .bindings .len ≤ maxVariables)
       inner-some = (omega (arith, d .follows s .len, O .len), d .follows s .bound .few)
 
-      pub inner-done : {l : Left} → Goes heap₁ (r .bindings) l
+      pub inner-done : {l : AfterLeaving} → Goes heap₁ (r .bindings) l
           → RanUnder 0 heap heap₁ slots slots₁ st b (record { out = record { status = r .status; state = r .state; bindings = l .state }; newest = l .newest })
           (underOf code heap st b q t (valueAt heap node) room)
       inner-done {l} L = record {

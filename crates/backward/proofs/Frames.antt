@@ -22,7 +22,7 @@ use package.Rattle.scopes.proofs.Scopes.{state-same}
 use package.Rattle.scopes.proofs.Views.{view-at, view-bound, view-state, view-told, tells-later}
 use package.Rattle.yields.specs.Yields.{ancillaeAt, MayYield}
 use package.Rattle.backward.specs.Outcomes.{Status, Refused, outcomeOf, statusOf, scopeView, meaning, toldOf}
-use package.Rattle.backward.specs.Ready.{Ready, Follows, Moves, Ran, Prepared, Gone, GoneUnder, PreparedIn, GoneIn, RunsBack, ancillaeOf, runAt}
+use package.Rattle.backward.specs.Ready.{Ready, Follows, Moves, RanBackward, Prepared, Gone, GoneUnder, PreparedIn, GoneIn, RunsBack, ancillaeOf, runAt}
 use package.Rattle.backward.proofs.Runs.{meaning-done, meaning-refused, not-done}
 use package.Rattle.backward.proofs.Stops.{is-done, is-stopped}
 use Rattle.backward.specs.declared.outcomes.Refusal.{Refusal}
@@ -106,20 +106,20 @@ module _ {k h : ℕ} {code heap slots : List ℕ} {m : Machine} {b : Bindings} {
 -- a run that wrote no slot, and was refused
 pub gone-refused : {k : ℕ} {heap heap′ slots : List ℕ} {m m′ : Machine} {sc : Scope} {r : Out} {w : Refusal} {res : List TypeEntry → Res State}
     → statusOf (r .stop) ≡ Refused w
-    → Ran k heap heap′ slots slots m (scopeView slots sc) (outcomeOf (r .stop) slots m′ sc) res → Gone k heap heap′ slots slots m m′ sc r res
+    → RanBackward k heap heap′ slots slots m (scopeView slots sc) (outcomeOf (r .stop) slots m′ sc) res → Gone k heap heap′ slots slots m m′ sc r res
 gone-refused {r = r} w R = record { ran = R; below = λ j l. refl; tells = λ e. absurd (not-done w (is-done e)) }
 
 -- a run that was stopped
 pub gone-stopped : {k k′ : ℕ} {heap heap₁ slots slots₁ : List ℕ} {m m₁ : Machine} {sc : Scope} {r : Out} {res res₁ : List TypeEntry → Res State}
     → Gone k heap heap₁ slots slots₁ m m₁ sc r res₁
-    → ¬ (r .stop ≡ 0) → Ran k′ heap heap₁ slots slots₁ m (scopeView slots sc) (outcomeOf (r .stop) slots₁ m₁ sc) res
+    → ¬ (r .stop ≡ 0) → RanBackward k′ heap heap₁ slots slots₁ m (scopeView slots sc) (outcomeOf (r .stop) slots₁ m₁ sc) res
     → Gone k′ heap heap₁ slots slots₁ m m₁ sc r res
 gone-stopped G d R = record { ran = R; below = G .below; tells = λ e. absurd (d e) }
 
 -- a run after which nothing is left to do but to say what it gave
 pub gone-then : {k k′ : ℕ} {heap heap₁ heap₂ slots slots₁ slots₂ : List ℕ} {m m₁ m₂ : Machine} {sc : Scope} {r : Out} {res res₁ : List TypeEntry → Res State}
     → ((j : ℕ) → j < sc .base → getD slots j 0 ≡ getD slots₁ j 0) → Gone k′ heap₁ heap₂ slots₁ slots₂ m₁ m₂ sc r res₁
-    → Ran k heap heap₂ slots slots₂ m (scopeView slots sc) (outcomeOf (r .stop) slots₂ m₂ sc) res → Gone k heap heap₂ slots slots₂ m m₂ sc r res
+    → RanBackward k heap heap₂ slots slots₂ m (scopeView slots sc) (outcomeOf (r .stop) slots₂ m₂ sc) res → Gone k heap heap₂ slots slots₂ m m₂ sc r res
 gone-then same G R = record { ran = R; below = λ j l. same j l ∙ G .below j l; tells = G .tells }
 
 -- the state that is handed back, by value and by the slots
@@ -162,5 +162,5 @@ runs-back {code} {heap} {heap′} {st} {st′} {b} {scope} {t} {room} {node} Q {
 -- a run under one variable more, which was stopped
 pub stops-under : {heap heap₁ slots slots₁ : List ℕ} {m m₁ : Machine} {sc : Scope} {r : Out} {res : List TypeEntry → Res State}
     → GoneUnder heap heap₁ slots slots₁ m m₁ sc r res → ¬ (r .stop ≡ 0) → {k : ℕ} {res′ : List TypeEntry → Res State}
-    → Ran k heap heap₁ slots slots₁ m (scopeView slots sc) (outcomeOf (r .stop) slots₁ m₁ sc) res′ → Gone k heap heap₁ slots slots₁ m m₁ sc r res′
+    → RanBackward k heap heap₁ slots slots₁ m (scopeView slots sc) (outcomeOf (r .stop) slots₁ m₁ sc) res′ → Gone k heap heap₁ slots slots₁ m m₁ sc r res′
 stops-under G d R = record { ran = R; below = G .below; tells = λ e. absurd (d e) }

@@ -24,7 +24,7 @@ use package.Rattle.scopes.specs.declared.bindings.Bindings.{Bindings}
 use package.Rattle.scopes.proofs.Views.{view-at, view-bound, view-state}
 use package.Rattle.yields.specs.Yields.{ancillaeAt}
 use package.Rattle.forward.specs.Outcomes.{Out as ForwardOut}
-use package.Rattle.forward.specs.Ready.{Ready as ForwardReady, Ran as ForwardRan, Calls, valuesAt, runOf as forwardRun, ancillaeOf as forwardAncillae, stateOf as forwardState}
+use package.Rattle.forward.specs.Ready.{Ready as ForwardReady, RanForward as ForwardRan, Calls, valuesAt, runOf as forwardRun, ancillaeOf as forwardAncillae, stateOf as forwardState}
 use package.Rattle.forward.specs.declared.outcomes.Status.the-variants.{Value, Refused as ForwardRefused}
 use package.Rattle.forward.specs.declared.outcomes.Refusal.{Refusal as Carried}
 use package.Rattle.forward.proofs.Runs.{answered, refused, ancillae-later as forward-ancillae, state-later as forward-state}

@@ -18,7 +18,7 @@ use package.Rattle.valuegraph.proofs.Heaps.{value-unit, value-kept}
 use package.Rattle.scopes.specs.Slots.{unknown, found, nodeOr, meaning as slotMeaning, Slot, Slots, Machine, Scope}
 use package.Rattle.scopes.specs.Cells.{Linked}
 use package.Rattle.scopes.specs.declared.slots.Found.the-variants.{Node, Unknown}
-use package.Rattle.scopes.specs.Bindings.{View, Left, slotsFrom, viewOf, stateOf, Bound, Opens, Meets, Leaves, Meetable, MeetsAt}
+use package.Rattle.scopes.specs.Bindings.{View, AfterLeaving, slotsFrom, viewOf, stateOf, Bound, Opens, Meets, LeavesScope, Meetable, MeetsAt}
 use package.Rattle.scopes.specs.declared.bindings.Bindings.{Bindings}
 use package.Rattle.scopes.specs.declared.bindings.Met.{Met}
 use package.Rattle.scopes.proofs.Marks.{found-mark, found-node, found-below, node-or, node-none}
@@ -27,7 +27,7 @@ use package.Rattle.scopes.proofs.Bound.{meet-bound, leaves-state}
 use package.Rattle.scopes.proofs.Views.{view-at, new-found}
 use package.Rattle.forward.specs.Ready.{Graph}
 use package.Rattle.backward.specs.Outcomes.{Status, Done, Refused, statusOf, refusalOf, tooLong, against, mismatch}
-use package.Rattle.backward.specs.Ready.{Binds, Follows, Ran, Stays, Goes, Variable, UnitMet}
+use package.Rattle.backward.specs.Ready.{Binds, Follows, RanBackward, Stays, Goes, Variable, UnitMet}
 use package.Rattle.backward.proofs.Runs.{meaning-done, meaning-refused, not-done, bound-later, follows-same, state-later}
 use Rattle.backward.specs.declared.outcomes.Out.{Out}
 use Rattle.backward.specs.declared.outcomes.Refusal.the-variants.{Fuel, Height, Long, NoInput, Stuck}
@@ -168,7 +168,7 @@ module _ {heap heap′ : List ℕ} (slots slots′ : List ℕ) (st : Machine) {b
         node = rw (z, C .made .left-is) (omega arith);
       }))
 
-  pub variable-bound : agrees ≡ true → {s : Status} → s ≡ Done → Ran 1 heap heap′ slots slots′ st b (record { status = s; state = grown; bindings = r })
+  pub variable-bound : agrees ≡ true → {s : Status} → s ≡ Done → RanBackward 1 heap heap′ slots slots′ st b (record { status = s; state = grown; bindings = r })
       (λ ys. meet t (stateOf heap b) i (valueAt heap node) (st .fuel))
   variable-bound e {s} d = record {
     moves = record {
@@ -240,7 +240,7 @@ view-goes heap slots base n l = record {
   len = let z : n ≡ n + 1 - 1 = omega arith in z;
 }
 
-module _ {heap : List ℕ} {b : View} {r : Left} (L : Goes heap b r) {top : ℕ} (B : Bound heap b top) (some : 0 < b .len) where
+module _ {heap : List ℕ} {b : View} {r : AfterLeaving} (L : Goes heap b r) {top : ℕ} (B : Bound heap b top) (some : 0 < b .len) where
   abbrev newest : ℕ
   newest = getD (b .slots) (b .len - 1) 0
 
@@ -259,7 +259,7 @@ module _ {heap : List ℕ} {b : View} {r : Left} (L : Goes heap b r) {top : ℕ}
   pub goes-node : 0 < top → top ≤ unknown → r .newest < top
   goes-node pos small = by-newest small (λ f e. rw e pos) (λ node low f e. rw e low)
 
-  as-left : Leaves b (record { newest = newest; state = r .state })
+  as-left : LeavesScope b (record { newest = newest; state = r .state })
   as-left = record { newest = refl; slots = L .slots; len = L .len }
 
   -- as the rules have it

@@ -15,10 +15,10 @@ use package.Rattle.decoded.specs.Rows.{firstIn, kindIn, programIn, secondIn, tr
 use package.Rattle.decoded.proofs.Trees.{parts-let, parts-letp, tree-let, tree-letp}
 use package.Rattle.valuegraph.specs.Nodes.{valueAt}
 use package.Rattle.scopes.specs.Slots.{unknown, Machine}
-use package.Rattle.scopes.specs.Bindings.{View, Left, stateOf, Opens}
+use package.Rattle.scopes.specs.Bindings.{View, AfterLeaving, stateOf, Opens}
 use package.Rattle.backward.specs.Scoped.{ScopedAt}
 use package.Rattle.backward.specs.Outcomes.{Done, Refused, Outcome, Inner}
-use package.Rattle.backward.specs.Ready.{Ready, Held, Follows, Ran, RanUnder, Goes, runOf, underOf, stepOf}
+use package.Rattle.backward.specs.Ready.{Ready, Held, Follows, RanBackward, RanUnder, Goes, runOf, underOf, stepOf}
 use package.Rattle.backward.proofs.Runs.{says, slack, held-later, small-top, under-refused, under-done}
 use package.Rattle.backward.proofs.Leaves.{opened-binds, goes-node, goes-state, goes-follows}
 use package.Rattle.backward.proofs.Parts.{later, ancillae-after, owing-none, in-scope, part, scoped-let, scoped-letp}
@@ -53,7 +53,7 @@ module _ {code heap slots : List ℕ} {st : Machine} {b : View} {q t room : ℕ}
 
     module _ {j : ℕ} {heap₁ slots₁ : List ℕ} {r : Inner} (d : RanUnder j heap heap₁ slots slots₁ st b r (underOf code heap st b q u′ (valueAt heap node) (room - 1)))
       where
-        pub let-refused : j ≤ 1 → {why : Refusal} → r .out .status ≡ Refused why → Ran 2 heap heap₁ slots slots₁ st b (r .out) step
+        pub let-refused : j ≤ 1 → {why : Refusal} → r .out .status ≡ Refused why → RanBackward 2 heap heap₁ slots slots₁ st b (r .out) step
         let-refused few s = slack (under-refused d let-next s step-let) 2 (omega arith)
 
         module _ (few : j ≤ 1) (s : r .out .status ≡ Done) where
@@ -63,9 +63,9 @@ module _ {code heap slots : List ℕ} {st : Machine} {b : View} {q t room : ℕ}
               (d .moves) (d .follows s) 1 (omega arith))))
 
           pub let-done : {heap₂ slots₂ : List ℕ} {r₂ : Outcome}
-              → Ran 0 heap₁ heap₂ slots₁ slots₂ (r .out .state) (r .out .bindings) r₂
+              → RanBackward 0 heap₁ heap₂ slots₁ slots₂ (r .out .state) (r .out .bindings) r₂
               (runOf code heap₁ (r .out .state) (r .out .bindings) q u (valueAt heap₁ (r .newest)) (room - 1))
-              → Ran 2 heap heap₂ slots slots₂ st b r₂ step
+              → RanBackward 2 heap heap₂ slots slots₂ st b r₂ step
           let-done d₂ =
               under-done d let-next s step-let 2 (omega arith) (says d₂ (λ ys.
               ap (λ a. backward fits (programIn code ys) (room - 1) a (stateOf heap₁ (r .out .bindings)) (treeIn code ys u) (valueAt heap₁ (r .newest))
@@ -111,7 +111,7 @@ module _ {code heap slots : List ℕ} {st : Machine} {b : View} {q t room : ℕ}
 
       module _ {j : ℕ} {heap₁ slots₁ : List ℕ} {r : Inner} (d : RanUnder j heap heap₁ slots slots₁ st b₁ r
           (underOf code heap st b₁ q u′ (valueAt heap node) (room - 1))) where
-        pub letp-refused : j ≤ 1 → {why : Refusal} → r .out .status ≡ Refused why → Ran 2 heap heap₁ slots slots₁ st b (r .out) step
+        pub letp-refused : j ≤ 1 → {why : Refusal} → r .out .status ≡ Refused why → RanBackward 2 heap heap₁ slots slots₁ st b (r .out) step
         letp-refused few s = slack (under-refused d letp-next s step-letp) 2 (omega arith)
 
         module _ (few : j ≤ 1) (s : r .out .status ≡ Done) where
@@ -122,7 +122,7 @@ module _ {code heap slots : List ℕ} {st : Machine} {b : View} {q t room : ℕ}
           pub letp-some : (0 < r .out .bindings .len) × (r .out .bindings .len ≤ maxVariables)
           letp-some = (omega (arith, d .follows s .len, O .len), d .follows s .bound .few)
 
-          module _ {l : Left} (L : Goes heap₁ (r .out .bindings) l) where
+          module _ {l : AfterLeaving} (L : Goes heap₁ (r .out .bindings) l) where
             letp-follows : Follows heap₁ b (l .state) (r .out .state .top)
             letp-follows = goes-follows L (d .follows s .bound) (letp-some .0) O (rd .binds .bound .full) (d .follows s)
 
@@ -134,9 +134,9 @@ module _ {code heap slots : List ℕ} {st : Machine} {b : View} {q t room : ℕ}
             pub letp-nodes : (l .newest < r .out .state .top) × (r .newest < r .out .state .top)
             letp-nodes = (goes-node L (d .follows s .bound) (letp-some .0) (after-it .some) (small-top after-it), d .there s)
 
-            pub letp-done : {heap₂ slots₂ : List ℕ} {r₂ : Outcome} → Ran 1 heap₁ heap₂ slots₁ slots₂ (r .out .state) (l .state) r₂
+            pub letp-done : {heap₂ slots₂ : List ℕ} {r₂ : Outcome} → RanBackward 1 heap₁ heap₂ slots₁ slots₂ (r .out .state) (l .state) r₂
                 (runOf code heap₁ (r .out .state) (l .state) q u (pair (valueAt heap₁ (l .newest)) (valueAt heap₁ (r .newest))) (room - 1))
-                → Ran 2 heap heap₂ slots slots₂ st b r₂ step
+                → RanBackward 2 heap heap₂ slots slots₂ st b r₂ step
             letp-done d₂ =
                 under-done d letp-next s step-letp 2 (omega arith) (says d₂ (λ ys.
                 ap (λ a. backward fits (programIn code ys) (room - 1) a (stateOf heap₁ (l .state)) (treeIn code ys u)

@@ -17,7 +17,7 @@ use package.Rattle.scopes.specs.declared.bindings.Bindings.{Bindings}
 use package.Rattle.scopes.proofs.Views.{view-at, view-opens, tells-opened}
 use package.Rattle.forward.proofs.Binds.{opened as wider}
 use package.Rattle.backward.specs.Outcomes.{outcomeOf, scopeView, innerOf}
-use package.Rattle.backward.specs.Ready.{Ready, Ran, Prepared, Gone, GoneUnder, RanUnder, runAt, underAt}
+use package.Rattle.backward.specs.Ready.{Ready, RanBackward, Prepared, Gone, GoneUnder, RanUnder, runAt, underAt}
 use package.Rattle.backward.specs.Ready.{PreparedIn, PreparedUnder, RunsBack, RunsUnder, WidenReady, Widened}
 use package.Rattle.backward.proofs.Runs.{held-slots, ran-from}
 use package.Rattle.backward.proofs.Stops.{is-done, is-stopped}
@@ -89,7 +89,7 @@ module _ {code heap slots : List ℕ} {m : Machine} {b : Bindings} {sc : Scope} 
           tells = G .tells;
         }
           where
-            from-here : Ran 0 heap heap₁ slots slots₁ m (scopeView slots₀ (wider sc)) (outcomeOf (r .stop) slots₁ m₁ (wider sc))
+            from-here : RanBackward 0 heap heap₁ slots slots₁ m (scopeView slots₀ (wider sc)) (outcomeOf (r .stop) slots₁ m₁ (wider sc))
                 (runAt code heap slots₀ m (wider sc) t (valueAt heap node) room)
             from-here = ran-from slots (as-many P few under-there K) (G .ran)
 

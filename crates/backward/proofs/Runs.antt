@@ -23,7 +23,7 @@ use package.Rattle.forward.specs.Ready.{Graph}
 use package.Rattle.forward.specs.declared.outcomes.Refusal.{Refusal as Carried}
 use package.Rattle.forward.specs.declared.outcomes.Refusal.the-variants.{Fuel as cFuel, Height as cHeight, Long as cLong, FirstMatch as cFirstMatch, Stuck as cStuck}
 use package.Rattle.backward.specs.Outcomes.{Status, Done, Refused, Outcome, Inner, refusalOf, answerOf, meaning, leftWith, carried}
-use package.Rattle.backward.specs.Ready.{Held, Binds, Follows, Moves, Ran, Stays, RanUnder, ancillaeOf}
+use package.Rattle.backward.specs.Ready.{Held, Binds, Follows, Moves, RanBackward, Stays, RanUnder, ancillaeOf}
 use Rattle.backward.specs.declared.outcomes.Refusal.{Refusal}
 use Rattle.backward.specs.declared.outcomes.Refusal.the-variants.{Fuel, Height, Long, FirstMatch, NoInput, Stuck}
 
@@ -223,7 +223,7 @@ module _ {k : ℕ} {code heap slots : List ℕ} {st : Machine} {room : ℕ} (H :
 -- a step without parts
 pub stays : {heap slots slots′ : List ℕ} {st : Machine} {b : View} {out : Outcome} {res : Res State} {res′ : List TypeEntry → Res State}
     → Graph heap (st .top) → length slots ≡ length slots′
-    → Stays heap st b out res → ((ys : List TypeEntry) → res ≡ res′ ys) → Ran 0 heap heap slots slots′ st b out res′
+    → Stays heap st b out res → ((ys : List TypeEntry) → res ≡ res′ ys) → RanBackward 0 heap heap slots slots′ st b out res′
 stays {heap = heap} {b = b} {out = out} G l S e = record {
   moves = moves-none G l (S .state);
   follows = λ d. subst (λ (s : Machine). Follows heap b (out .bindings) (s .top)) (sym (S .state)) (S .follows d);
@@ -232,7 +232,7 @@ stays {heap = heap} {b = b} {out = out} G l S e = record {
 
 -- a refusal on the spot
 pub refuses : {heap slots : List ℕ} {st : Machine} {b : View} {w : Refusal} {res : List TypeEntry → Res State} (out : Outcome) → Graph heap (st .top)
-    → out .status ≡ Refused w → out .state ≡ st → ((ys : List TypeEntry) → res ys ≡ refusalOf w) → Ran 0 heap heap slots slots st b out res
+    → out .status ≡ Refused w → out .state ≡ st → ((ys : List TypeEntry) → res ys ≡ refusalOf w) → RanBackward 0 heap heap slots slots st b out res
 refuses {heap} out G s q e = record {
   moves = moves-none G refl q;
   follows = λ d. absurd (not-done s d);
@@ -241,8 +241,8 @@ refuses {heap} out G s q e = record {
 
 -- a refusal says nothing of the bindings
 pub refused-with : {k : ℕ} {heap heap₁ slots slots₁ : List ℕ} {st : Machine} {b c : View} {r : Outcome} {w : Refusal} {res : List TypeEntry → Res State}
-    → Ran k heap heap₁ slots slots₁ st b r res → r .status ≡ Refused w → (d : View)
-    → Ran k heap heap₁ slots slots₁ st c (record { status = r .status; state = r .state; bindings = d }) res
+    → RanBackward k heap heap₁ slots slots₁ st b r res → r .status ≡ Refused w → (d : View)
+    → RanBackward k heap heap₁ slots slots₁ st c (record { status = r .status; state = r .state; bindings = d }) res
 refused-with {heap₁ = heap₁} {r = r} R s d = record {
   moves = R .moves;
   follows = λ n. absurd (not-done s n);
@@ -256,7 +256,7 @@ moves-from slots e M = record { agree = M .agree; graph = M .graph; lengths = e 
 
 pub ran-from : {k : ℕ} {heap heap₁ slots₀ slots₁ : List ℕ} {st : Machine} {b : View} {r : Outcome} {res : List TypeEntry → Res State} (slots : List ℕ)
     → length slots ≡ length slots₀
-    → Ran k heap heap₁ slots₀ slots₁ st b r res → Ran k heap heap₁ slots slots₁ st b r res
+    → RanBackward k heap heap₁ slots₀ slots₁ st b r res → RanBackward k heap heap₁ slots slots₁ st b r res
 ran-from slots e R = record { moves = moves-from slots e (R .moves); follows = R .follows; answer = R .answer }
 
 pub under-from : {k : ℕ} {heap heap₁ slots₀ slots₁ : List ℕ} {st : Machine} {b : View} {r : Inner} {res : List TypeEntry → Res State} (slots : List ℕ)
@@ -265,19 +265,19 @@ pub under-from : {k : ℕ} {heap heap₁ slots₀ slots₁ : List ℕ} {st : Mac
 under-from slots e R = record { moves = moves-from slots e (R .moves); follows = R .follows; there = R .there; answer = R .answer }
 
 module _ {k : ℕ} {heap heap₁ slots slots₁ : List ℕ} {st : Machine} {b : View} {r : Outcome} {res₁ : List TypeEntry → Res State}
-    (d : Ran k heap heap₁ slots slots₁ st b r res₁) where
+    (d : RanBackward k heap heap₁ slots slots₁ st b r res₁) where
   -- the same run, said to give another thing that is equal
-  pub says : {res : List TypeEntry → Res State} → ((ys : List TypeEntry) → res₁ ys ≡ res ys) → Ran k heap heap₁ slots slots₁ st b r res
+  pub says : {res : List TypeEntry → Res State} → ((ys : List TypeEntry) → res₁ ys ≡ res ys) → RanBackward k heap heap₁ slots slots₁ st b r res
   says e = record { moves = d .moves; follows = d .follows; answer = λ ys. d .answer ys ∙ e ys }
 
-  pub slack : (k′ : ℕ) → k ≤ k′ → Ran k′ heap heap₁ slots slots₁ st b r res₁
+  pub slack : (k′ : ℕ) → k ≤ k′ → RanBackward k′ heap heap₁ slots slots₁ st b r res₁
   slack k′ le = record { moves = moves-slack k′ (d .moves) le; follows = d .follows; answer = d .answer }
 
 module _ {heap heap₁ slots slots₁ : List ℕ} {st : Machine} {b : View} {r : Outcome} {res₁ : List TypeEntry → Res State}
-    (d : Ran 0 heap heap₁ slots slots₁ st b r res₁) where
+    (d : RanBackward 0 heap heap₁ slots slots₁ st b r res₁) where
   -- a part was refused, and so is the whole
   pub part-refused : {w : Refusal} {res : List TypeEntry → Res State} (next : List TypeEntry → State → Run State) → r .status ≡ Refused w
-      → ((ys : List TypeEntry) → res ys ≡ after (res₁ ys) (next ys)) → Ran 0 heap heap₁ slots slots₁ st b r res
+      → ((ys : List TypeEntry) → res ys ≡ after (res₁ ys) (next ys)) → RanBackward 0 heap heap₁ slots slots₁ st b r res
   part-refused {w} next s e =
       says d (λ ys. sym (d .answer ys) ∙ meaning-refused heap₁ r s ∙ sym (refusal-after w (next ys))
       ∙ sym (ap (λ x. after x (next ys)) (sym (d .answer ys) ∙ meaning-refused heap₁ r s)) ∙ sym (e ys))
@@ -285,9 +285,9 @@ module _ {heap heap₁ slots slots₁ : List ℕ} {st : Machine} {b : View} {r :
   -- a part was run, and the run goes on
   pub part-done : {res : List TypeEntry → Res State} (next : List TypeEntry → State → Run State) → r .status ≡ Done
       → ((ys : List TypeEntry) → res ys ≡ after (res₁ ys) (next ys))
-      → {k : ℕ} {heap₂ slots₂ : List ℕ} {out : Outcome} → Ran k heap₁ heap₂ slots₁ slots₂ (r .state) (r .bindings) out
+      → {k : ℕ} {heap₂ slots₂ : List ℕ} {out : Outcome} → RanBackward k heap₁ heap₂ slots₁ slots₂ (r .state) (r .bindings) out
       (λ ys. next ys (stateOf heap₁ (r .bindings)) (r .state .fuel))
-      → Ran k heap heap₂ slots slots₂ st b out res
+      → RanBackward k heap heap₂ slots slots₂ st b out res
   part-done next s e b₂ = record {
     moves = moves-then _ (omega arith) (d .moves) (b₂ .moves);
     follows = λ q. follows-then (d .follows s) (b₂ .follows q);
@@ -300,7 +300,7 @@ module _ {heap heap₁ slots slots₁ : List ℕ} {st : Machine} {b : View} {r :
 module _ {j : ℕ} {heap heap₁ slots slots₁ : List ℕ} {st : Machine} {b : View} {r : Inner} {res₁ : List TypeEntry → Res State}
     (d : RanUnder j heap heap₁ slots slots₁ st b r res₁) where
   pub under-refused : {w : Refusal} {c : View} {res : List TypeEntry → Res State} (next : List TypeEntry → Val → State → Run State) → r .out .status ≡ Refused w
-      → ((ys : List TypeEntry) → res ys ≡ after (res₁ ys) (λ σ. leave σ (next ys))) → Ran j heap heap₁ slots slots₁ st c (r .out) res
+      → ((ys : List TypeEntry) → res ys ≡ after (res₁ ys) (λ σ. leave σ (next ys))) → RanBackward j heap heap₁ slots slots₁ st c (r .out) res
   under-refused {w} next s e = record {
     moves = d .moves;
     follows = λ q. absurd (not-done s q);
@@ -311,9 +311,9 @@ module _ {j : ℕ} {heap heap₁ slots slots₁ : List ℕ} {st : Machine} {b : 
   pub under-done : {c c₁ : View} {res : List TypeEntry → Res State} (next : List TypeEntry → Val → State → Run State) → r .out .status ≡ Done
       → ((ys : List TypeEntry) → res ys ≡ after (res₁ ys) (λ σ. leave σ (next ys)))
       → {k : ℕ} (l : ℕ) → j + k ≤ l → {heap₂ slots₂ : List ℕ} {out : Outcome}
-      → Ran k heap₁ heap₂ slots₁ slots₂ (r .out .state) c₁ out
+      → RanBackward k heap₁ heap₂ slots₁ slots₂ (r .out .state) c₁ out
       (λ ys. next ys (valueAt heap₁ (r .newest)) (stateOf heap₁ (r .out .bindings)) (r .out .state .fuel))
-      → Follows heap₁ c c₁ (r .out .state .top) → Ran l heap heap₂ slots slots₂ st c out res
+      → Follows heap₁ c c₁ (r .out .state .top) → RanBackward l heap heap₂ slots slots₂ st c out res
   under-done next s e l le b₂ F = record {
     moves = moves-then l le (d .moves) (b₂ .moves);
     follows = λ q. follows-then F (b₂ .follows q);

@@ -21,7 +21,7 @@ use package.Rattle.scopes.specs.Slots.{Machine}
 use package.Rattle.yields.specs.Yields.{Wraps}
 use package.Rattle.forward.proofs.Binds.{no-pair}
 use package.Rattle.backward.specs.Outcomes.{Done, Refused, Outcome, refusalOf, mismatch}
-use package.Rattle.backward.specs.Ready.{Ready, Ran, Stays, ancillaeOf, runOf, stepOf}
+use package.Rattle.backward.specs.Ready.{Ready, RanBackward, Stays, ancillaeOf, runOf, stepOf}
 use package.Rattle.backward.proofs.Runs.{stays, refuses, says, slack, part-refused, part-done}
 use package.Rattle.backward.proofs.Leaves.{against-other, against-none, mismatch-left, mismatch-right, mismatch-none}
 use package.Rattle.backward.proofs.Parts.{later, ancillae-after, owing, owing-none, in-scope, part, scoped-wrap, scoped-pair, scoped-unroll}
@@ -88,18 +88,18 @@ module _ {code heap slots : List ℕ} {st : Machine} {b : View} {q t room : ℕ}
   -- Variables and unit
 
   pub var-done : kindIn code t ≡ variableKind → {slots′ : List ℕ} → length slots ≡ length slots′ → {r : Outcome}
-      → Stays heap st b r (meet t (stateOf heap b) (firstIn code t) value (st .fuel)) → Ran 2 heap heap slots slots′ st b r step
+      → Stays heap st b r (meet t (stateOf heap b) (firstIn code t) value (st .fuel)) → RanBackward 2 heap heap slots slots′ st b r step
   unfolding backwardStep
   var-done kind l S = slack (stays (rd .machine .graph) l S (λ ys. sym (stepped ys (tree-var (rd .machine .rows) t (rd .term) ys kind)))) 2 (omega arith)
 
   -- a variable that is bound makes a cell
   pub var-bound : kindIn code t ≡ variableKind → {heap′ slots′ : List ℕ} {r : Outcome}
-      → Ran 1 heap heap′ slots slots′ st b r (λ ys. meet t (stateOf heap b) (firstIn code t) value (st .fuel)) → Ran 2 heap heap′ slots slots′ st b r step
+      → RanBackward 1 heap heap′ slots slots′ st b r (λ ys. meet t (stateOf heap b) (firstIn code t) value (st .fuel)) → RanBackward 2 heap heap′ slots slots′ st b r step
   unfolding backwardStep
   var-bound kind d = slack (says d (λ ys. sym (stepped ys (tree-var (rd .machine .rows) t (rd .term) ys kind)))) 2 (omega arith)
 
   pub unit-done : kindIn code t ≡ unitKind → {r : Outcome} → Stays heap st b r (onUnit value (give (stateOf heap b)) (st .fuel))
-      → Ran 2 heap heap slots slots st b r step
+      → RanBackward 2 heap heap slots slots st b r step
   unfolding backwardStep
   unit-done kind S = slack (stays (rd .machine .graph) refl S (λ ys. sym (stepped ys (tree-unit (rd .machine .rows) t (rd .term) ys kind)))) 2 (omega arith)
 
@@ -147,8 +147,8 @@ module _ {code heap slots : List ℕ} {st : Machine} {b : View} {q t room : ℕ}
         pub unwrap-ready : Ready 0 0 code heap slots st b q (b .len) u (room - 1)
         unwrap-ready = rw qu (owing-none (part rd (secondIn code t) (b .len) wrap-part (scoped-wrap rd w)))
 
-        pub unwrap-done : {heap₁ slots₁ : List ℕ} {r : Outcome} → Ran 0 heap heap₁ slots slots₁ st b r (runOf code heap st b q u (valueAt heap x) (room - 1))
-            → Ran 2 heap heap₁ slots slots₁ st b r step
+        pub unwrap-done : {heap₁ slots₁ : List ℕ} {r : Outcome} → RanBackward 0 heap heap₁ slots slots₁ st b r (runOf code heap st b q u (valueAt heap x) (room - 1))
+            → RanBackward 2 heap heap₁ slots slots₁ st b r step
         unwrap-done d = slack (says d (λ ys. ap (λ u. go ys (stateOf heap b) u (valueAt heap x) (st .fuel)) qu ∙ sym (step-same ys))) 2 (omega arith)
 
     -- it is of another
@@ -166,7 +166,7 @@ module _ {code heap slots : List ℕ} {st : Machine} {b : View} {q t room : ℕ}
         (λ e. n (e ∙ sym (z .1))))) y) w
 
     pub unwrap-differs : {found : ℕ} → found ≡ nodeKind heap node → ¬ (found ≡ kind) → {why : Refusal} → why ≡ mismatch kind found t
-        → (r : Outcome) → r .status ≡ Refused why → r .state ≡ st → Ran 2 heap heap slots slots st b r step
+        → (r : Outcome) → r .status ≡ Refused why → r .state ≡ st → RanBackward 2 heap heap slots slots st b r step
     unwrap-differs {found} f n {why} m r s e =
         slack (refuses r (rd .machine .graph) s e (λ ys. step-differs (λ z. n (f ∙ z)) ys ∙ ap (λ k. refusalOf (mismatch kind k t)) (sym f)
         ∙ ap refusalOf (sym m))) 2 (omega arith)
@@ -176,7 +176,7 @@ module _ {code heap slots : List ℕ} {st : Machine} {b : View} {q t room : ℕ}
 
   module _ (kind : kindIn code t ≡ pairKind) where
     pub pair-stuck : {found : ℕ} → found ≡ nodeKind heap node → ¬ (found ≡ 3) → (r : Outcome) → r .status ≡ Refused Stuck → r .state ≡ st
-        → Ran 2 heap heap slots slots st b r step
+        → RanBackward 2 heap heap slots slots st b r step
     unfolding backwardStep valueAt valueWithin refusalOf
     pair-stuck f n r s e =
         slack (refuses r (rd .machine .graph) s e (λ ys. stepped ys (tree-pair (rd .machine .rows) t (rd .term) ys kind)
@@ -208,8 +208,8 @@ module _ {code heap slots : List ℕ} {st : Machine} {b : View} {q t room : ℕ}
         pub pair-first : Ready 0 0 code heap slots st b q (b .len) u (room - 1)
         pair-first = rw qu (owing-none (part rd (firstIn code t) (b .len) (parts-pair (rd .machine .rows) t (rd .term) kind .0) (scoped-pair rd kind .0)))
 
-        module _ {heap₁ slots₁ : List ℕ} {r : Outcome} (d : Ran 0 heap heap₁ slots slots₁ st b r (runOf code heap st b q u (valueAt heap x) (room - 1))) where
-          pub pair-refused : {why : Refusal} → r .status ≡ Refused why → Ran 2 heap heap₁ slots slots₁ st b r step
+        module _ {heap₁ slots₁ : List ℕ} {r : Outcome} (d : RanBackward 0 heap heap₁ slots slots₁ st b r (runOf code heap st b q u (valueAt heap x) (room - 1))) where
+          pub pair-refused : {why : Refusal} → r .status ≡ Refused why → RanBackward 2 heap heap₁ slots slots₁ st b r step
           pair-refused s = slack (part-refused d second-part s step-pair) 2 (omega arith)
 
           module _ (s : r .status ≡ Done) where
@@ -219,8 +219,8 @@ module _ {code heap slots : List ℕ} {st : Machine} {b : View} {q t room : ℕ}
                 (scoped-pair rd kind .1)) (d .moves) (d .follows s) 2 (omega arith))))
 
             pub pair-done : {heap₂ slots₂ : List ℕ} {r₂ : Outcome}
-                → Ran 0 heap₁ heap₂ slots₁ slots₂ (r .state) (r .bindings) r₂ (runOf code heap₁ (r .state) (r .bindings) q u′ (valueAt heap₁ y) (room - 1))
-                → Ran 2 heap heap₂ slots slots₂ st b r₂ step
+                → RanBackward 0 heap₁ heap₂ slots₁ slots₂ (r .state) (r .bindings) r₂ (runOf code heap₁ (r .state) (r .bindings) q u′ (valueAt heap₁ y) (room - 1))
+                → RanBackward 2 heap heap₂ slots slots₂ st b r₂ step
             pair-done d₂ =
                 slack (part-done d second-part s step-pair (says d₂ (λ ys.
                 ap₂ (λ a v. backward fits (programIn code ys) (room - 1) a (stateOf heap₁ (r .bindings)) (treeIn code ys u′) v (r .state .fuel))
@@ -234,8 +234,8 @@ module _ {code heap slots : List ℕ} {st : Machine} {b : View} {q t room : ℕ}
     pub unroll-ready : Ready 1 0 code heap slots st b q (b .len) u (room - 1)
     unroll-ready = rw qu (owing 1 (omega arith) (part rd (secondIn code t) (b .len) (part-unroll (rd .machine .rows) t (rd .term) kind) (scoped-unroll rd kind)))
 
-    pub unroll-done : {heap₁ slots₁ : List ℕ} {r : Outcome} → Ran 1 heap heap₁ slots slots₁ st b r (runOf code heap st b q u (ofKind 4 value value) (room - 1))
-        → Ran 2 heap heap₁ slots slots₁ st b r step
+    pub unroll-done : {heap₁ slots₁ : List ℕ} {r : Outcome} → RanBackward 1 heap heap₁ slots slots₁ st b r (runOf code heap st b q u (ofKind 4 value value) (room - 1))
+        → RanBackward 2 heap heap₁ slots slots₁ st b r step
     unfolding backwardStep ofKind
     unroll-done d = slack (says d (λ ys. ap (λ u. go ys (stateOf heap b) u (roll value) (st .fuel)) qu
         ∙ sym (stepped ys (tree-unroll (rd .machine .rows) t (rd .term) ys kind)))) 2 (omega arith)

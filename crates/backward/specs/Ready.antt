@@ -17,7 +17,7 @@ use package.Rattle.decoded.specs.Rows.{termCount, treeIn, programIn, Rows}
 use package.Rattle.valuegraph.specs.Nodes.{nodeBytes, ofKind, valueAt, Agree, kindAt as nodeKind}
 use package.Rattle.scopes.specs.Slots.{unknown, slotCount, stateCount, Machine, Scope, machineOf, slotsOf, scopeIn, found, nodeOr, Slot, Slots, slotsPerHeight}
 use package.Rattle.scopes.specs.Cells.{cellCount}
-use package.Rattle.scopes.specs.Bindings.{View, stateOf, stateIn, Bound, Left, Tells, bound, seen, Looks, MeetsAt}
+use package.Rattle.scopes.specs.Bindings.{View, stateOf, stateIn, Bound, AfterLeaving, Tells, bound, seen, Looks, MeetsAt}
 use package.Rattle.scopes.specs.declared.bindings.Bindings.{Bindings}
 use package.Rattle.yields.specs.Yields.{ancillaeAt, ancillaeIn}
 use package.Rattle.forward.specs.Ready.{Graph}
@@ -76,7 +76,7 @@ pub record Moves (k : ℕ) (heap heap′ slots slots′ : List ℕ) (st st′ : 
   pub owes : st′ .top + 2 * st′ .fuel ≤ st .top + 2 * st .fuel + k
 
 -- A run whose meaning is `res`, whatever the type entries are.
-pub record Ran (k : ℕ) (heap heap′ slots slots′ : List ℕ) (st : Machine) (b : View) (out : Outcome) (res : List TypeEntry → Res State) : Type 0 where
+pub record RanBackward (k : ℕ) (heap heap′ slots slots′ : List ℕ) (st : Machine) (b : View) (out : Outcome) (res : List TypeEntry → Res State) : Type 0 where
   pub moves : Moves k heap heap′ slots slots′ st (out .state)
   pub follows : out .status ≡ Done → Follows heap′ b (out .bindings) (out .state .top)
   pub answer : (ys : List TypeEntry) → meaning heap′ out ≡ res ys
@@ -88,7 +88,7 @@ pub record Stays (heap : List ℕ) (st : Machine) (b : View) (out : Outcome) (re
   pub answer : meaning heap out ≡ res
 
 -- The newest variable leaves the scope, with a node in any case.
-pub record Goes (heap : List ℕ) (b : View) (r : Left) : Type 0 where
+pub record Goes (heap : List ℕ) (b : View) (r : AfterLeaving) : Type 0 where
   pub newest : r .newest ≡ nodeOr (found heap (getD (b .slots) (b .len - 1) 0))
   pub slots : r .state .slots ≡ b .slots
   pub len : r .state .len ≡ b .len - 1
@@ -137,7 +137,7 @@ pub record Prepared (k h : ℕ) (code heap slots : List ℕ) (m : Machine) (b : 
 
 -- A run in a scope, which leaves the slots below as they were.
 pub record Gone (k : ℕ) (heap heap′ slots slots′ : List ℕ) (m m′ : Machine) (sc : Scope) (r : Out) (res : List TypeEntry → Res State) : Type 0 where
-  pub ran : Ran k heap heap′ slots slots′ m (scopeView slots sc) (outcomeOf (r .stop) slots′ m′ sc) res
+  pub ran : RanBackward k heap heap′ slots slots′ m (scopeView slots sc) (outcomeOf (r .stop) slots′ m′ sc) res
   pub below : (j : ℕ) → j < sc .base → getD slots j 0 ≡ getD slots′ j 0
   pub tells : r .stop ≡ 0 → Tells heap′ slots′ (r .state) (sc .base) (sc .q) (sc .n) (m′ .top)
 

@@ -99,7 +99,7 @@ enoughFor line b =
     enough (length line) (length (b .program)) (length (b .ancillae)) (length (b .value)) (length (b .workspace)) (length (b .output)) (length (b .out))
 
 -- the buffers are too short: nothing is done
-pub record Untouched (r : LineAnswer) (b b′ : Lent) : Type 0 where
+pub record TooShort (r : LineAnswer) (b b′ : Lent) : Type 0 where
   pub short : r ≡ Short
   pub kept : b′ ≡ b
 
@@ -115,7 +115,7 @@ pub record Answered (r : LineAnswer) (line : List ℕ) (b b′ : Lent) : Type 0 
 
 abbrev pub LineCase : Bool → LineAnswer → List ℕ → Lent → Lent → Type 0
 LineCase true r line b b′ = Answered r line b b′
-LineCase false r line b b′ = Untouched r b b′
+LineCase false r line b b′ = TooShort r b b′
 
 -- what a line is answered, with the buffers before and after
 pub record LineMeans (r : LineAnswer) (line : List ℕ) (b b′ : Lent) : Type 0 where

@@ -96,7 +96,7 @@ refusal program (converts fn anc fuel ws n) journal = refusalOf (convertCall pro
 refusal program (rollsBack fuel ws n) journal = refusalOf (rollbackCall program fuel ws journal)
 
 -- the book after a call, and the answer
-pub record Turn : Type 0 where
+pub record BookTurn : Type 0 where
   pub book : Book
   pub told : Told
 
@@ -115,7 +115,7 @@ orEmpty (some s) = s
 
 -- the book after a call that section 4 does not refuse: open sets the first record and strikes all rows, convert adds a row,
 -- rollback strikes the newest. A rollback's steps are the struck row's.
-unfoldable pub enters : Program → Call → Book → Turn
+unfoldable pub enters : Program → Call → Book → BookTurn
 unfolding through carry orUnit orNone orEmpty newest
 enters P (opens v ws n) b = record { book = record { first = orUnit (value v); rows = [] }; told = isOpen }
 enters P (converts fn anc fuel ws n) b =
@@ -132,12 +132,12 @@ enters P (rollsBack fuel ws n) b =
     }
 
 -- A call that section 4 refuses on the bytes that the book writes out changes nothing.
-unfoldable pub turnUnless : Option Told → Program → Call → Book → Turn
+unfoldable pub turnUnless : Option Told → Program → Call → Book → BookTurn
 unfolding enters
 turnUnless (some t) P c b = record { book = b; told = t }
 turnUnless none P c b = enters P c b
 
-unfoldable pub bookTurn : List ℕ → Program → Call → Book → Turn
+unfoldable pub bookTurn : List ℕ → Program → Call → Book → BookTurn
 unfolding refusal turnUnless
 bookTurn program P c b = turnUnless (refusal program c (writeOut (buffer c) (journalOf P b))) P c b
 

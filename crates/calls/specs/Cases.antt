@@ -83,9 +83,9 @@ collapse = bitTypes
     ++ functionField 1 (1 ∷ []) 5
 
 -- P11: a function from 1 + 1 that gives unit alone
-unfoldable pub drop : List ℕ
+unfoldable pub discards : List ℕ
 unfolding bitTypes termField functionField
-drop = bitTypes ++ termField 1 [] ++ functionField 0 (1 ∷ []) 0
+discards = bitTypes ++ termField 1 [] ++ functionField 0 (1 ∷ []) 0
 
 -- P12: pair (s,q) of 1 + 1: left gives q, right gives q flipped; type 2 is product(1,1)
 unfoldable pub flip : List ℕ
@@ -145,7 +145,7 @@ pub record Table : Type 0 where
   -- the programs of rules/specs/Cases are those that the bytes load to
   pub loads : load numbers ≡ accepted trees.numbers
   pub p10-loads : load collapse ≡ accepted (trees.collapse ∷ [])
-  pub p11-trees : treesOf drop ≡ accepted (trees.drop ∷ [])
+  pub p11-trees : treesOf discards ≡ accepted (trees.discards ∷ [])
   pub p12-loads : load flip ≡ accepted (trees.flip ∷ [])
   pub checked : checkCall numbers ample ≡ accepted tt
   pub p1 : plusOf 65535 2 0 ≡ value (num 2) 4
@@ -162,7 +162,7 @@ pub record Table : Type 0 where
   pub p10-inl : forwardCall collapse 0 [] (encode (inl unit)) 4 ample 1024 ≡ value (inl unit) 4
   pub p10-inr : forwardCall collapse 0 [] (encode (inr unit)) 4 ample 1024 ≡ refused 15 5
   -- placed at the function's field, the last
-  pub p11 : checkCall drop ample ≡ refused 8 16
+  pub p11 : checkCall discards ample ≡ refused 8 16
   pub p12-left-inl : flipped (pair (inl unit) (inl unit)) ≡ value (inl unit) 5
   pub p12-left-inr : flipped (pair (inl unit) (inr unit)) ≡ value (inr unit) 5
   pub p12-right-inl : flipped (pair (inr unit) (inl unit)) ≡ refused 15 9

@@ -69,9 +69,9 @@ unfoldable pub _>>=_ : {A B : Type 0} → Option A → (A → Option B) → Opti
 none >>= k = none
 some a >>= k = k a
 
-unfoldable pub when : Bool → Option (Unit {0})
-when true = some tt
-when false = none
+unfoldable pub provided : Bool → Option (Unit {0})
+provided true = some tt
+provided false = none
 
 -- a field at the start of the bytes: its body, and what stands behind it
 pub record Opened : Type 0 where
@@ -84,14 +84,14 @@ opened tag [] = none
 opened tag (t ∷ []) = none
 opened tag (t ∷ a ∷ []) = none
 opened tag (t ∷ a ∷ b ∷ xs) = do
-  tagged ← when (eqb t tag)
-  whole ← when (leb (get16 (a ∷ b ∷ []) 0) (length xs))
+  tagged ← provided (eqb t tag)
+  whole ← provided (leb (get16 (a ∷ b ∷ []) 0) (length xs))
   some (record { body = take (get16 (a ∷ b ∷ []) 0) xs; rest = drop (get16 (a ∷ b ∷ []) 0) xs })
 
 -- the head, and whole values
 unfoldable pub readEntry : List ℕ → Option Entry
 readEntry xs = do
-  long ← when (leb entryHead (length xs))
+  long ← provided (leb entryHead (length xs))
   vs ← ancillae (drop entryHead xs)
   some (record { function = get16 xs 0; steps = get32 xs 2; ancillae = vs })
 
@@ -105,7 +105,7 @@ unfolding opened readEntry
 readEntries zero xs = none
 readEntries (suc n) [] = some []
 readEntries (suc n) (zero ∷ xs) = do
-  zeros ← when (allZero xs)
+  zeros ← provided (allZero xs)
   some []
 readEntries (suc n) (suc x ∷ xs) = do
   f ← opened entryTag (suc x ∷ xs)

@@ -9,7 +9,7 @@ use lib.Seq.{drop-cons, drop-drop, drop-set-lt, append-snoc, length-take-le, tak
 use borrow.Author.Tests.{le-leb, lt-leb, eq-eqb, ne-eqb}
 use package.Rattle.calltext.specs.Wrote.{Wrote}
 use package.Rattle.calltext.specs.Hexadecimal.{digitOf, glyphOf, onto, byteOf, pairsOf, bytesIn, leads, leading, filled, digitsOf, hexText}
-use package.Rattle.calltext.specs.Decoded.{Decodes}
+use package.Rattle.calltext.specs.Decoded.{DecodesWord}
 use package.Rattle.calltext.specs.declared.hexadecimal.Decoded.the-variants.{Bytes, Not}
 use package.Rattle.calltext.proofs.Writing.{wrote-byte, wrote-both, wrote-as, wrote-to}
 
@@ -106,11 +106,11 @@ module _ (w before out : List ℕ) (i n : ℕ) (d : Decoding w before out i n) w
       ∙ take-append-drop n out)
 
   module _ (room : n ≤ length out) where
-    pub stops-odd : i < length w → length w ≤ i + 1 → Decodes Not w before out (pairsOf w)
+    pub stops-odd : i < length w → length w ≤ i + 1 → DecodesWord Not w before out (pairsOf w)
     stops-odd h h′ = record { said = sym (stopped (odd w i h h′)); within = omega arith; left = leaves room (odd-leading w i h h′) }
 
     module _ (high : ℕ) (e : high ≡ digitOf (getD w i 0)) (h : i + 1 < length w) where
-      pub stops-high : 16 ≤ high → Decodes Not w before out (pairsOf w)
+      pub stops-high : 16 ≤ high → DecodesWord Not w before out (pairsOf w)
       stops-high h′ =
           record {
             said = sym (stopped (two w i h ∙ byte-high _ _ _ (rw e at h′)));
@@ -118,7 +118,7 @@ module _ (w before out : List ℕ) (i n : ℕ) (d : Decoding w before out i n) w
             left = leaves room (two-leading w i h ∙ leads-high _ _ _ (rw e at h′));
           }
 
-      pub stops-low : (low : ℕ) → low ≡ digitOf (getD w (i + 1) 0) → high < 16 → 16 ≤ low → Decodes Not w before out (pairsOf w)
+      pub stops-low : (low : ℕ) → low ≡ digitOf (getD w (i + 1) 0) → high < 16 → 16 ≤ low → DecodesWord Not w before out (pairsOf w)
       stops-low low e′ h′ h″ =
           record {
             said = sym (stopped (two w i h ∙ byte-low _ _ _ (rw e at h′) (rw e′ at h″)));
@@ -126,7 +126,7 @@ module _ (w before out : List ℕ) (i n : ℕ) (d : Decoding w before out i n) w
             left = leaves room (two-leading w i h ∙ leads-low _ _ _ (rw e at h′) (rw e′ at h″));
           }
 
-    pub decoded : length w ≤ i → Decodes (Bytes n) w before out (pairsOf w)
+    pub decoded : length w ≤ i → DecodesWord (Bytes n) w before out (pairsOf w)
     unfolding pairsOf onto leading
     decoded h =
         record {
@@ -173,18 +173,18 @@ unfilled [] out h = refl
 unfilled (x ∷ []) out h = refl
 unfilled (x ∷ y ∷ w) out h = absurd (omega (arith, h))
 
-pub empty-word : (w out : List ℕ) → length w ≡ 0 → Decodes Not w out out (bytesIn w)
+pub empty-word : (w out : List ℕ) → length w ≡ 0 → DecodesWord Not w out out (bytesIn w)
 unfolding bytesIn
 empty-word [] out e = record { said = refl; within = omega arith; left = unfilled [] out (omega arith) }
 empty-word (x ∷ w) out e = absurd (omega (arith, e))
 
-pub sign-word : (w out : List ℕ) → length w ≡ 1 → getD w 0 0 ≡ 45 → Decodes (Bytes 0) w out out (bytesIn w)
+pub sign-word : (w out : List ℕ) → length w ≡ 1 → getD w 0 0 ≡ 45 → DecodesWord (Bytes 0) w out out (bytesIn w)
 unfolding bytesIn
 sign-word [] out e h = absurd (omega (arith, e))
 sign-word (x ∷ []) out e h = record { said = rw (eq-eqb x 45 h); within = omega arith; left = unfilled (x ∷ []) out (omega arith) }
 sign-word (x ∷ y ∷ w) out e h = absurd (omega (arith, e))
 
-pub single-word : (w out : List ℕ) → length w ≡ 1 → (getD w 0 0 ≡ 45 → ⊥) → Decodes Not w out out (bytesIn w)
+pub single-word : (w out : List ℕ) → length w ≡ 1 → (getD w 0 0 ≡ 45 → ⊥) → DecodesWord Not w out out (bytesIn w)
 unfolding bytesIn
 single-word [] out e h = absurd (omega (arith, e))
 single-word (x ∷ []) out e h = record { said = rw (ne-eqb x 45 h); within = omega arith; left = unfilled (x ∷ []) out (omega arith) }

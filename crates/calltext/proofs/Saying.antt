@@ -12,9 +12,9 @@ use package.Rattle.octets.specs.Runs.{Decides}
 use package.Rattle.calltext.specs.Text.{text, sameBytes}
 use package.Rattle.calltext.specs.Words.{first, behind, from, wordAt, spaces}
 use package.Rattle.calltext.specs.Numbered.{numberOf, valueOf, Numbers}
-use package.Rattle.calltext.specs.Decoded.{decodedOf, sizeOf, Decodes}
+use package.Rattle.calltext.specs.Decoded.{decodedOf, sizeOf, DecodesWord}
 use package.Rattle.calltext.specs.Calls.{Line, noCall, wordCount, readCheck, readRun, readOpen, readConvert, readRollback, nameOf, ofLength, readNamed, readLine}
-use package.Rattle.calltext.specs.Left.{ByteWords, wordsOf, reads, leftIn, Leaves, bytesOf}
+use package.Rattle.calltext.specs.Left.{ByteWords, wordsOf, reads, leftIn, LeavesBuffers, bytesOf}
 use package.Rattle.calltext.specs.Parsed.{lineOf, Within, Parses}
 use package.Rattle.calltext.specs.declared.decimal.Number.{Number}
 use package.Rattle.calltext.specs.declared.decimal.Number.the-variants as number
@@ -36,13 +36,13 @@ told-no-number h e = sym (h .said) ∙ ap numberOf e
 pub number-within : {r : Number} {most : ℕ} {o : Option ℕ} → Numbers r most o → {n : ℕ} → r ≡ number.Is n → n ≤ most
 number-within h e = omega (arith, h .within, ap valueOf e)
 
-pub told-bytes : {r : Decoded} {word before out : List ℕ} {o : Option (List ℕ)} → Decodes r word before out o → {n : ℕ} → r ≡ decoded.Bytes n → o ≡ some (take n out)
+pub told-bytes : {r : Decoded} {word before out : List ℕ} {o : Option (List ℕ)} → DecodesWord r word before out o → {n : ℕ} → r ≡ decoded.Bytes n → o ≡ some (take n out)
 told-bytes {out = out} h e = sym (h .said) ∙ ap (λ d. decodedOf d out) e
 
-pub told-no-bytes : {r : Decoded} {word before out : List ℕ} {o : Option (List ℕ)} → Decodes r word before out o → r ≡ decoded.Not → o ≡ none
+pub told-no-bytes : {r : Decoded} {word before out : List ℕ} {o : Option (List ℕ)} → DecodesWord r word before out o → r ≡ decoded.Not → o ≡ none
 told-no-bytes {out = out} h e = sym (h .said) ∙ ap (λ d. decodedOf d out) e
 
-pub bytes-within : {r : Decoded} {word before out : List ℕ} {o : Option (List ℕ)} → Decodes r word before out o → {n : ℕ} → r ≡ decoded.Bytes n → n ≤ length out
+pub bytes-within : {r : Decoded} {word before out : List ℕ} {o : Option (List ℕ)} → DecodesWord r word before out o → {n : ℕ} → r ≡ decoded.Bytes n → n ≤ length out
 bytes-within h e = omega (arith, h .within, ap sizeOf e)
 
 ----------------------------------------------------------------
@@ -121,7 +121,7 @@ module _ (w : List ℕ) where
 -- What was read, and what the reading left
 
 -- no word of bytes was come to
-pub unread : {text p anc v : List ℕ} {words : ByteWords} (l : Line) → ((k : ℕ) → reads l k ≡ false) → Leaves l text words p anc v p anc v
+pub unread : {text p anc v : List ℕ} {words : ByteWords} (l : Line) → ((k : ℕ) → reads l k ≡ false) → LeavesBuffers l text words p anc v p anc v
 unread {text} {p} {anc} {v} {words} l e = record { program = same (words .program) p; ancillae = same (words .ancillae) anc; value = same (words .value) v }
   where
     same : (o : Option ℕ) (buffer : List ℕ) → buffer ≡ leftIn l text o buffer
@@ -133,9 +133,9 @@ unread {text} {p} {anc} {v} {words} l e = record { program = same (words .progra
 
 module _ {r : Parsed} {text p₀ anc₀ v₀ p anc v : List ℕ} where
   -- what was read, and what the reading left
-  pub parses : {words : ByteWords} {l : Line} → lineOf r p anc v ≡ l → Within r p anc v → Leaves (lineOf r p anc v) text words p₀ anc₀ v₀ p anc v
+  pub parses : {words : ByteWords} {l : Line} → lineOf r p anc v ≡ l → Within r p anc v → LeavesBuffers (lineOf r p anc v) text words p₀ anc₀ v₀ p anc v
       → Parses r text words p₀ anc₀ v₀ p anc v l
-  parses {words} e h left = record { said = e; within = h; left = subst (λ x. Leaves x text words p₀ anc₀ v₀ p anc v) e left }
+  parses {words} e h left = record { said = e; within = h; left = subst (λ x. LeavesBuffers x text words p₀ anc₀ v₀ p anc v) e left }
 
   -- the same line, and its words, by other names
   pub parses-as : {words : ByteWords} {l m : Line} → Parses r text words p₀ anc₀ v₀ p anc v l → words ≡ bytesOf text → l ≡ m → Parses r text (bytesOf text) p₀ anc₀ v₀ p anc v m

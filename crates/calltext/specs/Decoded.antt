@@ -18,7 +18,7 @@ sizeOf (Bytes n) = n
 sizeOf Not = 0
 
 -- the buffer before and after, and the bytes that the word is
-pub record Decodes (r : Decoded) (word before out : List ℕ) (bytes : Option (List ℕ)) : Type 0 where
+pub record DecodesWord (r : Decoded) (word before out : List ℕ) (bytes : Option (List ℕ)) : Type 0 where
   pub said : decodedOf r out ≡ bytes
   pub within : sizeOf r ≤ length out
   pub left : out ≡ filled word before

@@ -45,7 +45,7 @@ leftIn line text none buffer = buffer
 leftIn line text (some k) buffer = cond (reads line k) (filled (wordAt k text) buffer) buffer
 
 -- the three buffers before and after
-pub record Leaves (line : Line) (text : List ℕ) (words : ByteWords) (p₀ anc₀ v₀ p anc v : List ℕ) : Type 0 where
+pub record LeavesBuffers (line : Line) (text : List ℕ) (words : ByteWords) (p₀ anc₀ v₀ p anc v : List ℕ) : Type 0 where
   pub program : p ≡ leftIn line text (words .program) p₀
   pub ancillae : anc ≡ leftIn line text (words .ancillae) anc₀
   pub value : v ≡ leftIn line text (words .value) v₀

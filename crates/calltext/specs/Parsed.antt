@@ -4,7 +4,7 @@ use mathlib.Core.Path.{_≡_}
 use mathlib.Core.List.{List}
 use lib.ListN.{length, take}
 use package.Rattle.calltext.specs.Calls.{Line, checkLine, runLine, openLine, convertLine, rollbackLine, noCall, wordCount, noNumber, noBytes}
-use package.Rattle.calltext.specs.Left.{ByteWords, Leaves}
+use package.Rattle.calltext.specs.Left.{ByteWords, LeavesBuffers}
 use package.Rattle.calltext.specs.declared.calls.Parsed.{Parsed}
 use package.Rattle.calltext.specs.declared.calls.Parsed.the-variants.{Checks, Runs, Opens, Converts, RollsBack, NoCall, WordCount, NoNumber, NoBytes}
 
@@ -59,4 +59,4 @@ Within (NoBytes k) p anc v = Unit {0}
 pub record Parses (r : Parsed) (text : List ℕ) (words : ByteWords) (p₀ anc₀ v₀ p anc v : List ℕ) (line : Line) : Type 0 where
   pub said : lineOf r p anc v ≡ line
   pub within : Within r p anc v
-  pub left : Leaves line text words p₀ anc₀ v₀ p anc v
+  pub left : LeavesBuffers line text words p₀ anc₀ v₀ p anc v

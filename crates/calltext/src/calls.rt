@@ -12,7 +12,7 @@ ghost use Rattle.calltext.specs.Words.{wordAt, spaces};
 ghost use Rattle.calltext.specs.Decimal.{numberIn};
 ghost use Rattle.calltext.specs.Numbered.{Numbers};
 ghost use Rattle.calltext.specs.Hexadecimal.{bytesIn};
-ghost use Rattle.calltext.specs.Decoded.{Decodes};
+ghost use Rattle.calltext.specs.Decoded.{DecodesWord};
 ghost use Rattle.calltext.specs.Calls.{nameOf, readCheck, readRun, readOpen, readConvert, readRollback, ofLength, readLine};
 ghost use Rattle.calltext.specs.Left.{wordsOf, bytesOf};
 ghost use Rattle.calltext.specs.Parsed.{Parses};
@@ -124,7 +124,7 @@ fn number_at(line: &[u8], k: u8, most: u64) -> Number
 // The bytes that word k is, at the start of `out`.
 fn bytes_at(line: &[u8], k: u8, out: &mut [u8]) -> Decoded
     requires { ⌜ length (now line) ≤ 2 * length (now out) ⌝ }
-    ensures { λ r. ⌜ Decodes r (wordAt k (now (line .entry))) (now (out .entry)) (now (out .exit)) (bytesIn (wordAt k (now (line .entry)))) ⌝ }
+    ensures { λ r. ⌜ DecodesWord r (wordAt k (now (line .entry))) (now (out .entry)) (now (out .exit)) (bytesIn (wordAt k (now (line .entry)))) ⌝ }
 {
     hexadecimal::decode(words::word(line, k), out)
 }

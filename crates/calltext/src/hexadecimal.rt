@@ -4,7 +4,7 @@ ghost use Prim.Native.Nat.{_+_, _*_, _≤_, _<_};
 ghost use lib.ListN.{length};
 ghost use Rattle.calltext.specs.Wrote.{Wrote};
 ghost use Rattle.calltext.specs.Hexadecimal.{digitOf, glyphOf, pairsOf, bytesIn, hexText};
-ghost use Rattle.calltext.specs.Decoded.{Decodes};
+ghost use Rattle.calltext.specs.Decoded.{DecodesWord};
 
 // Bytes at the start of a buffer, so many of them; or the word is none.
 pub enum Decoded {
@@ -48,7 +48,7 @@ fn glyph(d: u8) -> u8
 // The bytes that the digits are, put at the start of `out`.
 fn pairs(word: &[u8], out: &mut [u8]) -> Decoded
     requires { ⌜ length (now word) ≤ 2 * length (now out) ⌝ }
-    ensures { λ r. ⌜ Decodes r (now (word .entry)) (now (out .entry)) (now (out .exit)) (pairsOf (now (word .entry))) ⌝ }
+    ensures { λ r. ⌜ DecodesWord r (now (word .entry)) (now (out .entry)) (now (out .exit)) (pairsOf (now (word .entry))) ⌝ }
 {
     let mut i: usize = 0;
     let mut n: usize = 0;
@@ -75,7 +75,7 @@ fn pairs(word: &[u8], out: &mut [u8]) -> Decoded
 // The bytes that a word is, put at the start of `out`.
 pub fn decode(word: &[u8], out: &mut [u8]) -> Decoded
     requires { ⌜ length (now word) ≤ 2 * length (now out) ⌝ }
-    ensures { λ r. ⌜ Decodes r (now (word .entry)) (now (out .entry)) (now (out .exit)) (bytesIn (now (word .entry))) ⌝ }
+    ensures { λ r. ⌜ DecodesWord r (now (word .entry)) (now (out .entry)) (now (out .exit)) (bytesIn (now (word .entry))) ⌝ }
 {
     if word.len() == 0 {
         return Decoded::Not;

@@ -28,7 +28,7 @@ use package.Rattle.program.proofs.Rooms.{term-kind}
 use package.Rattle.program.proofs.Shapes.{term-call, function-body}
 use package.Rattle.program.specs.Kinds.{callKind}
 use package.Rattle.decoded.specs.Rows.{roomFor, bodyIn, functionIn, termCount, programIn, Rows}
-use package.Rattle.decoded.specs.Decoding.{Terms, Functions, TermRow, Decodes}
+use package.Rattle.decoded.specs.Decoding.{FieldsOfTerms, FieldsOfFunctions, TermRow, Decodes}
 use package.Rattle.decoded.proofs.Used.{every-term}
 use package.Rattle.decoded.proofs.Few.{FewArguments, few-typed, few-parts, few-ancillae}
 
@@ -54,7 +54,7 @@ module _ {p types terms functions : List ℕ} (read : Placed p types terms funct
   fields : Formed p (placesOf types terms functions)
   fields = formed p (read .read)
 
-  pub accepted-functions : Functions p functions
+  pub accepted-functions : FieldsOfFunctions p functions
   accepted-functions = record { field = fields .functions; few = fields .few-functions }
 
   ----------------------------------------------------------------
@@ -149,5 +149,5 @@ module _ {p types terms functions : List ℕ} (read : Placed p types terms funct
           (few-ancillae (typeOf (entries .types)) tree t (get-map (termAt p) terms t n-unit l ∙ term-call p (getD terms t 0) e)
           (few-unfolded t (few-term t (omega (arith, as-many-terms)))))
 
-      pub accepted-terms : Terms p terms
+      pub accepted-terms : FieldsOfTerms p terms
       accepted-terms = record { row = λ t l. record { field = fields .terms t l; few = few-call t l }; few = fields .few-terms }

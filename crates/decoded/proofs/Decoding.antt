@@ -16,7 +16,7 @@ use package.Rattle.program.proofs.Shapes.{term-var, term-unit, term-case, term-
 use package.Rattle.program.proofs.Rooms.{term-kind, two-room}
 use package.Rattle.program.specs.Kinds.{variableKind, unitKind, caseKind, callKind, termKinds}
 use package.Rattle.decoded.specs.Rows.{rowNumbers, functionRows, countsAt, codeNumbers, roomFor, kindIn, firstIn, secondIn, thirdIn, argumentIn, argumentsIn, ancillaeIn, parametersIn, bodyIn, termCount, functionCount, entryIn, functionIn, termsIn, functionsIn, listed}
-use package.Rattle.decoded.specs.Decoding.{Row, Terms, Functions, Beside, Heads, Listed, TermRow, TermPut, FunctionRow, FunctionPut, TermRows, FunctionRows, Decodes}
+use package.Rattle.decoded.specs.Decoding.{FieldOfRow, FieldsOfTerms, FieldsOfFunctions, Beside, Heads, Listed, TermRow, TermPut, FunctionRow, FunctionPut, TermRows, FunctionRows, Decodes}
 use package.Rattle.decoded.proofs.Agreeing.{Same, kind-same, third-same, entry-same, function-same, listed-map}
 
 ----------------------------------------------------------------
@@ -204,10 +204,10 @@ unfolding parametersIn
 function-row-same {g = g} S R = record { entry = function-same g S ∙ R .entry; parameters = kind-same S ∙ R .parameters }
 
 -- the field that is asked for, at an offset that was read
-pub term-asked : {p terms : List ℕ} {t at : ℕ} → Terms p terms → t < length terms → at ≡ getD terms t 0 → Row p at
+pub term-asked : {p terms : List ℕ} {t at : ℕ} → FieldsOfTerms p terms → t < length terms → at ≡ getD terms t 0 → FieldOfRow p at
 term-asked T l e = rw e (T .row _ l)
 
-pub function-asked : {p functions : List ℕ} {g at : ℕ} → Functions p functions → g < length functions → at ≡ getD functions g 0 → FunctionField p at
+pub function-asked : {p functions : List ℕ} {g at : ℕ} → FieldsOfFunctions p functions → g < length functions → at ≡ getD functions g 0 → FunctionField p at
 function-asked F l e = rw e (F .field _ l)
 
 pub no-rows : (code p terms : List ℕ) → TermRows code code p terms 0

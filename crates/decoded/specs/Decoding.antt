@@ -17,16 +17,16 @@ use package.Rattle.decoded.specs.Rows.{rowHeads, rowNumbers, functionRow
 -- Before
 
 -- the field of a term whose row has room for its ancilla terms
-pub record Row (p : List ℕ) (at : ℕ) : Type 0 where
+pub record FieldOfRow (p : List ℕ) (at : ℕ) : Type 0 where
   pub field : TermField p at
   pub few : kindAt p at ≡ callKind → callAncillae (lengthAt p at) ≤ roomFor
 
 -- The fields of the terms at these offsets are well-formed, with room for every call, and they are as many as section 1 allows.
-pub record Terms (p terms : List ℕ) : Type 0 where
-  pub row : (t : ℕ) → t < length terms → Row p (getD terms t 0)
+pub record FieldsOfTerms (p terms : List ℕ) : Type 0 where
+  pub row : (t : ℕ) → t < length terms → FieldOfRow p (getD terms t 0)
   pub few : length terms ≤ maxTerms
 
-pub record Functions (p functions : List ℕ) : Type 0 where
+pub record FieldsOfFunctions (p functions : List ℕ) : Type 0 where
   pub field : (g : ℕ) → g < length functions → FunctionField p (getD functions g 0)
   pub few : length functions ≤ maxFunctions
 

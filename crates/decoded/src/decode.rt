@@ -14,7 +14,7 @@ ghost use Rattle.calls.specs.Fields.{kindAt};
 ghost use Rattle.program.specs.Parts.{FunctionField};
 ghost use Rattle.program.specs.Kinds.{callKind};
 ghost use Rattle.decoded.specs.Rows.{roomFor, allRows, codeNumbers};
-ghost use Rattle.decoded.specs.Decoding.{Row, Terms, Functions, Heads, Listed, TermPut, FunctionPut, TermRows, FunctionRows, Decodes};
+ghost use Rattle.decoded.specs.Decoding.{FieldOfRow, FieldsOfTerms, FieldsOfFunctions, Heads, Listed, TermPut, FunctionPut, TermRows, FunctionRows, Decodes};
 
 // The first four numbers of a row.
 fn put_heads(code: &mut [u16; CODE], row: usize, kind: u16, a: u16, b: u16, c: u16)
@@ -45,7 +45,7 @@ fn put_listed(code: &mut [u16; CODE], row: usize, p: &[u8], from: usize, n: usiz
 // The row of term t, whose field is at `at`.
 fn put_term(code: &mut [u16; CODE], t: usize, p: &[u8], at: usize)
     requires { ⌜ length (now code) ≡ codeNumbers ⌝ }
-    requires { ⌜ (t < maxTerms) × Row (now p) at ⌝ }
+    requires { ⌜ (t < maxTerms) × FieldOfRow (now p) at ⌝ }
     ensures { λ _. ⌜ TermPut (now (code .entry)) (now (code .exit)) t (now (p .entry)) at ⌝ }
 {
     let kind = views::kind(p, at);
@@ -90,7 +90,7 @@ fn put_term(code: &mut [u16; CODE], t: usize, p: &[u8], at: usize)
 // The row of a call: function, how many ancilla terms, then all its terms.
 fn put_call(code: &mut [u16; CODE], t: usize, p: &[u8], at: usize)
     requires { ⌜ length (now code) ≡ codeNumbers ⌝ }
-    requires { ⌜ (t < maxTerms) × Row (now p) at ⌝ }
+    requires { ⌜ (t < maxTerms) × FieldOfRow (now p) at ⌝ }
     requires { ⌜ kindAt (now p) at ≡ callKind ⌝ }
     ensures { λ _. ⌜ TermPut (now (code .entry)) (now (code .exit)) t (now (p .entry)) at ⌝ }
 {
@@ -123,7 +123,7 @@ fn put_function(code: &mut [u16; CODE], g: usize, p: &[u8], at: usize)
 // The rows of the terms at these offsets.
 fn put_terms(code: &mut [u16; CODE], p: &[u8], terms: &[u16])
     requires { ⌜ length (now code) ≡ codeNumbers ⌝ }
-    requires { ⌜ Terms (now p) (now terms) ⌝ }
+    requires { ⌜ FieldsOfTerms (now p) (now terms) ⌝ }
     ensures { λ _. ⌜ TermRows (now (code .entry)) (now (code .exit)) (now (p .entry)) (now (terms .entry)) (length (now (terms .entry))) ⌝ }
 {
     let mut t = 0;
@@ -136,7 +136,7 @@ fn put_terms(code: &mut [u16; CODE], p: &[u8], terms: &[u16])
 // The rows of the functions at these offsets, behind those of the terms.
 fn put_functions(code: &mut [u16; CODE], p: &[u8], functions: &[u16])
     requires { ⌜ length (now code) ≡ codeNumbers ⌝ }
-    requires { ⌜ Functions (now p) (now functions) ⌝ }
+    requires { ⌜ FieldsOfFunctions (now p) (now functions) ⌝ }
     ensures { λ _. ⌜ FunctionRows (now (code .entry)) (now (code .exit)) (now (p .entry)) (now (functions .entry)) (length (now (functions .entry))) ⌝ }
 {
     let mut g = 0;
@@ -149,8 +149,8 @@ fn put_functions(code: &mut [u16; CODE], p: &[u8], functions: &[u16])
 // A program whose terms and functions are at these offsets.
 pub fn decode(code: &mut [u16; CODE], p: &[u8], terms: &[u16], functions: &[u16])
     requires { ⌜ length (now code) ≡ codeNumbers ⌝ }
-    requires { ⌜ Terms (now p) (now terms) ⌝ }
-    requires { ⌜ Functions (now p) (now functions) ⌝ }
+    requires { ⌜ FieldsOfTerms (now p) (now terms) ⌝ }
+    requires { ⌜ FieldsOfFunctions (now p) (now functions) ⌝ }
     ensures { λ _. ⌜ Decodes (now (code .exit)) (now (p .entry)) (now (terms .entry)) (now (functions .entry)) ⌝ }
 {
     put_terms(code, p, terms);

@@ -23,7 +23,7 @@ use package.Rattle.scopes.proofs.Marks.{found-node}
 use package.Rattle.scopes.proofs.Scopes.{state-bind, slots-bind}
 use package.Rattle.yields.proofs.Ancillae.{ancillae-same}
 use package.Rattle.forward.specs.Outcomes.{Out, refusalOf}
-use package.Rattle.forward.specs.Ready.{Ready, Ran, CheckReady, Checks, ancillaeOf, stateOf, runOf, underOf, stepOf}
+use package.Rattle.forward.specs.Ready.{Ready, RanForward, CheckReady, Checks, ancillaeOf, stateOf, runOf, underOf, stepOf}
 use package.Rattle.forward.proofs.Answers.{below-mark}
 use package.Rattle.forward.proofs.Runs.{ancillae-held, says, slack, halted, part-refused, part-answered, fewer, later, ancillae-later, state-later, part}
 use package.Rattle.forward.proofs.Steps.{stepped}
@@ -82,9 +82,9 @@ module _ {k v : ℕ} {code heap slots : List ℕ} {st : Machine} {sc : Scope} {t
       ∙ ap (λ f. slotMeaning heap f ∷ stateOf heap slots sc) (found-node heap node (omega (arith, rd .small, below-mark)))
 
   -- the term was run in that scope
-  pub bound-done : {heap′ slots′ : List ℕ} {out : Out} → Ran 0 heap heap′ (sc .base + (sc .n + 1)) slots₁ slots′ st out
+  pub bound-done : {heap′ slots′ : List ℕ} {out : Out} → RanForward 0 heap heap′ (sc .base + (sc .n + 1)) slots₁ slots′ st out
       (runOf code heap slots₁ st (opened sc) t room)
-      → Ran 0 heap heap′ m slots slots′ st out (underOf code heap slots st sc node t room)
+      → RanForward 0 heap heap′ m slots slots′ st out (underOf code heap slots st sc node t room)
   bound-done d = record {
     agree = d .agree;
     graph = d .graph;
@@ -99,8 +99,8 @@ module _ {k v : ℕ} {code heap slots : List ℕ} {st : Machine} {sc : Scope} {t
 
   -- the term was run in the scope with another variable besides
   pub bound-twice : {heap′ slots′ : List ℕ} {out : Out} (node₂ : ℕ)
-      → Ran 0 heap heap′ (sc .base + (sc .n + 1)) slots₁ slots′ st out (underOf code heap slots₁ st (opened sc) node₂ t room)
-      → Ran 0 heap heap′ m slots slots′ st out (λ ys. forward fits (programIn code ys) room (ancillaeOf heap slots sc)
+      → RanForward 0 heap heap′ (sc .base + (sc .n + 1)) slots₁ slots′ st out (underOf code heap slots₁ st (opened sc) node₂ t room)
+      → RanForward 0 heap heap′ m slots slots′ st out (λ ys. forward fits (programIn code ys) room (ancillaeOf heap slots sc)
       (some (valueAt heap node₂) ∷ some (valueAt heap node) ∷ stateOf heap slots sc) (treeIn code ys t) (st .fuel))
   bound-twice node₂ d = record {
     agree = d .agree;
@@ -163,7 +163,7 @@ module _ {code heap slots : List ℕ} {st : Machine} {sc : Scope} {t room : ℕ}
   abbrev state : State
   state = stateOf heap slots sc
 
-  module _ {heap₁ slots₁ : List ℕ} {r₁ : Out} {res : List TypeEntry → Res Val} (d : Ran 0 heap heap₁ end slots slots₁ st r₁ res) where
+  module _ {heap₁ slots₁ : List ℕ} {r₁ : Out} {res : List TypeEntry → Res Val} (d : RanForward 0 heap heap₁ end slots slots₁ st r₁ res) where
     -- the same, once another part was run
     under-later : (node b : ℕ) (ys : List TypeEntry)
         → underOf code heap₁ slots₁ (r₁ .state) sc node b (room - 1) ys ≡ within b ys (some (valueAt heap₁ node) ∷ state) (r₁ .state .fuel)
@@ -174,7 +174,7 @@ module _ {code heap slots : List ℕ} {st : Machine} {sc : Scope} {t room : ℕ}
     -- a value of wrong shape
     shape-stuck : {x : ℕ} (next : List TypeEntry → Val → Run Val) → r₁ .status ≡ Value x → ((ys : List TypeEntry) → step ys ≡ after (res ys) (next ys))
         → ((ys : List TypeEntry) → next ys (valueAt heap₁ x) (r₁ .state .fuel) ≡ stuck) → (r : Out) → r .status ≡ Refused Stuck → r .state ≡ r₁ .state
-        → Ran 1 heap heap₁ end slots slots₁ st r step
+        → RanForward 1 heap heap₁ end slots slots₁ st r step
     unfolding refusalOf
     shape-stuck next s e z r s₂ q = slack (part-answered d next s e (halted (d .graph) end slots₁ r q s₂ z) (omega arith)) 1 (omega arith)
 
@@ -196,16 +196,16 @@ module _ {code heap slots : List ℕ} {st : Machine} {sc : Scope} {t room : ℕ}
     let-second b q = rw q (fewer (part rd (secondIn code t) (parts-let (rd .rows) t (rd .term) kind .1)) 1 (omega arith))
 
     module _ (b b′ : ℕ) (q : b ≡ firstIn code t) (q′ : b′ ≡ secondIn code t) {heap₁ slots₁ : List ℕ} {r₁ : Out}
-        (d : Ran 0 heap heap₁ end slots slots₁ st r₁ (run b)) where
+        (d : RanForward 0 heap heap₁ end slots slots₁ st r₁ (run b)) where
       step-l : (ys : List TypeEntry) → step ys ≡ after (run b ys) (let-next b′ ys)
       step-l ys = step-let ys ∙ ap₂ (λ b b′. after (run b ys) (let-next b′ ys)) (sym q) (sym q′)
 
-      pub let-refused : {why : Refusal} → r₁ .status ≡ Refused why → Ran 1 heap heap₁ end slots slots₁ st r₁ step
+      pub let-refused : {why : Refusal} → r₁ .status ≡ Refused why → RanForward 1 heap heap₁ end slots slots₁ st r₁ step
       let-refused s = slack (part-refused d (let-next b′) s step-l) 1 (omega arith)
 
       pub let-done : {x : ℕ} → r₁ .status ≡ Value x → {heap₂ slots₂ : List ℕ} {r₂ : Out}
-          → Ran 0 heap₁ heap₂ end slots₁ slots₂ (r₁ .state) r₂ (underOf code heap₁ slots₁ (r₁ .state) sc x b′ (room - 1))
-          → Ran 1 heap heap₂ end slots slots₂ st r₂ step
+          → RanForward 0 heap₁ heap₂ end slots₁ slots₂ (r₁ .state) r₂ (underOf code heap₁ slots₁ (r₁ .state) sc x b′ (room - 1))
+          → RanForward 1 heap heap₂ end slots slots₂ st r₂ step
       let-done {x} s d₂ = slack (part-answered d (let-next b′) s step-l (says d₂ (under-later d x b′)) (omega arith)) 1 (omega arith)
 
   ----------------------------------------------------------------
@@ -229,21 +229,21 @@ module _ {code heap slots : List ℕ} {st : Machine} {sc : Scope} {t room : ℕ}
     letp-second b q = rw q (fewer (part rd (secondIn code t) (parts-letp (rd .rows) t (rd .term) kind .1)) 2 (omega arith))
 
     module _ (b b′ : ℕ) (q : b ≡ firstIn code t) (q′ : b′ ≡ secondIn code t) {heap₁ slots₁ : List ℕ} {r₁ : Out}
-        (d : Ran 0 heap heap₁ end slots slots₁ st r₁ (run b)) where
+        (d : RanForward 0 heap heap₁ end slots slots₁ st r₁ (run b)) where
       step-lp : (ys : List TypeEntry) → step ys ≡ after (run b ys) (letp-next b′ ys)
       step-lp ys = step-letp ys ∙ ap₂ (λ b b′. after (run b ys) (letp-next b′ ys)) (sym q) (sym q′)
 
-      pub letp-refused : {why : Refusal} → r₁ .status ≡ Refused why → Ran 1 heap heap₁ end slots slots₁ st r₁ step
+      pub letp-refused : {why : Refusal} → r₁ .status ≡ Refused why → RanForward 1 heap heap₁ end slots slots₁ st r₁ step
       letp-refused s = slack (part-refused d (letp-next b′) s step-lp) 1 (omega arith)
 
       module _ {x : ℕ} (s : r₁ .status ≡ Value x) where
-        pub letp-stuck : ¬ (nodeKind heap₁ x ≡ 3) → (r : Out) → r .status ≡ Refused Stuck → r .state ≡ r₁ .state → Ran 1 heap heap₁ end slots slots₁ st r step
+        pub letp-stuck : ¬ (nodeKind heap₁ x ≡ 3) → (r : Out) → r .status ≡ Refused Stuck → r .state ≡ r₁ .state → RanForward 1 heap heap₁ end slots slots₁ st r step
         letp-stuck n = shape-stuck d (letp-next b′) s step-lp (λ ys. node-no-pair heap₁ x (r₁ .state .fuel) (both-next b′ ys) n)
 
         pub letp-done : nodeKind heap₁ x ≡ 3 → (y z : ℕ) → y ≡ leftAt heap₁ x → z ≡ rightAt heap₁ x → {heap₂ slots₂ : List ℕ} {r₂ : Out}
-            → Ran 0 heap₁ heap₂ end slots₁ slots₂ (r₁ .state) r₂ (λ ys. forward fits (programIn code ys) (room - 1) (ancillaeOf heap₁ slots₁ sc)
+            → RanForward 0 heap₁ heap₂ end slots₁ slots₂ (r₁ .state) r₂ (λ ys. forward fits (programIn code ys) (room - 1) (ancillaeOf heap₁ slots₁ sc)
             (some (valueAt heap₁ z) ∷ some (valueAt heap₁ y) ∷ stateOf heap₁ slots₁ sc) (treeIn code ys b′) (r₁ .state .fuel))
-            → Ran 1 heap heap₂ end slots slots₂ st r₂ step
+            → RanForward 1 heap heap₂ end slots slots₂ st r₂ step
         unfolding onPair
         letp-done k3 y z qy qz d₂ = slack (part-answered d (letp-next b′) s step-lp (says d₂ same) (omega arith)) 1 (omega arith)
           where
@@ -289,23 +289,23 @@ module _ {code heap slots : List ℕ} {st : Machine} {sc : Scope} {t room : ℕ}
     pub case-third : (b : ℕ) → b ≡ thirdIn code t → Ready 0 1 code heap slots st sc b (room - 1)
     case-third b q = rw q (fewer (part rd (thirdIn code t) (parts-case (rd .rows) t (rd .term) kind .2)) 1 (omega arith))
 
-    module _ (b : ℕ) (q : b ≡ firstIn code t) {heap₁ slots₁ : List ℕ} {r₁ : Out} (d : Ran 0 heap heap₁ end slots slots₁ st r₁ (run b)) where
+    module _ (b : ℕ) (q : b ≡ firstIn code t) {heap₁ slots₁ : List ℕ} {r₁ : Out} (d : RanForward 0 heap heap₁ end slots slots₁ st r₁ (run b)) where
       step-c : (ys : List TypeEntry) → step ys ≡ after (run b ys) (case-next (secondIn code t) (thirdIn code t) ys)
       step-c ys = step-case ys ∙ ap (λ b. after (run b ys) (case-next (secondIn code t) (thirdIn code t) ys)) (sym q)
 
-      pub case-refused : {why : Refusal} → r₁ .status ≡ Refused why → Ran 1 heap heap₁ end slots slots₁ st r₁ step
+      pub case-refused : {why : Refusal} → r₁ .status ≡ Refused why → RanForward 1 heap heap₁ end slots slots₁ st r₁ step
       case-refused s = slack (part-refused d (case-next (secondIn code t) (thirdIn code t)) s step-c) 1 (omega arith)
 
       module _ {x : ℕ} (s : r₁ .status ≡ Value x) where
         pub case-stuck : ¬ (nodeKind heap₁ x ≡ 1) → ¬ (nodeKind heap₁ x ≡ 2) → (r : Out) → r .status ≡ Refused Stuck → r .state ≡ r₁ .state
-            → Ran 1 heap heap₁ end slots slots₁ st r step
+            → RanForward 1 heap heap₁ end slots slots₁ st r step
         case-stuck n n′ =
             shape-stuck d (case-next (secondIn code t) (thirdIn code t)) s step-c
             (λ ys. node-no-sum heap₁ x (r₁ .state .fuel) (left-next (secondIn code t) ys) (right-next (secondIn code t) (thirdIn code t) ys) n n′)
 
         module _ (y : ℕ) (qy : y ≡ leftAt heap₁ x) (b′ : ℕ) {heap₂ slots₂ : List ℕ} {r₂ : Out}
-            (d₂ : Ran 0 heap₁ heap₂ end slots₁ slots₂ (r₁ .state) r₂ (underOf code heap₁ slots₁ (r₁ .state) sc y b′ (room - 1))) where
-          pub case-left : nodeKind heap₁ x ≡ 1 → b′ ≡ secondIn code t → Ran 1 heap heap₂ end slots slots₂ st r₂ step
+            (d₂ : RanForward 0 heap₁ heap₂ end slots₁ slots₂ (r₁ .state) r₂ (underOf code heap₁ slots₁ (r₁ .state) sc y b′ (room - 1))) where
+          pub case-left : nodeKind heap₁ x ≡ 1 → b′ ≡ secondIn code t → RanForward 1 heap heap₂ end slots slots₂ st r₂ step
           unfolding onSum
           case-left k1 q′ =
               slack (part-answered d (case-next (secondIn code t) (thirdIn code t)) s step-c
@@ -316,7 +316,7 @@ module _ {code heap slots : List ℕ} {st : Machine} {sc : Scope} {t room : ℕ}
               is-left = rw qy (value-inl heap₁ (r₁ .state .top) (d .graph .right) x (d .node x s) k1 .0)
 
           pub case-right : nodeKind heap₁ x ≡ 2 → b′ ≡ thirdIn code t → (r : Out) → Checks code heap₂ slots₂ (sc .base) (sc .q) t r₂ r
-              → Ran 1 heap heap₂ end slots slots₂ st r step
+              → RanForward 1 heap heap₂ end slots slots₂ st r step
           unfolding onSum
           case-right k2 q′ r c = slack (part-answered d (case-next (secondIn code t) (thirdIn code t)) s step-c checked (omega arith)) 1 (omega arith)
             where
@@ -326,7 +326,7 @@ module _ {code heap slots : List ℕ} {st : Machine} {sc : Scope} {t room : ℕ}
               ancillae-two : ancillaeOf heap₂ slots₂ sc ≡ ancillaeOf heap slots sc
               ancillae-two = sym (ancillae-later rd d ∙ ancillae-later (later rd d) d₂)
 
-              checked : Ran 0 heap₁ heap₂ end slots₁ slots₂ (r₁ .state) r
+              checked : RanForward 0 heap₁ heap₂ end slots₁ slots₂ (r₁ .state) r
                   (λ ys. case-next (secondIn code t) (thirdIn code t) ys (valueAt heap₁ x) (r₁ .state .fuel))
               checked = record {
                 agree = d₂ .agree;

@@ -18,7 +18,7 @@ use package.Rattle.valuegraph.specs.Nodes.{valueAt}
 use package.Rattle.scopes.specs.Slots.{unknown, Machine, Scope, Slot}
 use package.Rattle.yields.specs.Yields.{Ancillae}
 use package.Rattle.forward.specs.Outcomes.{Out}
-use package.Rattle.forward.specs.Ready.{Ready, Ran, ancillaeOf, stateOf, runOf, stepOf, valuesAt, argumentsOf, Places, Calls}
+use package.Rattle.forward.specs.Ready.{Ready, RanForward, ancillaeOf, stateOf, runOf, stepOf, valuesAt, argumentsOf, Places, Calls}
 use package.Rattle.forward.proofs.Answers.{below-mark}
 use package.Rattle.forward.proofs.Runs.{meaning-refused, says, slack, then, held-later}
 use package.Rattle.forward.proofs.Steps.{stepped}
@@ -65,7 +65,7 @@ module _ {code heap slots : List ℕ} {st : Machine} {sc : Scope} {t room : ℕ}
   from-arguments : (ys : List TypeEntry) → step ys ≡ argumentsOf code heap slots st sc t room 0 count ys (callee (function ys) ys)
   from-arguments ys = step-call ys (function ys) (called-there code ys (firstIn code t) (called-function (rd .rows) t (rd .term) (C .kind)))
 
-  pub call-refused : {why : Refusal} → r₁ .status ≡ Refused why → Ran 1 heap heap₁ m slots slots₁ st r₁ step
+  pub call-refused : {why : Refusal} → r₁ .status ≡ Refused why → RanForward 1 heap heap₁ m slots slots₁ st r₁ step
   call-refused {why} s =
       slack (says (D .ran) (λ ys. meaning-refused heap₁ r₁ s ∙ sym (placed-refused heap₁ slots₁ m 0 count (r₁ .state .fuel) (callee (function ys) ys) s)
       ∙ sym (D .answer ys (callee (function ys) ys)) ∙ sym (from-arguments ys))) 1 (omega arith)
@@ -116,9 +116,9 @@ module _ {code heap slots : List ℕ} {st : Machine} {sc : Scope} {t room : ℕ}
         ∙ run-of-function code heap₁ slots₁ (r₁ .state) m count arguments-held (D .held n s count (omega arith) (omega arith)) small-nodes (firstIn code t) b
         (rw qg at qb) (room - 1) ys
 
-    pub call-done : {heap₂ slots₂ : List ℕ} {r₂ : Out} → Ran 0 heap₁ heap₂ (m + (count + 1)) slots₁ slots₂ (r₁ .state) r₂
+    pub call-done : {heap₂ slots₂ : List ℕ} {r₂ : Out} → RanForward 0 heap₁ heap₂ (m + (count + 1)) slots₁ slots₂ (r₁ .state) r₂
         (runOf code heap₁ slots₁ (r₁ .state) (inner sc count) b (room - 1))
-        → Ran 1 heap heap₂ m slots slots₂ st r₂ step
+        → RanForward 1 heap heap₂ m slots slots₂ st r₂ step
     call-done d =
         slack (then (D .ran) (says d (λ ys. sym (called-run ys) ∙ sym (placed-value heap₁ slots₁ m 0 count (r₁ .state .fuel) (callee (function ys) ys) s)
         ∙ sym (D .answer ys (callee (function ys) ys)) ∙ sym (from-arguments ys))) (omega arith)) 1 (omega arith)

@@ -16,7 +16,7 @@ use package.Rattle.valuegraph.specs.Nodes.{valueAt}
 use package.Rattle.decoded.specs.Rows.{kindIn, firstIn, treeIn, programIn}
 use package.Rattle.scopes.specs.Slots.{unknown, slotCount, stateCount, Machine, Scope, machineOf, slotsOf, scopeIn, slotAt, Moved, Written}
 use package.Rattle.forward.specs.Outcomes.{Out, stopped, statusOf, outOf, Finds}
-use package.Rattle.forward.specs.Ready.{Ready, Ran, runOf, stepOf, underOf, ancillaeOf, stateOf, Places, ReadyIn, endOf, Evaluates, EvaluatesUnder, Steps, MakeReady, MakesIn, CheckReady}
+use package.Rattle.forward.specs.Ready.{Ready, RanForward, runOf, stepOf, underOf, ancillaeOf, stateOf, Places, ReadyIn, endOf, Evaluates, EvaluatesUnder, Steps, MakeReady, MakesIn, CheckReady}
 use package.Rattle.forward.proofs.Answers.{below-mark}
 use package.Rattle.forward.proofs.Runs.{later, ancillae-held}
 use package.Rattle.forward.proofs.Steps.{term-ready, term-done, var-done, unit-done}
@@ -31,8 +31,8 @@ slots-full st e = length-drop 2 st ∙ ap (λ n. n - 2) e
 
 -- a run that leaves slots which are equal
 pub with-slots : {k : ℕ} {heap heap′ : List ℕ} {m : ℕ} {slots slots₁ slots₂ : List ℕ} {st : Machine} {out : Out} {res : List TypeEntry → Res Val}
-    → Ran k heap heap′ m slots slots₁ st out res → slots₂ ≡ slots₁ → Ran k heap heap′ m slots slots₂ st out res
-with-slots {k} {heap} {heap′} {m} {slots} {st = st} {out} {res} d e = subst (λ s. Ran k heap heap′ m slots s st out res) (sym e) d
+    → RanForward k heap heap′ m slots slots₁ st out res → slots₂ ≡ slots₁ → RanForward k heap heap′ m slots slots₂ st out res
+with-slots {k} {heap} {heap′} {m} {slots} {st = st} {out} {res} d e = subst (λ s. RanForward k heap heap′ m slots s st out res) (sym e) d
 
 ----------------------------------------------------------------
 -- A unit of fuel is taken
@@ -53,8 +53,8 @@ module _ {code heap st st₁ : List ℕ} {scope t room : ℕ} (rd : ReadyIn 0 0 
   spent-done {heap′} {st′} {r} d = record {
     lengths = d .lengths ∙ M .lengths;
     ran = term-done (rd .ready) f h
-        (subst (λ s. Ran 1 heap heap′ (endOf scope) s (slotsOf st′) taken (outOf r st′) (stepOf code heap s taken (scopeIn scope) t room)) (M .slots)
-        (subst (λ m. Ran 1 heap heap′ (endOf scope) (slotsOf st₁) (slotsOf st′) m (outOf r st′) (stepOf code heap (slotsOf st₁) m (scopeIn scope) t room))
+        (subst (λ s. RanForward 1 heap heap′ (endOf scope) s (slotsOf st′) taken (outOf r st′) (stepOf code heap s taken (scopeIn scope) t room)) (M .slots)
+        (subst (λ m. RanForward 1 heap heap′ (endOf scope) (slotsOf st₁) (slotsOf st′) m (outOf r st′) (stepOf code heap (slotsOf st₁) m (scopeIn scope) t room))
         (M .machine) (d .ran)));
   }
 
@@ -103,7 +103,7 @@ module _ {v : ℕ} {code heap st st₁ : List ℕ} (scope′ : ℕ) {scope t roo
   }
 
   abbrev Widened : (Machine → Scope → List TypeEntry → Res Val) → List ℕ → List ℕ → ℕ → Machine → Scope → Type 0
-  Widened res heap′ st′ r m sc = Ran 0 heap heap′ (sc .base + sc .n) (slotsOf st₁) (slotsOf st′) m (outOf r st′) (res m sc)
+  Widened res heap′ st′ r m sc = RanForward 0 heap heap′ (sc .base + sc .n) (slotsOf st₁) (slotsOf st′) m (outOf r st′) (res m sc)
 
   pub under-done : {heap′ st′ : List ℕ} {r : ℕ} → Evaluates code heap heap′ st₁ st′ scope′ t room r → EvaluatesUnder code heap heap′ st st′ scope node t room r
   under-done {heap′} {st′} {r} d = record {
@@ -115,7 +115,7 @@ module _ {v : ℕ} {code heap st st₁ : List ℕ} (scope′ : ℕ) {scope t roo
 
   -- the term was run in the scope with another variable besides
   pub twice-done : {heap′ st′ : List ℕ} {r node₂ : ℕ} → EvaluatesUnder code heap heap′ st₁ st′ scope′ node₂ t room r
-      → Ran 0 heap heap′ (endOf scope) (slotsOf st) (slotsOf st′) (machineOf st) (outOf r st′)
+      → RanForward 0 heap heap′ (endOf scope) (slotsOf st) (slotsOf st′) (machineOf st) (outOf r st′)
       (λ ys. forward fits (programIn code ys) room (ancillaeOf heap (slotsOf st) (scopeIn scope))
       (some (valueAt heap node₂) ∷ some (valueAt heap node) ∷ stateOf heap (slotsOf st) (scopeIn scope)) (treeIn code ys t) (machineOf st .fuel))
   twice-done {heap′} {st′} {r} {node₂} d =
@@ -167,7 +167,7 @@ called-ready {code} {heap} {st} scope′ {t = t} {room} full e rd = record
 
 pub called-ran : {code heap heap′ st st′ : List ℕ} (scope′ : ℕ) {sc : Scope} {t room r : ℕ} → scopeIn scope′ ≡ sc
     → Evaluates code heap heap′ st st′ scope′ t room r
-    → Ran 0 heap heap′ (sc .base + sc .n) (slotsOf st) (slotsOf st′) (machineOf st) (outOf r st′) (runOf code heap (slotsOf st) (machineOf st) sc t room)
+    → RanForward 0 heap heap′ (sc .base + sc .n) (slotsOf st) (slotsOf st′) (machineOf st) (outOf r st′) (runOf code heap (slotsOf st) (machineOf st) sc t room)
 called-ran {code} {heap} {heap′} {st} {st′} scope′ {t = t} {room} {r} e d =
-    subst (λ sc. Ran 0 heap heap′ (sc .base + sc .n) (slotsOf st) (slotsOf st′) (machineOf st) (outOf r st′)
+    subst (λ sc. RanForward 0 heap heap′ (sc .base + sc .n) (slotsOf st) (slotsOf st′) (machineOf st) (outOf r st′)
     (runOf code heap (slotsOf st) (machineOf st) sc t room)) e (d .ran)

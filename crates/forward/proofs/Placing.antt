@@ -19,7 +19,7 @@ use package.Rattle.valuegraph.specs.Nodes.{valueAt}
 use package.Rattle.valuegraph.proofs.Heaps.{value-kept}
 use package.Rattle.scopes.specs.Slots.{slotCount, Machine, Scope}
 use package.Rattle.forward.specs.Outcomes.{Out, refusalOf}
-use package.Rattle.forward.specs.Ready.{Ready, Ran, ancillaeOf, stateOf, runOf, valuesAt, argumentsOf, placedOf, Places, Calls}
+use package.Rattle.forward.specs.Ready.{Ready, RanForward, ancillaeOf, stateOf, runOf, valuesAt, argumentsOf, placedOf, Places, Calls}
 use package.Rattle.forward.proofs.Runs.{refusal-after, answered, refused, says, then, fewer, ancillae-later, state-later, part}
 use Rattle.forward.specs.declared.outcomes.Refusal.{Refusal}
 use Rattle.forward.specs.declared.outcomes.Status.{Status}
@@ -128,7 +128,7 @@ module _ {code heap slots : List ℕ} {st : Machine} {sc : Scope} {t room : ℕ}
     place-ready =
         rw q (fewer (part rd (argumentIn code t k) (part-argument (rd .rows) t (rd .term) (C .kind) k (omega (arith, C .ancillae, C .next)))) 0 (omega arith))
 
-    module _ {heap₁ slots₁ : List ℕ} {r₁ : Out} (d : Ran 0 heap heap₁ m slots slots₁ st r₁ (runOf code heap slots st sc b (room - 1))) where
+    module _ {heap₁ slots₁ : List ℕ} {r₁ : Out} (d : RanForward 0 heap heap₁ m slots slots₁ st r₁ (runOf code heap slots st sc b (room - 1))) where
       -- argument `k`, as it stands among the others
       at-place : (ys : List TypeEntry) → go ys (treeIn code ys (argumentIn code t k)) (st .fuel) ≡ runOf code heap slots st sc b (room - 1) ys
       at-place ys = ap (λ b. runOf code heap slots st sc b (room - 1) ys) (sym q)

@@ -17,7 +17,7 @@ use package.Rattle.forward.proofs.Answers.{below-mark}
 use package.Rattle.yields.specs.Yields.{Ancillae}
 use package.Rattle.yields.proofs.Ancillae.{ancillae-same, ancillae-kept}
 use package.Rattle.forward.specs.Outcomes.{Out, refusalOf, answerOf, meaning}
-use package.Rattle.forward.specs.Ready.{Graph, Ready, Ran, Makes, ancillaeOf, stateOf}
+use package.Rattle.forward.specs.Ready.{Graph, Ready, RanForward, Makes, ancillaeOf, stateOf}
 use Rattle.forward.specs.declared.outcomes.Refusal.{Refusal}
 use Rattle.forward.specs.declared.outcomes.Refusal.the-variants.{Fuel, Height, Long, FirstMatch, Stuck}
 use Rattle.forward.specs.declared.outcomes.Status.the-variants.{Value, Refused}
@@ -43,7 +43,7 @@ refusal-after (FirstMatch t) k = refl
 refusal-after Stuck k = refl
 
 module _ {k : ℕ} {heap heap′ : List ℕ} {m : ℕ} {slots slots′ : List ℕ} {st : Machine} {out : Out} {res : List TypeEntry → Res Val}
-    (d : Ran k heap heap′ m slots slots′ st out res) where
+    (d : RanForward k heap heap′ m slots slots′ st out res) where
   pub answered : {x : ℕ} → out .status ≡ Value x → (ys : List TypeEntry) → res ys ≡ ok (valueAt heap′ x) (out .state .fuel)
   answered e ys = sym (d .answer ys) ∙ meaning-value heap′ out e
 
@@ -51,7 +51,7 @@ module _ {k : ℕ} {heap heap′ : List ℕ} {m : ℕ} {slots slots′ : List �
   refused e ys = sym (d .answer ys) ∙ meaning-refused heap′ out e
 
   -- the same run, said to give another thing that is equal
-  pub says : {res′ : List TypeEntry → Res Val} → ((ys : List TypeEntry) → res ys ≡ res′ ys) → Ran k heap heap′ m slots slots′ st out res′
+  pub says : {res′ : List TypeEntry → Res Val} → ((ys : List TypeEntry) → res ys ≡ res′ ys) → RanForward k heap heap′ m slots slots′ st out res′
   says e = record {
     agree = d .agree;
     graph = d .graph;
@@ -64,7 +64,7 @@ module _ {k : ℕ} {heap heap′ : List ℕ} {m : ℕ} {slots slots′ : List �
     answer = λ ys. d .answer ys ∙ e ys;
   }
 
-  pub slack : (k′ : ℕ) → k ≤ k′ → Ran k′ heap heap′ m slots slots′ st out res
+  pub slack : (k′ : ℕ) → k ≤ k′ → RanForward k′ heap heap′ m slots slots′ st out res
   slack k′ le = record {
     agree = d .agree;
     graph = d .graph;
@@ -82,7 +82,7 @@ module _ {k : ℕ} {heap heap′ : List ℕ} {m : ℕ} {slots slots′ : List �
 
 module _ {heap : List ℕ} {st : Machine} (G : Graph heap (st .top)) (m : ℕ) (slots : List ℕ) where
   pub still : (out : Out) {res : List TypeEntry → Res Val} → out .state ≡ st → ((n : ℕ) → out .status ≡ Value n → n < st .top)
-      → ((ys : List TypeEntry) → meaning heap out ≡ res ys) → Ran 0 heap heap m slots slots st out res
+      → ((ys : List TypeEntry) → meaning heap out ≡ res ys) → RanForward 0 heap heap m slots slots st out res
   still out e node a = record {
     agree = agree-refl _ heap;
     graph = rw e G;
@@ -96,14 +96,14 @@ module _ {heap : List ℕ} {st : Machine} (G : Graph heap (st .top)) (m : ℕ) (
   }
 
   pub halted : (out : Out) {w : Refusal} {res : List TypeEntry → Res Val} → out .state ≡ st → out .status ≡ Refused w
-      → ((ys : List TypeEntry) → res ys ≡ refusalOf w) → Ran 0 heap heap m slots slots st out res
+      → ((ys : List TypeEntry) → res ys ≡ refusalOf w) → RanForward 0 heap heap m slots slots st out res
   halted out e s a =
       still out e (λ n q. let z : _≡_ {A = ℕ} 0 1 = cc in absurd (omega arith)) (λ ys. meaning-refused heap out s ∙ sym (a ys))
 
 -- a node was made, or its value is too long
 pub one-node : {heap heap′ : List ℕ} {st : Machine} {out : Out} {t : ℕ} {v : Val} (m : ℕ) (slots : List ℕ) {res : List TypeEntry → Res Val}
     → Makes heap heap′ st out t v
-    → ((ys : List TypeEntry) → meaning heap′ out ≡ res ys) → Ran 1 heap heap′ m slots slots st out res
+    → ((ys : List TypeEntry) → meaning heap′ out ≡ res ys) → RanForward 1 heap heap′ m slots slots st out res
 one-node m slots d e = record {
   agree = d .agree;
   graph = d .graph;
@@ -120,9 +120,9 @@ one-node m slots d e = record {
 -- One run after another
 
 module _ {heap heap₁ : List ℕ} {m : ℕ} {slots slots₁ : List ℕ} {st : Machine} {r : Out} {res₁ : List TypeEntry → Res Val}
-    (d : Ran 0 heap heap₁ m slots slots₁ st r res₁) where
+    (d : RanForward 0 heap heap₁ m slots slots₁ st r res₁) where
   pub then : {k : ℕ} {heap₂ : List ℕ} {m′ : ℕ} {slots₂ : List ℕ} {out : Out} {res : List TypeEntry → Res Val}
-      → Ran k heap₁ heap₂ m′ slots₁ slots₂ (r .state) out res → m ≤ m′ → Ran k heap heap₂ m slots slots₂ st out res
+      → RanForward k heap₁ heap₂ m′ slots₁ slots₂ (r .state) out res → m ≤ m′ → RanForward k heap heap₂ m slots slots₂ st out res
   then b le = record {
     agree = agree-trans (d .agree) (agree-down _ (d .grows) (b .agree));
     graph = b .graph;
@@ -137,7 +137,7 @@ module _ {heap heap₁ : List ℕ} {m : ℕ} {slots slots₁ : List ℕ} {st : M
 
   -- a part was refused, and so is the whole
   pub part-refused : {w : Refusal} {res : List TypeEntry → Res Val} (next : List TypeEntry → Val → Run Val) → r .status ≡ Refused w
-      → ((ys : List TypeEntry) → res ys ≡ after (res₁ ys) (next ys)) → Ran 0 heap heap₁ m slots slots₁ st r res
+      → ((ys : List TypeEntry) → res ys ≡ after (res₁ ys) (next ys)) → RanForward 0 heap heap₁ m slots slots₁ st r res
   part-refused {w} next s e =
       says d (λ ys. refused d s ys ∙ sym (refusal-after w (next ys)) ∙ sym (ap (λ x. after x (next ys)) (refused d s ys)) ∙ sym (e ys))
 
@@ -145,8 +145,8 @@ module _ {heap heap₁ : List ℕ} {m : ℕ} {slots slots₁ : List ℕ} {st : M
   pub part-answered : {x : ℕ} {res : List TypeEntry → Res Val} (next : List TypeEntry → Val → Run Val) → r .status ≡ Value x
       → ((ys : List TypeEntry) → res ys ≡ after (res₁ ys) (next ys))
       → {k : ℕ} {heap₂ : List ℕ} {m′ : ℕ} {slots₂ : List ℕ} {out : Out}
-      → Ran k heap₁ heap₂ m′ slots₁ slots₂ (r .state) out (λ ys. next ys (valueAt heap₁ x) (r .state .fuel))
-      → m ≤ m′ → Ran k heap heap₂ m slots slots₂ st out res
+      → RanForward k heap₁ heap₂ m′ slots₁ slots₂ (r .state) out (λ ys. next ys (valueAt heap₁ x) (r .state .fuel))
+      → m ≤ m′ → RanForward k heap heap₂ m slots slots₂ st out res
   part-answered next s e b le = then (says b (λ ys. sym (via (next ys) (answered d s ys) refl) ∙ sym (e ys))) le
 
 ----------------------------------------------------------------
@@ -172,7 +172,7 @@ module _ {k v : ℕ} {code heap slots : List ℕ} {st : Machine} {sc : Scope} {t
     tall = rd .tall;
   }
 
-  module _ {heap′ slots′ : List ℕ} {out : Out} {res : List TypeEntry → Res Val} (d : Ran 0 heap heap′ (sc .base + sc .n) slots slots′ st out res) where
+  module _ {heap′ slots′ : List ℕ} {out : Out} {res : List TypeEntry → Res Val} (d : RanForward 0 heap heap′ (sc .base + sc .n) slots slots′ st out res) where
     pub held-later : Slots heap′ slots′ (sc .base + sc .n) (out .state .top)
     held-later = record { held = λ j h. rw (← d .below j h) (slot-later (d .agree) (out .state .top) (d .grows) (rd .held .held j h)) }
 

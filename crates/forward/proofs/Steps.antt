@@ -21,7 +21,7 @@ use package.Rattle.scopes.specs.declared.slots.Found.the-variants.{Node, Unknow
 use package.Rattle.scopes.proofs.Scopes.{known-state}
 use package.Rattle.yields.specs.Yields.{Wraps}
 use package.Rattle.forward.specs.Outcomes.{Out, stopped, refusalOf, meaning, foundOut}
-use package.Rattle.forward.specs.Ready.{Ready, Ran, Makes, Unrolls, ancillaeOf, stateOf, runOf, stepOf}
+use package.Rattle.forward.specs.Ready.{Ready, RanForward, Makes, Unrolls, ancillaeOf, stateOf, runOf, stepOf}
 use package.Rattle.forward.proofs.Runs.{meaning-value, says, slack, still, halted, one-node, part-refused, part-answered, fewer, ancillae-later, state-later, part}
 use package.Rattle.forward.proofs.Making.{test-true}
 use package.Rattle.forward.proofs.Answers.{below-mark}
@@ -57,14 +57,14 @@ module _ {code heap slots : List ℕ} {st : Machine} {sc : Scope} {t room : ℕ}
   place ys = tree-entry (rd .rows) t (rd .term) ys
 
   pub term-spent : (r : Out) → r .status ≡ Refused (Fuel t) → r .state ≡ st → st .fuel ≡ 0
-      → Ran 0 heap heap (sc .base + sc .n) slots slots st r (runOf code heap slots st sc t room)
+      → RanForward 0 heap heap (sc .base + sc .n) slots slots st r (runOf code heap slots st sc t room)
   unfolding refusalOf
   term-spent r s q z =
       halted (rd .graph) _ slots r q s (λ ys. spent (programIn code ys) _ _ _ room (st .fuel) z ∙ ap (stop 12) (place ys))
 
   module _ (some-fuel : ¬ (st .fuel ≡ 0)) where
     pub term-high : (r : Out) → r .status ≡ Refused (Height t) → r .state ≡ st → room ≡ 0
-        → Ran 0 heap heap (sc .base + sc .n) slots slots st r (runOf code heap slots st sc t room)
+        → RanForward 0 heap heap (sc .base + sc .n) slots slots st r (runOf code heap slots st sc t room)
     unfolding refusalOf
     term-high r s q z =
         halted (rd .graph) _ slots r q s
@@ -93,8 +93,8 @@ module _ {code heap slots : List ℕ} {st : Machine} {sc : Scope} {t room : ℕ}
             tall = omega arith;
           }
 
-      pub term-done : {heap′ slots′ : List ℕ} {r : Out} → Ran 1 heap heap′ (sc .base + sc .n) slots slots′ taken r (stepOf code heap slots taken sc t room)
-          → Ran 0 heap heap′ (sc .base + sc .n) slots slots′ st r (runOf code heap slots st sc t room)
+      pub term-done : {heap′ slots′ : List ℕ} {r : Out} → RanForward 1 heap heap′ (sc .base + sc .n) slots slots′ taken r (stepOf code heap slots taken sc t room)
+          → RanForward 0 heap heap′ (sc .base + sc .n) slots slots′ st r (runOf code heap slots st sc t room)
       term-done d =
           let pos = pos-of-ne-zero some-fuel in
           record {
@@ -131,7 +131,7 @@ module _ {code heap slots : List ℕ} {st : Machine} {sc : Scope} {t room : ℕ}
       (st .fuel)) e
 
   -- a part, once another was run
-  pub run-later : {heap₁ slots₁ : List ℕ} {r₁ : Out} {res : List TypeEntry → Res Val} → Ran 0 heap heap₁ m slots slots₁ st r₁ res
+  pub run-later : {heap₁ slots₁ : List ℕ} {r₁ : Out} {res : List TypeEntry → Res Val} → RanForward 0 heap heap₁ m slots slots₁ st r₁ res
       → (b : ℕ) (ys : List TypeEntry)
       → runOf code heap₁ slots₁ (r₁ .state) sc b (room - 1) ys ≡ runOf code heap slots (r₁ .state) sc b (room - 1) ys
   run-later {r₁ = r₁} d b ys =
@@ -152,14 +152,14 @@ module _ {code heap slots : List ℕ} {st : Machine} {sc : Scope} {t room : ℕ}
         stepped ys (tree-var (rd .rows) t (rd .term) ys kind)
         ∙ ap (λ o. onSome o (λ v. test (fits v) 14 t (give v)) (st .fuel)) (known-state heap slots (sc .base) (sc .n) (firstIn code t))
 
-    pub var-done : (r : Out) → r ≡ foundOut (slotAt heap slots (sc .base) (sc .n) (firstIn code t)) st → Ran 1 heap heap m slots slots st r step
+    pub var-done : (r : Out) → r ≡ foundOut (slotAt heap slots (sc .base) (sc .n) (firstIn code t)) st → RanForward 1 heap heap m slots slots st r step
     unfolding foundOut onSome refusalOf
     var-done r e = slack (go (slotAt heap slots (sc .base) (sc .n) (firstIn code t)) refl) 1 (omega arith)
       where
         read : {f : Found} → slotAt heap slots (sc .base) (sc .n) (firstIn code t) ≡ f → r ≡ foundOut f st
         read q = e ∙ ap (λ f. foundOut f st) q
 
-        go : (f : Found) → slotAt heap slots (sc .base) (sc .n) (firstIn code t) ≡ f → Ran 0 heap heap m slots slots st r step
+        go : (f : Found) → slotAt heap slots (sc .base) (sc .n) (firstIn code t) ≡ f → RanForward 0 heap heap m slots slots st r step
         go (Node node) q =
             let below : node < st .top = slot-node heap slots (sc .base) (sc .n) (firstIn code t) (st .top) (rd .held) (omega (arith, rd .small, below-mark)) q in
             still (rd .graph) m slots r (ap (λ (r : Out). r .state) (read q))
@@ -172,7 +172,7 @@ module _ {code heap slots : List ℕ} {st : Machine} {sc : Scope} {t room : ℕ}
             (λ ys. step-var ys ∙ ap (λ f. onSome (slotMeaning heap f) (λ v. test (fits v) 14 t (give v)) (st .fuel)) q)
 
   module _ (kind : kindIn code t ≡ unitKind) where
-    pub unit-done : {heap₂ : List ℕ} {r : Out} → Makes heap heap₂ st r t unit → Ran 1 heap heap₂ m slots slots st r step
+    pub unit-done : {heap₂ : List ℕ} {r : Out} → Makes heap heap₂ st r t unit → RanForward 1 heap heap₂ m slots slots st r step
     unfolding forwardStep made
     unit-done d = one-node m slots d (λ ys. d .answer ∙ sym (stepped ys (tree-unit (rd .rows) t (rd .term) ys kind)))
 
@@ -203,16 +203,16 @@ module _ {code heap slots : List ℕ} {st : Machine} {sc : Scope} {t room : ℕ}
       pub wrap-ready : Ready 0 0 code heap slots st sc b (room - 1)
       wrap-ready = rw q (fewer (part rd (secondIn code t) wrap-part) 0 (omega arith))
 
-      module _ {heap₁ slots₁ : List ℕ} {r₁ : Out} (d : Ran 0 heap heap₁ m slots slots₁ st r₁ (run b)) where
+      module _ {heap₁ slots₁ : List ℕ} {r₁ : Out} (d : RanForward 0 heap heap₁ m slots slots₁ st r₁ (run b)) where
         step-b : (ys : List TypeEntry) → step ys ≡ after (run b ys) wrapped
         step-b ys = step-wrap ys ∙ ap (λ b. after (run b ys) wrapped) (sym q)
 
-        pub wrap-refused : {why : Refusal} → r₁ .status ≡ Refused why → Ran 1 heap heap₁ m slots slots₁ st r₁ step
+        pub wrap-refused : {why : Refusal} → r₁ .status ≡ Refused why → RanForward 1 heap heap₁ m slots slots₁ st r₁ step
         wrap-refused s = slack (part-refused d (λ ys. wrapped) s step-b) 1 (omega arith)
 
         pub wrap-done : {x : ℕ} → r₁ .status ≡ Value x → {heap₂ : List ℕ} {r₂ : Out}
             → Makes heap₁ heap₂ (r₁ .state) r₂ t (ofKind kind (valueAt heap₁ x) (valueAt heap₁ x))
-            → Ran 1 heap heap₂ m slots slots₁ st r₂ step
+            → RanForward 1 heap heap₂ m slots slots₁ st r₂ step
         wrap-done s n = part-answered d (λ ys. wrapped) s step-b (one-node m slots₁ n (λ ys. n .answer)) (omega arith)
 
   ----------------------------------------------------------------
@@ -230,14 +230,14 @@ module _ {code heap slots : List ℕ} {st : Machine} {sc : Scope} {t room : ℕ}
       pub unroll-ready : Ready 0 0 code heap slots st sc b (room - 1)
       unroll-ready = rw q (fewer (part rd (secondIn code t) (part-unroll (rd .rows) t (rd .term) kind)) 0 (omega arith))
 
-      module _ {heap₁ slots₁ : List ℕ} {r₁ : Out} (d : Ran 0 heap heap₁ m slots slots₁ st r₁ (run b)) where
+      module _ {heap₁ slots₁ : List ℕ} {r₁ : Out} (d : RanForward 0 heap heap₁ m slots slots₁ st r₁ (run b)) where
         step-u : (ys : List TypeEntry) → step ys ≡ after (run b ys) unwrapped
         step-u ys = step-unroll ys ∙ ap (λ b. after (run b ys) unwrapped) (sym q)
 
-        pub unroll-refused : {why : Refusal} → r₁ .status ≡ Refused why → Ran 1 heap heap₁ m slots slots₁ st r₁ step
+        pub unroll-refused : {why : Refusal} → r₁ .status ≡ Refused why → RanForward 1 heap heap₁ m slots slots₁ st r₁ step
         unroll-refused s = slack (part-refused d (λ ys. unwrapped) s step-u) 1 (omega arith)
 
-        pub unroll-done : {x : ℕ} → r₁ .status ≡ Value x → {r₂ : Out} → Unrolls heap₁ (r₁ .state) x r₂ → Ran 1 heap heap₁ m slots slots₁ st r₂ step
+        pub unroll-done : {x : ℕ} → r₁ .status ≡ Value x → {r₂ : Out} → Unrolls heap₁ (r₁ .state) x r₂ → RanForward 1 heap heap₁ m slots slots₁ st r₂ step
         unroll-done s {r₂} u =
             slack (part-answered d (λ ys. unwrapped) s step-u (still (d .graph) m slots₁ r₂ (u .state) (u .below) (λ ys. u .answer t)) (omega arith)) 1
             (omega arith)
@@ -264,26 +264,26 @@ module _ {code heap slots : List ℕ} {st : Machine} {sc : Scope} {t room : ℕ}
     pair-second b q = rw q (fewer (part rd (secondIn code t) (parts-pair (rd .rows) t (rd .term) kind .1)) 0 (omega arith))
 
     module _ (b b′ : ℕ) (q : b ≡ firstIn code t) (q′ : b′ ≡ secondIn code t) {heap₁ slots₁ : List ℕ} {r₁ : Out}
-        (d : Ran 0 heap heap₁ m slots slots₁ st r₁ (run b)) where
+        (d : RanForward 0 heap heap₁ m slots slots₁ st r₁ (run b)) where
       step-p : (ys : List TypeEntry) → step ys ≡ after (run b ys) (second-part b′ ys)
       step-p ys = step-pair ys ∙ ap₂ (λ b b′. after (run b ys) (second-part b′ ys)) (sym q) (sym q′)
 
-      pub pair-refused : {why : Refusal} → r₁ .status ≡ Refused why → Ran 1 heap heap₁ m slots slots₁ st r₁ step
+      pub pair-refused : {why : Refusal} → r₁ .status ≡ Refused why → RanForward 1 heap heap₁ m slots slots₁ st r₁ step
       pair-refused s = slack (part-refused d (second-part b′) s step-p) 1 (omega arith)
 
       module _ {x : ℕ} (s : r₁ .status ≡ Value x) {heap₂ slots₂ : List ℕ} {r₂ : Out}
-          (d₂ : Ran 0 heap₁ heap₂ m slots₁ slots₂ (r₁ .state) r₂ (runOf code heap₁ slots₁ (r₁ .state) sc b′ (room - 1))) where
-        then-second : Ran 0 heap₁ heap₂ m slots₁ slots₂ (r₁ .state) r₂ (runOf code heap slots (r₁ .state) sc b′ (room - 1))
+          (d₂ : RanForward 0 heap₁ heap₂ m slots₁ slots₂ (r₁ .state) r₂ (runOf code heap₁ slots₁ (r₁ .state) sc b′ (room - 1))) where
+        then-second : RanForward 0 heap₁ heap₂ m slots₁ slots₂ (r₁ .state) r₂ (runOf code heap slots (r₁ .state) sc b′ (room - 1))
         then-second = says d₂ (run-later d b′)
 
-        pub pair-refused-2 : {why : Refusal} → r₂ .status ≡ Refused why → Ran 1 heap heap₂ m slots slots₂ st r₂ step
+        pub pair-refused-2 : {why : Refusal} → r₂ .status ≡ Refused why → RanForward 1 heap heap₂ m slots slots₂ st r₂ step
         pair-refused-2 s₂ =
             slack (part-answered d (second-part b′) s step-p (part-refused then-second (λ ys. paired (valueAt heap₁ x)) s₂ (λ ys. refl)) (omega arith)) 1
             (omega arith)
 
         pub pair-done : {x₂ : ℕ} → r₂ .status ≡ Value x₂ → {heap₃ : List ℕ} {r₃ : Out}
             → Makes heap₂ heap₃ (r₂ .state) r₃ t (pair (valueAt heap₂ x) (valueAt heap₂ x₂))
-            → Ran 1 heap heap₃ m slots slots₂ st r₃ step
+            → RanForward 1 heap heap₃ m slots slots₂ st r₃ step
         pair-done {x₂} s₂ n =
             part-answered d (second-part b′) s step-p
             (part-answered then-second (λ ys. paired (valueAt heap₁ x)) s₂ (λ ys. refl)

@@ -53,7 +53,7 @@ pub record Ready (k v : ℕ) (code heap slots : List ℕ) (st : Machine) (sc : S
 
 -- A run that may have made `k` nodes more than it took fuel: older nodes and the slots below `m` are as they were, and its meaning is
 -- `res`, whatever the type entries are.
-pub record Ran (k : ℕ) (heap heap′ : List ℕ) (m : ℕ) (slots slots′ : List ℕ) (st : Machine) (out : Out) (res : List TypeEntry → Res Val) : Type 0 where
+pub record RanForward (k : ℕ) (heap heap′ : List ℕ) (m : ℕ) (slots slots′ : List ℕ) (st : Machine) (out : Out) (res : List TypeEntry → Res Val) : Type 0 where
   pub agree : Agree (st .top) heap heap′
   pub graph : Graph heap′ (out .state .top)
   pub below : (j : ℕ) → j < m → getD slots j 0 ≡ getD slots′ j 0
@@ -125,7 +125,7 @@ placedOf heap slots m k count fuel (Refused why) next = refusalOf why
 
 -- The arguments stand in the slots behind the caller's scope, which is as it was.
 pub record Places (code heap heap′ slots slots′ : List ℕ) (st : Machine) (sc : Scope) (t room k count : ℕ) (out : Out) : Type 0 where
-  pub ran : Ran 0 heap heap′ (sc .base + sc .n) slots slots′ st out (λ ys. meaning heap′ out)
+  pub ran : RanForward 0 heap heap′ (sc .base + sc .n) slots slots′ st out (λ ys. meaning heap′ out)
   pub held : (n : ℕ) → out .status ≡ Value n → (j : ℕ) → k ≤ j → j ≤ count → getD slots′ (sc .base + sc .n + j) 0 < out .state .top
   pub answer : (ys : List TypeEntry) (next : List Val → Val → Run Val)
       → argumentsOf code heap slots st sc t room k count ys next ≡ placedOf heap′ slots′ (sc .base + sc .n) k count (out .state .fuel) (out .status) next
@@ -186,7 +186,7 @@ pub record FindReady (heap st : List ℕ) (scope : ℕ) : Type 0 where
 
 -- the answer `r` of a run, which leaves the numbers `st′`
 abbrev pub RanIn : ℕ → (heap heap′ st st′ : List ℕ) → ℕ → ℕ → (List TypeEntry → Res Val) → Type 0
-RanIn k heap heap′ st st′ scope r res = Ran k heap heap′ (endOf scope) (slotsOf st) (slotsOf st′) (machineOf st) (outOf r st′) res
+RanIn k heap heap′ st st′ scope r res = RanForward k heap heap′ (endOf scope) (slotsOf st) (slotsOf st′) (machineOf st) (outOf r st′) res
 
 -- Term `t` was evaluated; in the scope with one variable more; from its entering on.
 pub record Evaluates (code heap heap′ st st′ : List ℕ) (scope t room r : ℕ) : Type 0 where

@@ -16,9 +16,9 @@ use package.Rattle.octets.proofs.Numbers.{bytes-right}
 use package.Rattle.rules.specs.Val.{Val}
 use package.Rattle.rules.proofs.Basics.{given}
 use package.Rattle.calls.specs.Values.{value, ancillae}
-use package.Rattle.calls.specs.Journal.{entryHead, entryBytes, Opened, opened, readEntry, when, _>>=_, heldTag, entryTag}
+use package.Rattle.calls.specs.Journal.{entryHead, entryBytes, Opened, opened, readEntry, provided, _>>=_, heldTag, entryTag}
 use package.Rattle.calls.specs.Journal as journal
-use package.Rattle.calls.proofs.Journal.Fields.{there, when-true, length-field, opened-sound}
+use package.Rattle.calls.proofs.Journal.Fields.{there, provided-true, length-field, opened-sound}
 use package.Rattle.calls.specs.Fields.{fieldHead}
 use package.Rattle.valuebytes.specs.Ends.{isSome, isValue, counted}
 use package.Rattle.valuebytes.specs.declared.scan.Counted.the-variants as count
@@ -51,8 +51,8 @@ module _ (tag : ℕ) (xs : List ℕ) (at : ℕ) where
   -- the field by its tests
   tested : Bool → Bool → Option Opened
   tested tagged whole = do
-    u ← when tagged
-    u′ ← when whole
+    u ← provided tagged
+    u′ ← provided whole
     some (record { body = take (get16 xs (at + 1)) (drop (at + fieldHead) xs); rest = drop (get16 xs (at + 1)) (drop (at + fieldHead) xs) })
 
   opened-tested : fieldHead ≤ length xs - at → opened tag (drop at xs) ≡ tested (eqb (getD xs at 0) tag) (leb (get16 xs (at + 1)) (length xs - (at + fieldHead)))
@@ -61,16 +61,16 @@ module _ (tag : ℕ) (xs : List ℕ) (at : ℕ) where
       ap (opened tag) (three h) ∙ ap (λ n. tested (eqb (getD xs at 0) tag) (leb (get16 xs (at + 1)) n)) (length-drop (at + fieldHead) xs)
 
   pub end-other : fieldHead ≤ length xs - at → (getD xs at 0 ≡ tag → ⊥) → field.Malformed ≡ endOf at (opened tag (drop at xs))
-  unfolding endOf tested when _>>=_
+  unfolding endOf tested provided _>>=_
   end-other h d = ap (endOf at) (sym (opened-tested h ∙ ap (λ b. tested b (leb (get16 xs (at + 1)) (length xs - (at + fieldHead)))) (ne-eqb (getD xs at 0) tag d)))
 
   pub end-cut : fieldHead ≤ length xs - at → getD xs at 0 ≡ tag → length xs - (at + fieldHead) < get16 xs (at + 1) → field.Malformed ≡ endOf at (opened tag (drop at xs))
-  unfolding endOf tested when _>>=_
+  unfolding endOf tested provided _>>=_
   end-cut h e l = ap (endOf at) (sym (opened-tested h ∙ ap₂ tested (eq-eqb (getD xs at 0) tag e) (lt-leb (get16 xs (at + 1)) (length xs - (at + fieldHead)) l)))
 
   pub end-whole : fieldHead ≤ length xs - at → getD xs at 0 ≡ tag → get16 xs (at + 1) ≤ length xs - (at + fieldHead)
       → field.To (at + fieldHead + get16 xs (at + 1)) ≡ endOf at (opened tag (drop at xs))
-  unfolding endOf tested when _>>=_
+  unfolding endOf tested provided _>>=_
   end-whole h e l =
       ap (λ n. field.To (at + fieldHead + n)) (sym (length-take-le (get16 xs (at + 1)) (drop (at + fieldHead) xs) (omega (arith, length-drop (at + fieldHead) xs))))
       ∙ ap (endOf at) (sym (opened-tested h ∙ ap₂ tested (eq-eqb (getD xs at 0) tag e) (le-leb (get16 xs (at + 1)) (length xs - (at + fieldHead)) l)))
@@ -196,7 +196,7 @@ module _ (xs : List ℕ) (bytes : AreBytes xs) (at end : ℕ) (p : field.To end 
   unread h e = ap (endOf at) (sym (there _ (h .is) (ap (λ o. o >>= λ e. some (h .field)) e)))
 
   pub entry-short : end - at < entryBytes → field.Malformed ≡ endOf at (entryField (drop at xs))
-  unfolding readEntry when _>>=_
+  unfolding readEntry provided _>>=_
   entry-short l = given (here entryTag at end xs bytes p) λ h.
       unread h (rw (readEntry, lt-leb entryHead (length (h .field .body)) (omega (arith, h .place))))
 
@@ -207,9 +207,9 @@ module _ (xs : List ℕ) (bytes : AreBytes xs) (at end : ℕ) (p : field.To end 
         ap (λ n. take (end - n) (drop n xs)) (let z : at + entryBytes ≡ at + fieldHead + entryHead = omega arith in z) ∙ body-part h entryHead (omega (arith, h .place))
 
     pub entry-broken : count.Malformed ≡ counted (ancillae (take (end - (at + entryBytes)) (drop (at + entryBytes) xs))) → field.Malformed ≡ endOf at (entryField (drop at xs))
-    unfolding readEntry when _>>=_
+    unfolding readEntry provided _>>=_
     entry-broken q = given (here entryTag at end xs bytes p) λ h.
-        unread h (there _ (when-true (le-leb entryHead (length (h .field .body)) (omega (arith, h .place))))
+        unread h (there _ (provided-true (le-leb entryHead (length (h .field .body)) (omega (arith, h .place))))
         (ap (λ o. o >>= λ vs. some (record { function = get16 (h .field .body) 0; steps = get32 (h .field .body) 2; ancillae = vs }))
         (ap ancillae (sym (values-behind h)) ∙ no-values _ q)))
 
@@ -217,4 +217,4 @@ module _ (xs : List ℕ) (bytes : AreBytes xs) (at end : ℕ) (p : field.To end 
     unfolding entryField endOf readEntry
     entry-whole n q = given (here entryTag at end xs bytes p) λ h. given (some-values (ancillae (take (end - (at + entryBytes)) (drop (at + entryBytes) xs))) q) λ (vs, is).
         ap field.To (h .place) ∙ ap (endOf at) (sym (there _ (h .is) (there _
-        (there _ (when-true (le-leb entryHead (length (h .field .body)) (omega (arith, h .place)))) (there _ (ap ancillae (sym (values-behind h)) ∙ is) refl)) refl)))
+        (there _ (provided-true (le-leb entryHead (length (h .field .body)) (omega (arith, h .place)))) (there _ (ap ancillae (sym (values-behind h)) ∙ is) refl)) refl)))

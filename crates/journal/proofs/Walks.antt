@@ -14,7 +14,7 @@ use package.Rattle.rules.specs.Val.{Val, size}
 use package.Rattle.rules.proofs.Basics.{given, none≢some, some-inj}
 use package.Rattle.rules.proofs.Val.{length-encode}
 use package.Rattle.calls.specs.Values.{value, encodeAll}
-use package.Rattle.calls.specs.Journal.{entryBytes, Entry, Journal, heldTag, entryTag, entryFields, fields, Opened, opened, readEntry, allZero, readEntries, readJournal, when, _>>=_}
+use package.Rattle.calls.specs.Journal.{entryBytes, Entry, Journal, heldTag, entryTag, entryFields, fields, Opened, opened, readEntry, allZero, readEntries, readJournal, provided, _>>=_}
 use package.Rattle.calls.specs.Conversions.{Newest, newest}
 use package.Rattle.calls.proofs.Values.{value-sound}
 use package.Rattle.calls.proofs.Journal.Fields.{there, was-there, length-entryBody, readEntry-sound, opened-bytes}
@@ -62,7 +62,7 @@ readEntries-next n (zero ∷ ys) d = absurd (d refl)
 readEntries-next n (suc y ∷ ys) d = refl
 
 -- or it is
-readEntries-zero : (n : ℕ) (ys : List ℕ) → 0 < length ys → getD ys 0 0 ≡ 0 → readEntries (suc n) ys ≡ (when (allZero ys) >>= λ u. some [])
+readEntries-zero : (n : ℕ) (ys : List ℕ) → 0 < length ys → getD ys 0 0 ≡ 0 → readEntries (suc n) ys ≡ (provided (allZero ys) >>= λ u. some [])
 unfolding readEntries allZero
 readEntries-zero n [] h e = absurd (omega arith)
 readEntries-zero n (zero ∷ ys) h e = refl
@@ -187,19 +187,19 @@ module _ {xs : List ℕ} {held end newest count : ℕ} (h : AreBytes xs) (w : Wa
   walk-ends l = formed (ap₂ readEntries one-more (drop-of-length-le xs l) ∙ readEntries-end (maxConversions - count))
 
   module _ (l : end < length xs) where
-    behind-zero : getD xs end 0 ≡ 0 → (b : Bool) → b ≡ allZero (drop end xs) → readEntries (suc maxConversions - count) (drop end xs) ≡ (when b >>= λ u. some [])
+    behind-zero : getD xs end 0 ≡ 0 → (b : Bool) → b ≡ allZero (drop end xs) → readEntries (suc maxConversions - count) (drop end xs) ≡ (provided b >>= λ u. some [])
     behind-zero e b z =
         ap (λ n. readEntries n (drop end xs)) one-more ∙ readEntries-zero (maxConversions - count) (drop end xs) (omega (arith, length-drop end xs)) (byte-at xs end ∙ e)
-        ∙ ap (λ b. when b >>= λ u. some []) (sym z)
+        ∙ ap (λ b. provided b >>= λ u. some []) (sym z)
 
     pub walk-zeros : getD xs end 0 ≡ 0 → (b : Bool) → b ≡ allZero (drop end xs) → b ≡ true
         → Surveyed (survey.Form (record { held = held; count = count; newest = newest; end = end })) xs
-    unfolding when _>>=_
-    walk-zeros e b z t = formed (behind-zero e b z ∙ ap (λ b. when b >>= λ u. some []) t)
+    unfolding provided _>>=_
+    walk-zeros e b z t = formed (behind-zero e b z ∙ ap (λ b. provided b >>= λ u. some []) t)
 
     pub walk-dirty : getD xs end 0 ≡ 0 → (b : Bool) → b ≡ allZero (drop end xs) → b ≡ false → Surveyed survey.Malformed xs
-    unfolding when _>>=_
-    walk-dirty e b z t = unread (behind-zero e b z ∙ ap (λ b. when b >>= λ u. some []) t)
+    unfolding provided _>>=_
+    walk-dirty e b z t = unread (behind-zero e b z ∙ ap (λ b. provided b >>= λ u. some []) t)
 
     module _ (d : getD xs end 0 ≡ 0 → ⊥) where
       next : (n : ℕ) → readEntries (suc n) (drop end xs)

@@ -48,9 +48,9 @@ seen-some xs n seen e s more z =
     omega (arith, s .all (λ k h. ap (λ l. getD l k 0) z ∙ getD-replicate (length xs) k 0 0 (omega arith)))
 
 -- what was decided, and holds
-pub when-true : {P : Type 0} (b : Bool) → Decides b P → b ≡ true → P
-when-true true h e = h
-when-true false h e = absurd (let z : _≡_ {A = Bool} false true = e in let y : _≡_ {A = ℕ} 0 1 = cc in omega arith)
+pub provided-true : {P : Type 0} (b : Bool) → Decides b P → b ≡ true → P
+provided-true true h e = h
+provided-true false h e = absurd (let z : _≡_ {A = Bool} false true = e in let y : _≡_ {A = ℕ} 0 1 = cc in omega arith)
 
 -- the part from `i` to `e`, cleared
 joined : (xs : List ℕ) (i k : ℕ) (fs ys rs : List ℕ) → fs ≡ replicate i 0 → ys ≡ replicate k 0 → rs ≡ drop (i + k) xs

@@ -28,7 +28,7 @@ use package.Rattle.octets.proofs.Pastes.{length-pasted, pasted-behind}
 use package.Rattle.replay.specs.Scripts.{pick, stepAt, callOf, Placed, Script, callsOf, parseFrom}
 use package.Rattle.replay.specs.Lines.{line, lines}
 use package.Rattle.replay.specs.Playing.{Reply, played, cut, replyTo, Split, split, Result, ends}
-use package.Rattle.replay.specs.Inner.Steps.{hinders, halts, on, swept, leaves, tested, Turn, unplayed, makes, turnOf, play}
+use package.Rattle.replay.specs.Inner.Steps.{hinders, halts, on, swept, leaves, tested, PlayedTurn, unplayed, makes, turnOf, play}
 use package.Rattle.replay.specs.declared.scripts.Part.{Part}
 use package.Rattle.replay.specs.declared.scripts.Step.{Step}
 use package.Rattle.replay.specs.declared.scripts.Step.the-variants as steps
@@ -70,7 +70,7 @@ module _ {P : Program} {b : Book} {j : List ℕ} {ms : List Met} (K : Keeps P b 
 -- A turn, and the playing from there on
 
 -- the turn of a call that was made and left `l`
-abbrev wentTo : ℕ → ℕ → Left → ℕ → List ℕ → List ℕ → Turn
+abbrev wentTo : ℕ → ℕ → Left → ℕ → List ℕ → List ℕ → PlayedTurn
 wentTo to N l count A W = record {
   next = on to;
   journal = resized N (l .journal);
@@ -83,16 +83,16 @@ module _ (program s : List ℕ) (room at count : ℕ) (J A W : List ℕ) where
       → play (suc room) program s at count J A W ≡ ends r J A W
   unfolding play
   halted-play r e =
-      let n : turnOf program s (stepAt s at) at count J A W .next ≡ halts r = ap (λ (t : Turn). t .next) e in
-      rw (n, play) (ap (λ (t : Turn). ends r (t .journal) (t .answers) (t .workspace)) e)
+      let n : turnOf program s (stepAt s at) at count J A W .next ≡ halts r = ap (λ (t : PlayedTurn). t .next) e in
+      rw (n, play) (ap (λ (t : PlayedTurn). ends r (t .journal) (t .answers) (t .workspace)) e)
 
   went-play : (to : ℕ) (J′ A′ W′ : List ℕ)
       → turnOf program s (stepAt s at) at count J A W ≡ record { next = on to; journal = J′; answers = A′; workspace = W′ }
       → play (suc room) program s at count J A W ≡ play room program s to (count + 1) J′ A′ W′
   unfolding play
   went-play to J′ A′ W′ e =
-      let n : turnOf program s (stepAt s at) at count J A W .next ≡ on to = ap (λ (t : Turn). t .next) e in
-      rw (n, play) (ap (λ (t : Turn). play room program s to (count + 1) (t .journal) (t .answers) (t .workspace)) e)
+      let n : turnOf program s (stepAt s at) at count J A W .next ≡ on to = ap (λ (t : PlayedTurn). t .next) e in
+      rw (n, play) (ap (λ (t : PlayedTurn). play room program s to (count + 1) (t .journal) (t .answers) (t .workspace)) e)
 
 ----------------------------------------------------------------
 -- All calls
@@ -144,7 +144,7 @@ module _ (program s : List ℕ) (ws N : ℕ) where
 
   module _ (P : Program) (loads : load program ≡ accepted P) (typed : WellTyped maxVariables maxNodes P) (bytes : AreBytes s) where
     -- the turn at a place, and what is claimed of playing from there on
-    abbrev turnAt : ℕ → ℕ → List ℕ → List ℕ → Turn
+    abbrev turnAt : ℕ → ℕ → List ℕ → List ℕ → PlayedTurn
     turnAt at count A j = turnOf program s (stepAt s at) at count (resized N j) A (zeros ws)
 
     abbrev Plays : ℕ → ℕ → ℕ → List ℕ → List ℕ → Type 0

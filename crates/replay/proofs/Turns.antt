@@ -13,7 +13,7 @@ use package.Rattle.calls.specs.Claims.{lastField}
 use package.Rattle.replay.specs.Scripts.{pick, stepAt, callOf}
 use package.Rattle.replay.specs.Lines.{line}
 use package.Rattle.replay.specs.Playing.{Reply, tooWide, shortAnswers, cut, replyOf, ReplayMeans}
-use package.Rattle.replay.specs.Inner.Steps.{Next, halts, on, roomFor, tested, makes, turnOf, play, Made, Ahead, TurnMeans}
+use package.Rattle.replay.specs.Inner.Steps.{Next, halts, on, roomFor, tested, makes, turnOf, play, Made, Ahead, PlayMeans}
 use package.Rattle.replay.specs.declared.scripts.Part.{Part}
 use package.Rattle.replay.specs.declared.scripts.Step.{Step}
 use package.Rattle.replay.specs.declared.scripts.Step.the-variants as steps
@@ -67,33 +67,33 @@ test-goes n at next end journal q l = let z : lastField journal ≤ n = omega (a
 -- One call
 
 module _ (program : List ℕ) (c : Call) (count : ℕ) (J A W : List ℕ) where
-  pub call-stops : (r : ReplayAnswer) (m : Next) → halts (replyOf r) ≡ m → TurnMeans (moves.Stop r) (makes m program c count J A W) J A W
+  pub call-stops : (r : ReplayAnswer) (m : Next) → halts (replyOf r) ≡ m → PlayMeans (moves.Stop r) (makes m program c count J A W) J A W
   unfolding makes
-  call-stops r m e = subst (λ m. TurnMeans (moves.Stop r) (makes m program c count J A W) J A W) e (record { next-is = refl; kept = refl; told = refl; clear = refl })
+  call-stops r m e = subst (λ m. PlayMeans (moves.Stop r) (makes m program c count J A W) J A W) e (record { next-is = refl; kept = refl; told = refl; clear = refl })
 
   pub call-goes : (to : ℕ) (m : Next) (l J′ A′ W′ : List ℕ) → on to ≡ m → Made program c J W l J′ W′ → A′ ≡ pasted A (7 * count) l
-      → TurnMeans (moves.To to) (makes m program c count J A W) J′ A′ W′
+      → PlayMeans (moves.To to) (makes m program c count J A W) J′ A′ W′
   unfolding makes
   call-goes to m l J′ A′ W′ e M a =
-      subst (λ m. TurnMeans (moves.To to) (makes m program c count J A W) J′ A′ W′) e
+      subst (λ m. PlayMeans (moves.To to) (makes m program c count J A W) J′ A′ W′) e
       (record { next-is = refl; kept = M .kept; told = a ∙ ap (pasted A (7 * count)) (M .told); clear = M .clear })
 
 module _ (program s : List ℕ) (at count : ℕ) (J A W : List ℕ) where
-  pub turn-ends : (x : Step) → steps.End ≡ x → TurnMeans (moves.Stop (replies.Played count)) (turnOf program s x at count J A W) J A W
+  pub turn-ends : (x : Step) → steps.End ≡ x → PlayMeans (moves.Stop (replies.Played count)) (turnOf program s x at count J A W) J A W
   unfolding turnOf
-  turn-ends x e = subst (λ x. TurnMeans (moves.Stop (replies.Played count)) (turnOf program s x at count J A W) J A W) e
+  turn-ends x e = subst (λ x. PlayMeans (moves.Stop (replies.Played count)) (turnOf program s x at count J A W) J A W) e
       (record { next-is = refl; kept = refl; told = refl; clear = refl })
 
-  pub turn-breaks : (x : Step) → steps.Malformed ≡ x → TurnMeans (moves.Stop (replies.Malformed at)) (turnOf program s x at count J A W) J A W
+  pub turn-breaks : (x : Step) → steps.Malformed ≡ x → PlayMeans (moves.Stop (replies.Malformed at)) (turnOf program s x at count J A W) J A W
   unfolding turnOf
-  turn-breaks x e = subst (λ x. TurnMeans (moves.Stop (replies.Malformed at)) (turnOf program s x at count J A W) J A W) e
+  turn-breaks x e = subst (λ x. PlayMeans (moves.Stop (replies.Malformed at)) (turnOf program s x at count J A W) J A W) e
       (record { next-is = refl; kept = refl; told = refl; clear = refl })
 
   pub turn-plays : (m : Move) (p : Part) (x : Step) (J′ A′ W′ : List ℕ) → steps.Play p ≡ x
-      → TurnMeans m (makes (tested (p .n) at (p .next) J) program (callOf (length W) s p) count J A W) J′ A′ W′
-      → TurnMeans m (turnOf program s x at count J A W) J′ A′ W′
+      → PlayMeans m (makes (tested (p .n) at (p .next) J) program (callOf (length W) s p) count J A W) J′ A′ W′
+      → PlayMeans m (turnOf program s x at count J A W) J′ A′ W′
   unfolding turnOf
-  turn-plays m p x J′ A′ W′ e T = subst (λ x. TurnMeans m (turnOf program s x at count J A W) J′ A′ W′) e T
+  turn-plays m p x J′ A′ W′ e T = subst (λ x. PlayMeans m (turnOf program s x at count J A W) J′ A′ W′) e T
 
   -- a call stands there, and the next at `to`
   pub record Onward (to : ℕ) : Type 0 where
@@ -119,14 +119,14 @@ module _ (program s : List ℕ) (at count : ℕ) (J A W : List ℕ) where
   ----------------------------------------------------------------
   -- The calls in turn
 
-  pub play-stops : (room : ℕ) (r : ReplayAnswer) (J′ A′ W′ : List ℕ) → TurnMeans (moves.Stop r) (turnOf program s (stepAt s at) at count J A W) J′ A′ W′
+  pub play-stops : (room : ℕ) (r : ReplayAnswer) (J′ A′ W′ : List ℕ) → PlayMeans (moves.Stop r) (turnOf program s (stepAt s at) at count J A W) J′ A′ W′
       → ReplayMeans r (play (suc room) program s at count J A W) J′ A′ W′
   unfolding play
   play-stops room r J′ A′ W′ T =
       let e : turnOf program s (stepAt s at) at count J A W .next ≡ halts (replyOf r) = sym (T .next-is) in
       rw (e, play) (record { answer = refl; kept = T .kept; told = T .told; clear = T .clear })
 
-  pub play-goes : (room next : ℕ) (J′ A′ W′ : List ℕ) → TurnMeans (moves.To next) (turnOf program s (stepAt s at) at count J A W) J′ A′ W′
+  pub play-goes : (room next : ℕ) (J′ A′ W′ : List ℕ) → PlayMeans (moves.To next) (turnOf program s (stepAt s at) at count J A W) J′ A′ W′
       → play (suc room) program s at count J A W ≡ play room program s next (count + 1) J′ A′ W′
   unfolding play
   play-goes room next J′ A′ W′ T =
@@ -169,19 +169,19 @@ module _ (program s : List ℕ) (start : ℕ) (J₀ A₀ W₀ : List ℕ) where
     again : play (suc (length s - count)) program s at count J A W ≡ play (length s) program s start 1 J₀ A₀ W₀
     again = ap (λ r. play r program s at count J A W) (sym one-more) ∙ G .same
 
-    pub going-stops : (m : Move) (r : ReplayAnswer) (J′ A′ W′ : List ℕ) → m ≡ moves.Stop r → TurnMeans m (turnOf program s (stepAt s at) at count J A W) J′ A′ W′
+    pub going-stops : (m : Move) (r : ReplayAnswer) (J′ A′ W′ : List ℕ) → m ≡ moves.Stop r → PlayMeans m (turnOf program s (stepAt s at) at count J A W) J′ A′ W′
         → ReplayMeans r (play (length s) program s start 1 J₀ A₀ W₀) J′ A′ W′
     going-stops m r J′ A′ W′ e T =
         subst (λ x. ReplayMeans r x J′ A′ W′) again
         (play-stops program s at count J A W (length s - count) r J′ A′ W′
-        (subst (λ m. TurnMeans m (turnOf program s (stepAt s at) at count J A W) J′ A′ W′) e T))
+        (subst (λ m. PlayMeans m (turnOf program s (stepAt s at) at count J A W) J′ A′ W′) e T))
 
     pub going-ends : length s ≤ at → ReplayMeans (replies.Played count) (play (length s) program s start 1 J₀ A₀ W₀) J A W
     going-ends h = subst (λ x. ReplayMeans (replies.Played count) x J A W) again (play-ends program s at count J A W (length s - count) h)
 
-    module _ (m : Move) (next : ℕ) (J′ A′ W′ : List ℕ) (e : m ≡ moves.To next) (T : TurnMeans m (turnOf program s (stepAt s at) at count J A W) J′ A′ W′) where
-      turned : TurnMeans (moves.To next) (turnOf program s (stepAt s at) at count J A W) J′ A′ W′
-      turned = subst (λ m. TurnMeans m (turnOf program s (stepAt s at) at count J A W) J′ A′ W′) e T
+    module _ (m : Move) (next : ℕ) (J′ A′ W′ : List ℕ) (e : m ≡ moves.To next) (T : PlayMeans m (turnOf program s (stepAt s at) at count J A W) J′ A′ W′) where
+      turned : PlayMeans (moves.To next) (turnOf program s (stepAt s at) at count J A W) J′ A′ W′
+      turned = subst (λ m. PlayMeans m (turnOf program s (stepAt s at) at count J A W) J′ A′ W′) e T
 
       called : Onward program s at count J A W next
       called = onward program s at count J A W (sym (turned .next-is))

@@ -16,7 +16,7 @@ ghost use Rattle.replay.specs.Scripts.{stepAt, callOf, parse};
 ghost use Rattle.replay.specs.Lines.{lineLength};
 ghost use Rattle.replay.specs.Booked.{Booked};
 ghost use Rattle.replay.specs.Playing.{replyOf, replayed, ReplayMeans};
-ghost use Rattle.replay.specs.Inner.Steps.{nextOf, stopOf, hinders, roomFor, tested, beginsAt, makes, turnOf, play, follows, begins, Ahead, TurnMeans};
+ghost use Rattle.replay.specs.Inner.Steps.{nextOf, stopOf, hinders, roomFor, tested, beginsAt, makes, turnOf, play, follows, begins, Ahead, PlayMeans};
 
 // Is there room for the call at a place, with a buffer of `n` bytes, and for its line?
 fn fits(n: usize, at: usize, next: usize, count: usize, width: usize, room: usize) -> Move
@@ -88,7 +88,7 @@ fn turn(
 ) -> Move
     requires { ⌜ (part .from ≤ part .next) × (part .next ≤ length (now script)) ⌝ }
     requires { ⌜ (part .n ≤ length (now journal)) × (lineLength * count + lineLength ≤ length (now answers)) ⌝ }
-    ensures { λ r. ⌜ TurnMeans r (makes (tested (part .n) at (part .next) (now (journal .entry))) (now (program .entry)) (callOf (length (now (workspace .entry))) (now (script .entry)) part) count (now (journal .entry)) (now (answers .entry)) (now (workspace .entry))) (now (journal .exit)) (now (answers .exit)) (now (workspace .exit)) ⌝ }
+    ensures { λ r. ⌜ PlayMeans r (makes (tested (part .n) at (part .next) (now (journal .entry))) (now (program .entry)) (callOf (length (now (workspace .entry))) (now (script .entry)) part) count (now (journal .entry)) (now (answers .entry)) (now (workspace .entry))) (now (journal .exit)) (now (answers .exit)) (now (workspace .exit)) ⌝ }
 {
     let n = part.n;
     let next = part.next;
@@ -114,7 +114,7 @@ fn turn_at(
     answers: &mut [u8],
 ) -> Move
     requires { ⌜ Ahead (now script) (length (now journal)) (length (now answers)) at count ⌝ }
-    ensures { λ r. ⌜ TurnMeans r (turnOf (now (program .entry)) (now (script .entry)) (stepAt (now (script .entry)) at) at count (now (journal .entry)) (now (answers .entry)) (now (workspace .entry))) (now (journal .exit)) (now (answers .exit)) (now (workspace .exit)) ⌝ }
+    ensures { λ r. ⌜ PlayMeans r (turnOf (now (program .entry)) (now (script .entry)) (stepAt (now (script .entry)) at) at count (now (journal .entry)) (now (answers .entry)) (now (workspace .entry))) (now (journal .exit)) (now (answers .exit)) (now (workspace .exit)) ⌝ }
 {
     let step = scripts::step_at(script, at);
     match step {

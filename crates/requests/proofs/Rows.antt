@@ -25,7 +25,7 @@ use package.Rattle.admission.specs.Given.{givenIn}
 use package.Rattle.admission.specs.Admitting.{sideOf, Admittable, answerOf, AdmitMeans}
 use package.Rattle.admission.proofs.Tested.{admittable}
 use package.Rattle.runs.specs.Ended.{finished}
-use package.Rattle.runs.specs.Ahead.{Admitted as Allowed, Runnable, Goes}
+use package.Rattle.runs.specs.Ahead.{Allowed, Runnable, Goes}
 use package.Rattle.runs.specs.Back.{Returnable, Returns}
 use package.Rattle.loading.specs.declared.Loaded.{Loaded}
 use package.Rattle.loading.specs.declared.Loaded.the-variants.{Ready, Refused}

@@ -12,7 +12,7 @@ ghost use Prim.Native.Nat.{_≤_};
 ghost use lib.ListN.{length};
 ghost use Rattle.calls.specs.Runs.{workspaceFor};
 ghost use Rattle.admission.specs.Admitting.{sideOf};
-ghost use Rattle.runs.specs.Ahead.{Admitted as Allowed};
+ghost use Rattle.runs.specs.Ahead.{Allowed};
 ghost use Rattle.loading.specs.Loading.{Accepted};
 ghost use Rattle.requests.specs.Runs.{EndMeans, RunMeans, ofProgram, calledOf, Fronts, frontsRun};
 

@@ -46,8 +46,8 @@ abbrev pub collapse : Fun
 collapse = record { ancillae = []; dynamic = bit; result = bit; body = tcase 5 (var 0 0) (tinl 2 bit (tunit 1)) (tinl 4 bit (tunit 3)) }
 
 -- P11: from 1 + 1 to unit alone
-abbrev pub drop : Fun
-drop = record { ancillae = []; dynamic = bit; result = one; body = tunit 0 }
+abbrev pub discards : Fun
+discards = record { ancillae = []; dynamic = bit; result = one; body = tunit 0 }
 
 -- the same by a case that ends in unit: it is typed, and first match refuses its right branch
 abbrev pub dropByCase : Fun
@@ -123,7 +123,7 @@ pub record TreeTable : Type 0 where
   pub p10-typed : checked (collapse ∷ []) ≡ good tt
   pub p10-inl : runs (collapse ∷ []) collapse [] (inl unit) 4 ≡ ok (inl unit) 0
   pub p10-inr : runs (collapse ∷ []) collapse [] (inr unit) 4 ≡ stop 15 5
-  pub p11 : checked (drop ∷ []) ≡ bad 8 (function 0)
+  pub p11 : checked (discards ∷ []) ≡ bad 8 (function 0)
   pub p11-case : checked (dropByCase ∷ []) ≡ good tt
   pub p11-inr : runs (dropByCase ∷ []) dropByCase [] (inr unit) 3 ≡ stop 15 3
   pub p12-typed : checked (flip ∷ []) ≡ good tt

@@ -17,7 +17,7 @@ use package.Rattle.valuegraph.specs.Nodes.{valueAt}
 use package.Rattle.scopes.specs.Slots.{slotCount, stateCount, Machine, machineOf, slotsOf, scopeIn, Moved}
 use package.Rattle.yields.specs.Yields.{Ancillae}
 use package.Rattle.forward.specs.Outcomes.{Out, statusOf, outOf, meaning}
-use package.Rattle.forward.specs.Ready.{Ready, Ran, runOf, valuesAt, ReadyIn, Evaluates}
+use package.Rattle.forward.specs.Ready.{Ready, RanForward, runOf, valuesAt, ReadyIn, Evaluates}
 use package.Rattle.forward.proofs.Starting.{argumentScope, run-of-function, start-ready}
 use package.Rattle.forward.proofs.Lending.{slots-full, called-ready, called-ran}
 use package.Rattle.valuebytes.specs.Ends.{valueIn, valuesIn}
@@ -52,7 +52,7 @@ module _ {xs terms functions heap : List ℕ} {g : ℕ} {anc bytes : List ℕ} {
       start-ready {st = st} {g = g} (rows R D) (in-rows R D) q (B .graph) (B .held) (omega (arith, nodes-room R D B)) (omega (arith, nodes-answer R D B (omega arith)))
       (omega (arith, few-arguments R D B)) full
 
-  module _ {heap″ slots″ : List ℕ} {m : ℕ} {out : Out} (d : Ran 0 heap′ heap″ m slots′ slots″ st out (runOf code heap′ slots′ st (argumentScope 0 (start .count)) b 1024)) where
+  module _ {heap″ slots″ : List ℕ} {m : ℕ} {out : Out} (d : RanForward 0 heap′ heap″ m slots′ slots″ st out (runOf code heap′ slots′ st (argumentScope 0 (start .count)) b 1024)) where
     abbrev count : ℕ
     count = start .count
 
@@ -113,8 +113,8 @@ module _ {xs terms functions heap : List ℕ} {g : ℕ} {anc bytes : List ℕ} {
   eval-done : {heap″ st₂ : List ℕ} {r : ℕ} → Evaluates code heap′ heap″ st₁ st₂ scope b 1024 r → Evaluated xs terms functions heap heap″ g anc bytes fuel (outOf r st₂)
   eval-done {heap″} {st₂} {r} d =
       evaluated R D (B .begun) e l q
-      (subst (λ slots. Ran 0 heap′ heap″ (0 + (start .count + 1)) slots (slotsOf st₂) machine (outOf r st₂) (runOf code heap′ slots machine (argumentScope 0 (start .count)) b 1024)) (M .slots)
-      (subst (λ m. Ran 0 heap′ heap″ (0 + (start .count + 1)) (slotsOf st₁) (slotsOf st₂) m (outOf r st₂) (runOf code heap′ (slotsOf st₁) m (argumentScope 0 (start .count)) b 1024)) (M .machine)
+      (subst (λ slots. RanForward 0 heap′ heap″ (0 + (start .count + 1)) slots (slotsOf st₂) machine (outOf r st₂) (runOf code heap′ slots machine (argumentScope 0 (start .count)) b 1024)) (M .slots)
+      (subst (λ m. RanForward 0 heap′ heap″ (0 + (start .count + 1)) (slotsOf st₁) (slotsOf st₂) m (outOf r st₂) (runOf code heap′ (slotsOf st₁) m (argumentScope 0 (start .count)) b 1024)) (M .machine)
       (called-ran scope s d)))
 
   pub eval-told : {heap″ st₂ : List ℕ} {r t′ f′ : ℕ} → Evaluates code heap′ heap″ st₁ st₂ scope b 1024 r → t′ ≡ machineOf st₂ .top → f′ ≡ machineOf st₂ .fuel

@@ -17,7 +17,7 @@ use package.Rattle.program.specs.Parts.{FunctionField}
 use package.Rattle.program.specs.Programs.{programIn, functionIn}
 use package.Rattle.program.proofs.Lists.{ancillae-count}
 use package.Rattle.decoded.specs.Rows.{functionCount, parametersIn, Rows, programIn as decodedProgram}
-use package.Rattle.decoded.specs.Decoding.{Terms, Functions, Decodes}
+use package.Rattle.decoded.specs.Decoding.{FieldsOfTerms, FieldsOfFunctions, Decodes}
 use package.Rattle.decoded.proofs.Trees.{called-tree, called-only}
 use package.Rattle.decoded.proofs.Accepted.{accepted-terms, accepted-functions, accepted-rows, decoded-program}
 use package.Rattle.valuegraph.specs.Nodes.{nodeBytes}
@@ -28,7 +28,7 @@ use package.Rattle.valuebytes.specs.Ends.{valuesIn}
 use package.Rattle.admission.specs.Given.{givenIn}
 use package.Rattle.runs.specs.declared.begin.Start.{Start}
 use package.Rattle.runs.specs.Begun.{startNodes, Beginning, Begun}
-use package.Rattle.runs.specs.Ahead.{Admitted}
+use package.Rattle.runs.specs.Ahead.{Allowed}
 use package.Rattle.rules.specs.Val.{Val}
 use package.Rattle.rules.specs.Run.{Res, stuck}
 use package.Rattle.backward.specs.declared.outcomes.Refusal.{Refusal}
@@ -39,12 +39,12 @@ use package.Rattle.runs.specs.Ended.{Shaped}
 ----------------------------------------------------------------
 -- What is asked at the start
 
-module _ {side : Fun → Ty} {xs terms functions heap : List ℕ} {g : ℕ} {anc bytes : List ℕ} {fuel : ℕ} (R : Admitted side xs terms functions heap g anc bytes fuel) where
+module _ {side : Fun → Ty} {xs terms functions heap : List ℕ} {g : ℕ} {anc bytes : List ℕ} {fuel : ℕ} (R : Allowed side xs terms functions heap g anc bytes fuel) where
   pub admits : Admits (programIn xs (R .types) terms functions) g (ancillae anc) (value bytes) side (givenIn xs (R .types) terms functions g anc bytes)
   admits = admit-iff (programIn xs (R .types) terms functions) g (ancillae anc) (value bytes) side (givenIn xs (R .types) terms functions g anc bytes) .0 (R .given)
 
   -- what decoding asks
-  pub decode-asks : Terms xs terms × Functions xs functions
+  pub decode-asks : FieldsOfTerms xs terms × FieldsOfFunctions xs functions
   decode-asks = (accepted-terms (R .loaded .read) (R .loaded .tested) maxVariables maxNodes (R .loaded .typed), accepted-functions (R .loaded .read))
 
   module _ {code : List ℕ} (D : Decodes code xs terms functions) where

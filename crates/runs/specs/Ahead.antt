@@ -35,14 +35,14 @@ pub record Loaded (xs types terms functions : List ℕ) : Type 0 where
   pub typed : WellTyped maxVariables maxNodes (programIn xs types terms functions)
 
 -- a call of function `g` of such a program that was admitted, with the workspace that it needs; `side` is the type that the value is held to
-pub record Admitted (side : Fun → Ty) (xs terms functions heap : List ℕ) (g : ℕ) (anc bytes : List ℕ) (fuel : ℕ) : Type 0 where
+pub record Allowed (side : Fun → Ty) (xs terms functions heap : List ℕ) (g : ℕ) (anc bytes : List ℕ) (fuel : ℕ) : Type 0 where
   pub types : List ℕ
   pub loaded : Loaded xs types terms functions
   pub given : admit (programIn xs types terms functions) g (ancillae anc) (value bytes) side ≡ accepted (givenIn xs types terms functions g anc bytes)
   pub enough : workspaceFor fuel ≤ length heap
 
 abbrev pub Runnable : (xs terms functions heap : List ℕ) (g : ℕ) (anc bytes : List ℕ) (fuel : ℕ) → Type 0
-Runnable = Admitted (λ h. h .dynamic)
+Runnable = Allowed (λ h. h .dynamic)
 
 ----------------------------------------------------------------
 -- What evaluation gives

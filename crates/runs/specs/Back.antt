@@ -15,13 +15,13 @@ use package.Rattle.backward.specs.Outcomes.{Status, Done}
 use package.Rattle.backward.specs.Calls.{returned}
 use package.Rattle.admission.specs.Given.{givenIn}
 use package.Rattle.runs.specs.Ended.{Means}
-use package.Rattle.runs.specs.Ahead.{Admitted}
+use package.Rattle.runs.specs.Ahead.{Allowed}
 use package.Rattle.program.specs.Programs.{programIn, functionIn}
 use package.Rattle.valuebytes.specs.Ends.{valueIn, valuesIn}
 
 -- a value given to a backward run is held to the result type
 abbrev pub Returnable : (xs terms functions heap : List ℕ) (g : ℕ) (anc bytes : List ℕ) (fuel : ℕ) → Type 0
-Returnable = Admitted (λ h. h .result)
+Returnable = Allowed (λ h. h .result)
 
 -- the input's node, or the refusal
 abbrev pub inputOf : List ℕ → Status → ℕ → Machine → Res Val

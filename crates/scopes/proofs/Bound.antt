@@ -17,7 +17,7 @@ use package.Rattle.rules.specs.Machine.{State, bindOr, meet}
 use package.Rattle.rules.proofs.Basics.{given, eqb-yes, eqb-no}
 use package.Rattle.valuegraph.specs.Nodes.{valueAt}
 use package.Rattle.scopes.specs.Slots.{unknown, found, meaning, stateAt}
-use package.Rattle.scopes.specs.Bindings.{View, stateOf, Bound, Opens, Meets, Left, Leaves}
+use package.Rattle.scopes.specs.Bindings.{View, stateOf, Bound, Opens, Meets, AfterLeaving, LeavesScope}
 use package.Rattle.scopes.proofs.Marks.{found-mark, found-below, node-or}
 use package.Rattle.scopes.proofs.Scopes.{length-state, state-front, state-bind}
 use Rattle.scopes.specs.declared.slots.Found.{Found}
@@ -145,7 +145,7 @@ opens-state heap b node top r O B l =
     ∙ subst (λ j. stateAt heap (set (b .slots) j node) 0 (suc (b .len)) ≡ meaning heap (found heap node) ∷ stateAt heap (b .slots) 0 (b .len)) (zero-plus (b .len))
     (state-bind heap (b .slots) 0 (b .len) node (omega (arith, zero-plus (b .len), B .full)))
 
-pub leaves-state : (heap : List ℕ) (b : View) (r : Left) → Leaves b r → 0 < b .len → stateOf heap b ≡ meaning heap (found heap (r .newest)) ∷ stateOf heap (r .state)
+pub leaves-state : (heap : List ℕ) (b : View) (r : AfterLeaving) → LeavesScope b r → 0 < b .len → stateOf heap b ≡ meaning heap (found heap (r .newest)) ∷ stateOf heap (r .state)
 unfolding stateOf
 leaves-state heap b r L l =
     ap (stateAt heap (b .slots) 0) (let z : b .len ≡ suc (b .len - 1) = omega arith in z) ∙ state-front heap (b .slots) 0 (b .len - 1)

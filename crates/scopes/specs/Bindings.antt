@@ -56,11 +56,11 @@ pub record Meets (heap : List ℕ) (b : View) (i node x : ℕ) (agrees : Bool) (
       → (agrees ≡ same (valueAt heap (nodeOr (found heap (getD (b .slots) i 0)))) (valueAt heap node)) × (r ≡ b)
 
 -- the newest variable has left: its slot's number, and the view of the others
-pub record Left : Type 0 where
+pub record AfterLeaving : Type 0 where
   pub newest : ℕ
   pub state : View
 
-pub record Leaves (b : View) (r : Left) : Type 0 where
+pub record LeavesScope (b : View) (r : AfterLeaving) : Type 0 where
   pub newest : r .newest ≡ getD (b .slots) (b .len - 1) 0
   pub slots : r .state .slots ≡ b .slots
   pub len : r .state .len ≡ b .len - 1

@@ -15,7 +15,7 @@ use package.Rattle.types.proofs.Growing.{agree-refl, agree-trans, agree-down, t
 use package.Rattle.types.proofs.Outer.{known-up}
 use package.Rattle.typing.specs.Contexts.{NamedBy, Owed}
 use package.Rattle.typing.specs.Outcomes.{faultOf, statusOf}
-use package.Rattle.typing.specs.Ready.{contextIn, Ready, Kept, Inferred, Opened, Told, After}
+use package.Rattle.typing.specs.Ready.{contextIn, Ready, Kept, Inferred, Widened, PartKnown, After}
 use package.Rattle.typing.proofs.Contexts.{context-same}
 use package.Rattle.typing.proofs.Naming.{variable-same}
 use package.Rattle.typing.proofs.Deciding.{typed-inj, typed-refused}
@@ -122,7 +122,7 @@ module _ {p types : List ℕ} where
     lengths = refl;
   }
 
-  pub kept-opened : {heap vars vars′ : List ℕ} {sc : Scope} {top : ℕ} {c : Code} {r : Scope} → Opened p types heap vars vars′ sc top c r
+  pub kept-opened : {heap vars vars′ : List ℕ} {sc : Scope} {top : ℕ} {c : Code} {r : Scope} → Widened p types heap vars vars′ sc top c r
       → Kept 0 p types heap heap (sc .n) vars vars′ top top
   kept-opened O = record {
     agree = agree-refl _ _;
@@ -169,7 +169,7 @@ module _ {size : ℕ} {E : Term} {p types heap heap₁ : List ℕ} {m : ℕ} {va
   unfolding statusOf
   refused e = sym (d .answer) ∙ ap (statusOf (treeIn p types heap₁)) e
 
-  pub told : Told p types heap₁ r
+  pub told : PartKnown p types heap₁ r
   told = record { sources = d .kept .sources; known = d .known }
 
   -- the same, said to mean another thing that is equal
@@ -221,7 +221,7 @@ module _ {size : ℕ} {p types terms functions nodes heap vars : List ℕ} {sc :
   pub ready-less : (size′ : ℕ) → size′ ≤ size → Ready size′ p types terms functions nodes heap vars sc top
   ready-less size′ le = record { entries = rd .entries; scoped = rd .scoped; room = rd .room; small = omega (arith, rd .small) }
 
-  pub ready-opened : {vars′ : List ℕ} {c : Code} {r : Scope} → Opened p types heap vars vars′ sc top c r
+  pub ready-opened : {vars′ : List ℕ} {c : Code} {r : Scope} → Widened p types heap vars vars′ sc top c r
       → Ready size p types terms functions nodes heap vars′ r top
   ready-opened O = record { entries = rd .entries; scoped = O .scoped; room = rd .room; small = rd .small }
 

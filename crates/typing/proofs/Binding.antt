@@ -23,7 +23,7 @@ use package.Rattle.varsets.specs.declared.Uses.{Uses}
 use package.Rattle.typing.specs.Contexts.{NamedBy}
 use package.Rattle.typing.specs.Sizes.{termsIn}
 use package.Rattle.typing.specs.Outcomes.{faultOf}
-use package.Rattle.typing.specs.Ready.{termIn, variableAt, contextIn, typingOf, typeIn, spentBy, Ready, Here, Kept, Inferred, Opened, After, ClosesOne}
+use package.Rattle.typing.specs.Ready.{termIn, variableAt, contextIn, typingOf, typeIn, spentBy, Ready, Here, Kept, Inferred, Widened, After, ClosesOne}
 use package.Rattle.typing.specs.Ready.{ClosesTwo}
 use package.Rattle.typing.proofs.Contexts.{length-context}
 use package.Rattle.typing.proofs.Answers.{Ends, ends-refused, ends-typed, inferred, kept-then, kept-more, kept-opened, tree-later, known-later}
@@ -124,7 +124,7 @@ module _ {p types terms functions nodes heap vars : List ℕ} {sc : Scope} {top 
       pub let-later : Ready (termsIn B) p types terms functions nodes heap₁ vars₁ sc (o .top)
       let-later = ready-later rd (d .kept) _ (omega (arith, size-let))
 
-      module _ {f : Found} (x : o .status ≡ Typed f) {vars₂ : List ℕ} {inner : Scope} (O : Opened p types heap₁ vars₁ vars₂ sc (o .top) (f .code) inner)
+      module _ {f : Found} (x : o .status ≡ Typed f) {vars₂ : List ℕ} {inner : Scope} (O : Widened p types heap₁ vars₁ vars₂ sc (o .top) (f .code) inner)
           {heap₂ vars₃ : List ℕ} {o₂ : Out} (d₂ : Inferred (termsIn B) B p types heap₁ heap₂ (inner .n) vars₂ vars₃ (o .top) o₂
           (typeIn p types terms functions heap₁ vars₂ inner b)) where
         abbrev τ : Ty
@@ -233,12 +233,12 @@ module _ {p types terms functions nodes heap vars : List ℕ} {sc : Scope} {top 
             (kept-more _ (d .kept) (omega (arith, size-letp))))
             (ends-refused y (rule₂ ∙ good-then _ (answered d x) ∙ no-product S (term t) _ n))
 
-        module _ (product : s .kind ≡ productKind) {vars₂ : List ℕ} {inner : Scope} (O : Opened p types heap₁ vars₁ vars₂ sc (o .top) (s .first) inner) where
+        module _ (product : s .kind ≡ productKind) {vars₂ : List ℕ} {inner : Scope} (O : Widened p types heap₁ vars₁ vars₂ sc (o .top) (s .first) inner) where
           -- the second variable can be bound
           pub letp-second : inner .n < maxVariables
           letp-second = omega (arith, O .one-more)
 
-          module _ {vars₃ : List ℕ} {inner₂ : Scope} (O₂ : Opened p types heap₁ vars₂ vars₃ inner (o .top) (s .second) inner₂)
+          module _ {vars₃ : List ℕ} {inner₂ : Scope} (O₂ : Widened p types heap₁ vars₂ vars₃ inner (o .top) (s .second) inner₂)
               {heap₂ vars₄ : List ℕ} {o₂ : Out} (d₂ : Inferred (termsIn B₂) B₂ p types heap₁ heap₂ (inner₂ .n) vars₃ vars₄ (o .top) o₂
               (typeIn p types terms functions heap₁ vars₃ inner₂ b)) where
             abbrev α : Ty

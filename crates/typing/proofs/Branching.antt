@@ -24,7 +24,7 @@ use package.Rattle.typing.specs.Contexts.{NamedBy}
 use package.Rattle.typing.specs.Sizes.{termsIn}
 use package.Rattle.typing.specs.Asked.{ReadyBranches}
 use package.Rattle.typing.specs.Outcomes.{faultOf}
-use package.Rattle.typing.specs.Ready.{termIn, contextIn, typingOf, typeIn, branchesOf, spentBy, Ready, Here, Kept, Inferred, Opened, After, Meets}
+use package.Rattle.typing.specs.Ready.{termIn, contextIn, typingOf, typeIn, branchesOf, spentBy, Ready, Here, Kept, Inferred, Widened, After, Meets}
 use package.Rattle.typing.proofs.Contexts.{same-use-iff}
 use package.Rattle.typing.proofs.Answers.{Ends, ends-refused, ends-typed, inferred, kept-then, kept-more, kept-opened, tree-later, known-later}
 use package.Rattle.typing.proofs.Answers.{stopped, need-yes, need-no, answered, part-refused, earlier, part-tested, says, good-then, ready-less}
@@ -179,7 +179,7 @@ module _ {p types terms functions : List ℕ} {table : List (List ℕ)} {nodes h
   pub left-ready : Ready (termsIn L) p types terms functions nodes heap vars sc top
   left-ready = ready-less rd _ (omega (arith, size-is))
 
-  module _ {vars₁ : List ℕ} {inner : Scope} (O : Opened p types heap vars vars₁ sc top c inner)
+  module _ {vars₁ : List ℕ} {inner : Scope} (O : Widened p types heap vars vars₁ sc top c inner)
       {heap₁ vars₂ : List ℕ} {o : Out} (D : Inferred (termsIn L) L p types heap heap₁ (inner .n) vars₁ vars₂ top o
       (typeIn p types terms functions heap vars₁ inner l)) where
     -- the left branch, from the start
@@ -218,7 +218,7 @@ module _ {p types terms functions : List ℕ} {table : List (List ℕ)} {nodes h
           (subst (λ v. Kept size p types heap heap₁ (sc .n) vars vars₂ top v) (sym z) (kept-more size (left-whole .kept) (omega (arith, size-is))))
           (ends-refused s (aim-left ∙ need-no _ _ _ _ (sym left-spent ∙ n)))
 
-      module _ (yes : b ≡ true) {vars₃ : List ℕ} {inner₂ : Scope} (O₂ : Opened p types heap₁ vars₂ vars₃ sc (o .top) d inner₂)
+      module _ (yes : b ≡ true) {vars₃ : List ℕ} {inner₂ : Scope} (O₂ : Widened p types heap₁ vars₂ vars₃ sc (o .top) d inner₂)
           {heap₂ vars₄ : List ℕ} {o₂ : Out} (D₂ : Inferred (termsIn R) R p types heap₁ heap₂ (inner₂ .n) vars₃ vars₄ (o .top) o₂
           (typeIn p types terms functions heap₁ vars₃ inner₂ r)) where
         -- the right branch, from the start

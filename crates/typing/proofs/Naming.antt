@@ -24,7 +24,7 @@ use package.Rattle.varsets.specs.declared.Uses.{Uses}
 use package.Rattle.varsets.specs.Sets.{Holds, has, alone, joined}
 use package.Rattle.typing.specs.Contexts.{contextAt, mustUseAt, Owed}
 use package.Rattle.typing.specs.Outcomes.{statusOf, faultOf}
-use package.Rattle.typing.specs.Ready.{variableBytes, variableAt, contextIn, Scoped, Reads, Seen, Opened}
+use package.Rattle.typing.specs.Ready.{variableBytes, variableAt, contextIn, Scoped, Reads, Seen, Widened}
 use package.Rattle.typing.proofs.Contexts.{stands-static, stands-barred, stands-dynamic, length-context, look-context, look-outside, context-bind}
 use package.Rattle.typing.proofs.Contexts.{must-use-newest, must-use-older, must-use-outside}
 use package.Rattle.typing.proofs.Deciding.{typed-inj, typed-refused}
@@ -128,7 +128,7 @@ module _ {p types heap vars : List ℕ} {sc : Scope} {top : ℕ} (S : Scoped p t
         (S .low)
         (ap (treeIn p types heap) newest) (λ i l. ap (treeIn p types heap) (sym (older i l)))
 
-    pub opened : Opened p types heap vars vars′ sc top c inner
+    pub opened : Widened p types heap vars vars′ sc top c inner
     opened = record {
       scoped = record {
         sources = S .sources;
@@ -167,13 +167,13 @@ module _ {p types heap vars : List ℕ} {sc : Scope} {top : ℕ} (S : Scoped p t
   outside i l q = S .owed .each i l ∙ must-use-outside Δ i (omega (arith, as-many))
 
   -- of the unit type, it need not be used
-  pub opened-unit : {b : Bool} → b ≡ isUnit τ → b ≡ true → Opened p types heap vars vars′ sc top c
+  pub opened-unit : {b : Bool} → b ≡ isUnit τ → b ≡ true → Widened p types heap vars vars′ sc top c
       (record { q = sc .q; lo = sc .lo; n = sc .n + 1; owed = sc .owed })
   opened-unit q k = opened (sc .owed)
       (owed-by (sc .owed) (λ i l x. S .owed .each i l) (outside (sc .n) h (omega arith) ∙ sym (ap not (sym q ∙ k))) (λ i l x. outside i l (omega arith)))
 
   pub opened-used : {b : Bool} → b ≡ isUnit τ → b ≡ false → {mine u : Uses} → Holds mine (alone (sc .n)) → Holds u (joined (has (sc .owed)) (has mine))
-      → Opened p types heap vars vars′ sc top c (record { q = sc .q; lo = sc .lo; n = sc .n + 1; owed = u })
+      → Widened p types heap vars vars′ sc top c (record { q = sc .q; lo = sc .lo; n = sc .n + 1; owed = u })
   opened-used q k {mine} {u} M U = opened u (owed-by u
       (λ i l x. U .each i l ∙ ap₂ _||_ (S .owed .each i l) (M .each i l ∙ ne-eqb i (sc .n) (λ e. omega arith)) ∙ or-false (mustUseAt Δ i))
       (U .each (sc .n) h ∙ ap₂ _||_ (outside (sc .n) h (omega arith)) (M .each (sc .n) h ∙ eq-eqb (sc .n) (sc .n) refl) ∙ sym (ap not (sym q ∙ k)))

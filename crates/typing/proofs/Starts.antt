@@ -23,7 +23,7 @@ use package.Rattle.varsets.specs.declared.Uses.{Uses}
 use package.Rattle.varsets.specs.Sets.{Holds, nobody}
 use package.Rattle.typing.specs.declared.outcomes.Scope.{Scope}
 use package.Rattle.typing.specs.Contexts.{standing, contextAt, mustUseAt, Owed}
-use package.Rattle.typing.specs.Ready.{variableBytes, variableAt, contextIn, Scoped, Opened}
+use package.Rattle.typing.specs.Ready.{variableBytes, variableAt, contextIn, Scoped, Widened}
 use package.Rattle.typing.specs.Checked.{Signed, Bound, Started}
 use package.Rattle.typing.proofs.Contexts.{stands-static, stands-barred, stands-dynamic, length-context, look-context, look-outside}
 use package.Rattle.typing.proofs.Parameters.{row-ancilla, row-dynamic}
@@ -79,7 +79,7 @@ abbrev typeAtVar : List ℕ → List ℕ → List ℕ → List ℕ → ℕ → T
 typeAtVar xs types heap vars i = treeIn xs types heap (variableAt vars i)
 
 -- a variable of the code's type is bound
-module _ {xs types heap vars vars′ : List ℕ} {sc r : Scope} {top : ℕ} {c : Code} (O : Opened xs types heap vars vars′ sc top c r) where
+module _ {xs types heap vars vars′ : List ℕ} {sc r : Scope} {top : ℕ} {c : Code} (O : Widened xs types heap vars vars′ sc top c r) where
   seen : (i : ℕ) → i < r .n → some (standing (r .q) (r .lo) i (typeAtVar xs types heap vars′ i)) ≡ look
       (dynamic (treeIn xs types heap c) ∷ contextIn xs types heap vars sc) i
   seen i l = sym (look-context (typeAtVar xs types heap vars′) (r .q) (r .lo) (r .n) i l) ∙ ap (λ Δ. look Δ i) (O .context)
@@ -125,7 +125,7 @@ ancillae-scoped {n = n} {u = u} S B l h = record {
 
 -- one parameter more
 pub one-bound : {xs types heap vars vars′ row : List ℕ} {n i : ℕ} {u : Uses} {c : Code} {r : Scope}
-    → Opened xs types heap vars vars′ (record { q = n; lo = 0; n = n; owed = u }) 0 c r → i ≡ n → c ≡ entryCode (getD row i 0)
+    → Widened xs types heap vars vars′ (record { q = n; lo = 0; n = n; owed = u }) 0 c r → i ≡ n → c ≡ entryCode (getD row i 0)
     → Bound xs types heap vars row n → Bound xs types heap vars′ row (n + 1)
 one-bound {xs} {types} {heap} {vars} {vars′} {row} {n} {i} O s e B = record {
   slots = omega (arith, B .slots, O .lengths);
@@ -141,7 +141,7 @@ one-bound {xs} {types} {heap} {vars} {vars′} {row} {n} {i} O s e B = record {
 -- the scope of all parameters
 pub all-bound : {xs types heap vars vars′ row : List ℕ} {at n i : ℕ} {u : Uses} {c : Code} {r : Scope} → Signed xs types at row
     → Bound xs types heap vars row n → n ≡ parametersAt xs at - 1 → i ≡ n → c ≡ entryCode (getD row i 0)
-    → Opened xs types heap vars vars′ (record { q = n; lo = 0; n = n; owed = u }) 0 c r → Started xs types heap vars′ at r
+    → Widened xs types heap vars vars′ (record { q = n; lo = 0; n = n; owed = u }) 0 c r → Started xs types heap vars′ at r
 all-bound {xs} {types} {heap} {vars} {vars′} {row} {at} {n} {i} {c = c} S B m s e O = record {
   scoped = O .scoped;
   context = O .context ∙ ap₂ (λ c Δ. dynamic c ∷ Δ) last firsts;

@@ -182,7 +182,7 @@ pub record Bare (top : ℕ) (r : Out) : Type 0 where
   pub uses : Holds (found .uses) nobody
 
 -- A variable of the code's type is bound; `r` is the scope with it.
-pub record Opened (p types heap vars vars′ : List ℕ) (sc : Scope) (top : ℕ) (c : Code) (r : Scope) : Type 0 where
+pub record Widened (p types heap vars vars′ : List ℕ) (sc : Scope) (top : ℕ) (c : Code) (r : Scope) : Type 0 where
   pub scoped : Scoped p types heap vars′ r top
   pub one-more : r .n ≡ sc .n + 1
   pub context : contextIn p types heap vars′ r ≡ dynamic (treeIn p types heap c) ∷ contextIn p types heap vars sc
@@ -190,7 +190,7 @@ pub record Opened (p types heap vars vars′ : List ℕ) (sc : Scope) (top : ℕ
   pub lengths : length vars ≡ length vars′
 
 -- the outcome of a part, whose type is known
-pub record Told (p types heap : List ℕ) (out : Out) : Type 0 where
+pub record PartKnown (p types heap : List ℕ) (out : Out) : Type 0 where
   pub sources : Sources p types heap (out .top)
   pub known : (f : Found) → out .status ≡ Typed f → Known (length types) (out .top) (f .code)
 

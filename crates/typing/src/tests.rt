@@ -11,11 +11,11 @@ ghost use lib.ListN.{length};
 ghost use Rattle.rules.specs.Limits.{maxVariables, maxTerms};
 ghost use Rattle.types.specs.Codes.{Room, Known, Sources};
 ghost use Rattle.types.specs.Counts.{Counted};
-ghost use Rattle.typing.specs.Ready.{Told, After, Joins, Expects, spentBy, ClosesOne, ClosesTwo, Meets, Pairs};
+ghost use Rattle.typing.specs.Ready.{PartKnown, After, Joins, Expects, spentBy, ClosesOne, ClosesTwo, Meets, Pairs};
 
 // The part has to have the type `want`; then the type is `answer`.
 pub fn expect(p: &[u8], types: &[u16], ws: &[u8], out: Out, want: Code, answer: Code, t: u16) -> Out
-    requires { ⌜ Told (now p) (now types) (now ws) out ⌝ }
+    requires { ⌜ PartKnown (now p) (now types) (now ws) out ⌝ }
     requires { ⌜ Known (length (now types)) (out .top) want ⌝ }
     ensures { λ r. ⌜ After out r (Expects (now (p .entry)) (now (types .entry)) (now (ws .entry)) want answer t) ⌝ }
 {
@@ -71,7 +71,7 @@ pub fn close_one(
     c: Code,
     t: u16,
 ) -> Out
-    requires { ⌜ Told (now p) (now types) (now ws) out ⌝ }
+    requires { ⌜ PartKnown (now p) (now types) (now ws) out ⌝ }
     requires { ⌜ Known (length (now types)) (out .top) c × (i < maxVariables) ⌝ }
     ensures { λ r. ⌜ After out r (ClosesOne (now (p .entry)) (now (types .entry)) (now (ws .entry)) uses i c t) ⌝ }
 {
@@ -100,7 +100,7 @@ pub fn close_two(
     d: Code,
     t: u16,
 ) -> Out
-    requires { ⌜ Told (now p) (now types) (now ws) out ⌝ }
+    requires { ⌜ PartKnown (now p) (now types) (now ws) out ⌝ }
     requires { ⌜ Known (length (now types)) (out .top) c × Known (length (now types)) (out .top) d × (i + 1 < maxVariables) ⌝ }
     ensures { λ r. ⌜ After out r (ClosesTwo (now (p .entry)) (now (types .entry)) (now (ws .entry)) uses i c d t) ⌝ }
 {
@@ -133,7 +133,7 @@ pub fn meet(
     owed: Uses,
     t: u16,
 ) -> Out
-    requires { ⌜ Told (now p) (now types) (now ws) out ⌝ }
+    requires { ⌜ PartKnown (now p) (now types) (now ws) out ⌝ }
     requires { ⌜ Known (length (now types)) (out .top) (left .code) × Known (length (now types)) (out .top) d × (i < maxVariables) ⌝ }
     ensures { λ r. ⌜ After out r (Meets (now (p .entry)) (now (types .entry)) (now (ws .entry)) left uses i d owed t) ⌝ }
 {
@@ -169,7 +169,7 @@ pub fn pair_up(
     left: Found,
     t: u16,
 ) -> Out
-    requires { ⌜ Told (now p) (now types) (now ws) out ⌝ }
+    requires { ⌜ PartKnown (now p) (now types) (now ws) out ⌝ }
     requires { ⌜ Known (length (now types)) (out .top) (left .code) ⌝ }
     requires { ⌜ Counted (now p) (now types) (now nodes) ⌝ }
     requires { ⌜ Room (now ws) (out .top + 1) × (out .top < maxTerms) ⌝ }

@@ -11,7 +11,7 @@ ghost use Prim.Native.Nat.{_*_, _≤_, _<_};
 ghost use lib.ListN.{length};
 ghost use Rattle.rules.specs.Limits.{maxVariables};
 ghost use Rattle.types.specs.Codes.{Known};
-ghost use Rattle.typing.specs.Ready.{variableBytes, variableAt, Scoped, Reads, Seen, Opened};
+ghost use Rattle.typing.specs.Ready.{variableBytes, variableAt, Scoped, Reads, Seen, Widened};
 
 pub const VARIABLE_BYTES: usize = 6;
 
@@ -71,7 +71,7 @@ pub fn bind(
 ) -> Scope
     requires { ⌜ Scoped (now p) (now types) (now ws) (now vars) sc top ⌝ }
     requires { ⌜ Known (length (now types)) top c × (sc .n < maxVariables) ⌝ }
-    ensures { λ r. ⌜ Opened (now (p .entry)) (now (types .entry)) (now (ws .entry)) (now (vars .entry)) (now (vars .exit)) sc top c r ⌝ }
+    ensures { λ r. ⌜ Widened (now (p .entry)) (now (types .entry)) (now (ws .entry)) (now (vars .entry)) (now (vars .exit)) sc top c r ⌝ }
 {
     let n = sc.n;
     types::nodes::put_code(vars, slot(n), c);

@@ -16,8 +16,8 @@ use package.Rattle.valuebytes.specs.declared.typed.Parts.the-variants as
 use package.Rattle.valuebytes.specs.declared.typed.Turn.{Turn}
 use package.Rattle.valuebytes.specs.declared.typed.Turn.the-variants as turn
 use package.Rattle.valuebytes.specs.Scopes.{plugs, scopeOf, typeUnder}
-use package.Rattle.valuebytes.specs.Typing.{entriesOf, Table, room, Bound, Cells, Resolved}
-use package.Rattle.valuebytes.specs.Stack.{partTypes, partsOf, before, behind, pendingTypes, Stack, Advanced, Turned, on, off}
+use package.Rattle.valuebytes.specs.Typing.{entriesOf, TypesRead, room, Bound, Cells, Resolved}
+use package.Rattle.valuebytes.specs.Stack.{partTypes, partsOf, before, behind, pendingTypes, Stack, Advanced, TurnLeaves, on, off}
 use package.Rattle.valuebytes.proofs.Stack.{pop, push, push-types, enter, enter-types}
 use package.Rattle.valuebytes.proofs.Split.{Split, nothing, single, double, body, wrong, split, body-type, body-bound}
 
@@ -26,7 +26,7 @@ abbrev pub scoped : ℕ → ℕ → Scoped
 scoped i e = record { entry = i; cell = e }
 
 -- what the code has of the entry's field
-pub field-there : {xs os binders outer : List ℕ} {t u : Scoped} {at : ℕ} → Table xs os → Resolved xs os binders outer t u → at ≡ getD os (u .entry) 0 → TypeField xs at
+pub field-there : {xs os binders outer : List ℕ} {t u : Scoped} {at : ℕ} → TypesRead xs os → Resolved xs os binders outer t u → at ≡ getD os (u .entry) 0 → TypeField xs at
 field-there {xs} T Z e = subst (TypeField xs) (sym e) (T .field _ (Z .bound .known))
 
 pub found : (xs : List ℕ) (b : ℕ) {at place : ℕ} {r p : Parts} → r ≡ partsOf b (typeAt xs at) → at ≡ place → r ≡ p → p ≡ partsOf b (typeAt xs place)
@@ -115,39 +115,39 @@ module _ {xs os binders outer entries cells : List ℕ} {top n : ℕ} (S : Stack
     abbrev Found : Parts → Type 0
     Found p = p ≡ partsOf b (typeAt xs (getD os (u .entry) 0))
 
-    pub turned-wrong : Found parts.Wrong → Turned xs os binders outer entries cells binders outer entries cells top n b turn.Wrong
+    pub turned-wrong : Found parts.Wrong → TurnLeaves xs os binders outer entries cells binders outer entries cells top n b turn.Wrong
     turned-wrong q = off (off-wrong (parts-there q))
 
-    pub turned-nothing : Found parts.Nothing → Turned xs os binders outer entries cells binders outer entries cells top n b (turn.Pending top n)
+    pub turned-nothing : Found parts.Nothing → TurnLeaves xs os binders outer entries cells binders outer entries cells top n b (turn.Pending top n)
     turned-nothing q = on (on-nothing (parts-there q))
 
     pub turned-one : {i : ℕ} → Found (parts.One i) → (top + 1 < room) × (n + 1 < room) → {entries′ cells′ : List ℕ} → entries′ ≡ set entries n i → cells′ ≡ set cells n (u .cell)
-        → Turned xs os binders outer entries cells binders outer entries′ cells′ top n b (turn.Pending top (n + 1))
+        → TurnLeaves xs os binders outer entries cells binders outer entries′ cells′ top n b (turn.Pending top (n + 1))
     turned-one q h e f = rw (e, f) (on (on-one (omega arith) (parts-there q)))
 
     pub turned-two : {i j : ℕ} → Found (parts.Two i j) → (top + 1 < room) × (n + 1 < room) → {entries′ cells′ entries″ cells″ : List ℕ}
         → entries′ ≡ set entries n j → cells′ ≡ set cells n (u .cell) → entries″ ≡ set entries′ (n + 1) i → cells″ ≡ set cells′ (n + 1) (u .cell)
-        → Turned xs os binders outer entries cells binders outer entries″ cells″ top n b (turn.Pending top (n + 2))
+        → TurnLeaves xs os binders outer entries cells binders outer entries″ cells″ top n b (turn.Pending top (n + 2))
     turned-two q h e f e′ f′ = rw (e′, f′, e, f) (on (on-two (h .1) (parts-there q)))
 
     pub turned-body : {i m : ℕ} → Found (parts.Body i) → (top + 1 < room) × (n + 1 < room) → m ≡ top + 1 → {binders′ outer′ entries′ cells′ : List ℕ}
         → binders′ ≡ set binders m (u .entry) → outer′ ≡ set outer m (u .cell) → entries′ ≡ set entries n i → cells′ ≡ set cells n (top + 1)
-        → Turned xs os binders outer entries cells binders′ outer′ entries′ cells′ top n b (turn.Pending (top + 1) (n + 1))
+        → TurnLeaves xs os binders outer entries cells binders′ outer′ entries′ cells′ top n b (turn.Pending (top + 1) (n + 1))
     turned-body q h m e f e′ f′ = rw (e, f, e′, f′, m) (on (on-body (omega arith) (h .0) (parts-there q)))
 
 -- what a turn says, by its answer
 module _ {xs os binders outer entries cells binders′ outer′ entries′ cells′ : List ℕ} {top n b : ℕ} {r : Turn}
-    (T : Turned xs os binders outer entries cells binders′ outer′ entries′ cells′ top n b r) where
+    (T : TurnLeaves xs os binders outer entries cells binders′ outer′ entries′ cells′ top n b r) where
   pub turned-on : {t k : ℕ} → r ≡ turn.Pending t k → Advanced xs os binders outer entries cells binders′ outer′ entries′ cells′ top n b t k
-  turned-on {t} {k} e = go (subst (Turned xs os binders outer entries cells binders′ outer′ entries′ cells′ top n b) e T)
+  turned-on {t} {k} e = go (subst (TurnLeaves xs os binders outer entries cells binders′ outer′ entries′ cells′ top n b) e T)
     where
-      go : Turned xs os binders outer entries cells binders′ outer′ entries′ cells′ top n b (turn.Pending t k)
+      go : TurnLeaves xs os binders outer entries cells binders′ outer′ entries′ cells′ top n b (turn.Pending t k)
           → Advanced xs os binders outer entries cells binders′ outer′ entries′ cells′ top n b t k
       go (on A) = A
 
   pub turned-off : r ≡ turn.Wrong → behind b (pendingTypes (entriesOf xs os) binders outer entries cells (suc n)) ≡ none
-  turned-off e = go (subst (Turned xs os binders outer entries cells binders′ outer′ entries′ cells′ top n b) e T)
+  turned-off e = go (subst (TurnLeaves xs os binders outer entries cells binders′ outer′ entries′ cells′ top n b) e T)
     where
-      go : Turned xs os binders outer entries cells binders′ outer′ entries′ cells′ top n b turn.Wrong
+      go : TurnLeaves xs os binders outer entries cells binders′ outer′ entries′ cells′ top n b turn.Wrong
           → behind b (pendingTypes (entriesOf xs os) binders outer entries cells (suc n)) ≡ none
       go (off q) = q

@@ -22,20 +22,20 @@ use package.Rattle.valuebytes.specs.declared.typed.Step.{Step}
 use package.Rattle.valuebytes.specs.declared.typed.Step.the-variants as step
 use package.Rattle.valuebytes.specs.Ends.{firstOf, isValue}
 use package.Rattle.valuebytes.specs.Scopes.{plugs, typeUnder}
-use package.Rattle.valuebytes.specs.Typing.{entriesOf, Table, room, Bound, valueHas, nextIf, nextOf}
+use package.Rattle.valuebytes.specs.Typing.{entriesOf, TypesRead, room, Bound, valueHas, nextIf, nextOf}
 use package.Rattle.valuebytes.specs.Stack.{Stack}
 use package.Rattle.valuebytes.proofs.Whole.{whole, first-whole}
 use package.Rattle.valuebytes.proofs.Plugs.{plugs-none}
 use package.Rattle.valuebytes.proofs.Cells.{scope-none}
 
 -- the types of a program whose fields were read, and that name lower ones
-pub table : (xs : List ℕ) (L : Layout) → layout xs ≡ accepted L → testTypes L 0 (entriesOf xs (L .types)) ≡ accepted tt → Table xs (L .types)
+pub table : (xs : List ℕ) (L : Layout) → layout xs ≡ accepted L → testTypes L 0 (entriesOf xs (L .types)) ≡ accepted tt → TypesRead xs (L .types)
 table xs L e t = record { field = formed xs e .types; lower = lower L (entriesOf xs (L .types)) t }
 
 ----------------------------------------------------------------
 -- Under no cell
 
-module _ (xs os : List ℕ) (T : Table xs os) (i : ℕ) (l : i < length os) (p : plain (entriesOf xs os) i ≡ true) where
+module _ (xs os : List ℕ) (T : TypesRead xs os) (i : ℕ) (l : i < length os) (p : plain (entriesOf xs os) i ≡ true) where
   closed-entry : closed 0 (typeOf (entriesOf xs os) i) ≡ true
   closed-entry = plain-iff (entriesOf xs os) (T .lower) i (omega (arith, length-map os (typeAt xs))) .0 p .0
 

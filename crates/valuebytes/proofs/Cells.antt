@@ -16,7 +16,7 @@ use package.Rattle.program.specs.Parts.{variable}
 use package.Rattle.program.specs.Kinds.{recursiveKind, typeVariableKind}
 use package.Rattle.valuebytes.specs.declared.typed.Scoped.{Scoped}
 use package.Rattle.valuebytes.specs.Scopes.{plugs, outward, scopeBelow, scopeOf, typeUnder}
-use package.Rattle.valuebytes.specs.Typing.{entriesOf, Table, Cell, Cells, Bound, Resolved}
+use package.Rattle.valuebytes.specs.Typing.{entriesOf, TypesRead, Cell, Cells, Bound, Resolved}
 use package.Rattle.valuebytes.proofs.Plugs.{plugs-var}
 use package.Rattle.valuebytes.proofs.Scopes.{Kept, kept-at, scope-kept, scope-unfolds}
 use package.Rattle.valuebytes.proofs.Trees.{tree-var}
@@ -91,12 +91,12 @@ module _ (xs os binders outer : List ℕ) (cell : ℕ) (C : Cells xs os binders 
       ∙ ap (λ σ. getD σ 0 one) (unfolds (outward k outer cell) (w .0) (w .1))
 
   -- a variable that is bound has its cell
-  pub variable-deep : (i : ℕ) → Table xs os → Bound xs os binders outer cell cell i → 4 ≤ kindAt xs (getD os i 0)
+  pub variable-deep : (i : ℕ) → TypesRead xs os → Bound xs os binders outer cell cell i → 4 ≤ kindAt xs (getD os i 0)
       → variable xs (getD os i 0) < length (scope cell)
   unfolding closed
   variable-deep i T B h = ltb-true _ _ (subst (λ c. closed (length (scope cell)) c ≡ true) (tree-var xs os T i (B .known) h) (B .closes))
 
-module _ (xs os binders outer : List ℕ) (t : Scoped) (T : Table xs os) (C : Cells xs os binders outer (t .cell))
+module _ (xs os binders outer : List ℕ) (t : Scoped) (T : TypesRead xs os) (C : Cells xs os binders outer (t .cell))
     (B : Bound xs os binders outer (t .cell) (t .cell) (t .entry)) where
   pub variable-within : (k : ℕ) → k ≡ variable xs (getD os (t .entry) 0) → 4 ≤ kindAt xs (getD os (t .entry) 0)
       → (n : ℕ) → n ≤ k → (0 < outward n outer (t .cell)) × (outward n outer (t .cell) ≤ t .cell)

@@ -20,7 +20,7 @@ use package.Rattle.calls.proofs.Values.{size-positive}
 use package.Rattle.program.specs.Parts.{first, second}
 use package.Rattle.program.specs.Kinds.{productKind}
 use package.Rattle.valuebytes.specs.Ends.{isValue, partOf}
-use package.Rattle.valuebytes.specs.Typing.{entriesOf, Table, valueHas}
+use package.Rattle.valuebytes.specs.Typing.{entriesOf, TypesRead, valueHas}
 use package.Rattle.valuebytes.proofs.Trees.{tree-prod, prod-known}
 use package.Rattle.valuebytes.proofs.Whole.{Whole, whole, whole-of, is-value, is-pair, smaller}
 
@@ -77,7 +77,7 @@ module _ (s : List ℕ) (e : isValue s ≡ true) (t : getD s 0 0 ≡ 3) where
 ----------------------------------------------------------------
 -- By a product's entry
 
-module _ (xs os : List ℕ) (T : Table xs os) (i : ℕ) (l : i < length os) (k : kindAt xs (getD os i 0) ≡ productKind) where
+module _ (xs os : List ℕ) (T : TypesRead xs os) (i : ℕ) (l : i < length os) (k : kindAt xs (getD os i 0) ≡ productKind) where
   abbrev tree : ℕ → Ty
   tree j = typeOf (entriesOf xs os) j
 

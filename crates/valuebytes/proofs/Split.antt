@@ -18,7 +18,7 @@ use package.Rattle.program.specs.Kinds.{unitTypeKind, productKind, sumKind, rec
 use package.Rattle.valuebytes.specs.declared.typed.Parts.{Parts}
 use package.Rattle.valuebytes.specs.declared.typed.Parts.the-variants as parts
 use package.Rattle.valuebytes.specs.Scopes.{plugs, scopeOf, typeUnder}
-use package.Rattle.valuebytes.specs.Typing.{entriesOf, Table, Cells, Bound}
+use package.Rattle.valuebytes.specs.Typing.{entriesOf, TypesRead, Cells, Bound}
 use package.Rattle.valuebytes.specs.Stack.{partTypes, partsOf}
 use package.Rattle.valuebytes.proofs.Plugs.{unfold-plugs}
 use package.Rattle.valuebytes.proofs.Scopes.{scope-closed}
@@ -42,7 +42,7 @@ module _ (xs os binders outer : List ℕ) (top cell entry b : ℕ) where
         → kindAt xs (getD os entry 0) ≡ recursiveKind → i ≡ first xs (getD os entry 0) → Split (parts.Body i)
     wrong : partTypes b (typeUnder (entriesOf xs os) binders outer cell entry) ≡ none → Split parts.Wrong
 
-  module _ (T : Table xs os) (B : Bound xs os binders outer top cell entry) where
+  module _ (T : TypesRead xs os) (B : Bound xs os binders outer top cell entry) where
     -- the type, from the tree of the entry
     under-tree : {c : Ty} → typeOf (entriesOf xs os) entry ≡ c → under entry ≡ plugs 0 (scopeOf (entriesOf xs os) binders outer cell) c
     unfolding typeUnder

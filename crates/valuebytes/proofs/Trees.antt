@@ -14,14 +14,14 @@ use package.Rattle.calls.proofs.Entries.{below-head, type-unfolds}
 use package.Rattle.program.specs.Parts.{variable, first, second}
 use package.Rattle.program.proofs.Shapes.{type-unit, type-prod, type-sum, type-mu, type-var}
 use package.Rattle.program.specs.Kinds.{unitTypeKind, productKind, sumKind, recursiveKind}
-use package.Rattle.valuebytes.specs.Typing.{entriesOf, Table}
+use package.Rattle.valuebytes.specs.Typing.{entriesOf, TypesRead}
 
 getD-map : {A B : Type 0} (f : A → B) (l : List A) (a : A) (b : B) (i : ℕ) → i < length l → getD (map f l) i b ≡ f (getD l i a)
 getD-map f [] a b i h = absurd (omega arith)
 getD-map f (x ∷ l) a b zero h = refl
 getD-map f (x ∷ l) a b (suc i) h = getD-map f l a b i (omega arith)
 
-module _ (xs os : List ℕ) (T : Table xs os) (i : ℕ) (l : i < length os) where
+module _ (xs os : List ℕ) (T : TypesRead xs os) (i : ℕ) (l : i < length os) where
   entry-at : getD (entriesOf xs os) i y-unit ≡ typeAt xs (getD os i 0)
   entry-at = getD-map (typeAt xs) os 0 y-unit i l
 

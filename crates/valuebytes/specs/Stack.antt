@@ -14,7 +14,7 @@ use package.Rattle.valuebytes.specs.declared.typed.Parts.the-variants as
 use package.Rattle.valuebytes.specs.declared.typed.Turn.{Turn}
 use package.Rattle.valuebytes.specs.declared.typed.Turn.the-variants as turn
 use package.Rattle.valuebytes.specs.Scopes.{typeUnder}
-use package.Rattle.valuebytes.specs.Typing.{entriesOf, Table, room, Cells, Bound}
+use package.Rattle.valuebytes.specs.Typing.{entriesOf, TypesRead, room, Cells, Bound}
 
 ----------------------------------------------------------------
 -- The parts of a value, by its first byte and its type (section 1: 00 unit, 01 inl, 02 inr, 03 pair, 04 roll)
@@ -55,7 +55,7 @@ pendingTypes ys binders outer entries cells (suc n) =
 
 -- cells 1 to `top`, and `n` pending entries that are closed under them
 pub record Stack (xs os binders outer entries cells : List ℕ) (top n : ℕ) : Type 0 where
-  pub table : Table xs os
+  pub table : TypesRead xs os
   pub cells-to : Cells xs os binders outer top
   pub bound : (k : ℕ) → k < n → Bound xs os binders outer top (getD cells k 0) (getD entries k 0)
   pub long-binders : length binders ≡ room
@@ -73,8 +73,8 @@ pub record Advanced (xs os binders outer entries cells binders′ outer′ entri
   pub few-cells : top′ ≤ suc top
   pub few-pending : n′ ≤ suc (suc n)
 
-pub data Turned (xs os binders outer entries cells binders′ outer′ entries′ cells′ : List ℕ) (top n b : ℕ) : Turn → Type 0 where
+pub data TurnLeaves (xs os binders outer entries cells binders′ outer′ entries′ cells′ : List ℕ) (top n b : ℕ) : Turn → Type 0 where
   on : {top′ n′ : ℕ} → Advanced xs os binders outer entries cells binders′ outer′ entries′ cells′ top n b top′ n′
-      → Turned xs os binders outer entries cells binders′ outer′ entries′ cells′ top n b (turn.Pending top′ n′)
+      → TurnLeaves xs os binders outer entries cells binders′ outer′ entries′ cells′ top n b (turn.Pending top′ n′)
   off : behind b (pendingTypes (entriesOf xs os) binders outer entries cells (suc n)) ≡ none
-      → Turned xs os binders outer entries cells binders′ outer′ entries′ cells′ top n b turn.Wrong
+      → TurnLeaves xs os binders outer entries cells binders′ outer′ entries′ cells′ top n b turn.Wrong

@@ -28,7 +28,7 @@ abbrev pub entriesOf : List ℕ → List ℕ → List TypeEntry
 entriesOf xs os = map (typeAt xs) os
 
 -- type entries that were read, and name lower ones
-pub record Table (xs os : List ℕ) : Type 0 where
+pub record TypesRead (xs os : List ℕ) : Type 0 where
   pub field : (i : ℕ) → i < length os → TypeField xs (getD os i 0)
   pub lower : (i : ℕ) → below i (typesOfType (getD (entriesOf xs os) i y-unit)) ≡ true
 

@@ -18,8 +18,8 @@ ghost use Rattle.program.specs.Parts.{variable, TypeField};
 ghost use Rattle.program.specs.Kinds.{productKind};
 ghost use Rattle.valuebytes.specs.Ends.{firstOf, isValue};
 ghost use Rattle.valuebytes.specs.Scopes.{outward, typeUnder};
-ghost use Rattle.valuebytes.specs.Typing.{entriesOf, Table, room, Cells, Bound, Resolved, valueHas, nextOf};
-ghost use Rattle.valuebytes.specs.Stack.{partsOf, Stack, Turned};
+ghost use Rattle.valuebytes.specs.Typing.{entriesOf, TypesRead, room, Cells, Bound, Resolved, valueHas, nextOf};
+ghost use Rattle.valuebytes.specs.Stack.{partsOf, Stack, TurnLeaves};
 
 // Room for cells, and for pending types: the one at the start, and one more for each byte of a value.
 const ROOM: usize = MAX_VALUE_BYTES + 1;
@@ -126,7 +126,7 @@ fn resolve(
     outer: &[u16; ROOM],
     t: Scoped,
 ) -> Scoped
-    requires { ⌜ Table (now program) (now types) ⌝ }
+    requires { ⌜ TypesRead (now program) (now types) ⌝ }
     requires { ⌜ Cells (now program) (now types) (now binders) (now outer) (t .cell) ⌝ }
     requires { ⌜ Bound (now program) (now types) (now binders) (now outer) (t .cell) (t .cell) (t .entry) ⌝ }
     requires { ⌜ t .cell < room ⌝ }
@@ -171,7 +171,7 @@ fn advance(
 ) -> Turn
     requires { ⌜ Stack (now program) (now types) (now binders) (now outer) (now entries) (now cells) top (suc n) ⌝ }
     requires { ⌜ (top + 1 < room) × (n + 1 < room) ⌝ }
-    ensures { λ r. ⌜ Turned (now (program .entry)) (now (types .entry)) (now (binders .entry)) (now (outer .entry)) (now (entries .entry)) (now (cells .entry)) (now (binders .exit)) (now (outer .exit)) (now (entries .exit)) (now (cells .exit)) top n b r ⌝ }
+    ensures { λ r. ⌜ TurnLeaves (now (program .entry)) (now (types .entry)) (now (binders .entry)) (now (outer .entry)) (now (entries .entry)) (now (cells .entry)) (now (binders .exit)) (now (outer .exit)) (now (entries .exit)) (now (cells .exit)) top n b r ⌝ }
 {
     let t = Scoped {
         entry: entries[n],
@@ -249,7 +249,7 @@ fn walk(
 
 // Is the value at a place of bytes, as ancillae are, of the type that an entry is? Of the type, it says where the next value starts.
 pub fn has_type_at(program: &[u8], types: &[u16], entry: u16, s: &[u8], at: usize) -> Step
-    requires { ⌜ Table (now program) (now types) ⌝ }
+    requires { ⌜ TypesRead (now program) (now types) ⌝ }
     requires { ⌜ (entry < length (now types)) × (plain (entriesOf (now program) (now types)) entry ≡ true) ⌝ }
     ensures { λ r. ⌜ r ≡ nextOf at (firstOf (drop at (now (s .entry)))) (typeOf (entriesOf (now (program .entry)) (now (types .entry))) entry) ⌝ }
 {
@@ -272,7 +272,7 @@ pub fn has_type_at(program: &[u8], types: &[u16], entry: u16, s: &[u8], at: usiz
 
 // Is the value that the bytes are of the type that an entry is?
 fn is_of(program: &[u8], types: &[u16], entry: u16, s: &[u8]) -> bool
-    requires { ⌜ Table (now program) (now types) ⌝ }
+    requires { ⌜ TypesRead (now program) (now types) ⌝ }
     requires { ⌜ (entry < length (now types)) × (plain (entriesOf (now program) (now types)) entry ≡ true) ⌝ }
     requires { ⌜ isValue (now s) ≡ true ⌝ }
     ensures { λ r. ⌜ r ≡ valueHas (value (now (s .entry))) (typeOf (entriesOf (now (program .entry)) (now (types .entry))) entry) ⌝ }
@@ -285,7 +285,7 @@ fn is_of(program: &[u8], types: &[u16], entry: u16, s: &[u8]) -> bool
 
 // The same by a product, whose components are tested each in its part of the bytes.
 fn are_of(program: &[u8], types: &[u16], entry: u16, s: &[u8]) -> bool
-    requires { ⌜ Table (now program) (now types) ⌝ }
+    requires { ⌜ TypesRead (now program) (now types) ⌝ }
     requires { ⌜ (entry < length (now types)) × (plain (entriesOf (now program) (now types)) entry ≡ true) ⌝ }
     requires { ⌜ isValue (now s) ≡ true ⌝ }
     requires { ⌜ kindAt (now program) (getD (now types) entry 0) ≡ productKind ⌝ }
@@ -308,7 +308,7 @@ fn are_of(program: &[u8], types: &[u16], entry: u16, s: &[u8]) -> bool
 
 // Is the value that the bytes are of the type that an entry is?
 pub fn has_type(program: &[u8], types: &[u16], entry: u16, s: &[u8]) -> bool
-    requires { ⌜ Table (now program) (now types) ⌝ }
+    requires { ⌜ TypesRead (now program) (now types) ⌝ }
     requires { ⌜ (entry < length (now types)) × (plain (entriesOf (now program) (now types)) entry ≡ true) ⌝ }
     requires { ⌜ isValue (now s) ≡ true ⌝ }
     ensures { λ r. ⌜ r ≡ valueHas (value (now (s .entry))) (typeOf (entriesOf (now (program .entry)) (now (types .entry))) entry) ⌝ }

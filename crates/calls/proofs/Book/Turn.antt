@@ -16,7 +16,7 @@ use package.Rattle.rules.specs.Machine.{runBackward}
 use package.Rattle.calls.specs.Claims.{Met, remember}
 use package.Rattle.rules.specs.Claims.{Carries}
 use package.Rattle.calls.specs.Answer.{accepted}
-use package.Rattle.calls.specs.Book.{Call, converts, rollsBack, holds, Row, Book, carry, through, Turn, orNone, orEmpty, enters, turnUnless, Left, afterTurned}
+use package.Rattle.calls.specs.Book.{Call, converts, rollsBack, holds, Row, Book, carry, through, BookTurn, orNone, orEmpty, enters, turnUnless, Left, afterTurned}
 use package.Rattle.calls.specs.Conversions.{Turned, Last, Newest}
 use package.Rattle.calls.specs.Journal.{Entry, fields, writeOut, readJournal}
 use package.Rattle.calls.specs.Load.{load}
@@ -48,7 +48,7 @@ pub keeps-writable : {P : Program} {b : Book} {xs : List ℕ} {ms : List Met} (K
 keeps-writable K = record { held-fits = K .held-fits; entries-writable = standing-writable (K .rows); entries-few = K .few }
 
 -- a call's answer and the book's turn agree
-pub record Agrees (P : Program) (c : Call) (ys : List ℕ) (ms : List Met) (l : Left) (t : Turn) : Type 0 where
+pub record Agrees (P : Program) (c : Call) (ys : List ℕ) (ms : List Met) (l : Left) (t : BookTurn) : Type 0 where
   pub told : l .told ≡ t .told
   pub keeps : Keeps P (t .book) (l .journal) (remember c ys (l .told) ms)
   pub long : length (l .journal) ≡ length ys
@@ -152,7 +152,7 @@ module _ (program : List ℕ) (P : Program) (loads : load program ≡ accepted P
           long = length-writeOut (length ys) (journal (C .ran .value) (es ++ (entryOf row (C .ran .steps) ∷ []))) (C .fit);
         }))
       where
-        converted : Option (List Val) → Turn
+        converted : Option (List Val) → BookTurn
         converted o = record {
           book = record { first = origin; rows = rows ++ (record { function = fn; ancillae = orNone o } ∷ []) };
           told = holds (size (carry P (record { function = fn; ancillae = orNone o }) (through P rows origin) .value))
@@ -216,7 +216,7 @@ module _ (program : List ℕ) (P : Program) (loads : load program ≡ accepted P
           long = length-writeOut (length ys) (journal v es) returned-fits;
         }))
       where
-        struck : Option (Last Row) → Turn
+        struck : Option (Last Row) → BookTurn
         struck o = record {
           book = record { first = origin; rows = orEmpty o .older };
           told = holds (size (through P (orEmpty o .older) origin)) (carry P (orEmpty o .newest) (through P (orEmpty o .older) origin) .steps);

@@ -11,8 +11,8 @@ use lib.Dec.{eqb}
 use package.Rattle.octets.specs.Numbers.{AreBytes}
 use package.Rattle.rules.proofs.Basics.{given, none≢some, some-inj, and-both, eqb-sound}
 use package.Rattle.calls.specs.Values.{encodeAll}
-use package.Rattle.calls.specs.Journal.{Entry, entryBytes, field, entryTag, entryBody, entryFields, when, opened, readEntry, allZero, readEntries}
-use package.Rattle.calls.proofs.Journal.Fields.{there, was-there, when-true, when-some, length-field, opened-field, opened-sound, opened-bytes, WritableEntry, length-entryBody, entry-fits, readEntry-body, readEntry-sound}
+use package.Rattle.calls.specs.Journal.{Entry, entryBytes, field, entryTag, entryBody, entryFields, provided, opened, readEntry, allZero, readEntries}
+use package.Rattle.calls.proofs.Journal.Fields.{there, was-there, provided-true, provided-some, length-field, opened-field, opened-sound, opened-bytes, WritableEntry, length-entryBody, entry-fits, readEntry-body, readEntry-sound}
 
 ----------------------------------------------------------------
 -- Entries that can be written
@@ -65,7 +65,7 @@ allZero-sound (x ∷ xs) e = given (and-both (eqb x 0) (allZero xs) e) λ (first
 readEntries-zeros : (n k : ℕ) → readEntries (suc n) (replicate k 0) ≡ some []
 unfolding readEntries
 readEntries-zeros n zero = refl
-readEntries-zeros n (suc k) = there _ (when-true (allZero-replicate k)) refl
+readEntries-zeros n (suc k) = there _ (provided-true (allZero-replicate k)) refl
 
 -- an entry is read off the front
 readEntries-more : (n : ℕ) (e : Entry) (xs : List ℕ) {es : List Entry} → WritableEntry e → readEntries n xs ≡ some es
@@ -109,9 +109,9 @@ unfolding readEntries entryFields
 readEntries-sound zero xs h e = absurd (none≢some e)
 readEntries-sound (suc n) [] h e = subst (EntriesIn (suc n) []) (some-inj e) (record { zeros = 0; bytes = refl; writable = no-entries; fewer = omega arith })
 readEntries-sound (suc n) (zero ∷ xs) h e =
-    given (was-there (when (allZero xs)) _ e) λ (u, zeros, last).
+    given (was-there (provided (allZero xs)) _ e) λ (u, zeros, last).
     subst (EntriesIn (suc n) (zero ∷ xs)) (some-inj last)
-    (record { zeros = suc (length xs); bytes = ap (λ xs. 0 ∷ xs) (allZero-sound xs (when-some (allZero xs) zeros)); writable = no-entries; fewer = omega arith })
+    (record { zeros = suc (length xs); bytes = ap (λ xs. 0 ∷ xs) (allZero-sound xs (provided-some (allZero xs) zeros)); writable = no-entries; fewer = omega arith })
 readEntries-sound (suc n) (suc x ∷ xs) h e =
     given (was-there (opened entryTag (suc x ∷ xs)) _ e) λ (f, first, next). given (was-there (readEntry (f .body)) _ next) λ (d, entry, further).
     given (was-there (readEntries n (f .rest)) _ further) λ (es, rest, last).

@@ -17,7 +17,7 @@ use package.Rattle.rules.proofs.Basics.{given, none≢some, some-inj, eqb-yes, 
 use package.Rattle.rules.proofs.Typing.Tests.{leb-yes, leb-sound}
 use package.Rattle.calls.specs.Values.{encodeAll, ancillae}
 use package.Rattle.calls.specs.Fields.{fieldHead}
-use package.Rattle.calls.specs.Journal.{Entry, entryHead, field, entryBody, _>>=_, when, Opened, opened, readEntry}
+use package.Rattle.calls.specs.Journal.{Entry, entryHead, field, entryBody, _>>=_, provided, Opened, opened, readEntry}
 use package.Rattle.calls.proofs.Values.{ancillae-encode, ancillae-sound}
 
 ----------------------------------------------------------------
@@ -35,14 +35,14 @@ module _ {A B : Type 0} where
   was-there none k e = absurd (none≢some e)
   was-there (some a) k e = (a, refl, e)
 
-pub when-true : {b : Bool} → b ≡ true → when b ≡ some tt
-unfolding when
-when-true e = ap when e
+pub provided-true : {b : Bool} → b ≡ true → provided b ≡ some tt
+unfolding provided
+provided-true e = ap provided e
 
-pub when-some : (b : Bool) {u : Unit {0}} → when b ≡ some u → b ≡ true
-unfolding when
-when-some true e = refl
-when-some false e = absurd (none≢some e)
+pub provided-some : (b : Bool) {u : Unit {0}} → provided b ≡ some u → b ≡ true
+unfolding provided
+provided-some true e = refl
+provided-some false e = absurd (none≢some e)
 
 ----------------------------------------------------------------
 -- Limits
@@ -67,7 +67,7 @@ length-field tag body = omega arith
 pub opened-field : (tag : ℕ) (body rest : List ℕ) → length body < 65536 → opened tag (field tag body ++ rest) ≡ some (record { body = body; rest = rest })
 unfolding field opened bytes16
 opened-field tag body rest h =
-    there _ (when-true (eqb-yes tag)) (there _ (when-true (leb-yes _ (length (body ++ rest)) whole))
+    there _ (provided-true (eqb-yes tag)) (there _ (provided-true (leb-yes _ (length (body ++ rest)) whole))
     (ap₂ (λ b r. some (record { body = b; rest = r })) (take-at body rest _ (sym number)) (drop-at body rest _ (sym number))))
   where
     number : get16 (bytes16 (length body) ++ []) 0 ≡ length body
@@ -88,9 +88,9 @@ opened-sound tag [] h e = absurd (none≢some e)
 opened-sound tag (t ∷ []) h e = absurd (none≢some e)
 opened-sound tag (t ∷ a ∷ []) h e = absurd (none≢some e)
 opened-sound tag (t ∷ a ∷ b ∷ xs) h e =
-    given (was-there (when (eqb t tag)) _ e) λ (u, tagged, next). given (was-there (when (leb (get16 (a ∷ b ∷ []) 0) (length xs))) _ next) λ (u′, whole, last).
-    ap (λ t. t ∷ a ∷ b ∷ xs) (eqb-sound t tag (when-some (eqb t tag) tagged))
-    ∙ sym (cut-field tag a b xs (h 1) (h 2) (leb-sound (get16 (a ∷ b ∷ []) 0) (length xs) (when-some (leb (get16 (a ∷ b ∷ []) 0) (length xs)) whole)))
+    given (was-there (provided (eqb t tag)) _ e) λ (u, tagged, next). given (was-there (provided (leb (get16 (a ∷ b ∷ []) 0) (length xs))) _ next) λ (u′, whole, last).
+    ap (λ t. t ∷ a ∷ b ∷ xs) (eqb-sound t tag (provided-some (eqb t tag) tagged))
+    ∙ sym (cut-field tag a b xs (h 1) (h 2) (leb-sound (get16 (a ∷ b ∷ []) 0) (length xs) (provided-some (leb (get16 (a ∷ b ∷ []) 0) (length xs)) whole)))
     ∙ ap (λ f. field tag (f .body) ++ f .rest) (some-inj last)
 
 -- of bytes, a field's body and what stands behind it are bytes
@@ -120,7 +120,7 @@ entry-fits e w = omega (arith, length-entryBody e, ancillae-below (w .ancillae-w
 pub readEntry-body : (e : Entry) → WritableEntry e → readEntry (entryBody e) ≡ some e
 unfolding readEntry entryBody bytes16 bytes32
 readEntry-body e w =
-    there _ (when-true (leb-yes entryHead (length (entryBody e)) (omega (arith, length-entryBody e)))) (there _ (ancillae-encode (e .ancillae) (w .ancillae-within))
+    there _ (provided-true (leb-yes entryHead (length (entryBody e)) (omega (arith, length-entryBody e)))) (there _ (ancillae-encode (e .ancillae) (w .ancillae-within))
     (ap₂ (λ f s. some (record { function = f; steps = s; ancillae = e .ancillae }))
     (get16-bytes16 (e .function) (bytes32 (e .steps) ++ encodeAll (e .ancillae)) (w .function-below))
     (get32-behind (bytes16 (e .function)) (bytes32 (e .steps) ++ encodeAll (e .ancillae)) 0
@@ -141,9 +141,9 @@ head-whole (a ∷ b ∷ c ∷ d ∷ e ∷ f ∷ xs) h l =
 pub readEntry-sound : (xs : List ℕ) {e : Entry} → AreBytes xs → readEntry xs ≡ some e → (xs ≡ entryBody e) × WritableEntry e
 unfolding readEntry entryBody
 readEntry-sound xs h e =
-    given (was-there (when (leb entryHead (length xs))) _ e) λ (u, long, next). given (was-there (ancillae (drop entryHead xs)) _ next) λ (vs, anc, last).
+    given (was-there (provided (leb entryHead (length xs))) _ e) λ (u, long, next). given (was-there (ancillae (drop entryHead xs)) _ next) λ (vs, anc, last).
     given (ancillae-sound (drop entryHead xs) anc) λ (same, within).
     subst (λ e. (xs ≡ entryBody e) × WritableEntry e) (some-inj last) (
-      sym (head-whole xs h (leb-sound entryHead (length xs) (when-some (leb entryHead (length xs)) long))) ∙ ap (λ ys. bytes16 (get16 xs 0) ++ bytes32 (get32 xs 2) ++ ys) same,
+      sym (head-whole xs h (leb-sound entryHead (length xs) (provided-some (leb entryHead (length xs)) long))) ∙ ap (λ ys. bytes16 (get16 xs 0) ++ bytes32 (get32 xs 2) ++ ys) same,
       record { function-below = get16-below xs 0 h; steps-below = get32-below xs 2 h; ancillae-within = rw same at within },
     )

@@ -16,7 +16,7 @@ use package.Rattle.calls.specs.Runs.{prepared, checkCall, forwardCall, b
 use package.Rattle.calls.specs.Journal.{field, heldTag, entryTag}
 use package.Rattle.calls.specs.Conversions.{openCall, convertCall, rollbackCall}
 use package.Rattle.calls.specs.Claims.{programNumbers, callNumbers, forwardNumbers, backwardNumbers, Exactly, RefusalNumbers}
-use package.Rattle.calls.specs.Cases.{typeField, termField, varField, functionField, natTypes, bitTypes, numbers, collapse, drop, units, ample, unitHeld}
+use package.Rattle.calls.specs.Cases.{typeField, termField, varField, functionField, natTypes, bitTypes, numbers, collapse, discards, units, ample, unitHeld}
 use package.Rattle.calls.proofs.Compute.{computing}
 use package.Rattle.calls.proofs.Refusals.{number}
 use package.Rattle.calls.proofs.Runs.Numbers.{check-numbered, forward-numbered, backward-numbered, open-numbered, convert-numbered, rollback-numbered}
@@ -60,7 +60,7 @@ unprepared =
     ⨾ (ample, field 1 (4 ∷ 0 ∷ []) ++ termField 1 [] ++ functionField 0 (0 ∷ []) 0, 9, refl)
     ⨾ (ample, bitTypes ++ termField 1 [] ++ functionField 1 (0 ∷ []) 0, 16, refl)
     ⨾ (ample, typeField 0 [] ++ varField 5 ++ functionField 0 (0 ∷ []) 0, 4, refl)
-    ⨾ (ample, drop, 16, refl)
+    ⨾ (ample, discards, 16, refl)
     ⨾ end
 
 -- a refusal of the first part stands

@@ -1,5 +1,5 @@
 use borrow.Author.Needs.{needs}
-use Rattle.octets.proofs.Zeros.{when-true}
+use Rattle.octets.proofs.Zeros.{provided-true}
 use Rattle.octets.proofs.clear_block.Statement.{statement}
 use Rattle.octets.proofs.clear_block.Tie as tie
 
@@ -10,7 +10,7 @@ same-length : tie.Need-same-length
 same-length c = search needs
 
 returns : tie.Need-returns
-returns c = when-true _ (c .before .all-zero .ensures) (c .if1 .taken)
+returns c = provided-true _ (c .before .all-zero .ensures) (c .if1 .taken)
 
 write-zeros-requires : tie.Need-write-zeros-requires
 write-zeros-requires c κs = search needs

@@ -62,17 +62,17 @@ unfoldable pub tested : ℕ → ℕ → ℕ → List ℕ → Next
 tested n at next journal = pick (ltb n (lastField journal)) (halts (cut at)) (on next)
 
 -- what comes next, and the buffers
-pub record Turn : Type 0 where
+pub record PlayedTurn : Type 0 where
   pub next : Next
   pub journal : List ℕ
   pub answers : List ℕ
   pub workspace : List ℕ
 
-abbrev pub unplayed : Reply → List ℕ → List ℕ → List ℕ → Turn
+abbrev pub unplayed : Reply → List ℕ → List ℕ → List ℕ → PlayedTurn
 unplayed r journal answers workspace = record { next = halts r; journal = journal; answers = answers; workspace = workspace }
 
 -- the call, if it may be made, as the call number `count` from 0 on
-unfoldable pub makes : Next → List ℕ → Call → ℕ → List ℕ → List ℕ → List ℕ → Turn
+unfoldable pub makes : Next → List ℕ → Call → ℕ → List ℕ → List ℕ → List ℕ → PlayedTurn
 unfolding swept leaves line
 makes (halts r) program c count journal answers workspace = unplayed r journal answers workspace
 makes (on next) program c count journal answers workspace = record {
@@ -83,7 +83,7 @@ makes (on next) program c count journal answers workspace = record {
 }
 
 -- what stands at a place, played
-unfoldable pub turnOf : List ℕ → List ℕ → Step → ℕ → ℕ → List ℕ → List ℕ → List ℕ → Turn
+unfoldable pub turnOf : List ℕ → List ℕ → Step → ℕ → ℕ → List ℕ → List ℕ → List ℕ → PlayedTurn
 unfolding makes tested callOf
 turnOf program script steps.End at count journal answers workspace = unplayed (played count) journal answers workspace
 turnOf program script steps.Malformed at count journal answers workspace = unplayed (malformed at) journal answers workspace
@@ -153,7 +153,7 @@ pub record Made (program : List ℕ) (c : Call) (journal workspace l journal′ 
   pub clear : workspace′ ≡ swept (leaves program c journal .told) workspace
 
 -- a turn was played
-pub record TurnMeans (m : Move) (t : Turn) (journal′ answers′ workspace′ : List ℕ) : Type 0 where
+pub record PlayMeans (m : Move) (t : PlayedTurn) (journal′ answers′ workspace′ : List ℕ) : Type 0 where
   pub next-is : nextOf m ≡ t .next
   pub kept : journal′ ≡ t .journal
   pub told : answers′ ≡ t .answers
