@@ -1,22 +1,15 @@
 -- Border cases, by computation.
 use mathlib.Core.Path.{refl}
-use package.Rattle.calls.specs.Borders.{copies, functionsFrom, unitFunctions, ofUnits, letFields, unitLets, doubled, bigTypes, namesType, pairsTypes, higher, wide, withEntries, Edges, Outcomes, Lists}
+use package.Rattle.calls.specs.Borders.{copies, ofUnits, letFields, unitLets, doubled, bigTypes, namesType, pairsTypes, higher, wide, withEntries, Edges, Outcomes, Lists}
 use package.Rattle.calls.proofs.Compute.{computing}
-use package.Rattle.calls.proofs.Counted.{most-terms, terms-over}
 
 pub edges : Edges
-unfolding computing copies functionsFrom unitFunctions ofUnits letFields unitLets doubled bigTypes namesType pairsTypes higher wide withEntries
+unfolding computing copies ofUnits letFields unitLets doubled bigTypes namesType pairsTypes higher wide withEntries
 edges = record {
   workspace = refl;
   workspace-past = refl;
   workspace-fuel = refl;
   workspace-fuel-past = refl;
-  types = refl;
-  types-past = refl;
-  terms = most-terms;
-  terms-past = terms-over;
-  functions = refl;
-  functions-past = refl;
   bytes = refl;
   bytes-past = refl;
   parameters = refl;

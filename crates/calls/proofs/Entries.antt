@@ -1,5 +1,5 @@
--- What the counting of Named means: of type entries that each name lower ones, the figures are those of the trees. So a type entry
--- is plain exactly if its tree is closed and has at most `maxNodes` nodes (section 1).
+-- What the counting of Figures means: of type entries that each name lower ones, the figures are those of the trees. So whether a type
+-- entry is plain (section 1) can be told by its figures.
 use Prim.Native.Nat.{ℕ, zero, suc, _+_, _≤_, _<_, pred, min, max}
 use native.Mathlib.Omega.{arith}
 use native.Mathlib.Decide.{decLt}
@@ -8,7 +8,7 @@ use mathlib.Core.Bool.{Bool, true, false, _&&_, _||_}
 use mathlib.Core.List.{List, [], _∷_, _++_}
 use mathlib.Core.Logic.{_↔_}
 use lib.ListN.{length, getD, length-append, List·getD-append}
-use lib.Dec.{eqb, ltb, ltb→lt, lt→ltb}
+use lib.Dec.{eqb, ltb, leb, ltb→lt, lt→ltb}
 use package.Rattle.rules.specs.Limits.{maxNodes}
 use package.Rattle.rules.specs.Ty.{Ty, one, prod, sum, mu, tyvar, nodes}
 use package.Rattle.rules.proofs.Basics.{given, and-both, eqb-sound, T-true}
@@ -16,13 +16,20 @@ use package.Rattle.rules.proofs.Typing.Tests.{leb-yes, leb-sound}
 use package.Rattle.calls.specs.Answer.{accepted}
 use package.Rattle.calls.specs.Fields.{Layout}
 use package.Rattle.calls.specs.Entries.{TypeEntry, y-unit, y-prod, y-sum, y-mu, y-var, typeTree, typeBelow, typeOf}
-use package.Rattle.calls.specs.Named.{ceiling, nodesOf, freeOf, figures, plain, typesOfType, below, member, testTypes}
+use package.Rattle.calls.specs.Named.{plain, typesOfType, below, member, testTypes}
+use package.Rattle.calls.specs.Figures.{ceiling, nodesOf, freeOf, figures}
 use package.Rattle.calls.specs.Closed.{closed, Lower}
 pub use package.Rattle.calls.specs.Closed.{Plain}
 use package.Rattle.calls.proofs.Answer.{unbind, required}
 
 ----------------------------------------------------------------
 -- Closed types
+
+-- tests that hold alike are the same
+same-truth : (a b : Bool) → (a ≡ true) ↔ (b ≡ true) → a ≡ b
+same-truth true b (f, g) = sym (f refl)
+same-truth false true (f, g) = g refl
+same-truth false false (f, g) = refl
 
 -- how many recursive types must still enclose a type so that it is closed
 unfoldable pub free : Ty → ℕ
@@ -206,13 +213,35 @@ module _ (ys : List TypeEntry) (low : Lower ys) where
     λ c. let h : free (typeOf ys i) ≤ 0 = closed-iff-free 0 (typeOf ys i) .0 c in omega (arith, free-figure i l),
   )
 
-  pub plain-iff : (i : ℕ) → i < length ys → (plain ys i ≡ true) ↔ Plain (typeOf ys i)
+  -- so an entry is plain exactly if its figures are within the limits
+  pub plain-figures : (i : ℕ) → i < length ys
+      → plain ys i ≡ (eqb (getD (figures freeOf [] ys) i 0) 0 && leb (getD (figures nodesOf [] ys) i 0) maxNodes)
   unfolding plain ceiling
-  plain-iff i l = (
-    λ e.
-        given (and-both (eqb (getD (figures freeOf [] ys) i 0) 0) _ e) λ (x, y).
-        let h : min ceiling (nodes (typeOf ys i)) ≤ maxNodes = subst (λ n. n ≤ maxNodes) (nodes-figure i l) (leb-sound _ maxNodes y) in
-        (free-figure-zero i l .0 (eqb-sound _ 0 x), omega arith),
-    λ (c, s).
-        rw (free-figure-zero i l .1 c, nodes-figure i l) (leb-yes (min ceiling (nodes (typeOf ys i))) maxNodes (omega arith)),
-  )
+  plain-figures i l = ap₂ (λ c n. c && n) closed-so nodes-so
+    where
+      τ : Ty
+      τ = typeOf ys i
+
+      closed-so : closed 0 τ ≡ eqb (getD (figures freeOf [] ys) i 0) 0
+      closed-so = same-truth _ _ (λ c. rw (free-figure-zero i l .1 c), λ e. free-figure-zero i l .0 (eqb-sound _ 0 e))
+
+      few-counted : leb (nodes τ) maxNodes ≡ true → leb (getD (figures nodesOf [] ys) i 0) maxNodes ≡ true
+      few-counted e = rw (nodes-figure i l) (leb-yes (min ceiling (nodes τ)) maxNodes (omega (arith, leb-sound (nodes τ) maxNodes e)))
+
+      few : leb (getD (figures nodesOf [] ys) i 0) maxNodes ≡ true → leb (nodes τ) maxNodes ≡ true
+      few e =
+          let h : min ceiling (nodes τ) ≤ maxNodes = subst (λ n. n ≤ maxNodes) (nodes-figure i l) (leb-sound _ maxNodes e) in
+          leb-yes (nodes τ) maxNodes (omega arith)
+
+      nodes-so : leb (nodes τ) maxNodes ≡ leb (getD (figures nodesOf [] ys) i 0) maxNodes
+      nodes-so = same-truth _ _ (few-counted, few)
+
+----------------------------------------------------------------
+-- The test as propositions
+
+pub plain-iff : (ys : List TypeEntry) (i : ℕ) → (plain ys i ≡ true) ↔ Plain (typeOf ys i)
+unfolding plain
+plain-iff ys i = (
+  λ e. given (and-both (closed 0 (typeOf ys i)) _ e) λ (c, n). (c, leb-sound (nodes (typeOf ys i)) maxNodes n),
+  λ (c, s). rw (c, leb-yes (nodes (typeOf ys i)) maxNodes s),
+)

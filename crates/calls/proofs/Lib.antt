@@ -25,8 +25,6 @@ pub mod Book
 pub mod Compute
 -- section 6's cases, orders and samples, by computation
 pub mod Table
--- a program of unit terms alone
-pub mod Counted
 -- each limit at its edge, outcomes, and a list of calls, by computation
 pub mod Borders
 -- the claims, proved

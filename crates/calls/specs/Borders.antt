@@ -1,6 +1,6 @@
 -- Border cases, computed: each limit at its edge and one past it, what buffers hold after each outcome, and a list of calls on the journal and
--- in the book. A limit moved by one, or another `cleared` or `written`, is refused here. (1,024 terms are too many to compute with: that edge is
--- proved by a law over how many there are, proofs/Counted.)
+-- in the book. A limit moved by one, or another `cleared` or `written`, is refused here. (Programs of as many entries as may be take long to
+-- compute with, and stand in a crate of their own, borders.)
 use Prim.Native.Nat.{ℕ, zero, suc, _+_, _*_}
 use mathlib.Core.Path.{_≡_}
 use mathlib.Core.Bool.{true, false}
@@ -10,7 +10,6 @@ use package.Rattle.rules.specs.Val.{unit, inl, inr, encode}
 use package.Rattle.rules.specs.Cases.{num}
 use package.Rattle.rules.specs.Cases as trees
 use package.Rattle.calls.specs.Answer.{accepted, refused, cleared}
-use package.Rattle.calls.specs.Fields.{layout}
 use package.Rattle.calls.specs.Runs.{Ran, checkCall, forwardCall, backwardCall, written}
 use package.Rattle.calls.specs.Journal.{field, heldTag, entryTag}
 use package.Rattle.calls.specs.Conversions.{openCall, convertCall, rollbackCall}
@@ -24,21 +23,6 @@ use package.Rattle.calls.specs.Cases.{typeField, termField, varField, fu
 unfoldable pub copies : ℕ → List ℕ → List ℕ
 copies zero xs = []
 copies (suc n) xs = xs ++ copies n xs
-
--- where so many fields of four bytes stand, from a place on
-unfoldable pub offsets : ℕ → ℕ → List ℕ
-offsets zero at = []
-offsets (suc n) at = at ∷ offsets n (at + 4)
-
--- so many functions that give unit, each with a body of its own
-unfoldable pub functionsFrom : ℕ → ℕ → List ℕ
-unfolding functionField
-functionsFrom zero i = []
-functionsFrom (suc n) i = functionField 0 (0 ∷ []) i ++ functionsFrom n (i + 1)
-
-unfoldable pub unitFunctions : ℕ → List ℕ
-unfolding typeField termField copies functionsFrom
-unitFunctions n = typeField 0 [] ++ copies n (termField 1 []) ++ functionsFrom n 0
 
 -- a function of so many units
 unfoldable pub ofUnits : ℕ → List ℕ
@@ -99,12 +83,6 @@ pub record Edges : Type 0 where
   pub workspace-past : checkCall [] 32767 ≡ refused 1 0
   pub workspace-fuel : forwardCall collapse 0 [] (encode (inl unit)) 1 32800 2 ≡ refused 12 0
   pub workspace-fuel-past : forwardCall collapse 0 [] (encode (inl unit)) 1 32799 2 ≡ refused 1 0
-  pub types : checkCall (copies 256 (typeField 0 [])) ample ≡ accepted tt
-  pub types-past : checkCall (copies 257 (typeField 0 [])) ample ≡ refused 3 1024
-  pub terms : layout (copies 1024 (termField 1 [])) ≡ accepted (record { types = []; terms = offsets 1024 0; functions = [] })
-  pub terms-past : checkCall (copies 1025 (termField 1 [])) ample ≡ refused 3 4096
-  pub functions : checkCall (unitFunctions 64) ample ≡ accepted tt
-  pub functions-past : checkCall (unitFunctions 65) ample ≡ refused 3 904
   pub bytes : checkCall (replicate 32768 1) ample ≡ refused 2 0
   pub bytes-past : checkCall (replicate 32769 1) ample ≡ refused 3 0
   pub parameters : checkCall (ofUnits 8) ample ≡ accepted tt

@@ -30,9 +30,9 @@ use package.Rattle.calls.specs.Book.{Call, opens, converts, rollsBack, b
 ----------------------------------------------------------------
 -- Values, types and journals from bytes
 
--- Of entries that each name lower ones, the counting says what section 1 says of their trees: closed, and at most 1,024 nodes.
+-- The test of a type that a term or function names says what section 1 says of its tree: closed, and at most 1,024 nodes.
 abbrev pub ClosedAndCounted : Type 0
-ClosedAndCounted = (ys : List TypeEntry) → Lower ys → (i : ℕ) → i < length ys → (plain ys i ≡ true) ↔ Plain (typeOf ys i)
+ClosedAndCounted = (ys : List TypeEntry) (i : ℕ) → (plain ys i ≡ true) ↔ Plain (typeOf ys i)
 
 -- A value, or ancillae, are read from the bytes that they are written as, within the limit, and from no others.
 abbrev pub EncodeAndRead : Type 0

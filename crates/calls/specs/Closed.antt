@@ -1,22 +1,14 @@
 -- Closed types within the limit on nodes, and entries that name lower ones alone (section 1).
-use Prim.Native.Nat.{ℕ, suc, _≤_}
+use Prim.Native.Nat.{ℕ, _≤_}
 use mathlib.Core.Path.{_≡_}
-use mathlib.Core.Bool.{Bool, true, _&&_}
+use mathlib.Core.Bool.{true}
 use mathlib.Core.List.{List}
 use lib.ListN.{getD}
-use lib.Dec.{ltb}
 use package.Rattle.rules.specs.Limits.{maxNodes}
-use package.Rattle.rules.specs.Ty.{Ty, one, prod, sum, mu, tyvar, nodes}
+use package.Rattle.rules.specs.Ty.{Ty, nodes}
 use package.Rattle.calls.specs.Entries.{TypeEntry, y-unit, TermEntry, n-unit}
 use package.Rattle.calls.specs.Named.{typesOfType, termsOfTerm, below}
-
--- every variable is bound, under `n` recursive types more
-unfoldable pub closed : ℕ → Ty → Bool
-closed n one = true
-closed n (prod a b) = closed n a && closed n b
-closed n (sum a b) = closed n a && closed n b
-closed n (mu a) = closed (suc n) a
-closed n (tyvar k) = ltb k n
+unfoldable pub use package.Rattle.calls.specs.Named.{closed}
 
 -- a closed type within the limit on nodes (section 1)
 abbrev pub Plain : Ty → Type 0

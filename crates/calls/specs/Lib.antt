@@ -7,6 +7,8 @@ pub mod Fields
 pub mod Entries
 -- references, uses, types: refusals 4 and 5 (section 4)
 pub mod Named
+-- how the crates above count the nodes of type entries
+pub mod Figures
 -- closed types, and entries that name lower ones (section 1)
 pub mod Closed
 -- what those tests find, for the contracts of the crates above

@@ -1,48 +1,30 @@
 -- The tests on entries: types, then terms, then functions, then terms that nothing uses (section 4, row Entries: refusals 4 and 5).
 -- Of one entry, all of 4 goes before 5. A refusal's place is the offset of the field that names; of an unused term, its own.
-use Prim.Native.Nat.{ℕ, suc, _+_, pred, min, max}
+use Prim.Native.Nat.{ℕ, suc}
 use mathlib.Core.Bool.{Bool, true, false, _&&_, _||_, not}
 use mathlib.Core.List.{List, [], _∷_, _++_}
 use lib.ListN.{length, getD}
 use lib.Dec.{eqb, ltb, leb}
 use package.Rattle.rules.specs.Limits.{maxNodes}
+use package.Rattle.rules.specs.Ty.{Ty, one, prod, sum, mu, tyvar, nodes}
 use package.Rattle.calls.specs.Answer.{Answer, accepted, _>>=_, require}
 use package.Rattle.calls.specs.Fields.{Layout}
-use package.Rattle.calls.specs.Entries.{TypeEntry, y-unit, y-prod, y-sum, y-mu, y-var, TermEntry, n-var, n-unit, n-inl, n-inr, n-roll, n-unroll, n-pair, n-let, n-letp, n-case, n-call, FunctionEntry, Entries}
+use package.Rattle.calls.specs.Entries.{TypeEntry, y-unit, y-prod, y-sum, y-mu, y-var, typeOf, TermEntry, n-var, n-unit, n-inl, n-inr, n-roll, n-unroll, n-pair, n-let, n-letp, n-case, n-call, FunctionEntry, Entries}
 
 ----------------------------------------------------------------
--- What each type entry is as a tree, counted bottom up
+-- Types that may be named: closed, and of at most `maxNodes` nodes when written out as a tree (5)
 
--- Counting stops one above the limit: an entry that nothing names may be exponentially large as a tree.
-unfoldable pub ceiling : ℕ
-ceiling = suc maxNodes
+-- every variable is bound, under `n` recursive types more
+unfoldable pub closed : ℕ → Ty → Bool
+closed n one = true
+closed n (prod a b) = closed n a && closed n b
+closed n (sum a b) = closed n a && closed n b
+closed n (mu a) = closed (suc n) a
+closed n (tyvar k) = ltb k n
 
--- nodes of an entry, given those of the lower ones
-unfoldable pub nodesOf : List ℕ → TypeEntry → ℕ
-unfolding ceiling
-nodesOf ns y-unit = 1
-nodesOf ns (y-prod a b) = min ceiling (suc (getD ns a 0 + getD ns b 0))
-nodesOf ns (y-sum a b) = min ceiling (suc (getD ns a 0 + getD ns b 0))
-nodesOf ns (y-mu a) = min ceiling (suc (getD ns a 0))
-nodesOf ns (y-var k) = 1
-
--- how many recursive entries must still enclose an entry so that it is closed, given the same of the lower ones
-unfoldable pub freeOf : List ℕ → TypeEntry → ℕ
-freeOf fs y-unit = 0
-freeOf fs (y-prod a b) = max (getD fs a 0) (getD fs b 0)
-freeOf fs (y-sum a b) = max (getD fs a 0) (getD fs b 0)
-freeOf fs (y-mu a) = pred (getD fs a 0)
-freeOf fs (y-var k) = suc k
-
--- a figure of every entry, in order, after those of the lower ones
-unfoldable pub figures : (List ℕ → TypeEntry → ℕ) → List ℕ → List TypeEntry → List ℕ
-figures of ns [] = ns
-figures of ns (y ∷ ys) = figures of (ns ++ (of ns y ∷ [])) ys
-
--- closed, and of at most `maxNodes` nodes (5)
 unfoldable pub plain : List TypeEntry → ℕ → Bool
-unfolding nodesOf freeOf figures
-plain ys i = eqb (getD (figures freeOf [] ys) i 0) 0 && leb (getD (figures nodesOf [] ys) i 0) maxNodes
+unfolding closed
+plain ys i = closed 0 (typeOf ys i) && leb (nodes (typeOf ys i)) maxNodes
 
 ----------------------------------------------------------------
 -- What an entry names
@@ -54,45 +36,36 @@ typesOfType (y-sum a b) = a ∷ b ∷ []
 typesOfType (y-mu a) = a ∷ []
 typesOfType (y-var k) = []
 
-unfoldable pub typesOfTerm : TermEntry → List ℕ
-typesOfTerm (n-var i) = []
-typesOfTerm n-unit = []
-typesOfTerm (n-inl c e) = c ∷ []
-typesOfTerm (n-inr c e) = c ∷ []
-typesOfTerm (n-roll c e) = c ∷ []
-typesOfTerm (n-unroll c e) = c ∷ []
-typesOfTerm (n-pair e e′) = []
-typesOfTerm (n-let e b) = []
-typesOfTerm (n-letp e b) = []
-typesOfTerm (n-case e b b′) = []
-typesOfTerm (n-call g ts e) = []
+-- what a term entry names; terms in the order of the bytes
+pub record Names : Type 0 where
+  pub types : List ℕ
+  pub terms : List ℕ
+  pub functions : List ℕ
 
--- in the order of the bytes
+unfoldable pub namesOf : TermEntry → Names
+namesOf (n-var i) = record { types = []; terms = []; functions = [] }
+namesOf n-unit = record { types = []; terms = []; functions = [] }
+namesOf (n-inl c e) = record { types = c ∷ []; terms = e ∷ []; functions = [] }
+namesOf (n-inr c e) = record { types = c ∷ []; terms = e ∷ []; functions = [] }
+namesOf (n-roll c e) = record { types = c ∷ []; terms = e ∷ []; functions = [] }
+namesOf (n-unroll c e) = record { types = c ∷ []; terms = e ∷ []; functions = [] }
+namesOf (n-pair e e′) = record { types = []; terms = e ∷ e′ ∷ []; functions = [] }
+namesOf (n-let e b) = record { types = []; terms = e ∷ b ∷ []; functions = [] }
+namesOf (n-letp e b) = record { types = []; terms = e ∷ b ∷ []; functions = [] }
+namesOf (n-case e b b′) = record { types = []; terms = e ∷ b ∷ b′ ∷ []; functions = [] }
+namesOf (n-call g ts e) = record { types = []; terms = ts ++ (e ∷ []); functions = g ∷ [] }
+
+unfoldable pub typesOfTerm : TermEntry → List ℕ
+unfolding namesOf
+typesOfTerm t = namesOf t .types
+
 unfoldable pub termsOfTerm : TermEntry → List ℕ
-termsOfTerm (n-var i) = []
-termsOfTerm n-unit = []
-termsOfTerm (n-inl c e) = e ∷ []
-termsOfTerm (n-inr c e) = e ∷ []
-termsOfTerm (n-roll c e) = e ∷ []
-termsOfTerm (n-unroll c e) = e ∷ []
-termsOfTerm (n-pair e e′) = e ∷ e′ ∷ []
-termsOfTerm (n-let e b) = e ∷ b ∷ []
-termsOfTerm (n-letp e b) = e ∷ b ∷ []
-termsOfTerm (n-case e b b′) = e ∷ b ∷ b′ ∷ []
-termsOfTerm (n-call g ts e) = ts ++ (e ∷ [])
+unfolding namesOf
+termsOfTerm t = namesOf t .terms
 
 unfoldable pub functionsOfTerm : TermEntry → List ℕ
-functionsOfTerm (n-var i) = []
-functionsOfTerm n-unit = []
-functionsOfTerm (n-inl c e) = []
-functionsOfTerm (n-inr c e) = []
-functionsOfTerm (n-roll c e) = []
-functionsOfTerm (n-unroll c e) = []
-functionsOfTerm (n-pair e e′) = []
-functionsOfTerm (n-let e b) = []
-functionsOfTerm (n-letp e b) = []
-functionsOfTerm (n-case e b b′) = []
-functionsOfTerm (n-call g ts e) = g ∷ []
+unfolding namesOf
+functionsOfTerm t = namesOf t .functions
 
 unfoldable pub typesOfFunction : FunctionEntry → List ℕ
 typesOfFunction h = h .result ∷ (h .ancillae ++ (h .dynamic ∷ []))

@@ -9,7 +9,8 @@ use lib.ListN.{length, getD}
 use package.Rattle.rules.proofs.Basics.{given}
 use package.Rattle.calls.specs.Fields.{kindAt}
 use package.Rattle.calls.specs.Entries.{typeAt}
-use package.Rattle.calls.specs.Named.{ceiling, nodesOf, freeOf, typesOfType, below}
+use package.Rattle.calls.specs.Named.{typesOfType, below}
+use package.Rattle.calls.specs.Figures.{ceiling, nodesOf, freeOf}
 use package.Rattle.calls.proofs.Entries.{below-head}
 use package.Rattle.program.specs.Parts.{TypeField, variable, first, second}
 use package.Rattle.program.proofs.Shapes.{type-unit, type-prod, type-sum, type-mu, type-var}

@@ -10,11 +10,12 @@ use lib.Seq.{take-suc, take-suc-set, take-all, drop-cons, getD-take}
 use lib.Dec.{ltb}
 use borrow.Author.Tests.{lt-ltb}
 use package.Rattle.rules.proofs.Basics.{given}
-use package.Rattle.calls.specs.Answer.{refused, _>>=_, require}
+use package.Rattle.calls.specs.Answer.{accepted, refused, _>>=_, require}
 use package.Rattle.calls.specs.Entries.{TypeEntry, y-unit, y-prod, y-sum, y-mu, y-var, typeAt, references}
-use package.Rattle.calls.specs.Named.{ceiling, nodesOf, freeOf, figures, typesOfType, below, testTypes}
+use package.Rattle.calls.specs.Named.{typesOfType, below, testTypes}
+use package.Rattle.calls.specs.Figures.{ceiling, nodesOf, freeOf, figures}
 use package.Rattle.calls.proofs.Answer.{refused≢accepted}
-use package.Rattle.calls.proofs.Entries.{below-head}
+use package.Rattle.calls.proofs.Entries.{below-head, lower}
 use package.Rattle.program.specs.Places.{placesOf}
 use package.Rattle.program.specs.Parts.{TypeField}
 use package.Rattle.program.specs.Lists.{typesInType}
@@ -157,8 +158,9 @@ module _ (xs types : List ℕ) where
       → TypesTested xs types nodes free Sound
   unfolding testTypes
   types-end i nodes free l l′ ln lf S = record {
-    answer = λ terms functions. sym (S .rest terms functions ∙ ap (testTypes (placesOf types terms functions) i) (drop-of-length-le ys {i = i} (omega (arith, same))));
+    answer = λ terms functions. sym (passed terms functions);
     measured = λ q. record {
+      types-lower = lower (placesOf types [] []) ys (passed [] []);
       nodes-front = ap (λ n. take n nodes) all ∙ S .nodes-front ∙ ap (figures nodesOf []) (take-all i ys (omega (arith, same)));
       free-front = ap (λ n. take n free) all ∙ S .free-front ∙ ap (figures freeOf []) (take-all i ys (omega (arith, same)));
       nodes-room = omega (arith, same);
@@ -174,3 +176,6 @@ module _ (xs types : List ℕ) where
 
       all : length (map (typeAt xs) types) ≡ i
       all = omega (arith, same)
+
+      passed : (terms functions : List ℕ) → testTypes (placesOf types terms functions) 0 ys ≡ accepted tt
+      passed terms functions = S .rest terms functions ∙ ap (testTypes (placesOf types terms functions) i) (drop-of-length-le ys {i = i} (omega (arith, same)))

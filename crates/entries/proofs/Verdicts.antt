@@ -12,7 +12,7 @@ use package.Rattle.rules.proofs.Basics.{given}
 use package.Rattle.calls.specs.Answer.{Answer, accepted, refused, _>>=_, require}
 use package.Rattle.calls.specs.Entries.{TypeEntry, typeAt}
 use package.Rattle.calls.specs.Named.{plain, allPlain, below}
-use package.Rattle.calls.proofs.Entries.{below-head}
+use package.Rattle.calls.proofs.Entries.{below-head, plain-figures}
 use package.Rattle.calls.proofs.Answer.{refused≢accepted}
 use package.Rattle.entries.specs.Marks.{Marks, Measured, plainIn, allPlainIn}
 use package.Rattle.entries.specs.Tested.{verdictOf, EntryTested, Ends}
@@ -76,9 +76,10 @@ going-end whole rest us us′ end G used₀ M₀ = given (G .going used₀ M₀)
 
 -- a type entry is plain by its noted figures
 plain-noted : (ys : List TypeEntry) (nodes free : List ℕ) (i : ℕ) → Measured ys nodes free → i < length ys → plain ys i ≡ plainIn nodes free i
-unfolding plain plainIn
+unfolding plainIn
 plain-noted ys nodes free i N l =
-    ap₂ (λ f n. eqb f 0 && leb n maxNodes)
+    plain-figures ys (N .types-lower) i l
+    ∙ ap₂ (λ f n. eqb f 0 && leb n maxNodes)
     (ap (λ l. getD l i 0) (sym (N .free-front)) ∙ getD-take (length ys) free i 0 l)
     (ap (λ l. getD l i 0) (sym (N .nodes-front)) ∙ getD-take (length ys) nodes i 0 l)
 

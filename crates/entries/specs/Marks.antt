@@ -8,7 +8,9 @@ use lib.ListN.{length, getD, set, take}
 use lib.Dec.{eqb, ltb, leb}
 use package.Rattle.rules.specs.Limits.{maxNodes}
 use package.Rattle.calls.specs.Entries.{TypeEntry, typeAt}
-use package.Rattle.calls.specs.Named.{nodesOf, freeOf, figures, typesOfType, below, member, fresh}
+use package.Rattle.calls.specs.Named.{typesOfType, below, member, fresh}
+use package.Rattle.calls.specs.Figures.{nodesOf, freeOf, figures}
+use package.Rattle.calls.specs.Closed.{Lower}
 
 ----------------------------------------------------------------
 -- Uses of terms
@@ -40,8 +42,9 @@ pub record TypeTested (xs : List ℕ) (at i : ℕ) (nodes nodes′ free free′ 
   pub nodes-noted : r ≡ true → nodes′ ≡ set nodes i (nodesOf nodes (typeAt xs at))
   pub free-noted : r ≡ true → free′ ≡ set free i (freeOf free (typeAt xs at))
 
--- the fronts of the arrays have the figures of the entries `ys`
+-- the fronts of the arrays have the figures of the entries `ys`, which each name lower ones
 pub record Measured (ys : List TypeEntry) (nodes free : List ℕ) : Type 0 where
+  pub types-lower : Lower ys
   pub nodes-front : take (length ys) nodes ≡ figures nodesOf [] ys
   pub free-front : take (length ys) free ≡ figures freeOf [] ys
   pub nodes-room : length ys ≤ length nodes

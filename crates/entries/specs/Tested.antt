@@ -6,7 +6,8 @@ use mathlib.Core.List.{List, [], _∷_, _++_, map}
 use lib.ListN.{length, take}
 use package.Rattle.calls.specs.Answer.{Answer, accepted, refused, _>>=_, require}
 use package.Rattle.calls.specs.Entries.{typeAt, TermEntry, termAt, FunctionEntry, functionAt, Entries, entriesAt}
-use package.Rattle.calls.specs.Named.{typesOfTerm, termsOfTerm, functionsOfTerm, typesOfFunction, nodesOf, figures, below, fresh, testTypes, testTerms, testFunctions, testUsed, testEntries}
+use package.Rattle.calls.specs.Named.{typesOfTerm, termsOfTerm, functionsOfTerm, typesOfFunction, below, fresh, testTypes, testTerms, testFunctions, testUsed, testEntries}
+use package.Rattle.calls.specs.Figures.{nodesOf, figures}
 use package.Rattle.entries.specs.declared.testing.Verdict.{Verdict}
 use package.Rattle.entries.specs.declared.testing.Verdict.the-variants.{Sound, BadReference, BadType}
 use package.Rattle.program.specs.Places.{placesOf}

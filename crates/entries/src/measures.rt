@@ -8,7 +8,8 @@ ghost use mathlib.Core.Bool.{true};
 ghost use Prim.Native.Nat.{suc, _+_, min, max, pred};
 ghost use lib.ListN.{length};
 ghost use Rattle.calls.specs.Entries.{typeAt};
-ghost use Rattle.calls.specs.Named.{ceiling, nodesOf, freeOf, typesOfType, below};
+ghost use Rattle.calls.specs.Named.{typesOfType, below};
+ghost use Rattle.calls.specs.Figures.{ceiling, nodesOf, freeOf};
 ghost use Rattle.program.specs.Parts.{TypeField};
 
 // One above the limit on nodes, as wide as a count and as a sum of counts.

@@ -7,7 +7,7 @@ use lib.ListN.{length, getD, take, length-map}
 use lib.Seq.{getD-take}
 use package.Rattle.calls.specs.Fields.{Layout}
 use package.Rattle.calls.specs.Entries.{typeAt}
-use package.Rattle.calls.specs.Named.{nodesOf, figures}
+use package.Rattle.calls.specs.Figures.{nodesOf, figures}
 use package.Rattle.calls.proofs.Entries.{nodes-figure}
 use package.Rattle.calls.specs.Tested.{Lower}
 use package.Rattle.program.specs.Parts.{Formed}

@@ -12,7 +12,7 @@ use package.Rattle.octets.specs.Runs.{Decides}
 use package.Rattle.rules.specs.Limits.{maxNodes}
 use package.Rattle.rules.specs.Ty.{Ty, one, prod, sum, mu, tyvar, plug, nodes}
 use package.Rattle.calls.specs.Entries.{typeAt, typeOf}
-use package.Rattle.calls.specs.Named.{ceiling}
+use package.Rattle.calls.specs.Figures.{ceiling}
 use package.Rattle.program.specs.Kinds.{unitTypeKind, recursiveKind, typeVariableKind}
 use package.Rattle.types.specs.declared.codes.Code.{Code}
 use package.Rattle.types.specs.declared.shapes.Shape.{Shape}

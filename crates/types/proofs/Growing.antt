@@ -14,7 +14,7 @@ use package.Rattle.octets.proofs.Puts.{length-put16, set-low, put16-low, get16-
 use package.Rattle.rules.specs.Limits.{maxNodes}
 use package.Rattle.rules.specs.Ty.{Ty, prod, nodes}
 use package.Rattle.calls.specs.Entries.{TypeEntry, typeAt}
-use package.Rattle.calls.specs.Named.{ceiling}
+use package.Rattle.calls.specs.Figures.{ceiling}
 use package.Rattle.types.specs.declared.codes.Code.{Code}
 use package.Rattle.types.specs.Codes.{Room, nodeBytes, productCode, codeAt, leftAt, rightAt, countAt, ofCode, productWithin, productAt, treeOf, treeIn, Known, Right, Products, Sources}
 use package.Rattle.types.specs.Growth.{putCode, putNode, Agree, Grown, Made}

@@ -5,7 +5,7 @@ use mathlib.Core.List.{List, map}
 use lib.ListN.{length, getD}
 use package.Rattle.rules.specs.Ty.{nodes}
 use package.Rattle.calls.specs.Entries.{typeAt, typeOf}
-use package.Rattle.calls.specs.Named.{ceiling}
+use package.Rattle.calls.specs.Figures.{ceiling}
 use package.Rattle.types.specs.declared.codes.Code.{Code}
 use package.Rattle.types.specs.Codes.{underForm}
 

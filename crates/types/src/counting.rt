@@ -7,7 +7,7 @@ ghost use lib.Dec.{leb};
 ghost use Rattle.octets.specs.Runs.{Decides};
 ghost use Rattle.rules.specs.Limits.{maxNodes};
 ghost use Rattle.rules.specs.Ty.{nodes};
-ghost use Rattle.calls.specs.Named.{ceiling};
+ghost use Rattle.calls.specs.Figures.{ceiling};
 ghost use Rattle.types.specs.Codes.{underForm, treeIn, Sources, Known};
 ghost use Rattle.types.specs.Counts.{Counted, Held, Small};
 use crate::codes;

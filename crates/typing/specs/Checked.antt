@@ -11,7 +11,8 @@ use package.Rattle.rules.specs.Typing.{dynamic}
 use package.Rattle.rules.specs.Check.{statics, checkFun, check}
 use package.Rattle.calls.specs.Answer.{Answer, accepted, refused, _>>=_, require}
 use package.Rattle.calls.specs.Entries.{typeAt, typeOf, functionAt, entriesAt}
-use package.Rattle.calls.specs.Named.{nodesOf, figures, typesOfFunction, below, testEntries}
+use package.Rattle.calls.specs.Named.{typesOfFunction, below, testEntries}
+use package.Rattle.calls.specs.Figures.{nodesOf, figures}
 use package.Rattle.calls.specs.Load.{typed}
 use package.Rattle.program.specs.Parts.{FunctionField}
 use package.Rattle.program.specs.Places.{placesOf, Placed}

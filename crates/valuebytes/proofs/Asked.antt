@@ -37,7 +37,7 @@ table xs L e t = record { field = formed xs e .types; lower = lower L (entriesOf
 
 module _ (xs os : List ℕ) (T : TypesRead xs os) (i : ℕ) (l : i < length os) (p : plain (entriesOf xs os) i ≡ true) where
   closed-entry : closed 0 (typeOf (entriesOf xs os) i) ≡ true
-  closed-entry = plain-iff (entriesOf xs os) (T .lower) i (omega (arith, length-map os (typeAt xs))) .0 p .0
+  closed-entry = plain-iff (entriesOf xs os) i .0 p .0
 
   -- the entry alone is written to both tables, which are zero
   module _ (binders outer : List ℕ) {entries cells : List ℕ} (we : entries ≡ set (replicate room 0) 0 i) (wc : cells ≡ set (replicate room 0) 0 0) where

@@ -83,7 +83,7 @@ module _ (xs os : List ℕ) (T : TypesRead xs os) (i : ℕ) (l : i < length os) 
 
   -- a part that is known, and whose tree is plain
   part-plain : (j : ℕ) → j < length os → Plain (tree j) → plain (entriesOf xs os) j ≡ true
-  part-plain j h p = plain-iff (entriesOf xs os) (T .lower) j (omega (arith, length-map os (typeAt xs))) .1 p
+  part-plain j h p = plain-iff (entriesOf xs os) j .1 p
 
   -- both parts are plain, as the product is
   pub parts-plain : plain (entriesOf xs os) i ≡ true
@@ -92,7 +92,7 @@ module _ (xs os : List ℕ) (T : TypesRead xs os) (i : ℕ) (l : i < length os) 
   unfolding closed nodes
   parts-plain p =
       given (prod-known xs os T i l k) λ (h, h′).
-      given (subst Plain (tree-prod xs os T i l k) (plain-iff (entriesOf xs os) (T .lower) i (omega (arith, length-map os (typeAt xs))) .0 p)) λ (c, n).
+      given (subst Plain (tree-prod xs os T i l k) (plain-iff (entriesOf xs os) i .0 p)) λ (c, n).
       given (and-both _ _ c) λ (x, y). ((h, part-plain _ h (x, omega arith)), (h′, part-plain _ h′ (y, omega arith)))
 
   module _ (s : List ℕ) (e : isValue s ≡ true) where

@@ -37,9 +37,9 @@ module _ (ys : List TypeEntry) (low : Lower ys) where
   all-plain-iff [] b = (λ e i m. absurd (false≢true m), λ h. refl)
   all-plain-iff (j ∷ js) b = given (below-head (length ys) j js b) λ (l, b₁). (
     λ e i m. given (and-both (plain ys j) (allPlain ys js) e) λ (x, y).
-        or-elim (eqb i j) (member i js) (λ p. subst (λ i. Plain (typeOf ys i)) (sym (eqb-sound i j p)) (plain-iff ys low j l .0 x))
+        or-elim (eqb i j) (member i js) (λ p. subst (λ i. Plain (typeOf ys i)) (sym (eqb-sound i j p)) (plain-iff ys j .0 x))
         (all-plain-iff js b₁ .0 y i) m,
-    λ h. rw (plain-iff ys low j l .1 (h j (or-left (member j js) (same j))), all-plain-iff js b₁ .1 λ i m. h i (or-right (eqb i j) m)),
+    λ h. rw (plain-iff ys j .1 (h j (or-left (member j js) (same j))), all-plain-iff js b₁ .1 λ i m. h i (or-right (eqb i j) m)),
   )
     where
       same : (j : ℕ) → eqb j j ≡ true

@@ -1,5 +1,5 @@
 use native.Mathlib.Omega.{arith}
-use Rattle.calls.specs.Named.{ceiling}
+use Rattle.calls.specs.Figures.{ceiling}
 use borrow.Author.Needs.{needs}
 use Rattle.entries.proofs.measures.joined.Statement.{statement}
 use Rattle.entries.proofs.measures.joined.Tie as tie

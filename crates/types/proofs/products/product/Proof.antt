@@ -1,5 +1,5 @@
 use native.Mathlib.Omega.{arith}
-use Rattle.calls.specs.Named.{ceiling}
+use Rattle.calls.specs.Figures.{ceiling}
 use Rattle.types.proofs.Growing.{made-old, made-new}
 use Rattle.types.proofs.Figures.{below-ceiling}
 use borrow.Author.Needs.{needs}

@@ -10,14 +10,15 @@ use lib.Dec.{leb, eqb}
 use borrow.Author.Tests.{le-leb, lt-leb, eq-eqb, ne-eqb}
 use package.Rattle.octets.specs.Numbers.{get16, bytes16}
 use package.Rattle.rules.specs.Limits.{maxTypes, maxTerms, maxFunctions, maxProgramBytes, workspaceBase, workspacePerFuel}
 use package.Rattle.calls.specs.Answer.{Answer, accepted, refused, _>>=_, require}
 use package.Rattle.calls.specs.Fields.{tagAt, lengthAt, nextAt, kindAt, termLengths, typeLength, termLength, functionLength, bodyFits, wellFormed, Layout, withField, withinCounts, readFields, noFields, layout}
 use package.Rattle.calls.specs.Load.{load}
 use package.Rattle.calls.specs.Runs.{workspaceFor, prepared, checkCall}
 use package.Rattle.calls.specs.Journal.{field}
 use package.Rattle.calls.specs.Cases.{refs, termField, ample}
-use package.Rattle.calls.specs.Borders.{copies, offsets}
+use package.Rattle.calls.specs.Borders.{copies}
+use package.Rattle.borders.specs.Borders.{offsets}
 use package.Rattle.calls.proofs.Answer.{via, require-yes}
 
 -- the field of a unit term
 abbrev pub unitTerm : List ℕ

@@ -1,0 +1,2 @@
+-- programs of as many entries as may be, as propositions
+pub mod Borders
