@@ -13,51 +13,35 @@ use package.Rattle.answers.specs.declared.CheckAnswer.the-variants as ch
 use package.Rattle.answers.specs.declared.RunAnswer.{RunAnswer}
 use package.Rattle.answers.specs.declared.RunAnswer.the-variants as runs
 
--- the number of a refusal: section 4's table
-abbrev pub numberOf : Refusal → ℕ
-numberOf Workspace = 1
-numberOf (Field at) = 2
-numberOf (Limit at) = 3
-numberOf (Reference at) = 4
-numberOf (NamedType at) = 5
-numberOf (Mismatch at) = 6
-numberOf (Scope at) = 7
-numberOf (Usage at) = 8
-numberOf Function = 9
-numberOf Values = 10
-numberOf ValueType = 11
-numberOf (Fuel k) = 12
-numberOf (Height k) = 13
-numberOf (Long k) = 14
-numberOf (FirstMatch k) = 15
-numberOf (NoInput k) = 16
-numberOf Output = 17
-numberOf Journal = 18
-numberOf Standing = 19
-numberOf Full = 20
+-- the number of a refusal by section 4's table, and its place: for 2 to 8 the offset of the field's first byte, for 12 to 16 the term entry,
+-- otherwise 0
+abbrev pub numberAndPlace : Refusal → ℕ × ℕ
+numberAndPlace Workspace = (1, 0)
+numberAndPlace (Field at) = (2, at)
+numberAndPlace (Limit at) = (3, at)
+numberAndPlace (Reference at) = (4, at)
+numberAndPlace (NamedType at) = (5, at)
+numberAndPlace (Mismatch at) = (6, at)
+numberAndPlace (Scope at) = (7, at)
+numberAndPlace (Usage at) = (8, at)
+numberAndPlace Function = (9, 0)
+numberAndPlace Values = (10, 0)
+numberAndPlace ValueType = (11, 0)
+numberAndPlace (Fuel k) = (12, k)
+numberAndPlace (Height k) = (13, k)
+numberAndPlace (Long k) = (14, k)
+numberAndPlace (FirstMatch k) = (15, k)
+numberAndPlace (NoInput k) = (16, k)
+numberAndPlace Output = (17, 0)
+numberAndPlace Journal = (18, 0)
+numberAndPlace Standing = (19, 0)
+numberAndPlace Full = (20, 0)
 
--- its place: for 2 to 8 the offset of the field's first byte, for 12 to 16 the term entry, otherwise 0 (section 4)
+abbrev pub numberOf : Refusal → ℕ
+numberOf r = numberAndPlace r .0
+
 abbrev pub placeOf : Refusal → ℕ
-placeOf Workspace = 0
-placeOf (Field at) = at
-placeOf (Limit at) = at
-placeOf (Reference at) = at
-placeOf (NamedType at) = at
-placeOf (Mismatch at) = at
-placeOf (Scope at) = at
-placeOf (Usage at) = at
-placeOf Function = 0
-placeOf Values = 0
-placeOf ValueType = 0
-placeOf (Fuel k) = k
-placeOf (Height k) = k
-placeOf (Long k) = k
-placeOf (FirstMatch k) = k
-placeOf (NoInput k) = k
-placeOf Output = 0
-placeOf Journal = 0
-placeOf Standing = 0
-placeOf Full = 0
+placeOf r = numberAndPlace r .1
 
 -- check answers only that it accepts, or a refusal (section 4)
 abbrev pub checkAnswer : CheckAnswer → Answer (Unit {0})

@@ -70,7 +70,7 @@ module _ {code heap slots : List ℕ} {m : Machine} {b : Bindings} {sc : Scope} 
 
   module _ {slots₀ : List ℕ} {m₀ : Machine} (K : Marked slots slots₀ m m₀ sc) {sc₁ : Scope} (w : sc₁ ≡ wider sc) where
     pub under-prepared : Prepared 0 0 code heap slots₀ m₀ b sc₁ (sc₁ .n) t room
-    under-prepared = rw w (opened P few under-there K refl (inner-ready (P .ready) few (opens few P under-there K)) (omega arith))
+    under-prepared = rw w (opened P few under-there K refl (inner-ready (P .ready) few (opens P few under-there K)) (omega arith))
 
     pub under-node : {node : ℕ} → node < m .top → node < m₀ .top
     under-node low = rw (K .machine-is) low
@@ -98,10 +98,10 @@ module _ {code heap slots : List ℕ} {m : Machine} {b : Bindings} {sc : Scope} 
 
             go : (stops : Bool) → eqb (r .stop) 0 ≡ stops → RanUnder 0 heap heap₁ slots slots₁ m (scopeView slots sc) (innerOf heap₁ (r .stop) slots₁ m₁ sc)
                 (underAt code heap slots m sc t (valueAt heap node) room)
-            go true d = inner-done (P .ready) few (opens few P under-there K) low from-here (is-done (eqb-true (r .stop) 0 d))
+            go true d = inner-done (P .ready) few (opens P few under-there K) low from-here (is-done (eqb-true (r .stop) 0 d))
                 (view-goes heap₁ slots₁ (sc .base) (sc .n) few)
             go false d =
-                inner-stopped (P .ready) few (opens few P under-there K) low from-here (is-stopped (eqb-false (r .stop) 0 d))
+                inner-stopped (P .ready) few (opens P few under-there K) low from-here (is-stopped (eqb-false (r .stop) 0 d))
                 (record { newest = nodeOr (found heap₁ (getD slots₁ (sc .base + sc .n) 0)); state = scopeView slots₁ sc })
 
 ----------------------------------------------------------------

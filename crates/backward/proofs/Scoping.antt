@@ -104,7 +104,7 @@ module _ {code heap slots : List ℕ} {m : Machine} {b : Bindings} {sc : Scope} 
 
     module _ {slots₀ : List ℕ} {m₀ : Machine} (K : Marked slots slots₀ m m₀ sc) {sc₁ : Scope} (w : sc₁ ≡ wider sc) where
       abbrev first-open : Opens (scopeView slots sc) unknown (scopeView slots₀ (wider sc))
-      first-open = opens letp-few P letp-there K
+      first-open = opens P letp-few letp-there K
 
       more : sc .n + 1 < maxVariables
       more = letp-second (P .ready) low kind qu qu′ first-open
