@@ -1,5 +1,5 @@
 #!/usr/bin/env bash
-# Reads what the prover said of every must-fail edit (rt ci leaves it under target/must-fail) and fails where the first error is about a name that is not
+# Reads what the prover said of every must-fail edit (tests/edits.sh leaves it under target/must-fail) and fails where the first error is about a name that is not
 # in scope, code that does not compile, or a proof of another shape than the code. It knows these by the texts below: an error of another text passes, so
 # it does not show that an edit was refused for the fact that it changes.
 # The last line is 'N passed, M failed', an edit each; the exit status is 0 only if M is 0.
