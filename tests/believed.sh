@@ -13,8 +13,8 @@ lines() {
 # row WHAT COUNT
 row() { printf '%-58s %5d\n' "$1" "$2"; }
 
-# Modules of a crate's specs that are neither claims nor cases. No claim speaks of calls/specs/Tested, which crates above cite.
-definitions() { find "crates/$1/specs" -name '*.antt' | grep -vE '/(Claims|Cases|Borders|Samples|Tested)\.antt$' | LC_ALL=C sort; }
+# Modules of a crate's specs that are neither claims nor cases. No claim and no call speaks of calls/specs/Tested and Figures, which crates above cite.
+definitions() { find "crates/$1/specs" -name '*.antt' | grep -vE '/(Claims|Cases|Borders|Samples|Tested|Figures)\.antt$' | LC_ALL=C sort; }
 
 # Clauses of the functions that strangers call.
 clauses() { cat crates/engine/src/*.rt crates/replay/src/lib.rt crates/batch/src/lib.rt crates/exports/src/*.rt | grep -cE '^ *(ensures|requires) '; }
@@ -25,7 +25,7 @@ trees=$(lines "${of_rules[@]}")
 bytes=$(lines "${of_calls[@]}")
 claims=$(lines crates/rules/specs/Claims.antt crates/calls/specs/Claims.antt)
 words=$(lines crates/octets/specs/*.antt crates/answers/specs/Answers.antt crates/engine/specs/*.antt crates/replay/specs/*.antt crates/batch/specs/*.antt)
-cases=$(lines crates/rules/specs/Cases.antt crates/calls/specs/{Cases,Borders,Samples}.antt)
+cases=$(lines crates/rules/specs/Cases.antt crates/calls/specs/{Cases,Borders,Samples}.antt crates/borders/specs/Borders.antt)
 
 row "definitions over trees (rules/specs)" "$trees"
 row "definitions on bytes (calls/specs)" "$bytes"

@@ -53,20 +53,22 @@ abbrev pub runAnswer : RunAnswer → Answer (ℕ × ℕ)
 runAnswer (runs.Ran d) = accepted (d .len, d .steps)
 runAnswer (runs.Refused r) = refused (numberOf r) (placeOf r)
 
--- of a run's value the length alone is answered, since the value itself fills the output (section 4)
+-- what is answered of an outcome; a refusal stands
+abbrev pub answering : {A B : Type 0} → (A → B) → Answer A → Answer B
+answering f (accepted a) = accepted (f a)
+answering f (refused n p) = refused n p
+
+-- of a run the value's length, since the value itself fills the output, and the steps (section 4)
 abbrev pub summary : Answer Ran → Answer (ℕ × ℕ)
-summary (accepted r) = accepted (size (r .value), r .steps)
-summary (refused n p) = refused n p
+summary = answering λ r. (size (r .value), r .steps)
 
--- open answers only that it accepts (section 4)
+-- of open only that it accepts
 abbrev pub openAnswer : Answer (List ℕ) → Answer (Unit {0})
-openAnswer (accepted journal) = accepted tt
-openAnswer (refused n p) = refused n p
+openAnswer = answering λ journal. tt
 
--- convert and rollback answer the held value's length and the steps (section 4)
+-- of convert and rollback the held value's length and the steps
 abbrev pub heldAnswer : Answer Turned → Answer (ℕ × ℕ)
-heldAnswer (accepted t) = accepted (t .held, t .steps)
-heldAnswer (refused n p) = refused n p
+heldAnswer = answering λ t. (t .held, t .steps)
 
 -- Answered in a workspace that is long enough: whatever is refused, not with 1. Such a call clears its workspace (section 4).
 pub data Later {A : Type 0} : Answer A → Type 0 where

@@ -24,11 +24,7 @@ pub data TypeEntry : Type 0 where
 
 -- by kind, with the two references and the byte that may follow it
 unfoldable pub typeOfKind : ℕ → ℕ → ℕ → ℕ → TypeEntry
-typeOfKind zero a b n = y-unit
-typeOfKind (suc zero) a b n = y-prod a b
-typeOfKind (suc (suc zero)) a b n = y-sum a b
-typeOfKind (suc (suc (suc zero))) a b n = y-mu a
-typeOfKind (suc (suc (suc (suc k)))) a b n = y-var n
+typeOfKind kind a b n = getD (y-unit ∷ y-prod a b ∷ y-sum a b ∷ y-mu a ∷ []) kind (y-var n)
 
 -- the type entry whose field is at `at`
 unfoldable pub typeAt : List ℕ → ℕ → TypeEntry
@@ -66,17 +62,8 @@ pub data TermEntry : Type 0 where
 
 -- by kind, with the three references and the byte that may follow it, and a call's ancilla terms and dynamic term
 unfoldable pub termOfKind : ℕ → ℕ → ℕ → ℕ → ℕ → List ℕ → ℕ → TermEntry
-termOfKind zero a b c n ts t = n-var n
-termOfKind (suc zero) a b c n ts t = n-unit
-termOfKind (suc (suc zero)) a b c n ts t = n-inl a b
-termOfKind (suc (suc (suc zero))) a b c n ts t = n-inr a b
-termOfKind (suc (suc (suc (suc zero)))) a b c n ts t = n-pair a b
-termOfKind (suc (suc (suc (suc (suc zero))))) a b c n ts t = n-let a b
-termOfKind (suc (suc (suc (suc (suc (suc zero)))))) a b c n ts t = n-letp a b
-termOfKind (suc (suc (suc (suc (suc (suc (suc zero))))))) a b c n ts t = n-case a b c
-termOfKind (suc (suc (suc (suc (suc (suc (suc (suc zero)))))))) a b c n ts t = n-call a ts t
-termOfKind (suc (suc (suc (suc (suc (suc (suc (suc (suc zero))))))))) a b c n ts t = n-roll a b
-termOfKind (suc (suc (suc (suc (suc (suc (suc (suc (suc (suc k)))))))))) a b c n ts t = n-unroll a b
+termOfKind kind a b c n ts t =
+    getD (n-var n ∷ n-unit ∷ n-inl a b ∷ n-inr a b ∷ n-pair a b ∷ n-let a b ∷ n-letp a b ∷ n-case a b c ∷ n-call a ts t ∷ n-roll a b ∷ []) kind (n-unroll a b)
 
 -- how many ancilla terms a call has: of its body of 1 + 2 + 2 × (ancillae + 1) bytes
 unfoldable pub callAncillae : ℕ → ℕ
