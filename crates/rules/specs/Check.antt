@@ -40,25 +40,13 @@ need false n p = bad n p
 
 -- goes on with the parts of a type of the form that a rule asks for, else 6
 unfoldable pub asSum : {A : Type 0} → Site → Ty → (Ty → Ty → Checked A) → Checked A
-asSum p one f = bad 6 p
-asSum p (prod a b) f = bad 6 p
-asSum p (sum a b) f = f a b
-asSum p (mu a) f = bad 6 p
-asSum p (tyvar n) f = bad 6 p
+asSum p c f = elim c [ one ↦ bad 6 p | prod a b ↦ bad 6 p | sum a b ↦ f a b | mu a ↦ bad 6 p | tyvar n ↦ bad 6 p ]
 
 unfoldable pub asProd : {A : Type 0} → Site → Ty → (Ty → Ty → Checked A) → Checked A
-asProd p one f = bad 6 p
-asProd p (prod a b) f = f a b
-asProd p (sum a b) f = bad 6 p
-asProd p (mu a) f = bad 6 p
-asProd p (tyvar n) f = bad 6 p
+asProd p c f = elim c [ one ↦ bad 6 p | prod a b ↦ f a b | sum a b ↦ bad 6 p | mu a ↦ bad 6 p | tyvar n ↦ bad 6 p ]
 
 unfoldable pub asMu : {A : Type 0} → Site → Ty → (Ty → Checked A) → Checked A
-asMu p one f = bad 6 p
-asMu p (prod a b) f = bad 6 p
-asMu p (sum a b) f = bad 6 p
-asMu p (mu a) f = f a
-asMu p (tyvar n) f = bad 6 p
+asMu p c f = elim c [ one ↦ bad 6 p | prod a b ↦ bad 6 p | sum a b ↦ bad 6 p | mu a ↦ f a | tyvar n ↦ bad 6 p ]
 
 -- the function that a call names; that it is there was tested before typing (4)
 unfoldable pub asFun : {A : Type 0} → Site → Option Fun → (Fun → Checked A) → Checked A

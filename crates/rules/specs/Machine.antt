@@ -16,32 +16,16 @@ use package.Rattle.rules.specs.Run.{Run, _>>=_, give, refuse, lost, ente
 -- By the shape of a value: a wrong shape is stuck
 
 unfoldable pub onSum : {A : Type 0} → Val → (Val → Run A) → (Val → Run A) → Run A
-onSum unit l r = lost
-onSum (inl v) l r = l v
-onSum (inr v) l r = r v
-onSum (pair v w) l r = lost
-onSum (roll v) l r = lost
+onSum v l r = elim v [ unit ↦ lost | inl v ↦ l v | inr v ↦ r v | pair v w ↦ lost | roll v ↦ lost ]
 
 unfoldable pub onPair : {A : Type 0} → Val → (Val → Val → Run A) → Run A
-onPair unit k = lost
-onPair (inl v) k = lost
-onPair (inr v) k = lost
-onPair (pair v w) k = k v w
-onPair (roll v) k = lost
+onPair v k = elim v [ unit ↦ lost | inl v ↦ lost | inr v ↦ lost | pair v w ↦ k v w | roll v ↦ lost ]
 
 unfoldable pub onRoll : {A : Type 0} → Val → (Val → Run A) → Run A
-onRoll unit k = lost
-onRoll (inl v) k = lost
-onRoll (inr v) k = lost
-onRoll (pair v w) k = lost
-onRoll (roll v) k = k v
+onRoll v k = elim v [ unit ↦ lost | inl v ↦ lost | inr v ↦ lost | pair v w ↦ lost | roll v ↦ k v ]
 
 unfoldable pub onUnit : {A : Type 0} → Val → Run A → Run A
-onUnit unit m = m
-onUnit (inl v) m = lost
-onUnit (inr v) m = lost
-onUnit (pair v w) m = lost
-onUnit (roll v) m = lost
+onUnit v m = elim v [ unit ↦ m | inl v ↦ lost | inr v ↦ lost | pair v w ↦ lost | roll v ↦ lost ]
 
 unfoldable pub onSome : {A B : Type 0} → Option A → (A → Run B) → Run B
 onSome none k = lost

@@ -42,69 +42,25 @@ nodes (tyvar n) = 1
 
 -- Is the type exactly unit? (Section 3: 1 × 1 and a recursive type over 1 are not.)
 abbrev pub isUnit : Ty → Bool
-isUnit one = true
-isUnit (prod a b) = false
-isUnit (sum a b) = false
-isUnit (mu a) = false
-isUnit (tyvar n) = false
+isUnit c = elim c [ one ↦ true | prod a b ↦ false | sum a b ↦ false | mu a ↦ false | tyvar n ↦ false ]
 
 -- Are two types equal as trees? (Section 3: folding alone never makes a type equal to its unfolding.)
 unfoldable pub sameTy : Ty → Ty → Bool
-sameTy one one = true
-sameTy one (prod c d) = false
-sameTy one (sum c d) = false
-sameTy one (mu c) = false
-sameTy one (tyvar m) = false
-sameTy (prod a b) one = false
-sameTy (prod a b) (prod c d) = sameTy a c && sameTy b d
-sameTy (prod a b) (sum c d) = false
-sameTy (prod a b) (mu c) = false
-sameTy (prod a b) (tyvar m) = false
-sameTy (sum a b) one = false
-sameTy (sum a b) (prod c d) = false
-sameTy (sum a b) (sum c d) = sameTy a c && sameTy b d
-sameTy (sum a b) (mu c) = false
-sameTy (sum a b) (tyvar m) = false
-sameTy (mu a) one = false
-sameTy (mu a) (prod c d) = false
-sameTy (mu a) (sum c d) = false
-sameTy (mu a) (mu c) = sameTy a c
-sameTy (mu a) (tyvar m) = false
-sameTy (tyvar n) one = false
-sameTy (tyvar n) (prod c d) = false
-sameTy (tyvar n) (sum c d) = false
-sameTy (tyvar n) (mu c) = false
-sameTy (tyvar n) (tyvar m) = eqb n m
+sameTy one τ = elim τ [ one ↦ true | prod c d ↦ false | sum c d ↦ false | mu c ↦ false | tyvar m ↦ false ]
+sameTy (prod a b) τ = elim τ [ one ↦ false | prod c d ↦ sameTy a c && sameTy b d | sum c d ↦ false | mu c ↦ false | tyvar m ↦ false ]
+sameTy (sum a b) τ = elim τ [ one ↦ false | prod c d ↦ false | sum c d ↦ sameTy a c && sameTy b d | mu c ↦ false | tyvar m ↦ false ]
+sameTy (mu a) τ = elim τ [ one ↦ false | prod c d ↦ false | sum c d ↦ false | mu c ↦ sameTy a c | tyvar m ↦ false ]
+sameTy (tyvar n) τ = elim τ [ one ↦ false | prod c d ↦ false | sum c d ↦ false | mu c ↦ false | tyvar m ↦ eqb n m ]
 
 ----------------------------------------------------------------
 -- Values of a type
 
 unfoldable pub hasTy : Val → Ty → Bool
-hasTy unit one = true
-hasTy unit (prod a b) = false
-hasTy unit (sum a b) = false
-hasTy unit (mu a) = false
-hasTy unit (tyvar n) = false
-hasTy (inl v) one = false
-hasTy (inl v) (prod a b) = false
-hasTy (inl v) (sum a b) = hasTy v a
-hasTy (inl v) (mu a) = false
-hasTy (inl v) (tyvar n) = false
-hasTy (inr v) one = false
-hasTy (inr v) (prod a b) = false
-hasTy (inr v) (sum a b) = hasTy v b
-hasTy (inr v) (mu a) = false
-hasTy (inr v) (tyvar n) = false
-hasTy (pair v w) one = false
-hasTy (pair v w) (prod a b) = hasTy v a && hasTy w b
-hasTy (pair v w) (sum a b) = false
-hasTy (pair v w) (mu a) = false
-hasTy (pair v w) (tyvar n) = false
-hasTy (roll v) one = false
-hasTy (roll v) (prod a b) = false
-hasTy (roll v) (sum a b) = false
-hasTy (roll v) (mu a) = hasTy v (unfoldTy a)
-hasTy (roll v) (tyvar n) = false
+hasTy unit τ = elim τ [ one ↦ true | prod a b ↦ false | sum a b ↦ false | mu a ↦ false | tyvar n ↦ false ]
+hasTy (inl v) τ = elim τ [ one ↦ false | prod a b ↦ false | sum a b ↦ hasTy v a | mu a ↦ false | tyvar n ↦ false ]
+hasTy (inr v) τ = elim τ [ one ↦ false | prod a b ↦ false | sum a b ↦ hasTy v b | mu a ↦ false | tyvar n ↦ false ]
+hasTy (pair v w) τ = elim τ [ one ↦ false | prod a b ↦ hasTy v a && hasTy w b | sum a b ↦ false | mu a ↦ false | tyvar n ↦ false ]
+hasTy (roll v) τ = elim τ [ one ↦ false | prod a b ↦ false | sum a b ↦ false | mu a ↦ hasTy v (unfoldTy a) | tyvar n ↦ false ]
 
 unfoldable pub hasTys : List Val → List Ty → Bool
 hasTys [] [] = true

@@ -29,28 +29,8 @@ encode (roll v) = 4 ∷ encode v
 
 -- Are two values the same?
 unfoldable pub same : Val → Val → Bool
-same unit unit = true
-same unit (inl w) = false
-same unit (inr w) = false
-same unit (pair w w′) = false
-same unit (roll w) = false
-same (inl v) unit = false
-same (inl v) (inl w) = same v w
-same (inl v) (inr w) = false
-same (inl v) (pair w w′) = false
-same (inl v) (roll w) = false
-same (inr v) unit = false
-same (inr v) (inl w) = false
-same (inr v) (inr w) = same v w
-same (inr v) (pair w w′) = false
-same (inr v) (roll w) = false
-same (pair v v′) unit = false
-same (pair v v′) (inl w) = false
-same (pair v v′) (inr w) = false
-same (pair v v′) (pair w w′) = same v w && same v′ w′
-same (pair v v′) (roll w) = false
-same (roll v) unit = false
-same (roll v) (inl w) = false
-same (roll v) (inr w) = false
-same (roll v) (pair w w′) = false
-same (roll v) (roll w) = same v w
+same unit w = elim w [ unit ↦ true | inl w ↦ false | inr w ↦ false | pair w w′ ↦ false | roll w ↦ false ]
+same (inl v) w = elim w [ unit ↦ false | inl w ↦ same v w | inr w ↦ false | pair w w′ ↦ false | roll w ↦ false ]
+same (inr v) w = elim w [ unit ↦ false | inl w ↦ false | inr w ↦ same v w | pair w w′ ↦ false | roll w ↦ false ]
+same (pair v v′) w = elim w [ unit ↦ false | inl w ↦ false | inr w ↦ false | pair w w′ ↦ same v w && same v′ w′ | roll w ↦ false ]
+same (roll v) w = elim w [ unit ↦ false | inl w ↦ false | inr w ↦ false | pair w w′ ↦ false | roll w ↦ same v w ]
