@@ -59,8 +59,9 @@ pub fn write32(s: &mut [u8], at: usize, n: u32)
     write16(s, at + 2, (n % 65536) as u16);
 }
 
-// So many bytes are tested together, and written only if one of them is not zero.
-const BLOCK: usize = 4096;
+// So many bytes are tested together, and written only if one of them is not zero. The compiler makes straight code of a test of so many, where
+// a short loop takes up to twice as long if the linker puts it across two lines of the cache.
+const BLOCK: usize = 512;
 
 // Are the bytes zero? Each is read and none decides by itself: without a branch many are read at once.
 fn all_zero(s: &[u8]) -> bool
@@ -76,17 +77,6 @@ fn all_zero(s: &[u8]) -> bool
         return true;
     }
     false
-}
-
-// Where the block that starts at `at` ends.
-fn block_end(at: usize, len: usize) -> usize
-    requires { ⌜ at < len ⌝ }
-    ensures { λ r. ⌜ (at < r) × (r ≤ len) ⌝ }
-{
-    if len - at < BLOCK {
-        return len;
-    }
-    at + BLOCK
 }
 
 fn write_zeros(s: &mut [u8])
@@ -109,16 +99,17 @@ fn clear_block(s: &mut [u8])
     write_zeros(s);
 }
 
-// Every byte becomes zero.
+// Every byte becomes zero: whole blocks, whose length the compiler knows, then what is left.
 pub fn clear(s: &mut [u8])
     ensures { λ _. ⌜ now (s .exit) ≡ replicate (length (now (s .entry))) 0 ⌝ }
 {
     let mut i = 0;
-    while i < s.len() {
-        let e = block_end(i, s.len());
+    while BLOCK <= s.len() - i {
+        let e = i + BLOCK;
         clear_block(&mut s[i..e]);
         i = e;
     }
+    clear_block(&mut s[i..]);
 }
 
 // The bytes of src, from index `at` of dst on.
