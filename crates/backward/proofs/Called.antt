@@ -4,7 +4,7 @@ use native.Mathlib.Omega.{arith}
 use mathlib.Core.Path.{_≡_, refl, ap, _∙_}
 use mathlib.Core.List.{List}
 use lib.ListN.{length, getD}
-use package.Rattle.rules.specs.Limits.{maxVariables}
+use package.Rattle.rules.specs.Limits.{maxVariables, maxParameters}
 use package.Rattle.decoded.specs.Rows.{argumentIn, bodyIn, firstIn}
 use package.Rattle.valuegraph.specs.Nodes.{valueAt, Agree}
 use package.Rattle.valuegraph.proofs.Places.{agree-trans, agree-down}
@@ -46,6 +46,7 @@ module _ {code heap slots : List ℕ} {m : Machine} {b : Bindings} {sc : Scope} 
     called-space = call-space (P .ready) low C (arguments-done P C D) (is-done e) qg qu
 
     there : sc .base + sc .n + k < slotCount
+    unfolding maxParameters
     there = omega (arith, P .space, P .ready .tall, few-count (scope-ready P) C)
 
     pub called-node : node < m₁ .top
@@ -58,6 +59,7 @@ module _ {code heap slots : List ℕ} {m : Machine} {b : Bindings} {sc : Scope} 
 
       -- the body, with the arguments known
       pub called-prepared : {args : Bindings} → args .head ≡ 0 → Prepared 0 0 code heap₁ slots₁ m₁ args sc₁ (sc₁ .n + 1) u (room - 1)
+      unfolding maxParameters
       called-prepared none-bound = rw w (record {
         ready = call-body (P .ready) low C (arguments-done P C D) (is-done e) qg qu;
         tells = tells-first heap₁ slots₁ (sc .base + sc .n) k (m₁ .top) none-bound (omega (arith, P .ready .machine .some, D .moves .grows));
@@ -108,6 +110,7 @@ module _ {code heap slots : List ℕ} {m : Machine} {b : Bindings} {sc : Scope} 
           module _ {v : ℕ} (qv : v ≡ argumentIn code t k) where
             -- the dynamic term
             pub called-dynamic : Prepared 0 0 code heap₂ slots₂ m₂ b sc (sc .n) v (room - 1)
+            unfolding maxParameters
             called-dynamic = record {
               ready = call-dynamic (P .ready) low C (arguments-done P C D) (is-done e) qg qu (here .ran) follows same qv;
               tells = tells-stay slots slots₂ (sc .base) (sc .n) scope-stays (m₂ .top) (P .tells) agree grows;

@@ -4,6 +4,7 @@ use native.Mathlib.Omega.{arith}
 use mathlib.Core.Path.{_≡_, refl, sym, ap, subst, _∙_}
 use mathlib.Core.List.{List}
 use lib.ListN.{length, getD}
+use package.Rattle.rules.specs.Limits.{maxParameters}
 use package.Rattle.rules.specs.Val.{Val}
 use package.Rattle.rules.specs.Run.{Res, ok, Run, after}
 use package.Rattle.rules.specs.Machine.{State, leave}
@@ -187,6 +188,7 @@ module _ {k : ℕ} {code heap slots : List ℕ} {st : Machine} {room : ℕ} (H :
 
   -- with fewer nodes owed, and less height
   pub held-less : (k′ room′ : ℕ) → k′ ≤ k → room′ ≤ room → Held k′ code heap slots st room′
+  unfolding maxParameters
   held-less k′ room′ le le′ = record {
     rows = H .rows;
     bodies = H .bodies;

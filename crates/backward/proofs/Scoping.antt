@@ -5,7 +5,7 @@ use mathlib.Core.Bool.{Bool, cond}
 use mathlib.Core.List.{List}
 use mathlib.Core.Path.{_≡_, refl, ap, _∙_}
 use lib.ListN.{length, getD}
-use package.Rattle.rules.specs.Limits.{maxVariables}
+use package.Rattle.rules.specs.Limits.{maxVariables, maxParameters}
 use package.Rattle.program.specs.Kinds.{letKind, letPairKind, caseKind}
 use package.Rattle.rules.specs.Yield.{mayYield}
 use package.Rattle.rules.specs.Val.{pair}
@@ -39,6 +39,7 @@ module _ {code heap slots : List ℕ} {m : Machine} {b : Bindings} {sc : Scope} 
   Stepped heap′ slots′ m′ r = Gone 2 heap heap′ slots slots′ m m′ sc r (stepAt code heap slots m sc t (valueAt heap node) room)
 
   there : sc .base + sc .n < slotCount
+  unfolding maxParameters
   there = omega (arith, P .space, P .ready .tall)
 
   ----------------------------------------------------------------
@@ -49,6 +50,7 @@ module _ {code heap slots : List ℕ} {m : Machine} {b : Bindings} {sc : Scope} 
     let-few = let-space (P .ready) low kind qu qu′
 
     pub let-prepared : Prepared 0 0 code heap slots m b sc (sc .n + 1) u′ (room - 1)
+    unfolding maxParameters
     let-prepared = beside P (let-body (P .ready) low kind qu qu′) (omega (arith, P .ready .tall))
 
     module _ {heap₁ slots₁ : List ℕ} {m₁ : Machine} {r : Out}
@@ -75,6 +77,7 @@ module _ {code heap slots : List ℕ} {m : Machine} {b : Bindings} {sc : Scope} 
           let-below j l = G .below j l ∙ left-below let-held G e K j
 
           pub let-outer : Prepared 0 0 code heap₂ slots₂ m₂ c sc (sc .n) u (room - 1)
+          unfolding maxParameters
           let-outer =
               onward P (let-run .moves) let-below (left-tells let-held G e K (omega arith) (omega arith))
               (let-bound (P .ready) low kind qu qu′ let-run (omega arith) (is-done e)) (omega (arith, P .ready .tall))
@@ -113,6 +116,7 @@ module _ {code heap slots : List ℕ} {m : Machine} {b : Bindings} {sc : Scope} 
       letp-more = rw w more
 
       pub letp-prepared : Prepared 0 0 code heap slots₀ m₀ b sc₁ (sc₁ .n + 1) u′ (room - 1)
+      unfolding maxParameters
       letp-prepared = rw w (opened P letp-few letp-there K refl (letp-body (P .ready) low kind qu qu′ first-open) (omega (arith, P .ready .tall)))
 
       pub letp-node : node < m₀ .top
@@ -146,6 +150,7 @@ module _ {code heap slots : List ℕ} {m : Machine} {b : Bindings} {sc : Scope} 
               newest-in = omega arith
 
           pub letp-leaves : Leavable heap₁ slots₁ (r .state) sc₁ (m₁ .top)
+          unfolding maxParameters
           letp-leaves =
               looked letp-held here e (sc .n + 1) (omega (arith, P .ready .binds .within)) (omega arith) (omega (arith, P .space, P .ready .tall)) (here .slot e)
               (ap (λ (sc : Scope). sc .base) w) (ap (λ (sc : Scope). sc .n) w)
@@ -165,6 +170,7 @@ module _ {code heap slots : List ℕ} {m : Machine} {b : Bindings} {sc : Scope} 
             letp-below j l = inner-below j l ∙ left-below letp-held here e L j
 
             pub letp-outer : Prepared 1 0 code heap₂ slots₂ m₂ c sc (sc .n) u (room - 1)
+            unfolding maxParameters
             letp-outer =
                 onward P (letp-run .moves) letp-below (left-tells letp-held here e L (omega arith) (omega arith))
                 (letp-bound (P .ready) low kind qu qu′ first-open letp-run (omega arith) (is-done e) (view-goes heap₂ slots₂ (sc .base) (sc .n) letp-few))
@@ -203,6 +209,7 @@ module _ {code heap slots : List ℕ} {m : Machine} {b : Bindings} {sc : Scope} 
         (qu : u ≡ firstIn code t)
         {v : ℕ} (qv : v ≡ cond l (secondIn code t) (thirdIn code t)) {side : ℕ} (qs : side ≡ cond l 1 2) where
       pub case-prepared : Prepared 0 0 code heap slots m b sc (sc .n + 1) v (room - 1)
+      unfolding maxParameters
       case-prepared = beside P (case-branch (P .ready) low kind qf l Y qu qv qs) (omega (arith, P .ready .tall))
 
       module _ {heap₁ slots₁ : List ℕ} {m₁ : Machine} {r : Out}
@@ -229,6 +236,7 @@ module _ {code heap slots : List ℕ} {m : Machine} {b : Bindings} {sc : Scope} 
             case-below j l = G .below j l ∙ left-below case-held G e K j
 
             pub case-outer : Prepared 1 0 code heap₂ slots₂ m₂ c sc (sc .n) u (room - 1)
+            unfolding maxParameters
             case-outer =
                 onward P (case-run .moves) case-below (left-tells case-held G e K (omega arith) (omega arith))
                 (case-sum (P .ready) low kind qf l Y qu qv qs case-run (omega arith) (is-done e)) (omega (arith, P .ready .tall))

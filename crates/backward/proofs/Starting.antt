@@ -6,7 +6,7 @@ use mathlib.Core.Path.{_≡_, refl, sym, ap, ap₂, _∙_}
 use mathlib.Core.Option.{none, some}
 use mathlib.Core.List.{List, [], _∷_, map}
 use lib.ListN.{getD}
-use package.Rattle.rules.specs.Limits.{fits, maxVariables}
+use package.Rattle.rules.specs.Limits.{fits, maxFunctions, maxVariables}
 use package.Rattle.rules.specs.Val.{Val}
 use package.Rattle.rules.specs.Term.{Term}
 use package.Rattle.rules.specs.Run.{Res, ok, stop, stuck, Run, after, give, lost}
@@ -59,7 +59,7 @@ left-returned heap b node fuel (Refused why) = refusal-after why newest
 -- The run
 
 module _ {code heap slots : List ℕ} {st : Machine} {args : View} {q g node room : ℕ} (S : Starts code heap slots st args q g node room) where
-  pub start-reads : g < 64
+  pub start-reads : g < maxFunctions
   start-reads = omega (arith, S .function, S .machine .rows .few-functions)
 
   pub start-space : args .len < maxVariables

@@ -3,6 +3,7 @@ use Prim.Native.Nat.{ℕ, _-_, _<_}
 use native.Mathlib.Omega.{arith}
 use mathlib.Core.List.{List}
 use mathlib.Core.Path.{_≡_, refl, sym, ap, _∙_}
+use package.Rattle.rules.specs.Limits.{maxParameters}
 use package.Rattle.program.specs.Kinds.{pairKind, unrollKind}
 use package.Rattle.decoded.specs.Rows.{firstIn, kindIn, secondIn}
 use package.Rattle.valuegraph.specs.Nodes.{leftAt, ofKind, rightAt, valueAt, kindAt as nodeKind}
@@ -33,6 +34,7 @@ module _ {code heap slots : List ℕ} {m : Machine} {b : Bindings} {sc : Scope} 
 
       module _ {u : ℕ} (qu : u ≡ secondIn code t) where
         pub wrapped-prepared : Prepared 0 0 code heap slots m b sc (sc .n) u (room - 1)
+        unfolding maxParameters
         wrapped-prepared = beside P (unwrap-ready (P .ready) low w (sym f ∙ same) qx qu) (omega (arith, P .ready .tall))
 
         pub wrapped-gone : {heap₁ slots₁ : List ℕ} {m₁ : Machine} {r : Out}
@@ -55,6 +57,7 @@ module _ {code heap slots : List ℕ} {m : Machine} {b : Bindings} {sc : Scope} 
 
       module _ {u u′ : ℕ} (qu : u ≡ firstIn code t) (qu′ : u′ ≡ secondIn code t) where
         pub paired-first : Prepared 0 0 code heap slots m b sc (sc .n) u (room - 1)
+        unfolding maxParameters
         paired-first = beside P (pair-first (P .ready) low kind (sym f ∙ same) qx qy qu qu′) (omega (arith, P .ready .tall))
 
         module _ {heap₁ slots₁ : List ℕ} {m₁ : Machine} {r : Out}
@@ -64,6 +67,7 @@ module _ {code heap slots : List ℕ} {m : Machine} {b : Bindings} {sc : Scope} 
 
           module _ (e : r .stop ≡ 0) where
             pub paired-second : Prepared 0 0 code heap₁ slots₁ m₁ (r .state) sc (sc .n) u′ (room - 1)
+            unfolding maxParameters
             paired-second =
                 onward P (G .ran .moves) (G .below) (G .tells e) (pair-second (P .ready) low kind (sym f ∙ same) qx qy qu qu′ (G .ran) (is-done e))
                 (omega (arith, P .ready .tall))
@@ -81,6 +85,7 @@ module _ {code heap slots : List ℕ} {m : Machine} {b : Bindings} {sc : Scope} 
 
   module _ (kind : kindIn code t ≡ unrollKind) {u : ℕ} (qu : u ≡ secondIn code t) where
     pub unrolled-prepared : Prepared 1 0 code heap slots m b sc (sc .n) u (room - 1)
+    unfolding maxParameters
     unrolled-prepared = beside P (unroll-ready (P .ready) low kind qu) (omega (arith, P .ready .tall))
 
     pub unrolled-gone : {heap₁ slots₁ : List ℕ} {m₁ : Machine} {r : Out}

@@ -3,12 +3,12 @@ use Prim.Native.Nat.{ℕ, _+_, _≤_, _<_}
 use native.Mathlib.Omega.{arith}
 use mathlib.Core.Path.{_≡_}
 use mathlib.Core.List.{List}
-use package.Rattle.rules.specs.Limits.{maxTerms}
+use package.Rattle.rules.specs.Limits.{maxTerms, maxFunctions}
 use package.Rattle.program.specs.Kinds.{callKind}
 use package.Rattle.scopes.specs.Slots.{slotCount, Machine, Scope}
 use package.Rattle.forward.specs.Ready.{Ready, Calls, ReadyIn, FindReady}
 use package.Rattle.decoded.proofs.Trees.{called-function}
-use package.Rattle.decoded.specs.Rows.{firstIn, kindIn}
+use package.Rattle.decoded.specs.Rows.{roomFor, firstIn, kindIn}
 
 module _ {k v : ℕ} {code heap slots : List ℕ} {st : Machine} {sc : Scope} {t room : ℕ} (rd : Ready k v code heap slots st sc t room) where
   -- a row is one of the table's
@@ -18,10 +18,10 @@ module _ {k v : ℕ} {code heap slots : List ℕ} {st : Machine} {sc : Scope} {t
   pub scope-there : sc .base + sc .n ≤ slotCount
   scope-there = omega (arith, rd .variables, rd .full)
 
-  pub argument-read : {n count : ℕ} → Calls code t n count → (t < maxTerms) × (n ≤ 7)
+  pub argument-read : {n count : ℕ} → Calls code t n count → (t < maxTerms) × (n ≤ roomFor)
   argument-read C = (row-read, omega (arith, C .next, C .ancillae, rd .rows .few t (rd .term) (C .kind)))
 
-  pub body-read : (g : ℕ) → kindIn code t ≡ callKind → g ≡ firstIn code t → g < 64
+  pub body-read : (g : ℕ) → kindIn code t ≡ callKind → g ≡ firstIn code t → g < maxFunctions
   body-read g e q = omega (arith, called-function (rd .rows) t (rd .term) e, rd .rows .few-functions)
 
 -- a variable of the scope can be looked up

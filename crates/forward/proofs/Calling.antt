@@ -7,7 +7,7 @@ use mathlib.Core.Logic.{inl as left, inr as right}
 use mathlib.Core.Option.{some}
 use mathlib.Core.List.{List, [], _∷_, map}
 use lib.ListN.{getD}
-use package.Rattle.rules.specs.Limits.{fits}
+use package.Rattle.rules.specs.Limits.{fits, maxParameters}
 use package.Rattle.rules.specs.Val.{Val}
 use package.Rattle.rules.specs.Term.{Term, Fun, nth, scope}
 use package.Rattle.rules.specs.Run.{Res, Run}
@@ -92,6 +92,7 @@ module _ {code heap slots : List ℕ} {st : Machine} {sc : Scope} {t room : ℕ}
         (D .held n s (j - m) (omega arith) (omega arith))))
 
     pub call-ready : Ready 0 0 code heap₁ slots₁ (r₁ .state) (inner sc count) b (room - 1)
+    unfolding maxParameters
     call-ready = record {
       rows = rd .rows;
       term = rw qb (rd .rows .bodies g called);

@@ -27,7 +27,7 @@ use package.Rattle.forward.proofs.Binds.{opened, bound-ready, bound-don
 
 -- all numbers are there, so all slots are
 pub slots-full : (st : List ℕ) → length st ≡ stateCount → length (slotsOf st) ≡ slotCount
-slots-full st e = length-drop 2 st ∙ ap (λ n. n - 2) e
+slots-full st e = omega (arith, length-drop 2 st, e)
 
 -- a run that leaves slots which are equal
 pub with-slots : {k : ℕ} {heap heap′ : List ℕ} {m : ℕ} {slots slots₁ slots₂ : List ℕ} {st : Machine} {out : Out} {res : List TypeEntry → Res Val}

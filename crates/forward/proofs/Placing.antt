@@ -8,7 +8,7 @@ use mathlib.Core.List.{List, [], _∷_}
 use lib.ListN.{getD, set, length-set}
 use lib.Seq.{getD-set-same, getD-set-other}
 use package.Rattle.program.specs.Kinds.{callKind}
-use package.Rattle.rules.specs.Limits.{fits}
+use package.Rattle.rules.specs.Limits.{fits, maxParameters}
 use package.Rattle.rules.specs.Val.{Val}
 use package.Rattle.rules.specs.Term.{Term}
 use package.Rattle.rules.specs.Run.{Res, ok, Run, after}
@@ -24,7 +24,7 @@ use package.Rattle.forward.proofs.Runs.{refusal-after, answered, refuse
 use Rattle.forward.specs.declared.outcomes.Refusal.{Refusal}
 use Rattle.forward.specs.declared.outcomes.Status.{Status}
 use Rattle.forward.specs.declared.outcomes.Status.the-variants.{Value, Refused}
-use package.Rattle.decoded.specs.Rows.{argumentIn, argumentsIn, kindIn, programIn, thirdIn, treeIn}
+use package.Rattle.decoded.specs.Rows.{roomFor, argumentIn, argumentsIn, kindIn, programIn, thirdIn, treeIn}
 use package.Rattle.decoded.proofs.Trees.{part-argument}
 
 ----------------------------------------------------------------
@@ -105,11 +105,12 @@ module _ {code heap slots : List ℕ} {st : Machine} {sc : Scope} {t room : ℕ}
   abbrev go : List TypeEntry → Term → Run Val
   go ys = forward fits (programIn code ys) (room - 1) (ancillaeOf heap slots sc) (stateOf heap slots sc)
 
-  pub few-count : count ≤ 7
+  pub few-count : count ≤ roomFor
   few-count = omega (arith, C .ancillae, rd .rows .few t (rd .term) (C .kind))
 
   -- the slot of argument `k` is there
   pub place-room : m + k < slotCount
+  unfolding maxParameters
   place-room = omega (arith, rd .variables, rd .full, rd .tall, few-count, C .next)
 
   -- the next argument

@@ -10,6 +10,7 @@ use package.Rattle.rules.proofs.Run.{via}
 use package.Rattle.calls.specs.Entries.{TypeEntry}
 use package.Rattle.valuegraph.specs.Nodes.{valueAt}
 use package.Rattle.valuegraph.proofs.Places.{agree-refl, agree-trans, agree-down}
+use package.Rattle.rules.specs.Limits.{maxParameters}
 use package.Rattle.scopes.specs.Slots.{Slots, Machine, Scope}
 use package.Rattle.scopes.proofs.Marks.{slot-later}
 use package.Rattle.scopes.proofs.Scopes.{state-same, state-kept}
@@ -201,9 +202,10 @@ module _ {k v : ℕ} {code heap slots : List ℕ} {st : Machine} {sc : Scope} {t
         state-kept heap heap′ slots (sc .base) (sc .n) (st .top) (rd .graph .right) (d .agree) (rd .held) (omega (arith, rd .small, below-mark))
         ∙ state-same heap′ slots slots′ (sc .base) (sc .n) (d .below)
 
--- a part of the term, in its scope
+-- a part of the term, in its scope and with room for two variables more, the most that a term binds
 pub part : {v : ℕ} {code heap slots : List ℕ} {st : Machine} {sc : Scope} {t room : ℕ} → Ready 1 v code heap slots st sc t room
-    → (b : ℕ) → b < t → Ready 0 8 code heap slots st sc b (room - 1)
+    → (b : ℕ) → b < t → Ready 0 2 code heap slots st sc b (room - 1)
+unfolding maxParameters
 part rd b q = record {
   rows = rd .rows;
   term = omega (arith, rd .term);

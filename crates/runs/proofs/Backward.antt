@@ -5,7 +5,7 @@ use mathlib.Core.Path.{_≡_, refl, sym, ap, ap₂, subst, _∙_}
 use mathlib.Core.List.{List, [], _∷_, map}
 use mathlib.Core.Logic.{inl as left, inr as right}
 use lib.ListN.{length, getD}
-use package.Rattle.rules.specs.Limits.{fits, maxHeight, maxVariables, maxNodes}
+use package.Rattle.rules.specs.Limits.{fits, maxHeight, maxVariables, maxNodes, maxParameters}
 use package.Rattle.rules.specs.Val.{Val}
 use package.Rattle.rules.specs.Run.{Res, ok}
 use package.Rattle.rules.specs.Machine.{runBackward}
@@ -54,6 +54,7 @@ module _ {xs terms functions heap : List ℕ} {g : ℕ} {anc bytes : List ℕ} {
 
   -- the ancillae are known
   known : Collected heap′ (viewOf slots′ 0 (start .count)) (start .count) (start .top)
+  unfolding maxParameters
   known = record {
     binds = record {
       bound = view-bound heap′ slots′ 0 (start .count) (start .top) (omega (arith, few-arguments R D B)) (λ i h. right (left (low i (omega arith))));
@@ -67,7 +68,7 @@ module _ {xs terms functions heap : List ℕ} {g : ℕ} {anc bytes : List ℕ} {
     abbrev st : Machine
     st = record { top = start .top; fuel = f }
 
-    starts : length slots′ ≡ slotCount → Starts code heap′ slots′ st (scopeView slots′ (valuesScope (start .count))) (start .count) g node 1024
+    starts : length slots′ ≡ slotCount → Starts code heap′ slots′ st (scopeView slots′ (valuesScope (start .count))) (start .count) g node maxHeight
     starts full = record {
       machine = record {
         rows = rows R D;
@@ -86,11 +87,13 @@ module _ {xs terms functions heap : List ℕ} {g : ℕ} {anc bytes : List ℕ} {
       value = rw q (B .held (start .count) (omega arith));
     }
 
-    module _ (r : Input) {heap″ slots″ : List ℕ} {m′ : Machine} (d : Ran code heap′ heap″ slots′ slots″ st (scopeView slots′ (valuesScope (start .count))) (start .count) g node 1024
+    module _ (r : Input) {heap″ slots″ : List ℕ} {m′ : Machine}
+        (d : Ran code heap′ heap″ slots′ slots″ st (scopeView slots′ (valuesScope (start .count))) (start .count) g node maxHeight
         (record { out = outcomeOf (r .stop) slots″ m′ (valuesScope (start .count)); newest = r .node })) where
-      values : valuesAt heap′ (slotsFrom slots′ 0 32) 0 (start .count) ≡ valuesIn anc
+      values : valuesAt heap′ (slotsFrom slots′ 0 maxVariables) 0 (start .count) ≡ valuesIn anc
+      unfolding maxParameters
       values =
-          values-same heap′ (slotsFrom slots′ 0 32) slots′ 0 (start .count)
+          values-same heap′ (slotsFrom slots′ 0 maxVariables) slots′ 0 (start .count)
           (λ i h h′. view-at slots′ 0 i (omega (arith, few-arguments R D B)) ∙ ap (λ j. getD slots′ j 0) (let z : 0 + i ≡ i = omega arith in z)) ∙ B .values
 
       value-is : valueAt heap′ node ≡ valueIn bytes
@@ -98,12 +101,14 @@ module _ {xs terms functions heap : List ℕ} {g : ℕ} {anc bytes : List ℕ} {
 
       answers : (types : List ℕ) → inputOf heap″ (statusOf (r .stop)) (r .node) m′
           ≡ runBackward fits (programIn xs types terms functions) maxHeight (functionIn xs types terms (getD functions g 0)) (valuesIn anc) (valueIn bytes) fuel
-      unfolding maxHeight
       answers types =
           d .answer (map (typeAt xs) types)
-          ∙ ap₂ (λ P h. runBackward fits P 1024 h (valuesAt heap′ (slotsFrom slots′ 0 32) 0 (start .count)) (valueAt heap′ node) f) (same-program R D types) (same-function R D types)
-          ∙ ap₂ (λ vs v. runBackward fits (programIn xs types terms functions) 1024 (functionIn xs types terms (getD functions g 0)) vs v f) values value-is
-          ∙ ap (runBackward fits (programIn xs types terms functions) 1024 (functionIn xs types terms (getD functions g 0)) (valuesIn anc) (valueIn bytes)) e
+          ∙ ap₂ (λ P h. runBackward fits P maxHeight h (valuesAt heap′ (slotsFrom slots′ 0 maxVariables) 0 (start .count)) (valueAt heap′ node) f)
+          (same-program R D types) (same-function R D types)
+          ∙ ap₂ (λ vs v. runBackward fits (programIn xs types terms functions) maxHeight (functionIn xs types terms (getD functions g 0)) vs v f)
+          values value-is
+          ∙ ap (runBackward fits (programIn xs types terms functions) maxHeight (functionIn xs types terms (getD functions g 0))
+          (valuesIn anc) (valueIn bytes)) e
 
       undone : Undone xs terms functions heap″ g anc bytes fuel (statusOf (r .stop)) (r .node) m′
       undone = record {
@@ -127,23 +132,25 @@ module _ {xs terms functions heap : List ℕ} {g : ℕ} {anc bytes : List ℕ} {
   q′ : node ≡ getD (slotsOf st) (start .count) 0
   q′ = q ∙ ap (λ slots. getD slots (start .count) 0) (M .slots)
 
-  pub undo-ready : StartsIn code heap′ st₁ (start .count) g node 1024
+  pub undo-ready : StartsIn code heap′ st₁ (start .count) g node maxHeight
   undo-ready = record {
     full = M .lengths ∙ B .lengths ∙ full;
-    starts = subst (λ m. Starts code heap′ (slotsOf st₁) m (scopeView (slotsOf st₁) (valuesScope (start .count))) (start .count) g node 1024) (sym (M .machine))
-        (subst (λ slots. Starts code heap′ slots machine (scopeView slots (valuesScope (start .count))) (start .count) g node 1024) (sym (M .slots))
+    starts = subst (λ m. Starts code heap′ (slotsOf st₁) m (scopeView (slotsOf st₁) (valuesScope (start .count))) (start .count) g node maxHeight)
+        (sym (M .machine))
+        (subst (λ slots. Starts code heap′ slots machine (scopeView slots (valuesScope (start .count))) (start .count) g node maxHeight) (sym (M .slots))
         (starts R D (B .begun) e l q′ (slots-full st (B .lengths ∙ full))));
     space = omega (arith, few-arguments R D (B .begun));
   }
 
-  pub undo-told : {heap″ st₂ : List ℕ} {r : Input} {t′ f′ : ℕ} → ReturnsIn code heap′ heap″ st₁ st₂ (start .count) g node 1024 r → t′ ≡ machineOf st₂ .top → f′ ≡ machineOf st₂ .fuel
+  pub undo-told : {heap″ st₂ : List ℕ} {r : Input} {t′ f′ : ℕ} → ReturnsIn code heap′ heap″ st₁ st₂ (start .count) g node maxHeight r
+      → t′ ≡ machineOf st₂ .top → f′ ≡ machineOf st₂ .fuel
       → Undone xs terms functions heap″ g anc bytes fuel (statusOf (r .stop)) (r .node) (machineOf (t′ ∷ f′ ∷ []))
   undo-told {heap″} {st₂} {r} d et ef =
       subst (Undone xs terms functions heap″ g anc bytes fuel (statusOf (r .stop)) (r .node)) (ap₂ (λ t f. record { top = t; fuel = f }) (sym et) (sym ef))
       (undone R D (B .begun) e l q′ r
-      (subst (λ slots. Ran code heap′ heap″ slots (slotsOf st₂) machine (scopeView slots (valuesScope (start .count))) (start .count) g node 1024
+      (subst (λ slots. Ran code heap′ heap″ slots (slotsOf st₂) machine (scopeView slots (valuesScope (start .count))) (start .count) g node maxHeight
       (record { out = outcomeOf (r .stop) (slotsOf st₂) (machineOf st₂) (valuesScope (start .count)); newest = r .node })) (M .slots)
-      (subst (λ m. Ran code heap′ heap″ (slotsOf st₁) (slotsOf st₂) m (scopeView (slotsOf st₁) (valuesScope (start .count))) (start .count) g node 1024
+      (subst (λ m. Ran code heap′ heap″ (slotsOf st₁) (slotsOf st₂) m (scopeView (slotsOf st₁) (valuesScope (start .count))) (start .count) g node maxHeight
       (record { out = outcomeOf (r .stop) (slotsOf st₂) (machineOf st₂) (valuesScope (start .count)); newest = r .node })) (M .machine) (d .returns))))
 
 ----------------------------------------------------------------

@@ -47,12 +47,13 @@ module _ {xs terms functions heap : List ℕ} {g : ℕ} {anc bytes : List ℕ} {
   abbrev st : Machine
   st = record { top = start .top; fuel = f }
 
-  body-ready : length slots′ ≡ slotCount → Ready 0 0 code heap′ slots′ st (argumentScope 0 (start .count)) b 1024
+  body-ready : length slots′ ≡ slotCount → Ready 0 0 code heap′ slots′ st (argumentScope 0 (start .count)) b maxHeight
   body-ready full =
       start-ready {st = st} {g = g} (rows R D) (in-rows R D) q (B .graph) (B .held) (omega (arith, nodes-room R D B)) (omega (arith, nodes-answer R D B (omega arith)))
       (omega (arith, few-arguments R D B)) full
 
-  module _ {heap″ slots″ : List ℕ} {m : ℕ} {out : Out} (d : RanForward 0 heap′ heap″ m slots′ slots″ st out (runOf code heap′ slots′ st (argumentScope 0 (start .count)) b 1024)) where
+  module _ {heap″ slots″ : List ℕ} {m : ℕ} {out : Out}
+      (d : RanForward 0 heap′ heap″ m slots′ slots″ st out (runOf code heap′ slots′ st (argumentScope 0 (start .count)) b maxHeight)) where
     abbrev count : ℕ
     count = start .count
 
@@ -67,14 +68,16 @@ module _ {xs terms functions heap : List ℕ} {g : ℕ} {anc bytes : List ℕ} {
 
     answers : (types : List ℕ) → meaning heap″ out
         ≡ runForward fits (programIn xs types terms functions) maxHeight (functionIn xs types terms (getD functions g 0)) (valuesIn anc) (valueIn bytes) fuel
-    unfolding maxHeight
     answers types =
         d .answer (map (typeAt xs) types)
         ∙ sym (run-of-function code heap′ slots′ st 0 count held (subst (λ i. getD slots′ i 0 < start .top) (let z : count ≡ 0 + count = omega arith in z) (B .held count (omega arith)))
-        (omega (arith, nodes-small R D B (omega arith))) g b q 1024 (map (typeAt xs) types))
-        ∙ ap₂ (λ P h. runForward fits P 1024 h (valuesAt heap′ slots′ 0 count) (valueAt heap′ (getD slots′ (0 + count) 0)) f) (same-program R D types) (same-function R D types)
-        ∙ ap₂ (λ vs v. runForward fits (programIn xs types terms functions) 1024 (functionIn xs types terms (getD functions g 0)) vs v f) (B .values) last-is
-        ∙ ap (runForward fits (programIn xs types terms functions) 1024 (functionIn xs types terms (getD functions g 0)) (valuesIn anc) (valueIn bytes)) e
+        (omega (arith, nodes-small R D B (omega arith))) g b q maxHeight (map (typeAt xs) types))
+        ∙ ap₂ (λ P h. runForward fits P maxHeight h (valuesAt heap′ slots′ 0 count) (valueAt heap′ (getD slots′ (0 + count) 0)) f)
+        (same-program R D types) (same-function R D types)
+        ∙ ap₂ (λ vs v. runForward fits (programIn xs types terms functions) maxHeight (functionIn xs types terms (getD functions g 0)) vs v f)
+        (B .values) last-is
+        ∙ ap (runForward fits (programIn xs types terms functions) maxHeight (functionIn xs types terms (getD functions g 0))
+        (valuesIn anc) (valueIn bytes)) e
 
     evaluated : Evaluated xs terms functions heap heap″ g anc bytes fuel out
     evaluated = record {
@@ -104,20 +107,24 @@ module _ {xs terms functions heap : List ℕ} {g : ℕ} {anc bytes : List ℕ} {
   numbers : length st₁ ≡ stateCount
   numbers = M .lengths ∙ B .lengths ∙ full
 
-  pub eval-ready : ReadyIn 0 0 code heap′ st₁ scope b 1024
+  pub eval-ready : ReadyIn 0 0 code heap′ st₁ scope b maxHeight
   eval-ready = called-ready scope numbers s
-      (subst (λ m. Ready 0 0 code heap′ (slotsOf st₁) m (argumentScope 0 (start .count)) b 1024) (sym (M .machine))
-      (subst (λ slots. Ready 0 0 code heap′ slots machine (argumentScope 0 (start .count)) b 1024) (sym (M .slots))
+      (subst (λ m. Ready 0 0 code heap′ (slotsOf st₁) m (argumentScope 0 (start .count)) b maxHeight) (sym (M .machine))
+      (subst (λ slots. Ready 0 0 code heap′ slots machine (argumentScope 0 (start .count)) b maxHeight) (sym (M .slots))
       (body-ready R D (B .begun) e l q (slots-full st (B .lengths ∙ full)))))
 
-  eval-done : {heap″ st₂ : List ℕ} {r : ℕ} → Evaluates code heap′ heap″ st₁ st₂ scope b 1024 r → Evaluated xs terms functions heap heap″ g anc bytes fuel (outOf r st₂)
+  eval-done : {heap″ st₂ : List ℕ} {r : ℕ} → Evaluates code heap′ heap″ st₁ st₂ scope b maxHeight r
+      → Evaluated xs terms functions heap heap″ g anc bytes fuel (outOf r st₂)
   eval-done {heap″} {st₂} {r} d =
       evaluated R D (B .begun) e l q
-      (subst (λ slots. RanForward 0 heap′ heap″ (0 + (start .count + 1)) slots (slotsOf st₂) machine (outOf r st₂) (runOf code heap′ slots machine (argumentScope 0 (start .count)) b 1024)) (M .slots)
-      (subst (λ m. RanForward 0 heap′ heap″ (0 + (start .count + 1)) (slotsOf st₁) (slotsOf st₂) m (outOf r st₂) (runOf code heap′ (slotsOf st₁) m (argumentScope 0 (start .count)) b 1024)) (M .machine)
+      (subst (λ slots. RanForward 0 heap′ heap″ (0 + (start .count + 1)) slots (slotsOf st₂) machine (outOf r st₂)
+      (runOf code heap′ slots machine (argumentScope 0 (start .count)) b maxHeight)) (M .slots)
+      (subst (λ m. RanForward 0 heap′ heap″ (0 + (start .count + 1)) (slotsOf st₁) (slotsOf st₂) m (outOf r st₂)
+      (runOf code heap′ (slotsOf st₁) m (argumentScope 0 (start .count)) b maxHeight)) (M .machine)
       (called-ran scope s d)))
 
-  pub eval-told : {heap″ st₂ : List ℕ} {r t′ f′ : ℕ} → Evaluates code heap′ heap″ st₁ st₂ scope b 1024 r → t′ ≡ machineOf st₂ .top → f′ ≡ machineOf st₂ .fuel
+  pub eval-told : {heap″ st₂ : List ℕ} {r t′ f′ : ℕ} → Evaluates code heap′ heap″ st₁ st₂ scope b maxHeight r
+      → t′ ≡ machineOf st₂ .top → f′ ≡ machineOf st₂ .fuel
       → Evaluated xs terms functions heap heap″ g anc bytes fuel (outOf r (t′ ∷ f′ ∷ []))
   eval-told {st₂ = st₂} {r} d et ef = left-over r st₂ (eval-done d) et ef
 

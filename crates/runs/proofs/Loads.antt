@@ -7,7 +7,7 @@ use mathlib.Core.Path.{_≡_, refl, sym, ap, ap₂, subst, _∙_}
 use mathlib.Core.List.{List, [], _∷_, _++_, append-nil}
 use lib.ListN.{length, getD, set, drop, length-set, List·getD-append}
 use lib.Seq.{getD-set-same, getD-set-other, getD-append-seam}
-use package.Rattle.rules.specs.Limits.{fits, maxValueBytes, maxAncillaBytes}
+use package.Rattle.rules.specs.Limits.{fits, maxValueBytes, maxAncillaBytes, maxParameters}
 use package.Rattle.rules.specs.Val.{Val, unit, size, encode}
 use package.Rattle.rules.proofs.Basics.{given}
 use package.Rattle.rules.proofs.Val.{length-encode}
@@ -170,6 +170,7 @@ module _ {heap slots₀ slots anc : List ℕ} {k node top : ℕ} (N : Named heap
     named-bind = omega (arith, there, N .enough .few)
 
     pub named-small : k + 1 < 2 ^ 16
+    unfolding maxParameters
     named-small = omega (arith, there, N .enough .few)
 
     pub named-next : {n : ℕ} {slots′ : List ℕ} → slots′ ≡ set slots k node → n ≡ lengthAt heap node

@@ -77,11 +77,10 @@ module _ {side : Fun → Ty} {xs terms functions heap : List ℕ} {g : ℕ} {anc
       field .some,
     )
 
-    few : length (valuesIn anc) ≤ 7
-    unfolding maxParameters
+    few : length (valuesIn anc) < maxParameters
     few = omega (arith, as-many, D .function g there .parameters, field .few)
 
-    pub beginning : {slots : List ℕ} → 8 ≤ length slots → Beginning heap slots anc bytes
+    pub beginning : {slots : List ℕ} → maxParameters ≤ length slots → Beginning heap slots anc bytes
     unfolding startNodes maxValueBytes maxAncillaBytes workspaceFor workspaceBase workspacePerFuel
     beginning l = record {
       for-ancillae = record { read = admits .ancillae-read; few = few; slots-there = l; nodes-there = omega (arith, R .enough) };
@@ -97,7 +96,7 @@ module _ {side : Fun → Ty} {xs terms functions heap : List ℕ} {g : ℕ} {anc
     same-function types = ap₂ (functionOf (map (typeAt xs) types)) (D .terms-are) (D .function g there .entry)
 
     module _ {heap′ slots slots′ : List ℕ} {start : Start} (B : Begun heap heap′ slots slots′ anc bytes start) where
-      pub few-arguments : start .count ≤ 7
+      pub few-arguments : start .count < maxParameters
       few-arguments = omega (arith, B .count, few)
 
       -- two nodes for each unit of fuel, after those of the values

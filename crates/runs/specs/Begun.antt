@@ -4,7 +4,7 @@ use mathlib.Core.Path.{_≡_}
 use mathlib.Core.Option.{some}
 use mathlib.Core.List.{List}
 use lib.ListN.{length, getD}
-use package.Rattle.rules.specs.Limits.{maxAncillaBytes, maxValueBytes}
+use package.Rattle.rules.specs.Limits.{maxParameters, maxAncillaBytes, maxValueBytes}
 use package.Rattle.rules.specs.Val.{unit}
 use package.Rattle.calls.specs.Values.{value, ancillae}
 use package.Rattle.valuegraph.specs.Nodes.{nodeBytes, valueAt}
@@ -17,11 +17,11 @@ use package.Rattle.valuebytes.specs.Ends.{valueIn, valuesIn}
 unfoldable pub startNodes : ℕ
 startNodes = 1 + maxAncillaBytes + maxValueBytes
 
--- room for the ancillae that bytes are: seven at most, a slot for each and one more
+-- room for the ancillae that bytes are: fewer than a function may have parameters, a slot for each and one more
 pub record Enough (heap slots anc : List ℕ) : Type 0 where
   pub read : ancillae anc ≡ some (valuesIn anc)
-  pub few : length (valuesIn anc) ≤ 7
-  pub slots-there : 8 ≤ length slots
+  pub few : length (valuesIn anc) < maxParameters
+  pub slots-there : maxParameters ≤ length slots
   pub nodes-there : nodeBytes * startNodes ≤ length heap
 
 -- and for the value

@@ -8,7 +8,7 @@ use mathlib.Core.List.{List, [], _∷_}
 use mathlib.Core.Logic.{_⊎_}
 use lib.ListN.{length, getD, set, drop}
 use lib.Dec.{eqb, ltb}
-use package.Rattle.rules.specs.Limits.{maxVariables}
+use package.Rattle.rules.specs.Limits.{maxHeight, maxParameters, maxVariables}
 use package.Rattle.rules.specs.Val.{Val}
 use package.Rattle.rules.specs.Machine.{State}
 use package.Rattle.valuegraph.specs.Nodes.{leftAt, valueAt}
@@ -21,11 +21,11 @@ unknown = 2147483648
 
 -- how many variables a height may add: a function's parameters are more than any term binds
 abbrev pub slotsPerHeight : ℕ
-slotsPerHeight = 8
+slotsPerHeight = maxParameters
 
 -- how many slots there are: room for the variables of a run of the greatest height (section 2), and those of one scope more
 abbrev pub slotCount : ℕ
-slotCount = maxVariables + slotsPerHeight * 1025
+slotCount = maxVariables + slotsPerHeight * (maxHeight + 1)
 
 -- all numbers that a run is lent: the machine, then the slots
 abbrev pub stateCount : ℕ

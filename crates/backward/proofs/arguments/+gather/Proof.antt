@@ -2,6 +2,7 @@ use Prim.Native.Nat.{_+_, _-_}
 use native.Mathlib.Omega.{arith}
 use mathlib.Core.Path.{refl, ap, _∙_}
 use borrow.Author.Needs.{needs}
+use Rattle.rules.specs.Limits.{maxHeight, maxParameters}
 use Rattle.forward.proofs.Answers.{is-value, is-refused}
 use Rattle.forward.proofs.Bounds.{argument-read}
 use Rattle.forward.proofs.Runs.{later}
@@ -101,6 +102,7 @@ gather-end-of-requires : (t : ℕ) → gather-lts.Need-end-of-requires (gather-u
 gather-end-of-requires t c κs = search needs
 
 gather-add-bind : (t : ℕ) → gather-lts.Need-add-bind (gather-uses t) (gather-at t) gather.Post
+unfolding maxHeight maxParameters
 gather-add-bind t c =
     let start = c .before .before .before .before .before .before .before .before .before .before .before .before .before .before .before .before in
     let e = c .end-of .ensures in omega (arith, place-room (start .pre .1 .0 .ready) (start .pre .1 .1))

@@ -3,6 +3,7 @@ use native.Mathlib.Omega.{arith}
 use mathlib.Core.Path.{sym, ap, _∙_}
 use lib.ListN.{getD}
 use borrow.Author.Needs.{needs}
+use Rattle.rules.specs.Limits.{maxHeight, maxParameters}
 use Rattle.scopes.specs.Slots.{slotsOf, found}
 use Rattle.scopes.proofs.Marks.{slot-in, slot-out}
 use Rattle.scopes.proofs.slots.find.Statement.{statement}
@@ -15,6 +16,7 @@ top-requires : tie.Need-top-requires
 top-requires c κs = search needs
 
 add-at : tie.Need-add-at
+unfolding maxHeight maxParameters
 add-at c = search needs
 
 at-requires : tie.Need-at-requires

@@ -7,6 +7,7 @@ use mathlib.Core.Path.{refl, sym, ap, _∙_}
 use mathlib.Core.Logic.{inl as left, inr as right}
 use borrow.Author.Needs.{needs}
 use Rattle.valuegraph.proofs.Heaps.{value-pair}
+use Rattle.rules.specs.Limits.{maxHeight, maxParameters}
 use Rattle.scopes.specs.Slots.{Machine}
 use own.Answers.{is-value, is-refused, is-stuck}
 use own.Runs.{later}
@@ -243,6 +244,7 @@ module _ (t : ℕ) where
       row-read (start .pre .1 .0 .ready)
 
   pub wider-requires : lts.Need-wider-requires (let-two-uses t) (let-two-at t) let-two.Post
+  unfolding maxHeight maxParameters
   wider-requires c κs =
       let (_, _, _, _, _, _, _, _, _, start) = before-second-of (c .before .before) in (
         omega (arith, (start .pre .1 .0 .ready) .variables, (start .pre .1 .0 .ready) .full),

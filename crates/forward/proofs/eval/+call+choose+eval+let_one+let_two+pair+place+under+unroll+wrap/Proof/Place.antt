@@ -6,6 +6,7 @@ use native.Mathlib.Omega.{arith}
 use mathlib.Core.Path.{refl, _∙_}
 use mathlib.Core.Logic.{inl as left}
 use borrow.Author.Needs.{needs}
+use Rattle.rules.specs.Limits.{maxHeight, maxParameters}
 use own.Answers.{is-value, is-refused}
 use own.Bounds.{argument-read}
 use own.Placing.{few-count, place-room, place-less, place-next, place-ready, place-refused, place-last, place-more}
@@ -149,6 +150,7 @@ module _ (t : ℕ) where
   end-of-requires c κs = search needs
 
   pub add-at : lts.Need-add-at (place-uses t) (place-at t) place.Post
+  unfolding maxHeight maxParameters
   add-at c =
       let (_, _, _, start) = before-end-of c in
       let e = c .end-of .ensures in omega (arith, place-room (start .pre .1 .0 .ready) (start .pre .1 .1))

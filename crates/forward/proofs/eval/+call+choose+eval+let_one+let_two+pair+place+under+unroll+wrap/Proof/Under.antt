@@ -5,6 +5,7 @@ use Prim.Native.Nat.{ℕ}
 use native.Mathlib.Omega.{arith}
 use mathlib.Core.Path.{ap}
 use borrow.Author.Needs.{needs}
+use Rattle.rules.specs.Limits.{maxHeight, maxParameters}
 use Rattle.scopes.specs.Slots.{Machine}
 use own.Binds.{bind-room}
 use own.Lending.{under-ready, under-done}
@@ -65,6 +66,7 @@ module _ (t : ℕ) where
       ((start .pre .1 .0) .full, rw (c .end-of .ensures) (bind-room (start .pre .1 .0 .ready)))
 
   pub wider-requires : lts.Need-wider-requires (under-uses t) (under-at t) under.Post
+  unfolding maxHeight maxParameters
   wider-requires c κs =
       let (_, start) = before-bind (c .before .before) in (
         omega (arith, (start .pre .1 .0 .ready) .variables, (start .pre .1 .0 .ready) .full),
