@@ -30,7 +30,13 @@ sub-result : tie.Need-sub-result
 sub-result c = omega (arith, c .before .before .before .before .before .before .before .before .before .before .pre .some, c .function-parameters .ensures)
 
 returns-2 : tie.Need-returns-2
-returns-2 c = right-number _ _ _ _ (sym (c .before .before .before .before .counted .given .1) ∙ c .before .before .before .before .before .before .count-values .ensures) (c .before .before .one-value .ensures) (c .before .if1 .taken) (ap (λ n. n - 1) (c .function-parameters .ensures .0) ∙ sym (ancillae-count _ _))
+returns-2 c =
+    let at-if1 = c .before in
+    let at-one-value = at-if1 .before in
+    let at-counted = at-one-value .before .before in
+    let at-count-values = at-counted .before .before in
+    right-number _ _ _ _ (sym (at-counted .counted .given .1) ∙ at-count-values .count-values .ensures) (at-one-value .one-value .ensures)
+    (at-if1 .if1 .taken) (ap (λ n. n - 1) (c .function-parameters .ensures .0) ∙ sym (ancillae-count _ _))
 
 returns-3 : tie.Need-returns-3
 returns-3 c = right-not _ _ _ _ (c .before .one-value .ensures) (c .if1 .left)

@@ -17,7 +17,9 @@ same-length-2 : tie.Need-same-length-2
 same-length-2 c = search needs
 
 returns : tie.Need-returns
-returns c = (c .run-told .ensures ∙ ap runTold (c .before .before .before .before .before .backward .ensures .0), c .before .before .before .before .before .backward .ensures .1)
+returns c =
+    let at-backward = c .before .before .before .before .before in
+    (c .run-told .ensures ∙ ap runTold (at-backward .backward .ensures .0), at-backward .backward .ensures .1)
 
 pub corefun-backward-spec : {M : Type 1} → statement M
 corefun-backward-spec =

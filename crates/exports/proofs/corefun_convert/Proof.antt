@@ -17,7 +17,9 @@ same-length-2 : tie.Need-same-length-2
 same-length-2 c = search needs
 
 returns : tie.Need-returns
-returns c = (c .run-told .ensures ∙ ap runTold (c .before .before .before .before .before .convert .ensures .0), c .before .before .before .before .before .convert .ensures .1)
+returns c =
+    let at-convert = c .before .before .before .before .before in
+    (c .run-told .ensures ∙ ap runTold (at-convert .convert .ensures .0), at-convert .convert .ensures .1)
 
 pub corefun-convert-spec : {M : Type 1} → statement M
 corefun-convert-spec =

@@ -17,7 +17,9 @@ same-length-2 : tie.Need-same-length-2
 same-length-2 c = search needs
 
 returns : tie.Need-returns
-returns c = (c .run-told .ensures ∙ ap runTold (c .before .before .before .before .before .forward .ensures .0), c .before .before .before .before .before .forward .ensures .1)
+returns c =
+    let at-forward = c .before .before .before .before .before in
+    (c .run-told .ensures ∙ ap runTold (at-forward .forward .ensures .0), at-forward .forward .ensures .1)
 
 pub corefun-forward-spec : {M : Type 1} → statement M
 corefun-forward-spec =

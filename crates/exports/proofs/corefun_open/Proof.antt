@@ -17,7 +17,9 @@ same-length-2 : tie.Need-same-length-2
 same-length-2 c = search needs
 
 returns : tie.Need-returns
-returns c = (c .check-told .ensures ∙ ap checkTold (c .before .before .before .before .before .«open» .ensures .0), c .before .before .before .before .before .«open» .ensures .1)
+returns c =
+    let at-before = c .before .before .before .before in
+    (c .check-told .ensures ∙ ap checkTold (at-before .before .«open» .ensures .0), at-before .before .«open» .ensures .1)
 
 pub corefun-open-spec : {M : Type 1} → statement M
 corefun-open-spec =

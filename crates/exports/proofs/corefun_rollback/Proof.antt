@@ -17,7 +17,9 @@ same-length-2 : tie.Need-same-length-2
 same-length-2 c = search needs
 
 returns : tie.Need-returns
-returns c = (c .run-told .ensures ∙ ap runTold (c .before .before .before .before .before .rollback .ensures .0), c .before .before .before .before .before .rollback .ensures .1)
+returns c =
+    let at-rollback = c .before .before .before .before .before in
+    (c .run-told .ensures ∙ ap runTold (at-rollback .rollback .ensures .0), at-rollback .rollback .ensures .1)
 
 pub corefun-rollback-spec : {M : Type 1} → statement M
 corefun-rollback-spec =

@@ -19,8 +19,12 @@ slice-aggregate-infer : tie.Need-slice-aggregate-infer
 slice-aggregate-infer c = search needs
 
 infer-requires : tie.Need-infer-requires
-infer-requires c κs = let p = c .before .before .before .before .before .before .before .before .before .before .before .before .pre in
-    (examine-sound (p .0) _ (c .before .before .before .before .before .test-entries .ensures) (c .before .before .enum-told .given .1) (search needs) _ (p .1 .0), p .1 .1)
+infer-requires c κs =
+    let at-enum-told = c .before .before in
+    let at-test-entries = at-enum-told .before .before .before in
+    let start = at-test-entries .before .before .before .before .before .before .before in
+    let p = start .pre in
+    (examine-sound (p .0) _ (at-test-entries .test-entries .ensures) (at-enum-told .enum-told .given .1) (search needs) _ (p .1 .0), p .1 .1)
 
 enum-known-v : tie.Need-enum-known-v
 enum-known-v c = search needs

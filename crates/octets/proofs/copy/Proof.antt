@@ -39,7 +39,10 @@ same-length : tie.Need-same-length Inv-loop μ-loop
 same-length c = search needs
 
 returns : tie.Need-returns Inv-loop μ-loop
-returns c = c .before .loop .inv .1 ∙ pasted-all (c .before .before .args .dst .now) (c .before .before .args .at) (c .before .before .args .src .now) (c .before .loop .i) (omega arith)
+returns c =
+    let at-loop = c .before in
+    let start = at-loop .before in
+    at-loop .loop .inv .1 ∙ pasted-all (start .args .dst .now) (start .args .at) (start .args .src .now) (at-loop .loop .i) (omega arith)
 
 pub copy-spec : {M : Type 1} → statement M
 copy-spec =

@@ -19,13 +19,18 @@ returns : tie.Need-returns
 returns c = judged (c .surely .ensures) (c .before .same .ensures)
 
 alike-requires : tie.Need-alike-requires
-alike-requires c κs = (omega (arith, c .before .before .pre .0 .held, c .before .before .pre .1 .0), omega (arith, c .before .before .pre .0 .held, c .before .before .pre .1 .1))
+alike-requires c κs =
+    let start = c .before .before in
+    (omega (arith, start .pre .0 .held, start .pre .1 .0), omega (arith, start .pre .0 .held, start .pre .1 .1))
 
 returns-2 : tie.Need-returns-2
 returns-2 c = glanced (c .before .before .if1 .left)
 
 returns-3 : tie.Need-returns-3
-returns-3 c = judged-no (alike-false (c .before .before .before .before .pre .0) (c .before .before .before .before .pre .1 .0) (c .before .before .before .before .pre .1 .1) (sym (c .before .alike .ensures) ∙ c .if2 .left))
+returns-3 c =
+    let at-alike = c .before in
+    let start = at-alike .before .before .before in
+    judged-no (alike-false (start .pre .0) (start .pre .1 .0) (start .pre .1 .1) (sym (at-alike .alike .ensures) ∙ c .if2 .left))
 
 pub agree-spec : {M : Type 1} → statement M
 agree-spec =

@@ -10,19 +10,37 @@ wide32-requires : tie.Need-wide32-requires
 wide32-requires c κs = search needs
 
 write-convert-requires : tie.Need-write-convert-requires
-write-convert-requires c κs = (c .before .before .before .before .before .before .before .before .pre .0, (c .before .before .before .before .before .before .before .before .pre .1 .0, convert-room (c .before .before .before .before .before .before .before .before .args .journal .now) (c .before .before .before .before .before .before .before .before .args .held .now) (c .before .before .before .before .before .before .before .before .args .ancillae .now) (c .before .before .before .fits-convert .ensures) (c .before .before .if1 .taken) (c .before .before .before .before .before .before .before .before .args .function) (c .before .wide32 .result)))
+write-convert-requires c κs =
+    let at-wide32 = c .before in
+    let at-if1 = at-wide32 .before in
+    let at-fits-convert = at-if1 .before in
+    let start = at-fits-convert .before .before .before .before .before in
+    (start .pre .0, (start .pre .1 .0, convert-room (start .args .journal .now) (start .args .held .now) (start .args .ancillae .now)
+    (at-fits-convert .fits-convert .ensures) (at-if1 .if1 .taken) (start .args .function) (at-wide32 .wide32 .result)))
 
 same-length : tie.Need-same-length
 same-length c = search needs
 
 returns : tie.Need-returns
-returns c = convert-kept (c .before .before .before .before .before .before .before .before .before .before .before .args .journal .now) (c .before .before .before .before .before .before .before .before .before .before .before .args .held .now) (c .before .before .before .before .before .before .before .before .before .before .before .args .ancillae .now) (c .before .before .before .before .before .before .fits-convert .ensures) (c .before .before .before .before .before .if1 .taken) (c .before .before .before .before .before .before .before .before .before .before .before .pre .1 .0 .0) (c .before .before .before .before .before .before .before .before .before .before .before .args .done) (c .before .before .before .before .before .before .before .before .before .before .before .pre .1 .1) (c .before .before .before .before .before .before .before .before .before .before .before .args .function) (c .before .before .before .before .wide32 .ensures .0) (c .before .before .write-convert .ensures)
+returns c =
+    let at-write-convert = c .before .before in
+    let at-wide32 = at-write-convert .before .before in
+    let at-if1 = at-wide32 .before in
+    let at-fits-convert = at-if1 .before in
+    let start = at-fits-convert .before .before .before .before .before in
+    convert-kept (start .args .journal .now) (start .args .held .now) (start .args .ancillae .now) (at-fits-convert .fits-convert .ensures)
+    (at-if1 .if1 .taken) (start .pre .1 .0 .0) (start .args .done) (start .pre .1 .1) (start .args .function) (at-wide32 .wide32 .ensures .0)
+    (at-write-convert .write-convert .ensures)
 
 same-length-2 : tie.Need-same-length-2
 same-length-2 c = search needs
 
 returns-2 : tie.Need-returns-2
-returns-2 c = convert-unfit (c .before .before .before .before .before .before .args .journal .now) (c .before .before .before .before .before .before .args .held .now) (c .before .before .before .before .before .before .args .ancillae .now) (c .before .fits-convert .ensures) (c .if1 .left) (c .before .before .before .before .before .before .args .done .steps) (c .before .before .before .before .before .before .args .function)
+returns-2 c =
+    let at-fits-convert = c .before in
+    let start = at-fits-convert .before .before .before .before .before in
+    convert-unfit (start .args .journal .now) (start .args .held .now) (start .args .ancillae .now) (at-fits-convert .fits-convert .ensures)
+    (c .if1 .left) (start .args .done .steps) (start .args .function)
 
 pub keep-spec : {M : Type 1} → statement M
 keep-spec =

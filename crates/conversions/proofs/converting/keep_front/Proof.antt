@@ -11,7 +11,9 @@ slice-aggregate-keep : tie.Need-slice-aggregate-keep
 slice-aggregate-keep c = sym (length-take-le _ _ (c .before .before .before .before .before .before .pre .1 .1))
 
 keep-requires : tie.Need-keep-requires
-keep-requires c κs = (c .before .before .before .before .before .before .pre .0, (c .before .before .before .before .before .before .pre .1 .0, sym (length-take-le _ _ (c .before .before .before .before .before .before .pre .1 .1))))
+keep-requires c κs =
+    let start = c .before .before .before .before .before .before in
+    (start .pre .0, (start .pre .1 .0, sym (length-take-le _ _ (start .pre .1 .1))))
 
 same-length : tie.Need-same-length
 same-length c = search needs

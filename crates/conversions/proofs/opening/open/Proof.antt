@@ -11,22 +11,46 @@ fits-open-requires : tie.Need-fits-open-requires
 fits-open-requires c κs = sym (c .before .before .one-value .ensures) ∙ c .before .if1 .taken
 
 write-open-requires : tie.Need-write-open-requires
-write-open-requires c κs = (sym (c .before .before .before .before .before .one-value .ensures) ∙ c .before .before .before .before .if1 .taken, open-fits (c .before .before .before .before .before .before .before .before .args .held .now) (c .before .before .before .before .before .before .before .before .args .journal .now) (c .before .before .before .before .before .one-value .ensures) (c .before .before .before .before .if1 .taken) (c .before .before .fits-open .ensures) (c .before .if2 .taken))
+write-open-requires c κs =
+    let at-if2 = c .before in
+    let at-fits-open = at-if2 .before in
+    let at-if1 = at-fits-open .before .before in
+    let at-one-value = at-if1 .before in
+    let start = at-one-value .before .before .before in
+    (sym (at-one-value .one-value .ensures) ∙ at-if1 .if1 .taken, open-fits (start .args .held .now) (start .args .journal .now)
+    (at-one-value .one-value .ensures) (at-if1 .if1 .taken) (at-fits-open .fits-open .ensures) (at-if2 .if2 .taken))
 
 same-length : tie.Need-same-length
 same-length c = search needs
 
 returns : tie.Need-returns
-returns c = open-done (c .before .before .before .before .before .before .before .before .before .before .before .args .held .now) (c .before .before .before .before .before .before .before .before .before .before .before .args .journal .now) (c .before .before .before .before .before .before .before .before .one-value .ensures) (c .before .before .before .before .before .before .before .if1 .taken) (c .before .before .before .before .before .fits-open .ensures) (c .before .before .before .before .if2 .taken) (c .before .before .write-open .ensures)
+returns c =
+    let at-write-open = c .before .before in
+    let at-if2 = at-write-open .before .before in
+    let at-fits-open = at-if2 .before in
+    let at-if1 = at-fits-open .before .before in
+    let at-one-value = at-if1 .before in
+    let start = at-one-value .before .before .before in
+    open-done (start .args .held .now) (start .args .journal .now) (at-one-value .one-value .ensures) (at-if1 .if1 .taken)
+    (at-fits-open .fits-open .ensures) (at-if2 .if2 .taken) (at-write-open .write-open .ensures)
 
 same-length-2 : tie.Need-same-length-2
 same-length-2 c = search needs
 
 returns-2 : tie.Need-returns-2
-returns-2 c = open-full (c .before .before .before .before .before .before .before .args .held .now) (c .before .before .before .before .before .before .before .args .journal .now) (c .before .before .before .before .one-value .ensures) (c .before .before .before .if1 .taken) (c .before .fits-open .ensures) (c .if2 .left)
+returns-2 c =
+    let at-fits-open = c .before in
+    let at-if1 = at-fits-open .before .before in
+    let at-one-value = at-if1 .before in
+    let start = at-one-value .before .before .before in
+    open-full (start .args .held .now) (start .args .journal .now) (at-one-value .one-value .ensures) (at-if1 .if1 .taken)
+    (at-fits-open .fits-open .ensures) (c .if2 .left)
 
 returns-3 : tie.Need-returns-3
-returns-3 c = no-record (c .before .before .before .before .args .held .now) (c .before .before .before .before .args .journal .now) (c .before .one-value .ensures) (c .if1 .left)
+returns-3 c =
+    let at-one-value = c .before in
+    let start = at-one-value .before .before .before in
+    no-record (start .args .held .now) (start .args .journal .now) (at-one-value .one-value .ensures) (c .if1 .left)
 
 pub open-spec : {M : Type 1} → statement M
 open-spec =

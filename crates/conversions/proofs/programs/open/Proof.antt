@@ -22,7 +22,11 @@ same-length-2 : tie.Need-same-length-2
 same-length-2 c = search needs
 
 returns : tie.Need-returns
-returns c = open-ready (c .before .before .before .before .before .before .before .before .check-program .ensures) _ (c .before .before .before .before .enum-told .given .1) (c .before .before .«open» .ensures)
+returns c =
+    let at-before = c .before in
+    let at-enum-told = at-before .before .before .before in
+    let at-check-program = at-enum-told .before .before .before .before in
+    open-ready (at-check-program .check-program .ensures) _ (at-enum-told .enum-told .given .1) (at-before .before .«open» .ensures)
 
 same-length-3 : tie.Need-same-length-3
 same-length-3 c = search needs

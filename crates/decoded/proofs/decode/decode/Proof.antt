@@ -9,7 +9,10 @@ put-terms-requires : tie.Need-put-terms-requires
 put-terms-requires c κs = search needs
 
 put-functions-requires : tie.Need-put-functions-requires
-put-functions-requires c κs = (c .before .put-terms .ensures .lengths ∙ c .before .before .before .before .before .before .pre .0, c .before .before .before .before .before .before .pre .1 .1)
+put-functions-requires c κs =
+    let at-put-terms = c .before in
+    let start = at-put-terms .before .before .before .before .before in
+    (at-put-terms .put-terms .ensures .lengths ∙ start .pre .0, start .pre .1 .1)
 
 cast-code : tie.Need-cast-code
 cast-code c = let few = c .before .before .before .before .before .before .before .pre .1 .0 .few in search needs
@@ -30,8 +33,12 @@ element-write-code-2 : tie.Need-element-write-code-2
 element-write-code-2 c = search needs
 
 returns : tie.Need-returns
-returns c = let start = c .before .before .before .before .before .before .before in
-    decodes (c .put-functions .ensures .lengths ∙ c .before .before .put-terms .ensures .lengths ∙ start .pre .0) (start .pre .1 .0 .few) (start .pre .1 .1 .few) (c .before .before .put-terms .ensures) (c .put-functions .ensures)
+returns c =
+    let at-put-terms = c .before .before in
+    let at-before = at-put-terms .before .before .before .before in
+    let start = at-before .before in
+    decodes (c .put-functions .ensures .lengths ∙ at-put-terms .put-terms .ensures .lengths ∙ start .pre .0) (start .pre .1 .0 .few)
+    (start .pre .1 .1 .few) (at-put-terms .put-terms .ensures) (c .put-functions .ensures)
 
 pub decode-spec : {M : Type 1} → statement M
 decode-spec =

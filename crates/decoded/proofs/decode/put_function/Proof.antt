@@ -37,9 +37,17 @@ put-listed-requires c κs = let start = c .before .before .before .before .befor
 
 returns : tie.Need-returns
 unfolding maxParameters
-returns c = let start = c .before .before .before .before .before .before .before .before in
-    law.put-function (c .before .before .put-heads .ensures) (c .put-listed .ensures) (start .pre .1 .1) (c .before .before .before .before .before .before .function-parameters .ensures .0) (c .before .before .before .before .before .function-body .ensures) (c .before .before .before .before .function-result .ensures)
-    (let e = c .before .before .before .before .before .before .function-parameters .ensures .0 in omega (arith, start .pre .1 .1 .few))
+returns c =
+    let at-put-heads = c .before .before in
+    let at-function-result = at-put-heads .before .before in
+    let at-function-body = at-function-result .before in
+    let at-function-parameters = at-function-body .before in
+    let at-before = at-function-parameters .before in
+    let start = at-before .before in
+    law.put-function (at-put-heads .put-heads .ensures) (c .put-listed .ensures) (start .pre .1 .1)
+    (at-function-parameters .function-parameters .ensures .0) (at-function-body .function-body .ensures)
+    (at-function-result .function-result .ensures) (let e = at-function-parameters .function-parameters .ensures .0 in omega
+    (arith, start .pre .1 .1 .few))
 
 pub put-function-spec : {M : Type 1} → statement M
 put-function-spec =

@@ -27,7 +27,11 @@ wide-index-requires : tie.Need-wide-index-requires Inv-loop μ-loop
 wide-index-requires c κs = search needs
 
 put-function-requires : tie.Need-put-function-requires Inv-loop μ-loop
-put-function-requires c κs = let few = c .before .before .before .before .before .before .before .pre .1 .few in (c .before .before .before .before .loop .inv .1 .lengths ∙ c .before .before .before .before .before .before .before .pre .0, (omega arith, function-asked (c .before .before .before .before .before .before .before .pre .1) (omega arith) (c .wide-index .ensures .0)))
+put-function-requires c κs =
+    let at-loop = c .before .before .before .before in
+    let start = at-loop .before .before .before in
+    let few = start .pre .1 .few in
+    (at-loop .loop .inv .1 .lengths ∙ start .pre .0, (omega arith, function-asked (start .pre .1) (omega arith) (c .wide-index .ensures .0)))
 
 add-g : tie.Need-add-g Inv-loop μ-loop
 add-g c = search needs

@@ -14,7 +14,9 @@ same-length-2 c = search needs
 
 returns : tie.Need-returns
 unfolding runCall
-returns c = (c .before .before .before .before .call .ensures .answer, (c .before .before .before .before .call .ensures .fills, c .before .before .before .before .call .ensures .clear))
+returns c =
+    let at-call = c .before .before .before .before in
+    (at-call .call .ensures .answer, (at-call .call .ensures .fills, at-call .call .ensures .clear))
 
 pub forward-spec : {M : Type 1} → statement M
 forward-spec = tie.close (tie.spec call-requires same-length same-length-2 returns)

@@ -31,7 +31,11 @@ wide-index-requires : tie.Need-wide-index-requires Inv-loop μ-loop
 wide-index-requires c κs = search needs
 
 returns : tie.Need-returns Inv-loop μ-loop
-returns c = below-stops _ _ _ (c .before .before .before .before .loop .i) _ (omega arith) (omega (arith, c .before .wide-index .ensures .0 ∙ c .before .before .read16 .ensures))
+returns c =
+    let at-wide-index = c .before in
+    let at-read16 = at-wide-index .before in
+    let at-loop = at-read16 .before .before in
+    below-stops _ _ _ (at-loop .loop .i) _ (omega arith) (omega (arith, at-wide-index .wide-index .ensures .0 ∙ at-read16 .read16 .ensures))
 
 add-i : tie.Need-add-i Inv-loop μ-loop
 add-i c = omega arith
@@ -40,7 +44,12 @@ loop-less : tie.Need-loop-less Inv-loop μ-loop
 loop-less c = omega arith
 
 loop-again : tie.Need-loop-again Inv-loop μ-loop
-loop-again c = (omega arith, below-more _ _ _ (c .before .before .before .before .loop .i) (c .before .before .before .before .loop .inv .1) (omega (arith, c .before .wide-index .ensures .0 ∙ c .before .before .read16 .ensures)))
+loop-again c =
+    let at-wide-index = c .before in
+    let at-read16 = at-wide-index .before in
+    let at-loop = at-read16 .before .before in
+    (omega arith, below-more _ _ _ (at-loop .loop .i) (at-loop .loop .inv .1)
+    (omega (arith, at-wide-index .wide-index .ensures .0 ∙ at-read16 .read16 .ensures)))
 
 returns-2 : tie.Need-returns-2 Inv-loop μ-loop
 returns-2 c = below-all _ _ _ (c .before .loop .i) _ (omega arith) (omega arith) (c .before .loop .inv .1)

@@ -34,19 +34,41 @@ mul-if1 : tie.Need-mul-if1 Inv-loop μ-loop
 mul-if1 c = search needs
 
 shared-slice-read-if1 : tie.Need-shared-slice-read-if1 Inv-loop μ-loop
-shared-slice-read-if1 c = omega (arith, below-at _ _ _ (c .before .before .before .before .loop .i) _ (omega arith) (c .before .before .before .before .before .before .before .before .pre .1 .1), c .before .wide-index .ensures .0 ∙ c .before .before .read16 .ensures)
+shared-slice-read-if1 c =
+    let at-wide-index = c .before in
+    let at-read16 = at-wide-index .before in
+    let at-loop = at-read16 .before .before in
+    let start = at-loop .before .before .before .before in
+    omega (arith, below-at _ _ _ (at-loop .loop .i) _ (omega arith) (start .pre .1 .1), at-wide-index .wide-index .ensures .0
+    ∙ at-read16 .read16 .ensures)
 
 returns : tie.Need-returns Inv-loop μ-loop
-returns c = plain-stops _ _ _ _ (c .before .before .before .before .before .loop .i) _ _ (c .before .before .wide-index .ensures .0 ∙ c .before .before .before .read16 .ensures) (omega arith) (plain-open _ _ _ (c .if1 .taken))
+returns c =
+    let at-wide-index = c .before .before in
+    let at-read16 = at-wide-index .before in
+    let at-loop = at-read16 .before .before in
+    plain-stops _ _ _ _ (at-loop .loop .i) _ _ (at-wide-index .wide-index .ensures .0 ∙ at-read16 .read16 .ensures) (omega arith)
+    (plain-open _ _ _ (c .if1 .taken))
 
 mul-if2 : tie.Need-mul-if2 Inv-loop μ-loop
 mul-if2 c = search needs
 
 shared-slice-read-if2 : tie.Need-shared-slice-read-if2 Inv-loop μ-loop
-shared-slice-read-if2 c = omega (arith, below-at _ _ _ (c .before .before .before .before .before .before .loop .i) _ (omega arith) (c .before .before .before .before .before .before .before .before .before .before .pre .1 .0), c .before .before .before .wide-index .ensures .0 ∙ c .before .before .before .before .read16 .ensures)
+shared-slice-read-if2 c =
+    let at-wide-index = c .before .before .before in
+    let at-read16 = at-wide-index .before in
+    let at-loop = at-read16 .before .before in
+    let start = at-loop .before .before .before .before in
+    omega (arith, below-at _ _ _ (at-loop .loop .i) _ (omega arith) (start .pre .1 .0), at-wide-index .wide-index .ensures .0
+    ∙ at-read16 .read16 .ensures)
 
 returns-2 : tie.Need-returns-2 Inv-loop μ-loop
-returns-2 c = plain-stops _ _ _ _ (c .before .before .before .before .before .before .before .loop .i) _ _ (c .before .before .before .before .wide-index .ensures .0 ∙ c .before .before .before .before .before .read16 .ensures) (omega arith) (plain-large _ _ _ (c .if2 .taken))
+returns-2 c =
+    let at-wide-index = c .before .before .before .before in
+    let at-read16 = at-wide-index .before in
+    let at-loop = at-read16 .before .before in
+    plain-stops _ _ _ _ (at-loop .loop .i) _ _ (at-wide-index .wide-index .ensures .0 ∙ at-read16 .read16 .ensures) (omega arith)
+    (plain-large _ _ _ (c .if2 .taken))
 
 add-i : tie.Need-add-i Inv-loop μ-loop
 add-i c = omega arith
@@ -55,7 +77,13 @@ loop-less : tie.Need-loop-less Inv-loop μ-loop
 loop-less c = omega arith
 
 loop-again : tie.Need-loop-again Inv-loop μ-loop
-loop-again c = (omega arith, plain-more _ _ _ _ (c .before .before .before .before .before .before .before .loop .i) _ (c .before .before .before .before .wide-index .ensures .0 ∙ c .before .before .before .before .before .read16 .ensures) (c .before .before .before .before .before .before .before .loop .inv .1) (plain-yes _ _ _ (c .before .before .if1 .left) (c .if2 .left)))
+loop-again c =
+    let at-if1 = c .before .before in
+    let at-wide-index = at-if1 .before .before in
+    let at-read16 = at-wide-index .before in
+    let at-loop = at-read16 .before .before in
+    (omega arith, plain-more _ _ _ _ (at-loop .loop .i) _ (at-wide-index .wide-index .ensures .0 ∙ at-read16 .read16 .ensures) (at-loop .loop .inv .1)
+    (plain-yes _ _ _ (at-if1 .if1 .left) (c .if2 .left)))
 
 returns-3 : tie.Need-returns-3 Inv-loop μ-loop
 returns-3 c = plain-all _ _ _ _ (c .before .loop .i) _ (omega arith) (omega arith) (c .before .loop .inv .1)

@@ -15,7 +15,11 @@ all-below-requires : tie.Need-all-below-requires
 all-below-requires c κs = omega (arith, function-room (c .before .pre))
 
 returns : tie.Need-returns
-returns c = signature-stops (c .before .before .before .pre) (below (c .before .before .before .args .limit)) (below-append (c .before .before .before .args .limit)) (c .before .all-below .result) (c .before .all-below .ensures) (not-true (c .before .all-below .result) (c .if1 .taken))
+returns c =
+    let at-all-below = c .before in
+    let start = at-all-below .before .before in
+    signature-stops (start .pre) (below (start .args .limit)) (below-append (start .args .limit)) (at-all-below .all-below .result)
+    (at-all-below .all-below .ensures) (not-true (at-all-below .all-below .result) (c .if1 .taken))
 
 function-parameters-requires : tie.Need-function-parameters-requires
 function-parameters-requires c κs = omega (arith, function-room (c .before .before .before .pre))
@@ -27,7 +31,14 @@ all-below-requires-2 : tie.Need-all-below-requires-2
 all-below-requires-2 c κs = omega (arith, function-room (c .before .before .before .before .pre), c .function-parameters .ensures .0)
 
 returns-2 : tie.Need-returns-2
-returns-2 c = c .all-below2 .ensures ∙ signature-rest (c .before .before .before .before .before .pre) (below (c .before .before .before .before .before .args .limit)) (below-append (c .before .before .before .before .before .args .limit)) _ (c .before .before .before .all-below .result) (c .before .function-parameters .ensures .0) (c .before .before .before .all-below .ensures) (not-false (c .before .before .before .all-below .result) (c .before .before .if1 .left))
+returns-2 c =
+    let at-function-parameters = c .before in
+    let at-if1 = at-function-parameters .before in
+    let at-all-below = at-if1 .before in
+    let start = at-all-below .before .before in
+    c .all-below2 .ensures ∙ signature-rest (start .pre) (below (start .args .limit)) (below-append (start .args .limit)) _
+    (at-all-below .all-below .result) (at-function-parameters .function-parameters .ensures .0) (at-all-below .all-below .ensures)
+    (not-false (at-all-below .all-below .result) (at-if1 .if1 .left))
 
 pub signature-below-spec : {M : Type 1} → statement M
 signature-below-spec =

@@ -22,7 +22,11 @@ same-length : tie.Need-same-length
 same-length c = search needs
 
 returns : tie.Need-returns
-returns c = λ us M. ends-sound _ _ _ _ (c .before .before .before .before .before .before .test-functions .ensures us M) (c .before .before .enum-told .given .1) (c .test-used .result) (λ used N. c .test-used .ensures .answer _ _ _ used N)
+returns c =
+    let at-enum-told = c .before .before in
+    let at-test-functions = at-enum-told .before .before .before .before in
+    λ us M. ends-sound _ _ _ _ (at-test-functions .test-functions .ensures us M) (at-enum-told .enum-told .given .1) (c .test-used .result)
+    (λ used N. c .test-used .ensures .answer _ _ _ used N)
 
 same-length-2 : tie.Need-same-length-2
 same-length-2 c = search needs

@@ -8,7 +8,9 @@ slice-aggregate-test-types : tie.Need-slice-aggregate-test-types
 slice-aggregate-test-types c = search needs
 
 test-types-requires : tie.Need-test-types-requires
-test-types-requires c κs = (placed-formed (c .before .before .before .before .before .before .before .pre .0) .types, (c .before .before .before .before .before .before .before .pre .1, omega (arith, types-few (c .before .before .before .before .before .before .before .pre .0))))
+test-types-requires c κs =
+    let start = c .before .before .before .before .before .before .before in
+    (placed-formed (start .pre .0) .types, (start .pre .1, omega (arith, types-few (start .pre .0))))
 
 enum-told : tie.Need-enum-told
 enum-told c = search needs
@@ -17,7 +19,11 @@ slice-aggregate-test-uses : tie.Need-slice-aggregate-test-uses
 slice-aggregate-test-uses c = search needs
 
 test-uses-requires : tie.Need-test-uses-requires
-test-uses-requires c κs = (placed-formed (c .before .before .before .before .before .before .before .before .before .before .before .before .before .before .before .pre .0), types-sound _ _ _ _ _ (c .before .before .before .before .before .before .before .test-types .ensures) (c .before .before .enum-told .given .1))
+test-uses-requires c κs =
+    let at-enum-told = c .before .before in
+    let at-test-types = at-enum-told .before .before .before .before .before in
+    let start = at-test-types .before .before .before .before .before .before .before .before in
+    (placed-formed (start .pre .0), types-sound _ _ _ _ _ (at-test-types .test-types .ensures) (at-enum-told .enum-told .given .1))
 
 enum-known-v : tie.Need-enum-known-v
 enum-known-v c = search needs
@@ -29,7 +35,11 @@ same-length : tie.Need-same-length
 same-length c = search needs
 
 returns : tie.Need-returns
-returns c = entries-sound _ _ _ _ _ _ _ (c .before .before .before .before .before .before .before .before .test-types .ensures) (c .before .before .before .enum-told .given .1) (c .test-uses .result) (c .test-uses .ensures)
+returns c =
+    let at-enum-told = c .before .before .before in
+    let at-test-types = at-enum-told .before .before .before .before .before in
+    entries-sound _ _ _ _ _ _ _ (at-test-types .test-types .ensures) (at-enum-told .enum-told .given .1) (c .test-uses .result)
+    (c .test-uses .ensures)
 
 same-length-2 : tie.Need-same-length-2
 same-length-2 c = search needs

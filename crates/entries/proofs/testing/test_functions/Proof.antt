@@ -28,7 +28,13 @@ wide-index-requires : tie.Need-wide-index-requires Inv-loop μ-loop
 wide-index-requires c κs = search needs
 
 test-function-requires : tie.Need-test-function-requires Inv-loop μ-loop
-test-function-requires c κs = (subst (FunctionField _) (sym (c .before .wide-index .ensures .0)) (c .before .before .before .before .before .before .before .before .before .before .before .before .pre .formed .functions (c .before .before .before .before .loop .g) (omega arith)), omega (arith, (measured-room (c .before .before .before .before .before .before .before .before .before .before .before .before .args .p .now) (c .before .before .before .before .before .before .before .before .before .before .before .before .args .types .now) (c .before .before .before .before .before .before .before .before .before .before .before .before .args .nodes .now) (c .before .before .before .before .before .before .before .before .before .before .before .before .args .free .now) (c .before .before .before .before .before .before .before .before .before .before .before .before .pre .measured)), c .before .before .before .before .before .before .before .before .before .before .before .before .pre .room, c .before .before .before .before .loop .inv .1))
+test-function-requires c κs =
+    let at-wide-index = c .before in
+    let at-loop = at-wide-index .before .before .before in
+    let start = at-loop .before .before .before .before .before .before .before .before in
+    (subst (FunctionField _) (sym (at-wide-index .wide-index .ensures .0)) (start .pre .formed .functions (at-loop .loop .g) (omega arith)), omega
+    (arith, (measured-room (start .args .p .now) (start .args .types .now) (start .args .nodes .now) (start .args .free .now) (start .pre .measured)),
+    start .pre .room, at-loop .loop .inv .1))
 
 enum-told : tie.Need-enum-told Inv-loop μ-loop
 enum-told c = search needs
@@ -40,31 +46,71 @@ loop-less : tie.Need-loop-less Inv-loop μ-loop
 loop-less c = omega arith
 
 loop-again : tie.Need-loop-again Inv-loop μ-loop
-loop-again c = (omega arith, c .before .before .before .before .test-function .kept .1 .1 .1 .1 .1 .1 .0 ∙ c .before .before .before .before .before .before .before .before .before .loop .inv .1, going-more _ _ (functionsFromEntry (c .before .before .before .before .before .before .before .before .before .before .before .before .before .before .before .before .before .args .p .now) (c .before .before .before .before .before .before .before .before .before .before .before .before .before .before .before .before .before .args .types .now) (c .before .before .before .before .before .before .before .before .before .before .before .before .before .before .before .before .before .args .terms .now) (c .before .before .before .before .before .before .before .before .before .before .before .before .before .before .before .before .before .args .functions .now) (c .before .before .before .before .before .before .before .before .before .before .before .before .before .before .before .before .before .args .nodes .now) (c .before .before .before .before .before .before .before .before .before .before .before .before .before .before .before .before .before .args .free .now) (c .before .before .before .before .before .before .before .before .before .loop .g + 1)) _ _ _ _ _ (functions-step (c .before .before .before .before .before .before .before .before .before .before .before .before .before .before .before .before .before .args .p .now) (c .before .before .before .before .before .before .before .before .before .before .before .before .before .before .before .before .before .args .types .now) (c .before .before .before .before .before .before .before .before .before .before .before .before .before .before .before .before .before .args .terms .now) (c .before .before .before .before .before .before .before .before .before .before .before .before .before .before .before .before .before .args .functions .now) (c .before .before .before .before .before .before .before .before .before .before .before .before .before .before .before .before .before .args .nodes .now) (c .before .before .before .before .before .before .before .before .before .before .before .before .before .before .before .before .before .args .free .now) (c .before .before .before .before .before .before .before .before .before .before .before .before .before .before .before .before .before .pre .measured) (c .before .before .before .before .before .before .before .before .before .loop .g) _ (omega arith) (c .before .before .before .before .before .before .wide-index .ensures .0)) (c .before .before .before .before .before .before .before .before .before .loop .inv .2) _ (c .before .before .before .before .test-function .ensures) (c .enum-told .given .1))
+loop-again c =
+    let at-test-function = c .before .before .before .before in
+    let at-wide-index = at-test-function .before .before in
+    let at-loop = at-wide-index .before .before .before in
+    let start = at-loop .before .before .before .before .before .before .before .before in
+    (omega arith, at-test-function .test-function .kept .1 .1 .1 .1 .1 .1 .0 ∙ at-loop .loop .inv .1, going-more _ _
+    (functionsFromEntry (start .args .p .now) (start .args .types .now) (start .args .terms .now) (start .args .functions .now)
+    (start .args .nodes .now) (start .args .free .now) (at-loop .loop .g + 1)) _ _ _ _ _
+    (functions-step (start .args .p .now) (start .args .types .now) (start .args .terms .now) (start .args .functions .now) (start .args .nodes .now)
+    (start .args .free .now) (start .pre .measured) (at-loop .loop .g) _ (omega arith) (at-wide-index .wide-index .ensures .0))
+    (at-loop .loop .inv .2) _ (at-test-function .test-function .ensures) (c .enum-told .given .1))
 
 enum-known-v : tie.Need-enum-known-v Inv-loop μ-loop
 enum-known-v c = search needs
 
 same-length : tie.Need-same-length Inv-loop μ-loop
-same-length c = c .before .before .before .before .before .test-function .kept .1 .1 .1 .1 .1 .1 .0 ∙ c .before .before .before .before .before .before .before .before .before .before .loop .inv .1
+same-length c =
+    let at-test-function = c .before .before .before .before .before in
+    let at-loop = at-test-function .before .before .before .before .before in
+    at-test-function .test-function .kept .1 .1 .1 .1 .1 .1 .0 ∙ at-loop .loop .inv .1
 
 returns : tie.Need-returns Inv-loop μ-loop
-returns c = going-bad-reference _ _ (functionsFromEntry (c .before .before .before .before .before .before .before .before .before .before .before .before .before .before .before .before .before .before .args .p .now) (c .before .before .before .before .before .before .before .before .before .before .before .before .before .before .before .before .before .before .args .types .now) (c .before .before .before .before .before .before .before .before .before .before .before .before .before .before .before .before .before .before .args .terms .now) (c .before .before .before .before .before .before .before .before .before .before .before .before .before .before .before .before .before .before .args .functions .now) (c .before .before .before .before .before .before .before .before .before .before .before .before .before .before .before .before .before .before .args .nodes .now) (c .before .before .before .before .before .before .before .before .before .before .before .before .before .before .before .before .before .before .args .free .now) (c .before .before .before .before .before .before .before .before .before .before .loop .g + 1)) _ _ _ _ _ (functions-step (c .before .before .before .before .before .before .before .before .before .before .before .before .before .before .before .before .before .before .args .p .now) (c .before .before .before .before .before .before .before .before .before .before .before .before .before .before .before .before .before .before .args .types .now) (c .before .before .before .before .before .before .before .before .before .before .before .before .before .before .before .before .before .before .args .terms .now) (c .before .before .before .before .before .before .before .before .before .before .before .before .before .before .before .before .before .before .args .functions .now) (c .before .before .before .before .before .before .before .before .before .before .before .before .before .before .before .before .before .before .args .nodes .now) (c .before .before .before .before .before .before .before .before .before .before .before .before .before .before .before .before .before .before .args .free .now) (c .before .before .before .before .before .before .before .before .before .before .before .before .before .before .before .before .before .before .pre .measured) (c .before .before .before .before .before .before .before .before .before .before .loop .g) _ (omega arith) (c .before .before .before .before .before .before .before .wide-index .ensures .0)) (c .before .before .before .before .before .before .before .before .before .before .loop .inv .2) _ (c .before .before .before .before .before .test-function .ensures) _ (c .before .v .given .1)
+returns c =
+    let at-v = c .before in
+    let at-test-function = at-v .before .before .before .before in
+    let at-wide-index = at-test-function .before .before in
+    let at-loop = at-wide-index .before .before .before in
+    let start = at-loop .before .before .before .before .before .before .before .before in
+    going-bad-reference _ _ (functionsFromEntry (start .args .p .now) (start .args .types .now) (start .args .terms .now)
+    (start .args .functions .now) (start .args .nodes .now) (start .args .free .now) (at-loop .loop .g + 1)) _ _ _ _ _
+    (functions-step (start .args .p .now) (start .args .types .now) (start .args .terms .now) (start .args .functions .now) (start .args .nodes .now)
+    (start .args .free .now) (start .pre .measured) (at-loop .loop .g) _ (omega arith) (at-wide-index .wide-index .ensures .0))
+    (at-loop .loop .inv .2) _ (at-test-function .test-function .ensures) _ (at-v .v .given .1)
 
 enum-known-v-2 : tie.Need-enum-known-v-2 Inv-loop μ-loop
 enum-known-v-2 c = search needs
 
 same-length-2 : tie.Need-same-length-2 Inv-loop μ-loop
-same-length-2 c = c .before .before .before .before .before .test-function .kept .1 .1 .1 .1 .1 .1 .0 ∙ c .before .before .before .before .before .before .before .before .before .before .loop .inv .1
+same-length-2 c =
+    let at-test-function = c .before .before .before .before .before in
+    let at-loop = at-test-function .before .before .before .before .before in
+    at-test-function .test-function .kept .1 .1 .1 .1 .1 .1 .0 ∙ at-loop .loop .inv .1
 
 returns-2 : tie.Need-returns-2 Inv-loop μ-loop
-returns-2 c = going-bad-type _ _ (functionsFromEntry (c .before .before .before .before .before .before .before .before .before .before .before .before .before .before .before .before .before .before .args .p .now) (c .before .before .before .before .before .before .before .before .before .before .before .before .before .before .before .before .before .before .args .types .now) (c .before .before .before .before .before .before .before .before .before .before .before .before .before .before .before .before .before .before .args .terms .now) (c .before .before .before .before .before .before .before .before .before .before .before .before .before .before .before .before .before .before .args .functions .now) (c .before .before .before .before .before .before .before .before .before .before .before .before .before .before .before .before .before .before .args .nodes .now) (c .before .before .before .before .before .before .before .before .before .before .before .before .before .before .before .before .before .before .args .free .now) (c .before .before .before .before .before .before .before .before .before .before .loop .g + 1)) _ _ _ _ _ (functions-step (c .before .before .before .before .before .before .before .before .before .before .before .before .before .before .before .before .before .before .args .p .now) (c .before .before .before .before .before .before .before .before .before .before .before .before .before .before .before .before .before .before .args .types .now) (c .before .before .before .before .before .before .before .before .before .before .before .before .before .before .before .before .before .before .args .terms .now) (c .before .before .before .before .before .before .before .before .before .before .before .before .before .before .before .before .before .before .args .functions .now) (c .before .before .before .before .before .before .before .before .before .before .before .before .before .before .before .before .before .before .args .nodes .now) (c .before .before .before .before .before .before .before .before .before .before .before .before .before .before .before .before .before .before .args .free .now) (c .before .before .before .before .before .before .before .before .before .before .before .before .before .before .before .before .before .before .pre .measured) (c .before .before .before .before .before .before .before .before .before .before .loop .g) _ (omega arith) (c .before .before .before .before .before .before .before .wide-index .ensures .0)) (c .before .before .before .before .before .before .before .before .before .before .loop .inv .2) _ (c .before .before .before .before .before .test-function .ensures) _ (c .before .v2 .given .1)
+returns-2 c =
+    let at-v2 = c .before in
+    let at-test-function = at-v2 .before .before .before .before in
+    let at-wide-index = at-test-function .before .before in
+    let at-loop = at-wide-index .before .before .before in
+    let start = at-loop .before .before .before .before .before .before .before .before in
+    going-bad-type _ _ (functionsFromEntry (start .args .p .now) (start .args .types .now) (start .args .terms .now) (start .args .functions .now)
+    (start .args .nodes .now) (start .args .free .now) (at-loop .loop .g + 1)) _ _ _ _ _
+    (functions-step (start .args .p .now) (start .args .types .now) (start .args .terms .now) (start .args .functions .now) (start .args .nodes .now)
+    (start .args .free .now) (start .pre .measured) (at-loop .loop .g) _ (omega arith) (at-wide-index .wide-index .ensures .0))
+    (at-loop .loop .inv .2) _ (at-test-function .test-function .ensures) _ (at-v2 .v2 .given .1)
 
 same-length-3 : tie.Need-same-length-3 Inv-loop μ-loop
 same-length-3 c = search needs
 
 returns-3 : tie.Need-returns-3 Inv-loop μ-loop
-returns-3 c = going-end _ _ _ _ (functions-over (c .before .before .before .before .before .before .before .before .before .args .p .now) (c .before .before .before .before .before .before .before .before .before .args .types .now) (c .before .before .before .before .before .before .before .before .before .args .terms .now) (c .before .before .before .before .before .before .before .before .before .args .functions .now) (c .before .before .before .before .before .before .before .before .before .args .nodes .now) (c .before .before .before .before .before .before .before .before .before .args .free .now) (c .before .loop .g) (omega arith)) (c .before .loop .inv .2)
+returns-3 c =
+    let at-loop = c .before in
+    let start = at-loop .before .before .before .before .before .before .before .before in
+    going-end _ _ _ _ (functions-over (start .args .p .now) (start .args .types .now) (start .args .terms .now) (start .args .functions .now)
+    (start .args .nodes .now) (start .args .free .now) (at-loop .loop .g) (omega arith)) (at-loop .loop .inv .2)
 
 pub test-functions-spec : {M : Type 1} → statement M
 test-functions-spec =

@@ -28,7 +28,13 @@ wide-index-requires : tie.Need-wide-index-requires Inv-loop μ-loop
 wide-index-requires c κs = search needs
 
 test-term-requires : tie.Need-test-term-requires Inv-loop μ-loop
-test-term-requires c κs = (subst (TermField _) (sym (c .before .wide-index .ensures .0)) (c .before .before .before .before .before .before .before .before .before .before .before .before .pre .formed .terms (c .before .before .before .before .loop .k) (omega arith)), omega (arith, (measured-room (c .before .before .before .before .before .before .before .before .before .before .before .before .args .p .now) (c .before .before .before .before .before .before .before .before .before .before .before .before .args .types .now) (c .before .before .before .before .before .before .before .before .before .before .before .before .args .nodes .now) (c .before .before .before .before .before .before .before .before .before .before .before .before .args .free .now) (c .before .before .before .before .before .before .before .before .before .before .before .before .pre .measured)), c .before .before .before .before .before .before .before .before .before .before .before .before .pre .room, c .before .before .before .before .loop .inv .1))
+test-term-requires c κs =
+    let at-wide-index = c .before in
+    let at-loop = at-wide-index .before .before .before in
+    let start = at-loop .before .before .before .before .before .before .before .before in
+    (subst (TermField _) (sym (at-wide-index .wide-index .ensures .0)) (start .pre .formed .terms (at-loop .loop .k) (omega arith)), omega
+    (arith, (measured-room (start .args .p .now) (start .args .types .now) (start .args .nodes .now) (start .args .free .now) (start .pre .measured)),
+    start .pre .room, at-loop .loop .inv .1))
 
 enum-told : tie.Need-enum-told Inv-loop μ-loop
 enum-told c = search needs
@@ -40,31 +46,71 @@ loop-less : tie.Need-loop-less Inv-loop μ-loop
 loop-less c = omega arith
 
 loop-again : tie.Need-loop-again Inv-loop μ-loop
-loop-again c = (omega arith, c .before .before .before .before .test-term .kept .1 .1 .1 .1 .1 .1 .1 .0 ∙ c .before .before .before .before .before .before .before .before .before .loop .inv .1, going-more _ _ (termsFromEntry (c .before .before .before .before .before .before .before .before .before .before .before .before .before .before .before .before .before .args .p .now) (c .before .before .before .before .before .before .before .before .before .before .before .before .before .before .before .before .before .args .types .now) (c .before .before .before .before .before .before .before .before .before .before .before .before .before .before .before .before .before .args .terms .now) (c .before .before .before .before .before .before .before .before .before .before .before .before .before .before .before .before .before .args .functions .now) (c .before .before .before .before .before .before .before .before .before .before .before .before .before .before .before .before .before .args .nodes .now) (c .before .before .before .before .before .before .before .before .before .before .before .before .before .before .before .before .before .args .free .now) (c .before .before .before .before .before .before .before .before .before .loop .k + 1)) _ _ _ _ _ (terms-step (c .before .before .before .before .before .before .before .before .before .before .before .before .before .before .before .before .before .args .p .now) (c .before .before .before .before .before .before .before .before .before .before .before .before .before .before .before .before .before .args .types .now) (c .before .before .before .before .before .before .before .before .before .before .before .before .before .before .before .before .before .args .terms .now) (c .before .before .before .before .before .before .before .before .before .before .before .before .before .before .before .before .before .args .functions .now) (c .before .before .before .before .before .before .before .before .before .before .before .before .before .before .before .before .before .args .nodes .now) (c .before .before .before .before .before .before .before .before .before .before .before .before .before .before .before .before .before .args .free .now) (c .before .before .before .before .before .before .before .before .before .before .before .before .before .before .before .before .before .pre .measured) (c .before .before .before .before .before .before .before .before .before .loop .k) _ (omega arith) (c .before .before .before .before .before .before .wide-index .ensures .0)) (c .before .before .before .before .before .before .before .before .before .loop .inv .2) _ (c .before .before .before .before .test-term .ensures) (c .enum-told .given .1))
+loop-again c =
+    let at-test-term = c .before .before .before .before in
+    let at-wide-index = at-test-term .before .before in
+    let at-loop = at-wide-index .before .before .before in
+    let start = at-loop .before .before .before .before .before .before .before .before in
+    (omega arith, at-test-term .test-term .kept .1 .1 .1 .1 .1 .1 .1 .0 ∙ at-loop .loop .inv .1, going-more _ _
+    (termsFromEntry (start .args .p .now) (start .args .types .now) (start .args .terms .now) (start .args .functions .now) (start .args .nodes .now)
+    (start .args .free .now) (at-loop .loop .k + 1)) _ _ _ _ _
+    (terms-step (start .args .p .now) (start .args .types .now) (start .args .terms .now) (start .args .functions .now) (start .args .nodes .now)
+    (start .args .free .now) (start .pre .measured) (at-loop .loop .k) _ (omega arith) (at-wide-index .wide-index .ensures .0))
+    (at-loop .loop .inv .2) _ (at-test-term .test-term .ensures) (c .enum-told .given .1))
 
 enum-known-v : tie.Need-enum-known-v Inv-loop μ-loop
 enum-known-v c = search needs
 
 same-length : tie.Need-same-length Inv-loop μ-loop
-same-length c = c .before .before .before .before .before .test-term .kept .1 .1 .1 .1 .1 .1 .1 .0 ∙ c .before .before .before .before .before .before .before .before .before .before .loop .inv .1
+same-length c =
+    let at-test-term = c .before .before .before .before .before in
+    let at-loop = at-test-term .before .before .before .before .before in
+    at-test-term .test-term .kept .1 .1 .1 .1 .1 .1 .1 .0 ∙ at-loop .loop .inv .1
 
 returns : tie.Need-returns Inv-loop μ-loop
-returns c = going-bad-reference _ _ (termsFromEntry (c .before .before .before .before .before .before .before .before .before .before .before .before .before .before .before .before .before .before .args .p .now) (c .before .before .before .before .before .before .before .before .before .before .before .before .before .before .before .before .before .before .args .types .now) (c .before .before .before .before .before .before .before .before .before .before .before .before .before .before .before .before .before .before .args .terms .now) (c .before .before .before .before .before .before .before .before .before .before .before .before .before .before .before .before .before .before .args .functions .now) (c .before .before .before .before .before .before .before .before .before .before .before .before .before .before .before .before .before .before .args .nodes .now) (c .before .before .before .before .before .before .before .before .before .before .before .before .before .before .before .before .before .before .args .free .now) (c .before .before .before .before .before .before .before .before .before .before .loop .k + 1)) _ _ _ _ _ (terms-step (c .before .before .before .before .before .before .before .before .before .before .before .before .before .before .before .before .before .before .args .p .now) (c .before .before .before .before .before .before .before .before .before .before .before .before .before .before .before .before .before .before .args .types .now) (c .before .before .before .before .before .before .before .before .before .before .before .before .before .before .before .before .before .before .args .terms .now) (c .before .before .before .before .before .before .before .before .before .before .before .before .before .before .before .before .before .before .args .functions .now) (c .before .before .before .before .before .before .before .before .before .before .before .before .before .before .before .before .before .before .args .nodes .now) (c .before .before .before .before .before .before .before .before .before .before .before .before .before .before .before .before .before .before .args .free .now) (c .before .before .before .before .before .before .before .before .before .before .before .before .before .before .before .before .before .before .pre .measured) (c .before .before .before .before .before .before .before .before .before .before .loop .k) _ (omega arith) (c .before .before .before .before .before .before .before .wide-index .ensures .0)) (c .before .before .before .before .before .before .before .before .before .before .loop .inv .2) _ (c .before .before .before .before .before .test-term .ensures) _ (c .before .v .given .1)
+returns c =
+    let at-v = c .before in
+    let at-test-term = at-v .before .before .before .before in
+    let at-wide-index = at-test-term .before .before in
+    let at-loop = at-wide-index .before .before .before in
+    let start = at-loop .before .before .before .before .before .before .before .before in
+    going-bad-reference _ _ (termsFromEntry (start .args .p .now) (start .args .types .now) (start .args .terms .now) (start .args .functions .now)
+    (start .args .nodes .now) (start .args .free .now) (at-loop .loop .k + 1)) _ _ _ _ _
+    (terms-step (start .args .p .now) (start .args .types .now) (start .args .terms .now) (start .args .functions .now) (start .args .nodes .now)
+    (start .args .free .now) (start .pre .measured) (at-loop .loop .k) _ (omega arith) (at-wide-index .wide-index .ensures .0))
+    (at-loop .loop .inv .2) _ (at-test-term .test-term .ensures) _ (at-v .v .given .1)
 
 enum-known-v-2 : tie.Need-enum-known-v-2 Inv-loop μ-loop
 enum-known-v-2 c = search needs
 
 same-length-2 : tie.Need-same-length-2 Inv-loop μ-loop
-same-length-2 c = c .before .before .before .before .before .test-term .kept .1 .1 .1 .1 .1 .1 .1 .0 ∙ c .before .before .before .before .before .before .before .before .before .before .loop .inv .1
+same-length-2 c =
+    let at-test-term = c .before .before .before .before .before in
+    let at-loop = at-test-term .before .before .before .before .before in
+    at-test-term .test-term .kept .1 .1 .1 .1 .1 .1 .1 .0 ∙ at-loop .loop .inv .1
 
 returns-2 : tie.Need-returns-2 Inv-loop μ-loop
-returns-2 c = going-bad-type _ _ (termsFromEntry (c .before .before .before .before .before .before .before .before .before .before .before .before .before .before .before .before .before .before .args .p .now) (c .before .before .before .before .before .before .before .before .before .before .before .before .before .before .before .before .before .before .args .types .now) (c .before .before .before .before .before .before .before .before .before .before .before .before .before .before .before .before .before .before .args .terms .now) (c .before .before .before .before .before .before .before .before .before .before .before .before .before .before .before .before .before .before .args .functions .now) (c .before .before .before .before .before .before .before .before .before .before .before .before .before .before .before .before .before .before .args .nodes .now) (c .before .before .before .before .before .before .before .before .before .before .before .before .before .before .before .before .before .before .args .free .now) (c .before .before .before .before .before .before .before .before .before .before .loop .k + 1)) _ _ _ _ _ (terms-step (c .before .before .before .before .before .before .before .before .before .before .before .before .before .before .before .before .before .before .args .p .now) (c .before .before .before .before .before .before .before .before .before .before .before .before .before .before .before .before .before .before .args .types .now) (c .before .before .before .before .before .before .before .before .before .before .before .before .before .before .before .before .before .before .args .terms .now) (c .before .before .before .before .before .before .before .before .before .before .before .before .before .before .before .before .before .before .args .functions .now) (c .before .before .before .before .before .before .before .before .before .before .before .before .before .before .before .before .before .before .args .nodes .now) (c .before .before .before .before .before .before .before .before .before .before .before .before .before .before .before .before .before .before .args .free .now) (c .before .before .before .before .before .before .before .before .before .before .before .before .before .before .before .before .before .before .pre .measured) (c .before .before .before .before .before .before .before .before .before .before .loop .k) _ (omega arith) (c .before .before .before .before .before .before .before .wide-index .ensures .0)) (c .before .before .before .before .before .before .before .before .before .before .loop .inv .2) _ (c .before .before .before .before .before .test-term .ensures) _ (c .before .v2 .given .1)
+returns-2 c =
+    let at-v2 = c .before in
+    let at-test-term = at-v2 .before .before .before .before in
+    let at-wide-index = at-test-term .before .before in
+    let at-loop = at-wide-index .before .before .before in
+    let start = at-loop .before .before .before .before .before .before .before .before in
+    going-bad-type _ _ (termsFromEntry (start .args .p .now) (start .args .types .now) (start .args .terms .now) (start .args .functions .now)
+    (start .args .nodes .now) (start .args .free .now) (at-loop .loop .k + 1)) _ _ _ _ _
+    (terms-step (start .args .p .now) (start .args .types .now) (start .args .terms .now) (start .args .functions .now) (start .args .nodes .now)
+    (start .args .free .now) (start .pre .measured) (at-loop .loop .k) _ (omega arith) (at-wide-index .wide-index .ensures .0))
+    (at-loop .loop .inv .2) _ (at-test-term .test-term .ensures) _ (at-v2 .v2 .given .1)
 
 same-length-3 : tie.Need-same-length-3 Inv-loop μ-loop
 same-length-3 c = search needs
 
 returns-3 : tie.Need-returns-3 Inv-loop μ-loop
-returns-3 c = going-end _ _ _ _ (terms-over (c .before .before .before .before .before .before .before .before .before .args .p .now) (c .before .before .before .before .before .before .before .before .before .args .types .now) (c .before .before .before .before .before .before .before .before .before .args .terms .now) (c .before .before .before .before .before .before .before .before .before .args .functions .now) (c .before .before .before .before .before .before .before .before .before .args .nodes .now) (c .before .before .before .before .before .before .before .before .before .args .free .now) (c .before .loop .k) (omega arith)) (c .before .loop .inv .2)
+returns-3 c =
+    let at-loop = c .before in
+    let start = at-loop .before .before .before .before .before .before .before .before in
+    going-end _ _ _ _ (terms-over (start .args .p .now) (start .args .types .now) (start .args .terms .now) (start .args .functions .now)
+    (start .args .nodes .now) (start .args .free .now) (at-loop .loop .k) (omega arith)) (at-loop .loop .inv .2)
 
 pub test-terms-spec : {M : Type 1} → statement M
 test-terms-spec =

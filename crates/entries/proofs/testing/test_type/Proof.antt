@@ -18,10 +18,22 @@ all-below-requires : tie.Need-all-below-requires
 all-below-requires c κs = omega (arith, types-in-type (c .before .before .before .before .pre .0), c .types-in-type .ensures)
 
 returns : tie.Need-returns
-returns c = type-refused (c .before .before .before .before .before .before .pre .0) _ _ _ _ (type-answer (c .before .before .before .before .before .before .pre .0) _ _ _ (c .before .before .types-in-type .ensures) (c .before .all-below .ensures)) (not-true (c .before .all-below .result) (c .if1 .taken))
+returns c =
+    let at-all-below = c .before in
+    let at-types-in-type = at-all-below .before in
+    let start = at-types-in-type .before .before .before .before in
+    type-refused (start .pre .0) _ _ _ _ (type-answer (start .pre .0) _ _ _ (at-types-in-type .types-in-type .ensures)
+    (at-all-below .all-below .ensures)) (not-true (at-all-below .all-below .result) (c .if1 .taken))
 
 nodes-of-requires : tie.Need-nodes-of-requires
-nodes-of-requires c κs = (c .before .before .before .before .before .before .before .pre .0, below-wider (c .before .before .before .before .before .before .before .args .i) _ _ (omega arith) (sym (type-answer (c .before .before .before .before .before .before .before .pre .0) _ _ _ (c .before .before .before .types-in-type .ensures) (c .before .before .all-below .ensures)) ∙ not-false (c .before .before .all-below .result) (c .before .if1 .left)))
+nodes-of-requires c κs =
+    let at-if1 = c .before in
+    let at-all-below = at-if1 .before in
+    let at-types-in-type = at-all-below .before in
+    let start = at-types-in-type .before .before .before .before in
+    (start .pre .0, below-wider (start .args .i) _ _ (omega arith)
+    (sym (type-answer (start .pre .0) _ _ _ (at-types-in-type .types-in-type .ensures) (at-all-below .all-below .ensures)) ∙ not-false
+    (at-all-below .all-below .result) (at-if1 .if1 .left)))
 
 mul-nodes : tie.Need-mul-nodes
 mul-nodes c = search needs
@@ -30,7 +42,14 @@ slice-write-nodes : tie.Need-slice-write-nodes
 slice-write-nodes c = search needs
 
 free-of-requires : tie.Need-free-of-requires
-free-of-requires c κs = (c .before .before .before .before .before .before .before .before .before .pre .0, below-wider (c .before .before .before .before .before .before .before .before .before .args .i) _ _ (omega arith) (sym (type-answer (c .before .before .before .before .before .before .before .before .before .pre .0) _ _ _ (c .before .before .before .before .before .types-in-type .ensures) (c .before .before .before .before .all-below .ensures)) ∙ not-false (c .before .before .before .before .all-below .result) (c .before .before .before .if1 .left)))
+free-of-requires c κs =
+    let at-if1 = c .before .before .before in
+    let at-all-below = at-if1 .before in
+    let at-types-in-type = at-all-below .before in
+    let start = at-types-in-type .before .before .before .before in
+    (start .pre .0, below-wider (start .args .i) _ _ (omega arith)
+    (sym (type-answer (start .pre .0) _ _ _ (at-types-in-type .types-in-type .ensures) (at-all-below .all-below .ensures)) ∙ not-false
+    (at-all-below .all-below .result) (at-if1 .if1 .left)))
 
 mul-free : tie.Need-mul-free
 mul-free c = search needs
@@ -45,7 +64,15 @@ same-length-2 : tie.Need-same-length-2
 same-length-2 c = search needs
 
 returns-2 : tie.Need-returns-2
-returns-2 c = type-accepted (c .before .before .before .before .before .before .before .before .before .before .pre .0) _ _ _ _ _ _ (type-answer (c .before .before .before .before .before .before .before .before .before .before .pre .0) _ _ _ (c .before .before .before .before .before .before .types-in-type .ensures) (c .before .before .before .before .before .all-below .ensures)) (not-false (c .before .before .before .before .before .all-below .result) (c .before .before .before .before .if1 .left)) (c .before .before .nodes-of .ensures) (c .free-of .ensures)
+returns-2 c =
+    let at-nodes-of = c .before .before in
+    let at-if1 = at-nodes-of .before .before in
+    let at-all-below = at-if1 .before in
+    let at-types-in-type = at-all-below .before in
+    let start = at-types-in-type .before .before .before .before in
+    type-accepted (start .pre .0) _ _ _ _ _ _ (type-answer (start .pre .0) _ _ _ (at-types-in-type .types-in-type .ensures)
+    (at-all-below .all-below .ensures)) (not-false (at-all-below .all-below .result) (at-if1 .if1 .left)) (at-nodes-of .nodes-of .ensures)
+    (c .free-of .ensures)
 
 pub test-type-spec : {M : Type 1} → statement M
 test-type-spec =

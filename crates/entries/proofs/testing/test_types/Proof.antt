@@ -28,16 +28,31 @@ wide-index-requires : tie.Need-wide-index-requires Inv-loop μ-loop
 wide-index-requires c κs = search needs
 
 test-type-requires : tie.Need-test-type-requires Inv-loop μ-loop
-test-type-requires c κs = (subst (TypeField _) (sym (c .before .before .wide-index .ensures .0)) (c .before .before .before .before .before .before .before .before .before .before .pre .0 (c .before .before .before .before .before .loop .i) (omega arith)), omega arith)
+test-type-requires c κs =
+    let at-wide-index = c .before .before in
+    let at-loop = at-wide-index .before .before .before in
+    let start = at-loop .before .before .before .before .before in
+    (subst (TypeField _) (sym (at-wide-index .wide-index .ensures .0)) (start .pre .0 (at-loop .loop .i) (omega arith)), omega arith)
 
 same-length : tie.Need-same-length Inv-loop μ-loop
-same-length c = c .before .before .before .before .before .test-type .kept .1 .1 .1 .0 ∙ c .before .before .before .before .before .before .before .before .before .before .before .loop .inv .1
+same-length c =
+    let at-test-type = c .before .before .before .before .before in
+    let at-loop = at-test-type .before .before .before .before .before .before in
+    at-test-type .test-type .kept .1 .1 .1 .0 ∙ at-loop .loop .inv .1
 
 same-length-2 : tie.Need-same-length-2 Inv-loop μ-loop
-same-length-2 c = c .before .before .before .before .before .test-type .kept .1 .1 .1 .1 .0 ∙ c .before .before .before .before .before .before .before .before .before .before .before .loop .inv .2
+same-length-2 c =
+    let at-test-type = c .before .before .before .before .before in
+    let at-loop = at-test-type .before .before .before .before .before .before in
+    at-test-type .test-type .kept .1 .1 .1 .1 .0 ∙ at-loop .loop .inv .2
 
 returns : tie.Need-returns Inv-loop μ-loop
-returns c = types-stop _ _ (c .before .before .before .before .before .before .before .before .before .before .before .loop .i) _ (omega arith) (c .before .before .before .before .before .before .before .before .wide-index .ensures .0) _ _ _ _ (c .before .before .before .before .before .before .before .before .before .before .before .loop .inv .3) (c .before .before .before .before .before .test-type .result) (not-true (c .before .before .before .before .before .test-type .result) (c .if1 .taken)) (c .before .before .before .before .before .test-type .ensures)
+returns c =
+    let at-test-type = c .before .before .before .before .before in
+    let at-wide-index = at-test-type .before .before .before in
+    let at-loop = at-wide-index .before .before .before in
+    types-stop _ _ (at-loop .loop .i) _ (omega arith) (at-wide-index .wide-index .ensures .0) _ _ _ _ (at-loop .loop .inv .3)
+    (at-test-type .test-type .result) (not-true (at-test-type .test-type .result) (c .if1 .taken)) (at-test-type .test-type .ensures)
 
 add-i : tie.Need-add-i Inv-loop μ-loop
 add-i c = omega arith
@@ -46,11 +61,14 @@ loop-less : tie.Need-loop-less Inv-loop μ-loop
 loop-less c = omega arith
 
 loop-again : tie.Need-loop-again Inv-loop μ-loop
-loop-again c = (
-  omega arith,
-  c .before .before .before .before .before .test-type .kept .1 .1 .1 .0 ∙ c .before .before .before .before .before .before .before .before .before .before .before .loop .inv .1,
-  c .before .before .before .before .before .test-type .kept .1 .1 .1 .1 .0 ∙ c .before .before .before .before .before .before .before .before .before .before .before .loop .inv .2,
-  types-more _ _ (c .before .before .before .before .before .before .before .before .before .before .before .loop .i) _ (omega arith) (c .before .before .before .before .before .before .before .before .wide-index .ensures .0) _ _ _ _ (c .before .before .before .before .before .before .before .before .before .before .before .loop .inv .3) (omega (arith, c .before .before .before .before .before .before .before .before .before .before .before .loop .inv .1)) (omega (arith, c .before .before .before .before .before .before .before .before .before .before .before .loop .inv .2)) (c .before .before .before .before .before .test-type .result) (not-false (c .before .before .before .before .before .test-type .result) (c .if1 .left)) (c .before .before .before .before .before .test-type .ensures),
+loop-again c =
+    let at-test-type = c .before .before .before .before .before in
+    let at-wide-index = at-test-type .before .before .before in
+    let at-loop = at-wide-index .before .before .before in
+    ( omega arith, at-test-type .test-type .kept .1 .1 .1 .0 ∙ at-loop .loop .inv .1, at-test-type .test-type .kept .1 .1 .1 .1 .0
+    ∙ at-loop .loop .inv .2, types-more _ _ (at-loop .loop .i) _ (omega arith) (at-wide-index .wide-index .ensures .0) _ _ _ _ (at-loop .loop .inv .3)
+    (omega (arith, at-loop .loop .inv .1)) (omega (arith, at-loop .loop .inv .2)) (at-test-type .test-type .result)
+    (not-false (at-test-type .test-type .result) (c .if1 .left)) (at-test-type .test-type .ensures),
 )
 
 same-length-3 : tie.Need-same-length-3 Inv-loop μ-loop

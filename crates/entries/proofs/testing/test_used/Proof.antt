@@ -28,7 +28,10 @@ wide-index-requires : tie.Need-wide-index-requires Inv-loop μ-loop
 wide-index-requires c κs = search needs
 
 returns : tie.Need-returns Inv-loop μ-loop
-returns c = used-stop _ _ (c .before .before .before .before .before .loop .k) (omega arith) (omega arith) (c .before .before .before .before .before .loop .inv .1) _ (c .wide-index .ensures .0) (c .before .before .if1 .taken)
+returns c =
+    let at-if1 = c .before .before in
+    let at-loop = at-if1 .before .before .before in
+    used-stop _ _ (at-loop .loop .k) (omega arith) (omega arith) (at-loop .loop .inv .1) _ (c .wide-index .ensures .0) (at-if1 .if1 .taken)
 
 add-k : tie.Need-add-k Inv-loop μ-loop
 add-k c = omega arith

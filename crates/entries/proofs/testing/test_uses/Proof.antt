@@ -10,7 +10,9 @@ slice-aggregate-test-terms : tie.Need-slice-aggregate-test-terms
 slice-aggregate-test-terms c = search needs
 
 test-terms-requires : tie.Need-test-terms-requires
-test-terms-requires c κs = uses-ready _ _ _ _ _ _ _ (c .before .before .before .before .before .before .before .pre .0) (c .before .before .before .before .before .before .before .pre .1) (omega arith)
+test-terms-requires c κs =
+    let start = c .before .before .before .before .before .before .before in
+    uses-ready _ _ _ _ _ _ _ (start .pre .0) (start .pre .1) (omega arith)
 
 enum-told : tie.Need-enum-told
 enum-told c = search needs
@@ -19,7 +21,10 @@ slice-aggregate-test-bodies : tie.Need-slice-aggregate-test-bodies
 slice-aggregate-test-bodies c = search needs
 
 test-bodies-requires : tie.Need-test-bodies-requires
-test-bodies-requires c κs = uses-ready _ _ _ _ _ _ _ (c .before .before .before .before .before .before .before .before .before .before .before .before .pre .0) (c .before .before .before .before .before .before .before .before .before .before .before .before .pre .1) (omega (arith, c .before .before .before .before .test-terms .kept .1 .1 .1 .1 .1 .1 .0))
+test-bodies-requires c κs =
+    let at-test-terms = c .before .before .before .before in
+    let start = at-test-terms .before .before .before .before .before .before .before .before in
+    uses-ready _ _ _ _ _ _ _ (start .pre .0) (start .pre .1) (omega (arith, at-test-terms .test-terms .kept .1 .1 .1 .1 .1 .1 .0))
 
 enum-known-v : tie.Need-enum-known-v
 enum-known-v c = search needs
@@ -28,7 +33,12 @@ enum-known-v-2 : tie.Need-enum-known-v-2
 enum-known-v-2 c = search needs
 
 returns : tie.Need-returns
-returns c = ends-sound _ _ _ _ (c .before .before .before .before .before .before .test-terms .ensures [] (marks-none maxTerms)) (c .before .before .before .enum-told .given .1) (c .before .test-bodies .result) (c .before .test-bodies .ensures)
+returns c =
+    let at-test-bodies = c .before in
+    let at-enum-told = at-test-bodies .before .before in
+    let at-test-terms = at-enum-told .before .before .before in
+    ends-sound _ _ _ _ (at-test-terms .test-terms .ensures [] (marks-none maxTerms)) (at-enum-told .enum-told .given .1)
+    (at-test-bodies .test-bodies .result) (at-test-bodies .test-bodies .ensures)
 
 returns-2 : tie.Need-returns-2
 returns-2 c = ends-bad-reference _ _ _ _ (c .before .before .before .before .test-terms .ensures [] (marks-none maxTerms)) _ (c .before .v .given .1)

@@ -30,16 +30,35 @@ wide-index-requires : tie.Need-wide-index-requires Inv-loop μ-loop
 wide-index-requires c κs = search needs
 
 slice-read-if1 : tie.Need-slice-read-if1 Inv-loop μ-loop
-slice-read-if1 c = omega (arith, below-at _ _ _ (c .before .before .before .before .loop .i) _ (omega arith) (c .before .before .before .before .before .before .before .pre .1), c .before .wide-index .ensures .0 ∙ c .before .before .read16 .ensures, c .before .before .before .before .loop .inv .1)
+slice-read-if1 c =
+    let at-wide-index = c .before in
+    let at-read16 = at-wide-index .before in
+    let at-loop = at-read16 .before .before in
+    let start = at-loop .before .before .before in
+    omega (arith, below-at _ _ _ (at-loop .loop .i) _ (omega arith) (start .pre .1), at-wide-index .wide-index .ensures .0
+    ∙ at-read16 .read16 .ensures, at-loop .loop .inv .1)
 
 same-length : tie.Need-same-length Inv-loop μ-loop
 same-length c = search needs
 
 returns : tie.Need-returns Inv-loop μ-loop
-returns c = using-stops _ _ _ _ (c .before .before .before .before .before .loop .i) _ _ (c .before .before .wide-index .ensures .0 ∙ c .before .before .before .read16 .ensures) (omega arith) (omega (arith, below-at _ _ _ (c .before .before .before .before .before .loop .i) _ (omega arith) (c .before .before .before .before .before .before .before .before .pre .1), c .before .before .wide-index .ensures .0 ∙ c .before .before .before .read16 .ensures, c .before .before .before .before .before .loop .inv .1)) (c .if1 .taken) (c .before .before .before .before .before .loop .inv .2)
+returns c =
+    let at-wide-index = c .before .before in
+    let at-read16 = at-wide-index .before in
+    let at-loop = at-read16 .before .before in
+    let start = at-loop .before .before .before in
+    using-stops _ _ _ _ (at-loop .loop .i) _ _ (at-wide-index .wide-index .ensures .0 ∙ at-read16 .read16 .ensures) (omega arith)
+    (omega (arith, below-at _ _ _ (at-loop .loop .i) _ (omega arith) (start .pre .1), at-wide-index .wide-index .ensures .0
+    ∙ at-read16 .read16 .ensures, at-loop .loop .inv .1)) (c .if1 .taken) (at-loop .loop .inv .2)
 
 slice-write-used : tie.Need-slice-write-used Inv-loop μ-loop
-slice-write-used c = omega (arith, below-at _ _ _ (c .before .before .before .before .before .loop .i) _ (omega arith) (c .before .before .before .before .before .before .before .before .pre .1), c .before .before .wide-index .ensures .0 ∙ c .before .before .before .read16 .ensures, c .before .before .before .before .before .loop .inv .1)
+slice-write-used c =
+    let at-wide-index = c .before .before in
+    let at-read16 = at-wide-index .before in
+    let at-loop = at-read16 .before .before in
+    let start = at-loop .before .before .before in
+    omega (arith, below-at _ _ _ (at-loop .loop .i) _ (omega arith) (start .pre .1), at-wide-index .wide-index .ensures .0
+    ∙ at-read16 .read16 .ensures, at-loop .loop .inv .1)
 
 add-i : tie.Need-add-i Inv-loop μ-loop
 add-i c = omega arith
@@ -48,7 +67,15 @@ loop-less : tie.Need-loop-less Inv-loop μ-loop
 loop-less c = omega arith
 
 loop-again : tie.Need-loop-again Inv-loop μ-loop
-loop-again c = (omega arith, simp length-set (c .before .before .before .before .before .loop .inv .1), using-more _ _ _ _ (c .before .before .before .before .before .loop .i) _ (c .before .before .wide-index .ensures .0 ∙ c .before .before .before .read16 .ensures) (omega (arith, below-at _ _ _ (c .before .before .before .before .before .loop .i) _ (omega arith) (c .before .before .before .before .before .before .before .before .pre .1), c .before .before .wide-index .ensures .0 ∙ c .before .before .before .read16 .ensures, c .before .before .before .before .before .loop .inv .1)) (c .if1 .left) (c .before .before .before .before .before .loop .inv .2))
+loop-again c =
+    let at-wide-index = c .before .before in
+    let at-read16 = at-wide-index .before in
+    let at-loop = at-read16 .before .before in
+    let start = at-loop .before .before .before in
+    (omega arith, simp length-set (at-loop .loop .inv .1), using-more _ _ _ _ (at-loop .loop .i) _
+    (at-wide-index .wide-index .ensures .0 ∙ at-read16 .read16 .ensures)
+    (omega (arith, below-at _ _ _ (at-loop .loop .i) _ (omega arith) (start .pre .1), at-wide-index .wide-index .ensures .0
+    ∙ at-read16 .read16 .ensures, at-loop .loop .inv .1)) (c .if1 .left) (at-loop .loop .inv .2))
 
 same-length-2 : tie.Need-same-length-2 Inv-loop μ-loop
 same-length-2 c = search needs

@@ -17,10 +17,22 @@ refuse-requires : tie.Need-refuse-requires
 refuse-requires c κs = search needs
 
 returns-2 : tie.Need-returns-2
-returns-2 c = check-yields (c .before .before .before .before .before .before .pre) (is-value (c .before .before .before .before .if1 .left)) _ (c .before .before .before .second-of .ensures) (c .before .before .yields .ensures) (c .before .if2 .taken) (is-first-match (c .refuse .ensures))
+returns-2 c =
+    let at-if2 = c .before in
+    let at-yields = at-if2 .before in
+    let at-second-of = at-yields .before in
+    let at-if1 = at-second-of .before in
+    let start = at-if1 .before .before in
+    check-yields (start .pre) (is-value (at-if1 .if1 .left)) _ (at-second-of .second-of .ensures) (at-yields .yields .ensures) (at-if2 .if2 .taken)
+    (is-first-match (c .refuse .ensures))
 
 returns-3 : tie.Need-returns-3
-returns-3 c = check-passes (c .before .before .before .before .before .pre) (is-value (c .before .before .before .if1 .left)) _ (c .before .before .second-of .ensures) (c .before .yields .ensures) (c .if2 .left)
+returns-3 c =
+    let at-yields = c .before in
+    let at-second-of = at-yields .before in
+    let at-if1 = at-second-of .before in
+    let start = at-if1 .before .before in
+    check-passes (start .pre) (is-value (at-if1 .if1 .left)) _ (at-second-of .second-of .ensures) (at-yields .yields .ensures) (c .if2 .left)
 
 pub first-match-spec : {M : Type 1} → statement M
 first-match-spec =

@@ -9,7 +9,11 @@ top-requires : tie.Need-top-requires
 top-requires c κs = search needs
 
 pair-requires : tie.Need-pair-requires
-pair-requires c κs = let start = c .before .before .before .before in let top = c .top .ensures in (rw top (start .pre .0 .graph .right), (rw top (start .pre .0 .room), rw top (start .pre .1)))
+pair-requires c κs =
+    let at-before = c .before .before .before in
+    let start = at-before .before in
+    let top = c .top .ensures in
+    (rw top (start .pre .0 .graph .right), (rw top (start .pre .0 .room), rw top (start .pre .1)))
 
 finish-requires : tie.Need-finish-requires
 finish-requires c κs = let start = c .before .before .before .before .before .before .before .before in (start .pre .0 .full, start .pre .0 .small)
@@ -18,8 +22,13 @@ same-length : tie.Need-same-length
 same-length c = search needs
 
 returns : tie.Need-returns
-returns c = let start = c .before .before .before .before .before .before .before .before .before in
-    record { lengths = c .finish .ensures .lengths; slots = c .finish .ensures .slots; makes = makes-as (c .finish .ensures .out) (start .pre .0 .graph) (rw (c .before .before .before .before .before .top .ensures) at (c .before .before .before .before .pair .ensures)) }
+returns c =
+    let at-pair = c .before .before .before .before in
+    let at-top = at-pair .before in
+    let at-before = at-top .before .before .before in
+    let start = at-before .before in
+    record { lengths = c .finish .ensures .lengths; slots = c .finish .ensures .slots; makes = makes-as (c .finish .ensures .out)
+    (start .pre .0 .graph) (rw (at-top .top .ensures) at (at-pair .pair .ensures)) }
 
 pub make-pair-spec : {M : Type 1} → statement M
 make-pair-spec =

@@ -18,8 +18,13 @@ same-length : tie.Need-same-length
 same-length c = search needs
 
 returns : tie.Need-returns
-returns c = let start = c .before .before .before .before .before .before .before .before .before in
-    record { lengths = c .finish .ensures .lengths; slots = c .finish .ensures .slots; makes = makes-new-as (c .finish .ensures .out) (start .pre .graph) (rw (c .before .before .before .before .before .top .ensures) at (c .before .before .before .before .unit .ensures)) unit-fits }
+returns c =
+    let at-unit = c .before .before .before .before in
+    let at-top = at-unit .before in
+    let at-before = at-top .before .before .before in
+    let start = at-before .before in
+    record { lengths = c .finish .ensures .lengths; slots = c .finish .ensures .slots; makes = makes-new-as (c .finish .ensures .out)
+    (start .pre .graph) (rw (at-top .top .ensures) at (at-unit .unit .ensures)) unit-fits }
 
 pub make-unit-spec : {M : Type 1} → statement M
 make-unit-spec =

@@ -28,13 +28,22 @@ refuse-requires c κs = search needs
 
 returns : tie.Need-returns
 returns c =
-    let found = sym (c .before .before .before .find .ensures) ∙ c .before .node .given .1 in
-    finds-node _ (c .before .before .before .before .before .before .before .pre) (rw (c .before .before .before .before .before .base-in .ensures, c .before .before .before .before .count-in .ensures) at found)
+    let at-node = c .before in
+    let at-find = at-node .before .before in
+    let at-count-in = at-find .before in
+    let at-base-in = at-count-in .before in
+    let start = at-base-in .before .before in
+    let found = sym (at-find .find .ensures) ∙ at-node .node .given .1 in
+    finds-node _ (start .pre) (rw (at-base-in .base-in .ensures, at-count-in .count-in .ensures) at found)
 
 returns-2 : tie.Need-returns-2
 returns-2 c =
-    let found = sym (c .before .before .before .find .ensures) ∙ c .before .enum-told .given .1 in
-    finds-none (rw (c .before .before .before .before .before .base-in .ensures, c .before .before .before .before .count-in .ensures) at found) (is-stuck (c .refuse .ensures))
+    let at-enum-told = c .before in
+    let at-find = at-enum-told .before .before in
+    let at-count-in = at-find .before in
+    let at-base-in = at-count-in .before in
+    let found = sym (at-find .find .ensures) ∙ at-enum-told .enum-told .given .1 in
+    finds-none (rw (at-base-in .base-in .ensures, at-count-in .count-in .ensures) at found) (is-stuck (c .refuse .ensures))
 
 pub variable-spec : {M : Type 1} → statement M
 variable-spec =

@@ -21,11 +21,25 @@ returns c = entry-missing _ _ (sym (c .enum-told .given .1) ∙ c .before .befor
 
 sub-if1 : tie.Need-sub-if1
 unfolding entryTag
-sub-if1 c = let h = here-within (here entryTag (c .before .before .before .before .before .args .at) _ (c .before .before .before .before .before .args .journal .now) (are-bytes (c .before .before .before .before .before .args .journal .now) (c .before .before .before .before .shared-slice-known .given)) (sym (c .before .field .given .1) ∙ c .before .before .before .field-end .ensures)) in search needs
+sub-if1 c =
+    let at-field = c .before in
+    let at-field-end = at-field .before .before in
+    let at-shared-slice-known = at-field-end .before in
+    let start = at-shared-slice-known .before in
+    let h = here-within (here entryTag (start .args .at) _ (start .args .journal .now)
+        (are-bytes (start .args .journal .now) (at-shared-slice-known .shared-slice-known .given))
+        (sym (at-field .field .given .1) ∙ at-field-end .field-end .ensures)) in
+    search needs
 
 returns-2 : tie.Need-returns-2
 unfolding entryTag
-returns-2 c = entry-short _ (are-bytes (c .before .before .before .before .before .before .args .journal .now) (c .before .before .before .before .before .shared-slice-known .given)) _ _ (sym (c .before .before .field .given .1) ∙ c .before .before .before .before .field-end .ensures) (c .if1 .taken)
+returns-2 c =
+    let at-field = c .before .before in
+    let at-field-end = at-field .before .before in
+    let at-shared-slice-known = at-field-end .before in
+    let start = at-shared-slice-known .before in
+    entry-short _ (are-bytes (start .args .journal .now) (at-shared-slice-known .shared-slice-known .given)) _ _
+    (sym (at-field .field .given .1) ∙ at-field-end .field-end .ensures) (c .if1 .taken)
 
 add-from : tie.Need-add-from
 add-from c = search needs
@@ -38,7 +52,15 @@ part-values-start c = search needs
 
 part-values-end : tie.Need-part-values-end
 unfolding entryTag
-part-values-end c = let h = here-within (here entryTag (c .before .before .before .before .before .before .args .at) _ (c .before .before .before .before .before .before .args .journal .now) (are-bytes (c .before .before .before .before .before .before .args .journal .now) (c .before .before .before .before .before .shared-slice-known .given)) (sym (c .before .before .field .given .1) ∙ c .before .before .before .before .field-end .ensures)) in search needs
+part-values-end c =
+    let at-field = c .before .before in
+    let at-field-end = at-field .before .before in
+    let at-shared-slice-known = at-field-end .before in
+    let start = at-shared-slice-known .before in
+    let h = here-within (here entryTag (start .args .at) _ (start .args .journal .now)
+        (are-bytes (start .args .journal .now) (at-shared-slice-known .shared-slice-known .given))
+        (sym (at-field .field .given .1) ∙ at-field-end .field-end .ensures)) in
+    search needs
 
 count-values-requires : tie.Need-count-values-requires
 count-values-requires c κs = search needs
@@ -51,11 +73,29 @@ enum-told-3 c = search needs
 
 returns-3 : tie.Need-returns-3
 unfolding entryTag
-returns-3 c = entry-broken _ (are-bytes (c .before .before .before .before .before .before .before .before .before .before .args .journal .now) (c .before .before .before .before .before .before .before .before .before .shared-slice-known .given)) _ _ (sym (c .before .before .before .before .before .before .field .given .1) ∙ c .before .before .before .before .before .before .before .before .field-end .ensures) (c .before .before .before .before .if1 .left) (sym (c .enum-told3 .given .1) ∙ c .before .before .count-values .ensures)
+returns-3 c =
+    let at-count-values = c .before .before in
+    let at-if1 = at-count-values .before .before in
+    let at-field = at-if1 .before .before in
+    let at-field-end = at-field .before .before in
+    let at-shared-slice-known = at-field-end .before in
+    let start = at-shared-slice-known .before in
+    entry-broken _ (are-bytes (start .args .journal .now) (at-shared-slice-known .shared-slice-known .given)) _ _
+    (sym (at-field .field .given .1) ∙ at-field-end .field-end .ensures) (at-if1 .if1 .left)
+    (sym (c .enum-told3 .given .1) ∙ at-count-values .count-values .ensures)
 
 returns-4 : tie.Need-returns-4
 unfolding entryTag
-returns-4 c = entry-whole _ (are-bytes (c .before .before .before .before .before .before .before .before .before .before .args .journal .now) (c .before .before .before .before .before .before .before .before .before .shared-slice-known .given)) _ _ (sym (c .before .before .before .before .before .before .field .given .1) ∙ c .before .before .before .before .before .before .before .before .field-end .ensures) (c .before .before .before .before .if1 .left) _ (sym (c .enum-told2 .given .1) ∙ c .before .before .count-values .ensures)
+returns-4 c =
+    let at-count-values = c .before .before in
+    let at-if1 = at-count-values .before .before in
+    let at-field = at-if1 .before .before in
+    let at-field-end = at-field .before .before in
+    let at-shared-slice-known = at-field-end .before in
+    let start = at-shared-slice-known .before in
+    entry-whole _ (are-bytes (start .args .journal .now) (at-shared-slice-known .shared-slice-known .given)) _ _
+    (sym (at-field .field .given .1) ∙ at-field-end .field-end .ensures) (at-if1 .if1 .left) _
+    (sym (c .enum-told2 .given .1) ∙ at-count-values .count-values .ensures)
 
 pub entry-end-spec : {M : Type 1} → statement M
 entry-end-spec =

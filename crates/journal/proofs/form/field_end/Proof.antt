@@ -36,14 +36,25 @@ sub-if3 : tie.Need-sub-if3
 sub-if3 c = search needs
 
 returns-3 : tie.Need-returns-3
-returns-3 c = end-cut _ _ _ (c .before .before .before .before .before .if1 .left) (c .before .before .before .if2 .left) (rw (c .before .wide-index .ensures .0 ∙ c .before .before .read16 .ensures) at (c .if3 .taken))
+returns-3 c =
+    let at-wide-index = c .before in
+    let at-read16 = at-wide-index .before in
+    let at-if2 = at-read16 .before in
+    let at-if1 = at-if2 .before .before in
+    end-cut _ _ _ (at-if1 .if1 .left) (at-if2 .if2 .left) (rw (at-wide-index .wide-index .ensures .0 ∙ at-read16 .read16 .ensures) at (c .if3 .taken))
 
 add-t7 : tie.Need-add-t7
 add-t7 c = search needs
 
 returns-4 : tie.Need-returns-4
-returns-4 c = let e = c .before .wide-index .ensures .0 ∙ c .before .before .read16 .ensures in
-    ap (λ n. To (c .before .before .before .before .before .before .before .args .at + fieldHead + n)) e ∙ end-whole _ _ _ (c .before .before .before .before .before .if1 .left) (c .before .before .before .if2 .left) (rw e at (c .if3 .left))
+returns-4 c =
+    let at-wide-index = c .before in
+    let at-read16 = at-wide-index .before in
+    let at-if2 = at-read16 .before in
+    let at-if1 = at-if2 .before .before in
+    let start = at-if1 .before .before in
+    let e = at-wide-index .wide-index .ensures .0 ∙ at-read16 .read16 .ensures in
+    ap (λ n. To (start .args .at + fieldHead + n)) e ∙ end-whole _ _ _ (at-if1 .if1 .left) (at-if2 .if2 .left) (rw e at (c .if3 .left))
 
 pub field-end-spec : {M : Type 1} → statement M
 field-end-spec =

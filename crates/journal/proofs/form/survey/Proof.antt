@@ -26,10 +26,21 @@ enum-told : tie.Need-enum-told Inv-loop μ-loop
 enum-told c = c .match .keys2
 
 returns : tie.Need-returns Inv-loop μ-loop
-returns c = walk-none _ (are-bytes (c .before .before .before .before .args .journal .now) (c .before .before .before .shared-slice-known .given)) (sym (c .enum-told .given .1) ∙ c .before .before .held-end .ensures)
+returns c =
+    let at-held-end = c .before .before in
+    let at-shared-slice-known = at-held-end .before in
+    let start = at-shared-slice-known .before in
+    walk-none _ (are-bytes (start .args .journal .now) (at-shared-slice-known .shared-slice-known .given))
+    (sym (c .enum-told .given .1) ∙ at-held-end .held-end .ensures)
 
 loop-holds : tie.Need-loop-holds Inv-loop μ-loop
-loop-holds c = walk-starts _ _ (are-bytes (c .before .before .before .before .before .args .journal .now) (c .before .before .before .before .shared-slice-known .given)) (sym (c .before .head .given .1) ∙ c .before .before .before .held-end .ensures)
+loop-holds c =
+    let at-head = c .before in
+    let at-held-end = at-head .before .before in
+    let at-shared-slice-known = at-held-end .before in
+    let start = at-shared-slice-known .before in
+    walk-starts _ _ (are-bytes (start .args .journal .now) (at-shared-slice-known .shared-slice-known .given))
+    (sym (at-head .head .given .1) ∙ at-held-end .held-end .ensures)
 
 shared-slice-read-if1 : tie.Need-shared-slice-read-if1 Inv-loop μ-loop
 shared-slice-read-if1 c = search needs
@@ -38,14 +49,37 @@ zero-from-requires : tie.Need-zero-from-requires Inv-loop μ-loop
 zero-from-requires c κs = tt
 
 returns-2 : tie.Need-returns-2 Inv-loop μ-loop
-returns-2 c = walk-zeros (are-bytes (c .before .before .before .before .before .before .before .before .before .before .before .args .journal .now) (c .before .before .before .before .before .before .before .before .before .before .shared-slice-known .given)) (c .before .before .before .before .before .loop .inv) (c .before .before .before .before .loop-test .taken) (c .before .before .if1 .taken) _ (c .before .zero-from .ensures) (c .if2 .taken)
+returns-2 c =
+    let at-zero-from = c .before in
+    let at-if1 = at-zero-from .before in
+    let at-loop-test = at-if1 .before .before in
+    let at-loop = at-loop-test .before in
+    let at-shared-slice-known = at-loop .before .before .before .before .before in
+    let start = at-shared-slice-known .before in
+    walk-zeros (are-bytes (start .args .journal .now) (at-shared-slice-known .shared-slice-known .given)) (at-loop .loop .inv)
+    (at-loop-test .loop-test .taken) (at-if1 .if1 .taken) _ (at-zero-from .zero-from .ensures) (c .if2 .taken)
 
 returns-3 : tie.Need-returns-3 Inv-loop μ-loop
-returns-3 c = walk-dirty (are-bytes (c .before .before .before .before .before .before .before .before .before .before .before .args .journal .now) (c .before .before .before .before .before .before .before .before .before .before .shared-slice-known .given)) (c .before .before .before .before .before .loop .inv) (c .before .before .before .before .loop-test .taken) (c .before .before .if1 .taken) _ (c .before .zero-from .ensures) (c .if2 .left)
+returns-3 c =
+    let at-zero-from = c .before in
+    let at-if1 = at-zero-from .before in
+    let at-loop-test = at-if1 .before .before in
+    let at-loop = at-loop-test .before in
+    let at-shared-slice-known = at-loop .before .before .before .before .before in
+    let start = at-shared-slice-known .before in
+    walk-dirty (are-bytes (start .args .journal .now) (at-shared-slice-known .shared-slice-known .given)) (at-loop .loop .inv)
+    (at-loop-test .loop-test .taken) (at-if1 .if1 .taken) _ (at-zero-from .zero-from .ensures) (c .if2 .left)
 
 returns-4 : tie.Need-returns-4 Inv-loop μ-loop
 unfolding maxConversions
-returns-4 c = walk-full (are-bytes (c .before .before .before .before .before .before .before .before .before .before .args .journal .now) (c .before .before .before .before .before .before .before .before .before .shared-slice-known .given)) (c .before .before .before .before .loop .inv) (c .before .before .before .loop-test .taken) (c .before .if1 .left) (c .if3 .taken)
+returns-4 c =
+    let at-if1 = c .before in
+    let at-loop-test = at-if1 .before .before in
+    let at-loop = at-loop-test .before in
+    let at-shared-slice-known = at-loop .before .before .before .before .before in
+    let start = at-shared-slice-known .before in
+    walk-full (are-bytes (start .args .journal .now) (at-shared-slice-known .shared-slice-known .given)) (at-loop .loop .inv)
+    (at-loop-test .loop-test .taken) (at-if1 .if1 .left) (c .if3 .taken)
 
 entry-end-requires : tie.Need-entry-end-requires Inv-loop μ-loop
 entry-end-requires c κs = search needs
@@ -57,7 +91,15 @@ enum-told-2 : tie.Need-enum-told-2 Inv-loop μ-loop
 enum-told-2 c = c .match2 .keys2
 
 returns-5 : tie.Need-returns-5 Inv-loop μ-loop
-returns-5 c = walk-stops (are-bytes (c .before .before .before .before .before .before .before .before .before .before .before .before .before .args .journal .now) (c .before .before .before .before .before .before .before .before .before .before .before .before .shared-slice-known .given)) (c .before .before .before .before .before .before .before .loop .inv) (c .before .before .before .before .before .before .loop-test .taken) (c .before .before .before .before .if1 .left) (sym (c .enum-told2 .given .1) ∙ c .before .before .entry-end .ensures)
+returns-5 c =
+    let at-entry-end = c .before .before in
+    let at-if1 = at-entry-end .before .before in
+    let at-loop-test = at-if1 .before .before in
+    let at-loop = at-loop-test .before in
+    let at-shared-slice-known = at-loop .before .before .before .before .before in
+    let start = at-shared-slice-known .before in
+    walk-stops (are-bytes (start .args .journal .now) (at-shared-slice-known .shared-slice-known .given)) (at-loop .loop .inv)
+    (at-loop-test .loop-test .taken) (at-if1 .if1 .left) (sym (c .enum-told2 .given .1) ∙ at-entry-end .entry-end .ensures)
 
 add-count : tie.Need-add-count Inv-loop μ-loop
 add-count c = search needs
@@ -67,10 +109,24 @@ loop-less c = let h = is-further _ _ _ (sym (c .before .entry .given .1) ∙ c .
 
 loop-again : tie.Need-loop-again Inv-loop μ-loop
 unfolding maxConversions
-loop-again c = walk-more (are-bytes (c .before .before .before .before .before .before .before .before .before .before .before .before .before .before .args .journal .now) (c .before .before .before .before .before .before .before .before .before .before .before .before .before .shared-slice-known .given)) (c .before .before .before .before .before .before .before .before .loop .inv) (c .before .before .before .before .before .before .before .loop-test .taken) (c .before .before .before .before .before .if1 .left) _ (c .before .before .before .before .if3 .left) (sym (c .before .entry .given .1) ∙ c .before .before .before .entry-end .ensures)
+loop-again c =
+    let at-entry = c .before in
+    let at-entry-end = at-entry .before .before in
+    let at-if3 = at-entry-end .before in
+    let at-if1 = at-if3 .before in
+    let at-loop-test = at-if1 .before .before in
+    let at-loop = at-loop-test .before in
+    let at-shared-slice-known = at-loop .before .before .before .before .before in
+    let start = at-shared-slice-known .before in
+    walk-more (are-bytes (start .args .journal .now) (at-shared-slice-known .shared-slice-known .given)) (at-loop .loop .inv)
+    (at-loop-test .loop-test .taken) (at-if1 .if1 .left) _ (at-if3 .if3 .left) (sym (at-entry .entry .given .1) ∙ at-entry-end .entry-end .ensures)
 
 returns-6 : tie.Need-returns-6 Inv-loop μ-loop
-returns-6 c = walk-ends (are-bytes (c .before .before .before .before .before .before .before .args .journal .now) (c .before .before .before .before .before .before .shared-slice-known .given)) (c .before .loop .inv) (c .loop-test .left)
+returns-6 c =
+    let at-loop = c .before in
+    let at-shared-slice-known = at-loop .before .before .before .before .before in
+    let start = at-shared-slice-known .before in
+    walk-ends (are-bytes (start .args .journal .now) (at-shared-slice-known .shared-slice-known .given)) (at-loop .loop .inv) (c .loop-test .left)
 
 pub survey-spec : {M : Type 1} → statement M
 survey-spec =

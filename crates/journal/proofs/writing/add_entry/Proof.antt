@@ -39,13 +39,18 @@ same-length c = search needs
 
 returns : tie.Need-returns
 unfolding entryTag
-returns c = let a = c .before .before .before .before .before .before .before .before .before .before .before .before .before .before .before .before .before .before in
+returns c =
+    let at-copy = c .before .before in
+    let at-write32 = at-copy .before .before .before .before in
+    let at-write16 = at-write32 .before .before .before .before in
+    let at-put-head = at-write16 .before .before .before .before in
+    let at-before = at-put-head .before .before .before in
+    let a = at-before .before in
     let x = a .args in
-    c .before .before .copy .ensures
-    ∙ ap (λ s. pasted s (x .at + entryBytes) (x .ancillae .now)) (c .before .before .before .before .before .before .write32 .ensures
-    ∙ ap (λ s. put32 s (x .at + 5) (x .steps)) (c .before .before .before .before .before .before .before .before .before .before .write16 .ensures
-    ∙ ap (λ s. put16 s (x .at + fieldHead) (x .function)) (c .before .before .before .before .before .before .before .before .before .before .before .before .before .before .put-head .ensures)))
-    ∙ put-entry (x .journal .now) (x .at) (x .function) (x .steps) (x .ancillae .now) (a .pre .0)
+    at-copy .copy .ensures ∙ ap (λ s. pasted s (x .at + entryBytes) (x .ancillae .now))
+    (at-write32 .write32 .ensures ∙ ap (λ s. put32 s (x .at + 5) (x .steps))
+    (at-write16 .write16 .ensures ∙ ap (λ s. put16 s (x .at + fieldHead) (x .function)) (at-put-head .put-head .ensures))) ∙ put-entry
+    (x .journal .now) (x .at) (x .function) (x .steps) (x .ancillae .now) (a .pre .0)
 
 pub add-entry-spec : {M : Type 1} → statement M
 add-entry-spec =

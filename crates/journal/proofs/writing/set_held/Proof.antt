@@ -26,10 +26,15 @@ same-length : tie.Need-same-length
 same-length c = search needs
 
 returns : tie.Need-returns
-returns c = let a = c .before .before .before .before .before .before .before .before .before .before in
+returns c =
+    let at-put-held = c .before .before in
+    let at-shift = at-put-held .before .before .before .before in
+    let at-before = at-shift .before .before .before in
+    let a = at-before .before in
     let n = length-run (a .args .journal .now) (a .args .from) (a .args .to - a .args .from) (omega (arith, a .pre .0 .0, a .pre .0 .1)) in
-    c .before .before .put-held .ensures ∙ ap (λ s. pasted s 0 (field heldTag (a .args .held .now))) (c .before .before .before .before .before .before .shift .ensures)
-    ∙ put-before (a .args .journal .now) heldTag (a .args .held .now) (run (a .args .journal .now) (a .args .from) (a .args .to - a .args .from)) (omega (arith, n, a .pre .1 .0))
+    at-put-held .put-held .ensures ∙ ap (λ s. pasted s 0 (field heldTag (a .args .held .now))) (at-shift .shift .ensures) ∙ put-before
+    (a .args .journal .now) heldTag (a .args .held .now) (run (a .args .journal .now) (a .args .from) (a .args .to - a .args .from))
+    (omega (arith, n, a .pre .1 .0))
 
 pub set-held-spec : {M : Type 1} → statement M
 set-held-spec =

@@ -36,7 +36,11 @@ function-length-requires : tie.Need-function-length-requires
 function-length-requires c κs = search needs
 
 returns-3 : tie.Need-returns-3
-returns-3 c = c .function-length .ensures ∙ ap₂ functionLength (c .before .parameters-at .ensures) (c .before .before .before .before .before .length-at .ensures) ∙ fits-function _ _ (cc)
+returns-3 c =
+    let at-parameters-at = c .before in
+    let at-length-at = at-parameters-at .before .before .before .before in
+    c .function-length .ensures ∙ ap₂ functionLength (at-parameters-at .parameters-at .ensures) (at-length-at .length-at .ensures) ∙ fits-function _ _
+    (cc)
 
 returns-4 : tie.Need-returns-4
 returns-4 c = fits-nothing _ _ (λ e. c .before .before .if1 .left (cc)) (λ e. c .before .if2 .left (cc)) (λ e. c .if3 .left (cc))

@@ -28,10 +28,18 @@ same-length : tie.Need-same-length
 same-length c = search needs
 
 returns : tie.Need-returns
-returns c = type-placed _ _ _ _ _ _ (c .before .before .before .before .before .before .before .pre) (sym (c .before .before .tag-at .ensures) ∙ c .before .if1 .taken) (omega arith)
+returns c =
+    let at-if1 = c .before in
+    let at-tag-at = at-if1 .before in
+    let start = at-tag-at .before .before .before .before .before in
+    type-placed _ _ _ _ _ _ (start .pre) (sym (at-tag-at .tag-at .ensures) ∙ at-if1 .if1 .taken) (omega arith)
 
 returns-2 : tie.Need-returns-2
-returns-2 c = type-full _ _ _ _ _ _ (c .before .before .before .before .before .before .before .pre) (sym (c .before .before .tag-at .ensures) ∙ c .before .if1 .taken) (omega arith)
+returns-2 c =
+    let at-if1 = c .before in
+    let at-tag-at = at-if1 .before in
+    let start = at-tag-at .before .before .before .before .before in
+    type-full _ _ _ _ _ _ (start .pre) (sym (at-tag-at .tag-at .ensures) ∙ at-if1 .if1 .taken) (omega arith)
 
 mul-terms : tie.Need-mul-terms
 mul-terms c = search needs
@@ -46,10 +54,18 @@ same-length-2 : tie.Need-same-length-2
 same-length-2 c = search needs
 
 returns-3 : tie.Need-returns-3
-returns-3 c = term-placed _ _ _ _ _ _ (c .before .before .before .before .before .before .before .before .pre) (sym (c .before .before .before .tag-at .ensures) ∙ c .before .if3 .taken) (omega arith)
+returns-3 c =
+    let at-if3 = c .before in
+    let at-tag-at = at-if3 .before .before in
+    let start = at-tag-at .before .before .before .before .before in
+    term-placed _ _ _ _ _ _ (start .pre) (sym (at-tag-at .tag-at .ensures) ∙ at-if3 .if3 .taken) (omega arith)
 
 returns-4 : tie.Need-returns-4
-returns-4 c = term-full _ _ _ _ _ _ (c .before .before .before .before .before .before .before .before .pre) (sym (c .before .before .before .tag-at .ensures) ∙ c .before .if3 .taken) (omega arith)
+returns-4 c =
+    let at-if3 = c .before in
+    let at-tag-at = at-if3 .before .before in
+    let start = at-tag-at .before .before .before .before .before in
+    term-full _ _ _ _ _ _ (start .pre) (sym (at-tag-at .tag-at .ensures) ∙ at-if3 .if3 .taken) (omega arith)
 
 parameters-at-requires : tie.Need-parameters-at-requires
 parameters-at-requires c κs = search needs
@@ -58,9 +74,15 @@ parameters-within-requires : tie.Need-parameters-within-requires
 parameters-within-requires c κs = search needs
 
 returns-5 : tie.Need-returns-5
-returns-5 c = let tagged = c .before .before .before .before .before .before in
-    function-refused _ _ _ _ _ _ (c .before .before .before .before .before .before .before .before .before .before .before .pre) (sym (tagged .tag-at .ensures) ∙ c .before .before .before .if5 .taken)
-    (denied (c .before .parameters-within .ensures ∙ ap parametersWithin (c .before .before .parameters-at .ensures)) (c .if6 .taken))
+returns-5 c =
+    let at-parameters-within = c .before in
+    let at-parameters-at = at-parameters-within .before in
+    let at-if5 = at-parameters-at .before in
+    let at-before = at-if5 .before .before in
+    let start = at-before .before .before .before .before .before .before in
+    let tagged = at-before .before in
+    function-refused _ _ _ _ _ _ (start .pre) (sym (tagged .tag-at .ensures) ∙ at-if5 .if5 .taken)
+    (denied (at-parameters-within .parameters-within .ensures ∙ ap parametersWithin (at-parameters-at .parameters-at .ensures)) (c .if6 .taken))
 
 mul-functions : tie.Need-mul-functions
 mul-functions c = search needs
@@ -75,15 +97,33 @@ same-length-3 : tie.Need-same-length-3
 same-length-3 c = search needs
 
 returns-6 : tie.Need-returns-6
-returns-6 c = let tagged = c .before .before .before .before .before .before .before in
-    function-placed _ _ _ _ _ _ (c .before .before .before .before .before .before .before .before .before .before .before .before .pre) (sym (tagged .tag-at .ensures) ∙ c .before .before .before .before .if5 .taken)
-    (not-denied (c .before .before .parameters-within .ensures ∙ ap parametersWithin (c .before .before .before .parameters-at .ensures)) (c .before .if6 .left)) (omega arith)
+returns-6 c =
+    let at-if6 = c .before in
+    let at-parameters-within = at-if6 .before in
+    let at-parameters-at = at-parameters-within .before in
+    let at-if5 = at-parameters-at .before in
+    let at-before = at-if5 .before .before in
+    let start = at-before .before .before .before .before .before .before in
+    let tagged = at-before .before in
+    function-placed _ _ _ _ _ _ (start .pre) (sym (tagged .tag-at .ensures) ∙ at-if5 .if5 .taken)
+    (not-denied (at-parameters-within .parameters-within .ensures ∙ ap parametersWithin (at-parameters-at .parameters-at .ensures))
+    (at-if6 .if6 .left)) (omega arith)
 
 returns-7 : tie.Need-returns-7
-returns-7 c = function-full _ _ _ _ _ _ (c .before .before .before .before .before .before .before .before .before .before .before .before .pre) (sym (c .before .before .before .before .before .before .before .tag-at .ensures) ∙ c .before .before .before .before .if5 .taken) (omega arith)
+returns-7 c =
+    let at-if5 = c .before .before .before .before in
+    let at-tag-at = at-if5 .before .before .before in
+    let start = at-tag-at .before .before .before .before .before in
+    function-full _ _ _ _ _ _ (start .pre) (sym (at-tag-at .tag-at .ensures) ∙ at-if5 .if5 .taken) (omega arith)
 
 returns-8 : tie.Need-returns-8
-returns-8 c = nothing-placed _ _ _ _ _ _ (c .before .before .before .before .before .before .before .before .pre) (λ e. c .before .before .if1 .left (c .before .before .before .tag-at .ensures ∙ e)) (λ e. c .before .if3 .left (c .before .before .before .tag-at .ensures ∙ e)) (λ e. c .if5 .left (c .before .before .before .tag-at .ensures ∙ e))
+returns-8 c =
+    let at-if3 = c .before in
+    let at-if1 = at-if3 .before in
+    let at-tag-at = at-if1 .before in
+    let start = at-tag-at .before .before .before .before .before in
+    nothing-placed _ _ _ _ _ _ (start .pre) (λ e. at-if1 .if1 .left (at-tag-at .tag-at .ensures ∙ e))
+    (λ e. at-if3 .if3 .left (at-tag-at .tag-at .ensures ∙ e)) (λ e. c .if5 .left (at-tag-at .tag-at .ensures ∙ e))
 
 pub place-spec : {M : Type 1} → statement M
 place-spec =

@@ -15,7 +15,11 @@ next-at-requires : tie.Need-next-at-requires
 next-at-requires c κs = field-inside _ _ _ (sym (c .before .before .well-formed .ensures) ∙ c .before .if1 .taken)
 
 returns : tie.Need-returns
-returns c = found-whole _ _ _ _ _ (sym (c .before .before .before .well-formed .ensures) ∙ c .before .before .if1 .taken) (c .before .tag-at .ensures) (c .next-at .ensures)
+returns c =
+    let at-tag-at = c .before in
+    let at-if1 = at-tag-at .before in
+    let at-well-formed = at-if1 .before in
+    found-whole _ _ _ _ _ (sym (at-well-formed .well-formed .ensures) ∙ at-if1 .if1 .taken) (at-tag-at .tag-at .ensures) (c .next-at .ensures)
 
 returns-2 : tie.Need-returns-2
 returns-2 c = found-none _ _ _ (sym (c .before .well-formed .ensures) ∙ c .if1 .left)

@@ -42,7 +42,12 @@ unfolding maxParameters
 loop-again c = (omega arith, one-filled (omega arith) (c .listed .ensures) (c .before .before .loop .inv .1))
 
 returns : tie.Need-returns Inv-loop μ-loop
-returns c = all-filled (c .before .before .before .before .pre) (let e : c .before .loop .k ≡ c .before .before .function-parameters .result = omega arith in e ∙ c .before .before .function-parameters .ensures .0) (c .before .loop .inv .1)
+returns c =
+    let at-loop = c .before in
+    let at-function-parameters = at-loop .before in
+    let start = at-function-parameters .before .before in
+    all-filled (start .pre) (let e : at-loop .loop .k ≡ at-function-parameters .function-parameters .result = omega arith in e
+    ∙ at-function-parameters .function-parameters .ensures .0) (at-loop .loop .inv .1)
 
 pub signature-spec : {M : Type 1} → statement M
 signature-spec =

@@ -15,7 +15,12 @@ wide-index-requires : tie.Need-wide-index-requires
 wide-index-requires c κs = search needs
 
 returns : tie.Need-returns
-returns c = let e = c .wide-index .ensures .0 ∙ c .before .wide16 .ensures .0 ∙ c .before .before .kind .ensures in (e, omega (arith, e, term-kind (c .before .before .before .before .pre)))
+returns c =
+    let at-wide16 = c .before in
+    let at-kind = at-wide16 .before in
+    let start = at-kind .before .before in
+    let e = c .wide-index .ensures .0 ∙ at-wide16 .wide16 .ensures .0 ∙ at-kind .kind .ensures in
+    (e, omega (arith, e, term-kind (start .pre)))
 
 pub term-kind-spec : {M : Type 1} → statement M
 term-kind-spec = tie.close (tie.spec kind-requires wide16-requires wide-index-requires returns)

@@ -17,7 +17,11 @@ returns : tie.Need-returns
 returns c = last-missing (c .before .before .before .before .args .journal .now) (sym (c .enum-told .given .1) ∙ c .before .before .survey .ensures .answer)
 
 returns-2 : tie.Need-returns-2
-returns-2 c = last-there (c .before .before .before .before .before .args .journal .now) _ (sym (c .before .found .given .1) ∙ c .before .before .before .survey .ensures .answer)
+returns-2 c =
+    let at-found = c .before in
+    let at-survey = at-found .before .before in
+    let start = at-survey .before .before in
+    last-there (start .args .journal .now) _ (sym (at-found .found .given .1) ∙ at-survey .survey .ensures .answer)
 
 pub last-field-spec : {M : Type 1} → statement M
 last-field-spec = tie.close (tie.spec survey-requires enum-told enum-known-found returns returns-2)

@@ -37,7 +37,11 @@ same-length-4 c = search needs
 
 returns-2 : tie.Need-returns-2
 unfolding callOf
-returns-2 c = simp (ne-eqb _ _ (c .before .before .before .before .before .before .before .before .if1 .left), eq-eqb _ _ (c .before .before .before .before .before .before .before .if2 .taken)) (c .before .before .before .before .make-convert .ensures)
+returns-2 c =
+    let at-make-convert = c .before .before .before .before in
+    let at-if2 = at-make-convert .before .before .before in
+    let at-if1 = at-if2 .before in
+    simp (ne-eqb _ _ (at-if1 .if1 .left), eq-eqb _ _ (at-if2 .if2 .taken)) (at-make-convert .make-convert .ensures)
 
 make-rollback-requires : tie.Need-make-rollback-requires
 make-rollback-requires c κs = search needs
@@ -50,7 +54,11 @@ same-length-6 c = search needs
 
 returns-3 : tie.Need-returns-3
 unfolding callOf
-returns-3 c = simp (ne-eqb _ _ (c .before .before .before .before .before .before .before .before .if1 .left), ne-eqb _ _ (c .before .before .before .before .before .before .before .if2 .left)) (c .before .before .before .before .make-rollback .ensures)
+returns-3 c =
+    let at-make-rollback = c .before .before .before .before in
+    let at-if2 = at-make-rollback .before .before .before in
+    let at-if1 = at-if2 .before in
+    simp (ne-eqb _ _ (at-if1 .if1 .left), ne-eqb _ _ (at-if2 .if2 .left)) (at-make-rollback .make-rollback .ensures)
 
 pub make-spec : {M : Type 1} → statement M
 make-spec =

@@ -27,9 +27,15 @@ same-length-2 : tie.Need-same-length-2
 same-length-2 c = search needs
 
 returns : tie.Need-returns
-returns c = let a = c .before .before .before .before .before .before .before .before .before .before .before .before .before .before .before .before in let o = c .before .before .before .before .before .before .before .before .before .convert in
-    convert-made (a .args .program .now) (a .args .journal .now) (a .args .workspace .now) (o .last .1 .1 .1 .1 .1 .0) _ _ _ (a .args .fuel) (a .args .function) (a .args .ancillae .now) (a .args .n) (o .result) (a .pre) (o .kept .1 .1 .1 .1 .1 .0)
-    (o .ensures .0) (o .ensures .1 .0) (o .ensures .1 .1) (c .turn-line .ensures) (c .before .before .before .clear-from .ensures)
+returns c =
+    let at-clear-from = c .before .before .before in
+    let at-convert = at-clear-from .before .before .before .before .before .before in
+    let at-before = at-convert .before .before .before .before .before .before in
+    let a = at-before .before in
+    let o = at-convert .convert in
+    convert-made (a .args .program .now) (a .args .journal .now) (a .args .workspace .now) (o .last .1 .1 .1 .1 .1 .0) _ _ _ (a .args .fuel)
+    (a .args .function) (a .args .ancillae .now) (a .args .n) (o .result) (a .pre) (o .kept .1 .1 .1 .1 .1 .0) (o .ensures .0) (o .ensures .1 .0)
+    (o .ensures .1 .1) (c .turn-line .ensures) (at-clear-from .clear-from .ensures)
 
 pub make-convert-spec : {M : Type 1} → statement M
 make-convert-spec =

@@ -50,13 +50,15 @@ same-length-3 c = search needs
 returns-2 : tie.Need-returns-2
 unfolding begins
 returns-2 c =
-    let a = c .before .before .before .before .before .before .before .before .before .before .before .before .before .before .before .before .before .before .before .before .before .before .before .before .args in
-    let o = c .before .before .before .before .before .before .before .before .before .before .before .before .before .before .«open» in
-    simp (eq-eqb _ _ (c .before .before .before .before .before .before .before .before .before .before .before .before .before .before .before .before .before .before .if1 .left))
-    (opened-begins (a .program .now) (a .script .now) (a .part) (a .journal .now) (a .answers .now) (a .workspace .now) _ (o .result) _ (o .last .1 .1 .1 .0) _ _ _ _
-    (c .before .before .before .before .before .before .before .before .before .before .before .before .before .before .before .before .before .before .before .before .before .before .before .before .pre .1 .0)
-    (o .kept .1 .1 .1 .0) (o .ensures .0) (o .ensures .1 .0) (o .ensures .1 .1)
-    (c .before .before .before .before .before .before .opened-on .ensures))
+    let at-opened-on = c .before .before .before .before .before .before in
+    let at-before = at-opened-on .before .before .before .before .before .before .before in
+    let at-if1 = at-before .before .before .before .before .before in
+    let start = at-if1 .before .before .before .before .before .before in
+    let a = start .args in
+    let o = at-before .before .«open» in
+    simp (eq-eqb _ _ (at-if1 .if1 .left)) (opened-begins (a .program .now) (a .script .now) (a .part) (a .journal .now) (a .answers .now)
+    (a .workspace .now) _ (o .result) _ (o .last .1 .1 .1 .0) _ _ _ _ (start .pre .1 .0) (o .kept .1 .1 .1 .0) (o .ensures .0) (o .ensures .1 .0)
+    (o .ensures .1 .1) (at-opened-on .opened-on .ensures))
 
 pub begin-spec : {M : Type 1} → statement M
 begin-spec =

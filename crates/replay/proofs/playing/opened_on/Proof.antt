@@ -26,9 +26,10 @@ copy-requires c κs =
 
 play-on-requires : tie.Need-play-on-requires
 play-on-requires c κs =
-    ahead-as _ (c .before .before .before .before .before .before .before .before .before .before .before .clear-from .kept .0)
-    (c .before .before .before .before .before .copy .kept .0)
-    (c .before .before .before .before .before .before .before .before .before .before .before .before .before .before .before .before .before .before .before .before .pre .1)
+    let at-copy = c .before .before .before .before .before in
+    let at-clear-from = at-copy .before .before .before .before .before .before in
+    let start = at-clear-from .before .before .before .before .before .before .before .before .before in
+    ahead-as _ (at-clear-from .clear-from .kept .0) (at-copy .copy .kept .0) (start .pre .1)
 
 returns : tie.Need-returns
 returns c =
@@ -47,14 +48,16 @@ same-length-3 c = search needs
 
 returns-2 : tie.Need-returns-2
 returns-2 c =
-    let a = c .before .before .before .before .before .before .before .before .before .before .before .before .before .before .before .before .before .before .before .before .before .before .before .before .before .before .before .args in
+    let at-play-on = c .before .before .before .before .before .before in
+    let at-copy = at-play-on .before .before .before .before .before .before in
+    let at-open-line = at-copy .before .before .before in
+    let at-clear-from = at-open-line .before .before .before in
+    let at-enum-told = at-clear-from .before .before in
+    let start = at-enum-told .before .before .before .before .before .before .before in
+    let a = start .args in
     follow-accepted (a .program .now) (a .script .now) (a .part) (a .journal .now) (a .answers .now) (a .workspace .now) _ _ _ _ _ _ _ _
-    (c .before .before .before .before .before .before .before .before .before .before .before .before .before .before .before .before .before .before .before .before .enum-told .given .1)
-    (c .before .before .before .before .before .before .before .before .before .before .before .before .before .before .before .before .before .before .before .before .before .before .before .before .before .before .before .pre .0)
-    (c .before .before .before .before .before .before .before .before .before .before .before .before .before .before .before .before .before .before .clear-from .ensures)
-    (c .before .before .before .before .before .before .before .before .before .before .before .before .before .before .before .open-line .ensures)
-    (c .before .before .before .before .before .before .before .before .before .before .before .before .copy .ensures)
-    (c .before .before .before .before .before .before .play-on .ensures)
+    (at-enum-told .enum-told .given .1) (start .pre .0) (at-clear-from .clear-from .ensures) (at-open-line .open-line .ensures)
+    (at-copy .copy .ensures) (at-play-on .play-on .ensures)
 
 pub opened-on-spec : {M : Type 1} → statement M
 opened-on-spec =

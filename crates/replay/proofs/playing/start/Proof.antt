@@ -20,10 +20,13 @@ enum-known-step c = search needs
 
 begin-requires : tie.Need-begin-requires
 begin-requires c κs =
-    let a = c .before .before .before .before .before .before .before .before .before .before .before .before .args in
-    let q = sym (c .before .before .before .before .before .before .step-at .ensures) ∙ c .before .before .before .before .step .given .1 in
+    let at-step = c .before .before .before .before in
+    let at-step-at = at-step .before .before in
+    let start = at-step-at .before .before .before .before .before .before in
+    let a = start .args in
+    let q = sym (at-step-at .step-at .ensures) ∙ at-step .step .given .1 in
     let w = within (a .script .now) 0 q in
-    ((w .ordered, w .inside), (ahead-narrow (a .script .now) _ _ 0 0 (c .before .before .before .before .before .before .before .before .before .before .before .before .pre) _ q, ahead-goes (a .script .now) _ _ 0 0 (c .before .before .before .before .before .before .before .before .before .before .before .before .pre) _ q))
+    ((w .ordered, w .inside), (ahead-narrow (a .script .now) _ _ 0 0 (start .pre) _ q, ahead-goes (a .script .now) _ _ 0 0 (start .pre) _ q))
 
 returns : tie.Need-returns
 returns c =
@@ -48,10 +51,13 @@ same-length-3 c = search needs
 
 returns-3 : tie.Need-returns-3
 returns-3 c =
-    let a = c .before .before .before .before .before .before .before .before .before .before .before .before .before .before .before .before .before .before .before .args in
+    let at-begin = c .before .before .before .before .before .before in
+    let at-step = at-begin .before .before .before .before .before in
+    let at-step-at = at-step .before .before in
+    let start = at-step-at .before .before .before .before .before .before in
+    let a = start .args in
     begins-play (a .program .now) (a .script .now) (a .journal .now) (a .answers .now) (a .workspace .now) _ _ _ _ _ _
-    (sym (c .before .before .before .before .before .before .before .before .before .before .before .step .given .1) ∙ c .before .before .before .before .before .before .before .before .before .before .before .before .before .step-at .ensures)
-    (c .before .before .before .before .before .before .begin .ensures)
+    (sym (at-step .step .given .1) ∙ at-step-at .step-at .ensures) (at-begin .begin .ensures)
 
 pub start-spec : {M : Type 1} → statement M
 start-spec =

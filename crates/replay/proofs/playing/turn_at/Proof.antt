@@ -20,10 +20,13 @@ enum-known-step c = search needs
 
 turn-requires : tie.Need-turn-requires
 turn-requires c κs =
-    let a = c .before .before .before .before .before .before .before .before .before .before .before .before .args in
-    let q = sym (c .before .before .before .before .before .before .step-at .ensures) ∙ c .before .before .before .before .step .given .1 in
+    let at-step = c .before .before .before .before in
+    let at-step-at = at-step .before .before in
+    let start = at-step-at .before .before .before .before .before .before in
+    let a = start .args in
+    let q = sym (at-step-at .step-at .ensures) ∙ at-step .step .given .1 in
     let w = within (a .script .now) (a .at) q in
-    ((w .ordered, w .inside), (ahead-narrow (a .script .now) _ _ _ _ (c .before .before .before .before .before .before .before .before .before .before .before .before .pre) _ q, ahead-line (a .script .now) _ _ _ _ (c .before .before .before .before .before .before .before .before .before .before .before .before .pre) _ q))
+    ((w .ordered, w .inside), (ahead-narrow (a .script .now) _ _ _ _ (start .pre) _ q, ahead-line (a .script .now) _ _ _ _ (start .pre) _ q))
 
 returns : tie.Need-returns
 returns c =
@@ -48,10 +51,13 @@ same-length-3 c = search needs
 
 returns-3 : tie.Need-returns-3
 returns-3 c =
-    let a = c .before .before .before .before .before .before .before .before .before .before .before .before .before .before .before .before .before .before .before .args in
+    let at-turn = c .before .before .before .before .before .before in
+    let at-step = at-turn .before .before .before .before .before in
+    let at-step-at = at-step .before .before in
+    let start = at-step-at .before .before .before .before .before .before in
+    let a = start .args in
     turn-plays (a .program .now) (a .script .now) (a .at) (a .count) (a .journal .now) (a .answers .now) (a .workspace .now) _ _ _ _ _ _
-    (sym (c .before .before .before .before .before .before .before .before .before .before .before .step .given .1) ∙ c .before .before .before .before .before .before .before .before .before .before .before .before .before .step-at .ensures)
-    (c .before .before .before .before .before .before .turn .ensures)
+    (sym (at-step .step .given .1) ∙ at-step-at .step-at .ensures) (at-turn .turn .ensures)
 
 pub turn-at-spec : {M : Type 1} → statement M
 turn-at-spec =

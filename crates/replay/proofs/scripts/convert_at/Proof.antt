@@ -41,7 +41,12 @@ given-at-requires c κs = search needs
 
 returns-2 : tie.Need-returns-2
 unfolding convertAt
-returns-2 c = c .given-at .ensures ∙ simp (c .before .before .before .read32 .ensures, c .before .before .read16 .ensures, c .before .read162 .ensures, le-ltb _ _ (c .before .before .before .before .if1 .left))
+returns-2 c =
+    let at-read162 = c .before in
+    let at-read16 = at-read162 .before in
+    let at-read32 = at-read16 .before in
+    let at-if1 = at-read32 .before in
+    c .given-at .ensures ∙ simp (at-read32 .read32 .ensures, at-read16 .read16 .ensures, at-read162 .read162 .ensures, le-ltb _ _ (at-if1 .if1 .left))
 
 pub convert-at-spec : {M : Type 1} → statement M
 convert-at-spec =

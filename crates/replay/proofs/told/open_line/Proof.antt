@@ -31,7 +31,12 @@ returns c = c .line-of .ensures ∙ sym (ap (λ a. checkLine (checkAnswer a)) (c
 
 returns-2 : tie.Need-returns-2
 unfolding checkLine line
-returns-2 c = c .line-of2 .ensures ∙ refused-line 0x43 (c .before .before .number .ensures) (c .before .place .ensures) ∙ sym (ap (λ a. checkLine (checkAnswer a)) (c .before .before .before .before .answer .given .1))
+returns-2 c =
+    let at-place = c .before in
+    let at-number = at-place .before in
+    let at-answer = at-number .before .before in
+    c .line-of2 .ensures ∙ refused-line 0x43 (at-number .number .ensures) (at-place .place .ensures) ∙ sym
+    (ap (λ a. checkLine (checkAnswer a)) (at-answer .answer .given .1))
 
 pub open-line-spec : {M : Type 1} → statement M
 open-line-spec =

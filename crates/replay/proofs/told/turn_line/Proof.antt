@@ -37,7 +37,12 @@ returns c = c .line-of .ensures ∙ sym (ap (λ a. runLine (runAnswer a)) (c .be
 
 returns-2 : tie.Need-returns-2
 unfolding runLine line
-returns-2 c = c .line-of2 .ensures ∙ refused-line 0x43 (c .before .before .number .ensures) (c .before .place .ensures) ∙ sym (ap (λ a. runLine (runAnswer a)) (c .before .before .before .before .answer2 .given .1))
+returns-2 c =
+    let at-place = c .before in
+    let at-number = at-place .before in
+    let at-answer2 = at-number .before .before in
+    c .line-of2 .ensures ∙ refused-line 0x43 (at-number .number .ensures) (at-place .place .ensures) ∙ sym
+    (ap (λ a. runLine (runAnswer a)) (at-answer2 .answer2 .given .1))
 
 pub turn-line-spec : {M : Type 1} → statement M
 turn-line-spec =

@@ -4,7 +4,10 @@ use Rattle.requests.proofs.running.run_function.Statement.{statement}
 use Rattle.requests.proofs.running.run_function.Tie as tie
 
 run-requires : tie.Need-run-requires
-run-requires c κs = allowed-back {back = c .before .before .before .before .before .before .before .before .before .before .args .back} (c .before .before .before .before .before .before .before .before .before .before .pre) (c .before .before .if1 .taken)
+run-requires c κs =
+    let at-if1 = c .before .before in
+    let start = at-if1 .before .before .before .before .before .before .before .before in
+    allowed-back {back = start .args .back} (start .pre) (at-if1 .if1 .taken)
 
 same-length : tie.Need-same-length
 same-length c = search needs
@@ -13,10 +16,17 @@ same-length-2 : tie.Need-same-length-2
 same-length-2 c = search needs
 
 returns : tie.Need-returns
-returns c = ends-back {back = c .before .before .before .before .before .before .before .before .before .before .before .before .before .before .before .args .back} (c .before .before .before .before .before .before .before .if1 .taken) (c .before .before .before .before .run .ensures)
+returns c =
+    let at-run = c .before .before .before .before in
+    let at-if1 = at-run .before .before .before in
+    let start = at-if1 .before .before .before .before .before .before .before .before in
+    ends-back {back = start .args .back} (at-if1 .if1 .taken) (at-run .run .ensures)
 
 run-requires-2 : tie.Need-run-requires-2
-run-requires-2 c κs = allowed-ahead {back = c .before .before .before .before .before .before .before .before .before .before .args .back} (c .before .before .before .before .before .before .before .before .before .before .pre) (c .before .before .if1 .left)
+run-requires-2 c κs =
+    let at-if1 = c .before .before in
+    let start = at-if1 .before .before .before .before .before .before .before .before in
+    allowed-ahead {back = start .args .back} (start .pre) (at-if1 .if1 .left)
 
 same-length-3 : tie.Need-same-length-3
 same-length-3 c = search needs
@@ -25,7 +35,11 @@ same-length-4 : tie.Need-same-length-4
 same-length-4 c = search needs
 
 returns-2 : tie.Need-returns-2
-returns-2 c = ends-ahead {back = c .before .before .before .before .before .before .before .before .before .before .before .before .before .before .before .args .back} (c .before .before .before .before .before .before .before .if1 .left) (c .before .before .before .before .run2 .ensures)
+returns-2 c =
+    let at-run2 = c .before .before .before .before in
+    let at-if1 = at-run2 .before .before .before in
+    let start = at-if1 .before .before .before .before .before .before .before .before in
+    ends-ahead {back = start .args .back} (at-if1 .if1 .left) (at-run2 .run2 .ensures)
 
 pub run-function-spec : {M : Type 1} → statement M
 run-function-spec =

@@ -14,7 +14,10 @@ decode-requires c κs = (refl, decode-asks (c .before .before .before .before .b
 
 begin-requires : tie.Need-begin-requires
 unfolding maxHeight maxParameters
-begin-requires c κs = (refl, beginning (c .before .before .before .before .before .before .before .before .before .before .pre) (c .before .before .decode .ensures) (lit≤ tt))
+begin-requires c κs =
+    let at-decode = c .before .before in
+    let start = at-decode .before .before .before .before .before .before .before .before in
+    (refl, beginning (start .pre) (at-decode .decode .ensures) (lit≤ tt))
 
 wide32-requires : tie.Need-wide32-requires
 wide32-requires c κs = search needs
@@ -24,20 +27,42 @@ unfolding maxHeight maxParameters
 begin-requires-2 c κs = c .before .before .before .before .begin .ensures .lengths
 
 body-of-requires : tie.Need-body-of-requires
-body-of-requires c κs = omega (arith, in-rows (c .before .before .before .before .before .before .before .before .before .before .before .before .before .before .before .before .before .pre) (c .before .before .before .before .before .before .before .before .before .decode .ensures), rows (c .before .before .before .before .before .before .before .before .before .before .before .before .before .before .before .before .before .pre) (c .before .before .before .before .before .before .before .before .before .decode .ensures) .few-functions)
+body-of-requires c κs =
+    let at-decode = c .before .before .before .before .before .before .before .before .before in
+    let start = at-decode .before .before .before .before .before .before .before .before in
+    omega (arith, in-rows (start .pre) (at-decode .decode .ensures), rows (start .pre) (at-decode .decode .ensures) .few-functions)
 
 add-scope : tie.Need-add-scope
 unfolding maxHeight maxParameters
-add-scope c = let h = few-arguments (c .before .before .before .before .before .before .before .before .before .before .before .before .before .before .before .before .before .before .pre) (c .before .before .before .before .before .before .before .before .before .before .decode .ensures) (c .before .before .before .before .before .before .before .begin .ensures .begun) in search needs
+add-scope c =
+    let at-begin = c .before .before .before .before .before .before .before in
+    let at-decode = at-begin .before .before .before in
+    let start = at-decode .before .before .before .before .before .before .before .before in
+    let h = few-arguments (start .pre) (at-decode .decode .ensures) (at-begin .begin .ensures .begun) in
+    search needs
 
 scope-requires : tie.Need-scope-requires
 unfolding maxHeight maxParameters
-scope-requires c κs = let h = few-arguments (c .before .before .before .before .before .before .before .before .before .before .before .before .before .before .before .before .before .before .pre) (c .before .before .before .before .before .before .before .before .before .before .decode .ensures) (c .before .before .before .before .before .before .before .begin .ensures .begun) in (omega arith, omega arith, omega arith)
+scope-requires c κs =
+    let at-begin = c .before .before .before .before .before .before .before in
+    let at-decode = at-begin .before .before .before in
+    let start = at-decode .before .before .before .before .before .before .before .before in
+    let h = few-arguments (start .pre) (at-decode .decode .ensures) (at-begin .begin .ensures .begun) in
+    (omega arith, omega arith, omega arith)
 
 eval-requires : tie.Need-eval-requires
 unfolding maxHeight maxParameters
-eval-requires c κs = let fuel = c .before .before .before .before .before .before .before .wide32 .ensures in
-    eval-ready (c .before .before .before .before .before .before .before .before .before .before .before .before .before .before .before .before .before .before .before .before .before .before .pre) (c .before .before .before .before .before .before .before .before .before .before .before .before .before .before .decode .ensures) (c .before .before .before .before .before .before .before .before .before .before .before .begin .ensures) (fuel .0) (fuel .1) (c .before .before .before .before .before .before .begin2 .ensures) refl (c .before .before .before .before .body-of .ensures) _ (c .before .before .before .scope .ensures)
+eval-requires c κs =
+    let at-scope = c .before .before .before in
+    let at-body-of = at-scope .before in
+    let at-begin2 = at-body-of .before .before in
+    let at-wide32 = at-begin2 .before in
+    let at-begin = at-wide32 .before .before .before .before in
+    let at-decode = at-begin .before .before .before in
+    let start = at-decode .before .before .before .before .before .before .before .before in
+    let fuel = at-wide32 .wide32 .ensures in
+    eval-ready (start .pre) (at-decode .decode .ensures) (at-begin .begin .ensures) (fuel .0) (fuel .1) (at-begin2 .begin2 .ensures) refl
+    (at-body-of .body-of .ensures) _ (at-scope .scope .ensures)
 
 top-requires : tie.Need-top-requires
 top-requires c κs = search needs
@@ -46,14 +71,28 @@ fuel-requires : tie.Need-fuel-requires
 fuel-requires c κs = search needs
 
 same-length : tie.Need-same-length
-same-length c = c .before .before .before .before .before .before .before .eval .kept .1 .0 ∙ c .before .before .before .before .before .before .before .before .before .before .before .before .before .before .before .before .before .before .before .begin .kept .0
+same-length c =
+    let at-eval = c .before .before .before .before .before .before .before in
+    let at-begin = at-eval .before .before .before .before .before .before .before .before .before .before .before .before in
+    at-eval .eval .kept .1 .0 ∙ at-begin .begin .kept .0
 
 returns : tie.Need-returns
 unfolding maxHeight maxParameters
-returns c = let start = c .before .before .before .before .before .before .before .before .before .before .before .before .before .before .before .before .before .before .before .before .before .before .before .before .before .before .before .before .before .before in
-    let fuel = c .before .before .before .before .before .before .before .before .before .before .before .before .before .before .before .wide32 .ensures in
-    eval-told (start .pre) (c .before .before .before .before .before .before .before .before .before .before .before .before .before .before .before .before .before .before .before .before .before .before .decode .ensures) (c .before .before .before .before .before .before .before .before .before .before .before .before .before .before .before .before .before .before .before .begin .ensures) (fuel .0) (fuel .1) (c .before .before .before .before .before .before .before .before .before .before .before .before .before .before .begin2 .ensures) refl (c .before .before .before .before .before .before .before .before .before .before .before .before .body-of .ensures) _ (c .before .before .before .before .before .before .before .before .before .before .before .scope .ensures) (c .before .before .before .before .before .before .before .eval .ensures)
-    (c .before .before .before .top .ensures) (c .before .fuel .ensures)
+returns c =
+    let at-fuel = c .before in
+    let at-top = at-fuel .before .before in
+    let at-eval = at-top .before .before .before .before in
+    let at-scope = at-eval .before .before .before .before in
+    let at-body-of = at-scope .before in
+    let at-begin2 = at-body-of .before .before in
+    let at-wide32 = at-begin2 .before in
+    let at-begin = at-wide32 .before .before .before .before in
+    let at-decode = at-begin .before .before .before in
+    let at-before = at-decode .before .before .before .before .before .before .before in
+    let start = at-before .before in
+    let fuel = at-wide32 .wide32 .ensures in
+    eval-told (start .pre) (at-decode .decode .ensures) (at-begin .begin .ensures) (fuel .0) (fuel .1) (at-begin2 .begin2 .ensures) refl
+    (at-body-of .body-of .ensures) _ (at-scope .scope .ensures) (at-eval .eval .ensures) (at-top .top .ensures) (at-fuel .fuel .ensures)
 
 pub evaluate-spec : {M : Type 1} → statement M
 evaluate-spec =

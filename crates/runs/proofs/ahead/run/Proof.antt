@@ -57,11 +57,14 @@ same-length-4 c = search needs
 
 returns-2 : tie.Need-returns-2
 returns-2 c =
-    let at-carry = c .before .before .before .before in
+    let at-refuse = c .before .before in
+    let at-before = at-refuse .before in
+    let at-carry = at-before .before in
     let at-why = at-carry .before .before in
     let at-status-of = at-why .before .before in
     let at-evaluate = at-status-of .before .before .before in
-    goes-refused (at-evaluate .evaluate .ensures) (sym (at-status-of .status-of .ensures) ∙ at-why .why .given .1) (at-carry .carry .ensures) (c .before .before .refuse .ensures)
+    goes-refused (at-evaluate .evaluate .ensures) (sym (at-status-of .status-of .ensures) ∙ at-why .why .given .1) (at-carry .carry .ensures)
+    (at-refuse .refuse .ensures)
 
 pub run-spec : {M : Type 1} → statement M
 run-spec =

@@ -13,7 +13,10 @@ decode-requires c κs = (refl, decode-asks (c .before .before .before .before .b
 
 begin-requires : tie.Need-begin-requires
 unfolding maxHeight maxParameters
-begin-requires c κs = (refl, beginning (c .before .before .before .before .before .before .before .before .before .before .pre) (c .before .before .decode .ensures) (lit≤ tt))
+begin-requires c κs =
+    let at-decode = c .before .before in
+    let start = at-decode .before .before .before .before .before .before .before .before in
+    (refl, beginning (start .pre) (at-decode .decode .ensures) (lit≤ tt))
 
 wide32-requires : tie.Need-wide32-requires
 wide32-requires c κs = search needs
@@ -23,12 +26,24 @@ unfolding maxHeight maxParameters
 begin-requires-2 c κs = c .before .before .before .before .begin .ensures .lengths
 
 at-requires : tie.Need-at-requires
-at-requires c κs = value-slot (c .before .before .before .before .before .before .before .before .before .before .before .before .before .before .before .before .before .pre) (c .before .before .before .before .before .before .before .before .before .decode .ensures) (c .before .before .before .before .before .before .begin .ensures .begun)
+at-requires c κs =
+    let at-begin = c .before .before .before .before .before .before in
+    let at-decode = at-begin .before .before .before in
+    let start = at-decode .before .before .before .before .before .before .before .before in
+    value-slot (start .pre) (at-decode .decode .ensures) (at-begin .begin .ensures .begun)
 
 run-requires : tie.Need-run-requires
 unfolding maxHeight maxParameters
-run-requires c κs = let fuel = c .before .before .before .before .before .before .wide32 .ensures in
-    undo-ready (c .before .before .before .before .before .before .before .before .before .before .before .before .before .before .before .before .before .before .before .before .before .pre) (c .before .before .before .before .before .before .before .before .before .before .before .before .before .decode .ensures) (c .before .before .before .before .before .before .before .before .before .before .begin .ensures) (fuel .0) (fuel .1) (c .before .before .before .before .before .begin2 .ensures) refl (c .before .before .before .at .ensures)
+run-requires c κs =
+    let at-at = c .before .before .before in
+    let at-begin2 = at-at .before .before in
+    let at-wide32 = at-begin2 .before in
+    let at-begin = at-wide32 .before .before .before .before in
+    let at-decode = at-begin .before .before .before in
+    let start = at-decode .before .before .before .before .before .before .before .before in
+    let fuel = at-wide32 .wide32 .ensures in
+    undo-ready (start .pre) (at-decode .decode .ensures) (at-begin .begin .ensures) (fuel .0) (fuel .1) (at-begin2 .begin2 .ensures) refl
+    (at-at .at .ensures)
 
 top-requires : tie.Need-top-requires
 top-requires c κs = search needs
@@ -37,12 +52,26 @@ fuel-requires : tie.Need-fuel-requires
 fuel-requires c κs = search needs
 
 same-length : tie.Need-same-length
-same-length c = c .before .before .before .before .before .before .before .run .kept .1 .0 ∙ c .before .before .before .before .before .before .before .before .before .before .before .before .before .before .before .before .before .before .begin .kept .0
+same-length c =
+    let at-run = c .before .before .before .before .before .before .before in
+    let at-begin = at-run .before .before .before .before .before .before .before .before .before .before .before in
+    at-run .run .kept .1 .0 ∙ at-begin .begin .kept .0
 
 returns : tie.Need-returns
 unfolding maxHeight maxParameters
-returns c = let fuel = c .before .before .before .before .before .before .before .before .before .before .before .before .before .before .wide32 .ensures in
-    undo-told (c .before .before .before .before .before .before .before .before .before .before .before .before .before .before .before .before .before .before .before .before .before .before .before .before .before .before .before .before .before .pre) (c .before .before .before .before .before .before .before .before .before .before .before .before .before .before .before .before .before .before .before .before .before .decode .ensures) (c .before .before .before .before .before .before .before .before .before .before .before .before .before .before .before .before .before .before .begin .ensures) (fuel .0) (fuel .1) (c .before .before .before .before .before .before .before .before .before .before .before .before .before .begin2 .ensures) refl (c .before .before .before .before .before .before .before .before .before .before .before .at .ensures) (c .before .before .before .before .before .before .before .run .ensures) (c .before .before .before .top .ensures) (c .before .fuel .ensures)
+returns c =
+    let at-fuel = c .before in
+    let at-top = at-fuel .before .before in
+    let at-run = at-top .before .before .before .before in
+    let at-at = at-run .before .before .before .before in
+    let at-begin2 = at-at .before .before in
+    let at-wide32 = at-begin2 .before in
+    let at-begin = at-wide32 .before .before .before .before in
+    let at-decode = at-begin .before .before .before in
+    let start = at-decode .before .before .before .before .before .before .before .before in
+    let fuel = at-wide32 .wide32 .ensures in
+    undo-told (start .pre) (at-decode .decode .ensures) (at-begin .begin .ensures) (fuel .0) (fuel .1) (at-begin2 .begin2 .ensures) refl
+    (at-at .at .ensures) (at-run .run .ensures) (at-top .top .ensures) (at-fuel .fuel .ensures)
 
 pub undo-spec : {M : Type 1} → statement M
 undo-spec =

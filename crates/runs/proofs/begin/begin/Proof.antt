@@ -8,7 +8,10 @@ load-ancillae-requires : tie.Need-load-ancillae-requires
 load-ancillae-requires c κs = search needs
 
 load-requires : tie.Need-load-requires
-load-requires c κs = begun-ready (c .before .before .before .before .before .before .before .before .before .pre .1) (c .before .before .before .load-ancillae .ensures .loaded)
+load-requires c κs =
+    let at-load-ancillae = c .before .before .before in
+    let start = at-load-ancillae .before .before .before .before .before .before in
+    begun-ready (start .pre .1) (at-load-ancillae .load-ancillae .ensures .loaded)
 
 sub-bind : tie.Need-sub-bind
 sub-bind c = search needs
@@ -20,8 +23,13 @@ same-length : tie.Need-same-length
 same-length c = search needs
 
 returns : tie.Need-returns
-returns c = let loaded = c .before .before .before .before .before .before .before .before .load-ancillae .ensures in
-    record { lengths = c .bind .ensures .lengths ∙ loaded .lengths; begun = begun (c .before .before .before .before .before .before .before .before .before .before .before .before .before .before .pre .1) (loaded .loaded) (c .before .before .before .before .load .ensures) (c .bind .ensures .slots) }
+returns c =
+    let at-load = c .before .before .before .before in
+    let at-load-ancillae = at-load .before .before .before .before in
+    let start = at-load-ancillae .before .before .before .before .before .before in
+    let loaded = at-load-ancillae .load-ancillae .ensures in
+    record { lengths = c .bind .ensures .lengths ∙ loaded .lengths; begun = begun (start .pre .1) (loaded .loaded) (at-load .load .ensures)
+    (c .bind .ensures .slots) }
 
 pub begin-spec : {M : Type 1} → statement M
 begin-spec =

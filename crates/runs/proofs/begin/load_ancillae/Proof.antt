@@ -28,7 +28,11 @@ sub-node : tie.Need-sub-node Inv-loop μ-loop
 sub-node c = omega (arith, c .before .before .load .ensures .nodes)
 
 loop-holds : tie.Need-loop-holds Inv-loop μ-loop
-loop-holds c = (c .before .before .before .before .before .before .before .before .before .before .pre .0, refl, named-start (c .before .before .before .before .before .before .before .before .before .before .pre .1) (c .before .before .before .before .before .before .unit .ensures) (c .before .before .load .ensures))
+loop-holds c =
+    let at-load = c .before .before in
+    let at-unit = at-load .before .before .before .before in
+    let start = at-unit .before .before .before .before in
+    (start .pre .0, refl, named-start (start .pre .1) (at-unit .unit .ensures) (at-load .load .ensures))
 
 bind-requires : tie.Need-bind-requires Inv-loop μ-loop
 bind-requires c κs = (c .before .before .loop .inv .0, named-bind (c .before .before .loop .inv .2) (c .before .loop-test .taken))
@@ -40,23 +44,45 @@ wide32-requires : tie.Need-wide32-requires Inv-loop μ-loop
 wide32-requires c κs = search needs
 
 sub-node-2 : tie.Need-sub-node-2 Inv-loop μ-loop
-sub-node-2 c = omega (arith, named-length (c .before .before .before .before .before .before .loop .inv .2) (c .before .before .before .before .before .loop-test .taken), c .wide32 .ensures .0, c .before .length-of .ensures)
+sub-node-2 c =
+    let at-length-of = c .before in
+    let at-loop-test = at-length-of .before .before .before .before in
+    let at-loop = at-loop-test .before in
+    omega (arith, named-length (at-loop .loop .inv .2) (at-loop-test .loop-test .taken), c .wide32 .ensures .0, at-length-of .length-of .ensures)
 
 add-count : tie.Need-add-count Inv-loop μ-loop
-add-count c = omega (arith, named-small (c .before .before .before .before .before .before .loop .inv .2) (c .before .before .before .before .before .loop-test .taken))
+add-count c =
+    let at-loop-test = c .before .before .before .before .before in
+    let at-loop = at-loop-test .before in
+    omega (arith, named-small (at-loop .loop .inv .2) (at-loop-test .loop-test .taken))
 
 loop-less : tie.Need-loop-less Inv-loop μ-loop
-loop-less c = named-less (c .before .before .before .before .before .before .loop .inv .2) (c .before .before .before .before .before .loop-test .taken) _ (c .wide32 .ensures .0 ∙ c .before .length-of .ensures)
+loop-less c =
+    let at-length-of = c .before in
+    let at-loop-test = at-length-of .before .before .before .before in
+    let at-loop = at-loop-test .before in
+    named-less (at-loop .loop .inv .2) (at-loop-test .loop-test .taken) _ (c .wide32 .ensures .0 ∙ at-length-of .length-of .ensures)
 
 loop-again : tie.Need-loop-again Inv-loop μ-loop
-loop-again c = let b = c .before .before .before .bind .ensures in
-    (b .lengths ∙ c .before .before .before .before .before .before .loop .inv .0, b .lengths ∙ c .before .before .before .before .before .before .loop .inv .1, named-next (c .before .before .before .before .before .before .loop .inv .2) (c .before .before .before .before .before .loop-test .taken) (b .slots) (c .wide32 .ensures .0 ∙ c .before .length-of .ensures))
+loop-again c =
+    let at-length-of = c .before in
+    let at-bind = at-length-of .before .before in
+    let at-loop-test = at-bind .before .before in
+    let at-loop = at-loop-test .before in
+    let b = at-bind .bind .ensures in
+    (b .lengths ∙ at-loop .loop .inv .0, b .lengths ∙ at-loop .loop .inv .1, named-next (at-loop .loop .inv .2) (at-loop-test .loop-test .taken)
+    (b .slots) (c .wide32 .ensures .0 ∙ at-length-of .length-of .ensures))
 
 same-length : tie.Need-same-length Inv-loop μ-loop
 same-length c = c .before .before .before .before .load .kept .0 ∙ c .before .before .before .before .before .before .before .before .unit .kept .0
 
 returns : tie.Need-returns Inv-loop μ-loop
-returns c = record { lengths = c .before .loop .inv .1; loaded = named-done (c .before .loop .inv .2) (c .loop-test .left) (sym (c .before .before .before .before .load .kept .0 ∙ c .before .before .before .before .before .before .before .before .unit .kept .0)) }
+returns c =
+    let at-loop = c .before in
+    let at-load = at-loop .before .before .before in
+    let at-unit = at-load .before .before .before .before in
+    record { lengths = at-loop .loop .inv .1; loaded = named-done (at-loop .loop .inv .2) (c .loop-test .left)
+    (sym (at-load .load .kept .0 ∙ at-unit .unit .kept .0)) }
 
 pub load-ancillae-spec : {M : Type 1} → statement M
 load-ancillae-spec =

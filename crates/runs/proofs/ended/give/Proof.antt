@@ -15,7 +15,12 @@ returns : tie.Need-returns
 returns c = give-short (c .before .before .before .before .before .pre) (c .before .before .length-of .ensures) _ (c .before .wide-index .ensures .0) (c .if1 .taken)
 
 store-requires : tie.Need-store-requires
-store-requires c κs = store-ready (c .before .before .before .before .before .before .pre) (c .before .before .before .length-of .ensures) _ (c .before .before .wide-index .ensures .0) (c .before .if1 .left)
+store-requires c κs =
+    let at-if1 = c .before in
+    let at-wide-index = at-if1 .before in
+    let at-length-of = at-wide-index .before in
+    let start = at-length-of .before .before .before in
+    store-ready (start .pre) (at-length-of .length-of .ensures) _ (at-wide-index .wide-index .ensures .0) (at-if1 .if1 .left)
 
 wide32-requires : tie.Need-wide32-requires
 wide32-requires c κs = search needs
@@ -30,7 +35,14 @@ same-length : tie.Need-same-length
 same-length c = search needs
 
 returns-2 : tie.Need-returns-2
-returns-2 c = give-done (c .before .before .before .before .before .before .before .before .before .before .pre) (c .before .before .before .before .before .before .before .length-of .ensures) _ (c .before .before .before .before .before .before .wide-index .ensures .0) (c .before .before .before .before .before .if1 .left) (c .before .before .before .store .ensures) (ap (λ n. n - c .before .before .before .before .before .before .before .before .before .before .args .left) (c .wide32 .ensures .0))
+returns-2 c =
+    let at-store = c .before .before .before in
+    let at-if1 = at-store .before .before in
+    let at-wide-index = at-if1 .before in
+    let at-length-of = at-wide-index .before in
+    let start = at-length-of .before .before .before in
+    give-done (start .pre) (at-length-of .length-of .ensures) _ (at-wide-index .wide-index .ensures .0) (at-if1 .if1 .left) (at-store .store .ensures)
+    (ap (λ n. n - start .args .left) (c .wide32 .ensures .0))
 
 pub give-spec : {M : Type 1} → statement M
 give-spec =

@@ -42,7 +42,12 @@ same-identical-requires : (t : ℕ) → same-lts.Need-identical-requires (same-u
 same-identical-requires t c κs = search needs
 
 same-returns : (t : ℕ) → same-lts.Need-returns (same-uses t) (same-at t) same.Post
-same-returns t c = one-code (c .before .before .before .settled .ensures) (c .before .before .settled2 .ensures) (decided (c .before .identical .result) (c .before .identical .ensures) (c .if1 .taken))
+same-returns t c =
+    let at-identical = c .before in
+    let at-settled2 = at-identical .before in
+    let at-settled = at-settled2 .before in
+    one-code (at-settled .settled .ensures) (at-settled2 .settled2 .ensures)
+    (decided (at-identical .identical .result) (at-identical .identical .ensures) (c .if1 .taken))
 
 same-kind-of-requires : (t : ℕ) → same-lts.Need-kind-of-requires (same-uses t) (same-at t) same.Post
 same-kind-of-requires t c κs = (c .before .before .before .before .before .before .before .pre .1 .0, c .before .before .before .settled .ensures .known)
@@ -51,48 +56,184 @@ same-kind-of-requires-2 : (t : ℕ) → same-lts.Need-kind-of-requires-2 (same-u
 same-kind-of-requires-2 t c κs = (c .before .before .before .before .before .before .before .before .pre .1 .0, c .before .before .before .settled2 .ensures .known)
 
 same-returns-2 : (t : ℕ) → same-lts.Need-returns-2 (same-uses t) (same-at t) same.Post
-same-returns-2 t c = other-kinds (c .before .before .before .before .before .before .settled .ensures) (c .before .before .before .before .before .settled2 .ensures) (c .before .before .kind-of .ensures) (c .before .kind-of2 .ensures) (c .if2 .taken)
+same-returns-2 t c =
+    let at-kind-of2 = c .before in
+    let at-kind-of = at-kind-of2 .before in
+    let at-settled2 = at-kind-of .before .before .before in
+    let at-settled = at-settled2 .before in
+    other-kinds (at-settled .settled .ensures) (at-settled2 .settled2 .ensures) (at-kind-of .kind-of .ensures) (at-kind-of2 .kind-of2 .ensures)
+    (c .if2 .taken)
 
 same-returns-3 : (t : ℕ) → same-lts.Need-returns-3 (same-uses t) (same-at t) same.Post
-same-returns-3 t c = units (c .before .before .before .before .before .before .before .settled .ensures) (c .before .before .before .before .before .before .settled2 .ensures) (c .before .before .before .kind-of .ensures) (c .before .before .kind-of2 .ensures) (c .before .if2 .left) (c .if3 .taken)
+same-returns-3 t c =
+    let at-if2 = c .before in
+    let at-kind-of2 = at-if2 .before in
+    let at-kind-of = at-kind-of2 .before in
+    let at-settled2 = at-kind-of .before .before .before in
+    let at-settled = at-settled2 .before in
+    units (at-settled .settled .ensures) (at-settled2 .settled2 .ensures) (at-kind-of .kind-of .ensures) (at-kind-of2 .kind-of2 .ensures)
+    (at-if2 .if2 .left) (c .if3 .taken)
 
 same-variable-of-requires : (t : ℕ) → same-lts.Need-variable-of-requires (same-uses t) (same-at t) same.Post
-same-variable-of-requires t c κs = (c .before .before .before .before .before .before .before .before .before .before .before .before .pre .1 .0, (c .before .before .before .before .before .before .before .before .settled .ensures .known, sym (c .before .before .before .before .kind-of .ensures) ∙ c .if4 .taken))
+same-variable-of-requires t c κs =
+    let at-kind-of = c .before .before .before .before in
+    let at-settled = at-kind-of .before .before .before .before in
+    let start = at-settled .before .before .before .before in
+    (start .pre .1 .0, (at-settled .settled .ensures .known, sym (at-kind-of .kind-of .ensures) ∙ c .if4 .taken))
 
 same-variable-of-requires-2 : (t : ℕ) → same-lts.Need-variable-of-requires-2 (same-uses t) (same-at t) same.Post
-same-variable-of-requires-2 t c κs = (c .before .before .before .before .before .before .before .before .before .before .before .before .before .pre .1 .0, (c .before .before .before .before .before .before .before .before .settled2 .ensures .known, sym (c .before .before .before .before .kind-of2 .ensures) ∙ sym (c .before .before .before .if2 .left) ∙ c .before .if4 .taken))
+same-variable-of-requires-2 t c κs =
+    let at-if4 = c .before in
+    let at-if2 = at-if4 .before .before in
+    let at-kind-of2 = at-if2 .before in
+    let at-settled2 = at-kind-of2 .before .before .before .before in
+    let start = at-settled2 .before .before .before .before .before in
+    (start .pre .1 .0, (at-settled2 .settled2 .ensures .known, sym (at-kind-of2 .kind-of2 .ensures) ∙ sym (at-if2 .if2 .left) ∙ at-if4 .if4 .taken))
 
 same-returns-4 : (t : ℕ) → same-lts.Need-returns-4 (same-uses t) (same-at t) same.Post
-same-returns-4 t c = variables (c .before .before .before .before .before .before .before .before .before .before .settled .ensures) (c .before .before .before .before .before .before .before .before .before .settled2 .ensures) (c .before .before .before .before .before .before .kind-of .ensures) (c .before .before .before .before .before .kind-of2 .ensures) (c .before .before .before .before .if2 .left) (c .before .before .if4 .taken) (c .before .variable-of .ensures) (c .variable-of2 .ensures)
+same-returns-4 t c =
+    let at-variable-of = c .before in
+    let at-if4 = at-variable-of .before in
+    let at-if2 = at-if4 .before .before in
+    let at-kind-of2 = at-if2 .before in
+    let at-kind-of = at-kind-of2 .before in
+    let at-settled2 = at-kind-of .before .before .before in
+    let at-settled = at-settled2 .before in
+    variables (at-settled .settled .ensures) (at-settled2 .settled2 .ensures) (at-kind-of .kind-of .ensures) (at-kind-of2 .kind-of2 .ensures)
+    (at-if2 .if2 .left) (at-if4 .if4 .taken) (at-variable-of .variable-of .ensures) (c .variable-of2 .ensures)
 
 same-first-of-requires : (t : ℕ) → same-lts.Need-first-of-requires (same-uses t) (same-at t) same.Post
-same-first-of-requires t c κs = (c .before .before .before .before .before .before .before .before .before .before .before .before .pre .1 .0, (c .before .before .before .before .before .before .before .before .settled .ensures .known, (c .before .before .before .before .kind-of .ensures, c .before .if3 .left, (parted (c .before .before .before .before .before .before .before .before .settled .ensures) (c .before .before .before .before .kind-of .ensures) (c .if4 .left)))))
+same-first-of-requires t c κs =
+    let at-if3 = c .before in
+    let at-kind-of = at-if3 .before .before .before in
+    let at-settled = at-kind-of .before .before .before .before in
+    let start = at-settled .before .before .before .before in
+    (start .pre .1 .0, (at-settled .settled .ensures .known, (at-kind-of .kind-of .ensures, at-if3 .if3 .left,
+    (parted (at-settled .settled .ensures) (at-kind-of .kind-of .ensures) (c .if4 .left)))))
 
 same-first-of-requires-2 : (t : ℕ) → same-lts.Need-first-of-requires-2 (same-uses t) (same-at t) same.Post
-same-first-of-requires-2 t c κs = (c .before .before .before .before .before .before .before .before .before .before .before .before .before .pre .1 .0, (c .before .before .before .before .before .before .before .before .settled2 .ensures .known, (c .before .before .before .if2 .left ∙ c .before .before .before .before .kind-of2 .ensures, c .before .before .if3 .left, (parted (c .before .before .before .before .before .before .before .before .before .settled .ensures) (c .before .before .before .before .before .kind-of .ensures) (c .before .if4 .left)))))
+same-first-of-requires-2 t c κs =
+    let at-if4 = c .before in
+    let at-if3 = at-if4 .before in
+    let at-if2 = at-if3 .before in
+    let at-kind-of2 = at-if2 .before in
+    let at-kind-of = at-kind-of2 .before in
+    let at-settled2 = at-kind-of .before .before .before in
+    let at-settled = at-settled2 .before in
+    let start = at-settled .before .before .before .before in
+    (start .pre .1 .0, (at-settled2 .settled2 .ensures .known,
+    (at-if2 .if2 .left ∙ at-kind-of2 .kind-of2 .ensures, at-if3 .if3 .left,
+    (parted (at-settled .settled .ensures) (at-kind-of .kind-of .ensures) (at-if4 .if4 .left)))))
 
 same-same-requires : (t : ℕ) → same-lts.Need-same-requires (same-uses t) (same-at t) same.Post
-same-same-requires t c κs = let a = c .before .before .before .before .before .before .before .before .before .before .before .before .before .before .pre in
-    (omega (arith, a .0, fewer-first (c .before .before .before .before .before .before .before .before .before .before .settled .ensures) (c .before .before .before .before .before .before .kind-of .ensures) (c .before .first-of .ensures) (c .before .before .before .if3 .left) (parted (c .before .before .before .before .before .before .before .before .before .before .settled .ensures) (c .before .before .before .before .before .before .kind-of .ensures) (c .before .before .if4 .left))), (a .1 .0, (known-first (c .before .before .before .before .before .before .before .before .before .before .settled .ensures) (c .before .before .before .before .before .before .kind-of .ensures) (c .before .first-of .ensures), known-first (c .before .before .before .before .before .before .before .before .before .settled2 .ensures) (c .before .before .before .before .before .kind-of2 .ensures) (c .first-of2 .ensures))))
+same-same-requires t c κs =
+    let at-first-of = c .before in
+    let at-if4 = at-first-of .before in
+    let at-if3 = at-if4 .before in
+    let at-kind-of2 = at-if3 .before .before in
+    let at-kind-of = at-kind-of2 .before in
+    let at-settled2 = at-kind-of .before .before .before in
+    let at-settled = at-settled2 .before in
+    let start = at-settled .before .before .before .before in
+    let a = start .pre in
+    (omega (arith, a .0, fewer-first (at-settled .settled .ensures) (at-kind-of .kind-of .ensures) (at-first-of .first-of .ensures)
+    (at-if3 .if3 .left) (parted (at-settled .settled .ensures) (at-kind-of .kind-of .ensures) (at-if4 .if4 .left))),
+    (a .1 .0, (known-first (at-settled .settled .ensures) (at-kind-of .kind-of .ensures) (at-first-of .first-of .ensures), known-first
+    (at-settled2 .settled2 .ensures) (at-kind-of2 .kind-of2 .ensures) (c .first-of2 .ensures))))
 
 same-returns-5 : (t : ℕ) → same-lts.Need-returns-5 (same-uses t) (same-at t) same.Post
-same-returns-5 t c = recursives (c .before .before .before .before .before .before .before .before .before .before .before .before .settled .ensures) (c .before .before .before .before .before .before .before .before .before .before .before .settled2 .ensures) (c .before .before .before .before .before .before .before .before .kind-of .ensures) (c .before .before .before .before .before .before .before .kind-of2 .ensures) (c .before .before .before .before .before .before .if2 .left) (c .before .before .before .first-of .ensures) (c .before .before .first-of2 .ensures) (c .before .same .ensures) (c .if5 .taken)
+same-returns-5 t c =
+    let at-same = c .before in
+    let at-first-of2 = at-same .before in
+    let at-first-of = at-first-of2 .before in
+    let at-if2 = at-first-of .before .before .before in
+    let at-kind-of2 = at-if2 .before in
+    let at-kind-of = at-kind-of2 .before in
+    let at-settled2 = at-kind-of .before .before .before in
+    let at-settled = at-settled2 .before in
+    recursives (at-settled .settled .ensures) (at-settled2 .settled2 .ensures) (at-kind-of .kind-of .ensures) (at-kind-of2 .kind-of2 .ensures)
+    (at-if2 .if2 .left) (at-first-of .first-of .ensures) (at-first-of2 .first-of2 .ensures) (at-same .same .ensures) (c .if5 .taken)
 
 same-second-of-requires : (t : ℕ) → same-lts.Need-second-of-requires (same-uses t) (same-at t) same.Post
-same-second-of-requires t c κs = (c .before .before .before .before .before .before .before .before .before .before .before .before .before .before .before .before .before .pre .1 .0, (c .before .before .before .before .before .before .before .before .before .before .before .before .before .settled .ensures .known, (c .before .before .before .before .before .before .before .before .before .kind-of .ensures, c .before .before .before .before .before .before .if3 .left, (twice-parted (c .before .before .before .before .before .before .before .before .before .before .before .before .before .settled .ensures) (c .before .before .before .before .before .before .before .before .before .kind-of .ensures) (c .before .before .before .before .before .if4 .left) (c .before .if5 .left)))))
+same-second-of-requires t c κs =
+    let at-if5 = c .before in
+    let at-if4 = at-if5 .before .before .before .before in
+    let at-if3 = at-if4 .before in
+    let at-kind-of = at-if3 .before .before .before in
+    let at-settled = at-kind-of .before .before .before .before in
+    let start = at-settled .before .before .before .before in
+    (start .pre .1 .0, (at-settled .settled .ensures .known, (at-kind-of .kind-of .ensures, at-if3 .if3 .left,
+    (twice-parted (at-settled .settled .ensures) (at-kind-of .kind-of .ensures) (at-if4 .if4 .left) (at-if5 .if5 .left)))))
 
 same-second-of-requires-2 : (t : ℕ) → same-lts.Need-second-of-requires-2 (same-uses t) (same-at t) same.Post
-same-second-of-requires-2 t c κs = (c .before .before .before .before .before .before .before .before .before .before .before .before .before .before .before .before .before .before .pre .1 .0, (c .before .before .before .before .before .before .before .before .before .before .before .before .before .settled2 .ensures .known, (c .before .before .before .before .before .before .before .before .if2 .left ∙ c .before .before .before .before .before .before .before .before .before .kind-of2 .ensures, c .before .before .before .before .before .before .before .if3 .left, (twice-parted (c .before .before .before .before .before .before .before .before .before .before .before .before .before .before .settled .ensures) (c .before .before .before .before .before .before .before .before .before .before .kind-of .ensures) (c .before .before .before .before .before .before .if4 .left) (c .before .before .if5 .left)))))
+same-second-of-requires-2 t c κs =
+    let at-if5 = c .before .before in
+    let at-if4 = at-if5 .before .before .before .before in
+    let at-if3 = at-if4 .before in
+    let at-if2 = at-if3 .before in
+    let at-kind-of2 = at-if2 .before in
+    let at-kind-of = at-kind-of2 .before in
+    let at-settled2 = at-kind-of .before .before .before in
+    let at-settled = at-settled2 .before in
+    let start = at-settled .before .before .before .before in
+    (start .pre .1 .0, (at-settled2 .settled2 .ensures .known,
+    (at-if2 .if2 .left ∙ at-kind-of2 .kind-of2 .ensures, at-if3 .if3 .left,
+    (twice-parted (at-settled .settled .ensures) (at-kind-of .kind-of .ensures) (at-if4 .if4 .left) (at-if5 .if5 .left)))))
 
 same-same-requires-2 : (t : ℕ) → same-lts.Need-same-requires-2 (same-uses t) (same-at t) same.Post
-same-same-requires-2 t c κs = let a = c .before .before .before .before .before .before .before .before .before .before .before .before .before .before .before .before .before .before .before .pre in
-    (omega (arith, a .0, fewer-second (c .before .before .before .before .before .before .before .before .before .before .before .before .before .before .before .settled .ensures) (c .before .before .before .before .before .before .before .before .before .before .before .kind-of .ensures) (c .before .second-of .ensures) (c .before .before .before .before .before .before .before .before .if3 .left) (twice-parted (c .before .before .before .before .before .before .before .before .before .before .before .before .before .before .before .settled .ensures) (c .before .before .before .before .before .before .before .before .before .before .before .kind-of .ensures) (c .before .before .before .before .before .before .before .if4 .left) (c .before .before .before .if5 .left))), (a .1 .0, (known-second (c .before .before .before .before .before .before .before .before .before .before .before .before .before .before .before .settled .ensures) (c .before .before .before .before .before .before .before .before .before .before .before .kind-of .ensures) (c .before .second-of .ensures), known-second (c .before .before .before .before .before .before .before .before .before .before .before .before .before .before .settled2 .ensures) (c .before .before .before .before .before .before .before .before .before .before .kind-of2 .ensures) (c .second-of2 .ensures))))
+same-same-requires-2 t c κs =
+    let at-second-of = c .before in
+    let at-if5 = at-second-of .before .before in
+    let at-if4 = at-if5 .before .before .before .before in
+    let at-if3 = at-if4 .before in
+    let at-kind-of2 = at-if3 .before .before in
+    let at-kind-of = at-kind-of2 .before in
+    let at-settled2 = at-kind-of .before .before .before in
+    let at-settled = at-settled2 .before in
+    let start = at-settled .before .before .before .before in
+    let a = start .pre in
+    (omega (arith, a .0, fewer-second (at-settled .settled .ensures) (at-kind-of .kind-of .ensures) (at-second-of .second-of .ensures)
+    (at-if3 .if3 .left) (twice-parted (at-settled .settled .ensures) (at-kind-of .kind-of .ensures) (at-if4 .if4 .left) (at-if5 .if5 .left))),
+    (a .1 .0, (known-second (at-settled .settled .ensures) (at-kind-of .kind-of .ensures) (at-second-of .second-of .ensures), known-second
+    (at-settled2 .settled2 .ensures) (at-kind-of2 .kind-of2 .ensures) (c .second-of2 .ensures))))
 
 same-returns-6 : (t : ℕ) → same-lts.Need-returns-6 (same-uses t) (same-at t) same.Post
-same-returns-6 t c = seconds (c .before .before .before .before .before .before .before .before .before .before .before .before .before .before .before .before .settled .ensures) (c .before .before .before .before .before .before .before .before .before .before .before .before .before .before .before .settled2 .ensures) (c .before .before .before .before .before .before .before .before .before .before .before .before .kind-of .ensures) (c .before .before .before .before .before .before .before .before .before .before .before .kind-of2 .ensures) (c .before .before .before .before .before .before .before .before .before .before .if2 .left) (c .before .before .before .before .before .before .before .first-of .ensures) (c .before .before .before .before .before .before .first-of2 .ensures) (c .before .before .before .before .before .same .ensures) (c .before .before .before .before .before .before .before .before .before .if3 .left) (twice-parted (c .before .before .before .before .before .before .before .before .before .before .before .before .before .before .before .before .settled .ensures) (c .before .before .before .before .before .before .before .before .before .before .before .before .kind-of .ensures) (c .before .before .before .before .before .before .before .before .if4 .left) (c .before .before .before .before .if5 .left)) (c .before .before .before .if6 .taken) (c .before .before .second-of .ensures) (c .before .second-of2 .ensures) (c .same2 .ensures)
+same-returns-6 t c =
+    let at-second-of2 = c .before in
+    let at-second-of = at-second-of2 .before in
+    let at-if6 = at-second-of .before in
+    let at-if5 = at-if6 .before in
+    let at-same = at-if5 .before in
+    let at-first-of2 = at-same .before in
+    let at-first-of = at-first-of2 .before in
+    let at-if4 = at-first-of .before in
+    let at-if3 = at-if4 .before in
+    let at-if2 = at-if3 .before in
+    let at-kind-of2 = at-if2 .before in
+    let at-kind-of = at-kind-of2 .before in
+    let at-settled2 = at-kind-of .before .before .before in
+    let at-settled = at-settled2 .before in
+    seconds (at-settled .settled .ensures) (at-settled2 .settled2 .ensures) (at-kind-of .kind-of .ensures) (at-kind-of2 .kind-of2 .ensures)
+    (at-if2 .if2 .left) (at-first-of .first-of .ensures) (at-first-of2 .first-of2 .ensures) (at-same .same .ensures) (at-if3 .if3 .left)
+    (twice-parted (at-settled .settled .ensures) (at-kind-of .kind-of .ensures) (at-if4 .if4 .left) (at-if5 .if5 .left)) (at-if6 .if6 .taken)
+    (at-second-of .second-of .ensures) (at-second-of2 .second-of2 .ensures) (c .same2 .ensures)
 
 same-returns-7 : (t : ℕ) → same-lts.Need-returns-7 (same-uses t) (same-at t) same.Post
-same-returns-7 t c = firsts-differ (c .before .before .before .before .before .before .before .before .before .before .before .before .before .settled .ensures) (c .before .before .before .before .before .before .before .before .before .before .before .before .settled2 .ensures) (c .before .before .before .before .before .before .before .before .before .kind-of .ensures) (c .before .before .before .before .before .before .before .before .kind-of2 .ensures) (c .before .before .before .before .before .before .before .if2 .left) (c .before .before .before .before .first-of .ensures) (c .before .before .before .first-of2 .ensures) (c .before .before .same .ensures) (c .before .before .before .before .before .before .if3 .left) (twice-parted (c .before .before .before .before .before .before .before .before .before .before .before .before .before .settled .ensures) (c .before .before .before .before .before .before .before .before .before .kind-of .ensures) (c .before .before .before .before .before .if4 .left) (c .before .if5 .left)) (c .if6 .left)
+same-returns-7 t c =
+    let at-if5 = c .before in
+    let at-same = at-if5 .before in
+    let at-first-of2 = at-same .before in
+    let at-first-of = at-first-of2 .before in
+    let at-if4 = at-first-of .before in
+    let at-if3 = at-if4 .before in
+    let at-if2 = at-if3 .before in
+    let at-kind-of2 = at-if2 .before in
+    let at-kind-of = at-kind-of2 .before in
+    let at-settled2 = at-kind-of .before .before .before in
+    let at-settled = at-settled2 .before in
+    firsts-differ (at-settled .settled .ensures) (at-settled2 .settled2 .ensures) (at-kind-of .kind-of .ensures) (at-kind-of2 .kind-of2 .ensures)
+    (at-if2 .if2 .left) (at-first-of .first-of .ensures) (at-first-of2 .first-of2 .ensures) (at-same .same .ensures) (at-if3 .if3 .left)
+    (twice-parted (at-settled .settled .ensures) (at-kind-of .kind-of .ensures) (at-if4 .if4 .left) (at-if5 .if5 .left)) (c .if6 .left)
 
 pub +same-spec : {M : Type 1} → statement M
 +same-spec = close μ-same λ t. same-lts.spec (same-uses t)

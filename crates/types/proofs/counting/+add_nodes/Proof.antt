@@ -41,31 +41,62 @@ add-nodes-mul-capped : (t : ℕ) → add-nodes-lts.Need-mul-capped (add-nodes-us
 add-nodes-mul-capped t c = search needs
 
 add-nodes-shared-slice-read-capped : (t : ℕ) → add-nodes-lts.Need-shared-slice-read-capped (add-nodes-uses t) (add-nodes-at t) add-nodes.Post
-add-nodes-shared-slice-read-capped t c = let a = c .before .before .before .before .before .before .before .before in count-held (a .pre .1 .0) (a .args .c) (a .pre .1 .1 .0) (a .args .n) (a .pre .1 .1 .1 .0) (c .before .before .if2 .taken) (c .before .wide-index .ensures .0)
+add-nodes-shared-slice-read-capped t c =
+    let at-wide-index = c .before in
+    let at-if2 = at-wide-index .before in
+    let at-before = at-if2 .before .before .before .before .before in
+    let a = at-before .before in
+    count-held (a .pre .1 .0) (a .args .c) (a .pre .1 .1 .0) (a .args .n) (a .pre .1 .1 .1 .0) (at-if2 .if2 .taken)
+    (at-wide-index .wide-index .ensures .0)
 
 add-nodes-add-capped : (t : ℕ) → add-nodes-lts.Need-add-capped (add-nodes-uses t) (add-nodes-at t) add-nodes.Post
-add-nodes-add-capped t c = let a = c .before .before .before .before .before .before .before .before in
-    omega (arith, c .before .before .before .if1 .left, count-small (a .pre .1 .0) (a .args .c) (a .pre .1 .1 .0) (a .args .n) (a .pre .1 .1 .1 .0) (c .before .before .if2 .taken) (c .before .wide-index .ensures .0))
+add-nodes-add-capped t c =
+    let at-wide-index = c .before in
+    let at-if2 = at-wide-index .before in
+    let at-if1 = at-if2 .before in
+    let at-before = at-if1 .before .before .before .before in
+    let a = at-before .before in
+    omega (arith, at-if1 .if1 .left, count-small (a .pre .1 .0) (a .args .c) (a .pre .1 .1 .0) (a .args .n) (a .pre .1 .1 .1 .0) (at-if2 .if2 .taken)
+    (at-wide-index .wide-index .ensures .0))
 
 add-nodes-capped-requires : (t : ℕ) → add-nodes-lts.Need-capped-requires (add-nodes-uses t) (add-nodes-at t) add-nodes.Post
 add-nodes-capped-requires t c κs = search needs
 
 add-nodes-returns-2 : (t : ℕ) → add-nodes-lts.Need-returns-2 (add-nodes-uses t) (add-nodes-at t) add-nodes.Post
-add-nodes-returns-2 t c = let a = c .before .before .before .before .before .before .before .before .before in
-    entry-counted (a .pre .1 .0) (a .args .c) (a .pre .1 .1 .0) (a .args .n) (a .pre .1 .1 .1 .0) (c .before .before .before .if2 .taken) (c .before .before .wide-index .ensures .0) (c .capped .ensures)
+add-nodes-returns-2 t c =
+    let at-wide-index = c .before .before in
+    let at-if2 = at-wide-index .before in
+    let at-before = at-if2 .before .before .before .before .before in
+    let a = at-before .before in
+    entry-counted (a .pre .1 .0) (a .args .c) (a .pre .1 .1 .0) (a .args .n) (a .pre .1 .1 .1 .0) (at-if2 .if2 .taken)
+    (at-wide-index .wide-index .ensures .0) (c .capped .ensures)
 
 add-nodes-count-of-requires : (t : ℕ) → add-nodes-lts.Need-count-of-requires (add-nodes-uses t) (add-nodes-at t) add-nodes.Post
-add-nodes-count-of-requires t c κs = let a = c .before .before .before .before .before .before .before in product-there (a .pre .1 .0) (a .args .c) (a .pre .1 .1 .0) (c .if3 .taken)
+add-nodes-count-of-requires t c κs =
+    let at-before = c .before .before .before .before .before .before in
+    let a = at-before .before in
+    product-there (a .pre .1 .0) (a .args .c) (a .pre .1 .1 .0) (c .if3 .taken)
 
 add-nodes-add-capped-2 : (t : ℕ) → add-nodes-lts.Need-add-capped-2 (add-nodes-uses t) (add-nodes-at t) add-nodes.Post
-add-nodes-add-capped-2 t c = let a = c .before .before .before .before .before .before .before .before in
-    omega (arith, c .before .before .before .if1 .left, kept-small (a .pre .1 .0) (a .args .c) (a .pre .1 .1 .0) (a .args .n) (c .before .if3 .taken) (c .count-of .ensures))
+add-nodes-add-capped-2 t c =
+    let at-if3 = c .before in
+    let at-if1 = at-if3 .before .before in
+    let at-before = at-if1 .before .before .before .before in
+    let a = at-before .before in
+    omega (arith, at-if1 .if1 .left, kept-small (a .pre .1 .0) (a .args .c) (a .pre .1 .1 .0) (a .args .n) (at-if3 .if3 .taken)
+    (c .count-of .ensures))
 
 add-nodes-capped-requires-2 : (t : ℕ) → add-nodes-lts.Need-capped-requires-2 (add-nodes-uses t) (add-nodes-at t) add-nodes.Post
 add-nodes-capped-requires-2 t c κs = search needs
 
 add-nodes-returns-3 : (t : ℕ) → add-nodes-lts.Need-returns-3 (add-nodes-uses t) (add-nodes-at t) add-nodes.Post
-add-nodes-returns-3 t c = let a = c .before .before .before .before .before .before .before .before .before in product-counted (a .pre .1 .0) (a .args .c) (a .pre .1 .1 .0) (a .args .n) (c .before .before .if3 .taken) (c .before .count-of .ensures) (c .capped2 .ensures)
+add-nodes-returns-3 t c =
+    let at-count-of = c .before in
+    let at-if3 = at-count-of .before in
+    let at-before = at-if3 .before .before .before .before .before .before in
+    let a = at-before .before in
+    product-counted (a .pre .1 .0) (a .args .c) (a .pre .1 .1 .0) (a .args .n) (at-if3 .if3 .taken) (at-count-of .count-of .ensures)
+    (c .capped2 .ensures)
 
 add-nodes-shape-of-requires : (t : ℕ) → add-nodes-lts.Need-shape-of-requires (add-nodes-uses t) (add-nodes-at t) add-nodes.Post
 add-nodes-shape-of-requires t c κs = let a = c .before .before .before .before .before .before .before .pre .1 in (a .0, a .1 .0)
@@ -74,30 +105,65 @@ add-nodes-add-result : (t : ℕ) → add-nodes-lts.Need-add-result (add-nodes-us
 add-nodes-add-result t c = omega (arith, c .before .before .before .before .if1 .left)
 
 add-nodes-returns-4 : (t : ℕ) → add-nodes-lts.Need-returns-4 (add-nodes-uses t) (add-nodes-at t) add-nodes.Post
-add-nodes-returns-4 t c = unit-counted (c .before .shape-of .ensures) (c .before .before .before .before .before .before .before .before .before .args .n) (c .if4 .taken) (c .before .before .before .before .if1 .left)
+add-nodes-returns-4 t c =
+    let at-shape-of = c .before in
+    let at-if1 = at-shape-of .before .before .before in
+    let start = at-if1 .before .before .before .before .before in
+    unit-counted (at-shape-of .shape-of .ensures) (start .args .n) (c .if4 .taken) (at-if1 .if1 .left)
 
 add-nodes-add-result-2 : (t : ℕ) → add-nodes-lts.Need-add-result-2 (add-nodes-uses t) (add-nodes-at t) add-nodes.Post
 add-nodes-add-result-2 t c = omega (arith, c .before .before .before .before .before .if1 .left)
 
 add-nodes-returns-5 : (t : ℕ) → add-nodes-lts.Need-returns-5 (add-nodes-uses t) (add-nodes-at t) add-nodes.Post
-add-nodes-returns-5 t c = variable-counted (c .before .before .shape-of .ensures) (c .before .before .before .before .before .before .before .before .before .before .args .n) (c .if5 .taken) (c .before .before .before .before .before .if1 .left)
+add-nodes-returns-5 t c =
+    let at-shape-of = c .before .before in
+    let at-if1 = at-shape-of .before .before .before in
+    let start = at-if1 .before .before .before .before .before in
+    variable-counted (at-shape-of .shape-of .ensures) (start .args .n) (c .if5 .taken) (at-if1 .if1 .left)
 
 add-nodes-add-add-nodes : (t : ℕ) → add-nodes-lts.Need-add-add-nodes (add-nodes-uses t) (add-nodes-at t) add-nodes.Post
 add-nodes-add-add-nodes t c = omega (arith, c .before .before .before .before .before .if1 .left)
 
 add-nodes-add-nodes-requires : (t : ℕ) → add-nodes-lts.Need-add-nodes-requires (add-nodes-uses t) (add-nodes-at t) add-nodes.Post
-add-nodes-add-nodes-requires t c κs = let a = c .before .before .before .before .before .before .before .before .before .before .pre in
-    (omega (arith, a .0, less-first (c .before .before .shape-of .ensures) (c .before .if4 .left) (below-four (c .before .before .shape-of .ensures) (c .if5 .left))), (a .1 .0, (c .before .before .shape-of .ensures .first, (a .1 .1 .1 .0, limited (c .before .before .before .before .before .before .before .before .before .before .args .n) (c .before .before .before .before .before .if1 .left)))))
+add-nodes-add-nodes-requires t c κs =
+    let at-if4 = c .before in
+    let at-shape-of = at-if4 .before in
+    let at-if1 = at-shape-of .before .before .before in
+    let start = at-if1 .before .before .before .before .before in
+    let a = start .pre in
+    (omega (arith, a .0, less-first (at-shape-of .shape-of .ensures) (at-if4 .if4 .left)
+    (below-four (at-shape-of .shape-of .ensures) (c .if5 .left))),
+    (a .1 .0, (at-shape-of .shape-of .ensures .first, (a .1 .1 .1 .0, limited (start .args .n) (at-if1 .if1 .left)))))
 
 add-nodes-returns-6 : (t : ℕ) → add-nodes-lts.Need-returns-6 (add-nodes-uses t) (add-nodes-at t) add-nodes.Post
-add-nodes-returns-6 t c = recursive-counted (c .before .before .before .before .shape-of .ensures) (c .before .before .before .before .before .before .before .before .before .before .before .before .args .n) (c .before .add-nodes .ensures) (c .if6 .taken)
+add-nodes-returns-6 t c =
+    let at-add-nodes = c .before in
+    let at-shape-of = at-add-nodes .before .before .before in
+    let start = at-shape-of .before .before .before .before .before .before .before .before in
+    recursive-counted (at-shape-of .shape-of .ensures) (start .args .n) (at-add-nodes .add-nodes .ensures) (c .if6 .taken)
 
 add-nodes-add-nodes-requires-2 : (t : ℕ) → add-nodes-lts.Need-add-nodes-requires-2 (add-nodes-uses t) (add-nodes-at t) add-nodes.Post
-add-nodes-add-nodes-requires-2 t c κs = let a = c .before .before .before .before .before .before .before .before .before .before .before .before .pre in
-    (omega (arith, a .0, less-second (c .before .before .before .before .shape-of .ensures) (c .before .before .before .if4 .left) (two-parts (c .before .before .before .before .shape-of .ensures) (c .before .before .if5 .left) (c .if6 .left))), (a .1 .0, (c .before .before .before .before .shape-of .ensures .second, (a .1 .1 .1 .0, below-ceiling _ (c .before .add-nodes .ensures)))))
+add-nodes-add-nodes-requires-2 t c κs =
+    let at-add-nodes = c .before in
+    let at-if5 = at-add-nodes .before in
+    let at-if4 = at-if5 .before in
+    let at-shape-of = at-if4 .before in
+    let start = at-shape-of .before .before .before .before .before .before .before .before in
+    let a = start .pre in
+    (omega (arith, a .0, less-second (at-shape-of .shape-of .ensures) (at-if4 .if4 .left)
+    (two-parts (at-shape-of .shape-of .ensures) (at-if5 .if5 .left) (c .if6 .left))),
+    (a .1 .0, (at-shape-of .shape-of .ensures .second, (a .1 .1 .1 .0, below-ceiling _ (at-add-nodes .add-nodes .ensures)))))
 
 add-nodes-returns-7 : (t : ℕ) → add-nodes-lts.Need-returns-7 (add-nodes-uses t) (add-nodes-at t) add-nodes.Post
-add-nodes-returns-7 t c = two-counted (c .before .before .before .before .before .shape-of .ensures) (c .before .before .before .before .before .before .before .before .before .before .before .before .before .args .n) (c .before .before .add-nodes .ensures) (c .before .before .before .before .if4 .left) (two-parts (c .before .before .before .before .before .shape-of .ensures) (c .before .before .before .if5 .left) (c .before .if6 .left)) (c .add-nodes2 .ensures)
+add-nodes-returns-7 t c =
+    let at-if6 = c .before in
+    let at-add-nodes = at-if6 .before in
+    let at-if5 = at-add-nodes .before in
+    let at-if4 = at-if5 .before in
+    let at-shape-of = at-if4 .before in
+    let start = at-shape-of .before .before .before .before .before .before .before .before in
+    two-counted (at-shape-of .shape-of .ensures) (start .args .n) (at-add-nodes .add-nodes .ensures) (at-if4 .if4 .left)
+    (two-parts (at-shape-of .shape-of .ensures) (at-if5 .if5 .left) (at-if6 .if6 .left)) (c .add-nodes2 .ensures)
 
 pub +add-nodes-spec : {M : Type 1} → statement M
 +add-nodes-spec = close μ-add-nodes λ t. add-nodes-lts.spec (add-nodes-uses t)

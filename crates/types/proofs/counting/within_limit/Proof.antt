@@ -7,7 +7,11 @@ surely-within-requires : tie.Need-surely-within-requires
 surely-within-requires c κs = let a = c .before .before .before .before in counts-held (a .args .c) (a .pre .1 .0) (a .pre .1 .1)
 
 returns : tie.Need-returns
-returns c = let a = c .before .before .before .before .before .before in small-within (a .args .c) (a .pre .1 .0) (a .pre .1 .1) (a .args .ws .now) (told _ (c .before .surely-within .ensures) (c .if1 .taken))
+returns c =
+    let at-surely-within = c .before in
+    let at-before = at-surely-within .before .before .before .before in
+    let a = at-before .before in
+    small-within (a .args .c) (a .pre .1 .0) (a .pre .1 .1) (a .args .ws .now) (told _ (at-surely-within .surely-within .ensures) (c .if1 .taken))
 
 node-count-requires : tie.Need-node-count-requires
 node-count-requires c κs = search needs

@@ -17,19 +17,46 @@ wide-index-requires-2 : tie.Need-wide-index-requires-2
 wide-index-requires-2 c κs = search needs
 
 kind-requires : tie.Need-kind-requires
-kind-requires c κs = let a = c .before .before .before .before .before in kind-there (a .pre .0) (a .pre .1) (c .before .before .wide-index .ensures .0) (c .wide-index2 .ensures .0)
+kind-requires c κs =
+    let at-wide-index = c .before .before in
+    let at-before = at-wide-index .before .before in
+    let a = at-before .before in
+    kind-there (a .pre .0) (a .pre .1) (at-wide-index .wide-index .ensures .0) (c .wide-index2 .ensures .0)
 
 returns : tie.Need-returns
-returns c = let a = c .before .before .before .before .before .before .before .args in no-body (a .p .now) (a .types .now) (a .i) (c .before .before .before .before .wide-index .ensures .0) (c .before .before .wide-index2 .ensures .0) (c .before .kind .ensures) (c .if1 .taken)
+returns c =
+    let at-kind = c .before in
+    let at-wide-index2 = at-kind .before in
+    let at-wide-index = at-wide-index2 .before .before in
+    let start = at-wide-index .before .before .before in
+    let a = start .args in
+    no-body (a .p .now) (a .types .now) (a .i) (at-wide-index .wide-index .ensures .0) (at-wide-index2 .wide-index2 .ensures .0)
+    (at-kind .kind .ensures) (c .if1 .taken)
 
 first-requires : tie.Need-first-requires
-first-requires c κs = let a = c .before .before .before .before .before .before .before in mu-there (a .pre .0) (a .pre .1) (c .before .before .before .before .wide-index .ensures .0) (c .before .before .wide-index2 .ensures .0) (c .before .kind .ensures) (c .if1 .left)
+first-requires c κs =
+    let at-kind = c .before in
+    let at-wide-index2 = at-kind .before in
+    let at-wide-index = at-wide-index2 .before .before in
+    let at-before = at-wide-index .before .before in
+    let a = at-before .before in
+    mu-there (a .pre .0) (a .pre .1) (at-wide-index .wide-index .ensures .0) (at-wide-index2 .wide-index2 .ensures .0) (at-kind .kind .ensures)
+    (c .if1 .left)
 
 under-requires : tie.Need-under-requires
 under-requires c κs = search needs
 
 returns-2 : tie.Need-returns-2
-returns-2 c = let a = c .before .before .before .before .before .before .before .before .before .args in a-body (a .p .now) (a .types .now) (a .i) (c .before .before .before .before .before .before .wide-index .ensures .0) (c .before .before .before .before .wide-index2 .ensures .0) (c .before .before .before .kind .ensures) (c .before .before .if1 .left) (c .before .first .ensures) (c .under .ensures)
+returns-2 c =
+    let at-first = c .before in
+    let at-if1 = at-first .before in
+    let at-kind = at-if1 .before in
+    let at-wide-index2 = at-kind .before in
+    let at-wide-index = at-wide-index2 .before .before in
+    let start = at-wide-index .before .before .before in
+    let a = start .args in
+    a-body (a .p .now) (a .types .now) (a .i) (at-wide-index .wide-index .ensures .0) (at-wide-index2 .wide-index2 .ensures .0)
+    (at-kind .kind .ensures) (at-if1 .if1 .left) (at-first .first .ensures) (c .under .ensures)
 
 pub unfolded-spec : {M : Type 1} → statement M
 unfolded-spec =

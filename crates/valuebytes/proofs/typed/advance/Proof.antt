@@ -44,7 +44,10 @@ field-requires : tie.Need-field-requires
 field-requires c κs = search needs
 
 parts-of-requires : tie.Need-parts-of-requires
-parts-of-requires c κs = field-there (c .before .before .before .before .before .before .before .before .pre .0 .table) (c .before .resolve .ensures) (c .field .ensures .0)
+parts-of-requires c κs =
+    let at-resolve = c .before in
+    let start = at-resolve .before .before .before .before .before .before .before in
+    field-there (start .pre .0 .table) (at-resolve .resolve .ensures) (c .field .ensures .0)
 
 enum-told : tie.Need-enum-told
 enum-told c = search needs
@@ -106,20 +109,28 @@ returns c =
 
 returns-2 : tie.Need-returns-2
 returns-2 c =
-    let m = c .before .before .before .before .before .before in
-    turned-one (start-of m .pre .0) (m .before .before .resolve .ensures) _ (found-at m (c .before .before .before .before .parts .given .1)) (start-of m .pre .1) (c .put .ensures .0) (c .put .ensures .1)
+    let at-parts = c .before .before .before .before in
+    let at-before = at-parts .before in
+    let m = at-before .before in
+    turned-one (start-of m .pre .0) (m .before .before .resolve .ensures) _ (found-at m (at-parts .parts .given .1)) (start-of m .pre .1)
+    (c .put .ensures .0) (c .put .ensures .1)
 
 returns-3 : tie.Need-returns-3
 returns-3 c =
-    let p = c .before .before .before in
+    let at-before = c .before .before in
+    let p = at-before .before in
     let m = p .before .before .before .before .before .before in
-    turned-two (start-of m .pre .0) (m .before .before .resolve .ensures) _ (found-at m (p .before .before .before .before .parts2 .given .1)) (start-of m .pre .1) (p .put2 .ensures .0) (p .put2 .ensures .1) (c .put3 .ensures .0) (c .put3 .ensures .1)
+    turned-two (start-of m .pre .0) (m .before .before .resolve .ensures) _ (found-at m (p .before .before .before .before .parts2 .given .1))
+    (start-of m .pre .1) (p .put2 .ensures .0) (p .put2 .ensures .1) (c .put3 .ensures .0) (c .put3 .ensures .1)
 
 returns-4 : tie.Need-returns-4
 returns-4 c =
-    let p = c .before .before .before in
+    let at-before = c .before .before in
+    let p = at-before .before in
     let m = p .before .before .before .before .before .before .before in
-    turned-body (start-of m .pre .0) (m .before .before .resolve .ensures) _ (found-at m (p .before .before .before .before .before .parts3 .given .1)) (start-of m .pre .1) (p .before .wide-index .ensures .0) (p .put4 .ensures .0) (p .put4 .ensures .1) (c .put5 .ensures .0) (c .put5 .ensures .1)
+    turned-body (start-of m .pre .0) (m .before .before .resolve .ensures) _
+    (found-at m (p .before .before .before .before .before .parts3 .given .1)) (start-of m .pre .1) (p .before .wide-index .ensures .0)
+    (p .put4 .ensures .0) (p .put4 .ensures .1) (c .put5 .ensures .0) (c .put5 .ensures .1)
 
 returns-5 : tie.Need-returns-5
 returns-5 c =

@@ -46,10 +46,17 @@ field-requires : tie.Need-field-requires
 field-requires c κs = c .before .before .before .before .before .pre .1 .0 .0
 
 first-requires : tie.Need-first-requires
-first-requires c κs = let p = c .before .before .before .before .before .before .pre in omega (arith, c .field .ensures .0, prod-room (p .0 .field _ (p .1 .0 .0)) (p .1 .1 .1))
+first-requires c κs =
+    let start = c .before .before .before .before .before .before in
+    let p = start .pre in
+    omega (arith, c .field .ensures .0, prod-room (p .0 .field _ (p .1 .0 .0)) (p .1 .1 .1))
 
 second-requires : tie.Need-second-requires
-second-requires c κs = let p = c .before .before .before .before .before .before .before .pre in omega (arith, c .before .field .ensures .0, prod-room (p .0 .field _ (p .1 .0 .0)) (p .1 .1 .1))
+second-requires c κs =
+    let at-field = c .before in
+    let start = at-field .before .before .before .before .before .before in
+    let p = start .pre in
+    omega (arith, at-field .field .ensures .0, prod-room (p .0 .field _ (p .1 .0 .0)) (p .1 .1 .1))
 
 component-requires : tie.Need-component-requires
 component-requires c κs = (start-of c .pre .1 .1 .0, c .before .before .before .if1 .left)
@@ -67,17 +74,23 @@ is-of-requires-2 c κs = let m = c .before .before .before .before in
 
 returns-2 : tie.Need-returns-2
 returns-2 c =
-    let m = c .before .before .before .before .before in
+    let at-component2 = c .before in
+    let at-if2 = at-component2 .before in
+    let at-is-of = at-if2 .before in
+    let at-before = at-is-of .before in
+    let m = at-before .before in
     let p = start-of m .pre in
-    pair-yes _ _ (p .0) _ (p .1 .0 .0) (p .1 .1 .1) _ (p .1 .1 .0) (m .before .before .before .if1 .left) (first-is m) (second-is m) _ (c .before .before .before .before .component .ensures)
-    (c .before .before .before .is-of .ensures) (c .before .before .if2 .taken) _ (c .before .component2 .ensures) (c .is-of2 .ensures)
+    pair-yes _ _ (p .0) _ (p .1 .0 .0) (p .1 .1 .1) _ (p .1 .1 .0) (m .before .before .before .if1 .left) (first-is m) (second-is m) _
+    (at-before .component .ensures) (at-is-of .is-of .ensures) (at-if2 .if2 .taken) _ (at-component2 .component2 .ensures) (c .is-of2 .ensures)
 
 returns-3 : tie.Need-returns-3
 returns-3 c =
-    let m = c .before .before .before in
+    let at-is-of = c .before in
+    let at-before = at-is-of .before in
+    let m = at-before .before in
     let p = start-of m .pre in
-    pair-no _ _ (p .0) _ (p .1 .0 .0) (p .1 .1 .1) _ (p .1 .1 .0) (m .before .before .before .if1 .left) (first-is m) (second-is m) _ (c .before .before .component .ensures)
-    (c .before .is-of .ensures) (c .if2 .left)
+    pair-no _ _ (p .0) _ (p .1 .0 .0) (p .1 .1 .1) _ (p .1 .1 .0) (m .before .before .before .if1 .left) (first-is m) (second-is m) _
+    (at-before .component .ensures) (at-is-of .is-of .ensures) (c .if2 .left)
 
 pub are-of-spec : {M : Type 1} → statement M
 are-of-spec =

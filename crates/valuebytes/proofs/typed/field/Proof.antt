@@ -17,7 +17,10 @@ wide-index-requires-2 : tie.Need-wide-index-requires-2
 wide-index-requires-2 c κs = search needs
 
 returns : tie.Need-returns
-returns c = (c .wide-index2 .ensures .0 ∙ ap (λ i. getD (c .before .before .before .before .args .types .now) i 0) (c .before .before .wide-index .ensures .0), c .wide-index2 .ensures .1)
+returns c =
+    let at-wide-index = c .before .before in
+    let start = at-wide-index .before .before in
+    (c .wide-index2 .ensures .0 ∙ ap (λ i. getD (start .args .types .now) i 0) (at-wide-index .wide-index .ensures .0), c .wide-index2 .ensures .1)
 
 pub field-spec : {M : Type 1} → statement M
 field-spec =

@@ -18,7 +18,12 @@ second-requires : tie.Need-second-requires
 second-requires c κs = prod-room (c .before .before .before .before .before .pre) (sym (c .before .before .before .kind .ensures) ∙ c .before .before .match .keys2)
 
 returns-2 : tie.Need-returns-2
-returns-2 c = pair-yes _ _ _ (sym (c .before .before .before .before .kind .ensures) ∙ c .before .before .before .match .keys2) (c .before .before .if2 .taken) (c .before .first .ensures) (c .second .ensures)
+returns-2 c =
+    let at-first = c .before in
+    let at-if2 = at-first .before in
+    let at-match = at-if2 .before in
+    let at-kind = at-match .before in
+    pair-yes _ _ _ (sym (at-kind .kind .ensures) ∙ at-match .match .keys2) (at-if2 .if2 .taken) (at-first .first .ensures) (c .second .ensures)
 
 first-requires-2 : tie.Need-first-requires-2
 first-requires-2 c κs = omega (arith, sum-room (c .before .before .before .before .pre) (sym (c .before .before .kind .ensures) ∙ c .before .match .keys3))
@@ -30,7 +35,11 @@ second-requires-2 : tie.Need-second-requires-2
 second-requires-2 c κs = sum-room (c .before .before .before .before .before .pre) (sym (c .before .before .before .kind .ensures) ∙ c .before .before .match .keys3)
 
 returns-4 : tie.Need-returns-4
-returns-4 c = right-yes _ _ _ (sym (c .before .before .before .before .kind .ensures) ∙ c .before .before .before .match .keys3) (c .before .if4 .taken) (c .second2 .ensures)
+returns-4 c =
+    let at-if4 = c .before in
+    let at-match = at-if4 .before .before in
+    let at-kind = at-match .before in
+    right-yes _ _ _ (sym (at-kind .kind .ensures) ∙ at-match .match .keys3) (at-if4 .if4 .taken) (c .second2 .ensures)
 
 first-requires-3 : tie.Need-first-requires-3
 first-requires-3 c κs = mu-room (c .before .before .before .before .pre) (sym (c .before .before .kind .ensures) ∙ c .before .match .keys4)

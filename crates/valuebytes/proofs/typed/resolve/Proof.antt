@@ -49,7 +49,11 @@ within c n h =
     variable-within _ _ _ _ (start-of c .args .t) (p .0) (p .1 .0) (p .1 .1 .0) _ (variable-is c) (is-variable (c .before)) n h .1
 
 cell-within : (c : tie.After-wide-index) → c .wide-index .result ≤ start-from c .args .t .cell
-cell-within c = omega (arith, c .wide-index .ensures .0, c .before .enclosing .ensures, within (c .before .before) (c .before .before .variable .result) (omega arith))
+cell-within c =
+    let at-enclosing = c .before in
+    let at-variable = at-enclosing .before in
+    omega (arith, c .wide-index .ensures .0, at-enclosing .enclosing .ensures, within (at-enclosing .before) (at-variable .variable .result)
+    (omega arith))
 
 field-requires : tie.Need-field-requires
 field-requires c κs = c .before .before .pre .1 .1 .0 .known

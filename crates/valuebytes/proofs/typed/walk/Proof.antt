@@ -68,10 +68,13 @@ loop-less c = omega (arith, c .before .before .before .before .before .before .b
 loop-again : tie.Need-loop-again Inv-loop μ-loop
 unfolding maxValueBytes
 loop-again c =
-    let a = c .before .before .before in
+    let at-turned = c .before in
+    let at-before = at-turned .before in
+    let a = at-before .before in
     let two = a .before .before .before .before .before .before in
     let one = two .before in
-    walking-on (one .before .before .loop .inv) (one .before .loop-test .taken) (one .if1 .left) (two .if2 .left) (turned-on (a .advance .ensures) (c .before .turned .given .1))
+    walking-on (one .before .before .loop .inv) (one .before .loop-test .taken) (one .if1 .left) (two .if2 .left)
+    (turned-on (a .advance .ensures) (at-turned .turned .given .1))
 
 returns-4 : tie.Need-returns-4 Inv-loop μ-loop
 returns-4 c = walking-done (c .before .loop .inv) (c .loop-test .left)

@@ -66,9 +66,11 @@ module _ (t : ℕ) where
 
   pub returns-8 : lts.Need-returns-8 (eval-uses t) (eval-at t) eval.Post
   returns-8 c =
-      let at-let-one = c .before .before in
+      let at-before = c .before in
+      let at-let-one = at-before .before in
       let (_, _, at-spend, at-else2, at-else1, at-fuel, start) = before-let-one t at-let-one in
-      spent-done (start .pre .1) (λ e. at-else1 .if1 .left (at-fuel .fuel .ensures ∙ e)) (at-else2 .if2 .left) (at-spend .spend .ensures) (at-let-one .let-one .ensures)
+      spent-done (start .pre .1) (λ e. at-else1 .if1 .left (at-fuel .fuel .ensures ∙ e)) (at-else2 .if2 .left) (at-spend .spend .ensures)
+      (at-let-one .let-one .ensures)
 
   pub same-length-7 : lts.Need-same-length-7 (eval-uses t) (eval-at t) eval.Post
   same-length-7 c =
@@ -77,9 +79,11 @@ module _ (t : ℕ) where
 
   pub returns-9 : lts.Need-returns-9 (eval-uses t) (eval-at t) eval.Post
   returns-9 c =
-      let at-let-two = c .before .before in
+      let at-before = c .before in
+      let at-let-two = at-before .before in
       let (_, _, at-spend, at-else2, at-else1, at-fuel, start) = before-let-two t at-let-two in
-      spent-done (start .pre .1) (λ e. at-else1 .if1 .left (at-fuel .fuel .ensures ∙ e)) (at-else2 .if2 .left) (at-spend .spend .ensures) (at-let-two .let-two .ensures)
+      spent-done (start .pre .1) (λ e. at-else1 .if1 .left (at-fuel .fuel .ensures ∙ e)) (at-else2 .if2 .left) (at-spend .spend .ensures)
+      (at-let-two .let-two .ensures)
 
   pub same-length-8 : lts.Need-same-length-8 (eval-uses t) (eval-at t) eval.Post
   same-length-8 c =
@@ -88,9 +92,11 @@ module _ (t : ℕ) where
 
   pub returns-10 : lts.Need-returns-10 (eval-uses t) (eval-at t) eval.Post
   returns-10 c =
-      let at-choose = c .before .before in
+      let at-before = c .before in
+      let at-choose = at-before .before in
       let (_, _, at-spend, at-else2, at-else1, at-fuel, start) = before-choose t at-choose in
-      spent-done (start .pre .1) (λ e. at-else1 .if1 .left (at-fuel .fuel .ensures ∙ e)) (at-else2 .if2 .left) (at-spend .spend .ensures) (at-choose .choose .ensures)
+      spent-done (start .pre .1) (λ e. at-else1 .if1 .left (at-fuel .fuel .ensures ∙ e)) (at-else2 .if2 .left) (at-spend .spend .ensures)
+      (at-choose .choose .ensures)
 
   pub same-length-9 : lts.Need-same-length-9 (eval-uses t) (eval-at t) eval.Post
   same-length-9 c =
@@ -121,9 +127,11 @@ module _ (t : ℕ) where
 
   pub returns-13 : lts.Need-returns-13 (eval-uses t) (eval-at t) eval.Post
   returns-13 c =
-      let at-unroll = c .before .before in
+      let at-before = c .before in
+      let at-unroll = at-before .before in
       let (_, _, at-spend, at-else2, at-else1, at-fuel, start) = before-unroll t at-unroll in
-      spent-done (start .pre .1) (λ e. at-else1 .if1 .left (at-fuel .fuel .ensures ∙ e)) (at-else2 .if2 .left) (at-spend .spend .ensures) (at-unroll .unroll .ensures)
+      spent-done (start .pre .1) (λ e. at-else1 .if1 .left (at-fuel .fuel .ensures ∙ e)) (at-else2 .if2 .left) (at-spend .spend .ensures)
+      (at-unroll .unroll .ensures)
 
   pub returns-14 : lts.Need-returns-14 (eval-uses t) (eval-at t) eval.Post
   returns-14 c =

@@ -136,10 +136,9 @@ module _ (t : ℕ) where
 
   pub returns-2 : lts.Need-returns-2 (let-one-uses t) (let-one-at t) let-one.Post
   returns-2 c =
-      let at-under = c .before .before in
+      let at-before = c .before in
+      let at-under = at-before .before in
       let (at-second-of, at-else1, at-eval, at-first-of, start) = before-under at-under in
-      record {
-        lengths = at-under .under .ensures .lengths ∙ (at-eval .eval .ensures) .lengths;
-        ran = let-done (start .pre .1 .0 .ready) (start .pre .1 .1) _ _ (at-first-of .first-of .ensures) (at-second-of .second-of .ensures) (at-eval .eval .ensures .ran)
-            (is-value (at-else1 .if1 .left)) (at-under .under .ensures .ran);
-      }
+      record { lengths = at-under .under .ensures .lengths ∙ (at-eval .eval .ensures) .lengths; ran = let-done (start .pre .1 .0 .ready)
+      (start .pre .1 .1) _ _ (at-first-of .first-of .ensures) (at-second-of .second-of .ensures) (at-eval .eval .ensures .ran)
+      (is-value (at-else1 .if1 .left)) (at-under .under .ensures .ran); }
