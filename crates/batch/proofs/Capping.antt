@@ -1,5 +1,5 @@
 -- A length beyond the most that makes a difference changes no answer (specs/Capped): the workspace is held to what the fuel needs, the
--- output to a value, which has at most 1,024 bytes.
+-- output to a value, which has at most `maxValueBytes` bytes.
 use Prim.Native.Nat.{ℕ, _≤_, _<_}
 use native.Mathlib.Omega.{arith}
 use mathlib.Core.Path.{_≡_, refl, sym, ap, ap₂, _∙_}
@@ -9,7 +9,7 @@ use lib.ListN.{length, take}
 use lib.Seq.{length-take-le}
 use lib.Dec.{leb}
 use borrow.Author.Tests.{le-leb, lt-leb, leb-true, leb-false}
-use package.Rattle.rules.specs.Limits.{fits, maxValueBytes, workspaceBase, workspacePerFuel}
+use package.Rattle.rules.specs.Limits.{fits, maxValueBytes}
 use package.Rattle.rules.specs.Val.{Val, size}
 use package.Rattle.rules.specs.Run.{Res, ok, stop, stuck}
 use package.Rattle.rules.proofs.Numbers.{Ends, answer-ends}
@@ -63,7 +63,7 @@ leb-capped most k n h = by (leb n most) refl
 -- The workspace
 
 most-enough : (fuel : ℕ) → fuel < 65536 → workspaceFor fuel ≤ mostWorkspace
-unfolding workspaceFor workspaceBase workspacePerFuel
+unfolding workspaceFor mostWorkspace
 most-enough fuel h = omega arith
 
 pub prepared-capped : (ws fuel : ℕ) (program : List ℕ) → fuel < 65536 → prepared program fuel (capped mostWorkspace ws) ≡ prepared program fuel ws
@@ -85,8 +85,8 @@ go-on (refused n p) f g h = refl
 
 -- a value that a run answers fits
 ran-fits : (fuel : ℕ) (x : Res Val) (r : Ran) → Ends (λ w. fits w ≡ true) x → ran fuel x ≡ accepted r → size (r .value) ≤ mostOutput
-unfolding ran fits maxValueBytes
-ran-fits fuel (ok v left) r e a = omega (arith, leb-true (size v) 1024 (answer-ends e refl), ap (λ r. size (r .value)) (accepted-inj a))
+unfolding ran fits mostOutput
+ran-fits fuel (ok v left) r e a = omega (arith, leb-true (size v) maxValueBytes (answer-ends e refl), ap (λ r. size (r .value)) (accepted-inj a))
 ran-fits fuel (stop n k) r e a = absurd (refused≢accepted a)
 ran-fits fuel stuck r e a = absurd (refused≢accepted a)
 

@@ -4,6 +4,7 @@ use mathlib.Core.Path.{_≡_}
 use mathlib.Core.Bool.{Bool}
 use mathlib.Core.Option.{none, some}
 use mathlib.Core.List.{List}
+use package.Rattle.rules.specs.Limits.{maxFuel}
 use package.Rattle.calltext.specs.Words.{wordAt}
 use package.Rattle.calltext.specs.Decimal.{numberIn}
 use package.Rattle.calltext.specs.Hexadecimal.{bytesIn}
@@ -34,11 +35,11 @@ module _ (b : Bool) (line : List ℕ) {ws : ℕ} (e₁ : numberIn mostLength (wo
   run-2 e = rw (e₁, e)
 
   module _ {out : ℕ} (e₂ : numberIn mostLength (wordAt 2 line) ≡ some out) where
-    pub run-3 : numberIn mostShort (wordAt 3 line) ≡ none → noNumber 3 ≡ readRun b line
+    pub run-3 : numberIn maxFuel (wordAt 3 line) ≡ none → noNumber 3 ≡ readRun b line
     unfolding readRun withNumber
     run-3 e = rw (e₁, e₂, e)
 
-    module _ {fuel : ℕ} (e₃ : numberIn mostShort (wordAt 3 line) ≡ some fuel) where
+    module _ {fuel : ℕ} (e₃ : numberIn maxFuel (wordAt 3 line) ≡ some fuel) where
       pub run-4 : numberIn mostShort (wordAt 4 line) ≡ none → noNumber 4 ≡ readRun b line
       unfolding readRun withNumber
       run-4 e = rw (e₁, e₂, e₃, e)
@@ -96,11 +97,11 @@ module _ (line : List ℕ) where
   convert-1 e = rw e
 
   module _ {ws : ℕ} (e₁ : numberIn mostLength (wordAt 1 line) ≡ some ws) where
-    pub convert-2 : numberIn mostShort (wordAt 2 line) ≡ none → noNumber 2 ≡ readConvert line
+    pub convert-2 : numberIn maxFuel (wordAt 2 line) ≡ none → noNumber 2 ≡ readConvert line
     unfolding readConvert withNumber
     convert-2 e = rw (e₁, e)
 
-    module _ {fuel : ℕ} (e₂ : numberIn mostShort (wordAt 2 line) ≡ some fuel) where
+    module _ {fuel : ℕ} (e₂ : numberIn maxFuel (wordAt 2 line) ≡ some fuel) where
       pub convert-3 : numberIn mostShort (wordAt 3 line) ≡ none → noNumber 3 ≡ readConvert line
       unfolding readConvert withNumber
       convert-3 e = rw (e₁, e₂, e)
@@ -132,11 +133,11 @@ module _ (line : List ℕ) where
   rollback-1 e = rw e
 
   module _ {ws : ℕ} (e₁ : numberIn mostLength (wordAt 1 line) ≡ some ws) where
-    pub rollback-2 : numberIn mostShort (wordAt 2 line) ≡ none → noNumber 2 ≡ readRollback line
+    pub rollback-2 : numberIn maxFuel (wordAt 2 line) ≡ none → noNumber 2 ≡ readRollback line
     unfolding readRollback withNumber
     rollback-2 e = rw (e₁, e)
 
-    module _ {fuel : ℕ} (e₂ : numberIn mostShort (wordAt 2 line) ≡ some fuel) where
+    module _ {fuel : ℕ} (e₂ : numberIn maxFuel (wordAt 2 line) ≡ some fuel) where
       pub rollback-3 : bytesIn (wordAt 3 line) ≡ none → noBytes 3 ≡ readRollback line
       unfolding readRollback withNumber withBytes
       rollback-3 e = rw (e₁, e₂, e)

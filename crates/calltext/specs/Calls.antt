@@ -4,6 +4,7 @@ use mathlib.Core.Bool.{Bool, true, false, cond}
 use mathlib.Core.Option.{Option, none, some}
 use mathlib.Core.List.{List}
 use lib.Dec.{eqb}
+use package.Rattle.rules.specs.Limits.{maxFuel}
 use package.Rattle.calltext.specs.Text.{text, sameBytes}
 use package.Rattle.calltext.specs.Words.{wordAt, spaces}
 use package.Rattle.calltext.specs.Decimal.{numberIn}
@@ -63,7 +64,7 @@ unfoldable pub withBytes : ℕ → Option (List ℕ) → (List ℕ → Line) →
 withBytes k none f = noBytes k
 withBytes k (some xs) f = f xs
 
--- A length is below a thousand millions; fuel and function have two bytes.
+-- A length is below a thousand millions, and a function's number has two bytes.
 abbrev pub mostLength : ℕ
 mostLength = 999999999
 
@@ -84,7 +85,7 @@ unfolding withNumber withBytes
 readRun backward line =
     withNumber 1 (numberIn mostLength (wordAt 1 line)) λ ws.
     withNumber 2 (numberIn mostLength (wordAt 2 line)) λ out.
-    withNumber 3 (numberIn mostShort (wordAt 3 line)) λ fuel.
+    withNumber 3 (numberIn maxFuel (wordAt 3 line)) λ fuel.
     withNumber 4 (numberIn mostShort (wordAt 4 line)) λ fn.
     withBytes 5 (bytesIn (wordAt 5 line)) λ p.
     withBytes 6 (bytesIn (wordAt 6 line)) λ anc.
@@ -106,7 +107,7 @@ unfoldable pub readConvert : List ℕ → Line
 unfolding withNumber withBytes
 readConvert line =
     withNumber 1 (numberIn mostLength (wordAt 1 line)) λ ws.
-    withNumber 2 (numberIn mostShort (wordAt 2 line)) λ fuel.
+    withNumber 2 (numberIn maxFuel (wordAt 2 line)) λ fuel.
     withNumber 3 (numberIn mostShort (wordAt 3 line)) λ fn.
     withBytes 4 (bytesIn (wordAt 4 line)) λ p.
     withBytes 5 (bytesIn (wordAt 5 line)) λ anc.
@@ -118,7 +119,7 @@ unfoldable pub readRollback : List ℕ → Line
 unfolding withNumber withBytes
 readRollback line =
     withNumber 1 (numberIn mostLength (wordAt 1 line)) λ ws.
-    withNumber 2 (numberIn mostShort (wordAt 2 line)) λ fuel.
+    withNumber 2 (numberIn maxFuel (wordAt 2 line)) λ fuel.
     withBytes 3 (bytesIn (wordAt 3 line)) λ p.
     withBytes 4 (bytesIn (wordAt 4 line)) λ j.
     rollbackLine record { workspace = ws; fuel = fuel; program = p; journal = j }

@@ -4,6 +4,7 @@ use crate::decimal::Number;
 use crate::hexadecimal;
 use crate::hexadecimal::Decoded;
 use crate::words;
+use rules::MAX_FUEL;
 ghost use mathlib.Core.Path.{_≡_};
 ghost use mathlib.Core.Bool.{true, false};
 ghost use Prim.Native.Nat.{_*_, _≤_, _<_};
@@ -21,7 +22,9 @@ ghost use Rattle.calltext.specs.declared.calls.Name.the-variants.{Check,
 // The greatest length that a line can name.
 const MOST_LENGTH: u64 = 999999999;
 
-// Fuel and function have two bytes.
+const MOST_FUEL: u64 = MAX_FUEL as u64;
+
+// A function's number has two bytes.
 const MOST_SHORT: u64 = 65535;
 
 pub enum Name {
@@ -163,7 +166,7 @@ fn run_call(
     let Number::Is(output) = number_at(line, 2, MOST_LENGTH) else {
         return Parsed::NoNumber(2);
     };
-    let Number::Is(fuel) = number_at(line, 3, MOST_SHORT) else {
+    let Number::Is(fuel) = number_at(line, 3, MOST_FUEL) else {
         return Parsed::NoNumber(3);
     };
     let Number::Is(function) = number_at(line, 4, MOST_SHORT) else {
@@ -233,7 +236,7 @@ fn convert_call(line: &[u8], program: &mut [u8], ancillae: &mut [u8], value: &mu
     let Number::Is(workspace) = number_at(line, 1, MOST_LENGTH) else {
         return Parsed::NoNumber(1);
     };
-    let Number::Is(fuel) = number_at(line, 2, MOST_SHORT) else {
+    let Number::Is(fuel) = number_at(line, 2, MOST_FUEL) else {
         return Parsed::NoNumber(2);
     };
     let Number::Is(function) = number_at(line, 3, MOST_SHORT) else {
@@ -270,7 +273,7 @@ fn rollback_call(line: &[u8], program: &mut [u8], ancillae: &mut [u8], value: &m
     let Number::Is(workspace) = number_at(line, 1, MOST_LENGTH) else {
         return Parsed::NoNumber(1);
     };
-    let Number::Is(fuel) = number_at(line, 2, MOST_SHORT) else {
+    let Number::Is(fuel) = number_at(line, 2, MOST_FUEL) else {
         return Parsed::NoNumber(2);
     };
     let Decoded::Bytes(p) = bytes_at(line, 3, program) else {

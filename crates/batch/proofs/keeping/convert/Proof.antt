@@ -23,9 +23,11 @@ slice-aggregate-convert-lent-2 : tie.Need-slice-aggregate-convert-lent-2
 slice-aggregate-convert-lent-2 c = let s = c .before .before .before .before .before .before .before .before in sym (length-take-le (s .args .call .ancillae) (s .args .ancillae .now) (s .pre .0 .1))
 
 slice-relend-prefix-convert-lent : tie.Need-slice-relend-prefix-convert-lent
+unfolding mostWorkspace
 slice-relend-prefix-convert-lent c = let s = c .before .before .before .before .before .before .before .before in lent-within mostWorkspace (s .args .call .workspace) (c .before .before .least .ensures) (s .args .workspace .now) (s .pre .1 .0)
 
 slice-aggregate-convert-lent-3 : tie.Need-slice-aggregate-convert-lent-3
+unfolding mostWorkspace
 slice-aggregate-convert-lent-3 c = let s = c .before .before .before .before .before .before .before .before .before in sym (length-take-le (c .before .before .before .least .result) (s .args .workspace .now) (lent-within mostWorkspace (s .args .call .workspace) (c .before .before .before .least .ensures) (s .args .workspace .now) (s .pre .1 .0)))
 
 slice-relend-prefix-convert-lent-2 : tie.Need-slice-relend-prefix-convert-lent-2
@@ -47,6 +49,7 @@ same-length-3 : tie.Need-same-length-3
 same-length-3 c = search needs
 
 returns : tie.Need-returns
+unfolding mostWorkspace
 returns c = let s = c .before .before .before .before .before .before .before .before .before .before .before .before .before .before .before .before .before .before in
     let a = s .args in
     let l = c .before .before .before .before .before .before .before .before .before .before .before .before .least in

@@ -20,9 +20,11 @@ slice-aggregate-rollback-lent : tie.Need-slice-aggregate-rollback-lent
 slice-aggregate-rollback-lent c = let s = c .before .before .before .before .before .before in sym (length-take-le (s .args .call .program) (s .args .program .now) (s .pre .0 .0))
 
 slice-relend-prefix-rollback-lent : tie.Need-slice-relend-prefix-rollback-lent
+unfolding mostWorkspace
 slice-relend-prefix-rollback-lent c = let s = c .before .before .before .before .before .before in lent-within mostWorkspace (s .args .call .workspace) (c .before .least .ensures) (s .args .workspace .now) (s .pre .1 .0)
 
 slice-aggregate-rollback-lent-2 : tie.Need-slice-aggregate-rollback-lent-2
+unfolding mostWorkspace
 slice-aggregate-rollback-lent-2 c = let s = c .before .before .before .before .before .before .before in sym (length-take-le (c .before .before .least .result) (s .args .workspace .now) (lent-within mostWorkspace (s .args .call .workspace) (c .before .before .least .ensures) (s .args .workspace .now) (s .pre .1 .0)))
 
 slice-relend-prefix-rollback-lent-2 : tie.Need-slice-relend-prefix-rollback-lent-2
@@ -44,6 +46,7 @@ same-length-3 : tie.Need-same-length-3
 same-length-3 c = search needs
 
 returns : tie.Need-returns
+unfolding mostWorkspace
 returns c = let s = c .before .before .before .before .before .before .before .before .before .before .before .before .before .before .before .before in
     let a = s .args in
     let l = c .before .before .before .before .before .before .before .before .before .before .before .least in

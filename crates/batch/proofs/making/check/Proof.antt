@@ -18,9 +18,11 @@ slice-aggregate-check : tie.Need-slice-aggregate-check
 slice-aggregate-check c = let s = c .before .before .before .before .before in sym (length-take-le (s .args .call .program) (s .args .program .now) (s .pre .0))
 
 slice-relend-prefix-check : tie.Need-slice-relend-prefix-check
+unfolding mostWorkspace
 slice-relend-prefix-check c = let s = c .before .before .before .before .before in lent-within mostWorkspace (s .args .call .workspace) (c .before .least .ensures) (s .args .workspace .now) (s .pre .1 .0)
 
 slice-aggregate-check-2 : tie.Need-slice-aggregate-check-2
+unfolding mostWorkspace
 slice-aggregate-check-2 c = let s = c .before .before .before .before .before .before in
     sym (length-take-le (c .before .before .least .result) (s .args .workspace .now) (lent-within mostWorkspace (s .args .call .workspace) (c .before .before .least .ensures) (s .args .workspace .now) (s .pre .1 .0)))
 
@@ -37,6 +39,7 @@ same-length-2 : tie.Need-same-length-2
 same-length-2 c = search needs
 
 returns : tie.Need-returns
+unfolding mostWorkspace
 returns c = let s = c .before .before .before .before .before .before .before .before .before .before .before .before .before in
     let l = c .before .before .before .before .before .before .before .before .before .least in
     let done = c .before .before .before .before .before .before .check in

@@ -29,20 +29,25 @@ slice-aggregate-run-lent-3 : tie.Need-slice-aggregate-run-lent-3
 slice-aggregate-run-lent-3 c = let s = c .before .before .before .before .before .before .before .before .before .before .before in sym (length-take-le (s .args .call .value) (s .args .value .now) (s .pre .0 .2))
 
 slice-relend-prefix-run-lent : tie.Need-slice-relend-prefix-run-lent
+unfolding mostWorkspace
 slice-relend-prefix-run-lent c = let s = c .before .before .before .before .before .before .before .before .before .before .before in lent-within mostWorkspace (s .args .call .workspace) (c .before .before .before .before .least .ensures) (s .args .workspace .now) (s .pre .1 .0 .0)
 
 slice-aggregate-run-lent-4 : tie.Need-slice-aggregate-run-lent-4
+unfolding mostWorkspace
 slice-aggregate-run-lent-4 c = let s = c .before .before .before .before .before .before .before .before .before .before .before .before in
     sym (length-take-le (c .before .before .before .before .before .least .result) (s .args .workspace .now) (lent-within mostWorkspace (s .args .call .workspace) (c .before .before .before .before .before .least .ensures) (s .args .workspace .now) (s .pre .1 .0 .0)))
 
 slice-relend-prefix-run-lent-2 : tie.Need-slice-relend-prefix-run-lent-2
+unfolding mostOutput
 slice-relend-prefix-run-lent-2 c = let s = c .before .before .before .before .before .before .before .before .before .before .before .before in lent-within mostOutput (s .args .call .output) (c .before .before .before .before .least2 .ensures) (s .args .output .now) (s .pre .1 .0 .1)
 
 slice-aggregate-run-lent-5 : tie.Need-slice-aggregate-run-lent-5
+unfolding mostOutput
 slice-aggregate-run-lent-5 c = let s = c .before .before .before .before .before .before .before .before .before .before .before .before .before in
     sym (length-take-le (c .before .before .before .before .before .least2 .result) (s .args .output .now) (lent-within mostOutput (s .args .call .output) (c .before .before .before .before .before .least2 .ensures) (s .args .output .now) (s .pre .1 .0 .1)))
 
 run-lent-requires : tie.Need-run-lent-requires
+unfolding mostOutput
 run-lent-requires c κs = let s = c .before .before .before .before .before .before .before .before .before .before .before .before .before .before in
     omega (arith, lent-length mostOutput (s .args .call .output) (c .before .before .before .before .before .before .least2 .ensures) (s .args .output .now) (s .pre .1 .0 .1), capped-most mostOutput (s .args .call .output), s .pre .1 .1)
 
@@ -56,6 +61,7 @@ same-length-3 : tie.Need-same-length-3
 same-length-3 c = search needs
 
 returns : tie.Need-returns
+unfolding mostWorkspace mostOutput
 returns c = let s = c .before .before .before .before .before .before .before .before .before .before .before .before .before .before .before .before .before .before .before .before .before in
     let a = s .args in
     let l = c .before .before .before .before .before .before .before .before .before .before .before .before .before .before .least in

@@ -1,5 +1,6 @@
 use mathlib.Core.Path.{sym, _∙_}
 use borrow.Author.Tests.{not-true, not-false}
+use Rattle.batch.specs.Capped.{mostWorkspace, mostOutput}
 use Rattle.batch.proofs.Lending.{short-program, short-ancillae, short-value, short-workspace, short-output, last-test}
 use borrow.Author.Needs.{needs}
 use Rattle.batch.proofs.room.enough.Statement.{statement}
@@ -24,15 +25,18 @@ returns-3 : tie.Need-returns-3
 returns-3 c = let a = c .before .before .before .before .before .before .args in short-value (a .line) (a .program) (a .ancillae) (a .value) (a .workspace) (a .output) (a .out) (sym (c .before .before .before .before .before .fits-digits .ensures) ∙ not-false (c .before .before .before .before .before .fits-digits .result) (c .before .before .before .before .if1 .left)) (sym (c .before .before .before .fits-digits2 .ensures) ∙ not-false (c .before .before .before .fits-digits2 .result) (c .before .before .if2 .left)) (sym (c .before .fits-digits3 .ensures) ∙ not-true (c .before .fits-digits3 .result) (c .if3 .taken))
 
 returns-4 : tie.Need-returns-4
+unfolding mostWorkspace
 returns-4 c = let a = c .before .before .before .before .before .before .before .args in short-workspace (a .line) (a .program) (a .ancillae) (a .value) (a .workspace) (a .output) (a .out) (sym (c .before .before .before .before .before .before .fits-digits .ensures) ∙ not-false (c .before .before .before .before .before .before .fits-digits .result) (c .before .before .before .before .before .if1 .left)) (sym (c .before .before .before .before .fits-digits2 .ensures) ∙ not-false (c .before .before .before .before .fits-digits2 .result) (c .before .before .before .if2 .left)) (sym (c .before .before .fits-digits3 .ensures) ∙ not-false (c .before .before .fits-digits3 .result) (c .before .if3 .left)) (c .if4 .taken)
 
 returns-5 : tie.Need-returns-5
+unfolding mostWorkspace mostOutput
 returns-5 c = let a = c .before .before .before .before .before .before .before .before .args in short-output (a .line) (a .program) (a .ancillae) (a .value) (a .workspace) (a .output) (a .out) (sym (c .before .before .before .before .before .before .before .fits-digits .ensures) ∙ not-false (c .before .before .before .before .before .before .before .fits-digits .result) (c .before .before .before .before .before .before .if1 .left)) (sym (c .before .before .before .before .before .fits-digits2 .ensures) ∙ not-false (c .before .before .before .before .before .fits-digits2 .result) (c .before .before .before .before .if2 .left)) (sym (c .before .before .before .fits-digits3 .ensures) ∙ not-false (c .before .before .before .fits-digits3 .result) (c .before .before .if3 .left)) (c .before .if4 .left) (c .if5 .taken)
 
 fits-answer-requires : tie.Need-fits-answer-requires
 fits-answer-requires c κs = search needs
 
 returns-6 : tie.Need-returns-6
+unfolding mostWorkspace mostOutput
 returns-6 c = let a = c .before .before .before .before .before .before .before .before .before .args in c .fits-answer .ensures ∙ last-test (a .line) (a .program) (a .ancillae) (a .value) (a .workspace) (a .output) (a .out) (sym (c .before .before .before .before .before .before .before .before .fits-digits .ensures) ∙ not-false (c .before .before .before .before .before .before .before .before .fits-digits .result) (c .before .before .before .before .before .before .before .if1 .left)) (sym (c .before .before .before .before .before .before .fits-digits2 .ensures) ∙ not-false (c .before .before .before .before .before .before .fits-digits2 .result) (c .before .before .before .before .before .if2 .left)) (sym (c .before .before .before .before .fits-digits3 .ensures) ∙ not-false (c .before .before .before .before .fits-digits3 .result) (c .before .before .before .if3 .left)) (c .before .before .if4 .left) (c .before .if5 .left)
 
 pub enough-spec : {M : Type 1} → statement M

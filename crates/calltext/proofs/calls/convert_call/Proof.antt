@@ -1,5 +1,6 @@
 use native.Mathlib.Omega.{arith}
 use mathlib.Core.Path.{refl, sym, _∙_}
+use Rattle.rules.specs.Limits.{maxFuel}
 use Rattle.calltext.proofs.Saying.{told-number, told-no-number, told-bytes, told-no-bytes, number-within, bytes-within, counted, miscounted, parses, unread}
 use Rattle.calltext.proofs.Arguments.{convert-1, convert-2, convert-3, convert-4, convert-5, convert-6, convert-all}
 use borrow.Author.Needs.{needs}
@@ -36,6 +37,7 @@ enum-told-2 : tie.Need-enum-told-2
 enum-told-2 c = search needs
 
 returns-3 : tie.Need-returns-3
+unfolding maxFuel
 returns-3 c = parses (convert-2 _ (told-number (c .before .before .before .before .before .before .number-at .ensures) (c .before .before .before .before .workspace .given .1)) (told-no-number (c .before .before .number-at2 .ensures) (c .enum-told2 .given .1)) ∙ counted _ _ _ (sym (c .before .before .before .before .before .before .before .before .count-spaces .ensures) ∙ c .before .before .before .before .before .before .before .if1 .left)) tt
     (unread _ λ k. refl)
 
@@ -49,6 +51,7 @@ enum-told-3 : tie.Need-enum-told-3
 enum-told-3 c = search needs
 
 returns-4 : tie.Need-returns-4
+unfolding maxFuel
 returns-4 c = parses (convert-3 _ (told-number (c .before .before .before .before .before .before .before .before .before .before .number-at .ensures) (c .before .before .before .before .before .before .before .before .workspace .given .1)) (told-number (c .before .before .before .before .before .before .number-at2 .ensures) (c .before .before .before .before .fuel .given .1)) (told-no-number (c .before .before .number-at3 .ensures) (c .enum-told3 .given .1)) ∙ counted _ _ _ (sym (c .before .before .before .before .before .before .before .before .before .before .before .before .count-spaces .ensures) ∙ c .before .before .before .before .before .before .before .before .before .before .before .if1 .left)) tt
     (unread _ λ k. refl)
 
@@ -65,6 +68,7 @@ same-length : tie.Need-same-length
 same-length c = search needs
 
 returns-5 : tie.Need-returns-5
+unfolding maxFuel
 returns-5 c = parses (convert-4 _ (told-number (c .before .before .before .before .before .before .before .before .before .before .before .before .before .before .before .before .before .number-at .ensures) (c .before .before .before .before .before .before .before .before .before .before .before .before .before .before .before .workspace .given .1)) (told-number (c .before .before .before .before .before .before .before .before .before .before .before .before .before .number-at2 .ensures) (c .before .before .before .before .before .before .before .before .before .before .before .fuel .given .1)) (told-number (c .before .before .before .before .before .before .before .before .before .number-at3 .ensures) (c .before .before .before .before .before .before .before .function .given .1)) (told-no-bytes (c .before .before .before .before .bytes-at .ensures) (c .enum-told4 .given .1)) ∙ counted _ _ _ (sym (c .before .before .before .before .before .before .before .before .before .before .before .before .before .before .before .before .before .before .before .count-spaces .ensures) ∙ c .before .before .before .before .before .before .before .before .before .before .before .before .before .before .before .before .before .before .if1 .left)) tt
     (record { program = c .before .before .before .before .bytes-at .ensures .left; ancillae = refl; value = refl })
 
@@ -84,6 +88,7 @@ same-length-3 : tie.Need-same-length-3
 same-length-3 c = search needs
 
 returns-6 : tie.Need-returns-6
+unfolding maxFuel
 returns-6 c = parses (convert-5 _ (told-number (c .before .before .before .before .before .before .before .before .before .before .before .before .before .before .before .before .before .before .before .before .before .before .before .before .number-at .ensures) (c .before .before .before .before .before .before .before .before .before .before .before .before .before .before .before .before .before .before .before .before .before .before .workspace .given .1)) (told-number (c .before .before .before .before .before .before .before .before .before .before .before .before .before .before .before .before .before .before .before .before .number-at2 .ensures) (c .before .before .before .before .before .before .before .before .before .before .before .before .before .before .before .before .before .before .fuel .given .1)) (told-number (c .before .before .before .before .before .before .before .before .before .before .before .before .before .before .before .before .number-at3 .ensures) (c .before .before .before .before .before .before .before .before .before .before .before .before .before .before .function .given .1)) (told-bytes (c .before .before .before .before .before .before .before .before .before .before .before .bytes-at .ensures) (c .before .before .before .before .before .before .before .p .given .1)) (told-no-bytes (c .before .before .before .before .bytes-at2 .ensures) (c .enum-told5 .given .1)) ∙ counted _ _ _ (sym (c .before .before .before .before .before .before .before .before .before .before .before .before .before .before .before .before .before .before .before .before .before .before .before .before .before .before .count-spaces .ensures) ∙ c .before .before .before .before .before .before .before .before .before .before .before .before .before .before .before .before .before .before .before .before .before .before .before .before .before .if1 .left)) tt
     (record { program = c .before .before .before .before .before .before .before .before .before .before .before .bytes-at .ensures .left; ancillae = c .before .before .before .before .bytes-at2 .ensures .left; value = refl })
 
@@ -106,6 +111,7 @@ same-length-6 : tie.Need-same-length-6
 same-length-6 c = search needs
 
 returns-7 : tie.Need-returns-7
+unfolding maxFuel
 returns-7 c = parses (convert-6 _ (told-number (c .before .before .before .before .before .before .before .before .before .before .before .before .before .before .before .before .before .before .before .before .before .before .before .before .before .before .before .before .before .before .before .number-at .ensures) (c .before .before .before .before .before .before .before .before .before .before .before .before .before .before .before .before .before .before .before .before .before .before .before .before .before .before .before .before .before .workspace .given .1)) (told-number (c .before .before .before .before .before .before .before .before .before .before .before .before .before .before .before .before .before .before .before .before .before .before .before .before .before .before .before .number-at2 .ensures) (c .before .before .before .before .before .before .before .before .before .before .before .before .before .before .before .before .before .before .before .before .before .before .before .before .before .fuel .given .1)) (told-number (c .before .before .before .before .before .before .before .before .before .before .before .before .before .before .before .before .before .before .before .before .before .before .before .number-at3 .ensures) (c .before .before .before .before .before .before .before .before .before .before .before .before .before .before .before .before .before .before .before .before .before .function .given .1)) (told-bytes (c .before .before .before .before .before .before .before .before .before .before .before .before .before .before .before .before .before .before .bytes-at .ensures) (c .before .before .before .before .before .before .before .before .before .before .before .before .before .before .p .given .1)) (told-bytes (c .before .before .before .before .before .before .before .before .before .before .before .bytes-at2 .ensures) (c .before .before .before .before .before .before .before .a .given .1)) (told-no-bytes (c .before .before .before .before .bytes-at3 .ensures) (c .enum-told6 .given .1)) ∙ counted _ _ _ (sym (c .before .before .before .before .before .before .before .before .before .before .before .before .before .before .before .before .before .before .before .before .before .before .before .before .before .before .before .before .before .before .before .before .before .count-spaces .ensures) ∙ c .before .before .before .before .before .before .before .before .before .before .before .before .before .before .before .before .before .before .before .before .before .before .before .before .before .before .before .before .before .before .before .before .if1 .left)) tt
     (record { program = c .before .before .before .before .before .before .before .before .before .before .before .before .before .before .before .before .before .before .bytes-at .ensures .left; ancillae = c .before .before .before .before .before .before .before .before .before .before .before .bytes-at2 .ensures .left; value = c .before .before .before .before .bytes-at3 .ensures .left })
 
@@ -125,6 +131,7 @@ same-length-9 : tie.Need-same-length-9
 same-length-9 c = search needs
 
 returns-8 : tie.Need-returns-8
+unfolding maxFuel
 returns-8 c = parses (convert-all _ (told-number (c .before .before .before .before .before .before .before .before .before .before .before .before .before .before .before .before .before .before .before .before .before .before .before .before .before .before .before .before .before .before .before .before .number-at .ensures) (c .before .before .before .before .before .before .before .before .before .before .before .before .before .before .before .before .before .before .before .before .before .before .before .before .before .before .before .before .before .before .workspace .given .1)) (told-number (c .before .before .before .before .before .before .before .before .before .before .before .before .before .before .before .before .before .before .before .before .before .before .before .before .before .before .before .before .number-at2 .ensures) (c .before .before .before .before .before .before .before .before .before .before .before .before .before .before .before .before .before .before .before .before .before .before .before .before .before .before .fuel .given .1)) (told-number (c .before .before .before .before .before .before .before .before .before .before .before .before .before .before .before .before .before .before .before .before .before .before .before .before .number-at3 .ensures) (c .before .before .before .before .before .before .before .before .before .before .before .before .before .before .before .before .before .before .before .before .before .before .function .given .1)) (told-bytes (c .before .before .before .before .before .before .before .before .before .before .before .before .before .before .before .before .before .before .before .bytes-at .ensures) (c .before .before .before .before .before .before .before .before .before .before .before .before .before .before .before .p .given .1)) (told-bytes (c .before .before .before .before .before .before .before .before .before .before .before .before .bytes-at2 .ensures) (c .before .before .before .before .before .before .before .before .a .given .1)) (told-bytes (c .before .before .before .before .before .bytes-at3 .ensures) (c .before .j .given .1)) ∙ counted _ _ _ (sym (c .before .before .before .before .before .before .before .before .before .before .before .before .before .before .before .before .before .before .before .before .before .before .before .before .before .before .before .before .before .before .before .before .before .before .count-spaces .ensures) ∙ c .before .before .before .before .before .before .before .before .before .before .before .before .before .before .before .before .before .before .before .before .before .before .before .before .before .before .before .before .before .before .before .before .before .if1 .left)) (bytes-within (c .before .before .before .before .before .before .before .before .before .before .before .before .before .before .before .before .before .before .before .bytes-at .ensures) (c .before .before .before .before .before .before .before .before .before .before .before .before .before .before .before .p .given .1), bytes-within (c .before .before .before .before .before .before .before .before .before .before .before .before .bytes-at2 .ensures) (c .before .before .before .before .before .before .before .before .a .given .1), bytes-within (c .before .before .before .before .before .bytes-at3 .ensures) (c .before .j .given .1))
     (record { program = c .before .before .before .before .before .before .before .before .before .before .before .before .before .before .before .before .before .before .before .bytes-at .ensures .left; ancillae = c .before .before .before .before .before .before .before .before .before .before .before .before .bytes-at2 .ensures .left; value = c .before .before .before .before .before .bytes-at3 .ensures .left })
 

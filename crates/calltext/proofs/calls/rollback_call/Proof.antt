@@ -1,5 +1,6 @@
 use native.Mathlib.Omega.{arith}
 use mathlib.Core.Path.{refl, sym, _∙_}
+use Rattle.rules.specs.Limits.{maxFuel}
 use Rattle.calltext.proofs.Saying.{told-number, told-no-number, told-bytes, told-no-bytes, number-within, bytes-within, counted, miscounted, parses, unread}
 use Rattle.calltext.proofs.Arguments.{rollback-1, rollback-2, rollback-3, rollback-4, rollback-all}
 use borrow.Author.Needs.{needs}
@@ -36,6 +37,7 @@ enum-told-2 : tie.Need-enum-told-2
 enum-told-2 c = search needs
 
 returns-3 : tie.Need-returns-3
+unfolding maxFuel
 returns-3 c = parses (rollback-2 _ (told-number (c .before .before .before .before .before .before .number-at .ensures) (c .before .before .before .before .workspace .given .1)) (told-no-number (c .before .before .number-at2 .ensures) (c .enum-told2 .given .1)) ∙ counted _ _ _ (sym (c .before .before .before .before .before .before .before .before .count-spaces .ensures) ∙ c .before .before .before .before .before .before .before .if1 .left)) tt
     (unread _ λ k. refl)
 
@@ -52,6 +54,7 @@ same-length : tie.Need-same-length
 same-length c = search needs
 
 returns-4 : tie.Need-returns-4
+unfolding maxFuel
 returns-4 c = parses (rollback-3 _ (told-number (c .before .before .before .before .before .before .before .before .before .before .before .before .before .number-at .ensures) (c .before .before .before .before .before .before .before .before .before .before .before .workspace .given .1)) (told-number (c .before .before .before .before .before .before .before .before .before .number-at2 .ensures) (c .before .before .before .before .before .before .before .fuel .given .1)) (told-no-bytes (c .before .before .before .before .bytes-at .ensures) (c .enum-told3 .given .1)) ∙ counted _ _ _ (sym (c .before .before .before .before .before .before .before .before .before .before .before .before .before .before .before .count-spaces .ensures) ∙ c .before .before .before .before .before .before .before .before .before .before .before .before .before .before .if1 .left)) tt
     (record { program = c .before .before .before .before .bytes-at .ensures .left; ancillae = refl; value = refl })
 
@@ -71,6 +74,7 @@ same-length-3 : tie.Need-same-length-3
 same-length-3 c = search needs
 
 returns-5 : tie.Need-returns-5
+unfolding maxFuel
 returns-5 c = parses (rollback-4 _ (told-number (c .before .before .before .before .before .before .before .before .before .before .before .before .before .before .before .before .before .before .before .before .number-at .ensures) (c .before .before .before .before .before .before .before .before .before .before .before .before .before .before .before .before .before .before .workspace .given .1)) (told-number (c .before .before .before .before .before .before .before .before .before .before .before .before .before .before .before .before .number-at2 .ensures) (c .before .before .before .before .before .before .before .before .before .before .before .before .before .before .fuel .given .1)) (told-bytes (c .before .before .before .before .before .before .before .before .before .before .before .bytes-at .ensures) (c .before .before .before .before .before .before .before .p .given .1)) (told-no-bytes (c .before .before .before .before .bytes-at2 .ensures) (c .enum-told4 .given .1)) ∙ counted _ _ _ (sym (c .before .before .before .before .before .before .before .before .before .before .before .before .before .before .before .before .before .before .before .before .before .before .count-spaces .ensures) ∙ c .before .before .before .before .before .before .before .before .before .before .before .before .before .before .before .before .before .before .before .before .before .if1 .left)) tt
     (record { program = c .before .before .before .before .before .before .before .before .before .before .before .bytes-at .ensures .left; ancillae = refl; value = c .before .before .before .before .bytes-at2 .ensures .left })
 
@@ -84,6 +88,7 @@ same-length-5 : tie.Need-same-length-5
 same-length-5 c = search needs
 
 returns-6 : tie.Need-returns-6
+unfolding maxFuel
 returns-6 c = parses (rollback-all _ (told-number (c .before .before .before .before .before .before .before .before .before .before .before .before .before .before .before .before .before .before .before .before .before .number-at .ensures) (c .before .before .before .before .before .before .before .before .before .before .before .before .before .before .before .before .before .before .before .workspace .given .1)) (told-number (c .before .before .before .before .before .before .before .before .before .before .before .before .before .before .before .before .before .number-at2 .ensures) (c .before .before .before .before .before .before .before .before .before .before .before .before .before .before .before .fuel .given .1)) (told-bytes (c .before .before .before .before .before .before .before .before .before .before .before .before .bytes-at .ensures) (c .before .before .before .before .before .before .before .before .p .given .1)) (told-bytes (c .before .before .before .before .before .bytes-at2 .ensures) (c .before .j .given .1)) ∙ counted _ _ _ (sym (c .before .before .before .before .before .before .before .before .before .before .before .before .before .before .before .before .before .before .before .before .before .before .before .count-spaces .ensures) ∙ c .before .before .before .before .before .before .before .before .before .before .before .before .before .before .before .before .before .before .before .before .before .before .if1 .left)) (bytes-within (c .before .before .before .before .before .before .before .before .before .before .before .before .bytes-at .ensures) (c .before .before .before .before .before .before .before .before .p .given .1), bytes-within (c .before .before .before .before .before .bytes-at2 .ensures) (c .before .j .given .1))
     (record { program = c .before .before .before .before .before .before .before .before .before .before .before .before .bytes-at .ensures .left; ancillae = refl; value = c .before .before .before .before .before .bytes-at2 .ensures .left })
 

@@ -1,5 +1,6 @@
 use native.Mathlib.Omega.{arith}
 use mathlib.Core.Path.{refl}
+use Rattle.rules.specs.Limits.{maxFuel}
 use Rattle.calltext.proofs.Saying.{told-number, told-no-number, told-bytes, told-no-bytes, number-within, bytes-within, parses, unread}
 use Rattle.calltext.proofs.Arguments.{run-1, run-2, run-3, run-4, run-5, run-6, run-7, run-all}
 use borrow.Author.Needs.{needs}
@@ -42,6 +43,7 @@ enum-told-3 : tie.Need-enum-told-3
 enum-told-3 c = search needs
 
 returns-3 : tie.Need-returns-3
+unfolding maxFuel
 returns-3 c = parses (run-3 _ _ (told-number (c .before .before .before .before .before .before .before .before .before .before .number-at .ensures) (c .before .before .before .before .before .before .before .before .workspace .given .1)) (told-number (c .before .before .before .before .before .before .number-at2 .ensures) (c .before .before .before .before .output .given .1)) (told-no-number (c .before .before .number-at3 .ensures) (c .enum-told3 .given .1))) tt
     (unread _ λ k. refl)
 
@@ -55,6 +57,7 @@ enum-told-4 : tie.Need-enum-told-4
 enum-told-4 c = search needs
 
 returns-4 : tie.Need-returns-4
+unfolding maxFuel
 returns-4 c = parses (run-4 _ _ (told-number (c .before .before .before .before .before .before .before .before .before .before .before .before .before .before .number-at .ensures) (c .before .before .before .before .before .before .before .before .before .before .before .before .workspace .given .1)) (told-number (c .before .before .before .before .before .before .before .before .before .before .number-at2 .ensures) (c .before .before .before .before .before .before .before .before .output .given .1)) (told-number (c .before .before .before .before .before .before .number-at3 .ensures) (c .before .before .before .before .fuel .given .1)) (told-no-number (c .before .before .number-at4 .ensures) (c .enum-told4 .given .1))) tt
     (unread _ λ k. refl)
 
@@ -71,6 +74,7 @@ same-length : tie.Need-same-length
 same-length c = search needs
 
 returns-5 : tie.Need-returns-5
+unfolding maxFuel
 returns-5 c = parses (run-5 _ _ (told-number (c .before .before .before .before .before .before .before .before .before .before .before .before .before .before .before .before .before .before .before .before .before .number-at .ensures) (c .before .before .before .before .before .before .before .before .before .before .before .before .before .before .before .before .before .before .before .workspace .given .1)) (told-number (c .before .before .before .before .before .before .before .before .before .before .before .before .before .before .before .before .before .number-at2 .ensures) (c .before .before .before .before .before .before .before .before .before .before .before .before .before .before .before .output .given .1)) (told-number (c .before .before .before .before .before .before .before .before .before .before .before .before .before .number-at3 .ensures) (c .before .before .before .before .before .before .before .before .before .before .before .fuel .given .1)) (told-number (c .before .before .before .before .before .before .before .before .before .number-at4 .ensures) (c .before .before .before .before .before .before .before .function .given .1)) (told-no-bytes (c .before .before .before .before .bytes-at .ensures) (c .enum-told5 .given .1))) tt
     (record { program = c .before .before .before .before .bytes-at .ensures .left; ancillae = refl; value = refl })
 
@@ -90,6 +94,7 @@ same-length-3 : tie.Need-same-length-3
 same-length-3 c = search needs
 
 returns-6 : tie.Need-returns-6
+unfolding maxFuel
 returns-6 c = parses (run-6 _ _ (told-number (c .before .before .before .before .before .before .before .before .before .before .before .before .before .before .before .before .before .before .before .before .before .before .before .before .before .before .before .before .number-at .ensures) (c .before .before .before .before .before .before .before .before .before .before .before .before .before .before .before .before .before .before .before .before .before .before .before .before .before .before .workspace .given .1)) (told-number (c .before .before .before .before .before .before .before .before .before .before .before .before .before .before .before .before .before .before .before .before .before .before .before .before .number-at2 .ensures) (c .before .before .before .before .before .before .before .before .before .before .before .before .before .before .before .before .before .before .before .before .before .before .output .given .1)) (told-number (c .before .before .before .before .before .before .before .before .before .before .before .before .before .before .before .before .before .before .before .before .number-at3 .ensures) (c .before .before .before .before .before .before .before .before .before .before .before .before .before .before .before .before .before .before .fuel .given .1)) (told-number (c .before .before .before .before .before .before .before .before .before .before .before .before .before .before .before .before .number-at4 .ensures) (c .before .before .before .before .before .before .before .before .before .before .before .before .before .before .function .given .1)) (told-bytes (c .before .before .before .before .before .before .before .before .before .before .before .bytes-at .ensures) (c .before .before .before .before .before .before .before .p .given .1)) (told-no-bytes (c .before .before .before .before .bytes-at2 .ensures) (c .enum-told6 .given .1))) tt
     (record { program = c .before .before .before .before .before .before .before .before .before .before .before .bytes-at .ensures .left; ancillae = c .before .before .before .before .bytes-at2 .ensures .left; value = refl })
 
@@ -112,6 +117,7 @@ same-length-6 : tie.Need-same-length-6
 same-length-6 c = search needs
 
 returns-7 : tie.Need-returns-7
+unfolding maxFuel
 returns-7 c = parses (run-7 _ _ (told-number (c .before .before .before .before .before .before .before .before .before .before .before .before .before .before .before .before .before .before .before .before .before .before .before .before .before .before .before .before .before .before .before .before .before .before .before .number-at .ensures) (c .before .before .before .before .before .before .before .before .before .before .before .before .before .before .before .before .before .before .before .before .before .before .before .before .before .before .before .before .before .before .before .before .before .workspace .given .1)) (told-number (c .before .before .before .before .before .before .before .before .before .before .before .before .before .before .before .before .before .before .before .before .before .before .before .before .before .before .before .before .before .before .before .number-at2 .ensures) (c .before .before .before .before .before .before .before .before .before .before .before .before .before .before .before .before .before .before .before .before .before .before .before .before .before .before .before .before .before .output .given .1)) (told-number (c .before .before .before .before .before .before .before .before .before .before .before .before .before .before .before .before .before .before .before .before .before .before .before .before .before .before .before .number-at3 .ensures) (c .before .before .before .before .before .before .before .before .before .before .before .before .before .before .before .before .before .before .before .before .before .before .before .before .before .fuel .given .1)) (told-number (c .before .before .before .before .before .before .before .before .before .before .before .before .before .before .before .before .before .before .before .before .before .before .before .number-at4 .ensures) (c .before .before .before .before .before .before .before .before .before .before .before .before .before .before .before .before .before .before .before .before .before .function .given .1)) (told-bytes (c .before .before .before .before .before .before .before .before .before .before .before .before .before .before .before .before .before .before .bytes-at .ensures) (c .before .before .before .before .before .before .before .before .before .before .before .before .before .before .p .given .1)) (told-bytes (c .before .before .before .before .before .before .before .before .before .before .before .bytes-at2 .ensures) (c .before .before .before .before .before .before .before .a .given .1)) (told-no-bytes (c .before .before .before .before .bytes-at3 .ensures) (c .enum-told7 .given .1))) tt
     (record { program = c .before .before .before .before .before .before .before .before .before .before .before .before .before .before .before .before .before .before .bytes-at .ensures .left; ancillae = c .before .before .before .before .before .before .before .before .before .before .before .bytes-at2 .ensures .left; value = c .before .before .before .before .bytes-at3 .ensures .left })
 
@@ -131,6 +137,7 @@ same-length-9 : tie.Need-same-length-9
 same-length-9 c = search needs
 
 returns-8 : tie.Need-returns-8
+unfolding maxFuel
 returns-8 c = parses (run-all _ _ (told-number (c .before .before .before .before .before .before .before .before .before .before .before .before .before .before .before .before .before .before .before .before .before .before .before .before .before .before .before .before .before .before .before .before .before .before .before .before .number-at .ensures) (c .before .before .before .before .before .before .before .before .before .before .before .before .before .before .before .before .before .before .before .before .before .before .before .before .before .before .before .before .before .before .before .before .before .before .workspace .given .1)) (told-number (c .before .before .before .before .before .before .before .before .before .before .before .before .before .before .before .before .before .before .before .before .before .before .before .before .before .before .before .before .before .before .before .before .number-at2 .ensures) (c .before .before .before .before .before .before .before .before .before .before .before .before .before .before .before .before .before .before .before .before .before .before .before .before .before .before .before .before .before .before .output .given .1)) (told-number (c .before .before .before .before .before .before .before .before .before .before .before .before .before .before .before .before .before .before .before .before .before .before .before .before .before .before .before .before .number-at3 .ensures) (c .before .before .before .before .before .before .before .before .before .before .before .before .before .before .before .before .before .before .before .before .before .before .before .before .before .before .fuel .given .1)) (told-number (c .before .before .before .before .before .before .before .before .before .before .before .before .before .before .before .before .before .before .before .before .before .before .before .before .number-at4 .ensures) (c .before .before .before .before .before .before .before .before .before .before .before .before .before .before .before .before .before .before .before .before .before .before .function .given .1)) (told-bytes (c .before .before .before .before .before .before .before .before .before .before .before .before .before .before .before .before .before .before .before .bytes-at .ensures) (c .before .before .before .before .before .before .before .before .before .before .before .before .before .before .before .p .given .1)) (told-bytes (c .before .before .before .before .before .before .before .before .before .before .before .before .bytes-at2 .ensures) (c .before .before .before .before .before .before .before .before .a .given .1)) (told-bytes (c .before .before .before .before .before .bytes-at3 .ensures) (c .before .v .given .1))) (bytes-within (c .before .before .before .before .before .before .before .before .before .before .before .before .before .before .before .before .before .before .before .bytes-at .ensures) (c .before .before .before .before .before .before .before .before .before .before .before .before .before .before .before .p .given .1), bytes-within (c .before .before .before .before .before .before .before .before .before .before .before .before .bytes-at2 .ensures) (c .before .before .before .before .before .before .before .before .a .given .1), bytes-within (c .before .before .before .before .before .bytes-at3 .ensures) (c .before .v .given .1))
     (record { program = c .before .before .before .before .before .before .before .before .before .before .before .before .before .before .before .before .before .before .before .bytes-at .ensures .left; ancillae = c .before .before .before .before .before .before .before .before .before .before .before .before .bytes-at2 .ensures .left; value = c .before .before .before .before .before .bytes-at3 .ensures .left })
 
