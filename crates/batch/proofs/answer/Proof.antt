@@ -9,9 +9,14 @@ enough-requires : tie.Need-enough-requires
 enough-requires c κs = search needs
 
 answer-within-requires : tie.Need-answer-within-requires
-answer-within-requires c κs = let s = c .before .before .before .before .before .before .before .before .before .before .before .before .before .before .before in
+answer-within-requires c κs =
+    let at-if1 = c .before .before .before .before .before .before in
+    let at-enough = at-if1 .before in
+    let at-before = at-enough .before .before .before .before .before .before .before in
+    let s = at-before .before in
     let a = s .args in
-    enough-all (length (a .line .now)) (length (a .program .now)) (length (a .ancillae .now)) (length (a .value .now)) (length (a .workspace .now)) (length (a .output .now)) (length (a .out .now)) (sym (c .before .before .before .before .before .before .before .enough .ensures) ∙ c .before .before .before .before .before .before .if1 .taken)
+    enough-all (length (a .line .now)) (length (a .program .now)) (length (a .ancillae .now)) (length (a .value .now)) (length (a .workspace .now))
+    (length (a .output .now)) (length (a .out .now)) (sym (at-enough .enough .ensures) ∙ at-if1 .if1 .taken)
 
 same-length : tie.Need-same-length
 same-length c = search needs
@@ -32,8 +37,12 @@ same-length-6 : tie.Need-same-length-6
 same-length-6 c = search needs
 
 returns : tie.Need-returns
-returns c = let made = c .before .before .before .before .before .before .before .before .before .before .before .before .answer-within in
-    answered-line (sym (c .before .before .before .before .before .before .before .before .before .before .before .before .before .before .before .before .before .before .before .before .enough .ensures) ∙ c .before .before .before .before .before .before .before .before .before .before .before .before .before .before .before .before .before .before .before .if1 .taken) (made .ensures .0) (made .ensures .1 .0) (made .ensures .1 .1)
+returns c =
+    let at-answer-within = c .before .before .before .before .before .before .before .before .before .before .before .before in
+    let at-if1 = at-answer-within .before .before .before .before .before .before .before in
+    let at-enough = at-if1 .before in
+    let made = at-answer-within .answer-within in
+    answered-line (sym (at-enough .enough .ensures) ∙ at-if1 .if1 .taken) (made .ensures .0) (made .ensures .1 .0) (made .ensures .1 .1)
 
 returns-2 : tie.Need-returns-2
 returns-2 c = short-line (sym (c .before .enough .ensures) ∙ c .if1 .left) refl

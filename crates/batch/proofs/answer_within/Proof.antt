@@ -9,8 +9,11 @@ parse-requires : tie.Need-parse-requires
 parse-requires c κs = search needs
 
 reply-requires : tie.Need-reply-requires
-reply-requires c κs = let s = c .before .before .before .before .before .before .before .before .before .before .before .before .before .before .before .before .before .before .before .before .before .before .before in
-    (c .before .before .before .before .before .before .before .before .before .before .before .before .parse .ensures .within, (s .pre .1 .0, omega (arith, s .pre .1 .1, c .before .before .before .before .before .before .before .before .before .before .before .before .parse .kept .1 .1 .1 .0)))
+reply-requires c κs =
+    let at-parse = c .before .before .before .before .before .before .before .before .before .before .before .before in
+    let at-before = at-parse .before .before .before .before .before .before .before .before .before .before in
+    let s = at-before .before in
+    (at-parse .parse .ensures .within, (s .pre .1 .0, omega (arith, s .pre .1 .1, at-parse .parse .kept .1 .1 .1 .0)))
 
 same-length : tie.Need-same-length
 same-length c = search needs
@@ -32,8 +35,11 @@ same-length-6 c = search needs
 
 returns : tie.Need-returns
 unfolding programLeft ancillaeLeft valueLeft
-returns c = let parsed = c .before .before .before .before .before .before .before .before .before .before .before .before .before .before .before .before .before .before .before .before .before .parse .ensures in
-    (replies-as (c .before .before .before .before .before .before .before .before .reply .ensures) (parsed .said) (parsed .left .value), (parsed .left .program, parsed .left .ancillae))
+returns c =
+    let at-reply = c .before .before .before .before .before .before .before .before in
+    let at-parse = at-reply .before .before .before .before .before .before .before .before .before .before .before .before .before in
+    let parsed = at-parse .parse .ensures in
+    (replies-as (at-reply .reply .ensures) (parsed .said) (parsed .left .value), (parsed .left .program, parsed .left .ancillae))
 
 pub answer-within-spec : {M : Type 1} → statement M
 answer-within-spec =

@@ -22,11 +22,15 @@ same-length-3 : tie.Need-same-length-3
 same-length-3 c = search needs
 
 returns : tie.Need-returns
-returns c = let a = c .before .before .before .before .before .before .before .before .before .before .before .before .before .before .before .before .before .args in
-    let made = c .before .before .before .before .before .before .before .before .before .«open» in (
-      wrote-as (c .before .before .opened-line .ensures) (tells-open (made .result) (openCall (a .program .now) (a .held .now) (length (a .workspace .now)) (length (a .journal .now))) (a .journal .now) (made .ensures .0) (made .ensures .1 .0)),
-      (made .ensures .1 .0, made .ensures .1 .1),
-    )
+returns c =
+    let at-opened-line = c .before .before in
+    let at-before = at-opened-line .before .before .before .before .before .before in
+    let start = at-before .before .before .before .before .before .before .before .before .before in
+    let a = start .args in
+    let made = at-before .before .«open» in
+    ( wrote-as (at-opened-line .opened-line .ensures) (tells-open (made .result)
+    (openCall (a .program .now) (a .held .now) (length (a .workspace .now)) (length (a .journal .now))) (a .journal .now) (made .ensures .0)
+    (made .ensures .1 .0)), (made .ensures .1 .0, made .ensures .1 .1), )
 
 pub open-lent-spec : {M : Type 1} → statement M
 open-lent-spec =

@@ -19,12 +19,20 @@ slice-aggregate-check c = let s = c .before .before .before .before .before in s
 
 slice-relend-prefix-check : tie.Need-slice-relend-prefix-check
 unfolding mostWorkspace
-slice-relend-prefix-check c = let s = c .before .before .before .before .before in lent-within mostWorkspace (s .args .call .workspace) (c .before .least .ensures) (s .args .workspace .now) (s .pre .1 .0)
+slice-relend-prefix-check c =
+    let at-least = c .before in
+    let at-before = at-least .before .before .before in
+    let s = at-before .before in
+    lent-within mostWorkspace (s .args .call .workspace) (at-least .least .ensures) (s .args .workspace .now) (s .pre .1 .0)
 
 slice-aggregate-check-2 : tie.Need-slice-aggregate-check-2
 unfolding mostWorkspace
-slice-aggregate-check-2 c = let s = c .before .before .before .before .before .before in
-    sym (length-take-le (c .before .before .least .result) (s .args .workspace .now) (lent-within mostWorkspace (s .args .call .workspace) (c .before .before .least .ensures) (s .args .workspace .now) (s .pre .1 .0)))
+slice-aggregate-check-2 c =
+    let at-least = c .before .before in
+    let at-before = at-least .before .before .before in
+    let s = at-before .before in
+    sym (length-take-le (at-least .least .result) (s .args .workspace .now)
+    (lent-within mostWorkspace (s .args .call .workspace) (at-least .least .ensures) (s .args .workspace .now) (s .pre .1 .0)))
 
 check-requires : tie.Need-check-requires
 check-requires c κs = search needs
@@ -40,13 +48,18 @@ same-length-2 c = search needs
 
 returns : tie.Need-returns
 unfolding mostWorkspace
-returns c = let s = c .before .before .before .before .before .before .before .before .before .before .before .before .before in
-    let l = c .before .before .before .before .before .before .before .before .before .least in
-    let done = c .before .before .before .before .before .before .check in
-    let same = check-lent (s .args .call .workspace) (l .ensures) (s .args .workspace .now) (s .pre .1 .0) (take (s .args .call .program) (s .args .program .now)) in (
-      wrote-as (c .before .before .check-line .ensures) (ap checkText (done .ensures .0 ∙ same)),
-      on-front (l .ensures) (s .args .workspace .now) _ (done .ensures .1 ∙ ap (λ x. cleared x (take (l .result) (s .args .workspace .now))) same),
-    )
+returns c =
+    let at-check-line = c .before .before in
+    let at-check = at-check-line .before .before .before .before in
+    let at-least = at-check .before .before .before in
+    let at-before = at-least .before .before .before in
+    let s = at-before .before in
+    let l = at-least .least in
+    let done = at-check .check in
+    let same = check-lent (s .args .call .workspace) (l .ensures) (s .args .workspace .now) (s .pre .1 .0)
+        (take (s .args .call .program) (s .args .program .now)) in
+    ( wrote-as (at-check-line .check-line .ensures) (ap checkText (done .ensures .0 ∙ same)), on-front (l .ensures) (s .args .workspace .now) _
+    (done .ensures .1 ∙ ap (λ x. cleared x (take (l .result) (s .args .workspace .now))) same), )
 
 pub check-spec : {M : Type 1} → statement M
 check-spec =

@@ -17,9 +17,13 @@ same-length-2 c = search needs
 
 returns : tie.Need-returns
 unfolding runCall
-returns c = let a = c .before .before .before .before .before .before .before .before .before .before .before .before .before .args in
-    means-as (record { answer = c .before .before .before .before .backward .ensures .0; fills = c .before .before .before .before .backward .ensures .1 .0; clear = c .before .before .before .before .backward .ensures .1 .1 })
-    (ap (λ b. runCall b (a .program .now) (a .function) (a .ancillae .now) (a .value .now) (a .fuel) (length (a .workspace .now)) (length (a .output .now))) (sym (c .before .before .before .before .before .before .before .if1 .taken)))
+returns c =
+    let at-backward = c .before .before .before .before in
+    let at-if1 = at-backward .before .before .before in
+    let start = at-if1 .before .before .before .before .before .before in
+    let a = start .args in
+    means-as
+    (record { answer = at-backward .backward .ensures .0; fills = at-backward .backward .ensures .1 .0; clear = at-backward .backward .ensures .1 .1 }) (ap (λ b. runCall b (a .program .now) (a .function) (a .ancillae .now) (a .value .now) (a .fuel) (length (a .workspace .now)) (length (a .output .now))) (sym (at-if1 .if1 .taken)))
 
 forward-requires : tie.Need-forward-requires
 forward-requires c κs = search needs
@@ -32,9 +36,15 @@ same-length-4 c = search needs
 
 returns-2 : tie.Need-returns-2
 unfolding runCall
-returns-2 c = let a = c .before .before .before .before .before .before .before .before .before .before .before .before .before .args in
-    means-as (record { answer = c .before .before .before .before .forward .ensures .0; fills = c .before .before .before .before .forward .ensures .1 .0; clear = c .before .before .before .before .forward .ensures .1 .1 })
-    (ap (λ b. runCall b (a .program .now) (a .function) (a .ancillae .now) (a .value .now) (a .fuel) (length (a .workspace .now)) (length (a .output .now))) (sym (c .before .before .before .before .before .before .before .if1 .left)))
+returns-2 c =
+    let at-forward = c .before .before .before .before in
+    let at-if1 = at-forward .before .before .before in
+    let start = at-if1 .before .before .before .before .before .before in
+    let a = start .args in
+    means-as
+    (record { answer = at-forward .forward .ensures .0; fills = at-forward .forward .ensures .1 .0; clear = at-forward .forward .ensures .1 .1 })
+    (ap (λ b. runCall b (a .program .now) (a .function) (a .ancillae .now) (a .value .now) (a .fuel) (length (a .workspace .now))
+    (length (a .output .now))) (sym (at-if1 .if1 .left)))
 
 pub run-either-spec : {M : Type 1} → statement M
 run-either-spec =

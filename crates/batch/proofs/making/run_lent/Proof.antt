@@ -12,11 +12,17 @@ run-either-requires : tie.Need-run-either-requires
 run-either-requires c κs = search needs
 
 run-line-requires : tie.Need-run-line-requires
-run-line-requires c κs = let s = c .before .before .before .before .before .before .before .before .before .before .before .before .before .before .before in
+run-line-requires c κs =
+    let at-run-either = c .before .before .before .before .before .before in
+    let at-before = at-run-either .before .before .before .before .before .before .before .before in
+    let s = at-before .before in
     let a = s .args in
-    let fits = length-within (c .before .before .before .before .before .before .run-either .result) (runCall (a .backward) (a .program .now) (a .function) (a .ancillae .now) (a .value .now) (a .fuel) (length (a .workspace .now)) (length (a .output .now))) (length (a .output .now)) (c .before .before .before .before .before .before .run-either .ensures .answer)
-    (λ y e. run-within (a .backward) (length (a .workspace .now)) (length (a .output .now)) (a .fuel) (a .function) (a .program .now) (a .ancillae .now) (a .value .now) y e) in
-    let same = c .before .before .before .before .before .before .run-either .kept .1 .1 .1 .1 .1 .1 .1 .0 in
+    let fits = length-within (at-run-either .run-either .result)
+        (runCall (a .backward) (a .program .now) (a .function) (a .ancillae .now) (a .value .now) (a .fuel) (length (a .workspace .now))
+        (length (a .output .now))) (length (a .output .now)) (at-run-either .run-either .ensures .answer)
+        (λ y e. run-within (a .backward) (length (a .workspace .now)) (length (a .output .now)) (a .fuel) (a .function) (a .program .now)
+        (a .ancillae .now) (a .value .now) y e) in
+    let same = at-run-either .run-either .kept .1 .1 .1 .1 .1 .1 .1 .0 in
     (omega (arith, fits, same), (omega (arith, same, s .pre), omega (arith, s .pre)))
 
 same-length : tie.Need-same-length
@@ -29,12 +35,15 @@ same-length-3 : tie.Need-same-length-3
 same-length-3 c = search needs
 
 returns : tie.Need-returns
-returns c = let a = c .before .before .before .before .before .before .before .before .before .before .before .before .before .before .before .before .before .before .args in
-    let ran = c .before .before .before .before .before .before .before .before .before .run-either in (
-      wrote-as (c .before .before .run-line .ensures)
-          (tells-run (ran .result) (runCall (a .backward) (a .program .now) (a .function) (a .ancillae .now) (a .value .now) (a .fuel) (length (a .workspace .now)) (length (a .output .now))) (a .output .now) (ran .ensures .answer) (ran .ensures .fills)),
-      (ran .ensures .fills, ran .ensures .clear),
-    )
+returns c =
+    let at-run-line = c .before .before in
+    let at-run-either = at-run-line .before .before .before .before .before .before .before in
+    let start = at-run-either .before .before .before .before .before .before .before .before .before in
+    let a = start .args in
+    let ran = at-run-either .run-either in
+    ( wrote-as (at-run-line .run-line .ensures) (tells-run (ran .result)
+    (runCall (a .backward) (a .program .now) (a .function) (a .ancillae .now) (a .value .now) (a .fuel) (length (a .workspace .now))
+    (length (a .output .now))) (a .output .now) (ran .ensures .answer) (ran .ensures .fills)), (ran .ensures .fills, ran .ensures .clear), )
 
 pub run-lent-spec : {M : Type 1} → statement M
 run-lent-spec =

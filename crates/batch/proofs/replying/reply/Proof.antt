@@ -12,41 +12,61 @@ enum-known-parsed : tie.Need-enum-known-parsed
 enum-known-parsed c = search needs
 
 check-requires : tie.Need-check-requires
-check-requires c κs = let s = c .before .before .before .before .before .before .before .before .before .before .before in
+check-requires c κs =
+    let at-parsed = c .before .before .before in
+    let at-before = at-parsed .before .before .before .before .before .before .before in
+    let s = at-before .before in
     let a = s .args in
-    (subst (λ q. Within q (a .program .now) (a .ancillae .now) (a .value .now)) (c .before .before .before .parsed .given .1) (s .pre .0), (s .pre .1 .0 .0, omega (arith, s .pre .1 .1)))
+    (subst (λ q. Within q (a .program .now) (a .ancillae .now) (a .value .now)) (at-parsed .parsed .given .1) (s .pre .0),
+    (s .pre .1 .0 .0, omega (arith, s .pre .1 .1)))
 
 enum-known-parsed-2 : tie.Need-enum-known-parsed-2
 enum-known-parsed-2 c = search needs
 
 run-requires : tie.Need-run-requires
-run-requires c κs = let s = c .before .before .before .before .before .before .before .before .before .before .before .before .before in
+run-requires c κs =
+    let at-parsed2 = c .before .before .before .before .before in
+    let at-before = at-parsed2 .before .before .before .before .before .before .before in
+    let s = at-before .before in
     let a = s .args in
-    (subst (λ q. Within q (a .program .now) (a .ancillae .now) (a .value .now)) (c .before .before .before .before .before .parsed2 .given .1) (s .pre .0), (s .pre .1 .0, omega (arith, s .pre .1 .1)))
+    (subst (λ q. Within q (a .program .now) (a .ancillae .now) (a .value .now)) (at-parsed2 .parsed2 .given .1) (s .pre .0),
+    (s .pre .1 .0, omega (arith, s .pre .1 .1)))
 
 enum-known-parsed-3 : tie.Need-enum-known-parsed-3
 enum-known-parsed-3 c = search needs
 
 open-requires : tie.Need-open-requires
-open-requires c κs = let s = c .before .before .before .before .before .before .before .before .before .before .before .before in
+open-requires c κs =
+    let at-parsed3 = c .before .before .before .before in
+    let at-before = at-parsed3 .before .before .before .before .before .before .before in
+    let s = at-before .before in
     let a = s .args in
-    (subst (λ q. Within q (a .program .now) (a .ancillae .now) (a .value .now)) (c .before .before .before .before .parsed3 .given .1) (s .pre .0), (s .pre .1 .0 .0, omega (arith, s .pre .1 .1)))
+    (subst (λ q. Within q (a .program .now) (a .ancillae .now) (a .value .now)) (at-parsed3 .parsed3 .given .1) (s .pre .0),
+    (s .pre .1 .0 .0, omega (arith, s .pre .1 .1)))
 
 enum-known-parsed-4 : tie.Need-enum-known-parsed-4
 enum-known-parsed-4 c = search needs
 
 convert-requires : tie.Need-convert-requires
-convert-requires c κs = let s = c .before .before .before .before .before .before .before .before .before .before .before .before in
+convert-requires c κs =
+    let at-parsed4 = c .before .before .before .before in
+    let at-before = at-parsed4 .before .before .before .before .before .before .before in
+    let s = at-before .before in
     let a = s .args in
-    (subst (λ q. Within q (a .program .now) (a .ancillae .now) (a .value .now)) (c .before .before .before .before .parsed4 .given .1) (s .pre .0), (s .pre .1 .0 .0, omega (arith, s .pre .1 .1)))
+    (subst (λ q. Within q (a .program .now) (a .ancillae .now) (a .value .now)) (at-parsed4 .parsed4 .given .1) (s .pre .0),
+    (s .pre .1 .0 .0, omega (arith, s .pre .1 .1)))
 
 enum-known-parsed-5 : tie.Need-enum-known-parsed-5
 enum-known-parsed-5 c = search needs
 
 rollback-requires : tie.Need-rollback-requires
-rollback-requires c κs = let s = c .before .before .before .before .before .before .before .before .before .before .before .before in
+rollback-requires c κs =
+    let at-parsed5 = c .before .before .before .before in
+    let at-before = at-parsed5 .before .before .before .before .before .before .before in
+    let s = at-before .before in
     let a = s .args in
-    (subst (λ q. Within q (a .program .now) (a .ancillae .now) (a .value .now)) (c .before .before .before .before .parsed5 .given .1) (s .pre .0), (s .pre .1 .0 .0, omega (arith, s .pre .1 .1)))
+    (subst (λ q. Within q (a .program .now) (a .ancillae .now) (a .value .now)) (at-parsed5 .parsed5 .given .1) (s .pre .0),
+    (s .pre .1 .0 .0, omega (arith, s .pre .1 .1)))
 
 enum-told : tie.Need-enum-told
 enum-told c = search needs
@@ -92,8 +112,13 @@ same-length-2 c = search needs
 
 returns : tie.Need-returns
 unfolding answerTo workspaceAfter outputAfter journalAfter
-returns c = let a = c .before .before .before .before .before .before .before .before .before .before .before .before .before .before .before .before .args in
-    replies-as (record { told = c .before .before .before .before .check .ensures .0; value = refl; workspace = c .before .before .before .before .check .ensures .1; output = refl }) (ap (λ q. lineOf q (a .program .now) (a .ancillae .now) (a .value .now)) (sym (c .before .before .before .before .before .before .before .before .parsed .given .1))) refl
+returns c =
+    let at-check = c .before .before .before .before in
+    let at-parsed = at-check .before .before .before .before in
+    let start = at-parsed .before .before .before .before .before .before .before .before in
+    let a = start .args in
+    replies-as (record { told = at-check .check .ensures .0; value = refl; workspace = at-check .check .ensures .1; output = refl })
+    (ap (λ q. lineOf q (a .program .now) (a .ancillae .now) (a .value .now)) (sym (at-parsed .parsed .given .1))) refl
 
 same-length-3 : tie.Need-same-length-3
 same-length-3 c = search needs
@@ -109,9 +134,14 @@ same-length-6 c = search needs
 
 returns-2 : tie.Need-returns-2
 unfolding answerTo workspaceAfter outputAfter journalAfter
-returns-2 c = let a = c .before .before .before .before .before .before .before .before .before .before .before .before .before .before .before .before .before .before .before .before .args in
-    let made = c .before .before .before .before .before .before .run in
-    replies-as (record { told = made .ensures .0; value = refl; workspace = made .ensures .1 .1; output = made .ensures .1 .0 }) (ap (λ q. lineOf q (a .program .now) (a .ancillae .now) (a .value .now)) (sym (c .before .before .before .before .before .before .before .before .before .before .before .before .parsed2 .given .1))) refl
+returns-2 c =
+    let at-run = c .before .before .before .before .before .before in
+    let at-parsed2 = at-run .before .before .before .before .before .before in
+    let start = at-parsed2 .before .before .before .before .before .before .before .before in
+    let a = start .args in
+    let made = at-run .run in
+    replies-as (record { told = made .ensures .0; value = refl; workspace = made .ensures .1 .1; output = made .ensures .1 .0 })
+    (ap (λ q. lineOf q (a .program .now) (a .ancillae .now) (a .value .now)) (sym (at-parsed2 .parsed2 .given .1))) refl
 
 same-length-7 : tie.Need-same-length-7
 same-length-7 c = search needs
@@ -124,9 +154,14 @@ same-length-9 c = search needs
 
 returns-3 : tie.Need-returns-3
 unfolding answerTo workspaceAfter outputAfter journalAfter
-returns-3 c = let a = c .before .before .before .before .before .before .before .before .before .before .before .before .before .before .before .before .before .before .before .args in
-    let made = c .before .before .before .before .before .before .«open» in
-    replies-as (record { told = made .ensures .0; value = made .ensures .1 .0; workspace = made .ensures .1 .1; output = refl }) (ap (λ q. lineOf q (a .program .now) (a .ancillae .now) (a .value .now)) (sym (c .before .before .before .before .before .before .before .before .before .before .before .parsed3 .given .1))) refl
+returns-3 c =
+    let at-before = c .before .before .before .before .before in
+    let at-parsed3 = at-before .before .before .before .before .before .before in
+    let start = at-parsed3 .before .before .before .before .before .before .before .before in
+    let a = start .args in
+    let made = at-before .before .«open» in
+    replies-as (record { told = made .ensures .0; value = made .ensures .1 .0; workspace = made .ensures .1 .1; output = refl })
+    (ap (λ q. lineOf q (a .program .now) (a .ancillae .now) (a .value .now)) (sym (at-parsed3 .parsed3 .given .1))) refl
 
 same-length-10 : tie.Need-same-length-10
 same-length-10 c = search needs
@@ -139,9 +174,14 @@ same-length-12 c = search needs
 
 returns-4 : tie.Need-returns-4
 unfolding answerTo workspaceAfter outputAfter journalAfter
-returns-4 c = let a = c .before .before .before .before .before .before .before .before .before .before .before .before .before .before .before .before .before .before .before .args in
-    let made = c .before .before .before .before .before .before .convert in
-    replies-as (record { told = made .ensures .0; value = made .ensures .1 .0; workspace = made .ensures .1 .1; output = refl }) (ap (λ q. lineOf q (a .program .now) (a .ancillae .now) (a .value .now)) (sym (c .before .before .before .before .before .before .before .before .before .before .before .parsed4 .given .1))) refl
+returns-4 c =
+    let at-convert = c .before .before .before .before .before .before in
+    let at-parsed4 = at-convert .before .before .before .before .before in
+    let start = at-parsed4 .before .before .before .before .before .before .before .before in
+    let a = start .args in
+    let made = at-convert .convert in
+    replies-as (record { told = made .ensures .0; value = made .ensures .1 .0; workspace = made .ensures .1 .1; output = refl })
+    (ap (λ q. lineOf q (a .program .now) (a .ancillae .now) (a .value .now)) (sym (at-parsed4 .parsed4 .given .1))) refl
 
 same-length-13 : tie.Need-same-length-13
 same-length-13 c = search needs
@@ -154,41 +194,66 @@ same-length-15 c = search needs
 
 returns-5 : tie.Need-returns-5
 unfolding answerTo workspaceAfter outputAfter journalAfter
-returns-5 c = let a = c .before .before .before .before .before .before .before .before .before .before .before .before .before .before .before .before .before .before .before .args in
-    let made = c .before .before .before .before .before .before .rollback in
-    replies-as (record { told = made .ensures .0; value = made .ensures .1 .0; workspace = made .ensures .1 .1; output = refl }) (ap (λ q. lineOf q (a .program .now) (a .ancillae .now) (a .value .now)) (sym (c .before .before .before .before .before .before .before .before .before .before .before .parsed5 .given .1))) refl
+returns-5 c =
+    let at-rollback = c .before .before .before .before .before .before in
+    let at-parsed5 = at-rollback .before .before .before .before .before in
+    let start = at-parsed5 .before .before .before .before .before .before .before .before in
+    let a = start .args in
+    let made = at-rollback .rollback in
+    replies-as (record { told = made .ensures .0; value = made .ensures .1 .0; workspace = made .ensures .1 .1; output = refl })
+    (ap (λ q. lineOf q (a .program .now) (a .ancillae .now) (a .value .now)) (sym (at-parsed5 .parsed5 .given .1))) refl
 
 same-length-16 : tie.Need-same-length-16
 same-length-16 c = search needs
 
 returns-6 : tie.Need-returns-6
 unfolding answerTo workspaceAfter outputAfter journalAfter
-returns-6 c = let a = c .before .before .before .before .before .before .before .before .before .before .before .before .before .args in
-    replies-as (record { told = c .before .before .put .ensures; value = refl; workspace = refl; output = refl }) (ap (λ q. lineOf q (a .program .now) (a .ancillae .now) (a .value .now)) (sym (c .before .before .before .before .before .enum-told .given .1))) refl
+returns-6 c =
+    let at-put = c .before .before in
+    let at-enum-told = at-put .before .before .before in
+    let start = at-enum-told .before .before .before .before .before .before .before .before in
+    let a = start .args in
+    replies-as (record { told = at-put .put .ensures; value = refl; workspace = refl; output = refl })
+    (ap (λ q. lineOf q (a .program .now) (a .ancillae .now) (a .value .now)) (sym (at-enum-told .enum-told .given .1))) refl
 
 same-length-17 : tie.Need-same-length-17
 same-length-17 c = search needs
 
 returns-7 : tie.Need-returns-7
 unfolding answerTo workspaceAfter outputAfter journalAfter
-returns-7 c = let a = c .before .before .before .before .before .before .before .before .before .before .before .before .before .args in
-    replies-as (record { told = c .before .before .put2 .ensures; value = refl; workspace = refl; output = refl }) (ap (λ q. lineOf q (a .program .now) (a .ancillae .now) (a .value .now)) (sym (c .before .before .before .before .before .enum-told2 .given .1))) refl
+returns-7 c =
+    let at-put2 = c .before .before in
+    let at-enum-told2 = at-put2 .before .before .before in
+    let start = at-enum-told2 .before .before .before .before .before .before .before .before in
+    let a = start .args in
+    replies-as (record { told = at-put2 .put2 .ensures; value = refl; workspace = refl; output = refl })
+    (ap (λ q. lineOf q (a .program .now) (a .ancillae .now) (a .value .now)) (sym (at-enum-told2 .enum-told2 .given .1))) refl
 
 same-length-18 : tie.Need-same-length-18
 same-length-18 c = search needs
 
 returns-8 : tie.Need-returns-8
 unfolding answerTo workspaceAfter outputAfter journalAfter
-returns-8 c = let a = c .before .before .before .before .before .before .before .before .before .before .before .before .before .before .args in
-    replies-as (record { told = c .before .before .word-error .ensures; value = refl; workspace = refl; output = refl }) (ap (λ q. lineOf q (a .program .now) (a .ancillae .now) (a .value .now)) (sym (c .before .before .before .before .before .before .parsed6 .given .1))) refl
+returns-8 c =
+    let at-word-error = c .before .before in
+    let at-parsed6 = at-word-error .before .before .before .before in
+    let start = at-parsed6 .before .before .before .before .before .before .before .before in
+    let a = start .args in
+    replies-as (record { told = at-word-error .word-error .ensures; value = refl; workspace = refl; output = refl })
+    (ap (λ q. lineOf q (a .program .now) (a .ancillae .now) (a .value .now)) (sym (at-parsed6 .parsed6 .given .1))) refl
 
 same-length-19 : tie.Need-same-length-19
 same-length-19 c = search needs
 
 returns-9 : tie.Need-returns-9
 unfolding answerTo workspaceAfter outputAfter journalAfter
-returns-9 c = let a = c .before .before .before .before .before .before .before .before .before .before .before .before .before .before .args in
-    replies-as (record { told = c .before .before .word-error2 .ensures; value = refl; workspace = refl; output = refl }) (ap (λ q. lineOf q (a .program .now) (a .ancillae .now) (a .value .now)) (sym (c .before .before .before .before .before .before .parsed7 .given .1))) refl
+returns-9 c =
+    let at-word-error2 = c .before .before in
+    let at-parsed7 = at-word-error2 .before .before .before .before in
+    let start = at-parsed7 .before .before .before .before .before .before .before .before in
+    let a = start .args in
+    replies-as (record { told = at-word-error2 .word-error2 .ensures; value = refl; workspace = refl; output = refl })
+    (ap (λ q. lineOf q (a .program .now) (a .ancillae .now) (a .value .now)) (sym (at-parsed7 .parsed7 .given .1))) refl
 
 pub reply-spec : {M : Type 1} → statement M
 reply-spec =

@@ -13,17 +13,29 @@ put-requires : tie.Need-put-requires
 put-requires c κs = search needs
 
 put-number-requires : tie.Need-put-number-requires
-put-number-requires c κs = omega (arith, c .before .before .before .put .ensures .ends, c .before .before .before .put .ensures .kept, c .before .before .before .before .before .before .before .before .pre, at-most-twenty (c .before .before .before .before .before .before .before .before .args .k) (search needs))
+put-number-requires c κs =
+    let at-put = c .before .before .before in
+    let start = at-put .before .before .before .before .before in
+    omega (arith, at-put .put .ensures .ends, at-put .put .ensures .kept, start .pre, at-most-twenty (start .args .k) (search needs))
 
 put-requires-2 : tie.Need-put-requires-2
-put-requires-2 c κs = omega (arith, c .before .before .before .before .before .before .before .put .ensures .ends, c .before .before .before .before .before .before .before .put .ensures .kept, c .before .before .before .put-number .ensures .ends, c .before .before .before .put-number .ensures .kept, c .before .before .before .before .before .before .before .before .before .before .before .before .pre, at-most-twenty (c .before .before .before .before .before .before .before .before .before .before .before .before .args .k) (search needs))
+put-requires-2 c κs =
+    let at-put-number = c .before .before .before in
+    let at-put = at-put-number .before .before .before .before in
+    let start = at-put .before .before .before .before .before in
+    omega (arith, at-put .put .ensures .ends, at-put .put .ensures .kept, at-put-number .put-number .ensures .ends,
+    at-put-number .put-number .ensures .kept, start .pre, at-most-twenty (start .args .k) (search needs))
 
 same-length : tie.Need-same-length
 same-length c = search needs
 
 returns : tie.Need-returns
 unfolding wordError
-returns c = wrote-both (wrote-both (c .before .before .before .before .before .before .before .before .before .before .put .ensures) (c .before .before .before .before .before .before .put-number .ensures)) (c .before .before .put2 .ensures)
+returns c =
+    let at-put2 = c .before .before in
+    let at-put-number = at-put2 .before .before .before .before in
+    let at-put = at-put-number .before .before .before .before in
+    wrote-both (wrote-both (at-put .put .ensures) (at-put-number .put-number .ensures)) (at-put2 .put2 .ensures)
 
 pub word-error-spec : {M : Type 1} → statement M
 word-error-spec =

@@ -16,14 +16,23 @@ slice-aggregate-put : tie.Need-slice-aggregate-put
 slice-aggregate-put c = search needs
 
 put-requires : tie.Need-put-requires
-put-requires c κs = omega (arith, c .before .before .before .before .before .before .before .before .put-counts .ensures .1, c .before .before .before .before .before .before .before .before .put-counts .ensures .0 .kept, c .before .before .before .before .encode .ensures .ends, c .before .before .before .before .encode .ensures .kept, c .before .before .before .before .before .before .before .before .before .before .before .before .pre, hex-length (c .before .before .before .before .before .before .before .before .before .before .before .before .args .journal .now))
+put-requires c κs =
+    let at-encode = c .before .before .before .before in
+    let at-put-counts = at-encode .before .before .before .before in
+    let start = at-put-counts .before .before .before .before in
+    omega (arith, at-put-counts .put-counts .ensures .1, at-put-counts .put-counts .ensures .0 .kept, at-encode .encode .ensures .ends,
+    at-encode .encode .ensures .kept, start .pre, hex-length (start .args .journal .now))
 
 same-length : tie.Need-same-length
 same-length c = search needs
 
 returns : tie.Need-returns
 unfolding heldLine
-returns c = wrote-both (wrote-both (c .before .before .before .before .before .before .before .before .before .before .before .put-counts .ensures .0) (c .before .before .before .before .before .before .before .encode .ensures)) (c .before .before .put .ensures)
+returns c =
+    let at-put = c .before .before in
+    let at-encode = at-put .before .before .before .before .before in
+    let at-put-counts = at-encode .before .before .before .before in
+    wrote-both (wrote-both (at-put-counts .put-counts .ensures .0) (at-encode .encode .ensures)) (at-put .put .ensures)
 
 pub held-line-spec : {M : Type 1} → statement M
 held-line-spec =

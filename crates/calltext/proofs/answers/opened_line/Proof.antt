@@ -19,14 +19,23 @@ slice-aggregate-put-2 : tie.Need-slice-aggregate-put-2
 slice-aggregate-put-2 c = search needs
 
 put-requires-2 : tie.Need-put-requires-2
-put-requires-2 c κs = omega (arith, c .before .before .before .before .before .before .before .before .put .ensures .ends, c .before .before .before .before .before .before .before .before .put .ensures .kept, c .before .before .before .before .encode .ensures .ends, c .before .before .before .before .encode .ensures .kept, c .before .before .before .before .before .before .before .before .before .before .before .before .before .pre, hex-length (c .before .before .before .before .before .before .before .before .before .before .before .before .before .args .journal .now))
+put-requires-2 c κs =
+    let at-encode = c .before .before .before .before in
+    let at-put = at-encode .before .before .before .before in
+    let start = at-put .before .before .before .before .before in
+    omega (arith, at-put .put .ensures .ends, at-put .put .ensures .kept, at-encode .encode .ensures .ends, at-encode .encode .ensures .kept,
+    start .pre, hex-length (start .args .journal .now))
 
 same-length : tie.Need-same-length
 same-length c = search needs
 
 returns : tie.Need-returns
 unfolding openedLine
-returns c = wrote-both (wrote-both (c .before .before .before .before .before .before .before .before .before .before .before .put .ensures) (c .before .before .before .before .before .before .before .encode .ensures)) (c .before .before .put2 .ensures)
+returns c =
+    let at-put2 = c .before .before in
+    let at-encode = at-put2 .before .before .before .before .before in
+    let at-put = at-encode .before .before .before .before in
+    wrote-both (wrote-both (at-put .put .ensures) (at-encode .encode .ensures)) (at-put2 .put2 .ensures)
 
 pub opened-line-spec : {M : Type 1} → statement M
 opened-line-spec =

@@ -17,8 +17,12 @@ same-length : tie.Need-same-length
 same-length c = search needs
 
 returns : tie.Need-returns
-returns c = let s = c .before .before .before .before .before .before .args in
-    subst (λ l. Wrote (s .out .now) l (s .at) (s .at + length (s .text .now)) (s .text .now)) (sym (c .before .before .copy .ensures)) (wrote-copy (s .out .now) (s .at) (s .text .now) (c .before .before .before .before .before .before .pre))
+returns c =
+    let at-copy = c .before .before in
+    let start = at-copy .before .before .before .before in
+    let s = start .args in
+    subst (λ l. Wrote (s .out .now) l (s .at) (s .at + length (s .text .now)) (s .text .now)) (sym (at-copy .copy .ensures))
+    (wrote-copy (s .out .now) (s .at) (s .text .now) (start .pre))
 
 pub put-spec : {M : Type 1} → statement M
 put-spec = tie.close (tie.spec copy-requires add-result same-length returns)

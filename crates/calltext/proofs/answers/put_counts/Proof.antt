@@ -13,29 +13,63 @@ put-requires : tie.Need-put-requires
 put-requires c κs = search needs
 
 put-number-requires : tie.Need-put-number-requires
-put-number-requires c κs = omega (arith, c .before .before .before .put .ensures .ends, c .before .before .before .put .ensures .kept, c .before .before .before .before .before .before .before .pre, at-most-twenty (c .before .before .before .before .before .before .before .args .len) (search needs))
+put-number-requires c κs =
+    let at-put = c .before .before .before in
+    let start = at-put .before .before .before .before in
+    omega (arith, at-put .put .ensures .ends, at-put .put .ensures .kept, start .pre, at-most-twenty (start .args .len) (search needs))
 
 slice-aggregate-put-2 : tie.Need-slice-aggregate-put-2
 slice-aggregate-put-2 c = search needs
 
 put-requires-2 : tie.Need-put-requires-2
-put-requires-2 c κs = omega (arith, c .before .before .before .before .before .before .before .before .put .ensures .ends, c .before .before .before .before .before .before .before .before .put .ensures .kept, c .before .before .before .before .put-number .ensures .ends, c .before .before .before .before .put-number .ensures .kept, c .before .before .before .before .before .before .before .before .before .before .before .before .pre, at-most-twenty (c .before .before .before .before .before .before .before .before .before .before .before .before .args .len) (search needs))
+put-requires-2 c κs =
+    let at-put-number = c .before .before .before .before in
+    let at-put = at-put-number .before .before .before .before in
+    let start = at-put .before .before .before .before in
+    omega (arith, at-put .put .ensures .ends, at-put .put .ensures .kept, at-put-number .put-number .ensures .ends,
+    at-put-number .put-number .ensures .kept, start .pre, at-most-twenty (start .args .len) (search needs))
 
 put-number-requires-2 : tie.Need-put-number-requires-2
-put-number-requires-2 c κs = omega (arith, c .before .before .before .before .before .before .before .before .before .before .before .before .put .ensures .ends, c .before .before .before .before .before .before .before .before .before .before .before .before .put .ensures .kept, c .before .before .before .before .before .before .before .before .put-number .ensures .ends, c .before .before .before .before .before .before .before .before .put-number .ensures .kept, c .before .before .before .put2 .ensures .ends, c .before .before .before .put2 .ensures .kept, c .before .before .before .before .before .before .before .before .before .before .before .before .before .before .before .before .pre, at-most-twenty (c .before .before .before .before .before .before .before .before .before .before .before .before .before .before .before .before .args .len) (search needs), at-most-twenty (c .before .before .before .before .before .before .before .before .before .before .before .before .before .before .before .before .args .steps) (search needs))
+put-number-requires-2 c κs =
+    let at-put2 = c .before .before .before in
+    let at-put-number = at-put2 .before .before .before .before .before in
+    let at-put = at-put-number .before .before .before .before in
+    let start = at-put .before .before .before .before in
+    omega (arith, at-put .put .ensures .ends, at-put .put .ensures .kept, at-put-number .put-number .ensures .ends,
+    at-put-number .put-number .ensures .kept, at-put2 .put2 .ensures .ends, at-put2 .put2 .ensures .kept, start .pre, at-most-twenty
+    (start .args .len) (search needs), at-most-twenty (start .args .steps) (search needs))
 
 slice-aggregate-put-3 : tie.Need-slice-aggregate-put-3
 slice-aggregate-put-3 c = search needs
 
 put-requires-3 : tie.Need-put-requires-3
-put-requires-3 c κs = omega (arith, c .before .before .before .before .before .before .before .before .before .before .before .before .before .before .before .before .before .put .ensures .ends, c .before .before .before .before .before .before .before .before .before .before .before .before .before .before .before .before .before .put .ensures .kept, c .before .before .before .before .before .before .before .before .before .before .before .before .before .put-number .ensures .ends, c .before .before .before .before .before .before .before .before .before .before .before .before .before .put-number .ensures .kept, c .before .before .before .before .before .before .before .before .put2 .ensures .ends, c .before .before .before .before .before .before .before .before .put2 .ensures .kept, c .before .before .before .before .put-number2 .ensures .ends, c .before .before .before .before .put-number2 .ensures .kept, c .before .before .before .before .before .before .before .before .before .before .before .before .before .before .before .before .before .before .before .before .before .pre, at-most-twenty (c .before .before .before .before .before .before .before .before .before .before .before .before .before .before .before .before .before .before .before .before .before .args .len) (search needs), at-most-twenty (c .before .before .before .before .before .before .before .before .before .before .before .before .before .before .before .before .before .before .before .before .before .args .steps) (search needs))
+put-requires-3 c κs =
+    let at-put-number2 = c .before .before .before .before in
+    let at-put2 = at-put-number2 .before .before .before .before in
+    let at-put-number = at-put2 .before .before .before .before .before in
+    let at-put = at-put-number .before .before .before .before in
+    let start = at-put .before .before .before .before in
+    omega (arith, at-put .put .ensures .ends, at-put .put .ensures .kept, at-put-number .put-number .ensures .ends,
+    at-put-number .put-number .ensures .kept, at-put2 .put2 .ensures .ends, at-put2 .put2 .ensures .kept, at-put-number2 .put-number2 .ensures .ends,
+    at-put-number2 .put-number2 .ensures .kept, start .pre, at-most-twenty (start .args .len) (search needs), at-most-twenty (start .args .steps)
+    (search needs))
 
 same-length : tie.Need-same-length
 same-length c = search needs
 
 returns : tie.Need-returns
 unfolding countsText
-returns c = (wrote-five (c .before .before .before .before .before .before .before .before .before .before .before .before .before .before .before .before .before .before .before .before .put .ensures) (c .before .before .before .before .before .before .before .before .before .before .before .before .before .before .before .before .put-number .ensures) (c .before .before .before .before .before .before .before .before .before .before .before .put2 .ensures) (c .before .before .before .before .before .before .before .put-number2 .ensures) (c .before .before .put3 .ensures), omega (arith, c .before .before .before .before .before .before .before .before .before .before .before .before .before .before .before .before .before .before .before .before .put .ensures .ends, c .before .before .before .before .before .before .before .before .before .before .before .before .before .before .before .before .put-number .ensures .ends, c .before .before .before .before .before .before .before .before .before .before .before .put2 .ensures .ends, c .before .before .before .before .before .before .before .put-number2 .ensures .ends, c .before .before .put3 .ensures .ends, at-most-twenty (c .before .before .before .before .before .before .before .before .before .before .before .before .before .before .before .before .before .before .before .before .before .before .before .before .args .len) (search needs), at-most-twenty (c .before .before .before .before .before .before .before .before .before .before .before .before .before .before .before .before .before .before .before .before .before .before .before .before .args .steps) (search needs)))
+returns c =
+    let at-put3 = c .before .before in
+    let at-put-number2 = at-put3 .before .before .before .before .before in
+    let at-put2 = at-put-number2 .before .before .before .before in
+    let at-put-number = at-put2 .before .before .before .before .before in
+    let at-put = at-put-number .before .before .before .before in
+    let start = at-put .before .before .before .before in
+    (wrote-five (at-put .put .ensures) (at-put-number .put-number .ensures) (at-put2 .put2 .ensures) (at-put-number2 .put-number2 .ensures)
+    (at-put3 .put3 .ensures), omega (arith, at-put .put .ensures .ends, at-put-number .put-number .ensures .ends, at-put2 .put2 .ensures .ends,
+    at-put-number2 .put-number2 .ensures .ends, at-put3 .put3 .ensures .ends, at-most-twenty (start .args .len) (search needs), at-most-twenty
+    (start .args .steps) (search needs)))
 
 pub put-counts-spec : {M : Type 1} → statement M
 put-counts-spec =

@@ -20,23 +20,58 @@ slice-aggregate-put-2 : tie.Need-slice-aggregate-put-2
 slice-aggregate-put-2 c = search needs
 
 put-requires-2 : tie.Need-put-requires-2
-put-requires-2 c κs = omega (arith, c .before .before .before .before .before .before .before .before .put .ensures .ends, c .before .before .before .before .before .before .before .before .put .ensures .kept, c .before .before .before .before .encode .ensures .ends, c .before .before .before .before .encode .ensures .kept, c .before .before .before .before .before .before .before .before .before .before .before .before .before .pre, hex-length (c .before .before .before .before .before .before .before .before .before .before .before .before .before .args .value .now))
+put-requires-2 c κs =
+    let at-encode = c .before .before .before .before in
+    let at-put = at-encode .before .before .before .before in
+    let start = at-put .before .before .before .before .before in
+    omega (arith, at-put .put .ensures .ends, at-put .put .ensures .kept, at-encode .encode .ensures .ends, at-encode .encode .ensures .kept,
+    start .pre, hex-length (start .args .value .now))
 
 put-number-requires : tie.Need-put-number-requires
-put-number-requires c κs = omega (arith, c .before .before .before .before .before .before .before .before .before .before .before .before .put .ensures .ends, c .before .before .before .before .before .before .before .before .before .before .before .before .put .ensures .kept, c .before .before .before .before .before .before .before .before .encode .ensures .ends, c .before .before .before .before .before .before .before .before .encode .ensures .kept, c .before .before .before .put2 .ensures .ends, c .before .before .before .put2 .ensures .kept, c .before .before .before .before .before .before .before .before .before .before .before .before .before .before .before .before .before .pre, hex-length (c .before .before .before .before .before .before .before .before .before .before .before .before .before .before .before .before .before .args .value .now), at-most-twenty (c .before .before .before .before .before .before .before .before .before .before .before .before .before .before .before .before .before .args .steps) (search needs))
+put-number-requires c κs =
+    let at-put2 = c .before .before .before in
+    let at-encode = at-put2 .before .before .before .before .before in
+    let at-put = at-encode .before .before .before .before in
+    let start = at-put .before .before .before .before .before in
+    omega (arith, at-put .put .ensures .ends, at-put .put .ensures .kept, at-encode .encode .ensures .ends, at-encode .encode .ensures .kept,
+    at-put2 .put2 .ensures .ends, at-put2 .put2 .ensures .kept, start .pre, hex-length (start .args .value .now), at-most-twenty (start .args .steps)
+    (search needs))
 
 slice-aggregate-put-3 : tie.Need-slice-aggregate-put-3
 slice-aggregate-put-3 c = search needs
 
 put-requires-3 : tie.Need-put-requires-3
-put-requires-3 c κs = omega (arith, c .before .before .before .before .before .before .before .before .before .before .before .before .before .before .before .before .before .put .ensures .ends, c .before .before .before .before .before .before .before .before .before .before .before .before .before .before .before .before .before .put .ensures .kept, c .before .before .before .before .before .before .before .before .before .before .before .before .before .encode .ensures .ends, c .before .before .before .before .before .before .before .before .before .before .before .before .before .encode .ensures .kept, c .before .before .before .before .before .before .before .before .put2 .ensures .ends, c .before .before .before .before .before .before .before .before .put2 .ensures .kept, c .before .before .before .before .put-number .ensures .ends, c .before .before .before .before .put-number .ensures .kept, c .before .before .before .before .before .before .before .before .before .before .before .before .before .before .before .before .before .before .before .before .before .before .pre, hex-length (c .before .before .before .before .before .before .before .before .before .before .before .before .before .before .before .before .before .before .before .before .before .before .args .value .now), at-most-twenty (c .before .before .before .before .before .before .before .before .before .before .before .before .before .before .before .before .before .before .before .before .before .before .args .steps) (search needs))
+put-requires-3 c κs =
+    let at-put-number = c .before .before .before .before in
+    let at-put2 = at-put-number .before .before .before .before in
+    let at-encode = at-put2 .before .before .before .before .before in
+    let at-put = at-encode .before .before .before .before in
+    let start = at-put .before .before .before .before .before in
+    omega (arith, at-put .put .ensures .ends, at-put .put .ensures .kept, at-encode .encode .ensures .ends, at-encode .encode .ensures .kept,
+    at-put2 .put2 .ensures .ends, at-put2 .put2 .ensures .kept, at-put-number .put-number .ensures .ends, at-put-number .put-number .ensures .kept,
+    start .pre, hex-length (start .args .value .now), at-most-twenty (start .args .steps) (search needs))
 
 same-length : tie.Need-same-length
-same-length c = let w = wrote-five (c .before .before .before .before .before .before .before .before .before .before .before .before .before .before .before .before .before .before .before .before .put .ensures) (c .before .before .before .before .before .before .before .before .before .before .before .before .before .before .before .before .encode .ensures) (c .before .before .before .before .before .before .before .before .before .before .before .put2 .ensures) (c .before .before .before .before .before .before .before .put-number .ensures) (c .before .before .put3 .ensures) in w .kept
+same-length c =
+    let at-put3 = c .before .before in
+    let at-put-number = at-put3 .before .before .before .before .before in
+    let at-put2 = at-put-number .before .before .before .before in
+    let at-encode = at-put2 .before .before .before .before .before in
+    let at-put = at-encode .before .before .before .before in
+    let w = wrote-five (at-put .put .ensures) (at-encode .encode .ensures) (at-put2 .put2 .ensures) (at-put-number .put-number .ensures)
+        (at-put3 .put3 .ensures) in
+    w .kept
 
 returns : tie.Need-returns
 unfolding valueLine
-returns c = wrote-five (c .before .before .before .before .before .before .before .before .before .before .before .before .before .before .before .before .before .before .before .before .put .ensures) (c .before .before .before .before .before .before .before .before .before .before .before .before .before .before .before .before .encode .ensures) (c .before .before .before .before .before .before .before .before .before .before .before .put2 .ensures) (c .before .before .before .before .before .before .before .put-number .ensures) (c .before .before .put3 .ensures)
+returns c =
+    let at-put3 = c .before .before in
+    let at-put-number = at-put3 .before .before .before .before .before in
+    let at-put2 = at-put-number .before .before .before .before in
+    let at-encode = at-put2 .before .before .before .before .before in
+    let at-put = at-encode .before .before .before .before in
+    wrote-five (at-put .put .ensures) (at-encode .encode .ensures) (at-put2 .put2 .ensures) (at-put-number .put-number .ensures)
+    (at-put3 .put3 .ensures)
 
 pub value-line-spec : {M : Type 1} → statement M
 value-line-spec =

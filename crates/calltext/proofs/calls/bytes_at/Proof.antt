@@ -10,7 +10,10 @@ word-requires : tie.Need-word-requires
 word-requires c κs = search needs
 
 decode-requires : tie.Need-decode-requires
-decode-requires c κs = omega (arith, c .before .before .before .before .pre, ap length (c .before .word .ensures), word-shorter (c .before .before .before .before .args .k) (c .before .before .before .before .args .line .now))
+decode-requires c κs =
+    let at-word = c .before in
+    let start = at-word .before .before .before in
+    omega (arith, start .pre, ap length (at-word .word .ensures), word-shorter (start .args .k) (start .args .line .now))
 
 same-length : tie.Need-same-length
 same-length c = search needs

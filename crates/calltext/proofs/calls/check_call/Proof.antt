@@ -31,15 +31,26 @@ same-length : tie.Need-same-length
 same-length c = search needs
 
 returns-2 : tie.Need-returns-2
-returns-2 c = parses (check-2 _ (told-number (c .before .before .before .before .before .before .before .before .before .number-at .ensures) (c .before .before .before .before .before .before .before .workspace .given .1)) (told-no-bytes (c .before .before .before .before .bytes-at .ensures) (c .enum-told2 .given .1))) tt
-    (record { program = c .before .before .before .before .bytes-at .ensures .left; ancillae = refl; value = refl })
+returns-2 c =
+    let at-bytes-at = c .before .before .before .before in
+    let at-workspace = at-bytes-at .before .before .before in
+    let at-number-at = at-workspace .before .before in
+    parses (check-2 _ (told-number (at-number-at .number-at .ensures) (at-workspace .workspace .given .1))
+    (told-no-bytes (at-bytes-at .bytes-at .ensures) (c .enum-told2 .given .1))) tt
+    (record { program = at-bytes-at .bytes-at .ensures .left; ancillae = refl; value = refl })
 
 same-length-2 : tie.Need-same-length-2
 same-length-2 c = search needs
 
 returns-3 : tie.Need-returns-3
-returns-3 c = parses (check-all _ (told-number (c .before .before .before .before .before .before .before .before .before .before .number-at .ensures) (c .before .before .before .before .before .before .before .before .workspace .given .1)) (told-bytes (c .before .before .before .before .before .bytes-at .ensures) (c .before .n .given .1))) (bytes-within (c .before .before .before .before .before .bytes-at .ensures) (c .before .n .given .1))
-    (record { program = c .before .before .before .before .before .bytes-at .ensures .left; ancillae = refl; value = refl })
+returns-3 c =
+    let at-n = c .before in
+    let at-bytes-at = at-n .before .before .before .before in
+    let at-workspace = at-bytes-at .before .before .before in
+    let at-number-at = at-workspace .before .before in
+    parses (check-all _ (told-number (at-number-at .number-at .ensures) (at-workspace .workspace .given .1))
+    (told-bytes (at-bytes-at .bytes-at .ensures) (at-n .n .given .1))) (bytes-within (at-bytes-at .bytes-at .ensures) (at-n .n .given .1))
+    (record { program = at-bytes-at .bytes-at .ensures .left; ancillae = refl; value = refl })
 
 pub check-call-spec : {M : Type 1} → statement M
 check-call-spec =

@@ -20,7 +20,11 @@ equal-requires-2 : tie.Need-equal-requires-2
 equal-requires-2 c κs = search needs
 
 returns-2 : tie.Need-returns-2
-returns-2 c = name-forward _ (same-if _ _ _ (c .before .before .before .before .equal .ensures) ∙ c .before .before .before .if1 .left) (same-if _ _ _ (c .before .equal2 .ensures) ∙ c .if2 .taken)
+returns-2 c =
+    let at-equal2 = c .before in
+    let at-if1 = at-equal2 .before .before in
+    let at-equal = at-if1 .before in
+    name-forward _ (same-if _ _ _ (at-equal .equal .ensures) ∙ at-if1 .if1 .left) (same-if _ _ _ (at-equal2 .equal2 .ensures) ∙ c .if2 .taken)
 
 slice-aggregate-equal-3 : tie.Need-slice-aggregate-equal-3
 slice-aggregate-equal-3 c = search needs
@@ -29,7 +33,14 @@ equal-requires-3 : tie.Need-equal-requires-3
 equal-requires-3 c κs = search needs
 
 returns-3 : tie.Need-returns-3
-returns-3 c = name-backward _ (same-if _ _ _ (c .before .before .before .before .before .before .before .equal .ensures) ∙ c .before .before .before .before .before .before .if1 .left) (same-if _ _ _ (c .before .before .before .before .equal2 .ensures) ∙ c .before .before .before .if2 .left) (same-if _ _ _ (c .before .equal3 .ensures) ∙ c .if3 .taken)
+returns-3 c =
+    let at-equal3 = c .before in
+    let at-if2 = at-equal3 .before .before in
+    let at-equal2 = at-if2 .before in
+    let at-if1 = at-equal2 .before .before in
+    let at-equal = at-if1 .before in
+    name-backward _ (same-if _ _ _ (at-equal .equal .ensures) ∙ at-if1 .if1 .left) (same-if _ _ _ (at-equal2 .equal2 .ensures) ∙ at-if2 .if2 .left)
+    (same-if _ _ _ (at-equal3 .equal3 .ensures) ∙ c .if3 .taken)
 
 slice-aggregate-equal-4 : tie.Need-slice-aggregate-equal-4
 slice-aggregate-equal-4 c = search needs
@@ -38,7 +49,16 @@ equal-requires-4 : tie.Need-equal-requires-4
 equal-requires-4 c κs = search needs
 
 returns-4 : tie.Need-returns-4
-returns-4 c = name-open _ (same-if _ _ _ (c .before .before .before .before .before .before .before .before .before .before .equal .ensures) ∙ c .before .before .before .before .before .before .before .before .before .if1 .left) (same-if _ _ _ (c .before .before .before .before .before .before .before .equal2 .ensures) ∙ c .before .before .before .before .before .before .if2 .left) (same-if _ _ _ (c .before .before .before .before .equal3 .ensures) ∙ c .before .before .before .if3 .left) (same-if _ _ _ (c .before .equal4 .ensures) ∙ c .if4 .taken)
+returns-4 c =
+    let at-equal4 = c .before in
+    let at-if3 = at-equal4 .before .before in
+    let at-equal3 = at-if3 .before in
+    let at-if2 = at-equal3 .before .before in
+    let at-equal2 = at-if2 .before in
+    let at-if1 = at-equal2 .before .before in
+    let at-equal = at-if1 .before in
+    name-open _ (same-if _ _ _ (at-equal .equal .ensures) ∙ at-if1 .if1 .left) (same-if _ _ _ (at-equal2 .equal2 .ensures) ∙ at-if2 .if2 .left)
+    (same-if _ _ _ (at-equal3 .equal3 .ensures) ∙ at-if3 .if3 .left) (same-if _ _ _ (at-equal4 .equal4 .ensures) ∙ c .if4 .taken)
 
 slice-aggregate-equal-5 : tie.Need-slice-aggregate-equal-5
 slice-aggregate-equal-5 c = search needs
@@ -47,7 +67,19 @@ equal-requires-5 : tie.Need-equal-requires-5
 equal-requires-5 c κs = search needs
 
 returns-5 : tie.Need-returns-5
-returns-5 c = name-convert _ (same-if _ _ _ (c .before .before .before .before .before .before .before .before .before .before .before .before .before .equal .ensures) ∙ c .before .before .before .before .before .before .before .before .before .before .before .before .if1 .left) (same-if _ _ _ (c .before .before .before .before .before .before .before .before .before .before .equal2 .ensures) ∙ c .before .before .before .before .before .before .before .before .before .if2 .left) (same-if _ _ _ (c .before .before .before .before .before .before .before .equal3 .ensures) ∙ c .before .before .before .before .before .before .if3 .left) (same-if _ _ _ (c .before .before .before .before .equal4 .ensures) ∙ c .before .before .before .if4 .left) (same-if _ _ _ (c .before .equal5 .ensures) ∙ c .if5 .taken)
+returns-5 c =
+    let at-equal5 = c .before in
+    let at-if4 = at-equal5 .before .before in
+    let at-equal4 = at-if4 .before in
+    let at-if3 = at-equal4 .before .before in
+    let at-equal3 = at-if3 .before in
+    let at-if2 = at-equal3 .before .before in
+    let at-equal2 = at-if2 .before in
+    let at-if1 = at-equal2 .before .before in
+    let at-equal = at-if1 .before in
+    name-convert _ (same-if _ _ _ (at-equal .equal .ensures) ∙ at-if1 .if1 .left) (same-if _ _ _ (at-equal2 .equal2 .ensures) ∙ at-if2 .if2 .left)
+    (same-if _ _ _ (at-equal3 .equal3 .ensures) ∙ at-if3 .if3 .left) (same-if _ _ _ (at-equal4 .equal4 .ensures) ∙ at-if4 .if4 .left)
+    (same-if _ _ _ (at-equal5 .equal5 .ensures) ∙ c .if5 .taken)
 
 slice-aggregate-equal-6 : tie.Need-slice-aggregate-equal-6
 slice-aggregate-equal-6 c = search needs
@@ -56,10 +88,38 @@ equal-requires-6 : tie.Need-equal-requires-6
 equal-requires-6 c κs = search needs
 
 returns-6 : tie.Need-returns-6
-returns-6 c = name-rollback _ (same-if _ _ _ (c .before .before .before .before .before .before .before .before .before .before .before .before .before .before .before .before .equal .ensures) ∙ c .before .before .before .before .before .before .before .before .before .before .before .before .before .before .before .if1 .left) (same-if _ _ _ (c .before .before .before .before .before .before .before .before .before .before .before .before .before .equal2 .ensures) ∙ c .before .before .before .before .before .before .before .before .before .before .before .before .if2 .left) (same-if _ _ _ (c .before .before .before .before .before .before .before .before .before .before .equal3 .ensures) ∙ c .before .before .before .before .before .before .before .before .before .if3 .left) (same-if _ _ _ (c .before .before .before .before .before .before .before .equal4 .ensures) ∙ c .before .before .before .before .before .before .if4 .left) (same-if _ _ _ (c .before .before .before .before .equal5 .ensures) ∙ c .before .before .before .if5 .left) (same-if _ _ _ (c .before .equal6 .ensures) ∙ c .if6 .taken)
+returns-6 c =
+    let at-equal6 = c .before in
+    let at-if5 = at-equal6 .before .before in
+    let at-equal5 = at-if5 .before in
+    let at-if4 = at-equal5 .before .before in
+    let at-equal4 = at-if4 .before in
+    let at-if3 = at-equal4 .before .before in
+    let at-equal3 = at-if3 .before in
+    let at-if2 = at-equal3 .before .before in
+    let at-equal2 = at-if2 .before in
+    let at-if1 = at-equal2 .before .before in
+    let at-equal = at-if1 .before in
+    name-rollback _ (same-if _ _ _ (at-equal .equal .ensures) ∙ at-if1 .if1 .left) (same-if _ _ _ (at-equal2 .equal2 .ensures) ∙ at-if2 .if2 .left)
+    (same-if _ _ _ (at-equal3 .equal3 .ensures) ∙ at-if3 .if3 .left) (same-if _ _ _ (at-equal4 .equal4 .ensures) ∙ at-if4 .if4 .left)
+    (same-if _ _ _ (at-equal5 .equal5 .ensures) ∙ at-if5 .if5 .left) (same-if _ _ _ (at-equal6 .equal6 .ensures) ∙ c .if6 .taken)
 
 returns-7 : tie.Need-returns-7
-returns-7 c = name-other _ (same-if _ _ _ (c .before .before .before .before .before .before .before .before .before .before .before .before .before .before .before .before .equal .ensures) ∙ c .before .before .before .before .before .before .before .before .before .before .before .before .before .before .before .if1 .left) (same-if _ _ _ (c .before .before .before .before .before .before .before .before .before .before .before .before .before .equal2 .ensures) ∙ c .before .before .before .before .before .before .before .before .before .before .before .before .if2 .left) (same-if _ _ _ (c .before .before .before .before .before .before .before .before .before .before .equal3 .ensures) ∙ c .before .before .before .before .before .before .before .before .before .if3 .left) (same-if _ _ _ (c .before .before .before .before .before .before .before .equal4 .ensures) ∙ c .before .before .before .before .before .before .if4 .left) (same-if _ _ _ (c .before .before .before .before .equal5 .ensures) ∙ c .before .before .before .if5 .left) (same-if _ _ _ (c .before .equal6 .ensures) ∙ c .if6 .left)
+returns-7 c =
+    let at-equal6 = c .before in
+    let at-if5 = at-equal6 .before .before in
+    let at-equal5 = at-if5 .before in
+    let at-if4 = at-equal5 .before .before in
+    let at-equal4 = at-if4 .before in
+    let at-if3 = at-equal4 .before .before in
+    let at-equal3 = at-if3 .before in
+    let at-if2 = at-equal3 .before .before in
+    let at-equal2 = at-if2 .before in
+    let at-if1 = at-equal2 .before .before in
+    let at-equal = at-if1 .before in
+    name-other _ (same-if _ _ _ (at-equal .equal .ensures) ∙ at-if1 .if1 .left) (same-if _ _ _ (at-equal2 .equal2 .ensures) ∙ at-if2 .if2 .left)
+    (same-if _ _ _ (at-equal3 .equal3 .ensures) ∙ at-if3 .if3 .left) (same-if _ _ _ (at-equal4 .equal4 .ensures) ∙ at-if4 .if4 .left)
+    (same-if _ _ _ (at-equal5 .equal5 .ensures) ∙ at-if5 .if5 .left) (same-if _ _ _ (at-equal6 .equal6 .ensures) ∙ c .if6 .left)
 
 pub name-of-spec : {M : Type 1} → statement M
 name-of-spec =

@@ -22,8 +22,12 @@ enum-told : tie.Need-enum-told
 enum-told c = search needs
 
 returns-2 : tie.Need-returns-2
-returns-2 c = parses (open-1 _ (told-no-number (c .before .before .number-at .ensures) (c .enum-told .given .1)) ∙ counted _ _ _ (sym (c .before .before .before .before .count-spaces .ensures) ∙ c .before .before .before .if1 .left)) tt
-    (unread _ λ k. refl)
+returns-2 c =
+    let at-number-at = c .before .before in
+    let at-if1 = at-number-at .before in
+    let at-count-spaces = at-if1 .before in
+    parses (open-1 _ (told-no-number (at-number-at .number-at .ensures) (c .enum-told .given .1)) ∙ counted _ _ _
+    (sym (at-count-spaces .count-spaces .ensures) ∙ at-if1 .if1 .left)) tt (unread _ λ k. refl)
 
 bytes-at-requires : tie.Need-bytes-at-requires
 bytes-at-requires c κs = search needs
@@ -38,8 +42,16 @@ same-length : tie.Need-same-length
 same-length c = search needs
 
 returns-3 : tie.Need-returns-3
-returns-3 c = parses (open-2 _ (told-number (c .before .before .before .before .before .before .before .before .before .number-at .ensures) (c .before .before .before .before .before .before .before .workspace .given .1)) (told-no-bytes (c .before .before .before .before .bytes-at .ensures) (c .enum-told2 .given .1)) ∙ counted _ _ _ (sym (c .before .before .before .before .before .before .before .before .before .before .before .count-spaces .ensures) ∙ c .before .before .before .before .before .before .before .before .before .before .if1 .left)) tt
-    (record { program = c .before .before .before .before .bytes-at .ensures .left; ancillae = refl; value = refl })
+returns-3 c =
+    let at-bytes-at = c .before .before .before .before in
+    let at-workspace = at-bytes-at .before .before .before in
+    let at-number-at = at-workspace .before .before in
+    let at-if1 = at-number-at .before in
+    let at-count-spaces = at-if1 .before in
+    parses (open-2 _ (told-number (at-number-at .number-at .ensures) (at-workspace .workspace .given .1))
+    (told-no-bytes (at-bytes-at .bytes-at .ensures) (c .enum-told2 .given .1)) ∙ counted _ _ _
+    (sym (at-count-spaces .count-spaces .ensures) ∙ at-if1 .if1 .left)) tt
+    (record { program = at-bytes-at .bytes-at .ensures .left; ancillae = refl; value = refl })
 
 bytes-at-requires-2 : tie.Need-bytes-at-requires-2
 bytes-at-requires-2 c κs = search needs
@@ -57,8 +69,18 @@ same-length-3 : tie.Need-same-length-3
 same-length-3 c = search needs
 
 returns-4 : tie.Need-returns-4
-returns-4 c = parses (open-3 _ (told-number (c .before .before .before .before .before .before .before .before .before .before .before .before .before .before .before .before .number-at .ensures) (c .before .before .before .before .before .before .before .before .before .before .before .before .before .before .workspace .given .1)) (told-bytes (c .before .before .before .before .before .before .before .before .before .before .before .bytes-at .ensures) (c .before .before .before .before .before .before .before .p .given .1)) (told-no-bytes (c .before .before .before .before .bytes-at2 .ensures) (c .enum-told3 .given .1)) ∙ counted _ _ _ (sym (c .before .before .before .before .before .before .before .before .before .before .before .before .before .before .before .before .before .before .count-spaces .ensures) ∙ c .before .before .before .before .before .before .before .before .before .before .before .before .before .before .before .before .before .if1 .left)) tt
-    (record { program = c .before .before .before .before .before .before .before .before .before .before .before .bytes-at .ensures .left; ancillae = c .before .before .before .before .bytes-at2 .ensures .left; value = refl })
+returns-4 c =
+    let at-bytes-at2 = c .before .before .before .before in
+    let at-p = at-bytes-at2 .before .before .before in
+    let at-bytes-at = at-p .before .before .before .before in
+    let at-workspace = at-bytes-at .before .before .before in
+    let at-number-at = at-workspace .before .before in
+    let at-if1 = at-number-at .before in
+    let at-count-spaces = at-if1 .before in
+    parses (open-3 _ (told-number (at-number-at .number-at .ensures) (at-workspace .workspace .given .1))
+    (told-bytes (at-bytes-at .bytes-at .ensures) (at-p .p .given .1)) (told-no-bytes (at-bytes-at2 .bytes-at2 .ensures) (c .enum-told3 .given .1))
+    ∙ counted _ _ _ (sym (at-count-spaces .count-spaces .ensures) ∙ at-if1 .if1 .left)) tt
+    (record { program = at-bytes-at .bytes-at .ensures .left; ancillae = at-bytes-at2 .bytes-at2 .ensures .left; value = refl })
 
 bytes-at-requires-3 : tie.Need-bytes-at-requires-3
 bytes-at-requires-3 c κs = search needs
@@ -79,8 +101,21 @@ same-length-6 : tie.Need-same-length-6
 same-length-6 c = search needs
 
 returns-5 : tie.Need-returns-5
-returns-5 c = parses (open-4 _ (told-number (c .before .before .before .before .before .before .before .before .before .before .before .before .before .before .before .before .before .before .before .before .before .before .before .number-at .ensures) (c .before .before .before .before .before .before .before .before .before .before .before .before .before .before .before .before .before .before .before .before .before .workspace .given .1)) (told-bytes (c .before .before .before .before .before .before .before .before .before .before .before .before .before .before .before .before .before .before .bytes-at .ensures) (c .before .before .before .before .before .before .before .before .before .before .before .before .before .before .p .given .1)) (told-bytes (c .before .before .before .before .before .before .before .before .before .before .before .bytes-at2 .ensures) (c .before .before .before .before .before .before .before .h .given .1)) (told-no-bytes (c .before .before .before .before .bytes-at3 .ensures) (c .enum-told4 .given .1)) ∙ counted _ _ _ (sym (c .before .before .before .before .before .before .before .before .before .before .before .before .before .before .before .before .before .before .before .before .before .before .before .before .before .count-spaces .ensures) ∙ c .before .before .before .before .before .before .before .before .before .before .before .before .before .before .before .before .before .before .before .before .before .before .before .before .if1 .left)) tt
-    (record { program = c .before .before .before .before .before .before .before .before .before .before .before .before .before .before .before .before .before .before .bytes-at .ensures .left; ancillae = c .before .before .before .before .before .before .before .before .before .before .before .bytes-at2 .ensures .left; value = c .before .before .before .before .bytes-at3 .ensures .left })
+returns-5 c =
+    let at-bytes-at3 = c .before .before .before .before in
+    let at-h = at-bytes-at3 .before .before .before in
+    let at-bytes-at2 = at-h .before .before .before .before in
+    let at-p = at-bytes-at2 .before .before .before in
+    let at-bytes-at = at-p .before .before .before .before in
+    let at-workspace = at-bytes-at .before .before .before in
+    let at-number-at = at-workspace .before .before in
+    let at-if1 = at-number-at .before in
+    let at-count-spaces = at-if1 .before in
+    parses (open-4 _ (told-number (at-number-at .number-at .ensures) (at-workspace .workspace .given .1))
+    (told-bytes (at-bytes-at .bytes-at .ensures) (at-p .p .given .1)) (told-bytes (at-bytes-at2 .bytes-at2 .ensures) (at-h .h .given .1))
+    (told-no-bytes (at-bytes-at3 .bytes-at3 .ensures) (c .enum-told4 .given .1)) ∙ counted _ _ _
+    (sym (at-count-spaces .count-spaces .ensures) ∙ at-if1 .if1 .left)) tt
+    (record { program = at-bytes-at .bytes-at .ensures .left; ancillae = at-bytes-at2 .bytes-at2 .ensures .left; value = at-bytes-at3 .bytes-at3 .ensures .left })
 
 same-length-7 : tie.Need-same-length-7
 same-length-7 c = search needs
@@ -92,8 +127,24 @@ same-length-9 : tie.Need-same-length-9
 same-length-9 c = search needs
 
 returns-6 : tie.Need-returns-6
-returns-6 c = parses (open-all _ (told-number (c .before .before .before .before .before .before .before .before .before .before .before .before .before .before .before .before .before .before .before .before .before .before .before .before .number-at .ensures) (c .before .before .before .before .before .before .before .before .before .before .before .before .before .before .before .before .before .before .before .before .before .before .workspace .given .1)) (told-bytes (c .before .before .before .before .before .before .before .before .before .before .before .before .before .before .before .before .before .before .before .bytes-at .ensures) (c .before .before .before .before .before .before .before .before .before .before .before .before .before .before .before .p .given .1)) (told-bytes (c .before .before .before .before .before .before .before .before .before .before .before .before .bytes-at2 .ensures) (c .before .before .before .before .before .before .before .before .h .given .1)) (told-bytes (c .before .before .before .before .before .bytes-at3 .ensures) (c .before .j .given .1)) ∙ counted _ _ _ (sym (c .before .before .before .before .before .before .before .before .before .before .before .before .before .before .before .before .before .before .before .before .before .before .before .before .before .before .count-spaces .ensures) ∙ c .before .before .before .before .before .before .before .before .before .before .before .before .before .before .before .before .before .before .before .before .before .before .before .before .before .if1 .left)) (bytes-within (c .before .before .before .before .before .before .before .before .before .before .before .before .before .before .before .before .before .before .before .bytes-at .ensures) (c .before .before .before .before .before .before .before .before .before .before .before .before .before .before .before .p .given .1), bytes-within (c .before .before .before .before .before .before .before .before .before .before .before .before .bytes-at2 .ensures) (c .before .before .before .before .before .before .before .before .h .given .1), bytes-within (c .before .before .before .before .before .bytes-at3 .ensures) (c .before .j .given .1))
-    (record { program = c .before .before .before .before .before .before .before .before .before .before .before .before .before .before .before .before .before .before .before .bytes-at .ensures .left; ancillae = c .before .before .before .before .before .before .before .before .before .before .before .before .bytes-at2 .ensures .left; value = c .before .before .before .before .before .bytes-at3 .ensures .left })
+returns-6 c =
+    let at-j = c .before in
+    let at-bytes-at3 = at-j .before .before .before .before in
+    let at-h = at-bytes-at3 .before .before .before in
+    let at-bytes-at2 = at-h .before .before .before .before in
+    let at-p = at-bytes-at2 .before .before .before in
+    let at-bytes-at = at-p .before .before .before .before in
+    let at-workspace = at-bytes-at .before .before .before in
+    let at-number-at = at-workspace .before .before in
+    let at-if1 = at-number-at .before in
+    let at-count-spaces = at-if1 .before in
+    parses (open-all _ (told-number (at-number-at .number-at .ensures) (at-workspace .workspace .given .1))
+    (told-bytes (at-bytes-at .bytes-at .ensures) (at-p .p .given .1)) (told-bytes (at-bytes-at2 .bytes-at2 .ensures) (at-h .h .given .1))
+    (told-bytes (at-bytes-at3 .bytes-at3 .ensures) (at-j .j .given .1)) ∙ counted _ _ _
+    (sym (at-count-spaces .count-spaces .ensures) ∙ at-if1 .if1 .left))
+    (bytes-within (at-bytes-at .bytes-at .ensures) (at-p .p .given .1), bytes-within (at-bytes-at2 .bytes-at2 .ensures) (at-h .h .given .1),
+    bytes-within (at-bytes-at3 .bytes-at3 .ensures) (at-j .j .given .1))
+    (record { program = at-bytes-at .bytes-at .ensures .left; ancillae = at-bytes-at2 .bytes-at2 .ensures .left; value = at-bytes-at3 .bytes-at3 .ensures .left })
 
 pub open-call-spec : {M : Type 1} → statement M
 open-call-spec =

@@ -18,7 +18,13 @@ enum-told : tie.Need-enum-told
 enum-told c = search needs
 
 returns : tie.Need-returns
-returns c = parses (no-check _ (ap nameOf (sym (c .before .before .before .before .word .ensures)) ∙ sym (c .before .before .before .name-of .ensures) ∙ c .before .enum-told .given .1) λ e. c .if1 .taken (c .before .before .before .before .before .count-spaces .ensures ∙ e)) tt (unread _ λ k. refl)
+returns c =
+    let at-enum-told = c .before in
+    let at-name-of = at-enum-told .before .before in
+    let at-word = at-name-of .before in
+    let at-count-spaces = at-word .before in
+    parses (no-check _ (ap nameOf (sym (at-word .word .ensures)) ∙ sym (at-name-of .name-of .ensures) ∙ at-enum-told .enum-told .given .1)
+    λ e. c .if1 .taken (at-count-spaces .count-spaces .ensures ∙ e)) tt (unread _ λ k. refl)
 
 check-call-requires : tie.Need-check-call-requires
 check-call-requires c κs = search needs
@@ -27,7 +33,13 @@ enum-told-2 : tie.Need-enum-told-2
 enum-told-2 c = search needs
 
 returns-2 : tie.Need-returns-2
-returns-2 c = parses (no-forward _ (ap nameOf (sym (c .before .before .before .before .word .ensures)) ∙ sym (c .before .before .before .name-of .ensures) ∙ c .before .enum-told2 .given .1) λ e. c .if2 .taken (c .before .before .before .before .before .count-spaces .ensures ∙ e)) tt (unread _ λ k. refl)
+returns-2 c =
+    let at-enum-told2 = c .before in
+    let at-name-of = at-enum-told2 .before .before in
+    let at-word = at-name-of .before in
+    let at-count-spaces = at-word .before in
+    parses (no-forward _ (ap nameOf (sym (at-word .word .ensures)) ∙ sym (at-name-of .name-of .ensures) ∙ at-enum-told2 .enum-told2 .given .1)
+    λ e. c .if2 .taken (at-count-spaces .count-spaces .ensures ∙ e)) tt (unread _ λ k. refl)
 
 run-call-requires : tie.Need-run-call-requires
 run-call-requires c κs = search needs
@@ -36,7 +48,13 @@ enum-told-3 : tie.Need-enum-told-3
 enum-told-3 c = search needs
 
 returns-3 : tie.Need-returns-3
-returns-3 c = parses (no-backward _ (ap nameOf (sym (c .before .before .before .before .word .ensures)) ∙ sym (c .before .before .before .name-of .ensures) ∙ c .before .enum-told3 .given .1) λ e. c .if3 .taken (c .before .before .before .before .before .count-spaces .ensures ∙ e)) tt (unread _ λ k. refl)
+returns-3 c =
+    let at-enum-told3 = c .before in
+    let at-name-of = at-enum-told3 .before .before in
+    let at-word = at-name-of .before in
+    let at-count-spaces = at-word .before in
+    parses (no-backward _ (ap nameOf (sym (at-word .word .ensures)) ∙ sym (at-name-of .name-of .ensures) ∙ at-enum-told3 .enum-told3 .given .1)
+    λ e. c .if3 .taken (at-count-spaces .count-spaces .ensures ∙ e)) tt (unread _ λ k. refl)
 
 run-call-requires-2 : tie.Need-run-call-requires-2
 run-call-requires-2 c κs = search needs
@@ -72,8 +90,15 @@ same-length-3 : tie.Need-same-length-3
 same-length-3 c = search needs
 
 returns-4 : tie.Need-returns-4
-returns-4 c = let e = ap nameOf (sym (c .before .before .before .before .before .before .before .before .before .before .before .before .before .before .word .ensures)) ∙ sym (c .before .before .before .before .before .before .before .before .before .before .before .before .before .name-of .ensures) ∙ c .before .before .before .before .before .before .before .before .before .before .before .enum-told .given .1 in
-    parses-as (c .before .before .before .before .before .before .check-call .ensures) (words-of _ e) (is-check _ e (sym (c .before .before .before .before .before .before .before .before .before .before .before .before .before .before .before .count-spaces .ensures) ∙ c .before .before .before .before .before .before .before .before .before .before .if1 .left))
+returns-4 c =
+    let at-check-call = c .before .before .before .before .before .before in
+    let at-if1 = at-check-call .before .before .before .before in
+    let at-enum-told = at-if1 .before in
+    let at-name-of = at-enum-told .before .before in
+    let at-word = at-name-of .before in
+    let at-count-spaces = at-word .before in
+    let e = ap nameOf (sym (at-word .word .ensures)) ∙ sym (at-name-of .name-of .ensures) ∙ at-enum-told .enum-told .given .1 in
+    parses-as (at-check-call .check-call .ensures) (words-of _ e) (is-check _ e (sym (at-count-spaces .count-spaces .ensures) ∙ at-if1 .if1 .left))
 
 same-length-4 : tie.Need-same-length-4
 same-length-4 c = search needs
@@ -85,8 +110,15 @@ same-length-6 : tie.Need-same-length-6
 same-length-6 c = search needs
 
 returns-5 : tie.Need-returns-5
-returns-5 c = let e = ap nameOf (sym (c .before .before .before .before .before .before .before .before .before .before .before .before .before .before .word .ensures)) ∙ sym (c .before .before .before .before .before .before .before .before .before .before .before .before .before .name-of .ensures) ∙ c .before .before .before .before .before .before .before .before .before .before .before .enum-told2 .given .1 in
-    parses-as (c .before .before .before .before .before .before .run-call .ensures) (words-of _ e) (is-forward _ e (sym (c .before .before .before .before .before .before .before .before .before .before .before .before .before .before .before .count-spaces .ensures) ∙ c .before .before .before .before .before .before .before .before .before .before .if2 .left))
+returns-5 c =
+    let at-run-call = c .before .before .before .before .before .before in
+    let at-if2 = at-run-call .before .before .before .before in
+    let at-enum-told2 = at-if2 .before in
+    let at-name-of = at-enum-told2 .before .before in
+    let at-word = at-name-of .before in
+    let at-count-spaces = at-word .before in
+    let e = ap nameOf (sym (at-word .word .ensures)) ∙ sym (at-name-of .name-of .ensures) ∙ at-enum-told2 .enum-told2 .given .1 in
+    parses-as (at-run-call .run-call .ensures) (words-of _ e) (is-forward _ e (sym (at-count-spaces .count-spaces .ensures) ∙ at-if2 .if2 .left))
 
 same-length-7 : tie.Need-same-length-7
 same-length-7 c = search needs
@@ -98,8 +130,15 @@ same-length-9 : tie.Need-same-length-9
 same-length-9 c = search needs
 
 returns-6 : tie.Need-returns-6
-returns-6 c = let e = ap nameOf (sym (c .before .before .before .before .before .before .before .before .before .before .before .before .before .before .word .ensures)) ∙ sym (c .before .before .before .before .before .before .before .before .before .before .before .before .before .name-of .ensures) ∙ c .before .before .before .before .before .before .before .before .before .before .before .enum-told3 .given .1 in
-    parses-as (c .before .before .before .before .before .before .run-call2 .ensures) (words-of _ e) (is-backward _ e (sym (c .before .before .before .before .before .before .before .before .before .before .before .before .before .before .before .count-spaces .ensures) ∙ c .before .before .before .before .before .before .before .before .before .before .if3 .left))
+returns-6 c =
+    let at-run-call2 = c .before .before .before .before .before .before in
+    let at-if3 = at-run-call2 .before .before .before .before in
+    let at-enum-told3 = at-if3 .before in
+    let at-name-of = at-enum-told3 .before .before in
+    let at-word = at-name-of .before in
+    let at-count-spaces = at-word .before in
+    let e = ap nameOf (sym (at-word .word .ensures)) ∙ sym (at-name-of .name-of .ensures) ∙ at-enum-told3 .enum-told3 .given .1 in
+    parses-as (at-run-call2 .run-call2 .ensures) (words-of _ e) (is-backward _ e (sym (at-count-spaces .count-spaces .ensures) ∙ at-if3 .if3 .left))
 
 same-length-10 : tie.Need-same-length-10
 same-length-10 c = search needs
@@ -111,8 +150,13 @@ same-length-12 : tie.Need-same-length-12
 same-length-12 c = search needs
 
 returns-7 : tie.Need-returns-7
-returns-7 c = let e = ap nameOf (sym (c .before .before .before .before .before .before .before .before .before .before .before .before .before .word .ensures)) ∙ sym (c .before .before .before .before .before .before .before .before .before .before .before .before .name-of .ensures) ∙ c .before .before .before .before .before .before .before .before .before .before .enum-told4 .given .1 in
-    parses-as (c .before .before .before .before .before .before .open-call .ensures) (words-of _ e) (is-open _ e)
+returns-7 c =
+    let at-open-call = c .before .before .before .before .before .before in
+    let at-enum-told4 = at-open-call .before .before .before .before in
+    let at-name-of = at-enum-told4 .before .before in
+    let at-word = at-name-of .before in
+    let e = ap nameOf (sym (at-word .word .ensures)) ∙ sym (at-name-of .name-of .ensures) ∙ at-enum-told4 .enum-told4 .given .1 in
+    parses-as (at-open-call .open-call .ensures) (words-of _ e) (is-open _ e)
 
 same-length-13 : tie.Need-same-length-13
 same-length-13 c = search needs
@@ -124,8 +168,13 @@ same-length-15 : tie.Need-same-length-15
 same-length-15 c = search needs
 
 returns-8 : tie.Need-returns-8
-returns-8 c = let e = ap nameOf (sym (c .before .before .before .before .before .before .before .before .before .before .before .before .before .word .ensures)) ∙ sym (c .before .before .before .before .before .before .before .before .before .before .before .before .name-of .ensures) ∙ c .before .before .before .before .before .before .before .before .before .before .enum-told5 .given .1 in
-    parses-as (c .before .before .before .before .before .before .convert-call .ensures) (words-of _ e) (is-convert _ e)
+returns-8 c =
+    let at-convert-call = c .before .before .before .before .before .before in
+    let at-enum-told5 = at-convert-call .before .before .before .before in
+    let at-name-of = at-enum-told5 .before .before in
+    let at-word = at-name-of .before in
+    let e = ap nameOf (sym (at-word .word .ensures)) ∙ sym (at-name-of .name-of .ensures) ∙ at-enum-told5 .enum-told5 .given .1 in
+    parses-as (at-convert-call .convert-call .ensures) (words-of _ e) (is-convert _ e)
 
 same-length-16 : tie.Need-same-length-16
 same-length-16 c = search needs
@@ -137,11 +186,20 @@ same-length-18 : tie.Need-same-length-18
 same-length-18 c = search needs
 
 returns-9 : tie.Need-returns-9
-returns-9 c = let e = ap nameOf (sym (c .before .before .before .before .before .before .before .before .before .before .before .before .before .word .ensures)) ∙ sym (c .before .before .before .before .before .before .before .before .before .before .before .before .name-of .ensures) ∙ c .before .before .before .before .before .before .before .before .before .before .enum-told6 .given .1 in
-    parses-as (c .before .before .before .before .before .before .rollback-call .ensures) (words-of _ e) (is-rollback _ e)
+returns-9 c =
+    let at-rollback-call = c .before .before .before .before .before .before in
+    let at-enum-told6 = at-rollback-call .before .before .before .before in
+    let at-name-of = at-enum-told6 .before .before in
+    let at-word = at-name-of .before in
+    let e = ap nameOf (sym (at-word .word .ensures)) ∙ sym (at-name-of .name-of .ensures) ∙ at-enum-told6 .enum-told6 .given .1 in
+    parses-as (at-rollback-call .rollback-call .ensures) (words-of _ e) (is-rollback _ e)
 
 returns-10 : tie.Need-returns-10
-returns-10 c = parses (is-other _ (ap nameOf (sym (c .before .before .before .word .ensures)) ∙ sym (c .before .before .name-of .ensures) ∙ c .enum-told7 .given .1)) tt (unread _ λ k. refl)
+returns-10 c =
+    let at-name-of = c .before .before in
+    let at-word = at-name-of .before in
+    parses (is-other _ (ap nameOf (sym (at-word .word .ensures)) ∙ sym (at-name-of .name-of .ensures) ∙ c .enum-told7 .given .1)) tt
+    (unread _ λ k. refl)
 
 pub parse-spec : {M : Type 1} → statement M
 parse-spec =

@@ -24,8 +24,12 @@ enum-told : tie.Need-enum-told
 enum-told c = search needs
 
 returns-2 : tie.Need-returns-2
-returns-2 c = parses (rollback-1 _ (told-no-number (c .before .before .number-at .ensures) (c .enum-told .given .1)) ∙ counted _ _ _ (sym (c .before .before .before .before .count-spaces .ensures) ∙ c .before .before .before .if1 .left)) tt
-    (unread _ λ k. refl)
+returns-2 c =
+    let at-number-at = c .before .before in
+    let at-if1 = at-number-at .before in
+    let at-count-spaces = at-if1 .before in
+    parses (rollback-1 _ (told-no-number (at-number-at .number-at .ensures) (c .enum-told .given .1)) ∙ counted _ _ _
+    (sym (at-count-spaces .count-spaces .ensures) ∙ at-if1 .if1 .left)) tt (unread _ λ k. refl)
 
 number-at-requires-2 : tie.Need-number-at-requires-2
 number-at-requires-2 c κs = search needs
@@ -38,8 +42,15 @@ enum-told-2 c = search needs
 
 returns-3 : tie.Need-returns-3
 unfolding maxFuel
-returns-3 c = parses (rollback-2 _ (told-number (c .before .before .before .before .before .before .number-at .ensures) (c .before .before .before .before .workspace .given .1)) (told-no-number (c .before .before .number-at2 .ensures) (c .enum-told2 .given .1)) ∙ counted _ _ _ (sym (c .before .before .before .before .before .before .before .before .count-spaces .ensures) ∙ c .before .before .before .before .before .before .before .if1 .left)) tt
-    (unread _ λ k. refl)
+returns-3 c =
+    let at-number-at2 = c .before .before in
+    let at-workspace = at-number-at2 .before .before in
+    let at-number-at = at-workspace .before .before in
+    let at-if1 = at-number-at .before in
+    let at-count-spaces = at-if1 .before in
+    parses (rollback-2 _ (told-number (at-number-at .number-at .ensures) (at-workspace .workspace .given .1))
+    (told-no-number (at-number-at2 .number-at2 .ensures) (c .enum-told2 .given .1)) ∙ counted _ _ _
+    (sym (at-count-spaces .count-spaces .ensures) ∙ at-if1 .if1 .left)) tt (unread _ λ k. refl)
 
 bytes-at-requires : tie.Need-bytes-at-requires
 bytes-at-requires c κs = search needs
@@ -55,8 +66,19 @@ same-length c = search needs
 
 returns-4 : tie.Need-returns-4
 unfolding maxFuel
-returns-4 c = parses (rollback-3 _ (told-number (c .before .before .before .before .before .before .before .before .before .before .before .before .before .number-at .ensures) (c .before .before .before .before .before .before .before .before .before .before .before .workspace .given .1)) (told-number (c .before .before .before .before .before .before .before .before .before .number-at2 .ensures) (c .before .before .before .before .before .before .before .fuel .given .1)) (told-no-bytes (c .before .before .before .before .bytes-at .ensures) (c .enum-told3 .given .1)) ∙ counted _ _ _ (sym (c .before .before .before .before .before .before .before .before .before .before .before .before .before .before .before .count-spaces .ensures) ∙ c .before .before .before .before .before .before .before .before .before .before .before .before .before .before .if1 .left)) tt
-    (record { program = c .before .before .before .before .bytes-at .ensures .left; ancillae = refl; value = refl })
+returns-4 c =
+    let at-bytes-at = c .before .before .before .before in
+    let at-fuel = at-bytes-at .before .before .before in
+    let at-number-at2 = at-fuel .before .before in
+    let at-workspace = at-number-at2 .before .before in
+    let at-number-at = at-workspace .before .before in
+    let at-if1 = at-number-at .before in
+    let at-count-spaces = at-if1 .before in
+    parses (rollback-3 _ (told-number (at-number-at .number-at .ensures) (at-workspace .workspace .given .1))
+    (told-number (at-number-at2 .number-at2 .ensures) (at-fuel .fuel .given .1))
+    (told-no-bytes (at-bytes-at .bytes-at .ensures) (c .enum-told3 .given .1)) ∙ counted _ _ _
+    (sym (at-count-spaces .count-spaces .ensures) ∙ at-if1 .if1 .left)) tt
+    (record { program = at-bytes-at .bytes-at .ensures .left; ancillae = refl; value = refl })
 
 bytes-at-requires-2 : tie.Need-bytes-at-requires-2
 bytes-at-requires-2 c κs = search needs
@@ -75,11 +97,27 @@ same-length-3 c = search needs
 
 returns-5 : tie.Need-returns-5
 unfolding maxFuel
-returns-5 c = parses (rollback-4 _ (told-number (c .before .before .before .before .before .before .before .before .before .before .before .before .before .before .before .before .before .before .before .before .number-at .ensures) (c .before .before .before .before .before .before .before .before .before .before .before .before .before .before .before .before .before .before .workspace .given .1)) (told-number (c .before .before .before .before .before .before .before .before .before .before .before .before .before .before .before .before .number-at2 .ensures) (c .before .before .before .before .before .before .before .before .before .before .before .before .before .before .fuel .given .1)) (told-bytes (c .before .before .before .before .before .before .before .before .before .before .before .bytes-at .ensures) (c .before .before .before .before .before .before .before .p .given .1)) (told-no-bytes (c .before .before .before .before .bytes-at2 .ensures) (c .enum-told4 .given .1)) ∙ counted _ _ _ (sym (c .before .before .before .before .before .before .before .before .before .before .before .before .before .before .before .before .before .before .before .before .before .before .count-spaces .ensures) ∙ c .before .before .before .before .before .before .before .before .before .before .before .before .before .before .before .before .before .before .before .before .before .if1 .left)) tt
-    (record { program = c .before .before .before .before .before .before .before .before .before .before .before .bytes-at .ensures .left; ancillae = refl; value = c .before .before .before .before .bytes-at2 .ensures .left })
+returns-5 c =
+    let at-bytes-at2 = c .before .before .before .before in
+    let at-p = at-bytes-at2 .before .before .before in
+    let at-bytes-at = at-p .before .before .before .before in
+    let at-fuel = at-bytes-at .before .before .before in
+    let at-number-at2 = at-fuel .before .before in
+    let at-workspace = at-number-at2 .before .before in
+    let at-number-at = at-workspace .before .before in
+    let at-if1 = at-number-at .before in
+    let at-count-spaces = at-if1 .before in
+    parses (rollback-4 _ (told-number (at-number-at .number-at .ensures) (at-workspace .workspace .given .1))
+    (told-number (at-number-at2 .number-at2 .ensures) (at-fuel .fuel .given .1)) (told-bytes (at-bytes-at .bytes-at .ensures) (at-p .p .given .1))
+    (told-no-bytes (at-bytes-at2 .bytes-at2 .ensures) (c .enum-told4 .given .1)) ∙ counted _ _ _
+    (sym (at-count-spaces .count-spaces .ensures) ∙ at-if1 .if1 .left)) tt
+    (record { program = at-bytes-at .bytes-at .ensures .left; ancillae = refl; value = at-bytes-at2 .bytes-at2 .ensures .left })
 
 cast-t20 : tie.Need-cast-t20
-cast-t20 c = record { fits = omega (arith, number-within (c .before .before .before .before .before .before .before .before .before .before .before .before .before .before .before .before .before .number-at2 .ensures) (c .before .before .before .before .before .before .before .before .before .before .before .before .before .before .before .fuel .given .1)) }
+cast-t20 c =
+    let at-fuel = c .before .before .before .before .before .before .before .before .before .before .before .before .before .before .before in
+    let at-number-at2 = at-fuel .before .before in
+    record { fits = omega (arith, number-within (at-number-at2 .number-at2 .ensures) (at-fuel .fuel .given .1)) }
 
 same-length-4 : tie.Need-same-length-4
 same-length-4 c = search needs
@@ -89,8 +127,23 @@ same-length-5 c = search needs
 
 returns-6 : tie.Need-returns-6
 unfolding maxFuel
-returns-6 c = parses (rollback-all _ (told-number (c .before .before .before .before .before .before .before .before .before .before .before .before .before .before .before .before .before .before .before .before .before .number-at .ensures) (c .before .before .before .before .before .before .before .before .before .before .before .before .before .before .before .before .before .before .before .workspace .given .1)) (told-number (c .before .before .before .before .before .before .before .before .before .before .before .before .before .before .before .before .before .number-at2 .ensures) (c .before .before .before .before .before .before .before .before .before .before .before .before .before .before .before .fuel .given .1)) (told-bytes (c .before .before .before .before .before .before .before .before .before .before .before .before .bytes-at .ensures) (c .before .before .before .before .before .before .before .before .p .given .1)) (told-bytes (c .before .before .before .before .before .bytes-at2 .ensures) (c .before .j .given .1)) ∙ counted _ _ _ (sym (c .before .before .before .before .before .before .before .before .before .before .before .before .before .before .before .before .before .before .before .before .before .before .before .count-spaces .ensures) ∙ c .before .before .before .before .before .before .before .before .before .before .before .before .before .before .before .before .before .before .before .before .before .before .if1 .left)) (bytes-within (c .before .before .before .before .before .before .before .before .before .before .before .before .bytes-at .ensures) (c .before .before .before .before .before .before .before .before .p .given .1), bytes-within (c .before .before .before .before .before .bytes-at2 .ensures) (c .before .j .given .1))
-    (record { program = c .before .before .before .before .before .before .before .before .before .before .before .before .bytes-at .ensures .left; ancillae = refl; value = c .before .before .before .before .before .bytes-at2 .ensures .left })
+returns-6 c =
+    let at-j = c .before in
+    let at-bytes-at2 = at-j .before .before .before .before in
+    let at-p = at-bytes-at2 .before .before .before in
+    let at-bytes-at = at-p .before .before .before .before in
+    let at-fuel = at-bytes-at .before .before .before in
+    let at-number-at2 = at-fuel .before .before in
+    let at-workspace = at-number-at2 .before .before in
+    let at-number-at = at-workspace .before .before in
+    let at-if1 = at-number-at .before in
+    let at-count-spaces = at-if1 .before in
+    parses (rollback-all _ (told-number (at-number-at .number-at .ensures) (at-workspace .workspace .given .1))
+    (told-number (at-number-at2 .number-at2 .ensures) (at-fuel .fuel .given .1)) (told-bytes (at-bytes-at .bytes-at .ensures) (at-p .p .given .1))
+    (told-bytes (at-bytes-at2 .bytes-at2 .ensures) (at-j .j .given .1)) ∙ counted _ _ _
+    (sym (at-count-spaces .count-spaces .ensures) ∙ at-if1 .if1 .left))
+    (bytes-within (at-bytes-at .bytes-at .ensures) (at-p .p .given .1), bytes-within (at-bytes-at2 .bytes-at2 .ensures) (at-j .j .given .1))
+    (record { program = at-bytes-at .bytes-at .ensures .left; ancillae = refl; value = at-bytes-at2 .bytes-at2 .ensures .left })
 
 pub rollback-call-spec : {M : Type 1} → statement M
 rollback-call-spec =

@@ -30,8 +30,12 @@ enum-told-2 : tie.Need-enum-told-2
 enum-told-2 c = search needs
 
 returns-2 : tie.Need-returns-2
-returns-2 c = parses (run-2 _ _ (told-number (c .before .before .before .before .before .before .number-at .ensures) (c .before .before .before .before .workspace .given .1)) (told-no-number (c .before .before .number-at2 .ensures) (c .enum-told2 .given .1))) tt
-    (unread _ λ k. refl)
+returns-2 c =
+    let at-number-at2 = c .before .before in
+    let at-workspace = at-number-at2 .before .before in
+    let at-number-at = at-workspace .before .before in
+    parses (run-2 _ _ (told-number (at-number-at .number-at .ensures) (at-workspace .workspace .given .1))
+    (told-no-number (at-number-at2 .number-at2 .ensures) (c .enum-told2 .given .1))) tt (unread _ λ k. refl)
 
 number-at-requires-3 : tie.Need-number-at-requires-3
 number-at-requires-3 c κs = search needs
@@ -44,8 +48,15 @@ enum-told-3 c = search needs
 
 returns-3 : tie.Need-returns-3
 unfolding maxFuel
-returns-3 c = parses (run-3 _ _ (told-number (c .before .before .before .before .before .before .before .before .before .before .number-at .ensures) (c .before .before .before .before .before .before .before .before .workspace .given .1)) (told-number (c .before .before .before .before .before .before .number-at2 .ensures) (c .before .before .before .before .output .given .1)) (told-no-number (c .before .before .number-at3 .ensures) (c .enum-told3 .given .1))) tt
-    (unread _ λ k. refl)
+returns-3 c =
+    let at-number-at3 = c .before .before in
+    let at-output = at-number-at3 .before .before in
+    let at-number-at2 = at-output .before .before in
+    let at-workspace = at-number-at2 .before .before in
+    let at-number-at = at-workspace .before .before in
+    parses (run-3 _ _ (told-number (at-number-at .number-at .ensures) (at-workspace .workspace .given .1))
+    (told-number (at-number-at2 .number-at2 .ensures) (at-output .output .given .1))
+    (told-no-number (at-number-at3 .number-at3 .ensures) (c .enum-told3 .given .1))) tt (unread _ λ k. refl)
 
 number-at-requires-4 : tie.Need-number-at-requires-4
 number-at-requires-4 c κs = search needs
@@ -58,8 +69,18 @@ enum-told-4 c = search needs
 
 returns-4 : tie.Need-returns-4
 unfolding maxFuel
-returns-4 c = parses (run-4 _ _ (told-number (c .before .before .before .before .before .before .before .before .before .before .before .before .before .before .number-at .ensures) (c .before .before .before .before .before .before .before .before .before .before .before .before .workspace .given .1)) (told-number (c .before .before .before .before .before .before .before .before .before .before .number-at2 .ensures) (c .before .before .before .before .before .before .before .before .output .given .1)) (told-number (c .before .before .before .before .before .before .number-at3 .ensures) (c .before .before .before .before .fuel .given .1)) (told-no-number (c .before .before .number-at4 .ensures) (c .enum-told4 .given .1))) tt
-    (unread _ λ k. refl)
+returns-4 c =
+    let at-number-at4 = c .before .before in
+    let at-fuel = at-number-at4 .before .before in
+    let at-number-at3 = at-fuel .before .before in
+    let at-output = at-number-at3 .before .before in
+    let at-number-at2 = at-output .before .before in
+    let at-workspace = at-number-at2 .before .before in
+    let at-number-at = at-workspace .before .before in
+    parses (run-4 _ _ (told-number (at-number-at .number-at .ensures) (at-workspace .workspace .given .1))
+    (told-number (at-number-at2 .number-at2 .ensures) (at-output .output .given .1))
+    (told-number (at-number-at3 .number-at3 .ensures) (at-fuel .fuel .given .1))
+    (told-no-number (at-number-at4 .number-at4 .ensures) (c .enum-told4 .given .1))) tt (unread _ λ k. refl)
 
 bytes-at-requires : tie.Need-bytes-at-requires
 bytes-at-requires c κs = search needs
@@ -75,11 +96,27 @@ same-length c = search needs
 
 returns-5 : tie.Need-returns-5
 unfolding maxFuel
-returns-5 c = parses (run-5 _ _ (told-number (c .before .before .before .before .before .before .before .before .before .before .before .before .before .before .before .before .before .before .before .before .before .number-at .ensures) (c .before .before .before .before .before .before .before .before .before .before .before .before .before .before .before .before .before .before .before .workspace .given .1)) (told-number (c .before .before .before .before .before .before .before .before .before .before .before .before .before .before .before .before .before .number-at2 .ensures) (c .before .before .before .before .before .before .before .before .before .before .before .before .before .before .before .output .given .1)) (told-number (c .before .before .before .before .before .before .before .before .before .before .before .before .before .number-at3 .ensures) (c .before .before .before .before .before .before .before .before .before .before .before .fuel .given .1)) (told-number (c .before .before .before .before .before .before .before .before .before .number-at4 .ensures) (c .before .before .before .before .before .before .before .function .given .1)) (told-no-bytes (c .before .before .before .before .bytes-at .ensures) (c .enum-told5 .given .1))) tt
-    (record { program = c .before .before .before .before .bytes-at .ensures .left; ancillae = refl; value = refl })
+returns-5 c =
+    let at-bytes-at = c .before .before .before .before in
+    let at-function = at-bytes-at .before .before .before in
+    let at-number-at4 = at-function .before .before in
+    let at-fuel = at-number-at4 .before .before in
+    let at-number-at3 = at-fuel .before .before in
+    let at-output = at-number-at3 .before .before in
+    let at-number-at2 = at-output .before .before in
+    let at-workspace = at-number-at2 .before .before in
+    let at-number-at = at-workspace .before .before in
+    parses (run-5 _ _ (told-number (at-number-at .number-at .ensures) (at-workspace .workspace .given .1))
+    (told-number (at-number-at2 .number-at2 .ensures) (at-output .output .given .1))
+    (told-number (at-number-at3 .number-at3 .ensures) (at-fuel .fuel .given .1))
+    (told-number (at-number-at4 .number-at4 .ensures) (at-function .function .given .1))
+    (told-no-bytes (at-bytes-at .bytes-at .ensures) (c .enum-told5 .given .1))) tt
+    (record { program = at-bytes-at .bytes-at .ensures .left; ancillae = refl; value = refl })
 
 bytes-at-requires-2 : tie.Need-bytes-at-requires-2
-bytes-at-requires-2 c κs = omega (arith, c .before .before .before .before .before .before .before .before .before .before .before .before .before .before .before .before .before .before .before .before .before .before .before .before .before .before .before .before .pre .1)
+bytes-at-requires-2 c κs =
+    let start = c .before .before .before .before .before .before .before .before .before .before .before .before .before .before .before .before .before .before .before .before .before .before .before .before .before .before .before .before in
+    omega (arith, start .pre .1)
 
 enum-known-a : tie.Need-enum-known-a
 enum-known-a c = search needs
@@ -95,11 +132,29 @@ same-length-3 c = search needs
 
 returns-6 : tie.Need-returns-6
 unfolding maxFuel
-returns-6 c = parses (run-6 _ _ (told-number (c .before .before .before .before .before .before .before .before .before .before .before .before .before .before .before .before .before .before .before .before .before .before .before .before .before .before .before .before .number-at .ensures) (c .before .before .before .before .before .before .before .before .before .before .before .before .before .before .before .before .before .before .before .before .before .before .before .before .before .before .workspace .given .1)) (told-number (c .before .before .before .before .before .before .before .before .before .before .before .before .before .before .before .before .before .before .before .before .before .before .before .before .number-at2 .ensures) (c .before .before .before .before .before .before .before .before .before .before .before .before .before .before .before .before .before .before .before .before .before .before .output .given .1)) (told-number (c .before .before .before .before .before .before .before .before .before .before .before .before .before .before .before .before .before .before .before .before .number-at3 .ensures) (c .before .before .before .before .before .before .before .before .before .before .before .before .before .before .before .before .before .before .fuel .given .1)) (told-number (c .before .before .before .before .before .before .before .before .before .before .before .before .before .before .before .before .number-at4 .ensures) (c .before .before .before .before .before .before .before .before .before .before .before .before .before .before .function .given .1)) (told-bytes (c .before .before .before .before .before .before .before .before .before .before .before .bytes-at .ensures) (c .before .before .before .before .before .before .before .p .given .1)) (told-no-bytes (c .before .before .before .before .bytes-at2 .ensures) (c .enum-told6 .given .1))) tt
-    (record { program = c .before .before .before .before .before .before .before .before .before .before .before .bytes-at .ensures .left; ancillae = c .before .before .before .before .bytes-at2 .ensures .left; value = refl })
+returns-6 c =
+    let at-bytes-at2 = c .before .before .before .before in
+    let at-p = at-bytes-at2 .before .before .before in
+    let at-bytes-at = at-p .before .before .before .before in
+    let at-function = at-bytes-at .before .before .before in
+    let at-number-at4 = at-function .before .before in
+    let at-fuel = at-number-at4 .before .before in
+    let at-number-at3 = at-fuel .before .before in
+    let at-output = at-number-at3 .before .before in
+    let at-number-at2 = at-output .before .before in
+    let at-workspace = at-number-at2 .before .before in
+    let at-number-at = at-workspace .before .before in
+    parses (run-6 _ _ (told-number (at-number-at .number-at .ensures) (at-workspace .workspace .given .1))
+    (told-number (at-number-at2 .number-at2 .ensures) (at-output .output .given .1))
+    (told-number (at-number-at3 .number-at3 .ensures) (at-fuel .fuel .given .1))
+    (told-number (at-number-at4 .number-at4 .ensures) (at-function .function .given .1))
+    (told-bytes (at-bytes-at .bytes-at .ensures) (at-p .p .given .1)) (told-no-bytes (at-bytes-at2 .bytes-at2 .ensures) (c .enum-told6 .given .1))) tt
+    (record { program = at-bytes-at .bytes-at .ensures .left; ancillae = at-bytes-at2 .bytes-at2 .ensures .left; value = refl })
 
 bytes-at-requires-3 : tie.Need-bytes-at-requires-3
-bytes-at-requires-3 c κs = omega (arith, c .before .before .before .before .before .before .before .before .before .before .before .before .before .before .before .before .before .before .before .before .before .before .before .before .before .before .before .before .before .before .before .before .before .before .before .pre .1)
+bytes-at-requires-3 c κs =
+    let start = c .before .before .before .before .before .before .before .before .before .before .before .before .before .before .before .before .before .before .before .before .before .before .before .before .before .before .before .before .before .before .before .before .before .before .before in
+    omega (arith, start .pre .1)
 
 enum-known-v : tie.Need-enum-known-v
 enum-known-v c = search needs
@@ -118,14 +173,39 @@ same-length-6 c = search needs
 
 returns-7 : tie.Need-returns-7
 unfolding maxFuel
-returns-7 c = parses (run-7 _ _ (told-number (c .before .before .before .before .before .before .before .before .before .before .before .before .before .before .before .before .before .before .before .before .before .before .before .before .before .before .before .before .before .before .before .before .before .before .before .number-at .ensures) (c .before .before .before .before .before .before .before .before .before .before .before .before .before .before .before .before .before .before .before .before .before .before .before .before .before .before .before .before .before .before .before .before .before .workspace .given .1)) (told-number (c .before .before .before .before .before .before .before .before .before .before .before .before .before .before .before .before .before .before .before .before .before .before .before .before .before .before .before .before .before .before .before .number-at2 .ensures) (c .before .before .before .before .before .before .before .before .before .before .before .before .before .before .before .before .before .before .before .before .before .before .before .before .before .before .before .before .before .output .given .1)) (told-number (c .before .before .before .before .before .before .before .before .before .before .before .before .before .before .before .before .before .before .before .before .before .before .before .before .before .before .before .number-at3 .ensures) (c .before .before .before .before .before .before .before .before .before .before .before .before .before .before .before .before .before .before .before .before .before .before .before .before .before .fuel .given .1)) (told-number (c .before .before .before .before .before .before .before .before .before .before .before .before .before .before .before .before .before .before .before .before .before .before .before .number-at4 .ensures) (c .before .before .before .before .before .before .before .before .before .before .before .before .before .before .before .before .before .before .before .before .before .function .given .1)) (told-bytes (c .before .before .before .before .before .before .before .before .before .before .before .before .before .before .before .before .before .before .bytes-at .ensures) (c .before .before .before .before .before .before .before .before .before .before .before .before .before .before .p .given .1)) (told-bytes (c .before .before .before .before .before .before .before .before .before .before .before .bytes-at2 .ensures) (c .before .before .before .before .before .before .before .a .given .1)) (told-no-bytes (c .before .before .before .before .bytes-at3 .ensures) (c .enum-told7 .given .1))) tt
-    (record { program = c .before .before .before .before .before .before .before .before .before .before .before .before .before .before .before .before .before .before .bytes-at .ensures .left; ancillae = c .before .before .before .before .before .before .before .before .before .before .before .bytes-at2 .ensures .left; value = c .before .before .before .before .bytes-at3 .ensures .left })
+returns-7 c =
+    let at-bytes-at3 = c .before .before .before .before in
+    let at-a = at-bytes-at3 .before .before .before in
+    let at-bytes-at2 = at-a .before .before .before .before in
+    let at-p = at-bytes-at2 .before .before .before in
+    let at-bytes-at = at-p .before .before .before .before in
+    let at-function = at-bytes-at .before .before .before in
+    let at-number-at4 = at-function .before .before in
+    let at-fuel = at-number-at4 .before .before in
+    let at-number-at3 = at-fuel .before .before in
+    let at-output = at-number-at3 .before .before in
+    let at-number-at2 = at-output .before .before in
+    let at-workspace = at-number-at2 .before .before in
+    let at-number-at = at-workspace .before .before in
+    parses (run-7 _ _ (told-number (at-number-at .number-at .ensures) (at-workspace .workspace .given .1))
+    (told-number (at-number-at2 .number-at2 .ensures) (at-output .output .given .1))
+    (told-number (at-number-at3 .number-at3 .ensures) (at-fuel .fuel .given .1))
+    (told-number (at-number-at4 .number-at4 .ensures) (at-function .function .given .1))
+    (told-bytes (at-bytes-at .bytes-at .ensures) (at-p .p .given .1)) (told-bytes (at-bytes-at2 .bytes-at2 .ensures) (at-a .a .given .1))
+    (told-no-bytes (at-bytes-at3 .bytes-at3 .ensures) (c .enum-told7 .given .1))) tt
+    (record { program = at-bytes-at .bytes-at .ensures .left; ancillae = at-bytes-at2 .bytes-at2 .ensures .left; value = at-bytes-at3 .bytes-at3 .ensures .left })
 
 cast-t28 : tie.Need-cast-t28
-cast-t28 c = record { fits = omega (arith, number-within (c .before .before .before .before .before .before .before .before .before .before .before .before .before .before .before .before .before .before .before .before .before .before .before .before .before .before .before .before .number-at3 .ensures) (c .before .before .before .before .before .before .before .before .before .before .before .before .before .before .before .before .before .before .before .before .before .before .before .before .before .before .fuel .given .1)) }
+cast-t28 c =
+    let at-fuel = c .before .before .before .before .before .before .before .before .before .before .before .before .before .before .before .before .before .before .before .before .before .before .before .before .before .before in
+    let at-number-at3 = at-fuel .before .before in
+    record { fits = omega (arith, number-within (at-number-at3 .number-at3 .ensures) (at-fuel .fuel .given .1)) }
 
 cast-t29 : tie.Need-cast-t29
-cast-t29 c = record { fits = omega (arith, number-within (c .before .before .before .before .before .before .before .before .before .before .before .before .before .before .before .before .before .before .before .before .before .before .before .before .number-at4 .ensures) (c .before .before .before .before .before .before .before .before .before .before .before .before .before .before .before .before .before .before .before .before .before .before .function .given .1)) }
+cast-t29 c =
+    let at-function = c .before .before .before .before .before .before .before .before .before .before .before .before .before .before .before .before .before .before .before .before .before .before in
+    let at-number-at4 = at-function .before .before in
+    record { fits = omega (arith, number-within (at-number-at4 .number-at4 .ensures) (at-function .function .given .1)) }
 
 same-length-7 : tie.Need-same-length-7
 same-length-7 c = search needs
@@ -138,8 +218,30 @@ same-length-9 c = search needs
 
 returns-8 : tie.Need-returns-8
 unfolding maxFuel
-returns-8 c = parses (run-all _ _ (told-number (c .before .before .before .before .before .before .before .before .before .before .before .before .before .before .before .before .before .before .before .before .before .before .before .before .before .before .before .before .before .before .before .before .before .before .before .before .number-at .ensures) (c .before .before .before .before .before .before .before .before .before .before .before .before .before .before .before .before .before .before .before .before .before .before .before .before .before .before .before .before .before .before .before .before .before .before .workspace .given .1)) (told-number (c .before .before .before .before .before .before .before .before .before .before .before .before .before .before .before .before .before .before .before .before .before .before .before .before .before .before .before .before .before .before .before .before .number-at2 .ensures) (c .before .before .before .before .before .before .before .before .before .before .before .before .before .before .before .before .before .before .before .before .before .before .before .before .before .before .before .before .before .before .output .given .1)) (told-number (c .before .before .before .before .before .before .before .before .before .before .before .before .before .before .before .before .before .before .before .before .before .before .before .before .before .before .before .before .number-at3 .ensures) (c .before .before .before .before .before .before .before .before .before .before .before .before .before .before .before .before .before .before .before .before .before .before .before .before .before .before .fuel .given .1)) (told-number (c .before .before .before .before .before .before .before .before .before .before .before .before .before .before .before .before .before .before .before .before .before .before .before .before .number-at4 .ensures) (c .before .before .before .before .before .before .before .before .before .before .before .before .before .before .before .before .before .before .before .before .before .before .function .given .1)) (told-bytes (c .before .before .before .before .before .before .before .before .before .before .before .before .before .before .before .before .before .before .before .bytes-at .ensures) (c .before .before .before .before .before .before .before .before .before .before .before .before .before .before .before .p .given .1)) (told-bytes (c .before .before .before .before .before .before .before .before .before .before .before .before .bytes-at2 .ensures) (c .before .before .before .before .before .before .before .before .a .given .1)) (told-bytes (c .before .before .before .before .before .bytes-at3 .ensures) (c .before .v .given .1))) (bytes-within (c .before .before .before .before .before .before .before .before .before .before .before .before .before .before .before .before .before .before .before .bytes-at .ensures) (c .before .before .before .before .before .before .before .before .before .before .before .before .before .before .before .p .given .1), bytes-within (c .before .before .before .before .before .before .before .before .before .before .before .before .bytes-at2 .ensures) (c .before .before .before .before .before .before .before .before .a .given .1), bytes-within (c .before .before .before .before .before .bytes-at3 .ensures) (c .before .v .given .1))
-    (record { program = c .before .before .before .before .before .before .before .before .before .before .before .before .before .before .before .before .before .before .before .bytes-at .ensures .left; ancillae = c .before .before .before .before .before .before .before .before .before .before .before .before .bytes-at2 .ensures .left; value = c .before .before .before .before .before .bytes-at3 .ensures .left })
+returns-8 c =
+    let at-v = c .before in
+    let at-bytes-at3 = at-v .before .before .before .before in
+    let at-a = at-bytes-at3 .before .before .before in
+    let at-bytes-at2 = at-a .before .before .before .before in
+    let at-p = at-bytes-at2 .before .before .before in
+    let at-bytes-at = at-p .before .before .before .before in
+    let at-function = at-bytes-at .before .before .before in
+    let at-number-at4 = at-function .before .before in
+    let at-fuel = at-number-at4 .before .before in
+    let at-number-at3 = at-fuel .before .before in
+    let at-output = at-number-at3 .before .before in
+    let at-number-at2 = at-output .before .before in
+    let at-workspace = at-number-at2 .before .before in
+    let at-number-at = at-workspace .before .before in
+    parses (run-all _ _ (told-number (at-number-at .number-at .ensures) (at-workspace .workspace .given .1))
+    (told-number (at-number-at2 .number-at2 .ensures) (at-output .output .given .1))
+    (told-number (at-number-at3 .number-at3 .ensures) (at-fuel .fuel .given .1))
+    (told-number (at-number-at4 .number-at4 .ensures) (at-function .function .given .1))
+    (told-bytes (at-bytes-at .bytes-at .ensures) (at-p .p .given .1)) (told-bytes (at-bytes-at2 .bytes-at2 .ensures) (at-a .a .given .1))
+    (told-bytes (at-bytes-at3 .bytes-at3 .ensures) (at-v .v .given .1)))
+    (bytes-within (at-bytes-at .bytes-at .ensures) (at-p .p .given .1), bytes-within (at-bytes-at2 .bytes-at2 .ensures) (at-a .a .given .1),
+    bytes-within (at-bytes-at3 .bytes-at3 .ensures) (at-v .v .given .1))
+    (record { program = at-bytes-at .bytes-at .ensures .left; ancillae = at-bytes-at2 .bytes-at2 .ensures .left; value = at-bytes-at3 .bytes-at3 .ensures .left })
 
 pub run-call-spec : {M : Type 1} → statement M
 run-call-spec =

@@ -65,13 +65,18 @@ put-number-returns :
     (put-number-below t, put-number.Post)
     (put-number-at t)
     put-number.Post
-put-number-returns t c = wrote-as (wrote-byte _ _ _ (omega (arith, c .before .before .pre .1, ap length (one-digit _ (c .if1 .taken))))) (one-digit _ (c .if1 .taken))
+put-number-returns t c =
+    let start = c .before .before in
+    wrote-as (wrote-byte _ _ _ (omega (arith, start .pre .1, ap length (one-digit _ (c .if1 .taken))))) (one-digit _ (c .if1 .taken))
 
 put-number-put-number-requires : (t : ℕ) → put-number-lts.Need-put-number-requires (
   put-number-below t,
   put-number.Post,
 ) (put-number-at t) put-number.Post
-put-number-put-number-requires t c κs = (omega (arith, c .before .before .before .pre .0), omega (arith, c .before .before .before .pre .1, longer-by-one _ (c .before .if1 .left)))
+put-number-put-number-requires t c κs =
+    let at-if1 = c .before in
+    let start = at-if1 .before .before in
+    (omega (arith, start .pre .0), omega (arith, start .pre .1, longer-by-one _ (at-if1 .if1 .left)))
 
 put-number-cast-out-2 : (t : ℕ) → put-number-lts.Need-cast-out-2 (
   put-number-below t,
@@ -89,13 +94,23 @@ put-number-slice-write-out-2 : (t : ℕ) → put-number-lts.Need-slice-write-out
   put-number-below t,
   put-number.Post,
 ) (put-number-at t) put-number.Post
-put-number-slice-write-out-2 t c = omega (arith, c .before .before .before .before .before .before .pre .1, longer-by-one _ (c .before .before .before .before .if1 .left), c .before .before .put-number .ensures .ends, c .before .before .put-number .ensures .kept)
+put-number-slice-write-out-2 t c =
+    let at-put-number = c .before .before in
+    let at-if1 = at-put-number .before .before in
+    let start = at-if1 .before .before in
+    omega (arith, start .pre .1, longer-by-one _ (at-if1 .if1 .left), at-put-number .put-number .ensures .ends,
+    at-put-number .put-number .ensures .kept)
 
 put-number-add-result-2 : (t : ℕ) → put-number-lts.Need-add-result-2 (
   put-number-below t,
   put-number.Post,
 ) (put-number-at t) put-number.Post
-put-number-add-result-2 t c = omega (arith, c .before .before .before .before .before .before .pre .1, longer-by-one _ (c .before .before .before .before .if1 .left), c .before .before .put-number .ensures .ends, c .before .before .put-number .ensures .kept)
+put-number-add-result-2 t c =
+    let at-put-number = c .before .before in
+    let at-if1 = at-put-number .before .before in
+    let start = at-if1 .before .before in
+    omega (arith, start .pre .1, longer-by-one _ (at-if1 .if1 .left), at-put-number .put-number .ensures .ends,
+    at-put-number .put-number .ensures .kept)
 
 put-number-same-length-2 : (t : ℕ) → put-number-lts.Need-same-length-2 (
   put-number-below t,
@@ -107,7 +122,13 @@ put-number-returns-2 : (t : ℕ) → put-number-lts.Need-returns-2 (
   put-number-below t,
   put-number.Post,
 ) (put-number-at t) put-number.Post
-put-number-returns-2 t c = wrote-as (wrote-both (c .before .before .put-number .ensures) (wrote-byte _ _ _ (omega (arith, c .before .before .before .before .before .before .pre .1, longer-by-one _ (c .before .before .before .before .if1 .left), c .before .before .put-number .ensures .ends, c .before .before .put-number .ensures .kept)))) (more-digits _ (c .before .before .before .before .if1 .left))
+put-number-returns-2 t c =
+    let at-put-number = c .before .before in
+    let at-if1 = at-put-number .before .before in
+    let start = at-if1 .before .before in
+    wrote-as (wrote-both (at-put-number .put-number .ensures)
+    (wrote-byte _ _ _ (omega (arith, start .pre .1, longer-by-one _ (at-if1 .if1 .left), at-put-number .put-number .ensures .ends,
+    at-put-number .put-number .ensures .kept)))) (more-digits _ (at-if1 .if1 .left))
 
 pub +put-number-spec : {M : Type 1} → statement M
 +put-number-spec = close μ-put-number λ t. put-number-lts.spec (

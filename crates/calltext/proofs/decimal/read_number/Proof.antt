@@ -23,10 +23,18 @@ shared-slice-read-b : tie.Need-shared-slice-read-b Inv-loop μ-loop
 shared-slice-read-b c = search needs
 
 returns-2 : tie.Need-returns-2 Inv-loop μ-loop
-returns-2 c = record { said = stops-low _ _ _ _ (c .before .before .before .loop .inv .3) (c .before .before .loop-test .taken) (c .if2 .taken); within = search needs }
+returns-2 c =
+    let at-loop-test = c .before .before in
+    let at-loop = at-loop-test .before in
+    record { said = stops-low _ _ _ _ (at-loop .loop .inv .3) (at-loop-test .loop-test .taken) (c .if2 .taken); within = search needs }
 
 returns-3 : tie.Need-returns-3 Inv-loop μ-loop
-returns-3 c = record { said = stops-high _ _ _ _ (c .before .before .before .before .loop .inv .3) (c .before .before .before .loop-test .taken) (c .before .if2 .left) (c .if3 .taken); within = search needs }
+returns-3 c =
+    let at-if2 = c .before in
+    let at-loop-test = at-if2 .before .before in
+    let at-loop = at-loop-test .before in
+    record { said = stops-high _ _ _ _ (at-loop .loop .inv .3) (at-loop-test .loop-test .taken) (at-if2 .if2 .left)
+    (c .if3 .taken); within = search needs }
 
 mul-next : tie.Need-mul-next Inv-loop μ-loop
 mul-next c = search needs
@@ -38,7 +46,13 @@ add-next : tie.Need-add-next Inv-loop μ-loop
 add-next c = search needs
 
 returns-4 : tie.Need-returns-4 Inv-loop μ-loop
-returns-4 c = record { said = stops-large _ _ _ _ (c .before .before .before .before .before .loop .inv .3) (c .before .before .before .before .loop-test .taken) (c .before .before .if2 .left) (c .before .if3 .left) (c .if4 .taken); within = search needs }
+returns-4 c =
+    let at-if3 = c .before in
+    let at-if2 = at-if3 .before in
+    let at-loop-test = at-if2 .before .before in
+    let at-loop = at-loop-test .before in
+    record { said = stops-large _ _ _ _ (at-loop .loop .inv .3) (at-loop-test .loop-test .taken) (at-if2 .if2 .left) (at-if3 .if3 .left)
+    (c .if4 .taken); within = search needs }
 
 add-i : tie.Need-add-i Inv-loop μ-loop
 add-i c = search needs
@@ -47,7 +61,13 @@ loop-less : tie.Need-loop-less Inv-loop μ-loop
 loop-less c = search needs
 
 loop-again : tie.Need-loop-again Inv-loop μ-loop
-loop-again c = (c .before .before .before .before .before .loop .inv .0, search needs, search needs, carries _ _ _ _ (c .before .before .before .before .before .loop .inv .3) (c .before .before .before .before .loop-test .taken) (c .before .before .if2 .left) (c .before .if3 .left) (c .if4 .left))
+loop-again c =
+    let at-if3 = c .before in
+    let at-if2 = at-if3 .before in
+    let at-loop-test = at-if2 .before .before in
+    let at-loop = at-loop-test .before in
+    (at-loop .loop .inv .0, search needs, search needs, carries _ _ _ _ (at-loop .loop .inv .3) (at-loop-test .loop-test .taken) (at-if2 .if2 .left)
+    (at-if3 .if3 .left) (c .if4 .left))
 
 returns-5 : tie.Need-returns-5 Inv-loop μ-loop
 returns-5 c = record { said = carried-all _ _ _ _ (c .before .loop .inv .3) (c .loop-test .left); within = search needs }

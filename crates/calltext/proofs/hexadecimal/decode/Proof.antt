@@ -23,8 +23,12 @@ same-length : tie.Need-same-length
 same-length c = search needs
 
 returns-4 : tie.Need-returns-4
-returns-4 c = let d = c .before .before .pairs .ensures in
-    record { said = d .said ∙ longer-word _ (c .before .before .before .before .before .if1 .left) (c .before .before .before .before .if2 .left); within = d .within; left = d .left }
+returns-4 c =
+    let at-pairs = c .before .before in
+    let at-if2 = at-pairs .before .before in
+    let at-if1 = at-if2 .before in
+    let d = at-pairs .pairs .ensures in
+    record { said = d .said ∙ longer-word _ (at-if1 .if1 .left) (at-if2 .if2 .left); within = d .within; left = d .left }
 
 pub decode-spec : {M : Type 1} → statement M
 decode-spec =

@@ -47,15 +47,26 @@ same-length-2 : tie.Need-same-length-2 Inv-loop μ-loop
 same-length-2 c = c .before .before .before .before .before .before .before .loop .inv .1
 
 returns-2 : tie.Need-returns-2 Inv-loop μ-loop
-returns-2 c = let v = c .before .before .before .before .before .before .before .loop .inv in
-    stops-high _ _ _ _ _ (v .2) (room (v .0) (v .1) (v .2)) _ (c .before .before .before .digit .ensures) (c .before .before .before .before .before .if1 .left) (c .if2 .taken)
+returns-2 c =
+    let at-digit = c .before .before .before in
+    let at-if1 = at-digit .before .before in
+    let at-loop = at-if1 .before .before in
+    let v = at-loop .loop .inv in
+    stops-high _ _ _ _ _ (v .2) (room (v .0) (v .1) (v .2)) _ (at-digit .digit .ensures) (at-if1 .if1 .left) (c .if2 .taken)
 
 same-length-3 : tie.Need-same-length-3 Inv-loop μ-loop
 same-length-3 c = c .before .before .before .before .before .before .before .before .loop .inv .1
 
 returns-3 : tie.Need-returns-3 Inv-loop μ-loop
-returns-3 c = let v = c .before .before .before .before .before .before .before .before .loop .inv in
-    stops-low _ _ _ _ _ (v .2) (room (v .0) (v .1) (v .2)) _ (c .before .before .before .before .digit .ensures) (c .before .before .before .before .before .before .if1 .left) _ (c .before .before .digit2 .ensures) (c .before .if2 .left) (c .if3 .taken)
+returns-3 c =
+    let at-if2 = c .before in
+    let at-digit2 = at-if2 .before in
+    let at-digit = at-digit2 .before .before in
+    let at-if1 = at-digit .before .before in
+    let at-loop = at-if1 .before .before in
+    let v = at-loop .loop .inv in
+    stops-low _ _ _ _ _ (v .2) (room (v .0) (v .1) (v .2)) _ (at-digit .digit .ensures) (at-if1 .if1 .left) _ (at-digit2 .digit2 .ensures)
+    (at-if2 .if2 .left) (c .if3 .taken)
 
 mul-out : tie.Need-mul-out Inv-loop μ-loop
 mul-out c = search needs
@@ -64,10 +75,16 @@ add-out : tie.Need-add-out Inv-loop μ-loop
 add-out c = search needs
 
 slice-write-out : tie.Need-slice-write-out Inv-loop μ-loop
-slice-write-out c = let d = c .before .before .before .before .before .before .before .before .loop .inv .2 in omega (arith, c .before .before .before .before .before .before .before .before .loop .inv .0, c .before .before .before .before .before .before .before .before .loop .inv .1, d .even)
+slice-write-out c =
+    let at-loop = c .before .before .before .before .before .before .before .before in
+    let d = at-loop .loop .inv .2 in
+    omega (arith, at-loop .loop .inv .0, at-loop .loop .inv .1, d .even)
 
 add-n : tie.Need-add-n Inv-loop μ-loop
-add-n c = let d = c .before .before .before .before .before .before .before .before .loop .inv .2 in omega (arith, c .before .before .before .before .before .before .before .before .loop .inv .0, c .before .before .before .before .before .before .before .before .loop .inv .1, d .even)
+add-n c =
+    let at-loop = c .before .before .before .before .before .before .before .before in
+    let d = at-loop .loop .inv .2 in
+    omega (arith, at-loop .loop .inv .0, at-loop .loop .inv .1, d .even)
 
 add-i : tie.Need-add-i Inv-loop μ-loop
 add-i c = search needs
@@ -76,8 +93,16 @@ loop-less : tie.Need-loop-less Inv-loop μ-loop
 loop-less c = search needs
 
 loop-again : tie.Need-loop-again Inv-loop μ-loop
-loop-again c = let d = c .before .before .before .before .before .before .before .before .loop .inv .2 in
-    (c .before .before .before .before .before .before .before .before .loop .inv .0, simp length-set (c .before .before .before .before .before .before .before .before .loop .inv .1), decodes-more _ _ _ _ _ d _ _ (c .before .before .before .before .digit .ensures) (c .before .before .digit2 .ensures) (c .before .before .before .before .before .before .if1 .left) (c .before .if2 .left) (c .if3 .left) (omega (arith, c .before .before .before .before .before .before .before .before .loop .inv .0, c .before .before .before .before .before .before .before .before .loop .inv .1, d .even)))
+loop-again c =
+    let at-if2 = c .before in
+    let at-digit2 = at-if2 .before in
+    let at-digit = at-digit2 .before .before in
+    let at-if1 = at-digit .before .before in
+    let at-loop = at-if1 .before .before in
+    let d = at-loop .loop .inv .2 in
+    (at-loop .loop .inv .0, simp length-set (at-loop .loop .inv .1), decodes-more _ _ _ _ _ d _ _ (at-digit .digit .ensures)
+    (at-digit2 .digit2 .ensures) (at-if1 .if1 .left) (at-if2 .if2 .left) (c .if3 .left)
+    (omega (arith, at-loop .loop .inv .0, at-loop .loop .inv .1, d .even)))
 
 same-length-4 : tie.Need-same-length-4 Inv-loop μ-loop
 same-length-4 c = c .before .loop .inv .1

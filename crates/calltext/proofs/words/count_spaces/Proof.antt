@@ -24,7 +24,11 @@ space-requires : tie.Need-space-requires Inv-loop μ-loop
 space-requires c κs = search needs
 
 add-n : tie.Need-add-n Inv-loop μ-loop
-add-n c = let h = at-most-one (getD (c .before .before .before .before .before .args .line .now) (c .before .before .before .loop .i) 0) in omega (arith, h, c .space .ensures)
+add-n c =
+    let at-loop = c .before .before .before in
+    let start = at-loop .before .before in
+    let h = at-most-one (getD (start .args .line .now) (at-loop .loop .i) 0) in
+    omega (arith, h, c .space .ensures)
 
 add-i : tie.Need-add-i Inv-loop μ-loop
 add-i c = search needs
@@ -33,8 +37,13 @@ loop-less : tie.Need-loop-less Inv-loop μ-loop
 loop-less c = search needs
 
 loop-again : tie.Need-loop-again Inv-loop μ-loop
-loop-again c = let h = at-most-one (getD (c .before .before .before .before .before .args .line .now) (c .before .before .before .loop .i) 0) in
-    (search needs, omega (arith, h, c .space .ensures), simp (c .space .ensures) (one-byte _ _ _ (c .before .before .before .loop .inv .2) (c .before .before .loop-test .taken)))
+loop-again c =
+    let at-loop-test = c .before .before in
+    let at-loop = at-loop-test .before in
+    let start = at-loop .before .before in
+    let h = at-most-one (getD (start .args .line .now) (at-loop .loop .i) 0) in
+    (search needs, omega (arith, h, c .space .ensures), simp (c .space .ensures)
+    (one-byte _ _ _ (at-loop .loop .inv .2) (at-loop-test .loop-test .taken)))
 
 returns : tie.Need-returns Inv-loop μ-loop
 returns c = all-spaces _ _ _ (c .before .loop .inv .2) (c .loop-test .left)

@@ -30,7 +30,11 @@ loop-again : tie.Need-loop-again Inv-loop μ-loop
 loop-again c = (search needs, c .next .ensures .0, c .next .ensures .1 ∙ ap behind (c .before .before .loop .inv .2) ∙ one-more _ _)
 
 returns : tie.Need-returns Inv-loop μ-loop
-returns c = (c .before .loop .inv .1, last-one (c .before .before .before .args .line .now) (c .before .loop .at) _ _ (c .before .loop .inv .2) (c .before .loop .inv .0) (c .loop-test .left))
+returns c =
+    let at-loop = c .before in
+    let start = at-loop .before .before in
+    (at-loop .loop .inv .1, last-one (start .args .line .now) (at-loop .loop .at) _ _ (at-loop .loop .inv .2) (at-loop .loop .inv .0)
+    (c .loop-test .left))
 
 pub start-spec : {M : Type 1} → statement M
 start-spec =

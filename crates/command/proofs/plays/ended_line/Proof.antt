@@ -74,21 +74,30 @@ same-length c = search needs
 
 returns : tie.Need-returns
 unfolding endedText
-returns c = wrote-as (c .before .before .put-between .ensures) (sym (ap (λ a. endedText (replyOf a)) (c .before .before .before .before .before .before .before .answer .given .1)))
+returns c =
+    let at-put-between = c .before .before in
+    let at-answer = at-put-between .before .before .before .before .before in
+    wrote-as (at-put-between .put-between .ensures) (sym (ap (λ a. endedText (replyOf a)) (at-answer .answer .given .1)))
 
 same-length-2 : tie.Need-same-length-2
 same-length-2 c = search needs
 
 returns-2 : tie.Need-returns-2
 unfolding endedText
-returns-2 c = wrote-as (c .before .before .put-between2 .ensures) (sym (ap (λ a. endedText (replyOf a)) (c .before .before .before .before .before .before .before .answer2 .given .1)))
+returns-2 c =
+    let at-put-between2 = c .before .before in
+    let at-answer2 = at-put-between2 .before .before .before .before .before in
+    wrote-as (at-put-between2 .put-between2 .ensures) (sym (ap (λ a. endedText (replyOf a)) (at-answer2 .answer2 .given .1)))
 
 same-length-3 : tie.Need-same-length-3
 same-length-3 c = search needs
 
 returns-3 : tie.Need-returns-3
 unfolding endedText
-returns-3 c = wrote-as (c .before .before .put-between3 .ensures) (sym (ap (λ a. endedText (replyOf a)) (c .before .before .before .before .before .before .before .answer3 .given .1)))
+returns-3 c =
+    let at-put-between3 = c .before .before in
+    let at-answer3 = at-put-between3 .before .before .before .before .before in
+    wrote-as (at-put-between3 .put-between3 .ensures) (sym (ap (λ a. endedText (replyOf a)) (at-answer3 .answer3 .given .1)))
 
 same-length-4 : tie.Need-same-length-4
 same-length-4 c = search needs
@@ -109,7 +118,10 @@ same-length-6 c = search needs
 
 returns-6 : tie.Need-returns-6
 unfolding endedText
-returns-6 c = wrote-as (c .before .before .put-between4 .ensures) (sym (ap (λ a. endedText (replyOf a)) (c .before .before .before .before .before .before .before .answer5 .given .1)))
+returns-6 c =
+    let at-put-between4 = c .before .before in
+    let at-answer5 = at-put-between4 .before .before .before .before .before in
+    wrote-as (at-put-between4 .put-between4 .ensures) (sym (ap (λ a. endedText (replyOf a)) (at-answer5 .answer5 .given .1)))
 
 pub ended-line-spec : {M : Type 1} → statement M
 ended-line-spec =

@@ -16,7 +16,11 @@ same-length : tie.Need-same-length
 same-length c = search needs
 
 returns : tie.Need-returns
-returns c = wrote-both (wrote-both (c .before .before .before .before .before .before .before .before .before .before .put .ensures) (c .before .before .before .before .before .before .put-figure .ensures .0)) (c .before .before .put2 .ensures)
+returns c =
+    let at-put2 = c .before .before in
+    let at-put-figure = at-put2 .before .before .before .before in
+    let at-put = at-put-figure .before .before .before .before in
+    wrote-both (wrote-both (at-put .put .ensures) (at-put-figure .put-figure .ensures .0)) (at-put2 .put2 .ensures)
 
 pub put-between-spec : {M : Type 1} → statement M
 put-between-spec =

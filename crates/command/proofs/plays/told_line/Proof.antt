@@ -23,7 +23,11 @@ same-length : tie.Need-same-length
 same-length c = search needs
 
 returns : tie.Need-returns
-returns c = wrote-as (c .before .before .put .ensures) (told-open (c .before .before .before .before .before .before .before .before .before .before .before .args .line .now) (c .before .before .before .before .before .if1 .taken))
+returns c =
+    let at-put = c .before .before in
+    let at-if1 = at-put .before .before .before in
+    let start = at-if1 .before .before .before .before .before .before in
+    wrote-as (at-put .put .ensures) (told-open (start .args .line .now) (at-if1 .if1 .taken))
 
 cast-held : tie.Need-cast-held
 cast-held c = search needs
@@ -38,7 +42,15 @@ same-length-2 : tie.Need-same-length-2
 same-length-2 c = search needs
 
 returns-2 : tie.Need-returns-2
-returns-2 c = wrote-as (c .before .before .held .ensures) (told-held (c .before .before .before .before .before .before .before .before .before .before .before .args .line .now) (c .before .before .before .before .before .if1 .left) (c .before .before .before .before .if2 .taken) (c .before .before .before .before .before .before .before .read16 .ensures) (c .before .before .before .before .before .before .read32 .ensures))
+returns-2 c =
+    let at-held = c .before .before in
+    let at-if2 = at-held .before .before in
+    let at-if1 = at-if2 .before in
+    let at-read32 = at-if1 .before in
+    let at-read16 = at-read32 .before in
+    let start = at-read16 .before .before .before .before in
+    wrote-as (at-held .held .ensures) (told-held (start .args .line .now) (at-if1 .if1 .left) (at-if2 .if2 .taken) (at-read16 .read16 .ensures)
+    (at-read32 .read32 .ensures))
 
 cast-refused-line : tie.Need-cast-refused-line
 cast-refused-line c = search needs
@@ -53,7 +65,16 @@ same-length-3 : tie.Need-same-length-3
 same-length-3 c = search needs
 
 returns-3 : tie.Need-returns-3
-returns-3 c = wrote-as (c .before .before .refused-line .ensures) (told-refused (c .before .before .before .before .before .before .before .before .before .before .before .before .args .line .now) (c .before .before .before .before .before .before .if1 .left) (c .before .before .before .before .before .if2 .left) (c .before .before .before .before .if3 .taken) (c .before .before .before .before .before .before .before .before .read16 .ensures) (c .before .before .before .before .before .before .before .read32 .ensures))
+returns-3 c =
+    let at-refused-line = c .before .before in
+    let at-if3 = at-refused-line .before .before in
+    let at-if2 = at-if3 .before in
+    let at-if1 = at-if2 .before in
+    let at-read32 = at-if1 .before in
+    let at-read16 = at-read32 .before in
+    let start = at-read16 .before .before .before .before in
+    wrote-as (at-refused-line .refused-line .ensures) (told-refused (start .args .line .now) (at-if1 .if1 .left) (at-if2 .if2 .left)
+    (at-if3 .if3 .taken) (at-read16 .read16 .ensures) (at-read32 .read32 .ensures))
 
 slice-aggregate-put-2 : tie.Need-slice-aggregate-put-2
 slice-aggregate-put-2 c = search needs
@@ -65,7 +86,13 @@ same-length-4 : tie.Need-same-length-4
 same-length-4 c = search needs
 
 returns-4 : tie.Need-returns-4
-returns-4 c = wrote-as (c .before .before .put2 .ensures) (told-none (c .before .before .before .before .before .before .before .before .before .before .before .before .before .args .line .now) (c .before .before .before .before .before .before .before .if1 .left) (c .before .before .before .before .before .before .if2 .left) (c .before .before .before .before .before .if3 .left))
+returns-4 c =
+    let at-put2 = c .before .before in
+    let at-if3 = at-put2 .before .before .before in
+    let at-if2 = at-if3 .before in
+    let at-if1 = at-if2 .before in
+    let start = at-if1 .before .before .before .before .before .before in
+    wrote-as (at-put2 .put2 .ensures) (told-none (start .args .line .now) (at-if1 .if1 .left) (at-if2 .if2 .left) (at-if3 .if3 .left))
 
 pub told-line-spec : {M : Type 1} → statement M
 told-line-spec =

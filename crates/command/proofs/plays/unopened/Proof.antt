@@ -30,7 +30,10 @@ same-length c = search needs
 
 returns : tie.Need-returns
 unfolding unopenedText
-returns c = wrote-behind (c .before .before .before .before .before .before .put .ensures) (wrote-within (c .before .before .before .before .before .before .put .ensures)) (c .before .before .refusal .ensures)
+returns c =
+    let at-refusal = c .before .before in
+    let at-put = at-refusal .before .before .before .before in
+    wrote-behind (at-put .put .ensures) (wrote-within (at-put .put .ensures)) (at-refusal .refusal .ensures)
 
 pub unopened-spec : {M : Type 1} → statement M
 unopened-spec =

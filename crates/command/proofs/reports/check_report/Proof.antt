@@ -33,7 +33,10 @@ same-length-2 c = search needs
 
 returns-2 : tie.Need-returns-2
 unfolding checkReport
-returns-2 c = wrote-as (c .before .before .refusal .ensures) (sym (ap (λ a. checkReport (checkAnswer a)) (c .before .before .before .before .before .answer .given .1)))
+returns-2 c =
+    let at-refusal = c .before .before in
+    let at-answer = at-refusal .before .before .before in
+    wrote-as (at-refusal .refusal .ensures) (sym (ap (λ a. checkReport (checkAnswer a)) (at-answer .answer .given .1)))
 
 pub check-report-spec : {M : Type 1} → statement M
 check-report-spec =

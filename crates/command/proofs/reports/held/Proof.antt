@@ -33,7 +33,14 @@ same-length c = search needs
 
 returns : tie.Need-returns
 unfolding heldText
-returns c = wrote-five (c .before .before .before .before .before .before .before .before .before .before .before .before .before .before .before .before .before .before .before .before .put .ensures) (c .before .before .before .before .before .before .before .before .before .before .before .before .before .before .before .before .put-figure .ensures .0) (c .before .before .before .before .before .before .before .before .before .before .before .put2 .ensures) (c .before .before .before .before .before .before .before .put-figure2 .ensures .0) (c .before .before .put3 .ensures)
+returns c =
+    let at-put3 = c .before .before in
+    let at-put-figure2 = at-put3 .before .before .before .before .before in
+    let at-put2 = at-put-figure2 .before .before .before .before in
+    let at-put-figure = at-put2 .before .before .before .before .before in
+    let at-put = at-put-figure .before .before .before .before in
+    wrote-five (at-put .put .ensures) (at-put-figure .put-figure .ensures .0) (at-put2 .put2 .ensures) (at-put-figure2 .put-figure2 .ensures .0)
+    (at-put3 .put3 .ensures)
 
 pub held-spec : {M : Type 1} → statement M
 held-spec =

@@ -11,7 +11,10 @@ same-length : tie.Need-same-length
 same-length c = search needs
 
 returns : tie.Need-returns
-returns c = (c .before .before .put-number .ensures, omega (arith, c .before .before .put-number .ensures .ends, at-most-twenty (c .before .before .before .before .before .args .n) (search needs)))
+returns c =
+    let at-put-number = c .before .before in
+    let start = at-put-number .before .before .before in
+    (at-put-number .put-number .ensures, omega (arith, at-put-number .put-number .ensures .ends, at-most-twenty (start .args .n) (search needs)))
 
 pub put-figure-spec : {M : Type 1} → statement M
 put-figure-spec = tie.close (tie.spec put-number-requires same-length returns)

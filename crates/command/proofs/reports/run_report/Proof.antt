@@ -12,7 +12,10 @@ enum-known-answer : tie.Need-enum-known-answer
 enum-known-answer c = search needs
 
 run-line-requires : tie.Need-run-line-requires
-run-line-requires c κs = (omega (arith, c .before .before .before .before .before .before .pre .0, ap lengthOf (c .before .before .answer .given .1)), (omega (arith, c .before .before .before .before .before .before .pre .1), omega (arith, c .before .before .before .before .before .before .pre .1)))
+run-line-requires c κs =
+    let at-answer = c .before .before in
+    let start = at-answer .before .before .before .before in
+    (omega (arith, start .pre .0, ap lengthOf (at-answer .answer .given .1)), (omega (arith, start .pre .1), omega (arith, start .pre .1)))
 
 enum-known-answer-2 : tie.Need-enum-known-answer-2
 enum-known-answer-2 c = search needs
@@ -25,14 +28,22 @@ same-length c = search needs
 
 returns : tie.Need-returns
 unfolding runText filledReport
-returns c = wrote-as (c .before .before .run-line .ensures) (sym (ap (λ a. filledReport (runAnswer a) (c .before .before .before .before .before .before .before .before .before .args .output .now)) (c .before .before .before .before .before .answer .given .1)))
+returns c =
+    let at-run-line = c .before .before in
+    let at-answer = at-run-line .before .before .before in
+    let start = at-answer .before .before .before .before in
+    wrote-as (at-run-line .run-line .ensures) (sym (ap (λ a. filledReport (runAnswer a) (start .args .output .now)) (at-answer .answer .given .1)))
 
 same-length-2 : tie.Need-same-length-2
 same-length-2 c = search needs
 
 returns-2 : tie.Need-returns-2
 unfolding filledReport
-returns-2 c = wrote-as (c .before .before .refusal .ensures) (sym (ap (λ a. filledReport (runAnswer a) (c .before .before .before .before .before .before .before .before .before .args .output .now)) (c .before .before .before .before .before .answer2 .given .1)))
+returns-2 c =
+    let at-refusal = c .before .before in
+    let at-answer2 = at-refusal .before .before .before in
+    let start = at-answer2 .before .before .before .before in
+    wrote-as (at-refusal .refusal .ensures) (sym (ap (λ a. filledReport (runAnswer a) (start .args .output .now)) (at-answer2 .answer2 .given .1)))
 
 pub run-report-spec : {M : Type 1} → statement M
 run-report-spec =

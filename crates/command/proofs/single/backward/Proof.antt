@@ -17,7 +17,11 @@ slice-aggregate-run-report c = search needs
 
 run-report-requires : tie.Need-run-report-requires
 unfolding maxValueBytes
-run-report-requires c κs = (within (c .before .before .before .before .before .backward .result) _ _ (c .before .before .before .before .before .backward .ensures .0) (c .before .before .before .before .before .backward .ensures .1 .0) (c .before .before .before .before .before .backward .kept .1 .1 .1 .1 .1 .1 .0), omega (arith, c .before .before .before .before .before .backward .kept .1 .1 .1 .1 .1 .1 .0, c .before .before .before .before .before .before .before .before .before .before .before .before .before .pre))
+run-report-requires c κs =
+    let at-backward = c .before .before .before .before .before in
+    let start = at-backward .before .before .before .before .before .before .before .before in
+    (within (at-backward .backward .result) _ _ (at-backward .backward .ensures .0) (at-backward .backward .ensures .1 .0)
+    (at-backward .backward .kept .1 .1 .1 .1 .1 .1 .0), omega (arith, at-backward .backward .kept .1 .1 .1 .1 .1 .1 .0, start .pre))
 
 same-length : tie.Need-same-length
 same-length c = search needs
@@ -27,7 +31,11 @@ same-length-2 c = search needs
 
 returns : tie.Need-returns
 unfolding maxValueBytes
-returns c = (wrote-as (c .before .before .run-report .ensures) (run-reported (c .before .before .before .before .before .before .before .before .backward .result) _ _ (c .before .before .before .before .before .before .before .before .backward .ensures .0) (c .before .before .before .before .before .before .before .before .backward .ensures .1 .0)), c .before .before .before .before .before .before .before .before .backward .ensures .1 .1)
+returns c =
+    let at-run-report = c .before .before in
+    let at-backward = at-run-report .before .before .before .before .before .before in
+    (wrote-as (at-run-report .run-report .ensures) (run-reported (at-backward .backward .result) _ _ (at-backward .backward .ensures .0)
+    (at-backward .backward .ensures .1 .0)), at-backward .backward .ensures .1 .1)
 
 pub backward-spec : {M : Type 1} → statement M
 backward-spec =

@@ -18,7 +18,10 @@ same-length-2 : tie.Need-same-length-2
 same-length-2 c = search needs
 
 returns : tie.Need-returns
-returns c = (wrote-as (c .before .before .check-report .ensures) (ap checkReport (c .before .before .before .before .before .before .check .ensures .0)), c .before .before .before .before .before .before .check .ensures .1)
+returns c =
+    let at-check-report = c .before .before in
+    let at-check = at-check-report .before .before .before .before in
+    (wrote-as (at-check-report .check-report .ensures) (ap checkReport (at-check .check .ensures .0)), at-check .check .ensures .1)
 
 pub check-spec : {M : Type 1} → statement M
 check-spec =

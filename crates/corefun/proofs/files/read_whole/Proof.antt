@@ -23,16 +23,32 @@ enum-known-next : tie.Need-enum-known-next Inv-loop μ-loop
 enum-known-next c = search needs
 
 same-length : tie.Need-same-length Inv-loop μ-loop
-same-length c = c .before .before .before .before .before .before .read-behind .kept .1 .0 ∙ c .before .before .before .before .before .before .before .before .before .loop .inv .1
+same-length c =
+    let at-read-behind = c .before .before .before .before .before .before in
+    let at-loop = at-read-behind .before .before .before in
+    at-read-behind .read-behind .kept .1 .0 ∙ at-loop .loop .inv .1
 
 returns : tie.Need-returns Inv-loop μ-loop
-returns c = omega (arith, c .before .before .before .before .before .before .read-behind .kept .1 .0, c .before .before .before .before .before .before .before .before .before .loop .inv .0)
+returns c =
+    let at-read-behind = c .before .before .before .before .before .before in
+    let at-loop = at-read-behind .before .before .before in
+    omega (arith, at-read-behind .read-behind .kept .1 .0, at-loop .loop .inv .0)
 
 loop-less : tie.Need-loop-less Inv-loop μ-loop
-loop-less c = omega (arith, c .before .before .before .before .before .before .read-behind .kept .1 .0, c .if1 .left, c .before .before .before .before .before .before .read-behind .ensures, ap heldIn (c .before .before .next .given .1), c .before .before .before .before .before .before .before .before .loop-test .taken)
+loop-less c =
+    let at-next = c .before .before in
+    let at-read-behind = at-next .before .before .before .before in
+    let at-loop-test = at-read-behind .before .before in
+    omega (arith, at-read-behind .read-behind .kept .1 .0, c .if1 .left, at-read-behind .read-behind .ensures, ap heldIn (at-next .next .given .1),
+    at-loop-test .loop-test .taken)
 
 loop-again : tie.Need-loop-again Inv-loop μ-loop
-loop-again c = (omega (arith, c .before .before .before .before .before .before .read-behind .ensures, ap heldIn (c .before .before .next .given .1)), c .before .before .before .before .before .before .read-behind .kept .1 .0 ∙ c .before .before .before .before .before .before .before .before .before .loop .inv .1)
+loop-again c =
+    let at-next = c .before .before in
+    let at-read-behind = at-next .before .before .before .before in
+    let at-loop = at-read-behind .before .before .before in
+    (omega (arith, at-read-behind .read-behind .ensures, ap heldIn (at-next .next .given .1)), at-read-behind .read-behind .kept .1 .0
+    ∙ at-loop .loop .inv .1)
 
 enum-told : tie.Need-enum-told Inv-loop μ-loop
 enum-told c = search needs

@@ -17,7 +17,9 @@ loop-holds : tie.Need-loop-holds Inv-loop μ-loop
 loop-holds c = ((omega arith, omega arith), c .before .pre, refl)
 
 turn-requires : tie.Need-turn-requires Inv-loop μ-loop
-turn-requires c κs = (c .before .before .before .before .before .before .before .before .loop .inv .0, c .before .before .before .before .before .before .before .before .loop .inv .1)
+turn-requires c κs =
+    let at-loop = c .before .before .before .before .before .before .before .before in
+    (at-loop .loop .inv .0, at-loop .loop .inv .1)
 
 sub-turns : tie.Need-sub-turns Inv-loop μ-loop
 sub-turns c = search needs
@@ -26,16 +28,24 @@ loop-less : tie.Need-loop-less Inv-loop μ-loop
 loop-less c = omega (arith, c .before .before .before .before .before .before .before .before .before .before .before .loop-test .taken)
 
 loop-again : tie.Need-loop-again Inv-loop μ-loop
-loop-again c = (c .before .before .before .turn .ensures, omega (arith, c .before .before .before .turn .kept .1 .0, c .before .before .before .before .before .before .before .before .before .before .before .before .loop .inv .1), c .before .before .before .turn .kept .1 .0 ∙ c .before .before .before .before .before .before .before .before .before .before .before .before .loop .inv .2)
+loop-again c =
+    let at-turn = c .before .before .before in
+    let at-loop = at-turn .before .before .before .before .before .before .before .before .before in
+    (at-turn .turn .ensures, omega (arith, at-turn .turn .kept .1 .0, at-loop .loop .inv .1), at-turn .turn .kept .1 .0 ∙ at-loop .loop .inv .2)
 
 loop-less-2 : tie.Need-loop-less-2 Inv-loop μ-loop
 loop-less-2 c = omega (arith, c .before .before .before .before .before .before .before .before .before .before .before .loop-test .taken)
 
 loop-again-2 : tie.Need-loop-again-2 Inv-loop μ-loop
-loop-again-2 c = (c .before .before .before .turn .ensures, omega (arith, c .before .before .before .turn .kept .1 .0, c .before .before .before .before .before .before .before .before .before .before .before .before .loop .inv .1), c .before .before .before .turn .kept .1 .0 ∙ c .before .before .before .before .before .before .before .before .before .before .before .before .loop .inv .2)
+loop-again-2 c =
+    let at-turn = c .before .before .before in
+    let at-loop = at-turn .before .before .before .before .before .before .before .before .before in
+    (at-turn .turn .ensures, omega (arith, at-turn .turn .kept .1 .0, at-loop .loop .inv .1), at-turn .turn .kept .1 .0 ∙ at-loop .loop .inv .2)
 
 finish-requires : tie.Need-finish-requires Inv-loop μ-loop
-finish-requires c κs = (c .before .before .before .before .before .before .before .before .loop .inv .0, c .before .before .before .before .before .before .before .before .loop .inv .1)
+finish-requires c κs =
+    let at-loop = c .before .before .before .before .before .before .before .before in
+    (at-loop .loop .inv .0, at-loop .loop .inv .1)
 
 same-length : tie.Need-same-length Inv-loop μ-loop
 same-length c = c .before .before .before .before .before .before .before .before .before .loop .inv .2

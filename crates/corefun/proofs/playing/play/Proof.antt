@@ -8,7 +8,9 @@ slice-relend-prefix-replay : tie.Need-slice-relend-prefix-replay
 slice-relend-prefix-replay c = search needs
 
 slice-aggregate-replay : tie.Need-slice-aggregate-replay
-slice-aggregate-replay c = sym (length-take-le 131072 (c .before .before .before .before .before .before .before .args .journal .now) (c .before .before .before .before .before .before .before .pre))
+slice-aggregate-replay c =
+    let start = c .before .before .before .before .before .before .before in
+    sym (length-take-le 131072 (start .args .journal .now) (start .pre))
 
 replay-requires : tie.Need-replay-requires
 replay-requires c κs = search needs

@@ -27,7 +27,10 @@ slice-reshare-prefix-replay-loaded : tie.Need-slice-reshare-prefix-replay-loaded
 slice-reshare-prefix-replay-loaded c = counted-within (ap heldIn (c .before .p .given .1)) (c .before .before .before .before .before .before .before .load .ensures)
 
 slice-aggregate-replay-loaded : tie.Need-slice-aggregate-replay-loaded
-slice-aggregate-replay-loaded c = counted _ (ap heldIn (c .before .before .p .given .1)) (c .before .before .before .before .before .before .before .before .load .ensures)
+slice-aggregate-replay-loaded c =
+    let at-p = c .before .before in
+    let at-load = at-p .before .before .before .before .before .before in
+    counted _ (ap heldIn (at-p .p .given .1)) (at-load .load .ensures)
 
 replay-loaded-requires : tie.Need-replay-loaded-requires
 replay-loaded-requires c κs = search needs

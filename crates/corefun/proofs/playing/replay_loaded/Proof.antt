@@ -27,10 +27,16 @@ returns : tie.Need-returns
 returns c = search needs
 
 slice-reshare-prefix-replay-given : tie.Need-slice-reshare-prefix-replay-given
-slice-reshare-prefix-replay-given c = counted-within (ap heldIn (c .before .s .given .1)) (c .before .before .before .before .before .before .before .load-all .ensures)
+slice-reshare-prefix-replay-given c =
+    let at-s = c .before in
+    let at-load-all = at-s .before .before .before .before .before .before in
+    counted-within (ap heldIn (at-s .s .given .1)) (at-load-all .load-all .ensures)
 
 slice-aggregate-replay-given : tie.Need-slice-aggregate-replay-given
-slice-aggregate-replay-given c = counted _ (ap heldIn (c .before .before .s .given .1)) (c .before .before .before .before .before .before .before .before .load-all .ensures)
+slice-aggregate-replay-given c =
+    let at-s = c .before .before in
+    let at-load-all = at-s .before .before .before .before .before .before in
+    counted _ (ap heldIn (at-s .s .given .1)) (at-load-all .load-all .ensures)
 
 replay-given-requires : tie.Need-replay-given-requires
 replay-given-requires c κs = search needs

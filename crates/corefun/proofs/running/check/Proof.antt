@@ -27,7 +27,10 @@ slice-reshare-prefix-report-check : tie.Need-slice-reshare-prefix-report-check
 slice-reshare-prefix-report-check c = counted-within (ap heldIn (c .before .p .given .1)) (c .before .before .before .before .before .before .before .load .ensures)
 
 slice-aggregate-report-check : tie.Need-slice-aggregate-report-check
-slice-aggregate-report-check c = counted _ (ap heldIn (c .before .before .p .given .1)) (c .before .before .before .before .before .before .before .before .load .ensures)
+slice-aggregate-report-check c =
+    let at-p = c .before .before in
+    let at-load = at-p .before .before .before .before .before .before in
+    counted _ (ap heldIn (at-p .p .given .1)) (at-load .load .ensures)
 
 report-check-requires : tie.Need-report-check-requires
 report-check-requires c κs = search needs

@@ -27,7 +27,10 @@ slice-reshare-prefix-run-loaded : tie.Need-slice-reshare-prefix-run-loaded
 slice-reshare-prefix-run-loaded c = counted-within (ap heldIn (c .before .p .given .1)) (c .before .before .before .before .before .before .before .load .ensures)
 
 slice-aggregate-run-loaded : tie.Need-slice-aggregate-run-loaded
-slice-aggregate-run-loaded c = counted _ (ap heldIn (c .before .before .p .given .1)) (c .before .before .before .before .before .before .before .before .load .ensures)
+slice-aggregate-run-loaded c =
+    let at-p = c .before .before in
+    let at-load = at-p .before .before .before .before .before .before in
+    counted _ (ap heldIn (at-p .p .given .1)) (at-load .load .ensures)
 
 run-loaded-requires : tie.Need-run-loaded-requires
 run-loaded-requires c κs = search needs

@@ -27,10 +27,16 @@ returns : tie.Need-returns
 returns c = search needs
 
 slice-reshare-prefix-report-run : tie.Need-slice-reshare-prefix-report-run
-slice-reshare-prefix-report-run c = counted-within (ap sizeOf (c .before .v .given .1)) (c .before .before .before .before .before .before .before .byte-string .ensures)
+slice-reshare-prefix-report-run c =
+    let at-v = c .before in
+    let at-byte-string = at-v .before .before .before .before .before .before in
+    counted-within (ap sizeOf (at-v .v .given .1)) (at-byte-string .byte-string .ensures)
 
 slice-aggregate-report-run : tie.Need-slice-aggregate-report-run
-slice-aggregate-report-run c = counted _ (ap sizeOf (c .before .before .v .given .1)) (c .before .before .before .before .before .before .before .before .byte-string .ensures)
+slice-aggregate-report-run c =
+    let at-v = c .before .before in
+    let at-byte-string = at-v .before .before .before .before .before .before in
+    counted _ (ap sizeOf (at-v .v .given .1)) (at-byte-string .byte-string .ensures)
 
 report-run-requires : tie.Need-report-run-requires
 report-run-requires c κs = search needs

@@ -42,7 +42,10 @@ returns-2 : tie.Need-returns-2
 returns-2 c = search needs
 
 cast-function : tie.Need-cast-function
-cast-function c = omega (arith, c .before .before .before .before .before .before .before .before .before .before .before .before .before .short .ensures, ap valueOf (c .before .before .before .before .before .before .before .before .before .function .given .1))
+cast-function c =
+    let at-function = c .before .before .before .before .before .before .before .before .before in
+    let at-short = at-function .before .before .before .before in
+    omega (arith, at-short .short .ensures, ap valueOf (at-function .function .given .1))
 
 cast-fuel : tie.Need-cast-fuel
 cast-fuel c = omega (arith, c .before .before .before .before .before .short2 .ensures, ap valueOf (c .before .fuel .given .1))

@@ -27,10 +27,16 @@ returns : tie.Need-returns
 returns c = search needs
 
 slice-reshare-prefix-run-given : tie.Need-slice-reshare-prefix-run-given
-slice-reshare-prefix-run-given c = counted-within (ap sizeOf (c .before .a .given .1)) (c .before .before .before .before .before .before .before .byte-string .ensures)
+slice-reshare-prefix-run-given c =
+    let at-a = c .before in
+    let at-byte-string = at-a .before .before .before .before .before .before in
+    counted-within (ap sizeOf (at-a .a .given .1)) (at-byte-string .byte-string .ensures)
 
 slice-aggregate-run-given : tie.Need-slice-aggregate-run-given
-slice-aggregate-run-given c = counted _ (ap sizeOf (c .before .before .a .given .1)) (c .before .before .before .before .before .before .before .before .byte-string .ensures)
+slice-aggregate-run-given c =
+    let at-a = c .before .before in
+    let at-byte-string = at-a .before .before .before .before .before .before in
+    counted _ (ap sizeOf (at-a .a .given .1)) (at-byte-string .byte-string .ensures)
 
 run-given-requires : tie.Need-run-given-requires
 run-given-requires c κs = search needs

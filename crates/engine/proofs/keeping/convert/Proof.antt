@@ -23,14 +23,24 @@ same-length-2 : tie.Need-same-length-2
 same-length-2 c = search needs
 
 returns : tie.Need-returns
-returns c = let start = c .before .before .before .before .before .before .before .before .before .before .before .before .before .before .before .before .before .args in
-    turn-enough (λ P. convertOf P (start .fuel) (start .function) (start .ancillae .now) (start .journal .now)) (start .fuel) (start .program .now) (start .workspace .now) (start .journal .now)
-    (convert-whole _ _ _ _ _ _) (sym (c .before .before .before .before .before .before .before .before .before .before .before .before .enough .ensures) ∙ c .before .before .before .before .before .before .before .before .before .before .before .if1 .taken) (c .before .before .before .before .before .before .before .before .convert .ensures) (c .before .before .clear .ensures ∙ ap (λ n. replicate n 0) (c .before .before .before .before .before .before .before .before .convert .kept .1 .1 .1 .1 .0))
+returns c =
+    let at-clear = c .before .before in
+    let at-convert = at-clear .before .before .before .before .before .before in
+    let at-if1 = at-convert .before .before .before in
+    let at-enough = at-if1 .before in
+    let place-start = at-enough .before .before .before .before .before in
+    let start = place-start .args in
+    turn-enough (λ P. convertOf P (start .fuel) (start .function) (start .ancillae .now) (start .journal .now)) (start .fuel) (start .program .now)
+    (start .workspace .now) (start .journal .now) (convert-whole _ _ _ _ _ _) (sym (at-enough .enough .ensures) ∙ at-if1 .if1 .taken)
+    (at-convert .convert .ensures) (at-clear .clear .ensures ∙ ap (λ n. replicate n 0) (at-convert .convert .kept .1 .1 .1 .1 .0))
 
 returns-2 : tie.Need-returns-2
-returns-2 c = let start = c .before .before .before .before .before .before .args in
-    turn-short (λ P. convertOf P (start .fuel) (start .function) (start .ancillae .now) (start .journal .now)) (start .fuel) (start .program .now) (start .workspace .now) (start .journal .now)
-    (convert-whole _ _ _ _ _ _) (sym (c .before .enough .ensures) ∙ c .if1 .left)
+returns-2 c =
+    let at-enough = c .before in
+    let place-start = at-enough .before .before .before .before .before in
+    let start = place-start .args in
+    turn-short (λ P. convertOf P (start .fuel) (start .function) (start .ancillae .now) (start .journal .now)) (start .fuel) (start .program .now)
+    (start .workspace .now) (start .journal .now) (convert-whole _ _ _ _ _ _) (sym (at-enough .enough .ensures) ∙ c .if1 .left)
 
 pub convert-spec : {M : Type 1} → statement M
 convert-spec =

@@ -23,10 +23,16 @@ same-length-2 c = search needs
 
 returns : tie.Need-returns
 returns c =
-    let start = c .before .before .before .before .before .before .before .before .before .before .before .before .before .before .before .before .before .args in
-    let opened = c .before .before .before .before .before .before .before .before .«open» in
-    open-enough (start .«record» .now) (start .program .now) (start .workspace .now) (start .journal .now) (sym (c .before .before .before .before .before .before .before .before .before .before .before .before .enough .ensures) ∙ c .before .before .before .before .before .before .before .before .before .before .before .if1 .taken) (opened .ensures)
-    (c .before .before .clear .ensures ∙ ap (λ n. replicate n 0) (opened .kept .1 .1 .0))
+    let at-clear = c .before .before in
+    let at-before = at-clear .before .before .before .before .before in
+    let at-if1 = at-before .before .before .before .before in
+    let at-enough = at-if1 .before in
+    let place-start = at-enough .before .before .before .before .before in
+    let start = place-start .args in
+    let opened = at-before .before .«open» in
+    open-enough (start .«record» .now) (start .program .now) (start .workspace .now) (start .journal .now)
+    (sym (at-enough .enough .ensures) ∙ at-if1 .if1 .taken) (opened .ensures)
+    (at-clear .clear .ensures ∙ ap (λ n. replicate n 0) (opened .kept .1 .1 .0))
 
 returns-2 : tie.Need-returns-2
 returns-2 c =

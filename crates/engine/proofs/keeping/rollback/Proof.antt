@@ -23,9 +23,16 @@ same-length-2 : tie.Need-same-length-2
 same-length-2 c = search needs
 
 returns : tie.Need-returns
-returns c = let start = c .before .before .before .before .before .before .before .before .before .before .before .before .before .before .before .before .args in
-    turn-enough (λ P. rollbackOf P (start .fuel) (start .journal .now)) (start .fuel) (start .program .now) (start .workspace .now) (start .journal .now)
-    (rollback-whole _ _ _ _) (sym (c .before .before .before .before .before .before .before .before .before .before .before .before .enough .ensures) ∙ c .before .before .before .before .before .before .before .before .before .before .before .if1 .taken) (c .before .before .before .before .before .before .before .before .rollback .ensures) (c .before .before .clear .ensures ∙ ap (λ n. replicate n 0) (c .before .before .before .before .before .before .before .before .rollback .kept .1 .1 .0))
+returns c =
+    let at-clear = c .before .before in
+    let at-rollback = at-clear .before .before .before .before .before .before in
+    let at-if1 = at-rollback .before .before .before in
+    let at-enough = at-if1 .before in
+    let place-start = at-enough .before .before .before .before in
+    let start = place-start .args in
+    turn-enough (λ P. rollbackOf P (start .fuel) (start .journal .now)) (start .fuel) (start .program .now) (start .workspace .now)
+    (start .journal .now) (rollback-whole _ _ _ _) (sym (at-enough .enough .ensures) ∙ at-if1 .if1 .taken) (at-rollback .rollback .ensures)
+    (at-clear .clear .ensures ∙ ap (λ n. replicate n 0) (at-rollback .rollback .kept .1 .1 .0))
 
 returns-2 : tie.Need-returns-2
 returns-2 c = let start = c .before .before .before .before .before .args in

@@ -43,7 +43,11 @@ same-length-3 c = search needs
 
 returns-3 : tie.Need-returns-3
 unfolding callMeaning
-returns-3 c = wrote-as (c .before .before .put3 .ensures) (sym (call-last _ (c .before .before .before .before .before .before .if1 .left) (c .before .before .before .before .before .if2 .left)))
+returns-3 c =
+    let at-put3 = c .before .before in
+    let at-if2 = at-put3 .before .before .before in
+    let at-if1 = at-if2 .before in
+    wrote-as (at-put3 .put3 .ensures) (sym (call-last _ (at-if1 .if1 .left) (at-if2 .if2 .left)))
 
 pub put-call-spec : {M : Type 1} → statement M
 put-call-spec =

@@ -56,7 +56,12 @@ same-length-4 c = search needs
 
 returns-4 : tie.Need-returns-4
 unfolding keepingMeaning
-returns-4 c = wrote-as (c .before .before .put4 .ensures) (sym (keeping-last _ (c .before .before .before .before .before .before .before .if1 .left) (c .before .before .before .before .before .before .if2 .left) (c .before .before .before .before .before .if3 .left)))
+returns-4 c =
+    let at-put4 = c .before .before in
+    let at-if3 = at-put4 .before .before .before in
+    let at-if2 = at-if3 .before in
+    let at-if1 = at-if2 .before in
+    wrote-as (at-put4 .put4 .ensures) (sym (keeping-last _ (at-if1 .if1 .left) (at-if2 .if2 .left) (at-if3 .if3 .left)))
 
 pub put-keeping-spec : {M : Type 1} → statement M
 put-keeping-spec =

@@ -69,7 +69,13 @@ same-length-5 c = search needs
 
 returns-5 : tie.Need-returns-5
 unfolding readingMeaning
-returns-5 c = wrote-as (c .before .before .put5 .ensures) (sym (reading-last _ (c .before .before .before .before .before .before .before .before .if1 .left) (c .before .before .before .before .before .before .before .if2 .left) (c .before .before .before .before .before .before .if3 .left) (c .before .before .before .before .before .if4 .left)))
+returns-5 c =
+    let at-put5 = c .before .before in
+    let at-if4 = at-put5 .before .before .before in
+    let at-if3 = at-if4 .before in
+    let at-if2 = at-if3 .before in
+    let at-if1 = at-if2 .before in
+    wrote-as (at-put5 .put5 .ensures) (sym (reading-last _ (at-if1 .if1 .left) (at-if2 .if2 .left) (at-if3 .if3 .left) (at-if4 .if4 .left)))
 
 pub put-reading-spec : {M : Type 1} → statement M
 put-reading-spec =

@@ -33,7 +33,10 @@ same-length-2 c = search needs
 
 returns-2 : tie.Need-returns-2
 unfolding checkText
-returns-2 c = wrote-as (c .before .before .refusal-line .ensures) (sym (ap (λ a. checkText (checkAnswer a)) (c .before .before .before .before .before .answer .given .1)))
+returns-2 c =
+    let at-refusal-line = c .before .before in
+    let at-answer = at-refusal-line .before .before .before in
+    wrote-as (at-refusal-line .refusal-line .ensures) (sym (ap (λ a. checkText (checkAnswer a)) (at-answer .answer .given .1)))
 
 pub check-line-spec : {M : Type 1} → statement M
 check-line-spec =

@@ -16,7 +16,10 @@ cast-steps c = search needs
 
 slice-aggregate-value-line : tie.Need-slice-aggregate-value-line
 slice-aggregate-value-line c =
-    sym (length-take-le (c .before .before .wide-index .result) (c .before .before .before .before .before .args .output .now) (omega (arith, c .before .before .before .before .before .pre .0, c .before .before .wide-index .ensures .0)))
+    let at-wide-index = c .before .before in
+    let start = at-wide-index .before .before .before in
+    sym (length-take-le (at-wide-index .wide-index .result) (start .args .output .now)
+    (omega (arith, start .pre .0, at-wide-index .wide-index .ensures .0)))
 
 value-line-requires : tie.Need-value-line-requires
 value-line-requires c κs = simp length-take (omega (arith, c .before .before .before .before .before .before .pre .1))
@@ -25,7 +28,12 @@ same-length : tie.Need-same-length
 same-length c = search needs
 
 returns : tie.Need-returns
-returns c = wrote-as (c .before .before .value-line .ensures) (ap (λ k. valueLine (take k (c .before .before .before .before .before .before .before .before .before .args .output .now)) (c .before .before .before .before .before .before .before .before .before .args .d .steps)) (c .before .before .before .before .before .before .wide-index .ensures .0))
+returns c =
+    let at-value-line = c .before .before in
+    let at-wide-index = at-value-line .before .before .before .before in
+    let start = at-wide-index .before .before .before in
+    wrote-as (at-value-line .value-line .ensures) (ap (λ k. valueLine (take k (start .args .output .now)) (start .args .d .steps))
+    (at-wide-index .wide-index .ensures .0))
 
 pub done-line-spec : {M : Type 1} → statement M
 done-line-spec =

@@ -18,32 +18,87 @@ number-requires : tie.Need-number-requires
 number-requires c κs = search needs
 
 put-number-requires : tie.Need-put-number-requires
-put-number-requires c κs = omega (arith, c .before .before .before .before .put .ensures .ends, c .before .before .before .before .put .ensures .kept, c .before .before .before .before .before .before .before .before .pre, at-most-twenty (c .before .number .result) (search needs))
+put-number-requires c κs =
+    let at-number = c .before in
+    let at-put = at-number .before .before .before in
+    let start = at-put .before .before .before .before in
+    omega (arith, at-put .put .ensures .ends, at-put .put .ensures .kept, start .pre, at-most-twenty (at-number .number .result) (search needs))
 
 slice-aggregate-put-2 : tie.Need-slice-aggregate-put-2
 slice-aggregate-put-2 c = search needs
 
 put-requires-2 : tie.Need-put-requires-2
-put-requires-2 c κs = omega (arith, c .before .before .before .before .before .before .before .before .before .put .ensures .ends, c .before .before .before .before .before .before .before .before .before .put .ensures .kept, c .before .before .before .before .put-number .ensures .ends, c .before .before .before .before .put-number .ensures .kept, c .before .before .before .before .before .before .before .before .before .before .before .before .before .pre, at-most-twenty (c .before .before .before .before .before .before .number .result) (search needs))
+put-requires-2 c κs =
+    let at-put-number = c .before .before .before .before in
+    let at-number = at-put-number .before .before in
+    let at-put = at-number .before .before .before in
+    let start = at-put .before .before .before .before in
+    omega (arith, at-put .put .ensures .ends, at-put .put .ensures .kept, at-put-number .put-number .ensures .ends,
+    at-put-number .put-number .ensures .kept, start .pre, at-most-twenty (at-number .number .result) (search needs))
 
 place-requires : tie.Need-place-requires
 place-requires c κs = search needs
 
 put-number-requires-2 : tie.Need-put-number-requires-2
-put-number-requires-2 c κs = omega (arith, c .before .before .before .before .before .before .before .before .before .before .before .before .before .before .put .ensures .ends, c .before .before .before .before .before .before .before .before .before .before .before .before .before .before .put .ensures .kept, c .before .before .before .before .before .before .before .before .before .put-number .ensures .ends, c .before .before .before .before .before .before .before .before .before .put-number .ensures .kept, c .before .before .before .before .put2 .ensures .ends, c .before .before .before .before .put2 .ensures .kept, c .before .before .before .before .before .before .before .before .before .before .before .before .before .before .before .before .before .before .pre, at-most-twenty (c .before .before .before .before .before .before .before .before .before .before .before .number .result) (search needs), at-most-twenty (c .before .place .result) (search needs))
+put-number-requires-2 c κs =
+    let at-place = c .before in
+    let at-put2 = at-place .before .before .before in
+    let at-put-number = at-put2 .before .before .before .before .before in
+    let at-number = at-put-number .before .before in
+    let at-put = at-number .before .before .before in
+    let start = at-put .before .before .before .before in
+    omega (arith, at-put .put .ensures .ends, at-put .put .ensures .kept, at-put-number .put-number .ensures .ends,
+    at-put-number .put-number .ensures .kept, at-put2 .put2 .ensures .ends, at-put2 .put2 .ensures .kept, start .pre, at-most-twenty
+    (at-number .number .result) (search needs), at-most-twenty (at-place .place .result) (search needs))
 
 slice-aggregate-put-3 : tie.Need-slice-aggregate-put-3
 slice-aggregate-put-3 c = search needs
 
 put-requires-3 : tie.Need-put-requires-3
-put-requires-3 c κs = omega (arith, c .before .before .before .before .before .before .before .before .before .before .before .before .before .before .before .before .before .before .before .put .ensures .ends, c .before .before .before .before .before .before .before .before .before .before .before .before .before .before .before .before .before .before .before .put .ensures .kept, c .before .before .before .before .before .before .before .before .before .before .before .before .before .before .put-number .ensures .ends, c .before .before .before .before .before .before .before .before .before .before .before .before .before .before .put-number .ensures .kept, c .before .before .before .before .before .before .before .before .before .put2 .ensures .ends, c .before .before .before .before .before .before .before .before .before .put2 .ensures .kept, c .before .before .before .before .put-number2 .ensures .ends, c .before .before .before .before .put-number2 .ensures .kept, c .before .before .before .before .before .before .before .before .before .before .before .before .before .before .before .before .before .before .before .before .before .before .before .pre, at-most-twenty (c .before .before .before .before .before .before .before .before .before .before .before .before .before .before .before .before .number .result) (search needs), at-most-twenty (c .before .before .before .before .before .before .place .result) (search needs))
+put-requires-3 c κs =
+    let at-put-number2 = c .before .before .before .before in
+    let at-place = at-put-number2 .before .before in
+    let at-put2 = at-place .before .before .before in
+    let at-put-number = at-put2 .before .before .before .before .before in
+    let at-number = at-put-number .before .before in
+    let at-put = at-number .before .before .before in
+    let start = at-put .before .before .before .before in
+    omega (arith, at-put .put .ensures .ends, at-put .put .ensures .kept, at-put-number .put-number .ensures .ends,
+    at-put-number .put-number .ensures .kept, at-put2 .put2 .ensures .ends, at-put2 .put2 .ensures .kept, at-put-number2 .put-number2 .ensures .ends,
+    at-put-number2 .put-number2 .ensures .kept, start .pre, at-most-twenty (at-number .number .result) (search needs), at-most-twenty
+    (at-place .place .result) (search needs))
 
 same-length : tie.Need-same-length
-same-length c = let w = wrote-five (c .before .before .before .before .before .before .before .before .before .before .before .before .before .before .before .before .before .before .before .before .before .before .put .ensures) (wrote-as (c .before .before .before .before .before .before .before .before .before .before .before .before .before .before .before .before .before .put-number .ensures) (ap decimalText (c .before .before .before .before .before .before .before .before .before .before .before .before .before .before .before .before .before .before .before .number .ensures))) (c .before .before .before .before .before .before .before .before .before .before .before .before .put2 .ensures) (wrote-as (c .before .before .before .before .before .before .before .put-number2 .ensures) (ap decimalText (c .before .before .before .before .before .before .before .before .before .place .ensures))) (c .before .before .put3 .ensures) in w .kept
+same-length c =
+    let at-put3 = c .before .before in
+    let at-put-number2 = at-put3 .before .before .before .before .before in
+    let at-place = at-put-number2 .before .before in
+    let at-put2 = at-place .before .before .before in
+    let at-put-number = at-put2 .before .before .before .before .before in
+    let at-number = at-put-number .before .before in
+    let at-put = at-number .before .before .before in
+    let w = wrote-five (at-put .put .ensures) (wrote-as (at-put-number .put-number .ensures) (ap decimalText (at-number .number .ensures)))
+        (at-put2 .put2 .ensures) (wrote-as (at-put-number2 .put-number2 .ensures) (ap decimalText (at-place .place .ensures)))
+        (at-put3 .put3 .ensures) in
+    w .kept
 
 returns : tie.Need-returns
 unfolding whereText
-returns c = (wrote-five (c .before .before .before .before .before .before .before .before .before .before .before .before .before .before .before .before .before .before .before .before .before .before .put .ensures) (wrote-as (c .before .before .before .before .before .before .before .before .before .before .before .before .before .before .before .before .before .put-number .ensures) (ap decimalText (c .before .before .before .before .before .before .before .before .before .before .before .before .before .before .before .before .before .before .before .number .ensures))) (c .before .before .before .before .before .before .before .before .before .before .before .before .put2 .ensures) (wrote-as (c .before .before .before .before .before .before .before .put-number2 .ensures) (ap decimalText (c .before .before .before .before .before .before .before .before .before .place .ensures))) (c .before .before .put3 .ensures), omega (arith, c .before .before .before .before .before .before .before .before .before .before .before .before .before .before .before .before .before .before .before .before .before .before .put .ensures .ends, c .before .before .before .before .before .before .before .before .before .before .before .before .before .before .before .before .before .before .before .before .before .before .put .ensures .kept, c .before .before .before .before .before .before .before .before .before .before .before .before .before .before .before .before .before .put-number .ensures .ends, c .before .before .before .before .before .before .before .before .before .before .before .before .before .before .before .before .before .put-number .ensures .kept, c .before .before .before .before .before .before .before .before .before .before .before .before .put2 .ensures .ends, c .before .before .before .before .before .before .before .before .before .before .before .before .put2 .ensures .kept, c .before .before .before .before .before .before .before .put-number2 .ensures .ends, c .before .before .before .before .before .before .before .put-number2 .ensures .kept, c .before .before .put3 .ensures .ends, c .before .before .put3 .ensures .kept, c .before .before .before .before .before .before .before .before .before .before .before .before .before .before .before .before .before .before .before .before .before .before .before .before .before .before .pre, at-most-twenty (c .before .before .before .before .before .before .before .before .before .before .before .before .before .before .before .before .before .before .before .number .result) (search needs), at-most-twenty (c .before .before .before .before .before .before .before .before .before .place .result) (search needs)))
+returns c =
+    let at-put3 = c .before .before in
+    let at-put-number2 = at-put3 .before .before .before .before .before in
+    let at-place = at-put-number2 .before .before in
+    let at-put2 = at-place .before .before .before in
+    let at-put-number = at-put2 .before .before .before .before .before in
+    let at-number = at-put-number .before .before in
+    let at-put = at-number .before .before .before in
+    let start = at-put .before .before .before .before in
+    (wrote-five (at-put .put .ensures) (wrote-as (at-put-number .put-number .ensures) (ap decimalText (at-number .number .ensures)))
+    (at-put2 .put2 .ensures) (wrote-as (at-put-number2 .put-number2 .ensures) (ap decimalText (at-place .place .ensures))) (at-put3 .put3 .ensures),
+    omega (arith, at-put .put .ensures .ends, at-put .put .ensures .kept, at-put-number .put-number .ensures .ends,
+    at-put-number .put-number .ensures .kept, at-put2 .put2 .ensures .ends, at-put2 .put2 .ensures .kept, at-put-number2 .put-number2 .ensures .ends,
+    at-put-number2 .put-number2 .ensures .kept, at-put3 .put3 .ensures .ends, at-put3 .put3 .ensures .kept, start .pre, at-most-twenty
+    (at-number .number .result) (search needs), at-most-twenty (at-place .place .result) (search needs)))
 
 pub put-where-spec : {M : Type 1} → statement M
 put-where-spec =

@@ -19,7 +19,13 @@ same-length : tie.Need-same-length
 same-length c = search needs
 
 returns : tie.Need-returns
-returns c = wrote-as (c .before .before .refused-line .ensures) (ap (λ k. refusedLine k (c .before .before .before .before .place .result)) (c .before .before .before .before .before .number .ensures) ∙ ap (λ k. refusedLine (numberOf (c .before .before .before .before .before .before .before .args .r)) k) (c .before .before .before .before .place .ensures))
+returns c =
+    let at-refused-line = c .before .before in
+    let at-place = at-refused-line .before .before in
+    let at-number = at-place .before in
+    let start = at-number .before .before in
+    wrote-as (at-refused-line .refused-line .ensures) (ap (λ k. refusedLine k (at-place .place .result)) (at-number .number .ensures) ∙ ap
+    (λ k. refusedLine (numberOf (start .args .r)) k) (at-place .place .ensures))
 
 pub refusal-line-spec : {M : Type 1} → statement M
 refusal-line-spec =

@@ -21,14 +21,26 @@ slice-aggregate-put : tie.Need-slice-aggregate-put
 slice-aggregate-put c = search needs
 
 put-requires : tie.Need-put-requires
-put-requires c κs = omega (arith, c .before .before .before .before .before .before .before .before .before .put-where .ensures .1, c .before .before .before .before .before .before .before .before .before .put-where .ensures .0 .kept, c .before .before .before .before .put-meaning .ensures .ends, c .before .before .before .before .put-meaning .ensures .kept, meaning-short (c .before .before .before .before .before .before .number .result), c .before .before .before .before .before .before .before .before .before .before .before .before .pre)
+put-requires c κs =
+    let at-put-meaning = c .before .before .before .before in
+    let at-number = at-put-meaning .before .before in
+    let at-put-where = at-number .before .before .before in
+    let start = at-put-where .before .before .before in
+    omega (arith, at-put-where .put-where .ensures .1, at-put-where .put-where .ensures .0 .kept, at-put-meaning .put-meaning .ensures .ends,
+    at-put-meaning .put-meaning .ensures .kept, meaning-short (at-number .number .result), start .pre)
 
 same-length : tie.Need-same-length
 same-length c = search needs
 
 returns : tie.Need-returns
 unfolding refusalText
-returns c = wrote-both (wrote-both (c .before .before .before .before .before .before .before .before .before .before .before .before .put-where .ensures .0) (wrote-as (c .before .before .before .before .before .before .before .put-meaning .ensures) (ap meaningOf (c .before .before .before .before .before .before .before .before .before .number .ensures)))) (c .before .before .put .ensures)
+returns c =
+    let at-put = c .before .before in
+    let at-put-meaning = at-put .before .before .before .before .before in
+    let at-number = at-put-meaning .before .before in
+    let at-put-where = at-number .before .before .before in
+    wrote-both (wrote-both (at-put-where .put-where .ensures .0)
+    (wrote-as (at-put-meaning .put-meaning .ensures) (ap meaningOf (at-number .number .ensures)))) (at-put .put .ensures)
 
 pub refusal-text-spec : {M : Type 1} → statement M
 refusal-text-spec =

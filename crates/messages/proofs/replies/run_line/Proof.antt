@@ -11,7 +11,10 @@ enum-known-answer : tie.Need-enum-known-answer
 enum-known-answer c = search needs
 
 done-line-requires : tie.Need-done-line-requires
-done-line-requires c κs = (omega (arith, c .before .before .before .before .before .before .pre .0, ap lengthOf (c .before .before .answer .given .1)), c .before .before .before .before .before .before .pre .1 .0)
+done-line-requires c κs =
+    let at-answer = c .before .before in
+    let start = at-answer .before .before .before .before in
+    (omega (arith, start .pre .0, ap lengthOf (at-answer .answer .given .1)), start .pre .1 .0)
 
 enum-known-answer-2 : tie.Need-enum-known-answer-2
 enum-known-answer-2 c = search needs
@@ -24,14 +27,23 @@ same-length c = search needs
 
 returns : tie.Need-returns
 unfolding runText
-returns c = wrote-as (c .before .before .done-line .ensures) (sym (ap (λ a. runText (runAnswer a) (c .before .before .before .before .before .before .before .before .before .args .output .now)) (c .before .before .before .before .before .answer .given .1)))
+returns c =
+    let at-done-line = c .before .before in
+    let at-answer = at-done-line .before .before .before in
+    let start = at-answer .before .before .before .before in
+    wrote-as (at-done-line .done-line .ensures) (sym (ap (λ a. runText (runAnswer a) (start .args .output .now)) (at-answer .answer .given .1)))
 
 same-length-2 : tie.Need-same-length-2
 same-length-2 c = search needs
 
 returns-2 : tie.Need-returns-2
 unfolding runText
-returns-2 c = wrote-as (c .before .before .refusal-line .ensures) (sym (ap (λ a. runText (runAnswer a) (c .before .before .before .before .before .before .before .before .before .args .output .now)) (c .before .before .before .before .before .answer2 .given .1)))
+returns-2 c =
+    let at-refusal-line = c .before .before in
+    let at-answer2 = at-refusal-line .before .before .before in
+    let start = at-answer2 .before .before .before .before in
+    wrote-as (at-refusal-line .refusal-line .ensures) (sym (ap (λ a. runText (runAnswer a) (start .args .output .now))
+    (at-answer2 .answer2 .given .1)))
 
 pub run-line-spec : {M : Type 1} → statement M
 run-line-spec =

@@ -41,12 +41,15 @@ same-length-3 c = search needs
 
 returns-2 : tie.Need-returns-2
 returns-2 c =
-    let a = c .before .before .before .before .before .before .before .before .before .before .before .before .before .before .before .before .before .before .args in
-    let bytes = are-bytes (a .script .now)
-    (c .before .before .before .before .before .before .before .before .before .before .before .before .before .before .before .before .shared-slice-known2 .given) in
+    let at-start = c .before .before .before .before .before .before in
+    let at-enum-told = at-start .before .before .before .before in
+    let at-read-all = at-enum-told .before .before in
+    let at-shared-slice-known2 = at-read-all .before .before .before .before in
+    let place-start = at-shared-slice-known2 .before .before in
+    let a = place-start .args in
+    let bytes = are-bytes (a .script .now) (at-shared-slice-known2 .shared-slice-known2 .given) in
     let m = replay-goes (a .program .now) (a .script .now) (a .journal .now) (a .answers .now) (a .workspace .now) bytes _ _ _ _
-    (sym (ap stopOf (c .before .before .before .before .before .before .before .before .before .before .enum-told .given .1)) ∙ c .before .before .before .before .before .before .before .before .before .before .before .before .read-all .ensures)
-    (c .before .before .before .before .before .before .start .ensures) in
+        (sym (ap stopOf (at-enum-told .enum-told .given .1)) ∙ at-read-all .read-all .ensures) (at-start .start .ensures) in
     (m, replay-booked (a .program .now) (a .script .now) (a .journal .now) (a .answers .now) (a .workspace .now) bytes _ _ _ _ m)
 
 pub replay-spec : {M : Type 1} → statement M
