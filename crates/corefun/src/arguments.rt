@@ -4,20 +4,18 @@ use calltext::decimal;
 use calltext::decimal::Number;
 use calltext::hexadecimal;
 use calltext::hexadecimal::Decoded;
-ghost use Prim.Native.Nat.{_*_, _≤_};
+ghost use Prim.Native.Nat.{_*_, _≤_, _<_};
 ghost use lib.ListN.{length};
 ghost use Rattle.calltext.specs.Numbered.{valueOf};
 ghost use Rattle.calltext.specs.Decoded.{sizeOf};
 
-// Fuel and function have two bytes.
-const MOST_SHORT: u64 = 65535;
-
-// Argument i as a number of two bytes.
-pub(crate) fn short(i: usize, name: &[u8], word: &mut [u8]) -> Number
-    ensures { λ r. ⌜ valueOf r ≤ 65535 ⌝ }
+// Argument i as a number of two bytes, at most `most`.
+pub(crate) fn short(i: usize, most: u64, name: &[u8], word: &mut [u8]) -> Number
+    requires { ⌜ most < 65536 ⌝ }
+    ensures { λ r. ⌜ valueOf r ≤ most ⌝ }
 {
     let n = os::arg(i, word);
-    let number = decimal::read_number(&word[..n], MOST_SHORT);
+    let number = decimal::read_number(&word[..n], most);
     match number {
         Number::Is(k) => Number::Is(k),
         Number::Not => {

@@ -13,8 +13,8 @@ pub(crate) const LINE: usize = 262144;
 // The bytes that the hexadecimal words of such a line can be; and a byte more than a script may have.
 pub(crate) const HALF: usize = 131073;
 
-// The longest answer: a journal in hexadecimal, and the numbers in front of it.
-pub(crate) const ANSWER: usize = 264258;
+// The longest answer: a journal or a value in hexadecimal, and the numbers in front of it (batch/specs/Capped).
+pub(crate) const ANSWER: usize = 2 * HALF + 2 * OUTPUT + 64;
 
 // The bytes that were read and are not answered yet: from `at` to `end`. `over` says that they continue a line that is too long, `open`
 // that there may be more to read.

@@ -6,6 +6,7 @@ use crate::printing;
 use calltext::decimal::Number;
 use calltext::hexadecimal::Decoded;
 use command::single;
+use rules::MAX_FUEL;
 use rules::MAX_VALUE_BYTES;
 ghost use Prim.Native.Nat.{_*_, _≤_};
 ghost use lib.ListN.{length};
@@ -120,6 +121,9 @@ fn run_numbered(
     );
 }
 
+// A function's number has two bytes.
+const MOST_SHORT: u64 = 65535;
+
 // The numbers of a run, and the rest of it.
 fn run_loaded(
     back: bool,
@@ -132,10 +136,10 @@ fn run_loaded(
     requires { ⌜ length (now word) ≤ 2 * length (now ancillae) ⌝ }
     requires { ⌜ length (now word) ≤ 2 * length (now value) ⌝ }
 {
-    let Number::Is(function) = arguments::short(3, b"FUNCTION", word) else {
+    let Number::Is(function) = arguments::short(3, MOST_SHORT, b"FUNCTION", word) else {
         return;
     };
-    let Number::Is(fuel) = arguments::short(4, b"FUEL", word) else {
+    let Number::Is(fuel) = arguments::short(4, MAX_FUEL as u64, b"FUEL", word) else {
         return;
     };
     let function = function as u16;
