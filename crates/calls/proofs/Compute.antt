@@ -1,4 +1,4 @@
--- Every definition that a case computes with, behind one name: `unfolding computing` unfolds them all.
+-- Every definition that a case computes with, by subject, behind one name: `unfolding computing` unfolds them all.
 use package.Rattle.octets.specs.Numbers.{get16, get32, put16, put32, bytes16, bytes32}
 use package.Rattle.rules.specs.Limits.{maxProgramBytes, maxParameters, maxValueBytes, maxAncillaBytes, fits, maxHeight, maxFuel, workspaceBase, workspacePerFuel, maxConversions}
 use package.Rattle.rules.specs.Val.{size, encode, same}
@@ -22,6 +22,90 @@ use package.Rattle.calls.specs.Conversions.{kept, turned, behind, newest
 use package.Rattle.calls.specs.Book.{buffer, orStays, carryBy, carry, through, entriesOf, journalOf, refusalOf, refusal, orUnit, orNone, orEmpty, enters, turnUnless, bookTurn, bookRun, resized, afterTurned, afterOpen, call, callRun}
 use package.Rattle.calls.specs.Cases.{refs, typeField, termField, varField, functionField, natTypes, numberTerms, numberFunctions, numbers, bitTypes, collapse, discards, flip, units}
 
+unfoldable of-numbers : Unit {0}
+unfolding get16 get32 put16 put32 bytes16 bytes32
+of-numbers = tt
+
+unfoldable of-limits : Unit {0}
+unfolding maxProgramBytes maxParameters maxValueBytes maxAncillaBytes fits maxHeight maxFuel workspaceBase workspacePerFuel maxConversions
+of-limits = tt
+
+unfoldable of-trees : Unit {0}
+unfolding size encode same plug unfoldTy nodes sameTy entry count nth look scope mayBe mayYield barOne bar
+of-trees = tt
+
+unfoldable of-check : Unit {0}
+unfolding _>>=_ _>>_ need asSum asProd asMu asFun visible spent mustUse sameUse statics room small infer inferArguments checkFun checkFuns check
+of-check = tt
+
+unfoldable of-run : Unit {0}
+unfolding after enter test
+of-run = tt
+
+unfoldable of-machine : Unit {0}
+unfolding onSum onPair onRoll onUnit onSome known bindOr meet leave each made forwardStep forward backwardStep backward runForward runBackward num
+of-machine = tt
+
+unfoldable of-fields : Unit {0}
+unfolding tagAt lengthAt nextAt kindAt parametersAt typeLengths termLengths callLength typeLength
+of-fields = tt
+
+unfoldable of-types : Unit {0}
+unfolding references typeOfKind typeAt typeTree typeBelow typeOf termOfKind callAncillae
+of-types = tt
+
+unfoldable of-layout : Unit {0}
+unfolding _>>=Answer_ require present cleared termLength functionLength bodyFits wellFormed noFields withField withinCounts readFields layout
+of-layout = tt
+
+unfoldable of-named : Unit {0}
+unfolding closed plain namesOf typesOfType typesOfTerm termsOfTerm functionsOfTerm typesOfFunction
+of-named = tt
+
+unfoldable of-terms : Unit {0}
+unfolding termAt termTrees termTree termBelow termOf functionAt functionOf entriesAt programOf
+of-terms = tt
+
+unfoldable of-tests : Unit {0}
+unfolding below member fresh allPlain testTypes testTerms testFunctions testUsed testEntries offset typed load
+of-tests = tt
+
+unfoldable of-values : Unit {0}
+unfolding then read alone value encodeAll consTo readAll ancillae hasTy hasTys
+of-values = tt
+
+unfoldable of-runs : Unit {0}
+unfolding workspaceFor prepared admit ran goes returns checkCall forwardCall backwardCall written
+of-runs = tt
+
+unfoldable of-journal : Unit {0}
+unfolding field heldTag entryTag entryBody entryFields fields writeOut _>>=Journal_ provided opened readEntry allZero readEntries readJournal
+of-journal = tt
+
+unfoldable of-book : Unit {0}
+unfolding buffer orStays carryBy carry through entriesOf journalOf refusalOf refusal orUnit
+of-book = tt
+
+unfoldable of-conversions : Unit {0}
+unfolding kept turned behind newest openCall convertCall rollbackCall
+of-conversions = tt
+
+unfoldable of-lists : Unit {0}
+unfolding orNone orEmpty enters turnUnless bookTurn bookRun resized afterTurned afterOpen call callRun
+of-lists = tt
+
+unfoldable of-cases : Unit {0}
+unfolding refs typeField termField varField functionField natTypes numberTerms numberFunctions numbers bitTypes collapse discards flip units
+of-cases = tt
+
+unfoldable rules-and-bytes : Unit {0}
+unfolding of-numbers of-limits of-trees of-check of-run of-machine of-fields of-types of-layout
+rules-and-bytes = tt
+
+unfoldable calls-and-cases : Unit {0}
+unfolding of-named of-terms of-tests of-values of-runs of-journal of-book of-conversions of-lists of-cases
+calls-and-cases = tt
+
 unfoldable pub computing : Unit {0}
-unfolding get16 get32 put16 put32 bytes16 bytes32 maxProgramBytes maxParameters maxValueBytes maxAncillaBytes fits maxHeight maxFuel workspaceBase workspacePerFuel maxConversions size encode same plug unfoldTy nodes sameTy entry count nth look scope mayBe mayYield barOne bar _>>=_ _>>_ need asSum asProd asMu asFun visible spent mustUse sameUse statics room small infer inferArguments checkFun checkFuns check after enter test onSum onPair onRoll onUnit onSome known bindOr meet leave each made forwardStep forward backwardStep backward runForward runBackward num _>>=Answer_ require present cleared tagAt lengthAt nextAt kindAt parametersAt typeLengths termLengths callLength typeLength termLength functionLength bodyFits wellFormed noFields withField withinCounts readFields layout references typeOfKind typeAt typeTree typeBelow typeOf termOfKind callAncillae termAt termTrees termTree termBelow termOf functionAt functionOf entriesAt programOf closed plain namesOf typesOfType typesOfTerm termsOfTerm functionsOfTerm typesOfFunction below member fresh allPlain testTypes testTerms testFunctions testUsed testEntries offset typed load then read alone value encodeAll consTo readAll ancillae hasTy hasTys workspaceFor prepared admit ran goes returns checkCall forwardCall backwardCall written field heldTag entryTag entryBody entryFields fields writeOut _>>=Journal_ provided opened readEntry allZero readEntries readJournal kept turned behind newest openCall convertCall rollbackCall buffer orStays carryBy carry through entriesOf journalOf refusalOf refusal orUnit orNone orEmpty enters turnUnless bookTurn bookRun resized afterTurned afterOpen call callRun refs typeField termField varField functionField natTypes numberTerms numberFunctions numbers bitTypes collapse discards flip units
+unfolding rules-and-bytes calls-and-cases
 computing = tt
