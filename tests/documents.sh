@@ -1,6 +1,6 @@
 #!/usr/bin/env bash
 # Holds the documents to the repository: what they link to or name as a path is there, modules that they name as CRATE/specs/X or CRATE/proofs/X too,
-# so are the edits that docs/CLAIMS.md names; the map of docs/ARCHITECTURE.md is that of crates.txt, which lists
+# so are the edits that docs/CLAIMS.md names, which are all; the map of docs/ARCHITECTURE.md is that of crates.txt, which lists
 # for each crate the ones that it names; no file names a folder of one machine.
 # The last line is 'N passed, M failed'; the exit status is 0 only if M is 0.
 set -uo pipefail
@@ -55,6 +55,10 @@ edits() {
         there crates/*/must-fail/"$name".edit
         verdict "docs/CLAIMS.md names the edit $name" $?
     done < <(grep -oE '`[a-z0-9]+(_[a-z0-9]+)+`' docs/CLAIMS.md | tr -d '`' | LC_ALL=C sort -u)
+    for name in crates/*/must-fail/*.edit; do
+        grep -qF "\`$(basename "$name" .edit)\`" docs/CLAIMS.md
+        verdict "$name is named by docs/CLAIMS.md" $?
+    done
 }
 
 # One version: the header's, the binding's, the command's and that of the newest part of the changelog.

@@ -3,7 +3,8 @@
 # the crates before. Crates are tried several at a time (RT_JOBS, else a processor each).
 #
 # rt must-fail proves the whole crate again for each edit. Here the copy is proved once as it is, with what was checked kept (rt dev); each edit
-# then starts from that, so that only modules which it reaches are checked. The copy without an edit is the control: it must be proved.
+# then starts from that, so that only modules which it reaches are checked. The copy without an edit is the control: it must be proved, and after
+# the edits be proved again from the same ground.
 # `tests/edits.sh --whole` runs rt must-fail in its place.
 #
 #     tests/edits.sh [--whole] [CRATE..]
@@ -58,14 +59,22 @@ apply() {
 # proved_alone CRATE LOG: checks the crate of the workplace in the current folder; the status is the prover's.
 proved_alone() { RT_JOBS=1 rt dev "$1" > "$2" 2>&1; }
 
-# control CRATE: the copy as it is must be proved; what was checked is kept as the ground of its edits.
+# laid CRATE: the copy as it is, on the ground if there is one. (Links will do: the prover puts new files in the place of old ones.)
+laid() {
+    local place=target/edits/$1
+    rm -rf "$place/crates/$1" "$place/target/inc"
+    cp -R "crates/$1" "$place/crates/$1"
+    [ ! -d "$place/ground" ] || cp -al "$place/ground" "$place/target/inc"
+}
+
+# control CRATE WHEN: the copy as it is must be proved.
 control() {
     local place=target/edits/$1 began=$SECONDS
+    laid "$1"
     if (cd "$place" && proved_alone "$1" control.log) && grep -q '^logic=proved' "$place/control.log"; then
-        mv "$place/target/inc" "$place/ground"
-        echo "$1: proved without an edit ($((SECONDS - began)) s)"
+        echo "$1: proved without an edit, $2 ($((SECONDS - began)) s)"
     else
-        echo "$1: FAILED: not proved without an edit"
+        echo "$1: FAILED: not proved without an edit, $2"
         tail -n 5 "$place/control.log"
         return 1
     fi
@@ -77,9 +86,7 @@ try() {
     name=$(basename "$2" .edit)
     kept=target/must-fail/$1/$name
     mkdir -p "$kept"
-    rm -rf "$place/crates/$1" "$place/target/inc"
-    cp -R "crates/$1" "$place/crates/$1"
-    [ ! -d "$place/ground" ] || cp -a "$place/ground" "$place/target/inc"
+    laid "$1"
     if ! (cd "$place/crates/$1" && apply "$root/$2"); then
         echo "$1/$name: FAILED: a text that it replaces is not there exactly once"
         return
@@ -92,13 +99,18 @@ try() {
     fi
 }
 
-# crate CRATE: its control, unless it has one edit alone, and its edits.
+# crate CRATE: its edits, between two controls. One edit alone is tried from nothing.
 crate() {
-    local edits=("crates/$1/must-fail/"*.edit) edit
+    local place=target/edits/$1 edits=("crates/$1/must-fail/"*.edit) edit
     workplace "$1"
-    if [ "${#edits[@]}" -gt 1 ]; then control "$1" || return; fi
-    for edit in "${edits[@]}"; do try "$1" "$edit"; done
-    rm -rf "target/edits/$1"
+    if [ "${#edits[@]}" -eq 1 ]; then
+        try "$1" "${edits[0]}"
+    elif control "$1" "from nothing"; then
+        mv "$place/target/inc" "$place/ground"
+        for edit in "${edits[@]}"; do try "$1" "$edit"; done
+        control "$1" "after its edits"
+    fi
+    rm -rf "$place"
 }
 
 # crates_with_edits: those whose proof is longest first, so that none is left alone at the end.

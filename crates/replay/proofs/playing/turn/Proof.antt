@@ -17,8 +17,7 @@ enum-known-tested-2 c = search needs
 
 make-requires : tie.Need-make-requires
 make-requires c κs =
-    let start = c .before .before .before .before .before .before .before .before .before .before .before .before in
-    (start .pre .0, start .pre .1 .0)
+    (c .before .before .before .before .before .before .before .before .before .before .before .before .pre .0, c .before .before .before .before .before .before .before .before .before .before .before .before .pre .1 .0)
 
 mul-copy : tie.Need-mul-copy
 mul-copy c = search needs
@@ -28,9 +27,7 @@ slice-aggregate-copy c = search needs
 
 copy-requires : tie.Need-copy-requires
 copy-requires c κs =
-    let at-before = c .before .before .before .before .before .before .before .before .before .before .before .before .before .before .before .before .before .before in
-    let start = at-before .before in
-    omega (arith, start .pre .1 .1)
+    omega (arith, c .before .before .before .before .before .before .before .before .before .before .before .before .before .before .before .before .before .before .before .pre .1 .1)
 
 same-length : tie.Need-same-length
 same-length c = search needs
@@ -49,12 +46,9 @@ same-length-4 c = search needs
 
 returns-2 : tie.Need-returns-2
 returns-2 c =
-    let at-copy = c .before .before in
-    let at-make = at-copy .before .before .before .before .before .before .before in
-    let at-tested2 = at-make .before .before .before .before in
-    let at-test = at-tested2 .before .before in
-    call-goes _ _ _ _ _ _ _ _ _ _ _ _ (sym (ap nextOf (at-tested2 .tested2 .given .1)) ∙ at-test .test .ensures) (at-make .make .ensures)
-    (at-copy .copy .ensures)
+    call-goes _ _ _ _ _ _ _ _ _ _ _ _
+    (sym (ap nextOf (c .before .before .before .before .before .before .before .before .before .before .before .before .before .tested2 .given .1)) ∙ c .before .before .before .before .before .before .before .before .before .before .before .before .before .before .before .test .ensures)
+    (c .before .before .before .before .before .before .before .before .before .make .ensures) (c .before .before .copy .ensures)
 
 pub turn-spec : {M : Type 1} → statement M
 turn-spec =
