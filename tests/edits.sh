@@ -1,13 +1,13 @@
 #!/usr/bin/env bash
-# Tries every must-fail edit, crates/NAME/must-fail/*.edit: a copy of the crate with the edit must be refused by the prover. `rt check` has proved
-# the crates before. Crates are tried several at a time (RT_JOBS, else a processor each).
+# Tries every must-fail edit, crates/NAME/must-fail/*.edit: a copy of the crate with the edit must be refused by the prover. The crates themselves
+# must be proved (rt check, which proves what is not proved yet). They are tried several at a time (RT_JOBS, else a processor each).
 #
 # rt must-fail proves the whole crate again for each edit. Here the copy is proved once as it is, with what was checked kept (rt dev); each edit
 # then starts from that, so that only modules which it reaches are checked. The copy without an edit is the control: it must be proved, and after
-# the edits be proved again from the same ground.
-# `tests/edits.sh --whole` runs rt must-fail in its place.
+# the edits be proved again from the same ground. A crate with one edit has that edit tried from nothing, and rt check for its control.
+# (`rt must-fail` tries all edits from nothing.)
 #
-#     tests/edits.sh [--whole] [CRATE..]
+#     tests/edits.sh [CRATE..]
 #
 # What the prover said of an edit is left in target/must-fail/CRATE/EDIT/.log, for tests/refusals.sh. The last line is 'N passed, M failed', an edit
 # or a control each; the exit status is 0 only if M is 0.
@@ -39,6 +39,11 @@ edited() {
         }' "$1" > "$1.edited" && mv "$1.edited" "$1"
 }
 
+# inside FILE: a file of the crate's own folders, and no link.
+inside() {
+    case $1 in *..*) return 1 ;; src/* | specs/* | proofs/*) [ -f "$1" ] && [ ! -L "$1" ] ;; *) return 1 ;; esac
+}
+
 # apply EDIT: makes the replacements of an edit in the crate of the current folder; a 'file:' line holds for the pairs after it.
 apply() {
     local line file='' old='' pairs=0
@@ -48,7 +53,7 @@ apply() {
         'old: '*) old=${line#old: } ;;
         'new:'*)
             line=${line#new:}
-            [ -f "$file" ] && edited "$file" "$old" "${line# }" || return 1
+            inside "$file" && edited "$file" "$old" "${line# }" || return 1
             old='' pairs=$((pairs + 1))
             ;;
         esac
@@ -88,7 +93,7 @@ try() {
     mkdir -p "$kept"
     laid "$1"
     if ! (cd "$place/crates/$1" && apply "$root/$2"); then
-        echo "$1/$name: FAILED: a text that it replaces is not there exactly once"
+        echo "$1/$name: FAILED: it names no file of the crate, or a text that is not there exactly once"
         return
     fi
     (cd "$place" && proved_alone "$1" "$root/$kept/.log") || status=$?
@@ -124,13 +129,14 @@ if [ "${1:-}" = --crate ]; then
     crate "$2" > "target/edits/$2.out" 2>&1
     exit
 fi
-if [ "${1:-}" = --whole ]; then
-    shift
-    exec rt must-fail "$@"
+mapfile -t chosen < <(if [ $# -gt 0 ]; then printf '%s\n' "$@"; else crates_with_edits; fi)
+if ! rt check "${chosen[@]}" > target/edits.check 2>&1; then
+    tail -n 3 target/edits.check
+    echo "0 passed, 1 failed"
+    exit 1
 fi
 rm -rf target/edits
 mkdir -p target/edits
-mapfile -t chosen < <(if [ $# -gt 0 ]; then printf '%s\n' "$@"; else crates_with_edits; fi)
 printf '%s\n' "${chosen[@]}" | xargs -P "${RT_JOBS:-$(nproc)}" -n 1 "$0" --crate
 cat target/edits/*.out
 passed=$(cat target/edits/*.out | grep -cE ': (refused|proved) ')

@@ -56,7 +56,8 @@ CheckIffTyped = (ws : ℕ) (program : List ℕ)
 -- Forward and backward
 
 -- A call with these arguments reaches its run: function `h` of program `P`, ancillae `vs`, and a value `v` of the type that `side` gives.
-pub record Admitted (program : List ℕ) (fn : ℕ) (anc bytes : List ℕ) (fuel ws : ℕ) (side : Fun → Ty) (P : Program) (h : Fun) (vs : List Val) (v : Val) : Type 0 where
+pub record Admitted (program : List ℕ) (fn : ℕ) (anc bytes : List ℕ) (fuel ws : ℕ) (side : Fun → Ty) (P : Program) (h : Fun) (vs : List Val) (v : Val)
+    : Type 0 where
   pub enough : workspaceFor fuel ≤ ws
   pub formed : WellFormed program P
   pub typed : WellTyped maxVariables maxNodes P

@@ -23,9 +23,10 @@ same-length-3 c = search needs
 returns : tie.Need-returns
 returns c =
     let at-replay = c .before .before .before .before .before .before .before in
-    let played = at-replay .replay .ensures in
-    (c .replay-told .ensures ∙ ap replayTold (played .0 .answer),
-    (played .0 .kept, (played .0 .told, (played .0 .clear, booked-as _ _ _ _ _ _ _ _ (played .0 .answer) (played .1)))))
+    let played = at-replay .replay .ensures in (
+      c .replay-told .ensures ∙ ap replayTold (played .0 .answer),
+      (played .0 .kept, (played .0 .told, (played .0 .clear, booked-as _ _ _ _ _ _ _ _ (played .0 .answer) (played .1)))),
+    )
 
 pub corefun-replay-spec : {M : Type 1} → statement M
 corefun-replay-spec =

@@ -27,10 +27,12 @@ returns c =
     let at-convert = at-held-line .before .before .before .before .before .before .before in
     let start = at-convert .before .before .before .before .before .before .before .before in
     let a = start .args in
-    let made = at-convert .convert in
-    ( wrote-as (at-held-line .held-line .ensures) (tells-turn (made .result)
-    (convertCall (a .program .now) (a .function) (a .ancillae .now) (a .fuel) (length (a .workspace .now)) (a .journal .now)) (a .journal .now)
-    (made .ensures .0) (made .ensures .1 .0)), (made .ensures .1 .0, made .ensures .1 .1), )
+    let made = at-convert .convert in (
+      wrote-as (at-held-line .held-line .ensures) (tells-turn (made .result)
+          (convertCall (a .program .now) (a .function) (a .ancillae .now) (a .fuel) (length (a .workspace .now)) (a .journal .now)) (a .journal .now)
+          (made .ensures .0) (made .ensures .1 .0)),
+      (made .ensures .1 .0, made .ensures .1 .1),
+    )
 
 pub convert-lent-spec : {M : Type 1} → statement M
 convert-lent-spec =

@@ -80,10 +80,15 @@ returns c =
     let l = at-least .least in
     let made = at-open-lent .open-lent in
     let same = open-lent (a .call .workspace) (l .ensures) (a .workspace .now) (s .pre .1 .0) (take (a .call .program) (a .program .now))
-        (take (a .call .held) (a .held .now)) (length (take (a .call .journal) (a .journal .now))) in
-    ( wrote-as (made .ensures .0) (ap openText same), ( on-front (sym (length-take-le (a .call .journal) (a .journal .now) (s .pre .0 .2)))
-    (a .journal .now) _ (made .ensures .1 .0 ∙ ap (λ x. afterOpen (take (a .call .journal) (a .journal .now)) x .journal) same), on-front (l .ensures)
-    (a .workspace .now) _ (made .ensures .1 .1 ∙ ap (λ x. cleared x (take (l .result) (a .workspace .now))) same), ), )
+    (take (a .call .held) (a .held .now)) (length (take (a .call .journal) (a .journal .now))) in (
+      wrote-as (made .ensures .0) (ap openText same),
+      (
+        on-front (sym (length-take-le (a .call .journal) (a .journal .now) (s .pre .0 .2)))
+            (a .journal .now) _ (made .ensures .1 .0 ∙ ap (λ x. afterOpen (take (a .call .journal) (a .journal .now)) x .journal) same),
+        on-front (l .ensures)
+            (a .workspace .now) _ (made .ensures .1 .1 ∙ ap (λ x. cleared x (take (l .result) (a .workspace .now))) same),
+      ),
+    )
 
 pub open-spec : {M : Type 1} → statement M
 open-spec =

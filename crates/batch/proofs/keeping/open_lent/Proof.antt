@@ -27,10 +27,12 @@ returns c =
     let at-before = at-opened-line .before .before .before .before .before .before in
     let start = at-before .before .before .before .before .before .before .before .before .before in
     let a = start .args in
-    let made = at-before .before .«open» in
-    ( wrote-as (at-opened-line .opened-line .ensures) (tells-open (made .result)
-    (openCall (a .program .now) (a .held .now) (length (a .workspace .now)) (length (a .journal .now))) (a .journal .now) (made .ensures .0)
-    (made .ensures .1 .0)), (made .ensures .1 .0, made .ensures .1 .1), )
+    let made = at-before .before .«open» in (
+      wrote-as (at-opened-line .opened-line .ensures) (tells-open (made .result)
+          (openCall (a .program .now) (a .held .now) (length (a .workspace .now)) (length (a .journal .now))) (a .journal .now) (made .ensures .0)
+          (made .ensures .1 .0)),
+      (made .ensures .1 .0, made .ensures .1 .1),
+    )
 
 pub open-lent-spec : {M : Type 1} → statement M
 open-lent-spec =

@@ -27,10 +27,12 @@ returns c =
     let at-rollback = at-held-line .before .before .before .before .before .before .before in
     let start = at-rollback .before .before .before .before .before .before .before in
     let a = start .args in
-    let made = at-rollback .rollback in
-    ( wrote-as (at-held-line .held-line .ensures) (tells-turn (made .result)
-    (rollbackCall (a .program .now) (a .fuel) (length (a .workspace .now)) (a .journal .now)) (a .journal .now) (made .ensures .0)
-    (made .ensures .1 .0)), (made .ensures .1 .0, made .ensures .1 .1), )
+    let made = at-rollback .rollback in (
+      wrote-as (at-held-line .held-line .ensures) (tells-turn (made .result)
+          (rollbackCall (a .program .now) (a .fuel) (length (a .workspace .now)) (a .journal .now)) (a .journal .now) (made .ensures .0)
+          (made .ensures .1 .0)),
+      (made .ensures .1 .0, made .ensures .1 .1),
+    )
 
 pub rollback-lent-spec : {M : Type 1} → statement M
 rollback-lent-spec =

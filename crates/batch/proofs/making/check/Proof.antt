@@ -57,9 +57,11 @@ returns c =
     let l = at-least .least in
     let done = at-check .check in
     let same = check-lent (s .args .call .workspace) (l .ensures) (s .args .workspace .now) (s .pre .1 .0)
-        (take (s .args .call .program) (s .args .program .now)) in
-    ( wrote-as (at-check-line .check-line .ensures) (ap checkText (done .ensures .0 ∙ same)), on-front (l .ensures) (s .args .workspace .now) _
-    (done .ensures .1 ∙ ap (λ x. cleared x (take (l .result) (s .args .workspace .now))) same), )
+    (take (s .args .call .program) (s .args .program .now)) in (
+      wrote-as (at-check-line .check-line .ensures) (ap checkText (done .ensures .0 ∙ same)),
+      on-front (l .ensures) (s .args .workspace .now) _
+          (done .ensures .1 ∙ ap (λ x. cleared x (take (l .result) (s .args .workspace .now))) same),
+    )
 
 pub check-spec : {M : Type 1} → statement M
 check-spec =

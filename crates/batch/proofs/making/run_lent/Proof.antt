@@ -18,10 +18,10 @@ run-line-requires c κs =
     let s = at-before .before in
     let a = s .args in
     let fits = length-within (at-run-either .run-either .result)
-        (runCall (a .backward) (a .program .now) (a .function) (a .ancillae .now) (a .value .now) (a .fuel) (length (a .workspace .now))
-        (length (a .output .now))) (length (a .output .now)) (at-run-either .run-either .ensures .answer)
-        (λ y e. run-within (a .backward) (length (a .workspace .now)) (length (a .output .now)) (a .fuel) (a .function) (a .program .now)
-        (a .ancillae .now) (a .value .now) y e) in
+    (runCall (a .backward) (a .program .now) (a .function) (a .ancillae .now) (a .value .now) (a .fuel) (length (a .workspace .now))
+    (length (a .output .now))) (length (a .output .now)) (at-run-either .run-either .ensures .answer)
+    (λ y e. run-within (a .backward) (length (a .workspace .now)) (length (a .output .now)) (a .fuel) (a .function) (a .program .now)
+    (a .ancillae .now) (a .value .now) y e) in
     let same = at-run-either .run-either .kept .1 .1 .1 .1 .1 .1 .1 .0 in
     (omega (arith, fits, same), (omega (arith, same, s .pre), omega (arith, s .pre)))
 
@@ -40,10 +40,12 @@ returns c =
     let at-run-either = at-run-line .before .before .before .before .before .before .before in
     let start = at-run-either .before .before .before .before .before .before .before .before .before in
     let a = start .args in
-    let ran = at-run-either .run-either in
-    ( wrote-as (at-run-line .run-line .ensures) (tells-run (ran .result)
-    (runCall (a .backward) (a .program .now) (a .function) (a .ancillae .now) (a .value .now) (a .fuel) (length (a .workspace .now))
-    (length (a .output .now))) (a .output .now) (ran .ensures .answer) (ran .ensures .fills)), (ran .ensures .fills, ran .ensures .clear), )
+    let ran = at-run-either .run-either in (
+      wrote-as (at-run-line .run-line .ensures) (tells-run (ran .result)
+          (runCall (a .backward) (a .program .now) (a .function) (a .ancillae .now) (a .value .now) (a .fuel) (length (a .workspace .now))
+          (length (a .output .now))) (a .output .now) (ran .ensures .answer) (ran .ensures .fills)),
+      (ran .ensures .fills, ran .ensures .clear),
+    )
 
 pub run-lent-spec : {M : Type 1} → statement M
 run-lent-spec =

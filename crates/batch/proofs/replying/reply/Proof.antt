@@ -16,9 +16,10 @@ check-requires c κs =
     let at-parsed = c .before .before .before in
     let at-before = at-parsed .before .before .before .before .before .before .before in
     let s = at-before .before in
-    let a = s .args in
-    (subst (λ q. Within q (a .program .now) (a .ancillae .now) (a .value .now)) (at-parsed .parsed .given .1) (s .pre .0),
-    (s .pre .1 .0 .0, omega (arith, s .pre .1 .1)))
+    let a = s .args in (
+      subst (λ q. Within q (a .program .now) (a .ancillae .now) (a .value .now)) (at-parsed .parsed .given .1) (s .pre .0),
+      (s .pre .1 .0 .0, omega (arith, s .pre .1 .1)),
+    )
 
 enum-known-parsed-2 : tie.Need-enum-known-parsed-2
 enum-known-parsed-2 c = search needs
@@ -28,9 +29,10 @@ run-requires c κs =
     let at-parsed2 = c .before .before .before .before .before in
     let at-before = at-parsed2 .before .before .before .before .before .before .before in
     let s = at-before .before in
-    let a = s .args in
-    (subst (λ q. Within q (a .program .now) (a .ancillae .now) (a .value .now)) (at-parsed2 .parsed2 .given .1) (s .pre .0),
-    (s .pre .1 .0, omega (arith, s .pre .1 .1)))
+    let a = s .args in (
+      subst (λ q. Within q (a .program .now) (a .ancillae .now) (a .value .now)) (at-parsed2 .parsed2 .given .1) (s .pre .0),
+      (s .pre .1 .0, omega (arith, s .pre .1 .1)),
+    )
 
 enum-known-parsed-3 : tie.Need-enum-known-parsed-3
 enum-known-parsed-3 c = search needs
@@ -40,9 +42,10 @@ open-requires c κs =
     let at-parsed3 = c .before .before .before .before in
     let at-before = at-parsed3 .before .before .before .before .before .before .before in
     let s = at-before .before in
-    let a = s .args in
-    (subst (λ q. Within q (a .program .now) (a .ancillae .now) (a .value .now)) (at-parsed3 .parsed3 .given .1) (s .pre .0),
-    (s .pre .1 .0 .0, omega (arith, s .pre .1 .1)))
+    let a = s .args in (
+      subst (λ q. Within q (a .program .now) (a .ancillae .now) (a .value .now)) (at-parsed3 .parsed3 .given .1) (s .pre .0),
+      (s .pre .1 .0 .0, omega (arith, s .pre .1 .1)),
+    )
 
 enum-known-parsed-4 : tie.Need-enum-known-parsed-4
 enum-known-parsed-4 c = search needs
@@ -52,9 +55,10 @@ convert-requires c κs =
     let at-parsed4 = c .before .before .before .before in
     let at-before = at-parsed4 .before .before .before .before .before .before .before in
     let s = at-before .before in
-    let a = s .args in
-    (subst (λ q. Within q (a .program .now) (a .ancillae .now) (a .value .now)) (at-parsed4 .parsed4 .given .1) (s .pre .0),
-    (s .pre .1 .0 .0, omega (arith, s .pre .1 .1)))
+    let a = s .args in (
+      subst (λ q. Within q (a .program .now) (a .ancillae .now) (a .value .now)) (at-parsed4 .parsed4 .given .1) (s .pre .0),
+      (s .pre .1 .0 .0, omega (arith, s .pre .1 .1)),
+    )
 
 enum-known-parsed-5 : tie.Need-enum-known-parsed-5
 enum-known-parsed-5 c = search needs
@@ -64,9 +68,10 @@ rollback-requires c κs =
     let at-parsed5 = c .before .before .before .before in
     let at-before = at-parsed5 .before .before .before .before .before .before .before in
     let s = at-before .before in
-    let a = s .args in
-    (subst (λ q. Within q (a .program .now) (a .ancillae .now) (a .value .now)) (at-parsed5 .parsed5 .given .1) (s .pre .0),
-    (s .pre .1 .0 .0, omega (arith, s .pre .1 .1)))
+    let a = s .args in (
+      subst (λ q. Within q (a .program .now) (a .ancillae .now) (a .value .now)) (at-parsed5 .parsed5 .given .1) (s .pre .0),
+      (s .pre .1 .0 .0, omega (arith, s .pre .1 .1)),
+    )
 
 enum-told : tie.Need-enum-told
 enum-told c = search needs

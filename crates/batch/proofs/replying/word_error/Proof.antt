@@ -23,8 +23,15 @@ put-requires-2 c κs =
     let at-put-number = c .before .before .before in
     let at-put = at-put-number .before .before .before .before in
     let start = at-put .before .before .before .before .before in
-    omega (arith, at-put .put .ensures .ends, at-put .put .ensures .kept, at-put-number .put-number .ensures .ends,
-    at-put-number .put-number .ensures .kept, start .pre, at-most-twenty (start .args .k) (search needs))
+    omega (
+      arith,
+      at-put .put .ensures .ends,
+      at-put .put .ensures .kept,
+      at-put-number .put-number .ensures .ends,
+      at-put-number .put-number .ensures .kept,
+      start .pre,
+      at-most-twenty (start .args .k) (search needs),
+    )
 
 same-length : tie.Need-same-length
 same-length c = search needs

@@ -20,8 +20,15 @@ put-requires c κs =
     let at-encode = c .before .before .before .before in
     let at-put-counts = at-encode .before .before .before .before in
     let start = at-put-counts .before .before .before .before in
-    omega (arith, at-put-counts .put-counts .ensures .1, at-put-counts .put-counts .ensures .0 .kept, at-encode .encode .ensures .ends,
-    at-encode .encode .ensures .kept, start .pre, hex-length (start .args .journal .now))
+    omega (
+      arith,
+      at-put-counts .put-counts .ensures .1,
+      at-put-counts .put-counts .ensures .0 .kept,
+      at-encode .encode .ensures .ends,
+      at-encode .encode .ensures .kept,
+      start .pre,
+      hex-length (start .args .journal .now),
+    )
 
 same-length : tie.Need-same-length
 same-length c = search needs

@@ -23,8 +23,15 @@ put-requires-2 c κs =
     let at-encode = c .before .before .before .before in
     let at-put = at-encode .before .before .before .before in
     let start = at-put .before .before .before .before .before in
-    omega (arith, at-put .put .ensures .ends, at-put .put .ensures .kept, at-encode .encode .ensures .ends, at-encode .encode .ensures .kept,
-    start .pre, hex-length (start .args .journal .now))
+    omega (
+      arith,
+      at-put .put .ensures .ends,
+      at-put .put .ensures .kept,
+      at-encode .encode .ensures .ends,
+      at-encode .encode .ensures .kept,
+      start .pre,
+      hex-length (start .args .journal .now),
+    )
 
 same-length : tie.Need-same-length
 same-length c = search needs

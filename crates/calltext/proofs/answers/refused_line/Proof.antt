@@ -26,8 +26,15 @@ put-requires-2 c κs =
     let at-put-number = c .before .before .before .before in
     let at-put = at-put-number .before .before .before .before in
     let start = at-put .before .before .before .before in
-    omega (arith, at-put .put .ensures .ends, at-put .put .ensures .kept, at-put-number .put-number .ensures .ends,
-    at-put-number .put-number .ensures .kept, start .pre, at-most-twenty (start .args .number) (search needs))
+    omega (
+      arith,
+      at-put .put .ensures .ends,
+      at-put .put .ensures .kept,
+      at-put-number .put-number .ensures .ends,
+      at-put-number .put-number .ensures .kept,
+      start .pre,
+      at-most-twenty (start .args .number) (search needs),
+    )
 
 put-number-requires-2 : tie.Need-put-number-requires-2
 put-number-requires-2 c κs =
@@ -35,9 +42,19 @@ put-number-requires-2 c κs =
     let at-put-number = at-put2 .before .before .before .before .before in
     let at-put = at-put-number .before .before .before .before in
     let start = at-put .before .before .before .before in
-    omega (arith, at-put .put .ensures .ends, at-put .put .ensures .kept, at-put-number .put-number .ensures .ends,
-    at-put-number .put-number .ensures .kept, at-put2 .put2 .ensures .ends, at-put2 .put2 .ensures .kept, start .pre, at-most-twenty
-    (start .args .number) (search needs), at-most-twenty (start .args .place) (search needs))
+    omega (
+      arith,
+      at-put .put .ensures .ends,
+      at-put .put .ensures .kept,
+      at-put-number .put-number .ensures .ends,
+      at-put-number .put-number .ensures .kept,
+      at-put2 .put2 .ensures .ends,
+      at-put2 .put2 .ensures .kept,
+      start .pre,
+      at-most-twenty
+          (start .args .number) (search needs),
+      at-most-twenty (start .args .place) (search needs),
+    )
 
 slice-aggregate-put-3 : tie.Need-slice-aggregate-put-3
 slice-aggregate-put-3 c = search needs
@@ -49,10 +66,21 @@ put-requires-3 c κs =
     let at-put-number = at-put2 .before .before .before .before .before in
     let at-put = at-put-number .before .before .before .before in
     let start = at-put .before .before .before .before in
-    omega (arith, at-put .put .ensures .ends, at-put .put .ensures .kept, at-put-number .put-number .ensures .ends,
-    at-put-number .put-number .ensures .kept, at-put2 .put2 .ensures .ends, at-put2 .put2 .ensures .kept, at-put-number2 .put-number2 .ensures .ends,
-    at-put-number2 .put-number2 .ensures .kept, start .pre, at-most-twenty (start .args .number) (search needs), at-most-twenty (start .args .place)
-    (search needs))
+    omega (
+      arith,
+      at-put .put .ensures .ends,
+      at-put .put .ensures .kept,
+      at-put-number .put-number .ensures .ends,
+      at-put-number .put-number .ensures .kept,
+      at-put2 .put2 .ensures .ends,
+      at-put2 .put2 .ensures .kept,
+      at-put-number2 .put-number2 .ensures .ends,
+      at-put-number2 .put-number2 .ensures .kept,
+      start .pre,
+      at-most-twenty (start .args .number) (search needs),
+      at-most-twenty (start .args .place)
+          (search needs),
+    )
 
 same-length : tie.Need-same-length
 same-length c =
@@ -62,7 +90,7 @@ same-length c =
     let at-put-number = at-put2 .before .before .before .before .before in
     let at-put = at-put-number .before .before .before .before in
     let w = wrote-five (at-put .put .ensures) (at-put-number .put-number .ensures) (at-put2 .put2 .ensures) (at-put-number2 .put-number2 .ensures)
-        (at-put3 .put3 .ensures) in
+    (at-put3 .put3 .ensures) in
     w .kept
 
 returns : tie.Need-returns

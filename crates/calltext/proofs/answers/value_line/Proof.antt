@@ -24,8 +24,15 @@ put-requires-2 c κs =
     let at-encode = c .before .before .before .before in
     let at-put = at-encode .before .before .before .before in
     let start = at-put .before .before .before .before .before in
-    omega (arith, at-put .put .ensures .ends, at-put .put .ensures .kept, at-encode .encode .ensures .ends, at-encode .encode .ensures .kept,
-    start .pre, hex-length (start .args .value .now))
+    omega (
+      arith,
+      at-put .put .ensures .ends,
+      at-put .put .ensures .kept,
+      at-encode .encode .ensures .ends,
+      at-encode .encode .ensures .kept,
+      start .pre,
+      hex-length (start .args .value .now),
+    )
 
 put-number-requires : tie.Need-put-number-requires
 put-number-requires c κs =
@@ -33,9 +40,19 @@ put-number-requires c κs =
     let at-encode = at-put2 .before .before .before .before .before in
     let at-put = at-encode .before .before .before .before in
     let start = at-put .before .before .before .before .before in
-    omega (arith, at-put .put .ensures .ends, at-put .put .ensures .kept, at-encode .encode .ensures .ends, at-encode .encode .ensures .kept,
-    at-put2 .put2 .ensures .ends, at-put2 .put2 .ensures .kept, start .pre, hex-length (start .args .value .now), at-most-twenty (start .args .steps)
-    (search needs))
+    omega (
+      arith,
+      at-put .put .ensures .ends,
+      at-put .put .ensures .kept,
+      at-encode .encode .ensures .ends,
+      at-encode .encode .ensures .kept,
+      at-put2 .put2 .ensures .ends,
+      at-put2 .put2 .ensures .kept,
+      start .pre,
+      hex-length (start .args .value .now),
+      at-most-twenty (start .args .steps)
+          (search needs),
+    )
 
 slice-aggregate-put-3 : tie.Need-slice-aggregate-put-3
 slice-aggregate-put-3 c = search needs
@@ -47,9 +64,20 @@ put-requires-3 c κs =
     let at-encode = at-put2 .before .before .before .before .before in
     let at-put = at-encode .before .before .before .before in
     let start = at-put .before .before .before .before .before in
-    omega (arith, at-put .put .ensures .ends, at-put .put .ensures .kept, at-encode .encode .ensures .ends, at-encode .encode .ensures .kept,
-    at-put2 .put2 .ensures .ends, at-put2 .put2 .ensures .kept, at-put-number .put-number .ensures .ends, at-put-number .put-number .ensures .kept,
-    start .pre, hex-length (start .args .value .now), at-most-twenty (start .args .steps) (search needs))
+    omega (
+      arith,
+      at-put .put .ensures .ends,
+      at-put .put .ensures .kept,
+      at-encode .encode .ensures .ends,
+      at-encode .encode .ensures .kept,
+      at-put2 .put2 .ensures .ends,
+      at-put2 .put2 .ensures .kept,
+      at-put-number .put-number .ensures .ends,
+      at-put-number .put-number .ensures .kept,
+      start .pre,
+      hex-length (start .args .value .now),
+      at-most-twenty (start .args .steps) (search needs),
+    )
 
 same-length : tie.Need-same-length
 same-length c =
@@ -59,7 +87,7 @@ same-length c =
     let at-encode = at-put2 .before .before .before .before .before in
     let at-put = at-encode .before .before .before .before in
     let w = wrote-five (at-put .put .ensures) (at-encode .encode .ensures) (at-put2 .put2 .ensures) (at-put-number .put-number .ensures)
-        (at-put3 .put3 .ensures) in
+    (at-put3 .put3 .ensures) in
     w .kept
 
 returns : tie.Need-returns

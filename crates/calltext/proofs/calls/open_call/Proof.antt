@@ -141,9 +141,11 @@ returns-6 c =
     parses (open-all _ (told-number (at-number-at .number-at .ensures) (at-workspace .workspace .given .1))
     (told-bytes (at-bytes-at .bytes-at .ensures) (at-p .p .given .1)) (told-bytes (at-bytes-at2 .bytes-at2 .ensures) (at-h .h .given .1))
     (told-bytes (at-bytes-at3 .bytes-at3 .ensures) (at-j .j .given .1)) ∙ counted _ _ _
-    (sym (at-count-spaces .count-spaces .ensures) ∙ at-if1 .if1 .left))
-    (bytes-within (at-bytes-at .bytes-at .ensures) (at-p .p .given .1), bytes-within (at-bytes-at2 .bytes-at2 .ensures) (at-h .h .given .1),
-    bytes-within (at-bytes-at3 .bytes-at3 .ensures) (at-j .j .given .1))
+    (sym (at-count-spaces .count-spaces .ensures) ∙ at-if1 .if1 .left)) (
+      bytes-within (at-bytes-at .bytes-at .ensures) (at-p .p .given .1),
+      bytes-within (at-bytes-at2 .bytes-at2 .ensures) (at-h .h .given .1),
+      bytes-within (at-bytes-at3 .bytes-at3 .ensures) (at-j .j .given .1),
+    )
     (record { program = at-bytes-at .bytes-at .ensures .left; ancillae = at-bytes-at2 .bytes-at2 .ensures .left; value = at-bytes-at3 .bytes-at3 .ensures .left })
 
 pub open-call-spec : {M : Type 1} → statement M

@@ -238,9 +238,11 @@ returns-8 c =
     (told-number (at-number-at3 .number-at3 .ensures) (at-fuel .fuel .given .1))
     (told-number (at-number-at4 .number-at4 .ensures) (at-function .function .given .1))
     (told-bytes (at-bytes-at .bytes-at .ensures) (at-p .p .given .1)) (told-bytes (at-bytes-at2 .bytes-at2 .ensures) (at-a .a .given .1))
-    (told-bytes (at-bytes-at3 .bytes-at3 .ensures) (at-v .v .given .1)))
-    (bytes-within (at-bytes-at .bytes-at .ensures) (at-p .p .given .1), bytes-within (at-bytes-at2 .bytes-at2 .ensures) (at-a .a .given .1),
-    bytes-within (at-bytes-at3 .bytes-at3 .ensures) (at-v .v .given .1))
+    (told-bytes (at-bytes-at3 .bytes-at3 .ensures) (at-v .v .given .1))) (
+      bytes-within (at-bytes-at .bytes-at .ensures) (at-p .p .given .1),
+      bytes-within (at-bytes-at2 .bytes-at2 .ensures) (at-a .a .given .1),
+      bytes-within (at-bytes-at3 .bytes-at3 .ensures) (at-v .v .given .1),
+    )
     (record { program = at-bytes-at .bytes-at .ensures .left; ancillae = at-bytes-at2 .bytes-at2 .ensures .left; value = at-bytes-at3 .bytes-at3 .ensures .left })
 
 pub run-call-spec : {M : Type 1} → statement M

@@ -98,8 +98,13 @@ put-number-slice-write-out-2 t c =
     let at-put-number = c .before .before in
     let at-if1 = at-put-number .before .before in
     let start = at-if1 .before .before in
-    omega (arith, start .pre .1, longer-by-one _ (at-if1 .if1 .left), at-put-number .put-number .ensures .ends,
-    at-put-number .put-number .ensures .kept)
+    omega (
+      arith,
+      start .pre .1,
+      longer-by-one _ (at-if1 .if1 .left),
+      at-put-number .put-number .ensures .ends,
+      at-put-number .put-number .ensures .kept,
+    )
 
 put-number-add-result-2 : (t : ℕ) → put-number-lts.Need-add-result-2 (
   put-number-below t,
@@ -109,8 +114,13 @@ put-number-add-result-2 t c =
     let at-put-number = c .before .before in
     let at-if1 = at-put-number .before .before in
     let start = at-if1 .before .before in
-    omega (arith, start .pre .1, longer-by-one _ (at-if1 .if1 .left), at-put-number .put-number .ensures .ends,
-    at-put-number .put-number .ensures .kept)
+    omega (
+      arith,
+      start .pre .1,
+      longer-by-one _ (at-if1 .if1 .left),
+      at-put-number .put-number .ensures .ends,
+      at-put-number .put-number .ensures .kept,
+    )
 
 put-number-same-length-2 : (t : ℕ) → put-number-lts.Need-same-length-2 (
   put-number-below t,
@@ -127,8 +137,13 @@ put-number-returns-2 t c =
     let at-if1 = at-put-number .before .before in
     let start = at-if1 .before .before in
     wrote-as (wrote-both (at-put-number .put-number .ensures)
-    (wrote-byte _ _ _ (omega (arith, start .pre .1, longer-by-one _ (at-if1 .if1 .left), at-put-number .put-number .ensures .ends,
-    at-put-number .put-number .ensures .kept)))) (more-digits _ (at-if1 .if1 .left))
+    (wrote-byte _ _ _ (omega (
+      arith,
+      start .pre .1,
+      longer-by-one _ (at-if1 .if1 .left),
+      at-put-number .put-number .ensures .ends,
+      at-put-number .put-number .ensures .kept,
+    )))) (more-digits _ (at-if1 .if1 .left))
 
 pub +put-number-spec : {M : Type 1} → statement M
 +put-number-spec = close μ-put-number λ t. put-number-lts.spec (

@@ -33,8 +33,11 @@ returns-3 c =
     let at-if2 = c .before in
     let at-loop-test = at-if2 .before .before in
     let at-loop = at-loop-test .before in
-    record { said = stops-high _ _ _ _ (at-loop .loop .inv .3) (at-loop-test .loop-test .taken) (at-if2 .if2 .left)
-    (c .if3 .taken); within = search needs }
+    record {
+      said = stops-high _ _ _ _ (at-loop .loop .inv .3) (at-loop-test .loop-test .taken) (at-if2 .if2 .left)
+          (c .if3 .taken);
+      within = search needs;
+    }
 
 mul-next : tie.Need-mul-next Inv-loop μ-loop
 mul-next c = search needs
@@ -51,8 +54,11 @@ returns-4 c =
     let at-if2 = at-if3 .before in
     let at-loop-test = at-if2 .before .before in
     let at-loop = at-loop-test .before in
-    record { said = stops-large _ _ _ _ (at-loop .loop .inv .3) (at-loop-test .loop-test .taken) (at-if2 .if2 .left) (at-if3 .if3 .left)
-    (c .if4 .taken); within = search needs }
+    record {
+      said = stops-large _ _ _ _ (at-loop .loop .inv .3) (at-loop-test .loop-test .taken) (at-if2 .if2 .left) (at-if3 .if3 .left)
+          (c .if4 .taken);
+      within = search needs;
+    }
 
 add-i : tie.Need-add-i Inv-loop μ-loop
 add-i c = search needs
@@ -65,9 +71,13 @@ loop-again c =
     let at-if3 = c .before in
     let at-if2 = at-if3 .before in
     let at-loop-test = at-if2 .before .before in
-    let at-loop = at-loop-test .before in
-    (at-loop .loop .inv .0, search needs, search needs, carries _ _ _ _ (at-loop .loop .inv .3) (at-loop-test .loop-test .taken) (at-if2 .if2 .left)
-    (at-if3 .if3 .left) (c .if4 .left))
+    let at-loop = at-loop-test .before in (
+      at-loop .loop .inv .0,
+      search needs,
+      search needs,
+      carries _ _ _ _ (at-loop .loop .inv .3) (at-loop-test .loop-test .taken) (at-if2 .if2 .left)
+          (at-if3 .if3 .left) (c .if4 .left),
+    )
 
 returns-5 : tie.Need-returns-5 Inv-loop μ-loop
 returns-5 c = record { said = carried-all _ _ _ _ (c .before .loop .inv .3) (c .loop-test .left); within = search needs }

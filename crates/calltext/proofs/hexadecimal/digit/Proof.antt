@@ -34,8 +34,14 @@ returns-5 c =
     let at-if3 = at-if4 .before in
     let at-if2 = at-if3 .before in
     let at-if1 = at-if2 .before in
-    simp (le-ltb _ _ (at-if1 .if1 .left), lt-leb _ _ (at-if2 .if2 .left), le-ltb _ _ (at-if3 .if3 .left), lt-leb _ _ (at-if4 .if4 .left), lt-ltb _ _
-    (c .if5 .taken))
+    simp (
+      le-ltb _ _ (at-if1 .if1 .left),
+      lt-leb _ _ (at-if2 .if2 .left),
+      le-ltb _ _ (at-if3 .if3 .left),
+      lt-leb _ _ (at-if4 .if4 .left),
+      lt-ltb _ _
+          (c .if5 .taken),
+    )
 
 sub-result-2 : tie.Need-sub-result-2
 sub-result-2 c = search needs
@@ -48,8 +54,15 @@ returns-6 c =
     let at-if3 = at-if4 .before in
     let at-if2 = at-if3 .before in
     let at-if1 = at-if2 .before in
-    simp (le-ltb _ _ (at-if1 .if1 .left), lt-leb _ _ (at-if2 .if2 .left), le-ltb _ _ (at-if3 .if3 .left), lt-leb _ _ (at-if4 .if4 .left), le-ltb _ _
-    (at-if5 .if5 .left), le-leb _ _ (c .if6 .taken))
+    simp (
+      le-ltb _ _ (at-if1 .if1 .left),
+      lt-leb _ _ (at-if2 .if2 .left),
+      le-ltb _ _ (at-if3 .if3 .left),
+      lt-leb _ _ (at-if4 .if4 .left),
+      le-ltb _ _
+          (at-if5 .if5 .left),
+      le-leb _ _ (c .if6 .taken),
+    )
 
 returns-7 : tie.Need-returns-7
 unfolding digitOf
@@ -59,8 +72,15 @@ returns-7 c =
     let at-if3 = at-if4 .before in
     let at-if2 = at-if3 .before in
     let at-if1 = at-if2 .before in
-    simp (le-ltb _ _ (at-if1 .if1 .left), lt-leb _ _ (at-if2 .if2 .left), le-ltb _ _ (at-if3 .if3 .left), lt-leb _ _ (at-if4 .if4 .left), le-ltb _ _
-    (at-if5 .if5 .left), lt-leb _ _ (c .if6 .left))
+    simp (
+      le-ltb _ _ (at-if1 .if1 .left),
+      lt-leb _ _ (at-if2 .if2 .left),
+      le-ltb _ _ (at-if3 .if3 .left),
+      lt-leb _ _ (at-if4 .if4 .left),
+      le-ltb _ _
+          (at-if5 .if5 .left),
+      lt-leb _ _ (c .if6 .left),
+    )
 
 pub digit-spec : {M : Type 1} → statement M
 digit-spec =

@@ -64,9 +64,14 @@ loop-again c =
     let at-glyph = c .before in
     let at-loop-test = at-glyph .before .before in
     let at-loop = at-loop-test .before in
-    let v = at-loop .loop .inv in
-    (v .0, v .1, search needs, omega (arith, v .3), simp (at-glyph .glyph .ensures, c .glyph2 .ensures)
-    (encode-more _ _ _ _ _ _ (v .4) (at-loop-test .loop-test .taken) (omega (arith, v .3, v .4 .kept))))
+    let v = at-loop .loop .inv in (
+      v .0,
+      v .1,
+      search needs,
+      omega (arith, v .3),
+      simp (at-glyph .glyph .ensures, c .glyph2 .ensures)
+          (encode-more _ _ _ _ _ _ (v .4) (at-loop-test .loop-test .taken) (omega (arith, v .3, v .4 .kept))),
+    )
 
 same-length-2 : tie.Need-same-length-2 Inv-loop μ-loop
 same-length-2 c = c .before .loop .inv .4 .kept

@@ -99,10 +99,13 @@ loop-again c =
     let at-digit = at-digit2 .before .before in
     let at-if1 = at-digit .before .before in
     let at-loop = at-if1 .before .before in
-    let d = at-loop .loop .inv .2 in
-    (at-loop .loop .inv .0, simp length-set (at-loop .loop .inv .1), decodes-more _ _ _ _ _ d _ _ (at-digit .digit .ensures)
-    (at-digit2 .digit2 .ensures) (at-if1 .if1 .left) (at-if2 .if2 .left) (c .if3 .left)
-    (omega (arith, at-loop .loop .inv .0, at-loop .loop .inv .1, d .even)))
+    let d = at-loop .loop .inv .2 in (
+      at-loop .loop .inv .0,
+      simp length-set (at-loop .loop .inv .1),
+      decodes-more _ _ _ _ _ d _ _ (at-digit .digit .ensures)
+          (at-digit2 .digit2 .ensures) (at-if1 .if1 .left) (at-if2 .if2 .left) (c .if3 .left)
+          (omega (arith, at-loop .loop .inv .0, at-loop .loop .inv .1, d .even)),
+    )
 
 same-length-4 : tie.Need-same-length-4 Inv-loop μ-loop
 same-length-4 c = c .before .loop .inv .1

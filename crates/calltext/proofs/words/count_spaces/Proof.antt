@@ -41,9 +41,12 @@ loop-again c =
     let at-loop-test = c .before .before in
     let at-loop = at-loop-test .before in
     let start = at-loop .before .before in
-    let h = at-most-one (getD (start .args .line .now) (at-loop .loop .i) 0) in
-    (search needs, omega (arith, h, c .space .ensures), simp (c .space .ensures)
-    (one-byte _ _ _ (at-loop .loop .inv .2) (at-loop-test .loop-test .taken)))
+    let h = at-most-one (getD (start .args .line .now) (at-loop .loop .i) 0) in (
+      search needs,
+      omega (arith, h, c .space .ensures),
+      simp (c .space .ensures)
+          (one-byte _ _ _ (at-loop .loop .inv .2) (at-loop-test .loop-test .taken)),
+    )
 
 returns : tie.Need-returns Inv-loop μ-loop
 returns c = all-spaces _ _ _ (c .before .loop .inv .2) (c .loop-test .left)

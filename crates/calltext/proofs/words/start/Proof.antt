@@ -32,9 +32,11 @@ loop-again c = (search needs, c .next .ensures .0, c .next .ensures .1 ∙ ap be
 returns : tie.Need-returns Inv-loop μ-loop
 returns c =
     let at-loop = c .before in
-    let start = at-loop .before .before in
-    (at-loop .loop .inv .1, last-one (start .args .line .now) (at-loop .loop .at) _ _ (at-loop .loop .inv .2) (at-loop .loop .inv .0)
-    (c .loop-test .left))
+    let start = at-loop .before .before in (
+      at-loop .loop .inv .1,
+      last-one (start .args .line .now) (at-loop .loop .at) _ _ (at-loop .loop .inv .2) (at-loop .loop .inv .0)
+          (c .loop-test .left),
+    )
 
 pub start-spec : {M : Type 1} → statement M
 start-spec =

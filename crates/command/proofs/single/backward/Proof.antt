@@ -19,9 +19,11 @@ run-report-requires : tie.Need-run-report-requires
 unfolding maxValueBytes
 run-report-requires c κs =
     let at-backward = c .before .before .before .before .before in
-    let start = at-backward .before .before .before .before .before .before .before .before in
-    (within (at-backward .backward .result) _ _ (at-backward .backward .ensures .0) (at-backward .backward .ensures .1 .0)
-    (at-backward .backward .kept .1 .1 .1 .1 .1 .1 .0), omega (arith, at-backward .backward .kept .1 .1 .1 .1 .1 .1 .0, start .pre))
+    let start = at-backward .before .before .before .before .before .before .before .before in (
+      within (at-backward .backward .result) _ _ (at-backward .backward .ensures .0) (at-backward .backward .ensures .1 .0)
+          (at-backward .backward .kept .1 .1 .1 .1 .1 .1 .0),
+      omega (arith, at-backward .backward .kept .1 .1 .1 .1 .1 .1 .0, start .pre),
+    )
 
 same-length : tie.Need-same-length
 same-length c = search needs
@@ -33,9 +35,11 @@ returns : tie.Need-returns
 unfolding maxValueBytes
 returns c =
     let at-run-report = c .before .before in
-    let at-backward = at-run-report .before .before .before .before .before .before in
-    (wrote-as (at-run-report .run-report .ensures) (run-reported (at-backward .backward .result) _ _ (at-backward .backward .ensures .0)
-    (at-backward .backward .ensures .1 .0)), at-backward .backward .ensures .1 .1)
+    let at-backward = at-run-report .before .before .before .before .before .before in (
+      wrote-as (at-run-report .run-report .ensures) (run-reported (at-backward .backward .result) _ _ (at-backward .backward .ensures .0)
+          (at-backward .backward .ensures .1 .0)),
+      at-backward .backward .ensures .1 .1,
+    )
 
 pub backward-spec : {M : Type 1} → statement M
 backward-spec =

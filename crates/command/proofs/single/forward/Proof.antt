@@ -19,9 +19,11 @@ run-report-requires : tie.Need-run-report-requires
 unfolding maxValueBytes
 run-report-requires c κs =
     let at-forward = c .before .before .before .before .before in
-    let start = at-forward .before .before .before .before .before .before .before .before in
-    (within (at-forward .forward .result) _ _ (at-forward .forward .ensures .0) (at-forward .forward .ensures .1 .0)
-    (at-forward .forward .kept .1 .1 .1 .1 .1 .1 .0), omega (arith, at-forward .forward .kept .1 .1 .1 .1 .1 .1 .0, start .pre))
+    let start = at-forward .before .before .before .before .before .before .before .before in (
+      within (at-forward .forward .result) _ _ (at-forward .forward .ensures .0) (at-forward .forward .ensures .1 .0)
+          (at-forward .forward .kept .1 .1 .1 .1 .1 .1 .0),
+      omega (arith, at-forward .forward .kept .1 .1 .1 .1 .1 .1 .0, start .pre),
+    )
 
 same-length : tie.Need-same-length
 same-length c = search needs
@@ -33,9 +35,11 @@ returns : tie.Need-returns
 unfolding maxValueBytes
 returns c =
     let at-run-report = c .before .before in
-    let at-forward = at-run-report .before .before .before .before .before .before in
-    (wrote-as (at-run-report .run-report .ensures) (run-reported (at-forward .forward .result) _ _ (at-forward .forward .ensures .0)
-    (at-forward .forward .ensures .1 .0)), at-forward .forward .ensures .1 .1)
+    let at-forward = at-run-report .before .before .before .before .before .before in (
+      wrote-as (at-run-report .run-report .ensures) (run-reported (at-forward .forward .result) _ _ (at-forward .forward .ensures .0)
+          (at-forward .forward .ensures .1 .0)),
+      at-forward .forward .ensures .1 .1,
+    )
 
 pub forward-spec : {M : Type 1} → statement M
 forward-spec =

@@ -14,9 +14,14 @@ write-convert-requires c κs =
     let at-wide32 = c .before in
     let at-if1 = at-wide32 .before in
     let at-fits-convert = at-if1 .before in
-    let start = at-fits-convert .before .before .before .before .before in
-    (start .pre .0, (start .pre .1 .0, convert-room (start .args .journal .now) (start .args .held .now) (start .args .ancillae .now)
-    (at-fits-convert .fits-convert .ensures) (at-if1 .if1 .taken) (start .args .function) (at-wide32 .wide32 .result)))
+    let start = at-fits-convert .before .before .before .before .before in (
+      start .pre .0,
+      (
+        start .pre .1 .0,
+        convert-room (start .args .journal .now) (start .args .held .now) (start .args .ancillae .now)
+            (at-fits-convert .fits-convert .ensures) (at-if1 .if1 .taken) (start .args .function) (at-wide32 .wide32 .result),
+      ),
+    )
 
 same-length : tie.Need-same-length
 same-length c = search needs

@@ -16,9 +16,11 @@ write-open-requires c κs =
     let at-fits-open = at-if2 .before in
     let at-if1 = at-fits-open .before .before in
     let at-one-value = at-if1 .before in
-    let start = at-one-value .before .before .before in
-    (sym (at-one-value .one-value .ensures) ∙ at-if1 .if1 .taken, open-fits (start .args .held .now) (start .args .journal .now)
-    (at-one-value .one-value .ensures) (at-if1 .if1 .taken) (at-fits-open .fits-open .ensures) (at-if2 .if2 .taken))
+    let start = at-one-value .before .before .before in (
+      sym (at-one-value .one-value .ensures) ∙ at-if1 .if1 .taken,
+      open-fits (start .args .held .now) (start .args .journal .now)
+          (at-one-value .one-value .ensures) (at-if1 .if1 .taken) (at-fits-open .fits-open .ensures) (at-if2 .if2 .taken),
+    )
 
 same-length : tie.Need-same-length
 same-length c = search needs

@@ -19,10 +19,15 @@ write-rollback-requires c κs =
     let at-if1 = at-fits-rollback .before .before in
     let at-wide32 = at-if1 .before in
     let at-newest-steps = at-wide32 .before in
-    let start = at-newest-steps .before .before .before .before in
-    (start .pre .0 .0, (start .pre .1 .0, room (start .args .journal .now) (start .args .held .now) (start .args .done) (start .pre .1 .0)
-    (start .pre .1 .1) (at-wide32 .wide32 .ensures .0) (at-newest-steps .newest-steps .ensures) (at-if1 .if1 .taken)
-    (at-fits-rollback .fits-rollback .ensures) (at-if2 .if2 .taken)))
+    let start = at-newest-steps .before .before .before .before in (
+      start .pre .0 .0,
+      (
+        start .pre .1 .0,
+        room (start .args .journal .now) (start .args .held .now) (start .args .done) (start .pre .1 .0)
+            (start .pre .1 .1) (at-wide32 .wide32 .ensures .0) (at-newest-steps .newest-steps .ensures) (at-if1 .if1 .taken)
+            (at-fits-rollback .fits-rollback .ensures) (at-if2 .if2 .taken),
+      ),
+    )
 
 same-length : tie.Need-same-length
 same-length c = search needs

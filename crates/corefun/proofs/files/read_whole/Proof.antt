@@ -39,16 +39,24 @@ loop-less c =
     let at-next = c .before .before in
     let at-read-behind = at-next .before .before .before .before in
     let at-loop-test = at-read-behind .before .before in
-    omega (arith, at-read-behind .read-behind .kept .1 .0, c .if1 .left, at-read-behind .read-behind .ensures, ap heldIn (at-next .next .given .1),
-    at-loop-test .loop-test .taken)
+    omega (
+      arith,
+      at-read-behind .read-behind .kept .1 .0,
+      c .if1 .left,
+      at-read-behind .read-behind .ensures,
+      ap heldIn (at-next .next .given .1),
+      at-loop-test .loop-test .taken,
+    )
 
 loop-again : tie.Need-loop-again Inv-loop μ-loop
 loop-again c =
     let at-next = c .before .before in
     let at-read-behind = at-next .before .before .before .before in
-    let at-loop = at-read-behind .before .before .before in
-    (omega (arith, at-read-behind .read-behind .ensures, ap heldIn (at-next .next .given .1)), at-read-behind .read-behind .kept .1 .0
-    ∙ at-loop .loop .inv .1)
+    let at-loop = at-read-behind .before .before .before in (
+      omega (arith, at-read-behind .read-behind .ensures, ap heldIn (at-next .next .given .1)),
+      at-read-behind .read-behind .kept .1 .0
+          ∙ at-loop .loop .inv .1,
+    )
 
 enum-told : tie.Need-enum-told Inv-loop μ-loop
 enum-told c = search needs

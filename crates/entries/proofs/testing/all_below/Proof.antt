@@ -47,9 +47,11 @@ loop-again : tie.Need-loop-again Inv-loop μ-loop
 loop-again c =
     let at-wide-index = c .before in
     let at-read16 = at-wide-index .before in
-    let at-loop = at-read16 .before .before in
-    (omega arith, below-more _ _ _ (at-loop .loop .i) (at-loop .loop .inv .1)
-    (omega (arith, at-wide-index .wide-index .ensures .0 ∙ at-read16 .read16 .ensures)))
+    let at-loop = at-read16 .before .before in (
+      omega arith,
+      below-more _ _ _ (at-loop .loop .i) (at-loop .loop .inv .1)
+          (omega (arith, at-wide-index .wide-index .ensures .0 ∙ at-read16 .read16 .ensures)),
+    )
 
 returns-2 : tie.Need-returns-2 Inv-loop μ-loop
 returns-2 c = below-all _ _ _ (c .before .loop .i) _ (omega arith) (omega arith) (c .before .loop .inv .1)

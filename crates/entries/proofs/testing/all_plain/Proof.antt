@@ -39,8 +39,12 @@ shared-slice-read-if1 c =
     let at-read16 = at-wide-index .before in
     let at-loop = at-read16 .before .before in
     let start = at-loop .before .before .before .before in
-    omega (arith, below-at _ _ _ (at-loop .loop .i) _ (omega arith) (start .pre .1 .1), at-wide-index .wide-index .ensures .0
-    ∙ at-read16 .read16 .ensures)
+    omega (
+      arith,
+      below-at _ _ _ (at-loop .loop .i) _ (omega arith) (start .pre .1 .1),
+      at-wide-index .wide-index .ensures .0
+          ∙ at-read16 .read16 .ensures,
+    )
 
 returns : tie.Need-returns Inv-loop μ-loop
 returns c =
@@ -59,8 +63,12 @@ shared-slice-read-if2 c =
     let at-read16 = at-wide-index .before in
     let at-loop = at-read16 .before .before in
     let start = at-loop .before .before .before .before in
-    omega (arith, below-at _ _ _ (at-loop .loop .i) _ (omega arith) (start .pre .1 .0), at-wide-index .wide-index .ensures .0
-    ∙ at-read16 .read16 .ensures)
+    omega (
+      arith,
+      below-at _ _ _ (at-loop .loop .i) _ (omega arith) (start .pre .1 .0),
+      at-wide-index .wide-index .ensures .0
+          ∙ at-read16 .read16 .ensures,
+    )
 
 returns-2 : tie.Need-returns-2 Inv-loop μ-loop
 returns-2 c =
@@ -81,9 +89,11 @@ loop-again c =
     let at-if1 = c .before .before in
     let at-wide-index = at-if1 .before .before in
     let at-read16 = at-wide-index .before in
-    let at-loop = at-read16 .before .before in
-    (omega arith, plain-more _ _ _ _ (at-loop .loop .i) _ (at-wide-index .wide-index .ensures .0 ∙ at-read16 .read16 .ensures) (at-loop .loop .inv .1)
-    (plain-yes _ _ _ (at-if1 .if1 .left) (c .if2 .left)))
+    let at-loop = at-read16 .before .before in (
+      omega arith,
+      plain-more _ _ _ _ (at-loop .loop .i) _ (at-wide-index .wide-index .ensures .0 ∙ at-read16 .read16 .ensures) (at-loop .loop .inv .1)
+          (plain-yes _ _ _ (at-if1 .if1 .left) (c .if2 .left)),
+    )
 
 returns-3 : tie.Need-returns-3 Inv-loop μ-loop
 returns-3 c = plain-all _ _ _ _ (c .before .loop .i) _ (omega arith) (omega arith) (c .before .loop .inv .1)

@@ -13,9 +13,14 @@ add-all-plain c = omega (arith, function-room (c .before .before .before .pre .0
 
 all-plain-requires : tie.Need-all-plain-requires
 all-plain-requires c κs =
-    let start = c .before .before .before in
-    (omega (arith, function-room (start .pre .0)), (result-below (start .pre .0) _ (start .pre .1 .0), result-below (start .pre .0) _
-    (start .pre .1 .1)))
+    let start = c .before .before .before in (
+      omega (arith, function-room (start .pre .0)),
+      (
+        result-below (start .pre .0) _ (start .pre .1 .0),
+        result-below (start .pre .0) _
+            (start .pre .1 .1),
+      ),
+    )
 
 returns : tie.Need-returns
 returns c =
@@ -33,10 +38,14 @@ add-all-plain-2 c = omega (arith, function-room (c .before .before .before .befo
 
 all-plain-requires-2 : tie.Need-all-plain-requires-2
 all-plain-requires-2 c κs =
-    let start = c .before .before .before .before .before .before in
-    (omega (arith, function-room (start .pre .0), c .function-parameters .ensures .0),
-    (parameters-below (start .pre .0) _ _ (c .function-parameters .ensures .0) (start .pre .1 .0), parameters-below (start .pre .0) _ _
-    (c .function-parameters .ensures .0) (start .pre .1 .1)))
+    let start = c .before .before .before .before .before .before in (
+      omega (arith, function-room (start .pre .0), c .function-parameters .ensures .0),
+      (
+        parameters-below (start .pre .0) _ _ (c .function-parameters .ensures .0) (start .pre .1 .0),
+        parameters-below (start .pre .0) _ _
+            (c .function-parameters .ensures .0) (start .pre .1 .1),
+      ),
+    )
 
 returns-2 : tie.Need-returns-2
 returns-2 c =

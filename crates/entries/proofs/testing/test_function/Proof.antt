@@ -48,9 +48,11 @@ use-terms-requires c κs =
     let at-if2 = c .before in
     let at-all-below = at-if2 .before in
     let at-function-parameters = at-all-below .before .before .before in
-    let start = at-function-parameters .before .before .before .before .before in
-    (omega (arith, function-room (start .pre .0), at-function-parameters .function-parameters .ensures .0), below-wider (start .args .terms) _ _
-    (omega arith) (sym (at-all-below .all-below .ensures) ∙ not-false (at-all-below .all-below .result) (at-if2 .if2 .left)))
+    let start = at-function-parameters .before .before .before .before .before in (
+      omega (arith, function-room (start .pre .0), at-function-parameters .function-parameters .ensures .0),
+      below-wider (start .args .terms) _ _
+          (omega arith) (sym (at-all-below .all-below .ensures) ∙ not-false (at-all-below .all-below .result) (at-if2 .if2 .left)),
+    )
 
 same-length : tie.Need-same-length
 same-length c = c .before .before .before .use-terms .kept .1 .1 .1 .0
@@ -74,11 +76,16 @@ signature-plain-requires : tie.Need-signature-plain-requires
 signature-plain-requires c κs =
     let at-if1 = c .before .before .before .before .before .before .before in
     let at-signature-below = at-if1 .before in
-    let start = at-signature-below .before .before .before .before .before .before in
-    (start .pre .0, (below-wider (start .args .types) _ _ (omega arith)
-    (sym (at-signature-below .signature-below .ensures) ∙ not-false (at-signature-below .signature-below .result) (at-if1 .if1 .left)), below-wider
-    (start .args .types) _ _ (omega arith) (sym (at-signature-below .signature-below .ensures) ∙ not-false
-    (at-signature-below .signature-below .result) (at-if1 .if1 .left))))
+    let start = at-signature-below .before .before .before .before .before .before in (
+      start .pre .0,
+      (
+        below-wider (start .args .types) _ _ (omega arith)
+            (sym (at-signature-below .signature-below .ensures) ∙ not-false (at-signature-below .signature-below .result) (at-if1 .if1 .left)),
+        below-wider
+            (start .args .types) _ _ (omega arith) (sym (at-signature-below .signature-below .ensures) ∙ not-false
+            (at-signature-below .signature-below .result) (at-if1 .if1 .left)),
+      ),
+    )
 
 same-length-2 : tie.Need-same-length-2
 same-length-2 c = c .before .before .before .before .before .use-terms .kept .1 .1 .1 .0

@@ -31,10 +31,15 @@ test-function-requires : tie.Need-test-function-requires Inv-loop μ-loop
 test-function-requires c κs =
     let at-wide-index = c .before in
     let at-loop = at-wide-index .before .before .before in
-    let start = at-loop .before .before .before .before .before .before .before .before in
-    (subst (FunctionField _) (sym (at-wide-index .wide-index .ensures .0)) (start .pre .formed .functions (at-loop .loop .g) (omega arith)), omega
-    (arith, (measured-room (start .args .p .now) (start .args .types .now) (start .args .nodes .now) (start .args .free .now) (start .pre .measured)),
-    start .pre .room, at-loop .loop .inv .1))
+    let start = at-loop .before .before .before .before .before .before .before .before in (
+      subst (FunctionField _) (sym (at-wide-index .wide-index .ensures .0)) (start .pre .formed .functions (at-loop .loop .g) (omega arith)),
+      omega (
+        arith,
+        (measured-room (start .args .p .now) (start .args .types .now) (start .args .nodes .now) (start .args .free .now) (start .pre .measured)),
+        start .pre .room,
+        at-loop .loop .inv .1,
+      ),
+    )
 
 enum-told : tie.Need-enum-told Inv-loop μ-loop
 enum-told c = search needs
@@ -50,13 +55,16 @@ loop-again c =
     let at-test-function = c .before .before .before .before in
     let at-wide-index = at-test-function .before .before in
     let at-loop = at-wide-index .before .before .before in
-    let start = at-loop .before .before .before .before .before .before .before .before in
-    (omega arith, at-test-function .test-function .kept .1 .1 .1 .1 .1 .1 .0 ∙ at-loop .loop .inv .1, going-more _ _
-    (functionsFromEntry (start .args .p .now) (start .args .types .now) (start .args .terms .now) (start .args .functions .now)
-    (start .args .nodes .now) (start .args .free .now) (at-loop .loop .g + 1)) _ _ _ _ _
-    (functions-step (start .args .p .now) (start .args .types .now) (start .args .terms .now) (start .args .functions .now) (start .args .nodes .now)
-    (start .args .free .now) (start .pre .measured) (at-loop .loop .g) _ (omega arith) (at-wide-index .wide-index .ensures .0))
-    (at-loop .loop .inv .2) _ (at-test-function .test-function .ensures) (c .enum-told .given .1))
+    let start = at-loop .before .before .before .before .before .before .before .before in (
+      omega arith,
+      at-test-function .test-function .kept .1 .1 .1 .1 .1 .1 .0 ∙ at-loop .loop .inv .1,
+      going-more _ _
+          (functionsFromEntry (start .args .p .now) (start .args .types .now) (start .args .terms .now) (start .args .functions .now)
+          (start .args .nodes .now) (start .args .free .now) (at-loop .loop .g + 1)) _ _ _ _ _
+          (functions-step (start .args .p .now) (start .args .types .now) (start .args .terms .now) (start .args .functions .now) (start .args .nodes .now)
+          (start .args .free .now) (start .pre .measured) (at-loop .loop .g) _ (omega arith) (at-wide-index .wide-index .ensures .0))
+          (at-loop .loop .inv .2) _ (at-test-function .test-function .ensures) (c .enum-told .given .1),
+    )
 
 enum-known-v : tie.Need-enum-known-v Inv-loop μ-loop
 enum-known-v c = search needs

@@ -93,9 +93,11 @@ use-terms-requires c κs =
     let at-all-below2 = at-if2 .before in
     let at-terms-in-term = at-all-below2 .before .before .before in
     let at-terms-from = at-terms-in-term .before in
-    let start = at-terms-from .before .before .before .before .before .before .before in
-    (omega (arith, terms-in-term (start .pre .0), at-terms-from .terms-from .ensures, at-terms-in-term .terms-in-term .ensures), below-wider
-    (start .args .k) _ _ (omega arith) (sym (at-all-below2 .all-below2 .ensures) ∙ not-false (at-all-below2 .all-below2 .result) (at-if2 .if2 .left)))
+    let start = at-terms-from .before .before .before .before .before .before .before in (
+      omega (arith, terms-in-term (start .pre .0), at-terms-from .terms-from .ensures, at-terms-in-term .terms-in-term .ensures),
+      below-wider
+          (start .args .k) _ _ (omega arith) (sym (at-all-below2 .all-below2 .ensures) ∙ not-false (at-all-below2 .all-below2 .result) (at-if2 .if2 .left)),
+    )
 
 same-length : tie.Need-same-length
 same-length c = c .before .before .before .use-terms .kept .1 .1 .1 .0
@@ -133,11 +135,15 @@ all-plain-requires c κs =
     let at-if1 = c .before .before .before .before .before .before .before .before .before in
     let at-all-below = at-if1 .before in
     let at-types-in-term = at-all-below .before .before .before .before in
-    let start = at-types-in-term .before .before .before .before .before in
-    (omega (arith, types-in-term (start .pre .0), at-types-in-term .types-in-term .ensures),
-    (below-wider (start .args .types) _ _ (omega arith) (sym (at-all-below .all-below .ensures) ∙ not-false (at-all-below .all-below .result)
-    (at-if1 .if1 .left)), below-wider (start .args .types) _ _ (omega arith)
-    (sym (at-all-below .all-below .ensures) ∙ not-false (at-all-below .all-below .result) (at-if1 .if1 .left))))
+    let start = at-types-in-term .before .before .before .before .before in (
+      omega (arith, types-in-term (start .pre .0), at-types-in-term .types-in-term .ensures),
+      (
+        below-wider (start .args .types) _ _ (omega arith) (sym (at-all-below .all-below .ensures) ∙ not-false (at-all-below .all-below .result)
+            (at-if1 .if1 .left)),
+        below-wider (start .args .types) _ _ (omega arith)
+            (sym (at-all-below .all-below .ensures) ∙ not-false (at-all-below .all-below .result) (at-if1 .if1 .left)),
+      ),
+    )
 
 same-length-2 : tie.Need-same-length-2
 same-length-2 c = c .before .before .before .before .before .use-terms .kept .1 .1 .1 .0

@@ -31,10 +31,15 @@ test-term-requires : tie.Need-test-term-requires Inv-loop μ-loop
 test-term-requires c κs =
     let at-wide-index = c .before in
     let at-loop = at-wide-index .before .before .before in
-    let start = at-loop .before .before .before .before .before .before .before .before in
-    (subst (TermField _) (sym (at-wide-index .wide-index .ensures .0)) (start .pre .formed .terms (at-loop .loop .k) (omega arith)), omega
-    (arith, (measured-room (start .args .p .now) (start .args .types .now) (start .args .nodes .now) (start .args .free .now) (start .pre .measured)),
-    start .pre .room, at-loop .loop .inv .1))
+    let start = at-loop .before .before .before .before .before .before .before .before in (
+      subst (TermField _) (sym (at-wide-index .wide-index .ensures .0)) (start .pre .formed .terms (at-loop .loop .k) (omega arith)),
+      omega (
+        arith,
+        (measured-room (start .args .p .now) (start .args .types .now) (start .args .nodes .now) (start .args .free .now) (start .pre .measured)),
+        start .pre .room,
+        at-loop .loop .inv .1,
+      ),
+    )
 
 enum-told : tie.Need-enum-told Inv-loop μ-loop
 enum-told c = search needs
@@ -50,13 +55,16 @@ loop-again c =
     let at-test-term = c .before .before .before .before in
     let at-wide-index = at-test-term .before .before in
     let at-loop = at-wide-index .before .before .before in
-    let start = at-loop .before .before .before .before .before .before .before .before in
-    (omega arith, at-test-term .test-term .kept .1 .1 .1 .1 .1 .1 .1 .0 ∙ at-loop .loop .inv .1, going-more _ _
-    (termsFromEntry (start .args .p .now) (start .args .types .now) (start .args .terms .now) (start .args .functions .now) (start .args .nodes .now)
-    (start .args .free .now) (at-loop .loop .k + 1)) _ _ _ _ _
-    (terms-step (start .args .p .now) (start .args .types .now) (start .args .terms .now) (start .args .functions .now) (start .args .nodes .now)
-    (start .args .free .now) (start .pre .measured) (at-loop .loop .k) _ (omega arith) (at-wide-index .wide-index .ensures .0))
-    (at-loop .loop .inv .2) _ (at-test-term .test-term .ensures) (c .enum-told .given .1))
+    let start = at-loop .before .before .before .before .before .before .before .before in (
+      omega arith,
+      at-test-term .test-term .kept .1 .1 .1 .1 .1 .1 .1 .0 ∙ at-loop .loop .inv .1,
+      going-more _ _
+          (termsFromEntry (start .args .p .now) (start .args .types .now) (start .args .terms .now) (start .args .functions .now) (start .args .nodes .now)
+          (start .args .free .now) (at-loop .loop .k + 1)) _ _ _ _ _
+          (terms-step (start .args .p .now) (start .args .types .now) (start .args .terms .now) (start .args .functions .now) (start .args .nodes .now)
+          (start .args .free .now) (start .pre .measured) (at-loop .loop .k) _ (omega arith) (at-wide-index .wide-index .ensures .0))
+          (at-loop .loop .inv .2) _ (at-test-term .test-term .ensures) (c .enum-told .given .1),
+    )
 
 enum-known-v : tie.Need-enum-known-v Inv-loop μ-loop
 enum-known-v c = search needs

@@ -30,10 +30,12 @@ nodes-of-requires c κs =
     let at-if1 = c .before in
     let at-all-below = at-if1 .before in
     let at-types-in-type = at-all-below .before in
-    let start = at-types-in-type .before .before .before .before in
-    (start .pre .0, below-wider (start .args .i) _ _ (omega arith)
-    (sym (type-answer (start .pre .0) _ _ _ (at-types-in-type .types-in-type .ensures) (at-all-below .all-below .ensures)) ∙ not-false
-    (at-all-below .all-below .result) (at-if1 .if1 .left)))
+    let start = at-types-in-type .before .before .before .before in (
+      start .pre .0,
+      below-wider (start .args .i) _ _ (omega arith)
+          (sym (type-answer (start .pre .0) _ _ _ (at-types-in-type .types-in-type .ensures) (at-all-below .all-below .ensures)) ∙ not-false
+          (at-all-below .all-below .result) (at-if1 .if1 .left)),
+    )
 
 mul-nodes : tie.Need-mul-nodes
 mul-nodes c = search needs
@@ -46,10 +48,12 @@ free-of-requires c κs =
     let at-if1 = c .before .before .before in
     let at-all-below = at-if1 .before in
     let at-types-in-type = at-all-below .before in
-    let start = at-types-in-type .before .before .before .before in
-    (start .pre .0, below-wider (start .args .i) _ _ (omega arith)
-    (sym (type-answer (start .pre .0) _ _ _ (at-types-in-type .types-in-type .ensures) (at-all-below .all-below .ensures)) ∙ not-false
-    (at-all-below .all-below .result) (at-if1 .if1 .left)))
+    let start = at-types-in-type .before .before .before .before in (
+      start .pre .0,
+      below-wider (start .args .i) _ _ (omega arith)
+          (sym (type-answer (start .pre .0) _ _ _ (at-types-in-type .types-in-type .ensures) (at-all-below .all-below .ensures)) ∙ not-false
+          (at-all-below .all-below .result) (at-if1 .if1 .left)),
+    )
 
 mul-free : tie.Need-mul-free
 mul-free c = search needs

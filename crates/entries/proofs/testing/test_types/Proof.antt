@@ -64,12 +64,15 @@ loop-again : tie.Need-loop-again Inv-loop μ-loop
 loop-again c =
     let at-test-type = c .before .before .before .before .before in
     let at-wide-index = at-test-type .before .before .before in
-    let at-loop = at-wide-index .before .before .before in
-    ( omega arith, at-test-type .test-type .kept .1 .1 .1 .0 ∙ at-loop .loop .inv .1, at-test-type .test-type .kept .1 .1 .1 .1 .0
-    ∙ at-loop .loop .inv .2, types-more _ _ (at-loop .loop .i) _ (omega arith) (at-wide-index .wide-index .ensures .0) _ _ _ _ (at-loop .loop .inv .3)
-    (omega (arith, at-loop .loop .inv .1)) (omega (arith, at-loop .loop .inv .2)) (at-test-type .test-type .result)
-    (not-false (at-test-type .test-type .result) (c .if1 .left)) (at-test-type .test-type .ensures),
-)
+    let at-loop = at-wide-index .before .before .before in (
+      omega arith,
+      at-test-type .test-type .kept .1 .1 .1 .0 ∙ at-loop .loop .inv .1,
+      at-test-type .test-type .kept .1 .1 .1 .1 .0
+          ∙ at-loop .loop .inv .2,
+      types-more _ _ (at-loop .loop .i) _ (omega arith) (at-wide-index .wide-index .ensures .0) _ _ _ _ (at-loop .loop .inv .3)
+          (omega (arith, at-loop .loop .inv .1)) (omega (arith, at-loop .loop .inv .2)) (at-test-type .test-type .result)
+          (not-false (at-test-type .test-type .result) (c .if1 .left)) (at-test-type .test-type .ensures),
+    )
 
 same-length-3 : tie.Need-same-length-3 Inv-loop μ-loop
 same-length-3 c = search needs

@@ -35,8 +35,13 @@ slice-read-if1 c =
     let at-read16 = at-wide-index .before in
     let at-loop = at-read16 .before .before in
     let start = at-loop .before .before .before in
-    omega (arith, below-at _ _ _ (at-loop .loop .i) _ (omega arith) (start .pre .1), at-wide-index .wide-index .ensures .0
-    ∙ at-read16 .read16 .ensures, at-loop .loop .inv .1)
+    omega (
+      arith,
+      below-at _ _ _ (at-loop .loop .i) _ (omega arith) (start .pre .1),
+      at-wide-index .wide-index .ensures .0
+          ∙ at-read16 .read16 .ensures,
+      at-loop .loop .inv .1,
+    )
 
 same-length : tie.Need-same-length Inv-loop μ-loop
 same-length c = search needs
@@ -48,8 +53,13 @@ returns c =
     let at-loop = at-read16 .before .before in
     let start = at-loop .before .before .before in
     using-stops _ _ _ _ (at-loop .loop .i) _ _ (at-wide-index .wide-index .ensures .0 ∙ at-read16 .read16 .ensures) (omega arith)
-    (omega (arith, below-at _ _ _ (at-loop .loop .i) _ (omega arith) (start .pre .1), at-wide-index .wide-index .ensures .0
-    ∙ at-read16 .read16 .ensures, at-loop .loop .inv .1)) (c .if1 .taken) (at-loop .loop .inv .2)
+    (omega (
+      arith,
+      below-at _ _ _ (at-loop .loop .i) _ (omega arith) (start .pre .1),
+      at-wide-index .wide-index .ensures .0
+          ∙ at-read16 .read16 .ensures,
+      at-loop .loop .inv .1,
+    )) (c .if1 .taken) (at-loop .loop .inv .2)
 
 slice-write-used : tie.Need-slice-write-used Inv-loop μ-loop
 slice-write-used c =
@@ -57,8 +67,13 @@ slice-write-used c =
     let at-read16 = at-wide-index .before in
     let at-loop = at-read16 .before .before in
     let start = at-loop .before .before .before in
-    omega (arith, below-at _ _ _ (at-loop .loop .i) _ (omega arith) (start .pre .1), at-wide-index .wide-index .ensures .0
-    ∙ at-read16 .read16 .ensures, at-loop .loop .inv .1)
+    omega (
+      arith,
+      below-at _ _ _ (at-loop .loop .i) _ (omega arith) (start .pre .1),
+      at-wide-index .wide-index .ensures .0
+          ∙ at-read16 .read16 .ensures,
+      at-loop .loop .inv .1,
+    )
 
 add-i : tie.Need-add-i Inv-loop μ-loop
 add-i c = omega arith
@@ -71,11 +86,19 @@ loop-again c =
     let at-wide-index = c .before .before in
     let at-read16 = at-wide-index .before in
     let at-loop = at-read16 .before .before in
-    let start = at-loop .before .before .before in
-    (omega arith, simp length-set (at-loop .loop .inv .1), using-more _ _ _ _ (at-loop .loop .i) _
-    (at-wide-index .wide-index .ensures .0 ∙ at-read16 .read16 .ensures)
-    (omega (arith, below-at _ _ _ (at-loop .loop .i) _ (omega arith) (start .pre .1), at-wide-index .wide-index .ensures .0
-    ∙ at-read16 .read16 .ensures, at-loop .loop .inv .1)) (c .if1 .left) (at-loop .loop .inv .2))
+    let start = at-loop .before .before .before in (
+      omega arith,
+      simp length-set (at-loop .loop .inv .1),
+      using-more _ _ _ _ (at-loop .loop .i) _
+          (at-wide-index .wide-index .ensures .0 ∙ at-read16 .read16 .ensures)
+          (omega (
+            arith,
+            below-at _ _ _ (at-loop .loop .i) _ (omega arith) (start .pre .1),
+            at-wide-index .wide-index .ensures .0
+                ∙ at-read16 .read16 .ensures,
+            at-loop .loop .inv .1,
+          )) (c .if1 .left) (at-loop .loop .inv .2),
+    )
 
 same-length-2 : tie.Need-same-length-2 Inv-loop μ-loop
 same-length-2 c = search needs

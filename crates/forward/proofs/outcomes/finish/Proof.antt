@@ -21,10 +21,20 @@ returns c =
     let at-before = at-top .before .before in
     let start = at-before .before in
     let g = c .grow .ensures in
-    record { lengths = g .lengths; slots = g .slots; out = ap (λ m. record { status = statusOf (at-top .top .result); state = m }) (g .machine) ∙ ap
-    (λ n. record { status = statusOf n; state = record { top = machineOf (start .args .st .now) .top + 1; fuel = machineOf
-    (start .args .st .now) .fuel } }) (at-top .top .ensures) ∙ finish-new (machineOf (start .args .st .now)) _ (at-before .if1 .taken)
-    (start .pre .1); }
+    record {
+      lengths = g .lengths;
+      slots = g .slots;
+      out = ap (λ m. record { status = statusOf (at-top .top .result); state = m }) (g .machine) ∙ ap
+          (λ n. record {
+            status = statusOf n;
+            state = record {
+              top = machineOf (start .args .st .now) .top + 1;
+              fuel = machineOf
+                  (start .args .st .now) .fuel;
+            };
+          }) (at-top .top .ensures) ∙ finish-new (machineOf (start .args .st .now)) _ (at-before .if1 .taken)
+          (start .pre .1);
+    }
 
 refuse-requires : tie.Need-refuse-requires
 refuse-requires c κs = search needs

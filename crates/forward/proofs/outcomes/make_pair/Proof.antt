@@ -27,8 +27,12 @@ returns c =
     let at-top = at-pair .before in
     let at-before = at-top .before .before .before in
     let start = at-before .before in
-    record { lengths = c .finish .ensures .lengths; slots = c .finish .ensures .slots; makes = makes-as (c .finish .ensures .out)
-    (start .pre .0 .graph) (rw (at-top .top .ensures) at (at-pair .pair .ensures)) }
+    record {
+      lengths = c .finish .ensures .lengths;
+      slots = c .finish .ensures .slots;
+      makes = makes-as (c .finish .ensures .out)
+          (start .pre .0 .graph) (rw (at-top .top .ensures) at (at-pair .pair .ensures));
+    }
 
 pub make-pair-spec : {M : Type 1} → statement M
 make-pair-spec =

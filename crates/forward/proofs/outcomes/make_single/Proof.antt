@@ -27,8 +27,12 @@ returns c =
     let at-top = at-single .before in
     let at-before = at-top .before .before .before in
     let start = at-before .before in
-    record { lengths = c .finish .ensures .lengths; slots = c .finish .ensures .slots; makes = makes-as (c .finish .ensures .out)
-    (start .pre .0 .graph) (rw (at-top .top .ensures) at (at-single .single .ensures)) }
+    record {
+      lengths = c .finish .ensures .lengths;
+      slots = c .finish .ensures .slots;
+      makes = makes-as (c .finish .ensures .out)
+          (start .pre .0 .graph) (rw (at-top .top .ensures) at (at-single .single .ensures));
+    }
 
 pub make-single-spec : {M : Type 1} → statement M
 make-single-spec =

@@ -23,8 +23,12 @@ returns c =
     let at-top = at-unit .before in
     let at-before = at-top .before .before .before in
     let start = at-before .before in
-    record { lengths = c .finish .ensures .lengths; slots = c .finish .ensures .slots; makes = makes-new-as (c .finish .ensures .out)
-    (start .pre .graph) (rw (at-top .top .ensures) at (at-unit .unit .ensures)) unit-fits }
+    record {
+      lengths = c .finish .ensures .lengths;
+      slots = c .finish .ensures .slots;
+      makes = makes-new-as (c .finish .ensures .out)
+          (start .pre .graph) (rw (at-top .top .ensures) at (at-unit .unit .ensures)) unit-fits;
+    }
 
 pub make-unit-spec : {M : Type 1} → statement M
 make-unit-spec =

@@ -27,8 +27,8 @@ sub-if1 c =
     let at-shared-slice-known = at-field-end .before in
     let start = at-shared-slice-known .before in
     let h = here-within (here entryTag (start .args .at) _ (start .args .journal .now)
-        (are-bytes (start .args .journal .now) (at-shared-slice-known .shared-slice-known .given))
-        (sym (at-field .field .given .1) ∙ at-field-end .field-end .ensures)) in
+    (are-bytes (start .args .journal .now) (at-shared-slice-known .shared-slice-known .given))
+    (sym (at-field .field .given .1) ∙ at-field-end .field-end .ensures)) in
     search needs
 
 returns-2 : tie.Need-returns-2
@@ -58,8 +58,8 @@ part-values-end c =
     let at-shared-slice-known = at-field-end .before in
     let start = at-shared-slice-known .before in
     let h = here-within (here entryTag (start .args .at) _ (start .args .journal .now)
-        (are-bytes (start .args .journal .now) (at-shared-slice-known .shared-slice-known .given))
-        (sym (at-field .field .given .1) ∙ at-field-end .field-end .ensures)) in
+    (are-bytes (start .args .journal .now) (at-shared-slice-known .shared-slice-known .given))
+    (sym (at-field .field .given .1) ∙ at-field-end .field-end .ensures)) in
     search needs
 
 count-values-requires : tie.Need-count-values-requires

@@ -27,8 +27,8 @@ sub-value c =
     let at-shared-slice-known = at-field-end .before in
     let start = at-shared-slice-known .before in
     let h = here-within (here heldTag 0 _ (start .args .journal .now)
-        (are-bytes (start .args .journal .now) (at-shared-slice-known .shared-slice-known .given))
-        (sym (at-field .field .given .1) ∙ at-field-end .field-end .ensures)) in
+    (are-bytes (start .args .journal .now) (at-shared-slice-known .shared-slice-known .given))
+    (sym (at-field .field .given .1) ∙ at-field-end .field-end .ensures)) in
     search needs
 
 part-value-start : tie.Need-part-value-start
@@ -39,8 +39,8 @@ part-value-start c =
     let at-shared-slice-known = at-field-end .before in
     let start = at-shared-slice-known .before in
     let h = here-within (here heldTag 0 _ (start .args .journal .now)
-        (are-bytes (start .args .journal .now) (at-shared-slice-known .shared-slice-known .given))
-        (sym (at-field .field .given .1) ∙ at-field-end .field-end .ensures)) in
+    (are-bytes (start .args .journal .now) (at-shared-slice-known .shared-slice-known .given))
+    (sym (at-field .field .given .1) ∙ at-field-end .field-end .ensures)) in
     search needs
 
 part-value-end : tie.Need-part-value-end
@@ -51,8 +51,8 @@ part-value-end c =
     let at-shared-slice-known = at-field-end .before in
     let start = at-shared-slice-known .before in
     let h = here-within (here heldTag 0 _ (start .args .journal .now)
-        (are-bytes (start .args .journal .now) (at-shared-slice-known .shared-slice-known .given))
-        (sym (at-field .field .given .1) ∙ at-field-end .field-end .ensures)) in
+    (are-bytes (start .args .journal .now) (at-shared-slice-known .shared-slice-known .given))
+    (sym (at-field .field .given .1) ∙ at-field-end .field-end .ensures)) in
     search needs
 
 one-value-requires : tie.Need-one-value-requires

@@ -9,7 +9,7 @@ set-held-requires : tie.Need-set-held-requires
 set-held-requires c κs =
     let start = c .before .before .before .before in
     let r = convert-room (start .args .pl) (start .args .journal .now) (start .args .held .now) (start .args .ancillae .now) (start .pre .0)
-        (start .pre .1 .0 .0) (start .pre .1 .0 .1) (start .args .function) (start .args .steps) (start .pre .1 .1) in
+    (start .pre .1 .0 .0) (start .pre .1 .0 .1) (start .args .function) (start .args .steps) (start .pre .1 .1) in
     ((r .ordered, r .inside), (omega (arith, r .whole), r .short))
 
 add-at : tie.Need-add-at
@@ -19,14 +19,14 @@ sub-at : tie.Need-sub-at
 sub-at c =
     let start = c .before .before .before .before .before .before .before in
     let r = convert-room (start .args .pl) (start .args .journal .now) (start .args .held .now) (start .args .ancillae .now) (start .pre .0)
-        (start .pre .1 .0 .0) (start .pre .1 .0 .1) (start .args .function) (start .args .steps) (start .pre .1 .1) in
+    (start .pre .1 .0 .0) (start .pre .1 .0 .1) (start .args .function) (start .args .steps) (start .pre .1 .1) in
     r .ordered
 
 add-at-2 : tie.Need-add-at-2
 add-at-2 c =
     let start = c .before .before .before .before .before .before .before in
     let r = convert-room (start .args .pl) (start .args .journal .now) (start .args .held .now) (start .args .ancillae .now) (start .pre .0)
-        (start .pre .1 .0 .0) (start .pre .1 .0 .1) (start .args .function) (start .args .steps) (start .pre .1 .1) in
+    (start .pre .1 .0 .0) (start .pre .1 .0 .1) (start .args .function) (start .args .steps) (start .pre .1 .1) in
     search needs
 
 add-entry-requires : tie.Need-add-entry-requires
@@ -34,21 +34,21 @@ add-entry-requires c κs =
     let at-set-held = c .before .before .before in
     let start = at-set-held .before .before .before .before .before in
     let r = convert-room (start .args .pl) (start .args .journal .now) (start .args .held .now) (start .args .ancillae .now) (start .pre .0)
-        (start .pre .1 .0 .0) (start .pre .1 .0 .1) (start .args .function) (start .args .steps) (start .pre .1 .1) in
+    (start .pre .1 .0 .0) (start .pre .1 .0 .1) (start .args .function) (start .args .steps) (start .pre .1 .1) in
     (omega (arith, at-set-held .set-held .kept .0, r .whole), r .few)
 
 add-clear-from : tie.Need-add-clear-from
 add-clear-from c =
     let start = c .before .before .before .before .before .before .before .before .before .before .before .before in
     let r = convert-room (start .args .pl) (start .args .journal .now) (start .args .held .now) (start .args .ancillae .now) (start .pre .0)
-        (start .pre .1 .0 .0) (start .pre .1 .0 .1) (start .args .function) (start .args .steps) (start .pre .1 .1) in
+    (start .pre .1 .0 .0) (start .pre .1 .0 .1) (start .args .function) (start .args .steps) (start .pre .1 .1) in
     search needs
 
 add-clear-from-2 : tie.Need-add-clear-from-2
 add-clear-from-2 c =
     let start = c .before .before .before .before .before .before .before .before .before .before .before .before in
     let r = convert-room (start .args .pl) (start .args .journal .now) (start .args .held .now) (start .args .ancillae .now) (start .pre .0)
-        (start .pre .1 .0 .0) (start .pre .1 .0 .1) (start .args .function) (start .args .steps) (start .pre .1 .1) in
+    (start .pre .1 .0 .0) (start .pre .1 .0 .1) (start .args .function) (start .args .steps) (start .pre .1 .1) in
     search needs
 
 clear-from-requires : tie.Need-clear-from-requires
@@ -57,7 +57,7 @@ clear-from-requires c κs =
     let at-set-held = at-add-entry .before .before .before .before in
     let start = at-set-held .before .before .before .before .before in
     let r = convert-room (start .args .pl) (start .args .journal .now) (start .args .held .now) (start .args .ancillae .now) (start .pre .0)
-        (start .pre .1 .0 .0) (start .pre .1 .0 .1) (start .args .function) (start .args .steps) (start .pre .1 .1) in
+    (start .pre .1 .0 .0) (start .pre .1 .0 .1) (start .args .function) (start .args .steps) (start .pre .1 .1) in
     omega (arith, at-add-entry .add-entry .kept .0, at-set-held .set-held .kept .0, r .whole)
 
 same-length : tie.Need-same-length

@@ -9,7 +9,7 @@ set-held-requires : tie.Need-set-held-requires
 set-held-requires c κs =
     let start = c .before .before .before in
     let r = rollback-room (start .args .pl) (start .args .journal .now) (start .args .held .now) (start .pre .0) (start .pre .1 .0)
-        (start .pre .1 .1) in
+    (start .pre .1 .1) in
     ((r .ordered, r .inside), (r .whole, r .short))
 
 add-clear-from : tie.Need-add-clear-from
@@ -19,14 +19,14 @@ sub-clear-from : tie.Need-sub-clear-from
 sub-clear-from c =
     let start = c .before .before .before .before .before .before .before in
     let r = rollback-room (start .args .pl) (start .args .journal .now) (start .args .held .now) (start .pre .0) (start .pre .1 .0)
-        (start .pre .1 .1) in
+    (start .pre .1 .1) in
     r .ordered
 
 add-clear-from-2 : tie.Need-add-clear-from-2
 add-clear-from-2 c =
     let start = c .before .before .before .before .before .before .before in
     let r = rollback-room (start .args .pl) (start .args .journal .now) (start .args .held .now) (start .pre .0) (start .pre .1 .0)
-        (start .pre .1 .1) in
+    (start .pre .1 .1) in
     search needs
 
 clear-from-requires : tie.Need-clear-from-requires
@@ -34,7 +34,7 @@ clear-from-requires c κs =
     let at-set-held = c .before .before .before in
     let start = at-set-held .before .before .before .before in
     let r = rollback-room (start .args .pl) (start .args .journal .now) (start .args .held .now) (start .pre .0) (start .pre .1 .0)
-        (start .pre .1 .1) in
+    (start .pre .1 .1) in
     omega (arith, at-set-held .set-held .kept .0, r .whole)
 
 same-length : tie.Need-same-length

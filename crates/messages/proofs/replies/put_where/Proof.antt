@@ -33,8 +33,15 @@ put-requires-2 c κs =
     let at-number = at-put-number .before .before in
     let at-put = at-number .before .before .before in
     let start = at-put .before .before .before .before in
-    omega (arith, at-put .put .ensures .ends, at-put .put .ensures .kept, at-put-number .put-number .ensures .ends,
-    at-put-number .put-number .ensures .kept, start .pre, at-most-twenty (at-number .number .result) (search needs))
+    omega (
+      arith,
+      at-put .put .ensures .ends,
+      at-put .put .ensures .kept,
+      at-put-number .put-number .ensures .ends,
+      at-put-number .put-number .ensures .kept,
+      start .pre,
+      at-most-twenty (at-number .number .result) (search needs),
+    )
 
 place-requires : tie.Need-place-requires
 place-requires c κs = search needs
@@ -47,9 +54,19 @@ put-number-requires-2 c κs =
     let at-number = at-put-number .before .before in
     let at-put = at-number .before .before .before in
     let start = at-put .before .before .before .before in
-    omega (arith, at-put .put .ensures .ends, at-put .put .ensures .kept, at-put-number .put-number .ensures .ends,
-    at-put-number .put-number .ensures .kept, at-put2 .put2 .ensures .ends, at-put2 .put2 .ensures .kept, start .pre, at-most-twenty
-    (at-number .number .result) (search needs), at-most-twenty (at-place .place .result) (search needs))
+    omega (
+      arith,
+      at-put .put .ensures .ends,
+      at-put .put .ensures .kept,
+      at-put-number .put-number .ensures .ends,
+      at-put-number .put-number .ensures .kept,
+      at-put2 .put2 .ensures .ends,
+      at-put2 .put2 .ensures .kept,
+      start .pre,
+      at-most-twenty
+          (at-number .number .result) (search needs),
+      at-most-twenty (at-place .place .result) (search needs),
+    )
 
 slice-aggregate-put-3 : tie.Need-slice-aggregate-put-3
 slice-aggregate-put-3 c = search needs
@@ -63,10 +80,21 @@ put-requires-3 c κs =
     let at-number = at-put-number .before .before in
     let at-put = at-number .before .before .before in
     let start = at-put .before .before .before .before in
-    omega (arith, at-put .put .ensures .ends, at-put .put .ensures .kept, at-put-number .put-number .ensures .ends,
-    at-put-number .put-number .ensures .kept, at-put2 .put2 .ensures .ends, at-put2 .put2 .ensures .kept, at-put-number2 .put-number2 .ensures .ends,
-    at-put-number2 .put-number2 .ensures .kept, start .pre, at-most-twenty (at-number .number .result) (search needs), at-most-twenty
-    (at-place .place .result) (search needs))
+    omega (
+      arith,
+      at-put .put .ensures .ends,
+      at-put .put .ensures .kept,
+      at-put-number .put-number .ensures .ends,
+      at-put-number .put-number .ensures .kept,
+      at-put2 .put2 .ensures .ends,
+      at-put2 .put2 .ensures .kept,
+      at-put-number2 .put-number2 .ensures .ends,
+      at-put-number2 .put-number2 .ensures .kept,
+      start .pre,
+      at-most-twenty (at-number .number .result) (search needs),
+      at-most-twenty
+          (at-place .place .result) (search needs),
+    )
 
 same-length : tie.Need-same-length
 same-length c =
@@ -78,8 +106,8 @@ same-length c =
     let at-number = at-put-number .before .before in
     let at-put = at-number .before .before .before in
     let w = wrote-five (at-put .put .ensures) (wrote-as (at-put-number .put-number .ensures) (ap decimalText (at-number .number .ensures)))
-        (at-put2 .put2 .ensures) (wrote-as (at-put-number2 .put-number2 .ensures) (ap decimalText (at-place .place .ensures)))
-        (at-put3 .put3 .ensures) in
+    (at-put2 .put2 .ensures) (wrote-as (at-put-number2 .put-number2 .ensures) (ap decimalText (at-place .place .ensures)))
+    (at-put3 .put3 .ensures) in
     w .kept
 
 returns : tie.Need-returns
@@ -92,13 +120,27 @@ returns c =
     let at-put-number = at-put2 .before .before .before .before .before in
     let at-number = at-put-number .before .before in
     let at-put = at-number .before .before .before in
-    let start = at-put .before .before .before .before in
-    (wrote-five (at-put .put .ensures) (wrote-as (at-put-number .put-number .ensures) (ap decimalText (at-number .number .ensures)))
-    (at-put2 .put2 .ensures) (wrote-as (at-put-number2 .put-number2 .ensures) (ap decimalText (at-place .place .ensures))) (at-put3 .put3 .ensures),
-    omega (arith, at-put .put .ensures .ends, at-put .put .ensures .kept, at-put-number .put-number .ensures .ends,
-    at-put-number .put-number .ensures .kept, at-put2 .put2 .ensures .ends, at-put2 .put2 .ensures .kept, at-put-number2 .put-number2 .ensures .ends,
-    at-put-number2 .put-number2 .ensures .kept, at-put3 .put3 .ensures .ends, at-put3 .put3 .ensures .kept, start .pre, at-most-twenty
-    (at-number .number .result) (search needs), at-most-twenty (at-place .place .result) (search needs)))
+    let start = at-put .before .before .before .before in (
+      wrote-five (at-put .put .ensures) (wrote-as (at-put-number .put-number .ensures) (ap decimalText (at-number .number .ensures)))
+          (at-put2 .put2 .ensures) (wrote-as (at-put-number2 .put-number2 .ensures) (ap decimalText (at-place .place .ensures))) (at-put3 .put3 .ensures),
+      omega (
+        arith,
+        at-put .put .ensures .ends,
+        at-put .put .ensures .kept,
+        at-put-number .put-number .ensures .ends,
+        at-put-number .put-number .ensures .kept,
+        at-put2 .put2 .ensures .ends,
+        at-put2 .put2 .ensures .kept,
+        at-put-number2 .put-number2 .ensures .ends,
+        at-put-number2 .put-number2 .ensures .kept,
+        at-put3 .put3 .ensures .ends,
+        at-put3 .put3 .ensures .kept,
+        start .pre,
+        at-most-twenty
+            (at-number .number .result) (search needs),
+        at-most-twenty (at-place .place .result) (search needs),
+      ),
+    )
 
 pub put-where-spec : {M : Type 1} → statement M
 put-where-spec =

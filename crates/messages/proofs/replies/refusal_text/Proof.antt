@@ -26,8 +26,15 @@ put-requires c κs =
     let at-number = at-put-meaning .before .before in
     let at-put-where = at-number .before .before .before in
     let start = at-put-where .before .before .before in
-    omega (arith, at-put-where .put-where .ensures .1, at-put-where .put-where .ensures .0 .kept, at-put-meaning .put-meaning .ensures .ends,
-    at-put-meaning .put-meaning .ensures .kept, meaning-short (at-number .number .result), start .pre)
+    omega (
+      arith,
+      at-put-where .put-where .ensures .1,
+      at-put-where .put-where .ensures .0 .kept,
+      at-put-meaning .put-meaning .ensures .ends,
+      at-put-meaning .put-meaning .ensures .kept,
+      meaning-short (at-number .number .result),
+      start .pre,
+    )
 
 same-length : tie.Need-same-length
 same-length c = search needs

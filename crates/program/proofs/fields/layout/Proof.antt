@@ -51,9 +51,15 @@ returns-2 c =
     let at-read-field = c .before .before in
     let at-loop-test = at-read-field .before in
     let at-loop = at-loop-test .before in
-    let turn = at-loop .loop .inv .0 in
-    (record { answer = reading-malformed turn (at-loop-test .loop-test .taken)
-    (none-formed _ _ _ (rw (c .enum-told .given .1) at (at-read-field .read-field .ensures))); counted = tt; buffers = turn .buffers }, tt)
+    let turn = at-loop .loop .inv .0 in (
+      record {
+        answer = reading-malformed turn (at-loop-test .loop-test .taken)
+            (none-formed _ _ _ (rw (c .enum-told .given .1) at (at-read-field .read-field .ensures)));
+        counted = tt;
+        buffers = turn .buffers;
+      },
+      tt,
+    )
 
 place-requires : tie.Need-place-requires Inv-loop μ-loop
 place-requires c κs =
@@ -97,10 +103,16 @@ returns-3 c =
     let at-loop = at-loop-test .before in
     let turn = at-loop .loop .inv .0 in
     let kept = at-place .place .kept .1 .1 .1 in
-    let formed = whole-formed _ _ _ _ _ (rw (at-tag .tag .given .1) at (at-read-field .read-field .ensures)) in
-    ( record { answer = reading-over turn (at-loop-test .loop-test .taken) formed
-    (rw (c .enum-told2 .given .1) at (at-place .place .ensures)); counted = tt; buffers = buffers-kept (turn .buffers) (kept .0) (kept .1 .0)
-    (kept .1 .1 .0); }, tt, )
+    let formed = whole-formed _ _ _ _ _ (rw (at-tag .tag .given .1) at (at-read-field .read-field .ensures)) in (
+      record {
+        answer = reading-over turn (at-loop-test .loop-test .taken) formed
+            (rw (c .enum-told2 .given .1) at (at-place .place .ensures));
+        counted = tt;
+        buffers = buffers-kept (turn .buffers) (kept .0) (kept .1 .0)
+            (kept .1 .1 .0);
+      },
+      tt,
+    )
 
 sign-requires : tie.Need-sign-requires Inv-loop μ-loop
 sign-requires c κs =
@@ -121,7 +133,11 @@ loop-less c =
     let at-loop = at-read-field .before .before in
     let start = at-loop .before .before .before .before .before .before in
     let whole = rw (at-tag .tag .given .1) at (at-read-field .read-field .ensures) in
-    omega ( arith, whole-next _ _ _ _ _ whole, next-after (start .args .p .now) (at-loop .loop .at), next-inside _ _ _ (whole-formed _ _ _ _ _ whole),
+    omega (
+      arith,
+      whole-next _ _ _ _ _ whole,
+      next-after (start .args .p .now) (at-loop .loop .at),
+      next-inside _ _ _ (whole-formed _ _ _ _ _ whole),
     )
 
 loop-again : tie.Need-loop-again Inv-loop μ-loop
@@ -134,12 +150,17 @@ loop-again c =
     let at-loop = at-loop-test .before in
     let turn = at-loop .loop .inv in
     let kept = at-place .place .kept .1 .1 .1 in
-    let whole = rw (at-tag .tag .given .1) at (at-read-field .read-field .ensures) in
-    ( reading-more (turn .0) (at-loop-test .loop-test .taken) (whole-formed _ _ _ _ _ whole)
-    (rw (at-more .more .given .1) at (at-place .place .ensures)) (buffers-kept (turn .0 .buffers) (kept .0) (kept .1 .0) (kept .1 .1 .0))
-    (whole-tag _ _ _ _ _ whole) (whole-next _ _ _ _ _ whole), kept .0 ∙ turn .1, kept .1 .0 ∙ turn .2, kept .1 .1 .0 ∙ turn .3, signing-more _
-    (turn .0 .buffers) (turn .0 .within) (whole-formed _ _ _ _ _ whole) (rw (at-more .more .given .1) at (at-place .place .ensures))
-    (whole-tag _ _ _ _ _ whole) (c .sign .ensures) (turn .4), )
+    let whole = rw (at-tag .tag .given .1) at (at-read-field .read-field .ensures) in (
+      reading-more (turn .0) (at-loop-test .loop-test .taken) (whole-formed _ _ _ _ _ whole)
+          (rw (at-more .more .given .1) at (at-place .place .ensures)) (buffers-kept (turn .0 .buffers) (kept .0) (kept .1 .0) (kept .1 .1 .0))
+          (whole-tag _ _ _ _ _ whole) (whole-next _ _ _ _ _ whole),
+      kept .0 ∙ turn .1,
+      kept .1 .0 ∙ turn .2,
+      kept .1 .1 .0 ∙ turn .3,
+      signing-more _
+          (turn .0 .buffers) (turn .0 .within) (whole-formed _ _ _ _ _ whole) (rw (at-more .more .given .1) at (at-place .place .ensures))
+          (whole-tag _ _ _ _ _ whole) (c .sign .ensures) (turn .4),
+    )
 
 same-length-7 : tie.Need-same-length-7 Inv-loop μ-loop
 same-length-7 c = c .before .loop .inv .1

@@ -49,7 +49,7 @@ returns-2 c =
     let a = place-start .args in
     let bytes = are-bytes (a .script .now) (at-shared-slice-known2 .shared-slice-known2 .given) in
     let m = replay-goes (a .program .now) (a .script .now) (a .journal .now) (a .answers .now) (a .workspace .now) bytes _ _ _ _
-        (sym (ap stopOf (at-enum-told .enum-told .given .1)) ∙ at-read-all .read-all .ensures) (at-start .start .ensures) in
+    (sym (ap stopOf (at-enum-told .enum-told .given .1)) ∙ at-read-all .read-all .ensures) (at-start .start .ensures) in
     (m, replay-booked (a .program .now) (a .script .now) (a .journal .now) (a .answers .now) (a .workspace .now) bytes _ _ _ _ m)
 
 pub replay-spec : {M : Type 1} → statement M

@@ -29,8 +29,11 @@ unfolding givenAt
 returns-2 c =
     let at-wide-index = c .before in
     let at-read16 = at-wide-index .before in
-    simp (at-wide-index .wide-index .ensures .0 ∙ at-read16 .read16 .ensures, le-ltb _ _
-    (rw (at-wide-index .wide-index .ensures .0 ∙ at-read16 .read16 .ensures) at (c .if1 .left)))
+    simp (
+      at-wide-index .wide-index .ensures .0 ∙ at-read16 .read16 .ensures,
+      le-ltb _ _
+          (rw (at-wide-index .wide-index .ensures .0 ∙ at-read16 .read16 .ensures) at (c .if1 .left)),
+    )
 
 pub given-at-spec : {M : Type 1} → statement M
 given-at-spec =

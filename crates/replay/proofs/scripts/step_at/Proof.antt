@@ -43,8 +43,13 @@ returns-4 c =
     let at-if3 = at-if4 .before in
     let at-if2 = at-if3 .before in
     let at-if1 = at-if2 .before .before in
-    c .rollback-at .ensures ∙ simp (ne-eqb _ _ (at-if1 .if1 .left), ne-eqb _ _ (at-if2 .if2 .left), ne-eqb _ _ (at-if3 .if3 .left), eq-eqb _ _
-    (at-if4 .if4 .taken))
+    c .rollback-at .ensures ∙ simp (
+      ne-eqb _ _ (at-if1 .if1 .left),
+      ne-eqb _ _ (at-if2 .if2 .left),
+      ne-eqb _ _ (at-if3 .if3 .left),
+      eq-eqb _ _
+          (at-if4 .if4 .taken),
+    )
 
 returns-5 : tie.Need-returns-5
 unfolding stepAt

@@ -28,8 +28,11 @@ returns c =
     let at-load-ancillae = at-load .before .before .before .before in
     let start = at-load-ancillae .before .before .before .before .before .before in
     let loaded = at-load-ancillae .load-ancillae .ensures in
-    record { lengths = c .bind .ensures .lengths ∙ loaded .lengths; begun = begun (start .pre .1) (loaded .loaded) (at-load .load .ensures)
-    (c .bind .ensures .slots) }
+    record {
+      lengths = c .bind .ensures .lengths ∙ loaded .lengths;
+      begun = begun (start .pre .1) (loaded .loaded) (at-load .load .ensures)
+          (c .bind .ensures .slots);
+    }
 
 pub begin-spec : {M : Type 1} → statement M
 begin-spec =

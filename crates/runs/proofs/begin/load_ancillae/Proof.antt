@@ -69,9 +69,12 @@ loop-again c =
     let at-bind = at-length-of .before .before in
     let at-loop-test = at-bind .before .before in
     let at-loop = at-loop-test .before in
-    let b = at-bind .bind .ensures in
-    (b .lengths ∙ at-loop .loop .inv .0, b .lengths ∙ at-loop .loop .inv .1, named-next (at-loop .loop .inv .2) (at-loop-test .loop-test .taken)
-    (b .slots) (c .wide32 .ensures .0 ∙ at-length-of .length-of .ensures))
+    let b = at-bind .bind .ensures in (
+      b .lengths ∙ at-loop .loop .inv .0,
+      b .lengths ∙ at-loop .loop .inv .1,
+      named-next (at-loop .loop .inv .2) (at-loop-test .loop-test .taken)
+          (b .slots) (c .wide32 .ensures .0 ∙ at-length-of .length-of .ensures),
+    )
 
 same-length : tie.Need-same-length Inv-loop μ-loop
 same-length c = c .before .before .before .before .load .kept .0 ∙ c .before .before .before .before .before .before .before .before .unit .kept .0
@@ -81,8 +84,11 @@ returns c =
     let at-loop = c .before in
     let at-load = at-loop .before .before .before in
     let at-unit = at-load .before .before .before .before in
-    record { lengths = at-loop .loop .inv .1; loaded = named-done (at-loop .loop .inv .2) (c .loop-test .left)
-    (sym (at-load .load .kept .0 ∙ at-unit .unit .kept .0)) }
+    record {
+      lengths = at-loop .loop .inv .1;
+      loaded = named-done (at-loop .loop .inv .2) (c .loop-test .left)
+          (sym (at-load .load .kept .0 ∙ at-unit .unit .kept .0));
+    }
 
 pub load-ancillae-spec : {M : Type 1} → statement M
 load-ancillae-spec =

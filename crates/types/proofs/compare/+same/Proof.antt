@@ -107,9 +107,17 @@ same-first-of-requires t c κs =
     let at-if3 = c .before in
     let at-kind-of = at-if3 .before .before .before in
     let at-settled = at-kind-of .before .before .before .before in
-    let start = at-settled .before .before .before .before in
-    (start .pre .1 .0, (at-settled .settled .ensures .known, (at-kind-of .kind-of .ensures, at-if3 .if3 .left,
-    (parted (at-settled .settled .ensures) (at-kind-of .kind-of .ensures) (c .if4 .left)))))
+    let start = at-settled .before .before .before .before in (
+      start .pre .1 .0,
+      (
+        at-settled .settled .ensures .known,
+        (
+          at-kind-of .kind-of .ensures,
+          at-if3 .if3 .left,
+          (parted (at-settled .settled .ensures) (at-kind-of .kind-of .ensures) (c .if4 .left)),
+        ),
+      ),
+    )
 
 same-first-of-requires-2 : (t : ℕ) → same-lts.Need-first-of-requires-2 (same-uses t) (same-at t) same.Post
 same-first-of-requires-2 t c κs =
@@ -120,10 +128,17 @@ same-first-of-requires-2 t c κs =
     let at-kind-of = at-kind-of2 .before in
     let at-settled2 = at-kind-of .before .before .before in
     let at-settled = at-settled2 .before in
-    let start = at-settled .before .before .before .before in
-    (start .pre .1 .0, (at-settled2 .settled2 .ensures .known,
-    (at-if2 .if2 .left ∙ at-kind-of2 .kind-of2 .ensures, at-if3 .if3 .left,
-    (parted (at-settled .settled .ensures) (at-kind-of .kind-of .ensures) (at-if4 .if4 .left)))))
+    let start = at-settled .before .before .before .before in (
+      start .pre .1 .0,
+      (
+        at-settled2 .settled2 .ensures .known,
+        (
+          at-if2 .if2 .left ∙ at-kind-of2 .kind-of2 .ensures,
+          at-if3 .if3 .left,
+          (parted (at-settled .settled .ensures) (at-kind-of .kind-of .ensures) (at-if4 .if4 .left)),
+        ),
+      ),
+    )
 
 same-same-requires : (t : ℕ) → same-lts.Need-same-requires (same-uses t) (same-at t) same.Post
 same-same-requires t c κs =
@@ -135,11 +150,22 @@ same-same-requires t c κs =
     let at-settled2 = at-kind-of .before .before .before in
     let at-settled = at-settled2 .before in
     let start = at-settled .before .before .before .before in
-    let a = start .pre in
-    (omega (arith, a .0, fewer-first (at-settled .settled .ensures) (at-kind-of .kind-of .ensures) (at-first-of .first-of .ensures)
-    (at-if3 .if3 .left) (parted (at-settled .settled .ensures) (at-kind-of .kind-of .ensures) (at-if4 .if4 .left))),
-    (a .1 .0, (known-first (at-settled .settled .ensures) (at-kind-of .kind-of .ensures) (at-first-of .first-of .ensures), known-first
-    (at-settled2 .settled2 .ensures) (at-kind-of2 .kind-of2 .ensures) (c .first-of2 .ensures))))
+    let a = start .pre in (
+      omega (
+        arith,
+        a .0,
+        fewer-first (at-settled .settled .ensures) (at-kind-of .kind-of .ensures) (at-first-of .first-of .ensures)
+            (at-if3 .if3 .left) (parted (at-settled .settled .ensures) (at-kind-of .kind-of .ensures) (at-if4 .if4 .left)),
+      ),
+      (
+        a .1 .0,
+        (
+          known-first (at-settled .settled .ensures) (at-kind-of .kind-of .ensures) (at-first-of .first-of .ensures),
+          known-first
+              (at-settled2 .settled2 .ensures) (at-kind-of2 .kind-of2 .ensures) (c .first-of2 .ensures),
+        ),
+      ),
+    )
 
 same-returns-5 : (t : ℕ) → same-lts.Need-returns-5 (same-uses t) (same-at t) same.Post
 same-returns-5 t c =
@@ -161,9 +187,17 @@ same-second-of-requires t c κs =
     let at-if3 = at-if4 .before in
     let at-kind-of = at-if3 .before .before .before in
     let at-settled = at-kind-of .before .before .before .before in
-    let start = at-settled .before .before .before .before in
-    (start .pre .1 .0, (at-settled .settled .ensures .known, (at-kind-of .kind-of .ensures, at-if3 .if3 .left,
-    (twice-parted (at-settled .settled .ensures) (at-kind-of .kind-of .ensures) (at-if4 .if4 .left) (at-if5 .if5 .left)))))
+    let start = at-settled .before .before .before .before in (
+      start .pre .1 .0,
+      (
+        at-settled .settled .ensures .known,
+        (
+          at-kind-of .kind-of .ensures,
+          at-if3 .if3 .left,
+          (twice-parted (at-settled .settled .ensures) (at-kind-of .kind-of .ensures) (at-if4 .if4 .left) (at-if5 .if5 .left)),
+        ),
+      ),
+    )
 
 same-second-of-requires-2 : (t : ℕ) → same-lts.Need-second-of-requires-2 (same-uses t) (same-at t) same.Post
 same-second-of-requires-2 t c κs =
@@ -175,10 +209,17 @@ same-second-of-requires-2 t c κs =
     let at-kind-of = at-kind-of2 .before in
     let at-settled2 = at-kind-of .before .before .before in
     let at-settled = at-settled2 .before in
-    let start = at-settled .before .before .before .before in
-    (start .pre .1 .0, (at-settled2 .settled2 .ensures .known,
-    (at-if2 .if2 .left ∙ at-kind-of2 .kind-of2 .ensures, at-if3 .if3 .left,
-    (twice-parted (at-settled .settled .ensures) (at-kind-of .kind-of .ensures) (at-if4 .if4 .left) (at-if5 .if5 .left)))))
+    let start = at-settled .before .before .before .before in (
+      start .pre .1 .0,
+      (
+        at-settled2 .settled2 .ensures .known,
+        (
+          at-if2 .if2 .left ∙ at-kind-of2 .kind-of2 .ensures,
+          at-if3 .if3 .left,
+          (twice-parted (at-settled .settled .ensures) (at-kind-of .kind-of .ensures) (at-if4 .if4 .left) (at-if5 .if5 .left)),
+        ),
+      ),
+    )
 
 same-same-requires-2 : (t : ℕ) → same-lts.Need-same-requires-2 (same-uses t) (same-at t) same.Post
 same-same-requires-2 t c κs =
@@ -191,11 +232,22 @@ same-same-requires-2 t c κs =
     let at-settled2 = at-kind-of .before .before .before in
     let at-settled = at-settled2 .before in
     let start = at-settled .before .before .before .before in
-    let a = start .pre in
-    (omega (arith, a .0, fewer-second (at-settled .settled .ensures) (at-kind-of .kind-of .ensures) (at-second-of .second-of .ensures)
-    (at-if3 .if3 .left) (twice-parted (at-settled .settled .ensures) (at-kind-of .kind-of .ensures) (at-if4 .if4 .left) (at-if5 .if5 .left))),
-    (a .1 .0, (known-second (at-settled .settled .ensures) (at-kind-of .kind-of .ensures) (at-second-of .second-of .ensures), known-second
-    (at-settled2 .settled2 .ensures) (at-kind-of2 .kind-of2 .ensures) (c .second-of2 .ensures))))
+    let a = start .pre in (
+      omega (
+        arith,
+        a .0,
+        fewer-second (at-settled .settled .ensures) (at-kind-of .kind-of .ensures) (at-second-of .second-of .ensures)
+            (at-if3 .if3 .left) (twice-parted (at-settled .settled .ensures) (at-kind-of .kind-of .ensures) (at-if4 .if4 .left) (at-if5 .if5 .left)),
+      ),
+      (
+        a .1 .0,
+        (
+          known-second (at-settled .settled .ensures) (at-kind-of .kind-of .ensures) (at-second-of .second-of .ensures),
+          known-second
+              (at-settled2 .settled2 .ensures) (at-kind-of2 .kind-of2 .ensures) (c .second-of2 .ensures),
+        ),
+      ),
+    )
 
 same-returns-6 : (t : ℕ) → same-lts.Need-returns-6 (same-uses t) (same-at t) same.Post
 same-returns-6 t c =

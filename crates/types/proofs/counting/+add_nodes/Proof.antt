@@ -56,8 +56,12 @@ add-nodes-add-capped t c =
     let at-if1 = at-if2 .before in
     let at-before = at-if1 .before .before .before .before in
     let a = at-before .before in
-    omega (arith, at-if1 .if1 .left, count-small (a .pre .1 .0) (a .args .c) (a .pre .1 .1 .0) (a .args .n) (a .pre .1 .1 .1 .0) (at-if2 .if2 .taken)
-    (at-wide-index .wide-index .ensures .0))
+    omega (
+      arith,
+      at-if1 .if1 .left,
+      count-small (a .pre .1 .0) (a .args .c) (a .pre .1 .1 .0) (a .args .n) (a .pre .1 .1 .1 .0) (at-if2 .if2 .taken)
+          (at-wide-index .wide-index .ensures .0),
+    )
 
 add-nodes-capped-requires : (t : ℕ) → add-nodes-lts.Need-capped-requires (add-nodes-uses t) (add-nodes-at t) add-nodes.Post
 add-nodes-capped-requires t c κs = search needs
@@ -83,8 +87,12 @@ add-nodes-add-capped-2 t c =
     let at-if1 = at-if3 .before .before in
     let at-before = at-if1 .before .before .before .before in
     let a = at-before .before in
-    omega (arith, at-if1 .if1 .left, kept-small (a .pre .1 .0) (a .args .c) (a .pre .1 .1 .0) (a .args .n) (at-if3 .if3 .taken)
-    (c .count-of .ensures))
+    omega (
+      arith,
+      at-if1 .if1 .left,
+      kept-small (a .pre .1 .0) (a .args .c) (a .pre .1 .1 .0) (a .args .n) (at-if3 .if3 .taken)
+          (c .count-of .ensures),
+    )
 
 add-nodes-capped-requires-2 : (t : ℕ) → add-nodes-lts.Need-capped-requires-2 (add-nodes-uses t) (add-nodes-at t) add-nodes.Post
 add-nodes-capped-requires-2 t c κs = search needs
@@ -130,10 +138,15 @@ add-nodes-add-nodes-requires t c κs =
     let at-shape-of = at-if4 .before in
     let at-if1 = at-shape-of .before .before .before in
     let start = at-if1 .before .before .before .before .before in
-    let a = start .pre in
-    (omega (arith, a .0, less-first (at-shape-of .shape-of .ensures) (at-if4 .if4 .left)
-    (below-four (at-shape-of .shape-of .ensures) (c .if5 .left))),
-    (a .1 .0, (at-shape-of .shape-of .ensures .first, (a .1 .1 .1 .0, limited (start .args .n) (at-if1 .if1 .left)))))
+    let a = start .pre in (
+      omega (
+        arith,
+        a .0,
+        less-first (at-shape-of .shape-of .ensures) (at-if4 .if4 .left)
+            (below-four (at-shape-of .shape-of .ensures) (c .if5 .left)),
+      ),
+      (a .1 .0, (at-shape-of .shape-of .ensures .first, (a .1 .1 .1 .0, limited (start .args .n) (at-if1 .if1 .left)))),
+    )
 
 add-nodes-returns-6 : (t : ℕ) → add-nodes-lts.Need-returns-6 (add-nodes-uses t) (add-nodes-at t) add-nodes.Post
 add-nodes-returns-6 t c =
@@ -149,10 +162,15 @@ add-nodes-add-nodes-requires-2 t c κs =
     let at-if4 = at-if5 .before in
     let at-shape-of = at-if4 .before in
     let start = at-shape-of .before .before .before .before .before .before .before .before in
-    let a = start .pre in
-    (omega (arith, a .0, less-second (at-shape-of .shape-of .ensures) (at-if4 .if4 .left)
-    (two-parts (at-shape-of .shape-of .ensures) (at-if5 .if5 .left) (c .if6 .left))),
-    (a .1 .0, (at-shape-of .shape-of .ensures .second, (a .1 .1 .1 .0, below-ceiling _ (at-add-nodes .add-nodes .ensures)))))
+    let a = start .pre in (
+      omega (
+        arith,
+        a .0,
+        less-second (at-shape-of .shape-of .ensures) (at-if4 .if4 .left)
+            (two-parts (at-shape-of .shape-of .ensures) (at-if5 .if5 .left) (c .if6 .left)),
+      ),
+      (a .1 .0, (at-shape-of .shape-of .ensures .second, (a .1 .1 .1 .0, below-ceiling _ (at-add-nodes .add-nodes .ensures)))),
+    )
 
 add-nodes-returns-7 : (t : ℕ) → add-nodes-lts.Need-returns-7 (add-nodes-uses t) (add-nodes-at t) add-nodes.Post
 add-nodes-returns-7 t c =

@@ -52,8 +52,13 @@ cell-within : (c : tie.After-wide-index) → c .wide-index .result ≤ start-fro
 cell-within c =
     let at-enclosing = c .before in
     let at-variable = at-enclosing .before in
-    omega (arith, c .wide-index .ensures .0, at-enclosing .enclosing .ensures, within (at-enclosing .before) (at-variable .variable .result)
-    (omega arith))
+    omega (
+      arith,
+      c .wide-index .ensures .0,
+      at-enclosing .enclosing .ensures,
+      within (at-enclosing .before) (at-variable .variable .result)
+          (omega arith),
+    )
 
 field-requires : tie.Need-field-requires
 field-requires c κs = c .before .before .pre .1 .1 .0 .known

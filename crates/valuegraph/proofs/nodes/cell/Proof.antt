@@ -22,9 +22,13 @@ returns c =
     let a = start .args in
     let right = start .pre .0 in
     let room = start .pre .1 in
-    rw (at-put-node .put-node .ensures) (record { grown = grown _ _ _ _ _ _ _ (unit-ready _ _ right room (a .left) (a .right))
-    (unit-fits _ _ right room (a .left) (a .right)) (omega arith) (omega arith) (omega arith); left-is = left-put _ _ _ _ _ _ _ room
-    (omega arith); right-is = right-put _ _ _ _ _ _ _ room (omega arith); })
+    rw (at-put-node .put-node .ensures) (record {
+      grown = grown _ _ _ _ _ _ _ (unit-ready _ _ right room (a .left) (a .right))
+          (unit-fits _ _ right room (a .left) (a .right)) (omega arith) (omega arith) (omega arith);
+      left-is = left-put _ _ _ _ _ _ _ room
+          (omega arith);
+      right-is = right-put _ _ _ _ _ _ _ room (omega arith);
+    })
 
 pub cell-spec : {M : Type 1} → statement M
 cell-spec = tie.close (tie.spec put-node-requires same-length returns)

@@ -199,11 +199,20 @@ module _ (t : ℕ) where
   step-requires c κs =
       let at-before = c .before in
       let at-spend = at-before .before in
-      let (at-else2, at-then1, at-fuel, at-loop, start) = before-spend at-spend in
-      ( omega (arith, start .pre .0, going-less (at-loop .loop .inv) (at-fuel .fuel .ensures) (at-then1 .if1 .taken) (at-else2 .if2 .left)
-      (at-spend .spend .ensures)), ( going-entered (at-loop .loop .inv) (at-fuel .fuel .ensures) (at-then1 .if1 .taken) (at-else2 .if2 .left)
-      (at-spend .spend .ensures), going-node (at-loop .loop .inv) (at-fuel .fuel .ensures) (at-then1 .if1 .taken) (at-else2 .if2 .left)
-      (at-spend .spend .ensures), ), )
+      let (at-else2, at-then1, at-fuel, at-loop, start) = before-spend at-spend in (
+        omega (
+          arith,
+          start .pre .0,
+          going-less (at-loop .loop .inv) (at-fuel .fuel .ensures) (at-then1 .if1 .taken) (at-else2 .if2 .left)
+              (at-spend .spend .ensures),
+        ),
+        (
+          going-entered (at-loop .loop .inv) (at-fuel .fuel .ensures) (at-then1 .if1 .taken) (at-else2 .if2 .left)
+              (at-spend .spend .ensures),
+          going-node (at-loop .loop .inv) (at-fuel .fuel .ensures) (at-then1 .if1 .taken) (at-else2 .if2 .left)
+              (at-spend .spend .ensures),
+        ),
+      )
 
   pub packed-requires-2 : lts.Need-packed-requires-2 (back-uses t) (back-at t) back.Post back-Inv-loop back-μ-loop
   packed-requires-2 c κs = search needs

@@ -193,18 +193,76 @@ module _ (t : ℕ) where
   abbrev before-argument : Argument → Leave × Else2 × Unpacked × Back × Widen × Scope × End × None × Body × First × Else1 × Gather × Wide × Third × Start
   before-argument c =
       let at-leave = c .before in
-      let (at-else2, at-unpacked, at-back, at-widen, at-scope, at-end, at-none, at-body, at-first, at-else1, at-gather, at-wide, at-third,
-          start) = before-leave at-leave in
-      (at-leave, at-else2, at-unpacked, at-back, at-widen, at-scope, at-end, at-none, at-body, at-first, at-else1, at-gather, at-wide, at-third,
-      start)
+      let (
+        at-else2,
+        at-unpacked,
+        at-back,
+        at-widen,
+        at-scope,
+        at-end,
+        at-none,
+        at-body,
+        at-first,
+        at-else1,
+        at-gather,
+        at-wide,
+        at-third,
+        start,
+      ) = before-leave at-leave in (
+        at-leave,
+        at-else2,
+        at-unpacked,
+        at-back,
+        at-widen,
+        at-scope,
+        at-end,
+        at-none,
+        at-body,
+        at-first,
+        at-else1,
+        at-gather,
+        at-wide,
+        at-third,
+        start,
+      )
 
   abbrev before-goes-on : GoesOn → Argument × Leave × Else2 × Unpacked × Back × Widen × Scope × End × None × Body × First × Else1 × Gather × Wide × Third × Start
   before-goes-on c =
       let at-argument = c .before in
-      let (at-leave, at-else2, at-unpacked, at-back, at-widen, at-scope, at-end, at-none, at-body, at-first, at-else1, at-gather, at-wide, at-third,
-          start) = before-argument at-argument in
-      (at-argument, at-leave, at-else2, at-unpacked, at-back, at-widen, at-scope, at-end, at-none, at-body, at-first, at-else1, at-gather, at-wide,
-      at-third, start)
+      let (
+        at-leave,
+        at-else2,
+        at-unpacked,
+        at-back,
+        at-widen,
+        at-scope,
+        at-end,
+        at-none,
+        at-body,
+        at-first,
+        at-else1,
+        at-gather,
+        at-wide,
+        at-third,
+        start,
+      ) = before-argument at-argument in (
+        at-argument,
+        at-leave,
+        at-else2,
+        at-unpacked,
+        at-back,
+        at-widen,
+        at-scope,
+        at-end,
+        at-none,
+        at-body,
+        at-first,
+        at-else1,
+        at-gather,
+        at-wide,
+        at-third,
+        start,
+      )
 
   ----------------------------------------------------------------
   -- Answers
@@ -303,13 +361,27 @@ module _ (t : ℕ) where
 
   pub returns-2 : lts.Need-returns-2 (call-uses t) (call-at t) call.Post
   returns-2 c =
-      let (at-then2, at-unpacked, at-back, at-widen, at-scope, at-end, at-none, at-body, at-first, at-else1, at-gather, at-wide, at-third,
-          start) = before-ended2 c in
+      let (
+        at-then2,
+        at-unpacked,
+        at-back,
+        at-widen,
+        at-scope,
+        at-end,
+        at-none,
+        at-body,
+        at-first,
+        at-else1,
+        at-gather,
+        at-wide,
+        at-third,
+        start,
+      ) = before-ended2 c in
       let calls = all-to-place (start .pre .1 .1 .1) (at-wide .wide-index .ensures .0 ∙ at-third .third-of .ensures) in
       let ran = called-ran (start .pre .1 .0) (start .pre .1 .1 .0) calls (at-gather .gather .ensures .gathers) (at-else1 .if1 .left)
-          (at-first .first-of .ensures) (at-body .body-of .ensures) (at-end .end-of .ensures) (at-scope .scope .ensures)
-          (at-gather .gather .ensures .lengths) (at-none .none .ensures) (at-widen .widen .ensures)
-          (unpacked-run (at-unpacked .unpacked .ensures) (at-back .back .ensures)) in
+      (at-first .first-of .ensures) (at-body .body-of .ensures) (at-end .end-of .ensures) (at-scope .scope .ensures)
+      (at-gather .gather .ensures .lengths) (at-none .none .ensures) (at-widen .widen .ensures)
+      (unpacked-run (at-unpacked .unpacked .ensures) (at-back .back .ensures)) in
       leads-over (c .ended2 .ensures) (ran .lengths ∙ at-gather .gather .ensures .lengths)
       (called-stops (start .pre .1 .0 .prepared) (start .pre .1 .1 .0) calls (at-gather .gather .ensures .gathers) (at-else1 .if1 .left)
       (at-first .first-of .ensures) (at-body .body-of .ensures) (at-end .end-of .ensures) (at-scope .scope .ensures) (ran .gone)
@@ -343,21 +415,45 @@ module _ (t : ℕ) where
 
   pub returns-3 : lts.Need-returns-3 (call-uses t) (call-at t) call.Post
   returns-3 c =
-      let (at-argument, at-leave, at-else2, at-unpacked, at-back, at-widen, at-scope, at-end, at-none, at-body, at-first, at-else1, at-gather,
-          at-wide, at-third, start) = before-goes-on c in
+      let (
+        at-argument,
+        at-leave,
+        at-else2,
+        at-unpacked,
+        at-back,
+        at-widen,
+        at-scope,
+        at-end,
+        at-none,
+        at-body,
+        at-first,
+        at-else1,
+        at-gather,
+        at-wide,
+        at-third,
+        start,
+      ) = before-goes-on c in
       let calls = all-to-place (start .pre .1 .1 .1) (at-wide .wide-index .ensures .0 ∙ at-third .third-of .ensures) in
       let ran = called-ran (start .pre .1 .0) (start .pre .1 .1 .0) calls (at-gather .gather .ensures .gathers) (at-else1 .if1 .left)
-          (at-first .first-of .ensures) (at-body .body-of .ensures) (at-end .end-of .ensures) (at-scope .scope .ensures)
-          (at-gather .gather .ensures .lengths) (at-none .none .ensures) (at-widen .widen .ensures)
-          (unpacked-run (at-unpacked .unpacked .ensures) (at-back .back .ensures)) in
+      (at-first .first-of .ensures) (at-body .body-of .ensures) (at-end .end-of .ensures) (at-scope .scope .ensures)
+      (at-gather .gather .ensures .lengths) (at-none .none .ensures) (at-widen .widen .ensures)
+      (unpacked-run (at-unpacked .unpacked .ensures) (at-back .back .ensures)) in
       leads-on (c .goes-on .ensures) (ran .lengths ∙ at-gather .gather .ensures .lengths)
-      (record { prepared = record { full = ran .lengths ∙ at-gather .gather .ensures .lengths ∙ start .pre .1 .0 .full; prepared = called-dynamic
-      (start .pre .1 .0 .prepared) (start .pre .1 .1 .0) calls (at-gather .gather .ensures .gathers) (at-else1 .if1 .left)
-      (at-first .first-of .ensures) (at-body .body-of .ensures) (at-end .end-of .ensures) (at-scope .scope .ensures) (ran .gone) (at-else2 .if2 .left)
-      (at-argument .argument-of .ensures); }; there = called-input (start .pre .1 .0 .prepared) (start .pre .1 .1 .0) calls
-      (at-gather .gather .ensures .gathers) (at-else1 .if1 .left) (at-first .first-of .ensures) (at-body .body-of .ensures) (at-end .end-of .ensures)
-      (at-scope .scope .ensures) (ran .gone) (at-else2 .if2 .left) (at-argument .argument-of .ensures) (at-leave .leave .ensures); spends = omega
-      (arith, at-gather .gather .ensures .gathers .moves .spends, ran .gone .ran .moves .spends); becomes = λ D. called-done
-      (start .pre .1 .0 .prepared) (start .pre .1 .1 .0) calls (at-gather .gather .ensures .gathers) (at-else1 .if1 .left)
-      (at-first .first-of .ensures) (at-body .body-of .ensures) (at-end .end-of .ensures) (at-scope .scope .ensures) (ran .gone) (at-else2 .if2 .left)
-      (at-argument .argument-of .ensures) (at-leave .leave .ensures) D; })
+      (record {
+        prepared = record {
+          full = ran .lengths ∙ at-gather .gather .ensures .lengths ∙ start .pre .1 .0 .full;
+          prepared = called-dynamic
+              (start .pre .1 .0 .prepared) (start .pre .1 .1 .0) calls (at-gather .gather .ensures .gathers) (at-else1 .if1 .left)
+              (at-first .first-of .ensures) (at-body .body-of .ensures) (at-end .end-of .ensures) (at-scope .scope .ensures) (ran .gone) (at-else2 .if2 .left)
+              (at-argument .argument-of .ensures);
+        };
+        there = called-input (start .pre .1 .0 .prepared) (start .pre .1 .1 .0) calls
+            (at-gather .gather .ensures .gathers) (at-else1 .if1 .left) (at-first .first-of .ensures) (at-body .body-of .ensures) (at-end .end-of .ensures)
+            (at-scope .scope .ensures) (ran .gone) (at-else2 .if2 .left) (at-argument .argument-of .ensures) (at-leave .leave .ensures);
+        spends = omega
+            (arith, at-gather .gather .ensures .gathers .moves .spends, ran .gone .ran .moves .spends);
+        becomes = λ D. called-done
+            (start .pre .1 .0 .prepared) (start .pre .1 .1 .0) calls (at-gather .gather .ensures .gathers) (at-else1 .if1 .left)
+            (at-first .first-of .ensures) (at-body .body-of .ensures) (at-end .end-of .ensures) (at-scope .scope .ensures) (ran .gone) (at-else2 .if2 .left)
+            (at-argument .argument-of .ensures) (at-leave .leave .ensures) D;
+      })

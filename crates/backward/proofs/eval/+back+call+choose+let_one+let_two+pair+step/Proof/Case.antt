@@ -247,14 +247,21 @@ module _ (t : ℕ) where
       let (at-leave, at-else1, at-unpacked, at-back, at-widen, at-side, at-branch, at-yields, at-second, at-first, start) = before-outer at-outer in
       let yields = view-yields (at-yields .yields .ensures) (few-ancillae (start .pre .1 .0 .prepared)) in
       let ran = case-ran (start .pre .1 .0) (start .pre .1 .1 .0) (start .pre .1 .1 .1) (at-second .second-of .ensures) _ yields
-          (at-first .first-of .ensures) (at-branch .branch-of .ensures) (at-side .side-of .ensures) (at-widen .widen .ensures)
-          (unpacked-run (at-unpacked .unpacked .ensures) (at-back .back .ensures)) in
-      ( record { full = at-outer .outer .ensures .moved .lengths ∙ ran .lengths ∙ start .pre .1 .0 .full; prepared = case-outer
-      (start .pre .1 .0 .prepared) (start .pre .1 .1 .0) (start .pre .1 .1 .1) (at-second .second-of .ensures) _ yields (at-first .first-of .ensures)
-      (at-branch .branch-of .ensures) (at-side .side-of .ensures) (ran .gone) (at-else1 .if1 .left) (left-behind (at-outer .outer .ensures)); },
-      ( case-node (start .pre .1 .0 .prepared) (start .pre .1 .1 .0) (start .pre .1 .1 .1) (at-second .second-of .ensures) _ yields
-      (at-first .first-of .ensures) (at-branch .branch-of .ensures) (at-side .side-of .ensures) (ran .gone) (at-else1 .if1 .left)
-      (left-behind (at-outer .outer .ensures)) (at-leave .leave .ensures), side-single (at-yields .yields .result) (at-side .side-of .ensures), ), )
+      (at-first .first-of .ensures) (at-branch .branch-of .ensures) (at-side .side-of .ensures) (at-widen .widen .ensures)
+      (unpacked-run (at-unpacked .unpacked .ensures) (at-back .back .ensures)) in (
+        record {
+          full = at-outer .outer .ensures .moved .lengths ∙ ran .lengths ∙ start .pre .1 .0 .full;
+          prepared = case-outer
+              (start .pre .1 .0 .prepared) (start .pre .1 .1 .0) (start .pre .1 .1 .1) (at-second .second-of .ensures) _ yields (at-first .first-of .ensures)
+              (at-branch .branch-of .ensures) (at-side .side-of .ensures) (ran .gone) (at-else1 .if1 .left) (left-behind (at-outer .outer .ensures));
+        },
+        (
+          case-node (start .pre .1 .0 .prepared) (start .pre .1 .1 .0) (start .pre .1 .1 .1) (at-second .second-of .ensures) _ yields
+              (at-first .first-of .ensures) (at-branch .branch-of .ensures) (at-side .side-of .ensures) (ran .gone) (at-else1 .if1 .left)
+              (left-behind (at-outer .outer .ensures)) (at-leave .leave .ensures),
+          side-single (at-yields .yields .result) (at-side .side-of .ensures),
+        ),
+      )
 
   pub same-length-2 : lts.Need-same-length-2 (choose-uses t) (choose-at t) choose.Post
   same-length-2 c =

@@ -234,14 +234,19 @@ module _ (t : ℕ) where
       let at-outer = at-before .before in
       let (at-leave2, at-leave, at-else1, at-unpacked, at-back, at-widen2, at-widen, at-second, at-first, start) = before-outer at-outer in
       let ran = letp-ran (start .pre .1 .0) (start .pre .1 .1 .0) (at-first .first-of .ensures) (at-second .second-of .ensures) (start .pre .1 .1 .1)
-          (at-widen .widen .ensures) (at-widen2 .widen2 .ensures) (unpacked-run (at-unpacked .unpacked .ensures) (at-back .back .ensures)) in
-      ( record { full = at-outer .outer .ensures .moved .lengths ∙ ran .lengths ∙ at-widen .widen .ensures .lengths
-      ∙ start .pre .1 .0 .full; prepared = letp-outer (start .pre .1 .0 .prepared) (start .pre .1 .1 .0) (start .pre .1 .1 .1)
-      (at-first .first-of .ensures) (at-second .second-of .ensures) (marked (at-widen .widen .ensures)) (at-widen .widen .ensures .scope-is)
-      (ran .gone) (at-else1 .if1 .left) (left-behind (at-outer .outer .ensures)); }, letp-both (start .pre .1 .0 .prepared) (start .pre .1 .1 .0)
-      (start .pre .1 .1 .1) (at-first .first-of .ensures) (at-second .second-of .ensures) (marked (at-widen .widen .ensures))
-      (at-widen .widen .ensures .scope-is) (ran .gone) (at-else1 .if1 .left) (left-behind (at-outer .outer .ensures)) (at-leave2 .leave2 .ensures)
-      (at-leave .leave .ensures), )
+      (at-widen .widen .ensures) (at-widen2 .widen2 .ensures) (unpacked-run (at-unpacked .unpacked .ensures) (at-back .back .ensures)) in (
+        record {
+          full = at-outer .outer .ensures .moved .lengths ∙ ran .lengths ∙ at-widen .widen .ensures .lengths
+              ∙ start .pre .1 .0 .full;
+          prepared = letp-outer (start .pre .1 .0 .prepared) (start .pre .1 .1 .0) (start .pre .1 .1 .1)
+              (at-first .first-of .ensures) (at-second .second-of .ensures) (marked (at-widen .widen .ensures)) (at-widen .widen .ensures .scope-is)
+              (ran .gone) (at-else1 .if1 .left) (left-behind (at-outer .outer .ensures));
+        },
+        letp-both (start .pre .1 .0 .prepared) (start .pre .1 .1 .0)
+            (start .pre .1 .1 .1) (at-first .first-of .ensures) (at-second .second-of .ensures) (marked (at-widen .widen .ensures))
+            (at-widen .widen .ensures .scope-is) (ran .gone) (at-else1 .if1 .left) (left-behind (at-outer .outer .ensures)) (at-leave2 .leave2 .ensures)
+            (at-leave .leave .ensures),
+      )
 
   pub same-length-2 : lts.Need-same-length-2 (let-two-uses t) (let-two-at t) let-two.Post
   same-length-2 c =

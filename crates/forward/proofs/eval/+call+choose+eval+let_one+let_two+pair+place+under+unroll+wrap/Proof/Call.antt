@@ -125,9 +125,14 @@ module _ (t : ℕ) where
   place-requires c κs =
       let at-before = c .before in
       let at-wide-index = at-before .before in
-      let (at-third-of, start) = before-wide-index at-wide-index in
-      (omega (arith, start .pre .0), ((start .pre .1 .0), (all-to-place (start .pre .1 .1)
-      (at-wide-index .wide-index .ensures .0 ∙ at-third-of .third-of .ensures))))
+      let (at-third-of, start) = before-wide-index at-wide-index in (
+        omega (arith, start .pre .0),
+        (
+          (start .pre .1 .0),
+          (all-to-place (start .pre .1 .1)
+              (at-wide-index .wide-index .ensures .0 ∙ at-third-of .third-of .ensures)),
+        ),
+      )
 
   pub same-length : lts.Need-same-length (call-uses t) (call-at t) call.Post
   same-length c =
@@ -166,7 +171,7 @@ module _ (t : ℕ) where
   scope-requires c κs =
       let (_, _, _, _, at-wide-index, at-third-of, start) = before-end-of c in
       let few = few-count (start .pre .1 .0 .ready) (all-to-place (start .pre .1 .1)
-          (at-wide-index .wide-index .ensures .0 ∙ at-third-of .third-of .ensures)) in
+      (at-wide-index .wide-index .ensures .0 ∙ at-third-of .third-of .ensures)) in
       let e = c .end-of .ensures in
       (omega (arith, scope-there (start .pre .1 .0 .ready)), omega arith, omega arith)
 
@@ -179,13 +184,15 @@ module _ (t : ℕ) where
   eval-requires c κs =
       let at-before = c .before in
       let at-scope = at-before .before in
-      let (at-end-of, at-body-of, at-first-of, at-else1, at-place, at-wide-index, at-third-of, start) = before-scope at-scope in
-      ( omega (arith, start .pre .0, (at-place .place .ensures .places) .ran .spends), called-ready _
-      (at-place .place .ensures .lengths ∙ (start .pre .1 .0) .full)
-      (at-scope .scope .ensures ∙ ap (λ b. record { base = b; q = at-wide-index .wide-index .result; n = at-wide-index .wide-index .result + 1 })
-      (at-end-of .end-of .ensures)) (call-ready (start .pre .1 .0 .ready)
-      (all-to-place (start .pre .1 .1) (at-wide-index .wide-index .ensures .0 ∙ at-third-of .third-of .ensures)) (at-place .place .ensures .places)
-      (is-value (at-else1 .if1 .left)) _ _ (at-first-of .first-of .ensures) (at-body-of .body-of .ensures)), )
+      let (at-end-of, at-body-of, at-first-of, at-else1, at-place, at-wide-index, at-third-of, start) = before-scope at-scope in (
+        omega (arith, start .pre .0, (at-place .place .ensures .places) .ran .spends),
+        called-ready _
+            (at-place .place .ensures .lengths ∙ (start .pre .1 .0) .full)
+            (at-scope .scope .ensures ∙ ap (λ b. record { base = b; q = at-wide-index .wide-index .result; n = at-wide-index .wide-index .result + 1 })
+            (at-end-of .end-of .ensures)) (call-ready (start .pre .1 .0 .ready)
+            (all-to-place (start .pre .1 .1) (at-wide-index .wide-index .ensures .0 ∙ at-third-of .third-of .ensures)) (at-place .place .ensures .places)
+            (is-value (at-else1 .if1 .left)) _ _ (at-first-of .first-of .ensures) (at-body-of .body-of .ensures)),
+      )
 
   pub same-length-2 : lts.Need-same-length-2 (call-uses t) (call-at t) call.Post
   same-length-2 c =

@@ -193,8 +193,11 @@ module _ (t : ℕ) where
   pub returns : lts.Need-returns (choose-uses t) (choose-at t) choose.Post
   returns c =
       let (at-eval, at-first-of, start) = before-then1 c in
-      record { lengths = (at-eval .eval .ensures) .lengths; ran = case-refused (start .pre .1 .0 .ready) (start .pre .1 .1) _
-      (at-first-of .first-of .ensures) (at-eval .eval .ensures .ran) (is-refused (c .if1 .taken)); }
+      record {
+        lengths = (at-eval .eval .ensures) .lengths;
+        ran = case-refused (start .pre .1 .0 .ready) (start .pre .1 .1) _
+            (at-first-of .first-of .ensures) (at-eval .eval .ensures .ran) (is-refused (c .if1 .taken));
+      }
 
   pub kind-of-requires : lts.Need-kind-of-requires (choose-uses t) (choose-at t) choose.Post
   kind-of-requires c κs =
@@ -217,13 +220,16 @@ module _ (t : ℕ) where
   under-requires c κs =
       let at-before = c .before in
       let at-second-of = at-before .before in
-      let (at-then2, at-left-of, at-kind-of, at-else1, at-eval, _, start) = before-second-of at-second-of in
-      ( omega (arith, start .pre .0, at-eval .eval .ensures .ran .spends),
-      ( as-ready (later-in (start .pre .1 .0) (at-eval .eval .ensures))
-      (case-second (later (start .pre .1 .0 .ready) (at-eval .eval .ensures .ran)) (start .pre .1 .1) _ (at-second-of .second-of .ensures)),
-      lower-part (at-left-of .left-of .ensures) (value-inl _ _ ((at-eval .eval .ensures .ran) .graph .right) _
-      (at-eval .eval .ensures .ran .node _ (is-value (at-else1 .if1 .left))) (sym (at-kind-of .kind-of .ensures) ∙ at-then2 .if2 .taken) .1)
-      (at-eval .eval .ensures .ran .node _ (is-value (at-else1 .if1 .left))), ), )
+      let (at-then2, at-left-of, at-kind-of, at-else1, at-eval, _, start) = before-second-of at-second-of in (
+        omega (arith, start .pre .0, at-eval .eval .ensures .ran .spends),
+        (
+          as-ready (later-in (start .pre .1 .0) (at-eval .eval .ensures))
+              (case-second (later (start .pre .1 .0 .ready) (at-eval .eval .ensures .ran)) (start .pre .1 .1) _ (at-second-of .second-of .ensures)),
+          lower-part (at-left-of .left-of .ensures) (value-inl _ _ ((at-eval .eval .ensures .ran) .graph .right) _
+              (at-eval .eval .ensures .ran .node _ (is-value (at-else1 .if1 .left))) (sym (at-kind-of .kind-of .ensures) ∙ at-then2 .if2 .taken) .1)
+              (at-eval .eval .ensures .ran .node _ (is-value (at-else1 .if1 .left))),
+        ),
+      )
 
   pub same-length-2 : lts.Need-same-length-2 (choose-uses t) (choose-at t) choose.Post
   same-length-2 c =
@@ -236,10 +242,13 @@ module _ (t : ℕ) where
       let at-before = c .before in
       let at-under = at-before .before in
       let (at-second-of, at-then2, at-left-of, at-kind-of, at-else1, at-eval, at-first-of, start) = before-under at-under in
-      record { lengths = at-under .under .ensures .lengths ∙ (at-eval .eval .ensures) .lengths; ran = case-left (start .pre .1 .0 .ready)
-      (start .pre .1 .1) _ (at-first-of .first-of .ensures) (at-eval .eval .ensures .ran) (is-value (at-else1 .if1 .left)) _
-      (at-left-of .left-of .ensures) _ (at-under .under .ensures .ran) (sym (at-kind-of .kind-of .ensures) ∙ at-then2 .if2 .taken)
-      (at-second-of .second-of .ensures); }
+      record {
+        lengths = at-under .under .ensures .lengths ∙ (at-eval .eval .ensures) .lengths;
+        ran = case-left (start .pre .1 .0 .ready)
+            (start .pre .1 .1) _ (at-first-of .first-of .ensures) (at-eval .eval .ensures .ran) (is-value (at-else1 .if1 .left)) _
+            (at-left-of .left-of .ensures) _ (at-under .under .ensures .ran) (sym (at-kind-of .kind-of .ensures) ∙ at-then2 .if2 .taken)
+            (at-second-of .second-of .ensures);
+      }
 
   pub third-of-requires : lts.Need-third-of-requires (choose-uses t) (choose-at t) choose.Post
   third-of-requires c κs =
@@ -250,13 +259,17 @@ module _ (t : ℕ) where
   under-requires-2 c κs =
       let at-before = c .before in
       let at-third-of = at-before .before in
-      let (at-then3, _, at-left-of, at-kind-of, at-else1, at-eval, _, start) = before-third-of at-third-of in
-      ( omega (arith, start .pre .0, at-eval .eval .ensures .ran .spends),
-      ( as-ready (later-in (start .pre .1 .0) (at-eval .eval .ensures))
-      (case-third (later (start .pre .1 .0 .ready) (at-eval .eval .ensures .ran)) (start .pre .1 .1) _ (at-third-of .third-of .ensures)), lower-part
-      (at-left-of .left-of .ensures) (value-inr _ _ ((at-eval .eval .ensures .ran) .graph .right) _
-      (at-eval .eval .ensures .ran .node _ (is-value (at-else1 .if1 .left))) (sym (at-kind-of .kind-of .ensures) ∙ at-then3 .if3 .taken) .1)
-      (at-eval .eval .ensures .ran .node _ (is-value (at-else1 .if1 .left))), ), )
+      let (at-then3, _, at-left-of, at-kind-of, at-else1, at-eval, _, start) = before-third-of at-third-of in (
+        omega (arith, start .pre .0, at-eval .eval .ensures .ran .spends),
+        (
+          as-ready (later-in (start .pre .1 .0) (at-eval .eval .ensures))
+              (case-third (later (start .pre .1 .0 .ready) (at-eval .eval .ensures .ran)) (start .pre .1 .1) _ (at-third-of .third-of .ensures)),
+          lower-part
+              (at-left-of .left-of .ensures) (value-inr _ _ ((at-eval .eval .ensures .ran) .graph .right) _
+              (at-eval .eval .ensures .ran .node _ (is-value (at-else1 .if1 .left))) (sym (at-kind-of .kind-of .ensures) ∙ at-then3 .if3 .taken) .1)
+              (at-eval .eval .ensures .ran .node _ (is-value (at-else1 .if1 .left))),
+        ),
+      )
 
   pub first-match-requires : lts.Need-first-match-requires (choose-uses t) (choose-at t) choose.Post
   first-match-requires c κs =
@@ -273,10 +286,13 @@ module _ (t : ℕ) where
   pub returns-3 : lts.Need-returns-3 (choose-uses t) (choose-at t) choose.Post
   returns-3 c =
       let (at-under2, at-third-of, at-then3, _, at-left-of, at-kind-of, at-else1, at-eval, at-first-of, start) = before-first-match c in
-      record { lengths = at-under2 .under2 .ensures .lengths ∙ (at-eval .eval .ensures) .lengths; ran = case-right (start .pre .1 .0 .ready)
-      (start .pre .1 .1) _ (at-first-of .first-of .ensures) (at-eval .eval .ensures .ran) (is-value (at-else1 .if1 .left)) _
-      (at-left-of .left-of .ensures) _ (at-under2 .under2 .ensures .ran) (sym (at-kind-of .kind-of .ensures) ∙ at-then3 .if3 .taken)
-      (at-third-of .third-of .ensures) _ (c .first-match .ensures); }
+      record {
+        lengths = at-under2 .under2 .ensures .lengths ∙ (at-eval .eval .ensures) .lengths;
+        ran = case-right (start .pre .1 .0 .ready)
+            (start .pre .1 .1) _ (at-first-of .first-of .ensures) (at-eval .eval .ensures .ran) (is-value (at-else1 .if1 .left)) _
+            (at-left-of .left-of .ensures) _ (at-under2 .under2 .ensures .ran) (sym (at-kind-of .kind-of .ensures) ∙ at-then3 .if3 .taken)
+            (at-third-of .third-of .ensures) _ (c .first-match .ensures);
+      }
 
   pub refuse-requires : lts.Need-refuse-requires (choose-uses t) (choose-at t) choose.Post
   refuse-requires c κs = search needs
@@ -289,7 +305,10 @@ module _ (t : ℕ) where
   pub returns-4 : lts.Need-returns-4 (choose-uses t) (choose-at t) choose.Post
   returns-4 c =
       let (at-else3, at-else2, _, at-kind-of, at-else1, at-eval, at-first-of, start) = before-refuse c in
-      record { lengths = (at-eval .eval .ensures) .lengths; ran = case-stuck (start .pre .1 .0 .ready) (start .pre .1 .1) _
-      (at-first-of .first-of .ensures) (at-eval .eval .ensures .ran) (is-value (at-else1 .if1 .left))
-      (λ e. at-else2 .if2 .left (at-kind-of .kind-of .ensures ∙ e)) (λ e. at-else3 .if3 .left (at-kind-of .kind-of .ensures ∙ e)) _
-      (is-stuck (c .refuse .ensures)) refl; }
+      record {
+        lengths = (at-eval .eval .ensures) .lengths;
+        ran = case-stuck (start .pre .1 .0 .ready) (start .pre .1 .1) _
+            (at-first-of .first-of .ensures) (at-eval .eval .ensures .ran) (is-value (at-else1 .if1 .left))
+            (λ e. at-else2 .if2 .left (at-kind-of .kind-of .ensures ∙ e)) (λ e. at-else3 .if3 .left (at-kind-of .kind-of .ensures ∙ e)) _
+            (is-stuck (c .refuse .ensures)) refl;
+      }

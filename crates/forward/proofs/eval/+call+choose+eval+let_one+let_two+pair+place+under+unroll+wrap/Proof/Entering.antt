@@ -37,8 +37,11 @@ module _ (t : ℕ) where
   pub returns-2 : lts.Need-returns-2 (eval-uses t) (eval-at t) eval.Post
   returns-2 c =
       let (at-then2, at-else1, at-fuel, start) = before-refuse2 t c in
-      record { lengths = refl; ran = term-high (start .pre .1 .ready) (λ e. at-else1 .if1 .left (at-fuel .fuel .ensures ∙ e)) _
-      (is-height (c .refuse2 .ensures)) refl (at-then2 .if2 .taken); }
+      record {
+        lengths = refl;
+        ran = term-high (start .pre .1 .ready) (λ e. at-else1 .if1 .left (at-fuel .fuel .ensures ∙ e)) _
+            (is-height (c .refuse2 .ensures)) refl (at-then2 .if2 .taken);
+      }
 
   pub spend-requires : lts.Need-spend-requires (eval-uses t) (eval-at t) eval.Post
   spend-requires c κs =
@@ -72,82 +75,163 @@ module _ (t : ℕ) where
   wrap-requires c κs =
       let at-before = c .before in
       let at-arm3 = at-before .before in
-      let (at-kind-of, at-spend, at-else2, at-else1, at-fuel, start) = before-arm3 t at-arm3 in
-      ( omega (arith, start .pre .0, spent-fuel (start .pre .1) (λ e. at-else1 .if1 .left (at-fuel .fuel .ensures ∙ e)) (at-else2 .if2 .left)
-      (at-spend .spend .ensures)), ( (spent-ready (start .pre .1) (λ e. at-else1 .if1 .left (at-fuel .fuel .ensures ∙ e)) (at-else2 .if2 .left)
-      (at-spend .spend .ensures)), left (sym (at-kind-of .kind-of .ensures) ∙ at-arm3 .match .keys3, refl), ), )
+      let (at-kind-of, at-spend, at-else2, at-else1, at-fuel, start) = before-arm3 t at-arm3 in (
+        omega (
+          arith,
+          start .pre .0,
+          spent-fuel (start .pre .1) (λ e. at-else1 .if1 .left (at-fuel .fuel .ensures ∙ e)) (at-else2 .if2 .left)
+              (at-spend .spend .ensures),
+        ),
+        (
+          (spent-ready (start .pre .1) (λ e. at-else1 .if1 .left (at-fuel .fuel .ensures ∙ e)) (at-else2 .if2 .left)
+              (at-spend .spend .ensures)),
+          left (sym (at-kind-of .kind-of .ensures) ∙ at-arm3 .match .keys3, refl),
+        ),
+      )
 
   pub wrap-requires-2 : lts.Need-wrap-requires-2 (eval-uses t) (eval-at t) eval.Post
   wrap-requires-2 c κs =
       let at-before = c .before in
       let at-arm4 = at-before .before in
-      let (at-kind-of, at-spend, at-else2, at-else1, at-fuel, start) = before-arm4 t at-arm4 in
-      ( omega (arith, start .pre .0, spent-fuel (start .pre .1) (λ e. at-else1 .if1 .left (at-fuel .fuel .ensures ∙ e)) (at-else2 .if2 .left)
-      (at-spend .spend .ensures)), ( (spent-ready (start .pre .1) (λ e. at-else1 .if1 .left (at-fuel .fuel .ensures ∙ e)) (at-else2 .if2 .left)
-      (at-spend .spend .ensures)), right (left (sym (at-kind-of .kind-of .ensures) ∙ at-arm4 .match .keys4, refl)), ), )
+      let (at-kind-of, at-spend, at-else2, at-else1, at-fuel, start) = before-arm4 t at-arm4 in (
+        omega (
+          arith,
+          start .pre .0,
+          spent-fuel (start .pre .1) (λ e. at-else1 .if1 .left (at-fuel .fuel .ensures ∙ e)) (at-else2 .if2 .left)
+              (at-spend .spend .ensures),
+        ),
+        (
+          (spent-ready (start .pre .1) (λ e. at-else1 .if1 .left (at-fuel .fuel .ensures ∙ e)) (at-else2 .if2 .left)
+              (at-spend .spend .ensures)),
+          right (left (sym (at-kind-of .kind-of .ensures) ∙ at-arm4 .match .keys4, refl)),
+        ),
+      )
 
   pub pair-requires : lts.Need-pair-requires (eval-uses t) (eval-at t) eval.Post
   pair-requires c κs =
       let at-before = c .before in
       let at-arm5 = at-before .before in
-      let (at-kind-of, at-spend, at-else2, at-else1, at-fuel, start) = before-arm5 t at-arm5 in
-      ( omega (arith, start .pre .0, spent-fuel (start .pre .1) (λ e. at-else1 .if1 .left (at-fuel .fuel .ensures ∙ e)) (at-else2 .if2 .left)
-      (at-spend .spend .ensures)), ( (spent-ready (start .pre .1) (λ e. at-else1 .if1 .left (at-fuel .fuel .ensures ∙ e)) (at-else2 .if2 .left)
-      (at-spend .spend .ensures)), sym (at-kind-of .kind-of .ensures) ∙ at-arm5 .match .keys5, ), )
+      let (at-kind-of, at-spend, at-else2, at-else1, at-fuel, start) = before-arm5 t at-arm5 in (
+        omega (
+          arith,
+          start .pre .0,
+          spent-fuel (start .pre .1) (λ e. at-else1 .if1 .left (at-fuel .fuel .ensures ∙ e)) (at-else2 .if2 .left)
+              (at-spend .spend .ensures),
+        ),
+        (
+          (spent-ready (start .pre .1) (λ e. at-else1 .if1 .left (at-fuel .fuel .ensures ∙ e)) (at-else2 .if2 .left)
+              (at-spend .spend .ensures)),
+          sym (at-kind-of .kind-of .ensures) ∙ at-arm5 .match .keys5,
+        ),
+      )
 
   pub let-one-requires : lts.Need-let-one-requires (eval-uses t) (eval-at t) eval.Post
   let-one-requires c κs =
       let at-before = c .before in
       let at-arm6 = at-before .before in
-      let (at-kind-of, at-spend, at-else2, at-else1, at-fuel, start) = before-arm6 t at-arm6 in
-      ( omega (arith, start .pre .0, spent-fuel (start .pre .1) (λ e. at-else1 .if1 .left (at-fuel .fuel .ensures ∙ e)) (at-else2 .if2 .left)
-      (at-spend .spend .ensures)), ( (spent-ready (start .pre .1) (λ e. at-else1 .if1 .left (at-fuel .fuel .ensures ∙ e)) (at-else2 .if2 .left)
-      (at-spend .spend .ensures)), sym (at-kind-of .kind-of .ensures) ∙ at-arm6 .match .keys6, ), )
+      let (at-kind-of, at-spend, at-else2, at-else1, at-fuel, start) = before-arm6 t at-arm6 in (
+        omega (
+          arith,
+          start .pre .0,
+          spent-fuel (start .pre .1) (λ e. at-else1 .if1 .left (at-fuel .fuel .ensures ∙ e)) (at-else2 .if2 .left)
+              (at-spend .spend .ensures),
+        ),
+        (
+          (spent-ready (start .pre .1) (λ e. at-else1 .if1 .left (at-fuel .fuel .ensures ∙ e)) (at-else2 .if2 .left)
+              (at-spend .spend .ensures)),
+          sym (at-kind-of .kind-of .ensures) ∙ at-arm6 .match .keys6,
+        ),
+      )
 
   pub let-two-requires : lts.Need-let-two-requires (eval-uses t) (eval-at t) eval.Post
   let-two-requires c κs =
       let at-before = c .before in
       let at-arm7 = at-before .before in
-      let (at-kind-of, at-spend, at-else2, at-else1, at-fuel, start) = before-arm7 t at-arm7 in
-      ( omega (arith, start .pre .0, spent-fuel (start .pre .1) (λ e. at-else1 .if1 .left (at-fuel .fuel .ensures ∙ e)) (at-else2 .if2 .left)
-      (at-spend .spend .ensures)), ( (spent-ready (start .pre .1) (λ e. at-else1 .if1 .left (at-fuel .fuel .ensures ∙ e)) (at-else2 .if2 .left)
-      (at-spend .spend .ensures)), sym (at-kind-of .kind-of .ensures) ∙ at-arm7 .match .keys7, ), )
+      let (at-kind-of, at-spend, at-else2, at-else1, at-fuel, start) = before-arm7 t at-arm7 in (
+        omega (
+          arith,
+          start .pre .0,
+          spent-fuel (start .pre .1) (λ e. at-else1 .if1 .left (at-fuel .fuel .ensures ∙ e)) (at-else2 .if2 .left)
+              (at-spend .spend .ensures),
+        ),
+        (
+          (spent-ready (start .pre .1) (λ e. at-else1 .if1 .left (at-fuel .fuel .ensures ∙ e)) (at-else2 .if2 .left)
+              (at-spend .spend .ensures)),
+          sym (at-kind-of .kind-of .ensures) ∙ at-arm7 .match .keys7,
+        ),
+      )
 
   pub choose-requires : lts.Need-choose-requires (eval-uses t) (eval-at t) eval.Post
   choose-requires c κs =
       let at-before = c .before in
       let at-arm8 = at-before .before in
-      let (at-kind-of, at-spend, at-else2, at-else1, at-fuel, start) = before-arm8 t at-arm8 in
-      ( omega (arith, start .pre .0, spent-fuel (start .pre .1) (λ e. at-else1 .if1 .left (at-fuel .fuel .ensures ∙ e)) (at-else2 .if2 .left)
-      (at-spend .spend .ensures)), ( (spent-ready (start .pre .1) (λ e. at-else1 .if1 .left (at-fuel .fuel .ensures ∙ e)) (at-else2 .if2 .left)
-      (at-spend .spend .ensures)), sym (at-kind-of .kind-of .ensures) ∙ at-arm8 .match .keys8, ), )
+      let (at-kind-of, at-spend, at-else2, at-else1, at-fuel, start) = before-arm8 t at-arm8 in (
+        omega (
+          arith,
+          start .pre .0,
+          spent-fuel (start .pre .1) (λ e. at-else1 .if1 .left (at-fuel .fuel .ensures ∙ e)) (at-else2 .if2 .left)
+              (at-spend .spend .ensures),
+        ),
+        (
+          (spent-ready (start .pre .1) (λ e. at-else1 .if1 .left (at-fuel .fuel .ensures ∙ e)) (at-else2 .if2 .left)
+              (at-spend .spend .ensures)),
+          sym (at-kind-of .kind-of .ensures) ∙ at-arm8 .match .keys8,
+        ),
+      )
 
   pub call-requires : lts.Need-call-requires (eval-uses t) (eval-at t) eval.Post
   call-requires c κs =
       let at-before = c .before in
       let at-arm9 = at-before .before in
-      let (at-kind-of, at-spend, at-else2, at-else1, at-fuel, start) = before-arm9 t at-arm9 in
-      ( omega (arith, start .pre .0, spent-fuel (start .pre .1) (λ e. at-else1 .if1 .left (at-fuel .fuel .ensures ∙ e)) (at-else2 .if2 .left)
-      (at-spend .spend .ensures)), ( (spent-ready (start .pre .1) (λ e. at-else1 .if1 .left (at-fuel .fuel .ensures ∙ e)) (at-else2 .if2 .left)
-      (at-spend .spend .ensures)), sym (at-kind-of .kind-of .ensures) ∙ at-arm9 .match .keys9, ), )
+      let (at-kind-of, at-spend, at-else2, at-else1, at-fuel, start) = before-arm9 t at-arm9 in (
+        omega (
+          arith,
+          start .pre .0,
+          spent-fuel (start .pre .1) (λ e. at-else1 .if1 .left (at-fuel .fuel .ensures ∙ e)) (at-else2 .if2 .left)
+              (at-spend .spend .ensures),
+        ),
+        (
+          (spent-ready (start .pre .1) (λ e. at-else1 .if1 .left (at-fuel .fuel .ensures ∙ e)) (at-else2 .if2 .left)
+              (at-spend .spend .ensures)),
+          sym (at-kind-of .kind-of .ensures) ∙ at-arm9 .match .keys9,
+        ),
+      )
 
   pub wrap-requires-3 : lts.Need-wrap-requires-3 (eval-uses t) (eval-at t) eval.Post
   wrap-requires-3 c κs =
       let at-before = c .before in
       let at-arm10 = at-before .before in
-      let (at-kind-of, at-spend, at-else2, at-else1, at-fuel, start) = before-arm10 t at-arm10 in
-      ( omega (arith, start .pre .0, spent-fuel (start .pre .1) (λ e. at-else1 .if1 .left (at-fuel .fuel .ensures ∙ e)) (at-else2 .if2 .left)
-      (at-spend .spend .ensures)), ( (spent-ready (start .pre .1) (λ e. at-else1 .if1 .left (at-fuel .fuel .ensures ∙ e)) (at-else2 .if2 .left)
-      (at-spend .spend .ensures)), right (right (sym (at-kind-of .kind-of .ensures) ∙ at-arm10 .match .keys10, refl)), ), )
+      let (at-kind-of, at-spend, at-else2, at-else1, at-fuel, start) = before-arm10 t at-arm10 in (
+        omega (
+          arith,
+          start .pre .0,
+          spent-fuel (start .pre .1) (λ e. at-else1 .if1 .left (at-fuel .fuel .ensures ∙ e)) (at-else2 .if2 .left)
+              (at-spend .spend .ensures),
+        ),
+        (
+          (spent-ready (start .pre .1) (λ e. at-else1 .if1 .left (at-fuel .fuel .ensures ∙ e)) (at-else2 .if2 .left)
+              (at-spend .spend .ensures)),
+          right (right (sym (at-kind-of .kind-of .ensures) ∙ at-arm10 .match .keys10, refl)),
+        ),
+      )
 
   pub unroll-requires : lts.Need-unroll-requires (eval-uses t) (eval-at t) eval.Post
   unroll-requires c κs =
       let at-before = c .before in
       let at-arm11 = at-before .before in
-      let (at-kind-of, at-spend, at-else2, at-else1, at-fuel, start) = before-arm11 t at-arm11 in
-      ( omega (arith, start .pre .0, spent-fuel (start .pre .1) (λ e. at-else1 .if1 .left (at-fuel .fuel .ensures ∙ e)) (at-else2 .if2 .left)
-      (at-spend .spend .ensures)), ( (spent-ready (start .pre .1) (λ e. at-else1 .if1 .left (at-fuel .fuel .ensures ∙ e)) (at-else2 .if2 .left)
-      (at-spend .spend .ensures)), sym (at-kind-of .kind-of .ensures) ∙ at-arm11 .match .keys11, ), )
+      let (at-kind-of, at-spend, at-else2, at-else1, at-fuel, start) = before-arm11 t at-arm11 in (
+        omega (
+          arith,
+          start .pre .0,
+          spent-fuel (start .pre .1) (λ e. at-else1 .if1 .left (at-fuel .fuel .ensures ∙ e)) (at-else2 .if2 .left)
+              (at-spend .spend .ensures),
+        ),
+        (
+          (spent-ready (start .pre .1) (λ e. at-else1 .if1 .left (at-fuel .fuel .ensures ∙ e)) (at-else2 .if2 .left)
+              (at-spend .spend .ensures)),
+          sym (at-kind-of .kind-of .ensures) ∙ at-arm11 .match .keys11,
+        ),
+      )
 
   pub refuse-requires-3 : lts.Need-refuse-requires-3 (eval-uses t) (eval-at t) eval.Post
   refuse-requires-3 c κs = search needs

@@ -139,6 +139,9 @@ module _ (t : ℕ) where
       let at-before = c .before in
       let at-under = at-before .before in
       let (at-second-of, at-else1, at-eval, at-first-of, start) = before-under at-under in
-      record { lengths = at-under .under .ensures .lengths ∙ (at-eval .eval .ensures) .lengths; ran = let-done (start .pre .1 .0 .ready)
-      (start .pre .1 .1) _ _ (at-first-of .first-of .ensures) (at-second-of .second-of .ensures) (at-eval .eval .ensures .ran)
-      (is-value (at-else1 .if1 .left)) (at-under .under .ensures .ran); }
+      record {
+        lengths = at-under .under .ensures .lengths ∙ (at-eval .eval .ensures) .lengths;
+        ran = let-done (start .pre .1 .0 .ready)
+            (start .pre .1 .1) _ _ (at-first-of .first-of .ensures) (at-second-of .second-of .ensures) (at-eval .eval .ensures .ran)
+            (is-value (at-else1 .if1 .left)) (at-under .under .ensures .ran);
+      }

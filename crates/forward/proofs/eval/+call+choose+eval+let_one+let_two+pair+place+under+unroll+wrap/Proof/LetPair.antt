@@ -209,9 +209,12 @@ module _ (t : ℕ) where
   pub returns-2 : lts.Need-returns-2 (let-two-uses t) (let-two-at t) let-two.Post
   returns-2 c =
       let (at-then2, at-kind-of, at-else1, at-eval, at-first-of, start) = before-refuse c in
-      record { lengths = (at-eval .eval .ensures) .lengths; ran = letp-stuck (start .pre .1 .0 .ready) (start .pre .1 .1) _ _
-      (at-first-of .first-of .ensures) refl (at-eval .eval .ensures .ran) (is-value (at-else1 .if1 .left))
-      (λ e. at-then2 .if2 .taken (at-kind-of .kind-of .ensures ∙ e)) _ (is-stuck (c .refuse .ensures)) refl; }
+      record {
+        lengths = (at-eval .eval .ensures) .lengths;
+        ran = letp-stuck (start .pre .1 .0 .ready) (start .pre .1 .1) _ _
+            (at-first-of .first-of .ensures) refl (at-eval .eval .ensures .ran) (is-value (at-else1 .if1 .left))
+            (λ e. at-then2 .if2 .taken (at-kind-of .kind-of .ensures ∙ e)) _ (is-stuck (c .refuse .ensures)) refl;
+      }
 
   pub left-of-requires : lts.Need-left-of-requires (let-two-uses t) (let-two-at t) let-two.Post
   left-of-requires c κs =
@@ -252,17 +255,21 @@ module _ (t : ℕ) where
 
   pub under-requires : lts.Need-under-requires (let-two-uses t) (let-two-at t) let-two.Post
   under-requires c κs =
-      let (at-second-of, at-bind, at-end-of, at-right-of, at-left-of, at-else2, at-kind-of, at-else1, at-eval, _, start) = before-wider c in
-      ( omega (arith, start .pre .0, (at-eval .eval .ensures .ran) .spends, ap (λ (m : Machine). m .fuel) (at-bind .bind .ensures .machine)),
-      ( under-ready _ (as-ready (later-in (start .pre .1 .0) (at-eval .eval .ensures))
-      (letp-second (later (start .pre .1 .0 .ready) (at-eval .eval .ensures .ran)) (start .pre .1 .1) _ (at-second-of .second-of .ensures)))
-      (lower-part (at-left-of .left-of .ensures) ((value-pair _ _ ((at-eval .eval .ensures .ran) .graph .right) _
-      (at-eval .eval .ensures .ran .node _ (is-value (at-else1 .if1 .left))) (sym (at-kind-of .kind-of .ensures) ∙ at-else2 .if2 .left)) .1)
-      (at-eval .eval .ensures .ran .node _ (is-value (at-else1 .if1 .left)))) (at-bind .bind .ensures) (at-end-of .end-of .ensures)
-      (c .wider .ensures), rw (ap (λ (m : Machine). m .top) (at-bind .bind .ensures .machine))
-      (lower-part (at-right-of .right-of .ensures) ((value-pair _ _ ((at-eval .eval .ensures .ran) .graph .right) _
-      (at-eval .eval .ensures .ran .node _ (is-value (at-else1 .if1 .left))) (sym (at-kind-of .kind-of .ensures) ∙ at-else2 .if2 .left)) .2)
-      (at-eval .eval .ensures .ran .node _ (is-value (at-else1 .if1 .left)))), ), )
+      let (at-second-of, at-bind, at-end-of, at-right-of, at-left-of, at-else2, at-kind-of, at-else1, at-eval, _, start) = before-wider c in (
+        omega (arith, start .pre .0, (at-eval .eval .ensures .ran) .spends, ap (λ (m : Machine). m .fuel) (at-bind .bind .ensures .machine)),
+        (
+          under-ready _ (as-ready (later-in (start .pre .1 .0) (at-eval .eval .ensures))
+              (letp-second (later (start .pre .1 .0 .ready) (at-eval .eval .ensures .ran)) (start .pre .1 .1) _ (at-second-of .second-of .ensures)))
+              (lower-part (at-left-of .left-of .ensures) ((value-pair _ _ ((at-eval .eval .ensures .ran) .graph .right) _
+              (at-eval .eval .ensures .ran .node _ (is-value (at-else1 .if1 .left))) (sym (at-kind-of .kind-of .ensures) ∙ at-else2 .if2 .left)) .1)
+              (at-eval .eval .ensures .ran .node _ (is-value (at-else1 .if1 .left)))) (at-bind .bind .ensures) (at-end-of .end-of .ensures)
+              (c .wider .ensures),
+          rw (ap (λ (m : Machine). m .top) (at-bind .bind .ensures .machine))
+              (lower-part (at-right-of .right-of .ensures) ((value-pair _ _ ((at-eval .eval .ensures .ran) .graph .right) _
+              (at-eval .eval .ensures .ran .node _ (is-value (at-else1 .if1 .left))) (sym (at-kind-of .kind-of .ensures) ∙ at-else2 .if2 .left)) .2)
+              (at-eval .eval .ensures .ran .node _ (is-value (at-else1 .if1 .left)))),
+        ),
+      )
 
   pub same-length-3 : lts.Need-same-length-3 (let-two-uses t) (let-two-at t) let-two.Post
   same-length-3 c =
@@ -274,15 +281,30 @@ module _ (t : ℕ) where
   returns-3 c =
       let at-before = c .before in
       let at-under = at-before .before in
-      let (at-wider, at-second-of, at-bind, at-end-of, at-right-of, at-left-of, at-else2, at-kind-of, at-else1, at-eval, at-first-of,
-          start) = before-under at-under in
-      record { lengths = at-under .under .ensures .lengths ∙ at-bind .bind .ensures .lengths ∙ (at-eval .eval .ensures) .lengths; ran = letp-done
-      (start .pre .1 .0 .ready) (start .pre .1 .1) _ _ (at-first-of .first-of .ensures) (at-second-of .second-of .ensures)
-      (at-eval .eval .ensures .ran) (is-value (at-else1 .if1 .left)) (sym (at-kind-of .kind-of .ensures) ∙ at-else2 .if2 .left) _ _
-      (at-left-of .left-of .ensures) (at-right-of .right-of .ensures)
-      (twice-done _ (as-ready (later-in (start .pre .1 .0) (at-eval .eval .ensures))
-      (letp-second (later (start .pre .1 .0 .ready) (at-eval .eval .ensures .ran)) (start .pre .1 .1) _ (at-second-of .second-of .ensures)))
-      (lower-part (at-left-of .left-of .ensures) ((value-pair _ _ ((at-eval .eval .ensures .ran) .graph .right) _
-      (at-eval .eval .ensures .ran .node _ (is-value (at-else1 .if1 .left))) (sym (at-kind-of .kind-of .ensures) ∙ at-else2 .if2 .left)) .1)
-      (at-eval .eval .ensures .ran .node _ (is-value (at-else1 .if1 .left)))) (at-bind .bind .ensures) (at-end-of .end-of .ensures)
-      (at-wider .wider .ensures) (at-under .under .ensures)); }
+      let (
+        at-wider,
+        at-second-of,
+        at-bind,
+        at-end-of,
+        at-right-of,
+        at-left-of,
+        at-else2,
+        at-kind-of,
+        at-else1,
+        at-eval,
+        at-first-of,
+        start,
+      ) = before-under at-under in
+      record {
+        lengths = at-under .under .ensures .lengths ∙ at-bind .bind .ensures .lengths ∙ (at-eval .eval .ensures) .lengths;
+        ran = letp-done
+            (start .pre .1 .0 .ready) (start .pre .1 .1) _ _ (at-first-of .first-of .ensures) (at-second-of .second-of .ensures)
+            (at-eval .eval .ensures .ran) (is-value (at-else1 .if1 .left)) (sym (at-kind-of .kind-of .ensures) ∙ at-else2 .if2 .left) _ _
+            (at-left-of .left-of .ensures) (at-right-of .right-of .ensures)
+            (twice-done _ (as-ready (later-in (start .pre .1 .0) (at-eval .eval .ensures))
+            (letp-second (later (start .pre .1 .0 .ready) (at-eval .eval .ensures .ran)) (start .pre .1 .1) _ (at-second-of .second-of .ensures)))
+            (lower-part (at-left-of .left-of .ensures) ((value-pair _ _ ((at-eval .eval .ensures .ran) .graph .right) _
+            (at-eval .eval .ensures .ran .node _ (is-value (at-else1 .if1 .left))) (sym (at-kind-of .kind-of .ensures) ∙ at-else2 .if2 .left)) .1)
+            (at-eval .eval .ensures .ran .node _ (is-value (at-else1 .if1 .left)))) (at-bind .bind .ensures) (at-end-of .end-of .ensures)
+            (at-wider .wider .ensures) (at-under .under .ensures));
+      }

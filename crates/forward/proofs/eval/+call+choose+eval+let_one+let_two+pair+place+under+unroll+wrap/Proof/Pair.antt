@@ -161,9 +161,12 @@ module _ (t : ℕ) where
   pub returns-2 : lts.Need-returns-2 (pair-uses t) (pair-at t) pair.Post
   returns-2 c =
       let (at-eval2, at-second-of, at-else1, at-eval, at-first-of, start) = before-then2 c in
-      record { lengths = (at-eval2 .eval2 .ensures) .lengths ∙ (at-eval .eval .ensures) .lengths; ran = pair-refused-2 (start .pre .1 .0 .ready)
-      (start .pre .1 .1) _ _ (at-first-of .first-of .ensures) (at-second-of .second-of .ensures) (at-eval .eval .ensures .ran)
-      (is-value (at-else1 .if1 .left)) (at-eval2 .eval2 .ensures .ran) (is-refused (c .if2 .taken)); }
+      record {
+        lengths = (at-eval2 .eval2 .ensures) .lengths ∙ (at-eval .eval .ensures) .lengths;
+        ran = pair-refused-2 (start .pre .1 .0 .ready)
+            (start .pre .1 .1) _ _ (at-first-of .first-of .ensures) (at-second-of .second-of .ensures) (at-eval .eval .ensures .ran)
+            (is-value (at-else1 .if1 .left)) (at-eval2 .eval2 .ensures .ran) (is-refused (c .if2 .taken));
+      }
 
   pub make-pair-requires : lts.Need-make-pair-requires (pair-uses t) (pair-at t) pair.Post
   make-pair-requires c κs =
@@ -188,7 +191,10 @@ module _ (t : ℕ) where
       let at-before = c .before in
       let at-make-pair = at-before .before in
       let (at-else2, at-eval2, at-second-of, at-else1, at-eval, at-first-of, start) = before-make-pair at-make-pair in
-      record { lengths = at-make-pair .make-pair .ensures .lengths ∙ (at-eval2 .eval2 .ensures) .lengths ∙
-      (at-eval .eval .ensures) .lengths; ran = with-slots (pair-done (start .pre .1 .0 .ready) (start .pre .1 .1) _ _ (at-first-of .first-of .ensures)
-      (at-second-of .second-of .ensures) (at-eval .eval .ensures .ran) (is-value (at-else1 .if1 .left)) (at-eval2 .eval2 .ensures .ran)
-      (is-value (at-else2 .if2 .left)) (at-make-pair .make-pair .ensures .makes)) (at-make-pair .make-pair .ensures .slots); }
+      record {
+        lengths = at-make-pair .make-pair .ensures .lengths ∙ (at-eval2 .eval2 .ensures) .lengths ∙
+            (at-eval .eval .ensures) .lengths;
+        ran = with-slots (pair-done (start .pre .1 .0 .ready) (start .pre .1 .1) _ _ (at-first-of .first-of .ensures)
+            (at-second-of .second-of .ensures) (at-eval .eval .ensures .ran) (is-value (at-else1 .if1 .left)) (at-eval2 .eval2 .ensures .ran)
+            (is-value (at-else2 .if2 .left)) (at-make-pair .make-pair .ensures .makes)) (at-make-pair .make-pair .ensures .slots);
+      }

@@ -173,10 +173,13 @@ module _ (t : ℕ) where
   pub returns-2 : lts.Need-returns-2 (place-uses t) (place-at t) place.Post
   returns-2 c =
       let (at-then2, at-end-of, at-else1, at-eval, at-argument-of, start) = before-bind c in
-      record { lengths = c .bind .ensures .lengths ∙ (at-eval .eval .ensures) .lengths; places = placed-out (at-eval .eval .result) (c .bind .ensures)
-      (place-last (start .pre .1 .0 .ready) (start .pre .1 .1) _ (at-argument-of .argument-of .ensures) (at-eval .eval .ensures .ran)
-      (is-value (at-else1 .if1 .left)) (at-then2 .if2 .taken) _
-      (placed-at (start .args .scope) (start .args .k) (c .bind .ensures) (at-end-of .end-of .ensures) refl)); }
+      record {
+        lengths = c .bind .ensures .lengths ∙ (at-eval .eval .ensures) .lengths;
+        places = placed-out (at-eval .eval .result) (c .bind .ensures)
+            (place-last (start .pre .1 .0 .ready) (start .pre .1 .1) _ (at-argument-of .argument-of .ensures) (at-eval .eval .ensures .ran)
+            (is-value (at-else1 .if1 .left)) (at-then2 .if2 .taken) _
+            (placed-at (start .args .scope) (start .args .k) (c .bind .ensures) (at-end-of .end-of .ensures) refl));
+      }
 
   pub add-next : lts.Need-add-next (place-uses t) (place-at t) place.Post
   add-next c =
@@ -210,7 +213,10 @@ module _ (t : ℕ) where
   pub returns-3 : lts.Need-returns-3 (place-uses t) (place-at t) place.Post
   returns-3 c =
       let (at-place, at-else2, at-end-of, at-else1, at-eval, at-argument-of, start) = before-bind2 c in
-      record { lengths = c .bind2 .ensures .lengths ∙ at-place .place .ensures .lengths ∙ (at-eval .eval .ensures) .lengths; places = placed-out
-      (at-place .place .result) (c .bind2 .ensures) (place-more (start .pre .1 .0 .ready) (start .pre .1 .1) _ (at-argument-of .argument-of .ensures)
-      (at-eval .eval .ensures .ran) (is-value (at-else1 .if1 .left)) (place-less (start .pre .1 .0 .ready) (start .pre .1 .1) (at-else2 .if2 .left))
-      (at-place .place .ensures .places) _ (placed-at (start .args .scope) (start .args .k) (c .bind2 .ensures) (at-end-of .end-of .ensures) refl)); }
+      record {
+        lengths = c .bind2 .ensures .lengths ∙ at-place .place .ensures .lengths ∙ (at-eval .eval .ensures) .lengths;
+        places = placed-out
+            (at-place .place .result) (c .bind2 .ensures) (place-more (start .pre .1 .0 .ready) (start .pre .1 .1) _ (at-argument-of .argument-of .ensures)
+            (at-eval .eval .ensures .ran) (is-value (at-else1 .if1 .left)) (place-less (start .pre .1 .0 .ready) (start .pre .1 .1) (at-else2 .if2 .left))
+            (at-place .place .ensures .places) _ (placed-at (start .args .scope) (start .args .k) (c .bind2 .ensures) (at-end-of .end-of .ensures) refl));
+      }

@@ -111,7 +111,10 @@ module _ (t : ℕ) where
   pub returns-2 : lts.Need-returns-2 (unroll-uses t) (unroll-at t) unroll.Post
   returns-2 c =
       let (at-else1, at-eval, at-second-of, start) = before-unrolled c in
-      record { lengths = (at-eval .eval .ensures) .lengths; ran = unroll-done (start .pre .1 .0 .ready) (start .pre .1 .1) _
-      (at-second-of .second-of .ensures) (at-eval .eval .ensures .ran) (is-value (at-else1 .if1 .left))
-      (c .unrolled .ensures .is _ ((at-eval .eval .ensures .ran) .graph) (at-eval .eval .ensures .ran .node _ (is-value (at-else1 .if1 .left)))
-      (omega (arith, (start .pre .1 .0 .ready) .small, (at-eval .eval .ensures .ran) .owes))); }
+      record {
+        lengths = (at-eval .eval .ensures) .lengths;
+        ran = unroll-done (start .pre .1 .0 .ready) (start .pre .1 .1) _
+            (at-second-of .second-of .ensures) (at-eval .eval .ensures .ran) (is-value (at-else1 .if1 .left))
+            (c .unrolled .ensures .is _ ((at-eval .eval .ensures .ran) .graph) (at-eval .eval .ensures .ran .node _ (is-value (at-else1 .if1 .left)))
+            (omega (arith, (start .pre .1 .0 .ready) .small, (at-eval .eval .ensures .ran) .owes)));
+      }
