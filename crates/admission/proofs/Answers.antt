@@ -7,6 +7,7 @@ use mathlib.Core.Option.{Option, none, some}
 use mathlib.Core.List.{List, [], map}
 use lib.ListN.{length, getD, length-map}
 use lib.Dec.{eqb}
+use package.Rattle.rules.specs.Limits.{maxFunctions}
 use package.Rattle.rules.specs.Val.{Val}
 use package.Rattle.rules.specs.Term.{Fun, nth}
 use package.Rattle.rules.proofs.Basics.{eqb-yes}
@@ -140,7 +141,7 @@ module _ {xs types functions : List ℕ} {table : List (List ℕ)} (A : Admittab
   callable-at = subst (Callable xs types) (sym q) (A .function g l)
 
   -- its row of the table of signatures, by the number as widened
-  pub row-there : {i : ℕ} → i ≡ g → i < 64
+  pub row-there : {i : ℕ} → i ≡ g → i < maxFunctions
   row-there e = omega (arith, l, A .few)
 
   pub row-at : {i : ℕ} → i ≡ g → SignatureIs (functionAt xs at) (getD table i [])

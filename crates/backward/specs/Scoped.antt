@@ -1,4 +1,4 @@
--- What backward evaluation asks of a term's variables, so that a binding state of 32 variables holds them (section 1): every variable that
+-- What backward evaluation asks of a term's variables, so that a view of slots holds them (scopes/specs/Bindings): every variable that
 -- it names is in scope, every binder has room, and every call has as many arguments as its function has parameters. It holds of typed terms:
 -- proofs/Accepted.
 use Prim.Native.Nat.{ℕ, _+_, _≤_, _<_}

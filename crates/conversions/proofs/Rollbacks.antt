@@ -60,7 +60,7 @@ module _ {A B : Type 0} where
 ----------------------------------------------------------------
 -- The newest conversion's run
 
--- in an output of 1,024 bytes row Output refuses nothing
+-- in an output as long as a value may be row Output refuses nothing
 back-whole : (P : Program) (g fuel : ℕ) (anc bytes : List ℕ) (vs : List Val) (v : Val) → ancillae anc ≡ some vs → value bytes ≡ some v
     → called true P g anc bytes fuel maxValueBytes ≡ (admit P g (some vs) (some v) (λ h. h .result) >>= returns P fuel)
 unfolding called runOf

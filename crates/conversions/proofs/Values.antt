@@ -1,5 +1,5 @@
--- What convert and rollback share: a run into an output of 1,024 bytes is the run of the definitions, its value stands at the output's
--- front, and what is answered of the journal that it leaves.
+-- What convert and rollback share: a run into an output as long as a value may be is the run of the definitions, its value stands at
+-- the output's front, and what is answered of the journal that it leaves.
 use Prim.Native.Nat.{ℕ, _≤_}
 use native.Mathlib.Omega.{arith}
 use mathlib.Core.Path.{_≡_, refl, sym, ap, ap₂, subst, _∙_}
@@ -70,7 +70,7 @@ unfolding runOf goes returns
 run-fits true P fuel a e = ran-fits fuel (run-backward-ends fits P unit-fits maxHeight (a .fun) (a .ancillae) (a .value) fuel) e
 run-fits false P fuel a e = ran-fits fuel (run-forward-ends fits P maxHeight (a .fun) (a .ancillae) (a .value) fuel) e
 
--- so an output of 1,024 bytes is long enough
+-- so an output of `maxValueBytes` is long enough
 pub finished-whole : (x : Answer Ran) → ((r : Ran) → x ≡ accepted r → fits (r .value) ≡ true) → finished maxValueBytes x ≡ x
 unfolding finished _>>=_ fits maxValueBytes
 finished-whole (accepted r) f = via _ (require-yes 17 0 (f r refl)) refl
@@ -80,7 +80,7 @@ run-whole : (back : Bool) (P : Program) (fuel : ℕ) (a : Given) → finished ma
 run-whole back P fuel a = finished-whole (runOf back P fuel a) λ r e. run-fits back P fuel a e
 
 ----------------------------------------------------------------
--- A run into an output of 1,024 bytes, as convert and rollback go on from it
+-- A run into an output of `maxValueBytes`, as convert and rollback go on from it
 
 module _ (back : Bool) (P : Program) (g fuel : ℕ) (anc bytes : List ℕ) (as? : Option (List Val)) (v? : Option Val) (as-read : ancillae anc ≡ as?) (v-read : value bytes ≡ v?) where
   pub record Carried (r : Ran) : Type 0 where

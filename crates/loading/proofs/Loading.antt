@@ -4,7 +4,7 @@ use native.Mathlib.Omega.{arith}
 use mathlib.Core.Path.{_≡_, refl, sym, ap, subst, _∙_}
 use mathlib.Core.List.{List}
 use lib.ListN.{length, take}
-use package.Rattle.rules.specs.Limits.{maxTerms, maxVariables, maxNodes}
+use package.Rattle.rules.specs.Limits.{maxTypes, maxTerms, maxVariables, maxNodes}
 use package.Rattle.rules.specs.Typing.{WellTyped}
 use package.Rattle.calls.specs.Answer.{Answer, accepted, refused, _>>=_}
 use package.Rattle.calls.specs.Entries.{entriesAt, programOf}
@@ -79,7 +79,7 @@ module _ {xs types terms functions nodes heap : List ℕ} (T : Typeable xs types
 
 module _ {xs types terms functions nodes : List ℕ} (P : Placed xs types terms functions) (v : tests.Verdict)
     (answered : entries.EntriesTested xs types terms functions nodes v) where
-  pub examine-sound : v ≡ Sound → length nodes ≡ 256 → (heap : List ℕ) → nodeBytes * maxTerms ≤ length heap → Typeable xs types terms functions nodes heap
+  pub examine-sound : v ≡ Sound → length nodes ≡ maxTypes → (heap : List ℕ) → nodeBytes * maxTerms ≤ length heap → Typeable xs types terms functions nodes heap
   examine-sound e l heap room = record {
     read = P;
     tested = sym (answered .answer) ∙ ap entries.verdictOf e;
@@ -97,7 +97,7 @@ module _ {xs types terms functions nodes : List ℕ} (P : Placed xs types terms 
       stopped = via _ (P .read) (stops _ (sym (answered .answer) ∙ e))
 
 -- the nodes of each type have their place
-pub types-held : {xs types terms functions : List ℕ} → Placed xs types terms functions → length types ≤ 256
+pub types-held : {xs types terms functions : List ℕ} → Placed xs types terms functions → length types ≤ maxTypes
 types-held {xs} P = formed xs (P .read) .few-types
 
 ----------------------------------------------------------------

@@ -1,6 +1,6 @@
--- The binding state by value (section 2, backward) is the number of its newest cell (specs/Cells). A view is what the slots of a scope say: 32
--- numbers, of which the first `len` are of variables in scope. Slots are an index, by which the code finds a variable's cell; the state decides
--- whether the cell counts. Laws: proofs/Bound over views, proofs/Views from the code to views.
+-- The binding state by value (section 2, backward) is the number of its newest cell (specs/Cells). A view is what the slots of a scope say: as
+-- many numbers as there may be variables, of which the first `len` are of variables in scope. Slots are an index, by which the code finds a
+-- variable's cell; the state decides whether the cell counts. Laws: proofs/Bound over views, proofs/Views from the code to views.
 use Prim.Native.Nat.{ℕ, zero, suc, _+_, _-_, _≤_, _<_}
 use mathlib.Core.Path.{_≡_}
 use mathlib.Core.Bool.{Bool, true, false}
