@@ -5,7 +5,7 @@
  * calls, and calls on different buffers may run at the same time. No call takes more than 944 KB of stack, as measured.
  *
  * Every call answers, whatever the bytes are. A refusal leaves output and journal as they were. The workspace is all zero after
- * every call, but unchanged after refusal 1. What each refusal means and what to do about it: docs/USING.md.
+ * every call that has one, but unchanged after refusal 1. What each refusal means and what to do about it: docs/USING.md.
  */
 #ifndef COREFUN_H
 #define COREFUN_H
@@ -25,7 +25,7 @@ extern "C" {
 typedef struct corefun_answer {
     uint64_t number; /* the refusal's number, 1 to 20, or 0 where the call is accepted */
     uint64_t place;  /* 2 to 8: the offset of a field in the program; 12 to 16: a term entry; else 0 */
-    uint64_t length; /* of the value that fills the output from its start, or that the journal now holds; else 0 */
+    uint64_t length; /* of what fills the output from its start, or of the value that the journal now holds; else 0 */
     uint64_t steps;  /* that an accepted run, conversion or rollback took; else 0 */
 } corefun_answer;
 
@@ -75,7 +75,7 @@ static inline const char *corefun_meaning(uint64_t number)
         "a value is over 1,024 bytes",
         "the left branch may yield the right branch's value",
         "no input leads to this value",
-        "the output is too short for the value",
+        "the output is too short",
         "the journal is malformed",
         "no conversion stands",
         "64 conversions stand already, or the bytes do not fit"
@@ -86,8 +86,12 @@ static inline const char *corefun_meaning(uint64_t number)
 /* Bytes of workspace that a call needs: `fuel` is 0 for a call that has none. */
 #define COREFUN_WORKSPACE(fuel) ((size_t)32768 + (size_t)32 * (size_t)(fuel))
 
-/* A value has at most so many bytes, so that an output of this length is never too short. */
+/* A value has at most so many bytes, so that an output of this length is never too short for one. */
 #define COREFUN_VALUE_BYTES 1024
+
+/* The fields of all entries of a journal have at most so many bytes: 64 entries, each of tag and length (3), function and steps (6), and
+ * ancillae of at most COREFUN_VALUE_BYTES together. An output of this length is never too short for corefun_workshop. */
+#define COREFUN_ENTRIES_BYTES ((size_t)64 * (3 + 6 + COREFUN_VALUE_BYTES))
 
 /* Bytes of the line that answers a call of a script. */
 #define COREFUN_LINE_BYTES 7
@@ -144,6 +148,28 @@ void corefun_rollback(
     uint16_t fuel,
     uint8_t *workspace, size_t workspace_length,
     uint8_t *journal, size_t journal_length,
+    corefun_answer *answer);
+
+/* What the nurse's reader answers. */
+typedef struct corefun_nurse_answer {
+    uint64_t number;   /* the refusal's number, 17 or 18, or 0 where the call is accepted */
+    uint64_t place;    /* 0 */
+    uint64_t length;   /* of the held value, which fills the output from its start; 0 where the call is refused */
+    uint64_t standing; /* how many conversions stand; 0 where the call is refused */
+} corefun_nurse_answer;
+
+/* Reads a journal at the bedside: the held value fills the output, and nothing else is told but how many conversions stand. It needs no
+ * program and no workspace. Refused are 18, a malformed journal, then 17, an output too short; COREFUN_VALUE_BYTES are always enough. */
+void corefun_nurse(
+    const uint8_t *journal, size_t journal_length,
+    uint8_t *output, size_t output_length,
+    corefun_nurse_answer *answer);
+
+/* Reads a journal at the desk: the fields of all standing conversions, oldest first, fill the output as they stand. It needs no program and
+ * no workspace. Refused are 18, then 17, as above; COREFUN_ENTRIES_BYTES are always enough. */
+void corefun_workshop(
+    const uint8_t *journal, size_t journal_length,
+    uint8_t *output, size_t output_length,
     corefun_answer *answer);
 
 /* How the playing of a script ended. */
@@ -272,6 +298,20 @@ static inline void corefun_rollback_apart(
         corefun_lent(journal), journal_length, answer);
 }
 
+static inline void corefun_nurse_apart(
+    const uint8_t *journal, size_t journal_length, uint8_t *output, size_t output_length, corefun_nurse_answer *answer)
+{
+    assert(corefun_all_apart(output, output_length, NULL, 0, answer, sizeof *answer, journal, journal_length, NULL, 0, NULL, 0));
+    corefun_nurse(corefun_given(journal), journal_length, corefun_lent(output), output_length, answer);
+}
+
+static inline void corefun_workshop_apart(
+    const uint8_t *journal, size_t journal_length, uint8_t *output, size_t output_length, corefun_answer *answer)
+{
+    assert(corefun_all_apart(output, output_length, NULL, 0, answer, sizeof *answer, journal, journal_length, NULL, 0, NULL, 0));
+    corefun_workshop(corefun_given(journal), journal_length, corefun_lent(output), output_length, answer);
+}
+
 static inline void corefun_replay_apart(
     const uint8_t *program, size_t program_length, const uint8_t *script, size_t script_length,
     uint8_t *workspace, size_t workspace_length, uint8_t *journal, size_t journal_length,
@@ -291,6 +331,8 @@ static inline void corefun_replay_apart(
 #define corefun_open corefun_open_apart
 #define corefun_convert corefun_convert_apart
 #define corefun_rollback corefun_rollback_apart
+#define corefun_nurse corefun_nurse_apart
+#define corefun_workshop corefun_workshop_apart
 #define corefun_replay corefun_replay_apart
 
 #ifdef __cplusplus

@@ -48,14 +48,14 @@ fresh() {
 }
 
 claims=(crates/rules/specs/Claims.antt crates/calls/specs/Claims.antt)
-reached "${claims[@]}" crates/engine/specs/Runs.antt crates/answers/specs/Answers.antt crates/calls/specs/{Runs,Conversions,Book}.antt
+reached "${claims[@]}" crates/engine/specs/Runs.antt crates/answers/specs/Answers.antt crates/calls/specs/{Runs,Conversions,Readers,Book}.antt
 for file in "${claims[@]}"; do counted[$file]=1; done
 fresh 'crates/rules/*' && trees=$(lines "${found[@]}")
 fresh 'crates/calls/*' && bytes=$(lines "${found[@]}")
 fresh '*' && words=$(lines "${found[@]}")
 stated=$(lines "${claims[@]}")
-contracts=$(clauses crates/engine/src/*.rt)
-six=$((trees + bytes + stated + words + contracts))
+contracts=$(clauses crates/engine/src/*.rt crates/readers/src/*.rt)
+eight=$((trees + bytes + stated + words + contracts))
 reached crates/replay/specs/{Playing,Booked}.antt
 fresh '*' && replay=$(($(lines "${found[@]}") + $(clauses crates/replay/src/playing.rt)))
 reached crates/batch/specs/Lent.antt
@@ -68,10 +68,10 @@ row "definitions over trees (rules)" "$trees"
 row "definitions on bytes (calls)" "$bytes"
 row "claims (both)" "$stated"
 row "words of the calls' contracts (octets, answers, engine)" "$words"
-row "clauses of the calls' contracts (engine)" "$contracts"
-row "the six calls and all claims" "$six"
+row "clauses of the calls' contracts (engine, readers)" "$contracts"
+row "the eight calls and all claims" "$eight"
 row "replay, words and clauses" "$replay"
 row "lines of text (batch, calltext, messages), words and clauses" "$batch"
 row "the static library (exports), words and clauses" "$exports"
-row "everything public" "$((six + replay + batch + exports))"
+row "everything public" "$((eight + replay + batch + exports))"
 row "cases, computed (not believed)" "$cases"

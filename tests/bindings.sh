@@ -28,6 +28,11 @@ plus_calls() {
     echo "backward $most 1024 28 1 $program - 03${three}0402${three}"
 }
 
+# reader_answers JOURNAL: what both readers answer.
+reader_answers() {
+    printf '%s\n' "nurse 40 $1" "workshop 40 $1" | "$second" answer
+}
+
 # The answers to the calls of the example `journal`, each on the journal that the one before left, and the script's answers.
 journal_answers() {
     local program two=04020402040100 three=040204020402040100 most=33664 journal answer zeros
@@ -35,7 +40,9 @@ journal_answers() {
     zeros=$(printf '00%.0s' {1..40})
     answer=$("$second" answer <<< "open $most $program $three $zeros") && echo "$answer"
     answer=$("$second" answer <<< "convert $most 28 0 $program $two ${answer##* }") && echo "$answer"
+    reader_answers "${answer##* }"
     answer=$("$second" answer <<< "rollback $most 28 $program ${answer##* }") && echo "$answer"
+    reader_answers "${answer##* }"
     answer=$("$second" answer <<< "rollback $most 28 $program ${answer##* }") && echo "$answer"
     # Document 01, section 6, P13, in the lines of docs/USING.md: opened; 13 bytes, 28 steps; 9 bytes, 28 steps; refused 19.
     echo "played 4 4100000000000042000d0000001c4200090000001c43001300000000"
@@ -57,6 +64,11 @@ c_example() {
         diff "$scratch/got" "$scratch/$1"
 }
 
+# caught CALL: a call whose buffers overlap ends the run where assertions are made, and goes on where they are not.
+caught() {
+    "$scratch/slices-unchecked" "$1" | grep -qx "not caught" && ! { (ulimit -c 0; "$scratch/slices" "$1"); } > /dev/null 2>&1
+}
+
 # What the header itself does, with assertions and without them; and that C++ takes it, where there is a C++ compiler.
 c_header() {
     local flags=(-O2 -Wall -Wextra -pedantic -Werror -I include) archive=target/staticlib/libexports.a
@@ -67,9 +79,9 @@ c_header() {
         "$compiler" -std=c99 -DNDEBUG "${flags[@]}" tests/c/slices.c "$archive" -o "$scratch/slices-unchecked" &&
         "$scratch/slices" > "$scratch/got" &&
         diff "$scratch/got" <(printf '%s\n' accepted "the workspace is too short" "there is no such function" \
-            "value bytes are malformed, over the limit or wrong in number" "the journal is malformed") &&
-        "$scratch/slices-unchecked" overlapping | grep -qx "not caught" &&
-        ! (ulimit -c 0; "$scratch/slices" overlapping) > /dev/null 2>&1
+            "value bytes are malformed, over the limit or wrong in number" "the journal is malformed" \
+            "the output is too short" "the journal is malformed") &&
+        caught forward && caught nurse && caught workshop
 }
 
 # rust_example NAME
@@ -90,7 +102,7 @@ for name in plus journal; do
     part "Rust example $name" rust_example "$name"
 done
 if [ -n "$compiler" ]; then part "C, the header's own part" c_header; fi
-part "Rust, a refusal's words are the engine's" cargo test --quiet --release --offline --manifest-path bindings/rust/Cargo.toml --lib
+part "Rust, a refusal's words, and the readers" cargo test --quiet --release --offline --manifest-path bindings/rust/Cargo.toml --lib
 
 echo "$passed passed, $failed failed"
 [ "$failed" -eq 0 ]

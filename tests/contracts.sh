@@ -8,7 +8,7 @@ set -euo pipefail
 cd "${1:-$(dirname "$0")/..}"
 
 # Crates whose public functions ask nothing of their caller.
-open_crates="engine exports replay batch"
+open_crates="engine readers exports replay batch"
 
 sources=()
 while IFS= read -r file; do sources+=("$file"); done < <(find crates -path '*/src/*.rt' | LC_ALL=C sort)

@@ -1,5 +1,5 @@
 #!/usr/bin/env bash
-# Holds docs/USING.md to what it says: every listing is its file, every refusal's words are the engine's, the journal's bytes are the
+# Holds docs/USING.md to what it says: every listing is its file, every refusal's words are the engine's, the journals' bytes are the
 # second evaluator's, and every example, a command behind '$' in a console block, prints the lines below it. Examples are answered twice: by the second evaluator, a refusal by
 # its number and place, and by the program corefun, to the letter. The last line is 'N passed, M failed'; the exit status
 # is 0 only if M is 0.
@@ -37,16 +37,33 @@ refusals() {
     verdict "the words of the refusals" "$status"
 }
 
-# The page's journal: opened with 3, then converted by plus 2 in a buffer of 40 bytes.
-journal() {
-    local program answer zeros status=0
-    program=$(examples/bytes.sh examples/programs/plus.txt | od -An -v -tx1 | tr -d ' \n')
+# hexadecimal FILE: its bytes.
+hexadecimal() { od -An -v -tx1 "$1" | tr -d ' \n'; }
+
+# converted RECORD ANCILLA: a journal that is opened with the record, then converted by plus, in a buffer of 40 bytes.
+converted() {
+    local program answer zeros
+    program=$(hexadecimal <(examples/bytes.sh examples/programs/plus.txt))
     zeros=$(printf '00%.0s' {1..40})
-    answer=$("$second" answer <<< "open $most $program 040204020402040100 $zeros")
-    answer=$("$second" answer <<< "convert $most 28 0 $program 04020402040100 ${answer##* }")
-    diff <(awk '$0 == "```hexadecimal" { inside = 1; next } /^```$/ { inside = 0 } inside' "$page" |
-        sed 's/#.*//' | tr -d ' \n' | tr A-F a-f; echo 0000000000000000) <(echo "${answer##* }") || status=$?
-    verdict "the journal's bytes" "$status"
+    answer=$("$second" answer <<< "open $most $program $1 $zeros")
+    answer=$("$second" answer <<< "convert $most 100 0 $program $2 ${answer##* }")
+    echo "${answer##* }"
+}
+
+# journal WHAT BYTES RECORD ANCILLA
+journal() {
+    local status=0
+    diff <(echo "$2") <(converted "$3" "$4") || status=$?
+    verdict "$1" "$status"
+}
+
+# The page's journals.
+journals() {
+    local block one=0402040100 two=04020402040100 three=040204020402040100
+    block=$(awk '$0 == "```hexadecimal" { inside = 1; next } /^```$/ { inside = 0 } inside' "$page" | sed 's/#.*//' | tr -d ' \n' | tr A-F a-f)
+    journal "the journal's bytes" "${block}0000000000000000" "$three" "$two"
+    journal "3 and 2" "$(hexadecimal <(examples/bytes.sh examples/journals/three-and-two.txt))" "$three" "$two"
+    journal "4 and 1" "$(hexadecimal <(examples/bytes.sh examples/journals/four-and-one.txt))" "0402$three" "$one"
 }
 
 # example WHO COMMAND EXPECTED
@@ -81,14 +98,14 @@ second_as_corefun() {
 #!/usr/bin/env bash
 second=$second
 most=$most
+$(declare -f hexadecimal)
+
 END
     cat << 'END'
-program() { od -An -v -tx1 "$1" | tr -d ' \n'; }
-
 # replay PROGRAM SCRIPT: puts the script's calls one by one, and keeps the journal between them.
 replay() {
     local program script journal= call answer length count=0
-    program=$(program "$1") script=$(program "$2")
+    program=$(hexadecimal "$1") script=$(hexadecimal "$2")
     while [ -n "$script" ]; do
         length=$((16#${script:2:8}))
         journal+=$(printf '00%.0s' $(seq "$length"))
@@ -115,8 +132,10 @@ replay() {
 
 case $1 in
     replay) replay "$2" "$3" ;;
-    check) "$second" answer <<< "check $most $(program "$2")" ;;
-    forward | backward) "$second" answer <<< "$1 $most 1024 $4 $3 $(program "$2") $5 $6" ;;
+    check) "$second" answer <<< "check $most $(hexadecimal "$2")" ;;
+    forward | backward) "$second" answer <<< "$1 $most 1024 $4 $3 $(hexadecimal "$2") $5 $6" ;;
+    nurse | workshop) "$second" answer <<< "$1 $most $(hexadecimal "$2")" ;;
+    batch) "$second" answer ;;
 esac
 END
 }
@@ -124,7 +143,7 @@ END
 cargo build --quiet --release --offline --manifest-path tests/second/Cargo.toml
 listings
 refusals
-journal
+journals
 
 mkdir -p "$scratch/second/bin" "$scratch/corefun/bin"
 second_as_corefun > "$scratch/second/bin/corefun"

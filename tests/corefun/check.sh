@@ -1,7 +1,7 @@
 #!/usr/bin/env bash
 # Runs the program corefun: on the calls of tests/calls, as a batch and one by one, against the second evaluator's answers; on the cases of
-# document 01, section 6; on scripts, against the plain book's answers; and on bad arguments, files and lines, each of which gets a
-# message and no crash.
+# document 01, section 6; on scripts, against the plain book's answers; on journals in files, by both readers; and on bad arguments, files
+# and lines, each of which gets a message and no crash.
 # The last line is 'N passed, M failed'; the exit status is 0 only if M is 0.
 set -euo pipefail
 cd "$(dirname "$0")/../.."
@@ -74,8 +74,8 @@ batches() {
     same "batch of no calls" "$scratch/got" /dev/null
 }
 
-# one CALL: a check or a run of tests/calls as a command, with its answer as a line. The command lends as much workspace and output as any
-# call needs, so calls that are short of them (1, 17) are left out by the caller.
+# one CALL: a check, a run or a reader's call of tests/calls as a command, with its answer as a line. The command lends as much workspace
+# and output as any call needs, so calls that are short of them (1, 17) are left out by the caller.
 one() {
     local name ws a b c d e f
     read -r name ws a b c d e f <<< "$1"
@@ -87,6 +87,10 @@ one() {
         forward | backward)
             bytes "$d" "$scratch/program"
             "$corefun" "$name" "$scratch/program" "$c" "$b" "$e" "$f"
+            ;;
+        nurse | workshop)
+            bytes "$a" "$scratch/journal"
+            "$corefun" "$name" "$scratch/journal"
             ;;
     esac > "$scratch/line" 2>&1 || true
     sed 's/^\(refused [0-9]*\) at \([0-9]*\): .*/\1 \2/' "$scratch/line"
@@ -192,10 +196,61 @@ bad_scripts() {
     complains "SCRIPT holds over 131072 bytes" replay "$plus" "$scratch/long"
     head -c 131072 /dev/zero > "$scratch/long"
     answers_with "malformed at 0: no call stands there" replay "$plus" "$scratch/long"
-    status=0
-    "$corefun" replay "$plus" "$scratch/script" > /dev/full 2> "$scratch/err" || status=$?
-    [ "$(grep -cF "standard output: No space left on device" "$scratch/err")" = 1 ] || status=1
-    verdict "replay into a full device" "$status"
+    into_full_device replay "$plus" "$scratch/script"
+}
+
+# repeated COUNT TEXT
+repeated() { printf "$2%.0s" $(seq "$1"); }
+
+# reads HEX HELD ENTRIES: a file of these bytes is answered so by the two readers.
+reads() {
+    bytes "$1" "$scratch/journal"
+    answers_with "$2" nurse "$scratch/journal"
+    answers_with "$3" workshop "$scratch/journal"
+}
+
+# P13's journal, opened and converted; the longest fields that there are; and what is no journal. FILE may hold zeros behind the fields, up to
+# 131072 bytes in all.
+journals() {
+    local opened converted entry longest malformed="refused 18 at 0: the journal is malformed" zeros
+    opened=210009$(nat 3)
+    entry=22000d00000000001c$(nat 2)
+    converted=21000d$(nat 5)$entry
+    reads "$opened" "held $(nat 3) 0" "bytes -"
+    reads "$converted" "held $(nat 5) 1" "bytes $entry"
+    reads "$converted$(repeated 40 00)" "held $(nat 5) 1" "bytes $entry"
+    reads "$converted$entry$entry" "held $(nat 5) 3" "bytes $entry$entry$entry"
+    longest=$(repeated 64 "220406ffffffffffff$(repeated 1023 04)00")
+    reads "210400$(repeated 1023 04)00$longest" "held $(repeated 1023 04)00 64" "bytes $longest"
+    zeros=$(head -c 262144 /dev/zero | tr '\0' 0)
+    reads "${opened}${zeros:${#opened}}" "held $(nat 3) 0" "bytes -"
+    reads - "$malformed" "$malformed"
+    reads 00 "$malformed" "$malformed"
+    reads "${opened%00}" "$malformed" "$malformed"
+    reads "$opened$opened" "$malformed" "$malformed"
+    reads "${converted}0001" "$malformed" "$malformed"
+    reads "$opened$(repeated 65 "$entry")" "$malformed" "$malformed"
+    reads "$zeros" "$malformed" "$malformed"
+    longest="210400$(repeated 1023 04)00$longest"
+    lines_with "held ${longest:6:2048} 64"$'\nrefused 17 0\n'"bytes ${longest:2054}"$'\nrefused 17 0\n' \
+        < <(printf '%s\n' "nurse 1024 $longest" "nurse 1023 $longest" "workshop 66112 $longest" "workshop 66111 $longest")
+}
+
+# Files that are none, or too long, and arguments that are too few or too many.
+bad_journals() {
+    local reader
+    for reader in nurse workshop; do
+        complains "No such file or directory" "$reader" "$scratch/none"
+        complains "No such file or directory" "$reader" ""
+        complains "Is a directory" "$reader" "$scratch"
+        complains "usage: corefun check FILE" "$reader"
+        complains "usage: corefun check FILE" "$reader" "$scratch/journal" more
+        head -c 131073 /dev/zero > "$scratch/long"
+        complains "JOURNAL holds over 131072 bytes" "$reader" "$scratch/long"
+        head -c 5000000 /dev/zero > "$scratch/longer"
+        complains "JOURNAL holds over 131072 bytes" "$reader" "$scratch/longer"
+        into_full_device "$reader" "$scratch/journal"
+    done
 }
 
 # Programs and values over a limit are answered by the engine.
@@ -244,7 +299,7 @@ lines_with() {
     printf '%s' "$1" > "$scratch/expected"
     if [ "$status" -eq 0 ]; then cmp -s "$scratch/got" "$scratch/expected" || status=1; fi
     if [ "$status" -ne 0 ]; then cut -c1-200 "$scratch/got"; fi
-    verdict "the answers $(head -n 1 <<< "$1")" "$status"
+    verdict "the answers $(head -n 1 <<< "$1" | cut -c1-100)" "$status"
 }
 
 bad_lines() {
@@ -255,22 +310,30 @@ bad_lines() {
     lines_with $'error word 2 is no bytes in hexadecimal\n' < <(printf 'check 32768 \0\n')
     lines_with $'error no call of this name\nerror too few or too many words\nerror word 1 is no number in its range\nok\n' \
         < <(printf 'nothing\ncheck 32768\ncheck x -\ncheck 32768 -\n')
+    lines_with $'error too few or too many words\nerror too few or too many words\nerror word 1 is no number in its range\n' \
+        < <(printf 'nurse 9\nworkshop 9 - -\nnurse x -\n')
+    lines_with $'error word 2 is no bytes in hexadecimal\nerror no call of this name\nrefused 18 0\nrefused 18 0\n' \
+        < <(printf 'workshop 9 0\nnurses 9 -\nnurse 0 -\nworkshop 0 -\n')
+    lines_with $'held 00 0\nrefused 17 0\nbytes -\nheld 00 1\nbytes 220006000000000007\nrefused 17 0\n' \
+        < <(printf '%s\n' "nurse 1 21000100" "nurse 0 21000100" "workshop 0 2100010000" "nurse 99999 21000100220006000000000007" \
+            "workshop 9 21000100220006000000000007" "workshop 8 21000100220006000000000007")
     lines_with $'refused 3 0\nok\n' < <(printf 'check 999999 %s\ncheck 32768 -\n' "$zeros")
     lines_with "$long"$'ok\n' < <(printf 'check 9999999 %s\ncheck 32768 -\n' "$zeros")
     lines_with "$long"$'ok\n' < <(printf 'check 32768 %s%s%s\ncheck 32768 -' "$zeros" "$zeros" "$zeros")
     lines_with "$long" < <(printf 'check 32768 %s%s%s' "$zeros" "$zeros" "$zeros")
 }
 
-# An output that takes nothing ends the run with a message.
-full_output() {
+# into_full_device ARGUMENT..: an output that takes nothing ends the run with a message, once.
+into_full_device() {
     local status=0
-    "$corefun" check "$scratch/plus" > /dev/full 2> "$scratch/err" || status=$?
-    grep -qF "standard output: No space left on device" "$scratch/err" || status=1
-    verdict "check into a full device" "$status"
-    status=0
-    "$corefun" batch < "$calls" > /dev/full 2> "$scratch/err" || status=$?
+    "$corefun" "$@" > /dev/full 2> "$scratch/err" < "${input:-/dev/null}" || status=$?
     [ "$(grep -cF "standard output: No space left on device" "$scratch/err")" = 1 ] || status=1
-    verdict "batch into a full device" "$status"
+    verdict "$1 into a full device" "$status"
+}
+
+full_output() {
+    into_full_device check "$scratch/plus"
+    input=$calls into_full_device batch
 }
 
 status=0
@@ -285,6 +348,8 @@ singles
 cases
 scripts
 bad_scripts
+journals
+bad_journals
 limits
 bad_arguments
 bad_lines

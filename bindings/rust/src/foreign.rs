@@ -1,7 +1,8 @@
 //! The library's own functions (include/corefun.h), each called with the pointers and lengths of slices, and what they tell. That is all
 //! that they ask for, so that these calls are safe.
 
-/// What a call tells: number (0 accepted), place, length of the value, steps. Replay: how it ended, count or offset, number, place.
+/// What a call tells: number (0 accepted), place, length of the value, steps. Nurse: how many conversions stand in place of the steps.
+/// Workshop: the length of what it has written. Replay: how it ended, count or offset, number, place.
 pub type Told = [u64; 4];
 
 type RunFunction = unsafe extern "C" fn(
@@ -15,6 +16,14 @@ type RunFunction = unsafe extern "C" fn(
     fuel: u16,
     workspace: *mut u8,
     workspace_length: usize,
+    output: *mut u8,
+    output_length: usize,
+    told: *mut Told,
+);
+
+type ReadFunction = unsafe extern "C" fn(
+    journal: *const u8,
+    journal_length: usize,
     output: *mut u8,
     output_length: usize,
     told: *mut Told,
@@ -90,6 +99,20 @@ extern "C" {
         workspace_length: usize,
         journal: *mut u8,
         journal_length: usize,
+        told: *mut Told,
+    );
+    fn corefun_nurse(
+        journal: *const u8,
+        journal_length: usize,
+        output: *mut u8,
+        output_length: usize,
+        told: *mut Told,
+    );
+    fn corefun_workshop(
+        journal: *const u8,
+        journal_length: usize,
+        output: *mut u8,
+        output_length: usize,
         told: *mut Told,
     );
     fn corefun_replay(
@@ -218,6 +241,22 @@ pub fn rollback(program: &[u8], fuel: u16, workspace: &mut [u8], journal: &mut [
             journal.len(),
             &mut told,
         );
+    }
+    told
+}
+
+pub fn nurse(journal: &[u8], output: &mut [u8]) -> Told {
+    see(corefun_nurse, journal, output)
+}
+
+pub fn workshop(journal: &[u8], output: &mut [u8]) -> Told {
+    see(corefun_workshop, journal, output)
+}
+
+fn see(reader: ReadFunction, journal: &[u8], output: &mut [u8]) -> Told {
+    let mut told = NOTHING;
+    unsafe {
+        reader(journal.as_ptr(), journal.len(), output.as_mut_ptr(), output.len(), &mut told);
     }
     told
 }

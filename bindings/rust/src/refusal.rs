@@ -44,7 +44,7 @@ pub enum Refusal {
     FirstMatch(TermEntry),
     /// 16: no input leads to this value.
     NoInput(TermEntry),
-    /// 17: the output is too short for the value.
+    /// 17: the output is too short.
     Output,
     /// 18: the journal is malformed.
     Journal,
@@ -72,7 +72,7 @@ const MEANINGS: [&str; 20] = [
     "a value is over 1,024 bytes",
     "the left branch may yield the right branch's value",
     "no input leads to this value",
-    "the output is too short for the value",
+    "the output is too short",
     "the journal is malformed",
     "no conversion stands",
     "64 conversions stand already, or the bytes do not fit",

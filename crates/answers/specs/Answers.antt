@@ -1,17 +1,23 @@
 -- The answers of the public calls in the definitions' terms (section 4): of each kind of refusal its number and place, of each answer
--- what calls/specs/Runs says it is.
+-- what calls/specs/Runs, Conversions and Readers say it is.
 use Prim.Native.Nat.{ℕ, _≤_}
 use mathlib.Core.List.{List}
+use lib.ListN.{length}
 use package.Rattle.rules.specs.Val.{size}
 use package.Rattle.calls.specs.Answer.{Answer, accepted, refused}
 use package.Rattle.calls.specs.Runs.{Ran}
 use package.Rattle.calls.specs.Conversions.{Turned}
+use package.Rattle.calls.specs.Readers.{Seen}
 use package.Rattle.answers.specs.declared.Refusal.{Refusal}
 use package.Rattle.answers.specs.declared.Refusal.the-variants.{Workspace, Field, Limit, Reference, NamedType, Mismatch, Scope, Usage, Function, Values, ValueType, Fuel, Height, Long, FirstMatch, NoInput, Output, Journal, Standing, Full}
 use package.Rattle.answers.specs.declared.CheckAnswer.{CheckAnswer}
 use package.Rattle.answers.specs.declared.CheckAnswer.the-variants as checks
 use package.Rattle.answers.specs.declared.RunAnswer.{RunAnswer}
 use package.Rattle.answers.specs.declared.RunAnswer.the-variants as runs
+use package.Rattle.answers.specs.declared.NurseAnswer.{NurseAnswer}
+use package.Rattle.answers.specs.declared.NurseAnswer.the-variants as nurses
+use package.Rattle.answers.specs.declared.WriteAnswer.{WriteAnswer}
+use package.Rattle.answers.specs.declared.WriteAnswer.the-variants as writes
 
 -- the number of a refusal by section 4's table, and its place: for 2 to 8 the offset of the field's first byte, for 12 to 16 the term entry,
 -- otherwise 0
@@ -53,6 +59,16 @@ abbrev pub runAnswer : RunAnswer → Answer (ℕ × ℕ)
 runAnswer (runs.Ran d) = accepted (d .len, d .steps)
 runAnswer (runs.Refused r) = refused (numberOf r) (placeOf r)
 
+-- the nurse's reader answers the held value's length and how many conversions stand, or a refusal (02, F-1)
+abbrev pub nurseAnswer : NurseAnswer → Answer (ℕ × ℕ)
+nurseAnswer (nurses.Shows s) = accepted (s .len, s .standing)
+nurseAnswer (nurses.Refused r) = refused (numberOf r) (placeOf r)
+
+-- a call that writes bytes into its output answers their length, or a refusal
+abbrev pub writeAnswer : WriteAnswer → Answer ℕ
+writeAnswer (writes.Wrote n) = accepted n
+writeAnswer (writes.Refused r) = refused (numberOf r) (placeOf r)
+
 -- what is answered of an outcome; a refusal stands
 abbrev pub answering : {A B : Type 0} → (A → B) → Answer A → Answer B
 answering f (accepted a) = accepted (f a)
@@ -69,6 +85,14 @@ openAnswer = answering λ journal. tt
 -- of convert and rollback the held value's length and the steps
 abbrev pub heldAnswer : Answer Turned → Answer (ℕ × ℕ)
 heldAnswer = answering λ t. (t .held, t .steps)
+
+-- of what the nurse is told the held value's length, since the value itself fills the output, and the count
+abbrev pub seenAnswer : Answer Seen → Answer (ℕ × ℕ)
+seenAnswer = answering λ s. (size (s .held), s .standing)
+
+-- of bytes their length
+abbrev pub lengthAnswer : Answer (List ℕ) → Answer ℕ
+lengthAnswer = answering length
 
 -- Answered in a workspace that is long enough: whatever is refused, not with 1. Such a call clears its workspace (section 4).
 pub data Later {A : Type 0} : Answer A → Type 0 where

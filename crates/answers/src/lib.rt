@@ -42,3 +42,20 @@ pub enum RunAnswer {
     Ran(Done),
     Refused(Refusal),
 }
+
+// The length of the held value, which the nurse's reader wrote, and how many conversions stand (document 02, F-1).
+pub struct Shown {
+    pub len: u16,
+    pub standing: u16,
+}
+
+pub enum NurseAnswer {
+    Shows(Shown),
+    Refused(Refusal),
+}
+
+// How many bytes a call wrote into its output.
+pub enum WriteAnswer {
+    Wrote(usize),
+    Refused(Refusal),
+}

@@ -1,27 +1,33 @@
 -- A length beyond the most that makes a difference changes no answer (specs/Capped): the workspace is held to what the fuel needs, the
--- output to a value, which has at most `maxValueBytes` bytes.
+-- output to what a call writes, a value, which has at most `maxValueBytes` bytes, or the entries of a journal.
 use Prim.Native.Nat.{ℕ, _≤_, _<_}
 use native.Mathlib.Omega.{arith}
-use mathlib.Core.Path.{_≡_, refl, sym, ap, ap₂, _∙_}
+use mathlib.Core.Path.{_≡_, refl, sym, ap, ap₂, subst, _∙_}
 use mathlib.Core.Bool.{Bool, true, false, cond}
 use mathlib.Core.List.{List}
-use lib.ListN.{length, take}
+use lib.ListN.{length, take, drop, take-append-drop}
 use lib.Seq.{length-take-le}
 use lib.Dec.{leb}
 use borrow.Author.Tests.{le-leb, lt-leb, leb-true, leb-false}
+use package.Rattle.octets.specs.Numbers.{AreBytes}
+use package.Rattle.octets.proofs.Numbers.{bytes-left}
 use package.Rattle.rules.specs.Limits.{fits, maxValueBytes}
 use package.Rattle.rules.specs.Val.{Val, size}
 use package.Rattle.rules.specs.Run.{Res, ok, stop, stuck}
 use package.Rattle.rules.proofs.Numbers.{Ends, answer-ends}
-use package.Rattle.calls.specs.Answer.{Answer, accepted, refused, _>>=_, require}
+use package.Rattle.calls.specs.Answer.{Answer, accepted, refused, _>>=_, require, present}
 use package.Rattle.calls.specs.Load.{load}
 use package.Rattle.calls.specs.Values.{value, ancillae}
 use package.Rattle.calls.specs.Runs.{workspaceFor, prepared, admit, Ran, ran, goes, returns, checkCall, forwardCall, backwardCall}
 use package.Rattle.calls.specs.Conversions.{openCall, convertCall, rollbackCall}
-use package.Rattle.calls.proofs.Answer.{refused≢accepted, accepted-inj, unbind, required}
+use package.Rattle.calls.specs.Journal.{entryFields, readJournal}
+use package.Rattle.calls.specs.Readers.{nurseOf, workshopOf, nurseCall, workshopCall, heldBytes}
+use package.Rattle.calls.proofs.Answer.{refused≢accepted, accepted-inj, unbind, required, presented}
+use package.Rattle.calls.proofs.Readers.{held-most, entries-most}
 use package.Rattle.calls.proofs.Runs.Calls.{Direction, onward, back, directed}
 use package.Rattle.engine.specs.Runs.{runCall}
 use package.Rattle.batch.specs.Capped.{mostWorkspace, mostOutput, capped}
+use package.Rattle.batch.specs.Answering.{shownText, listedText, readText, readBytes}
 
 ----------------------------------------------------------------
 -- Lengths
@@ -83,9 +89,14 @@ unfolding _>>=_
 go-on (accepted a) f g h = h a refl
 go-on (refused n p) f g h = refl
 
+-- the test of room, of what is within the most
+room-capped : {A : Type 0} (k out : ℕ) (a : A) → k ≤ mostOutput
+    → (require (leb k (capped mostOutput out)) 17 0 >>= λ room. accepted a) ≡ (require (leb k out) 17 0 >>= λ room. accepted a)
+room-capped k out a h = ap (λ t. require t 17 0 >>= λ room. accepted a) (leb-capped mostOutput k out h)
+
 -- a value that a run answers fits
 ran-fits : (fuel : ℕ) (x : Res Val) (r : Ran) → Ends (λ w. fits w ≡ true) x → ran fuel x ≡ accepted r → size (r .value) ≤ mostOutput
-unfolding ran fits mostOutput
+unfolding ran fits maxValueBytes mostOutput
 ran-fits fuel (ok v left) r e a = omega (arith, leb-true (size v) maxValueBytes (answer-ends e refl), ap (λ r. size (r .value)) (accepted-inj a))
 ran-fits fuel (stop n k) r e a = absurd (refused≢accepted a)
 ran-fits fuel stuck r e a = absurd (refused≢accepted a)
@@ -99,7 +110,7 @@ module _ (D : Direction) (ws out fuel fn : ℕ) (program anc bytes : List ℕ) w
       ∙ go-on (prepared program fuel ws) _ _ λ P p.
       go-on (admit P fn (ancillae anc) (value bytes) (D .side)) _ _ λ a q.
       go-on (ran fuel (D .run P a fuel)) _ _ λ r s.
-      ap (λ t. require t 17 0 >>= λ room. accepted r) (leb-capped mostOutput (size (r .value)) out (ran-fits fuel (D .run P a fuel) r (D .ends P a fuel) s))
+      room-capped (size (r .value)) out r (ran-fits fuel (D .run P a fuel) r (D .ends P a fuel) s)
 
   directed-within : (r : Ran) → directed D ws out fuel fn program anc bytes ≡ accepted r → size (r .value) ≤ out
   unfolding directed
@@ -122,6 +133,18 @@ unfolding runCall forwardCall backwardCall goes returns directed
 run-within true ws out fuel fn program anc bytes r e = directed-within back ws out fuel fn program anc bytes r e
 run-within false ws out fuel fn program anc bytes r e = directed-within onward ws out fuel fn program anc bytes r e
 
+-- a reader's output is held to what a journal in form can write
+module _ (journal : List ℕ) (bytes : AreBytes journal) (out : ℕ) where
+  nurse-capped : nurseCall journal (capped mostOutput out) ≡ nurseCall journal out
+  unfolding nurseCall nurseOf maxValueBytes mostOutput
+  nurse-capped = go-on (present (readJournal journal) 18) _ _ λ J e.
+      room-capped (size (J .held)) out _ (omega (arith, held-most journal bytes (presented (readJournal journal) 18 e)))
+
+  workshop-capped : workshopCall journal (capped mostOutput out) ≡ workshopCall journal out
+  unfolding workshopCall workshopOf mostOutput
+  workshop-capped = go-on (present (readJournal journal) 18) _ _ λ J e.
+      room-capped (length (entryFields (J .entries))) out _ (entries-most journal bytes (presented (readJournal journal) 18 e))
+
 ----------------------------------------------------------------
 -- Calls in what is lent
 
@@ -136,6 +159,28 @@ pub run-lent : (b : Bool) (ws out : ℕ) {k l : ℕ} → k ≡ capped mostWorksp
 run-lent b ws out e f buffer space h h′ fuel fn program anc bytes fuelled =
     ap₂ (λ n m. runCall b program fn anc bytes fuel n m) (lent-length mostWorkspace ws e buffer h) (lent-length mostOutput out f space h′)
     ∙ run-capped b ws out fuel fn program anc bytes fuelled
+
+-- a reader of the front of a buffer of bytes
+module _ (buffer : List ℕ) (bytes : AreBytes buffer) (n out : ℕ) {l : ℕ} (e : l ≡ capped mostOutput out) (space : List ℕ)
+    (h : mostOutput ≤ length space) where
+  front-bytes : AreBytes (take n buffer)
+  front-bytes = bytes-left (take n buffer) (drop n buffer) (subst AreBytes (sym (take-append-drop n buffer)) bytes)
+
+  seen-lent : nurseCall (take n buffer) (length (take l space)) ≡ nurseCall (take n buffer) out
+  seen-lent = ap (nurseCall (take n buffer)) (lent-length mostOutput out e space h) ∙ nurse-capped (take n buffer) front-bytes out
+
+  listed-lent : workshopCall (take n buffer) (length (take l space)) ≡ workshopCall (take n buffer) out
+  listed-lent = ap (workshopCall (take n buffer)) (lent-length mostOutput out e space h) ∙ workshop-capped (take n buffer) front-bytes out
+
+  pub text-lent : (w : Bool) → readText w (take n buffer) (length (take l space)) ≡ readText w (take n buffer) out
+  unfolding readText
+  text-lent true = ap listedText listed-lent
+  text-lent false = ap shownText seen-lent
+
+  pub bytes-lent : (w : Bool) → readBytes w (take n buffer) (length (take l space)) ≡ readBytes w (take n buffer) out
+  unfolding readBytes
+  bytes-lent true = listed-lent
+  bytes-lent false = ap heldBytes seen-lent
 
 -- the program comes after the workspace, in every call
 first-same : {A B : Type 0} {x y : Answer A} (f : A → Answer B) → x ≡ y → (x >>= f) ≡ (y >>= f)

@@ -5,14 +5,14 @@ use mathlib.Core.Bool.{Bool, true, false, _&&_}
 use mathlib.Core.List.{List, _++_}
 use lib.ListN.{length, take, drop}
 use lib.Dec.{leb}
-use package.Rattle.calls.specs.Answer.{cleared}
+use package.Rattle.calls.specs.Answer.{cleared, overwritten}
 use package.Rattle.calls.specs.Runs.{checkCall, written}
 use package.Rattle.calls.specs.Book.{afterOpen, afterTurned}
-use package.Rattle.calltext.specs.Calls.{Line, checkLine, runLine, openLine, convertLine, rollbackLine, noCall, wordCount, noNumber, noBytes, readLine}
+use package.Rattle.calltext.specs.Calls.{Line, checkLine, runLine, openLine, convertLine, rollbackLine, readerLine, noCall, wordCount, noNumber, noBytes, readLine}
 use package.Rattle.calltext.specs.Left.{programLeft, ancillaeLeft, valueLeft}
 use package.Rattle.calltext.specs.Wrote.{Wrote}
 use package.Rattle.batch.specs.Capped.{mostWorkspace, mostOutput, capped, answerRoom}
-use package.Rattle.batch.specs.Answering.{ranBy, openedBy, convertedBy, rolledBackBy, answerTo, answerLine}
+use package.Rattle.batch.specs.Answering.{ranBy, openedBy, convertedBy, rolledBackBy, readBy, answerTo, answerLine}
 use package.Rattle.batch.specs.declared.LineAnswer.{LineAnswer}
 use package.Rattle.batch.specs.declared.LineAnswer.the-variants.{Ends, Short}
 
@@ -31,15 +31,17 @@ workspaceAfter (runLine c) buffer = onFront (capped mostWorkspace (c .workspace)
 workspaceAfter (openLine c) buffer = onFront (capped mostWorkspace (c .workspace)) (cleared (openedBy c)) buffer
 workspaceAfter (convertLine c) buffer = onFront (capped mostWorkspace (c .workspace)) (cleared (convertedBy c)) buffer
 workspaceAfter (rollbackLine c) buffer = onFront (capped mostWorkspace (c .workspace)) (cleared (rolledBackBy c)) buffer
+workspaceAfter (readerLine c) buffer = buffer
 workspaceAfter noCall buffer = buffer
 workspaceAfter wordCount buffer = buffer
 workspaceAfter (noNumber k) buffer = buffer
 workspaceAfter (noBytes k) buffer = buffer
 
--- the part of the output that a line names, after a run
+-- the part of the output that a line names, after a run or a reader
 unfoldable pub outputAfter : Line → List ℕ → List ℕ
 unfolding onFront
 outputAfter (runLine c) buffer = onFront (capped mostOutput (c .output)) (written (ranBy c)) buffer
+outputAfter (readerLine c) buffer = onFront (capped mostOutput (c .output)) (overwritten (readBy c)) buffer
 outputAfter (checkLine ws p) buffer = buffer
 outputAfter (openLine c) buffer = buffer
 outputAfter (convertLine c) buffer = buffer
@@ -57,6 +59,7 @@ journalAfter (convertLine c) buffer = onFront (length (c .journal)) (λ j. after
 journalAfter (rollbackLine c) buffer = onFront (length (c .journal)) (λ j. afterTurned j (rolledBackBy c) .journal) buffer
 journalAfter (checkLine ws p) buffer = buffer
 journalAfter (runLine c) buffer = buffer
+journalAfter (readerLine c) buffer = buffer
 journalAfter noCall buffer = buffer
 journalAfter wordCount buffer = buffer
 journalAfter (noNumber k) buffer = buffer

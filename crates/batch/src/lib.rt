@@ -5,6 +5,8 @@
 mod making;
 // the calls on a journal
 mod keeping;
+// the readers of a journal
+mod reading;
 // the line that answers what was read
 mod replying;
 // whether the buffers are long enough

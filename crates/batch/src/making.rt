@@ -2,9 +2,9 @@
 use answers::RunAnswer;
 use calltext::calls::CheckCall;
 use calltext::calls::RunCall;
+use journal::places::MOST_ENTRIES;
 use messages::replies;
 use rules::MAX_FUEL;
-use rules::MAX_VALUE_BYTES;
 use rules::WORKSPACE_BASE;
 use rules::WORKSPACE_PER_FUEL;
 ghost use mathlib.Core.Path.{_≡_};
@@ -22,8 +22,8 @@ ghost use Rattle.batch.specs.Lent.{onFront};
 // The workspace for the most fuel.
 pub(crate) const MOST_WORKSPACE: usize = WORKSPACE_BASE + WORKSPACE_PER_FUEL * MAX_FUEL;
 
-// The most bytes of a value.
-pub(crate) const MOST_OUTPUT: usize = MAX_VALUE_BYTES;
+// The most bytes that a call writes: the entries of a journal, which may take more than a value.
+pub(crate) const MOST_OUTPUT: usize = MOST_ENTRIES;
 
 // A length, at most `most`.
 pub(crate) fn least(n: usize, most: usize) -> usize

@@ -1,6 +1,7 @@
 // The line that answers what was read of a line: a call's answer, or what is wrong with the line.
 use crate::keeping;
 use crate::making;
+use crate::reading;
 use calltext::answers as texts;
 use calltext::calls::Parsed;
 use calltext::decimal;
@@ -44,6 +45,7 @@ pub(crate) fn reply(
         Parsed::Opens(call) => keeping::open(call, program, ancillae, value, workspace, out),
         Parsed::Converts(call) => keeping::convert(call, program, ancillae, value, workspace, out),
         Parsed::RollsBack(call) => keeping::rollback(call, program, value, workspace, out),
+        Parsed::Reads(call) => reading::read(call, value, output, out),
         Parsed::NoCall => texts::put(b"error no call of this name\n", out, 0),
         Parsed::WordCount => texts::put(b"error too few or too many words\n", out, 0),
         Parsed::NoNumber(k) => word_error(k, b" is no number in its range\n", out),

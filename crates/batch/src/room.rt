@@ -6,7 +6,7 @@ ghost use lib.Dec.{leb};
 ghost use Rattle.batch.specs.Capped.{answerRoom};
 ghost use Rattle.batch.specs.Lent.{digitsFit, enough};
 
-// The room that an answer needs beside a journal in hexadecimal: for a value in hexadecimal, and for words and numbers.
+// The room that an answer needs beside a journal in hexadecimal: for an output in hexadecimal, and for words and numbers.
 const ANSWER_ROOM: usize = 2 * making::MOST_OUTPUT + 64;
 
 // Is there room for so many digits in so many bytes, two a byte?

@@ -18,7 +18,7 @@ use package.Rattle.calls.specs.Journal.{field}
 use package.Rattle.calls.specs.Cases.{refs, termField, ample}
 use package.Rattle.calls.specs.Borders.{copies}
 use package.Rattle.borders.specs.Borders.{offsets}
-use package.Rattle.calls.proofs.Answer.{via, require-yes}
+use package.Rattle.calls.proofs.Answer.{via, stops, require-yes, require-no}
 
 -- the field of a unit term
 abbrev pub unitTerm : List ℕ
@@ -31,14 +31,6 @@ only ts = record { types = []; terms = ts; functions = [] }
 and-true : (t : Bool) → (true && t && true && true) ≡ t
 and-true true = refl
 and-true false = refl
-
-require-no : (n p : ℕ) {b : Bool} → b ≡ false → require b n p ≡ refused n p
-unfolding require
-require-no n p e = ap (λ b. require b n p) e
-
-stopped : {A B : Type 0} {x : Answer A} (k : A → Answer B) {n p : ℕ} → x ≡ refused n p → (x >>= k) ≡ refused n p
-unfolding _>>=_
-stopped k e = ap (λ x. x >>= k) e
 
 ----------------------------------------------------------------
 -- One field, behind others
@@ -112,7 +104,7 @@ module _ (front rest : List ℕ) where
   one-over m last ts h full =
       rw (readFields, ne-eqb (length front) (length xs) (λ e. omega (arith, longer, e)))
       (via _ (require-yes 2 (length front) (formed last h))
-      (stopped _ (require-no 3 (length front)
+      (stops _ (require-no 3 (length front)
       (ap (withinCounts xs (length front)) (with-term ts) ∙ within (ts ++ (length front ∷ []))
       ∙ lt-leb (length (ts ++ (length front ∷ []))) maxTerms (omega (arith, length-append ts (length front ∷ []), full))))))
 
@@ -167,7 +159,7 @@ over-terms = via _ (require-yes 3 0 refl) (overflows 1024 4099 (omega arith) [] 
 -- what the reading refuses, a call refuses
 layout-refused : (ws : ℕ) (program : List ℕ) {n p : ℕ} → leb (workspaceFor 0) ws ≡ true → layout program ≡ refused n p → checkCall program ws ≡ refused n p
 unfolding checkCall prepared load
-layout-refused ws program h e = stopped _ (via _ (require-yes 1 0 h) (stopped _ e))
+layout-refused ws program h e = stops _ (via _ (require-yes 1 0 h) (stops _ e))
 
 ample-enough : leb (workspaceFor 0) ample ≡ true
 unfolding workspaceFor workspaceBase workspacePerFuel

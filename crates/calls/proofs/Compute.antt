@@ -10,15 +10,16 @@ use package.Rattle.rules.specs.Check.{_>>=_, _>>_, need, asSum, asProd, asMu, a
 use package.Rattle.rules.specs.Run.{after, enter, test}
 use package.Rattle.rules.specs.Machine.{onSum, onPair, onRoll, onUnit, onSome, known, bindOr, meet, leave, each, made, forwardStep, forward, backwardStep, backward, runForward, runBackward}
 use package.Rattle.rules.specs.Cases.{num}
-use package.Rattle.calls.specs.Answer.{_>>=_ as _>>=Answer_, require, present, cleared}
+use package.Rattle.calls.specs.Answer.{_>>=_ as _>>=Answer_, require, present, cleared, bytesWritten, overwritten}
 use package.Rattle.calls.specs.Fields.{tagAt, lengthAt, nextAt, kindAt, parametersAt, typeLengths, termLengths, callLength, typeLength, termLength, functionLength, bodyFits, wellFormed, noFields, withField, withinCounts, readFields, layout}
 use package.Rattle.calls.specs.Entries.{references, typeOfKind, typeAt, typeTree, typeBelow, typeOf, termOfKind, callAncillae, termAt, termTrees, termTree, termBelow, termOf, functionAt, functionOf, entriesAt, programOf}
 use package.Rattle.calls.specs.Named.{closed, plain, namesOf, typesOfType, typesOfTerm, termsOfTerm, functionsOfTerm, typesOfFunction, below, member, fresh, allPlain, testTypes, testTerms, testFunctions, testUsed, testEntries}
 use package.Rattle.calls.specs.Load.{offset, typed, load}
 use package.Rattle.calls.specs.Values.{then, read, alone, value, encodeAll, consTo, readAll, ancillae, hasTy, hasTys}
-use package.Rattle.calls.specs.Runs.{workspaceFor, prepared, admit, ran, goes, returns, checkCall, forwardCall, backwardCall, written}
+use package.Rattle.calls.specs.Runs.{workspaceFor, prepared, admit, ran, goes, returns, checkCall, forwardCall, backwardCall, valueBytes, written}
 use package.Rattle.calls.specs.Journal.{field, heldTag, entryTag, entryBody, entryFields, fields, writeOut, _>>=_ as _>>=Journal_, provided, opened, readEntry, allZero, readEntries, readJournal}
 use package.Rattle.calls.specs.Conversions.{kept, turned, behind, newest, openCall, convertCall, rollbackCall}
+use package.Rattle.calls.specs.Readers.{mostEntries, nurseOf, workshopOf, nurseCall, workshopCall, heldBytes}
 use package.Rattle.calls.specs.Book.{buffer, orStays, carryBy, carry, through, entriesOf, journalOf, refusalOf, refusal, orUnit, orNone, orEmpty, enters, turnUnless, bookTurn, bookRun, resized, afterTurned, afterOpen, call, callRun}
 use package.Rattle.calls.specs.Cases.{refs, typeField, termField, varField, functionField, natTypes, numberTerms, numberFunctions, numbers, bitTypes, collapse, discards, flip, units}
 
@@ -75,7 +76,7 @@ unfolding then read alone value encodeAll consTo readAll ancillae hasTy hasTys
 of-values = tt
 
 unfoldable of-runs : Unit {0}
-unfolding workspaceFor prepared admit ran goes returns checkCall forwardCall backwardCall written
+unfolding workspaceFor prepared admit ran goes returns checkCall forwardCall backwardCall valueBytes written
 of-runs = tt
 
 unfoldable of-journal : Unit {0}
@@ -90,6 +91,10 @@ unfoldable of-conversions : Unit {0}
 unfolding kept turned behind newest openCall convertCall rollbackCall
 of-conversions = tt
 
+unfoldable of-readers : Unit {0}
+unfolding bytesWritten overwritten mostEntries nurseOf workshopOf nurseCall workshopCall heldBytes
+of-readers = tt
+
 unfoldable of-lists : Unit {0}
 unfolding orNone orEmpty enters turnUnless bookTurn bookRun resized afterTurned afterOpen call callRun
 of-lists = tt
@@ -103,7 +108,7 @@ unfolding of-numbers of-limits of-trees of-check of-run of-machine of-fields of-
 rules-and-bytes = tt
 
 unfoldable calls-and-cases : Unit {0}
-unfolding of-named of-terms of-tests of-values of-runs of-journal of-book of-conversions of-lists of-cases
+unfolding of-named of-terms of-tests of-values of-runs of-journal of-book of-conversions of-readers of-lists of-cases
 calls-and-cases = tt
 
 unfoldable pub computing : Unit {0}

@@ -21,6 +21,8 @@ pub mod Load
 pub mod Runs
 -- the plain book: demand 3
 pub mod Book
+-- the claims about the readers of a journal (02, F-1)
+pub mod Readers
 -- definitions that cases compute with
 pub mod Compute
 -- section 6's cases, orders and samples, by computation

@@ -1,6 +1,6 @@
 -- Section 6's cases on bytes, the orders of section 4 and sample calls, by computation.
 use mathlib.Core.Path.{refl}
-use package.Rattle.calls.specs.Cases.{Table, Limits, Orders}
+use package.Rattle.calls.specs.Cases.{Table, Limits, Orders, Readings}
 use package.Rattle.calls.specs.Samples.{Samples}
 use package.Rattle.calls.proofs.Compute.{computing}
 
@@ -41,6 +41,25 @@ limits = record { p6 = refl; p7 = refl; p7-short = refl; p8 = refl }
 pub orders : Orders
 unfolding computing
 orders = record { converts = refl; room = refl; steps-before-room = refl; malformed-before-typed = refl; typed = refl; second = refl }
+
+pub readings : Readings
+unfolding computing
+readings = record {
+  most-entries = refl;
+  nurse = refl;
+  nurse-short = refl;
+  nurse-opened = refl;
+  nurse-other = refl;
+  workshop = refl;
+  workshop-short = refl;
+  workshop-opened = refl;
+  workshop-oldest-first = refl;
+  nurse-malformed = refl;
+  workshop-malformed = refl;
+  nurse-output = refl;
+  nurse-kept = refl;
+  workshop-output = refl;
+}
 
 pub samples : Samples
 unfolding computing

@@ -2,8 +2,8 @@
 use Prim.Native.Nat.{ℕ}
 use mathlib.Core.Bool.{Bool, true, false, cond}
 use mathlib.Core.Option.{Option, none, some}
-use mathlib.Core.List.{List}
-use lib.ListN.{length, replicate}
+use mathlib.Core.List.{List, [], _++_}
+use lib.ListN.{length, drop, replicate}
 use lib.Dec.{eqb}
 
 pub data Answer (A : Type 0) : Type 0 where
@@ -31,3 +31,13 @@ present (some a) n = accepted a
 unfoldable pub cleared : {A : Type 0} → Answer A → List ℕ → List ℕ
 cleared (accepted a) ws = replicate (length ws) 0
 cleared (refused n p) ws = cond (eqb n 1) ws (replicate (length ws) 0)
+
+-- The bytes that a call writes into its output: none after a refusal.
+unfoldable pub bytesWritten : Answer (List ℕ) → List ℕ
+bytesWritten (accepted xs) = xs
+bytesWritten (refused n p) = []
+
+-- The output after the call: the bytes fill it from its start, the rest unchanged (section 4).
+unfoldable pub overwritten : Answer (List ℕ) → List ℕ → List ℕ
+unfolding bytesWritten
+overwritten x out = bytesWritten x ++ drop (length (bytesWritten x)) out

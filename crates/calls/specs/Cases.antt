@@ -1,5 +1,5 @@
--- Section 6's cases on bytes, gathered in one proposition (P1 to P5 and P9 to P13), P6 to P8 beside it, and orders of section 4. Each limit
--- at its edge, outcomes and lists of calls: Borders.
+-- Section 6's cases on bytes, gathered in one proposition (P1 to P5 and P9 to P13), P6 to P8 beside it, orders of section 4, and the readers
+-- of P13's journals. Each limit at its edge, outcomes and lists of calls: Borders.
 use Prim.Native.Nat.{ℕ}
 use mathlib.Core.Path.{_≡_}
 use mathlib.Core.List.{List, [], _∷_, _++_}
@@ -12,13 +12,14 @@ use package.Rattle.rules.specs.Run.{ok, stop}
 use package.Rattle.rules.specs.Machine.{runForward}
 use package.Rattle.rules.specs.Cases.{num, plus}
 use package.Rattle.rules.specs.Cases as trees
-use package.Rattle.calls.specs.Answer.{Answer, accepted, refused, _>>=_}
+use package.Rattle.calls.specs.Answer.{Answer, accepted, refused, _>>=_, overwritten}
 use package.Rattle.calls.specs.Fields.{layout}
 use package.Rattle.calls.specs.Entries.{entriesAt, programOf}
 use package.Rattle.calls.specs.Load.{load}
 use package.Rattle.calls.specs.Runs.{Ran, checkCall, forwardCall, backwardCall}
-use package.Rattle.calls.specs.Journal.{field}
+use package.Rattle.calls.specs.Journal.{field, heldTag, entryTag}
 use package.Rattle.calls.specs.Conversions.{Turned, openCall, convertCall, rollbackCall}
+use package.Rattle.calls.specs.Readers.{Seen, mostEntries, nurseCall, workshopCall, heldBytes}
 
 ----------------------------------------------------------------
 -- Fields, written out
@@ -201,3 +202,39 @@ pub record Orders : Type 0 where
   -- a second conversion carries the record too, and both go back
   pub second : convertCall numbers 0 (encode (num 2)) 65535 ample (converted ++ replicate 20 0)
       ≡ held 17 44 (0x21 ∷ 0 ∷ 17 ∷ (encode (num 7) ++ 0x22 ∷ 0 ∷ 13 ∷ 0 ∷ 0 ∷ 0 ∷ 0 ∷ 0 ∷ 28 ∷ (encode (num 2) ++ 0x22 ∷ 0 ∷ 13 ∷ 0 ∷ 0 ∷ 0 ∷ 0 ∷ 0 ∷ 44 ∷ (encode (num 2) ++ replicate 8 0))))
+
+----------------------------------------------------------------
+-- The readers of a journal (02, F-1)
+
+abbrev pub seen : Val → ℕ → Answer Seen
+seen v standing = accepted (record { held = v; standing = standing })
+
+-- P13's entry as it stands, and one of another function, other steps and other ancillae
+abbrev pub plusEntry : List ℕ
+plusEntry = field entryTag (0 ∷ 0 ∷ 0 ∷ 0 ∷ 0 ∷ 28 ∷ encode (num 2))
+
+abbrev pub otherEntry : List ℕ
+otherEntry = field entryTag (0 ∷ 1 ∷ 9 ∷ 9 ∷ 9 ∷ 9 ∷ [])
+
+-- 5 held, behind it these entries and two zeros
+abbrev pub holdsFive : List ℕ → List ℕ
+holdsFive entries = field heldTag (encode (num 5)) ++ entries ++ 0 ∷ 0 ∷ []
+
+pub record Readings : Type 0 where
+  pub most-entries : mostEntries ≡ 66112
+  pub nurse : nurseCall converted 13 ≡ seen (num 5) 1
+  pub nurse-short : nurseCall converted 12 ≡ refused 17 0
+  pub nurse-opened : nurseCall opened 9 ≡ seen (num 3) 0
+  pub nurse-other : nurseCall (holdsFive otherEntry) 13 ≡ seen (num 5) 1
+  pub workshop : workshopCall converted 16 ≡ accepted plusEntry
+  pub workshop-short : workshopCall converted 15 ≡ refused 17 0
+  -- none stands: nothing is written, which fits even an empty output
+  pub workshop-opened : workshopCall opened 0 ≡ accepted []
+  pub workshop-oldest-first : workshopCall (holdsFive (plusEntry ++ otherEntry)) 25 ≡ accepted (plusEntry ++ otherEntry)
+  -- 18 goes before 17; a byte behind the zeros is no form
+  pub nurse-malformed : nurseCall (converted ++ 1 ∷ []) 0 ≡ refused 18 0
+  pub workshop-malformed : workshopCall (converted ++ 1 ∷ []) 0 ≡ refused 18 0
+  -- what outputs hold afterwards
+  pub nurse-output : overwritten (heldBytes (nurseCall opened 11)) (replicate 11 7) ≡ encode (num 3) ++ 7 ∷ 7 ∷ []
+  pub nurse-kept : overwritten (heldBytes (nurseCall opened 8)) (replicate 8 7) ≡ replicate 8 7
+  pub workshop-output : overwritten (workshopCall converted 17) (replicate 17 7) ≡ plusEntry ++ 7 ∷ []

@@ -7,7 +7,7 @@ use mathlib.Core.List.{List, [], _∷_, _++_}
 use mathlib.Core.Logic.{_⊎_, _↔_}
 use lib.ListN.{length, replicate}
 use package.Rattle.octets.specs.Numbers.{AreBytes}
-use package.Rattle.rules.specs.Limits.{fits, maxHeight, maxVariables, maxNodes, maxAncillaBytes, maxFuel}
+use package.Rattle.rules.specs.Limits.{fits, maxHeight, maxVariables, maxNodes, maxValueBytes, maxAncillaBytes, maxFuel}
 use package.Rattle.rules.specs.Val.{Val, size, encode}
 use package.Rattle.rules.specs.Ty.{Ty, HasTy, HasTys}
 use package.Rattle.rules.specs.Term.{Fun, Program, nth}
@@ -15,7 +15,7 @@ use package.Rattle.rules.specs.Typing.{WellTyped}
 use package.Rattle.rules.specs.Run.{ok}
 use package.Rattle.rules.specs.Machine.{runBackward}
 use package.Rattle.rules.specs.Claims.{Carries, Wider, OfTyped}
-use package.Rattle.calls.specs.Answer.{Answer, accepted, refused}
+use package.Rattle.calls.specs.Answer.{Answer, accepted, refused, bytesWritten}
 use package.Rattle.calls.specs.Entries.{TypeEntry, typeOf}
 use package.Rattle.calls.specs.Named.{plain, member}
 use package.Rattle.calls.specs.Closed.{Plain, Lower}
@@ -23,8 +23,9 @@ use package.Rattle.calls.specs.Formed.{WellFormed}
 use package.Rattle.calls.specs.Load.{load}
 use package.Rattle.calls.specs.Values.{value, encodeAll, ancillae}
 use package.Rattle.calls.specs.Runs.{Ran, workspaceFor, checkCall, forwardCall, backwardCall}
-use package.Rattle.calls.specs.Journal.{Entry, Journal, fields, writeOut, readJournal}
+use package.Rattle.calls.specs.Journal.{Entry, Journal, field, heldTag, entryFields, fields, writeOut, readJournal}
 use package.Rattle.calls.specs.Conversions.{openCall, convertCall, rollbackCall}
+use package.Rattle.calls.specs.Readers.{mostEntries, nurseOf, nurseCall, workshopCall, heldBytes}
 use package.Rattle.calls.specs.Book.{Call, opens, converts, rollsBack, buffer, Told, isOpen, holds, refuses, Row, Book, journalOf, bookRun, call, callRun, resized}
 
 ----------------------------------------------------------------
@@ -138,6 +139,10 @@ forwardNumbers = 12 ∷ 13 ∷ 14 ∷ 15 ∷ []
 abbrev pub backwardNumbers : List ℕ
 backwardNumbers = 12 ∷ 13 ∷ 14 ∷ 15 ∷ 16 ∷ []
 
+-- of a journal's readers (02, F-1)
+abbrev pub readerNumbers : List ℕ
+readerNumbers = 17 ∷ 18 ∷ []
+
 -- A call is refused with the numbers of the list, each for some arguments, and with no other.
 abbrev pub Exactly : List ℕ → (ℕ → Type 0) → Type 0
 Exactly ns Met = (n : ℕ) → (member n ns ≡ true) ↔ Met n
@@ -156,6 +161,8 @@ RefusalNumbers =
     × (program : List ℕ) × (anc : List ℕ) × (journal : List ℕ) × (k : ℕ) × (convertCall program fn anc fuel ws journal ≡ refused n k))
     × Exactly (programNumbers ++ (18 ∷ 19 ∷ 20 ∷ []) ++ callNumbers ++ backwardNumbers) (λ n. (ws : ℕ) × (fuel : ℕ)
     × (program : List ℕ) × (journal : List ℕ) × (k : ℕ) × (rollbackCall program fuel ws journal ≡ refused n k))
+    × Exactly readerNumbers (λ n. (journal : List ℕ) × (out : ℕ) × (k : ℕ) × (nurseCall journal out ≡ refused n k))
+    × Exactly readerNumbers (λ n. (journal : List ℕ) × (out : ℕ) × (k : ℕ) × (workshopCall journal out ≡ refused n k))
 
 -- A conversion that was accepted under narrower limits goes back under wider ones, in as many steps, given fuel for them.
 abbrev pub OldConversionsReturn : Type 0
@@ -249,3 +256,49 @@ NewestRollsBack = (program : List ℕ) (ws n : ℕ) (bytes journal : List ℕ) �
     → (J : Journal) × (readJournal (m .journal) ≡ some J)
     × (rollbackCall program fuel ws′ (resized n′ (callRun program cs journal .journal))
     ≡ accepted (record { held = size (J .held); steps = m .steps; journal = m .journal ++ replicate (n′ - length (m .journal)) 0 }))
+
+----------------------------------------------------------------
+-- The readers of a journal (02, F-1)
+
+-- The nurse's answer is a function of held value, count and the output's length alone. So two journals with equal held value and equal
+-- count, read into outputs of equal length, give equal answers and equal bytes written, whichever functions, steps and ancillae they carry.
+abbrev pub NurseSeesNoEntries : Type 0
+NurseSeesNoEntries =
+    ((journal : List ℕ) (J : Journal) (out : ℕ) → readJournal journal ≡ some J → nurseCall journal out ≡ nurseOf (J .held) (length (J .entries)) out)
+    × ((journal journal′ out out′ : List ℕ) (J J′ : Journal) → readJournal journal ≡ some J → readJournal journal′ ≡ some J′ → J .held ≡ J′ .held
+    → length (J .entries) ≡ length (J′ .entries) → length out ≡ length out′ → (nurseCall journal (length out) ≡ nurseCall journal′ (length out′))
+    × (bytesWritten (heldBytes (nurseCall journal (length out))) ≡ bytesWritten (heldBytes (nurseCall journal′ (length out′)))))
+
+-- The nurse is told the held value and how many conversions stand, and the value's bytes are written, if the output is long enough; else 17, and
+-- nothing is written.
+abbrev pub NurseSeesTheHeld : Type 0
+NurseSeesTheHeld = (journal : List ℕ) (J : Journal) (out : ℕ) → readJournal journal ≡ some J
+    → (size (J .held) ≤ out → (nurseCall journal out ≡ accepted (record { held = J .held; standing = length (J .entries) }))
+    × (bytesWritten (heldBytes (nurseCall journal out)) ≡ encode (J .held)))
+    × (out < size (J .held) → (nurseCall journal out ≡ refused 17 0) × (bytesWritten (heldBytes (nurseCall journal out)) ≡ []))
+
+-- The workshop is given the fields of all entries byte by byte as they stand in the journal, oldest first: behind field 21, before the zeros.
+abbrev pub WorkshopAsItStands : Type 0
+WorkshopAsItStands = (journal xs : List ℕ) (out : ℕ) → AreBytes journal → workshopCall journal out ≡ accepted xs
+    → (J : Journal) × (readJournal journal ≡ some J) × (xs ≡ entryFields (J .entries))
+    × (journal ≡ field heldTag (encode (J .held)) ++ xs ++ replicate (length journal - length (fields J)) 0)
+
+-- Both readers look at the whole form before all else: 18 is for malformed journals, whatever the output, and for no others.
+abbrev pub ReadersKnowTheForm : Type 0
+ReadersKnowTheForm = (journal : List ℕ) (out : ℕ)
+    → ((readJournal journal ≡ none) ↔ (nurseCall journal out ≡ refused 18 0)) × ((readJournal journal ≡ none) ↔ (workshopCall journal out ≡ refused 18 0))
+
+-- An output as long as a value may be is never too short for the nurse, nor one of `mostEntries` bytes for the workshop.
+abbrev pub ReadersAlwaysEnough : Type 0
+ReadersAlwaysEnough = (journal : List ℕ) (out k : ℕ) → AreBytes journal
+    → (maxValueBytes ≤ out → ¬ (nurseCall journal out ≡ refused 17 k)) × (mostEntries ≤ out → ¬ (workshopCall journal out ≡ refused 17 k))
+
+-- After any list of calls the nurse sees the book's held record and how many rows stand, and the workshop an entry for each row.
+abbrev pub ReadersSeeTheBook : Type 0
+ReadersSeeTheBook = (program : List ℕ) (P : Program) (ws n : ℕ) (bytes journal : List ℕ) (first : Val) → load program ≡ accepted P
+    → value bytes ≡ some first → openCall program bytes ws n ≡ accepted journal → (cs : List Call) → Premises program cs journal → (out : ℕ)
+    → ((v : Val) → journalOf P (bookRun program P cs (begun first) .book) .held ≡ v → size v ≤ out
+    → nurseCall (callRun program cs journal .journal) out
+    ≡ accepted (record { held = v; standing = length (bookRun program P cs (begun first) .book .rows) }))
+    × ((xs : List ℕ) → entryFields (journalOf P (bookRun program P cs (begun first) .book) .entries) ≡ xs → length xs ≤ out
+    → workshopCall (callRun program cs journal .journal) out ≡ accepted xs)

@@ -1,4 +1,4 @@
--- The six calls on bytes, and the plain book. The modules in reading order:
+-- The eight calls on bytes, and the plain book. The modules in reading order:
 -- answers: accepted, or refused with number and place (section 4)
 pub mod Answer
 -- the program's fields: refusals 2 and 3 (sections 1 and 4)
@@ -25,6 +25,8 @@ pub mod Runs
 pub mod Journal
 -- open, convert and rollback (sections 4 and 5)
 pub mod Conversions
+-- the nurse's reader and the workshop's (02, F-1)
+pub mod Readers
 -- the plain book (section 5)
 pub mod Book
 -- what is proved of all these, as propositions

@@ -4,8 +4,8 @@
 use Prim.Native.Nat.{ℕ, _+_, _*_, _-_}
 use mathlib.Core.Bool.{_&&_}
 use mathlib.Core.Option.{Option}
-use mathlib.Core.List.{List, _++_}
-use lib.ListN.{length, drop}
+use mathlib.Core.List.{List}
+use lib.ListN.{length}
 use lib.Dec.{eqb, leb}
 use package.Rattle.rules.specs.Limits.{fits, maxHeight, workspaceBase, workspacePerFuel}
 use package.Rattle.rules.specs.Val.{Val, size, encode}
@@ -13,7 +13,7 @@ use package.Rattle.rules.specs.Ty.{Ty}
 use package.Rattle.rules.specs.Term.{Fun, Program, nth}
 use package.Rattle.rules.specs.Run.{Res, ok, stop, stuck}
 use package.Rattle.rules.specs.Machine.{runForward, runBackward}
-use package.Rattle.calls.specs.Answer.{Answer, accepted, refused, _>>=_, require, present}
+use package.Rattle.calls.specs.Answer.{Answer, accepted, refused, _>>=_, require, present, overwritten}
 use package.Rattle.calls.specs.Load.{load}
 use package.Rattle.calls.specs.Values.{value, ancillae, hasTy, hasTys}
 
@@ -98,7 +98,13 @@ backwardCall program fn anc v fuel ws out = do
   room ← require (leb (size (r .value)) out) 17 0
   accepted r
 
--- the output after a run: the value fills it from its start, the rest unchanged
+-- the bytes that a run writes: its value's
+unfoldable pub valueBytes : Answer Ran → Answer (List ℕ)
+valueBytes x = do
+  r ← x
+  accepted (encode (r .value))
+
+-- the output after it
 unfoldable pub written : Answer Ran → List ℕ → List ℕ
-written (accepted r) out = encode (r .value) ++ drop (size (r .value)) out
-written (refused n p) out = out
+unfolding valueBytes overwritten
+written x out = overwritten (valueBytes x) out

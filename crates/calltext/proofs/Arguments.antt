@@ -8,20 +8,22 @@ use package.Rattle.rules.specs.Limits.{maxFuel}
 use package.Rattle.calltext.specs.Words.{wordAt}
 use package.Rattle.calltext.specs.Decimal.{numberIn}
 use package.Rattle.calltext.specs.Hexadecimal.{bytesIn}
-use package.Rattle.calltext.specs.Calls.{checkLine, runLine, openLine, convertLine, rollbackLine, noNumber, noBytes, withNumber, withBytes, mostLength, mostShort, readCheck, readRun, readOpen, readConvert, readRollback}
+use package.Rattle.calltext.specs.Calls.{Line, runLine, openLine, convertLine, rollbackLine, noNumber, noBytes, withNumber, withBytes, mostLength, mostShort, readPair, readRun, readOpen, readConvert, readRollback}
 
-module _ (line : List ℕ) where
-  pub check-1 : numberIn mostLength (wordAt 1 line) ≡ none → noNumber 1 ≡ readCheck line
-  unfolding readCheck withNumber
-  check-1 e = rw e
+-- the calls of three words
+module _ (says : ℕ → List ℕ → Line) (line : List ℕ) where
+  pub pair-1 : numberIn mostLength (wordAt 1 line) ≡ none → noNumber 1 ≡ readPair says line
+  unfolding readPair withNumber
+  pair-1 e = rw e
 
-  pub check-2 : {ws : ℕ} → numberIn mostLength (wordAt 1 line) ≡ some ws → bytesIn (wordAt 2 line) ≡ none → noBytes 2 ≡ readCheck line
-  unfolding readCheck withNumber withBytes
-  check-2 e f = rw (e, f)
+  module _ {n : ℕ} (e₁ : numberIn mostLength (wordAt 1 line) ≡ some n) where
+    pub pair-2 : bytesIn (wordAt 2 line) ≡ none → noBytes 2 ≡ readPair says line
+    unfolding readPair withNumber withBytes
+    pair-2 e = rw (e₁, e)
 
-  pub check-all : {ws : ℕ} {p : List ℕ} → numberIn mostLength (wordAt 1 line) ≡ some ws → bytesIn (wordAt 2 line) ≡ some p → checkLine ws p ≡ readCheck line
-  unfolding readCheck withNumber withBytes
-  check-all e f = rw (e, f)
+    pub pair-all : {xs : List ℕ} → bytesIn (wordAt 2 line) ≡ some xs → says n xs ≡ readPair says line
+    unfolding readPair withNumber withBytes
+    pair-all e = rw (e₁, e)
 
 -- what is read of a run so far, and the rest of the line
 module _ (b : Bool) (line : List ℕ) where

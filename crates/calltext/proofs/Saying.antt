@@ -10,10 +10,10 @@ use lib.Dec.{eqb}
 use borrow.Author.Tests.{eq-eqb, ne-eqb, eqb-true}
 use package.Rattle.octets.specs.Runs.{Decides}
 use package.Rattle.calltext.specs.Text.{text, sameBytes}
-use package.Rattle.calltext.specs.Words.{first, behind, from, wordAt, spaces}
+use package.Rattle.calltext.specs.Words.{first, behind, from, wordAt}
 use package.Rattle.calltext.specs.Numbered.{numberOf, valueOf, Numbers}
 use package.Rattle.calltext.specs.Decoded.{decodedOf, sizeOf, DecodesWord}
-use package.Rattle.calltext.specs.Calls.{Line, noCall, wordCount, readCheck, readRun, readOpen, readConvert, readRollback, nameOf, ofLength, readNamed, readLine}
+use package.Rattle.calltext.specs.Calls.{Line, wordCount, journalName, nameOf, ofLength, readNamed, readLine}
 use package.Rattle.calltext.specs.Left.{ByteWords, wordsOf, reads, leftIn, LeavesBuffers, bytesOf}
 use package.Rattle.calltext.specs.Parsed.{lineOf, Within, Parses}
 use package.Rattle.calltext.specs.declared.decimal.Number.{Number}
@@ -21,7 +21,7 @@ use package.Rattle.calltext.specs.declared.decimal.Number.the-variants a
 use package.Rattle.calltext.specs.declared.hexadecimal.Decoded.{Decoded}
 use package.Rattle.calltext.specs.declared.hexadecimal.Decoded.the-variants as decoded
 use package.Rattle.calltext.specs.declared.calls.Name.{Name}
-use package.Rattle.calltext.specs.declared.calls.Name.the-variants.{Check, Forward, Backward, Open, Convert, Rollback, Other}
+use package.Rattle.calltext.specs.declared.calls.Name.the-variants.{Check, Forward, Backward, Open, Convert, Rollback, Nurse, Workshop, Other}
 use package.Rattle.calltext.specs.declared.calls.Parsed.{Parsed}
 
 ----------------------------------------------------------------
@@ -87,35 +87,52 @@ same-if false a b n = by (sameBytes a b) refl
     by false e = refl
 
 module _ (w : List ℕ) where
+  -- the names of calls on a journal, one test after another
+  pub name-open : sameBytes w (text "open") ≡ true → Open ≡ journalName w
+  unfolding journalName
+  name-open e = rw e
+
+  module _ (e₁ : sameBytes w (text "open") ≡ false) where
+    pub name-convert : sameBytes w (text "convert") ≡ true → Convert ≡ journalName w
+    unfolding journalName
+    name-convert e = rw (e₁, e)
+
+    module _ (e₂ : sameBytes w (text "convert") ≡ false) where
+      pub name-rollback : sameBytes w (text "rollback") ≡ true → Rollback ≡ journalName w
+      unfolding journalName
+      name-rollback e = rw (e₁, e₂, e)
+
+      module _ (e₃ : sameBytes w (text "rollback") ≡ false) where
+        pub name-nurse : sameBytes w (text "nurse") ≡ true → Nurse ≡ journalName w
+        unfolding journalName
+        name-nurse e = rw (e₁, e₂, e₃, e)
+
+        pub name-workshop : sameBytes w (text "nurse") ≡ false → sameBytes w (text "workshop") ≡ true → Workshop ≡ journalName w
+        unfolding journalName
+        name-workshop e f = rw (e₁, e₂, e₃, e, f)
+
+        pub name-other : sameBytes w (text "nurse") ≡ false → sameBytes w (text "workshop") ≡ false → Other ≡ journalName w
+        unfolding journalName
+        name-other e f = rw (e₁, e₂, e₃, e, f)
+
+  -- all names
   pub name-check : sameBytes w (text "check") ≡ true → Check ≡ nameOf w
   unfolding nameOf
   name-check e = rw e
 
-  pub name-forward : sameBytes w (text "check") ≡ false → sameBytes w (text "forward") ≡ true → Forward ≡ nameOf w
-  unfolding nameOf
-  name-forward e f = rw (e, f)
-
-  pub name-backward : sameBytes w (text "check") ≡ false → sameBytes w (text "forward") ≡ false → sameBytes w (text "backward") ≡ true → Backward ≡ nameOf w
-  unfolding nameOf
-  name-backward e f g = rw (e, f, g)
-
-  module _ (e₁ : sameBytes w (text "check") ≡ false) (e₂ : sameBytes w (text "forward") ≡ false) (e₃ : sameBytes w (text "backward") ≡ false) where
-    pub name-open : sameBytes w (text "open") ≡ true → Open ≡ nameOf w
+  module _ (e₁ : sameBytes w (text "check") ≡ false) where
+    pub name-forward : sameBytes w (text "forward") ≡ true → Forward ≡ nameOf w
     unfolding nameOf
-    name-open e = rw (e₁, e₂, e₃, e)
+    name-forward e = rw (e₁, e)
 
-    module _ (e₄ : sameBytes w (text "open") ≡ false) where
-      pub name-convert : sameBytes w (text "convert") ≡ true → Convert ≡ nameOf w
+    module _ (e₂ : sameBytes w (text "forward") ≡ false) where
+      pub name-backward : sameBytes w (text "backward") ≡ true → Backward ≡ nameOf w
       unfolding nameOf
-      name-convert e = rw (e₁, e₂, e₃, e₄, e)
+      name-backward e = rw (e₁, e₂, e)
 
-      pub name-rollback : sameBytes w (text "convert") ≡ false → sameBytes w (text "rollback") ≡ true → Rollback ≡ nameOf w
+      pub name-journal : sameBytes w (text "backward") ≡ false → journalName w ≡ nameOf w
       unfolding nameOf
-      name-rollback e f = rw (e₁, e₂, e₃, e₄, e, f)
-
-      pub name-other : sameBytes w (text "convert") ≡ false → sameBytes w (text "rollback") ≡ false → Other ≡ nameOf w
-      unfolding nameOf
-      name-other e f = rw (e₁, e₂, e₃, e₄, e, f)
+      name-journal e = rw (e₁, e₂, e)
 
 ----------------------------------------------------------------
 -- What was read, and what the reading left
@@ -137,58 +154,11 @@ module _ {r : Parsed} {text p₀ anc₀ v₀ p anc v : List ℕ} where
       → Parses r text words p₀ anc₀ v₀ p anc v l
   parses {words} e h left = record { said = e; within = h; left = subst (λ x. LeavesBuffers x text words p₀ anc₀ v₀ p anc v) e left }
 
-  -- the same line, and its words, by other names
-  pub parses-as : {words : ByteWords} {l m : Line} → Parses r text words p₀ anc₀ v₀ p anc v l → words ≡ bytesOf text → l ≡ m → Parses r text (bytesOf text) p₀ anc₀ v₀ p anc v m
-  parses-as {words} {l} h f e = subst (λ x. Parses r text (bytesOf text) p₀ anc₀ v₀ p anc v x) e (subst (λ w. Parses r text w p₀ anc₀ v₀ p anc v l) f h)
-
-pub words-of : (text : List ℕ) {n : Name} → nameOf (wordAt 0 text) ≡ n → wordsOf n ≡ bytesOf text
-unfolding bytesOf
-words-of text e = sym (ap wordsOf e)
-
-module _ (line : List ℕ) where
-  named : (n : Name) → nameOf (wordAt 0 line) ≡ n → readLine line ≡ readNamed n line
-  unfolding readLine
-  named n e = ap (λ m. readNamed m line) e
-
-  pub is-check : nameOf (wordAt 0 line) ≡ Check → spaces line ≡ 2 → readCheck line ≡ readLine line
-  unfolding readNamed ofLength
-  is-check e h = sym (named Check e ∙ rw (eq-eqb (spaces line) 2 h))
-
-  pub is-forward : nameOf (wordAt 0 line) ≡ Forward → spaces line ≡ 7 → readRun false line ≡ readLine line
-  unfolding readNamed ofLength
-  is-forward e h = sym (named Forward e ∙ rw (eq-eqb (spaces line) 7 h))
-
-  pub is-backward : nameOf (wordAt 0 line) ≡ Backward → spaces line ≡ 7 → readRun true line ≡ readLine line
-  unfolding readNamed ofLength
-  is-backward e h = sym (named Backward e ∙ rw (eq-eqb (spaces line) 7 h))
-
-  pub no-check : nameOf (wordAt 0 line) ≡ Check → (spaces line ≡ 2 → ⊥) → wordCount ≡ readLine line
-  unfolding readNamed ofLength
-  no-check e h = sym (named Check e ∙ rw (ne-eqb (spaces line) 2 h))
-
-  pub no-forward : nameOf (wordAt 0 line) ≡ Forward → (spaces line ≡ 7 → ⊥) → wordCount ≡ readLine line
-  unfolding readNamed ofLength
-  no-forward e h = sym (named Forward e ∙ rw (ne-eqb (spaces line) 7 h))
-
-  pub no-backward : nameOf (wordAt 0 line) ≡ Backward → (spaces line ≡ 7 → ⊥) → wordCount ≡ readLine line
-  unfolding readNamed ofLength
-  no-backward e h = sym (named Backward e ∙ rw (ne-eqb (spaces line) 7 h))
-
-  pub is-other : nameOf (wordAt 0 line) ≡ Other → noCall ≡ readLine line
-  unfolding readNamed
-  is-other e = sym (named Other e)
-
-  pub is-open : nameOf (wordAt 0 line) ≡ Open → ofLength (spaces line) 4 (readOpen line) ≡ readLine line
-  unfolding readNamed
-  is-open e = sym (named Open e)
-
-  pub is-convert : nameOf (wordAt 0 line) ≡ Convert → ofLength (spaces line) 6 (readConvert line) ≡ readLine line
-  unfolding readNamed
-  is-convert e = sym (named Convert e)
-
-  pub is-rollback : nameOf (wordAt 0 line) ≡ Rollback → ofLength (spaces line) 4 (readRollback line) ≡ readLine line
-  unfolding readNamed
-  is-rollback e = sym (named Rollback e)
+  -- a line by its name, as it was found
+  pub parses-named : {n : Name} → nameOf (wordAt 0 text) ≡ n → Parses r text (wordsOf n) p₀ anc₀ v₀ p anc v (readNamed n text)
+      → Parses r text (bytesOf text) p₀ anc₀ v₀ p anc v (readLine text)
+  unfolding bytesOf readLine
+  parses-named e h = subst (λ n. Parses r text (wordsOf n) p₀ anc₀ v₀ p anc v (readNamed n text)) (sym e) h
 
 -- a line of the right number of words, and one of another
 pub counted : (n m : ℕ) (l : Line) → n ≡ m → l ≡ ofLength n m l

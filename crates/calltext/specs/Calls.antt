@@ -10,7 +10,7 @@ use package.Rattle.calltext.specs.Words.{wordAt, spaces}
 use package.Rattle.calltext.specs.Decimal.{numberIn}
 use package.Rattle.calltext.specs.Hexadecimal.{bytesIn}
 use package.Rattle.calltext.specs.declared.calls.Name.{Name}
-use package.Rattle.calltext.specs.declared.calls.Name.the-variants.{Check, Forward, Backward, Open, Convert, Rollback, Other}
+use package.Rattle.calltext.specs.declared.calls.Name.the-variants.{Check, Forward, Backward, Open, Convert, Rollback, Nurse, Workshop, Other}
 
 pub record RunLine : Type 0 where
   pub backward : Bool
@@ -43,6 +43,12 @@ pub record RollbackLine : Type 0 where
   pub program : List ℕ
   pub journal : List ℕ
 
+-- the workshop's reader, or the nurse's
+pub record ReaderLine : Type 0 where
+  pub workshop : Bool
+  pub output : ℕ
+  pub journal : List ℕ
+
 -- A call, or what is wrong with the line: its first word is no call's name, it has too few or too many words, or word k is no number
 -- in its range, or no bytes.
 pub data Line : Type 0 where
@@ -51,6 +57,7 @@ pub data Line : Type 0 where
   openLine : OpenLine → Line
   convertLine : ConvertLine → Line
   rollbackLine : RollbackLine → Line
+  readerLine : ReaderLine → Line
   noCall : Line
   wordCount : Line
   noNumber : ℕ → Line
@@ -71,13 +78,23 @@ mostLength = 999999999
 abbrev pub mostShort : ℕ
 mostShort = 65535
 
+-- the calls of three words: a length and a byte string
+unfoldable pub readPair : (ℕ → List ℕ → Line) → List ℕ → Line
+unfolding withNumber withBytes
+readPair says line =
+    withNumber 1 (numberIn mostLength (wordAt 1 line)) λ n.
+    withBytes 2 (bytesIn (wordAt 2 line)) λ xs.
+    says n xs
+
 -- check WS PROGRAM
 unfoldable pub readCheck : List ℕ → Line
-unfolding withNumber withBytes
-readCheck line =
-    withNumber 1 (numberIn mostLength (wordAt 1 line)) λ ws.
-    withBytes 2 (bytesIn (wordAt 2 line)) λ p.
-    checkLine ws p
+unfolding readPair
+readCheck line = readPair checkLine line
+
+-- nurse OUTLEN JOURNAL, and workshop the same
+unfoldable pub readReader : Bool → List ℕ → Line
+unfolding readPair
+readReader workshop line = readPair (λ out j. readerLine record { workshop = workshop; output = out; journal = j }) line
 
 -- forward WS OUTLEN FUEL FN PROGRAM ANCILLAE VALUE, and backward the same
 unfoldable pub readRun : Bool → List ℕ → Line
@@ -124,28 +141,37 @@ readRollback line =
     withBytes 4 (bytesIn (wordAt 4 line)) λ j.
     rollbackLine record { workspace = ws; fuel = fuel; program = p; journal = j }
 
-unfoldable pub nameOf : List ℕ → Name
+-- the calls on a journal
+unfoldable pub journalName : List ℕ → Name
 unfolding sameBytes
+journalName w =
+    cond (sameBytes w (text "open")) Open
+    (cond (sameBytes w (text "convert")) Convert
+    (cond (sameBytes w (text "rollback")) Rollback
+    (cond (sameBytes w (text "nurse")) Nurse
+    (cond (sameBytes w (text "workshop")) Workshop Other))))
+
+unfoldable pub nameOf : List ℕ → Name
+unfolding sameBytes journalName
 nameOf w =
     cond (sameBytes w (text "check")) Check
     (cond (sameBytes w (text "forward")) Forward
-    (cond (sameBytes w (text "backward")) Backward
-    (cond (sameBytes w (text "open")) Open
-    (cond (sameBytes w (text "convert")) Convert
-    (cond (sameBytes w (text "rollback")) Rollback Other)))))
+    (cond (sameBytes w (text "backward")) Backward (journalName w)))
 
 -- how many spaces a call's line has
 unfoldable pub ofLength : ℕ → ℕ → Line → Line
 ofLength n m line = cond (eqb n m) line wordCount
 
 unfoldable pub readNamed : Name → List ℕ → Line
-unfolding ofLength readCheck readRun readOpen readConvert readRollback
+unfolding ofLength readCheck readRun readOpen readConvert readRollback readReader
 readNamed Check line = ofLength (spaces line) 2 (readCheck line)
 readNamed Forward line = ofLength (spaces line) 7 (readRun false line)
 readNamed Backward line = ofLength (spaces line) 7 (readRun true line)
 readNamed Open line = ofLength (spaces line) 4 (readOpen line)
 readNamed Convert line = ofLength (spaces line) 6 (readConvert line)
 readNamed Rollback line = ofLength (spaces line) 4 (readRollback line)
+readNamed Nurse line = ofLength (spaces line) 2 (readReader false line)
+readNamed Workshop line = ofLength (spaces line) 2 (readReader true line)
 readNamed Other line = noCall
 
 unfoldable pub readLine : List ℕ → Line

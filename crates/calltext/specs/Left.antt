@@ -7,9 +7,9 @@ use mathlib.Core.List.{List}
 use lib.Dec.{leb}
 use package.Rattle.calltext.specs.Words.{wordAt}
 use package.Rattle.calltext.specs.Hexadecimal.{filled}
-use package.Rattle.calltext.specs.Calls.{Line, checkLine, runLine, openLine, convertLine, rollbackLine, noCall, wordCount, noNumber, noBytes, nameOf, readLine}
+use package.Rattle.calltext.specs.Calls.{Line, checkLine, runLine, openLine, convertLine, rollbackLine, readerLine, noCall, wordCount, noNumber, noBytes, nameOf, readLine}
 use package.Rattle.calltext.specs.declared.calls.Name.{Name}
-use package.Rattle.calltext.specs.declared.calls.Name.the-variants.{Check, Forward, Backward, Open, Convert, Rollback, Other}
+use package.Rattle.calltext.specs.declared.calls.Name.the-variants.{Check, Forward, Backward, Open, Convert, Rollback, Nurse, Workshop, Other}
 
 -- The words of a line that are to be bytes, by the buffer of each: the value to be held goes where ancillae would, a journal where a value
 -- would. Words count from 0, the call's name.
@@ -25,6 +25,8 @@ wordsOf Backward = record { program = some 5; ancillae = some 6; value = some 7 
 wordsOf Open = record { program = some 2; ancillae = some 3; value = some 4 }
 wordsOf Convert = record { program = some 4; ancillae = some 5; value = some 6 }
 wordsOf Rollback = record { program = some 3; ancillae = none; value = some 4 }
+wordsOf Nurse = record { program = none; ancillae = none; value = some 2 }
+wordsOf Workshop = record { program = none; ancillae = none; value = some 2 }
 wordsOf Other = record { program = none; ancillae = none; value = none }
 
 -- Does the reading come to word k, which is to be bytes? All numbers stand before it, and the first word that is wrong ends the reading.
@@ -34,6 +36,7 @@ reads (runLine c) k = true
 reads (openLine c) k = true
 reads (convertLine c) k = true
 reads (rollbackLine c) k = true
+reads (readerLine c) k = true
 reads noCall k = false
 reads wordCount k = false
 reads (noNumber n) k = false

@@ -3,10 +3,10 @@ use Prim.Native.Nat.{ℕ, _≤_}
 use mathlib.Core.Path.{_≡_}
 use mathlib.Core.List.{List}
 use lib.ListN.{length, take}
-use package.Rattle.calltext.specs.Calls.{Line, checkLine, runLine, openLine, convertLine, rollbackLine, noCall, wordCount, noNumber, noBytes}
+use package.Rattle.calltext.specs.Calls.{Line, checkLine, runLine, openLine, convertLine, rollbackLine, readerLine, noCall, wordCount, noNumber, noBytes}
 use package.Rattle.calltext.specs.Left.{ByteWords, LeavesBuffers}
 use package.Rattle.calltext.specs.declared.calls.Parsed.{Parsed}
-use package.Rattle.calltext.specs.declared.calls.Parsed.the-variants.{Checks, Runs, Opens, Converts, RollsBack, NoCall, WordCount, NoNumber, NoBytes}
+use package.Rattle.calltext.specs.declared.calls.Parsed.the-variants.{Checks, Runs, Opens, Converts, RollsBack, Reads, NoCall, WordCount, NoNumber, NoBytes}
 
 -- program, ancillae and value stand at the starts of their buffers; the value to be held stands where ancillae would, a journal where a
 -- value would
@@ -38,6 +38,7 @@ lineOf (Converts c) p anc v =
     }
 lineOf (RollsBack c) p anc v =
     rollbackLine record { workspace = c .workspace; fuel = c .fuel; program = take (c .program) p; journal = take (c .journal) v }
+lineOf (Reads c) p anc v = readerLine record { workshop = c .workshop; output = c .output; journal = take (c .journal) v }
 lineOf NoCall p anc v = noCall
 lineOf WordCount p anc v = wordCount
 lineOf (NoNumber k) p anc v = noNumber k
@@ -50,6 +51,7 @@ Within (Runs c) p anc v = (c .program ≤ length p) × (c .ancillae ≤ length a
 Within (Opens c) p anc v = (c .program ≤ length p) × (c .held ≤ length anc) × (c .journal ≤ length v)
 Within (Converts c) p anc v = (c .program ≤ length p) × (c .ancillae ≤ length anc) × (c .journal ≤ length v)
 Within (RollsBack c) p anc v = (c .program ≤ length p) × (c .journal ≤ length v)
+Within (Reads c) p anc v = c .journal ≤ length v
 Within NoCall p anc v = Unit {0}
 Within WordCount p anc v = Unit {0}
 Within (NoNumber k) p anc v = Unit {0}

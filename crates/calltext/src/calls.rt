@@ -7,17 +7,18 @@ use crate::words;
 use rules::MAX_FUEL;
 ghost use mathlib.Core.Path.{_≡_};
 ghost use mathlib.Core.Bool.{true, false};
-ghost use Prim.Native.Nat.{_*_, _≤_, _<_};
+ghost use Prim.Native.Nat.{ℕ, _*_, _≤_, _<_};
+ghost use mathlib.Core.List.{List};
 ghost use lib.ListN.{length};
 ghost use Rattle.calltext.specs.Words.{wordAt, spaces};
 ghost use Rattle.calltext.specs.Decimal.{numberIn};
 ghost use Rattle.calltext.specs.Numbered.{Numbers};
 ghost use Rattle.calltext.specs.Hexadecimal.{bytesIn};
 ghost use Rattle.calltext.specs.Decoded.{DecodesWord};
-ghost use Rattle.calltext.specs.Calls.{nameOf, readCheck, readRun, readOpen, readConvert, readRollback, ofLength, readLine};
+ghost use Rattle.calltext.specs.Calls.{journalName, nameOf, readCheck, readRun, readOpen, readConvert, readRollback, readReader, ofLength, readLine};
 ghost use Rattle.calltext.specs.Left.{wordsOf, bytesOf};
 ghost use Rattle.calltext.specs.Parsed.{Parses};
-ghost use Rattle.calltext.specs.declared.calls.Name.the-variants.{Check, Forward, Open, Convert, Rollback};
+ghost use Rattle.calltext.specs.declared.calls.Name.the-variants.{Check, Forward, Open, Convert, Rollback, Nurse};
 
 // The greatest length that a line can name.
 const MOST_LENGTH: u64 = 999999999;
@@ -34,6 +35,8 @@ pub enum Name {
     Open,
     Convert,
     Rollback,
+    Nurse,
+    Workshop,
     Other,
 }
 
@@ -79,6 +82,13 @@ pub struct RollbackCall {
     pub journal: usize,
 }
 
+// The nurse's reader of a journal, or the workshop's.
+pub struct ReaderCall {
+    pub workshop: bool,
+    pub output: usize,
+    pub journal: usize,
+}
+
 // A call, or what is wrong with the line.
 pub enum Parsed {
     Checks(CheckCall),
@@ -86,10 +96,33 @@ pub enum Parsed {
     Opens(OpenCall),
     Converts(ConvertCall),
     RollsBack(RollbackCall),
+    Reads(ReaderCall),
     NoCall,
     WordCount,
     NoNumber(u8),
     NoBytes(u8),
+}
+
+// The calls on a journal, by their names.
+fn journal_name(word: &[u8]) -> Name
+    ensures { λ r. ⌜ r ≡ journalName (now (word .entry)) ⌝ }
+{
+    if octets::equal(word, b"open") {
+        return Name::Open;
+    }
+    if octets::equal(word, b"convert") {
+        return Name::Convert;
+    }
+    if octets::equal(word, b"rollback") {
+        return Name::Rollback;
+    }
+    if octets::equal(word, b"nurse") {
+        return Name::Nurse;
+    }
+    if octets::equal(word, b"workshop") {
+        return Name::Workshop;
+    }
+    Name::Other
 }
 
 fn name_of(word: &[u8]) -> Name
@@ -104,16 +137,14 @@ fn name_of(word: &[u8]) -> Name
     if octets::equal(word, b"backward") {
         return Name::Backward;
     }
-    if octets::equal(word, b"open") {
-        return Name::Open;
-    }
-    if octets::equal(word, b"convert") {
-        return Name::Convert;
-    }
-    if octets::equal(word, b"rollback") {
-        return Name::Rollback;
-    }
-    Name::Other
+    journal_name(word)
+}
+
+// The name that a line starts with.
+fn first_name(line: &[u8]) -> Name
+    ensures { λ r. ⌜ r ≡ nameOf (wordAt 0 (now (line .entry))) ⌝ }
+{
+    name_of(words::word(line, 0))
 }
 
 // The number that word k is.
@@ -132,10 +163,16 @@ fn bytes_at(line: &[u8], k: u8, out: &mut [u8]) -> Decoded
     hexadecimal::decode(words::word(line, k), out)
 }
 
-fn check_call(line: &[u8], program: &mut [u8], ancillae: &mut [u8], value: &mut [u8]) -> Parsed
+// The calls, each lent the buffers of the byte strings that it takes, whatever the other buffers hold.
+
+fn check_call(line: &[u8], program: &mut [u8]) -> Parsed
     requires { ⌜ length (now line) ≤ 2 * length (now program) ⌝ }
-    ensures { λ r. ⌜ Parses r (now (line .entry)) (wordsOf Check) (now (program .entry)) (now (ancillae .entry)) (now (value .entry)) (now (program .exit)) (now (ancillae .exit)) (now (value .exit)) (readCheck (now (line .entry))) ⌝ }
+    ensures { λ r. ⌜ ((anc v : List ℕ) → Parses r (now (line .entry)) (wordsOf Check) (now (program .entry)) anc v (now (program .exit)) anc v (ofLength (spaces (now (line .entry))) 2 (readCheck (now (line .entry))))) ⌝ }
 {
+    let count = words::count_spaces(line);
+    if count != 2 {
+        return Parsed::WordCount;
+    }
     let Number::Is(workspace) = number_at(line, 1, MOST_LENGTH) else {
         return Parsed::NoNumber(1);
     };
@@ -158,8 +195,12 @@ fn run_call(
     requires { ⌜ length (now line) ≤ 2 * length (now program) ⌝ }
     requires { ⌜ length (now line) ≤ 2 * length (now ancillae) ⌝ }
     requires { ⌜ length (now line) ≤ 2 * length (now value) ⌝ }
-    ensures { λ r. ⌜ Parses r (now (line .entry)) (wordsOf Forward) (now (program .entry)) (now (ancillae .entry)) (now (value .entry)) (now (program .exit)) (now (ancillae .exit)) (now (value .exit)) (readRun backward (now (line .entry))) ⌝ }
+    ensures { λ r. ⌜ Parses r (now (line .entry)) (wordsOf Forward) (now (program .entry)) (now (ancillae .entry)) (now (value .entry)) (now (program .exit)) (now (ancillae .exit)) (now (value .exit)) (ofLength (spaces (now (line .entry))) 7 (readRun backward (now (line .entry)))) ⌝ }
 {
+    let count = words::count_spaces(line);
+    if count != 7 {
+        return Parsed::WordCount;
+    }
     let Number::Is(workspace) = number_at(line, 1, MOST_LENGTH) else {
         return Parsed::NoNumber(1);
     };
@@ -261,10 +302,10 @@ fn convert_call(line: &[u8], program: &mut [u8], ancillae: &mut [u8], value: &mu
     })
 }
 
-fn rollback_call(line: &[u8], program: &mut [u8], ancillae: &mut [u8], value: &mut [u8]) -> Parsed
+fn rollback_call(line: &[u8], program: &mut [u8], value: &mut [u8]) -> Parsed
     requires { ⌜ length (now line) ≤ 2 * length (now program) ⌝ }
     requires { ⌜ length (now line) ≤ 2 * length (now value) ⌝ }
-    ensures { λ r. ⌜ Parses r (now (line .entry)) (wordsOf Rollback) (now (program .entry)) (now (ancillae .entry)) (now (value .entry)) (now (program .exit)) (now (ancillae .exit)) (now (value .exit)) (ofLength (spaces (now (line .entry))) 4 (readRollback (now (line .entry)))) ⌝ }
+    ensures { λ r. ⌜ ((anc : List ℕ) → Parses r (now (line .entry)) (wordsOf Rollback) (now (program .entry)) anc (now (value .entry)) (now (program .exit)) anc (now (value .exit)) (ofLength (spaces (now (line .entry))) 4 (readRollback (now (line .entry))))) ⌝ }
 {
     let count = words::count_spaces(line);
     if count != 4 {
@@ -290,6 +331,27 @@ fn rollback_call(line: &[u8], program: &mut [u8], ancillae: &mut [u8], value: &m
     })
 }
 
+fn reader_call(line: &[u8], workshop: bool, value: &mut [u8]) -> Parsed
+    requires { ⌜ length (now line) ≤ 2 * length (now value) ⌝ }
+    ensures { λ r. ⌜ ((p anc : List ℕ) → Parses r (now (line .entry)) (wordsOf Nurse) p anc (now (value .entry)) p anc (now (value .exit)) (ofLength (spaces (now (line .entry))) 2 (readReader workshop (now (line .entry))))) ⌝ }
+{
+    let count = words::count_spaces(line);
+    if count != 2 {
+        return Parsed::WordCount;
+    }
+    let Number::Is(output) = number_at(line, 1, MOST_LENGTH) else {
+        return Parsed::NoNumber(1);
+    };
+    let Decoded::Bytes(j) = bytes_at(line, 2, value) else {
+        return Parsed::NoBytes(2);
+    };
+    Parsed::Reads(ReaderCall {
+        workshop,
+        output: output as usize,
+        journal: j,
+    })
+}
+
 // The call that a line says, its byte strings at the starts of the buffers, each of which can hold as many bytes as a line has.
 pub fn parse(line: &[u8], program: &mut [u8], ancillae: &mut [u8], value: &mut [u8]) -> Parsed
     requires { ⌜ length (now line) ≤ 2 * length (now program) ⌝ }
@@ -297,29 +359,15 @@ pub fn parse(line: &[u8], program: &mut [u8], ancillae: &mut [u8], value: &mut [
     requires { ⌜ length (now line) ≤ 2 * length (now value) ⌝ }
     ensures { λ r. ⌜ Parses r (now (line .entry)) (bytesOf (now (line .entry))) (now (program .entry)) (now (ancillae .entry)) (now (value .entry)) (now (program .exit)) (now (ancillae .exit)) (now (value .exit)) (readLine (now (line .entry))) ⌝ }
 {
-    let spaces = words::count_spaces(line);
-    match name_of(words::word(line, 0)) {
-        Name::Check => {
-            if spaces != 2 {
-                return Parsed::WordCount;
-            }
-            check_call(line, program, ancillae, value)
-        }
-        Name::Forward => {
-            if spaces != 7 {
-                return Parsed::WordCount;
-            }
-            run_call(line, false, program, ancillae, value)
-        }
-        Name::Backward => {
-            if spaces != 7 {
-                return Parsed::WordCount;
-            }
-            run_call(line, true, program, ancillae, value)
-        }
+    match first_name(line) {
+        Name::Check => check_call(line, program),
+        Name::Forward => run_call(line, false, program, ancillae, value),
+        Name::Backward => run_call(line, true, program, ancillae, value),
         Name::Open => open_call(line, program, ancillae, value),
         Name::Convert => convert_call(line, program, ancillae, value),
-        Name::Rollback => rollback_call(line, program, ancillae, value),
+        Name::Rollback => rollback_call(line, program, value),
+        Name::Nurse => reader_call(line, false, value),
+        Name::Workshop => reader_call(line, true, value),
         Name::Other => Parsed::NoCall,
     }
 }

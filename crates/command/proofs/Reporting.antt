@@ -7,7 +7,7 @@ use lib.ListN.{length, drop, length-append}
 use lib.Seq.{take-at}
 use package.Rattle.rules.specs.Val.{size, encode}
 use package.Rattle.rules.proofs.Val.{length-encode}
-use package.Rattle.calls.specs.Answer.{Answer, accepted, refused}
+use package.Rattle.calls.specs.Answer.{Answer, accepted, refused, _>>=_}
 use package.Rattle.calls.specs.Runs.{Ran, written}
 use package.Rattle.answers.specs.Answers.{numberOf, placeOf, runAnswer, summary}
 use package.Rattle.answers.specs.declared.Refusal.{Refusal}
@@ -34,8 +34,8 @@ filled-answer (Refused r) = refl
 
 -- a value that fills an output is no longer than it
 fills-within : (x : Answer Ran) (out : List ℕ) → length (written x out) ≡ length out → filled (summary x) ≤ length out
-unfolding filled written
-fills-within (accepted r) out h = omega (arith, h, length-append (encode (r .value)) (drop (size (r .value)) out), length-encode (r .value))
+unfolding filled written _>>=_
+fills-within (accepted r) out h = omega (arith, h, length-append (encode (r .value)) (drop (length (encode (r .value))) out), length-encode (r .value))
 fills-within (refused n p) out h = omega arith
 
 -- an answered length is within the output
@@ -45,8 +45,8 @@ within r x out {out′} a f k =
     omega (arith, filled-answer r, ap filled a, fills-within x out (ap length (sym f) ∙ k), k)
 
 read-back : (x : Answer Ran) (out : List ℕ) → filledReport (summary x) (written x out) ≡ runReport x
-unfolding filledReport written runReport
-read-back (accepted r) out = ap (λ v. valueLine v (r .steps)) (take-at (encode (r .value)) (drop (size (r .value)) out) (size (r .value)) (length-encode (r .value)))
+unfolding filledReport written _>>=_ runReport
+read-back (accepted r) out = ap (λ v. valueLine v (r .steps)) (take-at (encode (r .value)) _ (size (r .value)) (length-encode (r .value)))
 read-back (refused n p) out = refl
 
 -- a run's report is the call's

@@ -4,5 +4,7 @@
 pub mod reports;
 // the calls, made and reported
 pub mod single;
+// the readers of a journal, made and reported
+pub mod readings;
 // what playing a script answered, as text
 pub mod plays;

@@ -15,7 +15,7 @@ use package.Rattle.rules.proofs.Basics.{given}
 use package.Rattle.calls.specs.Values.{value, ancillae}
 use package.Rattle.calls.specs.Journal.{fields, readJournal, writeOut}
 use package.Rattle.calls.specs.Conversions.{turned}
-use package.Rattle.calls.proofs.Answer.{via, require-yes, present-some}
+use package.Rattle.calls.proofs.Answer.{via, stops, require-yes, require-no, present-some, present-none}
 use package.Rattle.calls.proofs.Values.{value-encode}
 use package.Rattle.valuebytes.specs.Ends.{isSome, isValue, valueIn, valuesIn}
 use package.Rattle.journal.specs.declared.places.Places.{Places}
@@ -23,7 +23,7 @@ use package.Rattle.journal.specs.declared.places.Survey.{Survey}
 use package.Rattle.journal.specs.declared.places.Survey.the-variants as survey
 use package.Rattle.journal.specs.Places.{journalIn, Surveyed, Stands}
 use package.Rattle.journal.specs.Turns.{areValues, conversion, converted}
-use package.Rattle.journal.proofs.Stands.{unformed, standing, count-place}
+use package.Rattle.journal.proofs.Stands.{surveyed-as, unformed, standing, count-place}
 use package.Rattle.journal.proofs.Turns.{valuesIn-is, is-value}
 use package.Rattle.answers.specs.declared.Done.{Done}
 use package.Rattle.answers.specs.declared.Refusal.{Refusal}
@@ -34,7 +34,7 @@ use package.Rattle.answers.specs.Answers.{refuses}
 use package.Rattle.requests.specs.Runs.{runOf, called, RunMeans}
 use package.Rattle.conversions.specs.Turns.{convertOf, TurnMeans}
 use package.Rattle.conversions.specs.Converting.{convertedTo}
-use package.Rattle.conversions.proofs.Values.{stops, present-none, require-no, Carried, carried, not-carried, Into, ran-into, refused-into, front-is-value, front-valueIn, turn-refused, turn-full, turn-written}
+use package.Rattle.conversions.proofs.Values.{Carried, carried, not-carried, Into, ran-into, refused-into, front-is-value, front-valueIn, turn-refused, turn-full, turn-written}
 
 ----------------------------------------------------------------
 -- After the run
@@ -58,14 +58,11 @@ module _ (j held anc : List ℕ) {b : Bool} (fit : (f s : ℕ) → b ≡ leb (le
 ----------------------------------------------------------------
 -- Before it, and what it gives
 
-pub stands-at : {r : Survey} {pl : Places} {j : List ℕ} → Surveyed r j → r ≡ survey.Form pl → Stands pl j
-stands-at {j = j} s e = subst (λ r. Surveyed r j) e s
-
 module _ (P : Program) (fuel fn : ℕ) (anc j : List ℕ) where
   -- 18
   pub convert-malformed : {r : Survey} → Surveyed r j → r ≡ survey.Malformed → TurnMeans (runs.Refused Journal) (convertOf P fuel fn anc j) j j
   unfolding convertOf
-  convert-malformed s e = turn-refused Journal j (stops _ (present-none 18 (unformed j (subst (λ r. Surveyed r j) e s)))) (refuses {n = 18} (omega arith))
+  convert-malformed s e = turn-refused Journal j (stops _ (present-none 18 (unformed j (surveyed-as s e)))) (refuses {n = 18} (omega arith))
 
   module _ {pl : Places} (s : Stands pl j) where
     there : readJournal j ≡ some (journalIn j)

@@ -14,7 +14,7 @@ use package.Rattle.calls.specs.Values.{value}
 use package.Rattle.calls.specs.Journal.{Journal, fields, writeOut}
 use package.Rattle.calls.specs.Conversions.{kept}
 use package.Rattle.calls.specs.Book.{afterOpen, orUnit}
-use package.Rattle.calls.proofs.Answer.{via, require-yes, present-some}
+use package.Rattle.calls.proofs.Answer.{via, stops, require-yes, require-no, present-some, present-none}
 use package.Rattle.valuebytes.specs.Ends.{isSome, isValue, valueIn}
 use package.Rattle.journal.specs.Turns.{opens}
 use package.Rattle.journal.proofs.Ends.{no-value}
@@ -23,7 +23,6 @@ use package.Rattle.answers.specs.declared.Refusal.the-variants.{Values, Full}
 use package.Rattle.answers.specs.declared.CheckAnswer.the-variants as checks
 use package.Rattle.answers.specs.Answers.{numberOf, placeOf, accepts, refuses}
 use package.Rattle.conversions.specs.Turns.{openOf, OpenMeans}
-use package.Rattle.conversions.proofs.Values.{stops, present-none, require-no}
 
 ----------------------------------------------------------------
 -- Bytes that are a value

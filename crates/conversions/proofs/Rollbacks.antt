@@ -18,7 +18,7 @@ use package.Rattle.calls.specs.Values.{value, ancillae, encodeAll}
 use package.Rattle.calls.specs.Runs.{admit, Ran, returns}
 use package.Rattle.calls.specs.Journal.{Journal, fields, writeOut}
 use package.Rattle.calls.specs.Conversions.{Turned, turned, newest}
-use package.Rattle.calls.proofs.Answer.{via, unbind, require-yes, present-some}
+use package.Rattle.calls.proofs.Answer.{via, stops, unbind, require-yes, require-no, present-some, present-none}
 use package.Rattle.calls.proofs.Values.{value-encode, ancillae-encode}
 use package.Rattle.calls.proofs.Journal.Fields.{WritableEntry}
 use package.Rattle.calls.proofs.Journal.Entries.{WritableEntries, entries-unsnoc}
@@ -30,7 +30,7 @@ use package.Rattle.journal.specs.declared.places.Survey.{Survey}
 use package.Rattle.journal.specs.declared.places.Survey.the-variants as survey
 use package.Rattle.journal.specs.Places.{newestOf, journalIn, Surveyed, Stands}
 use package.Rattle.journal.specs.Turns.{rolledBack}
-use package.Rattle.journal.proofs.Stands.{standing, count-place, unformed, newest-split, newest-none, newest-some}
+use package.Rattle.journal.proofs.Stands.{surveyed-as, standing, count-place, unformed, newest-split, newest-none, newest-some}
 use package.Rattle.journal.proofs.Turns.{is-value}
 use package.Rattle.answers.specs.declared.Done.{Done}
 use package.Rattle.answers.specs.declared.Refusal.{Refusal}
@@ -41,7 +41,7 @@ use package.Rattle.answers.specs.Answers.{refuses}
 use package.Rattle.requests.specs.Runs.{runOf, called, RunMeans}
 use package.Rattle.conversions.specs.Turns.{rollbackOf, TurnMeans}
 use package.Rattle.conversions.specs.Rollbacks.{ranTo, takenBack, struck}
-use package.Rattle.conversions.proofs.Values.{stops, present-none, require-no, run-fits, finished-whole, Into, ran-into, refused-into, front-is-value, front-valueIn, turn-refused, turn-full, turn-written}
+use package.Rattle.conversions.proofs.Values.{run-fits, finished-whole, Into, ran-into, refused-into, front-is-value, front-valueIn, turn-refused, turn-full, turn-written}
 
 ----------------------------------------------------------------
 -- Answers that go on
@@ -179,12 +179,12 @@ module _ (j h : List ℕ) (d : Done) {m k : ℕ} (t : isValue h ≡ true) (long 
 
 module _ (j : List ℕ) {v : Survey} (S : Surveyed v j) where
   pub stands : {pl : Places} → v ≡ survey.Form pl → Stands pl j
-  stands e = subst (λ v. Surveyed v j) e S
+  stands e = surveyed-as S e
 
   module _ (P : Program) (fuel : ℕ) where
     pub unread : v ≡ survey.Malformed → TurnMeans (runs.Refused Unread) (rollbackOf P fuel j) j j
     unfolding rollbackOf
-    unread e = turn-refused Unread j (stops _ (present-none 18 (unformed j (subst (λ v. Surveyed v j) e S)))) (refuses {n = 18} (omega arith))
+    unread e = turn-refused Unread j (stops _ (present-none 18 (unformed j (surveyed-as S e)))) (refuses {n = 18} (omega arith))
 
     pub none-stands : {pl : Places} → v ≡ survey.Form pl → pl .count ≡ 0 → TurnMeans (runs.Refused Standing) (rollbackOf P fuel j) j j
     unfolding rollbackOf

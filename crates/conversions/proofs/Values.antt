@@ -4,7 +4,7 @@ use Prim.Native.Nat.{ℕ, _≤_}
 use native.Mathlib.Omega.{arith}
 use mathlib.Core.Path.{_≡_, refl, sym, ap, ap₂, subst, _∙_}
 use mathlib.Core.Bool.{Bool, true, false}
-use mathlib.Core.Option.{Option, none, some}
+use mathlib.Core.Option.{Option, some}
 use mathlib.Core.List.{List, _++_}
 use lib.ListN.{length, take, drop}
 use lib.Dec.{leb}
@@ -17,13 +17,13 @@ use package.Rattle.rules.proofs.Basics.{given}
 use package.Rattle.rules.proofs.Numbers.{Ends, answers, refuses, sticks, run-forward-ends}
 use package.Rattle.rules.proofs.Backward.Fits.{run-backward-ends}
 use package.Rattle.rules.proofs.Val.{length-encode}
-use package.Rattle.calls.specs.Answer.{Answer, accepted, refused, _>>=_, require, present}
+use package.Rattle.calls.specs.Answer.{Answer, accepted, refused, _>>=_}
 use package.Rattle.calls.specs.Values.{value, ancillae}
 use package.Rattle.calls.specs.Runs.{Given, admit, Ran, ran, goes, returns, written}
 use package.Rattle.calls.specs.Journal.{Journal, fields, writeOut}
 use package.Rattle.calls.specs.Conversions.{Turned, kept, turned}
 use package.Rattle.calls.specs.Book.{afterTurned}
-use package.Rattle.calls.proofs.Answer.{refused≢accepted, accepted-inj, via, unbind, first, later, unstop, require-yes}
+use package.Rattle.calls.proofs.Answer.{refused≢accepted, accepted-inj, via, stops, unbind, first, later, unstop, require-yes, require-no}
 use package.Rattle.calls.proofs.Values.{value-encode, length-encode-append}
 use package.Rattle.calls.proofs.Runs.Parts.{admit-iff}
 use package.Rattle.calls.proofs.Runs.Calls.{unit-fits}
@@ -38,23 +38,6 @@ use package.Rattle.answers.specs.declared.RunAnswer.the-variants as runs
 use package.Rattle.answers.specs.Answers.{numberOf, placeOf, summary, Later, accepts, refuses as rejects}
 use package.Rattle.requests.specs.Runs.{runOf, called, RunMeans}
 use package.Rattle.conversions.specs.Turns.{TurnMeans}
-
-----------------------------------------------------------------
--- Refusals
-
-module _ {A B : Type 0} where
-  -- what is refused goes on no further
-  pub stops : {x : Answer A} (k : A → Answer B) {n p : ℕ} → x ≡ refused n p → (x >>= k) ≡ refused n p
-  unfolding _>>=_
-  stops k e = ap (λ x. x >>= k) e
-
-pub present-none : {A : Type 0} (n : ℕ) {o : Option A} → o ≡ none → present o n ≡ refused n 0
-unfolding present
-present-none n e = ap (λ o. present o n) e
-
-pub require-no : (n p : ℕ) {b : Bool} → b ≡ false → require b n p ≡ refused n p
-unfolding require
-require-no n p e = ap (λ b. require b n p) e
 
 ----------------------------------------------------------------
 -- Values of runs fit
@@ -136,19 +119,19 @@ pub record Into (x : Answer Ran) (out′ : List ℕ) (d : Done) : Type 0 where
 
 module _ {x : Answer Ran} {out out′ : List ℕ} where
   pub ran-into : {d : Done} → RunMeans (runs.Ran d) x out out′ → Into x out′ d
-  unfolding written
+  unfolding written _>>=_
   ran-into {d} R = go x refl
     where
       go : (y : Answer Ran) → x ≡ y → Into x out′ d
       go (accepted r) e =
           let z : (d .len ≡ size (r .value)) × (d .steps ≡ r .steps) = told (R .answer ∙ ap summary e) in
-          let o : out′ ≡ encode (r .value) ++ drop (size (r .value)) out = R .output ∙ ap (λ y. written y out) e in
+          let o : out′ ≡ encode (r .value) ++ drop (length (encode (r .value))) out = R .output ∙ ap (λ y. written y out) e in
           record {
             ran = r;
             is = e;
             len = z .0;
             steps = z .1;
-            inside = omega (arith, z .0, ap length o, length-encode-append (r .value) (drop (size (r .value)) out));
+            inside = omega (arith, z .0, ap length o, length-encode-append (r .value) (drop (length (encode (r .value))) out));
             front = ap (take (d .len)) o ∙ take-at (encode (r .value)) _ (d .len) (length-encode (r .value) ∙ sym (z .0));
           }
       go (refused n p) e = absurd (refused≢accepted (sym (R .answer ∙ ap summary e)))

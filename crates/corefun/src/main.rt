@@ -6,6 +6,7 @@ mod files;
 mod input;
 mod playing;
 mod printing;
+mod reading;
 mod running;
 
 use input::ANSWER;
@@ -15,8 +16,8 @@ use input::LINE;
 // What the largest fuel asks for (document 01, section 2).
 const WORKSPACE: usize = rules::WORKSPACE_BASE + rules::WORKSPACE_PER_FUEL * rules::MAX_FUEL;
 
-// A value has at most so many bytes (document 01, section 1).
-const OUTPUT: usize = rules::MAX_VALUE_BYTES;
+// The most that a call writes: the entries of a journal (document 02, F-1).
+const OUTPUT: usize = journal::places::MOST_ENTRIES;
 
 enum Command {
     Check,
@@ -24,6 +25,8 @@ enum Command {
     Backward,
     Batch,
     Replay,
+    Nurse,
+    Workshop,
     Unknown,
 }
 
@@ -42,9 +45,11 @@ fn usage() {
         libc::STDERR_FILENO,
         b"       corefun replay PROGRAM SCRIPT\n",
     );
+    io::write_all(libc::STDERR_FILENO, b"       corefun nurse JOURNAL\n");
+    io::write_all(libc::STDERR_FILENO, b"       corefun workshop JOURNAL\n");
     io::write_all(
         libc::STDERR_FILENO,
-        b"FILE and PROGRAM hold a program, SCRIPT a script of journal calls. FUNCTION and FUEL are decimal, ANCILLAE and VALUE hexadecimal, - for none.\n",
+        b"FILE and PROGRAM hold a program, SCRIPT a script of journal calls, JOURNAL a journal's bytes. FUNCTION and FUEL are decimal, ANCILLAE and VALUE hexadecimal, - for none.\n",
     );
 }
 
@@ -75,6 +80,16 @@ fn command_of(name: &[u8], given: usize) -> Command {
             return Command::Replay;
         }
     }
+    if octets::equal(name, b"nurse") {
+        if given == 3 {
+            return Command::Nurse;
+        }
+    }
+    if octets::equal(name, b"workshop") {
+        if given == 3 {
+            return Command::Workshop;
+        }
+    }
     Command::Unknown
 }
 
@@ -101,6 +116,8 @@ fn carry_out(
         Command::Backward => running::run(true, word, program, ancillae, value, workspace),
         Command::Batch => input::answer_all(word, program, ancillae, value, workspace, output, out),
         Command::Replay => playing::replay(word, program, ancillae, value, workspace, out),
+        Command::Nurse => reading::read(false, word, value, output, out),
+        Command::Workshop => reading::read(true, word, value, output, out),
         Command::Unknown => usage(),
     }
 }

@@ -46,7 +46,7 @@ module _ (back : Bool) (xs : List ℕ) (g : ℕ) (anc bytes : List ℕ) (fuel : 
       same = R .answer ∙ ap summary (sym (whole-enough e))
 
   pub call-short : leb (workspaceFor fuel) (length ws) ≡ false → CallMeans (runs.Refused Workspace) (runCall back xs g anc bytes fuel (length ws) (length out)) out out ws ws
-  unfolding written cleared
+  unfolding written _>>=_ cleared
   call-short e = record {
     answer = ap summary (sym (whole-short e));
     fills = ap (λ x. written x out) (sym (whole-short e));

@@ -1,18 +1,22 @@
 // The public calls for C and for Rust, as a static library (`rt staticlib exports`): a slice is a pointer and a length. What a call
-// answers is told in four numbers: the refusal's number, or 0 where it is accepted; its place; the value's length; the steps.
+// answers is told in four numbers: the refusal's number, or 0 where it is accepted; its place; the length of the value, or of the bytes that
+// were written; the steps, or how many conversions stand.
 use answers::CheckAnswer;
+use answers::NurseAnswer;
 use answers::RunAnswer;
+use answers::WriteAnswer;
 use replay::replies::ReplayAnswer;
 ghost use mathlib.Core.Path.{_≡_};
 ghost use lib.ListN.{length};
-ghost use Rattle.calls.specs.Answer.{cleared};
+ghost use Rattle.calls.specs.Answer.{cleared, overwritten};
 ghost use Rattle.calls.specs.Runs.{checkCall, forwardCall, backwardCall, written};
 ghost use Rattle.calls.specs.Conversions.{openCall, convertCall, rollbackCall};
+ghost use Rattle.calls.specs.Readers.{heldBytes, nurseCall, workshopCall};
 ghost use Rattle.calls.specs.Book.{afterOpen, afterTurned};
-ghost use Rattle.answers.specs.Answers.{checkAnswer, runAnswer, openAnswer, heldAnswer, summary};
+ghost use Rattle.answers.specs.Answers.{checkAnswer, runAnswer, nurseAnswer, writeAnswer, openAnswer, heldAnswer, seenAnswer, lengthAnswer, summary};
 ghost use Rattle.replay.specs.Playing.{replyOf, replayed};
 ghost use Rattle.replay.specs.Booked.{Booked};
-ghost use Rattle.exports.specs.Told.{checkTold, runTold, replayTold};
+ghost use Rattle.exports.specs.Told.{checkTold, runTold, lengthTold, replayTold};
 
 fn check_told(answer: CheckAnswer) -> [u64; 4]
     ensures { λ r. ⌜ r ≡ checkTold (checkAnswer answer) ⌝ }
@@ -29,6 +33,24 @@ fn run_told(answer: RunAnswer) -> [u64; 4]
     match answer {
         RunAnswer::Ran(d) => [0, 0, d.len as u64, d.steps as u64],
         RunAnswer::Refused(r) => [messages::number(r), messages::place(r), 0, 0],
+    }
+}
+
+fn nurse_told(answer: NurseAnswer) -> [u64; 4]
+    ensures { λ r. ⌜ r ≡ runTold (nurseAnswer answer) ⌝ }
+{
+    match answer {
+        NurseAnswer::Shows(s) => [0, 0, s.len as u64, s.standing as u64],
+        NurseAnswer::Refused(r) => [messages::number(r), messages::place(r), 0, 0],
+    }
+}
+
+fn write_told(answer: WriteAnswer) -> [u64; 4]
+    ensures { λ r. ⌜ r ≡ lengthTold (writeAnswer answer) ⌝ }
+{
+    match answer {
+        WriteAnswer::Wrote(n) => [0, 0, n as u64, 0],
+        WriteAnswer::Refused(r) => [messages::number(r), messages::place(r), 0, 0],
     }
 }
 
@@ -146,6 +168,26 @@ pub extern "C" fn corefun_rollback(
 {
     let answer = engine::rollback(program, fuel, workspace, journal);
     *told = run_told(answer);
+}
+
+// The nurse's reader of a journal (document 02, F-1): the held value, and how many conversions stand.
+#[no_mangle]
+pub extern "C" fn corefun_nurse(journal: &[u8], output: &mut [u8], told: &mut [u64; 4])
+    ensures answer { λ _. ⌜ now (told .exit) ≡ runTold (seenAnswer (nurseCall (now (journal .entry)) (length (now (output .entry))))) ⌝ }
+    ensures fills { λ _. ⌜ now (output .exit) ≡ overwritten (heldBytes (nurseCall (now (journal .entry)) (length (now (output .entry))))) (now (output .entry)) ⌝ }
+{
+    let answer = engine::nurse(journal, output);
+    *told = nurse_told(answer);
+}
+
+// The workshop's reader of a journal: the fields of all conversions, oldest first.
+#[no_mangle]
+pub extern "C" fn corefun_workshop(journal: &[u8], output: &mut [u8], told: &mut [u64; 4])
+    ensures answer { λ _. ⌜ now (told .exit) ≡ lengthTold (lengthAnswer (workshopCall (now (journal .entry)) (length (now (output .entry))))) ⌝ }
+    ensures fills { λ _. ⌜ now (output .exit) ≡ overwritten (workshopCall (now (journal .entry)) (length (now (output .entry)))) (now (output .entry)) ⌝ }
+{
+    let answer = engine::workshop(journal, output);
+    *told = write_told(answer);
 }
 
 // Plays a script of calls on a journal. What is told: how it ended (0 played, 1 malformed, 2 a buffer too wide, 3 answers too short, 4 not

@@ -19,6 +19,7 @@ use package.Rattle.calls.proofs.Journal.Entries.{WritableEntries, entryFields-s
 use package.Rattle.calls.proofs.Journal.Buffers.{Writable, length-fields, written-read}
 use package.Rattle.calls.specs.Fields.{fieldHead}
 use package.Rattle.journal.specs.declared.places.Places.{Places}
+use package.Rattle.journal.specs.declared.places.Survey.{Survey}
 use package.Rattle.journal.specs.declared.places.Survey.the-variants as survey
 use package.Rattle.journal.specs.Places.{orElse, noNewest, newestOf, journalIn, placesOf, surveyOf, Surveyed, Stands}
 
@@ -37,6 +38,10 @@ form≢malformed p = let z : _≡_ {A = ℕ} 0 1 = cc in omega arith
 
 form-inj : {a b : Places} → survey.Form a ≡ survey.Form b → a ≡ b
 form-inj p = cc
+
+-- a survey whose answer was found out
+pub surveyed-as : {xs : List ℕ} {r r′ : Survey} → Surveyed r xs → r ≡ r′ → Surveyed r′ xs
+surveyed-as {xs} s e = subst (λ r. Surveyed r xs) e s
 
 -- what is not in form is no journal
 pub unformed : (xs : List ℕ) → Surveyed survey.Malformed xs → readJournal xs ≡ none

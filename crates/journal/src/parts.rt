@@ -1,5 +1,5 @@
-// What a journal in form says (document 01, section 5), read from its bytes: the held value, and the newest conversion. Values are
-// parts of the caller's slice, not copies.
+// What a journal in form says (document 01, section 5), read from its bytes: the held value, the conversions' fields, and the newest
+// conversion. Values and fields are parts of the caller's slice, not copies.
 use crate::places::ENTRY_BYTES;
 use crate::places::FUNCTION_AT;
 use crate::places::Places;
@@ -9,6 +9,7 @@ ghost use mathlib.Core.Path.{_≡_};
 ghost use Prim.Native.Nat.{_<_};
 ghost use Rattle.rules.specs.Val.{encode};
 ghost use Rattle.calls.specs.Values.{encodeAll};
+ghost use Rattle.calls.specs.Journal.{entryFields};
 ghost use Rattle.journal.specs.Places.{Stands, journalIn, newestOf};
 
 // The bytes of the held value.
@@ -18,6 +19,16 @@ pub fn held_value(journal: &[u8], pl: Places) -> &[u8]
 {
     let end = pl.held;
     &journal[FIELD_HEAD..end]
+}
+
+// The fields of all conversions, oldest first.
+pub fn standing_fields(journal: &[u8], pl: Places) -> &[u8]
+    requires { ⌜ Stands pl (now journal) ⌝ }
+    ensures { λ r. ⌜ now r ≡ entryFields (journalIn (now (journal .entry)) .entries) ⌝ }
+{
+    let from = pl.held;
+    let end = pl.end;
+    &journal[from..end]
 }
 
 // The newest conversion, where one stands: its function, its steps, and the bytes of its ancilla values.

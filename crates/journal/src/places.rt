@@ -1,5 +1,7 @@
 // Where the fields of a journal stand in its bytes (document 01, section 5).
 use program::fields::FIELD_HEAD;
+use rules::MAX_ANCILLA_BYTES;
+use rules::MAX_CONVERSIONS;
 
 // The tags of the held value's field and of a conversion's.
 
@@ -16,6 +18,9 @@ pub const STEPS_AT: usize = FIELD_HEAD + 2;
 pub const ENTRY_HEAD: usize = 6;
 
 pub const ENTRY_BYTES: usize = FIELD_HEAD + ENTRY_HEAD;
+
+// The most bytes that the conversions' fields of one journal take.
+pub const MOST_ENTRIES: usize = MAX_CONVERSIONS * (ENTRY_BYTES + MAX_ANCILLA_BYTES);
 
 // The ends of the held value's field and of the last field, how many conversions stand, and where the newest one's field starts
 // (where none stands, the end of the last field).

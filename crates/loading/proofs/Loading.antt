@@ -9,7 +9,7 @@ use package.Rattle.rules.specs.Typing.{WellTyped}
 use package.Rattle.calls.specs.Answer.{Answer, accepted, refused, _>>=_}
 use package.Rattle.calls.specs.Entries.{entriesAt, programOf}
 use package.Rattle.calls.specs.Load.{load}
-use package.Rattle.calls.proofs.Answer.{via}
+use package.Rattle.calls.proofs.Answer.{via, stops}
 use package.Rattle.calls.proofs.Trees.{entries-good}
 use package.Rattle.calls.proofs.Load.{load-iff}
 use package.Rattle.calls.specs.Tested.{Good}
@@ -34,11 +34,6 @@ use package.Rattle.typing.specs.declared.functions.Verdict.the-variants.{Typed}
 use package.Rattle.loading.specs.Loading.{Accepted, loadedOf, WhenReady, Examined, LoadMeans}
 use package.Rattle.loading.specs.declared.Loaded.{Loaded}
 use package.Rattle.loading.specs.declared.Loaded.the-variants as loaded
-
--- a refusal stands, whatever would follow
-stops : {A B : Type 0} {x : Answer A} (k : A → Answer B) {n p : ℕ} → x ≡ refused n p → (x >>= k) ≡ refused n p
-unfolding _>>=_
-stops k e = ap (λ x. x >>= k) e
 
 -- none of these rows refuses with 1
 later-refused : {A : Type 0} {x : Answer A} {n p : ℕ} → x ≡ refused n p → 2 ≤ n → Later x

@@ -36,7 +36,7 @@ runMeaning n =
 
 unfoldable pub keepingMeaning : ℕ → List ℕ
 keepingMeaning n =
-    cond (eqb n 17) (text "the output is too short for the value")
+    cond (eqb n 17) (text "the output is too short")
     (cond (eqb n 18) (text "the journal is malformed")
     (cond (eqb n 19) (text "no conversion stands")
     (text "64 conversions stand already, or the bytes do not fit")))

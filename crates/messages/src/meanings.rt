@@ -100,7 +100,7 @@ fn put_keeping(n: u64, out: &mut [u8], at: usize) -> usize
     ensures { λ end. ⌜ Wrote (now (out .entry)) (now (out .exit)) at end (keepingMeaning n) ⌝ }
 {
     if n == 17 {
-        return texts::put(b"the output is too short for the value", out, at);
+        return texts::put(b"the output is too short", out, at);
     }
     if n == 18 {
         return texts::put(b"the journal is malformed", out, at);

@@ -2,36 +2,46 @@
 use crate::meanings;
 use answers::CheckAnswer;
 use answers::Done;
+use answers::NurseAnswer;
 use answers::Refusal;
 use answers::RunAnswer;
+use answers::WriteAnswer;
 use calltext::answers as texts;
-use calltext::decimal;
 ghost use Prim.Native.Nat.{_+_, _*_, _≤_};
 ghost use lib.ListN.{length, take};
-ghost use Rattle.answers.specs.Answers.{numberOf, placeOf, checkAnswer, runAnswer};
+ghost use Rattle.answers.specs.Answers.{numberOf, placeOf, checkAnswer, runAnswer, nurseAnswer, writeAnswer};
 ghost use Rattle.calltext.specs.Wrote.{Wrote};
-ghost use Rattle.calltext.specs.Answers.{valueLine, heldLine, refusedLine};
-ghost use Rattle.messages.specs.Replies.{checkText, runText, openedText, heldText, lengthOf, whereText, refusalText};
+ghost use Rattle.calltext.specs.Answers.{numberedLine, twoNumbers, refusedLine, heldLine};
+ghost use Rattle.calltext.specs.Text.{text};
+ghost use Rattle.messages.specs.Replies.{checkText, runText, nurseText, writeText, openedText, heldText, lengthOf, seenLength, writtenLength, whereText, refusalText};
+
+// A refusal's number and place, with a text between and behind them.
+fn put_refusal(r: Refusal, between: &[u8], behind: &[u8], out: &mut [u8]) -> usize
+    requires { ⌜ length (now between) + length (now behind) + 48 ≤ length (now out) ⌝ }
+    ensures tells { λ end. ⌜ Wrote (now (out .entry)) (now (out .exit)) 0 end (twoNumbers (text "refused ") (numberOf r) (now (between .entry)) (placeOf r) (now (behind .entry))) ⌝ }
+    ensures short { λ end. ⌜ end ≤ length (now (between .entry)) + length (now (behind .entry)) + 48 ⌝ }
+{
+    let number = crate::number(r);
+    let place = crate::place(r);
+    texts::two_numbers(b"refused ", number, between, place, behind, out)
+}
 
 // The line of a refusal.
 fn refusal_line(r: Refusal, out: &mut [u8]) -> usize
     requires { ⌜ 64 ≤ length (now out) ⌝ }
     ensures { λ end. ⌜ Wrote (now (out .entry)) (now (out .exit)) 0 end (refusedLine (numberOf r) (placeOf r)) ⌝ }
 {
-    let number = crate::number(r);
-    let place = crate::place(r);
-    texts::refused_line(number, place, out)
+    put_refusal(r, b" ", b"\n", out)
 }
 
-// The line of a run that was done, whose value the output starts with.
-fn done_line(d: Done, output: &[u8], out: &mut [u8]) -> usize
-    requires { ⌜ d .len ≤ length (now output) ⌝ }
-    requires { ⌜ 2 * length (now output) + 32 ≤ length (now out) ⌝ }
-    ensures { λ end. ⌜ Wrote (now (out .entry)) (now (out .exit)) 0 end (valueLine (take (d .len) (now (output .entry))) (d .steps)) ⌝ }
+// The line of bytes that the output starts with, so many, and of a number, behind a word.
+fn front_line(word: &[u8], len: u16, number: u16, output: &[u8], out: &mut [u8]) -> usize
+    requires { ⌜ len ≤ length (now output) ⌝ }
+    requires { ⌜ length (now word) + 2 * length (now output) + 24 ≤ length (now out) ⌝ }
+    ensures { λ end. ⌜ Wrote (now (out .entry)) (now (out .exit)) 0 end (numberedLine (now (word .entry)) (take len (now (output .entry))) number) ⌝ }
 {
-    let n = octets::wide_index(d.len);
-    let steps = d.steps as u64;
-    texts::value_line(&output[..n], steps, out)
+    let n = octets::wide_index(len);
+    texts::numbered_line(word, &output[..n], number as u64, out)
 }
 
 // The line that answers a check.
@@ -52,8 +62,32 @@ pub fn run_line(answer: RunAnswer, output: &[u8], out: &mut [u8]) -> usize
     ensures { λ end. ⌜ Wrote (now (out .entry)) (now (out .exit)) 0 end (runText (runAnswer answer) (now (output .entry))) ⌝ }
 {
     match answer {
-        RunAnswer::Ran(d) => done_line(d, output, out),
+        RunAnswer::Ran(d) => front_line(b"value ", d.len, d.steps, output, out),
         RunAnswer::Refused(r) => refusal_line(r, out),
+    }
+}
+
+// The line that answers the nurse's reader, whose held value the output starts with.
+pub fn nurse_line(answer: NurseAnswer, output: &[u8], out: &mut [u8]) -> usize
+    requires { ⌜ seenLength answer ≤ length (now output) ⌝ }
+    requires { ⌜ (2 * length (now output) + 32 ≤ length (now out)) × (64 ≤ length (now out)) ⌝ }
+    ensures { λ end. ⌜ Wrote (now (out .entry)) (now (out .exit)) 0 end (nurseText (nurseAnswer answer) (now (output .entry))) ⌝ }
+{
+    match answer {
+        NurseAnswer::Shows(s) => front_line(b"held ", s.len, s.standing, output, out),
+        NurseAnswer::Refused(r) => refusal_line(r, out),
+    }
+}
+
+// The line that answers a call which writes bytes, with which the output starts.
+pub fn write_line(answer: WriteAnswer, output: &[u8], out: &mut [u8]) -> usize
+    requires { ⌜ writtenLength answer ≤ length (now output) ⌝ }
+    requires { ⌜ (2 * length (now output) + 8 ≤ length (now out)) × (64 ≤ length (now out)) ⌝ }
+    ensures { λ end. ⌜ Wrote (now (out .entry)) (now (out .exit)) 0 end (writeText (writeAnswer answer) (now (output .entry))) ⌝ }
+{
+    match answer {
+        WriteAnswer::Wrote(n) => texts::word_line(b"bytes ", &output[..n], out),
+        WriteAnswer::Refused(r) => refusal_line(r, out),
     }
 }
 
@@ -63,7 +97,7 @@ pub fn opened_line(answer: CheckAnswer, journal: &[u8], out: &mut [u8]) -> usize
     ensures { λ end. ⌜ Wrote (now (out .entry)) (now (out .exit)) 0 end (openedText (checkAnswer answer) (now (journal .entry))) ⌝ }
 {
     match answer {
-        CheckAnswer::Accepted => texts::opened_line(journal, out),
+        CheckAnswer::Accepted => texts::word_line(b"ok ", journal, out),
         CheckAnswer::Refused(r) => refusal_line(r, out),
     }
 }
@@ -94,11 +128,7 @@ fn put_where(r: Refusal, out: &mut [u8]) -> usize
     requires { ⌜ 64 ≤ length (now out) ⌝ }
     ensures { λ end. ⌜ Wrote (now (out .entry)) (now (out .exit)) 0 end (whereText (numberOf r) (placeOf r)) × (end ≤ 54) ⌝ }
 {
-    let named = texts::put(b"refused ", out, 0);
-    let numbered = decimal::put_number(crate::number(r), out, named);
-    let behind = texts::put(b" at ", out, numbered);
-    let placed = decimal::put_number(crate::place(r), out, behind);
-    texts::put(b": ", out, placed)
+    put_refusal(r, b" at ", b": ", out)
 }
 
 // A refusal: its number, its place and its meaning.

@@ -35,7 +35,7 @@ use package.Rattle.requests.specs.Runs.{runOf, called, calledOf, frontsR
 
 -- a refusal of the definitions is one of the answer, and the output is unchanged
 refused-as : {x : Answer Ran} (r : Refusal) (out : List ℕ) → x ≡ refused (numberOf r) (placeOf r) → 2 ≤ numberOf r → RunMeans (runs.Refused r) x out out
-unfolding written
+unfolding written _>>=_
 refused-as r out e l = rw e (record { answer = refl; later = refuses {n = numberOf r} l; output = refl })
 
 ----------------------------------------------------------------

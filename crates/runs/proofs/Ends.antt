@@ -2,15 +2,15 @@
 use Prim.Native.Nat.{ℕ, _+_, _*_, _-_, _≤_, _<_}
 use native.Mathlib.Omega.{arith}
 use mathlib.Core.Path.{_≡_, refl, sym, ap, ap₂, _∙_}
-use mathlib.Core.List.{List, _++_}
-use lib.ListN.{length, drop}
+use mathlib.Core.List.{List}
+use lib.ListN.{length}
 use borrow.Author.Tests.{le-leb, lt-leb}
 use package.Rattle.octets.specs.Runs.{pasted}
 use package.Rattle.rules.specs.Val.{size, encode}
 use package.Rattle.rules.specs.Run.{ok}
-use package.Rattle.rules.proofs.Val.{length-encode}
 use package.Rattle.calls.specs.Answer.{accepted, refused, _>>=_, require}
 use package.Rattle.calls.specs.Runs.{Ran, ran, written}
+use package.Rattle.calls.proofs.Answer.{overwritten-pasted}
 use package.Rattle.answers.specs.declared.Refusal.the-variants.{Fuel, Height, Long, FirstMatch, NoInput, Output}
 use package.Rattle.answers.specs.declared.RunAnswer.the-variants as runs
 use package.Rattle.answers.specs.Answers.{summary, accepts}
@@ -47,7 +47,7 @@ module _ {heap : List ℕ} {node fuel left : ℕ} (G : Gives heap node fuel left
       answer = record { value = valueAt heap node; steps = fuel - left }
 
       pub give-short : {i : ℕ} → i ≡ len → length out < i → Means (runs.Refused Output) out out (ran fuel (ok (valueAt heap node) left))
-      unfolding ran written
+      unfolding ran written _>>=_
       give-short q h = record { answer = ap summary (sym short); later = refused-later Output (omega arith); output = ap (λ x. written x out) (sym short) }
         where
           short : finished (length out) (accepted answer) ≡ refused 17 0
@@ -57,14 +57,13 @@ module _ {heap : List ℕ} {node fuel left : ℕ} (G : Gives heap node fuel left
         pub store-ready : StoreReady heap node out 0
         store-ready = record { right = G .right; room = omega (arith, sized) }
 
-        filled : pasted out 0 (encode (valueAt heap node)) ≡ encode (valueAt heap node) ++ drop (size (valueAt heap node)) out
-        unfolding pasted
-        filled = ap (λ n. encode (valueAt heap node) ++ drop n out)
-            (let z : 0 + length (encode (valueAt heap node)) ≡ size (valueAt heap node) = omega (arith, length-encode (valueAt heap node)) in z)
+        filled : pasted out 0 (encode (valueAt heap node)) ≡ written (accepted answer) out
+        unfolding written _>>=_
+        filled = overwritten-pasted out (encode (valueAt heap node))
 
         pub give-done : {out′ : List ℕ} {next steps : ℕ} → StoreDone heap node out out′ 0 next → steps ≡ fuel - left
             → Means (runs.Ran (record { len = len; steps = steps })) out out′ (ran fuel (ok (valueAt heap node) left))
-        unfolding ran written
+        unfolding ran written _>>=_
         give-done d s = record {
           answer = ap₂ (λ l n. accepted (l, n)) sized s ∙ ap summary (sym enough);
           later = accepts;

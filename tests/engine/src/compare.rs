@@ -3,7 +3,7 @@
 use crate::engine;
 use second::calls::{answer, Answer, Call};
 use second::lines::{read_call, write_answer, write_call};
-use second::make::lists::book_list;
+use second::make::lists::{book_list, Turn};
 use second::make::Maker;
 use second::rng::Rng;
 use std::io::BufRead;
@@ -34,6 +34,12 @@ impl Tally {
             format!("{line}\n  engine: {}\n  second: {expected}", said())
         });
         got.ok()
+    }
+
+    pub fn compare_all(&mut self, calls: &[(Call, Answer)]) {
+        for (call, expected) in calls {
+            self.compare(call, expected);
+        }
     }
 
     pub fn count(&mut self, same: bool, said: impl Fn() -> String) {
@@ -67,33 +73,42 @@ pub fn compare_random(seed: u64, count: usize) -> Tally {
     })
 }
 
-/// Fresh lists of journal calls. Each call gets the bytes that the engine itself left, and is held to the plain book.
+/// Fresh lists of journal calls. Each call gets the bytes that the engine itself left, and is held to the plain book; after each call
+/// both readers are.
 pub fn compare_lists(seed: u64, count: usize) -> Tally {
     shared_out(seed, count, |seed, count, tally| {
         let mut rng = Rng::new(seed);
         for _ in 0..count {
-            let mut left: Option<Vec<u8>> = None;
-            for (mut call, expected) in book_list(&mut rng) {
-                let bytes = journal(&mut call);
-                if let Some(mut left) = left.take() {
-                    left.resize(bytes.len(), 0);
-                    *bytes = left;
-                }
-                let before = bytes.clone();
-                left = match tally.compare(&call, &expected) {
-                    Some(Answer::Opened { journal } | Answer::Held { journal, .. }) => Some(journal),
-                    _ => Some(before),
-                };
-            }
+            compare_list(book_list(&mut rng), tally);
         }
     })
+}
+
+fn compare_list(list: Vec<Turn>, tally: &mut Tally) {
+    let mut left: Option<Vec<u8>> = None;
+    for Turn { mut call, answer, reading } in list {
+        let bytes = journal(&mut call);
+        if let Some(mut left) = left.take() {
+            left.resize(bytes.len(), 0);
+            *bytes = left;
+        }
+        let before = bytes.clone();
+        let after = match tally.compare(&call, &answer) {
+            Some(Answer::Opened { journal } | Answer::Held { journal, .. }) => journal,
+            _ => before,
+        };
+        tally.compare_all(&reading.calls(&after));
+        left = Some(after);
+    }
 }
 
 fn journal(call: &mut Call) -> &mut Vec<u8> {
     match call {
         Call::Open { journal, .. } | Call::Rollback { journal, .. } => journal,
         Call::Convert(call) => &mut call.journal,
-        Call::Check { .. } | Call::Run(_) => unreachable!("calls that write no journal stand outside the list"),
+        Call::Check { .. } | Call::Run(_) | Call::Read(_) => {
+            unreachable!("calls that write no journal stand outside the list")
+        }
     }
 }
 

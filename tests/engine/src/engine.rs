@@ -3,6 +3,7 @@
 use corefun::foreign::{self, Told};
 use second::calls::{Answer, Call, Direction, RunCall};
 use second::make::scripts::ScriptCall;
+use second::readers::{ReadCall, Reader};
 use second::refusal::{Number, Refusal};
 use second::script::Ended;
 
@@ -27,20 +28,41 @@ pub fn answer(call: &Call) -> Result<Answer, String> {
         Call::Rollback { workspace, fuel, program, journal } => {
             held(on_journal(*workspace, journal, |space, bytes| foreign::rollback(program, *fuel, space, bytes))?)
         }
+        Call::Read(call) => read(call),
     }
 }
 
 fn ran(call: &RunCall) -> Result<Answer, String> {
-    let before = pattern(call.output);
-    let mut output = before.clone();
+    let mut output = pattern(call.output);
     let (told, refused) = with_workspace(call.workspace, |space| run(call, space, &mut output))?;
+    let written = written(told, refused, output)?;
+    Ok(written.map_or_else(Answer::Refused, |value| Answer::Value { value, steps: told[3] as u32 }))
+}
+
+fn read(call: &ReadCall) -> Result<Answer, String> {
+    let mut output = pattern(call.output);
+    let told = see(call, &mut output);
+    match (written(told, refusal(told)?, output)?, call.reader) {
+        (Err(refusal), _) => Ok(Answer::Refused(refusal)),
+        (Ok(value), Reader::Nurse) => Ok(Answer::Seen { value, standing: told[3] as usize }),
+        (Ok(bytes), Reader::Workshop) if told[3] == 0 => Ok(Answer::Entries { bytes }),
+        _ => Err(format!("steps are told: {told:?}")),
+    }
+}
+
+/// What a call has written into an output that began with a pattern, or its refusal. The rest of the output is as it was.
+fn written(told: Told, refused: Option<Refusal>, mut output: Vec<u8>) -> Result<Result<Vec<u8>, Refusal>, String> {
+    let before = pattern(output.len());
     let length = if refused.is_none() { told[2] as usize } else { 0 };
     if length > output.len() || output[length..] != before[length..] {
         return Err("the rest of the output changed".to_string());
     }
     match refused {
-        Some(refusal) => no_more(told).map(|()| Answer::Refused(refusal)),
-        None => Ok(Answer::Value { value: output[..length].to_vec(), steps: told[3] as u32 }),
+        Some(refusal) => no_more(told).map(|()| Err(refusal)),
+        None => {
+            output.truncate(length);
+            Ok(Ok(output))
+        }
     }
 }
 
@@ -103,6 +125,14 @@ pub fn run(call: &RunCall, workspace: &mut [u8], output: &mut [u8]) -> Told {
     };
     let RunCall { program, function, ancillae, value, fuel, .. } = call;
     carry(&foreign::Run { program, function: *function, ancillae, value, fuel: *fuel }, workspace, output)
+}
+
+/// A reader's call.
+pub fn see(call: &ReadCall, output: &mut [u8]) -> Told {
+    match call.reader {
+        Reader::Nurse => foreign::nurse(&call.journal, output),
+        Reader::Workshop => foreign::workshop(&call.journal, output),
+    }
 }
 
 /// Bytes that no call writes by chance.

@@ -2,10 +2,10 @@
 
 use crate::engine::{self, Replayed};
 use second::calls::{Answer, Call, ConvertCall};
-use second::lines::write_hex;
+use second::lines::{write_answer, write_call, write_hex};
 use second::make::scripts::ScriptCall;
 use second::months::{months, Months, BUFFER, WORKSPACE};
-use second::script::{line, Act, Ended, Step, LINE};
+use second::script::{line, Act, Ended, Player, Step, LINE};
 use std::time::Instant;
 
 /// Every answer and the journal at the end are the book's.
@@ -44,12 +44,16 @@ fn whole(made: Months) -> Result<(), String> {
     }
 }
 
-/// Each call gets the bytes that the engine itself left, in the front part of the buffer that it names.
+/// Each call gets the bytes that the engine itself left, in the front part of the buffer that it names. After each call both readers are
+/// held to the book, which is fed the calls once more.
 fn call_by_call(made: &Months) -> Result<(), String> {
+    let mut book = Player::new(made.program.clone(), WORKSPACE);
     let mut journal = vec![0; BUFFER];
     let mut rest = &made.script[..];
     for (number, expected) in made.answers.chunks(LINE).enumerate() {
-        let (Step { buffer, act }, behind) = Step::read(rest).ok_or("the script ends early")?;
+        let (step, behind) = Step::read(rest).ok_or("the script ends early")?;
+        book.play(&step);
+        let Step { buffer, act } = step;
         journal.truncate(buffer);
         let answer = engine::answer(&on_bytes(act, &made.program, &journal))?;
         if line(&answer) != expected {
@@ -58,6 +62,15 @@ fn call_by_call(made: &Months) -> Result<(), String> {
         }
         if let Answer::Opened { journal: left } | Answer::Held { journal: left, .. } = answer {
             journal = left;
+        }
+        for (call, expected) in book.readers(&journal) {
+            if engine::answer(&call)? != expected {
+                return Err(format!(
+                    "after call {number}: {} is not {}",
+                    write_call(&call),
+                    write_answer(&expected)
+                ));
+            }
         }
         journal.resize(BUFFER, 0);
         rest = behind;

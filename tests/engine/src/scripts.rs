@@ -1,11 +1,11 @@
-//! Scripts of journal calls, played by the engine and by the plain book.
+//! Scripts of journal calls, played by the engine and by the plain book, and the journals that they leave, read.
 
 use crate::compare::{shared_out, Tally};
 use crate::engine::{self, pattern, Replayed};
 use second::lines::write_hex;
 use second::make::scripts::{script_call, ScriptCall};
 use second::rng::Rng;
-use second::script::replay;
+use second::script::Player;
 
 /// Fresh random scripts, some of them spoilt.
 pub fn compare_scripts(seed: u64, count: usize) -> Tally {
@@ -13,17 +13,21 @@ pub fn compare_scripts(seed: u64, count: usize) -> Tally {
         let mut rng = Rng::new(seed);
         for _ in 0..count {
             let call = script_call(&mut rng);
-            let (got, expected) = (engine::replay(&call), by_the_book(&call));
+            let mut book = Player::new(call.program.clone(), call.workspace);
+            let (got, expected) = (engine::replay(&call), by_the_book(&mut book, &call));
             let same = got.as_ref().is_ok_and(|got| *got == expected);
             tally.count(same, || difference(&call, &got, &expected));
+            if let Ok(Replayed { journal, .. }) = got {
+                tally.compare_all(&book.readers(&journal));
+            }
         }
     })
 }
 
-fn by_the_book(call: &ScriptCall) -> Replayed {
+fn by_the_book(book: &mut Player, call: &ScriptCall) -> Replayed {
     let mut workspace = pattern(call.workspace);
     let (mut journal, mut answers) = (pattern(call.journal), pattern(call.answers));
-    let ended = replay(&call.program, &call.script, &mut workspace, &mut journal, &mut answers);
+    let ended = book.replay(&call.script, &mut workspace, &mut journal, &mut answers);
     Replayed { ended, workspace, journal, answers }
 }
 

@@ -7,7 +7,8 @@ use second::calls::{answer, Answer, Call, ConvertCall, Direction, RunCall};
 use second::cases::cases;
 use second::draft::{case, inl, nat, roll, sum, unfold, unit_type, variable, Draft, Function, Term};
 use second::limits::{workspace, FUEL, VALUE_BYTES};
-use second::samples::{library, nat_bytes, successor};
+use second::readers::{ReadCall, Reader};
+use second::samples::{library, longest_journal, nat_bytes, successor};
 
 /// What the harness's own threads get, in bytes.
 pub const ROOM: usize = 64 << 20;
@@ -20,7 +21,7 @@ const LIMIT_KILOBYTES: u64 = 1 << 10;
 /// Stack is found to so many kilobytes.
 const EXACT_TO: u64 = 16;
 
-const GROUPS: [&str; 6] = ["check", "forward", "backward", "open", "convert", "rollback"];
+const GROUPS: [&str; 8] = ["check", "forward", "backward", "open", "convert", "rollback", "nurse", "workshop"];
 
 pub fn report() -> Result<(), String> {
     for (group, name) in GROUPS.iter().enumerate() {
@@ -70,7 +71,9 @@ fn deepest(group: usize) -> Vec<Call> {
     let mut calls = cases();
     let library = library().bytes();
     let tested = long_left_branch();
-    calls.extend([largest_program().0, tested.clone()].map(|program| Call::Check { workspace: workspace(0), program }));
+    calls.extend(
+        [largest_program().0, tested.clone()].map(|program| Call::Check { workspace: workspace(0), program }),
+    );
     for direction in [Direction::Forward, Direction::Backward] {
         calls.extend([255, 256].map(|n| run(&library, direction, &nat_bytes(0), nat_bytes(n))));
     }
@@ -78,12 +81,15 @@ fn deepest(group: usize) -> Vec<Call> {
     calls.push(run(&tested, Direction::Backward, &[], nat_bytes(501)));
     calls.extend(journal_calls(&library, nat_bytes(0), nat_bytes(255)));
     calls.extend(journal_calls(&tested, Vec::new(), [&[2], &nat_bytes(501)[..]].concat()));
+    let (journal, output) = (longest_journal(), longest_journal().len());
+    calls.extend(Reader::BOTH.map(|reader| Call::Read(ReadCall { reader, output, journal: journal.clone() })));
     calls.retain(|call| match call {
         Call::Check { .. } => group == 0,
         Call::Run(call) => group == if call.direction == Direction::Forward { 1 } else { 2 },
         Call::Open { .. } => group == 3,
         Call::Convert(_) => group == 4,
         Call::Rollback { .. } => group == 5,
+        Call::Read(call) => group == if call.reader == Reader::Nurse { 6 } else { 7 },
     });
     calls
 }

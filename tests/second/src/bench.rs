@@ -3,9 +3,11 @@
 use crate::calls::{answer, arguments, Answer, Call, ConvertCall, Direction};
 use crate::draft::{boolean, Draft};
 use crate::limits::{self, FUEL};
+use crate::readers::{ReadCall, Reader};
 use crate::run::{run, Start};
 use crate::samples::{
-    beside_ancillae, doubled, lets, library, list_bytes, map, nat_bytes, not, reverse, snoc, tuple_bytes, turned,
+    beside_ancillae, doubled, lets, library, list_bytes, longest_journal, map, nat_bytes, not, reverse, snoc,
+    tuple_bytes, turned,
 };
 use crate::typing::check;
 use crate::value::Heap;
@@ -93,6 +95,7 @@ pub fn bench() {
     }
     bench_check();
     bench_journal(&library().bytes());
+    bench_readers();
 }
 
 fn bench_run(sample: &Sample) {
@@ -180,6 +183,15 @@ fn bench_journal(program: &[u8]) {
     for (name, call) in [("convert", convert), ("rollback", rollback)] {
         let best = best_of(500, || matches!(black_box(answer(black_box(&call))), Answer::Held { .. }));
         println!("{name} of {steps} steps, program of {} bytes checked: {:.1} us", program.len(), best / 1000.0);
+    }
+}
+
+fn bench_readers() {
+    let journal = longest_journal();
+    for reader in Reader::BOTH {
+        let call = Call::Read(ReadCall { reader, output: journal.len(), journal: journal.clone() });
+        let best = best_of(500, || !matches!(black_box(answer(black_box(&call))), Answer::Refused(_)));
+        println!("{} of a journal of {} bytes: {:.1} us", reader.name(), journal.len(), best / 1000.0);
     }
 }
 

@@ -4,8 +4,9 @@
 use crate::calls::{admit, carry, Answer, Direction};
 use crate::journal::{Conversion, Journal};
 use crate::limits::{CONVERSIONS, FUEL};
+use crate::readers::Reading;
 use crate::refusal::{Number, Refusal};
-use crate::typing::Checked;
+use crate::typing::{check, Checked};
 use crate::value::one_value;
 
 #[derive(Clone, Debug)]
@@ -38,8 +39,15 @@ impl Book {
 
     /// The journal as the book writes it out, with zeros to the end of the buffer; none if it does not fit.
     pub fn write(&self, program: &[u8], buffer: usize) -> Option<Vec<u8>> {
-        let mut checked = crate::typing::check(program).ok()?;
+        let mut checked = check(program).ok()?;
         self.written(&mut checked).write(buffer)
+    }
+
+    /// What readers are told of that journal: the held record, how many rows there are, and their fields. None if the program is refused.
+    pub fn reading(&self, program: &[u8]) -> Option<Reading> {
+        let mut checked = check(program).ok()?;
+        let journal = self.written(&mut checked);
+        Some(Reading { entries: journal.entries(), held: journal.held, standing: self.rows.len() })
     }
 
     pub fn open(&mut self, given: &Circumstances, record: &[u8]) -> Answer {

@@ -1,7 +1,9 @@
-//! The six calls, each in section 4's order. Of a workspace and an output only the length matters to the answer.
+//! The six calls, each in section 4's order, and those of the two readers. Of a workspace and an output only the length matters to the
+//! answer.
 
 use crate::journal::{Conversion, Journal};
 use crate::limits::{self, ANCILLA_BYTES, CONVERSIONS};
+use crate::readers::{self, ReadCall};
 use crate::refusal::{Number, Refusal};
 pub use crate::run::Direction;
 use crate::run::{self, Start};
@@ -37,6 +39,39 @@ pub enum Call {
     Open { workspace: usize, program: Vec<u8>, record: Vec<u8>, journal: Vec<u8> },
     Convert(ConvertCall),
     Rollback { workspace: usize, fuel: u16, program: Vec<u8>, journal: Vec<u8> },
+    Read(ReadCall),
+}
+
+impl Call {
+    /// None for a reader, which has no program.
+    pub fn program(&self) -> Option<&[u8]> {
+        match self {
+            Call::Check { program, .. } | Call::Open { program, .. } | Call::Rollback { program, .. } => {
+                Some(program)
+            }
+            Call::Run(call) => Some(&call.program),
+            Call::Convert(call) => Some(&call.program),
+            Call::Read(_) => None,
+        }
+    }
+
+    /// The journal's buffer before the call, where it has one.
+    pub fn journal(&self) -> Option<&[u8]> {
+        match self {
+            Call::Open { journal, .. } | Call::Rollback { journal, .. } => Some(journal),
+            Call::Convert(call) => Some(&call.journal),
+            Call::Read(call) => Some(&call.journal),
+            Call::Check { .. } | Call::Run(_) => None,
+        }
+    }
+
+    /// The same after the call: as an accepted one left it, else as it was.
+    pub fn journal_after<'a>(&'a self, answer: &'a Answer) -> Option<&'a [u8]> {
+        match answer {
+            Answer::Opened { journal } | Answer::Held { journal, .. } => Some(journal),
+            _ => self.journal(),
+        }
+    }
 }
 
 #[derive(Clone, PartialEq, Eq, Debug)]
@@ -45,6 +80,8 @@ pub enum Answer {
     Value { value: Vec<u8>, steps: u32 },
     Opened { journal: Vec<u8> },
     Held { length: usize, steps: u32, journal: Vec<u8> },
+    Seen { value: Vec<u8>, standing: usize },
+    Entries { bytes: Vec<u8> },
     Refused(Refusal),
 }
 
@@ -55,11 +92,12 @@ pub fn answer(call: &Call) -> Answer {
         Call::Open { workspace, program, record, journal } => open(*workspace, program, record, journal.len()),
         Call::Convert(call) => convert(call),
         Call::Rollback { workspace, fuel, program, journal } => rollback(*workspace, *fuel, program, journal),
+        Call::Read(call) => readers::read(call),
     };
     answer.unwrap_or_else(Answer::Refused)
 }
 
-/// The workspace row and the rows of the program, which start every call.
+/// The workspace row and the rows of the program, which start every call that has a program.
 pub fn admit(workspace: usize, fuel: u16, program: &[u8]) -> Result<Checked, Refusal> {
     if workspace < limits::workspace(fuel) {
         return Err(Number::Workspace.plain());

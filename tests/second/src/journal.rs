@@ -52,11 +52,15 @@ impl Journal {
             return None;
         }
         let mut bytes = field(HELD_TAG, &self.held);
-        for conversion in &self.conversions {
-            bytes.extend(field(CONVERSION_TAG, &conversion.body()));
-        }
+        bytes.extend(self.entries());
         bytes.resize(length, 0);
         Some(bytes)
+    }
+
+    /// The fields of the conversions, oldest first.
+    pub fn entries(&self) -> Vec<u8> {
+        let fields: Vec<Vec<u8>> = self.conversions.iter().map(Conversion::field).collect();
+        fields.concat()
     }
 }
 
@@ -71,8 +75,9 @@ impl Conversion {
         })
     }
 
-    fn body(&self) -> Vec<u8> {
-        [&self.function.to_be_bytes()[..], &self.steps.to_be_bytes(), &self.ancillae].concat()
+    pub fn field(&self) -> Vec<u8> {
+        let body = [&self.function.to_be_bytes()[..], &self.steps.to_be_bytes(), &self.ancillae].concat();
+        field(CONVERSION_TAG, &body)
     }
 }
 

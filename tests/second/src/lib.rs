@@ -1,4 +1,4 @@
-//! A second evaluator for CoreFun, written from document 01 alone, to which the engine is held.
+//! A second evaluator for CoreFun, written from documents 01 and 02 alone, to which the engine is held.
 
 pub mod assemble;
 mod backward;
@@ -15,6 +15,7 @@ pub mod lines;
 pub mod make;
 pub mod months;
 pub mod program;
+pub mod readers;
 pub mod refusal;
 pub mod rng;
 pub mod run;

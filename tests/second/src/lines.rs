@@ -7,10 +7,13 @@
 //! open WS PROGRAM RECORD JOURNAL                          ok JOURNAL
 //! convert WS FUEL FN PROGRAM ANCILLAE JOURNAL             held LENGTH STEPS JOURNAL
 //! rollback WS FUEL PROGRAM JOURNAL                        held LENGTH STEPS JOURNAL
+//! nurse OUTLEN JOURNAL                                    held VALUE COUNT
+//! workshop OUTLEN JOURNAL                                 bytes BYTES
 //! any of them                                             refused NUMBER PLACE
 //! ```
 
 use crate::calls::{Answer, Call, ConvertCall, Direction, RunCall};
+use crate::readers::{ReadCall, Reader};
 use std::str::FromStr;
 
 pub fn read_call(line: &str) -> Result<Call, String> {
@@ -39,6 +42,8 @@ pub fn read_call(line: &str) -> Result<Call, String> {
             program: words.bytes("PROGRAM")?,
             journal: words.bytes("JOURNAL")?,
         },
+        "nurse" => Call::Read(words.read(Reader::Nurse)?),
+        "workshop" => Call::Read(words.read(Reader::Workshop)?),
         other => return Err(format!("no such call: {other:?}")),
     };
     match words.0.next() {
@@ -76,6 +81,10 @@ impl<'a> Words<'a> {
             value: self.bytes("VALUE")?,
         })
     }
+
+    fn read(&mut self, reader: Reader) -> Result<ReadCall, String> {
+        Ok(ReadCall { reader, output: self.number("OUTLEN")?, journal: self.bytes("JOURNAL")? })
+    }
 }
 
 pub fn write_call(call: &Call) -> String {
@@ -110,6 +119,7 @@ pub fn write_call(call: &Call) -> String {
         Call::Rollback { workspace, fuel, program, journal } => {
             format!("rollback {workspace} {fuel} {} {}", write_hex(program), write_hex(journal))
         }
+        Call::Read(call) => format!("{} {} {}", call.reader.name(), call.output, write_hex(&call.journal)),
     }
 }
 
@@ -119,6 +129,8 @@ pub fn write_answer(answer: &Answer) -> String {
         Answer::Value { value, steps } => format!("value {} {steps}", write_hex(value)),
         Answer::Opened { journal } => format!("ok {}", write_hex(journal)),
         Answer::Held { length, steps, journal } => format!("held {length} {steps} {}", write_hex(journal)),
+        Answer::Seen { value, standing } => format!("held {} {standing}", write_hex(value)),
+        Answer::Entries { bytes } => format!("bytes {}", write_hex(bytes)),
         Answer::Refused(refusal) => format!("refused {} {}", refusal.number as u8, refusal.place),
     }
 }

@@ -15,9 +15,9 @@ use std::process::ExitCode;
 
 const USAGE: &str = "\
 usage: second answer < CALLS       one answer a line
-       second cases                section 6's cases as calls, and each limit exactly and one past it
+       second cases                section 6's cases as calls, each limit exactly and one past it, readers of journals
        second make SEED COUNT      COUNT random calls
-       second book SEED COUNT      COUNT lists of calls, a line each: CALL = the plain book's ANSWER
+       second book SEED COUNT      COUNT lists of calls, a line each: CALL = the plain book's ANSWER; readers behind each
        second months SEED WEEKS STROKES FOLDER
                                    the months of a machine, STROKES a day, as files: program, script, answers, journal
        second slow SEED COUNT WORK COUNT calls that ask for much, each with fuel to compare some WORK bytes
@@ -81,8 +81,11 @@ fn book(seed: u64, count: u64) -> Result<(), String> {
     let mut output = Output::new();
     let mut rng = Rng::new(seed);
     for _ in 0..count {
-        for (call, answer) in book_list(&mut rng) {
-            output.line(&format!("{} = {}", write_call(&call), write_answer(&answer)))?;
+        for turn in book_list(&mut rng) {
+            let readers = turn.readers();
+            for (call, answer) in [(turn.call, turn.answer)].iter().chain(&readers) {
+                output.line(&format!("{} = {}", write_call(call), write_answer(answer)))?;
+            }
         }
     }
     output.finish()

@@ -1,6 +1,8 @@
-//! Programs that tests and measurements name: section 6's functions and some common list functions.
+//! Programs that tests and measurements name: section 6's functions and some common list functions; the longest journal.
 
 use crate::draft::*;
+use crate::journal::{Conversion, Journal};
+use crate::limits::{ANCILLA_BYTES, CONVERSIONS, VALUE_BYTES};
 
 /// Bytes of Nat n (section 6).
 pub fn nat_bytes(n: usize) -> Vec<u8> {
@@ -18,6 +20,14 @@ pub fn list_bytes(elements: &[Vec<u8>]) -> Vec<u8> {
     }
     bytes.extend([4, 1, 0]);
     bytes
+}
+
+/// The longest journal that there is: as many conversions as may stand, each with ancillae at their limit, and a held value at its own.
+pub fn longest_journal() -> Vec<u8> {
+    let value = |length: usize| [vec![4; length - 1], vec![0]].concat();
+    let entry = Conversion { function: u16::MAX, steps: u32::MAX, ancillae: value(ANCILLA_BYTES) };
+    let journal = Journal { held: value(VALUE_BYTES), conversions: vec![entry; CONVERSIONS] };
+    journal.write(journal.length()).expect("a buffer of the fields' length")
 }
 
 /// n + 1 for a Nat term.

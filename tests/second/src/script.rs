@@ -11,8 +11,9 @@
 //! ```
 
 use crate::book::{Book, Circumstances};
-use crate::calls::Answer;
+use crate::calls::{Answer, Call};
 use crate::journal::Journal;
+use crate::readers::{ReadCall, Reader, Reading};
 use crate::refusal::{Number, Refusal};
 
 const OPEN: u8 = 0x31;
@@ -111,7 +112,9 @@ pub fn line(answer: &Answer) -> [u8; LINE] {
         Answer::Opened { .. } => (OPENED, 0, 0),
         Answer::Held { length, steps, .. } => (HELD, *length as u16, *steps),
         Answer::Refused(refusal) => (REFUSED, refusal.number as u16, refusal.place),
-        Answer::Accepted | Answer::Value { .. } => unreachable!("no answer of a journal call"),
+        Answer::Accepted | Answer::Value { .. } | Answer::Seen { .. } | Answer::Entries { .. } => {
+            unreachable!("no answer of a call that writes a journal")
+        }
     };
     let ([a, b], [c, d, e, f]) = (short.to_be_bytes(), long.to_be_bytes());
     [kind, a, b, c, d, e, f]
@@ -125,11 +128,13 @@ pub struct Player {
     book: Option<Book>,
     /// The journal's fields, without the zeros behind them.
     pub fields: Vec<u8>,
+    /// What the book has readers told of the journal; none before the first open.
+    reading: Option<Reading>,
 }
 
 impl Player {
     pub fn new(program: Vec<u8>, workspace: usize) -> Player {
-        Player { program, workspace, book: None, fields: Vec::new() }
+        Player { program, workspace, book: None, fields: Vec::new(), reading: None }
     }
 
     /// The book's answer. The first call is an open, and the book begins with its record if it is accepted.
@@ -154,6 +159,7 @@ impl Player {
         if let Answer::Opened { journal } | Answer::Held { journal, .. } = &answer {
             let length = Journal::read(journal).map_or(0, |journal| journal.length());
             self.fields = journal[..length].to_vec();
+            self.reading = self.book.as_ref().and_then(|book| book.reading(&self.program));
         }
         answer
     }
@@ -163,6 +169,48 @@ impl Player {
         let mut journal = self.fields.clone();
         journal.resize(buffer, 0);
         journal
+    }
+
+    /// Calls of both readers on a journal, answered by the book. Before the first open the journal's bytes are none of the book's, and are
+    /// taken to be malformed.
+    pub fn readers(&self, journal: &[u8]) -> Vec<(Call, Answer)> {
+        match &self.reading {
+            Some(reading) => reading.calls(journal),
+            None => {
+                let refused = Answer::Refused(Number::Journal.plain());
+                let call = |reader| Call::Read(ReadCall { reader, output: 0, journal: journal.to_vec() });
+                Reader::BOTH.map(|reader| (call(reader), refused.clone())).to_vec()
+            }
+        }
+    }
+
+    /// Plays a script; the buffers are changed as far as it is played. The workspace is zero after a call, unchanged after refusal 1.
+    pub fn replay(
+        &mut self,
+        script: &[u8],
+        workspace: &mut [u8],
+        journal: &mut Vec<u8>,
+        answers: &mut [u8],
+    ) -> Ended {
+        let steps = match read_script(script, journal.len(), answers.len()) {
+            Ok(steps) => steps,
+            Err(ended) => return ended,
+        };
+        for (count, (at, step)) in steps.iter().enumerate() {
+            if step.buffer < self.fields.len() {
+                return Ended::Cut(*at);
+            }
+            let answer = self.play(step);
+            if !matches!(answer, Answer::Refused(refusal) if refusal.number == Number::Workspace) {
+                workspace.fill(0);
+            }
+            match answer {
+                Answer::Refused(refusal) if count == 0 => return Ended::Unopened(refusal),
+                answer => answers[LINE * count..][..LINE].copy_from_slice(&line(&answer)),
+            }
+            *journal = self.journal(journal.len());
+        }
+        Ended::Played(steps.len())
     }
 }
 
@@ -181,36 +229,6 @@ pub enum Ended {
     Unopened(Refusal),
     /// The call's buffer would cut the journal's fields: the calls before stand played, with their answers.
     Cut(usize),
-}
-
-/// Plays a script; the buffers are changed as far as it is played. The workspace is zero after a call, unchanged after refusal 1.
-pub fn replay(
-    program: &[u8],
-    script: &[u8],
-    workspace: &mut [u8],
-    journal: &mut Vec<u8>,
-    answers: &mut [u8],
-) -> Ended {
-    let steps = match read_script(script, journal.len(), answers.len()) {
-        Ok(steps) => steps,
-        Err(ended) => return ended,
-    };
-    let mut player = Player::new(program.to_vec(), workspace.len());
-    for (count, (at, step)) in steps.iter().enumerate() {
-        if step.buffer < player.fields.len() {
-            return Ended::Cut(*at);
-        }
-        let answer = player.play(step);
-        if !matches!(answer, Answer::Refused(refusal) if refusal.number == Number::Workspace) {
-            workspace.fill(0);
-        }
-        match answer {
-            Answer::Refused(refusal) if count == 0 => return Ended::Unopened(refusal),
-            answer => answers[LINE * count..][..LINE].copy_from_slice(&line(&answer)),
-        }
-        *journal = player.journal(journal.len());
-    }
-    Ended::Played(steps.len())
 }
 
 /// The calls with their offsets. A script is read to its end before a call is made: each call stands there whole, and there is room for

@@ -12,7 +12,9 @@ pub struct Tally {
 impl Tally {
     pub fn add(&mut self, call: &Call, answer: &Answer) {
         let (number, place) = match answer {
-            Answer::Refused(refusal) => (refusal.number as u8, place_kind(program(call), *refusal)),
+            Answer::Refused(refusal) => {
+                (refusal.number as u8, place_kind(call.program().unwrap_or(&[]), *refusal))
+            }
             _ => (0, String::new()),
         };
         *self.counts.entry((number, call_name(call), place)).or_default() += 1;
@@ -49,7 +51,7 @@ impl Tally {
     }
 }
 
-pub const CALLS: [&str; 6] = ["check", "forward", "backward", "open", "convert", "rollback"];
+pub const CALLS: [&str; 8] = ["check", "forward", "backward", "open", "convert", "rollback", "nurse", "workshop"];
 
 fn call_name(call: &Call) -> &'static str {
     match call {
@@ -59,14 +61,7 @@ fn call_name(call: &Call) -> &'static str {
         Call::Open { .. } => "open",
         Call::Convert(_) => "convert",
         Call::Rollback { .. } => "rollback",
-    }
-}
-
-fn program(call: &Call) -> &[u8] {
-    match call {
-        Call::Run(call) => &call.program,
-        Call::Convert(call) => &call.program,
-        Call::Check { program, .. } | Call::Open { program, .. } | Call::Rollback { program, .. } => program,
+        Call::Read(call) => call.reader.name(),
     }
 }
 

@@ -1,19 +1,36 @@
-//! Demand 3: journals on bytes answer as the plain book does, and a rollback with enough of everything is never
-//! refused.
+//! Demand 3: journals on bytes answer as the plain book does, to their readers too, and a rollback with enough of
+//! everything is never refused.
 
 use second::calls::{answer, Answer, Call, ConvertCall};
 use second::limits;
-use second::make::lists::book_list;
+use second::make::lists::{book_list, Turn};
 use second::rng::Rng;
 
 #[test]
 fn every_call_is_answered_as_the_book_answers() {
     let mut rng = Rng::new(21);
     for _ in 0..150 {
-        for (call, book_answer) in book_list(&mut rng) {
-            assert_eq!(answer(&call), book_answer, "{call:?}");
+        for turn in book_list(&mut rng) {
+            assert_eq!(answer(&turn.call), turn.answer, "{:?}", turn.call);
         }
     }
+}
+
+/// After each call both readers are told the book's held record, how many rows it has, and the rows' fields.
+#[test]
+fn readers_are_told_what_the_book_has() {
+    let mut rng = Rng::new(24);
+    let (mut none_stand, mut most) = (0, 0);
+    for _ in 0..150 {
+        for turn in book_list(&mut rng) {
+            for (call, expected) in turn.readers() {
+                assert_eq!(answer(&call), expected, "{call:?}");
+            }
+            none_stand += usize::from(turn.reading.standing == 0);
+            most = most.max(turn.reading.standing);
+        }
+    }
+    assert!(none_stand > 100 && most >= 10, "{none_stand} times none stood, at most {most}");
 }
 
 /// Each call gets the journal as the last one left it, with zeros added behind or left off.
@@ -22,15 +39,12 @@ fn lists_keep_the_premises() {
     let mut rng = Rng::new(22);
     for _ in 0..150 {
         let list = book_list(&mut rng);
-        assert!(matches!(list[0], (Call::Open { .. }, Answer::Opened { .. })));
-        let mut left = Vec::new();
-        for (number, (call, answer)) in list.iter().enumerate() {
-            let met = journal(call);
-            assert!(number == 0 || same_but_for_zeros(met, &left), "{call:?}");
-            left = match answer {
-                Answer::Opened { journal } | Answer::Held { journal, .. } => journal.clone(),
-                _ => met.to_vec(),
-            };
+        assert!(matches!((&list[0].call, &list[0].answer), (Call::Open { .. }, Answer::Opened { .. })));
+        let mut left: Option<&[u8]> = None;
+        for Turn { call, answer, .. } in &list {
+            let met = call.journal().expect("a call on a journal");
+            assert!(left.is_none_or(|left| same_but_for_zeros(met, left)), "{call:?}");
+            left = call.journal_after(answer);
         }
     }
 }
@@ -40,7 +54,7 @@ fn a_rollback_with_enough_of_everything_restores_what_the_conversion_met() {
     let mut rng = Rng::new(23);
     let mut standing = 0;
     for _ in 0..150 {
-        for (call, answer) in book_list(&mut rng) {
+        for Turn { call, answer, .. } in book_list(&mut rng) {
             if let (Call::Convert(convert), Answer::Held { steps, journal, .. }) = (call, answer) {
                 restores(&convert, steps, &journal, rng.below(3));
                 standing += 1;
@@ -64,14 +78,6 @@ fn restores(convert: &ConvertCall, steps: u32, left: &[u8], grown: usize) {
     match answer(&rollback) {
         Answer::Held { steps: back, journal, .. } => assert_eq!((back, journal), (steps, restored)),
         other => panic!("{other:?} to {rollback:?}"),
-    }
-}
-
-fn journal(call: &Call) -> &[u8] {
-    match call {
-        Call::Open { journal, .. } | Call::Rollback { journal, .. } => journal,
-        Call::Convert(call) => &call.journal,
-        other => panic!("{other:?} writes no journal"),
     }
 }
 

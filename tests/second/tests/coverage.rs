@@ -4,28 +4,35 @@ use second::calls::answer;
 use second::lines::{read_call, write_call};
 use second::make::Maker;
 use second::tally::Tally;
+use std::sync::OnceLock;
 
 const CALLS: usize = 30_000;
 
-fn tally() -> Tally {
-    let mut tally = Tally::default();
-    for call in Maker::new(7).take(CALLS) {
-        tally.add(&call, &answer(&call));
-    }
-    tally
+/// Made once for all tests.
+fn tally() -> &'static Tally {
+    static MADE: OnceLock<Tally> = OnceLock::new();
+    MADE.get_or_init(|| {
+        let mut tally = Tally::default();
+        for call in Maker::new(7).take(CALLS) {
+            tally.add(&call, &answer(&call));
+        }
+        tally
+    })
 }
 
 const TERMS: [&str; 11] =
     ["variable", "unit", "inl", "inr", "pair", "let", "let pair", "case", "call", "roll", "unroll"];
 
 /// What each call must meet; 0 stands for accepted ones.
-const NUMBERS: [(&str, &[u8]); 6] = [
+const NUMBERS: [(&str, &[u8]); 8] = [
     ("check", &[0, 1, 2, 3, 4, 5, 6, 7, 8]),
     ("forward", &[0, 1, 2, 4, 9, 10, 11, 12, 13, 14, 15, 17]),
     ("backward", &[0, 1, 2, 4, 9, 10, 11, 12, 13, 14, 15, 16, 17]),
     ("open", &[0, 1, 2, 10, 20]),
     ("convert", &[0, 1, 2, 4, 9, 10, 11, 12, 13, 14, 15, 18, 20]),
     ("rollback", &[0, 1, 2, 4, 9, 10, 11, 12, 13, 14, 15, 16, 18, 19, 20]),
+    ("nurse", &[0, 17, 18]),
+    ("workshop", &[0, 17, 18]),
 ];
 
 /// The kinds of field or term at which a call must meet a number.
@@ -57,6 +64,21 @@ fn every_refusal_is_met() {
             let met = tally.places(number, call).any(|(kind, _)| kind == *place);
             assert!(met, "{call} never meets {number} at {place}");
         }
+    }
+}
+
+/// A good share of the calls are of the readers, and of each reader's calls every answer has its share.
+#[test]
+fn readers_are_called_often() {
+    let tally = tally();
+    for reader in ["nurse", "workshop"] {
+        let [accepted, short, malformed] = [0, 17, 18].map(|number| tally.count(number, reader));
+        let all = accepted + short + malformed;
+        assert!(all > CALLS / 20, "{reader} is called {all} times");
+        assert!(
+            [accepted, short, malformed].iter().all(|count| count * 20 > all),
+            "{reader}: {accepted} {short} {malformed}"
+        );
     }
 }
 

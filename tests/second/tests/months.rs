@@ -7,7 +7,7 @@ use second::months::{months, BUFFER, WORKSPACE};
 use second::refusal::Number;
 use second::rng::Rng;
 use second::samples::{dup, nat_bytes, plus};
-use second::script::{line, replay, Act, Ended, Step, LINE};
+use second::script::{line, Act, Ended, Player, Step, LINE};
 
 const PLUS: u16 = 0;
 
@@ -43,7 +43,7 @@ struct Left {
 /// Plays on a journal of 40 bytes, with room for three answers, all buffers filled with 55 (hexadecimal).
 fn play_in(room: usize, script: &[u8]) -> Left {
     let (mut workspace, mut journal, mut answers) = (vec![0x55; room], vec![0x55; 40], vec![0x55; 3 * LINE]);
-    let ended = replay(&program(), script, &mut workspace, &mut journal, &mut answers);
+    let ended = Player::new(program(), room).replay(script, &mut workspace, &mut journal, &mut answers);
     Left { ended, workspace, journal, answers }
 }
 
@@ -118,10 +118,13 @@ fn a_first_open_that_is_refused_leaves_journal_and_answers() {
 #[test]
 fn the_months_on_bytes_are_the_book_s() {
     let made = months(1, 26, 4);
+    let mut player = Player::new(made.program.clone(), WORKSPACE);
     let mut journal = vec![0; BUFFER];
     let mut rest = &made.script[..];
     for expected in made.answers.chunks(LINE) {
-        let (Step { buffer, act }, behind) = Step::read(rest).expect("a call stands here");
+        let (step, behind) = Step::read(rest).expect("a call stands here");
+        player.play(&step);
+        let Step { buffer, act } = step;
         assert!(journal[buffer..].iter().all(|&byte| byte == 0), "only zeros are lost");
         journal.truncate(buffer);
         let answer = answer(&on_bytes(act, &made.program, &journal));
@@ -129,11 +132,19 @@ fn the_months_on_bytes_are_the_book_s() {
         if let Answer::Opened { journal: left } | Answer::Held { journal: left, .. } = answer {
             journal = left;
         }
+        readers_are_told(&player, &journal);
         journal.resize(BUFFER, 0);
         rest = behind;
     }
     assert!(rest.is_empty());
     assert_eq!(journal, made.journal);
+}
+
+/// Both readers are told what the book has them told.
+fn readers_are_told(player: &Player, journal: &[u8]) {
+    for (call, expected) in player.readers(journal) {
+        assert_eq!(answer(&call), expected, "{call:?}");
+    }
 }
 
 fn on_bytes(act: Act, program: &[u8], journal: &[u8]) -> Call {
@@ -151,7 +162,8 @@ fn on_bytes(act: Act, program: &[u8], journal: &[u8]) -> Call {
 fn the_months_are_played_as_a_script() {
     let made = months(2, 26, 4);
     let (mut journal, mut answers) = (vec![0x55; BUFFER], vec![0x55; made.answers.len()]);
-    let ended = replay(&made.program, &made.script, &mut vec![0; WORKSPACE], &mut journal, &mut answers);
+    let mut player = Player::new(made.program, WORKSPACE);
+    let ended = player.replay(&made.script, &mut vec![0; WORKSPACE], &mut journal, &mut answers);
     assert_eq!(ended, Ended::Played(made.tally.calls));
     assert_eq!((journal, answers), (made.journal, made.answers));
 }
@@ -177,7 +189,10 @@ fn random_scripts_end_in_every_way() {
         let call = script_call(&mut rng);
         let (mut journal, mut answers) = (vec![0x55; call.journal], vec![0x55; call.answers]);
         let mut workspace = vec![0x55; call.workspace];
-        ways[match replay(&call.program, &call.script, &mut workspace, &mut journal, &mut answers) {
+        let mut player = Player::new(call.program, call.workspace);
+        let ended = player.replay(&call.script, &mut workspace, &mut journal, &mut answers);
+        readers_are_told(&player, &journal);
+        ways[match ended {
             Ended::Played(_) => 0,
             Ended::Malformed(_) => 1,
             Ended::TooWide(_) => 2,

@@ -1,5 +1,6 @@
 //! Runs of the program itself.
 
+use std::ffi::OsString;
 use std::path::{Path, PathBuf};
 use std::process::{Command, Output};
 
@@ -36,6 +37,12 @@ pub fn tulakkez(folder: &Path, words: &[&str]) -> Ran {
     output.expect("the program runs").into()
 }
 
+/// Runs a test with the stack that the program has.
+pub fn deep(test: impl FnOnce() + Send + 'static) {
+    let thread = std::thread::Builder::new().stack_size(256 << 20).spawn(test);
+    thread.expect("a thread").join().expect("the test");
+}
+
 /// A folder that is gone when this is.
 pub struct Scratch(pub PathBuf);
 
@@ -49,6 +56,15 @@ impl Scratch {
 
     pub fn file(&self, name: &str, text: &str) {
         std::fs::write(self.0.join(name), text).expect("a file");
+    }
+
+    /// The names of all that is in it, with their bytes where they are files.
+    pub fn files(&self) -> Vec<(OsString, Option<Vec<u8>>)> {
+        let entries = std::fs::read_dir(&self.0).expect("a folder").flatten();
+        let mut files: Vec<_> =
+            entries.map(|entry| (entry.file_name(), std::fs::read(entry.path()).ok())).collect();
+        files.sort();
+        files
     }
 }
 

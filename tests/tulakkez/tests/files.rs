@@ -6,7 +6,8 @@ use std::os::unix::fs::{symlink, MetadataExt, PermissionsExt};
 use std::path::{Path, PathBuf};
 use std::process::{Command, Stdio};
 use std::time::{Duration, Instant};
-use tulakkez::journal::{Contents, Fields};
+use tulakkez::engine::{nurse, workshop};
+use tulakkez::journal::{conversions, Contents};
 use tulakkez_tests::command::{program, root, tulakkez, Ran, Scratch};
 
 const TEXT: &str = "type Nat = Zero | Succ Nat\nfun plus (k : Nat) (n : Nat) : Nat =\n  case n of Zero => k | Succ m => Succ (plus k m)\n";
@@ -30,16 +31,16 @@ fn ready(name: &str) -> Scratch {
     scratch
 }
 
-/// The journal's fields, if the file is there. It is whole, or the test fails.
-fn fields(folder: &Path) -> Option<Fields> {
+/// The journal's bytes, if the file is there. It is whole, or the test fails.
+fn journal(folder: &Path) -> Option<Vec<u8>> {
     let bytes = fs::read(folder.join("j")).ok()?;
-    let contents = Contents::read(&bytes).expect("a whole file");
-    Some(Fields::read(&contents.journal).expect("a whole journal"))
+    Some(Contents::read(&bytes).expect("a whole file").journal)
 }
 
 /// The numbers that were added by the conversions that stand.
 fn added(folder: &Path) -> Option<Vec<usize>> {
-    fields(folder).map(|fields| fields.conversions.iter().map(|entry| (entry.ancillae.len() - 3) / 2).collect())
+    let standing = conversions(&workshop(&journal(folder)?).expect("a whole journal"));
+    Some(standing.iter().map(|conversion| (conversion.ancillae.len() - 3) / 2).collect())
 }
 
 fn preloaded(folder: &Path, words: &[&str], variables: &[(&str, &str)]) -> Ran {
@@ -387,7 +388,7 @@ fn of_several_that_open_one_does() {
         let opened: Vec<usize> =
             statuses.enumerate().filter(|(_, code)| *code == Some(0)).map(|(at, _)| at).collect();
         assert_eq!(opened.len(), 1, "round {round}");
-        let held = fields(folder).expect("a journal").held;
+        let held = nurse(&journal(folder).expect("a journal")).expect("a whole journal").held;
         assert_eq!((held.len() - 3) / 2, opened[0], "round {round}: the one that was told so");
         assert_eq!(fs::read_dir(folder).expect("a folder").count(), 2, "round {round}");
     }
@@ -534,7 +535,7 @@ fn bare_journals_go_out_and_come_back() {
     prepare(folder, &Some(vec![2, 3]));
     assert_eq!(tulakkez(folder, &["export", "j", "bare"]).status, 0);
     let bare = fs::read(folder.join("bare")).expect("the bytes");
-    assert_eq!(Fields::read(&bare).expect("a journal").conversions.len(), 2);
+    assert_eq!(nurse(&bare).expect("a journal").standing, 2);
     assert_eq!(tulakkez(folder, &["export", "j", "bare"]).status, 2);
     assert_eq!(tulakkez(folder, &["import", "k", "p.fun", "bare"]).status, 0);
     assert_eq!(fs::read(folder.join("k")).expect("k"), fs::read(folder.join("j")).expect("j"));

@@ -102,7 +102,8 @@ fn the_front_page() {
     let scratch = Scratch::new("front-page");
     let built = scratch.0.join("target/bin");
     std::fs::create_dir_all(&built).expect("a folder for the program");
-    symlink(program().canonicalize().expect("the program"), built.join("tulakkez")).expect("a link to the program");
+    symlink(program().canonicalize().expect("the program"), built.join("tulakkez"))
+        .expect("a link to the program");
     let examples = root().canonicalize().expect("the root").join("examples");
     symlink(examples, scratch.0.join("examples")).expect("a link to the examples");
     assert_eq!(plays_in("README.md", &scratch), 2);

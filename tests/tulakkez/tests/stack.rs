@@ -42,6 +42,8 @@ fn all_calls(program: &[u8], record: &[u8], ancillae: &[u8]) {
     corefun::backward(program, 0, ancillae, &value, u16::MAX, &mut workspace, &mut output).expect("the record");
     corefun::open(program, record, &mut workspace, &mut journal).expect("opened");
     corefun::convert(program, 0, ancillae, u16::MAX, &mut workspace, &mut journal).expect("converted");
+    corefun::nurse(&journal, &mut output).expect("the held value");
+    corefun::workshop(&journal, &mut vec![0; corefun::ENTRIES_BYTES]).expect("the entry");
     corefun::rollback(program, u16::MAX, &mut workspace, &mut journal).expect("rolled back");
     let mut answers = vec![0; 3 * corefun::LINE_BYTES];
     let played = corefun::replay(program, &script(record, ancillae), &mut workspace, &mut journal, &mut answers);

@@ -1,6 +1,6 @@
 //! Random texts and random programs: built, checked, shown, and built again to the same bytes; run both ways.
 
-use second::calls::{Call, ConvertCall, RunCall};
+use second::calls::{Call, RunCall};
 use second::make::Maker;
 use second::rng::Rng;
 use tulakkez::build::build;
@@ -10,13 +10,8 @@ use tulakkez::engine::{check, run, Direction, Run, LARGEST_FUEL};
 use tulakkez::show::show;
 use tulakkez::text::Source;
 use tulakkez::values;
+use tulakkez_tests::command::deep;
 use tulakkez_tests::random::{random_text, random_value, Text};
-
-/// Runs a test with the stack that the program has.
-fn deep(test: impl FnOnce() + Send + 'static) {
-    let thread = std::thread::Builder::new().stack_size(256 << 20).spawn(test);
-    thread.expect("a thread").join().expect("the test");
-}
 
 fn built(text: &str) -> (Program, Vec<u8>) {
     let source = Source::new("text", text);
@@ -149,16 +144,6 @@ fn damaged_texts_are_told_and_nothing_panics() {
     });
 }
 
-fn program_of(call: Call) -> Vec<u8> {
-    match call {
-        Call::Check { program, .. }
-        | Call::Run(RunCall { program, .. })
-        | Call::Open { program, .. }
-        | Call::Convert(ConvertCall { program, .. })
-        | Call::Rollback { program, .. } => program,
-    }
-}
-
 /// Numbering, repeated types and types that nothing names may differ: `lay_out` gives all such programs the same bytes.
 #[test]
 fn random_programs_show_as_text_that_builds_to_the_same_program() {
@@ -166,14 +151,11 @@ fn random_programs_show_as_text_that_builds_to_the_same_program() {
         let (mut accepted, mut given) = (0, 0);
         for call in Maker::new(18).take(6_000) {
             given += 1;
-            let program = program_of(call);
-            if check(&program).is_err() {
-                continue;
-            }
+            let Some(program) = call.program().filter(|program| check(program).is_ok()) else { continue };
             accepted += 1;
-            let mut tree = read(&program).expect("an accepted program");
+            let mut tree = read(program).expect("an accepted program");
             let canonical = lay_out(&mut tree).bytes;
-            let text = shown(&program);
+            let text = shown(program);
             assert_eq!(built(&text).1, canonical, "{text}");
             assert_eq!(shown(&canonical), text);
             assert_eq!(check(&canonical), Ok(()));

@@ -98,17 +98,11 @@ fn what_build_writes() {
 
 /// Runs that are refused with a status, what is told, and all files of the folder as they were.
 fn unchanged(scratch: &Scratch, words: &[&str], status: i32, told: &str) {
-    let files = || {
-        let entries = fs::read_dir(&scratch.0).expect("a folder").flatten();
-        let mut files: Vec<_> = entries.map(|entry| (entry.file_name(), fs::read(entry.path()).ok())).collect();
-        files.sort();
-        files
-    };
-    let before = files();
+    let before = scratch.files();
     let ran = tulakkez(&scratch.0, words);
     assert_eq!((ran.status, ran.out.as_str()), (status, ""), "{words:?}: {}", ran.err);
     assert!(ran.err.contains(told), "{words:?}: {}", ran.err);
-    assert_eq!(files(), before, "{words:?}");
+    assert_eq!(scratch.files(), before, "{words:?}");
 }
 
 #[test]
@@ -327,6 +321,8 @@ fn answers_for_scripts_are_one_line() {
         (&["open", "j", "p.fun", "3"], "accepted"),
         (&["convert", "j", "plus", "3"], "accepted"),
         (&["journal", "j"], "accepted"),
+        (&["journal", "j", "--bedside"], "accepted"),
+        (&["journal", "none", "--bedside"], "error"),
         (&["rollback", "j"], "accepted"),
         (&["rollback", "j"], "refused"),
         (&["rollback", "none"], "error"),

@@ -1,6 +1,6 @@
 //! The engine's calls with the workspace and the buffers that they need.
 
-use corefun::{workspace_bytes, Done, Refusal, VALUE_BYTES};
+use corefun::{workspace_bytes, Done, Refusal, ENTRIES_BYTES, VALUE_BYTES};
 
 /// The largest fuel, which a run has unless another is given.
 pub const LARGEST_FUEL: u16 = u16::MAX;
@@ -75,4 +75,33 @@ pub fn convert(
 /// Refusals 2 to 16 and 18 to 20; the journal is then as it was.
 pub fn rollback(program: &[u8], fuel: u16, journal: &mut [u8]) -> Result<Done, Refusal> {
     corefun::rollback(program, fuel, &mut vec![0; workspace_bytes(fuel)], journal)
+}
+
+/// What the nurse's reader sees of a journal.
+#[derive(Clone, PartialEq, Eq, Debug)]
+pub struct Seen {
+    /// The bytes of the held value.
+    pub held: Vec<u8>,
+    /// How many conversions stand.
+    pub standing: usize,
+}
+
+/// # Errors
+/// Refusal 18.
+pub fn nurse(journal: &[u8]) -> Result<Seen, Refusal> {
+    let mut held = vec![0; VALUE_BYTES];
+    let seen = corefun::nurse(journal, &mut held)?;
+    held.truncate(seen.length);
+    Ok(Seen { held, standing: seen.standing })
+}
+
+/// The fields of all entries as they stand, oldest first.
+///
+/// # Errors
+/// Refusal 18.
+pub fn workshop(journal: &[u8]) -> Result<Vec<u8>, Refusal> {
+    let mut entries = vec![0; ENTRIES_BYTES];
+    let length = corefun::workshop(journal, &mut entries)?;
+    entries.truncate(length);
+    Ok(entries)
 }

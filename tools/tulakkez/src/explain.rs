@@ -29,7 +29,7 @@ const HELP: [&str; 20] = [
     "the record is too long in the other form, or on the way to it",
     "there would be no way back: let the arms of this case begin with different constructors",
     "the value did not come from this function with these ancillae; no fuel changes that",
-    "lend 1,024 bytes",
+    "lend 1,024 bytes for a value, 66,112 for the entries of a journal",
     "the bytes are not a journal that an open left and that calls alone have written since",
     "the record is the one that the journal was opened with",
     "open a new journal with the held record once the way back is no longer wanted, or a longer one (open --length)",

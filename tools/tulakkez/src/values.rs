@@ -159,7 +159,17 @@ pub fn all_written(types: &mut Types, bytes: &[u8], all: &[TypeId]) -> Option<Ve
     reader.rest.is_empty().then_some(texts)
 }
 
-/// The text of a value whose type is not known.
+/// Bytes as `read` takes them, in hexadecimal behind the mark.
+pub fn marked(bytes: &[u8]) -> String {
+    format!("{HEXADECIMAL}{}", hexadecimal(bytes))
+}
+
+/// The text of a value that is of no known type.
+pub fn untyped(bytes: &[u8]) -> String {
+    written_plainly(bytes).unwrap_or_else(|| marked(bytes))
+}
+
+/// The text of a value whose type is not known; none if the bytes are no value.
 pub fn written_plainly(bytes: &[u8]) -> Option<String> {
     let mut rest = bytes;
     let text = plain(&mut rest)?;

@@ -1,6 +1,6 @@
 -- The entries of a journal: which ones can be written, what a newest one adds, and that they are read from the fields that they are
 -- written as, with zeros behind, and from no other bytes.
-use Prim.Native.Nat.{ℕ, zero, suc, _+_, _<_}
+use Prim.Native.Nat.{ℕ, zero, suc, _+_, _*_, _≤_, _<_}
 use native.Mathlib.Omega.{arith}
 use mathlib.Core.Path.{_≡_, refl, sym, ap, ap₂, _∙_, subst}
 use mathlib.Core.Bool.{true}
@@ -9,6 +9,7 @@ use mathlib.Core.List.{List, [], _∷_, _++_, append-assoc, append-nil}
 use lib.ListN.{length, replicate, length-append}
 use lib.Dec.{eqb}
 use package.Rattle.octets.specs.Numbers.{AreBytes}
+use package.Rattle.rules.specs.Limits.{maxAncillaBytes}
 use package.Rattle.rules.proofs.Basics.{given, none≢some, some-inj, and-both, eqb-sound}
 use package.Rattle.calls.specs.Values.{encodeAll}
 use package.Rattle.calls.specs.Journal.{Entry, entryBytes, field, entryTag, entryBody, entryFields, provided, opened, readEntry, allZero, readEntries}
@@ -45,6 +46,18 @@ length-entry e = omega (arith, length-field entryTag (entryBody e), length-entry
 pub length-entryFields-snoc : (es : List Entry) (e : Entry)
     → length (entryFields (es ++ (e ∷ []))) ≡ length (entryFields es) + entryBytes + length (encodeAll (e .ancillae))
 length-entryFields-snoc es e = ap length (entryFields-snoc es e) ∙ length-append (entryFields es) (field entryTag (entryBody e)) ∙ omega (arith, length-entry e)
+
+-- how long they are at the most
+pub length-entryFields : {es : List Entry} → WritableEntries es → length (entryFields es) ≤ length es * (entryBytes + maxAncillaBytes)
+unfolding entryFields maxAncillaBytes
+length-entryFields no-entries = omega arith
+length-entryFields (one-more {e = e} {es = es} w ws) = omega (
+  arith,
+  length-append (field entryTag (entryBody e)) (entryFields es),
+  length-entry e,
+  w .ancillae-within,
+  length-entryFields ws,
+)
 
 ----------------------------------------------------------------
 -- Zeros

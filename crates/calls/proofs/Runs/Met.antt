@@ -1,6 +1,6 @@
 -- Which numbers each call is refused with, exactly: each is met by a call that is written out here, computed, and no other is met.
 use Prim.Native.Nat.{ℕ}
-use mathlib.Core.Path.{_≡_, refl, sym, ap, subst}
+use mathlib.Core.Path.{_≡_, refl, sym, subst}
 use mathlib.Core.Bool.{Bool, true, false≢true}
 use mathlib.Core.List.{List, [], _∷_, _++_}
 use mathlib.Core.Logic.{_↔_}
@@ -10,16 +10,19 @@ use package.Rattle.octets.specs.Numbers.{bytes16}
 use package.Rattle.rules.specs.Val.{encode, inr}
 use package.Rattle.rules.specs.Cases.{num}
 use package.Rattle.rules.proofs.Basics.{eqb-sound, or-elim}
-use package.Rattle.calls.specs.Answer.{Answer, refused, _>>=_}
+use package.Rattle.calls.specs.Answer.{Answer, refused}
 use package.Rattle.calls.specs.Named.{member}
 use package.Rattle.calls.specs.Runs.{prepared, checkCall, forwardCall, backwardCall}
 use package.Rattle.calls.specs.Journal.{field, heldTag, entryTag}
 use package.Rattle.calls.specs.Conversions.{openCall, convertCall, rollbackCall}
-use package.Rattle.calls.specs.Claims.{programNumbers, callNumbers, forwardNumbers, backwardNumbers, Exactly, RefusalNumbers}
+use package.Rattle.calls.specs.Readers.{nurseCall, workshopCall}
+use package.Rattle.calls.specs.Claims.{programNumbers, callNumbers, forwardNumbers, backwardNumbers, readerNumbers, Exactly, RefusalNumbers}
 use package.Rattle.calls.specs.Cases.{typeField, termField, varField, functionField, natTypes, bitTypes, numbers, collapse, discards, units, ample, unitHeld}
+use package.Rattle.calls.proofs.Answer.{stops}
 use package.Rattle.calls.proofs.Compute.{computing}
 use package.Rattle.calls.proofs.Refusals.{number}
 use package.Rattle.calls.proofs.Runs.Numbers.{check-numbered, forward-numbered, backward-numbered, open-numbered, convert-numbered, rollback-numbered}
+use package.Rattle.calls.proofs.Readers.{nurse-numbered, workshop-numbered}
 
 ----------------------------------------------------------------
 -- A fact of every number of a list
@@ -62,11 +65,6 @@ unprepared =
     ⨾ (ample, typeField 0 [] ++ varField 5 ++ functionField 0 (0 ∷ []) 0, 4, refl)
     ⨾ (ample, discards, 16, refl)
     ⨾ end
-
--- a refusal of the first part stands
-stops : {A B : Type 0} {x : Answer A} {n k : ℕ} (f : A → Answer B) → x ≡ refused n k → (x >>= f) ≡ refused n k
-unfolding _>>=_
-stops f e = ap (λ x. x >>= f) e
 
 ----------------------------------------------------------------
 -- Programs that are run
@@ -249,5 +247,27 @@ rollback-exactly n = (
   λ (ws, fuel, program, journal, k, e). number (rollback-numbered ws fuel program journal) e,
 )
 
+----------------------------------------------------------------
+-- The readers of a journal (02, F-1)
+
+abbrev ReaderMet : {A : Type 0} → (List ℕ → ℕ → Answer A) → ℕ → Type 0
+ReaderMet call n = (journal : List ℕ) × (out : ℕ) × (k : ℕ) × (call journal out ≡ refused n k)
+
+-- no output; no journal
+nurse-exactly : Exactly readerNumbers (ReaderMet nurseCall)
+unfolding computing holding
+nurse-exactly n = (
+  each-member (ReaderMet nurseCall) ((holding (0 ∷ []), 0, 0, refl) ⨾ ([], 0, 0, refl) ⨾ end) n,
+  λ (journal, out, k, e). number (nurse-numbered journal out) e,
+)
+
+workshop-exactly : Exactly readerNumbers (ReaderMet workshopCall)
+unfolding computing holding standing
+workshop-exactly n = (
+  each-member (ReaderMet workshopCall) ((holding (0 ∷ []) ++ standing 0 [], 0, 0, refl) ⨾ ([], 0, 0, refl) ⨾ end) n,
+  λ (journal, out, k, e). number (workshop-numbered journal out) e,
+)
+
 pub refusal-numbers : RefusalNumbers
-refusal-numbers = (check-exactly, forward-exactly, backward-exactly, open-exactly, convert-exactly, rollback-exactly)
+refusal-numbers =
+    (check-exactly, forward-exactly, backward-exactly, open-exactly, convert-exactly, rollback-exactly, nurse-exactly, workshop-exactly)

@@ -1,12 +1,14 @@
-//! Whole calls: what comes before the first step, short calls lent much fuel, a check, a conversion and its rollback.
+//! Whole calls: what comes before the first step, short calls lent much fuel, a check, a conversion and its rollback, the two readers.
 
 use super::measure::*;
+use crate::engine;
 use corefun::foreign;
 use second::bench::largest_program;
 use second::calls::{Call, ConvertCall, Direction, RunCall};
 use second::draft::{nat, variable, Draft, Function};
 use second::limits::{workspace, FUEL, VALUE_BYTES};
-use second::samples::{library, nat_bytes};
+use second::readers::{ReadCall, Reader, Reading};
+use second::samples::{library, longest_journal, nat_bytes};
 use second::slow::left_nested;
 use std::hint::black_box;
 
@@ -16,7 +18,8 @@ pub fn bench() -> Result<(), String> {
     bench_before_the_first_step()?;
     bench_lent_fuel()?;
     bench_check()?;
-    bench_journal()
+    bench_journal()?;
+    bench_readers()
 }
 
 /// With no fuel a call does all that comes before the first step, and is refused there.
@@ -127,4 +130,22 @@ fn journal_by_engine(call: &Call) -> impl FnMut() + '_ {
             _ => unreachable!("no call on a standing journal"),
         };
     }
+}
+
+/// The longest journal, read into an output that is just long enough.
+fn bench_readers() -> Result<(), String> {
+    let journal = longest_journal();
+    let reading = Reading::of(&journal).ok_or("a journal that is malformed")?;
+    for reader in Reader::BOTH {
+        let call = ReadCall { reader, output: reading.length(reader), journal: journal.clone() };
+        let name = format!("{}, {} conversions, {} bytes", reader.name(), reading.standing, journal.len());
+        agree(&Call::Read(call.clone()))?;
+        let mut output = vec![0; call.output];
+        let mut engine = || {
+            black_box(engine::see(black_box(&call), &mut output));
+        };
+        let times = medians([&mut engine, &mut by_second(Call::Read(call.clone()))]);
+        print_times(&name, times, "");
+    }
+    Ok(())
 }

@@ -1,6 +1,7 @@
-//! Calls with a known point: section 6's cases, and each limit exactly and one past it.
+//! Calls with a known point: section 6's cases, each limit exactly and one past it, and the readers of a journal.
 
 mod limits;
+mod readers;
 
 use crate::calls::{answer, Answer, Call, ConvertCall, Direction, RunCall};
 use crate::draft::{nat, Draft, Function};
@@ -39,6 +40,7 @@ pub fn cases() -> Vec<Call> {
     calls.extend(first_match());
     calls.extend(journal(&program));
     calls.extend(limits::at_the_limits());
+    calls.extend(readers::readings(&program));
     calls
 }
 
@@ -61,11 +63,7 @@ fn first_match() -> Vec<Call> {
 }
 
 /// P13: each call on the journal that the one before it left.
-fn journal(program: &[u8]) -> Vec<Call> {
-    let left = |call: &Call| match answer(call) {
-        Answer::Opened { journal } | Answer::Held { journal, .. } => journal,
-        _ => Vec::new(),
-    };
+fn journal(program: &[u8]) -> [Call; 3] {
     let open = Call::Open {
         workspace: workspace(0),
         program: program.to_vec(),
@@ -82,7 +80,21 @@ fn journal(program: &[u8]) -> Vec<Call> {
     });
     let rollback =
         Call::Rollback { workspace: workspace(28), fuel: 28, program: program.to_vec(), journal: left(&convert) };
-    vec![open, convert, rollback]
+    [open, convert, rollback]
+}
+
+/// P13's journal as it is opened, and after the conversion.
+fn journal_before_and_after(program: &[u8]) -> (Vec<u8>, Vec<u8>) {
+    let [open, convert, _] = journal(program);
+    (left(&open), left(&convert))
+}
+
+/// The journal as an accepted call leaves it.
+fn left(call: &Call) -> Vec<u8> {
+    match answer(call) {
+        Answer::Opened { journal } | Answer::Held { journal, .. } => journal,
+        other => unreachable!("a call that is accepted: {other:?}"),
+    }
 }
 
 fn check(program: Vec<u8>) -> Call {

@@ -115,7 +115,8 @@ fn rewritten(rng: &mut Rng, mut journal: Journal, length: usize) -> Vec<u8> {
     written(&journal, length)
 }
 
-fn damaged_bytes(rng: &mut Rng, mut bytes: Vec<u8>) -> Vec<u8> {
+/// Bytes changed, cut, added or left out, wherever they fall.
+pub fn damaged_bytes(rng: &mut Rng, mut bytes: Vec<u8>) -> Vec<u8> {
     let fields = Journal::read(&bytes).map_or(bytes.len(), |journal| journal.length());
     let at = rng.below(fields);
     match rng.below(12) {

@@ -1,4 +1,4 @@
-//! Lists of open, convert and rollback calls, each with the plain book's answer.
+//! Lists of open, convert and rollback calls, each with the plain book's answer and what the book has readers told after it.
 //!
 //! Demand 3's premises hold: one program throughout, each call gets the journal as the last one left it, and a
 //! shorter buffer loses only zeros behind the last field. The journal in each call is the one that the book writes.
@@ -8,24 +8,46 @@ use super::sound_program;
 use super::story::Story;
 use crate::book::{Book, Circumstances};
 use crate::calls::{Answer, Call};
+use crate::readers::Reading;
 use crate::rng::Rng;
 
-pub fn book_list(rng: &mut Rng) -> Vec<(Call, Answer)> {
+/// A call of a list, answered by the plain book.
+pub struct Turn {
+    pub call: Call,
+    pub answer: Answer,
+    /// Of the journal as it stands after the call.
+    pub reading: Reading,
+}
+
+impl Turn {
+    fn new(book: &mut Book, program: &[u8], call: Call) -> Turn {
+        let answer = book_answer(book, &call);
+        let reading = book.reading(program).expect("the program of an accepted open");
+        Turn { call, answer, reading }
+    }
+
+    /// Calls of the readers on the journal after the call. Such calls write no journal, and stand outside the list.
+    pub fn readers(&self) -> Vec<(Call, Answer)> {
+        let journal = self.call.journal_after(&self.answer).expect("a call on a journal");
+        self.reading.calls(journal)
+    }
+}
+
+pub fn book_list(rng: &mut Rng) -> Vec<Turn> {
     let draft = if rng.chance(15) { shortening_program(rng) } else { sound_program(rng) };
     let (mut story, open) = Story::begin(rng, draft);
     let Call::Open { record, .. } = &open else { return Vec::new() };
     let mut book = Book::begin(record);
-    let opened = book_answer(&mut book, &open);
-    story.turn(&open, &opened);
-    let mut list = vec![(open, opened)];
+    let mut list = vec![Turn::new(&mut book, &story.program, open)];
+    story.turn(&list[0].call, &list[0].answer);
     let calls = if rng.chance(6) { 150 } else { rng.between(1, 30) };
     // A long list leans to conversions first, so that it comes to 64 standing.
     for number in 0..calls {
         let converts = if number < calls / 2 { 85 } else { 40 };
         let call = story.next_call(rng, converts);
-        let answer = book_answer(&mut book, &call);
-        story.turn(&call, &answer);
-        list.push((call, answer));
+        let turn = Turn::new(&mut book, &story.program, call);
+        story.turn(&turn.call, &turn.answer);
+        list.push(turn);
     }
     list
 }
@@ -49,6 +71,8 @@ fn book_answer(book: &mut Book, call: &Call) -> Answer {
             let given = Circumstances { workspace: *workspace, fuel: *fuel, program, buffer: journal.len() };
             book.rollback(&given)
         }
-        Call::Check { .. } | Call::Run(_) => unreachable!("calls that write no journal stand outside the list"),
+        Call::Check { .. } | Call::Run(_) | Call::Read(_) => {
+            unreachable!("calls that write no journal stand outside the list")
+        }
     }
 }

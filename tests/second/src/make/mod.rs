@@ -4,9 +4,11 @@ mod choices;
 mod corners;
 mod damage;
 mod edges;
+pub mod forms;
 mod isos;
 mod journals;
 pub mod lists;
+mod readers;
 mod runs;
 pub mod scripts;
 mod story;
@@ -21,15 +23,31 @@ use crate::rng::Rng;
 use std::collections::VecDeque;
 use story::Story;
 
-/// An endless row of calls.
+/// Calls of readers in a hundred.
+const READERS: usize = 15;
+
+/// An endless row of calls. The readers' calls stand among the others and have a generator of their own, so that what else a seed
+/// names stays as it is.
 pub struct Maker {
     rng: Rng,
     ready: VecDeque<Call>,
+    readers: Rng,
+    ready_readers: VecDeque<Call>,
+    /// The journal of the newest call that had one.
+    met: Vec<u8>,
 }
 
 impl Maker {
     pub fn new(seed: u64) -> Maker {
-        Maker { rng: Rng::new(seed), ready: VecDeque::new() }
+        let (rng, readers) = (Rng::new(seed), Rng::new(!seed));
+        Maker { rng, ready: VecDeque::new(), readers, ready_readers: VecDeque::new(), met: Vec::new() }
+    }
+
+    fn reader_call(&mut self) -> Option<Call> {
+        if self.ready_readers.is_empty() {
+            self.ready_readers.extend(readers::reader_calls(&mut self.readers, &self.met));
+        }
+        self.ready_readers.pop_front()
     }
 
     fn fill(&mut self) {
@@ -144,10 +162,17 @@ impl Iterator for Maker {
     type Item = Call;
 
     fn next(&mut self) -> Option<Call> {
+        if self.readers.chance(READERS) {
+            return self.reader_call();
+        }
         while self.ready.is_empty() {
             self.fill();
         }
-        self.ready.pop_front()
+        let call = self.ready.pop_front()?;
+        if let Some(journal) = call.journal() {
+            self.met = journal.to_vec();
+        }
+        Some(call)
     }
 }
 
@@ -175,5 +200,6 @@ fn with_damaged_program(rng: &mut Rng, call: Call) -> Call {
         Call::Rollback { workspace, fuel, program, journal } => {
             Call::Rollback { workspace, fuel, program: damaged(&program), journal }
         }
+        Call::Read(call) => Call::Read(call),
     }
 }

@@ -17,7 +17,7 @@ pub struct ScriptCall {
 }
 
 pub fn script_call(rng: &mut Rng) -> ScriptCall {
-    let calls: Vec<Call> = book_list(rng).into_iter().map(|(call, _)| call).collect();
+    let calls: Vec<Call> = book_list(rng).into_iter().map(|turn| turn.call).collect();
     let program = match &calls[0] {
         Call::Open { program, .. } => program.clone(),
         other => unreachable!("a list begins with an open: {other:?}"),
@@ -48,7 +48,9 @@ fn step(call: Call) -> Step {
             act: Act::Convert { fuel: call.fuel, function: call.function, ancillae: call.ancillae },
         },
         Call::Rollback { fuel, journal, .. } => Step { buffer: journal.len(), act: Act::Rollback { fuel } },
-        Call::Check { .. } | Call::Run(_) => unreachable!("calls that write no journal stand outside the list"),
+        Call::Check { .. } | Call::Run(_) | Call::Read(_) => {
+            unreachable!("calls that write no journal stand outside the list")
+        }
     }
 }
 

@@ -59,12 +59,9 @@ impl Story {
 
     /// Takes over what a call left; the buffer keeps its new length even where the call was refused.
     pub fn turn(&mut self, call: &Call, answer: &Answer) {
-        self.journal = match (answer, call) {
-            (Answer::Opened { journal } | Answer::Held { journal, .. }, _) => journal.clone(),
-            (_, Call::Open { journal, .. } | Call::Rollback { journal, .. }) => journal.clone(),
-            (_, Call::Convert(call)) => call.journal.clone(),
-            _ => return,
-        };
+        if let Some(journal) = call.journal_after(answer) {
+            self.journal = journal.to_vec();
+        }
     }
 
     /// Length of the fields, without the zeros behind them.

@@ -74,8 +74,8 @@ pub const COMMANDS: [Command; 11] = [
         name: "journal",
         usage: "JOURNAL",
         arguments: (1, 1),
-        options: &["--hex", "--json"],
-        about: "Tells the held record and the standing conversions, oldest first.",
+        options: &["--bedside", "--hex", "--json"],
+        about: "Tells the held record and the standing conversions, oldest first. At the bedside it tells the record and how many\nconversions stand, and nothing of the conversions themselves.",
     },
     Command {
         name: "export",
@@ -94,7 +94,7 @@ pub const COMMANDS: [Command; 11] = [
 ];
 
 /// Options with what stands behind them and what they do.
-const OPTIONS: [(&str, &str, &str); 9] = [
+const OPTIONS: [(&str, &str, &str); 10] = [
     ("--output", " FILE", "write the program there (also -o)"),
     ("--force", "", "replace a file that is there already"),
     ("--offsets", "", "list each entry's offset too"),
@@ -103,6 +103,7 @@ const OPTIONS: [(&str, &str, &str); 9] = [
     ("--trace", "[=DEPTH]", "show the terms that are entered, to a depth"),
     ("--length", " N", "the length of the journal's buffer; 67139 bytes, which are always enough, unless said"),
     ("--no-wait", "", "do not wait for another writer of the journal"),
+    ("--bedside", "", "tell the record and how many conversions stand, and nothing else"),
     ("--json", "", "answer in one line of JSON"),
 ];
 

@@ -1,25 +1,25 @@
-//! open, convert, rollback, journal, export and import.
+//! open, convert, rollback, export and import.
 
 use super::answer::{Answer, Json, Status};
-use super::load::{file_error, Converter};
+use super::load::{file_error, look, refused_file, unreadable, Converter};
 use super::options::Options;
 use super::runs::{read_all, read_one, refused, steps_text, value_text};
 use super::targets::{read_from, standing_text, there_already, Target};
 use crate::core::types::TypeId;
+use crate::engine;
 use crate::explain::help;
 use crate::journal::form::LONGEST;
 use crate::journal::store::{self, Locked, Unstored};
-use crate::journal::{Contents, Fields};
+use crate::journal::{conversions, Contents, Conversion, FIELD_HEADER};
 use crate::values;
-use crate::{engine, values::hexadecimal};
-use corefun::{Refusal, VALUE_BYTES};
+use corefun::{Refusal, ENTRIES_BYTES, VALUE_BYTES};
 use std::io::{self, Write};
 use std::path::Path;
 
 type Answered = Result<Answer, Box<Answer>>;
 
-/// A held record of 1,024 bytes and 64 conversions with as many bytes of ancillae each: a buffer of this length is never too short.
-const ALWAYS_ENOUGH: usize = 3 + 1024 + 64 * (3 + 6 + 1024);
+/// A buffer of this length has room for the longest record and the longest entries.
+const ALWAYS_ENOUGH: usize = FIELD_HEADER + VALUE_BYTES + ENTRIES_BYTES;
 
 /// A journal file that this process alone may replace, with what is in it.
 struct Held {
@@ -34,7 +34,7 @@ impl Held {
         let name = options.arguments[0].clone();
         let mut locked = lock(&name, options)?;
         let bytes = locked.read(LONGEST).map_err(|error| file_error(&name, &error))?;
-        let contents = read_contents(&name, &bytes)?;
+        let contents = Contents::read(&bytes).map_err(|why| unreadable(&name, why))?;
         let converter = Converter::of_journal(&name, &contents);
         Ok(Held { name, locked, contents, converter })
     }
@@ -72,12 +72,6 @@ fn stored(name: &str, stored: Result<(), Unstored>, answer: Answer) -> Answered 
     }
 }
 
-fn read_contents(name: &str, bytes: &[u8]) -> Result<Contents, Box<Answer>> {
-    Contents::read(bytes).map_err(|unreadable| {
-        Box::new(Answer::error(format!("{name}: error: {unreadable}\n  help: it was left alone")))
-    })
-}
-
 pub fn open(options: &Options) -> Answered {
     let name = &options.arguments[0];
     let mut converter = Converter::load(&options.arguments[1])?;
@@ -99,7 +93,7 @@ fn not_opened(converter: &Converter, refusal: Refusal, name: &str, record: usize
             converter.refused(refusal).also(&format!("the record has {record} bytes"))
         }
         Refusal::JournalFull => {
-            let note = format!("the record takes {} bytes, and the length is {length}", HELD_HEADER + record);
+            let note = format!("the record takes {} bytes, and the length is {length}", FIELD_HEADER + record);
             refused_file(name, refusal, LONGER).also(&note)
         }
         _ => converter.refused(refusal),
@@ -107,16 +101,6 @@ fn not_opened(converter: &Converter, refusal: Refusal, name: &str, record: usize
 }
 
 const LONGER: &str = "open it with a larger --length; without one it is always long enough";
-
-/// Before the held record stand its tag and its length.
-const HELD_HEADER: usize = 3;
-
-/// A refusal for what is in a file, or is to be in it, and not for the program.
-fn refused_file(file: &str, refusal: Refusal, help: &str) -> Answer {
-    let (number, meaning) = (refusal.number(), refusal.meaning());
-    Answer::refused(refusal, format!("{file}: error: refused {number}: {meaning}\n  help: {help}\n"))
-        .with("file", Json::text(file))
-}
 
 /// Makes a journal file; one that is there is replaced by force only, and nothing but a regular file. `inputs` are the files that were read.
 fn make(name: &str, contents: &Contents, options: &Options, inputs: &[String]) -> Result<(), Box<Answer>> {
@@ -174,7 +158,7 @@ pub fn convert(options: &Options) -> Answered {
 /// A conversion may be refused for its ancillae, or for the record that is held.
 fn not_converted(held: &mut Held, refusal: Refusal, function: u16, given: &[String], types: &[TypeId]) -> Answer {
     let answer = refused(&mut held.converter, refusal, function, given, types);
-    let record = Fields::read(&held.contents.journal).map(|fields| fields.held).unwrap_or_default();
+    let record = held_record(&held.contents.journal);
     let Some(ty) = dynamic_type(&held.converter, function) else { return answer };
     match values::written(&mut held.converter.program.types, &record, ty) {
         None if refusal == Refusal::ValueType => {
@@ -187,13 +171,13 @@ fn not_converted(held: &mut Held, refusal: Refusal, function: u16, given: &[Stri
 
 pub fn rollback(options: &Options) -> Answered {
     let mut held = Held::open(options)?;
-    let newest = Fields::read(&held.contents.journal);
-    let fuel = newest.as_ref().map_or(0, Fields::rollback_fuel);
+    // Whether the journal is one is for the rollback to say: its program is looked at first.
+    let newest = engine::workshop(&held.contents.journal).ok().and_then(|entries| conversions(&entries).pop());
+    let fuel = newest.as_ref().map_or(0, Conversion::rollback_fuel);
     let contents = &mut held.contents;
     let done = engine::rollback(&contents.program, fuel, &mut contents.journal)
         .map_err(|refusal| Box::new(held.converter.refused(refusal)))?;
-    let function = newest.and_then(|fields| fields.conversions.last().map(|newest| newest.function));
-    let ty = function.and_then(|function| dynamic_type(&held.converter, function));
+    let ty = newest.and_then(|newest| dynamic_type(&held.converter, newest.function));
     let answer = held_answer(&mut held, done.steps, ty, options.hex);
     held.store(answer)
 }
@@ -203,90 +187,30 @@ fn dynamic_type(converter: &Converter, function: u16) -> Option<TypeId> {
 }
 
 fn held_answer(held: &mut Held, steps: u32, ty: Option<TypeId>, hex: bool) -> Answer {
-    let record = Fields::read(&held.contents.journal).map(|fields| fields.held).unwrap_or_default();
+    let record = held_record(&held.contents.journal);
     let text = value_text(&mut held.converter, &record, ty, hex);
     let json =
         vec![("held", Json::text(&text)), ("hex", Json::bytes(&record)), ("steps", Json::Number(steps.into()))];
     Answer::accepted(format!("held {text}\n{}\n", steps_text(steps)), json)
 }
 
-/// A journal file as it is, without a lock: it is only ever replaced whole.
-fn look(name: &str) -> Result<(Contents, Converter), Box<Answer>> {
-    let bytes = store::read(Path::new(name), LONGEST).map_err(|error| file_error(name, &error))?;
-    let contents = read_contents(name, &bytes)?;
-    let converter = Converter::of_journal(name, &contents);
-    Ok((contents, converter))
-}
-
-pub fn journal(options: &Options) -> Answered {
-    let name = &options.arguments[0];
-    let (contents, mut converter) = look(name)?;
-    let Some(fields) = Fields::read(&contents.journal) else {
-        return Err(Box::new(converter.refused(Refusal::Journal)));
-    };
-    let standing = standing_text(fields.conversions.len());
-    let mut text = format!("{standing}, {} of {} bytes used\n", fields.used, contents.journal.len());
-    let mut list = Vec::new();
-    for (number, conversion) in fields.conversions.iter().enumerate() {
-        let (name, ancillae) =
-            conversion_text(&mut converter, conversion.function, &conversion.ancillae, options.hex);
-        let ancillae_text: String = ancillae.iter().map(|ancilla| format!(" {ancilla}")).collect();
-        text += &format!("{:>3}. {name}{ancillae_text}, {}\n", number + 1, steps_text(conversion.steps));
-        list.push(Json::Object(vec![
-            ("function", Json::text(name)),
-            ("ancillae", Json::List(ancillae.into_iter().map(Json::Text).collect())),
-            ("steps", Json::Number(conversion.steps.into())),
-        ]));
-    }
-    let held = held_text(&mut converter, &fields, options.hex);
-    text += &format!("held {held}\n");
-    let json =
-        vec![("held", Json::text(held)), ("hex", Json::bytes(&fields.held)), ("conversions", Json::List(list))];
-    Ok(Answer::accepted(text, json))
-}
-
-fn conversion_text(converter: &mut Converter, function: u16, ancillae: &[u8], hex: bool) -> (String, Vec<String>) {
-    let raw = || if ancillae.is_empty() { Vec::new() } else { vec![format!("0x{}", hexadecimal(ancillae))] };
-    let Some(declared) = converter.program.functions.get(usize::from(function)).cloned() else {
-        return (function.to_string(), raw());
-    };
-    let types: Vec<TypeId> = declared.ancillae().iter().map(|parameter| parameter.ty).collect();
-    let texts = values::all_written(&mut converter.program.types, ancillae, &types).filter(|_| !hex);
-    (declared.name, texts.unwrap_or_else(raw))
-}
-
-/// The held record in the newest conversion's result type. Before any conversion its type is not recorded: it is written in the type of a
-/// dynamic parameter that has it, if all such types write it alike.
-fn held_text(converter: &mut Converter, fields: &Fields, hex: bool) -> String {
-    if hex {
-        return format!("0x{}", hexadecimal(&fields.held));
-    }
-    let newest = fields.conversions.last().map(|newest| usize::from(newest.function));
-    let result =
-        newest.and_then(|function| converter.program.functions.get(function)).map(|function| function.result);
-    if result.is_some() {
-        return value_text(converter, &fields.held, result, false);
-    }
-    let types: Vec<TypeId> =
-        converter.program.functions.iter().filter_map(|f| f.dynamic()).map(|parameter| parameter.ty).collect();
-    let mut texts = types.iter().filter_map(|&ty| values::written(&mut converter.program.types, &fields.held, ty));
-    match texts.next() {
-        Some(text) if texts.all(|other| other == text) => text,
-        _ => values::written_plainly(&fields.held).unwrap_or_else(|| format!("0x{}", hexadecimal(&fields.held))),
-    }
+/// The bytes of the held value; none of bytes that are no journal.
+fn held_record(journal: &[u8]) -> Vec<u8> {
+    engine::nurse(journal).map(|seen| seen.held).unwrap_or_default()
 }
 
 pub fn export(options: &Options) -> Answered {
-    let (contents, _) = look(&options.arguments[0])?;
+    let name = &options.arguments[0];
+    let contents = look(name)?.map_err(|why| unreadable(name, why))?;
     let json = vec![("length", Json::Number(contents.journal.len() as u64))];
     let ours = |_: &[u8]| false;
     match options.arguments.get(1) {
         None if options.json => Ok(Answer::accepted("", json).with("hex", Json::bytes(&contents.journal))),
         None => Ok(Answer::accepted(contents.journal, json)),
-        Some(name) => {
-            let target = Target { name, input: &options.arguments[0], ours, force: options.force };
+        Some(output) => {
+            let target = Target { name: output, input: name, ours, force: options.force };
             target.tested()?.put(&contents.journal)?;
-            Ok(Answer::accepted(format!("{name}: {} bytes\n", contents.journal.len()), json))
+            Ok(Answer::accepted(format!("{output}: {} bytes\n", contents.journal.len()), json))
         }
     }
 }
@@ -298,8 +222,7 @@ pub fn import(options: &Options) -> Answered {
     let (name, file) = (&options.arguments[0], &options.arguments[2]);
     let converter = Converter::load(&options.arguments[1])?;
     let journal = store::read(Path::new(file), LONGEST_JOURNAL).map_err(|error| file_error(file, &error))?;
-    replayed(&converter, &journal, file)?;
-    let standing = Fields::read(&journal).map_or(0, |fields| fields.conversions.len());
+    let standing = replayed(&converter, &journal, file)?;
     let text = converter.text.map(|(source, _)| source.text).unwrap_or_default();
     let contents = Contents { program: converter.bytes, journal, text };
     make(name, &contents, options, &options.arguments[1..])?;
@@ -307,27 +230,27 @@ pub fn import(options: &Options) -> Answered {
     Ok(Answer::accepted(format!("{name}: {}\n", standing_text(standing)), json))
 }
 
-/// Rolls all conversions back and makes them again: only a journal that this program wrote comes out the same.
-fn replayed(converter: &Converter, journal: &[u8], file: &str) -> Result<(), Box<Answer>> {
+/// Rolls all conversions back and makes them again: only a journal that this program wrote comes out the same. How many there are.
+fn replayed(converter: &Converter, journal: &[u8], file: &str) -> Result<usize, Box<Answer>> {
     let refused = |refusal: Refusal| {
         Box::new(match refusal {
             Refusal::Journal => refused_file(file, refusal, help(refusal.number())),
             _ => refused_file(file, refusal, "another program wrote this journal, or its bytes were changed"),
         })
     };
-    let Some(fields) = Fields::read(journal) else { return Err(refused(Refusal::Journal)) };
+    let standing = conversions(&engine::workshop(journal).map_err(refused)?);
     let mut again = journal.to_vec();
-    while let Some(standing) = Fields::read(&again).filter(|fields| !fields.conversions.is_empty()) {
-        engine::rollback(&converter.bytes, standing.rollback_fuel(), &mut again).map_err(refused)?;
+    for conversion in standing.iter().rev() {
+        engine::rollback(&converter.bytes, conversion.rollback_fuel(), &mut again).map_err(refused)?;
     }
-    let first = Fields::read(&again).map(|fields| fields.held).unwrap_or_default();
+    let first = engine::nurse(&again).map_err(refused)?.held;
     let mut again = engine::open(&converter.bytes, &first, journal.len()).map_err(refused)?;
-    for conversion in &fields.conversions {
+    for conversion in &standing {
         let (function, fuel) = (conversion.function, engine::LARGEST_FUEL);
         engine::convert(&converter.bytes, function, &conversion.ancillae, fuel, &mut again).map_err(refused)?;
     }
     match again == journal {
-        true => Ok(()),
+        true => Ok(standing.len()),
         false => Err(Box::new(Answer::error(format!("{file}: error: another program wrote this journal")))),
     }
 }

@@ -1,4 +1,4 @@
-//! Programs from files: texts, which are built, and bytes, which are read back.
+//! Programs from files: texts, which are built, and bytes, which are read back; and journal files as they are.
 
 use super::answer::{Answer, Json};
 use crate::build::build;
@@ -7,7 +7,7 @@ use crate::core::read::{fields, read};
 use crate::core::{lay_out, Layout, Program};
 use crate::engine;
 use crate::explain::{explain, help};
-use crate::journal::{store, Contents};
+use crate::journal::{store, Contents, Unreadable};
 use crate::text::{Mistake, Source};
 use crate::values::hexadecimal;
 use corefun::Refusal;
@@ -141,6 +141,23 @@ fn helped(refusal: Refusal) -> String {
 /// A text is told by its name or by its first byte: a program's fields begin with 1, 2 or 3.
 fn is_text(name: &str, bytes: &[u8]) -> bool {
     name.ends_with(".fun") || bytes.first().is_some_and(|&first| first > 8 && first != 0x21 && first != 0x22)
+}
+
+/// A journal file as it is, or why it is none. No lock is taken: the file is only ever replaced whole, so that one state of it is read.
+pub fn look(name: &str) -> Result<Result<Contents, Unreadable>, Box<Answer>> {
+    let bytes = store::read(Path::new(name), LONGEST).map_err(|error| file_error(name, &error))?;
+    Ok(Contents::read(&bytes))
+}
+
+pub fn unreadable(name: &str, why: Unreadable) -> Box<Answer> {
+    Box::new(Answer::error(format!("{name}: error: {why}\n  help: it was left alone")))
+}
+
+/// A refusal for what is in a file, or is to be in it, and not for the program.
+pub fn refused_file(file: &str, refusal: Refusal, help: &str) -> Answer {
+    let (number, meaning) = (refusal.number(), refusal.meaning());
+    Answer::refused(refusal, format!("{file}: error: refused {number}: {meaning}\n  help: {help}\n"))
+        .with("file", Json::text(file))
 }
 
 pub fn file_error(name: &str, error: &std::io::Error) -> Box<Answer> {

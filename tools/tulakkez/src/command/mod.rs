@@ -1,6 +1,8 @@
 //! The commands: what is asked for, and the answer.
 
 pub mod answer;
+mod bedside;
+mod desk;
 mod help;
 mod journals;
 mod load;
@@ -54,7 +56,8 @@ fn done(name: &str, options: &Options) -> Answer {
         "open" => journals::open(options),
         "convert" => journals::convert(options),
         "rollback" => journals::rollback(options),
-        "journal" => journals::journal(options),
+        "journal" if options.bedside => bedside::journal(options),
+        "journal" => desk::journal(options),
         "export" => journals::export(options),
         _ => journals::import(options),
     };

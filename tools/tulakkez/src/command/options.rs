@@ -15,6 +15,7 @@ pub struct Options {
     pub trace: Option<usize>,
     pub length: Option<usize>,
     pub no_wait: bool,
+    pub bedside: bool,
     pub json: bool,
     pub help: bool,
 }
@@ -31,6 +32,7 @@ impl Default for Options {
             trace: None,
             length: None,
             no_wait: false,
+            bedside: false,
             json: false,
             help: false,
         }
@@ -95,6 +97,7 @@ impl Options {
             "--offsets" => self.offsets = true,
             "--hex" => self.hex = true,
             "--no-wait" => self.no_wait = true,
+            "--bedside" => self.bedside = true,
             _ => self.json = true,
         }
         Ok(())
@@ -125,6 +128,7 @@ mod tests {
         assert_eq!(options.arguments, ["p", "f", "1"]);
         assert_eq!((options.fuel, options.hex, options.trace), (28, true, Some(3)));
         assert_eq!(read("check", &["--", "--json"]).expect("options").arguments, ["--json"]);
+        assert!(read("journal", &["--bedside", "j"]).is_ok_and(|options| options.bedside));
     }
 
     #[test]
@@ -135,6 +139,7 @@ mod tests {
             ("run", &["p", "f", "1", "--fuel", "65536"]),
             ("run", &["p", "f", "1", "--force"]),
             ("check", &["p", "--json=1"]),
+            ("rollback", &["j", "--bedside"]),
             ("check", &["p", "q"]),
         ] {
             assert!(read(name, words).is_err(), "{name} {words:?}");

@@ -7,7 +7,7 @@ use crate::core::types::TypeId;
 use crate::engine::{self, Direction, Run};
 use crate::text::Source;
 use crate::trace::trace;
-use crate::values::{self, hexadecimal};
+use crate::values;
 use corefun::{Refusal, VALUE_BYTES};
 
 type Answered = Result<Answer, Box<Answer>>;
@@ -109,7 +109,7 @@ pub fn steps_text(steps: u32) -> String {
 /// A value in its type; in hexadecimal where that is wanted or the type does not have it.
 pub fn value_text(converter: &mut Converter, value: &[u8], ty: Option<TypeId>, hex: bool) -> String {
     let typed = ty.filter(|_| !hex).and_then(|ty| values::written(&mut converter.program.types, value, ty));
-    typed.unwrap_or_else(|| format!("0x{}", hexadecimal(value)))
+    typed.unwrap_or_else(|| values::marked(value))
 }
 
 /// The types of a run's values, as far as there is such a function.

@@ -2,9 +2,10 @@
 
 use super::answer::{Answer, Status};
 use super::load::file_error;
+use crate::engine;
 use crate::journal::form::LONGEST;
 use crate::journal::store::{self, Locked, Unstored};
-use crate::journal::{Contents, Fields, Unreadable};
+use crate::journal::{Contents, Unreadable};
 use std::io;
 use std::path::Path;
 
@@ -84,13 +85,10 @@ fn unwritten(name: &str, error: &io::Error) -> Box<Answer> {
 
 /// What is there, so that nobody forces a journal away unknowingly; `other` is told of a file that is none.
 pub fn there_already(name: &str, bytes: &[u8], other: &str) -> String {
-    let what = match Contents::read(bytes) {
-        Ok(contents) => {
-            let standing = Fields::read(&contents.journal).map_or(0, |fields| fields.conversions.len());
-            format!("a journal with {}", standing_text(standing))
-        }
+    let what = match Contents::read(bytes).map(|contents| engine::nurse(&contents.journal)) {
+        Ok(Ok(seen)) => format!("a journal with {}", standing_text(seen.standing)),
         Err(Unreadable::Foreign) => other.to_string(),
-        Err(_) => "a journal file that cannot be read".to_string(),
+        Ok(Err(_)) | Err(_) => "a journal file that cannot be read".to_string(),
     };
     format!("{name}: error: {what} is there\n  help: --force replaces it")
 }

@@ -1,9 +1,10 @@
-//! A journal's bytes (document 01, section 5) taken apart for reading: the held record and the standing conversions, oldest first. The engine
-//! says whether bytes are a journal.
+//! The entries of a journal (document 01, section 5) taken apart for reading. Which bytes are a journal, and where its entries stand, the
+//! engine says: what is taken apart here is what its workshop's reader writes.
 
-const HELD: u8 = 0x21;
+/// Tag and length, in front of the body of any field.
+pub const FIELD_HEADER: usize = 3;
+
 const CONVERSION: u8 = 0x22;
-const FIELD_HEADER: usize = 3;
 const ENTRY_HEADER: usize = 6;
 
 #[derive(Clone, PartialEq, Eq, Debug)]
@@ -13,42 +14,34 @@ pub struct Conversion {
     pub ancillae: Vec<u8>,
 }
 
-#[derive(Clone, PartialEq, Eq, Debug)]
-pub struct Fields {
-    pub held: Vec<u8>,
-    pub conversions: Vec<Conversion>,
-    /// Bytes that the fields take.
-    pub used: usize,
-}
-
-impl Fields {
-    /// None for bytes that are no journal.
-    pub fn read(journal: &[u8]) -> Option<Fields> {
-        let (held, mut used) = field(journal, 0, HELD)?;
-        let mut conversions = Vec::new();
-        while journal.get(used) == Some(&CONVERSION) {
-            let (body, next) = field(journal, used, CONVERSION)?;
-            let (&[a, b, c, d, e, f], ancillae) = body.split_first_chunk::<ENTRY_HEADER>()?;
-            let (function, steps) = (u16::from_be_bytes([a, b]), u32::from_be_bytes([c, d, e, f]));
-            conversions.push(Conversion { function, steps, ancillae: ancillae.to_vec() });
-            used = next;
-        }
-        let rest_is_zero = journal[used..].iter().all(|&byte| byte == 0);
-        rest_is_zero.then(|| Fields { held: held.to_vec(), conversions, used })
-    }
-
-    /// The fuel that a rollback of the newest conversion takes: the steps that it was recorded with.
+impl Conversion {
+    /// The fuel that its rollback takes: the steps that it was recorded with.
     pub fn rollback_fuel(&self) -> u16 {
-        self.conversions.last().map_or(0, |newest| u16::try_from(newest.steps).unwrap_or(u16::MAX))
+        u16::try_from(self.steps).unwrap_or(u16::MAX)
     }
 }
 
-/// The body of the field with this tag, and where the next begins.
-fn field(bytes: &[u8], at: usize, tag: u8) -> Option<(&[u8], usize)> {
-    let &[found, high, low] = bytes.get(at..at + FIELD_HEADER)? else { return None };
-    let end = at + FIELD_HEADER + usize::from(u16::from_be_bytes([high, low]));
-    let body = bytes.get(at + FIELD_HEADER..end)?;
-    (found == tag).then_some((body, end))
+/// The conversions of entries as the workshop's reader writes them, oldest first.
+///
+/// # Panics
+/// On bytes that it never writes.
+pub fn conversions(mut entries: &[u8]) -> Vec<Conversion> {
+    let mut conversions = Vec::new();
+    while !entries.is_empty() {
+        let (oldest, rest) = split_oldest(entries).expect("whole entries, by the reader's contract");
+        conversions.push(oldest);
+        entries = rest;
+    }
+    conversions
+}
+
+/// The first entry, and the fields behind it.
+fn split_oldest(entries: &[u8]) -> Option<(Conversion, &[u8])> {
+    let (&[CONVERSION, high, low], rest) = entries.split_first_chunk::<FIELD_HEADER>()? else { return None };
+    let (body, rest) = rest.split_at_checked(usize::from(u16::from_be_bytes([high, low])))?;
+    let (&[a, b, c, d, e, f], ancillae) = body.split_first_chunk::<ENTRY_HEADER>()?;
+    let (function, steps) = (u16::from_be_bytes([a, b]), u32::from_be_bytes([c, d, e, f]));
+    Some((Conversion { function, steps, ancillae: ancillae.to_vec() }, rest))
 }
 
 #[cfg(test)]
@@ -56,14 +49,14 @@ mod tests {
     use super::*;
 
     #[test]
-    fn the_journal_of_document_01() {
-        let journal = [&[0x21, 0, 3, 4, 1, 0, 0x22, 0, 9, 0, 1, 0, 0, 0, 28, 4, 1, 0][..], &[0; 4]].concat();
-        let fields = Fields::read(&journal).expect("a journal");
-        assert_eq!(fields.held, [4, 1, 0]);
-        assert_eq!(fields.conversions, [Conversion { function: 1, steps: 28, ancillae: vec![4, 1, 0] }]);
-        assert_eq!((fields.used, fields.rollback_fuel()), (18, 28));
-        assert_eq!(Fields::read(&[0x21, 0, 3, 4, 1]), None);
-        assert_eq!(Fields::read(&[0x21, 0, 1, 0, 7]), None);
-        assert_eq!(Fields::read(&[]), None);
+    fn the_entry_of_document_01() {
+        let entry = [0x22, 0, 13, 0, 0, 0, 0, 0, 28, 4, 2, 4, 2, 4, 1, 0];
+        let plus = Conversion { function: 0, steps: 28, ancillae: vec![4, 2, 4, 2, 4, 1, 0] };
+        let bare = Conversion { function: 258, steps: 65_536, ancillae: vec![] };
+        let both = [&entry[..], &[0x22, 0, 6, 1, 2, 0, 1, 0, 0]].concat();
+        assert_eq!(conversions(&[]), []);
+        assert_eq!(conversions(&both[..entry.len()]), std::slice::from_ref(&plus));
+        assert_eq!((plus.rollback_fuel(), bare.rollback_fuel()), (28, u16::MAX));
+        assert_eq!(conversions(&both), [plus, bare]);
     }
 }

@@ -29,6 +29,8 @@ pub enum Unreadable {
     Version(u16),
     /// The check sum or the lengths do not fit.
     Damaged,
+    /// The check sum fits, and yet the text is no text.
+    Text,
 }
 
 impl std::fmt::Display for Unreadable {
@@ -39,6 +41,7 @@ impl std::fmt::Display for Unreadable {
                 write!(f, "this journal file is of version {version}, which is not known here")
             }
             Unreadable::Damaged => write!(f, "this journal file is damaged: its check sum does not fit"),
+            Unreadable::Text => write!(f, "this journal file is damaged: its text is not in UTF-8"),
         }
     }
 }
@@ -85,11 +88,11 @@ impl Contents {
         };
         let parts = (part(0), part(1), part(2));
         let (Some(program), Some(journal), Some(text)) = parts else { return Err(Unreadable::Damaged) };
-        let text = String::from_utf8(text).map_err(|_| Unreadable::Damaged)?;
-        match at == bytes.len() {
-            true => Ok(Contents { program, journal, text }),
-            false => Err(Unreadable::Damaged),
+        if at != bytes.len() {
+            return Err(Unreadable::Damaged);
         }
+        let text = String::from_utf8(text).map_err(|_| Unreadable::Text)?;
+        Ok(Contents { program, journal, text })
     }
 }
 
@@ -142,6 +145,15 @@ mod tests {
     fn what_is_written_is_read() {
         assert_eq!(Contents::read(&example().write()), Ok(example()));
         assert_eq!(Contents::read(&Contents::default().write()), Ok(Contents::default()));
+    }
+
+    #[test]
+    fn a_text_that_is_none_is_told_as_such() {
+        let mut bytes = example().write();
+        *bytes.last_mut().expect("a text") = 0xff;
+        let sum = check_sum(&bytes);
+        bytes[SUM..HEADER].copy_from_slice(&sum.to_be_bytes());
+        assert_eq!(Contents::read(&bytes), Err(Unreadable::Text));
     }
 
     #[test]

@@ -1,9 +1,16 @@
-use mathlib.Core.Path.{refl}
-use Rattle.calltext.proofs.Saying.{told-number, told-no-number, told-bytes, told-no-bytes, bytes-within, parses, unread}
-use Rattle.calltext.proofs.Arguments.{check-1, check-2, check-all}
+use mathlib.Core.Path.{refl, sym, _∙_}
+use Rattle.calltext.specs.Calls.{readCheck}
+use Rattle.calltext.proofs.Saying.{told-number, told-no-number, told-bytes, told-no-bytes, bytes-within, counted, miscounted, parses, unread}
+use Rattle.calltext.proofs.Arguments.{pair-1, pair-2, pair-all}
 use borrow.Author.Needs.{needs}
 use Rattle.calltext.proofs.calls.check_call.Statement.{statement}
 use Rattle.calltext.proofs.calls.check_call.Tie as tie
+
+count-spaces-requires : tie.Need-count-spaces-requires
+count-spaces-requires c κs = search needs
+
+returns : tie.Need-returns
+returns c = λ anc v. parses (miscounted _ _ _ λ e. c .if1 .taken (c .before .count-spaces .ensures ∙ e)) tt (unread _ λ k. refl)
 
 number-at-requires : tie.Need-number-at-requires
 number-at-requires c κs = search needs
@@ -14,8 +21,13 @@ enum-known-workspace c = search needs
 enum-told : tie.Need-enum-told
 enum-told c = search needs
 
-returns : tie.Need-returns
-returns c = parses (check-1 _ (told-no-number (c .before .before .number-at .ensures) (c .enum-told .given .1))) tt
+returns-2 : tie.Need-returns-2
+unfolding readCheck
+returns-2 c =
+    let at-number-at = c .before .before in
+    let at-if1 = at-number-at .before in
+    let counts = sym (at-if1 .before .count-spaces .ensures) ∙ at-if1 .if1 .left in
+    λ anc v. parses (pair-1 _ _ (told-no-number (at-number-at .number-at .ensures) (c .enum-told .given .1)) ∙ counted _ _ _ counts) tt
     (unread _ λ k. refl)
 
 bytes-at-requires : tie.Need-bytes-at-requires
@@ -30,40 +42,49 @@ enum-told-2 c = search needs
 same-length : tie.Need-same-length
 same-length c = search needs
 
-returns-2 : tie.Need-returns-2
-returns-2 c =
+returns-3 : tie.Need-returns-3
+unfolding readCheck
+returns-3 c =
     let at-bytes-at = c .before .before .before .before in
     let at-workspace = at-bytes-at .before .before .before in
     let at-number-at = at-workspace .before .before in
-    parses (check-2 _ (told-number (at-number-at .number-at .ensures) (at-workspace .workspace .given .1))
-    (told-no-bytes (at-bytes-at .bytes-at .ensures) (c .enum-told2 .given .1))) tt
+    let at-if1 = at-number-at .before in
+    let counts = sym (at-if1 .before .count-spaces .ensures) ∙ at-if1 .if1 .left in
+    λ anc v. parses (pair-2 _ _ (told-number (at-number-at .number-at .ensures) (at-workspace .workspace .given .1))
+    (told-no-bytes (at-bytes-at .bytes-at .ensures) (c .enum-told2 .given .1)) ∙ counted _ _ _ counts) tt
     (record { program = at-bytes-at .bytes-at .ensures .left; ancillae = refl; value = refl })
 
 same-length-2 : tie.Need-same-length-2
 same-length-2 c = search needs
 
-returns-3 : tie.Need-returns-3
-returns-3 c =
+returns-4 : tie.Need-returns-4
+unfolding readCheck
+returns-4 c =
     let at-n = c .before in
     let at-bytes-at = at-n .before .before .before .before in
     let at-workspace = at-bytes-at .before .before .before in
     let at-number-at = at-workspace .before .before in
-    parses (check-all _ (told-number (at-number-at .number-at .ensures) (at-workspace .workspace .given .1))
-    (told-bytes (at-bytes-at .bytes-at .ensures) (at-n .n .given .1))) (bytes-within (at-bytes-at .bytes-at .ensures) (at-n .n .given .1))
+    let at-if1 = at-number-at .before in
+    let counts = sym (at-if1 .before .count-spaces .ensures) ∙ at-if1 .if1 .left in
+    λ anc v. parses (pair-all _ _ (told-number (at-number-at .number-at .ensures) (at-workspace .workspace .given .1))
+    (told-bytes (at-bytes-at .bytes-at .ensures) (at-n .n .given .1)) ∙ counted _ _ _ counts)
+    (bytes-within (at-bytes-at .bytes-at .ensures) (at-n .n .given .1))
     (record { program = at-bytes-at .bytes-at .ensures .left; ancillae = refl; value = refl })
 
 pub check-call-spec : {M : Type 1} → statement M
 check-call-spec =
     tie.close
     (tie.spec
+    count-spaces-requires
+    returns
     number-at-requires
     enum-known-workspace
     enum-told
-    returns
+    returns-2
     bytes-at-requires
     enum-known-n
     enum-told-2
     same-length
-    returns-2
+    returns-3
     same-length-2
-    returns-3)
+    returns-4)

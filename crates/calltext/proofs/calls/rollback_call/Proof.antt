@@ -11,7 +11,7 @@ count-spaces-requires : tie.Need-count-spaces-requires
 count-spaces-requires c κs = search needs
 
 returns : tie.Need-returns
-returns c = parses (miscounted _ _ _ λ e. c .if1 .taken (c .before .count-spaces .ensures ∙ e)) tt
+returns c = λ anc. parses (miscounted _ _ _ λ e. c .if1 .taken (c .before .count-spaces .ensures ∙ e)) tt
     (unread _ λ k. refl)
 
 number-at-requires : tie.Need-number-at-requires
@@ -28,7 +28,7 @@ returns-2 c =
     let at-number-at = c .before .before in
     let at-if1 = at-number-at .before in
     let at-count-spaces = at-if1 .before in
-    parses (rollback-1 _ (told-no-number (at-number-at .number-at .ensures) (c .enum-told .given .1)) ∙ counted _ _ _
+    λ anc. parses (rollback-1 _ (told-no-number (at-number-at .number-at .ensures) (c .enum-told .given .1)) ∙ counted _ _ _
     (sym (at-count-spaces .count-spaces .ensures) ∙ at-if1 .if1 .left)) tt (unread _ λ k. refl)
 
 number-at-requires-2 : tie.Need-number-at-requires-2
@@ -48,7 +48,7 @@ returns-3 c =
     let at-number-at = at-workspace .before .before in
     let at-if1 = at-number-at .before in
     let at-count-spaces = at-if1 .before in
-    parses (rollback-2 _ (told-number (at-number-at .number-at .ensures) (at-workspace .workspace .given .1))
+    λ anc. parses (rollback-2 _ (told-number (at-number-at .number-at .ensures) (at-workspace .workspace .given .1))
     (told-no-number (at-number-at2 .number-at2 .ensures) (c .enum-told2 .given .1)) ∙ counted _ _ _
     (sym (at-count-spaces .count-spaces .ensures) ∙ at-if1 .if1 .left)) tt (unread _ λ k. refl)
 
@@ -74,7 +74,7 @@ returns-4 c =
     let at-number-at = at-workspace .before .before in
     let at-if1 = at-number-at .before in
     let at-count-spaces = at-if1 .before in
-    parses (rollback-3 _ (told-number (at-number-at .number-at .ensures) (at-workspace .workspace .given .1))
+    λ anc. parses (rollback-3 _ (told-number (at-number-at .number-at .ensures) (at-workspace .workspace .given .1))
     (told-number (at-number-at2 .number-at2 .ensures) (at-fuel .fuel .given .1))
     (told-no-bytes (at-bytes-at .bytes-at .ensures) (c .enum-told3 .given .1)) ∙ counted _ _ _
     (sym (at-count-spaces .count-spaces .ensures) ∙ at-if1 .if1 .left)) tt
@@ -107,14 +107,14 @@ returns-5 c =
     let at-number-at = at-workspace .before .before in
     let at-if1 = at-number-at .before in
     let at-count-spaces = at-if1 .before in
-    parses (rollback-4 _ (told-number (at-number-at .number-at .ensures) (at-workspace .workspace .given .1))
+    λ anc. parses (rollback-4 _ (told-number (at-number-at .number-at .ensures) (at-workspace .workspace .given .1))
     (told-number (at-number-at2 .number-at2 .ensures) (at-fuel .fuel .given .1)) (told-bytes (at-bytes-at .bytes-at .ensures) (at-p .p .given .1))
     (told-no-bytes (at-bytes-at2 .bytes-at2 .ensures) (c .enum-told4 .given .1)) ∙ counted _ _ _
     (sym (at-count-spaces .count-spaces .ensures) ∙ at-if1 .if1 .left)) tt
     (record { program = at-bytes-at .bytes-at .ensures .left; ancillae = refl; value = at-bytes-at2 .bytes-at2 .ensures .left })
 
-cast-t20 : tie.Need-cast-t20
-cast-t20 c =
+cast-t19 : tie.Need-cast-t19
+cast-t19 c =
     let at-fuel = c .before .before .before .before .before .before .before .before .before .before .before .before .before .before .before in
     let at-number-at2 = at-fuel .before .before in
     record { fits = omega (arith, number-within (at-number-at2 .number-at2 .ensures) (at-fuel .fuel .given .1)) }
@@ -138,7 +138,7 @@ returns-6 c =
     let at-number-at = at-workspace .before .before in
     let at-if1 = at-number-at .before in
     let at-count-spaces = at-if1 .before in
-    parses (rollback-all _ (told-number (at-number-at .number-at .ensures) (at-workspace .workspace .given .1))
+    λ anc. parses (rollback-all _ (told-number (at-number-at .number-at .ensures) (at-workspace .workspace .given .1))
     (told-number (at-number-at2 .number-at2 .ensures) (at-fuel .fuel .given .1)) (told-bytes (at-bytes-at .bytes-at .ensures) (at-p .p .given .1))
     (told-bytes (at-bytes-at2 .bytes-at2 .ensures) (at-j .j .given .1)) ∙ counted _ _ _
     (sym (at-count-spaces .count-spaces .ensures) ∙ at-if1 .if1 .left))
@@ -170,7 +170,7 @@ rollback-call-spec =
     same-length-2
     same-length-3
     returns-5
-    cast-t20
+    cast-t19
     same-length-4
     same-length-5
     returns-6)

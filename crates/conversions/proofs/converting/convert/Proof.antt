@@ -1,6 +1,7 @@
 use mathlib.Core.Path.{refl}
 use Rattle.rules.specs.Limits.{maxValueBytes, maxConversions}
-use Rattle.conversions.proofs.Converts.{stands-at, convert-malformed, convert-many}
+use Rattle.journal.proofs.Stands.{surveyed-as}
+use Rattle.conversions.proofs.Converts.{convert-malformed, convert-many}
 use borrow.Author.Needs.{needs}
 use Rattle.conversions.proofs.converting.convert.Statement.{statement}
 use Rattle.conversions.proofs.converting.convert.Tie as tie
@@ -29,7 +30,7 @@ returns-2 c =
     let at-if1 = c in
     let at-survey2 = at-if1 .before .before .before in
     let at-survey = at-survey2 .before .before in
-    convert-many _ _ _ _ _ (stands-at (at-survey .survey .ensures) (at-survey2 .survey2 .given .1)) (at-if1 .if1 .taken)
+    convert-many _ _ _ _ _ (surveyed-as (at-survey .survey .ensures) (at-survey2 .survey2 .given .1)) (at-if1 .if1 .taken)
 
 slice-aggregate-convert-held : tie.Need-slice-aggregate-convert-held
 slice-aggregate-convert-held c = search needs
@@ -41,7 +42,7 @@ convert-held-requires c κs =
     let at-survey2 = at-if1 .before .before .before in
     let at-survey = at-survey2 .before .before in
     let start = at-survey .before .before .before .before .before .before .before .before .before in
-    ((start .pre .0, start .pre .1), (stands-at (at-survey .survey .ensures) (at-survey2 .survey2 .given .1), (at-if1 .if1 .left, refl)))
+    ((start .pre .0, start .pre .1), (surveyed-as (at-survey .survey .ensures) (at-survey2 .survey2 .given .1), (at-if1 .if1 .left, refl)))
 
 same-length-3 : tie.Need-same-length-3
 same-length-3 c = search needs

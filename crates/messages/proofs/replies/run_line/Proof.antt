@@ -10,11 +10,14 @@ use Rattle.messages.proofs.replies.run_line.Tie as tie
 enum-known-answer : tie.Need-enum-known-answer
 enum-known-answer c = search needs
 
-done-line-requires : tie.Need-done-line-requires
-done-line-requires c κs =
-    let at-answer = c .before .before in
+slice-aggregate-front-line : tie.Need-slice-aggregate-front-line
+slice-aggregate-front-line c = search needs
+
+front-line-requires : tie.Need-front-line-requires
+front-line-requires c κs =
+    let at-answer = c .before .before .before in
     let start = at-answer .before .before .before .before in
-    (omega (arith, start .pre .0, ap lengthOf (at-answer .answer .given .1)), start .pre .1 .0)
+    (omega (arith, start .pre .0, ap lengthOf (at-answer .answer .given .1)), omega (arith, start .pre .1 .0))
 
 enum-known-answer-2 : tie.Need-enum-known-answer-2
 enum-known-answer-2 c = search needs
@@ -28,10 +31,10 @@ same-length c = search needs
 returns : tie.Need-returns
 unfolding runText
 returns c =
-    let at-done-line = c .before .before in
-    let at-answer = at-done-line .before .before .before in
-    let start = at-answer .before .before .before .before in
-    wrote-as (at-done-line .done-line .ensures) (sym (ap (λ a. runText (runAnswer a) (start .args .output .now)) (at-answer .answer .given .1)))
+    let at-front-line = c .before .before in
+    let at-answer = at-front-line .before .before .before .before in
+    let output = at-answer .before .before .before .before .args .output .now in
+    wrote-as (at-front-line .front-line .ensures) (sym (ap (λ a. runText (runAnswer a) output) (at-answer .answer .given .1)))
 
 same-length-2 : tie.Need-same-length-2
 same-length-2 c = search needs
@@ -41,16 +44,16 @@ unfolding runText
 returns-2 c =
     let at-refusal-line = c .before .before in
     let at-answer2 = at-refusal-line .before .before .before in
-    let start = at-answer2 .before .before .before .before in
-    wrote-as (at-refusal-line .refusal-line .ensures) (sym (ap (λ a. runText (runAnswer a) (start .args .output .now))
-    (at-answer2 .answer2 .given .1)))
+    let output = at-answer2 .before .before .before .before .args .output .now in
+    wrote-as (at-refusal-line .refusal-line .ensures) (sym (ap (λ a. runText (runAnswer a) output) (at-answer2 .answer2 .given .1)))
 
 pub run-line-spec : {M : Type 1} → statement M
 run-line-spec =
     tie.close
     (tie.spec
     enum-known-answer
-    done-line-requires
+    slice-aggregate-front-line
+    front-line-requires
     enum-known-answer-2
     refusal-line-requires
     same-length
