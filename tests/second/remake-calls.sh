@@ -1,8 +1,8 @@
 #!/usr/bin/env bash
 # Makes tests/calls anew. The first 131 calls stay as they are: 31 that each tell two readings of document 01 apart,
 # and 100 others. The rest is made: section 6's cases and the limits, then random calls in three bands of length, then
-# the calls of some lists; after all these the calls of the two readers (document 02, F-1), from the same sources. The
-# answers of all are the second evaluator's.
+# the calls of some lists, steered ones (document 02, F-2) among all of them; after all these the calls of the two
+# readers (F-1), from the same sources. The answers of all are the second evaluator's.
 set -euo pipefail
 cd "$(dirname "$0")"
 cargo build --quiet --release --offline
@@ -26,13 +26,13 @@ listed() { "$second" book 4 60 | sed 's/ = .*//'; }
 {
     band 0 100000 131 < "$calls"
     "$second" cases | other_calls
-    "$second" make 1 4700 | other_calls | band 0 1300 1300
-    "$second" make 2 3600 | other_calls | band 2000 4200 220
-    "$second" make 3 23600 | other_calls | band 6000 17000 6
+    "$second" make 1 5800 | other_calls | band 0 1300 1500
+    "$second" make 2 4500 | other_calls | band 2000 4200 240
+    "$second" make 3 28800 | other_calls | band 6000 17000 6
     listed | other_calls | band 0 1300 300
     "$second" cases | reader_calls
-    "$second" make 1 4700 | reader_calls | band 0 1300 250
-    "$second" make 2 3600 | reader_calls | band 2000 4200 20
+    "$second" make 1 5800 | reader_calls | band 0 1300 250
+    "$second" make 2 4500 | reader_calls | band 2000 4200 20
     listed | reader_calls | band 0 1300 100
 } > "$calls.new"
 mv "$calls.new" "$calls"

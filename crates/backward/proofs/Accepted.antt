@@ -8,13 +8,15 @@ use mathlib.Core.Option.{some}
 use mathlib.Core.List.{List, [], _∷_, map}
 use lib.ListN.{length, getD, length-map}
 use package.Rattle.rules.specs.Ty.{Ty}
-use package.Rattle.rules.specs.Term.{Term, count, Fun, Program, nth}
-use package.Rattle.rules.specs.Typing.{Context, Vars, Subject, _∶_, arguments, Types, t-var1, t-var2, t-unit, t-unit-elm, t-inl, t-inr, t-prod, t-let1, t-let2, t-sum, t-app1, t-app2, t-app2-end}
-use package.Rattle.rules.specs.Typing.{t-roll, t-unroll, WellTyped}
+use package.Rattle.rules.specs.Term.{Term, count, Fun, Program, nth, usedIn}
+use package.Rattle.rules.specs.Typing.{Context, Vars, mark, Subject, _∶_, arguments, Types, WellTyped}
+use package.Rattle.rules.specs.Typing.{t-var1, t-var2, t-var3, t-unit, t-unit-elm, t-inl, t-inr, t-prod, t-let1, t-let2, t-sum, t-app1, t-app2, t-app2-end}
+use package.Rattle.rules.specs.Typing.{t-roll, t-unroll}
 use package.Rattle.rules.specs.Check.{statics}
 use package.Rattle.rules.specs.Limits.{maxParameters, maxVariables}
 use package.Rattle.rules.proofs.Basics.{given}
 use package.Rattle.rules.proofs.Scope.{look-lt}
+use package.Rattle.rules.proofs.Typing.Contexts.{length-mark}
 use package.Rattle.rules.proofs.Typing.Functions.{length-parameters, body-typed}
 use package.Rattle.calls.specs.Fields.{parametersAt}
 use package.Rattle.calls.specs.Entries.{TypeEntry, typeAt, typeOf, TermEntry, n-var, n-unit, n-inl, n-inr, n-roll, n-unroll, n-pair, n-let, n-letp, n-case, n-call, termTrees, termTree, termBelow}
@@ -42,18 +44,24 @@ module _ (variables most : ℕ) (most-variables : variables ≤ maxVariables) (P
   more : (n : ℕ) (b : Term) → Scoped arity (suc n) b → Scoped arity (n + 1) b
   more n b s = subst (λ n. Scoped arity n b) (sym (add-one n)) s
 
+  -- marks leave the scope as it is
+  unmarked : (N : Vars) (Δ : Context) (e : Term) → Scoped arity (length (mark N Δ)) e → Scoped arity (length Δ) e
+  unmarked N Δ e s = subst (λ n. Scoped arity n e) (length-mark N Δ) s
+
   scopes : {Δ : Context} {U : Vars} {s : Subject} → Types variables most P Δ U s → ScopedAs Δ s
   unfolding Scoped count
   scopes (t-var1 {i = i} {Δ = Δ} p) = look-lt Δ i p
   scopes (t-var2 {i = i} {Δ = Δ} p) = look-lt Δ i p
+  scopes (t-var3 {i = i} {Δ = Δ} p) = look-lt Δ i p
   scopes t-unit = tt
   scopes (t-unit-elm i p d) = scopes d
   scopes (t-inl d) = scopes d
   scopes (t-inr d) = scopes d
   scopes (t-prod d d′ n) = (scopes d, scopes d′)
-  scopes (t-let1 {Δ = Δ} {b = b} U′ r d d′ z) = (omega (arith, r), scopes d, more (length Δ) b (scopes d′))
-  scopes (t-let2 {Δ = Δ} {b = b} U′ r d d′ z z′) =
-      (omega (arith, r), scopes d, subst (λ n. Scoped arity n b) (let z : suc (suc (length Δ)) ≡ length Δ + 1 + 1 = omega arith in z) (scopes d′))
+  scopes (t-let1 {Δ = Δ} {e = e} {b = b} U′ r d d′ z) = (omega (arith, r), unmarked (λ i. usedIn i b) Δ e (scopes d), more (length Δ) b (scopes d′))
+  scopes (t-let2 {Δ = Δ} {e = e} {b = b} U′ r d d′ u u′) =
+      let z : suc (suc (length Δ)) ≡ length Δ + 1 + 1 = omega arith in
+      (omega (arith, r), unmarked (λ i. usedIn i b) Δ e (scopes d), subst (λ n. Scoped arity n b) z (scopes d′))
   scopes (t-sum {Δ = Δ} {b = b} {b′ = b′} U′ r d d₁ d₂ z) = (omega (arith, r), scopes d, more (length Δ) b (scopes d₁), more (length Δ) b′ (scopes d₂))
   scopes (t-app1 {g = g} {h = h} n a d) = (ap (λ n. n + 1) (scopes a) ∙ parameters g h n, scopes d)
   scopes (t-app2 d a) = ap suc (scopes a)

@@ -62,7 +62,7 @@ module _ {code heap slots : List ℕ} {m : Machine} {b : Bindings} {sc : Scope} 
       unfolding maxParameters
       called-prepared none-bound = rw w (record {
         ready = call-body (P .ready) low C (arguments-done P C D) (is-done e) qg qu;
-        tells = tells-first heap₁ slots₁ (sc .base + sc .n) k (m₁ .top) none-bound (omega (arith, P .ready .machine .some, D .moves .grows));
+        tells = tells-first heap₁ slots₁ (sc .base + sc .n) k (m₁ .top) none-bound (omega (arith, P .ready .machine .graph .some, D .moves .grows));
         older = older-later (m₁ .top) (scope-ready P .held) (D .below) (D .moves .agree) (D .moves .grows);
         space = omega (arith, P .space, P .ready .tall, few-count (scope-ready P) C);
       })

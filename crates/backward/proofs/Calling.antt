@@ -9,7 +9,7 @@ use package.Rattle.rules.specs.Limits.{fits, maxVariables}
 use package.Rattle.rules.specs.Val.{Val}
 use package.Rattle.rules.specs.Term.{Term, Fun, nth, scope}
 use package.Rattle.rules.specs.Run.{Res, Run, after}
-use package.Rattle.rules.specs.Machine.{State, onSome, each, leave, forward, backwardStep, backward}
+use package.Rattle.rules.specs.Machine.{State, onSome, leave, filled, each, forward, backwardStep, backward}
 use package.Rattle.calls.specs.Entries.{TypeEntry, termTrees}
 use package.Rattle.decoded.specs.Rows.{argumentIn, argumentsIn, bodyIn, firstIn, functionCount, parametersIn, programIn, thirdIn, treeIn}
 use package.Rattle.decoded.proofs.Trees.{called-body, called-function, called-there, called-tree, part-argument, tree-call}
@@ -93,7 +93,7 @@ module _ {code heap slots : List ℕ} {st : Machine} {b : View} {q t room : ℕ}
     where
       from : ℕ → Fun → ℕ → Res State
       from n h fuel =
-          after (each (forward fits (programIn code ys) (room - 1) (ancillaeOf heap b q) (stateOf heap b))
+          after (each (forward fits (programIn code ys) (room - 1) (ancillaeOf heap b q) (filled (stateOf heap b)))
           (termTrees (treeIn code ys) (argumentsIn code t 0 n)) fuel)
           (λ vs fuel. after (backward fits (programIn code ys) (room - 1) (scope vs []) (none ∷ map some (scope vs [])) (h .body) (valueAt heap node) fuel)
           (λ σ. leave σ (λ w σ. go rd low ys (stateOf heap b) (argumentIn code t n) w)))

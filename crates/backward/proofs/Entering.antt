@@ -20,16 +20,13 @@ use package.Rattle.calls.specs.Entries.{TypeEntry}
 use package.Rattle.decoded.specs.Rows.{programIn, treeIn}
 use package.Rattle.decoded.proofs.Trees.{tree-entry}
 use package.Rattle.valuegraph.specs.Nodes.{Room, valueAt, Grown, Made}
-use package.Rattle.valuegraph.proofs.Heaps.{value-kept}
 use package.Rattle.valuegraph.proofs.Places.{agree-trans, agree-down}
 use package.Rattle.scopes.specs.Slots.{unknown, meaning as slotMeaning, Machine}
 use package.Rattle.scopes.specs.Bindings.{View, AfterLeaving, stateOf, Opens}
 use package.Rattle.scopes.proofs.Marks.{found-mark}
 use package.Rattle.scopes.proofs.Bound.{opens-state}
 use package.Rattle.yields.proofs.Ancillae.{ancillae-same}
-use package.Rattle.forward.specs.Outcomes.{finished}
-use package.Rattle.forward.specs.Ready.{Graph}
-use package.Rattle.forward.proofs.Making.{makes}
+use package.Rattle.forward.proofs.Making.{graph-grown}
 use package.Rattle.backward.specs.Scoped.{ScopedAt}
 use package.Rattle.backward.specs.Outcomes.{Done, Refused, Outcome, refusalOf, tooLong}
 use package.Rattle.backward.specs.Ready.{Ready, Held, Binds, RanBackward, RanUnder, Goes, ancillaeOf, runOf, underOf, stepOf}
@@ -104,8 +101,6 @@ module _ {code heap slots : List ℕ} {st : Machine} {b : View} {q t room : ℕ}
               rows = rd .machine .rows;
               bodies = rd .machine .bodies;
               graph = rd .machine .graph;
-              some = rd .machine .some;
-              unit-there = rd .machine .unit-there;
               nodes = omega (arith, rd .machine .nodes);
               small = omega (arith, rd .machine .small);
               variables = rd .machine .variables;
@@ -155,18 +150,12 @@ module _ {code heap slots : List ℕ} {st : Machine} {b : View} {q t room : ℕ}
       grows : Grown heap heap₁ (st .top) v
       grows = M .new e
 
-      new-graph : Graph heap₁ (st .top + 1)
-      unfolding finished
-      new-graph = makes {st = st} t true (rd .machine .graph) (subst (λ m. Made heap heap₁ (st .top) v m) e M) .graph
-
       pub over-ready : Ready 0 0 code heap₁ slots grown b q (b .len) t room
       over-ready = record {
         machine = record {
           rows = rd .machine .rows;
           bodies = rd .machine .bodies;
-          graph = new-graph;
-          some = omega arith;
-          unit-there = sym (value-kept heap heap₁ (st .top) (rd .machine .graph .right) (grows .agree) 0 (rd .machine .some)) ∙ rd .machine .unit-there;
+          graph = graph-grown (rd .machine .graph) grows;
           nodes = omega (arith, rd .machine .nodes, grows .agree .lengths);
           small = omega (arith, rd .machine .small);
           variables = rd .machine .variables;
@@ -259,9 +248,9 @@ module _ {code heap slots : List ℕ} {st : Machine} {b : View} {q t room : ℕ}
       inner-done {l} L = record {
         moves = d .moves;
         follows = λ n. goes-follows L (d .follows s .bound) (inner-some .0) O (rd .binds .bound .full) (d .follows s);
-        there = λ n. goes-node L (d .follows s .bound) (inner-some .0) (after-it .some) (small-top after-it);
+        there = λ n. goes-node L (d .follows s .bound) (inner-some .0) (after-it .graph .some) (small-top after-it);
         answer = λ ys next.
             via (λ σ. leave σ next) (sym (inner-run (valueAt heap node) ys) ∙ sym (d .answer ys) ∙ meaning-done heap₁ r s)
-            (goes-state L (d .follows s .bound) (inner-some .0) (after-it .unit-there) (small-top after-it) next (r .state .fuel))
+            (goes-state L (d .follows s .bound) (inner-some .0) (after-it .graph .unit-there) (small-top after-it) next (r .state .fuel))
             ∙ sym (left-done heap₁ (l .state) (l .newest) (r .state .fuel) next s);
       }

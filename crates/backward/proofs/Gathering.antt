@@ -12,7 +12,7 @@ use package.Rattle.rules.specs.Limits.{fits, maxVariables}
 use package.Rattle.rules.specs.Val.{Val}
 use package.Rattle.rules.specs.Term.{Term, scope}
 use package.Rattle.rules.specs.Run.{Res, ok, Run, after}
-use package.Rattle.rules.specs.Machine.{State, each, forward}
+use package.Rattle.rules.specs.Machine.{State, filled, each, forward}
 use package.Rattle.rules.proofs.Run.{after-after}
 use package.Rattle.calls.specs.Entries.{TypeEntry, termTrees}
 use package.Rattle.decoded.specs.Rows.{argumentIn, argumentsIn, programIn, treeIn}
@@ -271,11 +271,11 @@ module _ {code heap slots : List ℕ} {m : Machine} {b : Bindings} {sc : Scope} 
       moves = D .moves;
       collected = all-known;
       answer = λ ys next.
-          ap (λ c. run-each (forward fits (programIn code ys) (room - 1) (ancillaeOf heap (scopeView slots sc) (sc .q)) (stateOf heap (scopeView slots sc)))
-          (treeIn code ys) code t 0 c (m .fuel) (λ vs. next (scope vs [])))
+          ap (λ c. run-each (forward fits (programIn code ys) (room - 1) (ancillaeOf heap (scopeView slots sc) (sc .q))
+          (filled (stateOf heap (scopeView slots sc)))) (treeIn code ys) code t 0 c (m .fuel) (λ vs. next (scope vs [])))
           (let z : count ≡ count - 0 = omega arith in z)
           ∙ ap₂ (λ a σ. run-each (forward fits (programIn code ys) (room - 1) a σ) (treeIn code ys) code t 0 (count - 0) (m .fuel) (λ vs. next (scope vs [])))
-          (view-ancillae heap slots (sc .base) (sc .q) (few-ancillae P)) (view-state heap slots (sc .base) (sc .n) (P .ready .binds .bound .few))
+          (view-ancillae heap slots (sc .base) (sc .q) (few-ancillae P)) (ap filled (view-state heap slots (sc .base) (sc .n) (P .ready .binds .bound .few)))
           ∙ D .answer ys (λ vs. next (scope vs []))
           ∙ as-listed next (statusOf s);
     }

@@ -26,6 +26,7 @@ use package.Rattle.scopes.proofs.Scopes.{slots-bind}
 use package.Rattle.scopes.proofs.Bound.{meet-bound, leaves-state}
 use package.Rattle.scopes.proofs.Views.{view-at, new-found}
 use package.Rattle.forward.specs.Ready.{Graph}
+use package.Rattle.forward.proofs.Making.{graph-grown}
 use package.Rattle.backward.specs.Outcomes.{Status, Done, Refused, statusOf, refusalOf, tooLong, against, mismatch}
 use package.Rattle.backward.specs.Ready.{Binds, Follows, RanBackward, Stays, Goes, Variable, UnitMet}
 use package.Rattle.backward.proofs.Runs.{meaning-done, meaning-refused, not-done, bound-later, follows-same, state-later}
@@ -145,10 +146,6 @@ module _ {heap : List ℕ} {st : Machine} {b : View} {i node : ℕ} {agrees : Bo
         ∙ sym (meet-bound heap b i node node (st .top) t (st .fuel) agrees r M B l small (found-node heap node (omega arith)) .1 e);
   }
 
--- the graph with a cell more
-pub cell-graph : {heap heap′ : List ℕ} {top x i head : ℕ} → Linked heap heap′ top x i head → Graph heap′ (top + 1)
-cell-graph C = let right-now = C .made .grown .right in record { right = right-now; short = λ n l. right-now .node n l .fit }
-
 -- it was not: a cell is made
 module _ {heap heap′ : List ℕ} (slots slots′ : List ℕ) (st : Machine) {b : View} {i j node head : ℕ} {agrees : Bool} {r : View} (G : Graph heap (st .top))
     (C : Linked heap heap′ (st .top) node j head) (M : Meets heap′ b i node (unknown + st .top) agrees r) (B : Bound heap b (st .top))
@@ -173,7 +170,7 @@ module _ {heap heap′ : List ℕ} (slots slots′ : List ℕ) (st : Machine) {b
   variable-bound e {s} d = record {
     moves = record {
       agree = C .made .grown .agree;
-      graph = cell-graph C;
+      graph = graph-grown G (C .made .grown);
       lengths = lengths;
       grows = omega arith;
       spends = omega arith;

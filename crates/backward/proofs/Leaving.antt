@@ -16,21 +16,22 @@ use package.Rattle.scopes.specs.Bindings.{View, Tells, bound, CellReady, Adds}
 use package.Rattle.scopes.specs.declared.bindings.Bindings.{Bindings}
 use package.Rattle.scopes.proofs.Marks.{found-later}
 use package.Rattle.scopes.proofs.Views.{tells-left, told-dynamic}
+use package.Rattle.forward.specs.Ready.{Graph}
+use package.Rattle.forward.proofs.Making.{graph-grown}
 use package.Rattle.backward.specs.Outcomes.{Done, statusOf, innerOf, scopeView}
 use package.Rattle.backward.specs.Ready.{Held, Moves, RanUnder, GoneUnder, Leavable}
 use package.Rattle.backward.proofs.Runs.{left-done, follows-later, state-later, moves-then, moves-from, held-later, small-top}
-use package.Rattle.backward.proofs.Leaves.{cell-graph}
 use package.Rattle.backward.proofs.Stops.{is-done}
 use Rattle.backward.specs.declared.outcomes.Out.{Out}
 
 ----------------------------------------------------------------
 -- A cell more
 
-cell-moves : {heap heap′ slots : List ℕ} {m : Machine} {x i h : ℕ} → Linked heap heap′ (m .top) x i h
+cell-moves : {heap heap′ slots : List ℕ} {m : Machine} {x i h : ℕ} → Graph heap (m .top) → Linked heap heap′ (m .top) x i h
     → Moves 1 heap heap′ slots slots m (record { top = m .top + 1; fuel = m .fuel })
-cell-moves C = record {
+cell-moves G C = record {
   agree = C .made .grown .agree;
-  graph = cell-graph C;
+  graph = graph-grown G (C .made .grown);
   lengths = refl;
   grows = omega arith;
   spends = omega arith;
@@ -46,7 +47,7 @@ module _ {heap heap₁ heap₂ slots : List ℕ} (slots₁ : List ℕ) {st : Mac
 
   under-later : RanUnder 1 heap heap₂ slots slots₁ st b (innerOf heap₂ s slots₁ (record { top = m₁ .top + 1; fuel = m₁ .fuel }) sc) res
   under-later = record {
-    moves = moves-then 1 (omega arith) (d .moves) (cell-moves C);
+    moves = moves-then 1 (omega arith) (d .moves) (cell-moves (d .moves .graph) C);
     follows = λ q. follows-later (m₁ .top + 1) (d .follows q) (C .made .grown .agree) (omega arith);
     there = λ q. rw (← newest-later) (omega (arith, d .there q));
     answer = λ ys next.

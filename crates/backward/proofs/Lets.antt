@@ -132,7 +132,7 @@ module _ {code heap slots : List ℕ} {st : Machine} {b : View} {q t room : ℕ}
                 (d .moves) letp-follows 1 (omega arith)))
 
             pub letp-nodes : (l .newest < r .out .state .top) × (r .newest < r .out .state .top)
-            letp-nodes = (goes-node L (d .follows s .bound) (letp-some .0) (after-it .some) (small-top after-it), d .there s)
+            letp-nodes = (goes-node L (d .follows s .bound) (letp-some .0) (after-it .graph .some) (small-top after-it), d .there s)
 
             pub letp-done : {heap₂ slots₂ : List ℕ} {r₂ : Outcome} → RanBackward 1 heap₁ heap₂ slots₁ slots₂ (r .out .state) (l .state) r₂
                 (runOf code heap₁ (r .out .state) (l .state) q u (pair (valueAt heap₁ (l .newest)) (valueAt heap₁ (r .newest))) (room - 1))
@@ -141,5 +141,5 @@ module _ {code heap slots : List ℕ} {st : Machine} {b : View} {q t room : ℕ}
                 under-done d letp-next s step-letp 2 (omega arith) (says d₂ (λ ys.
                 ap (λ a. backward fits (programIn code ys) (room - 1) a (stateOf heap₁ (l .state)) (treeIn code ys u)
                 (pair (valueAt heap₁ (l .newest)) (valueAt heap₁ (r .newest))) (r .out .state .fuel)) (sym (ancillae-after rd (d .moves) letp-follows))
-                ∙ sym (goes-state L (d .follows s .bound) (letp-some .0) (after-it .unit-there) (small-top after-it)
+                ∙ sym (goes-state L (d .follows s .bound) (letp-some .0) (after-it .graph .unit-there) (small-top after-it)
                 (λ w σ. go rd low ys σ u (pair w (valueAt heap₁ (r .newest)))) (r .out .state .fuel)))) letp-follows

@@ -11,7 +11,6 @@ use package.Rattle.rules.specs.Machine.{State, leave}
 use package.Rattle.rules.proofs.Run.{via}
 use package.Rattle.calls.specs.Entries.{TypeEntry}
 use package.Rattle.valuegraph.specs.Nodes.{valueAt, Agree}
-use package.Rattle.valuegraph.proofs.Heaps.{value-kept}
 use package.Rattle.valuegraph.proofs.Places.{agree-refl, agree-trans, agree-down}
 use package.Rattle.scopes.specs.Slots.{unknown, Slots, Machine}
 use package.Rattle.scopes.specs.Bindings.{View, stateOf, Bound}
@@ -178,8 +177,6 @@ module _ {k : ℕ} {code heap slots : List ℕ} {st : Machine} {room : ℕ} (H :
     rows = H .rows;
     bodies = H .bodies;
     graph = M .graph;
-    some = omega (arith, H .some, M .grows);
-    unit-there = sym (value-kept heap heap′ (st .top) (H .graph .right) (M .agree) 0 (H .some)) ∙ H .unit-there;
     nodes = omega (arith, H .nodes, M .owes, M .agree .lengths);
     small = omega (arith, H .small, M .owes);
     variables = omega (arith, H .variables, M .lengths);
@@ -193,8 +190,6 @@ module _ {k : ℕ} {code heap slots : List ℕ} {st : Machine} {room : ℕ} (H :
     rows = H .rows;
     bodies = H .bodies;
     graph = H .graph;
-    some = H .some;
-    unit-there = H .unit-there;
     nodes = omega (arith, H .nodes);
     small = omega (arith, H .small);
     variables = omega (arith, H .variables);
@@ -207,8 +202,6 @@ module _ {k : ℕ} {code heap slots : List ℕ} {st : Machine} {room : ℕ} (H :
     rows = H .rows;
     bodies = H .bodies;
     graph = H .graph;
-    some = H .some;
-    unit-there = H .unit-there;
     nodes = H .nodes;
     small = H .small;
     variables = omega (arith, H .variables);

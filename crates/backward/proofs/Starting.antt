@@ -104,7 +104,7 @@ module _ {code heap st : List ℕ} {q g node room : ℕ} (S : StartsIn code heap
     pub begin-prepared : {args : Bindings} → args .head ≡ 0 → Prepared 0 0 code heap (slotsOf st) (machineOf st) args sc (sc .n + 1) u room
     begin-prepared none-bound = rw w (record {
       ready = start-ready (S .starts) qu;
-      tells = tells-first heap (slotsOf st) 0 q (machineOf st .top) none-bound (S .starts .machine .some);
+      tells = tells-first heap (slotsOf st) 0 q (machineOf st .top) none-bound (S .starts .machine .graph .some);
       older = record { held = λ j l. absurd (omega arith) };
       space = omega (arith, S .space);
     })

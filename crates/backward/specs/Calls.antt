@@ -7,7 +7,7 @@ use package.Rattle.rules.specs.Limits.{fits}
 use package.Rattle.rules.specs.Val.{Val}
 use package.Rattle.rules.specs.Term.{scope}
 use package.Rattle.rules.specs.Run.{Res, ok, Run, after}
-use package.Rattle.rules.specs.Machine.{State, each, forward, runBackward}
+use package.Rattle.rules.specs.Machine.{State, filled, each, forward, runBackward}
 use package.Rattle.calls.specs.Entries.{TypeEntry, termTrees, functionOf}
 use package.Rattle.decoded.specs.Rows.{parametersIn, argumentsIn, functionCount, functionIn, termsIn, treeIn, programIn}
 use package.Rattle.valuegraph.specs.Nodes.{valueAt}
@@ -53,11 +53,11 @@ pub record Gathers (code heap heap′ slots slots′ : List ℕ) (st : Machine) 
   pub answer : (ys : List TypeEntry) (next : List Val → Run State)
       → gatherOf code heap slots st sc t room k count ys next ≡ listedOf heap′ slots′ (sc .base + sc .n + k) (count - k) (st′ .fuel) (statusOf stop) next
 
--- All ancilla terms of call `t`, in the state at hand.
+-- All ancilla terms of call `t`, in the state at hand: they read a variable that was not met so far as unit (02, F-2).
 abbrev pub argumentsOf : (code heap : List ℕ) → Machine → View → ℕ → ℕ → ℕ → ℕ → List TypeEntry → (List Val → Run State) → Res State
 argumentsOf code heap st b q t room count ys next =
     after
-    (each (forward fits (programIn code ys) (room - 1) (ancillaeOf heap b q) (stateOf heap b))
+    (each (forward fits (programIn code ys) (room - 1) (ancillaeOf heap b q) (filled (stateOf heap b)))
     (termTrees (treeIn code ys) (argumentsIn code t 0 count)) (st .fuel))
     (λ vs. next (scope vs []))
 

@@ -9,7 +9,7 @@ use mathlib.Core.List.{List, _∷_}
 use lib.ListN.{length, getD, set}
 use lib.Dec.{eqb}
 use package.Rattle.rules.specs.Limits.{fits, maxVariables}
-use package.Rattle.rules.specs.Val.{Val, unit, pair}
+use package.Rattle.rules.specs.Val.{Val, pair}
 use package.Rattle.rules.specs.Run.{Res, Run, after}
 use package.Rattle.rules.specs.Machine.{State, leave, forward, backwardStep, backward}
 use package.Rattle.calls.specs.Entries.{TypeEntry}
@@ -30,14 +30,12 @@ use Rattle.backward.specs.declared.outcomes.Next.{Next}
 ----------------------------------------------------------------
 -- Before
 
--- The program, the value graph and the lent slots: node 0 is the unit, for variables that are never met; there is room for two nodes, of which
--- one may be a cell, for each unit of fuel, and `k` more; and in the slots for the variables of heights up to `room`.
+-- The program, the value graph and the lent slots: there is room for two nodes, of which one may be a cell, for each unit of fuel, and `k` more;
+-- and in the slots for the variables of heights up to `room`.
 pub record Held (k : ℕ) (code heap slots : List ℕ) (st : Machine) (room : ℕ) : Type 0 where
   pub rows : Rows code
   pub bodies : Bodies code
   pub graph : Graph heap (st .top)
-  pub some : 0 < st .top
-  pub unit-there : valueAt heap 0 ≡ unit
   pub nodes : nodeBytes * (st .top + 2 * st .fuel + k) ≤ length heap
   pub small : st .top + 2 * st .fuel + k ≤ cellCount
   pub variables : slotsPerHeight * room ≤ length slots

@@ -1,5 +1,5 @@
-// The ancilla terms of a call, which are run forward in the state at hand: the slots say what the binding state says. Their values are placed
-// behind the scope, where the function that is called has its parameters.
+// The ancilla terms of a call, which are run forward in the state at hand: the slots say what the binding state says, and a variable that was not
+// met so far reads as the unit (02, F-2). Their values are placed behind the scope, where the function that is called has its parameters.
 use decoded::rows;
 use decoded::rows::CODE;
 use forward::outcomes::STOPPED;

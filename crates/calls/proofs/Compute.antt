@@ -5,10 +5,13 @@ use package.Rattle.rules.specs.Val.{size, encode, same}
 use package.Rattle.rules.specs.Ty.{plug, unfoldTy, nodes, sameTy}
 use package.Rattle.rules.specs.Term.{entry, count, nth, look, scope}
 use package.Rattle.rules.specs.Yield.{mayBe, mayYield}
-use package.Rattle.rules.specs.Typing.{barOne, bar}
-use package.Rattle.rules.specs.Check.{_>>=_, _>>_, need, asSum, asProd, asMu, asFun, visible, spent, mustUse, sameUse, statics, room, small, infer, inferArguments, checkFun, checkFuns, check}
+use package.Rattle.rules.specs.Typing.{barOne, bar, markOne, mark}
+use package.Rattle.rules.specs.Check.{_>>=_, _>>_, need, asSum, asProd, asMu, asFun, spent, mustUse, sameUse}
+use package.Rattle.rules.specs.Check.{statics, room, small, infer, inferArguments, checkFun, checkFuns, check}
+use package.Rattle.rules.specs.Check.{visible, isDynamic, marked, onward, late, waits, waitsAll, unless, lowest, needNone}
 use package.Rattle.rules.specs.Run.{after, enter, test}
-use package.Rattle.rules.specs.Machine.{onSum, onPair, onRoll, onUnit, onSome, known, bindOr, meet, leave, each, made, forwardStep, forward, backwardStep, backward, runForward, runBackward}
+use package.Rattle.rules.specs.Machine.{onSum, onPair, onRoll, onUnit, onSome, known, bindOr, meet, leave, filled, each}
+use package.Rattle.rules.specs.Machine.{made, forwardStep, forward, backwardStep, backward, runForward, runBackward}
 use package.Rattle.rules.specs.Cases.{num}
 use package.Rattle.calls.specs.Answer.{_>>=_ as _>>=Answer_, require, present, cleared, bytesWritten, overwritten}
 use package.Rattle.calls.specs.Fields.{tagAt, lengthAt, nextAt, kindAt, parametersAt, typeLengths, termLengths, callLength, typeLength, termLength, functionLength, bodyFits, wellFormed, noFields, withField, withinCounts, readFields, layout}
@@ -22,6 +25,7 @@ use package.Rattle.calls.specs.Conversions.{kept, turned, behind, newest
 use package.Rattle.calls.specs.Readers.{mostEntries, nurseOf, workshopOf, nurseCall, workshopCall, heldBytes}
 use package.Rattle.calls.specs.Book.{buffer, orStays, carryBy, carry, through, entriesOf, journalOf, refusalOf, refusal, orUnit, orNone, orEmpty, enters, turnUnless, bookTurn, bookRun, resized, afterTurned, afterOpen, call, callRun}
 use package.Rattle.calls.specs.Cases.{refs, typeField, termField, varField, functionField, natTypes, numberTerms, numberFunctions, numbers, bitTypes, collapse, discards, flip, units}
+use package.Rattle.calls.specs.Cases.{besideNumbers, plusKN, steering, unhelped, unhelpedTwice, unmet}
 
 unfoldable of-numbers : Unit {0}
 unfolding get16 get32 put16 put32 bytes16 bytes32
@@ -32,19 +36,23 @@ unfolding maxProgramBytes maxParameters maxValueBytes maxAncillaBytes fits maxHe
 of-limits = tt
 
 unfoldable of-trees : Unit {0}
-unfolding size encode same plug unfoldTy nodes sameTy entry count nth look scope mayBe mayYield barOne bar
+unfolding size encode same plug unfoldTy nodes sameTy entry count nth look scope mayBe mayYield barOne bar markOne mark
 of-trees = tt
 
 unfoldable of-check : Unit {0}
-unfolding _>>=_ _>>_ need asSum asProd asMu asFun visible spent mustUse sameUse statics room small infer inferArguments checkFun checkFuns check
+unfolding _>>=_ _>>_ need asSum asProd asMu asFun spent mustUse sameUse statics room small infer inferArguments checkFun checkFuns check
 of-check = tt
+
+unfoldable of-namings : Unit {0}
+unfolding visible isDynamic marked onward late waits waitsAll unless lowest needNone
+of-namings = tt
 
 unfoldable of-run : Unit {0}
 unfolding after enter test
 of-run = tt
 
 unfoldable of-machine : Unit {0}
-unfolding onSum onPair onRoll onUnit onSome known bindOr meet leave each made forwardStep forward backwardStep backward runForward runBackward num
+unfolding onSum onPair onRoll onUnit onSome known bindOr meet leave filled each made forwardStep forward backwardStep backward runForward runBackward num
 of-machine = tt
 
 unfoldable of-fields : Unit {0}
@@ -103,12 +111,16 @@ unfoldable of-cases : Unit {0}
 unfolding refs typeField termField varField functionField natTypes numberTerms numberFunctions numbers bitTypes collapse discards flip units
 of-cases = tt
 
+unfoldable of-steering : Unit {0}
+unfolding besideNumbers plusKN steering unhelped unhelpedTwice unmet
+of-steering = tt
+
 unfoldable rules-and-bytes : Unit {0}
-unfolding of-numbers of-limits of-trees of-check of-run of-machine of-fields of-types of-layout
+unfolding of-numbers of-limits of-trees of-check of-namings of-run of-machine of-fields of-types of-layout
 rules-and-bytes = tt
 
 unfoldable calls-and-cases : Unit {0}
-unfolding of-named of-terms of-tests of-values of-runs of-journal of-book of-conversions of-readers of-lists of-cases
+unfolding of-named of-terms of-tests of-values of-runs of-journal of-book of-conversions of-readers of-lists of-cases of-steering
 calls-and-cases = tt
 
 unfoldable pub computing : Unit {0}

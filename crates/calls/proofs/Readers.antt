@@ -20,7 +20,8 @@ use package.Rattle.calls.specs.Named.{member}
 use package.Rattle.calls.specs.Journal.{Entry, Journal, field, heldTag, entryFields, fields, writeOut, readJournal}
 use package.Rattle.calls.specs.Readers.{mostEntries, nurseOf, workshopOf, nurseCall, workshopCall, heldBytes}
 use package.Rattle.calls.specs.Book.{Row, carry, entriesOf, journalOf, BookRun, bookRun}
-use package.Rattle.calls.specs.Claims.{begun, readerNumbers, NurseSeesNoEntries, NurseSeesTheHeld, WorkshopAsItStands, ReadersKnowTheForm, ReadersAlwaysEnough, ReadersSeeTheBook}
+use package.Rattle.calls.specs.Claims.{begun, readerNumbers, NurseSeesNoEntries, NurseSeesTheHeld, WorkshopAsItStands}
+use package.Rattle.calls.specs.Claims.{WorkshopSeesTheEntries, ReadersKnowTheForm, ReadersAlwaysEnough, ReadersSeeTheBook}
 use package.Rattle.calls.proofs.Answer.{refused≢accepted, accepted-inj, refused-number, unbind, via, stops, require-yes, require-no, present-some, presented}
 use package.Rattle.calls.proofs.Refusals.{within, Numbered, accepts, number, numbered-wider, numbered-present, numbered-bind, numbered-test}
 use package.Rattle.calls.proofs.Journal.Entries.{length-entryFields}
@@ -61,6 +62,10 @@ workshopOf-room : (es : List Entry) (out : ℕ) → length (entryFields es) ≤ 
 unfolding workshopOf
 workshopOf-room es out h = via _ (require-yes 17 0 (leb-yes (length (entryFields es)) out h)) refl
 
+workshopOf-short : (es : List Entry) (out : ℕ) → out < length (entryFields es) → workshopOf es out ≡ refused 17 0
+unfolding workshopOf
+workshopOf-short es out h = stops _ (require-no 17 0 (lt-leb (length (entryFields es)) out h))
+
 pub nurse-sees-the-held : NurseSeesTheHeld
 unfolding heldBytes bytesWritten _>>=_
 nurse-sees-the-held journal J out e = (
@@ -68,6 +73,13 @@ nurse-sees-the-held journal J out e = (
       (shown, ap (λ x. bytesWritten (heldBytes x)) shown),
   λ h. given (nurse-reads journal J out e ∙ nurseOf-short (J .held) (length (J .entries)) out h) λ short.
       (short, ap (λ x. bytesWritten (heldBytes x)) short),
+)
+
+pub workshop-sees-the-entries : WorkshopSeesTheEntries
+unfolding bytesWritten
+workshop-sees-the-entries journal J out e = (
+  λ h. workshop-reads journal J out e ∙ workshopOf-room (J .entries) out h,
+  λ h. given (workshop-reads journal J out e ∙ workshopOf-short (J .entries) out h) λ short. (short, ap bytesWritten short),
 )
 
 -- what it accepts

@@ -1,6 +1,6 @@
 -- Section 6's cases on bytes, the orders of section 4 and sample calls, by computation.
 use mathlib.Core.Path.{refl}
-use package.Rattle.calls.specs.Cases.{Table, Limits, Orders, Readings}
+use package.Rattle.calls.specs.Cases.{Table, Limits, Orders, Readings, Steering}
 use package.Rattle.calls.specs.Samples.{Samples}
 use package.Rattle.calls.proofs.Compute.{computing}
 
@@ -59,6 +59,23 @@ readings = record {
   nurse-output = refl;
   nurse-kept = refl;
   workshop-output = refl;
+}
+
+pub steering : Steering
+unfolding computing
+steering = record {
+  checked = refl;
+  forward = refl;
+  back = refl;
+  none = refl;
+  nested-forward = refl;
+  nested-back = refl;
+  unmet-forward = refl;
+  unmet-back = refl;
+  lost = refl;
+  lowest = refl;
+  converts = refl;
+  rolls-back = refl;
 }
 
 pub samples : Samples

@@ -4,6 +4,7 @@ pub use package.Rattle.calls.proofs.Laws.{closed-and-counted, encode-an
 pub use package.Rattle.calls.proofs.Runs.Claims.{check-iff-typed, forward-iff-rules, backward-iff-rules, backward-iff-forward, no-input, no-value, injective, more-never-changes, never-stuck, old-conversions-return}
 pub use package.Rattle.calls.proofs.Runs.Met.{refusal-numbers}
 pub use package.Rattle.calls.proofs.Book.Demand.{demand3, newest-rolls-back}
-pub use package.Rattle.calls.proofs.Readers.{nurse-sees-no-entries, nurse-sees-the-held, workshop-as-it-stands, readers-know-the-form, readers-always-enough, readers-see-the-book}
-pub use package.Rattle.calls.proofs.Table.{table, limits, orders, readings, samples}
+pub use package.Rattle.calls.proofs.Readers.{nurse-sees-no-entries, nurse-sees-the-held, workshop-as-it-stands, workshop-sees-the-entries}
+pub use package.Rattle.calls.proofs.Readers.{readers-know-the-form, readers-always-enough, readers-see-the-book}
+pub use package.Rattle.calls.proofs.Table.{table, limits, orders, readings, steering, samples}
 pub use package.Rattle.calls.proofs.Borders.{edges, outcomes, lists}

@@ -1,5 +1,5 @@
--- Section 6's cases on bytes, gathered in one proposition (P1 to P5 and P9 to P13), P6 to P8 beside it, orders of section 4, and the readers
--- of P13's journals. Each limit at its edge, outcomes and lists of calls: Borders.
+-- Section 6's cases on bytes, gathered in one proposition (P1 to P5 and P9 to P13), P6 to P8 beside it, orders of section 4, the readers
+-- of P13's journals, and calls that a variable steers. Each limit at its edge, outcomes and lists of calls: Borders.
 use Prim.Native.Nat.{ℕ}
 use mathlib.Core.Path.{_≡_}
 use mathlib.Core.List.{List, [], _∷_, _++_}
@@ -238,3 +238,75 @@ pub record Readings : Type 0 where
   pub nurse-output : overwritten (heldBytes (nurseCall opened 11)) (replicate 11 7) ≡ encode (num 3) ++ 7 ∷ 7 ∷ []
   pub nurse-kept : overwritten (heldBytes (nurseCall opened 8)) (replicate 8 7) ≡ replicate 8 7
   pub workshop-output : overwritten (workshopCall converted 17) (replicate 17 7) ≡ plusEntry ++ 7 ∷ []
+
+----------------------------------------------------------------
+-- A variable that comes back later steers a call (02, F-2)
+
+-- `numbers` with further terms, and functions from (k, n); variable 0 is the pair, 1 is k, 2 is n, 3 what a let binds
+unfoldable pub besideNumbers : List ℕ → List ℕ → List ℕ
+unfolding numberTerms numberFunctions
+besideNumbers terms functions = numberTerms ++ terms ++ numberFunctions ++ functions
+
+-- terms 13 to 15: plus k n
+unfoldable pub plusKN : List ℕ
+unfolding varField termField
+plusKN = varField 0 ++ varField 1 ++ varField 2 ++ termField 8 (0 ∷ 13 ∷ 14 ∷ [])
+
+-- function 2 is let y = plus k n in (k, y), and function 3 let y = (let z = plus k n in z) in (k, y), which the outer let helps
+unfoldable pub steering : List ℕ
+unfolding besideNumbers plusKN varField termField functionField
+steering = besideNumbers (plusKN
+    ++ varField 1 ++ varField 3 ++ termField 4 (16 ∷ 17 ∷ []) ++ termField 5 (15 ∷ 18 ∷ []) ++ termField 6 (12 ∷ 19 ∷ [])
+    ++ varField 0 ++ varField 1 ++ varField 2 ++ termField 8 (0 ∷ 22 ∷ 23 ∷ []) ++ varField 3 ++ termField 5 (24 ∷ 25 ∷ [])
+    ++ varField 1 ++ varField 3 ++ termField 4 (27 ∷ 28 ∷ []) ++ termField 5 (26 ∷ 29 ∷ []) ++ termField 6 (21 ∷ 30 ∷ []))
+    (functionField 5 (5 ∷ []) 20 ++ functionField 5 (5 ∷ []) 31)
+
+-- let y = plus k n in y: the body does not use k
+unfoldable pub unhelped : List ℕ
+unfolding besideNumbers plusKN varField termField functionField
+unhelped = besideNumbers (plusKN ++ varField 3 ++ termField 5 (15 ∷ 16 ∷ []) ++ termField 6 (12 ∷ 17 ∷ [])) (functionField 3 (5 ∷ []) 18)
+
+-- let y = plus k (plus k n) in y: of two namings the one written last has the lower field
+unfoldable pub unhelpedTwice : List ℕ
+unfolding besideNumbers plusKN varField termField functionField
+unhelpedTwice = besideNumbers (plusKN ++ varField 1 ++ termField 8 (0 ∷ 16 ∷ 15 ∷ []) ++ varField 3 ++ termField 5 (17 ∷ 18 ∷ []) ++ termField 6 (12 ∷ 19 ∷ []))
+    (functionField 3 (5 ∷ []) 20)
+
+-- From s, u and n, with u unit: let y = beside u n in case s of inl _ ⇒ inl (u, y), inr _ ⇒ inr y. The right branch never meets u. Types: 5
+-- product(0,3), 6 sum(0,0), 7 product(6,5), 8 product(0,5), 9 sum(8,5); function 1, beside, is (a, n) for an ancilla a.
+unfoldable pub unmet : List ℕ
+unfolding natTypes typeField varField termField functionField
+unmet = natTypes ++ typeField 1 (0 ∷ 3 ∷ []) ++ typeField 2 (0 ∷ 0 ∷ []) ++ typeField 1 (6 ∷ 5 ∷ []) ++ typeField 1 (0 ∷ 5 ∷ []) ++ typeField 2 (8 ∷ 5 ∷ [])
+    ++ varField 0 ++ varField 2 ++ varField 3 ++ varField 4 ++ termField 8 (1 ∷ 2 ∷ 3 ∷ [])
+    ++ varField 1 ++ varField 3 ++ varField 5 ++ termField 4 (6 ∷ 7 ∷ []) ++ termField 2 (9 ∷ 8 ∷ []) ++ varField 5 ++ termField 3 (9 ∷ 10 ∷ [])
+    ++ termField 7 (5 ∷ 9 ∷ 11 ∷ []) ++ termField 5 (4 ∷ 12 ∷ []) ++ termField 6 (1 ∷ 13 ∷ []) ++ termField 6 (0 ∷ 14 ∷ [])
+    ++ varField 0 ++ varField 1 ++ termField 4 (16 ∷ 17 ∷ [])
+    ++ functionField 9 (7 ∷ []) 15 ++ functionField 5 (0 ∷ 3 ∷ []) 18
+
+abbrev pub steered : ℕ → ℕ → Val → Answer Ran
+steered g fuel v = forwardCall steering g [] (encode v) fuel ample 1024
+
+abbrev pub steeredBack : ℕ → ℕ → Val → Answer Ran
+steeredBack g fuel v = backwardCall steering g [] (encode v) fuel ample 1024
+
+-- a journal of (2, 3), and the same converted by function 2
+abbrev pub openedPair : List ℕ
+openedPair = field heldTag (encode (pair (num 2) (num 3))) ++ replicate 13 0
+
+abbrev pub steeredPair : List ℕ
+steeredPair = field heldTag (encode (pair (num 2) (num 5))) ++ field entryTag (0 ∷ 2 ∷ 0 ∷ 0 ∷ 0 ∷ 37 ∷ [])
+
+pub record Steering : Type 0 where
+  pub checked : checkCall steering ample ≡ accepted tt
+  pub forward : steered 2 37 (pair (num 2) (num 3)) ≡ value (pair (num 2) (num 5)) 37
+  pub back : steeredBack 2 37 (pair (num 2) (num 5)) ≡ value (pair (num 2) (num 3)) 37
+  pub none : steeredBack 2 65535 (pair (num 2) (num 1)) ≡ refused 16 6
+  pub nested-forward : steered 3 39 (pair (num 2) (num 3)) ≡ value (pair (num 2) (num 5)) 39
+  pub nested-back : steeredBack 3 39 (pair (num 2) (num 5)) ≡ value (pair (num 2) (num 3)) 39
+  pub unmet-forward : forwardCall unmet 0 [] (encode (pair (inr unit) (pair unit (num 3)))) 15 ample 1024 ≡ value (inr (pair unit (num 3))) 15
+  pub unmet-back : backwardCall unmet 0 [] (encode (inr (pair unit (num 3)))) 15 ample 1024 ≡ value (pair (inr unit) (pair unit (num 3))) 15
+  -- placed at the field of the variable that is named; of two the lowest
+  pub lost : checkCall unhelped ample ≡ refused 8 126
+  pub lowest : checkCall unhelpedTwice ample ≡ refused 8 126
+  pub converts : convertCall steering 2 [] 65535 ample openedPair ≡ held 21 37 steeredPair
+  pub rolls-back : rollbackCall steering 65535 ample steeredPair ≡ held 17 37 openedPair

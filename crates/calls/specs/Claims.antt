@@ -283,6 +283,12 @@ WorkshopAsItStands = (journal xs : List ℕ) (out : ℕ) → AreBytes journal �
     → (J : Journal) × (readJournal journal ≡ some J) × (xs ≡ entryFields (J .entries))
     × (journal ≡ field heldTag (encode (J .held)) ++ xs ++ replicate (length journal - length (fields J)) 0)
 
+-- It is given them if the output is long enough; else 17, and nothing is written.
+abbrev pub WorkshopSeesTheEntries : Type 0
+WorkshopSeesTheEntries = (journal : List ℕ) (J : Journal) (out : ℕ) → readJournal journal ≡ some J
+    → (length (entryFields (J .entries)) ≤ out → workshopCall journal out ≡ accepted (entryFields (J .entries)))
+    × (out < length (entryFields (J .entries)) → (workshopCall journal out ≡ refused 17 0) × (bytesWritten (workshopCall journal out) ≡ []))
+
 -- Both readers look at the whole form before all else: 18 is for malformed journals, whatever the output, and for no others.
 abbrev pub ReadersKnowTheForm : Type 0
 ReadersKnowTheForm = (journal : List ℕ) (out : ℕ)

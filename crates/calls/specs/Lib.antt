@@ -31,7 +31,7 @@ pub mod Readers
 pub mod Book
 -- what is proved of all these, as propositions
 pub mod Claims
--- section 6's cases, as propositions
+-- section 6's cases and those of F-1 and F-2, as propositions
 pub mod Cases
 -- each limit at its edge, outcomes, and a list of calls, as propositions
 pub mod Borders

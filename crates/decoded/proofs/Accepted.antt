@@ -131,7 +131,7 @@ module _ {p types terms functions : List ℕ} (read : Placed p types terms funct
       few-body : (g : ℕ) (h : FunctionEntry) → nth (entries .functions) g ≡ some h → FewArguments (tree (h .body))
       unfolding programOf functionOf
       few-body g h e =
-          few-typed program short _ _ _ _
+          few-typed program short _ _ _ _ _
           (directed variables most program typed g (functionOf (entries .types) (entries .terms) h) (nth-map _ (entries .functions) g e) .0)
 
       few-unfolded : (k : ℕ) → FewArguments (tree k) → FewArguments (tree-by k (getD (entries .terms) k n-unit))

@@ -3,12 +3,13 @@
 use Prim.Native.Nat.{ℕ, suc, _≤_}
 use native.Mathlib.Omega.{arith}
 use mathlib.Core.Path.{_≡_, ap, subst, _∙_}
+use mathlib.Core.Bool.{Bool}
 use mathlib.Core.Option.{some}
 use mathlib.Core.List.{List, [], _∷_}
 use lib.ListN.{length}
 use package.Rattle.rules.specs.Ty.{Ty, prod, sum, unfoldTy}
 use package.Rattle.rules.specs.Term.{Term, Terms, var, tunit, tinl, tinr, tpair, tlet, tletp, tcase, tcall, troll, tunroll, end, more, count, Fun, Program, nth}
-use package.Rattle.rules.proofs.Directed.{Typed, TypedAll}
+use package.Rattle.rules.proofs.Directed.{lend, Typed, TypedAll}
 use package.Rattle.calls.specs.Entries.{TermEntry, n-var, n-unit, n-inl, n-inr, n-roll, n-unroll, n-pair, n-let, n-letp, n-case, n-call, termTrees, termTree}
 use package.Rattle.calls.specs.Named.{termsOfTerm}
 use package.Rattle.decoded.specs.Rows.{roomFor}
@@ -40,28 +41,32 @@ module _ (P : Program) (short : (g : ℕ) (h : Fun) → nth P g ≡ some h → l
   mutual
     unfolding FewArguments count
 
-    pub few-typed : (q : ℕ) (Γ : List Ty) (t : Term) (τ : Ty) → Typed P q Γ t τ → FewArguments t
-    few-typed q Γ (var k i) τ d = tt
-    few-typed q Γ (tunit k) τ d = tt
-    few-typed q Γ (tinl k c e) τ (a, b, s, u, d) = few-typed q Γ e a d
-    few-typed q Γ (tinr k c e) τ (a, b, s, u, d) = few-typed q Γ e b d
-    few-typed q Γ (tpair k e e′) τ (a, b, s, d, d′) = (few-typed q Γ e a d, few-typed q Γ e′ b d′)
-    few-typed q Γ (tlet k e b) τ (a, d, d′, s) = (few-typed q Γ e a d, few-typed q (a ∷ Γ) b τ d′)
-    few-typed q Γ (tletp k e b) τ (a, a′, d, d′, s, s′) = (few-typed q Γ e (prod a a′) d, few-typed q (a′ ∷ a ∷ Γ) b τ d′)
-    few-typed q Γ (tcase k e b b′) τ (a, a′, d, d₁, d₂, s, s′, u) =
-        (few-typed q Γ e (sum a a′) d, few-typed q (a ∷ Γ) b τ d₁, few-typed q (a′ ∷ Γ) b′ τ d₂)
-    few-typed q Γ (tcall k g ts e) τ (h, n, ds, d, s, u) =
-        (omega (arith, short g h n, counted q Γ ts (h .ancillae) ds), few-all q Γ ts (h .ancillae) ds, few-typed q Γ e (h .dynamic) d)
-    few-typed q Γ (troll k c e) τ (a, s, u, d) = few-typed q Γ e (unfoldTy a) d
-    few-typed q Γ (tunroll k c e) τ (a, s, u, d) = few-typed q Γ e c d
+    pub few-typed : (q : ℕ) (M : ℕ → Bool) (Γ : List Ty) (t : Term) (τ : Ty) → Typed P q M Γ t τ → FewArguments t
+    few-typed q M Γ (var k i) τ d = tt
+    few-typed q M Γ (tunit k) τ d = tt
+    few-typed q M Γ (tinl k c e) τ (a, b, s, u, d) = few-typed q M Γ e a d
+    few-typed q M Γ (tinr k c e) τ (a, b, s, u, d) = few-typed q M Γ e b d
+    few-typed q M Γ (tpair k e e′) τ (a, b, s, d, d′) = (few-typed q M Γ e a d, few-typed q M Γ e′ b d′)
+    few-typed q M Γ (tlet k e b) τ (a, d, d′, s) = (few-typed q (lend M (length Γ) b) Γ e a d, few-typed q M (a ∷ Γ) b τ d′)
+    few-typed q M Γ (tletp k e b) τ (a, a′, d, d′, s, s′) =
+        (few-typed q (lend M (length Γ) b) Γ e (prod a a′) d, few-typed q M (a′ ∷ a ∷ Γ) b τ d′)
+    few-typed q M Γ (tcase k e b b′) τ (a, a′, d, d₁, d₂, s, s′, u) =
+        (few-typed q M Γ e (sum a a′) d, few-typed q M (a ∷ Γ) b τ d₁, few-typed q M (a′ ∷ Γ) b′ τ d₂)
+    few-typed q M Γ (tcall k g ts e) τ (h, n, ds, d, s, u) = (
+      omega (arith, short g h n, counted (length Γ) M Γ ts (h .ancillae) ds),
+      few-all (length Γ) M Γ ts (h .ancillae) ds,
+      few-typed q M Γ e (h .dynamic) d,
+    )
+    few-typed q M Γ (troll k c e) τ (a, s, u, d) = few-typed q M Γ e (unfoldTy a) d
+    few-typed q M Γ (tunroll k c e) τ (a, s, u, d) = few-typed q M Γ e c d
 
-    few-all : (q : ℕ) (Γ : List Ty) (ts : Terms) (cs : List Ty) → TypedAll P q Γ ts cs → FewEach ts
-    few-all q Γ end cs d = tt
-    few-all q Γ (more t ts) cs (c, cs′, e, d, ds) = (few-typed q Γ t c d, few-all q Γ ts cs′ ds)
+    few-all : (q : ℕ) (M : ℕ → Bool) (Γ : List Ty) (ts : Terms) (cs : List Ty) → TypedAll P q M Γ ts cs → FewEach ts
+    few-all q M Γ end cs d = tt
+    few-all q M Γ (more t ts) cs (c, cs′, e, d, ds) = (few-typed q M Γ t c d, few-all q M Γ ts cs′ ds)
 
-    counted : (q : ℕ) (Γ : List Ty) (ts : Terms) (cs : List Ty) → TypedAll P q Γ ts cs → count ts ≡ length cs
-    counted q Γ end cs d = ap length d
-    counted q Γ (more t ts) cs (c, cs′, e, d, ds) = ap suc (counted q Γ ts cs′ ds) ∙ ap length e
+    counted : (q : ℕ) (M : ℕ → Bool) (Γ : List Ty) (ts : Terms) (cs : List Ty) → TypedAll P q M Γ ts cs → count ts ≡ length cs
+    counted q M Γ end cs d = ap length d
+    counted q M Γ (more t ts) cs (c, cs′, e, d, ds) = ap suc (counted q M Γ ts cs′ ds) ∙ ap length e
 
 ----------------------------------------------------------------
 -- Parts

@@ -14,7 +14,7 @@ use package.Rattle.rules.specs.Limits.{fits}
 use package.Rattle.rules.specs.Val.{Val, inl, inr, pair}
 use package.Rattle.rules.specs.Run.{Res, stuck, Run, after, give, test}
 use package.Rattle.rules.specs.Yield.{mayYield}
-use package.Rattle.rules.specs.Machine.{State, onSum, onPair, forwardStep, forward}
+use package.Rattle.rules.specs.Machine.{State, onSum, onPair, filled, forwardStep, forward}
 use package.Rattle.calls.specs.Entries.{TypeEntry}
 use package.Rattle.valuegraph.specs.Nodes.{valueWithin, valueAt, ofKind, leftAt, rightAt, kindAt as nodeKind}
 use package.Rattle.valuegraph.proofs.Heaps.{value-inl, value-inr, value-pair}
@@ -76,10 +76,11 @@ module _ {k v : ℕ} {code heap slots : List ℕ} {st : Machine} {sc : Scope} {t
   bound-ancillae = sym (ancillae-same heap slots slots₁ (sc .base) (sc .q) (λ j h. bound-below j (omega (arith, rd .within))))
 
   pub bound-state : stateOf heap slots₁ (opened sc) ≡ some (valueAt heap node) ∷ stateOf heap slots sc
+  unfolding filled
   bound-state =
-      ap₂ (λ (s : List ℕ) (n : ℕ). stateAt heap s (sc .base) n) e (add-one (sc .n))
+      ap filled (ap₂ (λ (s : List ℕ) (n : ℕ). stateAt heap s (sc .base) n) e (add-one (sc .n))
       ∙ state-bind heap slots (sc .base) (sc .n) node (omega (arith, bind-room rd, rd .full))
-      ∙ ap (λ f. slotMeaning heap f ∷ stateOf heap slots sc) (found-node heap node (omega (arith, rd .small, below-mark)))
+      ∙ ap (λ f. slotMeaning heap f ∷ stateAt heap slots (sc .base) (sc .n)) (found-node heap node (omega (arith, rd .small, below-mark))))
 
   -- the term was run in that scope
   pub bound-done : {heap′ slots′ : List ℕ} {out : Out} → RanForward 0 heap heap′ (sc .base + (sc .n + 1)) slots₁ slots′ st out

@@ -28,7 +28,7 @@ module _ {k v : ℕ} {code heap slots : List ℕ} {st : Machine} {sc : Scope} {t
 pub find-ready : {k v : ℕ} {code heap st : List ℕ} {scope t room : ℕ} → ReadyIn k v code heap st scope t room → FindReady heap st scope
 find-ready rd = record {
   there = scope-there (rd .ready);
-  graph = rd .ready .graph .right;
+  graph = rd .ready .graph;
   held = rd .ready .held;
   small = omega (arith, rd .ready .small);
 }

@@ -6,8 +6,6 @@ use mathlib.Core.Path.{_≡_, refl, sym, ap, _∙_}
 use mathlib.Core.Bool.{Bool, true, false, not}
 use mathlib.Core.List.{List}
 use lib.ListN.{getD}
-use lib.Dec.{eqb}
-use borrow.Author.Tests.{eqb-true, eqb-false}
 use package.Rattle.rules.specs.Limits.{fits, maxTerms}
 use package.Rattle.rules.specs.Val.{Val, roll}
 use package.Rattle.rules.specs.Run.{stuck, Run, after, give, test}
@@ -17,8 +15,8 @@ use package.Rattle.rules.proofs.Run.{via}
 use package.Rattle.calls.specs.Entries.{TypeEntry}
 use package.Rattle.valuegraph.specs.Nodes.{kindAt, leftAt, Room, ofKind, valueWithin, valueAt}
 use package.Rattle.valuegraph.proofs.Heaps.{value-roll}
-use package.Rattle.scopes.specs.Slots.{unknown, slotAt, Slots, Machine, machineOf, scopeIn, slotsOf}
-use package.Rattle.scopes.proofs.Marks.{found-mark, found-below, slot-in, slot-out}
+use package.Rattle.scopes.specs.Slots.{unknown, found, nodeOr, slotAt, Slots, Machine, machineOf, scopeIn, slotsOf}
+use package.Rattle.scopes.proofs.Marks.{found-low, slot-in, slot-out}
 use package.Rattle.scopes.specs.declared.slots.Found.{Found}
 use package.Rattle.scopes.specs.declared.slots.Found.the-variants.{Node, Unknown}
 use package.Rattle.yields.specs.Yields.{ancillaeIn, MayYield, Asks}
@@ -38,22 +36,19 @@ use package.Rattle.decoded.specs.Rows.{secondIn, treeIn}
 -- Variables
 
 -- a variable's node is one of the graph's
-pub slot-node : (heap slots : List ℕ) (base n i top : ℕ) {node : ℕ} → Slots heap slots (base + n) top → top ≤ unknown
+pub slot-node : {heap slots : List ℕ} (base n i : ℕ) {top node : ℕ} → Graph heap top → Slots heap slots (base + n) top → top ≤ unknown
     → slotAt heap slots base n i ≡ Node node → node < top
-slot-node heap slots base n i top {node} S small e = go (decLt i n)
+slot-node {heap} {slots} base n i {top} {node} G S small e = go (decLt i n)
   where
-    none-there : slotAt heap slots base n i ≡ Unknown → node < top
-    none-there q = let z : _≡_ {A = ℕ} 0 1 = cc in absurd (omega arith)
-
-    there : i < n → (b : Bool) → eqb (getD slots (base + i) 0) unknown ≡ b → node < top
-    there l true q = none-there (slot-in heap slots base n i l ∙ found-mark heap _ (eqb-true _ unknown q))
-    there l false q = found-below (S .held (base + i) (omega arith)) small (eqb-false _ unknown q) λ old low f.
-        let s : slotAt heap slots base n i ≡ Node old = slot-in heap slots base n i l ∙ f in
-        let z : old ≡ node = cc in rw (← z) low
-
     go : Dec (i < n) → node < top
-    go (yes l) = there l (eqb (getD slots (base + i) 0) unknown) refl
-    go (no l) = none-there (slot-out heap slots base n i (omega arith))
+    go (yes l) =
+        let s = slot-in heap slots base n i l in
+        let z : nodeOr (found heap (getD slots (base + i) 0)) ≡ node = cc in
+        rw (← z) (found-low (S .held (base + i) (omega arith)) small (G .some))
+    go (no l) =
+        let s = slot-out heap slots base n i (omega arith) in
+        let z : _≡_ {A = ℕ} 0 1 = cc in
+        absurd (omega arith)
 
 found-known : (st : Machine) {f : Found} {node : ℕ} → f ≡ Node node → record { status = Value node; state = st } ≡ foundOut f st
 unfolding foundOut
@@ -68,7 +63,7 @@ pub finds-node : {heap st : List ℕ} {scope : ℕ} (i : ℕ) → FindReady heap
     → slotAt heap (slotsOf st) (scopeIn scope .base) (scopeIn scope .n) i ≡ Node node
     → Finds node (slotAt heap (slotsOf st) (scopeIn scope .base) (scopeIn scope .n) i)
 finds-node {heap} {st} {scope} i R e =
-    let low = slot-node heap (slotsOf st) (scopeIn scope .base) (scopeIn scope .n) i (machineOf st .top) (R .held) (omega (arith, R .small, below-mark)) e in
+    let low = slot-node (scopeIn scope .base) (scopeIn scope .n) i (R .graph) (R .held) (omega (arith, R .small, below-mark)) e in
     record { is = λ m. ap (λ s. record { status = s; state = m }) (is-value (omega (arith, R .small))) ∙ found-known m e }
 
 pub finds-none : {f : Found} {r : ℕ} → f ≡ Unknown → statusOf r ≡ Refused Stuck → Finds r f

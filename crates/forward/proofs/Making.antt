@@ -1,15 +1,13 @@
 -- Laws of the nodes that evaluation makes: the graph stays one of short values, and an answer says whether the value was within the limit.
 use Prim.Native.Nat.{ℕ, _+_, _≤_, _<_}
 use native.Mathlib.Omega.{arith}
-use native.Mathlib.Nat.{eq-or-lt-of-le}
 use mathlib.Core.Path.{_≡_, refl, sym, ap, _∙_}
 use mathlib.Core.Bool.{Bool, true, false}
-use mathlib.Core.Logic.{_⊎_, ⊎-elim}
 use mathlib.Core.List.{List}
 use package.Rattle.rules.specs.Limits.{fits}
 use package.Rattle.rules.specs.Val.{Val}
 use package.Rattle.rules.specs.Run.{give, test}
-use package.Rattle.valuegraph.specs.Nodes.{valueAt, Grown, Made}
+use package.Rattle.valuegraph.specs.Nodes.{Agree, Heap, Grown, Made}
 use package.Rattle.valuegraph.proofs.Heaps.{value-kept}
 use package.Rattle.valuegraph.proofs.Places.{agree-refl}
 use package.Rattle.forward.specs.Outcomes.{Out, stopped, statusOf, refusalOf, finished}
@@ -21,18 +19,18 @@ use Rattle.forward.specs.declared.outcomes.Status.{Status}
 use Rattle.forward.specs.declared.outcomes.Status.the-variants.{Refused}
 use package.Rattle.scopes.specs.Slots.{Machine}
 
-graph-grown : {heap heap′ : List ℕ} {top : ℕ} {v : Val} → Graph heap top → Grown heap heap′ top v → fits v ≡ true → Graph heap′ (top + 1)
-graph-grown {heap} {heap′} {top} {v} G g f = record {
-  right = g .right;
-  short = λ n h. ⊎-elim (λ e. ap fits (ap (valueAt heap′) e ∙ g .value) ∙ f)
-      (λ l. older n l) (split n (omega arith));
+-- more nodes
+pub graph-later : {heap heap′ : List ℕ} {top top′ : ℕ} → Graph heap top → Agree top heap heap′ → Heap heap′ top′ → top ≤ top′ → Graph heap′ top′
+graph-later {heap} {heap′} {top} G agree right le = record {
+  right = right;
+  short = λ n l. right .node n l .fit;
+  some = omega (arith, G .some);
+  unit-there = sym (value-kept heap heap′ top (G .right) agree 0 (G .some)) ∙ G .unit-there;
 }
-  where
-    split : (n : ℕ) → n ≤ top → (n ≡ top) ⊎ (n < top)
-    split n le = eq-or-lt-of-le le
 
-    older : (n : ℕ) → n < top → fits (valueAt heap′ n) ≡ true
-    older n l = ap fits (sym (value-kept heap heap′ top (G .right) (g .agree) n l)) ∙ G .short n l
+-- one more
+pub graph-grown : {heap heap′ : List ℕ} {top : ℕ} {v : Val} → Graph heap top → Grown heap heap′ top v → Graph heap′ (top + 1)
+graph-grown G g = graph-later G (g .agree) (g .right) (omega arith)
 
 pub test-true : (b : Bool) (n t : ℕ) (v : Val) (fuel : ℕ) → b ≡ true → test b n t (give v) fuel ≡ give v fuel
 unfolding test
@@ -48,7 +46,7 @@ makes-new : {heap heap′ : List ℕ} {st : Machine} {v : Val} (t : ℕ) → Gra
 unfolding finished
 makes-new {heap} {heap′} {st} {v} t G g f = record {
   agree = g .agree;
-  graph = graph-grown G g f;
+  graph = graph-grown G g;
   grows = omega arith;
   spends = refl;
   one = omega arith;

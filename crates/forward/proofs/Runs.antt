@@ -6,6 +6,7 @@ use mathlib.Core.Logic.{inr as right}
 use mathlib.Core.List.{List}
 use package.Rattle.rules.specs.Val.{Val}
 use package.Rattle.rules.specs.Run.{Res, ok, Run, after}
+use package.Rattle.rules.specs.Machine.{filled}
 use package.Rattle.rules.proofs.Run.{via}
 use package.Rattle.calls.specs.Entries.{TypeEntry}
 use package.Rattle.valuegraph.specs.Nodes.{valueAt}
@@ -199,8 +200,8 @@ module _ {k v : ℕ} {code heap slots : List ℕ} {st : Machine} {sc : Scope} {t
 
     pub state-later : stateOf heap slots sc ≡ stateOf heap′ slots′ sc
     state-later =
-        state-kept heap heap′ slots (sc .base) (sc .n) (st .top) (rd .graph .right) (d .agree) (rd .held) (omega (arith, rd .small, below-mark))
-        ∙ state-same heap′ slots slots′ (sc .base) (sc .n) (d .below)
+        ap filled (state-kept heap heap′ slots (sc .base) (sc .n) (st .top) (rd .graph .right) (d .agree) (rd .held) (omega (arith, rd .small, below-mark))
+        ∙ state-same heap′ slots slots′ (sc .base) (sc .n) (d .below))
 
 -- a part of the term, in its scope and with room for two variables more, the most that a term binds
 pub part : {v : ℕ} {code heap slots : List ℕ} {st : Machine} {sc : Scope} {t room : ℕ} → Ready 1 v code heap slots st sc t room

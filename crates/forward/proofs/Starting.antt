@@ -10,7 +10,7 @@ use lib.ListN.{length, getD}
 use package.Rattle.rules.specs.Limits.{fits}
 use package.Rattle.rules.specs.Val.{Val}
 use package.Rattle.rules.specs.Term.{Term, scope}
-use package.Rattle.rules.specs.Machine.{forward, runForward}
+use package.Rattle.rules.specs.Machine.{filled, forward, runForward}
 use package.Rattle.calls.specs.Entries.{TypeEntry}
 use package.Rattle.valuegraph.specs.Nodes.{nodeBytes, valueAt}
 use package.Rattle.scopes.specs.Slots.{unknown, slotCount, meaning as slotMeaning, stateAt, Machine, Scope, slotsPerHeight}
@@ -46,12 +46,19 @@ arguments-ancillae heap slots base count =
     ap (λ i. scope (valuesAt heap slots i count) []) (let z : base ≡ base + 0 = omega arith in z)
     ∙ scope-values heap slots base 0 count ∙ ap (ancillaeAt heap slots base) (let z : 0 + count ≡ count = omega arith in z)
 
+-- variables that are all known are read as they are
+filled-known : (ρ : List Val) → filled (map some ρ) ≡ map some ρ
+unfolding filled
+filled-known [] = refl
+filled-known (v ∷ ρ) = ap (λ σ. some v ∷ σ) (filled-known ρ)
+
 -- the dynamic argument comes last
 pub arguments-state : (heap slots : List ℕ) (base count top : ℕ) → Ancillae slots base count top → getD slots (base + count) 0 < top → top ≤ unknown
-    → some (valueAt heap (getD slots (base + count) 0)) ∷ map some (ancillaeAt heap slots base count) ≡ stateAt heap slots base (count + 1)
+    → some (valueAt heap (getD slots (base + count) 0)) ∷ map some (ancillaeAt heap slots base count) ≡ filled (stateAt heap slots base (count + 1))
 arguments-state heap slots base count top A low small =
-    sym (ap (stateAt heap slots base) (add-one count) ∙ state-front heap slots base count
+    sym (ap filled (ap (stateAt heap slots base) (add-one count) ∙ state-front heap slots base count
     ∙ ap₂ _∷_ (ap (slotMeaning heap) (found-node heap (getD slots (base + count) 0) (omega arith))) (state-ancillae heap slots base count top A small))
+    ∙ filled-known (valueAt heap (getD slots (base + count) 0) ∷ ancillaeAt heap slots base count))
 
 ----------------------------------------------------------------
 -- The run of a function

@@ -18,7 +18,7 @@ use package.Rattle.valuegraph.proofs.Heaps.{value-kept}
 use package.Rattle.scopes.specs.Slots.{slotAt, meaning as slotMeaning, Machine, Scope}
 use package.Rattle.scopes.specs.declared.slots.Found.{Found}
 use package.Rattle.scopes.specs.declared.slots.Found.the-variants.{Node, Unknown}
-use package.Rattle.scopes.proofs.Scopes.{known-state}
+use package.Rattle.scopes.proofs.Scopes.{known-filled}
 use package.Rattle.yields.specs.Yields.{Wraps}
 use package.Rattle.forward.specs.Outcomes.{Out, stopped, refusalOf, meaning, foundOut}
 use package.Rattle.forward.specs.Ready.{Ready, RanForward, Makes, Unrolls, ancillaeOf, stateOf, runOf, stepOf}
@@ -150,7 +150,8 @@ module _ {code heap slots : List ℕ} {st : Machine} {sc : Scope} {t room : ℕ}
     unfolding forwardStep made
     step-var ys =
         stepped ys (tree-var (rd .rows) t (rd .term) ys kind)
-        ∙ ap (λ o. onSome o (λ v. test (fits v) 14 t (give v)) (st .fuel)) (known-state heap slots (sc .base) (sc .n) (firstIn code t))
+        ∙ ap (λ o. onSome o (λ v. test (fits v) 14 t (give v)) (st .fuel))
+        (known-filled heap slots (sc .base) (sc .n) (firstIn code t) (rd .graph .unit-there))
 
     pub var-done : (r : Out) → r ≡ foundOut (slotAt heap slots (sc .base) (sc .n) (firstIn code t)) st → RanForward 1 heap heap m slots slots st r step
     unfolding foundOut onSome refusalOf
@@ -161,7 +162,7 @@ module _ {code heap slots : List ℕ} {st : Machine} {sc : Scope} {t room : ℕ}
 
         go : (f : Found) → slotAt heap slots (sc .base) (sc .n) (firstIn code t) ≡ f → RanForward 0 heap heap m slots slots st r step
         go (Node node) q =
-            let below : node < st .top = slot-node heap slots (sc .base) (sc .n) (firstIn code t) (st .top) (rd .held) (omega (arith, rd .small, below-mark)) q in
+            let below : node < st .top = slot-node (sc .base) (sc .n) (firstIn code t) (rd .graph) (rd .held) (omega (arith, rd .small, below-mark)) q in
             still (rd .graph) m slots r (ap (λ (r : Out). r .state) (read q))
             (λ n s. let z : node ≡ n = cc (ap (λ (r : Out). r .status) (read q)) in omega arith)
             (λ ys. ap (meaning heap) (read q) ∙ meaning-value heap (foundOut (Node node) st) refl

@@ -79,7 +79,7 @@ finished made st t = elim made [
   | false ↦ record { status = Refused (Long t); state = st }
 ]
 
--- A variable is its node, if it is known.
+-- A variable is its node, if it is in scope.
 unfoldable pub foundOut : Found → Machine → Out
 foundOut (Node node) st = record { status = Value node; state = st }
 foundOut Unknown st = record { status = Refused Stuck; state = st }

@@ -9,10 +9,10 @@ use mathlib.Core.List.{List, [], _∷_}
 use lib.ListN.{length, getD}
 use package.Rattle.program.specs.Kinds.{caseKind, callKind}
 use package.Rattle.rules.specs.Limits.{fits}
-use package.Rattle.rules.specs.Val.{Val}
+use package.Rattle.rules.specs.Val.{Val, unit}
 use package.Rattle.rules.specs.Run.{Res, Run, after, give, test}
 use package.Rattle.rules.specs.Yield.{mayYield}
-use package.Rattle.rules.specs.Machine.{State, onRoll, each, forwardStep, forward}
+use package.Rattle.rules.specs.Machine.{State, onRoll, filled, each, forwardStep, forward}
 use package.Rattle.calls.specs.Entries.{TypeEntry, termTrees}
 use package.Rattle.decoded.specs.Rows.{kindIn, secondIn, thirdIn, argumentIn, argumentsIn, termCount, treeIn, programIn, Rows}
 use package.Rattle.valuegraph.specs.Nodes.{nodeBytes, Room, valueAt, Agree, Heap}
@@ -25,10 +25,12 @@ use Rattle.forward.specs.declared.outcomes.Status.the-variants.{Value, R
 ----------------------------------------------------------------
 -- The value graph in a run
 
--- every node is right, and has a value within the limit (section 1)
+-- Every node is right, and has a value within the limit (section 1); node 0 is the unit, for variables that were not met.
 pub record Graph (heap : List ℕ) (top : ℕ) : Type 0 where
   pub right : Heap heap top
   pub short : (n : ℕ) → n < top → fits (valueAt heap n) ≡ true
+  pub some : 0 < top
+  pub unit-there : valueAt heap 0 ≡ unit
 
 ----------------------------------------------------------------
 -- Before
@@ -77,12 +79,12 @@ pub record Makes (heap heap′ : List ℕ) (st : Machine) (out : Out) (t : ℕ) 
 ----------------------------------------------------------------
 -- What is run
 
--- the values of the ancilla parameters, and what is known of each variable
+-- the values of the ancilla parameters, and what is read of each variable: one that was not met so far, backward, is unit (02, F-2)
 abbrev pub ancillaeOf : List ℕ → List ℕ → Scope → List Val
 ancillaeOf heap slots sc = ancillaeAt heap slots (sc .base) (sc .q)
 
 abbrev pub stateOf : List ℕ → List ℕ → Scope → State
-stateOf heap slots sc = stateAt heap slots (sc .base) (sc .n)
+stateOf heap slots sc = filled (stateAt heap slots (sc .base) (sc .n))
 
 -- term `t`, from its entering on, with height `room`
 abbrev pub runOf : (code heap slots : List ℕ) → Machine → Scope → ℕ → ℕ → List TypeEntry → Res Val
@@ -180,7 +182,7 @@ endOf scope = scopeIn scope .base + scopeIn scope .n
 -- a variable of a scope can be looked up
 pub record FindReady (heap st : List ℕ) (scope : ℕ) : Type 0 where
   pub there : endOf scope ≤ slotCount
-  pub graph : Heap heap (machineOf st .top)
+  pub graph : Graph heap (machineOf st .top)
   pub held : Slots heap (slotsOf st) (endOf scope) (machineOf st .top)
   pub small : machineOf st .top ≤ stopped
 

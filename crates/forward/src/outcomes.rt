@@ -127,7 +127,7 @@ pub fn make_pair(ws: &mut [u8], st: &mut [u32; STATE], t: u16, left: u32, right:
 
 // Steps without parts.
 
-// Variable i is its node, if it is known.
+// Variable i is its node, if it is in scope.
 pub fn variable(ws: &[u8], st: &[u32; STATE], scope: u64, i: u16) -> u32
     requires { ⌜ FindReady (now ws) (now st) scope ⌝ }
     ensures { λ r. ⌜ Finds r (slotAt (now (ws .entry)) (slotsOf (now (st .entry))) (scopeIn scope .base) (scopeIn scope .n) i) ⌝ }

@@ -29,6 +29,11 @@ pub put16-low : (xs : List ℕ) (i n j : ℕ) → j < i → getD (put16 xs i n) 
 unfolding put16
 put16-low xs i n j h = set-low (set xs i (n / 256 % 256)) (i + 1) j (n % 256) (omega arith) ∙ set-low xs i j (n / 256 % 256) h
 
+-- nor does anything else but the two bytes
+pub put16-other : (xs : List ℕ) (i n j : ℕ) → ¬ (j ≡ i) → ¬ (j ≡ i + 1) → getD (put16 xs i n) j 0 ≡ getD xs j 0
+unfolding put16
+put16-other xs i n j a b = getD-set-other (set xs i (n / 256 % 256)) (i + 1) j (n % 256) 0 b ∙ getD-set-other xs i j (n / 256 % 256) 0 a
+
 pub put32-low : (xs : List ℕ) (i n j : ℕ) → j < i → getD (put32 xs i n) j 0 ≡ getD xs j 0
 unfolding put32
 put32-low xs i n j h = put16-low (put16 xs i (n / 65536)) (i + 2) (n % 65536) j (omega arith) ∙ put16-low xs i (n / 65536) j h

@@ -1,20 +1,19 @@
 -- What a reader answers of a journal, and what it leaves in its output: malformed, in form and too long for the output, in form and written.
 use Prim.Native.Nat.{ℕ, _≤_, _<_}
 use native.Mathlib.Omega.{arith}
-use borrow.Author.Tests.{lt-leb}
 use mathlib.Core.Path.{_≡_, sym, ap, _∙_}
+use mathlib.Core.Option.{some}
 use mathlib.Core.List.{List}
 use lib.ListN.{length}
 use package.Rattle.octets.specs.Runs.{pasted}
 use package.Rattle.rules.specs.Val.{size, encode}
 use package.Rattle.rules.proofs.Val.{length-encode}
-use package.Rattle.rules.proofs.Typing.Tests.{leb-yes}
 use package.Rattle.calls.specs.Answer.{accepted, refused, _>>=_, bytesWritten, overwritten}
-use package.Rattle.calls.specs.Journal.{entryFields}
-use package.Rattle.calls.specs.Readers.{nurseOf, workshopOf, nurseCall, workshopCall, heldBytes}
-use package.Rattle.calls.proofs.Answer.{via, stops, require-yes, require-no, present-none, overwritten-pasted}
+use package.Rattle.calls.specs.Journal.{entryFields, readJournal}
+use package.Rattle.calls.specs.Readers.{nurseCall, workshopCall, heldBytes}
+use package.Rattle.calls.proofs.Answer.{stops, present-none, overwritten-pasted}
 use package.Rattle.calls.proofs.Journal.Fields.{fits-below}
-use package.Rattle.calls.proofs.Readers.{nurse-reads, workshop-reads}
+use package.Rattle.calls.proofs.Readers.{nurse-sees-the-held, workshop-sees-the-entries}
 use package.Rattle.answers.specs.declared.Refusal.{Refusal}
 use package.Rattle.answers.specs.declared.Refusal.the-variants.{Output, Journal}
 use package.Rattle.answers.specs.declared.NurseAnswer.{NurseAnswer}
@@ -28,6 +27,9 @@ use package.Rattle.journal.specs.declared.places.Survey.the-variants as survey
 use package.Rattle.journal.specs.Places.{Surveyed, Stands, journalIn}
 use package.Rattle.journal.proofs.Stands.{surveyed-as, standing, count-place, unformed}
 use package.Rattle.rules.specs.Limits.{maxConversions}
+
+in-form : (journal : List ℕ) {pl : Places} → Stands pl journal → readJournal journal ≡ some (journalIn journal)
+in-form journal {pl} s = standing pl journal s .read
 
 ----------------------------------------------------------------
 -- The nurse's reader
@@ -50,18 +52,13 @@ module _ (journal out : List ℕ) where
     held-long : length held ≡ size (journalIn journal .held)
     held-long = ap length is ∙ length-encode (journalIn journal .held)
 
-    reads : nurseCall journal (length out) ≡ nurseOf (journalIn journal .held) (length (journalIn journal .entries)) (length out)
-    reads = nurse-reads journal (journalIn journal) (length out) (standing pl journal s .read)
-
     pub nurse-short : length out < length held → Nursed (nurses.Refused Output) journal out out
-    unfolding nurseOf
     nurse-short l = nurse-refused Output
-        (reads ∙ stops _ (require-no 17 0 (lt-leb (size (journalIn journal .held)) (length out) (omega (arith, held-long)))))
+        (nurse-sees-the-held journal (journalIn journal) (length out) (in-form journal s) .1 (omega (arith, held-long)) .0)
 
     shown : length held ≤ length out → nurseCall journal (length out) ≡ accepted (record { held = journalIn journal .held; standing = pl .count })
-    unfolding nurseOf
-    shown l = reads ∙ via _ (require-yes 17 0 (leb-yes (size (journalIn journal .held)) (length out) (omega (arith, held-long))))
-        (ap (λ n. accepted (record { held = journalIn journal .held; standing = n })) (sym (count-place (standing pl journal s))))
+    shown l = nurse-sees-the-held journal (journalIn journal) (length out) (in-form journal s) .0 (omega (arith, held-long)) .0
+        ∙ ap (λ n. accepted (record { held = journalIn journal .held; standing = n })) (sym (count-place (standing pl journal s)))
 
     pub nurse-shown : {out′ : List ℕ} → length held ≤ length out → out′ ≡ pasted out 0 held
         → Nursed (nurses.Shows (record { len = length held; standing = pl .count })) journal out out′
@@ -96,18 +93,12 @@ module _ (journal out : List ℕ) where
   workshop-malformed s is = workshop-refused Journal (stops _ (present-none 18 (unformed journal (surveyed-as s is))))
 
   module _ {pl : Places} (s : Stands pl journal) {fields : List ℕ} (is : fields ≡ entryFields (journalIn journal .entries)) where
-    lists : workshopCall journal (length out) ≡ workshopOf (journalIn journal .entries) (length out)
-    lists = workshop-reads journal (journalIn journal) (length out) (standing pl journal s .read)
-
     pub workshop-short : length out < length fields → Listed (writes.Refused Output) journal out out
-    unfolding workshopOf
     workshop-short l = workshop-refused Output
-        (lists ∙ stops _ (require-no 17 0 (lt-leb (length (entryFields (journalIn journal .entries))) (length out) (omega (arith, ap length is)))))
+        (workshop-sees-the-entries journal (journalIn journal) (length out) (in-form journal s) .1 (omega (arith, ap length is)) .0)
 
     listed : length fields ≤ length out → workshopCall journal (length out) ≡ accepted fields
-    unfolding workshopOf
-    listed l = lists ∙ via _ (require-yes 17 0 (leb-yes (length (entryFields (journalIn journal .entries))) (length out) (omega (arith, ap length is))))
-        (ap accepted (sym is))
+    listed l = workshop-sees-the-entries journal (journalIn journal) (length out) (in-form journal s) .0 (omega (arith, ap length is)) ∙ ap accepted (sym is)
 
     pub workshop-listed : {out′ : List ℕ} → length fields ≤ length out → out′ ≡ pasted out 0 fields
         → Listed (writes.Wrote (length fields)) journal out out′

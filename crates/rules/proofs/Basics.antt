@@ -52,6 +52,10 @@ or-same false b′ e h = e ∙ h
 pub and-both : (b c : Bool) → (b && c) ≡ true → (b ≡ true) × (c ≡ true)
 and-both b c h = and-eq-true-iff b c .0 h
 
+pub and-false : (b : Bool) → (b && false) ≡ false
+and-false true = refl
+and-false false = refl
+
 pub T-true : {b : Bool} → T b → b ≡ true
 T-true {b} t = go b t
   where

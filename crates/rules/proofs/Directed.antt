@@ -2,14 +2,15 @@
 -- types `Γ` of all variables. The run theorems use this form; that it follows from the rules of Fig. 3 and 4 is in Typing.
 use Prim.Native.Nat.{ℕ, suc, _≤_}
 use mathlib.Core.Path.{_≡_, refl}
-use mathlib.Core.Bool.{Bool, true, false, _||_}
+use mathlib.Core.Bool.{Bool, true, false, _||_, _&&_}
 use mathlib.Core.Option.{some}
 use mathlib.Core.List.{List, [], _∷_}
 use lib.ListN.{length}
 use lib.Dec.{ltb, leb}
 use package.Rattle.rules.specs.Ty.{Ty, one, prod, sum, mu, unfoldTy, isUnit}
-use package.Rattle.rules.specs.Term.{Term, Terms, var, tunit, tinl, tinr, tpair, tlet, tletp, tcase, tcall, troll, tunroll, end, more, Fun, Program, nth, look, scope}
-use package.Rattle.rules.specs.Check.{names}
+use package.Rattle.rules.specs.Term.{Term, Terms, var, tunit, tinl, tinr, tpair, tlet, tletp, tcase, tcall}
+use package.Rattle.rules.specs.Term.{troll, tunroll, end, more, Fun, Program, nth, look, scope, usedIn}
+use package.Rattle.rules.proofs.Basics.{or-left}
 
 ----------------------------------------------------------------
 -- Which variables a term names, ancilla arguments included
@@ -55,7 +56,26 @@ mutual
   within-any-all end = tt
   within-any-all (more t ts) = (within-any t, within-any-all ts)
 
--- what an ancilla argument may name, with `q` ancilla parameters and `n` variables in scope around it: an ancilla parameter, or
+-- what is allowed here is allowed there
+mutual
+  pub within-more : (A A′ : ℕ → Bool) → ((i : ℕ) → A i ≡ true → A′ i ≡ true) → (t : Term) → Within A t → Within A′ t
+  within-more A A′ s (var k i) w = s i w
+  within-more A A′ s (tunit k) w = tt
+  within-more A A′ s (tinl k c e) w = within-more A A′ s e w
+  within-more A A′ s (tinr k c e) w = within-more A A′ s e w
+  within-more A A′ s (tpair k e e′) w = (within-more A A′ s e (w .0), within-more A A′ s e′ (w .1))
+  within-more A A′ s (tlet k e b) w = (within-more A A′ s e (w .0), within-more A A′ s b (w .1))
+  within-more A A′ s (tletp k e b) w = (within-more A A′ s e (w .0), within-more A A′ s b (w .1))
+  within-more A A′ s (tcase k e b b′) w = (within-more A A′ s e (w .0), within-more A A′ s b (w .1), within-more A A′ s b′ (w .2))
+  within-more A A′ s (tcall k g ts e) w = (within-all-more A A′ s ts (w .0), within-more A A′ s e (w .1))
+  within-more A A′ s (troll k t e) w = within-more A A′ s e w
+  within-more A A′ s (tunroll k t e) w = within-more A A′ s e w
+
+  pub within-all-more : (A A′ : ℕ → Bool) → ((i : ℕ) → A i ≡ true → A′ i ≡ true) → (ts : Terms) → WithinAll A ts → WithinAll A′ ts
+  within-all-more A A′ s end w = tt
+  within-all-more A A′ s (more t ts) w = (within-more A A′ s t (w .0), within-all-more A A′ s ts (w .1))
+
+-- what an ancilla argument may name by itself, with `q` ancilla parameters and `n` variables in scope around it: an ancilla parameter, or
 -- a variable bound inside
 abbrev pub inside : ℕ → ℕ → ℕ → Bool
 inside q n i = ltb i q || leb n i
@@ -65,39 +85,53 @@ inside q n i = ltb i q || leb n i
 
 -- the variable numbered `i`, of type `c`, is used by `b`, or may go unused
 abbrev pub Spent : ℕ → Ty → Term → Type 0
-Spent i c b = (isUnit c || names i b) ≡ true
+Spent i c b = (isUnit c || usedIn i b) ≡ true
 
 -- both branches use the same dynamic variables that are not unit
 abbrev pub SameUse : ℕ → List Ty → Term → Term → Type 0
-SameUse q Γ b b′ = (i : ℕ) (c : Ty) → look Γ i ≡ some c → isUnit c ≡ false → q ≤ i → names i b ≡ names i b′
+SameUse q Γ b b′ = (i : ℕ) (c : Ty) → look Γ i ≡ some c → isUnit c ≡ false → q ≤ i → usedIn i b ≡ usedIn i b′
 
 ----------------------------------------------------------------
--- Terms, functions, programs
+-- Namings (02, F-2)
+
+-- all that an ancilla argument may name: those, or a variable that is lent
+abbrev pub allowed : (ℕ → Bool) → ℕ → ℕ → ℕ → Bool
+allowed M q n i = inside q n i || M i
+
+-- what is lent to the bound term of a let with body `b`: besides `M`, what the body uses
+abbrev pub lend : (ℕ → Bool) → ℕ → Term → ℕ → Bool
+lend M n b i = M i || (ltb i n && usedIn i b)
+
+abbrev pub nothing : ℕ → Bool
+nothing i = false
+
+----------------------------------------------------------------
+-- Terms, functions, programs. Inside an ancilla argument, which is only run forward, all variables from outside count as parameters.
 
 module _ (P : Program) where
   abbrev mutual
-    pub Typed : ℕ → List Ty → Term → Ty → Type 0
-    Typed q Γ (var k i) τ = look Γ i ≡ some τ
-    Typed q Γ (tunit k) τ = one ≡ τ
-    Typed q Γ (tinl k c e) τ = (a : Ty) × (b : Ty) × (sum a b ≡ c) × (c ≡ τ) × Typed q Γ e a
-    Typed q Γ (tinr k c e) τ = (a : Ty) × (b : Ty) × (sum a b ≡ c) × (c ≡ τ) × Typed q Γ e b
-    Typed q Γ (tpair k e e′) τ = (a : Ty) × (b : Ty) × (prod a b ≡ τ) × Typed q Γ e a × Typed q Γ e′ b
-    Typed q Γ (tlet k e b) τ = (a : Ty) × Typed q Γ e a × Typed q (a ∷ Γ) b τ × Spent (length Γ) a b
-    Typed q Γ (tletp k e b) τ = (a : Ty) × (a′ : Ty) × Typed q Γ e (prod a a′) × Typed q (a′ ∷ a ∷ Γ) b τ
+    pub Typed : ℕ → (ℕ → Bool) → List Ty → Term → Ty → Type 0
+    Typed q M Γ (var k i) τ = look Γ i ≡ some τ
+    Typed q M Γ (tunit k) τ = one ≡ τ
+    Typed q M Γ (tinl k c e) τ = (a : Ty) × (b : Ty) × (sum a b ≡ c) × (c ≡ τ) × Typed q M Γ e a
+    Typed q M Γ (tinr k c e) τ = (a : Ty) × (b : Ty) × (sum a b ≡ c) × (c ≡ τ) × Typed q M Γ e b
+    Typed q M Γ (tpair k e e′) τ = (a : Ty) × (b : Ty) × (prod a b ≡ τ) × Typed q M Γ e a × Typed q M Γ e′ b
+    Typed q M Γ (tlet k e b) τ = (a : Ty) × Typed q (lend M (length Γ) b) Γ e a × Typed q M (a ∷ Γ) b τ × Spent (length Γ) a b
+    Typed q M Γ (tletp k e b) τ = (a : Ty) × (a′ : Ty) × Typed q (lend M (length Γ) b) Γ e (prod a a′) × Typed q M (a′ ∷ a ∷ Γ) b τ
         × Spent (length Γ) a b × Spent (suc (length Γ)) a′ b
-    Typed q Γ (tcase k e b b′) τ = (a : Ty) × (a′ : Ty) × Typed q Γ e (sum a a′) × Typed q (a ∷ Γ) b τ × Typed q (a′ ∷ Γ) b′ τ
+    Typed q M Γ (tcase k e b b′) τ = (a : Ty) × (a′ : Ty) × Typed q M Γ e (sum a a′) × Typed q M (a ∷ Γ) b τ × Typed q M (a′ ∷ Γ) b′ τ
         × Spent (length Γ) a b × Spent (length Γ) a′ b′ × SameUse q Γ b b′
-    Typed q Γ (tcall k g ts e) τ = (h : Fun) × (nth P g ≡ some h) × TypedAll q Γ ts (h .ancillae) × Typed q Γ e (h .dynamic)
-        × (h .result ≡ τ) × WithinAll (inside q (length Γ)) ts
-    Typed q Γ (troll k c e) τ = (a : Ty) × (mu a ≡ c) × (c ≡ τ) × Typed q Γ e (unfoldTy a)
-    Typed q Γ (tunroll k c e) τ = (a : Ty) × (mu a ≡ c) × (unfoldTy a ≡ τ) × Typed q Γ e c
+    Typed q M Γ (tcall k g ts e) τ = (h : Fun) × (nth P g ≡ some h) × TypedAll (length Γ) M Γ ts (h .ancillae) × Typed q M Γ e (h .dynamic)
+        × (h .result ≡ τ) × WithinAll (allowed M q (length Γ)) ts
+    Typed q M Γ (troll k c e) τ = (a : Ty) × (mu a ≡ c) × (c ≡ τ) × Typed q M Γ e (unfoldTy a)
+    Typed q M Γ (tunroll k c e) τ = (a : Ty) × (mu a ≡ c) × (unfoldTy a ≡ τ) × Typed q M Γ e c
 
-    pub TypedAll : ℕ → List Ty → Terms → List Ty → Type 0
-    TypedAll q Γ end cs = [] ≡ cs
-    TypedAll q Γ (more t ts) cs = (c : Ty) × (cs′ : List Ty) × (c ∷ cs′ ≡ cs) × Typed q Γ t c × TypedAll q Γ ts cs′
+    pub TypedAll : ℕ → (ℕ → Bool) → List Ty → Terms → List Ty → Type 0
+    TypedAll q M Γ end cs = [] ≡ cs
+    TypedAll q M Γ (more t ts) cs = (c : Ty) × (cs′ : List Ty) × (c ∷ cs′ ≡ cs) × Typed q M Γ t c × TypedAll q M Γ ts cs′
 
   abbrev pub TypedFun : Fun → Type 0
-  TypedFun h = Typed (length (h .ancillae)) (h .dynamic ∷ scope (h .ancillae) []) (h .body) (h .result)
+  TypedFun h = Typed (length (h .ancillae)) nothing (h .dynamic ∷ scope (h .ancillae) []) (h .body) (h .result)
       × Spent (length (h .ancillae)) (h .dynamic) (h .body)
 
   abbrev pub TypedProgram : Type 0

@@ -2,8 +2,8 @@
 use Prim.Native.Nat.{ℕ, suc, _≤_, _<_}
 use native.Mathlib.Omega.{arith}
 use native.Mathlib.Decide.{decLt}
-use mathlib.Core.Path.{_≡_, refl, sym, ap, _∙_}
-use mathlib.Core.Bool.{Bool, true, false, cond, _||_, false≢true}
+use mathlib.Core.Path.{_≡_, refl, sym, ap, subst, _∙_}
+use mathlib.Core.Bool.{Bool, true, false, cond, _&&_, _||_, false≢true}
 use mathlib.Core.Option.{Option, none, some}
 use mathlib.Core.List.{List, [], _∷_, map}
 use mathlib.Core.Logic.{_⊎_, inl as left, inr as right}
@@ -11,14 +11,14 @@ use lib.ListN.{length}
 use lib.Dec.{eqb, eqb→eq, ltb, leb, leb→le, ltb→lt}
 use package.Rattle.rules.specs.Val.{Val, unit, inl, inr, pair, roll}
 use package.Rattle.rules.specs.Ty.{Ty, one, prod, sum, mu, tyvar, isUnit}
-use package.Rattle.rules.specs.Term.{Term, look}
-use package.Rattle.rules.specs.Check.{names}
-use package.Rattle.rules.specs.Machine.{State, known}
-use package.Rattle.rules.proofs.OfType.{OfType}
-use package.Rattle.rules.proofs.Basics.{given, none≢some, or-cases, or-same, eqb-yes, eqb-no}
-use package.Rattle.rules.proofs.Directed.{inside, Spent, SameUse}
-use package.Rattle.rules.proofs.Scope.{look-lt, look-skip, look-newest, look-none}
-use package.Rattle.rules.proofs.State.{Agree, agree-full, agree-length, known-look, Enough}
+use package.Rattle.rules.specs.Term.{Term, look, usedIn}
+use package.Rattle.rules.specs.Machine.{State, known, filled}
+use package.Rattle.rules.proofs.OfType.{OfType, OfTypes}
+use package.Rattle.rules.proofs.Basics.{given, none≢some, and-both, or-cases, or-elim, or-same, eqb-yes, eqb-no}
+use package.Rattle.rules.proofs.Directed.{inside, Spent, SameUse, allowed, lend, nothing}
+use package.Rattle.rules.proofs.Scope.{look-lt, look-skip, look-newest, look-none, look-there}
+use package.Rattle.rules.proofs.State.{Agree, agree-full, agree-length, known-look, Enough, length-filled, Read, filled-read}
+use package.Rattle.rules.proofs.Preserve.{types-length, env-look}
 
 -- the state knows variable `i`
 abbrev pub Knows : State → ℕ → Type 0
@@ -53,7 +53,7 @@ Mono σ σ′ = (i : ℕ) → Knows σ i → Knows σ′ i
 
 -- the term's dynamic variables that are not unit are known
 abbrev pub Bound : ℕ → List Ty → Term → State → Type 0
-Bound q Γ t σ = (i : ℕ) (c : Ty) → look Γ i ≡ some c → isUnit c ≡ false → q ≤ i → names i t ≡ true → Knows σ i
+Bound q Γ t σ = (i : ℕ) (c : Ty) → look Γ i ≡ some c → isUnit c ≡ false → q ≤ i → usedIn i t ≡ true → Knows σ i
 
 -- the state after a term ran back
 abbrev pub After : ℕ → List Ty → Term → List Val → State → State → Type 0
@@ -86,7 +86,7 @@ pub determined : (q : ℕ) (Γ : List Ty) (c : Ty) (w : Val) (b : Term) (σ : St
     → Knows σ (length Γ) ⊎ (unit ≡ w)
 determined q Γ c w b σ ql h s k = go (isUnit c) refl s
   where
-    go : (u : Bool) → isUnit c ≡ u → (u || names (length Γ) b) ≡ true → Knows σ (length Γ) ⊎ (unit ≡ w)
+    go : (u : Bool) → isUnit c ≡ u → (u || usedIn (length Γ) b) ≡ true → Knows σ (length Γ) ⊎ (unit ≡ w)
     go true e s = right (unit-val w c e h)
     go false e s = left (k (length Γ) c (look-newest c Γ) e ql s)
 
@@ -122,17 +122,6 @@ mono-push m σ σ′ l h i k = go (knows-cases m σ i k)
     go (left (e, (v, x))) = (v, ap (λ i. known (m ∷ σ′) i) (e ∙ l) ∙ known-new m σ′ ∙ x)
     go (right h′) = knows-push m σ′ i (h i h′)
 
--- an ancilla argument meets nothing that is not known
-pub enough-inside : (q n : ℕ) (σ : State) (ρ : List Val) → Agree σ ρ → length ρ ≡ n → ((i : ℕ) → i < q → Knows σ i) → Enough (inside q n) σ ρ
-enough-inside q n σ ρ h l k = (agree-length σ ρ h, λ i s. go i (or-cases (ltb i q) (leb n i) s))
-  where
-    go : (i : ℕ) → (ltb i q ≡ true) ⊎ (leb n i ≡ true) → known σ i ≡ look ρ i
-    go i (left s) = given (k i (ltb→lt i q (rw s tt))) λ (v, e). e ∙ sym (known-look σ ρ i h e)
-    go i (right s) =
-        let z : n ≤ i = leb→le n i (rw s tt) in
-        let y : length σ ≡ length ρ = agree-length σ ρ h in
-        known-none σ i (omega arith) ∙ sym (look-none ρ i (omega arith))
-
 pub knows-full : (ρ : List Val) (i : ℕ) → i < length ρ → Knows (map some ρ) i
 knows-full [] i h = absurd (omega arith)
 knows-full (v ∷ ρ) i h = go (decLt i (length ρ)) (λ l. knows-full ρ i l)
@@ -142,26 +131,84 @@ knows-full (v ∷ ρ) i h = go (decLt i (length ρ)) (λ l. knows-full ρ i l)
     go (no l) s = let z : length (map some ρ) ≡ length ρ = agree-length (map some ρ) ρ (agree-full ρ) in knows-new v (map some ρ) i (omega arith)
 
 pub bound-both : (q : ℕ) (Γ : List Ty) (e b : Term) (σ σ′ : State) → Mono σ σ′ → Bound q Γ e σ → Bound q Γ b σ′
-    → (i : ℕ) (c : Ty) → look Γ i ≡ some c → isUnit c ≡ false → q ≤ i → (names i e || names i b) ≡ true → Knows σ′ i
-bound-both q Γ e b σ σ′ mo h h′ i c p u ql s = go (or-cases (names i e) (names i b) s)
+    → (i : ℕ) (c : Ty) → look Γ i ≡ some c → isUnit c ≡ false → q ≤ i → (usedIn i e || usedIn i b) ≡ true → Knows σ′ i
+bound-both q Γ e b σ σ′ mo h h′ i c p u ql s = go (or-cases (usedIn i e) (usedIn i b) s)
   where
-    go : (names i e ≡ true) ⊎ (names i b ≡ true) → Knows σ′ i
+    go : (usedIn i e ≡ true) ⊎ (usedIn i b ≡ true) → Knows σ′ i
     go (left x) = mo i (h i c p u ql x)
     go (right x) = h′ i c p u ql x
 
 pub bound-let : (q : ℕ) (Γ : List Ty) (e b : Term) (σ σ′ : State) → Mono σ σ′ → Bound q Γ e σ′ → Bound q Γ b σ
-    → (i : ℕ) (c : Ty) → look Γ i ≡ some c → isUnit c ≡ false → q ≤ i → (names i e || names i b) ≡ true → Knows σ′ i
-bound-let q Γ e b σ σ′ mo h h′ i c p u ql s = go (or-cases (names i e) (names i b) s)
+    → (i : ℕ) (c : Ty) → look Γ i ≡ some c → isUnit c ≡ false → q ≤ i → (usedIn i e || usedIn i b) ≡ true → Knows σ′ i
+bound-let q Γ e b σ σ′ mo h h′ i c p u ql s = go (or-cases (usedIn i e) (usedIn i b) s)
   where
-    go : (names i e ≡ true) ⊎ (names i b ≡ true) → Knows σ′ i
+    go : (usedIn i e ≡ true) ⊎ (usedIn i b ≡ true) → Knows σ′ i
     go (left x) = h i c p u ql x
     go (right x) = mo i (h′ i c p u ql x)
 
--- a branch binds what either branch names
+-- a branch binds what either branch uses
 pub bound-left : (q : ℕ) (Γ : List Ty) (b b′ : Term) (σ : State) → SameUse q Γ b b′ → Bound q Γ b σ
-    → (i : ℕ) (c : Ty) → look Γ i ≡ some c → isUnit c ≡ false → q ≤ i → (names i b || names i b′) ≡ true → Knows σ i
-bound-left q Γ b b′ σ su h i c p u ql s = h i c p u ql (or-same (names i b) (names i b′) (su i c p u ql) s)
+    → (i : ℕ) (c : Ty) → look Γ i ≡ some c → isUnit c ≡ false → q ≤ i → (usedIn i b || usedIn i b′) ≡ true → Knows σ i
+bound-left q Γ b b′ σ su h i c p u ql s = h i c p u ql (or-same (usedIn i b) (usedIn i b′) (su i c p u ql) s)
 
 pub bound-right : (q : ℕ) (Γ : List Ty) (b b′ : Term) (σ : State) → SameUse q Γ b b′ → Bound q Γ b′ σ
-    → (i : ℕ) (c : Ty) → look Γ i ≡ some c → isUnit c ≡ false → q ≤ i → (names i b || names i b′) ≡ true → Knows σ i
-bound-right q Γ b b′ σ su h i c p u ql s = h i c p u ql (sym (su i c p u ql) ∙ or-same (names i b) (names i b′) (su i c p u ql) s)
+    → (i : ℕ) (c : Ty) → look Γ i ≡ some c → isUnit c ≡ false → q ≤ i → (usedIn i b || usedIn i b′) ≡ true → Knows σ i
+bound-right q Γ b b′ σ su h i c p u ql s = h i c p u ql (sym (su i c p u ql) ∙ or-same (usedIn i b) (usedIn i b′) (su i c p u ql) s)
+
+----------------------------------------------------------------
+-- Variables that are lent (02, F-2)
+
+-- every variable of `M` is in scope, and known unless it is unit
+abbrev pub Lent : (ℕ → Bool) → List Ty → State → Type 0
+Lent M Γ σ = (i : ℕ) → M i ≡ true → (i < length Γ) × ((c : Ty) → look Γ i ≡ some c → isUnit c ≡ false → Knows σ i)
+
+pub lent-nothing : (Γ : List Ty) (σ : State) → Lent nothing Γ σ
+lent-nothing Γ σ i x = absurd (false≢true x)
+
+pub lent-push : (M : ℕ → Bool) (Γ : List Ty) (σ : State) (c : Ty) (m : Option Val) → Lent M Γ σ → Lent M (c ∷ Γ) (m ∷ σ)
+lent-push M Γ σ c m h i x = given (h i x) λ (l, k). (omega (arith, l), λ d p u. knows-push m σ i (k d (sym (look-skip Γ c i l) ∙ p) u))
+
+pub lent-grow : (M : ℕ → Bool) (Γ : List Ty) (σ σ′ : State) → Mono σ σ′ → Lent M Γ σ → Lent M Γ σ′
+lent-grow M Γ σ σ′ mo h i x = given (h i x) λ (l, k). (l, λ c p u. mo i (k c p u))
+
+-- once the body of a let ran back, its bound term is lent what the body uses
+pub lent-more : (M : ℕ → Bool) (q : ℕ) (Γ : List Ty) (b : Term) (σ : State) → ((i : ℕ) → i < q → Knows σ i) → Bound q Γ b σ
+    → Lent M Γ σ → Lent (lend M (length Γ) b) Γ σ
+lent-more M q Γ b σ anc bd h i = or-elim (M i) (ltb i (length Γ) && usedIn i b) (h i) λ x. given (and-both (ltb i (length Γ)) (usedIn i b) x) λ (l, y).
+    (ltb→lt i (length Γ) (rw l tt), λ c p u. go c p u y (decLt i q))
+  where
+    go : (c : Ty) → look Γ i ≡ some c → isUnit c ≡ false → usedIn i b ≡ true → Dec (i < q) → Knows σ i
+    go c p u y (yes x) = anc i x
+    go c p u y (no x) = bd i c p u (omega arith) y
+
+-- what a term may name that is run forward in a backward run, it reads as it is
+pub enough-filled : (M : ℕ → Bool) (q : ℕ) (Γ : List Ty) (σ : State) (ρ : List Val) → Agree σ ρ → OfTypes ρ Γ → ((i : ℕ) → i < q → Knows σ i) → Lent M Γ σ
+    → Enough (allowed M q (length Γ)) (filled σ) ρ
+enough-filled M q Γ σ ρ h env anc lent = (
+  length-filled σ ∙ agree-length σ ρ h,
+  λ i s. or-elim (inside q (length Γ) i) (M i) (or-elim (ltb i q) (leb (length Γ) i)
+      (λ x. met i (anc i (ltb→lt i q (rw x tt)))) (λ x. beyond i (leb→le (length Γ) i (rw x tt))))
+      (λ x. given (lent i x) λ (l, k). given (look-there Γ i l) λ (c, p). named i l c p (isUnit c) refl (k c p)) s,
+)
+  where
+    l₁ : length ρ ≡ length Γ
+    l₁ = types-length ρ Γ env
+
+    l₂ : length σ ≡ length ρ
+    l₂ = agree-length σ ρ h
+
+    -- a variable that is met
+    met : (i : ℕ) → Knows σ i → known (filled σ) i ≡ look ρ i
+    met i (v, e) = given (filled-read σ i (known-lt σ i (v, e))) λ (w, p, r). p ∙ ap some (sym (subst (λ o. Read o w) e r)) ∙ sym (known-look σ ρ i h e)
+
+    beyond : (i : ℕ) → length Γ ≤ i → known (filled σ) i ≡ look ρ i
+    beyond i l = known-none (filled σ) i (omega (arith, l, l₁, l₂, length-filled σ)) ∙ sym (look-none ρ i (omega (arith, l, l₁)))
+
+    named : (i : ℕ) → i < length Γ → (c : Ty) → look Γ i ≡ some c → (b : Bool) → isUnit c ≡ b → (isUnit c ≡ false → Knows σ i) → known (filled σ) i ≡ look ρ i
+    named i l c p false u k = met i (k u)
+    named i l c p true u k = at (known σ i) refl
+      where
+        at : (o : Option Val) → known σ i ≡ o → known (filled σ) i ≡ look ρ i
+        at (some v) e = met i (v, e)
+        at none e = given (filled-read σ i (omega (arith, l, l₁, l₂))) λ (w, x, r). given (look-there ρ i (omega (arith, l, l₁))) λ (v, y).
+            x ∙ ap some (sym (subst (λ o. Read o w) e r) ∙ unit-val v c u (env-look ρ Γ i v c env y p)) ∙ sym y

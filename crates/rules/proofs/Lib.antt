@@ -37,6 +37,7 @@ pub mod Forward
 pub mod Backward
 -- more fuel, room or size never changes an answer
 pub mod Monotone
+-- no more fuel is left than was given
 -- the claims, proved
 pub mod Theorems
 -- section 6's cases, by computation

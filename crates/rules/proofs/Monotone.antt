@@ -11,7 +11,8 @@ use package.Rattle.rules.specs.Val.{Val, unit, inl, inr, pair, roll, sam
 use package.Rattle.rules.specs.Term.{Term, var, tunit, tinl, tinr, tpair, tlet, tletp, tcase, tcall, troll, tunroll, Terms, end, more, entry, Fun, Program, nth, scope}
 use package.Rattle.rules.specs.Yield.{mayYield}
 use package.Rattle.rules.specs.Run.{Res, ok, stop, stuck, Run, after, give, enter, test}
-use package.Rattle.rules.specs.Machine.{onSum, onPair, onRoll, onUnit, onSome, State, known, bindOr, meet, leave, each, made, forwardStep, forward, backwardStep, backward, runBackward}
+use package.Rattle.rules.specs.Machine.{onSum, onPair, onRoll, onUnit, onSome, State, known, bindOr, meet, leave}
+use package.Rattle.rules.specs.Machine.{filled, each, made, forwardStep, forward, backwardStep, backward, runBackward}
 
 module _ {X : Type 0} (d : ℕ) where
   -- A run that answers `y`, with `d` more fuel and wider limits, has grown from one that answers the other: it answers the same,
@@ -176,7 +177,8 @@ module _ (fits fits′ : Val → Bool) (wider : (v : Val) → fits v ≡ true �
         grows-leave d σ₁ f _ _ λ w′ σ₂. grows-leave d σ₂ f _ _ λ w σ₃. G a σ₃ e (pair w w′) f
     grows-backward-step a σ (tcase k e b b′) v f = grows-after _ _ (G a (none ∷ σ) (cond (mayYield a b v) b b′) v f) λ σ₁ f.
         grows-leave d σ₁ f _ _ λ w σ₂. G a σ₂ e (cond (mayYield a b v) (inl w) (inr w)) f
-    grows-backward-step a σ (tcall k g ts e) v f = grows-some d (nth P g) f _ _ λ h. grows-after _ _ (grows-each (fw a σ) (fw′ a σ) (F a σ) ts f) λ vs f.
+    grows-backward-step a σ (tcall k g ts e) v f = grows-some d (nth P g) f _ _ λ h.
+        grows-after _ _ (grows-each (fw a (filled σ)) (fw′ a (filled σ)) (F a (filled σ)) ts f) λ vs f.
         grows-after _ _ (G (scope vs []) (none ∷ map some (scope vs [])) (h .body) v f) λ σ₁ f. grows-leave d σ₁ f _ _ λ w σ₂. G a σ e w f
     grows-backward-step a σ (troll k c e) v f = grows-roll d v f _ _ λ w. G a σ e w f
     grows-backward-step a σ (tunroll k c e) v f = G a σ e (roll v) f

@@ -9,8 +9,9 @@ use package.Rattle.rules.specs.Val.{Val, unit, inl, inr, pair, roll}
 use package.Rattle.rules.specs.Ty.{Ty, one, prod, sum, mu, tyvar}
 use package.Rattle.rules.specs.Term.{Term, Terms, var, tunit, tinl, tinr, tpair, tlet, tletp, tcase, tcall, troll, tunroll, end, more, entry, Fun, Program, nth, look, scope}
 use package.Rattle.rules.specs.Yield.{mayYield}
-use package.Rattle.rules.specs.Typing.{Binding, static, dynamic, barred, Context, bar}
-use package.Rattle.rules.specs.Check.{Site, term, function, Checked, good, bad, _>>=_, _>>_, need, asSum, asProd, asMu, asFun, visible, infer, inferArguments, checkFun, checkFuns, check}
+use package.Rattle.rules.specs.Typing.{Binding, static, dynamic, barred, Context, bar, mark}
+use package.Rattle.rules.specs.Check.{Site, term, function, Checked, good, bad, _>>=_, _>>_, need, asSum, asProd, asMu}
+use package.Rattle.rules.specs.Check.{asFun, visible, needNone, infer, inferArguments, checkFun, checkFuns, check}
 use package.Rattle.rules.specs.Run.{Res, ok, stop, stuck, Run, after, give, refuse, enter, test}
 use package.Rattle.rules.specs.Machine.{onSum, onPair, onRoll, onUnit, onSome, State, known, each, made, forwardStep, forward, runForward}
 
@@ -185,8 +186,14 @@ numbered-visible : (p : Site) (o : Option Binding) → Numbered (visible p o)
 unfolding visible
 numbered-visible p none = rejects seven
 numbered-visible p (some (static c)) = accepts
-numbered-visible p (some (dynamic c)) = accepts
-numbered-visible p (some (barred c)) = rejects eight
+numbered-visible p (some (dynamic m c)) = accepts
+numbered-visible p (some (barred true c)) = accepts
+numbered-visible p (some (barred false c)) = rejects eight
+
+numbered-none : (ks : List ℕ) → Numbered (needNone ks)
+unfolding needNone
+numbered-none [] = accepts
+numbered-none (k ∷ ks) = rejects eight
 
 module _ {Y : Type 0} where
   numbered-bind : {X : Type 0} {m : Checked X} (k : X → Checked Y) → Numbered m → ((x : X) → Numbered (k x)) → Numbered (m >>= k)
@@ -241,12 +248,14 @@ module _ (variables most : ℕ) (P : Program) where
     term-numbered Δ (tinl k c e) = numbered-sum (term k) c _ λ a b. numbered-bind _ (term-numbered Δ e) λ d. numbered-test _ (term k) six accepts
     term-numbered Δ (tinr k c e) = numbered-sum (term k) c _ λ a b. numbered-bind _ (term-numbered Δ e) λ d. numbered-test _ (term k) six accepts
     term-numbered Δ (tpair k e e′) = numbered-bind _ (term-numbered Δ e) λ a. numbered-bind _ (term-numbered Δ e′) λ b. numbered-test _ (term k) six accepts
-    term-numbered Δ (tlet k e b) = numbered-test _ (term k) seven (numbered-bind _ (term-numbered Δ e) λ c.
-        numbered-bind _ (term-numbered (dynamic c ∷ Δ) b) λ τ. numbered-test _ (term k) eight accepts)
-    term-numbered Δ (tletp k e b) = numbered-test _ (term k) seven (numbered-bind _ (term-numbered Δ e) λ p. numbered-prod (term k) p _ λ c d.
-        numbered-bind _ (term-numbered (dynamic d ∷ dynamic c ∷ Δ) b) λ τ. numbered-test _ (term k) eight accepts)
+    term-numbered Δ (tlet k e b) = numbered-test _ (term k) seven (numbered-bind _ (term-numbered (mark (λ i. true) Δ) e) λ c.
+        numbered-bind _ (term-numbered (dynamic false c ∷ Δ) b) λ τ. numbered-then (numbered-none _) accepts)
+    term-numbered Δ (tletp k e b) = numbered-test _ (term k) seven (numbered-bind _ (term-numbered (mark (λ i. true) Δ) e) λ p.
+        numbered-prod (term k) p _ λ c d.
+        numbered-bind _ (term-numbered (dynamic false d ∷ dynamic false c ∷ Δ) b) λ τ. numbered-then (numbered-none _) accepts)
     term-numbered Δ (tcase k e b b′) = numbered-test _ (term k) seven (numbered-bind _ (term-numbered Δ e) λ p. numbered-sum (term k) p _ λ c d.
-        numbered-bind _ (term-numbered (dynamic c ∷ Δ) b) λ τ. numbered-test _ (term k) eight (numbered-bind _ (term-numbered (dynamic d ∷ Δ) b′) λ τ′.
+        numbered-bind _ (term-numbered (dynamic false c ∷ Δ) b) λ τ.
+        numbered-test _ (term k) eight (numbered-bind _ (term-numbered (dynamic false d ∷ Δ) b′) λ τ′.
         numbered-test _ (term k) six (numbered-test _ (term k) eight accepts)))
     term-numbered Δ (tcall k g ts e) = numbered-fun (term k) (nth P g) _ λ h. numbered-test _ (term k) six
         (numbered-then (arguments-numbered k (bar Δ) ts (h .ancillae)) (numbered-bind _ (term-numbered Δ e) λ d. numbered-test _ (term k) six accepts))

@@ -13,7 +13,7 @@ use package.Rattle.rules.specs.Rules.{Judgement, All, e-end, e-more, Rul
 use package.Rattle.rules.specs.Typing.{dynamic}
 use package.Rattle.rules.proofs.OfType.{OfType, OfTypes, of-types-iff}
 use package.Rattle.rules.proofs.Basics.{given, none≢some, some-inj}
-use package.Rattle.rules.proofs.Directed.{Typed, TypedAll, TypedProgram}
+use package.Rattle.rules.proofs.Directed.{lend, nothing, Typed, TypedAll, TypedProgram}
 
 pub types-length : (ρ : List Val) (Γ : List Ty) → OfTypes ρ Γ → length ρ ≡ length Γ
 types-length [] [] h = refl
@@ -45,33 +45,37 @@ scope-ty (v ∷ vs) (c ∷ cs) ρ Γ h k = scope-ty vs cs (v ∷ ρ) (c ∷ Γ) 
 
 module _ (fits : Val → Bool) (P : Program) (W : TypedProgram P) where
   abbrev pub Keeps : Judgement → Type 0
-  Keeps R = (a ρ : List Val) (t : Term) (v : Val) (n : ℕ) → R a ρ t v n → (q : ℕ) (Γ : List Ty) (τ : Ty) → OfTypes ρ Γ → Typed P q Γ t τ → OfType v τ
+  Keeps R = (a ρ : List Val) (t : Term) (v : Val) (n : ℕ) → R a ρ t v n
+      → (q : ℕ) (M : ℕ → Bool) (Γ : List Ty) (τ : Ty) → OfTypes ρ Γ → Typed P q M Γ t τ → OfType v τ
 
   pub all-keeps : (R : Judgement) → Keeps R → (a ρ : List Val) (ts : Terms) (vs : List Val) (n : ℕ) → All (R a ρ) ts vs n
-      → (q : ℕ) (Γ : List Ty) (cs : List Ty) → OfTypes ρ Γ → TypedAll P q Γ ts cs → OfTypes vs cs
-  all-keeps R K a ρ ts vs n e-end q Γ cs h T = subst (OfTypes []) T tt
-  all-keeps R K a ρ ts vs n (e-more {v = w} {vs = ws} d ds) q Γ cs h (c, cs′, x, T, Ts) = subst (OfTypes (w ∷ ws)) x (K _ _ _ _ _ d q Γ c h T, all-keeps R K a ρ _ _ _ ds q Γ cs′ h Ts)
+      → (q : ℕ) (M : ℕ → Bool) (Γ : List Ty) (cs : List Ty) → OfTypes ρ Γ → TypedAll P q M Γ ts cs → OfTypes vs cs
+  all-keeps R K a ρ ts vs n e-end q M Γ cs h T = subst (OfTypes []) T tt
+  all-keeps R K a ρ ts vs n (e-more {v = w} {vs = ws} d ds) q M Γ cs h (c, cs′, x, T, Ts) =
+      subst (OfTypes (w ∷ ws)) x (K _ _ _ _ _ d q M Γ c h T, all-keeps R K a ρ _ _ _ ds q M Γ cs′ h Ts)
 
   step-keeps : (R : Judgement) → Keeps R → Keeps (Rule fits P R)
-  step-keeps R K a ρ t v n (e-var {i = i} x ft) q Γ τ h T = env-look ρ Γ i v τ h x T
-  step-keeps R K a ρ t v n (e-unit ft) q Γ τ h T = subst (OfType unit) T tt
-  step-keeps R K a ρ t v n (e-inl {v = w} d ft) q Γ τ h (a₁, b₁, x, y, T) = subst (OfType (inl w)) (x ∙ y) (K _ _ _ _ _ d q Γ a₁ h T)
-  step-keeps R K a ρ t v n (e-inr {v = w} d ft) q Γ τ h (a₁, b₁, x, y, T) = subst (OfType (inr w)) (x ∙ y) (K _ _ _ _ _ d q Γ b₁ h T)
-  step-keeps R K a ρ t v n (e-prod {v = v₁} {w = v₂} d d′ ft) q Γ τ h (a₁, b₁, x, T, T′) = subst (OfType (pair v₁ v₂)) x (K _ _ _ _ _ d q Γ a₁ h T, K _ _ _ _ _ d′ q Γ b₁ h T′)
-  step-keeps R K a ρ t v n (e-let d d′) q Γ τ h (a₁, T, T′, u) = K _ _ _ _ _ d′ q (a₁ ∷ Γ) τ (K _ _ _ _ _ d q Γ a₁ h T, h) T′
-  step-keeps R K a ρ t v n (e-letp d d′) q Γ τ h (a₁, b₁, T, T′, u, u′) =
-      given (K _ _ _ _ _ d q Γ (prod a₁ b₁) h T) λ (x, y). K _ _ _ _ _ d′ q (b₁ ∷ a₁ ∷ Γ) τ (y, (x, h)) T′
-  step-keeps R K a ρ t v n (e-casel d d′) q Γ τ h (a₁, b₁, T, T₁, T₂, u, u′, s) = K _ _ _ _ _ d′ q (a₁ ∷ Γ) τ (K _ _ _ _ _ d q Γ (sum a₁ b₁) h T, h) T₁
-  step-keeps R K a ρ t v n (e-caser d d′ y) q Γ τ h (a₁, b₁, T, T₁, T₂, u, u′, s) = K _ _ _ _ _ d′ q (b₁ ∷ Γ) τ (K _ _ _ _ _ d q Γ (sum a₁ b₁) h T, h) T₂
-  step-keeps R K a ρ t v n (e-app {g = j} {ts = ts} {e} {vs} {w = w} {h = fn} x ds d d′) q Γ τ h (fn′, y, Ts, T, z, i) =
+  step-keeps R K a ρ t v n (e-var {i = i} x ft) q M Γ τ h T = env-look ρ Γ i v τ h x T
+  step-keeps R K a ρ t v n (e-unit ft) q M Γ τ h T = subst (OfType unit) T tt
+  step-keeps R K a ρ t v n (e-inl {v = w} d ft) q M Γ τ h (a₁, b₁, x, y, T) = subst (OfType (inl w)) (x ∙ y) (K _ _ _ _ _ d q M Γ a₁ h T)
+  step-keeps R K a ρ t v n (e-inr {v = w} d ft) q M Γ τ h (a₁, b₁, x, y, T) = subst (OfType (inr w)) (x ∙ y) (K _ _ _ _ _ d q M Γ b₁ h T)
+  step-keeps R K a ρ t v n (e-prod {v = v₁} {w = v₂} d d′ ft) q M Γ τ h (a₁, b₁, x, T, T′) =
+      subst (OfType (pair v₁ v₂)) x (K _ _ _ _ _ d q M Γ a₁ h T, K _ _ _ _ _ d′ q M Γ b₁ h T′)
+  step-keeps R K a ρ t v n (e-let {b = b} d d′) q M Γ τ h (a₁, T, T′, u) = K _ _ _ _ _ d′ q M (a₁ ∷ Γ) τ (K _ _ _ _ _ d q (lend M (length Γ) b) Γ a₁ h T, h) T′
+  step-keeps R K a ρ t v n (e-letp {b = b} d d′) q M Γ τ h (a₁, b₁, T, T′, u, u′) =
+      given (K _ _ _ _ _ d q (lend M (length Γ) b) Γ (prod a₁ b₁) h T) λ (x, y). K _ _ _ _ _ d′ q M (b₁ ∷ a₁ ∷ Γ) τ (y, (x, h)) T′
+  step-keeps R K a ρ t v n (e-casel d d′) q M Γ τ h (a₁, b₁, T, T₁, T₂, u, u′, s) = K _ _ _ _ _ d′ q M (a₁ ∷ Γ) τ (K _ _ _ _ _ d q M Γ (sum a₁ b₁) h T, h) T₁
+  step-keeps R K a ρ t v n (e-caser d d′ y) q M Γ τ h (a₁, b₁, T, T₁, T₂, u, u′, s) = K _ _ _ _ _ d′ q M (b₁ ∷ Γ) τ (K _ _ _ _ _ d q M Γ (sum a₁ b₁) h T, h) T₂
+  step-keeps R K a ρ t v n (e-app {g = j} {ts = ts} {e} {vs} {w = w} {h = fn} x ds d d′) q M Γ τ h (fn′, y, Ts, T, z, i) =
       given (some-inj (sym y ∙ x)) λ same.
       subst (OfType w) (ap (λ (f : Fun). f .result) (sym same) ∙ z)
-      (K _ _ _ _ _ d′ _ _ _ (
-        K _ _ _ _ _ d q Γ _ h (subst (λ (f : Fun). Typed P q Γ e (f .dynamic)) same T),
-        scope-ty vs (fn .ancillae) [] [] (all-keeps R K a ρ _ vs _ ds q Γ _ h (subst (λ (f : Fun). TypedAll P q Γ ts (f .ancillae)) same Ts)) tt,
+      (K _ _ _ _ _ d′ _ nothing _ _ (
+        K _ _ _ _ _ d q M Γ _ h (subst (λ (f : Fun). Typed P q M Γ e (f .dynamic)) same T),
+        scope-ty vs (fn .ancillae) [] []
+            (all-keeps R K a ρ _ vs _ ds (length Γ) M Γ _ h (subst (λ (f : Fun). TypedAll P (length Γ) M Γ ts (f .ancillae)) same Ts)) tt,
       ) (W j fn x .0))
-  step-keeps R K a ρ t v n (e-roll {v = w} d ft) q Γ τ h (a₁, x, y, T) = subst (OfType (roll w)) (x ∙ y) (K _ _ _ _ _ d q Γ (unfoldTy a₁) h T)
-  step-keeps R K a ρ t v n (e-unroll {v = w} d ft) q Γ τ h (a₁, x, y, T) = subst (OfType w) y (subst (OfType (roll w)) (sym x) (K _ _ _ _ _ d q Γ _ h T))
+  step-keeps R K a ρ t v n (e-roll {v = w} d ft) q M Γ τ h (a₁, x, y, T) = subst (OfType (roll w)) (x ∙ y) (K _ _ _ _ _ d q M Γ (unfoldTy a₁) h T)
+  step-keeps R K a ρ t v n (e-unroll {v = w} d ft) q M Γ τ h (a₁, x, y, T) = subst (OfType w) y (subst (OfType (roll w)) (sym x) (K _ _ _ _ _ d q M Γ _ h T))
 
   pub preserve : (r : ℕ) → Keeps (Ev fits P r)
   preserve zero a ρ t v n d = absurd d

@@ -1,7 +1,8 @@
 -- Laws of scopes: which variables a scope has.
 use Prim.Native.Nat.{ℕ, suc, _+_, _≤_, _<_}
 use native.Mathlib.Omega.{arith}
-use mathlib.Core.Path.{_≡_, refl}
+use native.Mathlib.Decide.{decLt}
+use mathlib.Core.Path.{_≡_, refl, ap, _∙_}
 use mathlib.Core.Bool.{Bool, true, false, cond}
 use mathlib.Core.Option.{Option, none, some}
 use mathlib.Core.List.{List, [], _∷_}
@@ -38,3 +39,12 @@ pub length-scope : {A : Type 0} (xs ys : List A) → length (scope xs ys) ≡ le
 unfolding scope
 length-scope [] ys = omega arith
 length-scope (x ∷ xs) ys = let z : length (scope xs (x ∷ ys)) ≡ length xs + suc (length ys) = length-scope xs (x ∷ ys) in omega arith
+
+pub look-there : {A : Type 0} (ρ : List A) (i : ℕ) → i < length ρ → (v : A) × (look ρ i ≡ some v)
+unfolding look
+look-there [] i l = absurd (omega arith)
+look-there {A} (v ∷ ρ) i l = go (decLt i (length ρ)) (look-there ρ i)
+  where
+    go : Dec (i < length ρ) → (i < length ρ → (v : A) × (look ρ i ≡ some v)) → (w : A) × (look (v ∷ ρ) i ≡ some w)
+    go (yes x) s = (s x .0, look-skip ρ v i x ∙ s x .1)
+    go (no x) s = (v, ap (look (v ∷ ρ)) (let e : i ≡ length ρ = omega arith in e) ∙ look-newest v ρ)

@@ -1,7 +1,9 @@
 -- Laws of states: what a state says of a scope, and how a state changes where a variable is met or leaves.
-use Prim.Native.Nat.{ℕ, suc}
+use Prim.Native.Nat.{ℕ, suc, _<_}
+use native.Mathlib.Omega.{arith}
+use native.Mathlib.Decide.{ℕ-discrete}
 use mathlib.Core.Path.{_≡_, refl, sym, ap, ap₂, subst, _∙_}
-use mathlib.Core.Bool.{Bool, true, false, cond}
+use mathlib.Core.Bool.{Bool, true, false, cond, false≢true}
 use mathlib.Core.Option.{Option, none, some}
 use mathlib.Core.List.{List, [], _∷_, map}
 use lib.ListN.{length}
@@ -9,8 +11,8 @@ use lib.Dec.{eqb}
 use package.Rattle.rules.specs.Val.{Val, unit, same}
 use package.Rattle.rules.specs.Term.{look}
 use package.Rattle.rules.specs.Run.{ok, Run, _>>=_, give}
-use package.Rattle.rules.specs.Machine.{State, known, bindOr, meet, leave}
-use package.Rattle.rules.proofs.Basics.{none≢some}
+use package.Rattle.rules.specs.Machine.{State, known, bindOr, meet, leave, filled}
+use package.Rattle.rules.proofs.Basics.{none≢some, eqb-yes}
 use package.Rattle.rules.proofs.Run.{unbind, stuck≢ok, ok-value, ok-fuel, test-inv}
 use package.Rattle.rules.proofs.Val.{same-eq}
 
@@ -138,3 +140,38 @@ meet-sound k (m ∷ σ) i v f σ′ g p ρ h = go (eqb i (length σ)) refl p (λ
     go false e q s =
         let (σ₁, f₁, p₁, q₁) = unbind _ _ q in
         old σ₁ ρ e (subst (λ σ′. Agree σ′ ρ) (sym (ok-value q₁)) h) (λ ρ₁ h₁. let (x, y, z) = s σ₁ f₁ p₁ ρ₁ h₁ in (x, y, z ∙ ok-fuel q₁))
+
+----------------------------------------------------------------
+-- What a term reads that is run forward in a backward run (02, F-2)
+
+pub length-filled : (σ : State) → length (filled σ) ≡ length σ
+unfolding filled
+length-filled [] = refl
+length-filled (none ∷ σ) = ap suc (length-filled σ)
+length-filled (some v ∷ σ) = ap suc (length-filled σ)
+
+-- what is known, or unit
+abbrev pub Read : Option Val → Val → Type 0
+Read none v = unit ≡ v
+Read (some w) v = w ≡ v
+
+filled-step : (m : Option Val) (w : Val) (σ : State) (i : ℕ) → Read m w → i < suc (length σ)
+    → (i < length σ → (v : Val) × (known (filled σ) i ≡ some v) × Read (known σ i) v)
+    → (v : Val) × (known (some w ∷ filled σ) i ≡ some v) × Read (known (m ∷ σ) i) v
+unfolding known
+filled-step m w σ i r l s = subst (λ n. (v : Val) × (cond (eqb i n) (some w) (known (filled σ) i) ≡ some v) × Read (cond (eqb i (length σ)) m (known σ i)) v)
+    (sym (length-filled σ)) (go (eqb i (length σ)) refl)
+  where
+    go : (b : Bool) → eqb i (length σ) ≡ b → (v : Val) × (cond b (some w) (known (filled σ) i) ≡ some v) × Read (cond b m (known σ i)) v
+    go true e = (w, refl, r)
+    go false e = s (older (ℕ-discrete i (length σ)) e)
+      where
+        older : Dec (i ≡ length σ) → eqb i (length σ) ≡ false → i < length σ
+        older (yes x) e = absurd (false≢true (sym e ∙ ap (λ n. eqb n (length σ)) x ∙ eqb-yes (length σ)))
+        older (no x) e = omega arith
+
+pub filled-read : (σ : State) (i : ℕ) → i < length σ → (v : Val) × (known (filled σ) i ≡ some v) × Read (known σ i) v
+unfolding filled
+filled-read [] i l = absurd (omega arith)
+filled-read (none ∷ σ) i l = filled-step none unit σ i refl l (filled-read σ i)
+filled-read (some w ∷ σ) i l = filled-step (some w) w σ i refl l (filled-read σ i)

@@ -5,14 +5,21 @@ use package.Rattle.rules.specs.Val.{size, same}
 use package.Rattle.rules.specs.Ty.{plug, unfoldTy, nodes, sameTy}
 use package.Rattle.rules.specs.Term.{entry, count, nth, look, scope}
 use package.Rattle.rules.specs.Yield.{mayBe, mayYield}
-use package.Rattle.rules.specs.Typing.{barOne, bar}
-use package.Rattle.rules.specs.Check.{_>>=_, _>>_, need, asSum, asProd, asMu, asFun, visible, spent, mustUse, sameUse, room, small, infer, inferArguments, statics, checkFun, checkFuns, check}
+use package.Rattle.rules.specs.Typing.{barOne, bar, markOne, mark}
+use package.Rattle.rules.specs.Check.{_>>=_, _>>_, need, asSum, asProd, asMu, asFun, visible, isDynamic, marked}
+use package.Rattle.rules.specs.Check.{onward, late, waits, waitsAll, unless, lowest, needNone, spent, mustUse, sameUse}
+use package.Rattle.rules.specs.Check.{room, small, infer, inferArguments, statics, checkFun, checkFuns, check}
 use package.Rattle.rules.specs.Run.{after, enter, test}
-use package.Rattle.rules.specs.Machine.{onSum, onPair, onRoll, onUnit, onSome, known, bindOr, meet, leave, each, made, forwardStep, forward, backwardStep, backward, runForward, runBackward}
+use package.Rattle.rules.specs.Machine.{onSum, onPair, onRoll, onUnit, onSome, known, bindOr, meet, leave, filled, each}
+use package.Rattle.rules.specs.Machine.{made, forwardStep, forward, backwardStep, backward, runForward, runBackward}
 use package.Rattle.rules.specs.Cases.{num, lets, crowded, TreeTable}
 
 pub table : TreeTable
-unfolding check checkFuns checkFun statics infer inferArguments sameTy nodes need asSum asProd asMu asFun visible room small spent mustUse sameUse bar barOne _>>_ _>>=_ count unfoldTy plug fits maxValueBytes maxHeight num runForward runBackward forward backward scope mayYield mayBe size same after enter test look entry nth onSome known each bindOr meet leave made forwardStep backwardStep onSum onPair onRoll onUnit lets crowded
+unfolding check checkFuns checkFun statics infer inferArguments isDynamic marked onward late waits waitsAll unless lowest
+    needNone markOne mark sameTy nodes need asSum asProd asMu asFun visible room small
+    spent mustUse sameUse bar barOne _>>_ _>>=_ count unfoldTy plug fits maxValueBytes maxHeight
+    num runForward runBackward forward backward scope mayYield mayBe size same after enter test look entry nth
+    onSome known each bindOr meet leave filled made forwardStep backwardStep onSum onPair onRoll onUnit lets crowded
 table = record {
   typed = refl;
   p1 = refl;
@@ -43,6 +50,39 @@ table = record {
   left-typed = refl;
   left-inl = refl;
   left-inr = refl;
+  steer-typed = refl;
+  steer-forward = refl;
+  steer-back = refl;
+  steer-none = refl;
+  nested-typed = refl;
+  nested-forward = refl;
+  nested-back = refl;
+  steer-lost = refl;
+  steer-late = refl;
+  steer-unused = refl;
+  steer-both = refl;
+  split-typed = refl;
+  split-forward = refl;
+  split-back = refl;
+  split-unused = refl;
+  split-both = refl;
+  split-late = refl;
+  steer-pair = refl;
+  steer-two = refl;
+  steer-case = refl;
+  steer-argument = refl;
+  steer-unit = refl;
+  inside-typed = refl;
+  inside-forward = refl;
+  inside-back = refl;
+  unmet-typed = refl;
+  unmet-forward = refl;
+  unmet-left = refl;
+  unmet-back = refl;
+  choosy-typed = refl;
+  stray-refused = refl;
+  stray-back = refl;
+  stray-forward = refl;
   order-left = refl;
   order-let = refl;
 }

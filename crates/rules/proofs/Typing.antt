@@ -10,8 +10,12 @@ pub mod Uses
 pub mod Functions
 -- sets of variables up to dynamic ones of type unit
 pub mod Weaken
--- the dynamic variables that a term names
-pub mod Named
+-- the dynamic variables that a term uses
+pub mod Least
+-- contexts with fewer marks, and how namings are settled after the body of a let
+pub mod Namings
+-- the namings that wait in a term, from those of its parts
+pub mod Waiting
 -- what holds of every answer of typing that is no refusal
 pub mod Pass
 -- what typing as a function accepts, the rules type

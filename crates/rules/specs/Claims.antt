@@ -2,17 +2,17 @@
 -- Limits are parameters: `variables` in scope, `most` nodes of a type, `fits` of a value, height `r`, fuel `f`.
 use Prim.Native.Nat.{ℕ, _+_, _≤_}
 use mathlib.Core.Path.{_≡_}
-use mathlib.Core.Bool.{Bool, true, false}
+use mathlib.Core.Bool.{Bool, true, false, _||_}
 use mathlib.Core.Option.{some}
 use mathlib.Core.List.{List, [], _∷_, _++_}
 use mathlib.Core.Logic.{_⊎_, _↔_}
 use package.Rattle.rules.specs.Val.{Val}
 use package.Rattle.rules.specs.Ty.{Ty, isUnit, HasTy, HasTys}
-use package.Rattle.rules.specs.Term.{Term, tcase, Fun, Program, nth, look, scope}
+use package.Rattle.rules.specs.Term.{Term, var, tcase, Fun, Program, nth, look, scope, usedIn}
 use package.Rattle.rules.specs.Yield.{mayYield}
 use package.Rattle.rules.specs.Rules.{Ev}
-use package.Rattle.rules.specs.Typing.{dynamic, Context, Vars, Types, _∶_, WellTyped}
-use package.Rattle.rules.specs.Check.{good, names, infer, check}
+use package.Rattle.rules.specs.Typing.{dynamic, Context, Vars, bar, mark, Types, _∶_, WellTyped}
+use package.Rattle.rules.specs.Check.{good, infer, check}
 use package.Rattle.rules.specs.Run.{ok, stop, stuck, Run}
 use package.Rattle.rules.specs.Machine.{runForward, runBackward}
 
@@ -35,8 +35,14 @@ module _ (variables most : ℕ) (P : Program) where
 
   -- Section 3: both branches of a case use the same outer dynamic variables, but for units.
   abbrev pub BranchesUseTheSame : Type 0
-  BranchesUseTheSame = (Δ : Context) (U : Vars) (k i : ℕ) (e b b′ : Term) (τ c : Ty) → Types variables most P Δ U (tcase k e b b′ ∶ τ)
-      → look Δ i ≡ some (dynamic c) → isUnit c ≡ false → names i b ≡ names i b′
+  BranchesUseTheSame = (Δ : Context) (U : Vars) (m : Bool) (k i : ℕ) (e b b′ : Term) (τ c : Ty) → Types variables most P Δ U (tcase k e b b′ ∶ τ)
+      → look Δ i ≡ some (dynamic m c) → isUnit c ≡ false → usedIn i b ≡ usedIn i b′
+
+  -- Document 02, F-2: in the bound term of a let with body `b`, an ancilla argument may name a dynamic variable exactly if the body uses
+  -- it, or if one might name it already, because a let further out helps.
+  abbrev pub NamedWhereUsed : Type 0
+  NamedWhereUsed = (Δ : Context) (m : Bool) (k i : ℕ) (b : Term) (τ : Ty) → look Δ i ≡ some (dynamic m τ)
+      → ((U : Vars) × Types variables most P (bar (mark (λ j. usedIn j b) Δ)) U (var k i ∶ τ)) ↔ ((m || usedIn i b) ≡ true)
 
 ----------------------------------------------------------------
 -- Runs
@@ -79,11 +85,6 @@ module _ (P : Program) where
   StepsAreTheRules = (fits fits′ : Val → Bool) (r r′ : ℕ) (h : Fun) (vs : List Val) (v w w′ : Val) (f f′ g g′ : ℕ)
       → runForward fits P r h vs v f ≡ ok w g → runForward fits′ P r′ h vs v f′ ≡ ok w′ g′ → (w ≡ w′) × (f + g′ ≡ f′ + g)
 
-  -- What backward answers, forward carries to the value, in the same steps, with the same fuel and limits (no typing needed).
-  abbrev pub BackwardThenForward : Type 0
-  BackwardThenForward = (fits : Val → Bool) (r : ℕ) (h : Fun) (vs : List Val) (v w : Val) (f g : ℕ)
-      → runBackward fits P r h vs w f ≡ ok v g → runForward fits P r h vs v f ≡ ok w g
-
 ----------------------------------------------------------------
 -- Runs of typed programs
 
@@ -91,6 +92,13 @@ module _ (variables most : ℕ) (P : Program) where
   -- A claim of every function `h` of a well-typed program, with ancillae `vs` of their types.
   abbrev pub OfTyped : (Fun → List Val → Type 0) → Type 0
   OfTyped C = WellTyped variables most P → (j : ℕ) (h : Fun) → nth P j ≡ some h → (vs : List Val) → HasTys vs (h .ancillae) → C h vs
+
+  -- What backward answers, forward carries to the value, in the same steps, with the same fuel and limits: half of
+  -- TreeBackwardIffForward, kept by its name. Since F-2 it asks for typing: in a program that is not typed, what an ancilla argument names
+  -- may come back later than it is read, and otherwise (Cases, `stray`), and so may a unit of a value that is not of the result type.
+  abbrev pub BackwardThenForward : Type 0
+  BackwardThenForward = OfTyped λ h vs. (fits : Val → Bool) (r : ℕ) (v w : Val) (f g : ℕ) → HasTy w (h .result)
+      → runBackward fits P r h vs w f ≡ ok v g → runForward fits P r h vs v f ≡ ok w g
 
   -- Demand 2: backward gives an input, with `g` of its fuel left, exactly if the rules carry it to the value in the steps between.
   abbrev pub TreeBackwardIffRules : Type 0

@@ -59,6 +59,12 @@ leave [] k = lost
 leave (none ∷ σ) k = k unit σ
 leave (some v ∷ σ) k = k v σ
 
+-- what a term that is run forward in a backward run reads: a variable not met so far is unit (02, F-2)
+unfoldable pub filled : State → State
+filled [] = []
+filled (none ∷ σ) = some unit ∷ filled σ
+filled (some v ∷ σ) = some v ∷ filled σ
+
 -- argument terms in order, by the run `go` of one
 unfoldable pub each : (Term → Run Val) → Terms → Run (List Val)
 each go end = give []
@@ -140,7 +146,7 @@ module _ (fits : Val → Bool) (P : Program) where
     leave σ₁ λ w σ₂. go a σ₂ e (cond (mayYield a b v) (inl w) (inr w))
   -- the ancilla terms forward, the body backward, the dynamic term backward
   backwardStep fw go a σ (tcall k g ts e) v = onSome (nth P g) λ h. do
-    vs ← each (fw a σ) ts
+    vs ← each (fw a (filled σ)) ts
     σ₁ ← go (scope vs []) (none ∷ map some (scope vs [])) (h .body) v
     leave σ₁ λ w σ₂. go a σ e w
   backwardStep fw go a σ (troll k c e) v = onRoll v (go a σ e)

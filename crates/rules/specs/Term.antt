@@ -1,6 +1,6 @@
 -- Terms with their entry numbers, functions, programs, and what is in scope (section 1; Fig. 1 of the source).
 use Prim.Native.Nat.{ℕ, zero, suc}
-use mathlib.Core.Bool.{cond}
+use mathlib.Core.Bool.{Bool, false, _||_, cond}
 use mathlib.Core.Option.{Option, none, some}
 use mathlib.Core.List.{List, [], _∷_}
 use lib.ListN.{length}
@@ -72,3 +72,22 @@ look (x ∷ xs) i = cond (eqb i (length xs)) (some x) (look xs i)
 unfoldable pub scope : {A : Type 0} → List A → List A → List A
 scope [] ρ = ρ
 scope (v ∷ vs) ρ = scope vs (v ∷ ρ)
+
+----------------------------------------------------------------
+-- Which variables a term uses
+
+-- Does the term use variable `i`, bound outside it: does it stand in the term with no ancilla argument of the term around it? What stands
+-- in one is named, which is no use (02, F-2). Of a term inside an ancilla argument this tells of variables from outside that argument
+-- too, which are named there: those who ask leave them out (Typing, `markOne`; Check, `mustUse`, `helps`).
+abbrev pub usedIn : ℕ → Term → Bool
+usedIn i (var k j) = eqb i j
+usedIn i (tunit k) = false
+usedIn i (tinl k c e) = usedIn i e
+usedIn i (tinr k c e) = usedIn i e
+usedIn i (tpair k e e′) = usedIn i e || usedIn i e′
+usedIn i (tlet k e b) = usedIn i e || usedIn i b
+usedIn i (tletp k e b) = usedIn i e || usedIn i b
+usedIn i (tcase k e b b′) = usedIn i e || (usedIn i b || usedIn i b′)
+usedIn i (tcall k g ts e) = usedIn i e
+usedIn i (troll k c e) = usedIn i e
+usedIn i (tunroll k c e) = usedIn i e

@@ -74,8 +74,6 @@ module _ {xs terms functions heap : List ℕ} {g : ℕ} {anc bytes : List ℕ} {
         rows = rows R D;
         bodies = bodies;
         graph = B .graph;
-        some = B .unit-there .0;
-        unit-there = B .unit-there .1;
         nodes = omega (arith, nodes-room R D B);
         small = omega (arith, nodes-cells R D B (omega arith));
         variables = omega arith;

@@ -23,20 +23,20 @@ use package.Rattle.valuebytes.specs.Ends.{valueIn, valuesIn}
 use package.Rattle.valuebytes.proofs.Walks.{Begins, walk-start, walk-done, walk-more, walk-first, walk-inside, walk-next}
 use package.Rattle.scopes.specs.Slots.{slotCount}
 use package.Rattle.forward.specs.Ready.{Graph, valuesAt}
+use package.Rattle.forward.proofs.Making.{graph-later}
 use package.Rattle.runs.specs.declared.begin.Start.{Start}
 use package.Rattle.runs.specs.Begun.{startNodes, Enough, Beginning, AncillaeLoaded, Begun}
 
--- every node of a heap that is right has a value within the limit
-graph-of : {heap : List ℕ} {top : ℕ} → Heap heap top → Graph heap top
-graph-of h = record { right = h; short = λ n l. h .node n l .fit }
+-- the first node, which is the unit
+first-node : {heap heap₁ : List ℕ} → Grown heap heap₁ 0 unit → Graph heap₁ 1
+first-node g = record { right = g .right; short = λ n l. g .right .node n l .fit; some = omega arith; unit-there = g .value }
 
 ----------------------------------------------------------------
 -- One value more
 
 -- nodes below `top`, `k` slots that hold some of them, and the values that they have
 pub record Held (heap slots : List ℕ) (vs : List Val) (k top : ℕ) : Type 0 where
-  pub right : Heap heap top
-  pub unit-there : (0 < top) × (valueAt heap 0 ≡ unit)
+  pub graph : Graph heap top
   pub held : (i : ℕ) → i < k → getD slots i 0 < top
   pub values : (i : ℕ) → i < k → valueAt heap (getD slots i 0) ≡ getD vs i unit
 
@@ -45,11 +45,10 @@ module _ {heap heap′ slots : List ℕ} {vs : List Val} {k top : ℕ} (h : Held
   held-more : {node top′ : ℕ} → k < length slots → Heap heap′ top′ → top ≤ top′ → node < top′ → valueAt heap′ node ≡ getD vs k unit
       → Held heap′ (set slots k node) vs (suc k) top′
   held-more {node} {top′} room right le low v = record {
-    right = right;
-    unit-there = (omega (arith, h .unit-there .0), sym (value-kept heap heap′ top (h .right) agree 0 (h .unit-there .0)) ∙ h .unit-there .1);
+    graph = graph-later (h .graph) agree right le;
     held = λ i l. at-slot (λ i n. n < top′) (λ i l. omega (arith, h .held i l)) low i l;
     values = λ i l. at-slot (λ i n. valueAt heap′ n ≡ getD vs i unit)
-        (λ i l. sym (value-kept heap heap′ top (h .right) agree _ (h .held i l)) ∙ h .values i l) v i l;
+        (λ i l. sym (value-kept heap heap′ top (h .graph .right) agree _ (h .held i l)) ∙ h .values i l) v i l;
   }
     where
       at-slot : (P : ℕ → ℕ → Type 0) → ((i : ℕ) → i < k → P i (getD slots i 0)) → P k node → (i : ℕ) → i < suc k → P i (getD (set slots k node) i 0)
@@ -106,8 +105,7 @@ module _ {heap slots anc heap₁ heap₂ : List ℕ} {top : ℕ} (E : Enough hea
         subst (λ (at : ℕ). Begins anc (valuesIn anc) 0 at) z (walk-start anc (E .read));
     counted = omega arith;
     nodes = record {
-      right = L .right;
-      unit-there = (omega (arith, L .nodes), sym (value-kept heap₁ heap₂ 1 (g .right) (L .agree) 0 (omega arith)) ∙ g .value);
+      graph = graph-later (first-node g) (L .agree) (L .right) (omega (arith, L .nodes));
       held = λ i l. absurd (omega arith);
       values = λ i l. absurd (omega arith);
     };
@@ -117,10 +115,9 @@ module _ {heap slots anc heap₁ heap₂ : List ℕ} {top : ℕ} (E : Enough hea
 module _ {heap slots₀ slots anc : List ℕ} {k node top : ℕ} (N : Named heap slots₀ slots anc k node top) where
   pub named-done : node ≤ 0 → {before : List ℕ} → length before ≡ length heap → AncillaeLoaded before heap slots₀ slots anc (record { count = k; top = top })
   named-done h e = record {
-    graph = graph-of (N .nodes .right);
+    graph = N .nodes .graph;
     nodes = omega (arith, N .loaded .nodes);
     count = omega (arith, walk-done (N .begins) (omega arith), N .counted);
-    unit-there = N .nodes .unit-there .1;
     held = N .nodes .held;
     values = N .nodes .values;
     heap-length = e;
@@ -183,8 +180,8 @@ module _ {heap slots₀ slots anc : List ℕ} {k node top : ℕ} (N : Named heap
       inside = omega (arith, N .inside);
       begins = walk-next (N .begins) there (omega (arith, e, long, named-length, N .inside));
       counted = omega (arith, there);
-      nodes = held-more (N .nodes) (agree-refl top heap) (omega (arith, there, N .enough .few, N .enough .slots-there, N .slots-length)) (N .nodes .right)
-          (omega arith) named-low is;
+      nodes = held-more (N .nodes) (agree-refl top heap) (omega (arith, there, N .enough .few, N .enough .slots-there, N .slots-length))
+          (N .nodes .graph .right) (omega arith) named-low is;
       slots-length = N .slots-length ∙ sym (length-set slots k node);
     })
 
@@ -248,8 +245,7 @@ module _ {heap slots anc bytes : List ℕ} (B : Beginning heap slots anc bytes) 
 
     earlier : Held heap₁ slots₁ all (start .count) (start .top)
     earlier = record {
-      right = A .graph .right;
-      unit-there = (omega (arith, A .nodes), A .unit-there);
+      graph = A .graph;
       held = A .held;
       values = λ i l. A .values i l ∙ sym (all-before i l);
     }
@@ -272,10 +268,9 @@ module _ {heap slots anc bytes : List ℕ} (B : Beginning heap slots anc bytes) 
       begun-set : Begun heap heap′ slots slots′ anc bytes (record { count = start .count; top = top })
       unfolding startNodes maxAncillaBytes maxValueBytes
       begun-set = record {
-        graph = graph-of (now .right);
+        graph = now .graph;
         few = omega (arith, A .nodes, few-bytes, d .nodes, value-short);
         count = A .count;
-        unit-there = now .unit-there;
         held = λ i l. now .held i (omega arith);
         values = ap (valuesAt heap′ slots′ 0) (A .count) ∙ values-are heap′ slots′ (valuesIn anc) 0 λ i l.
             ap (λ i. valueAt heap′ (getD slots′ i 0)) (let z : 0 + i ≡ i = omega arith in z)

@@ -34,7 +34,6 @@ pub record AncillaeLoaded (heap heap′ slots slots′ anc : List ℕ) (r : Star
   pub graph : Graph heap′ (r .top)
   pub nodes : r .top ≡ 1 + length anc
   pub count : r .count ≡ length (valuesIn anc)
-  pub unit-there : valueAt heap′ 0 ≡ unit
   pub held : (i : ℕ) → i < r .count → getD slots′ i 0 < r .top
   pub values : (i : ℕ) → i < r .count → valueAt heap′ (getD slots′ i 0) ≡ getD (valuesIn anc) i unit
   pub heap-length : length heap ≡ length heap′
@@ -45,7 +44,6 @@ pub record Begun (heap heap′ slots slots′ anc bytes : List ℕ) (r : Start) 
   pub graph : Graph heap′ (r .top)
   pub few : r .top ≤ startNodes
   pub count : r .count ≡ length (valuesIn anc)
-  pub unit-there : (0 < r .top) × (valueAt heap′ 0 ≡ unit)
   pub held : (i : ℕ) → i ≤ r .count → getD slots′ i 0 < r .top
   pub values : valuesAt heap′ slots′ 0 (r .count) ≡ valuesIn anc
   pub last : valueAt heap′ (getD slots′ (r .count) 0) ≡ valueIn bytes

@@ -1,11 +1,13 @@
 -- Laws of slots: what a slot's number says, which slot a variable has, and what stays where the heap has grown.
 use Prim.Native.Nat.{ℕ, _+_, _-_, _<_, _≤_}
 use native.Mathlib.Omega.{arith}
-use mathlib.Core.Path.{_≡_, sym, ap, _∙_}
+use mathlib.Core.Path.{_≡_, refl, sym, ap, _∙_}
+use mathlib.Core.Bool.{Bool, true, false}
 use mathlib.Core.Logic.{⊎-elim, inl as left, inr as right}
 use mathlib.Core.List.{List}
 use lib.ListN.{getD}
-use borrow.Author.Tests.{eq-eqb, ne-eqb, lt-ltb, le-ltb}
+use lib.Dec.{eqb}
+use borrow.Author.Tests.{eq-eqb, ne-eqb, eqb-true, eqb-false, lt-ltb, le-ltb}
 use package.Rattle.valuegraph.specs.Nodes.{leftAt, Room, Heap, Agree}
 use package.Rattle.valuegraph.proofs.Places.{agree-left}
 use package.Rattle.scopes.specs.Slots.{unknown, found, nodeOr, slotAt, Slot, Slots}
@@ -27,7 +29,8 @@ pub found-cell : (heap : List ℕ) (s : ℕ) → unknown < s → found heap s �
 unfolding found
 found-cell heap s l = rw (found, le-ltb s unknown (omega arith), ne-eqb s unknown (λ e. omega arith))
 
-pub slot-in : (heap slots : List ℕ) (base n i : ℕ) → i < n → slotAt heap slots base n i ≡ found heap (getD slots (base + i) 0)
+-- a variable in scope has a node
+pub slot-in : (heap slots : List ℕ) (base n i : ℕ) → i < n → slotAt heap slots base n i ≡ Node (nodeOr (found heap (getD slots (base + i) 0)))
 unfolding slotAt
 slot-in heap slots base n i l = rw (slotAt, lt-ltb i n l)
 
@@ -51,6 +54,14 @@ node-or e = ap nodeOr e
 pub node-none : {f : Found} → f ≡ Unknown → nodeOr f ≡ 0
 unfolding nodeOr
 node-none e = ap nodeOr e
+
+-- what a number says is a node below `top`, or node 0
+pub found-low : {heap : List ℕ} {s top : ℕ} → Slot heap s top → top ≤ unknown → 0 < top → nodeOr (found heap s) < top
+found-low {heap} {s} {top} S small some = go (eqb s unknown) refl
+  where
+    go : (y : Bool) → eqb s unknown ≡ y → nodeOr (found heap s) < top
+    go true q = rw (node-none (found-mark heap s (eqb-true s unknown q))) some
+    go false q = found-below S small (eqb-false s unknown q) λ node low e. rw (node-or e) low
 
 -- a cell that a slot names is there
 pub cell-room : {heap : List ℕ} {s top : ℕ} → Heap heap top → Slot heap s top → unknown < s → Room heap (s - unknown + 1)

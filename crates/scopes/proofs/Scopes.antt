@@ -2,7 +2,7 @@
 use Prim.Native.Nat.{ℕ, zero, suc, _+_, _<_, _≤_}
 use native.Mathlib.Omega.{arith}
 use native.Mathlib.Decide.{decLt}
-use mathlib.Core.Path.{_≡_, refl, sym, ap, ap₂, _∙_}
+use mathlib.Core.Path.{_≡_, refl, sym, ap, ap₂, subst, _∙_}
 use mathlib.Core.Bool.{Bool, true, false}
 use mathlib.Core.Option.{Option, some}
 use mathlib.Core.List.{List, _∷_}
@@ -10,13 +10,17 @@ use lib.ListN.{length, getD, set}
 use lib.Dec.{eqb}
 use lib.Seq.{getD-set-same, getD-set-other}
 use borrow.Author.Tests.{eqb-true, eqb-false}
-use package.Rattle.rules.specs.Val.{Val}
-use package.Rattle.rules.specs.Machine.{known}
+use package.Rattle.rules.specs.Val.{Val, unit}
+use package.Rattle.rules.specs.Machine.{known, filled}
+use package.Rattle.rules.proofs.Basics.{given}
+use package.Rattle.rules.proofs.State.{length-filled, Read, filled-read}
 use package.Rattle.rules.proofs.Known.{known-new, known-skip, known-none}
-use package.Rattle.valuegraph.specs.Nodes.{Heap, Agree}
+use package.Rattle.valuegraph.specs.Nodes.{valueAt, Heap, Agree}
 use package.Rattle.valuegraph.proofs.Heaps.{value-kept}
-use package.Rattle.scopes.specs.Slots.{unknown, found, slotAt, meaning, stateAt, Slot, Slots}
+use package.Rattle.scopes.specs.Slots.{unknown, found, nodeOr, slotAt, meaning, stateAt, Slot, Slots}
 use package.Rattle.scopes.proofs.Marks.{found-mark, found-below, found-later, slot-in, slot-out}
+use Rattle.scopes.specs.declared.slots.Found.{Found}
+use Rattle.scopes.specs.declared.slots.Found.the-variants.{Node, Unknown}
 
 ----------------------------------------------------------------
 -- What is known of a variable
@@ -46,12 +50,22 @@ known-within heap slots base (suc n) i l = go (decLt i n) (λ l. known-within he
         ap (known (newer ∷ stateAt heap slots base n)) (sym e ∙ sym (length-state heap slots base n)) ∙ known-new newer (stateAt heap slots base n)
         ∙ ap (λ i. meaning heap (found heap (getD slots (base + i) 0))) e
 
-pub known-state : (heap slots : List ℕ) (base n i : ℕ) → known (stateAt heap slots base n) i ≡ meaning heap (slotAt heap slots base n i)
-known-state heap slots base n i = go (decLt i n)
+-- a variable that was not met is unit, and node 0 is one
+read-node : (heap : List ℕ) → valueAt heap 0 ≡ unit → (f : Found) {v : Val} → Read (meaning heap f) v → v ≡ valueAt heap (nodeOr f)
+unfolding nodeOr
+read-node heap u (Node node) r = sym r
+read-node heap u Unknown r = sym r ∙ sym u
+
+-- what a term that runs forward reads of a variable
+pub known-filled : (heap slots : List ℕ) (base n i : ℕ) → valueAt heap 0 ≡ unit
+    → known (filled (stateAt heap slots base n)) i ≡ meaning heap (slotAt heap slots base n i)
+known-filled heap slots base n i u = go (decLt i n)
   where
-    go : Dec (i < n) → known (stateAt heap slots base n) i ≡ meaning heap (slotAt heap slots base n i)
-    go (yes l) = known-within heap slots base n i l ∙ ap (meaning heap) (sym (slot-in heap slots base n i l))
-    go (no l) = known-none _ i (let z : length (stateAt heap slots base n) ≡ n = length-state heap slots base n in omega arith)
+    go : Dec (i < n) → known (filled (stateAt heap slots base n)) i ≡ meaning heap (slotAt heap slots base n i)
+    go (yes l) = given (filled-read (stateAt heap slots base n) i (omega (arith, length-state heap slots base n))) λ (v, e, r).
+        e ∙ ap some (read-node heap u (found heap (getD slots (base + i) 0)) (subst (λ m. Read m v) (known-within heap slots base n i l) r))
+        ∙ ap (meaning heap) (sym (slot-in heap slots base n i l))
+    go (no l) = known-none _ i (omega (arith, length-filled (stateAt heap slots base n), length-state heap slots base n))
         ∙ ap (meaning heap) (sym (slot-out heap slots base n i (omega arith)))
 
 ----------------------------------------------------------------

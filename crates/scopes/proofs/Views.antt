@@ -16,7 +16,7 @@ use package.Rattle.valuegraph.specs.Nodes.{leftAt, valueAt, Agree, Celled}
 use package.Rattle.scopes.specs.Slots.{unknown, found, nodeOr, meaning, stateAt, Scope, slotsOf, Slot}
 use package.Rattle.scopes.specs.Cells.{cellCount, Linked, cellAt, numberIn, stateWith}
 use package.Rattle.scopes.specs.Bindings.{slotsFrom, viewOf, stateOf, Bound, Opens, Meets, Tells, said, seen, Compared, Assigns, MeetsBy, MeetsAt}
-use package.Rattle.scopes.proofs.Marks.{found-mark, found-below, found-cell, node-or, node-none}
+use package.Rattle.scopes.proofs.Marks.{found-mark, found-below, found-low, found-cell, node-or, node-none}
 use package.Rattle.scopes.proofs.Cells.{cell-empty, cell-le, cell-kept, binds-it, binds-no-other, leaves-older, leaves-none}
 use Rattle.scopes.specs.declared.slots.Found.{Found}
 use Rattle.scopes.specs.declared.slots.Found.the-variants.{Node, Unknown}
@@ -177,12 +177,11 @@ seen-newer heap b s l = rw (seen, lt-ltb (unknown + b .head) s l)
 
 -- what is seen is a node below `top`, if it is any
 pub seen-low : {heap : List ℕ} {s top : ℕ} (b : Bindings) → Slot heap s top → top ≤ unknown → 0 < top → nodeOr (seen heap b s) < top
-seen-low {heap} {s} {top} b S small some = go (decLt (unknown + b .head) s) (eqb s unknown) refl
+seen-low {heap} {s} {top} b S small some = go (decLt (unknown + b .head) s)
   where
-    go : Dec (unknown + b .head < s) → (y : Bool) → eqb s unknown ≡ y → nodeOr (seen heap b s) < top
-    go (yes l) y q = rw (node-none (seen-newer heap b s l)) some
-    go (no l) true q = rw (node-none (seen-found heap b s (omega arith) ∙ found-mark heap s (eqb-true s unknown q))) some
-    go (no l) false q = found-below S small (eqb-false s unknown q) λ node low e. rw (node-or (seen-found heap b s (omega arith) ∙ e)) low
+    go : Dec (unknown + b .head < s) → nodeOr (seen heap b s) < top
+    go (yes l) = rw (node-none (seen-newer heap b s l)) some
+    go (no l) = rw (seen-found heap b s (omega arith)) (found-low S small some)
 
 -- a slot that names a cell of the state
 pub told-dynamic : {heap slots : List ℕ} {b : Bindings} {base q n top : ℕ} → Tells heap slots b base q n top → (i : ℕ) → q ≤ i → i < n

@@ -81,10 +81,6 @@ found heap s = elim (ltb s unknown) [
   | false ↦ elim (eqb s unknown) [ true ↦ Unknown | false ↦ Node (leftAt heap (s - unknown)) ]
 ]
 
--- variable `i` of `n`
-unfoldable pub slotAt : List ℕ → List ℕ → ℕ → ℕ → ℕ → Found
-slotAt heap slots base n i = elim (ltb i n) [ true ↦ found heap (getD slots (base + i) 0) | false ↦ Unknown ]
-
 -- what is known of a variable, on the heap that its node is in
 abbrev pub meaning : List ℕ → Found → Option Val
 meaning heap (Node node) = some (valueAt heap node)
@@ -94,6 +90,11 @@ meaning heap Unknown = none
 unfoldable pub nodeOr : Found → ℕ
 nodeOr (Node node) = node
 nodeOr Unknown = 0
+
+-- What a term that runs forward reads of variable `i` of `n`: nothing, if it is not in scope; else its node, which is node 0, the unit, if
+-- it was not met so far (02, F-2).
+unfoldable pub slotAt : List ℕ → List ℕ → ℕ → ℕ → ℕ → Found
+slotAt heap slots base n i = elim (ltb i n) [ true ↦ Node (nodeOr (found heap (getD slots (base + i) 0))) | false ↦ Unknown ]
 
 -- the scope of `n` variables, the newest first
 unfoldable pub stateAt : List ℕ → List ℕ → ℕ → ℕ → State

@@ -41,7 +41,7 @@ pub fn at(st: &[u32; STATE], slot: usize) -> u32
     st[SLOTS_FROM + slot]
 }
 
-// Variable i of n: its node, if it is in scope and known.
+// What a term that runs forward reads of variable i of n: its node, if it is in scope; node 0, the unit, if it was not met so far (02, F-2).
 pub fn find(ws: &[u8], st: &[u32; STATE], base: usize, n: usize, i: u16) -> Found
     requires { ⌜ base + n ≤ slotCount ⌝ }
     requires { ⌜ Heap (now ws) (machineOf (now st) .top) ⌝ }
@@ -49,10 +49,13 @@ pub fn find(ws: &[u8], st: &[u32; STATE], base: usize, n: usize, i: u16) -> Foun
     ensures { λ r. ⌜ r ≡ slotAt (now (ws .entry)) (slotsOf (now (st .entry))) base n i ⌝ }
 {
     let v = octets::wide_index(i);
-    if v < n {
-        return known(ws, state::top(st), at(st, base + v));
+    if n <= v {
+        return Found::Unknown;
     }
-    Found::Unknown
+    match known(ws, state::top(st), at(st, base + v)) {
+        Found::Node(node) => Found::Node(node),
+        Found::Unknown => Found::Node(0),
+    }
 }
 
 // A variable comes into scope.

@@ -7,10 +7,10 @@ use mathlib.Core.Logic.{_⊎_, ⊎-elim}
 use mathlib.Core.Bool.{true, false, false≢true}
 use mathlib.Core.List.{List, map}
 use lib.ListN.{length, getD, set, length-set}
-use lib.Seq.{getD-set-same}
+use lib.Seq.{getD-set-same, getD-set-other}
 use borrow.Author.Tests.{le-leb, lt-leb}
 use package.Rattle.octets.specs.Numbers.{put16}
-use package.Rattle.octets.proofs.Puts.{length-put16, set-low, put16-low, get16-same, get16-put16}
+use package.Rattle.octets.proofs.Puts.{length-put16, set-low, put16-low, put16-other, get16-same, get16-put16}
 use package.Rattle.rules.specs.Limits.{maxNodes}
 use package.Rattle.rules.specs.Ty.{Ty, prod, nodes}
 use package.Rattle.calls.specs.Entries.{TypeEntry, typeAt}
@@ -34,6 +34,15 @@ code-low heap i c j h =
     ∙ put16-low _ (i + 2) (c .at) j (omega arith)
     ∙ set-low (set heap i (c .form)) (i + 1) j (c .depth) (omega arith)
     ∙ set-low heap i j (c .form) h
+
+-- what is above stays too
+pub code-high : (heap : List ℕ) (i : ℕ) (c : Code) (j : ℕ) → i + 6 ≤ j → getD (putCode heap i c) j 0 ≡ getD heap j 0
+unfolding putCode
+code-high heap i c j h =
+    put16-other _ (i + 4) (c .stands) j (λ e. omega arith) (λ e. omega arith)
+    ∙ put16-other _ (i + 2) (c .at) j (λ e. omega arith) (λ e. omega arith)
+    ∙ getD-set-other (set heap i (c .form)) (i + 1) j (c .depth) 0 (λ e. omega arith)
+    ∙ getD-set-other heap i j (c .form) 0 (λ e. omega arith)
 
 -- codes from bytes that agree
 pub code-same : (heap heap′ : List ℕ) (i : ℕ) → ((j : ℕ) → j < i + 6 → getD heap j 0 ≡ getD heap′ j 0) → codeAt heap i ≡ codeAt heap′ i

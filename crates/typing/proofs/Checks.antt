@@ -8,9 +8,9 @@ use mathlib.Core.List.{List, [], _∷_, map}
 use lib.ListN.{length, getD, take, length-map}
 use package.Rattle.rules.specs.Limits.{maxVariables, maxNodes, maxParameters}
 use package.Rattle.rules.specs.Ty.{Ty, sameTy}
-use package.Rattle.rules.specs.Term.{Fun, Program, nth}
+use package.Rattle.rules.specs.Term.{Fun, Program, nth, usedIn}
 use package.Rattle.rules.specs.Typing.{dynamic, Context}
-use package.Rattle.rules.specs.Check.{function, Checked, _>>=_, _>>_, need, names, spent, statics, infer, checkFun}
+use package.Rattle.rules.specs.Check.{function, Checked, _>>=_, _>>_, need, spent, statics, infer, checkFun}
 use package.Rattle.calls.specs.Answer.{Answer, refused, require}
 use package.Rattle.calls.specs.Answer as answer
 use package.Rattle.calls.specs.Fields.{Layout, parametersAt}
@@ -38,7 +38,8 @@ use package.Rattle.typing.specs.declared.outcomes.Status.the-variants.{T
 use package.Rattle.typing.specs.declared.outcomes.Out.{Out}
 use package.Rattle.typing.specs.Sizes.{termsIn}
 use package.Rattle.typing.specs.Outcomes.{faultOf, statusOf, meaning}
-use package.Rattle.typing.specs.Ready.{termIn, typingOf, typeIn, Entered, Ready, Inferred}
+use package.Rattle.typing.specs.Ready.{termIn, typingOf, Entered, Ready}
+use package.Rattle.typing.specs.Asked.{Infers}
 use package.Rattle.typing.specs.Checked.{Typeable, Signed, Started, functionAnswer, endAnswer, faultAnswer}
 use package.Rattle.typing.proofs.Sizes.{body-size}
 use package.Rattle.typing.proofs.Called.{entry-there, function-field}
@@ -63,7 +64,7 @@ fault-at types terms functions (Misused t) k = refl
 
 -- the context that the rules type the body in
 abbrev startOf : Fun → Context
-startOf h = dynamic (h .dynamic) ∷ statics (h .ancillae) []
+startOf h = dynamic false (h .dynamic) ∷ statics (h .ancillae) []
 
 -- the tests after the body, which has the type `τ`
 abbrev restOf : ℕ → Fun → Ty → Checked (Unit {0})
@@ -130,7 +131,13 @@ module _ {xs types terms functions nodes heap : List ℕ} (Y : Typeable xs types
         body-size (placesOf types terms functions) (entriesAt xs (placesOf types terms functions)) (Y .tested) g (functionAt xs at) there in
         let same : termsIn (termIn xs types terms b) ≡ termsIn (termIn xs types terms (functionAt xs at .body)) =
         ap (λ t. termsIn (termIn xs types terms t)) (e ∙ sym (function-body xs at)) in
-        record { entries = entered; scoped = S .scoped; room = Y .room; small = omega (arith, length-map terms (termAt xs), fields .few-terms) }
+        record {
+          entries = entered;
+          scoped = S .scoped;
+          room = Y .room;
+          small = omega (arith, length-map terms (termAt xs), fields .few-terms);
+          waiting = omega (arith, S .none-wait, length-map terms (termAt xs), fields .few-terms);
+        }
 
     -- the function's answer, by its offset
     by-offset : functionAnswer xs types terms functions g
@@ -139,8 +146,7 @@ module _ {xs types terms functions nodes heap : List ℕ} (Y : Typeable xs types
         (checkFun maxVariables maxNodes (programIn xs types terms functions) g (functionIn xs types terms at))) (sym s)
 
     module _ {vars vars′ heap′ : List ℕ} {sc : Scope} {b : ℕ} {out : Out} (S : Started xs types heap vars at sc) (e : b ≡ body xs at)
-        (I : Inferred (termsIn (termIn xs types terms b)) (termIn xs types terms b) xs types heap heap′ (sc .n) vars vars′ 0 out
-        (typeIn xs types terms functions heap vars sc b)) where
+        (I : Infers xs types terms functions heap heap′ vars vars′ sc 0 b out) where
       the-body : termIn xs types terms b ≡ functionIn xs types terms at .body
       unfolding functionOf
       the-body = ap (termIn xs types terms) (e ∙ sym (function-body xs at))
@@ -164,8 +170,8 @@ module _ {xs types terms functions nodes heap : List ℕ} (Y : Typeable xs types
           count : n ≡ parametersAt xs at - 1
           count = length-map (functionAt xs at .ancillae) (typeOf (map (typeAt xs) types)) ∙ ancillae-count xs at
 
-          used : names n (functionIn xs types terms at .body) ≡ has (f .uses) (parametersAt xs at - 1)
-          used = ap (names n) (sym the-body) ∙ sym (I .uses f t .each n (omega (arith, count, field .few))) ∙ ap (has (f .uses)) count
+          used : usedIn n (functionIn xs types terms at .body) ≡ has (f .uses) (parametersAt xs at - 1)
+          used = ap (usedIn n) (sym the-body) ∙ sym (I .uses f t .each n (omega (arith, count, field .few))) ∙ ap (has (f .uses)) count
 
       pub refused-answer : {why : Fault} {a : Answer (Unit {0})} → out .status ≡ Refused why → a ≡ faultAnswer terms why
           → a ≡ functionAnswer xs types terms functions g

@@ -1,8 +1,8 @@
 -- Laws of the tests that typing makes once a part is typed: a refusal stands, and after a type the answer is picked by a test.
 use Prim.Native.Nat.{ℕ, _+_}
 use native.Mathlib.Omega.{arith}
-use mathlib.Core.Path.{_≡_, refl, sym, ap, ap₂, subst, _∙_}
-use mathlib.Core.Bool.{Bool, true, false, _&&_, _||_, false≢true}
+use mathlib.Core.Path.{_≡_, refl, sym, ap, subst, _∙_}
+use mathlib.Core.Bool.{Bool, true, false, not, _&&_, _||_, false≢true}
 use mathlib.Core.List.{List}
 use package.Rattle.octets.specs.Runs.{Decides}
 use package.Rattle.rules.specs.Ty.{sameTy}
@@ -11,7 +11,10 @@ use package.Rattle.types.specs.Codes.{productCode, treeIn}
 use package.Rattle.types.specs.Growth.{Made}
 use package.Rattle.varsets.specs.declared.Uses.{Uses}
 use package.Rattle.varsets.specs.Sets.{Holds, has, joined, AgreeOn}
-use package.Rattle.typing.specs.Ready.{After, Joins, Picks, spentBy, Meets, Paired, Pairs}
+use package.Rattle.typing.specs.Ready.{After, AfterBody, Joins, Picks, spentBy, Closes, Meets, Paired, Pairs}
+use package.Rattle.typing.specs.Waiting.{Settles}
+use Rattle.typing.specs.declared.outcomes.Scope.{Scope}
+use Rattle.typing.specs.declared.namings.Lowest.{Lowest}
 use Rattle.typing.specs.declared.outcomes.Found.{Found}
 use Rattle.typing.specs.declared.outcomes.Fault.{Fault}
 use Rattle.typing.specs.declared.outcomes.Fault.the-variants.{Differ, Misused}
@@ -63,14 +66,11 @@ module _ (a b : Bool) {r : Bool} (e : r ≡ a) where
   pub spent-used : {r′ : Bool} → r ≡ false → r′ ≡ b → r′ ≡ (a || b)
   spent-used t q = q ∙ sym (ap (λ a. a || b) (sym e ∙ t))
 
-  pub first-false : r ≡ false → (a && b) ≡ false
-  first-false t = ap (λ a. a && b) (sym e ∙ t)
+  pub both-first : r ≡ false → false ≡ (a && b)
+  both-first t = sym (ap (λ a. a && b) (sym e ∙ t))
 
-  pub both-true : {r′ : Bool} → r ≡ true → r′ ≡ b → r′ ≡ true → (a && b) ≡ true
-  both-true t e′ t′ = ap₂ _&&_ (sym e ∙ t) (sym e′ ∙ t′)
-
-  pub second-false : {r′ : Bool} → r ≡ true → r′ ≡ b → r′ ≡ false → (a && b) ≡ false
-  second-false t e′ t′ = ap₂ _&&_ (sym e ∙ t) (sym e′ ∙ t′)
+  pub both-second : {r′ : Bool} → r ≡ true → r′ ≡ b → r′ ≡ (a && b)
+  both-second t q = q ∙ sym (ap (λ a. a && b) (sym e ∙ t))
 
 decided-not : {A : Type 0} (r : Bool) → Decides r A → r ≡ false → A → ⊥
 decided-not true d e = absurd (false≢true (sym e))
@@ -126,6 +126,37 @@ module _ {p types heap : List ℕ} {l : Found} {u : Uses} {i : ℕ} {d : Code} {
         uses = record { each = λ i l. J .uses .each i l ∙ ap (λ b. has u i || b) (H .each i l) };
       };
     }
+
+----------------------------------------------------------------
+-- The body of a let
+
+module _ {vars vars′ : List ℕ} {sc : Scope} {u : Uses} {b : Bool} {t from to : ℕ} {f : Found} {s : Status} {low : Lowest}
+    (S : Settles sc (f .uses) vars vars′ from to (record { some = not b; place = t }) low) where
+  pub closes-refused : low .some ≡ true → s ≡ Refused (Misused (low .place)) → Closes vars vars′ sc u b t from to f s
+  closes-refused e q = record { low = low; settles = S; yes = λ x. absurd (false≢true (sym x ∙ e)); no = λ x. q }
+
+  pub closes-typed : low .some ≡ false → Joins f u s → Closes vars vars′ sc u b t from to f s
+  closes-typed e J = record { low = low; settles = S; yes = λ x. J; no = λ x. absurd (false≢true (sym e ∙ x)) }
+
+-- by another test that is the same
+pub closes-by : {vars vars′ : List ℕ} {sc : Scope} {u : Uses} {a b : Bool} {t from to : ℕ} {f : Found} {s : Status} → a ≡ b
+    → Closes vars vars′ sc u a t from to f s → Closes vars vars′ sc u b t from to f s
+closes-by {vars} {vars′} {sc} {u} {t = t} {from} {to} {f} {s} e C = subst (λ b. Closes vars vars′ sc u b t from to f s) e C
+
+module _ {vars vars′ : List ℕ} {out r : Out} {Next : Found → Status → Type 0} where
+  pub body-typed : {f : Found} → out .status ≡ Typed f → r .top ≡ out .top → Next f (r .status) → AfterBody vars vars′ out r Next
+  body-typed s e n = record {
+    same = e;
+    refused = λ w q. absurd (typed-refused (sym s ∙ q));
+    typed = λ g q. subst (λ g. Next g (r .status)) (typed-inj (sym s ∙ q)) n;
+  }
+
+  pub body-refused : {w : Fault} → out .status ≡ Refused w → r ≡ out → vars′ ≡ vars → AfterBody vars vars′ out r Next
+  body-refused s e v = record {
+    same = ap (λ (r : Out). r .top) e;
+    refused = λ w q. (ap (λ (r : Out). r .status) e ∙ q, v);
+    typed = λ f q. absurd (typed-refused (sym q ∙ s));
+  }
 
 ----------------------------------------------------------------
 -- Pairs

@@ -1,6 +1,10 @@
 -- Laws that the checker's proofs cite.
 -- contexts as the code holds them
 pub mod Contexts
+-- namings that wait: in lent bytes, one after another
+pub mod Waiting
+-- and settled after the body of a let
+pub mod Settling
 -- how many terms a function has
 pub mod Sizes
 -- the tests after a part is typed
@@ -15,6 +19,8 @@ pub mod Trees
 pub mod Steps
 -- pairs
 pub mod Pairing
+-- room in the scope, the scope of a bound term, and the end of a let
+pub mod Closing
 -- let and let pair
 pub mod Binding
 -- case

@@ -3,13 +3,14 @@ use Prim.Native.Nat.{ℕ, suc, _+_, _≤_, _<_}
 use native.Mathlib.Omega.{arith}
 use mathlib.Core.Path.{_≡_, refl, sym, ap, ap₂, subst, _∙_}
 use mathlib.Core.Bool.{Bool, true, false, _||_}
-use mathlib.Core.List.{List}
+use mathlib.Core.List.{List, _++_}
 use lib.ListN.{length}
 use lib.Dec.{leb}
 use package.Rattle.rules.specs.Limits.{maxTerms, maxNodes}
 use package.Rattle.rules.specs.Ty.{Ty, prod, nodes as nodesIn}
-use package.Rattle.rules.specs.Term.{Term, tpair}
-use package.Rattle.rules.specs.Check.{term, good, _>>=_, _>>_, need, names, small, infer}
+use package.Rattle.rules.specs.Term.{Term, tpair, usedIn}
+use package.Rattle.rules.specs.Check.{term, good, _>>=_, _>>_, need, waits, waitsIn, small, infer}
+use package.Rattle.rules.specs.Typing.{Context}
 use package.Rattle.rules.proofs.Basics.{given}
 use package.Rattle.program.specs.Parts.{first, second}
 use package.Rattle.program.specs.Kinds.{pairKind}
@@ -17,12 +18,13 @@ use package.Rattle.types.specs.Codes.{Room, treeIn, Known}
 use package.Rattle.types.proofs.Outer.{product-known}
 use package.Rattle.varsets.specs.declared.Uses.{Uses}
 use package.Rattle.varsets.specs.Sets.{Holds, has, joined}
-use package.Rattle.typing.specs.Contexts.{NamedBy}
+use package.Rattle.typing.specs.Contexts.{UsedBy}
 use package.Rattle.typing.specs.Sizes.{termsIn}
 use package.Rattle.typing.specs.Outcomes.{faultOf}
 use package.Rattle.typing.specs.Ready.{termIn, contextIn, typingOf, typeIn, Ready, Here, Kept, Inferred, Paired, Pairs}
 use package.Rattle.typing.specs.Asked.{Infers}
-use package.Rattle.typing.proofs.Answers.{ends-refused, ends-typed, inferred, kept-then, kept-more, kept-grown, tree-later, known-later, need-yes}
+use package.Rattle.typing.proofs.Answers.{ends-refused, ends-typed, inferred, refusing, kept-then}
+use package.Rattle.typing.proofs.Answers.{kept-more, kept-grown, tree-later, known-later, need-yes}
 use package.Rattle.typing.proofs.Answers.{need-no, answered, part-refused, earlier, says, good-then, ready-less, context-later, ready-later}
 use package.Rattle.typing.proofs.Trees.{tree-pair, parts-pair}
 use Rattle.typing.specs.declared.outcomes.Scope.{Scope}
@@ -33,8 +35,8 @@ use Rattle.typing.specs.declared.outcomes.Status.the-variants.{Typed, Re
 use Rattle.typing.specs.declared.outcomes.Out.{Out}
 
 -- the uses of two parts are those of the whole
-pub named-both : (T L R : Term) {u v w : Uses} → ((i : ℕ) → names i T ≡ (names i L || names i R)) → NamedBy u L → NamedBy v R
-    → Holds w (joined (has u) (has v)) → NamedBy w T
+pub named-both : (T L R : Term) {u v w : Uses} → ((i : ℕ) → usedIn i T ≡ (usedIn i L || usedIn i R)) → UsedBy u L → UsedBy v R
+    → Holds w (joined (has u) (has v)) → UsedBy w T
 named-both T L R e N N′ J = record { each = λ i l. J .each i l ∙ ap₂ _||_ (N .each i l) (N′ .each i l) ∙ sym (e i) }
 
 module _ {p types terms functions nodes heap vars : List ℕ} {sc : Scope} {top t at : ℕ}
@@ -62,8 +64,14 @@ module _ {p types terms functions nodes heap vars : List ℕ} {sc : Scope} {top 
   pub pair-right : (r < t) × (r < length terms)
   pair-right = rw q′ (parts-pair (rd .entries) H .1)
 
-  module _ {heap₁ vars₁ : List ℕ} {o : Out} (d : Inferred (termsIn L) L p types heap heap₁ (sc .n) vars vars₁ top o
-      (typeIn p types terms functions heap vars sc l)) where
+  abbrev Δ : Context
+  Δ = contextIn p types heap vars sc
+
+  waits-pair : waitsIn Δ (termIn p types terms t) ≡ (waitsIn Δ L ++ waitsIn Δ R)
+  unfolding waits
+  waits-pair = ap (waitsIn Δ) paired
+
+  module _ {heap₁ vars₁ : List ℕ} {o : Out} (d : Infers p types terms functions heap heap₁ vars vars₁ sc top l o) where
     rule-pair : typeIn p types terms functions heap vars sc t ≡ (typeIn p types terms functions heap vars sc l >>= λ a.
         typeIn p types terms functions heap vars sc r >>= λ b. need (leb (nodesIn (prod a b)) maxNodes) 6 (term t) >> good (prod a b))
     unfolding infer small
@@ -77,7 +85,7 @@ module _ {p types terms functions nodes heap vars : List ℕ} {sc : Scope} {top 
     pair-later = ready-later rd (d .kept) _ (omega (arith, size-pair))
 
     module _ {f : Found} (e : o .status ≡ Typed f) {heap₂ vars₂ : List ℕ} {o₂ : Out}
-        (d₂ : Inferred (termsIn R) R p types heap₁ heap₂ (sc .n) vars₁ vars₂ (o .top) o₂ (typeIn p types terms functions heap₁ vars₁ sc r)) where
+        (d₂ : Infers p types terms functions heap₁ heap₂ vars₁ vars₂ sc (o .top) r o₂) where
       left-kept : Known (length types) (o .top) (f .code)
       left-kept = d .known f e
 
@@ -93,8 +101,11 @@ module _ {p types terms functions nodes heap vars : List ℕ} {sc : Scope} {top 
       )
 
       -- both parts, from the start
-      both : Inferred (termsIn L + termsIn R) R p types heap heap₂ (sc .n) vars vars₂ top o₂ (typeIn p types terms functions heap vars sc r)
-      both = earlier (says d₂ (ap (λ Δ. typingOf p types terms functions Δ R) (context-later rd (d .kept)))) _ (d .kept) (omega arith) (omega arith)
+      both : Inferred (termsIn L + termsIn R) R (waitsIn Δ L ++ waitsIn Δ R) p types heap heap₂ (sc .n) vars vars₂ top o₂
+          (typeIn p types terms functions heap vars sc r)
+      both = earlier (says d₂ (ap (λ Δ. typingOf p types terms functions Δ R) (context-later rd (d .kept)))
+          (ap (λ Δ. waitsIn Δ R) (context-later rd (d .kept))))
+          _ (d .kept) (d .waits f e) (omega arith) (omega arith)
 
       abbrev a : Ty
       a = treeIn p types heap₂ (f .code)
@@ -125,8 +136,9 @@ module _ {p types terms functions nodes heap vars : List ℕ} {sc : Scope} {top 
               (let z : termsIn L + termsIn R + 1 ≤ termsIn (termIn p types terms t) = omega (arith, size-pair) in z)))
               (ends-typed (J .is)
               (subst (Known (length types) (out .top)) (sym (J .code)) (product-known (o₂ .top) (omega (arith, Q .yes y .0))))
-              (named-both (termIn p types terms t) L R (λ i. ap (names i) paired) (d .uses f e) (d₂ .uses g e₂) (J .uses))
+              (named-both (termIn p types terms t) L R (λ i. ap (usedIn i) paired) (d .uses f e) (d₂ .uses g e₂) (J .uses))
               (rule-made ∙ need-yes _ _ _ _ (sym (Q .grown .answer) ∙ y) ∙ ap good (sym (ap (treeIn p types heap₃) (J .code) ∙ G .tree))))
+              (λ h q. both .waits g e₂ ∙ sym waits-pair)
 
           large-pair : (Q : Paired p types heap₂ heap₃ f g (o₂ .top) t out) → Q .made ≡ false
               → Infers p types terms functions heap heap₃ vars vars₂ sc top t out
@@ -135,7 +147,7 @@ module _ {p types terms functions nodes heap vars : List ℕ} {sc : Scope} {top 
               (subst (λ h. Kept (termsIn (termIn p types terms t)) p types heap h (sc .n) vars vars₂ top (out .top)) (sym (Q .grown .old n))
               (subst (λ x. Kept (termsIn (termIn p types terms t)) p types heap heap₂ (sc .n) vars vars₂ top x) (sym (Q .no n .0))
               (kept-more _ (both .kept) (omega (arith, size-pair)))))
-              (ends-refused (Q .no n .1) (rule-made ∙ need-no _ _ _ _ (sym (Q .grown .answer) ∙ n)))
+              (ends-refused (Q .no n .1) (rule-made ∙ need-no _ _ _ _ (sym (Q .grown .answer) ∙ n))) (refusing (Q .no n .1))
 
         pub pair-done : Infers p types terms functions heap heap₃ vars vars₂ sc top t out
         pair-done = by (o₂ .status) refl

@@ -3,15 +3,16 @@ use Prim.Native.Nat.{ℕ, suc, _+_, _*_, _-_, _≤_, _<_}
 use native.Mathlib.Omega.{arith}
 use mathlib.Core.Path.{_≡_, refl, sym, ap, ap₂, subst, _∙_}
 use mathlib.Core.Bool.{Bool, true, false}
-use mathlib.Core.List.{List, [], map}
+use mathlib.Core.List.{List, [], _++_, map}
 use lib.ListN.{length, getD, length-map}
 use lib.Dec.{eqb}
 use borrow.Author.Tests.{eq-eqb, ne-eqb}
 use package.Rattle.rules.specs.Ty.{Ty, sameTy}
-use package.Rattle.rules.specs.Term.{Term, Terms, tcall, count, Fun}
+use package.Rattle.rules.specs.Term.{Term, Terms, tcall, count, Fun, usedIn}
 use package.Rattle.rules.specs.Limits.{maxFunctions, maxVariables, maxNodes}
 use package.Rattle.rules.specs.Typing.{Context, bar}
-use package.Rattle.rules.specs.Check.{term, Checked, good, _>>=_, _>>_, need, asFun, names, infer, inferArguments}
+use package.Rattle.rules.specs.Check.{term, Checked, good, _>>=_, _>>_, need, asFun, waitsAll, waitsIn, waitsInAll, infer, inferArguments}
+use package.Rattle.rules.proofs.Typing.Waiting.{waits-call}
 use package.Rattle.calls.specs.Fields.{lengthAt, parametersAt}
 use package.Rattle.calls.specs.Entries.{typeAt, typeOf, termTrees, callAncillae, references, functionOf}
 use package.Rattle.program.specs.Parts.{first, listed, result}
@@ -25,13 +26,16 @@ use package.Rattle.types.specs.Codes.{entryCode, treeIn, Known}
 use package.Rattle.types.proofs.Trees.{tree-entry}
 use package.Rattle.types.proofs.Outer.{entry-known}
 use package.Rattle.varsets.specs.declared.Uses.{Uses}
-use package.Rattle.varsets.specs.Sets.{Holds, nobody}
+use package.Rattle.varsets.specs.Sets.{Holds, has, nobody}
 use package.Rattle.typing.specs.Sizes.{termsIn, termsInAll}
 use package.Rattle.typing.specs.Outcomes.{faultOf, doneOf}
 use package.Rattle.typing.specs.Ready.{termIn, variableAt, contextIn, typingOf, typeIn, demanded, termsFrom, typesFrom, Ready, Here, Kept, Inferred}
 use package.Rattle.typing.specs.Ready.{Bare, Calls, Argued}
+use package.Rattle.typing.specs.Asked.{Infers}
+use package.Rattle.typing.proofs.Waiting.{added-none, added-then}
 use package.Rattle.typing.proofs.Contexts.{context-bar, must-use-barred}
-use package.Rattle.typing.proofs.Answers.{ends-refused, inferred, kept-still, kept-then, kept-more, stopped, need-yes, need-no, answered, refused}
+use package.Rattle.typing.proofs.Answers.{ends-refused, inferred, refusing, kept-still, kept-then}
+use package.Rattle.typing.proofs.Answers.{kept-more, stopped, need-yes, need-no, answered, refused}
 use package.Rattle.typing.proofs.Answers.{around, earlier, says, good-then, bad-then, ready-less, context-later, ready-later}
 use package.Rattle.typing.proofs.Trees.{tree-call, read-call, called-there, part-argument, part-dynamic}
 use package.Rattle.typing.proofs.Called.{called, called-in, read-function, some-parameters, row-there, row-parameter, result-there, parameter-there}
@@ -71,11 +75,12 @@ module _ {p types terms functions nodes heap vars : List ℕ} {sc : Scope} {top 
   args ts cs = inferArguments maxVariables maxNodes (programIn p types terms functions) t Δ ts cs
 
   pub args-end : {r : Out} → k ≡ count → Bare top r → Argued p types terms functions heap heap vars vars sc top t at h k count r
-  unfolding inferArguments doneOf
+  unfolding inferArguments doneOf waitsAll
   args-end {r} e B = record {
     kept = subst (λ x. Kept (termsInAll (termsFrom p types terms at k count)) p types heap heap (sc .n) vars vars top x) (sym (B .same))
         (kept-still _ (sc .n) vars (rd .scoped .sources));
     answer = ap doneOf (B .is) ∙ sym (ap₂ args (terms-none p types at k count terms e) (types-none p types h k count e));
+    waits = λ f q. added-none vars ∙ sym (ap (waitsInAll Δ) (terms-none p types at k count terms e));
   }
 
   module _ (more-left : ¬ (k ≡ count)) where
@@ -121,13 +126,18 @@ module _ {p types terms functions nodes heap vars : List ℕ} {sc : Scope} {top 
           need (sameTy d (typeOf (map (typeAt p) types) (listed p h k))) 6 (term t)
           >> args (termsFrom p types terms at (k + 1) count) (typesFrom p types h (k + 1) count)) (sym q)
 
-      module _ {heap₁ vars₁ : List ℕ} {o : Out} (d : Inferred (termsIn A) A p types heap heap₁ (sc .n) vars vars₁ top o
-          (typeIn p types terms functions heap vars sc a)) where
+      waits-args : waitsInAll Δ (termsFrom p types terms at k count) ≡ (waitsIn Δ A ++ waitsInAll Δ (termsFrom p types terms at (k + 1) count))
+      unfolding waitsAll
+      waits-args = ap (waitsInAll Δ) (terms-next p types at k count terms args-left)
+          ∙ ap (λ a. waitsIn Δ (termIn p types terms a) ++ waitsInAll Δ (termsFrom p types terms at (k + 1) count)) (sym q)
+
+      module _ {heap₁ vars₁ : List ℕ} {o : Out} (d : Infers p types terms functions heap heap₁ vars vars₁ sc top a o) where
         pub args-refused : {w : Fault} → o .status ≡ Refused w → Argued p types terms functions heap heap₁ vars vars₁ sc top t at h k count o
         unfolding doneOf
         args-refused {w} x = record {
           kept = kept-more _ (d .kept) (omega (arith, size-args q));
           answer = ap doneOf x ∙ sym (rule-args ∙ bad-then w _ (refused d x));
+          waits = refusing x;
         }
 
         pub args-later : Ready (termsInAll (termsFrom p types terms at (k + 1) count)) p types terms functions nodes heap₁ vars₁ sc (o .top)
@@ -161,6 +171,7 @@ module _ {p types terms functions nodes heap vars : List ℕ} {sc : Scope} {top 
               kept = subst (λ v. Kept (termsInAll (termsFrom p types terms at k count)) p types heap heap₁ (sc .n) vars vars₁ top v) (sym e)
                   (kept-more _ (d .kept) (omega (arith, size-args q)));
               answer = ap doneOf s ∙ sym (rule-args ∙ good-then _ (answered d x) ∙ need-no _ _ _ _ (sym same-want ∙ n));
+              waits = refusing s;
             }
 
             pub args-done : b ≡ true → {heap₂ vars₂ : List ℕ} {out : Out}
@@ -172,6 +183,8 @@ module _ {p types terms functions nodes heap vars : List ℕ} {sc : Scope} {top 
                   ∙ ap (λ Δ. inferArguments maxVariables maxNodes (programIn p types terms functions) t Δ (termsFrom p types terms at (k + 1) count)
                   (typesFrom p types h (k + 1) count)) (context-later rd (d .kept))
                   ∙ sym (rule-args ∙ good-then _ (answered d x) ∙ need-yes _ _ _ _ (sym same-want ∙ n));
+              waits = λ g y. added-then (d .kept .waited) (G .kept .waited) (d .waits f x) (G .waits g y)
+                  ∙ ap (λ Δ₁. waitsIn Δ A ++ waitsInAll Δ₁ (termsFrom p types terms at (k + 1) count)) (context-later rd (d .kept)) ∙ sym waits-args;
             }
 
 ----------------------------------------------------------------
@@ -179,7 +192,7 @@ module _ {p types terms functions nodes heap vars : List ℕ} {sc : Scope} {top 
 
 -- the scope of ancilla arguments
 abbrev pub barredScope : Scope → Uses → Scope
-barredScope sc u = record { q = sc .q; lo = sc .n; n = sc .n; owed = u }
+barredScope sc u = record { q = sc .q; lo = sc .n; n = sc .n; owed = u; marks = sc .marks }
 
 -- what call `t` has: function `g`, whose field is at `h`, `n` ancilla terms, and a function of `own` ancilla parameters
 pub record CallParts (p types terms functions nodes heap vars : List ℕ) (sc : Scope) (top t at g h n own : ℕ) : Type 0 where
@@ -294,7 +307,7 @@ module _ {p types terms functions nodes heap vars : List ℕ} {sc : Scope} {top 
         >> demanded (typeIn p types terms functions heap vars sc e) (ys (listed p h own)) (ys (result p h)) t)) counted as-many
 
   pub call-differ : {r : Out} → ¬ (n ≡ own) → r .status ≡ Refused (Differ t) → r .top ≡ top
-      → Inferred (termsIn T) T p types heap heap (sc .n) vars vars top r goal
+      → Infers p types terms functions heap heap vars vars sc top t r
   unfolding faultOf
   call-differ x s z = stopped _ (sc .n) vars (rd .scoped .sources) s z (rule-call refl ∙ need-no _ _ _ _ (ne-eqb n own x))
 
@@ -329,7 +342,7 @@ module _ {p types terms functions nodes heap vars : List ℕ} {sc : Scope} {top 
 
     module _ {u : Uses} (nobody-owed : Holds u nobody) where
       barred-context : contextIn p types heap vars (barredScope sc u) ≡ bar Γ
-      barred-context = sym (context-bar (λ i. treeIn p types heap (variableAt vars i)) (sc .q) (sc .lo) (sc .n) (rd .scoped .low))
+      barred-context = sym (context-bar (λ i. treeIn p types heap (variableAt vars i)) (sc .q) (sc .lo) (has (sc .marks)) (sc .n) (rd .scoped .low))
 
       pub call-barred : Ready (termsInAll (termsFrom p types terms at 0 n)) p types terms functions nodes heap vars (barredScope sc u) top
       call-barred = record {
@@ -341,10 +354,14 @@ module _ {p types terms functions nodes heap vars : List ℕ} {sc : Scope} {top 
           low = omega arith;
           few = rd .scoped .few;
           known = rd .scoped .known;
-          owed = record { each = λ i l. nobody-owed .each i l ∙ sym (must-use-barred (λ i. treeIn p types heap (variableAt vars i)) (sc .q) (sc .n) i) };
+          owed = record {
+            each = λ i l. nobody-owed .each i l ∙ sym (must-use-barred (λ i. treeIn p types heap (variableAt vars i)) (sc .q) (has (sc .marks)) (sc .n) i);
+          };
+          unmarked = rd .scoped .unmarked;
         };
         room = rd .room;
         small = omega (arith, rd .small, size-call refl);
+        waiting = omega (arith, rd .waiting, size-call refl);
       }
 
       module _ {heap₁ vars₁ : List ℕ} {o : Out}
@@ -358,10 +375,10 @@ module _ {p types terms functions nodes heap vars : List ℕ} {sc : Scope} {top 
             ∙ ap₂ (λ Δ m. inferArguments maxVariables maxNodes (programIn p types terms functions) t Δ (termsFrom p types terms at 0 n)
             (typesFrom p types h 0 m)) barred-context same)
 
-        pub call-refused : {w : Fault} → o .status ≡ Refused w → Inferred (termsIn T) T p types heap heap₁ (sc .n) vars vars₁ top o goal
+        pub call-refused : {w : Fault} → o .status ≡ Refused w → Infers p types terms functions heap heap₁ vars vars₁ sc top t o
         unfolding doneOf
         call-refused {w} x = inferred (kept-more _ (G .kept) (omega (arith, size-call refl)))
-            (ends-refused x (rule-call refl ∙ need-yes _ _ _ _ (eq-eqb n own same) ∙ fault-and w _ (argued ∙ ap doneOf x)))
+            (ends-refused x (rule-call refl ∙ need-yes _ _ _ _ (eq-eqb n own same) ∙ fault-and w _ (argued ∙ ap doneOf x))) (refusing x)
 
         module _ {f : Found} (x : o .status ≡ Typed f) {e : ℕ} (qe : e ≡ listed p at n) where
           pub call-ready : Ready (termsIn (termIn p types terms e)) p types terms functions nodes heap₁ vars₁ sc (o .top)
@@ -382,14 +399,17 @@ module _ {p types terms functions nodes heap vars : List ℕ} {sc : Scope} {top 
             entry-tree {i = i} z y = ap (treeIn p types heap₁) z ∙ tree-entry (map (typeAt p) types) heap₁ (entryCode i) refl ∙ ap ys y
 
             pub call-done : {heap₂ vars₂ : List ℕ} {out : Out}
-                → Inferred (termsIn (termIn p types terms e)) (termIn p types terms e) p types heap₁ heap₂ (sc .n) vars₁ vars₂ (o .top) out
+                → Inferred (termsIn (termIn p types terms e)) (termIn p types terms e) (waitsIn (contextIn p types heap₁ vars₁ sc) (termIn p types terms e))
+                p types heap₁ heap₂ (sc .n) vars₁ vars₂ (o .top) out
                 (demanded (typeIn p types terms functions heap₁ vars₁ sc e) (treeIn p types heap₁ want) (treeIn p types heap₁ answer) t)
-                → Inferred (termsIn T) T p types heap heap₂ (sc .n) vars vars₂ top out goal
+                → Infers p types terms functions heap heap₂ vars vars₂ sc top t out
             unfolding doneOf
-            call-done d = earlier (around (says d
+            call-done d = says (earlier (around (says d
                 (ap₂ (λ Δ (cs : Ty × Ty). demanded (typingOf p types terms functions Δ (termIn p types terms e)) (cs .0) (cs .1) t)
                 (context-later rd (G .kept))
-                (ap₂ (λ c τ. (c, τ)) (entry-tree w (qi ∙ ap (listed p h) same)) (entry-tree w′ qj))))
-                (termsIn (termIn p types terms e)) {T = T} (λ i. ap (names i) (call-tree qe)) (omega arith)
-                (rule-call qe ∙ need-yes _ _ _ _ (eq-eqb n own same) ∙ good-and _ (argued ∙ ap doneOf x))) _ (G .kept) (omega arith)
-                (omega (arith, size-call qe))
+                (ap₂ (λ c τ. (c, τ)) (entry-tree w (qi ∙ ap (listed p h) same)) (entry-tree w′ qj)))
+                (ap (λ Δ. waitsIn Δ (termIn p types terms e)) (context-later rd (G .kept))))
+                (termsIn (termIn p types terms e)) {T = T} (λ i. ap (usedIn i) (call-tree qe)) refl (omega arith)
+                (rule-call qe ∙ need-yes _ _ _ _ (eq-eqb n own same) ∙ good-and _ (argued ∙ ap doneOf x))) _ (G .kept)
+                (G .waits f x ∙ ap (λ Δ. waitsInAll Δ (termsFrom p types terms at 0 n)) barred-context) (omega arith) (omega (arith, size-call qe)))
+                refl (sym (ap (waitsIn Γ) (call-tree qe) ∙ waits-call Γ t (first p at) (termsFrom p types terms at 0 n) (termIn p types terms e)))

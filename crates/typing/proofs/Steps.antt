@@ -10,8 +10,8 @@ use lib.ListN.{length, getD}
 use lib.Dec.{leb}
 use package.Rattle.rules.specs.Limits.{maxNodes}
 use package.Rattle.rules.specs.Ty.{Ty, nodes as nodesIn, sameTy}
-use package.Rattle.rules.specs.Term.{Term, var, tunit, tinl, tinr, troll, tunroll}
-use package.Rattle.rules.specs.Check.{term, Checked, good, _>>_, need, names, small, infer}
+use package.Rattle.rules.specs.Term.{Term, var, tunit, tinl, tinr, troll, tunroll, usedIn}
+use package.Rattle.rules.specs.Check.{Naming, term, Checked, good, _>>_, need, waits, waitsIn, small, infer}
 use package.Rattle.calls.specs.Entries.{typeAt, typeOf}
 use package.Rattle.program.specs.Parts.{variable, first, second}
 use package.Rattle.program.specs.Kinds.{inlKind, inrKind, sumKind, variableKind, unitKind, rollKind, unrollKind}
@@ -25,12 +25,16 @@ use package.Rattle.types.specs.declared.unfolding.Body.the-variants.{Of, Other}
 use package.Rattle.types.proofs.Trees.{tree-unit as unit-tree, tree-entry}
 use package.Rattle.types.proofs.Outer.{unit-known, entry-known}
 use package.Rattle.types.proofs.Asked.{sum-tree, a-sum, no-sum}
+use package.Rattle.types.proofs.Growing.{agree-refl}
 use package.Rattle.types.proofs.Unfold.{unfolds, recursive, not-recursive}
-use package.Rattle.typing.specs.Contexts.{NamedBy}
+use package.Rattle.typing.specs.Contexts.{UsedBy}
 use package.Rattle.typing.specs.Sizes.{termsIn}
 use package.Rattle.typing.specs.Outcomes.{faultOf}
-use package.Rattle.typing.specs.Ready.{termIn, contextIn, typingOf, typeIn, demanded, Ready, Here, Kept, Inferred, Seen, Bare, After, Expects}
+use package.Rattle.typing.specs.Ready.{termIn, variableAt, contextIn, typingOf, typeIn, demanded, Ready, Here, Kept, Inferred, Seen, Bare, After, Expects}
+use package.Rattle.typing.specs.Waiting.{Waited}
 use package.Rattle.typing.specs.Asked.{Infers}
+use package.Rattle.typing.proofs.Contexts.{waits-context}
+use package.Rattle.typing.proofs.Waiting.{added-none}
 use package.Rattle.typing.proofs.Answers.{Ends, ends-refused, ends-typed, inferred, kept-still, tree-later, known-later, stopped, need-yes, need-no}
 use package.Rattle.typing.proofs.Answers.{around, part-tested, ready-less}
 use package.Rattle.typing.proofs.Trees.{tree-var, tree-unit, tree-inl, tree-inr, parts-inject, tree-roll, parts-roll, tree-unroll, parts-unroll}
@@ -43,11 +47,11 @@ use Rattle.typing.specs.declared.outcomes.Out.{Out}
 ----------------------------------------------------------------
 -- A part whose type is demanded
 
-module _ {p types heap heap₁ : List ℕ} {size m : ℕ} {vars vars₁ : List ℕ} {top : ℕ} {E : Term} {r : Out} {part : Checked Ty}
-    (d : Inferred size E p types heap heap₁ m vars vars₁ top r part) (S : Sources p types heap top)
+module _ {p types heap heap₁ : List ℕ} {size m : ℕ} {vars vars₁ : List ℕ} {top : ℕ} {E : Term} {W : List Naming} {r : Out} {part : Checked Ty}
+    (d : Inferred size E W p types heap heap₁ m vars vars₁ top r part) (S : Sources p types heap top)
     {want answer : Code} (K : Known (length types) top want) (K′ : Known (length types) top answer) where
   pub demand-done : {t : ℕ} {out : Out} → After r out (Expects p types heap₁ want answer t)
-      → Inferred size E p types heap heap₁ m vars vars₁ top out (demanded part (treeIn p types heap want) (treeIn p types heap answer) t)
+      → Inferred size E W p types heap heap₁ m vars vars₁ top out (demanded part (treeIn p types heap want) (treeIn p types heap answer) t)
   unfolding faultOf
   demand-done {t} {out} A = part-tested d size next A refl (omega arith) λ f k n P. by f k n P
       (sameTy (treeIn p types heap₁ (f .code)) (treeIn p types heap₁ want)) refl
@@ -58,7 +62,7 @@ module _ {p types heap heap₁ : List ℕ} {size m : ℕ} {vars vars₁ : List �
       wanted : treeIn p types heap want ≡ treeIn p types heap₁ want
       wanted = tree-later S (d .kept) K
 
-      by : (f : Found) → Known (length types) (r .top) (f .code) → NamedBy (f .uses) E → Expects p types heap₁ want answer t f (out .status)
+      by : (f : Found) → Known (length types) (r .top) (f .code) → UsedBy (f .uses) E → Expects p types heap₁ want answer t f (out .status)
           → (b : Bool) → sameTy (treeIn p types heap₁ (f .code)) (treeIn p types heap₁ want) ≡ b
           → Ends E p types heap₁ (r .top) (out .status) (next (treeIn p types heap₁ (f .code)))
       by f k n P true q = ends-typed (P .yes q) (known-later S (d .kept) K′) n
@@ -70,32 +74,41 @@ module _ {p types heap heap₁ : List ℕ} {size m : ℕ} {vars vars₁ : List �
 
 module _ {p types terms functions nodes heap vars : List ℕ} {sc : Scope} {top t at : ℕ}
     (rd : Ready (termsIn (termIn p types terms t)) p types terms functions nodes heap vars sc top) where
-  pub var-done : Here p terms t at variableKind → {i : ℕ} → i ≡ variable p at → {r : Out} → Seen vars sc top t i r
-      → Infers p types terms functions heap heap vars vars sc top t r
-  unfolding infer
-  var-done H {i} e {r} N = inferred
-      (subst (λ x. Kept (termsIn (termIn p types terms t)) p types heap heap (sc .n) vars vars top x) (sym (N .same))
-      (kept-still _ (sc .n) vars (rd .scoped .sources)))
+  pub var-done : Here p terms t at variableKind → {i : ℕ} → i ≡ variable p at → {r : Out} {vars′ : List ℕ} → Seen vars vars′ sc top t i r
+      → Infers p types terms functions heap heap vars vars′ sc top t r
+  unfolding infer termsIn
+  var-done H {i} e {r} {vars′} N = inferred
+      (subst (λ x. Kept (termsIn (termIn p types terms t)) p types heap heap (sc .n) vars vars′ top x) (sym (N .same)) (record {
+        agree = agree-refl _ _;
+        sources = rd .scoped .sources;
+        grows = omega arith;
+        few = omega arith;
+        below = λ j l. N .below j (omega (arith, rd .scoped .few));
+        lengths = N .lengths;
+        waited = subst (λ n. Waited n vars vars′) (sym (ap termsIn is)) (N .waited);
+      }))
       (record {
         known = λ f q. subst (λ x. Known (length types) x (f .code)) (sym (N .same))
             (subst (Known (length types) top) (sym (N .code f q)) (rd .scoped .known i (N .there f q)));
-        uses = λ f q. record { each = λ j l. N .uses f q .each j l ∙ sym (ap (names j) is) };
+        uses = λ f q. record { each = λ j l. N .uses f q .each j l ∙ sym (ap (usedIn j) is) };
         answer = N .answer (treeIn p types heap) ∙ sym (ap (typingOf p types terms functions (contextIn p types heap vars sc)) is);
       })
+      (λ f q. N .waits f q ∙ sym (ap (waitsIn (contextIn p types heap vars sc)) is ∙ waits-context (λ i. treeIn p types heap (variableAt vars i)) sc (var t i)))
     where
       is : termIn p types terms t ≡ var t i
       is = tree-var (rd .entries) H ∙ ap (var t) (sym e)
 
   pub unit-done : Here p terms t at unitKind → {r : Out} → Bare top r
       → Infers p types terms functions heap heap vars vars sc top t r
-  unfolding infer
+  unfolding infer waits
   unit-done H {r} B = inferred
       (subst (λ x. Kept (termsIn (termIn p types terms t)) p types heap heap (sc .n) vars vars top x) (sym (B .same))
       (kept-still _ (sc .n) vars (rd .scoped .sources)))
       (ends-typed (B .is) (subst (Known (length types) (r .top)) (sym (B .code)) unit-known)
-      (record { each = λ j l. B .uses .each j l ∙ sym (ap (names j) is) })
+      (record { each = λ j l. B .uses .each j l ∙ sym (ap (usedIn j) is) })
       (ap (typingOf p types terms functions (contextIn p types heap vars sc)) is
       ∙ ap good (sym (ap (treeIn p types heap) (B .code) ∙ unit-tree (map (typeAt p) types) heap unitCode refl))))
+      (λ f q. added-none vars ∙ sym (ap (waitsIn (contextIn p types heap vars sc)) is))
     where
       is : termIn p types terms t ≡ tunit t
       is = tree-unit (rd .entries) H
@@ -162,7 +175,7 @@ module _ {p types terms functions nodes heap vars : List ℕ} {sc : Scope} {top 
 
   module _ {s : Shape} (S : Shaped p types heap top whole s) where
     pub inject-no : {r : Out} → ¬ (s .kind ≡ sumKind) → r .status ≡ Refused (Differ t) → r .top ≡ top
-        → Inferred (termsIn (termIn p types terms t)) (termIn p types terms t) p types heap heap (sc .n) vars vars top r rule
+        → Infers p types terms functions heap heap vars vars sc top t r
     unfolding infer faultOf
     inject-no n e x = stopped _ (sc .n) vars (rd .scoped .sources) e x (⊎-elim
         (λ k. ap (typingOf p types terms functions (contextIn p types heap vars sc)) (tree-left k) ∙ no-sum S (term t) _ n)
@@ -171,21 +184,21 @@ module _ {p types terms functions nodes heap vars : List ℕ} {sc : Scope} {top 
 
     module _ (sum-kind : s .kind ≡ sumKind) {heap′ vars′ : List ℕ} {out : Out} where
       pub inject-left : kind ≡ inlKind
-          → Inferred (termsIn E) E p types heap heap′ (sc .n) vars vars′ top out
+          → Inferred (termsIn E) E (waitsIn (contextIn p types heap vars sc) E) p types heap heap′ (sc .n) vars vars′ top out
           (demanded (typeIn p types terms functions heap vars sc part) (treeIn p types heap (s .first)) (treeIn p types heap whole) t)
-          → Inferred (termsIn (termIn p types terms t)) (termIn p types terms t) p types heap heap′ (sc .n) vars vars′ top out rule
-      unfolding infer
-      inject-left k d = around d _ (λ i. ap (names i) (tree-left k)) (omega (arith, size-inject))
+          → Infers p types terms functions heap heap′ vars vars′ sc top t out
+      unfolding infer waits
+      inject-left k d = around d _ (λ i. ap (usedIn i) (tree-left k)) (ap (waitsIn (contextIn p types heap vars sc)) (tree-left k)) (omega (arith, size-inject))
           (ap (typingOf p types terms functions (contextIn p types heap vars sc)) (tree-left k) ∙ a-sum S (term t) _ sum-kind
           ∙ ap (λ c. demanded (typeIn p types terms functions heap vars sc part) (treeIn p types heap (s .first)) c t) (sym (sum-tree S sum-kind)))
 
       pub inject-right : ¬ (kind ≡ inlKind)
-          → Inferred (termsIn E) E p types heap heap′ (sc .n) vars vars′ top out
+          → Inferred (termsIn E) E (waitsIn (contextIn p types heap vars sc) E) p types heap heap′ (sc .n) vars vars′ top out
           (demanded (typeIn p types terms functions heap vars sc part) (treeIn p types heap (s .second)) (treeIn p types heap whole) t)
-          → Inferred (termsIn (termIn p types terms t)) (termIn p types terms t) p types heap heap′ (sc .n) vars vars′ top out rule
-      unfolding infer
+          → Infers p types terms functions heap heap′ vars vars′ sc top t out
+      unfolding infer waits
       inject-right n d = let k : kind ≡ inrKind = omega arith in
-          around d _ (λ i. ap (names i) (tree-right k)) (omega (arith, size-inject))
+          around d _ (λ i. ap (usedIn i) (tree-right k)) (ap (waitsIn (contextIn p types heap vars sc)) (tree-right k)) (omega (arith, size-inject))
           (ap (typingOf p types terms functions (contextIn p types heap vars sc)) (tree-right k) ∙ a-sum S (term t) _ sum-kind
           ∙ ap (λ c. demanded (typeIn p types terms functions heap vars sc part) (treeIn p types heap (s .second)) c t) (sym (sum-tree S sum-kind)))
 
@@ -229,11 +242,12 @@ module _ {p types terms functions nodes heap vars : List ℕ} {sc : Scope} {top 
       roll-known = roll-unfolds .known
 
       pub roll-done : {whole : Code} → whole ≡ entryCode i → {heap′ vars′ : List ℕ} {out : Out}
-          → Inferred (termsIn (termIn p types terms part)) (termIn p types terms part) p types heap heap′ (sc .n) vars vars′ top out
+          → Inferred (termsIn (termIn p types terms part)) (termIn p types terms part) (waitsIn (contextIn p types heap vars sc) (termIn p types terms part))
+          p types heap heap′ (sc .n) vars vars′ top out
           (demanded (typeIn p types terms functions heap vars sc part) (treeIn p types heap c) (treeIn p types heap whole) t)
           → Infers p types terms functions heap heap′ vars vars′ sc top t out
-      unfolding infer
-      roll-done w d = around d _ (λ i. ap (names i) rolled) (omega (arith, size-roll))
+      unfolding infer waits
+      roll-done w d = around d _ (λ i. ap (usedIn i) rolled) (ap (waitsIn (contextIn p types heap vars sc)) rolled) (omega (arith, size-roll))
           (ap (typingOf p types terms functions (contextIn p types heap vars sc)) rolled
           ∙ recursive (rd .scoped .sources) i roll-type (term t) _ roll-unfolds
           ∙ ap₂ (λ c τ. demanded (typeIn p types terms functions heap vars sc part) c τ t) (sym (roll-unfolds .tree))
@@ -293,9 +307,11 @@ module _ {p types terms functions nodes heap vars : List ℕ} {sc : Scope} {top 
         unroll-large n s x = stopped _ (sc .n) vars (rd .scoped .sources) s x (unroll-rule ∙ need-no _ _ _ _ (sym within ∙ n))
 
         pub unroll-done : {whole : Code} → ok ≡ true → whole ≡ entryCode i → {heap′ vars′ : List ℕ} {out : Out}
-            → Inferred (termsIn (termIn p types terms part)) (termIn p types terms part) p types heap heap′ (sc .n) vars vars′ top out
+            → Inferred (termsIn (termIn p types terms part)) (termIn p types terms part) (waitsIn (contextIn p types heap vars sc) (termIn p types terms part))
+            p types heap heap′ (sc .n) vars vars′ top out
             (demanded (typeIn p types terms functions heap vars sc part) (treeIn p types heap whole) (treeIn p types heap c) t)
             → Infers p types terms functions heap heap′ vars vars′ sc top t out
-        unroll-done y w d = around d _ (λ i. ap (names i) unrolled) (omega (arith, size-unroll))
+        unfolding waits
+        unroll-done y w d = around d _ (λ i. ap (usedIn i) unrolled) (ap (waitsIn (contextIn p types heap vars sc)) unrolled) (omega (arith, size-unroll))
             (unroll-rule ∙ need-yes _ _ _ _ (sym within ∙ y)
             ∙ ap (λ w. demanded (typeIn p types terms functions heap vars sc part) (treeIn p types heap w) (treeIn p types heap c) t) (sym w))

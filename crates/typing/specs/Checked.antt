@@ -2,7 +2,7 @@
 -- calls/specs/Load: of all functions, of one, and of one whose body is typed.
 use Prim.Native.Nat.{ℕ, _*_, _≤_, _<_}
 use mathlib.Core.Path.{_≡_}
-use mathlib.Core.Bool.{Bool, true, _||_}
+use mathlib.Core.Bool.{Bool, true, false, _||_}
 use mathlib.Core.List.{List, [], _∷_, map}
 use lib.ListN.{length, getD, take}
 use package.Rattle.rules.specs.Limits.{maxTerms, maxVariables, maxNodes}
@@ -19,7 +19,8 @@ use package.Rattle.program.specs.Places.{placesOf, Placed}
 use package.Rattle.program.specs.Signatures.{SignatureIs}
 use package.Rattle.program.specs.Programs.{functionIn, programIn}
 use package.Rattle.types.specs.Codes.{nodeBytes, treeIn, Known}
-use package.Rattle.typing.specs.Ready.{variableBytes, variableAt, contextIn, Scoped}
+use package.Rattle.typing.specs.Ready.{variableAt, contextIn, Scoped}
+use package.Rattle.typing.specs.Waiting.{scopeBytes, countIn}
 use package.Rattle.typing.specs.declared.outcomes.Scope.{Scope}
 use package.Rattle.typing.specs.declared.outcomes.Fault.{Fault}
 use package.Rattle.typing.specs.declared.outcomes.Fault.the-variants as fault
@@ -48,17 +49,20 @@ pub record Signed (xs types : List ℕ) (at : ℕ) (row : List ℕ) : Type 0 whe
   pub signature : SignatureIs (functionAt xs at) row
   pub there : below (length types) (typesOfFunction (functionAt xs at)) ≡ true
 
--- The first `n` variables have the types of the first `n` parameters.
+-- The first `n` variables have the types of the first `n` parameters, and no naming waits.
 pub record Bound (xs types heap vars row : List ℕ) (n : ℕ) : Type 0 where
-  pub slots : variableBytes * maxVariables ≤ length vars
+  pub slots : scopeBytes ≤ length vars
   pub known : (i : ℕ) → i < n → Known (length types) 0 (variableAt vars i)
   pub tree : (i : ℕ) → i < n → treeIn xs types heap (variableAt vars i) ≡ typeOf (map (typeAt xs) types) (getD row i 0)
+  pub none-wait : countIn vars ≡ 0
 
 -- The scope is that of the parameters of the function whose field is at `at`: all but the last are ancillae.
 pub record Started (xs types heap vars : List ℕ) (at : ℕ) (sc : Scope) : Type 0 where
   pub scoped : Scoped xs types heap vars sc 0
+  pub none-wait : countIn vars ≡ 0
   pub context : contextIn xs types heap vars sc
-      ≡ dynamic (typeOf (map (typeAt xs) types) (functionAt xs at .dynamic)) ∷ statics (map (typeOf (map (typeAt xs) types)) (functionAt xs at .ancillae)) []
+      ≡ dynamic false (typeOf (map (typeAt xs) types) (functionAt xs at .dynamic))
+      ∷ statics (map (typeOf (map (typeAt xs) types)) (functionAt xs at .ancillae)) []
 
 ----------------------------------------------------------------
 -- The definitions' answers

@@ -1,6 +1,8 @@
 -- The checker in code. The modules in reading order:
 -- contexts as the code holds them
 pub mod Contexts
+-- namings that wait, in lent bytes
+pub mod Waiting
 -- how many terms a tree has
 pub mod Sizes
 -- what an outcome means

@@ -1,15 +1,15 @@
 -- What typing a term in code asks for, and what it ensures. Types stand as codes: of product nodes in the bytes `heap`, of the variables in
--- scope in the bytes `vars`, six bytes each. Laws: proofs/Answers.
+-- scope in the bytes `vars`, six bytes each, with the namings that wait behind them (Waiting). Laws: proofs/Answers.
 use Prim.Native.Nat.{ℕ, _+_, _*_, _-_, _≤_, _<_}
 use mathlib.Core.Path.{_≡_}
-use mathlib.Core.Bool.{Bool, true, false, _&&_, _||_}
+use mathlib.Core.Bool.{Bool, true, false, not, _&&_, _||_}
 use mathlib.Core.List.{List, _∷_, map}
 use lib.ListN.{length, getD}
 use package.Rattle.rules.specs.Limits.{maxTerms, maxVariables, maxNodes}
 use package.Rattle.rules.specs.Ty.{Ty, isUnit, sameTy}
-use package.Rattle.rules.specs.Term.{Term, Terms, look}
+use package.Rattle.rules.specs.Term.{Term, Terms, var, look}
 use package.Rattle.rules.specs.Typing.{dynamic, Context}
-use package.Rattle.rules.specs.Check.{term, Checked, good, _>>=_, _>>_, need, visible, spent, sameUse, infer, inferArguments}
+use package.Rattle.rules.specs.Check.{Naming, term, Checked, good, _>>=_, _>>_, need, visible, spent, sameUse, waits, waitsInAll, infer, inferArguments}
 use package.Rattle.calls.specs.Fields.{kindAt, lengthAt, parametersAt}
 use package.Rattle.calls.specs.Entries.{typeAt, typeOf, termAt, termOf, termTrees, callAncillae, references, entriesAt}
 use package.Rattle.calls.specs.Tested.{Good}
@@ -22,12 +22,14 @@ use package.Rattle.types.specs.Codes.{Room, codeAt, unitCode, productCode, tree
 use package.Rattle.types.specs.Counts.{Counted}
 use package.Rattle.types.specs.Growth.{Agree, Made}
 use package.Rattle.varsets.specs.declared.Uses.{Uses}
-use package.Rattle.varsets.specs.Sets.{Holds, has, nobody, alone, joined, AgreeOn}
-use package.Rattle.typing.specs.Contexts.{contextAt, NamedBy, Owed}
+use package.Rattle.varsets.specs.Sets.{Holds, has, nobody, alone, ranged, joined, AgreeOn}
+use package.Rattle.typing.specs.Contexts.{contextAt, UsedBy, Owed}
+use package.Rattle.typing.specs.Waiting.{variableBytes, scopeBytes, countAt, countIn, added, Waited, dynamicIn, markedIn, Settles}
 use package.Rattle.typing.specs.Sizes.{termsInAll}
 use package.Rattle.typing.specs.Outcomes.{statusOf, meaning, doneOf}
 use Rattle.typing.specs.declared.outcomes.Scope.{Scope}
 use Rattle.typing.specs.declared.outcomes.Found.{Found}
+use Rattle.typing.specs.declared.namings.Lowest.{Lowest}
 use Rattle.typing.specs.declared.outcomes.Fault.{Fault}
 use Rattle.typing.specs.declared.outcomes.Fault.the-variants.{Differ, Misused}
 use Rattle.typing.specs.declared.outcomes.Status.{Status}
@@ -41,15 +43,12 @@ use Rattle.typing.specs.declared.outcomes.Out.{Out}
 abbrev pub termIn : List ℕ → List ℕ → List ℕ → ℕ → Term
 termIn p types terms t = termOf (map (typeAt p) types) (map (termAt p) terms) t
 
-abbrev pub variableBytes : ℕ
-variableBytes = 6
-
 -- the code of variable `i`
 abbrev pub variableAt : List ℕ → ℕ → Code
 variableAt vars i = codeAt vars (variableBytes * i)
 
 abbrev pub contextIn : (p types heap vars : List ℕ) → Scope → Context
-contextIn p types heap vars sc = contextAt (λ i. treeIn p types heap (variableAt vars i)) (sc .q) (sc .lo) (sc .n)
+contextIn p types heap vars sc = contextAt (λ i. treeIn p types heap (variableAt vars i)) (sc .q) (sc .lo) (has (sc .marks)) (sc .n)
 
 -- the rules' answer for a tree, with section 1's limits
 abbrev pub typingOf : (p types terms functions : List ℕ) → Context → Term → Checked Ty
@@ -68,22 +67,24 @@ pub record Entered (p types terms functions nodes : List ℕ) : Type 0 where
   pub tested : Good (entriesAt p (placesOf types terms functions))
   pub counted : Counted p types nodes
 
--- Every variable in scope has a type, and the scope's set has those that must be used.
+-- Every variable in scope has a type, and the scope's sets have those that must be used, and marked ones.
 pub record Scoped (p types heap vars : List ℕ) (sc : Scope) (top : ℕ) : Type 0 where
   pub sources : Sources p types heap top
-  pub slots : variableBytes * maxVariables ≤ length vars
+  pub slots : scopeBytes ≤ length vars
   pub static : sc .q ≤ sc .n
   pub low : sc .lo ≤ sc .n
   pub few : sc .n ≤ maxVariables
   pub known : (i : ℕ) → i < sc .n → Known (length types) top (variableAt vars i)
   pub owed : Owed (sc .owed) (contextIn p types heap vars sc)
+  pub unmarked : (i : ℕ) → sc .n ≤ i → i < maxVariables → has (sc .marks) i ≡ false
 
--- A term can be typed in the scope: there is room for `size` product nodes more.
+-- A term can be typed in the scope: there is room for `size` product nodes more, and for as many namings.
 pub record Ready (size : ℕ) (p types terms functions nodes heap vars : List ℕ) (sc : Scope) (top : ℕ) : Type 0 where
   pub entries : Entered p types terms functions nodes
   pub scoped : Scoped p types heap vars sc top
   pub room : Room heap maxTerms
   pub small : top + size ≤ maxTerms
+  pub waiting : countIn vars + size ≤ maxTerms
 
 -- term `t` has its field at `at`, and is of this kind
 pub record Here (p terms : List ℕ) (t at kind : ℕ) : Type 0 where
@@ -94,7 +95,8 @@ pub record Here (p terms : List ℕ) (t at kind : ℕ) : Type 0 where
 ----------------------------------------------------------------
 -- After
 
--- At most `size` product nodes were made; older ones and the types of the first `m` variables are as they were.
+-- At most `size` product nodes were made, and so many namings came to wait; older ones and the types of the first `m` variables are as they
+-- were.
 pub record Kept (size : ℕ) (p types heap heap′ : List ℕ) (m : ℕ) (vars vars′ : List ℕ) (top top′ : ℕ) : Type 0 where
   pub agree : Agree top heap heap′
   pub sources : Sources p types heap′ top′
@@ -102,12 +104,16 @@ pub record Kept (size : ℕ) (p types heap heap′ : List ℕ) (m : ℕ) (vars v
   pub few : top′ ≤ top + size
   pub below : (j : ℕ) → j < variableBytes * m → getD vars j 0 ≡ getD vars′ j 0
   pub lengths : length vars ≡ length vars′
+  pub waited : Waited size vars vars′
 
--- The outcome means `res`; if it is a type, its code is known, and its uses are the variables that the term `T` names.
-pub record Inferred (size : ℕ) (T : Term) (p types heap heap′ : List ℕ) (m : ℕ) (vars vars′ : List ℕ) (top : ℕ) (out : Out) (res : Checked Ty) : Type 0 where
+-- The outcome means `res`; if it is a type, its code is known, its uses are the variables that the term `T` uses, and the namings `W` came
+-- to wait.
+pub record Inferred (size : ℕ) (T : Term) (W : List Naming) (p types heap heap′ : List ℕ) (m : ℕ)
+    (vars vars′ : List ℕ) (top : ℕ) (out : Out) (res : Checked Ty) : Type 0 where
   pub kept : Kept size p types heap heap′ m vars vars′ top (out .top)
   pub known : (f : Found) → out .status ≡ Typed f → Known (length types) (out .top) (f .code)
-  pub uses : (f : Found) → out .status ≡ Typed f → NamedBy (f .uses) T
+  pub uses : (f : Found) → out .status ≡ Typed f → UsedBy (f .uses) T
+  pub waits : (f : Found) → out .status ≡ Typed f → added vars vars′ ≡ W
   pub answer : meaning p types heap′ out ≡ res
 
 ----------------------------------------------------------------
@@ -123,9 +129,9 @@ demanded part c τ t = do
 -- the branches of case `t`, over the types that they bind
 abbrev pub branchesOf : (p types terms functions : List ℕ) → Context → ℕ → Term → Term → Ty → Ty → Checked Ty
 branchesOf p types terms functions Δ t b b′ c d = do
-  τ ← typingOf p types terms functions (dynamic c ∷ Δ) b
+  τ ← typingOf p types terms functions (dynamic false c ∷ Δ) b
   need (spent (length Δ) c b) 8 (term t)
-  τ′ ← typingOf p types terms functions (dynamic d ∷ Δ) b′
+  τ′ ← typingOf p types terms functions (dynamic false d ∷ Δ) b′
   need (sameTy τ τ′) 6 (term t)
   need (spent (length Δ) d b′ && sameUse Δ b b′) 8 (term t)
   good τ
@@ -153,6 +159,8 @@ pub record Argued (p types terms functions heap heap′ vars vars′ : List ℕ)
   pub answer : doneOf (out .status)
       ≡ inferArguments maxVariables maxNodes (programIn p types terms functions) t (contextIn p types heap vars sc)
       (termsFrom p types terms at k count) (typesFrom p types h k count)
+  pub waits : (f : Found) → out .status ≡ Typed f
+      → added vars vars′ ≡ waitsInAll (contextIn p types heap vars sc) (termsFrom p types terms at k count)
 
 ----------------------------------------------------------------
 -- Single tests
@@ -165,13 +173,18 @@ pub record Reads (vars : List ℕ) (top i : ℕ) (r : Out) : Type 0 where
   pub code : found .code ≡ variableAt vars i
   pub uses : Holds (found .uses) (alone i)
 
--- A variable's type, as the context has it (7 and 8), whatever the trees of codes are.
-pub record Seen (vars : List ℕ) (sc : Scope) (top t i : ℕ) (r : Out) : Type 0 where
+-- A variable's type, as the context has it (7 and 8), whatever the trees of codes are; a naming that a let could help waits.
+pub record Seen (vars vars′ : List ℕ) (sc : Scope) (top t i : ℕ) (r : Out) : Type 0 where
   pub same : r .top ≡ top
   pub there : (f : Found) → r .status ≡ Typed f → i < sc .n
   pub code : (f : Found) → r .status ≡ Typed f → f .code ≡ variableAt vars i
   pub uses : (f : Found) → r .status ≡ Typed f → Holds (f .uses) (alone i)
-  pub answer : (T : Code → Ty) → statusOf T (r .status) ≡ visible (term t) (look (contextAt (λ j. T (variableAt vars j)) (sc .q) (sc .lo) (sc .n)) i)
+  pub answer : (T : Code → Ty)
+      → statusOf T (r .status) ≡ visible (term t) (look (contextAt (λ j. T (variableAt vars j)) (sc .q) (sc .lo) (has (sc .marks)) (sc .n)) i)
+  pub waits : (f : Found) → r .status ≡ Typed f → added vars vars′ ≡ waits (dynamicIn sc) (markedIn sc) (sc .n) (var t i)
+  pub waited : Waited 1 vars vars′
+  pub below : (j : ℕ) → j < countAt → getD vars j 0 ≡ getD vars′ j 0
+  pub lengths : length vars ≡ length vars′
 
 -- The unit type, and no uses.
 pub record Bare (top : ℕ) (r : Out) : Type 0 where
@@ -185,9 +198,18 @@ pub record Bare (top : ℕ) (r : Out) : Type 0 where
 pub record Widened (p types heap vars vars′ : List ℕ) (sc : Scope) (top : ℕ) (c : Code) (r : Scope) : Type 0 where
   pub scoped : Scoped p types heap vars′ r top
   pub one-more : r .n ≡ sc .n + 1
-  pub context : contextIn p types heap vars′ r ≡ dynamic (treeIn p types heap c) ∷ contextIn p types heap vars sc
+  pub context : contextIn p types heap vars′ r ≡ dynamic false (treeIn p types heap c) ∷ contextIn p types heap vars sc
   pub below : (j : ℕ) → j < variableBytes * sc .n → getD vars j 0 ≡ getD vars′ j 0
   pub lengths : length vars ≡ length vars′
+  pub waited : Waited 0 vars vars′
+
+-- the scope of the bound term of a let in scope `sc`
+pub record MarkedScope (sc r : Scope) : Type 0 where
+  pub q : r .q ≡ sc .q
+  pub lo : r .lo ≡ sc .lo
+  pub n : r .n ≡ sc .n
+  pub owed : r .owed ≡ sc .owed
+  pub marks : Holds (r .marks) (joined (has (sc .marks)) (ranged (sc .lo) (sc .n)))
 
 -- the outcome of a part, whose type is known
 pub record PartKnown (p types heap : List ℕ) (out : Out) : Type 0 where
@@ -198,6 +220,12 @@ pub record PartKnown (p types heap : List ℕ) (out : Out) : Type 0 where
 pub record After (out r : Out) (Next : Found → Status → Type 0) : Type 0 where
   pub same : r .top ≡ out .top
   pub refused : (w : Fault) → out .status ≡ Refused w → r .status ≡ Refused w
+  pub typed : (f : Found) → out .status ≡ Typed f → Next f (r .status)
+
+-- the same after the body of a let: after a refusal the lent bytes are as they were
+pub record AfterBody (vars vars′ : List ℕ) (out r : Out) (Next : Found → Status → Type 0) : Type 0 where
+  pub same : r .top ≡ out .top
+  pub refused : (w : Fault) → out .status ≡ Refused w → (r .status ≡ Refused w) × (vars′ ≡ vars)
   pub typed : (f : Found) → out .status ≡ Typed f → Next f (r .status)
 
 -- the type of `f`, and the uses of both
@@ -224,15 +252,20 @@ Expects p types heap want answer t f s =
 abbrev pub spentBy : (p types heap : List ℕ) → Code → ℕ → Uses → Bool
 spentBy p types heap c i u = isUnit (treeIn p types heap c) || has u i
 
--- the body's type, if the variables that it binds are used (8)
-abbrev pub Closes : Bool → Uses → ℕ → Found → Status → Type 0
-Closes b u t f s = Picks b (Joins f u) (Refuses (Misused t)) s
+-- The body of a let in scope `sc` is typed, with `f`; `b` tells whether it uses what the let binds. The namings `from` to `to` are settled, and
+-- the answer is the body's type, or 8 at the lowest place.
+pub record Closes (vars vars′ : List ℕ) (sc : Scope) (u : Uses) (b : Bool) (t from to : ℕ) (f : Found) (s : Status) : Type 0 where
+  pub low : Lowest
+  pub settles : Settles sc (f .uses) vars vars′ from to (record { some = not b; place = t }) low
+  pub yes : low .some ≡ false → Joins f u s
+  pub no : low .some ≡ true → s ≡ Refused (Misused (low .place))
 
-abbrev pub ClosesOne : (p types heap : List ℕ) → Uses → ℕ → Code → ℕ → Found → Status → Type 0
-ClosesOne p types heap u i c t f s = Closes (spentBy p types heap c i (f .uses)) u t f s
+abbrev pub ClosesOne : (p types heap vars vars′ : List ℕ) → Scope → Uses → Code → (t from to : ℕ) → Found → Status → Type 0
+ClosesOne p types heap vars vars′ sc u c t from to f s = Closes vars vars′ sc u (spentBy p types heap c (sc .n) (f .uses)) t from to f s
 
-abbrev pub ClosesTwo : (p types heap : List ℕ) → Uses → ℕ → Code → Code → ℕ → Found → Status → Type 0
-ClosesTwo p types heap u i c d t f s = Closes (spentBy p types heap c i (f .uses) && spentBy p types heap d (i + 1) (f .uses)) u t f s
+abbrev pub ClosesTwo : (p types heap vars vars′ : List ℕ) → Scope → Uses → Code → Code → (t from to : ℕ) → Found → Status → Type 0
+ClosesTwo p types heap vars vars′ sc u c d t from to f s =
+    Closes vars vars′ sc u (spentBy p types heap c (sc .n) (f .uses) && spentBy p types heap d (sc .n + 1) (f .uses)) t from to f s
 
 -- the type of `l`, and the uses of both and of `u`
 pub record Unites (l f : Found) (u : Uses) (s : Status) : Type 0 where

@@ -1,6 +1,7 @@
 // Terms that bind variables: let, let pair and case. The variables are bound in the scope's lent bytes, and bytes of older ones stay. Laws:
 // proofs/Binding, Branching.
 use crate::infer;
+use crate::namings;
 use crate::outcomes;
 use crate::outcomes::Out;
 use crate::outcomes::Scope;
@@ -37,20 +38,34 @@ pub fn let_one(
     ensures { λ r. ⌜ Infers (now (p .entry)) (now (types .entry)) (now (terms .entry)) (now (funs .entry))
         (now (ws .entry)) (now (ws .exit)) (now (vars .entry)) (now (vars .exit)) sc top t r ⌝ }
 {
-    let n = sc.n;
-    if n == MOST_VARIABLES {
+    if sc.n == MOST_VARIABLES {
         return outcomes::unscoped(top, t);
     }
     let bound = program::views::first(p, at);
     let body = program::views::second(p, at);
-    let r = infer::infer(p, types, terms, funs, sigs, nodes, ws, vars, sc, top, bound);
+    let from = namings::count(vars);
+    let lent = variables::marked(sc);
+    let r = infer::infer(
+        p,
+        types,
+        terms,
+        funs,
+        sigs,
+        nodes,
+        ws,
+        vars,
+        lent,
+        top,
+        bound,
+    );
     let status = r.status;
     let m = r.top;
     match status {
         Status::Typed(f) => {
+            let to = namings::count(vars);
             let inner = variables::bind(p, types, ws, vars, sc, m, f.code);
             let r2 = infer::infer(p, types, terms, funs, sigs, nodes, ws, vars, inner, m, body);
-            tests::close_one(p, types, ws, r2, f.uses, n, f.code, t)
+            tests::close_one(p, types, ws, vars, r2, f.uses, sc, f.code, t, from, to)
         }
         Status::Refused(_) => r,
     }
@@ -80,7 +95,21 @@ pub fn let_two(
     }
     let bound = program::views::first(p, at);
     let body = program::views::second(p, at);
-    let r = infer::infer(p, types, terms, funs, sigs, nodes, ws, vars, sc, top, bound);
+    let from = namings::count(vars);
+    let lent = variables::marked(sc);
+    let r = infer::infer(
+        p,
+        types,
+        terms,
+        funs,
+        sigs,
+        nodes,
+        ws,
+        vars,
+        lent,
+        top,
+        bound,
+    );
     let status = r.status;
     let m = r.top;
     match status {
@@ -90,10 +119,24 @@ pub fn let_two(
             if form != kinds::PRODUCT {
                 return outcomes::differ(m, t);
             }
+            let to = namings::count(vars);
             let one = variables::bind(p, types, ws, vars, sc, m, s.first);
             let two = variables::bind(p, types, ws, vars, one, m, s.second);
             let r2 = infer::infer(p, types, terms, funs, sigs, nodes, ws, vars, two, m, body);
-            tests::close_two(p, types, ws, r2, f.uses, sc.n, s.first, s.second, t)
+            tests::close_two(
+                p,
+                types,
+                ws,
+                vars,
+                r2,
+                f.uses,
+                sc,
+                s.first,
+                s.second,
+                t,
+                from,
+                to,
+            )
         }
         Status::Refused(_) => r,
     }

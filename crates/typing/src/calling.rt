@@ -13,7 +13,8 @@ use varsets::Uses;
 ghost use Rattle.program.specs.Kinds.{callKind};
 ghost use Rattle.typing.specs.Asked.{ReadyAt, ReadyArguments, Infers, InfersArguments};
 
-// The ancilla arguments of call t, of function g, from number k of `count` on. Their uses count for nothing: they name no dynamic variable bound outside.
+// The ancilla arguments of call t, of function g, from number k of `count` on. Their uses count for nothing: of a dynamic variable bound outside
+// they are namings.
 fn arguments(
     p: &[u8],
     types: &[u16],
@@ -70,7 +71,7 @@ fn arguments(
     }
 }
 
-// A call: ancilla arguments name no dynamic variable of the scope; the dynamic argument may.
+// A call: ancilla arguments name no dynamic variable of the scope, but for what a let around could help; the dynamic argument may.
 pub fn call(
     p: &[u8],
     types: &[u16],
@@ -98,11 +99,13 @@ pub fn call(
         return outcomes::differ(top, t);
     }
     let nobody = Uses::none();
+    let marks = sc.marks;
     let barred = Scope {
         q: sc.q,
         lo: sc.n,
         n: sc.n,
         owed: nobody,
+        marks,
     };
     let r = arguments(
         p,

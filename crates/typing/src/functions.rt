@@ -2,27 +2,25 @@
 // parameters' types come from the table of signatures, which was filled when the functions were read; product nodes of one function are
 // not needed by the next, so each function has all the room for them.
 use crate::infer;
+use crate::namings::SCOPE_BYTES;
 use crate::outcomes::Fault;
 use crate::outcomes::Scope;
 use crate::outcomes::Status;
 use crate::variables;
-use crate::variables::VARIABLE_BYTES;
 use rules::MAX_FUNCTIONS;
 use rules::MAX_PARAMETERS;
-use rules::MAX_VARIABLES;
 use types::codes;
 use types::codes::Code;
 use types::compare;
 use varsets::Uses;
 ghost use mathlib.Core.Path.{_≡_};
-ghost use Prim.Native.Nat.{_*_, _-_, _≤_, _<_};
+ghost use Prim.Native.Nat.{_-_, _≤_, _<_};
 ghost use lib.ListN.{length, getD};
-ghost use Rattle.rules.specs.Limits.{maxVariables};
 ghost use Rattle.calls.specs.Fields.{parametersAt};
 ghost use Rattle.program.specs.Signatures.{SignaturesAre};
 ghost use Rattle.types.specs.Codes.{treeIn, Sources, Known};
 ghost use Rattle.varsets.specs.Sets.{has};
-ghost use Rattle.typing.specs.Ready.{variableBytes};
+ghost use Rattle.typing.specs.Waiting.{scopeBytes, countIn};
 ghost use Rattle.typing.specs.Checked.{verdictOf, Typeable, Signed, Bound, Started, typingAnswer, functionAnswer, endAnswer, faultAnswer};
 
 // What typing the functions answers: they are typed, or refusal 6, 7 or 8 at a field's offset.
@@ -45,7 +43,7 @@ fn bind_ancillae(
 )
     requires { ⌜ Sources (now p) (now types) (now ws) 0 ⌝ }
     requires { ⌜ Signed (now p) (now types) at row ⌝ }
-    requires { ⌜ (q < parametersAt (now p) at) × (variableBytes * maxVariables ≤ length (now vars)) ⌝ }
+    requires { ⌜ (q < parametersAt (now p) at) × (scopeBytes ≤ length (now vars)) × (countIn (now vars) ≡ 0) ⌝ }
     ensures { λ _. ⌜ Bound (now (p .entry)) (now (types .entry)) (now (ws .entry)) (now (vars .exit)) row q ⌝ }
 {
     let none = Uses::none();
@@ -58,6 +56,7 @@ fn bind_ancillae(
             lo: 0,
             n: i,
             owed: none,
+            marks: none,
         };
         variables::bind(p, types, ws, vars, sc, 0, c);
         i += 1;
@@ -75,7 +74,7 @@ fn bind_parameters(
 ) -> Scope
     requires { ⌜ Sources (now p) (now types) (now ws) 0 ⌝ }
     requires { ⌜ Signed (now p) (now types) at row ⌝ }
-    requires { ⌜ variableBytes * maxVariables ≤ length (now vars) ⌝ }
+    requires { ⌜ (scopeBytes ≤ length (now vars)) × (countIn (now vars) ≡ 0) ⌝ }
     ensures { λ r. ⌜ Started (now (p .entry)) (now (types .entry)) (now (ws .entry)) (now (vars .exit)) at r ⌝ }
 {
     let last = program::views::function_parameters(p, at) - 1;
@@ -88,6 +87,7 @@ fn bind_parameters(
         lo: 0,
         n: q,
         owed: none,
+        marks: none,
     };
     variables::bind(p, types, ws, vars, sc, 0, c)
 }
@@ -164,7 +164,7 @@ fn check_function(
     let row = table[g];
     let at = octets::wide_index(functions[g]);
     let body = program::views::function_body(p, at);
-    let mut vars = [0u8; VARIABLE_BYTES * MAX_VARIABLES];
+    let mut vars = [0u8; SCOPE_BYTES];
     let sc = bind_parameters(p, types, ws, &mut vars, at, row);
     let out = infer::infer(
         p,

@@ -17,7 +17,7 @@ pub fn offset(entries: &[u16], i: u16) -> usize
     octets::wide_index(entries[k])
 }
 
-// Unit names no variable.
+// Unit uses no variable.
 pub fn unit(top: u32) -> Out
     ensures { λ r. ⌜ Bare top r ⌝ }
 {

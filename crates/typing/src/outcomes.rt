@@ -6,15 +6,16 @@ ghost use Rattle.typing.specs.declared.outcomes.Fault.the-variants.{Diff
 ghost use Rattle.typing.specs.declared.outcomes.Status.the-variants.{Refused};
 
 // The variables in scope, n of them: the first q are ancilla parameters, those from q on and below lo are barred; `owed` are those that
-// must be used. Their types stand in lent bytes.
+// must be used, `marks` those whose namings a let could help (document 02, F-2). Their types, and the namings that wait, stand in lent bytes.
 pub struct Scope {
     pub q: u8,
     pub lo: u8,
     pub n: u8,
     pub owed: Uses,
+    pub marks: Uses,
 }
 
-// The type of a term, and the variables that it names.
+// The type of a term, and the variables that it uses.
 pub struct Found {
     pub code: Code,
     pub uses: Uses,

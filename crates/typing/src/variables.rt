@@ -1,4 +1,5 @@
-// The types of the variables in scope, as codes in lent bytes, six bytes each: only this module knows the layout.
+// The types of the variables in scope, as codes in lent bytes, six bytes each: only this module knows their layout.
+use crate::namings;
 use crate::outcomes;
 use crate::outcomes::Found;
 use crate::outcomes::Out;
@@ -9,9 +10,10 @@ use varsets::Uses;
 ghost use mathlib.Core.Path.{_≡_};
 ghost use Prim.Native.Nat.{_*_, _≤_, _<_};
 ghost use lib.ListN.{length};
-ghost use Rattle.rules.specs.Limits.{maxVariables};
+ghost use Rattle.rules.specs.Limits.{maxTerms, maxVariables};
 ghost use Rattle.types.specs.Codes.{Known};
-ghost use Rattle.typing.specs.Ready.{variableBytes, variableAt, Scoped, Reads, Seen, Widened};
+ghost use Rattle.typing.specs.Ready.{variableAt, Scoped, Reads, Seen, Widened, MarkedScope};
+ghost use Rattle.typing.specs.Waiting.{variableBytes, scopeBytes, countIn};
 
 pub const VARIABLE_BYTES: usize = 6;
 
@@ -42,10 +44,10 @@ fn named(vars: &[u8], top: u32, i: u8) -> Out
     }
 }
 
-// Variable i as a term: its type, unless it is not in scope, or barred.
-pub fn variable(vars: &[u8], sc: Scope, top: u32, t: u16, i: u8) -> Out
-    requires { ⌜ (sc .n ≤ maxVariables) × (variableBytes * maxVariables ≤ length (now vars)) ⌝ }
-    ensures { λ r. ⌜ Seen (now (vars .entry)) sc top t i r ⌝ }
+// Variable i as a term: its type, unless it is not in scope, or barred. A barred one whose naming a let could help waits.
+pub fn variable(vars: &mut [u8], sc: Scope, top: u32, t: u16, i: u8) -> Out
+    requires { ⌜ (sc .n ≤ maxVariables) × (scopeBytes ≤ length (now vars)) × (countIn (now vars) < maxTerms) ⌝ }
+    ensures { λ r. ⌜ Seen (now (vars .entry)) (now (vars .exit)) sc top t i r ⌝ }
 {
     if sc.n <= i {
         return outcomes::unscoped(top, t);
@@ -54,9 +56,32 @@ pub fn variable(vars: &[u8], sc: Scope, top: u32, t: u16, i: u8) -> Out
         return named(vars, top, i);
     }
     if i < sc.lo {
+        let marks = sc.marks;
+        if marks.contains(i) {
+            namings::wait(vars, i, t);
+            return named(vars, top, i);
+        }
         return outcomes::misused(top, t);
     }
     named(vars, top, i)
+}
+
+// The scope of the bound term of a let: a let could help every dynamic variable.
+pub fn marked(sc: Scope) -> Scope
+    requires { ⌜ (sc .lo ≤ sc .n) × (sc .n < maxVariables) ⌝ }
+    ensures { λ r. ⌜ MarkedScope sc r ⌝ }
+{
+    let older = sc.marks;
+    let owed = sc.owed;
+    let dynamic = Uses::between(sc.lo, sc.n);
+    let marks = older.union(dynamic);
+    Scope {
+        q: sc.q,
+        lo: sc.lo,
+        n: sc.n,
+        owed,
+        marks,
+    }
 }
 
 // A variable more: it must be used, unless its type is exactly unit (section 3).
@@ -76,12 +101,14 @@ pub fn bind(
     let n = sc.n;
     types::nodes::put_code(vars, slot(n), c);
     let outer = sc.owed;
+    let marks = sc.marks;
     if types::compare::is_unit(p, types, ws, top, c) {
         return Scope {
             q: sc.q,
             lo: sc.lo,
             n: n + 1,
             owed: outer,
+            marks,
         };
     }
     let mine = Uses::only(n);
@@ -91,5 +118,6 @@ pub fn bind(
         lo: sc.lo,
         n: n + 1,
         owed,
+        marks,
     }
 }

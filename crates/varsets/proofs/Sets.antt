@@ -1,13 +1,14 @@
 -- What the operations on sets hold.
 use Prim.Native.Nat.{ℕ, _-_, _*_, _%_, _^_, _<_, _≤_}
 use native.Mathlib.Omega.{arith}
-use mathlib.Core.Path.{_≡_, refl, sym, ap, _∙_}
+use native.Mathlib.Decide.{decLt}
+use mathlib.Core.Path.{_≡_, refl, sym, ap, ap₂, _∙_}
 use mathlib.Core.Bool.{Bool, true, false, _&&_, Bool·beq, not}
-use lib.Dec.{eqb}
+use lib.Dec.{eqb, ltb}
 use lib.Bits.{bitAnd, bitOr, bitXor, and-le-r}
 use lib.Pow.{pow-pos, shl-exact}
-use borrow.Author.Tests.{eqb-true, eqb-false}
-use package.Rattle.varsets.specs.Sets.{has, Holds, nobody, alone, firsts, joined, below, AgreeOn}
+use borrow.Author.Tests.{eqb-true, eqb-false, lt-ltb, le-ltb}
+use package.Rattle.varsets.specs.Sets.{has, Holds, nobody, alone, firsts, ranged, joined, below, AgreeOn}
 use package.Rattle.octets.specs.Runs.{Decides}
 use package.Rattle.rules.specs.Limits.{maxVariables}
 use package.Rattle.varsets.proofs.Bits.{bit, bit-or, bit-and, bit-xor, bit-zero, bit-power, bit-ones, all-clear}
@@ -33,6 +34,23 @@ holds-only i l = record {
 pub holds-first : (n : ℕ) → n < maxVariables → Holds (record { bits = 1 * 2 ^ n % 4294967296 - 1 }) (firsts n)
 unfolding has
 holds-first n l = record { each = λ i h. ap (λ m. bit (m - 1) i) (power n l) ∙ bit-ones n i }
+
+-- of the first `n` and the first `low`, no more than `n`, one set has the variables between
+pub holds-between : (low n : ℕ) → low ≤ n → n < maxVariables
+    → Holds (record { bits = bitXor (1 * 2 ^ n % 4294967296 - 1) (1 * 2 ^ low % 4294967296 - 1) }) (ranged low n)
+unfolding has
+holds-between low n l h = record {
+  each = λ i k. bit-xor _ _ i
+      ∙ ap₂ (λ a b. not (Bool·beq a b)) (ap (λ m. bit (m - 1) i) (power n h) ∙ bit-ones n i)
+      (ap (λ m. bit (m - 1) i) (power low (omega arith)) ∙ bit-ones low i)
+      ∙ go i (decLt i low) (decLt i n);
+}
+  where
+    go : (i : ℕ) → Dec (i < low) → Dec (i < n) → not (Bool·beq (ltb i n) (ltb i low)) ≡ (ltb i n && not (ltb i low))
+    go i (yes a) (yes b) = rw (lt-ltb i low a, lt-ltb i n b)
+    go i (yes a) (no b) = absurd (omega arith)
+    go i (no a) (yes b) = rw (le-ltb i low (omega arith), lt-ltb i n b)
+    go i (no a) (no b) = rw (le-ltb i low (omega arith), le-ltb i n (omega arith))
 
 pub holds-below : (u : Uses) (n : ℕ) → n < maxVariables → Holds (record { bits = bitAnd (u .bits) (1 * 2 ^ n % 4294967296 - 1) }) (below n (has u))
 unfolding has

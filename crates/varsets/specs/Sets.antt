@@ -1,7 +1,7 @@
 -- Sets of variables as the code has them, and what they hold. Laws: proofs/Bits.
 use Prim.Native.Nat.{ℕ, _/_, _%_, _^_, _<_}
 use mathlib.Core.Path.{_≡_}
-use mathlib.Core.Bool.{Bool, true, false, _||_, _&&_}
+use mathlib.Core.Bool.{Bool, true, false, not, _||_, _&&_}
 use lib.Dec.{eqb, ltb}
 use package.Rattle.rules.specs.Limits.{maxVariables}
 use Rattle.varsets.specs.declared.Uses.{Uses}
@@ -23,6 +23,10 @@ alone i j = eqb j i
 -- the first `n` variables
 abbrev pub firsts : ℕ → ℕ → Bool
 firsts n i = ltb i n
+
+-- the variables from number `low` on and below `n`
+abbrev pub ranged : ℕ → ℕ → ℕ → Bool
+ranged low n i = ltb i n && not (ltb i low)
 
 abbrev pub joined : (ℕ → Bool) → (ℕ → Bool) → ℕ → Bool
 joined S S′ i = S i || S′ i

@@ -1,8 +1,8 @@
 // Sets of variables by value, of which a term's uses are one: bit i is variable i. Behind these methods nobody sees the bits, so that a
 // larger scope changes this crate alone.
 ghost use mathlib.Core.Path.{_≡_};
-ghost use Prim.Native.Nat.{_<_};
-ghost use Rattle.varsets.specs.Sets.{Holds, nobody, alone, firsts, joined, below, has, AgreeOn};
+ghost use Prim.Native.Nat.{_≤_, _<_};
+ghost use Rattle.varsets.specs.Sets.{Holds, nobody, alone, firsts, ranged, joined, below, has, AgreeOn};
 ghost use Rattle.octets.specs.Runs.{Decides};
 ghost use Rattle.rules.specs.Limits.{maxVariables};
 
@@ -32,6 +32,18 @@ impl Uses {
     {
         let power: u32 = 1 << n;
         Self { bits: power - 1 }
+    }
+
+    // The variables from number `low` on and below n: those of which one of two sets of first ones has and the other does not.
+    pub fn between(low: u8, n: u8) -> Self
+        requires { ⌜ (low ≤ n) × (n < maxVariables) ⌝ }
+        ensures { λ r. ⌜ Holds r (ranged low n) ⌝ }
+    {
+        let start: u32 = 1 << low;
+        let end: u32 = 1 << n;
+        Self {
+            bits: (end - 1) ^ (start - 1),
+        }
     }
 
     pub fn union(self, other: Uses) -> Uses

@@ -7,6 +7,7 @@ mod months;
 mod scripts;
 mod slow;
 mod stack;
+mod steer;
 
 use compare::Tally;
 use std::process::ExitCode;
@@ -14,6 +15,7 @@ use std::process::ExitCode;
 const USAGE: &str = "\
 usage: harness lines < CALLS         both answer each call, and are compared
        harness random SEED COUNT     the same on COUNT random calls
+       harness steer SEED COUNT      COUNT programs with steering, there and back; enough of them must run both ways
        harness lists SEED COUNT      COUNT lists of journal calls, each on the bytes that the engine left
        harness scripts SEED COUNT    COUNT scripts of journal calls, played whole
        harness months SEED WEEKS STROKES
@@ -29,6 +31,9 @@ fn main() -> ExitCode {
         ["lines"] => compare::compare_lines(std::io::stdin().lock()).and_then(report),
         ["random", seed, count] => {
             number(seed).and_then(|seed| report(compare::compare_random(seed, number(count)? as usize)))
+        }
+        ["steer", seed, count] => {
+            number(seed).and_then(|seed| steer::compare_steered(seed, number(count)? as usize)).and_then(report)
         }
         ["lists", seed, count] => {
             number(seed).and_then(|seed| report(compare::compare_lists(seed, number(count)? as usize)))

@@ -54,6 +54,11 @@ impl Draft {
         self.laid_out(&mut Layout { rng: Some(rng), ..Layout::default() })
     }
 
+    /// The same with what is written later in the lower entries, part for part.
+    pub fn backwards(&self) -> Vec<u8> {
+        self.laid_out(&mut Layout { backwards: true, ..Layout::default() })
+    }
+
     fn laid_out(&self, layout: &mut Layout) -> Vec<u8> {
         let mut order: Vec<usize> = (0..self.functions.len()).collect();
         if layout.toss(30) {
@@ -77,6 +82,7 @@ struct Layout<'a> {
     assembler: Assembler,
     types: HashMap<Type, u16>,
     rng: Option<&'a mut Rng>,
+    backwards: bool,
 }
 
 impl Layout<'_> {
@@ -143,7 +149,7 @@ impl Layout<'_> {
     }
 
     fn terms(&mut self, parts: &[&Term]) -> Vec<u16> {
-        if !self.toss(20) {
+        if !self.backwards && !self.toss(20) {
             return parts.iter().map(|part| self.term(part)).collect();
         }
         let mut entries: Vec<u16> = parts.iter().rev().map(|part| self.term(part)).collect();

@@ -18,7 +18,7 @@ impl Machine<'_> {
     #[inline]
     fn forward_term(&mut self, entry: u16, frame: Frame, height: u32) -> Run<NodeId> {
         match self.program.terms[entry as usize] {
-            Term::Variable(variable) => Ok(*self.slot(frame, variable)),
+            Term::Variable(variable) => Ok(self.read(frame, variable)),
             Term::Unit => Ok(UNIT),
             Term::Inl(_, part) => self.forward_wrapped(entry, Kind::Inl, part, frame, height),
             Term::Inr(_, part) => self.forward_wrapped(entry, Kind::Inr, part, frame, height),

@@ -14,6 +14,7 @@ pub mod limits;
 pub mod lines;
 pub mod make;
 pub mod months;
+mod namings;
 pub mod program;
 pub mod readers;
 pub mod refusal;

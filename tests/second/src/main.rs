@@ -4,7 +4,7 @@ use second::bench::bench;
 use second::calls::{answer, Call};
 use second::cases::cases;
 use second::lines::{read_call, write_answer, write_call};
-use second::make::{lists::book_list, Maker};
+use second::make::{lists::book_list, steer::RoundTrip, Maker};
 use second::months::months;
 use second::rng::Rng;
 use second::slow::slow_calls;
@@ -18,6 +18,7 @@ usage: second answer < CALLS       one answer a line
        second cases                section 6's cases as calls, each limit exactly and one past it, readers of journals
        second make SEED COUNT      COUNT random calls
        second book SEED COUNT      COUNT lists of calls, a line each: CALL = the plain book's ANSWER; readers behind each
+       second steer SEED COUNT     COUNT programs with steering: a call forward, the call back on its result, calls back on others
        second months SEED WEEKS STROKES FOLDER
                                    the months of a machine, STROKES a day, as files: program, script, answers, journal
        second slow SEED COUNT WORK COUNT calls that ask for much, each with fuel to compare some WORK bytes
@@ -32,6 +33,7 @@ fn main() -> ExitCode {
         ["cases"] => write_calls(cases()),
         ["make", seed, count] => number(seed).and_then(|seed| make(seed, number(count)?)),
         ["book", seed, count] => number(seed).and_then(|seed| book(seed, number(count)?)),
+        ["steer", seed, count] => number(seed).and_then(|seed| steer(seed, number(count)?)),
         ["months", seed, weeks, strokes, folder] => write_months(seed, weeks, strokes, Path::new(folder)),
         ["slow", seed, count, work] => write_slow(seed, count, work),
         ["tally"] => tally(),
@@ -62,6 +64,11 @@ fn answer_lines() -> Result<(), String> {
 
 fn make(seed: u64, count: u64) -> Result<(), String> {
     write_calls(Maker::new(seed).take(count as usize))
+}
+
+fn steer(seed: u64, count: u64) -> Result<(), String> {
+    let mut rng = Rng::new(seed);
+    write_calls((0..count).flat_map(|_| RoundTrip::new(&mut rng).into_calls()))
 }
 
 fn write_calls(calls: impl IntoIterator<Item = Call>) -> Result<(), String> {

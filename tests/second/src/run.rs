@@ -26,6 +26,7 @@ pub(crate) struct Machine<'a> {
     pub stack: Vec<NodeId>,
     fuel: u32,
     refusal: Refusal,
+    unmet: u32,
     /// Terms that are higher are not noted; 0 notes none.
     depth: u32,
     seen: Vec<Seen>,
@@ -40,10 +41,11 @@ pub struct Seen {
     pub value: Option<NodeId>,
 }
 
-/// A value and the steps that it took.
+/// A value and the steps that it took, and how often an ancilla term read a variable that the backward run had not met.
 pub struct Outcome {
     pub value: NodeId,
     pub steps: u32,
+    pub unmet: u32,
 }
 
 #[derive(Clone, Copy, PartialEq, Eq, Debug)]
@@ -78,7 +80,7 @@ pub fn watched(
     let stack = start.ancillae.to_vec();
     let refusal = Number::Fuel.plain();
     let (program, seen) = (start.program, Vec::new());
-    let mut machine = Machine { program, heap, stack, fuel: fuel as u32, refusal, depth, seen };
+    let mut machine = Machine { program, heap, stack, fuel: fuel as u32, refusal, unmet: 0, depth, seen };
     let run = match direction {
         Direction::Forward => {
             machine.stack.push(start.value);
@@ -90,7 +92,7 @@ pub fn watched(
         }
     };
     let outcome = match run {
-        Ok(value) => Ok(Outcome { value, steps: fuel as u32 - machine.fuel }),
+        Ok(value) => Ok(Outcome { value, steps: fuel as u32 - machine.fuel, unmet: machine.unmet }),
         Err(Stopped) => Err(machine.refusal),
     };
     (outcome, machine.seen)
@@ -137,6 +139,22 @@ impl Machine<'_> {
     #[inline]
     pub fn slot(&mut self, frame: Frame, variable: u8) -> &mut NodeId {
         &mut self.stack[frame.base as usize + variable as usize]
+    }
+
+    /// The value of a variable in a term run forward. In a backward run that may be an ancilla term in a let's bound term, and the
+    /// variable one that the let's body uses, but not in the branch that was taken: it is a unit then (02, F-2).
+    #[inline]
+    pub fn read(&mut self, frame: Frame, variable: u8) -> NodeId {
+        match *self.slot(frame, variable) {
+            UNMET => self.read_unmet(),
+            known => known,
+        }
+    }
+
+    #[cold]
+    fn read_unmet(&mut self) -> NodeId {
+        self.unmet += 1;
+        UNIT
     }
 
     /// Takes the newest variable off the stack; a unit variable never met is unit (section 2).

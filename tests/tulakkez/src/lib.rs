@@ -1,4 +1,5 @@
 //! What the tests of the command `tulakkez` share.
 
 pub mod command;
+pub mod marked;
 pub mod random;

@@ -1,5 +1,6 @@
 //! Random texts, well-typed as they are made: variants of several alternatives, and functions that take values apart by nested patterns and
-//! put them together again. Every function is the identity on values, so that what a run answers is known.
+//! put them together again, some of which let the value steer a call (document 02, F-2). Every function is the identity on values, so that what
+//! a run answers is known.
 
 use second::rng::Rng;
 
@@ -13,7 +14,7 @@ pub struct Variant {
 pub struct Text {
     pub text: String,
     pub variants: Vec<Variant>,
-    /// The variant of each function, by the function's number, and whether it has an ancilla.
+    /// The variant of each function, by the function's number, and whether it has an ancilla. Those that are only steered stand behind them.
     pub functions: Vec<(usize, bool)>,
 }
 
@@ -48,6 +49,7 @@ pub fn random_text(rng: &mut Rng) -> Text {
             functions.push((number, true));
         }
     }
+    text += &(0..count).map(watching).collect::<String>();
     Text { text, variants: maker.variants, functions }
 }
 
@@ -58,6 +60,11 @@ fn declaration(variant: &Variant) -> String {
     };
     let alternatives: Vec<String> = variant.alternatives.iter().map(alternative).collect();
     format!("type {} =\n    {}\n", variant.name, alternatives.join("\n  | "))
+}
+
+/// A function that a value of a variant steers, and that leaves nothing of it.
+fn watching(number: usize) -> String {
+    format!("fun watch{number} (s : V{number}) (u : 1) : 1 = u\n")
 }
 
 fn type_name(part: Option<usize>) -> String {
@@ -145,11 +152,16 @@ impl Maker<'_> {
         format!("{head}  case v of\n    {}\n", arms.join("\n  | "))
     }
 
-    /// Function `function`, the one before it under an ancilla, through a tuple.
+    /// Function `function`, the one before it under an ancilla, through a tuple. The value may steer a call before it is used.
     fn wrapped(&mut self, function: usize, number: usize) -> String {
         let before = function - 1;
+        let steered = match self.rng.below(3) {
+            0 => String::new(),
+            1 => format!("let e = watch{number} a b in "),
+            _ => format!("let (e, ()) = (watch{number} (let g = a in f{before} g) b, ()) in "),
+        };
         format!(
-            "fun f{function} (k : Nat) (v : V{number}) : V{number} =\n  let (a, (), (b, ())) = (v, (), (), ()) in\n  let c = f{before} a in (let d = c in d)\n"
+            "fun f{function} (k : Nat) (v : V{number}) : V{number} =\n  let (a, (), (b, ())) = (v, (), (), ()) in\n  {steered}let c = f{before} a in (let d = c in d)\n"
         )
     }
 }

@@ -1,25 +1,10 @@
 //! Mistakes and refusals are told at their places. In each text a `~` stands before the place that is meant.
 
-use tulakkez::command::answer::{Answer, Status};
+use tulakkez::command::answer::Status;
 use tulakkez::command::{run, Converter};
 use tulakkez::engine::check;
-use tulakkez::text::Source;
 use tulakkez_tests::command::Scratch;
-
-const TYPES: &str = "type Nat = Zero | Succ Nat\ntype Bool = True | False\ntype Lights = Red | Yellow | Green\n";
-
-/// The text without its mark, and the place of the mark as it is told.
-fn marked(text: &str) -> (String, String) {
-    let whole = format!("{TYPES}{text}");
-    let at = whole.find('~').expect("a mark");
-    let source = Source::new("t", whole.replacen('~', "", 1));
-    let position = source.position(at);
-    (source.text, format!("{}:{}", position.line, position.column))
-}
-
-fn converter(text: &str) -> Result<Converter, Box<Answer>> {
-    Converter::of_text(Source::new("t.fun", text))
-}
+use tulakkez_tests::marked::{converter, marked, refused};
 
 /// The text has this mistake at its mark; the engine is not asked.
 fn mistake(text: &str, what: &str) {
@@ -27,18 +12,6 @@ fn mistake(text: &str, what: &str) {
     let Err(answer) = converter(&text) else { panic!("no mistake in {text}") };
     assert_eq!(answer.status, Status::NotAsked);
     assert!(answer.err.starts_with(&format!("t.fun:{place}: error: {what}")), "{}\n{text}\n{place}", answer.err);
-}
-
-/// The engine refuses the program of the text with this number, and it is told at the mark.
-fn refused(text: &str, number: u8, what: &str) {
-    let (text, place) = marked(text);
-    let converter = converter(&text).unwrap_or_else(|answer| panic!("{}", answer.err));
-    let refusal = check(&converter.bytes).expect_err("a refusal");
-    assert_eq!(refusal.number(), number, "{refusal}\n{text}");
-    let answer = converter.refused(refusal);
-    assert_eq!(answer.status, Status::Refused);
-    let expected = format!("t.fun:{place}: error: refused {number}: {what}");
-    assert!(answer.err.starts_with(&expected), "{}\n{expected}\n{text}", answer.err);
 }
 
 #[test]
@@ -208,10 +181,12 @@ fn variables_that_are_not_used_as_they_ought_to_be() {
     refused(
         "fun g (k : Nat) (n : Nat) : Nat = n\nfun f (n : Nat) : Nat = g ~n n",
         8,
-        "a dynamic variable stands in an ancilla argument",
+        "a dynamic variable stands in an ancilla argument, and no let binds the call",
     );
     let sided = "fun f (p : (Bool, Nat)) : Nat = let (b, n) = p in case b of True => n | False => ~0";
     refused(sided, 8, "this arm does not use n, and another arm does");
+    let unit = "fun f (p : (1, Bool, Nat)) : (1, Nat) = let (u, b, n) = p in case b of True => (u, n) | False => ~((), 0)";
+    refused(unit, 8, "this arm does not use n, and another arm does");
 }
 
 /// A run of a text in a file: the refusal, and its place.

@@ -91,6 +91,19 @@ fn every_file_of_the_language_page_is_accepted() {
     }
 }
 
+/// A file of the pages that examples/texts has too is the same there.
+#[test]
+fn the_examples_of_the_pages_are_those_of_the_folder() {
+    let mut shared = 0;
+    for block in ["docs/LANGUAGE.md", "docs/TULAKKEZ.md"].into_iter().flat_map(blocks) {
+        let Some(name) = block.kind.strip_prefix("fun ") else { continue };
+        let Ok(text) = std::fs::read_to_string(root().join("examples/texts").join(name)) else { continue };
+        assert_eq!(text.lines().collect::<Vec<_>>(), block.lines, "{name}");
+        shared += 1;
+    }
+    assert!(shared > 0);
+}
+
 #[test]
 fn the_command() {
     assert!(plays("docs/TULAKKEZ.md") >= 20);

@@ -72,6 +72,28 @@ fn a_calibration_with_an_ancilla() {
     refuses("calibration.fun", &["back", "calibrate", "4", set], 16);
 }
 
+/// The offset is a part of the record: it is dynamic, and steers (document 02, F-2).
+#[test]
+fn records_that_carry_their_own_offset() {
+    let (raw, set) = ("(1, Cons (Fill, 7) (Cons (Drain, 2) Nil))", "(1, Cons (Fill, 8) (Cons (Drain, 3) Nil))");
+    answers(
+        "steering.fun",
+        &[
+            ("run", &["shift", "(2, 3)"], "(2, 5)"),
+            ("back", &["shift", "(2, 5)"], "(2, 3)"),
+            ("run", &["settle", raw], set),
+            ("back", &["settle", set], raw),
+            ("run", &["both", "(1, 2, 3)"], "(1, 3, 5)"),
+            ("back", &["both", "(1, 3, 5)"], "(1, 2, 3)"),
+            ("run", &["twice", "(2, 3)"], "(2, 7)"),
+            ("back", &["twice", "(2, 7)"], "(2, 3)"),
+        ],
+    );
+    // A volume below its offset was never raised by it.
+    refuses("steering.fun", &["back", "shift", "(2, 1)"], 16);
+    refuses("steering.fun", &["back", "twice", "(2, 3)"], 16);
+}
+
 /// Document 01, section 6: values and steps.
 #[test]
 fn the_cases_of_document_01() {

@@ -128,7 +128,8 @@ fn damaged_texts_are_told_and_nothing_panics() {
                 Ok(mut program) => {
                     let layout = lay_out(&mut program);
                     if let Err(refusal) = check(&layout.bytes) {
-                        let mistake = tulakkez::explain::explain(&mut program, &layout, refusal).expect("a place");
+                        let mistake =
+                            tulakkez::explain::explain(&mut program, &source, &layout, refusal).expect("a place");
                         assert!(!mistake.told(&source).is_empty());
                     }
                     whole += 1;

@@ -5,7 +5,8 @@ use crate::core::program::Found;
 use crate::core::term::{Function, Term, TermKind};
 use crate::core::types::{TypeId, View};
 use crate::core::{EntryKind, Layout, Program};
-use crate::text::{Mistake, Span};
+use crate::steering::misnamed;
+use crate::text::{Mistake, Source, Span};
 use corefun::Refusal;
 
 /// A program has at most so many bytes.
@@ -20,7 +21,7 @@ const HELP: [&str; 20] = [
     "a type that is large written out is made smaller by a recursive type",
     "make the two types the same",
     "at most 32 variables are in scope; put a part of this into a function of its own",
-    "a dynamic variable is used, unless its type is 1; both branches of a case use the same ones; ancilla arguments name none",
+    "a dynamic variable is used, unless its type is 1; both branches of a case use the same ones; an ancilla argument names one only where a let binds the call and its body uses the variable",
     "functions count from 0",
     "a value has at most 1,024 bytes, and so have all ancillae together; there is a value for each parameter",
     "forward a value is of the last parameter's type, backward of the result's",
@@ -40,7 +41,7 @@ pub fn help(number: u8) -> &'static str {
 }
 
 /// The refusal at its place in the text; none if it has no place there.
-pub fn explain(program: &mut Program, layout: &Layout, refusal: Refusal) -> Option<Mistake> {
+pub fn explain(program: &mut Program, source: &Source, layout: &Layout, refusal: Refusal) -> Option<Mistake> {
     let over = layout.bytes.len() > PROGRAM_BYTES;
     let entry = match (refusal, refusal.offset(), refusal.term()) {
         (Refusal::Count(_), ..) if over => layout.holding(PROGRAM_BYTES)?,
@@ -52,7 +53,7 @@ pub fn explain(program: &mut Program, layout: &Layout, refusal: Refusal) -> Opti
     let found = (entry.kind == EntryKind::Term).then(|| known.term(entry.number)).flatten();
     let function = (entry.kind == EntryKind::Function).then(|| known.functions.get(entry.number)).flatten();
     let mut explainer = Explainer { program };
-    let told = match (refusal, found, function) {
+    let told = match (refusal, &found, function) {
         (Refusal::Count(_), ..) => Some((entry.span, too_many(over, entry.kind, layout, function))),
         (Refusal::Mismatch(_), Some(found), _) => explainer.types_differ(found.term),
         (Refusal::Mismatch(_), _, Some(function)) => explainer.result_differs(function),
@@ -62,8 +63,12 @@ pub fn explain(program: &mut Program, layout: &Layout, refusal: Refusal) -> Opti
         (_, Some(found), _) => within(refusal, &found.function.name).map(|what| (entry.span, what)),
         _ => None,
     };
-    let (span, what) = told.unwrap_or((entry.span, refusal.meaning().to_string()));
-    Some(Mistake::new(span, format!("refused {}: {what}", refusal.number())).help(help(refusal.number())))
+    let named = found.filter(|_| matches!(refusal, Refusal::Use(_))).and_then(|found| misnamed(&found, source));
+    let mistake = named.unwrap_or_else(|| {
+        let (span, what) = told.unwrap_or((entry.span, refusal.meaning().to_string()));
+        Mistake::new(span, what).help(help(refusal.number()))
+    });
+    Some(Mistake { what: format!("refused {}: {}", refusal.number(), mistake.what), ..mistake })
 }
 
 /// What is told of a term by the function that holds it.
@@ -190,13 +195,10 @@ impl Explainer<'_> {
         terms.iter().zip(&function.parameters).find_map(|(term, parameter)| self.differs(term, parameter.ty))
     }
 
-    /// 8: a variable that is not used, branches that use different ones, or a dynamic one in an ancilla argument.
-    fn misused(&mut self, found: Found) -> Option<Told> {
-        let Found { term, variables, .. } = found;
+    /// 8 where a variable is bound: it is not used, or branches use different ones.
+    fn misused(&mut self, found: &Found) -> Option<Told> {
+        let Found { term, variables, .. } = *found;
         match &term.kind {
-            TermKind::Variable(_) => {
-                Some((term.span, "a dynamic variable stands in an ancilla argument".to_string()))
-            }
             TermKind::Let(_, body) => self.unused(term, 0, body, variables),
             TermKind::LetPair(_, body) => {
                 self.unused(term, 0, body, variables).or_else(|| self.unused(term, 1, body, variables + 1))
@@ -210,7 +212,7 @@ impl Explainer<'_> {
     }
 
     fn unused(&mut self, term: &Term, binder: usize, body: &Term, variable: usize) -> Option<Told> {
-        if body.mentions(variable) || self.is_unit(self.bound_type(term, binder)) {
+        if body.use_of(variable).is_some() || self.is_unit(self.bound_type(term, binder)) {
             return None;
         }
         let binder = term.binders.get(binder)?;
@@ -236,18 +238,34 @@ impl Explainer<'_> {
         ty.is_some_and(|ty| self.program.types.view(ty) == View::Unit)
     }
 
-    fn one_sided(&mut self, found: Found, left: &Term, right: &Term) -> Option<Told> {
-        let dynamic = found.function.parameters.len().saturating_sub(1);
-        for variable in dynamic..found.variables {
-            let (in_left, in_right) = (left.mentions(variable), right.mentions(variable));
-            if in_left != in_right {
+    fn one_sided(&mut self, found: &Found, left: &Term, right: &Term) -> Option<Told> {
+        for variable in first_of_its_own(found)..found.variables {
+            let (used, span) = match (left.use_of(variable), right.use_of(variable)) {
+                (Some(used), None) => (used, right.span),
+                (None, Some(used)) => (used, left.span),
+                _ => continue,
+            };
+            // Units may differ.
+            if !self.is_unit(used.ty) {
                 let name = name_of(found.function, variable, found.term.span).unwrap_or_default();
-                let span = if in_left { right.span } else { left.span };
                 return Some((span, format!("this arm does not use {name}, and another arm does")));
             }
         }
         None
     }
+}
+
+/// The first variable that branches here must agree on: those bound outside an ancilla argument around the place are only named (document
+/// 02, F-2).
+fn first_of_its_own(found: &Found) -> usize {
+    let mut variables = found.variables;
+    for &(term, place) in &found.around {
+        variables -= term.bound_before(place);
+        if term.is_ancilla(place) {
+            return variables;
+        }
+    }
+    found.function.parameters.len().saturating_sub(1)
 }
 
 /// The name of a variable as it is bound around a place.

@@ -10,6 +10,7 @@ pub mod engine;
 pub mod explain;
 pub mod journal;
 pub mod show;
+pub mod steering;
 pub mod text;
 pub mod trace;
 pub mod values;

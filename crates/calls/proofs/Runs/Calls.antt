@@ -41,8 +41,9 @@ pub record Direction : Type 0 where
   -- the type that the given value is held to
   pub side : Fun → Ty
   pub run : Program → Given → ℕ → Res Val
-  -- no more fuel is left than was given
-  pub left : (P : Program) (a : Given) (f : ℕ) (w : Val) (g : ℕ) → run P a f ≡ ok w g → g ≤ f
+  -- a run of a typed program to which it is admitted leaves no more fuel than was given
+  pub left : (P : Program) (fn : ℕ) (as? : Option (List Val)) (v? : Option Val) (a : Given) (f : ℕ) → WellTyped maxVariables maxNodes P
+      → Admits P fn as? v? side a → (w : Val) (g : ℕ) → run P a f ≡ ok w g → g ≤ f
   -- answers fit, and refusals have a run's numbers
   pub ends : (P : Program) (a : Given) (f : ℕ) → Ends (λ w. fits w ≡ true) (run P a f)
   -- the numbers of refusals
@@ -73,7 +74,7 @@ abbrev pub onward : Direction
 onward = record {
   side = λ h. h .dynamic;
   run = λ P a f. runForward fits P maxHeight (a .fun) (a .ancillae) (a .value) f;
-  left = λ P a f w g p. forward-left P (a .fun) (a .ancillae) (a .value) w f g p;
+  left = λ P fn as? v? a f T A w g p. forward-left P (a .fun) (a .ancillae) (a .value) w f g p;
   ends = λ P a f. run-forward-ends fits P maxHeight (a .fun) (a .ancillae) (a .value) f;
   numbers = forwardNumbers;
   numbered = λ P a f. forward-numbers P (a .fun) (a .ancillae) (a .value) f;
@@ -84,8 +85,9 @@ abbrev pub back : Direction
 back = record {
   side = λ h. h .result;
   run = λ P a f. runBackward fits P maxHeight (a .fun) (a .ancillae) (a .value) f;
-  left = λ P a f v g p.
-      forward-left P (a .fun) (a .ancillae) v (a .value) f g (backward-then-forward P fits maxHeight (a .fun) (a .ancillae) v (a .value) f g p);
+  left = λ P fn as? v? a f T A v g p. forward-left P (a .fun) (a .ancillae) v (a .value) f g
+      (backward-then-forward maxVariables maxNodes P T fn (a .fun) (A .function) (a .ancillae) (A .ancillae-typed)
+      fits maxHeight v (a .value) f g (A .value-typed) p);
   ends = λ P a f. run-backward-ends fits P unit-fits maxHeight (a .fun) (a .ancillae) (a .value) f;
   numbers = backwardNumbers;
   numbered = λ P a f. backward-numbers P (a .fun) (a .ancillae) (a .value) f;
@@ -149,7 +151,9 @@ module _ (D : Direction) (ws out fuel fn : ℕ) (program anc bytes : List ℕ) w
         given (unbind (admit P fn (ancillae anc) (value bytes) (D .side)) _ e₁) λ (a, q, e₂).
         given (unbind (ran fuel (D .run P a fuel)) _ e₂) λ (r, s, e₃).
         given (unbind (require (leb (size (r .value)) out) 17 0) _ e₃) λ (room, t, e₄).
-        given (ran-iff fuel (D .run P a fuel) (D .left P a fuel) w n .0 (s ∙ e₄)) λ (x, l). (
+        given (prepared-iff ws fuel program P .0 p) λ (enough, F, T).
+        given (admit-iff P fn (ancillae anc) (value bytes) (D .side) a .0 q) λ A.
+        given (ran-iff fuel (D .run P a fuel) (D .left P fn (ancillae anc) (value bytes) a fuel T A) w n .0 (s ∙ e₄)) λ (x, l). (
           P,
           a .fun,
           a .ancillae,
@@ -161,7 +165,9 @@ module _ (D : Direction) (ws out fuel fn : ℕ) (program anc bytes : List ℕ) w
         ),
     λ (P, h, vs, v, A, x, l, s).
         given (admitted-iff (D .side) ws fuel fn program anc bytes P (gives h vs v) .1 A) λ (p, q).
-        via _ p (via _ q (via _ (ran-iff fuel (D .run P (gives h vs v) fuel) (D .left P (gives h vs v) fuel) w n .1 (x, l))
+        given (admit-iff P fn (ancillae anc) (value bytes) (D .side) (gives h vs v) .0 q) λ As.
+        via _ p (via _ q (via _ (ran-iff fuel (D .run P (gives h vs v) fuel)
+        (D .left P fn (ancillae anc) (value bytes) (gives h vs v) fuel (A .typed) As) w n .1 (x, l))
         (via _ (require-yes 17 0 (leb-yes (size w) out s)) refl))),
   )
 

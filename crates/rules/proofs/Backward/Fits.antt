@@ -13,7 +13,7 @@ use package.Rattle.rules.specs.Val.{Val, unit, inl, inr, pair, roll, sam
 use package.Rattle.rules.specs.Term.{Term, var, tunit, tinl, tinr, tpair, tlet, tletp, tcase, tcall, troll, tunroll, entry, Fun, Program, nth, scope}
 use package.Rattle.rules.specs.Yield.{mayYield}
 use package.Rattle.rules.specs.Run.{ok, Run, _>>=_, give, refuse}
-use package.Rattle.rules.specs.Machine.{State, bindOr, meet, leave, forward, backwardStep, backward, runBackward}
+use package.Rattle.rules.specs.Machine.{State, bindOr, meet, leave, filled, forward, backwardStep, backward, runBackward}
 use package.Rattle.rules.proofs.Numbers.{Ends, answers, refuses, sticks, ends-after, ends-enter, ends-test, ends-some, ends-sum, ends-pair, ends-roll}
 use package.Rattle.rules.proofs.Numbers.{ends-unit, ends-map, ends-wider, answer-ends, EndsForward, each-ends, forward-ends}
 
@@ -108,7 +108,8 @@ module _ (fits : Val → Bool) where
           leave-ends σ σ₂ _ g y λ w σ₃ l z. onward σ₃ e (pair w w′) g z
       step-ends (tcase k e b b′) v ft g = ends-after _ (B a (none ∷ σ) (cond (mayYield a b v) b b′) v g) λ σ₁ g x. leave-ends σ σ₁ _ g x λ w σ₂ l y.
           onward σ₂ e (cond (mayYield a b v) (inl w) (inr w)) g y
-      step-ends (tcall k j ts e) v ft g = ends-some (nth P j) _ g λ h. ends-after _ (ends-wider (λ c l. omega arith) (each-ends fits P fw S a σ ts g)) λ vs g u.
+      step-ends (tcall k j ts e) v ft g = ends-some (nth P j) _ g λ h.
+          ends-after _ (ends-wider (λ c l. omega arith) (each-ends fits P fw S a (filled σ) ts g)) λ vs g u.
           ends-after _ (B (scope vs []) (none ∷ map some (scope vs [])) (h .body) v g) λ σ₁ g x.
           leave-ends (map some (scope vs [])) σ₁ _ g x λ w σ₂ l y. B a σ e w g
       step-ends (troll k c e) v ft g = ends-roll v _ g λ w. B a σ e w g

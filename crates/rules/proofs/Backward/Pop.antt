@@ -15,8 +15,9 @@ use package.Rattle.rules.specs.Run.{Run, _>>=_, give, test}
 use package.Rattle.rules.specs.Machine.{State, known, bindOr, meet, leave}
 use package.Rattle.rules.proofs.OfType.{OfType, OfTypes}
 use package.Rattle.rules.proofs.Basics.{given, none≢some, some-inj}
-use package.Rattle.rules.proofs.Directed.{Spent}
-use package.Rattle.rules.proofs.Known.{Knows, known-new, knows-push, Mono, Bound, After, mono-pop, bound-pop, determined, knows-new, mono-set, mono-push, knows-full}
+use package.Rattle.rules.proofs.Directed.{Spent, lend, nothing}
+use package.Rattle.rules.proofs.Known.{Knows, known-new, knows-push, Mono, Bound, After, mono-pop, bound-pop, determined, knows-new}
+use package.Rattle.rules.proofs.Known.{mono-set, mono-push, knows-full, Lent, lent-nothing, lent-push, lent-grow, lent-more}
 use package.Rattle.rules.proofs.Outcome.{Good, yields, good-last, good-val-last}
 use package.Rattle.rules.proofs.Preserve.{types-length, scope-ty}
 use package.Rattle.rules.proofs.Scope.{length-scope}
@@ -70,21 +71,48 @@ module _ (fits fits′ : Val → Bool) where
       go σ₂ (ag₂, mono-pop m₀ m σ σ₂ (l′ ∙ sym l₂) (subst (Mono (m₀ ∷ σ)) x mo), bound-pop q Γ b c m σ₂ (l ∙ sym l₂) (subst (Bound q (c ∷ Γ) b) x bd))
 
 -- what holds where a term is run back
-pub record Ready (a : List Val) (q : ℕ) (Γ : List Ty) (ρ : List Val) (σ : State) : Type 0 where
+pub record Ready (a : List Val) (q : ℕ) (M : ℕ → Bool) (Γ : List Ty) (ρ : List Val) (σ : State) : Type 0 where
   pub env : OfTypes ρ Γ
   pub under : Under a ρ
   pub agree : Agree σ ρ
   pub anc : (i : ℕ) → i < q → Knows σ i
+  pub lent : Lent M Γ σ
   pub le : q ≤ length ρ
 
-pub ready-push : {a : List Val} {q : ℕ} {Γ : List Ty} {ρ : List Val} {σ : State} (c : Ty) (v : Val) → OfType v c → Ready a q Γ ρ σ → Ready a q (c ∷ Γ) (v ∷ ρ) (none ∷ σ)
-ready-push {σ = σ} c v h R = record { env = (h, R .env); under = under-push _ _ v (R .under); agree = (tt, R .agree); anc = λ i l. knows-push none σ i (R .anc i l); le = omega (arith, R .le) }
+module _ {a : List Val} {q : ℕ} {M : ℕ → Bool} {Γ : List Ty} {ρ : List Val} {σ : State} where
+  pub ready-push : (c : Ty) (v : Val) → OfType v c → Ready a q M Γ ρ σ → Ready a q M (c ∷ Γ) (v ∷ ρ) (none ∷ σ)
+  ready-push c v h R = record {
+    env = (h, R .env);
+    under = under-push _ _ v (R .under);
+    agree = (tt, R .agree);
+    anc = λ i l. knows-push none σ i (R .anc i l);
+    lent = lent-push M Γ σ c none (R .lent);
+    le = omega (arith, R .le);
+  }
 
-pub ready-grow : {a : List Val} {q : ℕ} {Γ : List Ty} {ρ : List Val} {σ : State} (σ′ : State) → Ready a q Γ ρ σ → Agree σ′ ρ → Mono σ σ′ → Ready a q Γ ρ σ′
-ready-grow σ′ R ag mo = record { env = R .env; under = R .under; agree = ag; anc = λ i l. mo i (R .anc i l); le = R .le }
+  pub ready-grow : (σ′ : State) → Ready a q M Γ ρ σ → Agree σ′ ρ → Mono σ σ′ → Ready a q M Γ ρ σ′
+  ready-grow σ′ R ag mo = record {
+    env = R .env;
+    under = R .under;
+    agree = ag;
+    anc = λ i l. mo i (R .anc i l);
+    lent = lent-grow M Γ σ σ′ mo (R .lent);
+    le = R .le;
+  }
+
+  -- the bound term of a let, once its body ran back
+  pub ready-lend : (b : Term) (σ′ : State) → Ready a q M Γ ρ σ → After q Γ b ρ σ σ′ → Ready a q (lend M (length Γ) b) Γ ρ σ′
+  ready-lend b σ′ R (ag, mo, bd) = record {
+    env = R .env;
+    under = R .under;
+    agree = ag;
+    anc = λ i l. mo i (R .anc i l);
+    lent = lent-more M q Γ b σ′ (λ i l. mo i (R .anc i l)) bd (lent-grow M Γ σ σ′ mo (R .lent));
+    le = R .le;
+  }
 
 pub ready-call : (vs : List Val) (cs : List Ty) (v : Val) (c : Ty) → OfTypes vs cs → OfType v c
-    → Ready (scope vs []) (length cs) (c ∷ scope cs []) (v ∷ scope vs []) (none ∷ map some (scope vs []))
+    → Ready (scope vs []) (length cs) nothing (c ∷ scope cs []) (v ∷ scope vs []) (none ∷ map some (scope vs []))
 ready-call vs cs v c h h′ =
     let l₁ : length (scope vs []) ≡ length vs + 0 = length-scope vs [] in
     let l₂ : length vs ≡ length cs = types-length vs cs h in
@@ -93,6 +121,7 @@ ready-call vs cs v c h h′ =
       under = under-push (scope vs []) (scope vs []) v (under-refl (scope vs []));
       agree = (tt, agree-full (scope vs []));
       anc = λ i l. knows-push none _ i (knows-full (scope vs []) i (omega arith));
+      lent = lent-nothing (c ∷ scope cs []) (none ∷ map some (scope vs []));
       le = omega arith;
     }
 

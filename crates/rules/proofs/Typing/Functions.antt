@@ -2,6 +2,7 @@
 use Prim.Native.Nat.{ℕ, _+_}
 use native.Mathlib.Omega.{arith}
 use mathlib.Core.Path.{_≡_, refl, subst, _∙_}
+use mathlib.Core.Bool.{false}
 use mathlib.Core.Option.{some}
 use mathlib.Core.List.{List, [], _∷_}
 use mathlib.Core.Logic.{⊎-elim}
@@ -18,8 +19,8 @@ use package.Rattle.rules.proofs.Typing.Contexts.{look-cases, types}
 -- the binding is an ancilla parameter's
 abbrev pub IsStatic : Binding → Type 0
 IsStatic (static c) = Unit {0}
-IsStatic (dynamic c) = ⊥
-IsStatic (barred c) = ⊥
+IsStatic (dynamic m c) = ⊥
+IsStatic (barred m c) = ⊥
 
 ----------------------------------------------------------------
 -- The context of the ancilla parameters
@@ -57,13 +58,13 @@ module _ (variables most : ℕ) (P : Program) where
 
   -- a declaration's body is typed under all parameters, and the other way round
   pub body-typed : {Δ : Context} {cs : List Ty} {τ τ′ : Ty} {b : Term} → Declares variables most P Δ cs τ τ′ b
-      → Types variables most P (dynamic τ ∷ statics cs Δ) (only (length (statics cs Δ))) (b ∶ τ′)
+      → Types variables most P (dynamic false τ ∷ statics cs Δ) (only (length (statics cs Δ))) (b ∶ τ′)
   unfolding statics
   body-typed (t-fun1 d) = body-typed d
   body-typed (t-fun2 d) = d
 
   pub declared : (Δ : Context) (cs : List Ty) {τ τ′ : Ty} {b : Term}
-      → Types variables most P (dynamic τ ∷ statics cs Δ) (only (length (statics cs Δ))) (b ∶ τ′)
+      → Types variables most P (dynamic false τ ∷ statics cs Δ) (only (length (statics cs Δ))) (b ∶ τ′)
       → Declares variables most P Δ cs τ τ′ b
   unfolding statics
   declared Δ [] d = t-fun2 d

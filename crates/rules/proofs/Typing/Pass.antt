@@ -2,11 +2,12 @@
 use Prim.Native.Nat.{ℕ}
 use mathlib.Core.Path.{_≡_, refl, subst}
 use mathlib.Core.Bool.{Bool, true, false}
+use mathlib.Core.List.{List, [], _∷_}
 use mathlib.Core.Option.{Option, none, some}
 use package.Rattle.rules.specs.Ty.{Ty, one, prod, sum, mu, tyvar}
 use package.Rattle.rules.specs.Term.{Fun}
 use package.Rattle.rules.specs.Typing.{Binding, static, dynamic, barred}
-use package.Rattle.rules.specs.Check.{Site, Checked, good, bad, _>>=_, _>>_, need, asSum, asProd, asMu, asFun, visible}
+use package.Rattle.rules.specs.Check.{Site, Checked, good, bad, _>>=_, _>>_, need, asSum, asProd, asMu, asFun, visible, needNone}
 
 -- accepted with `Q`, or refused
 pub data Pass {X : Type 0} (Q : X → Type 0) : Checked X → Type 0 where
@@ -73,10 +74,17 @@ module _ {Y : Type 0} {Q : Y → Type 0} where
   pass-fun p none k s = fail
   pass-fun p (some h) k s = s h refl
 
-pub pass-visible : {Q : Ty → Type 0} (p : Site) (o : Option Binding) → ((c : Ty) → o ≡ some (static c) → Q c) → ((c : Ty) → o ≡ some (dynamic c) → Q c)
-    → Pass Q (visible p o)
+pub pass-visible : {Q : Ty → Type 0} (p : Site) (o : Option Binding) → ((c : Ty) → o ≡ some (static c) → Q c)
+    → ((m : Bool) (c : Ty) → o ≡ some (dynamic m c) → Q c) → ((c : Ty) → o ≡ some (barred true c) → Q c) → Pass Q (visible p o)
 unfolding visible
-pass-visible p none s d = fail
-pass-visible p (some (static c)) s d = pass (s c refl)
-pass-visible p (some (dynamic c)) s d = pass (d c refl)
-pass-visible p (some (barred c)) s d = fail
+pass-visible p none s d b = fail
+pass-visible p (some (static c)) s d b = pass (s c refl)
+pass-visible p (some (dynamic m c)) s d b = pass (d m c refl)
+pass-visible p (some (barred true c)) s d b = pass (b c refl)
+pass-visible p (some (barred false c)) s d b = fail
+
+-- no place for 8, then the rest
+pub pass-none : {Y : Type 0} {Q : Y → Type 0} (ks : List ℕ) (k : Checked Y) → (ks ≡ [] → Pass Q k) → Pass Q (needNone ks >> k)
+unfolding needNone _>>_
+pass-none [] k s = s refl
+pass-none (j ∷ ks) k s = fail

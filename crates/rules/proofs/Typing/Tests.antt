@@ -8,12 +8,12 @@ use mathlib.Core.Logic.{⊎-elim}
 use lib.ListN.{length}
 use lib.Dec.{leb, leb→le, le→leb}
 use package.Rattle.rules.specs.Ty.{Ty, one, prod, sum, mu, tyvar, isUnit, sameTy}
-use package.Rattle.rules.specs.Term.{Term, look}
+use package.Rattle.rules.specs.Term.{Term, look, usedIn}
 use package.Rattle.rules.specs.Typing.{Binding, static, dynamic, barred, Context}
-use package.Rattle.rules.specs.Check.{names, mustUse, sameUse}
+use package.Rattle.rules.specs.Check.{mustUse, sameUse}
 use package.Rattle.rules.proofs.Basics.{given, none≢some, and-both, T-true, eqb-yes, eqb-sound}
 use package.Rattle.rules.proofs.Scope.{look-newest}
-use package.Rattle.rules.proofs.Typing.Contexts.{look-cases, look-old}
+use package.Rattle.rules.proofs.Typing.Contexts.{look-cases, Dynamic, dynamic-old}
 
 ----------------------------------------------------------------
 -- Types
@@ -91,28 +91,29 @@ beq-eq false false h = refl
 
 -- both branches name the same dynamic variables that are not unit
 abbrev pub AgreeIn : Context → Term → Term → Type 0
-AgreeIn Δ b b′ = (i : ℕ) (c : Ty) → look Δ i ≡ some (dynamic c) → isUnit c ≡ false → names i b ≡ names i b′
+AgreeIn Δ b b′ = (i : ℕ) (c : Ty) → Dynamic Δ i c → isUnit c ≡ false → usedIn i b ≡ usedIn i b′
 
 pub sameUse-yes : (Δ : Context) (b b′ : Term) → AgreeIn Δ b b′ → sameUse Δ b b′ ≡ true
 unfolding sameUse mustUse
 sameUse-yes [] b b′ h = refl
-sameUse-yes (x ∷ Δ) b b′ h = rw (newest x (look-newest x Δ), sameUse-yes Δ b b′ λ i c p u. h i c (look-old Δ x i p) u)
+sameUse-yes (x ∷ Δ) b b′ h = rw (newest x (look-newest x Δ), sameUse-yes Δ b b′ λ i c p u. h i c (dynamic-old Δ x i p) u)
   where
-    newest : (y : Binding) → look (x ∷ Δ) (length Δ) ≡ some y → (not (mustUse y) || Bool·beq (names (length Δ) b) (names (length Δ) b′)) ≡ true
+    newest : (y : Binding) → look (x ∷ Δ) (length Δ) ≡ some y → (not (mustUse y) || Bool·beq (usedIn (length Δ) b) (usedIn (length Δ) b′)) ≡ true
     newest (static c) p = refl
-    newest (dynamic c) p = decided (isUnit c) refl
+    newest (dynamic m c) p = decided (isUnit c) refl
       where
-        decided : (u : Bool) → isUnit c ≡ u → (not (not u) || Bool·beq (names (length Δ) b) (names (length Δ) b′)) ≡ true
+        decided : (u : Bool) → isUnit c ≡ u → (not (not u) || Bool·beq (usedIn (length Δ) b) (usedIn (length Δ) b′)) ≡ true
         decided true e = refl
-        decided false e = rw (h (length Δ) c p e, beq-refl (names (length Δ) b′))
-    newest (barred c) p = refl
+        decided false e = rw (h (length Δ) c (m, p) e, beq-refl (usedIn (length Δ) b′))
+    newest (barred m c) p = refl
 
 pub sameUse-sound : (Δ : Context) (b b′ : Term) → sameUse Δ b b′ ≡ true → AgreeIn Δ b b′
 unfolding sameUse mustUse look
-sameUse-sound [] b b′ h i c p u = absurd (none≢some p)
+sameUse-sound [] b b′ h i c p u = absurd (none≢some (p .1))
 sameUse-sound (x ∷ Δ) b b′ h i c p u = given (and-both _ (sameUse Δ b b′) h) λ (now, then).
-    ⊎-elim (λ (e, y). subst (λ i. names i b ≡ names i b′) (sym e) (newest x y now)) (λ q. sameUse-sound Δ b b′ then i c q u) (look-cases Δ x i p)
+    ⊎-elim (λ (e, y). subst (λ i. usedIn i b ≡ usedIn i b′) (sym e) (newest (p .0) x y now))
+    (λ q. sameUse-sound Δ b b′ then i c (p .0, q) u) (look-cases Δ x i (p .1))
   where
-    newest : (y : Binding) → y ≡ dynamic c → (not (mustUse y) || Bool·beq (names (length Δ) b) (names (length Δ) b′)) ≡ true
-        → names (length Δ) b ≡ names (length Δ) b′
-    newest y e now = beq-eq _ _ (rw (e, u) at now)
+    newest : (m : Bool) (y : Binding) → y ≡ dynamic m c → (not (mustUse y) || Bool·beq (usedIn (length Δ) b) (usedIn (length Δ) b′)) ≡ true
+        → usedIn (length Δ) b ≡ usedIn (length Δ) b′
+    newest m y e now = beq-eq _ _ (rw (e, u) at now)

@@ -5,22 +5,21 @@ use native.Mathlib.Omega.{arith}
 use native.Mathlib.Decide.{decLt}
 use mathlib.Core.Path.{_≡_, refl, sym, ap, subst, _∙_, fun-ext}
 use mathlib.Core.Bool.{Bool, true, false, false≢true}
-use mathlib.Core.Option.{some}
 use mathlib.Core.List.{_∷_}
 use mathlib.Core.Logic.{_⊎_, inl as left, inr as right, ⊎-elim}
 use lib.ListN.{length}
 use lib.Dec.{eqb}
 use package.Rattle.rules.specs.Ty.{Ty, one}
-use package.Rattle.rules.specs.Term.{Term, Program, look}
-use package.Rattle.rules.specs.Typing.{Binding, dynamic, Context, Vars, only, _∪_, _∶_, Types, t-unit-elm}
+use package.Rattle.rules.specs.Term.{Term, Program}
+use package.Rattle.rules.specs.Typing.{Binding, Context, Vars, only, _∪_, _∶_, Types, t-unit-elm}
 use package.Rattle.rules.proofs.Basics.{given, or-left, or-right, or-elim, eqb-yes, eqb-sound}
 use package.Rattle.rules.proofs.Scope.{look-lt}
-use package.Rattle.rules.proofs.Typing.Contexts.{look-old}
+use package.Rattle.rules.proofs.Typing.Contexts.{Dynamic, dynamic-old}
 use package.Rattle.rules.proofs.Typing.Tests.{bool-ext}
 
 -- variable `i` is dynamic and of type unit
 abbrev pub IsUnitVar : Context → ℕ → Type 0
-IsUnitVar Δ i = look Δ i ≡ some (dynamic one)
+IsUnitVar Δ i = Dynamic Δ i one
 
 -- `W` has all of `U`, and beyond it only such variables
 pub record UpToUnits (Δ : Context) (U W : Vars) : Type 0 where
@@ -58,7 +57,7 @@ module _ (variables most : ℕ) (P : Program) {Δ : Context} {t : Term} {τ : Ty
     where
       go : (b : Bool) → W n ≡ b → (U′ : Vars) × UpToBelow n Δ U′ W × Types variables most P Δ U′ (t ∶ τ)
       go true y = ⊎-elim (λ x. (U, lower (λ y. x) h, d))
-          (λ (l, p). (U ∪ only n, lower (λ y. or-right (U n) (eqb-yes n)) (raise y h), t-unit-elm n p d)) (h .extra n y)
+          (λ (l, p). (U ∪ only n, lower (λ y. or-right (U n) (eqb-yes n)) (raise y h), t-unit-elm n (p .1) d)) (h .extra n y)
       go false y = (U, lower (λ x. absurd (false≢true (sym y ∙ x))) h, d)
 
   weaken-below : (n : ℕ) (U W : Vars) → UpToBelow n Δ U W → Types variables most P Δ U (t ∶ τ) → Types variables most P Δ W (t ∶ τ)
@@ -69,7 +68,7 @@ module _ (variables most : ℕ) (P : Program) {Δ : Context} {t : Term} {τ : Ty
   pub weaken : {U W : Vars} → UpToUnits Δ U W → Types variables most P Δ U (t ∶ τ) → Types variables most P Δ W (t ∶ τ)
   weaken {U} {W} h = weaken-below (length Δ) U W (record {
     keeps = h .keeps;
-    extra = λ i x. ⊎-elim left (λ p. right (look-lt Δ i p, p)) (h .extra i x);
+    extra = λ i x. ⊎-elim left (λ p. right (look-lt Δ i (p .1), p)) (h .extra i x);
   })
 
 ----------------------------------------------------------------
@@ -90,4 +89,4 @@ module _ {Δ : Context} where
   }
 
   pub up-bound : {U W : Vars} (x : Binding) → UpToUnits Δ U W → UpToUnits (x ∷ Δ) U W
-  up-bound x h = record { keeps = h .keeps; extra = λ i y. ⊎-elim left (λ p. right (look-old Δ x i p)) (h .extra i y) }
+  up-bound x h = record { keeps = h .keeps; extra = λ i y. ⊎-elim left (λ p. right (dynamic-old Δ x i p)) (h .extra i y) }

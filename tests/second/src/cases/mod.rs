@@ -1,7 +1,8 @@
-//! Calls with a known point: section 6's cases, each limit exactly and one past it, and the readers of a journal.
+//! Calls with a known point: section 6's cases, each limit exactly and one past it, the readers of a journal, and steered calls.
 
 mod limits;
 mod readers;
+mod steering;
 
 use crate::calls::{answer, Answer, Call, ConvertCall, Direction, RunCall};
 use crate::draft::{nat, Draft, Function};
@@ -41,6 +42,7 @@ pub fn cases() -> Vec<Call> {
     calls.extend(journal(&program));
     calls.extend(limits::at_the_limits());
     calls.extend(readers::readings(&program));
+    calls.extend(steering::steering());
     calls
 }
 

@@ -5,6 +5,7 @@
 
 use super::corners::shortening_program;
 use super::sound_program;
+use super::steer::{converters, steered_program};
 use super::story::Story;
 use crate::book::{Book, Circumstances};
 use crate::calls::{Answer, Call};
@@ -34,7 +35,12 @@ impl Turn {
 }
 
 pub fn book_list(rng: &mut Rng) -> Vec<Turn> {
-    let draft = if rng.chance(15) { shortening_program(rng) } else { sound_program(rng) };
+    let draft = match rng.below(20) {
+        0..=2 => shortening_program(rng),
+        3 | 4 => steered_program(rng),
+        5 | 6 => converters(),
+        _ => sound_program(rng),
+    };
     let (mut story, open) = Story::begin(rng, draft);
     let Call::Open { record, .. } = &open else { return Vec::new() };
     let mut book = Book::begin(record);

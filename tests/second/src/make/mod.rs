@@ -11,6 +11,7 @@ pub mod lists;
 mod readers;
 mod runs;
 pub mod scripts;
+pub mod steer;
 mod story;
 mod terms;
 mod types;
@@ -23,24 +24,43 @@ use crate::rng::Rng;
 use std::collections::VecDeque;
 use story::Story;
 
-/// Calls of readers in a hundred.
+/// Calls in a hundred on programs that are made for steering.
+const STEERED: usize = 18;
+
+/// Calls of readers in a hundred of the rest.
 const READERS: usize = 15;
 
-/// An endless row of calls. The readers' calls stand among the others and have a generator of their own, so that what else a seed
-/// names stays as it is.
+/// An endless row of calls. The readers' calls and those made for steering stand among the others and have generators of their own, so
+/// that what else a seed names stays as it is.
 pub struct Maker {
     rng: Rng,
     ready: VecDeque<Call>,
     readers: Rng,
     ready_readers: VecDeque<Call>,
-    /// The journal of the newest call that had one.
+    steered: Rng,
+    ready_steered: VecDeque<Call>,
+    /// The journal of the newest call that had one, of those that are not made for steering.
     met: Vec<u8>,
 }
 
 impl Maker {
     pub fn new(seed: u64) -> Maker {
-        let (rng, readers) = (Rng::new(seed), Rng::new(!seed));
-        Maker { rng, ready: VecDeque::new(), readers, ready_readers: VecDeque::new(), met: Vec::new() }
+        Maker {
+            rng: Rng::new(seed),
+            ready: VecDeque::new(),
+            readers: Rng::new(!seed),
+            ready_readers: VecDeque::new(),
+            steered: Rng::new(seed.rotate_left(32)),
+            ready_steered: VecDeque::new(),
+            met: Vec::new(),
+        }
+    }
+
+    fn steered_call(&mut self) -> Option<Call> {
+        while self.ready_steered.is_empty() {
+            self.ready_steered.extend(steer::steered_calls(&mut self.steered));
+        }
+        self.ready_steered.pop_front()
     }
 
     fn reader_call(&mut self) -> Option<Call> {
@@ -110,7 +130,6 @@ impl Maker {
         self.ready.extend(calls.into_iter().filter(rare).take(3));
     }
 
-    /// The calls of a story, some of them on a damaged journal as well; of a long story only the rare ones.
     fn story(&mut self) {
         let rng = &mut self.rng;
         let draft = match rng.below(10) {
@@ -119,25 +138,29 @@ impl Maker {
             4 => corners::ancilla_program(rng),
             _ => sound_program(rng),
         };
-        let (mut story, open) = Story::begin(rng, draft);
-        let long = rng.chance(25);
-        if !long {
-            self.ready.push_back(open);
+        self.ready.extend(story_calls(rng, draft));
+    }
+}
+
+/// The calls of a story, some of them on a damaged journal as well; of a long story only the rare ones.
+fn story_calls(rng: &mut Rng, draft: Draft) -> Vec<Call> {
+    let (mut story, open) = Story::begin(rng, draft);
+    let long = rng.chance(25);
+    let mut calls = if long { vec![] } else { vec![open] };
+    for _ in 0..if long { 40 } else { rng.between(1, 8) } {
+        let converts = rng.between(40, 80);
+        let mut call = story.next_call(rng, converts);
+        story.turn(&call, &answer(&call));
+        if rng.chance(35) {
+            call = journals::with_damaged_journal(rng, &story.draft, &call);
+        } else if rng.chance(4) {
+            call = with_damaged_program(rng, call);
         }
-        for _ in 0..if long { 40 } else { rng.between(1, 8) } {
-            let converts = rng.between(40, 80);
-            let mut call = story.next_call(rng, converts);
-            story.turn(&call, &answer(&call));
-            if rng.chance(35) {
-                call = journals::with_damaged_journal(rng, &story.draft, &call);
-            } else if rng.chance(4) {
-                call = with_damaged_program(rng, call);
-            }
-            if !long || rare(&call) {
-                self.ready.push_back(call);
-            }
+        if !long || rare(&call) {
+            calls.push(call);
         }
     }
+    calls
 }
 
 /// The run itself, or as a convert or rollback call, and now and then on a damaged program.
@@ -162,6 +185,9 @@ impl Iterator for Maker {
     type Item = Call;
 
     fn next(&mut self) -> Option<Call> {
+        if self.steered.chance(STEERED) {
+            return self.steered_call();
+        }
         if self.readers.chance(READERS) {
             return self.reader_call();
         }

@@ -10,6 +10,11 @@ use crate::samples::nat_bytes;
 
 pub fn run_call(rng: &mut Rng, draft: &Draft, program: &[u8]) -> RunCall {
     let function = rng.below(draft.functions.len());
+    run_call_of(rng, draft, program, function)
+}
+
+/// A call of one function.
+pub fn run_call_of(rng: &mut Rng, draft: &Draft, program: &[u8], function: usize) -> RunCall {
     let signature = &draft.functions[function];
     let (dynamic, ancillae) = signature.parameters.split_last().expect("a function has a parameter");
     let mut call = RunCall {

@@ -1,6 +1,8 @@
 //! Calls in short form, for tests that look at one answer each.
 #![allow(dead_code)]
 
+pub mod namings;
+
 use second::calls::{answer, Answer, Call, ConvertCall, Direction, RunCall};
 use second::limits::{self, FUEL, VALUE_BYTES};
 use second::refusal::{Number, Refusal};

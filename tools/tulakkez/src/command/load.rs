@@ -83,7 +83,7 @@ impl Converter {
     /// A refusal, at its place in the text or in the bytes.
     pub fn refused(&self, refusal: Refusal) -> Answer {
         if let Some((source, layout)) = &self.text {
-            if let Some(mistake) = explain(&mut self.program.clone(), layout, refusal) {
+            if let Some(mistake) = explain(&mut self.program.clone(), source, layout, refusal) {
                 let position = source.position(mistake.span.start);
                 return Answer::refused(refusal, mistake.told(source))
                     .with("file", Json::text(&source.name))

@@ -28,23 +28,26 @@ impl Program {
     }
 }
 
-/// A term, the function that holds it, and how many variables are in scope at it.
-#[derive(Clone, Copy, Debug)]
+/// A term, the function that holds it, how many variables are in scope at it, and what stands around it.
+#[derive(Clone, Debug)]
 pub struct Found<'a> {
     pub term: &'a Term,
     pub function: &'a Function,
     pub variables: usize,
+    /// The terms that hold it, the nearest first, each with the place of the part that does.
+    pub around: Vec<(&'a Term, usize)>,
 }
 
 /// Parts come before wholes.
 fn nth<'a>(term: &'a Term, variables: usize, left: &mut usize, function: &'a Function) -> Option<Found<'a>> {
     for (place, part) in term.parts().into_iter().enumerate() {
-        if let Some(found) = nth(part, variables + term.bound_before(place), left, function) {
+        if let Some(mut found) = nth(part, variables + term.bound_before(place), left, function) {
+            found.around.push((term, place));
             return Some(found);
         }
     }
     if *left == 0 {
-        return Some(Found { term, function, variables });
+        return Some(Found { term, function, variables, around: Vec::new() });
     }
     *left -= 1;
     None

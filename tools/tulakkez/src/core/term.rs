@@ -71,10 +71,18 @@ impl Term {
         }
     }
 
-    /// Is the variable named in the term?
-    pub fn mentions(&self, variable: usize) -> bool {
-        matches!(self.kind, TermKind::Variable(number) if number == variable)
-            || self.parts().into_iter().any(|part| part.mentions(variable))
+    /// Is the part at this place an ancilla argument?
+    pub fn is_ancilla(&self, place: usize) -> bool {
+        matches!(&self.kind, TermKind::Call(_, terms) if place + 1 < terms.len())
+    }
+
+    /// Where the term first uses a variable from outside. An ancilla argument only names it, and leaves it (document 02, F-2).
+    pub fn use_of(&self, variable: usize) -> Option<&Term> {
+        if matches!(self.kind, TermKind::Variable(number) if number == variable) {
+            return Some(self);
+        }
+        let mut used_up = self.parts().into_iter().enumerate().filter(|(place, _)| !self.is_ancilla(*place));
+        used_up.find_map(|(_, part)| part.use_of(variable))
     }
 
     /// The parts in written order.

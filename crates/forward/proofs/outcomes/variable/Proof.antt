@@ -15,7 +15,7 @@ count-in-requires c κs = search needs
 find-requires : tie.Need-find-requires
 find-requires c κs =
     let ready = c .before .before .before .pre in
-    rw (c .before .base-in .ensures, c .count-in .ensures) (ready .there, (ready .graph, ready .held))
+    rw (c .before .base-in .ensures, c .count-in .ensures) (ready .there, (ready .graph .right, ready .held))
 
 enum-known-node : tie.Need-enum-known-node
 enum-known-node c = search needs

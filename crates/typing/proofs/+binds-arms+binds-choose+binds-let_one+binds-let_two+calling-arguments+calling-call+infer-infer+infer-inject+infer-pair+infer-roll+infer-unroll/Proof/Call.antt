@@ -121,7 +121,7 @@ module _ (t : ℕ) where
   call-before-none c = c .before
 
   abbrev call-before-arguments : Arguments → None × Same
-  call-before-arguments c = let at-none = c .before .before .before in (at-none, call-before-none at-none)
+  call-before-arguments c = let at-none = c .before .before .before .before in (at-none, call-before-none at-none)
 
   abbrev call-before-refused : Refused → Arguments × None × Same
   call-before-refused c =
@@ -241,7 +241,7 @@ module _ (t : ℕ) where
 
   pub arguments-requires : lts.Need-arguments-requires (call-uses t) (call-at t) call.Post
   arguments-requires c κs =
-      let at-none = c .before .before in
+      let at-none = c .before .before .before in
       let at-same = call-before-none at-none in
       let (at-parameters, at-ancillae, at-offset, at-index, at-first, start) = call-before-same at-same in
       let callee = at-index .wide-index .ensures .0 ∙ at-first .first .ensures in

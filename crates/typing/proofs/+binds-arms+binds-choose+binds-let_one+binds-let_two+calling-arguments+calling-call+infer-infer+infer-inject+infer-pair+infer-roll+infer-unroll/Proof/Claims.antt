@@ -54,6 +54,7 @@ use Rattle.types.proofs.shapes.shape_of.Reads as shape-of-reads
 use Rattle.types.proofs.unfolding.unfolded.Reads as unfolded-reads
 use own.leaves.offset.Reads as offset-reads
 use own.leaves.unit.Reads as unit-reads
+use own.namings.count.Reads as count-reads
 use own.outcomes.differ.Reads as differ-reads
 use own.outcomes.unscoped.Reads as unscoped-reads
 use own.outcomes.misused.Reads as misused-reads
@@ -64,6 +65,7 @@ use own.tests.meet.Reads as meet-reads
 use own.tests.pair_up.Reads as pair-up-reads
 use own.tests.spent.Reads as spent-reads
 use own.variables.bind.Reads as bind-reads
+use own.variables.marked.Reads as marked-reads
 use own.variables.variable.Reads as variables-variable-reads
 use Rattle.varsets.proofs.Uses.none.Reads as none-reads
 use Rattle.octets.proofs.wide_index.Reads as wide-index-reads
@@ -209,6 +211,10 @@ let-one-uses t = (
   first-reads.Learnt,
   second-reads.Asked,
   second-reads.Learnt,
+  count-reads.Asked,
+  count-reads.Learnt,
+  marked-reads.Asked,
+  marked-reads.Learnt,
   infer-below t,
   infer.Post,
   bind-reads.Asked,
@@ -225,6 +231,10 @@ let-two-uses t = (
   first-reads.Learnt,
   second-reads.Asked,
   second-reads.Learnt,
+  count-reads.Asked,
+  count-reads.Learnt,
+  marked-reads.Asked,
+  marked-reads.Learnt,
   infer-below t,
   infer.Post,
   shape-of-reads.Asked,

@@ -6,7 +6,7 @@ use native.Mathlib.Omega.{arith}
 use borrow.Author.Needs.{needs}
 use own.Trees.{here, here-inl, here-inr, from-five, kind-there, read-var, no-twelfth}
 use own.Steps.{var-done, unit-done}
-use own.Asking.{ready-at, ready-inject}
+use own.Asking.{one-waits, ready-at, ready-inject}
 use own.infer.infer.Reads as infer
 use own.+binds-arms+binds-choose+binds-let_one+binds-let_two+calling-arguments+calling-call+infer-infer+infer-inject+infer-pair+infer-roll+infer-unroll as cycle
 use cycle.Lts-infer-infer as lts
@@ -80,8 +80,11 @@ module _ (t : ℕ) where
 
   pub variable-requires-2 : lts.Need-variable-requires-2 (infer-uses t) (infer-at t) infer.Post
   variable-requires-2 c κs =
-      let (_, _, start) = infer-before-variable c in
-      (start .pre .1 .ready .scoped .few, start .pre .1 .ready .scoped .slots)
+      let (_, _, start) = infer-before-variable c in (
+        start .pre .1 .ready .scoped .few,
+        start .pre .1 .ready .scoped .slots,
+        one-waits (start .pre .1),
+      )
 
   pub unit-requires : lts.Need-unit-requires (infer-uses t) (infer-at t) infer.Post
   unit-requires c κs = search needs
@@ -175,9 +178,10 @@ module _ (t : ℕ) where
 
   pub returns : lts.Need-returns (infer-uses t) (infer-at t) infer.Post
   returns c =
-      let (at-variable, at-kind, at-offset, start) = infer-before-variable2 c in
+      let at-variable2 = c .before .before in
+      let (at-variable, at-kind, at-offset, start) = infer-before-variable2 at-variable2 in
       var-done (start .pre .1 .ready) (here (start .pre .1 .there) (at-offset .offset .ensures) (at-kind .kind .ensures)
-      (c .before .before .before .match .keys1)) (at-variable .variable .ensures) (c .variable2 .ensures)
+      (at-variable2 .before .before .before .match .keys1)) (at-variable .variable .ensures) (at-variable2 .variable2 .ensures)
 
   pub returns-2 : lts.Need-returns-2 (infer-uses t) (infer-at t) infer.Post
   returns-2 c =

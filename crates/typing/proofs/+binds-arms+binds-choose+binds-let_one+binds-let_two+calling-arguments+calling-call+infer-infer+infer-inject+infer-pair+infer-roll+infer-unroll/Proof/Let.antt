@@ -7,7 +7,7 @@ use mathlib.Core.Path.{_∙_}
 use borrow.Author.Needs.{needs}
 use own.Answers.{told, ready-opened}
 use own.Trees.{read-let}
-use own.Binding.{let-full, let-free, let-ready, let-bound, let-body, let-refused, let-later, let-known, let-done}
+use own.Binding.{let-full, let-free, let-ready, let-bound, let-body, let-refused, let-later, let-known, let-can-settle, let-done}
 use own.Asking.{ready-for}
 use own.binds.let_one.Reads as let-one
 use own.+binds-arms+binds-choose+binds-let_one+binds-let_two+calling-arguments+calling-call+infer-infer+infer-inject+infer-pair+infer-roll+infer-unroll as cycle
@@ -36,6 +36,12 @@ module _ (t : ℕ) where
   abbrev Second : Type 0
   Second = lts.After-second (let-one-uses t) (let-one-at t) let-one.Post
 
+  abbrev Count : Type 0
+  Count = lts.After-count (let-one-uses t) (let-one-at t) let-one.Post
+
+  abbrev Marked : Type 0
+  Marked = lts.After-marked (let-one-uses t) (let-one-at t) let-one.Post
+
   abbrev Infer : Type 0
   Infer = lts.After-infer (let-one-uses t) (let-one-at t) let-one.Post
 
@@ -44,6 +50,9 @@ module _ (t : ℕ) where
 
   abbrev EnumTold : Type 0
   EnumTold = lts.After-enum-told (let-one-uses t) (let-one-at t) let-one.Post
+
+  abbrev Count2 : Type 0
+  Count2 = lts.After-count2 (let-one-uses t) (let-one-at t) let-one.Post
 
   abbrev Bind : Type 0
   Bind = lts.After-bind (let-one-uses t) (let-one-at t) let-one.Post
@@ -55,10 +64,10 @@ module _ (t : ℕ) where
   CloseOne = lts.After-close-one (let-one-uses t) (let-one-at t) let-one.Post
 
   abbrev let-one-before-else1 : Else1 → Start
-  let-one-before-else1 c = c .before .before .before .before .before .before .before .before
+  let-one-before-else1 c = c .before .before .before .before .before .before .before .before .before
 
   abbrev let-one-before-then1 : Then1 → Start
-  let-one-before-then1 c = c .before .before .before .before .before .before .before .before
+  let-one-before-then1 c = c .before .before .before .before .before .before .before .before .before
 
   abbrev let-one-before-first : First → Else1 × Start
   let-one-before-first c = let at-else1 = c .before in (at-else1, let-one-before-else1 at-else1)
@@ -72,41 +81,50 @@ module _ (t : ℕ) where
       let (at-else1, start) = let-one-before-first at-first in
       (at-first, at-else1, start)
 
-  abbrev let-one-before-infer : Infer → Second × First × Else1 × Start
-  let-one-before-infer c =
-      let at-second = c .before .before .before in
+  abbrev let-one-before-count : Count → Second × First × Else1 × Start
+  let-one-before-count c =
+      let at-second = c .before .before in
       let (at-first, at-else1, start) = let-one-before-second at-second in
       (at-second, at-first, at-else1, start)
 
-  abbrev let-one-before-status : Status → Infer × Second × First × Else1 × Start
-  let-one-before-status c =
-      let at-infer = c .before .before .before .before .before .before in
-      let (at-second, at-first, at-else1, start) = let-one-before-infer at-infer in
-      (at-infer, at-second, at-first, at-else1, start)
+  abbrev let-one-before-marked : Marked → Count × Second × First × Else1 × Start
+  let-one-before-marked c =
+      let at-count = c .before in
+      let (at-second, at-first, at-else1, start) = let-one-before-count at-count in
+      (at-count, at-second, at-first, at-else1, start)
 
-  abbrev let-one-before-enum-told : EnumTold → Infer × Second × First × Else1 × Start
-  let-one-before-enum-told c =
-      let at-infer = c .before .before .before .before .before .before in
-      let (at-second, at-first, at-else1, start) = let-one-before-infer at-infer in
-      (at-infer, at-second, at-first, at-else1, start)
+  abbrev let-one-before-infer : Infer → Marked × Count × Second × First × Else1 × Start
+  let-one-before-infer c =
+      let at-marked = c .before .before .before in
+      let (at-count, at-second, at-first, at-else1, start) = let-one-before-marked at-marked in
+      (at-marked, at-count, at-second, at-first, at-else1, start)
 
-  abbrev let-one-before-bind : Bind → Status × Infer × Second × First × Else1 × Start
+  abbrev let-one-before-status : Status → Infer
+  let-one-before-status c = c .before .before .before .before .before .before
+
+  abbrev let-one-before-enum-told : EnumTold → Infer
+  let-one-before-enum-told c = c .before .before .before .before .before .before
+
+  abbrev let-one-before-count2 : Count2 → Status × Infer
+  let-one-before-count2 c = let at-status = c .before .before .before in (at-status, let-one-before-status at-status)
+
+  abbrev let-one-before-bind : Bind → Count2 × Status × Infer
   let-one-before-bind c =
-      let at-status = c .before .before .before .before in
-      let (at-infer, at-second, at-first, at-else1, start) = let-one-before-status at-status in
-      (at-status, at-infer, at-second, at-first, at-else1, start)
+      let at-count2 = c .before .before .before in
+      let (at-status, at-infer) = let-one-before-count2 at-count2 in
+      (at-count2, at-status, at-infer)
 
-  abbrev let-one-before-infer2 : Infer2 → Bind × Status × Infer × Second × First × Else1 × Start
+  abbrev let-one-before-infer2 : Infer2 → Bind × Count2 × Status × Infer
   let-one-before-infer2 c =
       let at-bind = c .before .before .before .before .before in
-      let (at-status, at-infer, at-second, at-first, at-else1, start) = let-one-before-bind at-bind in
-      (at-bind, at-status, at-infer, at-second, at-first, at-else1, start)
+      let (at-count2, at-status, at-infer) = let-one-before-bind at-bind in
+      (at-bind, at-count2, at-status, at-infer)
 
-  abbrev let-one-before-close-one : CloseOne → Infer2 × Bind × Status × Infer × Second × First × Else1 × Start
+  abbrev let-one-before-close-one : CloseOne → Infer2 × Bind × Count2 × Status × Infer
   let-one-before-close-one c =
-      let at-infer2 = c .before .before .before .before .before .before in
-      let (at-bind, at-status, at-infer, at-second, at-first, at-else1, start) = let-one-before-infer2 at-infer2 in
-      (at-infer2, at-bind, at-status, at-infer, at-second, at-first, at-else1, start)
+      let at-infer2 = c .before .before .before .before .before .before .before in
+      let (at-bind, at-count2, at-status, at-infer) = let-one-before-infer2 at-infer2 in
+      (at-infer2, at-bind, at-count2, at-status, at-infer)
 
   ----------------------------------------------------------------
   -- Answers
@@ -129,26 +147,45 @@ module _ (t : ℕ) where
       let (_, start) = let-one-before-first c in
       read-let (start .pre .1 .ready .entries) (start .pre .1 .here)
 
+  pub count-requires : lts.Need-count-requires (let-one-uses t) (let-one-at t) let-one.Post
+  count-requires c κs =
+      let (_, _, start) = let-one-before-second (c .before) in
+      start .pre .1 .ready .scoped .slots
+
+  pub marked-requires : lts.Need-marked-requires (let-one-uses t) (let-one-at t) let-one.Post
+  marked-requires c κs =
+      let (at-second, at-first, at-else1, start) = let-one-before-count c in (
+        start .pre .1 .ready .scoped .low,
+        let-free (start .pre .1 .ready) (start .pre .1 .here) (at-else1 .if1 .left) (at-first .first .ensures) (at-second .second .ensures),
+      )
+
   pub infer-requires : lts.Need-infer-requires (let-one-uses t) (let-one-at t) let-one.Post
   infer-requires c κs =
-      let at-second = c .before .before in
-      let (at-first, at-else1, start) = let-one-before-second at-second in
+      let at-marked = c .before .before in
+      let (_, at-second, at-first, at-else1, start) = let-one-before-marked at-marked in
       let bound = let-bound (start .pre .1 .ready) (start .pre .1 .here) (at-else1 .if1 .left) (at-first .first .ensures)
       (at-second .second .ensures) in (
         omega (arith, start .pre .0, bound .0),
         ready-for (start .pre .1 .signed) (let-ready (start .pre .1 .ready) (start .pre .1 .here)
-            (at-else1 .if1 .left) (at-first .first .ensures) (at-second .second .ensures)) (bound .1),
+            (at-else1 .if1 .left) (at-first .first .ensures) (at-second .second .ensures) (at-marked .marked .ensures)) (bound .1),
       )
 
   pub enum-known-status : lts.Need-enum-known-status (let-one-uses t) (let-one-at t) let-one.Post
   enum-known-status c = search needs
 
+  pub count-requires-2 : lts.Need-count-requires-2 (let-one-uses t) (let-one-at t) let-one.Post
+  count-requires-2 c κs =
+      let at-infer = let-one-before-status (c .before .before) in
+      let (at-marked, _, at-second, at-first, at-else1, start) = let-one-before-infer at-infer in
+      let-later (start .pre .1 .ready) (start .pre .1 .here) (at-else1 .if1 .left) (at-first .first .ensures) (at-second .second .ensures)
+      (at-marked .marked .ensures) (at-infer .infer .ensures) .scoped .slots
+
   pub bind-requires : lts.Need-bind-requires (let-one-uses t) (let-one-at t) let-one.Post
   bind-requires c κs =
-      let at-status = c .before .before .before in
-      let (at-infer, at-second, at-first, at-else1, start) = let-one-before-status at-status in (
+      let (at-status, at-infer) = let-one-before-count2 (c .before .before) in
+      let (at-marked, _, at-second, at-first, at-else1, start) = let-one-before-infer at-infer in (
         let-later (start .pre .1 .ready) (start .pre .1 .here) (at-else1 .if1 .left) (at-first .first .ensures) (at-second .second .ensures)
-            (at-infer .infer .ensures) .scoped,
+            (at-marked .marked .ensures) (at-infer .infer .ensures) .scoped,
         (
           at-infer .infer .ensures .known _ (at-status .status .given .1),
           let-free (start .pre .1 .ready)
@@ -159,26 +196,33 @@ module _ (t : ℕ) where
   pub infer-requires-2 : lts.Need-infer-requires-2 (let-one-uses t) (let-one-at t) let-one.Post
   infer-requires-2 c κs =
       let at-bind = c .before .before .before .before in
-      let (_, at-infer, at-second, at-first, at-else1, start) = let-one-before-bind at-bind in
+      let (_, _, at-infer) = let-one-before-bind at-bind in
+      let (at-marked, _, at-second, at-first, at-else1, start) = let-one-before-infer at-infer in
       let body = let-body (start .pre .1 .ready) (start .pre .1 .here) (at-else1 .if1 .left) (at-first .first .ensures) (at-second .second .ensures)
       in (
         omega (arith, start .pre .0, body .0),
         ready-for (start .pre .1 .signed) (ready-opened
             (let-later (start .pre .1 .ready) (start .pre .1 .here) (at-else1 .if1 .left) (at-first .first .ensures) (at-second .second .ensures)
-            (at-infer .infer .ensures)) (at-bind .bind .ensures)) (body .1),
+            (at-marked .marked .ensures) (at-infer .infer .ensures)) (at-bind .bind .ensures)) (body .1),
       )
 
   pub close-one-requires : lts.Need-close-one-requires (let-one-uses t) (let-one-at t) let-one.Post
   close-one-requires c κs =
-      let at-infer2 = c .before .before .before .before .before in
-      let (at-bind, at-status, at-infer, at-second, at-first, at-else1, start) = let-one-before-infer2 at-infer2 in (
+      let at-infer2 = c .before .before .before .before .before .before in
+      let (at-bind, at-count2, at-status, at-infer) = let-one-before-infer2 at-infer2 in
+      let (at-marked, at-count, at-second, at-first, at-else1, start) = let-one-before-infer at-infer in (
         told (at-infer2 .infer2 .ensures),
         (
-          let-known (start .pre .1 .ready) (start .pre .1 .here) (at-else1 .if1 .left) (at-first .first .ensures)
-              (at-second .second .ensures) (at-infer .infer .ensures) (at-status .status .given .1) (at-bind .bind .ensures)
-              (at-infer2 .infer2 .ensures),
-          let-free (start .pre .1 .ready) (start .pre .1 .here) (at-else1 .if1 .left) (at-first .first .ensures)
-              (at-second .second .ensures),
+          (
+            let-known (start .pre .1 .ready) (start .pre .1 .here) (at-else1 .if1 .left) (at-first .first .ensures)
+                (at-second .second .ensures) (at-marked .marked .ensures) (at-infer .infer .ensures) (at-status .status .given .1)
+                (at-bind .bind .ensures) (at-infer2 .infer2 .ensures),
+            let-free (start .pre .1 .ready) (start .pre .1 .here) (at-else1 .if1 .left) (at-first .first .ensures)
+                (at-second .second .ensures),
+          ),
+          let-can-settle (start .pre .1 .ready) (start .pre .1 .here) (at-else1 .if1 .left) (at-first .first .ensures)
+              (at-second .second .ensures) (at-marked .marked .ensures) (at-infer .infer .ensures) (at-status .status .given .1)
+              (at-bind .bind .ensures) (at-infer2 .infer2 .ensures) (at-count .count .ensures) (at-count2 .count2 .ensures),
         ),
       )
 
@@ -187,32 +231,38 @@ module _ (t : ℕ) where
 
   pub same-length : lts.Need-same-length (let-one-uses t) (let-one-at t) let-one.Post
   same-length c =
-      let (at-infer2, _, _, at-infer, _, _, _, _) = let-one-before-close-one c in
+      let (at-infer2, _, _, _, at-infer) = let-one-before-close-one (c .before .before) in
       at-infer2 .infer2 .kept .1 .1 .1 .1 .1 .1 .0 ∙ at-infer .infer .kept .1 .1 .1 .1 .1 .1 .0
 
   pub same-length-2 : lts.Need-same-length-2 (let-one-uses t) (let-one-at t) let-one.Post
   same-length-2 c =
-      let (at-infer2, at-bind, _, at-infer, _, _, _, _) = let-one-before-close-one c in
-      at-infer2 .infer2 .kept .1 .1 .1 .1 .1 .1 .1 .0 ∙ at-bind .bind .kept .1 .1 .1 .0 ∙ at-infer .infer .kept .1 .1 .1 .1 .1 .1 .1 .0
+      let at-close-one = c .before .before in
+      let (at-infer2, at-bind, _, _, at-infer) = let-one-before-close-one at-close-one in
+      at-close-one .close-one .kept .1 .1 .1 .0 ∙ at-infer2 .infer2 .kept .1 .1 .1 .1 .1 .1 .1 .0 ∙ at-bind .bind .kept .1 .1 .1 .0
+      ∙ at-infer .infer .kept .1 .1 .1 .1 .1 .1 .1 .0
 
   pub returns-2 : lts.Need-returns-2 (let-one-uses t) (let-one-at t) let-one.Post
   returns-2 c =
-      let (at-infer2, at-bind, at-status, at-infer, at-second, at-first, at-else1, start) = let-one-before-close-one c in
+      let at-close-one = c .before .before in
+      let (at-infer2, at-bind, at-count2, at-status, at-infer) = let-one-before-close-one at-close-one in
+      let (at-marked, at-count, at-second, at-first, at-else1, start) = let-one-before-infer at-infer in
       let-done (start .pre .1 .ready) (start .pre .1 .here) (at-else1 .if1 .left) (at-first .first .ensures) (at-second .second .ensures)
-      (at-infer .infer .ensures) (at-status .status .given .1) (at-bind .bind .ensures) (at-infer2 .infer2 .ensures) (c .close-one .ensures)
+      (at-marked .marked .ensures) (at-infer .infer .ensures) (at-status .status .given .1) (at-bind .bind .ensures) (at-infer2 .infer2 .ensures)
+      (at-count .count .ensures) (at-count2 .count2 .ensures) (at-close-one .close-one .ensures)
 
   pub same-length-3 : lts.Need-same-length-3 (let-one-uses t) (let-one-at t) let-one.Post
   same-length-3 c =
-      let (at-infer, _, _, _, _) = let-one-before-enum-told c in
+      let at-infer = let-one-before-enum-told c in
       at-infer .infer .kept .1 .1 .1 .1 .1 .1 .0
 
   pub same-length-4 : lts.Need-same-length-4 (let-one-uses t) (let-one-at t) let-one.Post
   same-length-4 c =
-      let (at-infer, _, _, _, _) = let-one-before-enum-told c in
+      let at-infer = let-one-before-enum-told c in
       at-infer .infer .kept .1 .1 .1 .1 .1 .1 .1 .0
 
   pub returns-3 : lts.Need-returns-3 (let-one-uses t) (let-one-at t) let-one.Post
   returns-3 c =
-      let (at-infer, at-second, at-first, at-else1, start) = let-one-before-enum-told c in
+      let at-infer = let-one-before-enum-told c in
+      let (at-marked, _, at-second, at-first, at-else1, start) = let-one-before-infer at-infer in
       let-refused (start .pre .1 .ready) (start .pre .1 .here) (at-else1 .if1 .left) (at-first .first .ensures) (at-second .second .ensures)
-      (at-infer .infer .ensures) (c .enum-told .given .1)
+      (at-marked .marked .ensures) (at-infer .infer .ensures) (c .enum-told .given .1)

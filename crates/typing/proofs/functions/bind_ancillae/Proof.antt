@@ -20,7 +20,9 @@ none-requires : tie.Need-none-requires Inv-loop μ-loop
 none-requires c κs = search needs
 
 loop-holds : tie.Need-loop-holds Inv-loop μ-loop
-loop-holds c = (omega arith, refl, none-bound (c .before .before .before .before .before .pre .1 .1 .1))
+loop-holds c =
+    let start = c .before .before .before .before .before in
+    (omega arith, refl, none-bound (start .pre .1 .1 .1) (start .pre .1 .1 .2))
 
 wide16-requires : tie.Need-wide16-requires Inv-loop μ-loop
 wide16-requires c κs = search needs

@@ -20,7 +20,7 @@ cast-q c = search needs
 bind-ancillae-requires : tie.Need-bind-ancillae-requires
 bind-ancillae-requires c κs =
     let start = c .before .before .before .before .before .before in
-    (start .pre .0, (start .pre .1 .0, (omega (arith, start .pre .1 .0 .formed .some), start .pre .1 .1)))
+    (start .pre .0, (start .pre .1 .0, (omega (arith, start .pre .1 .0 .formed .some), start .pre .1 .1 .0, start .pre .1 .1 .1)))
 
 none-requires : tie.Need-none-requires
 none-requires c κs = search needs

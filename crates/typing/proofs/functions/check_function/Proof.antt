@@ -1,7 +1,9 @@
 use native.Mathlib.Omega.{arith}
 use Rattle.program.proofs.Rooms.{function-room}
 use Rattle.program.proofs.Rows.{function-fields}
+use package.Rattle.typing.specs.Waiting.{scopeBytes}
 use Rattle.typing.proofs.Asking.{ready-for}
+use Rattle.typing.proofs.Waiting.{none-wait}
 use Rattle.typing.proofs.Checks.{sources, field, signed, body-there, ready, typed-answer, refused-answer}
 use borrow.Author.Needs.{needs}
 use Rattle.typing.proofs.functions.check_function.Statement.{statement}
@@ -33,7 +35,7 @@ bind-parameters-requires c κs =
       (
         signed (start .pre .0) (start .pre .1 .0) (at-wide-index .wide-index .ensures .0)
             (start .pre .1 .1 .rows _ (start .pre .1 .0)),
-        search needs,
+        (search needs, none-wait scopeBytes),
       ),
     )
 

@@ -1,5 +1,5 @@
-use mathlib.Core.Path.{refl, sym, _∙_}
-use Rattle.typing.proofs.Deciding.{after-typed, after-refused, picks-yes, picks-no}
+use mathlib.Core.Path.{refl}
+use Rattle.typing.proofs.Deciding.{closes-by, body-typed, body-refused}
 use borrow.Author.Needs.{needs}
 use Rattle.typing.proofs.tests.close_one.Statement.{statement}
 use Rattle.typing.proofs.tests.close_one.Tie as tie
@@ -10,35 +10,25 @@ enum-known-status c = search needs
 spent-requires : tie.Need-spent-requires
 spent-requires c κs = search needs
 
-join-requires : tie.Need-join-requires
-join-requires c κs = search needs
-
-returns : tie.Need-returns
-returns c =
-    let at-join = c in
-    let at-if1 = at-join .before in
-    let at-spent = at-if1 .before in
-    let at-status = at-spent .before .before in
-    after-typed (at-status .status .given .1) (at-join .join .ensures .0) (picks-yes (sym (at-spent .spent .ensures) ∙ at-if1 .if1 .taken)
-    (at-join .join .ensures .1))
-
-misused-requires : tie.Need-misused-requires
-misused-requires c κs = search needs
+close-requires : tie.Need-close-requires
+close-requires c κs = search needs
 
 enum-told : tie.Need-enum-told
 enum-told c = search needs
 
-returns-2 : tie.Need-returns-2
-returns-2 c =
-    let at-misused = c in
-    let at-if1 = at-misused .before in
-    let at-spent = at-if1 .before in
-    let at-status = at-spent .before .before in
-    after-typed (at-status .status .given .1) (at-misused .misused .ensures .1) (picks-no (sym (at-spent .spent .ensures) ∙ at-if1 .if1 .left)
-    (at-misused .misused .ensures .0))
+same-length : tie.Need-same-length
+same-length c = search needs
 
-returns-3 : tie.Need-returns-3
-returns-3 c = after-refused (c .enum-told .given .1) refl
+returns : tie.Need-returns
+returns c =
+    let at-close = c .before .before in
+    let at-spent = at-close .before .before in
+    let at-status = at-spent .before .before in
+    body-typed (at-status .status .given .1) (at-close .close .ensures .0)
+    (closes-by (at-spent .spent .ensures) (at-close .close .ensures .1))
+
+returns-2 : tie.Need-returns-2
+returns-2 c = body-refused (c .enum-told .given .1) refl refl
 
 pub close-one-spec : {M : Type 1} → statement M
 close-one-spec =
@@ -46,9 +36,8 @@ close-one-spec =
     (tie.spec
     enum-known-status
     spent-requires
-    join-requires
-    returns
-    misused-requires
+    close-requires
     enum-told
-    returns-2
-    returns-3)
+    same-length
+    returns
+    returns-2)

@@ -13,8 +13,8 @@ put-code-requires c κs = search needs
 is-unit-requires : tie.Need-is-unit-requires
 is-unit-requires c κs = search needs
 
-add-t17 : tie.Need-add-t17
-add-t17 c = search needs
+add-t18 : tie.Need-add-t18
+add-t18 c = search needs
 
 same-length : tie.Need-same-length
 same-length c = search needs
@@ -23,7 +23,7 @@ returns : tie.Need-returns
 returns c =
     let at-if1 = c in
     let at-is-unit = at-if1 .before in
-    let at-put-code = at-is-unit .before .before .before .before in
+    let at-put-code = at-is-unit .before .before .before .before .before in
     let at-slot = at-put-code .before in
     let start = at-slot .before .before .before .before .before .before in
     opened-unit (start .pre .0) _ (start .pre .1 .0) (start .pre .1 .1) (record {
@@ -39,8 +39,8 @@ only-requires c κs = search needs
 union-requires : tie.Need-union-requires
 union-requires c κs = search needs
 
-add-t18 : tie.Need-add-t18
-add-t18 c = search needs
+add-t19 : tie.Need-add-t19
+add-t19 c = search needs
 
 same-length-2 : tie.Need-same-length-2
 same-length-2 c = search needs
@@ -51,7 +51,7 @@ returns-2 c =
     let at-only = at-union .before in
     let at-if1 = at-only .before in
     let at-is-unit = at-if1 .before in
-    let at-put-code = at-is-unit .before .before .before .before in
+    let at-put-code = at-is-unit .before .before .before .before .before in
     let at-slot = at-put-code .before in
     let start = at-slot .before .before .before .before .before .before in
     opened-used (start .pre .0) _ (start .pre .1 .0) (start .pre .1 .1) (record {
@@ -68,11 +68,11 @@ bind-spec =
     slot-requires
     put-code-requires
     is-unit-requires
-    add-t17
+    add-t18
     same-length
     returns
     only-requires
     union-requires
-    add-t18
+    add-t19
     same-length-2
     returns-2)

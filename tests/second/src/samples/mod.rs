@@ -1,5 +1,7 @@
 //! Programs that tests and measurements name: section 6's functions and some common list functions; the longest journal.
 
+pub mod steering;
+
 use crate::draft::*;
 use crate::journal::{Conversion, Journal};
 use crate::limits::{ANCILLA_BYTES, CONVERSIONS, VALUE_BYTES};
