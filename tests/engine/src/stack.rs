@@ -15,7 +15,7 @@ pub const ROOM: usize = 64 << 20;
 
 const MOST_KILOBYTES: u64 = 32 << 10;
 
-/// What the deepest call may take: the figure that the documents state, and less than a tenth more.
+/// What the deepest call may take: the figure that the documents state. There is nothing to spare since F-2.
 const LIMIT_KILOBYTES: u64 = 1 << 10;
 
 /// Stack is found to so many kilobytes.
