@@ -26,13 +26,13 @@ listed() { "$second" book 4 60 | sed 's/ = .*//'; }
 {
     band 0 100000 131 < "$calls"
     "$second" cases | other_calls
-    "$second" make 1 5800 | other_calls | band 0 1300 1500
-    "$second" make 2 4500 | other_calls | band 2000 4200 240
-    "$second" make 3 28800 | other_calls | band 6000 17000 6
+    "$second" make 1 7100 | other_calls | band 0 1300 1500
+    "$second" make 2 5500 | other_calls | band 2000 4200 240
+    "$second" make 3 35200 | other_calls | band 6000 17000 6
     listed | other_calls | band 0 1300 300
     "$second" cases | reader_calls
-    "$second" make 1 5800 | reader_calls | band 0 1300 250
-    "$second" make 2 4500 | reader_calls | band 2000 4200 20
+    "$second" make 1 7100 | reader_calls | band 0 1300 250
+    "$second" make 2 5500 | reader_calls | band 2000 4200 20
     listed | reader_calls | band 0 1300 100
 } > "$calls.new"
 mv "$calls.new" "$calls"

@@ -8,7 +8,7 @@ use mathlib.Core.Bool.{Bool, true, false}
 use mathlib.Core.Option.{none}
 use mathlib.Core.Logic.{inl as left}
 use mathlib.Core.List.{List, _∷_}
-use lib.ListN.{getD}
+use lib.ListN.{length, getD}
 use lib.Seq.{getD-set-other}
 use package.Rattle.rules.specs.Limits.{fits, maxVariables}
 use package.Rattle.rules.specs.Val.{Val}
@@ -29,8 +29,8 @@ use package.Rattle.yields.proofs.Ancillae.{ancillae-same}
 use package.Rattle.forward.proofs.Making.{graph-grown}
 use package.Rattle.backward.specs.Scoped.{ScopedAt}
 use package.Rattle.backward.specs.Outcomes.{Done, Refused, Outcome, refusalOf, tooLong}
-use package.Rattle.backward.specs.Ready.{Ready, Held, Binds, RanBackward, RanUnder, Goes, ancillaeOf, runOf, underOf, stepOf}
-use package.Rattle.backward.proofs.Runs.{meaning-done, meaning-refused, refusal-after, not-done, left-done, left-refused, binds-later, ancillae-later, state-later, held-later, small-top}
+use package.Rattle.backward.specs.Ready.{Ready, Binds, RanBackward, RanUnder, Goes, ancillaeOf, runOf, underOf, stepOf}
+use package.Rattle.backward.proofs.Runs.{meaning-done, meaning-refused, refusal-after, not-done, left-done, left-refused, binds-later, ancillae-later, state-later, small-top}
 use package.Rattle.backward.proofs.Runs.{refuses, slack}
 use package.Rattle.backward.proofs.Leaves.{opened-binds, goes-node, goes-state, goes-follows}
 use Rattle.backward.specs.declared.outcomes.Refusal.{Refusal}
@@ -194,6 +194,40 @@ module _ {code heap slots : List ℕ} {st : Machine} {b : View} {q t room : ℕ}
         ∙ ap (λ k. refusalOf (tooLong (st .fuel) room k)) (tree-entry (rd .machine .rows) t (rd .term) ys))) 1 (omega arith))
 
 ----------------------------------------------------------------
+-- A variable more, whatever its slot holds: it leaves once the term is run
+
+module _ {k : ℕ} {heap heap₁ slots slots₁ : List ℕ} {st : Machine} {b b₁ : View} {x : ℕ} (O : Opens b x b₁) (full : length (b .slots) ≡ maxVariables)
+    {r : Outcome} {res : List TypeEntry → Res State} (d : RanBackward k heap heap₁ slots slots₁ st b₁ r res) where
+  pub leaves-stopped : {w : Refusal} → r .status ≡ Refused w → (l : AfterLeaving)
+      → RanUnder k heap heap₁ slots slots₁ st b (record { out = record { status = r .status; state = r .state; bindings = l .state }; newest = l .newest }) res
+  leaves-stopped {w} s l = record {
+    moves = d .moves;
+    follows = λ n. absurd (not-done s n);
+    there = λ n. absurd (not-done s n);
+    answer = λ ys next.
+        ap (λ x. after x (λ σ. leave σ next)) (sym (d .answer ys) ∙ meaning-refused heap₁ r s)
+        ∙ refusal-after w (λ σ. leave σ next) ∙ sym (left-refused heap₁ (l .state) (l .newest) (r .state .fuel) next s);
+  }
+
+  module _ (s : r .status ≡ Done) where
+    -- there is one to leave
+    some-left : 0 < r .bindings .len
+    some-left = omega (arith, d .follows s .len, O .len)
+
+    pub leaves-done : r .state .top ≤ unknown → {l : AfterLeaving} → Goes heap₁ (r .bindings) l
+        → RanUnder k heap heap₁ slots slots₁ st b
+        (record { out = record { status = r .status; state = r .state; bindings = l .state }; newest = l .newest }) res
+    leaves-done small {l} L = record {
+      moves = d .moves;
+      follows = λ n. goes-follows L (d .follows s .bound) some-left O full (d .follows s);
+      there = λ n. goes-node L (d .follows s .bound) some-left (d .moves .graph .some) small;
+      answer = λ ys next.
+          via (λ σ. leave σ next) (sym (d .answer ys) ∙ meaning-done heap₁ r s)
+          (goes-state L (d .follows s .bound) some-left (d .moves .graph .unit-there) small next (r .state .fuel))
+          ∙ sym (left-done heap₁ (l .state) (l .newest) (r .state .fuel) next s);
+    }
+
+----------------------------------------------------------------
 -- A variable more, of which nothing is known
 
 module _ {heap : List ℕ} {b : View} {q top : ℕ} (B : Binds heap b q top) (space : b .len < maxVariables) {b₁ : View} (O : Opens b unknown b₁) where
@@ -216,41 +250,6 @@ module _ {code heap slots : List ℕ} {st : Machine} {b : View} {q t room : ℕ}
     tall = omega arith;
   }
 
-  inner-run : (v : Val) (ys : List TypeEntry) → runOf code heap st b₁ q t v room ys ≡ underOf code heap st b q t v room ys
+  pub inner-run : (v : Val) (ys : List TypeEntry) → runOf code heap st b₁ q t v room ys ≡ underOf code heap st b q t v room ys
   inner-run v ys = ap₂ (λ a σ. backward fits (programIn code ys) room a σ (treeIn code ys t) v (st .fuel)) (inner-ancillae (rd .binds) space O)
       (inner-state (rd .binds) space O)
-
-  module _ {node : ℕ} (low : node < st .top) {heap₁ slots₁ : List ℕ} {r : Outcome}
-      (d : RanBackward 0 heap heap₁ slots slots₁ st b₁ r (runOf code heap st b₁ q t (valueAt heap node) room)) where
-    pub inner-stopped : {w : Refusal} → r .status ≡ Refused w → (l : AfterLeaving)
-        → RanUnder 0 heap heap₁ slots slots₁ st b (record { out = record { status = r .status; state = r .state; bindings = l .state }; newest = l .newest })
-        (underOf code heap st b q t (valueAt heap node) room)
-    inner-stopped {w} s l = record {
-      moves = d .moves;
-      follows = λ n. absurd (not-done s n);
-      there = λ n. absurd (not-done s n);
-      answer = λ ys next.
-          ap (λ x. after x (λ σ. leave σ next)) (sym (inner-run (valueAt heap node) ys) ∙ sym (d .answer ys) ∙ meaning-refused heap₁ r s)
-          ∙ refusal-after w (λ σ. leave σ next) ∙ sym (left-refused heap₁ (l .state) (l .newest) (r .state .fuel) next s);
-    }
-
-    module _ (s : r .status ≡ Done) where
-      after-it : Held 0 code heap₁ slots₁ (r .state) room
-      after-it = held-later (rd .machine) 0 (omega arith) (d .moves)
-
-      -- there is one to leave
-      pub inner-some : (0 < r .bindings .len) × (r .bindings .len ≤ maxVariables)
-      inner-some = (omega (arith, d .follows s .len, O .len), d .follows s .bound .few)
-
-      pub inner-done : {l : AfterLeaving} → Goes heap₁ (r .bindings) l
-          → RanUnder 0 heap heap₁ slots slots₁ st b (record { out = record { status = r .status; state = r .state; bindings = l .state }; newest = l .newest })
-          (underOf code heap st b q t (valueAt heap node) room)
-      inner-done {l} L = record {
-        moves = d .moves;
-        follows = λ n. goes-follows L (d .follows s .bound) (inner-some .0) O (rd .binds .bound .full) (d .follows s);
-        there = λ n. goes-node L (d .follows s .bound) (inner-some .0) (after-it .graph .some) (small-top after-it);
-        answer = λ ys next.
-            via (λ σ. leave σ next) (sym (inner-run (valueAt heap node) ys) ∙ sym (d .answer ys) ∙ meaning-done heap₁ r s)
-            (goes-state L (d .follows s .bound) (inner-some .0) (after-it .graph .unit-there) (small-top after-it) next (r .state .fuel))
-            ∙ sym (left-done heap₁ (l .state) (l .newest) (r .state .fuel) next s);
-      }

@@ -273,8 +273,8 @@ module _ {heap : List ℕ} {b : View} {r : AfterLeaving} (L : Goes heap b r) {to
       front = leaves-state heap b (record { newest = getD (b .slots) (b .len - 1) 0; state = r .state }) as-left some
 
   -- an outer state that `b` follows, with one variable more
-  pub goes-follows : {c c₁ : View} → Opens c unknown c₁ → length (c .slots) ≡ maxVariables → Follows heap c₁ b top → Follows heap c (r .state) top
-  goes-follows {c} {c₁} O full F = record {
+  pub goes-follows : {c c₁ : View} {x : ℕ} → Opens c x c₁ → length (c .slots) ≡ maxVariables → Follows heap c₁ b top → Follows heap c (r .state) top
+  goes-follows {c} {c₁} {x} O full F = record {
     bound = record {
       full = ap length (L .slots) ∙ B .full;
       few = omega (arith, L .len, B .few);
@@ -287,7 +287,7 @@ module _ {heap : List ℕ} {b : View} {r : AfterLeaving} (L : Goes heap b r) {to
   }
     where
       same : (i : ℕ) → i < c .len → getD (c₁ .slots) i 0 ≡ getD (c .slots) i 0
-      same i h = ap (λ (l : List ℕ). getD l i 0) (O .slots) ∙ getD-set-other (c .slots) (c .len) i unknown 0 (λ q. omega arith)
+      same i h = ap (λ (l : List ℕ). getD l i 0) (O .slots) ∙ getD-set-other (c .slots) (c .len) i x 0 (λ q. omega arith)
 
 module _ {heap : List ℕ} {c c₁ : View} {x : ℕ} (O : Opens c x c₁) {top : ℕ} (B : Bound heap c top) (room : c .len < maxVariables) (low : Slot heap x top) where
   pub opened-bound : Bound heap c₁ top

@@ -17,8 +17,8 @@ pub mod Entering
 pub mod Steps
 -- let and let pair
 pub mod Lets
--- case
-pub mod Choosing
+-- a case under first match
+pub mod Matched
 -- calls
 pub mod Calling
 -- a term is entered, in code
@@ -33,6 +33,10 @@ pub mod Leaving
 pub mod Stepping
 -- let, let pair and case, in code
 pub mod Scoping
+-- a branch of a case that chooses by an ancilla, in code
+pub mod Bound
+-- a case that chooses by an ancilla, in code
+pub mod Chosen
 -- a call in code
 pub mod Called
 -- the run of a function

@@ -9,21 +9,24 @@ use lib.Seq.{getD-set-other}
 use lib.Dec.{eqb}
 use borrow.Author.Tests.{eqb-true, eqb-false}
 use package.Rattle.rules.specs.Limits.{maxVariables}
+use package.Rattle.rules.specs.Run.{Res}
+use package.Rattle.rules.specs.Machine.{State}
+use package.Rattle.calls.specs.Entries.{TypeEntry}
 use package.Rattle.valuegraph.specs.Nodes.{valueAt}
 use package.Rattle.valuegraph.proofs.Places.{agree-refl}
 use package.Rattle.scopes.specs.Slots.{unknown, slotCount, Machine, Scope, machineOf, scopeIn, slotsOf, found, nodeOr, slotsPerHeight}
 use package.Rattle.scopes.specs.Bindings.{Opens}
 use package.Rattle.scopes.specs.declared.bindings.Bindings.{Bindings}
-use package.Rattle.scopes.proofs.Views.{view-at, view-opens, tells-opened}
+use package.Rattle.scopes.proofs.Views.{view-at, view-full, view-opens, tells-opened}
 use package.Rattle.forward.proofs.Binds.{opened as wider}
 use package.Rattle.backward.specs.Outcomes.{outcomeOf, scopeView, innerOf}
 use package.Rattle.backward.specs.Ready.{Ready, RanBackward, Prepared, Gone, GoneUnder, RanUnder, runAt, underAt}
 use package.Rattle.backward.specs.Ready.{PreparedIn, PreparedUnder, RunsBack, RunsUnder, WidenReady, Widened}
-use package.Rattle.backward.proofs.Runs.{held-slots, ran-from}
+use package.Rattle.backward.proofs.Runs.{held-later, held-slots, small-top, says, ran-from}
 use package.Rattle.backward.proofs.Stops.{is-done, is-stopped}
 use package.Rattle.backward.proofs.Frames.{older-later}
 use package.Rattle.backward.proofs.Leaves.{view-goes}
-use package.Rattle.backward.proofs.Entering.{inner-ready, inner-stopped, inner-done}
+use package.Rattle.backward.proofs.Entering.{leaves-stopped, leaves-done, inner-ready, inner-run}
 use Rattle.backward.specs.declared.outcomes.Out.{Out}
 
 ----------------------------------------------------------------
@@ -63,6 +66,30 @@ module _ {k h : ℕ} {code heap slots : List ℕ} {m : Machine} {b : Bindings} {
     space = omega (arith, P .space);
   })
 
+-- A run in the scope with one variable more, whatever its slot holds, which is there to leave the scope.
+module _ {heap slots slots₀ : List ℕ} {m : Machine} {sc : Scope} {x : ℕ} (few : sc .n < maxVariables)
+    (O : Opens (scopeView slots sc) x (scopeView slots₀ (wider sc))) (lengths : length slots ≡ length slots₀)
+    (same : (j : ℕ) → j < sc .base → getD slots j 0 ≡ getD slots₀ j 0) where
+  pub under-opened : {heap₁ slots₁ : List ℕ} {m₁ : Machine} {r : Out} {res : List TypeEntry → Res State} → m₁ .top ≤ unknown
+      → Gone 0 heap heap₁ slots₀ slots₁ m m₁ (wider sc) r res → GoneUnder heap heap₁ slots slots₁ m m₁ sc r res
+  under-opened {heap₁} {slots₁} {m₁} {r} {res} small G = record {
+    ran = go (eqb (r .stop) 0) refl;
+    slot = λ e. rw (← view-at slots₁ (sc .base) (sc .n) few) (G .ran .follows (is-done e) .bound .held .held (sc .n) newest-in);
+    below = λ j l. same j l ∙ G .below j l;
+    tells = G .tells;
+  }
+    where
+      from-here : RanBackward 0 heap heap₁ slots slots₁ m (scopeView slots₀ (wider sc)) (outcomeOf (r .stop) slots₁ m₁ (wider sc)) res
+      from-here = ran-from slots lengths (G .ran)
+
+      newest-in : sc .n < sc .n + 1
+      newest-in = omega arith
+
+      go : (stops : Bool) → eqb (r .stop) 0 ≡ stops → RanUnder 0 heap heap₁ slots slots₁ m (scopeView slots sc) (innerOf heap₁ (r .stop) slots₁ m₁ sc) res
+      go true d = leaves-done O (view-full slots (sc .base)) from-here (is-done (eqb-true (r .stop) 0 d)) small (view-goes heap₁ slots₁ (sc .base) (sc .n) few)
+      go false d = leaves-stopped O (view-full slots (sc .base)) from-here (is-stopped (eqb-false (r .stop) 0 d))
+          (record { newest = nodeOr (found heap₁ (getD slots₁ (sc .base + sc .n) 0)); state = scopeView slots₁ sc })
+
 module _ {code heap slots : List ℕ} {m : Machine} {b : Bindings} {sc : Scope} {t room : ℕ} (P : Prepared 0 0 code heap slots m b sc (sc .n + 1) t room)
     (few : sc .n < maxVariables) where
   pub under-there : sc .base + sc .n < slotCount
@@ -82,27 +109,13 @@ module _ {code heap slots : List ℕ} {m : Machine} {b : Bindings} {sc : Scope} 
       where
         from : Gone 0 heap heap₁ slots₀ slots₁ m m₁ (wider sc) r (runAt code heap slots₀ m (wider sc) t (valueAt heap node) room)
             → GoneUnder heap heap₁ slots slots₁ m m₁ sc r (underAt code heap slots m sc t (valueAt heap node) room)
-        from G = record {
-          ran = go (eqb (r .stop) 0) refl;
-          slot = λ e. rw (← view-at slots₁ (sc .base) (sc .n) few) (G .ran .follows (is-done e) .bound .held .held (sc .n) (newest-in e));
-          below = λ j l. marked-below P few under-there K j l ∙ G .below j l;
-          tells = G .tells;
-        }
-          where
-            from-here : RanBackward 0 heap heap₁ slots slots₁ m (scopeView slots₀ (wider sc)) (outcomeOf (r .stop) slots₁ m₁ (wider sc))
-                (runAt code heap slots₀ m (wider sc) t (valueAt heap node) room)
-            from-here = ran-from slots (as-many P few under-there K) (G .ran)
-
-            newest-in : r .stop ≡ 0 → sc .n < sc .n + 1
-            newest-in e = omega arith
-
-            go : (stops : Bool) → eqb (r .stop) 0 ≡ stops → RanUnder 0 heap heap₁ slots slots₁ m (scopeView slots sc) (innerOf heap₁ (r .stop) slots₁ m₁ sc)
-                (underAt code heap slots m sc t (valueAt heap node) room)
-            go true d = inner-done (P .ready) few (opens P few under-there K) low from-here (is-done (eqb-true (r .stop) 0 d))
-                (view-goes heap₁ slots₁ (sc .base) (sc .n) few)
-            go false d =
-                inner-stopped (P .ready) few (opens P few under-there K) low from-here (is-stopped (eqb-false (r .stop) 0 d))
-                (record { newest = nodeOr (found heap₁ (getD slots₁ (sc .base + sc .n) 0)); state = scopeView slots₁ sc })
+        from G = under-opened few (opens P few under-there K) (as-many P few under-there K) (marked-below P few under-there K)
+            (small-top (held-later (held-slots (P .ready .machine) (as-many P few under-there K)) 0 (omega arith) (G .ran .moves)))
+            (record {
+              ran = says (G .ran) (inner-run (P .ready) few (opens P few under-there K) (valueAt heap node));
+              below = G .below;
+              tells = G .tells;
+            })
 
 ----------------------------------------------------------------
 -- By the numbers that a run is lent

@@ -292,6 +292,16 @@ module _ {heap heap₁ slots slots₁ : List ℕ} {st : Machine} {b : View} {r :
 ----------------------------------------------------------------
 -- Runs under one variable more
 
+-- the same run, said to give another thing that is equal
+pub under-says : {k : ℕ} {heap heap₁ slots slots₁ : List ℕ} {st : Machine} {b : View} {r : Inner} {res res′ : List TypeEntry → Res State}
+    → RanUnder k heap heap₁ slots slots₁ st b r res → ((ys : List TypeEntry) → res ys ≡ res′ ys) → RanUnder k heap heap₁ slots slots₁ st b r res′
+under-says d e = record {
+  moves = d .moves;
+  follows = d .follows;
+  there = d .there;
+  answer = λ ys next. ap (λ x. after x (λ σ. leave σ next)) (sym (e ys)) ∙ d .answer ys next;
+}
+
 module _ {j : ℕ} {heap heap₁ slots slots₁ : List ℕ} {st : Machine} {b : View} {r : Inner} {res₁ : List TypeEntry → Res State}
     (d : RanUnder j heap heap₁ slots slots₁ st b r res₁) where
   pub under-refused : {w : Refusal} {c : View} {res : List TypeEntry → Res State} (next : List TypeEntry → Val → State → Run State) → r .out .status ≡ Refused w

@@ -1,12 +1,13 @@
 -- let, let pair and case in code: a body or a branch in the scope with its variables; they leave, and the other part is run.
 use Prim.Native.Nat.{ℕ, _+_, _-_, _<_}
 use native.Mathlib.Omega.{arith}
-use mathlib.Core.Bool.{Bool, cond}
+use mathlib.Core.Bool.{Bool, false, cond}
 use mathlib.Core.List.{List}
-use mathlib.Core.Path.{_≡_, refl, ap, _∙_}
+use mathlib.Core.Path.{_≡_, refl, sym, ap, ap₂, _∙_}
 use lib.ListN.{length, getD}
 use package.Rattle.rules.specs.Limits.{maxVariables, maxParameters}
 use package.Rattle.program.specs.Kinds.{letKind, letPairKind, caseKind}
+use package.Rattle.rules.specs.Term.{byAncilla}
 use package.Rattle.rules.specs.Yield.{mayYield}
 use package.Rattle.rules.specs.Val.{pair}
 use package.Rattle.calls.specs.Entries.{TypeEntry}
@@ -20,12 +21,12 @@ use package.Rattle.scopes.proofs.Views.{view-at}
 use package.Rattle.yields.specs.Yields.{Asks}
 use package.Rattle.forward.proofs.Binds.{opened as wider}
 use package.Rattle.backward.specs.Ready.{Held, Gone, GoneUnder, Leavable, Prepared, PreparedIn, PreparedUnder, RanUnder, ancillaeOf, runAt, stepAt, underAt}
-use package.Rattle.backward.specs.Ready.{RunsBack, RunsUnder, WidenReady, Widened}
+use package.Rattle.backward.specs.Ready.{RunsBack, RunsUnder, CaseThat, WidenReady, Widened}
 use package.Rattle.backward.specs.Outcomes.{innerOf, scopeView}
 use package.Rattle.backward.proofs.Opening.{Marked, marked, as-many, marked-below, opens, opened, widen-ready, widened, widened-node, ran-under}
 use package.Rattle.backward.proofs.Leaving.{LeftBehind, held-under, looked, in-slot, cell-ready, under-left, left-node, left-tells, left-below}
 use package.Rattle.backward.proofs.Frames.{beside, few-ancillae, gone-then, onward, stops-under}
-use package.Rattle.backward.proofs.Choosing.{case-branch, case-done, case-refused, case-space, case-sum}
+use package.Rattle.backward.proofs.Matched.{case-branch, case-done, case-refused, case-space, case-sum}
 use package.Rattle.backward.proofs.Stops.{is-done, is-stopped}
 use package.Rattle.backward.proofs.Lets.{let-body, let-bound, let-done, let-refused, let-space}
 use package.Rattle.backward.proofs.Lets.{letp-body, letp-bound, letp-done, letp-nodes, letp-refused, letp-second, letp-space}
@@ -200,9 +201,9 @@ module _ {code heap slots : List ℕ} {m : Machine} {b : Bindings} {sc : Scope} 
   ----------------------------------------------------------------
   -- case
 
-  module _ (kind : kindIn code t ≡ caseKind) where
+  module _ (kind : kindIn code t ≡ caseKind) (plain : (ys : List TypeEntry) → byAncilla (sc .q) (sc .n) (treeIn code ys (firstIn code t)) ≡ false) where
     pub case-few : sc .n < maxVariables
-    case-few = case-space (P .ready) low kind
+    case-few = case-space (P .ready) low kind plain
 
     module _ {f : ℕ} (qf : f ≡ secondIn code t) (l : Bool)
         (Y : (ys : List TypeEntry) → l ≡ mayYield (ancillaeOf heap (scopeView slots sc) (sc .q)) (treeIn code ys f) (valueAt heap node)) {u : ℕ}
@@ -210,12 +211,12 @@ module _ {code heap slots : List ℕ} {m : Machine} {b : Bindings} {sc : Scope} 
         {v : ℕ} (qv : v ≡ cond l (secondIn code t) (thirdIn code t)) {side : ℕ} (qs : side ≡ cond l 1 2) where
       pub case-prepared : Prepared 0 0 code heap slots m b sc (sc .n + 1) v (room - 1)
       unfolding maxParameters
-      case-prepared = beside P (case-branch (P .ready) low kind qf l Y qu qv qs) (omega (arith, P .ready .tall))
+      case-prepared = beside P (case-branch (P .ready) low kind plain qf l Y qu qv qs) (omega (arith, P .ready .tall))
 
       module _ {heap₁ slots₁ : List ℕ} {m₁ : Machine} {r : Out}
           (G : GoneUnder heap heap₁ slots slots₁ m m₁ sc r (underAt code heap slots m sc v (valueAt heap node) (room - 1))) where
         pub case-stopped : ¬ (r .stop ≡ 0) → Stepped heap₁ slots₁ m₁ r
-        case-stopped d = stops-under G d (case-refused (P .ready) low kind qf l Y qu qv qs (G .ran) (omega arith) (is-stopped d))
+        case-stopped d = stops-under G d (case-refused (P .ready) low kind plain qf l Y qu qv qs (G .ran) (omega arith) (is-stopped d))
 
         module _ (e : r .stop ≡ 0) where
           case-held : Held 2 code heap₁ slots₁ m₁ room
@@ -239,7 +240,7 @@ module _ {code heap slots : List ℕ} {m : Machine} {b : Bindings} {sc : Scope} 
             unfolding maxParameters
             case-outer =
                 onward P (case-run .moves) case-below (left-tells case-held G e K (omega arith) (omega arith))
-                (case-sum (P .ready) low kind qf l Y qu qv qs case-run (omega arith) (is-done e)) (omega (arith, P .ready .tall))
+                (case-sum (P .ready) low kind plain qf l Y qu qv qs case-run (omega arith) (is-done e)) (omega (arith, P .ready .tall))
 
             module _ {x : ℕ} (qx : x ≡ nodeOr (bound heap₁ (r .state) (sc .n))) where
               case-left : x ≡ nodeOr (found heap₂ (getD slots₂ (sc .base + sc .n) 0))
@@ -252,7 +253,7 @@ module _ {code heap slots : List ℕ} {m : Machine} {b : Bindings} {sc : Scope} 
                   → Gone 1 heap₂ heap₃ slots₂ slots₃ m₂ m₃ sc r₂ (runAt code heap₂ slots₂ m₂ sc u (ofKind side (valueAt heap₂ x) (valueAt heap₂ x)) (room - 1))
                   → Stepped heap₃ slots₃ m₃ r₂
               case-gone E = gone-then case-below E
-                  (case-done (P .ready) low kind qf l Y qu qv qs case-run (omega arith) (is-done e) (rw case-left at (E .ran)))
+                  (case-done (P .ready) low kind plain qf l Y qu qv qs case-run (omega arith) (is-done e) (rw case-left at (E .ran)))
 
 ----------------------------------------------------------------
 -- By the numbers that a run is lent: the bodies of let and let pair, and a branch, each in its scope
@@ -304,15 +305,15 @@ module _ {code heap st : List ℕ} {b : Bindings} {scope t room : ℕ} (Q : Prep
         letp-ran R = ran-under letp-inner letp-fits W₂ letp-low R
 
 module _ {code heap st : List ℕ} {b : Bindings} {scope t room : ℕ} (Q : PreparedIn 2 1 code heap st b scope t room) {node : ℕ}
-    (low : node < machineOf st .top) (kind : kindIn code t ≡ caseKind) {f : ℕ} (qf : f ≡ secondIn code t) (l : Bool)
+    (low : node < machineOf st .top) (T : CaseThat false code scope t) {f : ℕ} (qf : f ≡ secondIn code t) (l : Bool)
     (Y : (ys : List TypeEntry)
     → l ≡ mayYield (ancillaeOf heap (scopeView (slotsOf st) (scopeIn scope)) (scopeIn scope .q)) (treeIn code ys f) (valueAt heap node))
     {u : ℕ} (qu : u ≡ firstIn code t) {v : ℕ} (qv : v ≡ cond l (secondIn code t) (thirdIn code t)) {side : ℕ} (qs : side ≡ cond l 1 2) where
   abbrev case-inner : PreparedUnder code heap st b scope v (room - 1)
-  case-inner = record { full = Q .full; prepared = case-prepared (Q .prepared) low kind qf l Y qu qv qs }
+  case-inner = record { full = Q .full; prepared = case-prepared (Q .prepared) low (T .kind) (T .chooses) qf l Y qu qv qs }
 
   abbrev case-fits : scopeIn scope .n < maxVariables
-  case-fits = case-few (Q .prepared) low kind
+  case-fits = case-few (Q .prepared) low (T .kind) (T .chooses)
 
   pub case-widens : WidenReady st scope
   case-widens = widen-ready case-inner case-fits
@@ -324,6 +325,14 @@ module _ {code heap st : List ℕ} {b : Bindings} {scope t room : ℕ} (Q : Prep
     pub case-ran : {heap′ st′ : List ℕ} {r : Out} → RunsBack code heap heap′ st₁ st′ b wide v node (room - 1) r
         → RunsUnder code heap heap′ st st′ scope v node (room - 1) r
     case-ran R = ran-under case-inner case-fits W low R
+
+-- whether case `t` chooses by an ancilla, by the numbers that the code has
+pub case-that : {code : List ℕ} {scope t : ℕ} → kindIn code t ≡ caseKind → {q n : ℕ} → q ≡ scopeIn scope .q → n ≡ scopeIn scope .n → {r : Bool}
+    → ((ys : List TypeEntry) → r ≡ byAncilla q n (treeIn code ys (firstIn code t))) → {c : Bool} → r ≡ c → CaseThat c code scope t
+case-that {code} {t = t} kind qq qn E e = record {
+  kind = kind;
+  chooses = λ ys. sym (ap₂ (λ q n. byAncilla q n (treeIn code ys (firstIn code t))) qq qn) ∙ sym (E ys) ∙ e;
+}
 
 -- the left branch's form can be asked
 pub case-asked : {code heap st : List ℕ} {b : Bindings} {scope t room : ℕ} → PreparedIn 2 1 code heap st b scope t room → {node : ℕ}

@@ -14,7 +14,6 @@ use package.Rattle.scopes.specs.Bindings.{View, viewOf, stateOf}
 use package.Rattle.forward.specs.Outcomes.{stopped, refusalIn}
 use package.Rattle.forward.specs.declared.outcomes.Refusal.{Refusal as Carried}
 use package.Rattle.forward.specs.declared.outcomes.Refusal.the-variants.{Fuel as cFuel, Height as cHeight, Long as cLong, FirstMatch as cFirstMatch, Stuck as cStuck}
-use package.Rattle.scopes.specs.declared.bindings.Bindings.{Bindings}
 use Rattle.backward.specs.declared.outcomes.Out.{Out}
 use Rattle.backward.specs.declared.outcomes.Refusal.{Refusal}
 use Rattle.backward.specs.declared.outcomes.Refusal.the-variants.{Fuel, Height, Long, FirstMatch, NoInput, Stuck}
@@ -37,7 +36,7 @@ pub record Inner : Type 0 where
   pub out : Outcome
   pub newest : ℕ
 
--- a refusal of an ancilla term, which is run forward
+-- a refusal of what a backward run runs forward: an ancilla term, or the scrutinee of a case that chooses by an ancilla
 unfoldable pub carried : Carried → Refusal
 carried (cFuel t) = Fuel t
 carried (cHeight t) = Height t

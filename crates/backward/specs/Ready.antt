@@ -3,17 +3,19 @@
 -- slots and the state that the code has, and both to the numbers that it is lent. Laws: proofs/Runs; proofs/Frames of the last sections.
 use Prim.Native.Nat.{ℕ, _+_, _*_, _-_, _≤_, _<_}
 use mathlib.Core.Path.{_≡_}
-use mathlib.Core.Bool.{true, false}
+use mathlib.Core.Bool.{Bool, true, false}
 use mathlib.Core.Option.{none}
 use mathlib.Core.List.{List, _∷_}
 use lib.ListN.{length, getD, set}
 use lib.Dec.{eqb}
 use package.Rattle.rules.specs.Limits.{fits, maxVariables}
 use package.Rattle.rules.specs.Val.{Val, pair}
+use package.Rattle.rules.specs.Term.{byAncilla}
 use package.Rattle.rules.specs.Run.{Res, Run, after}
-use package.Rattle.rules.specs.Machine.{State, leave, forward, backwardStep, backward}
+use package.Rattle.rules.specs.Machine.{State, leave, forward, branchBack, backwardStep, backward}
 use package.Rattle.calls.specs.Entries.{TypeEntry}
-use package.Rattle.decoded.specs.Rows.{termCount, treeIn, programIn, Rows}
+use package.Rattle.program.specs.Kinds.{caseKind}
+use package.Rattle.decoded.specs.Rows.{kindIn, firstIn, termCount, treeIn, programIn, Rows}
 use package.Rattle.valuegraph.specs.Nodes.{nodeBytes, ofKind, valueAt, Agree, kindAt as nodeKind}
 use package.Rattle.scopes.specs.Slots.{unknown, slotCount, stateCount, Machine, Scope, machineOf, slotsOf, scopeIn, found, nodeOr, Slot, Slots, slotsPerHeight}
 use package.Rattle.scopes.specs.Cells.{cellCount}
@@ -111,16 +113,21 @@ abbrev pub runOf : (code heap : List ℕ) → Machine → View → ℕ → ℕ �
 runOf code heap st b q t v room ys =
     backward fits (programIn code ys) room (ancillaeOf heap b q) (stateOf heap b) (treeIn code ys t) v (st .fuel)
 
--- the same in a scope with one variable more, of which nothing is known
-abbrev pub underOf : (code heap : List ℕ) → Machine → View → ℕ → ℕ → Val → ℕ → List TypeEntry → Res State
-underOf code heap st b q t v room ys =
-    backward fits (programIn code ys) room (ancillaeOf heap b q) (none ∷ stateOf heap b) (treeIn code ys t) v (st .fuel)
-
 -- the same, once the term is entered
 abbrev pub stepOf : (code heap : List ℕ) → Machine → View → ℕ → ℕ → Val → ℕ → List TypeEntry → Res State
 stepOf code heap st b q t v room ys =
     backwardStep fits (programIn code ys) (forward fits (programIn code ys) (room - 1))
     (backward fits (programIn code ys) (room - 1)) (ancillaeOf heap b q) (stateOf heap b) (treeIn code ys t) v (st .fuel)
+
+-- the same from its entering on, in a scope with one variable more, of which nothing is known
+abbrev pub underOf : (code heap : List ℕ) → Machine → View → ℕ → ℕ → Val → ℕ → List TypeEntry → Res State
+underOf code heap st b q t v room ys =
+    backward fits (programIn code ys) room (ancillaeOf heap b q) (none ∷ stateOf heap b) (treeIn code ys t) v (st .fuel)
+
+-- the same with the variable bound, which leaves when the term is run (02, F-3)
+abbrev pub boundOf : (code heap : List ℕ) → Machine → View → ℕ → ℕ → (v w : Val) → ℕ → List TypeEntry → Res State
+boundOf code heap st b q t v w room ys =
+    branchBack (backward fits (programIn code ys) room) (ancillaeOf heap b q) (stateOf heap b) (treeIn code ys t) v w (st .fuel)
 
 ----------------------------------------------------------------
 -- Slots and state
@@ -159,6 +166,9 @@ runAt code heap slots m sc t v room = runOf code heap m (scopeView slots sc) (sc
 abbrev pub underAt : (code heap slots : List ℕ) → Machine → Scope → ℕ → Val → ℕ → List TypeEntry → Res State
 underAt code heap slots m sc t v room = underOf code heap m (scopeView slots sc) (sc .q) t v room
 
+abbrev pub boundAt : (code heap slots : List ℕ) → Machine → Scope → ℕ → (v w : Val) → ℕ → List TypeEntry → Res State
+boundAt code heap slots m sc t v w room = boundOf code heap m (scopeView slots sc) (sc .q) t v w room
+
 abbrev pub stepAt : (code heap slots : List ℕ) → Machine → Scope → ℕ → Val → ℕ → List TypeEntry → Res State
 stepAt code heap slots m sc t v room = stepOf code heap m (scopeView slots sc) (sc .q) t v room
 
@@ -173,6 +183,17 @@ pub record PreparedIn (k h : ℕ) (code heap st : List ℕ) (b : Bindings) (scop
 pub record PreparedUnder (code heap st : List ℕ) (b : Bindings) (scope t room : ℕ) : Type 0 where
   pub full : length st ≡ stateCount
   pub prepared : Prepared 0 0 code heap (slotsOf st) (machineOf st) b (scopeIn scope) (scopeIn scope .n + 1) t room
+
+-- Term `t` can be run in the scope with one variable more, for which there is a slot and a cell, and a cell more when it leaves.
+pub record PreparedBound (code heap st : List ℕ) (b : Bindings) (scope t room : ℕ) : Type 0 where
+  pub full : length st ≡ stateCount
+  pub few : scopeIn scope .n < maxVariables
+  pub prepared : Prepared 2 0 code heap (slotsOf st) (machineOf st) b (scopeIn scope) (scopeIn scope .n + 1) t room
+
+-- Case `t` chooses by an ancilla (02, F-3), or does not: whatever the type entries are.
+pub record CaseThat (c : Bool) (code : List ℕ) (scope t : ℕ) : Type 0 where
+  pub kind : kindIn code t ≡ caseKind
+  pub chooses : (ys : List TypeEntry) → byAncilla (scopeIn scope .q) (scopeIn scope .n) (treeIn code ys (firstIn code t)) ≡ c
 
 -- one variable more can come into scope
 pub record WidenReady (st : List ℕ) (scope : ℕ) : Type 0 where
@@ -214,6 +235,12 @@ pub record RunsUnder (code heap heap′ st st′ : List ℕ) (scope t node room 
   pub lengths : length st′ ≡ length st
   pub gone : GoneUnder heap heap′ (slotsOf st) (slotsOf st′) (machineOf st) (machineOf st′) (scopeIn scope) r
       (underAt code heap (slotsOf st) (machineOf st) (scopeIn scope) t (valueAt heap node) room)
+
+-- ... and in the scope with one variable more, bound to the value of `part`, which leaves at the end
+pub record RunsBound (code heap heap′ st st′ : List ℕ) (scope t part node room : ℕ) (r : Out) : Type 0 where
+  pub lengths : length st′ ≡ length st
+  pub gone : GoneIn 2 heap heap′ st st′ scope r
+      (boundAt code heap (slotsOf st) (machineOf st) (scopeIn scope) t (valueAt heap node) (valueAt heap part) room)
 
 ----------------------------------------------------------------
 -- The last part of a term

@@ -1,8 +1,8 @@
 // Backward evaluation of a decoded program. `back` tests fuel and height, takes one unit of fuel, and hands the term to the function of its
 // kind, which runs all parts of the term but the last and hands the binding state on; with the last part `back` goes on by itself, so that calls
-// are no deeper than they must be. Every value is a node; `over` and `over_pair` make new ones. The slots of scopes stand in the lent numbers
-// `st`, behind the machine, and find the cells of the state; a function that is called has its scope behind its caller's. Laws: proofs/Entering
-// to Calling, in code proofs/Arriving to Called.
+// are no deeper than they must be. A branch chosen by an ancilla is run to its end, since its variable must leave behind it. Every value is a
+// node; `over` and `over_pair` make new ones. The slots of scopes stand in the lent numbers `st`, behind the machine, and find the cells of the
+// state; a function that is called has its scope behind its caller's. Laws: proofs/Entering to Calling, in code proofs/Arriving to Called.
 use crate::arguments;
 use crate::outcomes;
 use crate::outcomes::Next;
@@ -12,12 +12,14 @@ use decoded::rows;
 use decoded::rows::CODE;
 use forward::outcomes::FUEL;
 use forward::outcomes::HEIGHT;
+use forward::outcomes::STOPPED;
 use forward::outcomes::STUCK;
 use scopes::bindings::Bindings;
 use scopes::state;
 use scopes::state::STATE;
 use valuegraph::nodes;
 ghost use mathlib.Core.Path.{_≡_};
+ghost use mathlib.Core.Bool.{true, false};
 ghost use Prim.Native.Nat.{_<_};
 ghost use Rattle.program.specs.Kinds.{pairKind, letKind, letPairKind, caseKind, callKind, unrollKind};
 ghost use Rattle.valuegraph.specs.Nodes.{Single};
@@ -25,7 +27,7 @@ ghost use Rattle.decoded.specs.Rows.{kindIn};
 ghost use Rattle.scopes.specs.Slots.{machineOf};
 ghost use Rattle.yields.specs.Yields.{Wraps};
 ghost use Rattle.backward.specs.Outcomes.{outIn};
-ghost use Rattle.backward.specs.Ready.{PreparedIn, RunsBack, StepsTo, EntersSingle, EntersPair};
+ghost use Rattle.backward.specs.Ready.{PreparedIn, PreparedBound, RunsBack, RunsBound, CaseThat, StepsTo, EntersSingle, EntersPair};
 
 // Term t with the value at `node`, in a scope, with height `room` left.
 pub fn back(
@@ -262,7 +264,7 @@ fn let_two(
     over_pair(code, ws, st, c, scope, bound, x, y, h)
 }
 
-// case e of inl x ⇒ b, inr y ⇒ b′: a branch, then the scrutinee.
+// case e of inl x ⇒ b, inr y ⇒ b′, by whether it chooses by an ancilla (document 02, F-3).
 fn choose(
     code: &[u16; CODE],
     ws: &mut [u8],
@@ -275,6 +277,91 @@ fn choose(
 ) -> Next
     requires { ⌜ PreparedIn 2 1 (now code) (now ws) (now st) b scope t room ⌝ }
     requires { ⌜ (node < machineOf (now st) .top) × (kindIn (now code) t ≡ caseKind) ⌝ }
+    ensures { λ r. ⌜ StepsTo (now (code .entry)) (now (ws .entry)) (now (ws .exit)) (now (st .entry)) (now (st .exit)) scope t node room r ⌝ }
+{
+    let q = state::ancillae_in(scope);
+    let n = state::count_in(scope);
+    if rows::chooses_by_ancilla(code, t, q, n) {
+        return chosen(code, ws, st, b, scope, t, node, room);
+    }
+    matched(code, ws, st, b, scope, t, node, room)
+}
+
+// A case that chooses by an ancilla: its scrutinee forward, in the state at hand, then the branch that it chooses. What the scrutinee names is
+// known, so that it takes the branch that it took forward.
+fn chosen(
+    code: &[u16; CODE],
+    ws: &mut [u8],
+    st: &mut [u32; STATE],
+    b: Bindings,
+    scope: u64,
+    t: u16,
+    node: u32,
+    room: u16,
+) -> Next
+    requires { ⌜ PreparedIn 2 1 (now code) (now ws) (now st) b scope t room ⌝ }
+    requires { ⌜ (node < machineOf (now st) .top) × CaseThat true (now code) scope t ⌝ }
+    ensures { λ r. ⌜ StepsTo (now (code .entry)) (now (ws .entry)) (now (ws .exit)) (now (st .entry)) (now (st .exit)) scope t node room r ⌝ }
+{
+    let sum = rows::first_of(code, t);
+    let h = room - 1;
+    let s = forward::eval::eval(code, ws, st, scope, sum, h);
+    if STOPPED <= s {
+        return outcomes::ended(Out { stop: s, state: b });
+    }
+    let kind = nodes::kind_of(ws, s);
+    let part = nodes::left_of(ws, s);
+    if kind == nodes::INL {
+        let left = rows::second_of(code, t);
+        return outcomes::ended(branch(code, ws, st, b, scope, part, left, node, h));
+    }
+    if kind == nodes::INR {
+        let right = rows::third_of(code, t);
+        return outcomes::ended(branch(code, ws, st, b, scope, part, right, node, h));
+    }
+    outcomes::ended(outcomes::refuse(b, STUCK, t))
+}
+
+// Term t in the scope with one variable more, which is bound to the value at `part` and leaves when the term is run.
+fn branch(
+    code: &[u16; CODE],
+    ws: &mut [u8],
+    st: &mut [u32; STATE],
+    b: Bindings,
+    scope: u64,
+    part: u32,
+    t: u16,
+    node: u32,
+    room: u16,
+) -> Out
+    requires { ⌜ PreparedBound (now code) (now ws) (now st) b scope t room ⌝ }
+    requires { ⌜ (part < machineOf (now st) .top) × (node < machineOf (now st) .top) ⌝ }
+    ensures { λ r. ⌜ RunsBound (now (code .entry)) (now (ws .entry)) (now (ws .exit)) (now (st .entry)) (now (st .exit)) scope t part node room r ⌝ }
+{
+    let known = b.entered(ws, st, scope, part);
+    let wide = state::wider(scope);
+    let r = outcomes::unpacked(back(code, ws, st, known, wide, t, node, room));
+    let inner = r.state;
+    if r.stop != 0 {
+        return r;
+    }
+    let c = outcomes::outer(ws, st, inner, scope);
+    Out { stop: 0, state: c }
+}
+
+// A case under first match: a branch, then the scrutinee.
+fn matched(
+    code: &[u16; CODE],
+    ws: &mut [u8],
+    st: &mut [u32; STATE],
+    b: Bindings,
+    scope: u64,
+    t: u16,
+    node: u32,
+    room: u16,
+) -> Next
+    requires { ⌜ PreparedIn 2 1 (now code) (now ws) (now st) b scope t room ⌝ }
+    requires { ⌜ (node < machineOf (now st) .top) × CaseThat false (now code) scope t ⌝ }
     ensures { λ r. ⌜ StepsTo (now (code .entry)) (now (ws .entry)) (now (ws .exit)) (now (st .entry)) (now (st .exit)) scope t node room r ⌝ }
 {
     let sum = rows::first_of(code, t);

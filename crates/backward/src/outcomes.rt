@@ -117,7 +117,7 @@ fn no_input(b: Bindings, t: u16) -> Out
     }
 }
 
-// A refusal of an ancilla term, which is run forward.
+// A refusal of what a backward run runs forward: an ancilla term, or the scrutinee of a case that chooses by an ancilla.
 pub fn carry(why: forward::outcomes::Refusal) -> Refusal
     ensures { λ r. ⌜ r ≡ carried why ⌝ }
 {

@@ -3,15 +3,15 @@ use package.Rattle.octets.specs.Numbers.{get16, get32, put16, put32, bytes16, b
 use package.Rattle.rules.specs.Limits.{maxProgramBytes, maxParameters, maxValueBytes, maxAncillaBytes, fits, maxHeight, maxFuel, workspaceBase, workspacePerFuel, maxConversions}
 use package.Rattle.rules.specs.Val.{size, encode, same}
 use package.Rattle.rules.specs.Ty.{plug, unfoldTy, nodes, sameTy}
-use package.Rattle.rules.specs.Term.{entry, count, nth, look, scope}
-use package.Rattle.rules.specs.Yield.{mayBe, mayYield}
+use package.Rattle.rules.specs.Term.{entry, count, nth, look, scope, within, withinAll, byAncilla}
+use package.Rattle.rules.specs.Yield.{mayBe, mayYield, firstMatch}
 use package.Rattle.rules.specs.Typing.{barOne, bar, markOne, mark}
 use package.Rattle.rules.specs.Check.{_>>=_, _>>_, need, asSum, asProd, asMu, asFun, spent, mustUse, sameUse}
 use package.Rattle.rules.specs.Check.{statics, room, small, infer, inferArguments, checkFun, checkFuns, check}
 use package.Rattle.rules.specs.Check.{visible, isDynamic, marked, onward, late, waits, waitsAll, unless, lowest, needNone}
 use package.Rattle.rules.specs.Run.{after, enter, test}
 use package.Rattle.rules.specs.Machine.{onSum, onPair, onRoll, onUnit, onSome, known, bindOr, meet, leave, filled, each}
-use package.Rattle.rules.specs.Machine.{made, forwardStep, forward, backwardStep, backward, runForward, runBackward}
+use package.Rattle.rules.specs.Machine.{made, forwardStep, forward, branchBack, caseBack, backwardStep, backward, runForward, runBackward}
 use package.Rattle.rules.specs.Cases.{num}
 use package.Rattle.calls.specs.Answer.{_>>=_ as _>>=Answer_, require, present, cleared, bytesWritten, overwritten}
 use package.Rattle.calls.specs.Fields.{tagAt, lengthAt, nextAt, kindAt, parametersAt, typeLengths, termLengths, callLength, typeLength, termLength, functionLength, bodyFits, wellFormed, noFields, withField, withinCounts, readFields, layout}
@@ -25,7 +25,7 @@ use package.Rattle.calls.specs.Conversions.{kept, turned, behind, newest
 use package.Rattle.calls.specs.Readers.{mostEntries, nurseOf, workshopOf, nurseCall, workshopCall, heldBytes}
 use package.Rattle.calls.specs.Book.{buffer, orStays, carryBy, carry, through, entriesOf, journalOf, refusalOf, refusal, orUnit, orNone, orEmpty, enters, turnUnless, bookTurn, bookRun, resized, afterTurned, afterOpen, call, callRun}
 use package.Rattle.calls.specs.Cases.{refs, typeField, termField, varField, functionField, natTypes, numberTerms, numberFunctions, numbers, bitTypes, collapse, discards, flip, units}
-use package.Rattle.calls.specs.Cases.{besideNumbers, plusKN, steering, unhelped, unhelpedTwice, unmet}
+use package.Rattle.calls.specs.Cases.{besideNumbers, plusKN, steering, unhelped, unhelpedTwice, unmet, flipBy}
 
 unfoldable of-numbers : Unit {0}
 unfolding get16 get32 put16 put32 bytes16 bytes32
@@ -38,6 +38,10 @@ of-limits = tt
 unfoldable of-trees : Unit {0}
 unfolding size encode same plug unfoldTy nodes sameTy entry count nth look scope mayBe mayYield barOne bar markOne mark
 of-trees = tt
+
+unfoldable of-choices : Unit {0}
+unfolding within withinAll byAncilla firstMatch branchBack caseBack flipBy
+of-choices = tt
 
 unfoldable of-check : Unit {0}
 unfolding _>>=_ _>>_ need asSum asProd asMu asFun spent mustUse sameUse statics room small infer inferArguments checkFun checkFuns check
@@ -116,7 +120,7 @@ unfolding besideNumbers plusKN steering unhelped unhelpedTwice unmet
 of-steering = tt
 
 unfoldable rules-and-bytes : Unit {0}
-unfolding of-numbers of-limits of-trees of-check of-namings of-run of-machine of-fields of-types of-layout
+unfolding of-numbers of-limits of-trees of-choices of-check of-namings of-run of-machine of-fields of-types of-layout
 rules-and-bytes = tt
 
 unfoldable calls-and-cases : Unit {0}

@@ -1,6 +1,6 @@
 -- Section 6's cases on bytes, the orders of section 4 and sample calls, by computation.
 use mathlib.Core.Path.{refl}
-use package.Rattle.calls.specs.Cases.{Table, Limits, Orders, Readings, Steering}
+use package.Rattle.calls.specs.Cases.{Table, Limits, Orders, Readings, Steering, Choosing}
 use package.Rattle.calls.specs.Samples.{Samples}
 use package.Rattle.calls.proofs.Compute.{computing}
 
@@ -74,6 +74,23 @@ steering = record {
   unmet-back = refl;
   lost = refl;
   lowest = refl;
+  converts = refl;
+  rolls-back = refl;
+}
+
+pub choosing : Choosing
+unfolding computing
+choosing = record {
+  loads = refl;
+  left-inl = refl;
+  left-inr = refl;
+  right-inl = refl;
+  right-inr = refl;
+  back-left-inl = refl;
+  back-left-inr = refl;
+  back-right-inl = refl;
+  back-right-inr = refl;
+  back-fuel = refl;
   converts = refl;
   rolls-back = refl;
 }

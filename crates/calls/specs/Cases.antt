@@ -1,5 +1,5 @@
 -- Section 6's cases on bytes, gathered in one proposition (P1 to P5 and P9 to P13), P6 to P8 beside it, orders of section 4, the readers
--- of P13's journals, and calls that a variable steers. Each limit at its edge, outcomes and lists of calls: Borders.
+-- of P13's journals, calls that a variable steers, and P12 with an ancilla. Each limit at its edge, outcomes and lists of calls: Borders.
 use Prim.Native.Nat.{ℕ}
 use mathlib.Core.Path.{_≡_}
 use mathlib.Core.List.{List, [], _∷_, _++_}
@@ -12,6 +12,7 @@ use package.Rattle.rules.specs.Run.{ok, stop}
 use package.Rattle.rules.specs.Machine.{runForward}
 use package.Rattle.rules.specs.Cases.{num, plus}
 use package.Rattle.rules.specs.Cases as trees
+use package.Rattle.rules.specs.Choices as choices
 use package.Rattle.calls.specs.Answer.{Answer, accepted, refused, _>>=_, overwritten}
 use package.Rattle.calls.specs.Fields.{layout}
 use package.Rattle.calls.specs.Entries.{entriesAt, programOf}
@@ -310,3 +311,43 @@ pub record Steering : Type 0 where
   pub lowest : checkCall unhelpedTwice ample ≡ refused 8 126
   pub converts : convertCall steering 2 [] 65535 ample openedPair ≡ held 21 37 steeredPair
   pub rolls-back : rollbackCall steering 65535 ample steeredPair ≡ held 17 37 openedPair
+
+----------------------------------------------------------------
+-- Choosing by an ancilla (02, F-3)
+
+-- P12 with s as an ancilla: s is variable 0, q variable 1
+unfoldable pub flipBy : List ℕ
+unfolding bitTypes varField termField functionField
+flipBy = bitTypes
+    ++ varField 0 ++ varField 1 ++ varField 1
+    ++ termField 1 [] ++ termField 3 (1 ∷ 3 ∷ []) ++ termField 1 [] ++ termField 2 (1 ∷ 5 ∷ []) ++ termField 7 (2 ∷ 4 ∷ 6 ∷ [])
+    ++ termField 7 (0 ∷ 1 ∷ 7 ∷ [])
+    ++ functionField 1 (1 ∷ 1 ∷ []) 8
+
+abbrev pub flippedBy : Val → ℕ → Val → Answer Ran
+flippedBy s fuel q = forwardCall flipBy 0 (encode s) (encode q) fuel ample 1024
+
+abbrev pub flippedBack : Val → ℕ → Val → Answer Ran
+flippedBack s fuel q = backwardCall flipBy 0 (encode s) (encode q) fuel ample 1024
+
+-- a journal of inr unit, and the same converted with s = inr unit
+abbrev pub openedBit : List ℕ
+openedBit = field heldTag (encode (inr unit)) ++ replicate 11 0
+
+abbrev pub flippedBit : List ℕ
+flippedBit = field heldTag (encode (inl unit)) ++ field entryTag (0 ∷ 0 ∷ 0 ∷ 0 ∷ 0 ∷ 6 ∷ encode (inr unit))
+
+pub record Choosing : Type 0 where
+  pub loads : load flipBy ≡ accepted (choices.flipBy ∷ [])
+  pub left-inl : flippedBy (inl unit) 3 (inl unit) ≡ value (inl unit) 3
+  pub left-inr : flippedBy (inl unit) 3 (inr unit) ≡ value (inr unit) 3
+  pub right-inl : flippedBy (inr unit) 6 (inl unit) ≡ value (inr unit) 6
+  pub right-inr : flippedBy (inr unit) 6 (inr unit) ≡ value (inl unit) 6
+  pub back-left-inl : flippedBack (inl unit) 3 (inl unit) ≡ value (inl unit) 3
+  pub back-left-inr : flippedBack (inl unit) 3 (inr unit) ≡ value (inr unit) 3
+  pub back-right-inl : flippedBack (inr unit) 6 (inl unit) ≡ value (inr unit) 6
+  pub back-right-inr : flippedBack (inr unit) 6 (inr unit) ≡ value (inl unit) 6
+  -- the scrutinee before the branch
+  pub back-fuel : flippedBack (inr unit) 1 (inl unit) ≡ refused 12 0
+  pub converts : convertCall flipBy 0 (encode (inr unit)) 65535 ample openedBit ≡ held 2 6 flippedBit
+  pub rolls-back : rollbackCall flipBy 65535 ample flippedBit ≡ held 2 6 openedBit

@@ -14,11 +14,11 @@ use package.Rattle.rules.specs.Term.{Fun, Program, nth}
 use package.Rattle.rules.specs.Typing.{WellTyped}
 use package.Rattle.rules.specs.Run.{ok}
 use package.Rattle.rules.specs.Machine.{runBackward}
-use package.Rattle.rules.specs.Claims.{Carries, Wider, OfTyped}
+use package.Rattle.rules.specs.Claims.{Carries, Wider, OfTyped, ChoosesAt}
 use package.Rattle.calls.specs.Answer.{Answer, accepted, refused, bytesWritten}
 use package.Rattle.calls.specs.Entries.{TypeEntry, typeOf}
 use package.Rattle.calls.specs.Named.{plain, member}
-use package.Rattle.calls.specs.Closed.{Plain, Lower}
+use package.Rattle.calls.specs.Closed.{Plain}
 use package.Rattle.calls.specs.Formed.{WellFormed}
 use package.Rattle.calls.specs.Load.{load}
 use package.Rattle.calls.specs.Values.{value, encodeAll, ancillae}
@@ -104,6 +104,15 @@ abbrev pub NoValue : Type 0
 NoValue = (ws out fuel fn : ℕ) (program anc bytes : List ℕ) (k : ℕ) → forwardCall program fn anc bytes fuel ws out ≡ refused 15 k
     → (P : Program) × (h : Fun) × (vs : List Val) × (v : Val) × Admitted program fn anc bytes fuel ws (λ h. h .dynamic) P h vs v
     × ((fits′ : Val → Bool) (r n : ℕ) (w : Val) → Carries fits′ P r h vs v w n → ⊥)
+
+-- Document 02, F-3: 15 is never met at a case that chooses by an ancilla. A call that is refused with 15 at entry `k`, either way, was admitted,
+-- and of its program's cases with this number not all choose so.
+abbrev pub NeverAtChoice : Type 0
+NeverAtChoice = (ws out fuel fn : ℕ) (program anc bytes : List ℕ) (k : ℕ)
+    → (forwardCall program fn anc bytes fuel ws out ≡ refused 15 k → (P : Program) × (h : Fun) × (vs : List Val) × (v : Val)
+    × Admitted program fn anc bytes fuel ws (λ h. h .dynamic) P h vs v × ¬ (ChoosesAt P k))
+    × (backwardCall program fn anc bytes fuel ws out ≡ refused 15 k → (P : Program) × (h : Fun) × (vs : List Val) × (w : Val)
+    × Admitted program fn anc bytes fuel ws (λ h. h .result) P h vs w × ¬ (ChoosesAt P k))
 
 -- Two inputs never share a value, whatever the workspace, output and fuel.
 abbrev pub Injective : Type 0

@@ -6,31 +6,31 @@ use mathlib.Core.Path.{_≡_, sym, ap, ap₂, subst, _∙_}
 use mathlib.Core.Option.{some}
 use mathlib.Core.List.{List, map}
 use lib.ListN.{length, getD, length-map}
-use package.Rattle.rules.specs.Limits.{maxParameters}
+use package.Rattle.rules.specs.Limits.{maxParameters, maxVariables}
 use package.Rattle.rules.specs.Term.{Term, Fun, Program, nth}
 use package.Rattle.rules.specs.Typing.{WellTyped}
 use package.Rattle.rules.proofs.Basics.{none≢some, some-inj}
 use package.Rattle.rules.proofs.Lists.{get-map, nth-map}
-use package.Rattle.rules.proofs.Typing.ToDirected.{directed}
+use package.Rattle.rules.proofs.Typing.Functions.{length-parameters, body-typed}
 use package.Rattle.calls.specs.Answer.{accepted}
 use package.Rattle.calls.specs.Fields.{kindAt, lengthAt}
 use package.Rattle.calls.specs.Entries.{TypeEntry, typeAt, typeOf, TermEntry, n-unit, termAt, termTree, termOf, callAncillae, FunctionEntry, functionAt, functionOf, Entries, entriesAt, programOf}
 use package.Rattle.calls.specs.Named.{testEntries}
 use package.Rattle.calls.specs.Tested.{Good, TermGood}
 use package.Rattle.calls.proofs.Trees.{entries-good, good-lower, term-unfolds}
-use package.Rattle.program.specs.Parts.{body, Formed}
+use package.Rattle.program.specs.Parts.{body, variable, Formed}
 use package.Rattle.program.specs.Places.{placesOf, Placed}
 use package.Rattle.program.specs.Programs.{programIn as programAt}
 use package.Rattle.program.proofs.Inside.{formed}
 use package.Rattle.program.proofs.Lists.{ancillae-count, count-trees}
 use package.Rattle.program.proofs.Programs.{entry-there, function-there, function-none}
 use package.Rattle.program.proofs.Rooms.{term-kind}
-use package.Rattle.program.proofs.Shapes.{term-call, function-body}
-use package.Rattle.program.specs.Kinds.{callKind}
+use package.Rattle.program.proofs.Shapes.{term-var, term-call, function-body}
+use package.Rattle.program.specs.Kinds.{variableKind, callKind}
 use package.Rattle.decoded.specs.Rows.{roomFor, bodyIn, functionIn, termCount, programIn, Rows}
 use package.Rattle.decoded.specs.Decoding.{FieldsOfTerms, FieldsOfFunctions, TermRow, Decodes}
 use package.Rattle.decoded.proofs.Used.{every-term}
-use package.Rattle.decoded.proofs.Few.{FewArguments, few-typed, few-parts, few-ancillae}
+use package.Rattle.decoded.proofs.Fitting.{Fitting, fitting-typed, fitting-parts, few-ancillae, small-variable}
 
 ----------------------------------------------------------------
 -- The program that the rows are
@@ -90,6 +90,8 @@ module _ {p types terms functions : List ℕ} (read : Placed p types terms funct
       lower = λ t l. rw (row t l .entry) (term-good t (there l) .terms-lower);
       called = λ t l. rw (row t l .entry, D .as-many-functions, sym as-many-functions) (term-good t (there l) .functions-there);
       bodies = λ g l. let h : g < length functions = omega (arith, D .as-many-functions) in rw (decoded-body D g h, D .as-many-terms) (body-there g h);
+      variables = λ t l. row t l .variables;
+      names = λ t l. D .names t (there l);
     }
       where
         there : {t : ℕ} → t < termCount code → t < length terms
@@ -101,7 +103,8 @@ module _ {p types terms functions : List ℕ} (read : Placed p types terms funct
     ----------------------------------------------------------------
     -- Typed
 
-    module _ (variables most : ℕ) (typed : WellTyped variables most (programOf (entriesAt p (placesOf types terms functions)))) where
+    module _ (variables most : ℕ) (most-variables : variables ≤ maxVariables)
+        (typed : WellTyped variables most (programOf (entriesAt p (placesOf types terms functions)))) where
       abbrev program : Program
       program = programAt p types terms functions
 
@@ -128,26 +131,44 @@ module _ {p types terms functions : List ℕ} (read : Placed p types terms funct
               ))
           go (no l) = absurd (none≢some (sym (function-none p functions g types terms (omega arith)) ∙ e))
 
-      few-body : (g : ℕ) (h : FunctionEntry) → nth (entries .functions) g ≡ some h → FewArguments (tree (h .body))
+      -- a body is typed with its parameters in scope
+      fitting-body : (g : ℕ) (h : FunctionEntry) → nth (entries .functions) g ≡ some h → Fitting (tree (h .body))
       unfolding programOf functionOf
-      few-body g h e =
-          few-typed program short _ _ _ _ _
-          (directed variables most program typed g (functionOf (entries .types) (entries .terms) h) (nth-map _ (entries .functions) g e) .0)
+      fitting-body g h e =
+          fitting-typed variables most most-variables program short (body-typed variables most program (typed g called there))
+          (omega (arith, length-parameters (called .ancillae), short g called there))
+        where
+          called : Fun
+          called = functionOf (entries .types) (entries .terms) h
 
-      few-unfolded : (k : ℕ) → FewArguments (tree k) → FewArguments (tree-by k (getD (entries .terms) k n-unit))
-      few-unfolded k f = subst FewArguments (term-unfolds (entries .types) (entries .terms) (good-lower good) k) f
+          there : nth program g ≡ some called
+          there = nth-map _ (entries .functions) g e
 
-      few-term : (k : ℕ) → k < length (entries .terms) → FewArguments (tree k)
-      few-term =
-          every-term (placesOf types terms functions) entries (λ k. FewArguments (tree k)) tested few-body
-          (λ u l f. few-parts (typeOf (entries .types)) tree u (getD (entries .terms) u n-unit) (few-unfolded u f))
+      fitting-unfolded : (k : ℕ) → Fitting (tree k) → Fitting (tree-by k (getD (entries .terms) k n-unit))
+      fitting-unfolded k f = subst Fitting (term-unfolds (entries .types) (entries .terms) (good-lower good) k) f
+
+      fitting-term : (k : ℕ) → k < length (entries .terms) → Fitting (tree k)
+      fitting-term =
+          every-term (placesOf types terms functions) entries (λ k. Fitting (tree k)) tested fitting-body
+          (λ u l f. fitting-parts (typeOf (entries .types)) tree u (getD (entries .terms) u n-unit) (fitting-unfolded u f))
+
+      fitting-entry : (t : ℕ) → t < length terms → Fitting (tree-by t (getD (entries .terms) t n-unit))
+      fitting-entry t l = fitting-unfolded t (fitting-term t (omega (arith, as-many-terms)))
 
       few-call : (t : ℕ) → t < length terms → kindAt p (getD terms t 0) ≡ callKind → callAncillae (lengthAt p (getD terms t 0)) ≤ roomFor
       unfolding entriesAt
       few-call t l e =
           rw (count-trees tree p (getD terms t 0 + 6) (callAncillae (lengthAt p (getD terms t 0)))) at
-          (few-ancillae (typeOf (entries .types)) tree t (get-map (termAt p) terms t n-unit l ∙ term-call p (getD terms t 0) e)
-          (few-unfolded t (few-term t (omega (arith, as-many-terms)))))
+          (few-ancillae (typeOf (entries .types)) tree t (get-map (termAt p) terms t n-unit l ∙ term-call p (getD terms t 0) e) (fitting-entry t l))
+
+      small : (t : ℕ) → t < length terms → kindAt p (getD terms t 0) ≡ variableKind → variable p (getD terms t 0) < maxVariables
+      unfolding entriesAt
+      small t l e =
+          small-variable (typeOf (entries .types)) tree t (get-map (termAt p) terms t n-unit l ∙ term-var p (getD terms t 0) e) (fitting-entry t l)
 
       pub accepted-terms : FieldsOfTerms p terms
-      accepted-terms = record { row = λ t l. record { field = fields .terms t l; few = few-call t l }; few = fields .few-terms }
+      accepted-terms = record {
+        row = λ t l. record { field = fields .terms t l; few = few-call t l; variables = small t l };
+        lower = λ t l. term-good t l .terms-lower;
+        few = fields .few-terms;
+      }

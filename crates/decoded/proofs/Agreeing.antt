@@ -1,13 +1,19 @@
 -- Rows whose numbers agree say the same, and lists of what rows say.
 use Prim.Native.Nat.{ℕ, zero, suc, _+_, _*_, _-_, _≤_, _<_, min}
 use native.Mathlib.Omega.{arith}
-use mathlib.Core.Path.{_≡_, refl, sym, ap, ap₂, _∙_}
+use native.Mathlib.Decide.{decLt}
+use mathlib.Core.Path.{_≡_, refl, sym, ap, ap₂, subst, _∙_}
+use mathlib.Core.Bool.{true}
 use mathlib.Core.Option.{some}
 use mathlib.Core.List.{List, [], _∷_, map}
-use lib.ListN.{length, getD}
+use lib.ListN.{length, getD, List·getD-eq-default}
 use package.Rattle.rules.specs.Term.{nth}
-use package.Rattle.calls.specs.Entries.{TermEntry, termOfKind, FunctionEntry}
-use package.Rattle.decoded.specs.Rows.{rowNumbers, functionRows, roomFor, kindIn, firstIn, secondIn, thirdIn, argumentIn, argumentsIn, ancillaeIn, parametersIn, bodyIn, entryIn, functionIn, listed}
+use package.Rattle.calls.specs.Entries.{n-unit, termOfKind}
+use package.Rattle.calls.specs.Named.{termsOfTerm, below}
+use package.Rattle.calls.specs.Tested.{LowerTerms}
+use package.Rattle.decoded.specs.Rows.{rowNumbers, functionRows, roomFor, kindIn, firstIn, secondIn, thirdIn, argumentIn, argumentsIn}
+use package.Rattle.decoded.specs.Rows.{ancillaeIn, parametersIn, bodyIn, entryIn, functionIn, listed, namesIn}
+use package.Rattle.varsets.specs.Sets.{ofHalves}
 
 ----------------------------------------------------------------
 -- Rows that agree
@@ -36,6 +42,10 @@ module _ {code code′ : List ℕ} {r : ℕ} (same : Same code code′ r) where
   argument-same : (k : ℕ) → k ≤ roomFor → argumentIn code′ r k ≡ argumentIn code r k
   unfolding argumentIn
   argument-same k h = let z : rowNumbers * r + 4 + k ≡ rowNumbers * r + (4 + k) = omega arith in rw z (same .number (4 + k) (omega arith))
+
+  pub names-same : namesIn code′ r ≡ namesIn code r
+  unfolding namesIn
+  names-same = ap₂ ofHalves (argument-same 0 (omega arith)) (argument-same 1 (omega arith))
 
   arguments-same : (k n : ℕ) → k + n ≤ roomFor + 1 → argumentsIn code′ r k n ≡ argumentsIn code r k n
   unfolding argumentsIn
@@ -84,3 +94,22 @@ listed-map f g [] i h = refl
 listed-map f g (x ∷ xs) i h =
     ap₂ _∷_ (ap f (let z : i ≡ i + 0 = omega arith in z) ∙ h 0 (omega arith))
     (listed-map f g xs (i + 1) (λ k l. ap f (let z : i + 1 + k ≡ i + suc k = omega arith in z) ∙ h (suc k) (omega arith)))
+
+----------------------------------------------------------------
+-- Entries of rows
+
+module _ (code : List ℕ) (n : ℕ) where
+  pub listed-entry : (t : ℕ) → t < n → getD (listed (entryIn code) 0 n) t n-unit ≡ entryIn code t
+  listed-entry t l = get-listed (entryIn code) 0 n t n-unit l ∙ ap (entryIn code) (let z : 0 + t ≡ t = omega arith in z)
+
+  -- every row names lower terms, and where there is none, no term is named
+  pub listed-lower : ((t : ℕ) → t < n → below t (termsOfTerm (entryIn code t)) ≡ true) → LowerTerms (listed (entryIn code) 0 n)
+  unfolding termsOfTerm below
+  listed-lower low t = go (decLt t n)
+    where
+      go : Dec (t < n) → below t (termsOfTerm (getD (listed (entryIn code) 0 n) t n-unit)) ≡ true
+      go (yes l) = subst (λ x. below t (termsOfTerm x) ≡ true) (sym (listed-entry t l)) (low t l)
+      go (no l) =
+          subst (λ x. below t (termsOfTerm x) ≡ true)
+          (sym (List·getD-eq-default (listed (entryIn code) 0 n) n-unit {n = t}
+          (let z : length (listed (entryIn code) 0 n) ≡ n = length-listed (entryIn code) 0 n in omega arith))) refl

@@ -8,16 +8,23 @@ use mathlib.Core.List.{List, [], _∷_, map}
 use lib.ListN.{length, getD, set, length-set}
 use lib.Seq.{getD-set-same, getD-set-other}
 use package.Rattle.octets.specs.Numbers.{get16}
-use package.Rattle.rules.specs.Limits.{maxTerms, maxFunctions}
+use package.Rattle.rules.specs.Limits.{maxTerms, maxFunctions, maxVariables}
 use package.Rattle.calls.specs.Fields.{kindAt, lengthAt, parametersAt, termLengths}
-use package.Rattle.calls.specs.Entries.{TermEntry, n-var, n-unit, n-call, termOfKind, callAncillae, references, termAt, FunctionEntry, functionAt}
+use package.Rattle.calls.specs.Entries.{n-var, n-call, termOfKind, callAncillae, references, termAt, termOf, functionAt}
 use package.Rattle.program.specs.Parts.{variable, first, second, third, listed as listedAt, result, body, TermField, FunctionField}
-use package.Rattle.program.proofs.Shapes.{term-var, term-unit, term-case, term-call, term-by, function-dynamic}
+use package.Rattle.program.proofs.Shapes.{term-var, term-unit, term-case, term-call, term-by}
 use package.Rattle.program.proofs.Rooms.{term-kind, two-room}
 use package.Rattle.program.specs.Kinds.{variableKind, unitKind, caseKind, callKind, termKinds}
-use package.Rattle.decoded.specs.Rows.{rowNumbers, functionRows, countsAt, codeNumbers, roomFor, kindIn, firstIn, secondIn, thirdIn, argumentIn, argumentsIn, ancillaeIn, parametersIn, bodyIn, termCount, functionCount, entryIn, functionIn, termsIn, functionsIn, listed}
+use package.Rattle.decoded.specs.Rows.{rowNumbers, functionRows, countsAt, codeNumbers, roomFor, kindIn, firstIn, secondIn, thirdIn, argumentIn}
+use package.Rattle.decoded.specs.Rows.{argumentsIn, ancillaeIn, parametersIn, bodyIn, termCount, functionCount, entryIn, functionIn, termsIn}
+use package.Rattle.decoded.specs.Rows.{functionsIn, listed, namesIn, named}
+use package.Rattle.decoded.specs.Naming.{RowAsked, RowsNamed}
+use package.Rattle.varsets.specs.Sets.{Holds}
+use package.Rattle.decoded.proofs.Trees.{Two}
+use package.Rattle.decoded.proofs.Sets as law
+use package.Rattle.decoded.proofs.Sets.{entry-kept}
 use package.Rattle.decoded.specs.Decoding.{FieldOfRow, FieldsOfTerms, FieldsOfFunctions, Beside, Heads, Listed, TermRow, TermPut, FunctionRow, FunctionPut, TermRows, FunctionRows, Decodes}
-use package.Rattle.decoded.proofs.Agreeing.{Same, kind-same, third-same, entry-same, function-same, listed-map}
+use package.Rattle.decoded.proofs.Agreeing.{Same, kind-same, first-same, third-same, names-same, entry-same, function-same, listed-map}
 
 ----------------------------------------------------------------
 -- The row of a term
@@ -32,28 +39,33 @@ module _ {code code′ : List ℕ} {t kind a b c : ℕ} (H : Heads code code′ 
   beside-heads = record { kept = λ j h. H .others j (⊎-elim (λ l. left l) (λ l. right (omega arith)) h) }
 
   -- of a term that is no call
-  put-plain : {p : List ℕ} {at : ℕ} → kind ≡ kindAt p at → ¬ (kind ≡ callKind)
+  put-plain : {p : List ℕ} {at : ℕ} → kind ≡ kindAt p at → ¬ (kind ≡ callKind) → (kind ≡ variableKind → a < maxVariables)
       → termOfKind kind a b c a (argumentsIn code′ t 0 (min roomFor c)) (argumentIn code′ t (min roomFor c)) ≡ termAt p at → TermPut code code′ t p at
-  put-plain e d same = record {
+  put-plain e d small same = record {
     lengths = H .lengths;
-    row = record { entry = by-heads ∙ same; kind = H .kind-is ∙ e; few = λ q. absurd (d (sym (H .kind-is) ∙ q)) };
+    row = record {
+      entry = by-heads ∙ same;
+      kind = H .kind-is ∙ e;
+      few = λ q. absurd (d (sym (H .kind-is) ∙ q));
+      variables = λ q. rw (H .first-is) (small (sym (H .kind-is) ∙ q));
+    };
     beside = beside-heads;
   }
 
 pub put-variable : {code code′ : List ℕ} {t v : ℕ} {p : List ℕ} {at : ℕ} → Heads code code′ t variableKind v 0 0 → kindAt p at ≡ variableKind → v ≡ variable p at
-    → TermPut code code′ t p at
+    → variable p at < maxVariables → TermPut code code′ t p at
 unfolding termOfKind
-put-variable {p = p} {at} H k e = put-plain H (sym k) (λ q. omega arith) (ap n-var e ∙ sym (term-var p at k))
+put-variable {p = p} {at} H k e small = put-plain H (sym k) (λ q. omega arith) (λ q. omega arith) (ap n-var e ∙ sym (term-var p at k))
 
 pub put-unit : {code code′ : List ℕ} {t : ℕ} {p : List ℕ} {at : ℕ} → Heads code code′ t unitKind 0 0 0 → kindAt p at ≡ unitKind → TermPut code code′ t p at
 unfolding termOfKind
-put-unit {p = p} {at} H k = put-plain H (sym k) (λ q. omega arith) (sym (term-unit p at k))
+put-unit {p = p} {at} H k = put-plain H (sym k) (λ q. omega arith) (λ q. absurd (omega arith)) (sym (term-unit p at k))
 
 pub put-case : {code code′ : List ℕ} {t a b c : ℕ} {p : List ℕ} {at : ℕ} → Heads code code′ t caseKind a b c → kindAt p at ≡ caseKind → a ≡ first p at → b ≡ second p at
     → c ≡ third p at
     → TermPut code code′ t p at
 unfolding termOfKind
-put-case {p = p} {at} H k ea eb ec = put-plain H (sym k) (λ q. omega arith) (rw (ea, eb, ec) (sym (term-case p at k)))
+put-case {p = p} {at} H k ea eb ec = put-plain H (sym k) (λ q. omega arith) (λ q. absurd (omega arith)) (rw (ea, eb, ec) (sym (term-case p at k)))
 
 -- a kind with two references, which says nothing of the other numbers
 two-references : (k a b c n t c′ n′ t′ : ℕ) (ts ts′ : List ℕ) → ¬ (k ≡ variableKind) → ¬ (k ≡ unitKind) → ¬ (k ≡ caseKind) → ¬ (k ≡ callKind)
@@ -87,10 +99,6 @@ two-long (suc (suc (suc (suc (suc (suc (suc (suc (suc zero))))))))) l d e f g = 
 two-long (suc (suc (suc (suc (suc (suc (suc (suc (suc (suc zero)))))))))) l d e f g = refl
 two-long (suc (suc (suc (suc (suc (suc (suc (suc (suc (suc (suc k))))))))))) l d e f g = absurd (omega arith)
 
--- none of the kinds of variable, unit, case, call
-abbrev pub Two : ℕ → Type 0
-Two k = (((Unit {0} × ¬ (k ≡ variableKind)) × ¬ (k ≡ unitKind)) × ¬ (k ≡ caseKind)) × ¬ (k ≡ callKind)
-
 pub two-there : {p : List ℕ} {at k : ℕ} → TermField p at → k ≡ kindAt p at → Two k → at + 8 ≤ length p
 two-there {k = k} F e ((((u, d₀), d₁), d₇), d₈) =
     let l : k < termKinds = omega (arith, term-kind F) in two-room F (sym e) (two-long k l d₀ d₁ d₇ d₈)
@@ -98,7 +106,8 @@ two-there {k = k} F e ((((u, d₀), d₁), d₇), d₈) =
 pub put-two : {code code′ : List ℕ} {t k a b : ℕ} {p : List ℕ} {at : ℕ} → Heads code code′ t k a b 0 → k ≡ kindAt p at → Two k → a ≡ first p at
     → b ≡ second p at → TermPut code code′ t p at
 put-two {k = k} {a} {b} {p = p} {at} H e ((((u, d₀), d₁), d₇), d₈) ea eb =
-    put-plain H e d₈ (two-references k a b _ _ _ (third p at) (variable p at) _ _ (references p (at + 6) (callAncillae (lengthAt p at))) d₀ d₁ d₇ d₈
+    put-plain H e d₈ (λ q. absurd (d₀ q))
+    (two-references k a b _ _ _ (third p at) (variable p at) _ _ (references p (at + 6) (callAncillae (lengthAt p at))) d₀ d₁ d₇ d₈
     ∙ ap₂ (λ a b. termOfKind k a b (third p at) (variable p at) (references p (at + 6) (callAncillae (lengthAt p at)))
     (listedAt p at (callAncillae (lengthAt p at)))) ea eb
     ∙ sym (term-by p at (sym e)))
@@ -150,6 +159,7 @@ put-call {code₂ = code₂} {t} {f} {n} {p} {at} H L k ef en few = record {
         (ap₂ (n-call f) (listed-are L 0 n (at + 6) (omega arith) (omega arith)) (L .arguments n (omega arith)) ∙ rw (ef, en) (sym (term-call p at k)));
     kind = kind-kept L ∙ H .kind-is ∙ sym k;
     few = λ q. omega (arith, third-kept L, H .third-is);
+    variables = λ q. absurd (omega (arith, kind-kept L, H .kind-is, q));
   };
   beside = both-beside H L (omega arith);
 }
@@ -196,6 +206,7 @@ row-same S R = record {
   entry = entry-same S ∙ R .entry;
   kind = kind-same S ∙ R .kind;
   few = λ q. rw (third-same S) (R .few (sym (kind-same S) ∙ q));
+  variables = λ q. rw (first-same S) (R .variables (sym (kind-same S) ∙ q));
 }
 
 function-row-same : {code code′ : List ℕ} {g : ℕ} {p : List ℕ} {at : ℕ} → Same code code′ (functionRows + g) → FunctionRow code g p at
@@ -244,26 +255,63 @@ pub functions-whole : {code code′ p functions : List ℕ} {n m : ℕ} → Func
 functions-whole {code} {code′} {p} {functions} R e = subst (FunctionRows code code′ p functions) e R
 
 ----------------------------------------------------------------
+-- The variables that the terms name
+
+module _ {code₀ code p terms : List ℕ} (A : FieldsOfTerms p terms) (T : TermRows code₀ code p terms (length terms)) where
+  pub rows-asked : (t : ℕ) → t < length terms → RowAsked code t
+  rows-asked t l = record {
+    known = rw (T .row t l .kind) (term-kind (A .row t l .field));
+    variables = T .row t l .variables;
+    few = T .row t l .few;
+    lower = rw (T .row t l .entry) (A .lower t l);
+  }
+
+  module _ {code₁ : List ℕ} (N : RowsNamed code code₁ (length terms) (length terms)) where
+    pub rows-kept : TermRows code₀ code₁ p terms (length terms)
+    rows-kept = record { lengths = N .lengths ∙ T .lengths; row = row }
+      where
+        row : (t : ℕ) → t < length terms → TermRow code₁ t p (getD terms t 0)
+        row t l = let K = N .kept t l in record {
+          entry = entry-kept K ∙ T .row t l .entry;
+          kind = law.kind-kept K ∙ T .row t l .kind;
+          few = λ q. rw (law.third-kept K) (T .row t l .few (sym (law.kind-kept K) ∙ q));
+          variables = λ q. rw (law.first-kept K) (T .row t l .variables (sym (law.kind-kept K) ∙ q));
+        }
+
+    -- the sets, by the program's entries
+    pub names-kept : (t : ℕ) → t < length terms → kindIn code₁ t ≡ caseKind
+        → Holds (namesIn code₁ t) (λ i. named i (termOf [] (map (termAt p) terms) (firstIn code₁ t)))
+    names-kept t l e = let K = N .kept t l in
+        rw (law.first-kept K, sym entries-are) (N .names t l (sym (law.kind-kept K) ∙ e))
+      where
+        entries-are : listed (entryIn code) 0 (length terms) ≡ map (termAt p) terms
+        entries-are = listed-map (entryIn code) (termAt p) terms 0 (λ k l. ap (entryIn code) (let z : 0 + k ≡ k = omega arith in z) ∙ T .row k l .entry)
+
+----------------------------------------------------------------
 -- The program
 
 module _ {code₀ code code₁ p terms functions : List ℕ} (full : length code₁ ≡ codeNumbers) (few-terms : length terms ≤ maxTerms)
     (few-functions : length functions ≤ maxFunctions)
-    (T : TermRows code₀ code p terms (length terms)) (F : FunctionRows code code₁ p functions (length functions)) where
+    (T : TermRows code₀ code p terms (length terms))
+    (N : (t : ℕ) → t < length terms → kindIn code t ≡ caseKind → Holds (namesIn code t) (λ i. named i (termOf [] (map (termAt p) terms) (firstIn code t))))
+    (F : FunctionRows code code₁ p functions (length functions)) where
   abbrev counted : List ℕ
   counted = set (set code₁ countsAt (length terms)) (countsAt + 1) (length functions)
 
   -- the counts stand behind all rows
-  rows-kept : (j : ℕ) → j < countsAt → getD counted j 0 ≡ getD code₁ j 0
-  rows-kept j l =
+  numbers-kept : (j : ℕ) → j < countsAt → getD counted j 0 ≡ getD code₁ j 0
+  numbers-kept j l =
       getD-set-other (set code₁ countsAt (length terms)) (countsAt + 1) j (length functions) 0 (λ e. omega arith)
       ∙ getD-set-other code₁ countsAt j (length terms) 0 (λ e. omega arith)
 
+  term-same : (t : ℕ) → t < length terms → Same code counted t
+  term-same t l = record { number = λ j h. numbers-kept (rowNumbers * t + j) (omega arith) ∙ F .before (rowNumbers * t + j) (omega arith) }
+
   term-row : (t : ℕ) → t < length terms → TermRow counted t p (getD terms t 0)
-  term-row t l =
-      row-same (record { number = λ j h. rows-kept (rowNumbers * t + j) (omega arith) ∙ F .before (rowNumbers * t + j) (omega arith) }) (T .row t l)
+  term-row t l = row-same (term-same t l) (T .row t l)
 
   function-row : (g : ℕ) → g < length functions → FunctionRow counted g p (getD functions g 0)
-  function-row g l = function-row-same (record { number = λ j h. rows-kept (rowNumbers * (functionRows + g) + j) (omega arith) }) (F .row g l)
+  function-row g l = function-row-same (record { number = λ j h. numbers-kept (rowNumbers * (functionRows + g) + j) (omega arith) }) (F .row g l)
 
   count-terms : termCount counted ≡ length terms
   unfolding termCount
@@ -275,11 +323,16 @@ module _ {code₀ code code₁ p terms functions : List ℕ} (full : length code
   unfolding functionCount
   count-functions = getD-set-same (set code₁ countsAt (length terms)) (countsAt + 1) (length functions) 0 (simp length-set (omega arith))
 
+  terms-counted : termsIn counted ≡ map (termAt p) terms
+  unfolding termsIn
+  terms-counted =
+      ap (listed (entryIn counted) 0) count-terms
+      ∙ listed-map (entryIn counted) (termAt p) terms 0 (λ k l. ap (entryIn counted) (let z : 0 + k ≡ k = omega arith in z) ∙ term-row k l .entry)
+
   pub decodes : Decodes counted p terms functions
-  unfolding termsIn functionsIn
+  unfolding functionsIn
   decodes = record {
-    terms-are = ap (listed (entryIn counted) 0) count-terms
-        ∙ listed-map (entryIn counted) (termAt p) terms 0 (λ k l. ap (entryIn counted) (let z : 0 + k ≡ k = omega arith in z) ∙ term-row k l .entry);
+    terms-are = terms-counted;
     functions-are = ap (listed (functionIn counted) 0) count-functions
         ∙ listed-map (functionIn counted) (functionAt p) functions 0
         (λ k l. ap (functionIn counted) (let z : 0 + k ≡ k = omega arith in z) ∙ function-row k l .entry);
@@ -287,4 +340,6 @@ module _ {code₀ code code₁ p terms functions : List ℕ} (full : length code
     as-many-functions = count-functions;
     row = term-row;
     function = function-row;
+    names = λ t l e. let same = term-same t l in
+        rw (names-same same, first-same same, terms-counted) (N t l (sym (kind-same same) ∙ e));
   }

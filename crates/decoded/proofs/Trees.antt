@@ -1,22 +1,24 @@
 -- The tree of a term, by the kind that its row says, with the parts that the row names; these are lower rows. The function of a call.
-use Prim.Native.Nat.{ℕ, zero, suc, _+_, _*_, _≤_, _<_, min}
+use Prim.Native.Nat.{ℕ, zero, suc, _+_, _≤_, _<_, min}
 use native.Mathlib.Omega.{arith}
 use native.Mathlib.Decide.{decLt}
-use mathlib.Core.Path.{_≡_, refl, sym, ap, ap₂, subst, _∙_}
+use mathlib.Core.Path.{_≡_, refl, sym, ap, subst, _∙_}
 use mathlib.Core.Bool.{true}
 use mathlib.Core.Option.{some}
 use mathlib.Core.List.{List, [], _∷_, _++_}
-use lib.ListN.{length, getD, length-map, List·getD-eq-default}
-use package.Rattle.rules.specs.Term.{Term, Terms, var, tunit, tinl, tinr, tpair, tlet, tletp, tcase, tcall, troll, tunroll, count, Fun, nth, entry}
+use lib.ListN.{length, getD, length-map}
+use package.Rattle.rules.specs.Term.{Term, var, tunit, tinl, tinr, tpair, tlet, tletp, tcase, tcall, troll, tunroll, count, Fun, nth, entry}
 use package.Rattle.rules.proofs.Basics.{none≢some, some-inj}
 use package.Rattle.rules.proofs.Lists.{nth-map, nth-none}
-use package.Rattle.calls.specs.Entries.{TypeEntry, typeOf, TermEntry, n-var, n-unit, n-inl, n-inr, n-roll, n-unroll, n-pair, n-let, n-letp, n-case, n-call, termOfKind, termTrees, termTree, termOf, functionOf, programOf}
+use package.Rattle.calls.specs.Entries.{TypeEntry, typeOf, TermEntry, n-var, n-unit, n-inl, n-inr, n-roll, n-unroll, n-pair, n-let, n-letp, n-case, n-call, termOfKind, termTrees, termTree, functionOf, programOf}
 use package.Rattle.calls.specs.Named.{termsOfTerm, functionsOfTerm, below}
+use package.Rattle.calls.specs.Tested.{LowerTerms}
 use package.Rattle.calls.proofs.Entries.{below-head}
 use package.Rattle.calls.proofs.Trees.{term-unfolds}
 use package.Rattle.program.specs.Kinds.{variableKind, unitKind, inlKind, inrKind, pairKind, letKind, letPairKind, caseKind, callKind, rollKind, unrollKind, termKinds}
-use package.Rattle.decoded.specs.Rows.{roomFor, kindIn, firstIn, secondIn, thirdIn, argumentIn, argumentsIn, ancillaeIn, bodyIn, termCount, functionCount, entryIn, functionIn, listed, termsIn, functionsIn, treeIn, programIn, Rows}
-use package.Rattle.decoded.proofs.Agreeing.{length-listed, get-listed, nth-listed}
+use package.Rattle.decoded.specs.Rows.{roomFor, kindIn, firstIn, secondIn, thirdIn, argumentIn, argumentsIn, ancillaeIn, bodyIn, termCount}
+use package.Rattle.decoded.specs.Rows.{functionCount, entryIn, functionIn, termsIn, functionsIn, treeIn, programIn, Rows}
+use package.Rattle.decoded.proofs.Agreeing.{length-listed, nth-listed, listed-entry, listed-lower}
 
 ----------------------------------------------------------------
 -- The entry that a row says, by its kind
@@ -77,6 +79,10 @@ module _ (code : List ℕ) (t : ℕ) where
   unfolding termOfKind
   entry-unroll e = entry-by e
 
+-- none of the kinds of variable, unit, case, call, as a match on these leaves it: two references
+abbrev pub Two : ℕ → Type 0
+Two k = (((Unit {0} × ¬ (k ≡ variableKind)) × ¬ (k ≡ unitKind)) × ¬ (k ≡ caseKind)) × ¬ (k ≡ callKind)
+
 -- none of section 1's kinds, as a match on all of them leaves it
 abbrev pub NoKind : ℕ → Type 0
 NoKind k =
@@ -107,19 +113,11 @@ none-left k l (((((((((((u, d₀), d₁), d₂), d₃), d₄), d₅), d₆), d�
 module _ {code : List ℕ} (R : Rows code) where
   entry-at : (t : ℕ) → t < termCount code → getD (termsIn code) t n-unit ≡ entryIn code t
   unfolding termsIn
-  entry-at t l = get-listed (entryIn code) 0 (termCount code) t n-unit l ∙ ap (entryIn code) (let z : 0 + t ≡ t = omega arith in z)
+  entry-at t l = listed-entry code (termCount code) t l
 
-  -- every row names lower terms
-  lower-all : (t : ℕ) → below t (termsOfTerm (getD (termsIn code) t n-unit)) ≡ true
-  unfolding termsIn termsOfTerm below
-  lower-all t = go (decLt t (termCount code))
-    where
-      go : Dec (t < termCount code) → below t (termsOfTerm (getD (termsIn code) t n-unit)) ≡ true
-      go (yes l) = subst (λ x. below t (termsOfTerm x) ≡ true) (sym (entry-at t l)) (R .lower t l)
-      go (no l) =
-          subst (λ x. below t (termsOfTerm x) ≡ true)
-          (sym (List·getD-eq-default (termsIn code) n-unit {n = t}
-          (let z : length (termsIn code) ≡ termCount code = length-listed (entryIn code) 0 (termCount code) in omega arith))) refl
+  lower-all : LowerTerms (termsIn code)
+  unfolding termsIn
+  lower-all = listed-lower code (termCount code) (R .lower)
 
   module _ (t : ℕ) (l : t < termCount code) where
     pub tree-is : {x : TermEntry} → entryIn code t ≡ x → (ys : List TypeEntry) → treeIn code ys t ≡ termTree (typeOf ys) (treeIn code ys) t x

@@ -3,27 +3,34 @@
 use Prim.Native.Nat.{ℕ, _+_, _*_, _≤_, _<_}
 use mathlib.Core.Path.{_≡_}
 use mathlib.Core.Logic.{_⊎_}
-use mathlib.Core.List.{List, map}
+use mathlib.Core.Bool.{true}
+use mathlib.Core.List.{List, [], map}
 use lib.ListN.{length, getD}
 use package.Rattle.octets.specs.Numbers.{get16}
-use package.Rattle.rules.specs.Limits.{maxTerms, maxFunctions}
+use package.Rattle.rules.specs.Limits.{maxTerms, maxFunctions, maxVariables}
 use package.Rattle.calls.specs.Fields.{kindAt, lengthAt, parametersAt}
 use package.Rattle.calls.specs.Entries.{callAncillae, termAt, functionAt}
-use package.Rattle.program.specs.Parts.{TermField, FunctionField}
-use package.Rattle.program.specs.Kinds.{callKind}
-use package.Rattle.decoded.specs.Rows.{rowHeads, rowNumbers, functionRows, roomFor, kindIn, firstIn, secondIn, thirdIn, argumentIn, parametersIn, entryIn, functionIn, termsIn, functionsIn, termCount, functionCount}
+use package.Rattle.calls.specs.Named.{termsOfTerm, below}
+use package.Rattle.program.specs.Parts.{TermField, FunctionField, variable}
+use package.Rattle.program.specs.Kinds.{variableKind, caseKind, callKind}
+use package.Rattle.varsets.specs.Sets.{Holds}
+use package.Rattle.decoded.specs.Rows.{rowHeads, rowNumbers, functionRows, roomFor, kindIn, firstIn, secondIn, thirdIn, argumentIn, namesIn}
+use package.Rattle.decoded.specs.Rows.{parametersIn, entryIn, functionIn, termsIn, functionsIn, treeIn, named, termCount, functionCount}
 
 ----------------------------------------------------------------
 -- Before
 
--- the field of a term whose row has room for its ancilla terms
+-- the field of a term whose row has room for its ancilla terms; a set has room for the variable that it is
 pub record FieldOfRow (p : List ℕ) (at : ℕ) : Type 0 where
   pub field : TermField p at
   pub few : kindAt p at ≡ callKind → callAncillae (lengthAt p at) ≤ roomFor
+  pub variables : kindAt p at ≡ variableKind → variable p at < maxVariables
 
--- The fields of the terms at these offsets are well-formed, with room for every call, and they are as many as section 1 allows.
+-- The fields of the terms at these offsets are well-formed, with room for every call and variable; they name lower terms, and are as many as
+-- section 1 allows.
 pub record FieldsOfTerms (p terms : List ℕ) : Type 0 where
   pub row : (t : ℕ) → t < length terms → FieldOfRow p (getD terms t 0)
+  pub lower : (t : ℕ) → t < length terms → below t (termsOfTerm (termAt p (getD terms t 0))) ≡ true
   pub few : length terms ≤ maxTerms
 
 pub record FieldsOfFunctions (p functions : List ℕ) : Type 0 where
@@ -57,6 +64,7 @@ pub record TermRow (code : List ℕ) (t : ℕ) (p : List ℕ) (at : ℕ) : Type 
   pub entry : entryIn code t ≡ termAt p at
   pub kind : kindIn code t ≡ kindAt p at
   pub few : kindIn code t ≡ callKind → thirdIn code t ≤ roomFor
+  pub variables : kindIn code t ≡ variableKind → firstIn code t < maxVariables
 
 pub record TermPut (code code′ : List ℕ) (t : ℕ) (p : List ℕ) (at : ℕ) : Type 0 where
   pub lengths : length code′ ≡ length code
@@ -87,7 +95,7 @@ pub record FunctionRows (code code′ p functions : List ℕ) (n : ℕ) : Type 0
   pub row : (g : ℕ) → g < n → FunctionRow code′ g p (getD functions g 0)
   pub before : (j : ℕ) → j < rowNumbers * functionRows → getD code′ j 0 ≡ getD code j 0
 
--- the rows are the program's entries
+-- the rows are the program's entries, and those of cases have the sets of their scrutinees
 pub record Decodes (code p terms functions : List ℕ) : Type 0 where
   pub terms-are : termsIn code ≡ map (termAt p) terms
   pub functions-are : functionsIn code ≡ map (functionAt p) functions
@@ -95,3 +103,4 @@ pub record Decodes (code p terms functions : List ℕ) : Type 0 where
   pub as-many-functions : functionCount code ≡ length functions
   pub row : (t : ℕ) → t < length terms → TermRow code t p (getD terms t 0)
   pub function : (g : ℕ) → g < length functions → FunctionRow code g p (getD functions g 0)
+  pub names : (t : ℕ) → t < length terms → kindIn code t ≡ caseKind → Holds (namesIn code t) (λ i. named i (treeIn code [] (firstIn code t)))

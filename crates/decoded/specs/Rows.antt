@@ -1,18 +1,22 @@
 -- A program decoded: a row of twelve numbers for each term, and behind them one for each function, in one array; last, how many terms and
 -- functions there are. A run reads these and no byte of the program. A row says what the entry's field says (section 1): its first number is
 -- the kind, then come the references (of a variable, its number), or of a call its function and how many ancilla terms it has; from the fifth
--- number on stand a call's terms, the dynamic one last. Of a function: how many parameters, body, result type, and the parameters' types.
--- Laws: proofs/Agreeing, proofs/Trees.
+-- number on stand a call's terms, the dynamic one last. The fifth and sixth of a case are the set of the variables that its scrutinee names
+-- (02, F-3). Of a function: how many parameters, body, result type, and the parameters' types.
+-- Laws: proofs/Agreeing, proofs/Trees, proofs/Named.
 use Prim.Native.Nat.{ℕ, zero, suc, _+_, _*_, _-_, _≤_, _<_, min}
 use mathlib.Core.Path.{_≡_}
-use mathlib.Core.Bool.{true}
+use mathlib.Core.Bool.{Bool, true, not}
 use mathlib.Core.List.{List, [], _∷_}
 use lib.ListN.{getD}
-use package.Rattle.rules.specs.Term.{Term, Program}
-use package.Rattle.rules.specs.Limits.{maxTerms, maxFunctions}
+use lib.Dec.{eqb}
+use package.Rattle.rules.specs.Term.{Term, Program, within}
+use package.Rattle.rules.specs.Limits.{maxTerms, maxFunctions, maxVariables}
 use package.Rattle.calls.specs.Entries.{TypeEntry, TermEntry, termOfKind, termOf, FunctionEntry, programOf}
 use package.Rattle.calls.specs.Named.{termsOfTerm, functionsOfTerm, below}
-use package.Rattle.program.specs.Kinds.{termKinds, callKind}
+use package.Rattle.program.specs.Kinds.{termKinds, variableKind, caseKind, callKind}
+use package.Rattle.varsets.specs.declared.Uses.{Uses}
+use package.Rattle.varsets.specs.Sets.{Holds, ofHalves}
 
 ----------------------------------------------------------------
 -- The numbers of a row
@@ -67,6 +71,11 @@ argumentsIn code t k (suc n) = argumentIn code t k ∷ argumentsIn code t (k + 1
 unfoldable pub ancillaeIn : List ℕ → ℕ → ℕ
 ancillaeIn code t = min roomFor (thirdIn code t)
 
+-- the variables that the scrutinee of a case's row names: a set in two numbers
+unfoldable pub namesIn : List ℕ → ℕ → Uses
+unfolding argumentIn
+namesIn code t = ofHalves (argumentIn code t 0) (argumentIn code t 1)
+
 -- how many parameters a function's row says; the last is dynamic
 unfoldable pub parametersIn : List ℕ → ℕ → ℕ
 parametersIn code g = kindIn code (functionRows + g)
@@ -115,11 +124,16 @@ treeIn code ys t = termOf ys (termsIn code) t
 abbrev pub programIn : List ℕ → List TypeEntry → Program
 programIn code ys = programOf (record { types = ys; terms = termsIn code; functions = functionsIn code })
 
+-- Is the variable named in the tree, as a use or inside an ancilla argument? (02, F-3)
+abbrev pub named : ℕ → Term → Bool
+named i e = not (within (λ j. not (eqb i j)) e)
+
 ----------------------------------------------------------------
 -- Rows of an accepted program
 
 -- A term names lower terms and functions that are there, by a kind of section 1; a call has as many ancilla terms as a row has room for; a
--- function's body is a term that is there.
+-- function's body is a term that is there; a variable's number is one that a set has room for, and the row of a case has the set of the
+-- variables that its scrutinee names.
 pub record Rows (code : List ℕ) : Type 0 where
   pub few-terms : termCount code ≤ maxTerms
   pub few-functions : functionCount code ≤ maxFunctions
@@ -128,3 +142,5 @@ pub record Rows (code : List ℕ) : Type 0 where
   pub lower : (t : ℕ) → t < termCount code → below t (termsOfTerm (entryIn code t)) ≡ true
   pub called : (t : ℕ) → t < termCount code → below (functionCount code) (functionsOfTerm (entryIn code t)) ≡ true
   pub bodies : (g : ℕ) → g < functionCount code → bodyIn code g < termCount code
+  pub variables : (t : ℕ) → t < termCount code → kindIn code t ≡ variableKind → firstIn code t < maxVariables
+  pub names : (t : ℕ) → t < termCount code → kindIn code t ≡ caseKind → Holds (namesIn code t) (λ i. named i (treeIn code [] (firstIn code t)))

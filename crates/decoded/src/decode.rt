@@ -1,4 +1,5 @@
-// A loaded program becomes rows: one pass over its terms, one over its functions.
+// A loaded program becomes rows: one pass over its terms, one for the variables that they name, one over its functions.
+use crate::naming;
 use crate::rows::CODE;
 use crate::rows::COUNTS;
 use crate::rows::FUNCTIONS_FROM;
@@ -154,6 +155,7 @@ pub fn decode(code: &mut [u16; CODE], p: &[u8], terms: &[u16], functions: &[u16]
     ensures { λ _. ⌜ Decodes (now (code .exit)) (now (p .entry)) (now (terms .entry)) (now (functions .entry)) ⌝ }
 {
     put_terms(code, p, terms);
+    naming::put_names(code, terms.len() as u16);
     put_functions(code, p, functions);
     code[COUNTS] = terms.len() as u16;
     code[COUNTS + 1] = functions.len() as u16;

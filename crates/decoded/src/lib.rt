@@ -2,4 +2,5 @@
 // entry's field says (specs/Rows).
 pub mod decode;
 pub mod kinds;
+pub mod naming;
 pub mod rows;

@@ -3,7 +3,6 @@ use Prim.Native.Nat.{ℕ, zero, suc, _+_, _-_, _<_}
 use native.Mathlib.Omega.{arith}
 use native.Mathlib.Numerals.{add-one}
 use mathlib.Core.Path.{_≡_, refl, sym, ap, ap₂, subst, _∙_}
-use mathlib.Core.Bool.{not}
 use mathlib.Core.Logic.{inl as left, inr as right}
 use mathlib.Core.Option.{some}
 use mathlib.Core.List.{List, _∷_}
@@ -13,19 +12,20 @@ use package.Rattle.program.specs.Kinds.{letKind, letPairKind, caseKind}
 use package.Rattle.rules.specs.Limits.{fits}
 use package.Rattle.rules.specs.Val.{Val, inl, inr, pair}
 use package.Rattle.rules.specs.Run.{Res, stuck, Run, after, give, test}
-use package.Rattle.rules.specs.Yield.{mayYield}
+use package.Rattle.rules.specs.Yield.{firstMatch}
 use package.Rattle.rules.specs.Machine.{State, onSum, onPair, filled, forwardStep, forward}
+use package.Rattle.rules.proofs.State.{length-filled}
 use package.Rattle.calls.specs.Entries.{TypeEntry}
 use package.Rattle.valuegraph.specs.Nodes.{valueWithin, valueAt, ofKind, leftAt, rightAt, kindAt as nodeKind}
 use package.Rattle.valuegraph.proofs.Heaps.{value-inl, value-inr, value-pair}
 use package.Rattle.scopes.specs.Slots.{slotCount, meaning as slotMeaning, stateAt, Slots, Machine, Scope}
 use package.Rattle.scopes.proofs.Marks.{found-node}
-use package.Rattle.scopes.proofs.Scopes.{state-bind, slots-bind}
+use package.Rattle.scopes.proofs.Scopes.{length-state, state-bind, slots-bind}
 use package.Rattle.yields.proofs.Ancillae.{ancillae-same}
 use package.Rattle.forward.specs.Outcomes.{Out, refusalOf}
-use package.Rattle.forward.specs.Ready.{Ready, RanForward, CheckReady, Checks, ancillaeOf, stateOf, runOf, underOf, stepOf}
+use package.Rattle.forward.specs.Ready.{Ready, RanForward, Checks, ancillaeOf, stateOf, runOf, underOf, stepOf}
 use package.Rattle.forward.proofs.Answers.{below-mark}
-use package.Rattle.forward.proofs.Runs.{ancillae-held, says, slack, halted, part-refused, part-answered, fewer, later, ancillae-later, state-later, part}
+use package.Rattle.forward.proofs.Runs.{says, slack, halted, part-refused, part-answered, fewer, later, ancillae-later, state-later, part}
 use package.Rattle.forward.proofs.Steps.{stepped}
 use Rattle.forward.specs.declared.outcomes.Refusal.{Refusal}
 use Rattle.forward.specs.declared.outcomes.Refusal.the-variants.{Stuck}
@@ -140,7 +140,7 @@ module _ (heap : List ℕ) (node fuel : ℕ) where
   unfolding valueAt valueWithin
   node-no-pair next d = no-pair (nodeKind heap node) _ _ next fuel d
 
-  node-no-sum : (l r : Val → Run Val) → ¬ (nodeKind heap node ≡ 1) → ¬ (nodeKind heap node ≡ 2) → onSum (valueAt heap node) l r fuel ≡ stuck
+  pub node-no-sum : {A : Type 0} (l r : Val → Run A) → ¬ (nodeKind heap node ≡ 1) → ¬ (nodeKind heap node ≡ 2) → onSum (valueAt heap node) l r fuel ≡ stuck
   unfolding valueAt valueWithin
   node-no-sum l r d d′ = no-sum (nodeKind heap node) _ _ l r fuel d d′
 
@@ -267,9 +267,12 @@ module _ {code heap slots : List ℕ} {st : Machine} {sc : Scope} {t room : ℕ}
     abbrev left-next : ℕ → List TypeEntry → Val → Run Val
     left-next b ys v = within b ys (some v ∷ state)
 
-    -- the left branch's form is asked about the right one's value
+    -- first match is tested of the right branch's value
+    abbrev matched : ℕ → List TypeEntry → List Val → ℕ → Val → Run Val
+    matched b ys a n w = test (firstMatch a n (treeIn code ys (firstIn code t)) (treeIn code ys b) w) 15 t (give w)
+
     abbrev first-match : ℕ → List TypeEntry → Val → Run Val
-    first-match b ys w = test (not (mayYield (ancillaeOf heap slots sc) (treeIn code ys b) w)) 15 t (give w)
+    first-match b ys = matched b ys (ancillaeOf heap slots sc) (length state)
 
     abbrev right-next : ℕ → ℕ → List TypeEntry → Val → Run Val
     right-next b b′ ys v fuel = after (within b′ ys (some v ∷ state) fuel) (first-match b ys)
@@ -316,7 +319,7 @@ module _ {code heap slots : List ℕ} {st : Machine} {sc : Scope} {t room : ℕ}
               is-left : valueAt heap₁ x ≡ inl (valueAt heap₁ y)
               is-left = rw qy (value-inl heap₁ (r₁ .state .top) (d .graph .right) x (d .node x s) k1 .0)
 
-          pub case-right : nodeKind heap₁ x ≡ 2 → b′ ≡ thirdIn code t → (r : Out) → Checks code heap₂ slots₂ (sc .base) (sc .q) t r₂ r
+          pub case-right : nodeKind heap₁ x ≡ 2 → b′ ≡ thirdIn code t → (r : Out) → Checks code heap₂ slots₂ (sc .base) (sc .q) (sc .n) t r₂ r
               → RanForward 1 heap heap₂ end slots slots₂ st r step
           unfolding onSum
           case-right k2 q′ r c = slack (part-answered d (case-next (secondIn code t) (thirdIn code t)) s step-c checked (omega arith)) 1 (omega arith)
@@ -326,6 +329,9 @@ module _ {code heap slots : List ℕ} {st : Machine} {sc : Scope} {t room : ℕ}
 
               ancillae-two : ancillaeOf heap₂ slots₂ sc ≡ ancillaeOf heap slots sc
               ancillae-two = sym (ancillae-later rd d ∙ ancillae-later (later rd d) d₂)
+
+              count : sc .n ≡ length state
+              count = sym (length-filled (stateAt heap slots (sc .base) (sc .n)) ∙ length-state heap slots (sc .base) (sc .n))
 
               checked : RanForward 0 heap₁ heap₂ end slots₁ slots₂ (r₁ .state) r
                   (λ ys. case-next (secondIn code t) (thirdIn code t) ys (valueAt heap₁ x) (r₁ .state .fuel))
@@ -339,7 +345,9 @@ module _ {code heap slots : List ℕ} {st : Machine} {sc : Scope} {t room : ℕ}
                 owes = rw (c .state) (d₂ .owes);
                 node = λ n e. rw (c .state) (d₂ .node n (c .node n e));
                 answer = λ ys. c .answer ys
-                    ∙ ap₂ (λ x a. after x (λ w. test (not (mayYield a (treeIn code ys (secondIn code t)) w)) 15 t (give w)))
+                    ∙ ap₂ (λ x a. after x (matched (secondIn code t) ys a (sc .n)))
                     (d₂ .answer ys ∙ under-later d y b′ ys ∙ ap (λ b. within b ys (some (valueAt heap₁ y) ∷ state) (r₁ .state .fuel)) q′) ancillae-two
+                    ∙ ap (λ n. after (within (thirdIn code t) ys (some (valueAt heap₁ y) ∷ state) (r₁ .state .fuel))
+                    (matched (secondIn code t) ys (ancillaeOf heap slots sc) n)) count
                     ∙ sym (ap (λ v. case-next (secondIn code t) (thirdIn code t) ys v (r₁ .state .fuel)) is-right);
               }

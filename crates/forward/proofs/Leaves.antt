@@ -2,14 +2,15 @@
 use Prim.Native.Nat.{ℕ, zero, suc, _+_, _≤_, _<_}
 use native.Mathlib.Omega.{arith}
 use native.Mathlib.Decide.{decLt}
-use mathlib.Core.Path.{_≡_, refl, sym, ap, _∙_}
-use mathlib.Core.Bool.{Bool, true, false, not}
+use mathlib.Core.Path.{_≡_, refl, sym, ap, ap₂, _∙_}
+use mathlib.Core.Bool.{Bool, true, false, not, _||_}
 use mathlib.Core.List.{List}
 use lib.ListN.{getD}
 use package.Rattle.rules.specs.Limits.{fits, maxTerms}
 use package.Rattle.rules.specs.Val.{Val, roll}
 use package.Rattle.rules.specs.Run.{stuck, Run, after, give, test}
-use package.Rattle.rules.specs.Yield.{mayYield}
+use package.Rattle.rules.specs.Term.{byAncilla}
+use package.Rattle.rules.specs.Yield.{mayYield, firstMatch}
 use package.Rattle.rules.specs.Machine.{onRoll}
 use package.Rattle.rules.proofs.Run.{via}
 use package.Rattle.calls.specs.Entries.{TypeEntry}
@@ -20,6 +21,7 @@ use package.Rattle.scopes.proofs.Marks.{found-low, slot-in, slot-out}
 use package.Rattle.scopes.specs.declared.slots.Found.{Found}
 use package.Rattle.scopes.specs.declared.slots.Found.the-variants.{Node, Unknown}
 use package.Rattle.yields.specs.Yields.{ancillaeIn, MayYield, Asks}
+use package.Rattle.yields.proofs.Ancillae.{length-ancillae}
 use package.Rattle.forward.specs.Outcomes.{Out, statusOf, refusalOf, meaning, foundOut, Finds, outOf}
 use package.Rattle.forward.specs.Ready.{Graph, FindReady, Unrolls, Unrolled, CheckReady, Checks}
 use package.Rattle.forward.proofs.Answers.{below-mark, is-value}
@@ -30,7 +32,7 @@ use Rattle.forward.specs.declared.outcomes.Refusal.the-variants.{FirstMa
 use Rattle.forward.specs.declared.outcomes.Status.{Status}
 use Rattle.forward.specs.declared.outcomes.Status.the-variants.{Value, Refused}
 use package.Rattle.decoded.proofs.Trees.{parts-case}
-use package.Rattle.decoded.specs.Rows.{secondIn, treeIn}
+use package.Rattle.decoded.specs.Rows.{firstIn, secondIn, treeIn}
 
 ----------------------------------------------------------------
 -- Variables
@@ -136,10 +138,28 @@ module _ {code heap st : List ℕ} {scope t out : ℕ} (C : CheckReady code heap
 
   -- how the case goes on with a value
   abbrev next : List TypeEntry → Val → Run Val
-  next ys w = test (not (mayYield (ancillaeIn heap st scope) (treeIn code ys (secondIn code t)) w)) 15 t (give w)
+  next ys w =
+      test (firstMatch (ancillaeIn heap st scope) (scopeIn scope .n) (treeIn code ys (firstIn code t)) (treeIn code ys (secondIn code t)) w) 15 t (give w)
 
   abbrev Checked : Out → Type 0
-  Checked r = Checks code heap (slotsOf st) (scopeIn scope .base) (scopeIn scope .q) t before r
+  Checked r = Checks code heap (slotsOf st) (scopeIn scope .base) (scopeIn scope .q) (scopeIn scope .n) t before r
+
+  -- whether the case chooses by an ancilla, by the numbers that the code has
+  abbrev Chooses : Bool → Type 0
+  Chooses c = (ys : List TypeEntry) → c ≡ byAncilla (scopeIn scope .q) (scopeIn scope .n) (treeIn code ys (firstIn code t))
+
+  pub check-chooses : {q n : ℕ} → q ≡ scopeIn scope .q → n ≡ scopeIn scope .n → {c : Bool}
+      → ((ys : List TypeEntry) → c ≡ byAncilla q n (treeIn code ys (firstIn code t))) → Chooses c
+  check-chooses qq qn E ys = E ys ∙ ap₂ (λ q n. byAncilla q n (treeIn code ys (firstIn code t))) qq qn
+
+  -- first match, by its two parts
+  matches : {c : Bool} → Chooses c → (ys : List TypeEntry) (w : Val)
+      → firstMatch (ancillaeIn heap st scope) (scopeIn scope .n) (treeIn code ys (firstIn code t)) (treeIn code ys (secondIn code t)) w
+      ≡ (c || not (mayYield (ancillaeIn heap st scope) (treeIn code ys (secondIn code t)) w))
+  unfolding firstMatch
+  matches E ys w = ap (λ c. c || not (mayYield (ancillaeIn heap st scope) (treeIn code ys (secondIn code t)) w))
+      (ap (λ q. byAncilla q (scopeIn scope .n) (treeIn code ys (firstIn code t))) (length-ancillae heap (slotsOf st) (scopeIn scope .base) (scopeIn scope .q))
+      ∙ sym (E ys))
 
   pub check-row : t < maxTerms
   check-row = omega (arith, C .term, C .rows .few-terms)
@@ -151,7 +171,19 @@ module _ {code heap st : List ℕ} {scope t out : ℕ} (C : CheckReady code heap
     answer = λ ys. meaning-refused heap before s ∙ sym (refusal-after why (next ys)) ∙ ap (λ x. after x (next ys)) (sym (meaning-refused heap before s));
   }
 
-  module _ {node : ℕ} (s : statusOf out ≡ Value node) (b : ℕ) (e : b ≡ secondIn code t) where
+  -- the value of a case that chooses by an ancilla stands
+  pub check-chosen : {node : ℕ} → statusOf out ≡ Value node → {c : Bool} → Chooses c → c ≡ true → Checked before
+  unfolding test
+  check-chosen {node} s E yes-it = record {
+    state = refl;
+    node = λ n e. e;
+    answer = λ ys. meaning-value heap before s
+        ∙ sym (via (next ys) (meaning-value heap before s) refl
+        ∙ ap (λ b. test b 15 t (give (valueAt heap node)) (machineOf st .fuel)) (matches E ys (valueAt heap node)
+        ∙ ap (λ c. c || not (mayYield (ancillaeIn heap st scope) (treeIn code ys (secondIn code t)) (valueAt heap node))) yes-it));
+  }
+
+  module _ {node : ℕ} (s : statusOf out ≡ Value node) {c : Bool} (E : Chooses c) (plain : c ≡ false) (b : ℕ) (e : b ≡ secondIn code t) where
     pub check-asks : Asks code heap st scope b node
     check-asks = record {
       rows = C .rows;
@@ -169,7 +201,8 @@ module _ {code heap st : List ℕ} {scope t out : ℕ} (C : CheckReady code heap
       went-on : (ys : List TypeEntry) → after (meaning heap before) (next ys) ≡ test (not r) 15 t (give (valueAt heap node)) (machineOf st .fuel)
       went-on ys =
           via (next ys) (meaning-value heap before s) refl
-          ∙ ap (λ b. test (not b) 15 t (give (valueAt heap node)) (machineOf st .fuel)) (yields-said ys)
+          ∙ ap (λ b. test b 15 t (give (valueAt heap node)) (machineOf st .fuel)) (matches E ys (valueAt heap node)
+          ∙ ap₂ (λ c y. c || not y) plain (yields-said ys))
 
       pub check-passes : r ≡ false → Checked before
       unfolding test

@@ -3,7 +3,7 @@
 -- proofs/Runs, Steps; proofs/Lending of the last section.
 use Prim.Native.Nat.{ℕ, zero, suc, _+_, _*_, _-_, _≤_, _<_}
 use mathlib.Core.Path.{_≡_}
-use mathlib.Core.Bool.{Bool, true, not}
+use mathlib.Core.Bool.{Bool, true}
 use mathlib.Core.Option.{some}
 use mathlib.Core.List.{List, [], _∷_}
 use lib.ListN.{length, getD}
@@ -11,10 +11,10 @@ use package.Rattle.program.specs.Kinds.{caseKind, callKind}
 use package.Rattle.rules.specs.Limits.{fits}
 use package.Rattle.rules.specs.Val.{Val, unit}
 use package.Rattle.rules.specs.Run.{Res, Run, after, give, test}
-use package.Rattle.rules.specs.Yield.{mayYield}
+use package.Rattle.rules.specs.Yield.{firstMatch}
 use package.Rattle.rules.specs.Machine.{State, onRoll, filled, each, forwardStep, forward}
 use package.Rattle.calls.specs.Entries.{TypeEntry, termTrees}
-use package.Rattle.decoded.specs.Rows.{kindIn, secondIn, thirdIn, argumentIn, argumentsIn, termCount, treeIn, programIn, Rows}
+use package.Rattle.decoded.specs.Rows.{kindIn, firstIn, secondIn, thirdIn, argumentIn, argumentsIn, termCount, treeIn, programIn, Rows}
 use package.Rattle.valuegraph.specs.Nodes.{nodeBytes, Room, valueAt, Agree, Heap}
 use package.Rattle.scopes.specs.Slots.{unknown, slotCount, stateCount, Machine, Scope, machineOf, slotsOf, scopeIn, stateAt, Slots, slotsPerHeight}
 use package.Rattle.yields.specs.Yields.{ancillaeAt, AncillaeIn}
@@ -161,12 +161,13 @@ pub record CheckReady (code heap st : List ℕ) (scope t out : ℕ) : Type 0 whe
   pub ancillae : AncillaeIn st scope
   pub node : (n : ℕ) → statusOf out ≡ Value n → n < machineOf st .top
 
--- The right branch of case `t` gave `out`; `r` is the answer, with the left branch's form asked whether it may yield it (15).
-pub record Checks (code heap slots : List ℕ) (base q t : ℕ) (out r : Out) : Type 0 where
+-- The right branch of case `t` gave `out`, with `n` variables in scope around the case; `r` is the answer, with first match tested (15).
+pub record Checks (code heap slots : List ℕ) (base q n t : ℕ) (out r : Out) : Type 0 where
   pub state : r .state ≡ out .state
-  pub node : (n : ℕ) → r .status ≡ Value n → out .status ≡ Value n
+  pub node : (at : ℕ) → r .status ≡ Value at → out .status ≡ Value at
   pub answer : (ys : List TypeEntry) → meaning heap r
-      ≡ after (meaning heap out) (λ w. test (not (mayYield (ancillaeAt heap slots base q) (treeIn code ys (secondIn code t)) w)) 15 t (give w))
+      ≡ after (meaning heap out) (λ w. test (firstMatch (ancillaeAt heap slots base q) n (treeIn code ys (firstIn code t))
+      (treeIn code ys (secondIn code t)) w) 15 t (give w))
 
 ----------------------------------------------------------------
 -- In code: the numbers that a run is lent, and a scope in one number
@@ -210,7 +211,8 @@ pub record PlacesIn (code heap heap′ st st′ : List ℕ) (scope t room k coun
 
 -- the right branch of case `t` gave `out`, and `r` is the answer
 abbrev pub ChecksIn : (code heap st : List ℕ) → ℕ → ℕ → ℕ → ℕ → Type 0
-ChecksIn code heap st scope t out r = Checks code heap (slotsOf st) (scopeIn scope .base) (scopeIn scope .q) t (outOf out st) (outOf r st)
+ChecksIn code heap st scope t out r =
+    Checks code heap (slotsOf st) (scopeIn scope .base) (scopeIn scope .q) (scopeIn scope .n) t (outOf out st) (outOf r st)
 
 -- a node can be made
 pub record MakeReady (heap st : List ℕ) : Type 0 where

@@ -150,7 +150,8 @@ pub fn unrolled(ws: &[u8], node: u32) -> u32
     refuse(STUCK, 0)
 }
 
-// The answer of case t, whose right branch gave `out`: if the left branch may yield the value, the case cannot be run back (15).
+// The answer of case t, whose right branch gave `out`: if the left branch may yield the value, the case cannot be run back (15), unless it
+// chooses by an ancilla (document 02, F-3).
 pub fn first_match(
     code: &[u16; CODE],
     ws: &[u8],
@@ -163,6 +164,11 @@ pub fn first_match(
     ensures { λ r. ⌜ ChecksIn (now (code .entry)) (now (ws .entry)) (now (st .entry)) scope t out r ⌝ }
 {
     if STOPPED <= out {
+        return out;
+    }
+    let q = state::ancillae_in(scope);
+    let n = state::count_in(scope);
+    if rows::chooses_by_ancilla(code, t, q, n) {
         return out;
     }
     let left = rows::second_of(code, t);

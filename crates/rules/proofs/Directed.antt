@@ -6,11 +6,10 @@ use mathlib.Core.Bool.{Bool, true, false, _||_, _&&_}
 use mathlib.Core.Option.{some}
 use mathlib.Core.List.{List, [], _∷_}
 use lib.ListN.{length}
-use lib.Dec.{ltb, leb}
+use lib.Dec.{ltb}
 use package.Rattle.rules.specs.Ty.{Ty, one, prod, sum, mu, unfoldTy, isUnit}
 use package.Rattle.rules.specs.Term.{Term, Terms, var, tunit, tinl, tinr, tpair, tlet, tletp, tcase, tcall}
-use package.Rattle.rules.specs.Term.{troll, tunroll, end, more, Fun, Program, nth, look, scope, usedIn}
-use package.Rattle.rules.proofs.Basics.{or-left}
+use package.Rattle.rules.specs.Term.{troll, tunroll, end, more, Fun, Program, nth, look, scope, usedIn, inside}
 
 ----------------------------------------------------------------
 -- Which variables a term names, ancilla arguments included
@@ -74,11 +73,6 @@ mutual
   pub within-all-more : (A A′ : ℕ → Bool) → ((i : ℕ) → A i ≡ true → A′ i ≡ true) → (ts : Terms) → WithinAll A ts → WithinAll A′ ts
   within-all-more A A′ s end w = tt
   within-all-more A A′ s (more t ts) w = (within-more A A′ s t (w .0), within-all-more A A′ s ts (w .1))
-
--- what an ancilla argument may name by itself, with `q` ancilla parameters and `n` variables in scope around it: an ancilla parameter, or
--- a variable bound inside
-abbrev pub inside : ℕ → ℕ → ℕ → Bool
-inside q n i = ltb i q || leb n i
 
 ----------------------------------------------------------------
 -- Uses

@@ -11,11 +11,12 @@ use lib.ListN.{length}
 use lib.Dec.{eqb, eqb→eq, ltb, leb, leb→le, ltb→lt}
 use package.Rattle.rules.specs.Val.{Val, unit, inl, inr, pair, roll}
 use package.Rattle.rules.specs.Ty.{Ty, one, prod, sum, mu, tyvar, isUnit}
-use package.Rattle.rules.specs.Term.{Term, look, usedIn}
+use package.Rattle.rules.specs.Term.{Term, tcase, look, usedIn, inside}
 use package.Rattle.rules.specs.Machine.{State, known, filled}
 use package.Rattle.rules.proofs.OfType.{OfType, OfTypes}
 use package.Rattle.rules.proofs.Basics.{given, none≢some, and-both, or-cases, or-elim, or-same, eqb-yes, eqb-no}
-use package.Rattle.rules.proofs.Directed.{inside, Spent, SameUse, allowed, lend, nothing}
+use package.Rattle.rules.proofs.Choice.{scrutinee-unused}
+use package.Rattle.rules.proofs.Directed.{Within, Spent, SameUse, allowed, lend, nothing}
 use package.Rattle.rules.proofs.Scope.{look-lt, look-skip, look-newest, look-none, look-there}
 use package.Rattle.rules.proofs.State.{Agree, agree-full, agree-length, known-look, Enough, length-filled, Read, filled-read}
 use package.Rattle.rules.proofs.Preserve.{types-length, env-look}
@@ -146,14 +147,28 @@ bound-let q Γ e b σ σ′ mo h h′ i c p u ql s = go (or-cases (usedIn i e) (
     go (left x) = h i c p u ql x
     go (right x) = mo i (h′ i c p u ql x)
 
+-- what either branch of a case uses is known
+abbrev pub Either : ℕ → List Ty → Term → Term → State → Type 0
+Either q Γ b b′ σ = (i : ℕ) (c : Ty) → look Γ i ≡ some c → isUnit c ≡ false → q ≤ i → (usedIn i b || usedIn i b′) ≡ true → Knows σ i
+
 -- a branch binds what either branch uses
-pub bound-left : (q : ℕ) (Γ : List Ty) (b b′ : Term) (σ : State) → SameUse q Γ b b′ → Bound q Γ b σ
-    → (i : ℕ) (c : Ty) → look Γ i ≡ some c → isUnit c ≡ false → q ≤ i → (usedIn i b || usedIn i b′) ≡ true → Knows σ i
+pub bound-left : (q : ℕ) (Γ : List Ty) (b b′ : Term) (σ : State) → SameUse q Γ b b′ → Bound q Γ b σ → Either q Γ b b′ σ
 bound-left q Γ b b′ σ su h i c p u ql s = h i c p u ql (or-same (usedIn i b) (usedIn i b′) (su i c p u ql) s)
 
-pub bound-right : (q : ℕ) (Γ : List Ty) (b b′ : Term) (σ : State) → SameUse q Γ b b′ → Bound q Γ b′ σ
-    → (i : ℕ) (c : Ty) → look Γ i ≡ some c → isUnit c ≡ false → q ≤ i → (usedIn i b || usedIn i b′) ≡ true → Knows σ i
+pub bound-right : (q : ℕ) (Γ : List Ty) (b b′ : Term) (σ : State) → SameUse q Γ b b′ → Bound q Γ b′ σ → Either q Γ b b′ σ
 bound-right q Γ b b′ σ su h i c p u ql s = h i c p u ql (sym (su i c p u ql) ∙ or-same (usedIn i b) (usedIn i b′) (su i c p u ql) s)
+
+-- a case that is under first match: its branch ran back to `σ₂`, then its scrutinee
+pub bound-matched : (q : ℕ) (Γ : List Ty) (k : ℕ) (e b b′ : Term) (σ₂ σ′ : State) → Mono σ₂ σ′ → Bound q Γ e σ′ → Either q Γ b b′ σ₂
+    → Bound q Γ (tcase k e b b′) σ′
+bound-matched q Γ k e b b′ σ₂ σ′ mo bd ei i c p u ql s =
+    or-elim (usedIn i e) (usedIn i b || usedIn i b′) (bd i c p u ql) (λ x. mo i (ei i c p u ql x)) s
+
+-- a case that chooses by an ancilla (02, F-3): its scrutinee uses no dynamic variable
+pub bound-chosen : (q : ℕ) (Γ : List Ty) (k : ℕ) (e b b′ : Term) (σ : State) → Within (inside q (length Γ)) e → Either q Γ b b′ σ
+    → Bound q Γ (tcase k e b b′) σ
+bound-chosen q Γ k e b b′ σ w ei i c p u ql s =
+    or-elim (usedIn i e) (usedIn i b || usedIn i b′) (λ x. absurd (scrutinee-unused q (length Γ) e w i ql (look-lt Γ i p) x)) (ei i c p u ql) s
 
 ----------------------------------------------------------------
 -- Variables that are lent (02, F-2)

@@ -15,6 +15,8 @@ pub mod Scope
 pub mod State
 -- typing in the form that the run theorems use: by recursion on the term
 pub mod Directed
+-- cases that choose by an ancilla
+pub mod Choice
 -- typing as a function decides the rules, and what the rules type is typed in Directed's form
 pub mod Typing
 -- which variables a state knows
@@ -37,8 +39,9 @@ pub mod Forward
 pub mod Backward
 -- more fuel, room or size never changes an answer
 pub mod Monotone
--- no more fuel is left than was given
+-- 15 is never met at a case that chooses by an ancilla
+pub mod Matching
 -- the claims, proved
 pub mod Theorems
--- section 6's cases, by computation
+-- section 6's cases, and F-3's, by computation
 pub mod Table

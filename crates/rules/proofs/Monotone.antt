@@ -2,17 +2,18 @@
 use Prim.Native.Nat.{ℕ, zero, suc, _+_, _≤_}
 use native.Mathlib.Omega.{arith}
 use mathlib.Core.Path.{_≡_, refl, sym, subst}
-use mathlib.Core.Bool.{Bool, true, false, cond, not}
+use mathlib.Core.Bool.{Bool, true, false, cond}
 use mathlib.Core.Option.{Option, none, some}
 use mathlib.Core.List.{List, [], _∷_, map}
 use lib.ListN.{length}
 use lib.Dec.{eqb}
 use package.Rattle.rules.specs.Val.{Val, unit, inl, inr, pair, roll, same}
-use package.Rattle.rules.specs.Term.{Term, var, tunit, tinl, tinr, tpair, tlet, tletp, tcase, tcall, troll, tunroll, Terms, end, more, entry, Fun, Program, nth, scope}
-use package.Rattle.rules.specs.Yield.{mayYield}
+use package.Rattle.rules.specs.Term.{Term, var, tunit, tinl, tinr, tpair, tlet, tletp, tcase, tcall, troll, tunroll, Terms, end, more, entry}
+use package.Rattle.rules.specs.Term.{Fun, Program, nth, scope, byAncilla}
+use package.Rattle.rules.specs.Yield.{mayYield, firstMatch}
 use package.Rattle.rules.specs.Run.{Res, ok, stop, stuck, Run, after, give, enter, test}
 use package.Rattle.rules.specs.Machine.{onSum, onPair, onRoll, onUnit, onSome, State, known, bindOr, meet, leave}
-use package.Rattle.rules.specs.Machine.{filled, each, made, forwardStep, forward, backwardStep, backward, runBackward}
+use package.Rattle.rules.specs.Machine.{filled, each, made, forwardStep, forward, branchBack, caseBack, backwardStep, backward, runBackward}
 
 module _ {X : Type 0} (d : ℕ) where
   -- A run that answers `y`, with `d` more fuel and wider limits, has grown from one that answers the other: it answers the same,
@@ -149,7 +150,7 @@ module _ (fits fits′ : Val → Bool) (wider : (v : Val) → fits v ≡ true �
     grows-forward-step a σ (tletp k e b) f = grows-after _ _ (G a σ e f) λ p f. grows-pair d p f _ _ λ v w. G a (some w ∷ some v ∷ σ) b f
     grows-forward-step a σ (tcase k e b b′) f = grows-after _ _ (G a σ e f) λ s f.
         grows-sum d s f _ _ _ _ (λ v. G a (some v ∷ σ) b f) λ v. grows-after _ _ (G a (some v ∷ σ) b′ f) λ w f.
-        grows-test d (not (mayYield a b w)) 15 k f (give w) (give w) grows-ok
+        grows-test d (firstMatch a (length σ) e b w) 15 k f (give w) (give w) grows-ok
     grows-forward-step a σ (tcall k g ts e) f = grows-some d (nth P g) f _ _ λ h. grows-after _ _ (grows-each (go a σ) (go′ a σ) (G a σ) ts f) λ vs f.
         grows-after _ _ (G a σ e f) λ v f. G (scope vs []) (some v ∷ map some (scope vs [])) (h .body) f
     grows-forward-step a σ (troll k c e) f = grows-after _ _ (G a σ e f) λ v f. grows-made k (roll v) f
@@ -165,6 +166,18 @@ module _ (fits fits′ : Val → Bool) (wider : (v : Val) → fits v ≡ true �
 
   module _ (fw fw′ : List Val → State → Term → Run Val) (F : GrowsForward fw fw′)
       (go go′ : List Val → State → Term → Val → Run State) (G : GrowsBackward go go′) where
+    grows-branch : (a : List Val) (σ : State) (b : Term) (v w : Val) (f : ℕ) → Grows d (branchBack go a σ b v w f) (branchBack go′ a σ b v w (f + d))
+    unfolding branchBack
+    grows-branch a σ b v w f = grows-after _ _ (G a (some w ∷ σ) b v f) λ σ₁ f. grows-leave d σ₁ f _ _ λ u σ₂. grows-ok
+
+    grows-case : (a : List Val) (σ : State) (e b b′ : Term) (v : Val) (c y : Bool) (f : ℕ)
+        → Grows d (caseBack fw go a σ e b b′ v c y f) (caseBack fw′ go′ a σ e b b′ v c y (f + d))
+    unfolding caseBack
+    grows-case a σ e b b′ v true y f = grows-after _ _ (F a (filled σ) e f) λ s f.
+        grows-sum d s f _ _ _ _ (λ w. grows-branch a σ b v w f) λ w. grows-branch a σ b′ v w f
+    grows-case a σ e b b′ v false y f = grows-after _ _ (G a (none ∷ σ) (cond y b b′) v f) λ σ₁ f.
+        grows-leave d σ₁ f _ _ λ w σ₂. G a σ₂ e (cond y (inl w) (inr w)) f
+
     grows-backward-step : GrowsBackward (backwardStep fits P fw go) (backwardStep fits′ P fw′ go′)
     unfolding backwardStep
     grows-backward-step a σ (var k i) v f = grows-meet k σ i v f
@@ -175,8 +188,7 @@ module _ (fits fits′ : Val → Bool) (wider : (v : Val) → fits v ≡ true �
     grows-backward-step a σ (tlet k e b) v f = grows-after _ _ (G a (none ∷ σ) b v f) λ σ₁ f. grows-leave d σ₁ f _ _ λ w σ₂. G a σ₂ e w f
     grows-backward-step a σ (tletp k e b) v f = grows-after _ _ (G a (none ∷ none ∷ σ) b v f) λ σ₁ f.
         grows-leave d σ₁ f _ _ λ w′ σ₂. grows-leave d σ₂ f _ _ λ w σ₃. G a σ₃ e (pair w w′) f
-    grows-backward-step a σ (tcase k e b b′) v f = grows-after _ _ (G a (none ∷ σ) (cond (mayYield a b v) b b′) v f) λ σ₁ f.
-        grows-leave d σ₁ f _ _ λ w σ₂. G a σ₂ e (cond (mayYield a b v) (inl w) (inr w)) f
+    grows-backward-step a σ (tcase k e b b′) v f = grows-case a σ e b b′ v (byAncilla (length a) (length σ) e) (mayYield a b v) f
     grows-backward-step a σ (tcall k g ts e) v f = grows-some d (nth P g) f _ _ λ h.
         grows-after _ _ (grows-each (fw a (filled σ)) (fw′ a (filled σ)) (F a (filled σ)) ts f) λ vs f.
         grows-after _ _ (G (scope vs []) (none ∷ map some (scope vs [])) (h .body) v f) λ σ₁ f. grows-leave d σ₁ f _ _ λ w σ₂. G a σ e w f

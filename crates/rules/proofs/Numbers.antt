@@ -2,13 +2,14 @@
 use Prim.Native.Nat.{ℕ, zero, suc, _≤_}
 use native.Mathlib.Omega.{arith}
 use mathlib.Core.Path.{_≡_, refl, subst}
-use mathlib.Core.Bool.{Bool, true, false, not}
+use mathlib.Core.Bool.{Bool, true, false}
 use mathlib.Core.Option.{Option, none, some}
 use mathlib.Core.List.{List, [], _∷_, map}
+use lib.ListN.{length}
 use package.Rattle.rules.specs.Val.{Val, unit, inl, inr, pair, roll}
 use package.Rattle.rules.specs.Ty.{Ty, one, prod, sum, mu, tyvar}
 use package.Rattle.rules.specs.Term.{Term, Terms, var, tunit, tinl, tinr, tpair, tlet, tletp, tcase, tcall, troll, tunroll, end, more, entry, Fun, Program, nth, look, scope}
-use package.Rattle.rules.specs.Yield.{mayYield}
+use package.Rattle.rules.specs.Yield.{firstMatch}
 use package.Rattle.rules.specs.Typing.{Binding, static, dynamic, barred, Context, bar, mark}
 use package.Rattle.rules.specs.Check.{Site, term, function, Checked, good, bad, _>>=_, _>>_, need, asSum, asProd, asMu}
 use package.Rattle.rules.specs.Check.{asFun, visible, needNone, infer, inferArguments, checkFun, checkFuns, check}
@@ -16,40 +17,43 @@ use package.Rattle.rules.specs.Run.{Res, ok, stop, stuck, Run, after, gi
 use package.Rattle.rules.specs.Machine.{onSum, onPair, onRoll, onUnit, onSome, State, known, each, made, forwardStep, forward, runForward}
 
 ----------------------------------------------------------------
--- Runs: an answer with `Q`, a refusal with a number of `N`, or stuck
+-- Runs: an answer with `Q`, a refusal with a number and a place of `N`, or stuck
 
-pub data EndsBy {X : Type 0} (N : ℕ → Type 0) (Q : X → Type 0) : Res X → Type 0 where
+pub data EndsBy {X : Type 0} (N : ℕ → ℕ → Type 0) (Q : X → Type 0) : Res X → Type 0 where
   answers : {x : X} {g : ℕ} → Q x → EndsBy N Q (ok x g)
-  refuses : {c k : ℕ} → N c → EndsBy N Q (stop c k)
+  refuses : {c k : ℕ} → N c k → EndsBy N Q (stop c k)
   sticks : EndsBy N Q stuck
 
 -- forward, and either way
-abbrev pub ForwardNumber : ℕ → Type 0
-ForwardNumber n = (12 ≤ n) × (n ≤ 15)
+abbrev pub ForwardNumber : ℕ → ℕ → Type 0
+ForwardNumber n k = (12 ≤ n) × (n ≤ 15)
 
-abbrev pub RunNumber : ℕ → Type 0
-RunNumber n = (12 ≤ n) × (n ≤ 16)
+abbrev pub RunNumber : ℕ → ℕ → Type 0
+RunNumber n k = (12 ≤ n) × (n ≤ 16)
 
 abbrev pub Ends : {X : Type 0} → (X → Type 0) → Res X → Type 0
 Ends Q x = EndsBy RunNumber Q x
 
-module _ {X Y : Type 0} {N : ℕ → Type 0} {Q : X → Type 0} {Q′ : Y → Type 0} where
+module _ {X Y : Type 0} {N : ℕ → ℕ → Type 0} {Q : X → Type 0} {Q′ : Y → Type 0} where
   pub ends-after : {x : Res X} (k : X → Run Y) → EndsBy N Q x → ((y : X) (g : ℕ) → Q y → EndsBy N Q′ (k y g)) → EndsBy N Q′ (after x k)
   unfolding after
   ends-after k (answers {x} {g} q) s = s x g q
   ends-after k (refuses n) s = refuses n
   ends-after k sticks s = sticks
 
-module _ {X : Type 0} {N : ℕ → Type 0} {Q : X → Type 0} where
-  pub ends-enter : N 12 → (k f : ℕ) (m : Run X) → ((g : ℕ) → EndsBy N Q (m g)) → EndsBy N Q (enter k m f)
+module _ {X : Type 0} {N : ℕ → ℕ → Type 0} {Q : X → Type 0} where
+  pub ends-enter : (k f : ℕ) (m : Run X) → N 12 k → ((g : ℕ) → EndsBy N Q (m g)) → EndsBy N Q (enter k m f)
   unfolding enter
-  ends-enter l k zero m s = refuses {c = 12} l
-  ends-enter l k (suc f) m s = s f
+  ends-enter k zero m l s = refuses {c = 12} l
+  ends-enter k (suc f) m l s = s f
 
-  pub ends-test : (b : Bool) (n k g : ℕ) (m : Run X) → N n → (b ≡ true → EndsBy N Q (m g)) → EndsBy N Q (test b n k m g)
+  pub ends-either : (b : Bool) (n k g : ℕ) (m : Run X) → (b ≡ false → N n k) → (b ≡ true → EndsBy N Q (m g)) → EndsBy N Q (test b n k m g)
   unfolding test
-  ends-test true n k g m l s = s refl
-  ends-test false n k g m l s = refuses l
+  ends-either true n k g m l s = s refl
+  ends-either false n k g m l s = refuses (l refl)
+
+  pub ends-test : (b : Bool) (n k g : ℕ) (m : Run X) → N n k → (b ≡ true → EndsBy N Q (m g)) → EndsBy N Q (test b n k m g)
+  ends-test b n k g m l s = ends-either b n k g m (λ e. l) s
 
   pub ends-some : {A : Type 0} (o : Option A) (k : A → Run X) (g : ℕ) → ((a : A) → EndsBy N Q (k a g)) → EndsBy N Q (onSome o k g)
   unfolding onSome
@@ -93,9 +97,9 @@ module _ {X : Type 0} {N : ℕ → Type 0} {Q : X → Type 0} where
   ends-map s (refuses n) = refuses n
   ends-map s sticks = sticks
 
-  pub ends-wider : {N′ : ℕ → Type 0} {x : Res X} → ((c : ℕ) → N c → N′ c) → EndsBy N Q x → EndsBy N′ Q x
+  pub ends-wider : {N′ : ℕ → ℕ → Type 0} {x : Res X} → ((c k : ℕ) → N c k → N′ c k) → EndsBy N Q x → EndsBy N′ Q x
   ends-wider s (answers q) = answers q
-  ends-wider s (refuses {c} n) = refuses (s c n)
+  ends-wider s (refuses {c} {k} n) = refuses (s c k n)
   ends-wider s sticks = sticks
 
   -- what an ended run says
@@ -105,10 +109,10 @@ module _ {X : Type 0} {N : ℕ → Type 0} {Q : X → Type 0} where
       go : {y : X} {g : ℕ} → EndsBy N Q (ok y g) → Q y
       go (answers q) = q
 
-  pub refusal-ends : {x : Res X} {c k : ℕ} → EndsBy N Q x → x ≡ stop c k → N c
+  pub refusal-ends : {x : Res X} {c k : ℕ} → EndsBy N Q x → x ≡ stop c k → N c k
   refusal-ends s p = go (subst (EndsBy N Q) p s)
     where
-      go : {c k : ℕ} → EndsBy N Q (stop c k) → N c
+      go : {c k : ℕ} → EndsBy N Q (stop c k) → N c k
       go (refuses n) = n
 
 ----------------------------------------------------------------
@@ -139,7 +143,7 @@ module _ (fits : Val → Bool) (P : Program) where
     step-ends a σ (tlet k e b) g = ends-after _ (S a σ e g) λ v g ft. S a (some v ∷ σ) b g
     step-ends a σ (tletp k e b) g = ends-after _ (S a σ e g) λ p g ft. ends-pair p _ g λ v w. S a (some w ∷ some v ∷ σ) b g
     step-ends a σ (tcase k e b b′) g = ends-after _ (S a σ e g) λ s g ft. ends-sum s _ _ g (λ v. S a (some v ∷ σ) b g) λ v.
-        ends-after _ (S a (some v ∷ σ) b′ g) λ w g ft′. ends-test (not (mayYield a b w)) 15 k g (give w) (omega arith) λ y. answers ft′
+        ends-after _ (S a (some v ∷ σ) b′ g) λ w g ft′. ends-test (firstMatch a (length σ) e b w) 15 k g (give w) (omega arith) λ y. answers ft′
     step-ends a σ (tcall k j ts e) g = ends-some (nth P j) _ g λ h. ends-after _ (each-ends a σ ts g) λ vs g u.
         ends-after _ (S a σ e g) λ v g ft. S (scope vs []) (some v ∷ map some (scope vs [])) (h .body) g
     step-ends a σ (troll k c e) g = ends-after _ (S a σ e g) λ v g ft. made-ends k (roll v) g
@@ -147,15 +151,15 @@ module _ (fits : Val → Bool) (P : Program) where
 
   pub forward-ends : (r : ℕ) → EndsForward (forward fits P r)
   unfolding forward
-  forward-ends zero a σ t g = ends-enter (omega arith) (entry t) g (refuse 13 (entry t)) λ g. refuses {c = 13} (omega arith)
-  forward-ends (suc r) a σ t g = ends-enter (omega arith) (entry t) g _ λ g. step-ends (forward fits P r) (forward-ends r) a σ t g
+  forward-ends zero a σ t g = ends-enter (entry t) g (refuse 13 (entry t)) (omega arith) λ g. refuses {c = 13} (omega arith)
+  forward-ends (suc r) a σ t g = ends-enter (entry t) g _ (omega arith) λ g. step-ends (forward fits P r) (forward-ends r) a σ t g
 
   pub run-forward-numbers : (r : ℕ) (h : Fun) (vs : List Val) (v : Val) (f : ℕ) → EndsBy ForwardNumber (λ w. fits w ≡ true) (runForward fits P r h vs v f)
   unfolding runForward
   run-forward-numbers r h vs v f = forward-ends r (scope vs []) (some v ∷ map some (scope vs [])) (h .body) f
 
   pub run-forward-ends : (r : ℕ) (h : Fun) (vs : List Val) (v : Val) (f : ℕ) → Ends (λ w. fits w ≡ true) (runForward fits P r h vs v f)
-  run-forward-ends r h vs v f = ends-wider (λ c l. omega arith) (run-forward-numbers r h vs v f)
+  run-forward-ends r h vs v f = ends-wider (λ c k l. omega arith) (run-forward-numbers r h vs v f)
 
 ----------------------------------------------------------------
 -- Typing

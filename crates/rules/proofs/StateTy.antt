@@ -9,12 +9,12 @@ use lib.ListN.{length}
 use lib.Dec.{eqb, eqb→eq, ltb, leb, leb→le, ltb→lt}
 use package.Rattle.rules.specs.Val.{Val, unit, same}
 use package.Rattle.rules.specs.Ty.{Ty, one, prod, sum, mu, tyvar, isUnit}
-use package.Rattle.rules.specs.Term.{Term, look, usedIn, scope}
+use package.Rattle.rules.specs.Term.{Term, look, usedIn, inside, scope}
 use package.Rattle.rules.specs.Run.{ok, Run, _>>=_, give}
 use package.Rattle.rules.specs.Machine.{State, known, bindOr, meet, leave, filled}
 use package.Rattle.rules.proofs.OfType.{OfType, OfTypes}
 use package.Rattle.rules.proofs.Basics.{given, none≢some, some-inj, or-elim}
-use package.Rattle.rules.proofs.Directed.{Spent, inside, allowed, lend, nothing}
+use package.Rattle.rules.proofs.Directed.{Spent, allowed, lend, nothing}
 use package.Rattle.rules.proofs.Fine.{Fine, fine, fine-after, fine-test}
 use package.Rattle.rules.proofs.Known.{Knows, known-new, knows-push, knows-pop, Mono, Bound, mono-pop, bound-pop, knows-new}
 use package.Rattle.rules.proofs.Known.{mono-set, mono-push, knows-full, Lent, lent-nothing, lent-push, lent-grow, lent-more}
@@ -161,6 +161,14 @@ fine-pop k f q Γ c b m₀ σ [] l ql s (st, mo, bd) go = absurd st
 fine-pop k f q Γ c b m₀ σ (some w ∷ σ₂) l ql s L go = go w σ₂ (L .0 .0) (pop-left q Γ c b m₀ (some w) σ σ₂ l L)
 fine-pop k f q Γ c b m₀ σ (none ∷ σ₂) l ql s L go = go unit σ₂ (unmet-unit q Γ c b m₀ σ σ₂ ql s L) (pop-left q Γ c b m₀ none σ σ₂ l L)
 
+-- a variable that entered bound leaves
+pub fine-bound : (f q : ℕ) (Γ : List Ty) (c : Ty) (b : Term) (m₀ : Option Val) (σ σ₁ : State) → length σ ≡ length Γ → Left q (c ∷ Γ) b (m₀ ∷ σ) σ₁
+    → Fine (Left q Γ b σ) (leave σ₁ (λ u σ₂. give σ₂) f)
+unfolding leave
+fine-bound f q Γ c b m₀ σ [] l L = absurd (L .0)
+fine-bound f q Γ c b m₀ σ (none ∷ σ₂) l L = fine (pop-left q Γ c b m₀ none σ σ₂ l L)
+fine-bound f q Γ c b m₀ σ (some w ∷ σ₂) l L = fine (pop-left q Γ c b m₀ (some w) σ σ₂ l L)
+
 bindOr-safe : (k : ℕ) (m : Option Val) (v : Val) (f : ℕ) (c : Ty) → OptTy m c → OfType v c → Fine (λ m′. (w : Val) × (some w ≡ m′) × OfType w c) (bindOr k m v f)
 unfolding bindOr
 bindOr-safe k none v f c h h′ = fine (v, refl, h′)
@@ -193,6 +201,7 @@ pub record Here (a : List Val) (q : ℕ) (M : ℕ → Bool) (Γ : List Ty) (σ :
   pub anc : (i : ℕ) → i < q → Knows σ i
   pub lent : Lent M Γ σ
   pub le : q ≤ length Γ
+  pub parameters : length a ≡ q
 
 module _ {a : List Val} {q : ℕ} {M : ℕ → Bool} {Γ : List Ty} {σ : State} where
   pub here-push : (c : Ty) → Here a q M Γ σ → Here a q M (c ∷ Γ) (none ∷ σ)
@@ -201,6 +210,17 @@ module _ {a : List Val} {q : ℕ} {M : ℕ → Bool} {Γ : List Ty} {σ : State}
     anc = λ i l. knows-push none σ i (h .anc i l);
     lent = lent-push M Γ σ c none (h .lent);
     le = omega (arith, h .le);
+    parameters = h .parameters;
+  }
+
+  -- the same with the variable bound
+  pub here-bound : (c : Ty) (v : Val) → OfType v c → Here a q M Γ σ → Here a q M (c ∷ Γ) (some v ∷ σ)
+  here-bound c v hv h = record {
+    state = (hv, h .state);
+    anc = λ i l. knows-push (some v) σ i (h .anc i l);
+    lent = lent-push M Γ σ c (some v) (h .lent);
+    le = omega (arith, h .le);
+    parameters = h .parameters;
   }
 
   pub here-grow : (σ′ : State) → Here a q M Γ σ → StateTy σ′ Γ → Mono σ σ′ → Here a q M Γ σ′
@@ -209,6 +229,7 @@ module _ {a : List Val} {q : ℕ} {M : ℕ → Bool} {Γ : List Ty} {σ : State}
     anc = λ i l. mo i (h .anc i l);
     lent = lent-grow M Γ σ σ′ mo (h .lent);
     le = h .le;
+    parameters = h .parameters;
   }
 
   -- the bound term of a let, once its body ran back
@@ -218,6 +239,7 @@ module _ {a : List Val} {q : ℕ} {M : ℕ → Bool} {Γ : List Ty} {σ : State}
     anc = λ i l. mo i (h .anc i l);
     lent = lent-more M q Γ b σ′ (λ i l. mo i (h .anc i l)) bd (lent-grow M Γ σ σ′ mo (h .lent));
     le = h .le;
+    parameters = h .parameters;
   }
 
 -- the body of a function
@@ -232,4 +254,5 @@ here-call vs cs c h =
       anc = λ i l. knows-push none _ i (knows-full (scope vs []) i (omega arith));
       lent = lent-nothing (c ∷ scope cs []) (none ∷ map some (scope vs []));
       le = omega arith;
+      parameters = omega arith;
     }

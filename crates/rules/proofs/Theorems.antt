@@ -11,13 +11,13 @@ use package.Rattle.rules.specs.Val.{Val}
 use package.Rattle.rules.specs.Term.{Fun, Program, scope, look, usedIn}
 use package.Rattle.rules.specs.Ty.{Ty}
 use package.Rattle.rules.specs.Typing.{dynamic, barred, ∅, bar, mark, t-var3}
-use package.Rattle.rules.specs.Check.{term, good, visible, infer}
+use package.Rattle.rules.specs.Check.{term, visible, infer}
 use package.Rattle.rules.specs.Run.{Res, ok, stop, Run, give}
 use package.Rattle.rules.specs.Machine.{backward, runForward, runBackward}
 use package.Rattle.rules.specs.Claims.{TreeCheckIffTyped, InferIffTypes, TypeUnique, BranchesUseTheSame, NamedWhereUsed}
 use package.Rattle.rules.specs.Claims.{Carries, Wider, TreeForwardIffRules, TreeNoValue, Steady}
 use package.Rattle.rules.specs.Claims.{TreeMoreNeverChanges, StepsAreTheRules, BackwardThenForward, OfTyped, TreeBackwardIffRules, TreeBackwardIffForward, TreeInjective}
-use package.Rattle.rules.specs.Claims.{TreeNoInput, TreeNeverStuck, KeepsTypes}
+use package.Rattle.rules.specs.Claims.{TreeNoInput, TreeNeverAtChoice, TreeNeverStuck, KeepsTypes}
 use package.Rattle.rules.proofs.OfType.{OfType, OfTypes, of-type-iff, of-types-iff}
 use package.Rattle.rules.proofs.Backward.Outcome.{back-outcome}
 use package.Rattle.rules.proofs.Backward.Pop.{ready-call, call-pop}
@@ -29,6 +29,7 @@ use package.Rattle.rules.proofs.Fine.{Fine, fine, fine-not-stuck, fine-
 use package.Rattle.rules.proofs.Forward.Outcome.{outcome}
 use package.Rattle.rules.proofs.Forward.Safe.{forward-safe}
 use package.Rattle.rules.proofs.Forward.Sound.{Yields, sound}
+use package.Rattle.rules.proofs.Matching.{run-forward-spared, run-backward-spared}
 use package.Rattle.rules.proofs.Monotone.{Grows, answer-grows, refusal-grows, forward-grows, run-back-grows}
 use package.Rattle.rules.proofs.Outcome.{fuel-short, room-short, size-short, Good, yields, short, good-last}
 use package.Rattle.rules.proofs.Preserve.{types-length, scope-ty}
@@ -259,3 +260,9 @@ module _ (variables most : ℕ) (P : Program) where
   tree-no-input = of-typed λ D h T vs hs fits fits′ r r′ v w f k n hv p d.
       not-refused (omega arith) (subst (λ x. Good fits fits′ (λ u. v ≡ u) f n r r′ x) p
       (back-good fits fits′ P D h T vs hs v w (of-type-iff v (h .dynamic) .0 hv) r r′ n d f))
+
+  pub tree-never-at-choice : TreeNeverAtChoice variables most P
+  tree-never-at-choice W j h p vs hs k C fits r f v =
+      given (directed variables most P W) λ D.
+      given (types-length vs (h .ancillae) (of-types-iff vs (h .ancillae) .0 hs)) λ l.
+      (run-forward-spared k fits P D C j h p vs l r v f, run-backward-spared k fits P D C j h p vs l r v f)

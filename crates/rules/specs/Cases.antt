@@ -1,5 +1,6 @@
--- Section 6's cases P1 to P12 over trees, and those of F-2, under the limits of documents 01 and 02, gathered in one proposition. On bytes,
--- with P13, they stand again in crate calls; of F-2 a let, a nested let, a unit that was never met, and two that tell places.
+-- Section 6's cases P1 to P12 over trees, and those of F-2, under the limits of documents 01 and 02, gathered in one proposition; F-3's are in
+-- Choices. On bytes, with P13, they stand again in crate calls; of F-2 a let, a nested let, a unit that was never met, and two that tell
+-- places.
 use Prim.Native.Nat.{ℕ, zero, suc}
 use mathlib.Core.Path.{_≡_}
 use mathlib.Core.List.{List, [], _∷_}
@@ -177,6 +178,9 @@ choosy = record { ancillae = bit ∷ []; dynamic = bit; result = bit; body = tca
 -- then binds it otherwise; forward is refused.
 abbrev pub stray : Fun
 stray = record { ancillae = []; dynamic = bit; result = bit; body = tcall 2 1 (more (var 0 0) end) (var 1 0) }
+
+----------------------------------------------------------------
+-- Mistakes to rule out (section 6), orders of tests (section 4)
 
 -- a left branch that may yield anything, being a call, and yields inl unit alone: backward never tries the right one (section 6,
 -- mistakes to rule out)

@@ -8,7 +8,7 @@ use mathlib.Core.List.{List, [], _∷_, _++_}
 use mathlib.Core.Logic.{_⊎_, _↔_}
 use package.Rattle.rules.specs.Val.{Val}
 use package.Rattle.rules.specs.Ty.{Ty, isUnit, HasTy, HasTys}
-use package.Rattle.rules.specs.Term.{Term, var, tcase, Fun, Program, nth, look, scope, usedIn}
+use package.Rattle.rules.specs.Term.{Term, var, tcase, Fun, Program, nth, look, scope, usedIn, choosesIn}
 use package.Rattle.rules.specs.Yield.{mayYield}
 use package.Rattle.rules.specs.Rules.{Ev}
 use package.Rattle.rules.specs.Typing.{dynamic, Context, Vars, bar, mark, Types, _∶_, WellTyped}
@@ -38,8 +38,8 @@ module _ (variables most : ℕ) (P : Program) where
   BranchesUseTheSame = (Δ : Context) (U : Vars) (m : Bool) (k i : ℕ) (e b b′ : Term) (τ c : Ty) → Types variables most P Δ U (tcase k e b b′ ∶ τ)
       → look Δ i ≡ some (dynamic m c) → isUnit c ≡ false → usedIn i b ≡ usedIn i b′
 
-  -- Document 02, F-2: in the bound term of a let with body `b`, an ancilla argument may name a dynamic variable exactly if the body uses
-  -- it, or if one might name it already, because a let further out helps.
+  -- Document 02, F-2: in the bound term of a let with body `b`, with no let between, an ancilla argument may name a dynamic variable exactly if
+  -- the body uses it, or if one might name it already, because a let further out helps.
   abbrev pub NamedWhereUsed : Type 0
   NamedWhereUsed = (Δ : Context) (m : Bool) (k i : ℕ) (b : Term) (τ : Ty) → look Δ i ≡ some (dynamic m τ)
       → ((U : Vars) × Types variables most P (bar (mark (λ j. usedIn j b) Δ)) U (var k i ∶ τ)) ↔ ((m || usedIn i b) ≡ true)
@@ -88,6 +88,10 @@ module _ (P : Program) where
 ----------------------------------------------------------------
 -- Runs of typed programs
 
+-- All the cases of the program that have entry number `k` choose by an ancilla (02, F-3).
+abbrev pub ChoosesAt : Program → ℕ → Type 0
+ChoosesAt P k = (j : ℕ) (h : Fun) → nth P j ≡ some h → choosesIn k h ≡ true
+
 module _ (variables most : ℕ) (P : Program) where
   -- A claim of every function `h` of a well-typed program, with ancillae `vs` of their types.
   abbrev pub OfTyped : (Fun → List Val → Type 0) → Type 0
@@ -119,6 +123,11 @@ module _ (variables most : ℕ) (P : Program) where
   abbrev pub TreeNoInput : Type 0
   TreeNoInput = OfTyped λ h vs. (fits fits′ : Val → Bool) (r r′ : ℕ) (v w : Val) (f k n : ℕ) → HasTy v (h .dynamic)
       → runBackward fits P r h vs w f ≡ stop 16 k → Carries fits′ P r′ h vs v w n → ⊥
+
+  -- Document 02, F-3: 15 is never met at a case that chooses by an ancilla, either way.
+  abbrev pub TreeNeverAtChoice : Type 0
+  TreeNeverAtChoice = OfTyped λ h vs. (k : ℕ) → ChoosesAt P k
+      → (fits : Val → Bool) (r f : ℕ) (v : Val) → (¬ (runForward fits P r h vs v f ≡ stop 15 k)) × (¬ (runBackward fits P r h vs v f ≡ stop 15 k))
 
   -- Demand 1: a checked program never stops on a value of wrong shape, either way.
   abbrev pub TreeNeverStuck : Type 0

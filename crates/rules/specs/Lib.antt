@@ -23,3 +23,5 @@ pub mod Machine
 pub mod Claims
 -- section 6's cases P1 to P12 and those of F-2, as one proposition
 pub mod Cases
+-- those of F-3
+pub mod Choices

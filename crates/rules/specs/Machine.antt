@@ -1,15 +1,16 @@
--- Forward and backward as functions (sections 2 and 4). Both run on a state of known values; an ancilla term in a backward run is
--- forward evaluation in the state at hand. `r` is the height that is left.
+-- Forward and backward as functions (sections 2 and 4). Both run on a state of known values; in a backward run an ancilla term, and the
+-- scrutinee of a case that chooses by an ancilla (02, F-3), is forward evaluation in the state at hand. `r` is the height that is left.
 -- That they answer what the rules say, and refuse where the rules yield nothing, is proved: Claims.
 use Prim.Native.Nat.{ℕ, zero, suc}
-use mathlib.Core.Bool.{Bool, cond, not}
+use mathlib.Core.Bool.{Bool, true, false, cond}
 use mathlib.Core.Option.{Option, none, some}
 use mathlib.Core.List.{List, [], _∷_, map}
 use lib.ListN.{length}
 use lib.Dec.{eqb}
 use package.Rattle.rules.specs.Val.{Val, unit, inl, inr, pair, roll, same}
-use package.Rattle.rules.specs.Term.{Term, Terms, var, tunit, tinl, tinr, tpair, tlet, tletp, tcase, tcall, troll, tunroll, end, more, Fun, Program, nth, entry, scope}
-use package.Rattle.rules.specs.Yield.{mayYield}
+use package.Rattle.rules.specs.Term.{Term, Terms, var, tunit, tinl, tinr, tpair, tlet, tletp, tcase, tcall, troll, tunroll, end, more, Fun}
+use package.Rattle.rules.specs.Term.{Program, nth, entry, scope, byAncilla}
+use package.Rattle.rules.specs.Yield.{mayYield, firstMatch}
 use package.Rattle.rules.specs.Run.{Run, _>>=_, give, refuse, lost, enter, test}
 
 ----------------------------------------------------------------
@@ -73,6 +74,24 @@ each go (more t ts) = do
   vs ← each go ts
   give (v ∷ vs)
 
+-- a branch backward, its variable bound to `w`
+unfoldable pub branchBack : (List Val → State → Term → Val → Run State) → List Val → State → Term → Val → Val → Run State
+branchBack go a σ b v w = do
+  σ₁ ← go a (some w ∷ σ) b v
+  leave σ₁ λ u σ₂. give σ₂
+
+-- a case backward, by the runs `fw` and `go` of one term; `c` tells whether it chooses by an ancilla, `y` whether the left may yield
+unfoldable pub caseBack : (List Val → State → Term → Run Val) → (List Val → State → Term → Val → Run State)
+    → List Val → State → Term → Term → Term → Val → (c y : Bool) → Run State
+-- by an ancilla (02, F-3): the scrutinee forward, then the branch
+caseBack fw go a σ e b b′ v true y = do
+  s ← fw a (filled σ) e
+  onSum s (branchBack go a σ b v) (branchBack go a σ b′ v)
+-- the left branch exactly if the left may yield the value; then the scrutinee
+caseBack fw go a σ e b b′ v false y = do
+  σ₁ ← go a (none ∷ σ) (cond y b b′) v
+  leave σ₁ λ w σ₂. go a σ₂ e (cond y (inl w) (inr w))
+
 ----------------------------------------------------------------
 -- Runs of terms: values within `fits`, `a` the ancilla parameters' values
 
@@ -106,7 +125,7 @@ module _ (fits : Val → Bool) (P : Program) where
     s ← go a σ e
     onSum s (λ v. go a (some v ∷ σ) b) λ v. do
       w ← go a (some v ∷ σ) b′
-      test (not (mayYield a b w)) 15 k (give w)
+      test (firstMatch a (length σ) e b w) 15 k (give w)
   forwardStep go a σ (tcall k g ts e) = onSome (nth P g) λ h. do
     vs ← each (go a σ) ts
     v ← go a σ e
@@ -123,7 +142,7 @@ module _ (fits : Val → Bool) (P : Program) where
   forward zero a σ t = enter (entry t) (refuse 13 (entry t))
   forward (suc r) a σ t = enter (entry t) (forwardStep (forward r) a σ t)
 
-  -- what a term does backward with its value, once it is entered; ancilla terms are run by `fw`
+  -- what a term does backward with its value, once it is entered; what is run forward on the way is run by `fw`
   unfoldable pub backwardStep : (List Val → State → Term → Run Val) → (List Val → State → Term → Val → Run State)
       → List Val → State → Term → Val → Run State
   backwardStep fw go a σ (var k i) v = meet k σ i v
@@ -140,10 +159,7 @@ module _ (fits : Val → Bool) (P : Program) where
   backwardStep fw go a σ (tletp k e b) v = do
     σ₁ ← go a (none ∷ none ∷ σ) b v
     leave σ₁ λ w′ σ₂. leave σ₂ λ w σ₃. go a σ₃ e (pair w w′)
-  -- the left branch exactly if the left may yield the value; then the scrutinee
-  backwardStep fw go a σ (tcase k e b b′) v = do
-    σ₁ ← go a (none ∷ σ) (cond (mayYield a b v) b b′) v
-    leave σ₁ λ w σ₂. go a σ₂ e (cond (mayYield a b v) (inl w) (inr w))
+  backwardStep fw go a σ (tcase k e b b′) v = caseBack fw go a σ e b b′ v (byAncilla (length a) (length σ) e) (mayYield a b v)
   -- the ancilla terms forward, the body backward, the dynamic term backward
   backwardStep fw go a σ (tcall k g ts e) v = onSome (nth P g) λ h. do
     vs ← each (fw a (filled σ)) ts

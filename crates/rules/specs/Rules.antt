@@ -8,13 +8,14 @@
 --   yield none that does not, a part of a value being smaller.
 use Prim.Native.Nat.{ℕ, zero, suc, _+_}
 use mathlib.Core.Path.{_≡_}
-use mathlib.Core.Bool.{Bool, true, false}
+use mathlib.Core.Bool.{Bool, true}
 use mathlib.Core.Option.{some}
 use mathlib.Core.List.{List, [], _∷_}
+use lib.ListN.{length}
 use package.Rattle.rules.specs.Val.{Val, unit, inl, inr, pair, roll}
 use package.Rattle.rules.specs.Ty.{Ty}
 use package.Rattle.rules.specs.Term.{Term, Terms, var, tunit, tinl, tinr, tpair, tlet, tletp, tcase, tcall, troll, tunroll, end, more, Fun, Program, nth, look, scope}
-use package.Rattle.rules.specs.Yield.{mayYield}
+use package.Rattle.rules.specs.Yield.{firstMatch}
 
 -- `J a ρ t v n`: with ancilla parameters `a` and variables `ρ`, the term `t` yields `v` in `n` steps.
 abbrev pub Judgement : Type 1
@@ -40,9 +41,10 @@ module _ (fits : Val → Bool) (P : Program) where
         → R a ρ e (pair v v′) n → R a (v′ ∷ v ∷ ρ) b w m → Rule R a ρ (tletp k e b) w (suc (n + m))
     e-casel : {k n m : ℕ} {a ρ : List Val} {e b b′ : Term} {v w : Val}
         → R a ρ e (inl v) n → R a (v ∷ ρ) b w m → Rule R a ρ (tcase k e b b′) w (suc (n + m))
-    -- first match (section 3): the left branch, with no dynamic value put in, may not yield the right branch's value
+    -- first match (section 3): the left branch, with no dynamic value put in, may not yield the right branch's value, unless the
+    -- case chooses by an ancilla (02, F-3)
     e-caser : {k n m : ℕ} {a ρ : List Val} {e b b′ : Term} {v w : Val}
-        → R a ρ e (inr v) n → R a (v ∷ ρ) b′ w m → mayYield a b w ≡ false → Rule R a ρ (tcase k e b b′) w (suc (n + m))
+        → R a ρ e (inr v) n → R a (v ∷ ρ) b′ w m → firstMatch a (length ρ) e b w ≡ true → Rule R a ρ (tcase k e b b′) w (suc (n + m))
     -- a call counts itself, its argument terms and the terms of the body (section 2)
     e-app : {k g n m l : ℕ} {a ρ : List Val} {ts : Terms} {e : Term} {vs : List Val} {v w : Val} {h : Fun}
         → nth P g ≡ some h → All (R a ρ) ts vs n → R a ρ e v m → R (scope vs []) (v ∷ scope vs []) (h .body) w l

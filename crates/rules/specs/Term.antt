@@ -1,10 +1,10 @@
 -- Terms with their entry numbers, functions, programs, and what is in scope (section 1; Fig. 1 of the source).
 use Prim.Native.Nat.{ℕ, zero, suc}
-use mathlib.Core.Bool.{Bool, false, _||_, cond}
+use mathlib.Core.Bool.{Bool, true, false, _&&_, _||_, cond}
 use mathlib.Core.Option.{Option, none, some}
 use mathlib.Core.List.{List, [], _∷_}
 use lib.ListN.{length}
-use lib.Dec.{eqb}
+use lib.Dec.{eqb, ltb, leb}
 use package.Rattle.rules.specs.Ty.{Ty}
 
 -- Each term begins with its entry number, the place of a refusal. The letter t tells a term's constructor from a value's.
@@ -91,3 +91,58 @@ usedIn i (tcase k e b b′) = usedIn i e || (usedIn i b || usedIn i b′)
 usedIn i (tcall k g ts e) = usedIn i e
 usedIn i (troll k c e) = usedIn i e
 usedIn i (tunroll k c e) = usedIn i e
+
+----------------------------------------------------------------
+-- Which variables a term names, and which cases choose by an ancilla (02, F-3)
+
+-- Is every variable that the term names one that `A` allows? A use names the variable, and so does what stands in an ancilla argument.
+unfoldable mutual
+  pub within : (ℕ → Bool) → Term → Bool
+  within A (var k i) = A i
+  within A (tunit k) = true
+  within A (tinl k c e) = within A e
+  within A (tinr k c e) = within A e
+  within A (tpair k e e′) = within A e && within A e′
+  within A (tlet k e b) = within A e && within A b
+  within A (tletp k e b) = within A e && within A b
+  within A (tcase k e b b′) = within A e && (within A b && within A b′)
+  within A (tcall k g ts e) = withinAll A ts && within A e
+  within A (troll k c e) = within A e
+  within A (tunroll k c e) = within A e
+
+  pub withinAll : (ℕ → Bool) → Terms → Bool
+  withinAll A end = true
+  withinAll A (more t ts) = within A t && withinAll A ts
+
+-- With `q` ancilla parameters and `n` variables in scope around a term: an ancilla parameter, or a variable bound inside the term. Every
+-- other variable is dynamic and bound outside it.
+abbrev pub inside : ℕ → ℕ → ℕ → Bool
+inside q n i = ltb i q || leb n i
+
+-- A case chooses by an ancilla (02, F-3): its scrutinee names no dynamic variable bound outside it.
+unfoldable pub byAncilla : ℕ → ℕ → Term → Bool
+byAncilla q n e = within (inside q n) e
+
+-- Do all the cases of a term that have entry number `k` choose by an ancilla?
+unfoldable mutual
+  pub choosesAt : ℕ → ℕ → ℕ → Term → Bool
+  choosesAt k q n (var j i) = true
+  choosesAt k q n (tunit j) = true
+  choosesAt k q n (tinl j c e) = choosesAt k q n e
+  choosesAt k q n (tinr j c e) = choosesAt k q n e
+  choosesAt k q n (tpair j e e′) = choosesAt k q n e && choosesAt k q n e′
+  choosesAt k q n (tlet j e b) = choosesAt k q n e && choosesAt k q (suc n) b
+  choosesAt k q n (tletp j e b) = choosesAt k q n e && choosesAt k q (suc (suc n)) b
+  choosesAt k q n (tcase j e b b′) = cond (eqb j k) (byAncilla q n e) true
+      && (choosesAt k q n e && (choosesAt k q (suc n) b && choosesAt k q (suc n) b′))
+  choosesAt k q n (tcall j g ts e) = chooseAllAt k q n ts && choosesAt k q n e
+  choosesAt k q n (troll j c e) = choosesAt k q n e
+  choosesAt k q n (tunroll j c e) = choosesAt k q n e
+
+  pub chooseAllAt : ℕ → ℕ → ℕ → Terms → Bool
+  chooseAllAt k q n end = true
+  chooseAllAt k q n (more t ts) = choosesAt k q n t && chooseAllAt k q n ts
+
+-- ... and all those of a function's body?
+abbrev pub choosesIn : ℕ → Fun → Bool
+choosesIn k h = choosesAt k (length (h .ancillae)) (suc (length (h .ancillae))) (h .body)

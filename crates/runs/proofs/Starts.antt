@@ -45,7 +45,10 @@ module _ {side : Fun → Ty} {xs terms functions heap : List ℕ} {g : ℕ} {anc
 
   -- what decoding asks
   pub decode-asks : FieldsOfTerms xs terms × FieldsOfFunctions xs functions
-  decode-asks = (accepted-terms (R .loaded .read) (R .loaded .tested) maxVariables maxNodes (R .loaded .typed), accepted-functions (R .loaded .read))
+  decode-asks = (
+    accepted-terms (R .loaded .read) (R .loaded .tested) maxVariables maxNodes (omega arith) (R .loaded .typed),
+    accepted-functions (R .loaded .read),
+  )
 
   module _ {code : List ℕ} (D : Decodes code xs terms functions) where
     pub rows : Rows code

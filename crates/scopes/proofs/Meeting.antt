@@ -8,7 +8,7 @@ use lib.ListN.{getD, set}
 use package.Rattle.rules.specs.Val.{same}
 use package.Rattle.valuegraph.specs.Nodes.{valueAt}
 use package.Rattle.scopes.specs.Slots.{unknown, Scope, machineOf, slotsOf, nodeOr, Written}
-use package.Rattle.scopes.specs.Bindings.{said, seen, Looks, Adds, Meetable, MeetsBy, MeetsAt}
+use package.Rattle.scopes.specs.Bindings.{said, seen, Looks, Adds, EntersBound, Meetable, MeetsBy, MeetsAt}
 use package.Rattle.scopes.proofs.Views.{seen-low}
 use package.Rattle.scopes.proofs.Marks.{node-or}
 use Rattle.scopes.specs.declared.slots.Found.{Found}
@@ -65,3 +65,14 @@ module _ (heap st : List ℕ) (b : Bindings) (sc : Scope) (i node : ℕ) (M : Me
       head = A .head;
     });
   }
+
+-- a variable comes into scope bound, by a cell and its slot
+pub entered-it : {heap heap′ st st₁ st′ : List ℕ} {b r : Bindings} (sc : Scope) {node n at top : ℕ} → n ≡ sc .n → top ≡ machineOf st .top
+    → at ≡ sc .base + sc .n → Adds heap heap′ st st₁ b node n r → Written st₁ st′ at (unknown + top) → EntersBound heap heap′ st st′ b sc node r
+entered-it {st = st} {b = b} {r = r} sc {node} {n} {at} {top} qn qt qa A W = record {
+  linked = rw (← qn) (A .linked);
+  lengths = W .lengths ∙ A .moved .lengths;
+  slots = W .slots ∙ ap (λ s. set s at (unknown + top)) (A .moved .slots) ∙ rw (qa, qt);
+  machine = W .machine ∙ A .moved .machine;
+  head = A .head;
+}

@@ -5,7 +5,7 @@ use native.Mathlib.Omega.{arith}
 use native.Mathlib.Decide.{decLt}
 use mathlib.Core.Path.{_≡_, refl, sym, ap, ap₂, subst, _∙_}
 use mathlib.Core.Bool.{Bool, true, false}
-use mathlib.Core.List.{List, _∷_}
+use mathlib.Core.List.{List, [], _∷_}
 use lib.ListN.{length, getD, set, length-set}
 use lib.Seq.{getD-set-same, getD-set-other, ext-getD}
 use lib.Dec.{eqb}
@@ -265,3 +265,17 @@ tells-bound {heap} {heap′} {slots} {slots′} {b} {r} {base} {q} {n} {i} {node
     go j m h false z =
         let d = eqb-false j i z in
         getD-set-other slots (base + i) (base + j) (unknown + top) 0 (λ k. d (omega arith)) ∙ T .index j m h ∙ ap (λ c. unknown + c) (sym (other j d))
+
+-- a slot that is written twice
+set-again : (xs : List ℕ) (i x y : ℕ) → set (set xs i x) i y ≡ set xs i y
+set-again [] i x y = refl
+set-again (z ∷ xs) zero x y = refl
+set-again (z ∷ xs) (suc i) x y = ap (λ xs. z ∷ xs) (set-again xs i x y)
+
+-- a variable comes into scope bound to a node
+pub tells-entered : {heap heap′ slots slots′ : List ℕ} {b r : Bindings} {base q n node top : ℕ} → Tells heap slots b base q n top
+    → Linked heap heap′ top node n (b .head) → node < top → top ≤ unknown → top < cellCount → base + n < length slots
+    → slots′ ≡ set slots (base + n) (unknown + top) → r .head ≡ top → Tells heap′ slots′ r base q (n + 1) (top + 1)
+tells-entered {slots = slots} {base = base} {n = n} {top = top} T C low mark small there s e =
+    tells-bound (tells-opened T there) (omega arith) C low mark small (rw (length-set slots (base + n) unknown) there)
+    (s ∙ sym (set-again slots (base + n) unknown (unknown + top))) e

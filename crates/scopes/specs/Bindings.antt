@@ -112,6 +112,14 @@ pub record Adds (heap heap′ st st′ : List ℕ) (b : Bindings) (x i : ℕ) (r
   pub moved : Moved st st′ (record { top = machineOf st .top + 1; fuel = machineOf st .fuel })
   pub head : r .head ≡ machineOf st .top
 
+-- The variable behind a scope came into it, bound to a node by a new cell, which its slot names.
+pub record EntersBound (heap heap′ st st′ : List ℕ) (b : Bindings) (sc : Scope) (node : ℕ) (r : Bindings) : Type 0 where
+  pub linked : Linked heap heap′ (machineOf st .top) node (sc .n) (b .head)
+  pub lengths : length st′ ≡ length st
+  pub slots : slotsOf st′ ≡ set (slotsOf st) (sc .base + sc .n) (unknown + machineOf st .top)
+  pub machine : machineOf st′ ≡ record { top = machineOf st .top + 1; fuel = machineOf st .fuel }
+  pub head : r .head ≡ machineOf st .top
+
 -- Variable `i` can be met: it has a slot, which names a node or a cell that are there, and in which the state sees what it says. (The slot may
 -- name a newer cell; then the state does not bind the variable.)
 pub record Meetable (heap st : List ℕ) (b : Bindings) (sc : Scope) (i : ℕ) : Type 0 where

@@ -7,10 +7,10 @@ use crate::slots::UNKNOWN;
 use crate::state;
 use crate::state::STATE;
 ghost use mathlib.Core.Path.{_≡_};
-ghost use Prim.Native.Nat.{_<_};
+ghost use Prim.Native.Nat.{_+_, _<_};
 ghost use lib.ListN.{getD};
 ghost use Rattle.scopes.specs.Slots.{unknown, slotCount, machineOf, slotsOf, scopeIn, nodeOr};
-ghost use Rattle.scopes.specs.Bindings.{seen, Looks, CellReady, Adds, Meetable, MeetsAt};
+ghost use Rattle.scopes.specs.Bindings.{seen, Looks, CellReady, Adds, EntersBound, Meetable, MeetsAt};
 
 // Cells and nodes have numbers below this one.
 const CELLS: u32 = 262144;
@@ -77,6 +77,19 @@ impl Bindings {
                 }
             }
         }
+    }
+
+    // The variable behind a scope comes into it bound to a node, by a new cell, which its slot names: the state with it.
+    pub fn entered(self, ws: &mut [u8], st: &mut [u32; STATE], scope: u64, node: u32) -> Bindings
+        requires { ⌜ CellReady (now ws) (now st) self (scopeIn scope .n) ⌝ }
+        requires { ⌜ scopeIn scope .base + scopeIn scope .n < slotCount ⌝ }
+        ensures { λ r. ⌜ EntersBound (now (ws .entry)) (now (ws .exit)) (now (st .entry)) (now (st .exit)) self (scopeIn scope) node r ⌝ }
+    {
+        let top = state::top(st);
+        let n = state::count_in(scope);
+        let state = self.with_cell(ws, st, node, n as u16);
+        slots::bind(st, state::end_of(scope), UNKNOWN + top);
+        state
     }
 
     // The node of the variable that has this slot; node 0, the unit, if it was never met.

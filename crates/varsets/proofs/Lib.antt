@@ -3,3 +3,5 @@
 pub mod Bits
 -- what the operations on sets hold
 pub mod Sets
+-- all variables of a set inside; a set in two halves
+pub mod Inside

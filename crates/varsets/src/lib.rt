@@ -1,10 +1,15 @@
-// Sets of variables by value, of which a term's uses are one: bit i is variable i. Behind these methods nobody sees the bits, so that a
-// larger scope changes this crate alone.
+// Sets of variables by value, of which a term's uses are one: bit i is variable i. Only decoded sees the bits, which keeps sets as numbers: in a
+// table, and in the rows of cases by halves. A larger scope changes this crate and that one.
 ghost use mathlib.Core.Path.{_≡_};
 ghost use Prim.Native.Nat.{_≤_, _<_};
-ghost use Rattle.varsets.specs.Sets.{Holds, nobody, alone, firsts, ranged, joined, below, has, AgreeOn};
+ghost use Rattle.varsets.specs.Sets.{Holds, nobody, alone, firsts, ranged, joined, below, has, AgreeOn, AllInside, lowHalf, highHalf, ofHalves};
 ghost use Rattle.octets.specs.Runs.{Decides};
 ghost use Rattle.rules.specs.Limits.{maxVariables};
+
+// Variables that a set has room for, and numbers of 16 bits, of which two make a set.
+const ROOM: usize = rules::MAX_VARIABLES;
+
+const HALF_RANGE: u32 = 65536;
 
 pub struct Uses {
     pub bits: u32,
@@ -78,5 +83,47 @@ impl Uses {
         ensures { λ r. ⌜ Decides r (AgreeOn self other among) ⌝ }
     {
         (self.bits ^ other.bits) & among.bits == 0
+    }
+
+    // Those of the set that are below n, whatever n is.
+    fn those_below(self, n: usize) -> Uses
+        ensures { λ r. ⌜ Holds r (below n (has self)) ⌝ }
+    {
+        if n < ROOM {
+            return self.among_first(n as u8);
+        }
+        self
+    }
+
+    // With q ancilla parameters and n variables in scope: is every variable of the set an ancilla parameter, or bound inside?
+    pub fn all_inside(self, q: usize, n: usize) -> bool
+        ensures { λ r. ⌜ Decides r (AllInside self q n) ⌝ }
+    {
+        if ROOM <= q {
+            return true;
+        }
+        let scope = self.those_below(n);
+        scope.bits >> q == 0
+    }
+
+    // A set as two numbers, and the set that they are.
+    pub fn low_half(self) -> u16
+        ensures { λ r. ⌜ r ≡ lowHalf self ⌝ }
+    {
+        (self.bits % HALF_RANGE) as u16
+    }
+
+    pub fn high_half(self) -> u16
+        ensures { λ r. ⌜ r ≡ highHalf self ⌝ }
+    {
+        (self.bits / HALF_RANGE) as u16
+    }
+
+    pub fn of_halves(low: u16, high: u16) -> Self
+        ensures { λ r. ⌜ r ≡ ofHalves low high ⌝ }
+    {
+        Self {
+            bits: HALF_RANGE * octets::wide32(high) + octets::wide32(low),
+        }
     }
 }

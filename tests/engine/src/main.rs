@@ -1,6 +1,7 @@
 //! The engine, linked as a static library, held to the second evaluator: answers, bytes, time and stack.
 
 mod bench;
+mod choose;
 mod compare;
 mod engine;
 mod months;
@@ -8,6 +9,7 @@ mod scripts;
 mod slow;
 mod stack;
 mod steer;
+mod trips;
 
 use compare::Tally;
 use std::process::ExitCode;
@@ -16,6 +18,8 @@ const USAGE: &str = "\
 usage: harness lines < CALLS         both answer each call, and are compared
        harness random SEED COUNT     the same on COUNT random calls
        harness steer SEED COUNT      COUNT programs with steering, there and back; enough of them must run both ways
+       harness choose SEED COUNT     COUNT programs with cases that choose by an ancilla, there and back; enough of them must run both
+                                     ways, and enough of these take a branch that first match would refuse
        harness lists SEED COUNT      COUNT lists of journal calls, each on the bytes that the engine left
        harness scripts SEED COUNT    COUNT scripts of journal calls, played whole
        harness months SEED WEEKS STROKES
@@ -34,6 +38,9 @@ fn main() -> ExitCode {
         }
         ["steer", seed, count] => {
             number(seed).and_then(|seed| steer::compare_steered(seed, number(count)? as usize)).and_then(report)
+        }
+        ["choose", seed, count] => {
+            number(seed).and_then(|seed| choose::compare_choosing(seed, number(count)? as usize)).and_then(report)
         }
         ["lists", seed, count] => {
             number(seed).and_then(|seed| report(compare::compare_lists(seed, number(count)? as usize)))

@@ -5,10 +5,11 @@ use crate::engine;
 use second::bench::largest_program;
 use second::calls::{answer, Answer, Call, ConvertCall, Direction, RunCall};
 use second::cases::cases;
-use second::draft::{case, inl, nat, roll, sum, unfold, unit_type, variable, Draft, Function, Term};
+use second::draft::{call, case, nat, sum, unit_type, variable, Draft, Function};
 use second::limits::{workspace, FUEL, VALUE_BYTES};
 use second::readers::{ReadCall, Reader};
-use second::samples::{library, longest_journal, nat_bytes, successor};
+use second::samples::choosing::before_sum;
+use second::samples::{library, longest_journal, nat_bytes, plus, successor, zero};
 
 /// What the harness's own threads get, in bytes.
 pub const ROOM: usize = 64 << 20;
@@ -79,6 +80,8 @@ fn deepest(group: usize) -> Vec<Call> {
     }
     calls.push(run(&tested, Direction::Forward, &[], [&[2], &nat_bytes(501)[..]].concat()));
     calls.push(run(&tested, Direction::Backward, &[], nat_bytes(501)));
+    calls.extend(deep_scrutinee());
+    calls.extend(deep_choices());
     calls.extend(journal_calls(&library, nat_bytes(0), nat_bytes(255)));
     calls.extend(journal_calls(&tested, Vec::new(), [&[2], &nat_bytes(501)[..]].concat()));
     let (journal, output) = (longest_journal(), longest_journal().len());
@@ -92,6 +95,24 @@ fn deepest(group: usize) -> Vec<Call> {
         Call::Read(call) => group == if call.reader == Reader::Nurse { 6 } else { 7 },
     });
     calls
+}
+
+/// A case that chooses by the sum of two ancillae: backward its scrutinee runs forward, and comes near the limit of height.
+fn deep_scrutinee() -> [Call; 2] {
+    let program = Draft { functions: vec![before_sum(1), plus(1)] }.bytes();
+    let ancillae = [nat_bytes(0), nat_bytes(254)].concat();
+    let beside = [&[3], &nat_bytes(253)[..], &[1, 0]].concat();
+    [(Direction::Forward, vec![1, 0]), (Direction::Backward, beside)]
+        .map(|(direction, value)| run(&program, direction, &ancillae, value))
+}
+
+/// Choices in the branches of choices, thirty in a function that calls itself: backward each branch stays open for its variable.
+fn deep_choices() -> [Call; 2] {
+    let bit = sum(&unit_type(), &unit_type());
+    let body = (0..29).fold(call(0, vec![variable(0), variable(1)]), |term, _| case(variable(0), term, variable(1)));
+    let function = Function { parameters: vec![bit.clone(), bit.clone()], result: bit, body };
+    let program = Draft { functions: vec![function] }.bytes();
+    [Direction::Forward, Direction::Backward].map(|direction| run(&program, direction, &[1, 0], vec![1, 0]))
 }
 
 /// A journal opened, a conversion by function 0, and its rollback.
@@ -129,8 +150,7 @@ fn run(program: &[u8], direction: Direction, ancillae: &[u8], value: Vec<u8>) ->
 
 /// A case whose left branch is 500 constructors deep, so that first match looks as deep into a value.
 fn long_left_branch() -> Vec<u8> {
-    let zero = roll(&nat(), inl(&unfold(&nat()), Term::Unit));
-    let left = (0..500).fold(zero, |term, _| successor(term));
+    let left = (0..500).fold(zero(), |term, _| successor(term));
     let function = Function {
         parameters: vec![sum(&unit_type(), &nat())],
         result: nat(),

@@ -42,7 +42,7 @@ impl Machine<'_> {
                 self.backward(bound, pair, frame, height + 1)
             }
             Term::Case(scrutinee, left, right) => {
-                self.backward_case(scrutinee, [left, right], value, frame, height)
+                self.backward_case(entry, scrutinee, [left, right], value, frame, height)
             }
             Term::Call(function, arguments) => self.backward_call(function, arguments, value, frame, height),
         }
@@ -79,15 +79,19 @@ impl Machine<'_> {
         self.backward(part, node.first, frame, height + 1)
     }
 
-    /// Section 3: the left branch is taken exactly if it may yield the value.
+    /// Section 3: the left branch is taken exactly if it may yield the value, but where an ancilla chooses (02, F-3).
     fn backward_case(
         &mut self,
+        entry: u16,
         scrutinee: u16,
         [left, right]: [u16; 2],
         value: NodeId,
         frame: Frame,
         height: u32,
     ) -> Run<()> {
+        if self.program.by_ancilla[entry as usize] {
+            return self.backward_choice(scrutinee, [left, right], value, frame, height);
+        }
         let (branch, kind) =
             if self.may_yield(left, value, frame) { (left, Kind::Inl) } else { (right, Kind::Inr) };
         self.stack.push(UNMET);
@@ -95,6 +99,25 @@ impl Machine<'_> {
         let bound = self.leave();
         let decided = self.heap.wrap(kind, bound);
         self.backward(scrutinee, decided, frame, height + 1)
+    }
+
+    /// 02, F-3: a case that chooses by an ancilla runs its scrutinee forward, which needs nothing of what is still to be met. The branch
+    /// variable has its value then, so that each use of it is compared, and the scrutinee is not run back.
+    fn backward_choice(
+        &mut self,
+        scrutinee: u16,
+        [left, right]: [u16; 2],
+        value: NodeId,
+        frame: Frame,
+        height: u32,
+    ) -> Run<()> {
+        let decided = self.forward(scrutinee, frame, height + 1)?;
+        let node = self.heap.node(decided);
+        let branch = if node.kind == Kind::Inr { right } else { left };
+        self.stack.push(node.first);
+        self.backward(branch, value, frame, height + 1)?;
+        self.leave();
+        Ok(())
     }
 
     /// Ancilla terms run forward, the body backward, then the dynamic term backward.

@@ -1,10 +1,11 @@
 //! Time per step, per term and per journal call.
 
 use crate::calls::{answer, arguments, Answer, Call, ConvertCall, Direction};
-use crate::draft::{boolean, Draft};
+use crate::draft::{boolean, Draft, Function};
 use crate::limits::{self, FUEL};
 use crate::readers::{ReadCall, Reader};
 use crate::run::{run, Start};
+use crate::samples::choosing::{choices_to_the_left, choices_to_the_right};
 use crate::samples::{
     beside_ancillae, doubled, lets, library, list_bytes, longest_journal, map, nat_bytes, not, reverse, snoc,
     tuple_bytes, turned,
@@ -67,6 +68,23 @@ fn lets_sample(count: usize) -> Sample {
     }
 }
 
+/// Runs that are mostly cases that choose by an ancilla. By left branches: first match would ask the cases inside each case for the
+/// value on the way back. By right branches: first match would refuse, since the left branch of each case may yield the value.
+pub fn choice_samples() -> Vec<Sample> {
+    const CHOICES: usize = 28;
+    let sample = |name: &str, function: Function, ancilla: [u8; 2]| Sample {
+        name: format!("{CHOICES} choices, {name}"),
+        program: doubled(function, DOUBLINGS).bytes(),
+        function: DOUBLINGS as u16,
+        ancillae: ancilla.to_vec(),
+        value: vec![1, 0],
+    };
+    vec![
+        sample("left branches", choices_to_the_left(CHOICES), [1, 0]),
+        sample("right branches", choices_to_the_right(CHOICES), [2, 0]),
+    ]
+}
+
 fn ancillae_sample(count: usize, dynamic: usize) -> Sample {
     Sample {
         name: format!("{count} ancillae beside {dynamic}"),
@@ -90,8 +108,8 @@ pub fn scope_sample(variables: usize) -> Sample {
 }
 
 pub fn bench() {
-    for sample in run_samples() {
-        bench_run(&sample);
+    for sample in run_samples().iter().chain(&choice_samples()) {
+        bench_run(sample);
     }
     bench_check();
     bench_journal(&library().bytes());

@@ -115,6 +115,15 @@ fn run(call: &RunCall) -> Result<Answer, Refusal> {
     Ok(Answer::Value { value, steps })
 }
 
+/// The answer to a run in which first match holds for every case, as it did before some chose by an ancilla (02, F-3).
+pub fn under_first_match(call: &RunCall) -> Answer {
+    let carried = admit(call.workspace, call.fuel, &call.program).and_then(|mut checked| {
+        checked.program.by_ancilla.fill(false);
+        carry(&mut checked, call.direction, call.function, call.fuel, &call.ancillae, &call.value)
+    });
+    carried.map_or_else(Answer::Refused, |(value, steps)| Answer::Value { value, steps })
+}
+
 fn open(workspace: usize, program: &[u8], record: &[u8], length: usize) -> Result<Answer, Refusal> {
     admit(workspace, 0, program)?;
     if !one_value(record) {

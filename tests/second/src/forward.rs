@@ -71,7 +71,7 @@ impl Machine<'_> {
         }
     }
 
-    /// First match: a right branch's value is refused if the left branch may yield it.
+    /// First match: a right branch's value is refused if the left branch may yield it, but not where an ancilla chooses (02, F-3).
     fn forward_case(
         &mut self,
         entry: u16,
@@ -87,7 +87,8 @@ impl Machine<'_> {
         let branch = if right_taken { right } else { left };
         let value = self.forward(branch, frame, height + 1)?;
         self.stack.pop();
-        if right_taken && self.may_yield(left, value, frame) {
+        let by_first_match = right_taken && !self.program.by_ancilla[entry as usize];
+        if by_first_match && self.may_yield(left, value, frame) {
             return Err(self.stop(Number::FirstMatch, entry));
         }
         Ok(value)

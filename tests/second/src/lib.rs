@@ -6,6 +6,7 @@ pub mod bench;
 pub mod book;
 pub mod calls;
 pub mod cases;
+mod choosing;
 pub mod draft;
 mod entries;
 mod forward;

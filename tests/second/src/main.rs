@@ -4,7 +4,11 @@ use second::bench::bench;
 use second::calls::{answer, Call};
 use second::cases::cases;
 use second::lines::{read_call, write_answer, write_call};
-use second::make::{lists::book_list, steer::RoundTrip, Maker};
+use second::make::choose::choosing_trip;
+use second::make::lists::book_list;
+use second::make::steer::steered_trip;
+use second::make::trips::RoundTrip;
+use second::make::Maker;
 use second::months::months;
 use second::rng::Rng;
 use second::slow::slow_calls;
@@ -19,6 +23,7 @@ usage: second answer < CALLS       one answer a line
        second make SEED COUNT      COUNT random calls
        second book SEED COUNT      COUNT lists of calls, a line each: CALL = the plain book's ANSWER; readers behind each
        second steer SEED COUNT     COUNT programs with steering: a call forward, the call back on its result, calls back on others
+       second choose SEED COUNT    the same with COUNT programs with cases that choose by an ancilla
        second months SEED WEEKS STROKES FOLDER
                                    the months of a machine, STROKES a day, as files: program, script, answers, journal
        second slow SEED COUNT WORK COUNT calls that ask for much, each with fuel to compare some WORK bytes
@@ -33,7 +38,8 @@ fn main() -> ExitCode {
         ["cases"] => write_calls(cases()),
         ["make", seed, count] => number(seed).and_then(|seed| make(seed, number(count)?)),
         ["book", seed, count] => number(seed).and_then(|seed| book(seed, number(count)?)),
-        ["steer", seed, count] => number(seed).and_then(|seed| steer(seed, number(count)?)),
+        ["steer", seed, count] => number(seed).and_then(|seed| trips(seed, number(count)?, steered_trip)),
+        ["choose", seed, count] => number(seed).and_then(|seed| trips(seed, number(count)?, choosing_trip)),
         ["months", seed, weeks, strokes, folder] => write_months(seed, weeks, strokes, Path::new(folder)),
         ["slow", seed, count, work] => write_slow(seed, count, work),
         ["tally"] => tally(),
@@ -66,9 +72,9 @@ fn make(seed: u64, count: u64) -> Result<(), String> {
     write_calls(Maker::new(seed).take(count as usize))
 }
 
-fn steer(seed: u64, count: u64) -> Result<(), String> {
+fn trips(seed: u64, count: u64, make: fn(&mut Rng) -> RoundTrip) -> Result<(), String> {
     let mut rng = Rng::new(seed);
-    write_calls((0..count).flat_map(|_| RoundTrip::new(&mut rng).into_calls()))
+    write_calls((0..count).flat_map(|_| make(&mut rng).into_calls()))
 }
 
 fn write_calls(calls: impl IntoIterator<Item = Call>) -> Result<(), String> {

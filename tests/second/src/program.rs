@@ -58,6 +58,8 @@ pub struct Program {
     pub term_offsets: Vec<u32>,
     pub arguments: Vec<u16>,
     pub functions: Vec<Function>,
+    /// For each term whether it is a case that chooses by an ancilla (02, F-3): none until the check has typed the program.
+    pub by_ancilla: Vec<bool>,
 }
 
 const TYPE_TAG: u8 = 1;

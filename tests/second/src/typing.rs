@@ -3,6 +3,7 @@
 //! A test that needs no typed part is made on entering the term; a test that needs parts 1 to k is made right after
 //! part k.
 
+use crate::choosing::cases_by_ancilla;
 use crate::entries::read_entries;
 use crate::limits::VARIABLES;
 use crate::namings::Namings;
@@ -36,7 +37,7 @@ impl Signature {
 
 /// Field reading, entries and typing, in section 4's order.
 pub fn check(bytes: &[u8]) -> Result<Checked, Refusal> {
-    let program = Program::read(bytes)?;
+    let mut program = Program::read(bytes)?;
     let mut types = Types::default();
     let trees = read_entries(&program, &mut types)?;
     let signatures: Vec<Signature> = program.functions.iter().map(|f| signature(f, &trees)).collect();
@@ -53,6 +54,7 @@ pub fn check(bytes: &[u8]) -> Result<Checked, Refusal> {
     for (function, signature) in program.functions.iter().zip(&signatures) {
         typing.function(function, signature)?;
     }
+    program.by_ancilla = cases_by_ancilla(&program);
     Ok(Checked { program, types, signatures })
 }
 

@@ -172,7 +172,6 @@ fn p11_an_unused_sum_is_not_passed_as_unit() {
     assert_eq!(check(&a.bytes()), refused(Number::Use, 16));
 }
 
-/// The function also stands with s as an ancilla, where the case still meets first match.
 #[test]
 fn p12_first_match_is_tested_before_dynamic_values_are_put_in() {
     let mut a = Assembler::default();

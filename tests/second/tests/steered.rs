@@ -7,7 +7,8 @@ use second::calls::{answer, arguments, Answer, Call, Direction, RunCall};
 use second::limits::FUEL;
 use second::make::lists::book_list;
 use second::make::steer::refused::REFUSED;
-use second::make::steer::RoundTrip;
+use second::make::steer::steered_trip;
+use second::make::trips::RoundTrip;
 use second::make::Maker;
 use second::program::Program;
 use second::refusal::{Number, Refusal};
@@ -25,7 +26,7 @@ fn namings_of(program: &[u8]) -> Vec<Naming> {
 
 fn trips(seed: u64) -> impl Iterator<Item = RoundTrip> {
     let mut rng = Rng::new(seed);
-    std::iter::repeat_with(move || RoundTrip::new(&mut rng)).take(TRIPS)
+    std::iter::repeat_with(move || steered_trip(&mut rng)).take(TRIPS)
 }
 
 #[test]

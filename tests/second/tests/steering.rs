@@ -2,7 +2,7 @@
 
 mod common;
 
-use common::{check, refused, value, Runs};
+use common::{check, entry_of, refused, value, Runs};
 use second::assemble::Assembler;
 use second::calls::Answer;
 use second::draft::*;
@@ -120,14 +120,6 @@ fn program_of(key: &Type, result: &Type, body: &Term) -> Vec<u8> {
     let functions =
         vec![main, beside(&one, &nat()), beside(&[key.clone(), key.clone()], &nat()), unsteered(&one, key)];
     Draft { functions }.bytes()
-}
-
-/// The entry of a part, given by which part of which part it is: a term's entry stands behind those of its parts.
-fn entry_of(body: &Term, path: &[usize]) -> u32 {
-    let Some((&first, rest)) = path.split_first() else { return body.count() as u32 - 1 };
-    let parts = body.parts();
-    let before: usize = parts[..first].iter().map(|part| part.count()).sum();
-    before as u32 + entry_of(parts[first], rest)
 }
 
 /// The offset of a term's field.

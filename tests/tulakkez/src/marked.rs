@@ -1,7 +1,8 @@
 //! Texts with a `~` before the place that is meant, and what is told there.
 
+use crate::carried::scratch;
 use tulakkez::command::answer::{Answer, Status};
-use tulakkez::command::Converter;
+use tulakkez::command::{run, Converter};
 use tulakkez::engine::check;
 use tulakkez::text::Source;
 
@@ -31,4 +32,19 @@ pub fn refused(text: &str, number: u8, what: &str) -> String {
     let expected = format!("t.fun:{place}: error: refused {number}: {what}");
     assert!(answer.err.starts_with(&expected), "{}\n{expected}\n{text}", answer.err);
     answer.err
+}
+
+/// A run of the text, in the file FILE of these words: it is refused with this number, and told at the mark. All that is told.
+pub fn run_refused(text: &str, words: &[&str], number: u8, what: &str) -> String {
+    let (text, place) = marked(text);
+    let scratch = scratch("marked");
+    scratch.file("t.fun", &text);
+    let file = scratch.0.join("t.fun").to_string_lossy().into_owned();
+    let words: Vec<String> = words.iter().map(|word| word.replace("FILE", &file)).collect();
+    let answer = run(&words).answer;
+    assert_eq!(answer.status, Status::Refused, "{}\n{text}", answer.err);
+    let told = answer.err.replace(&file, "t.fun");
+    let expected = format!("t.fun:{place}: error: refused {number}: {what}");
+    assert!(told.starts_with(&expected), "{told}\n{expected}\n{text}");
+    told
 }

@@ -1,6 +1,6 @@
 //! Random texts, well-typed as they are made: variants of several alternatives, and functions that take values apart by nested patterns and
-//! put them together again, some of which let the value steer a call (document 02, F-2). Every function is the identity on values, so that what
-//! a run answers is known.
+//! put them together again. Some let the value steer a call (document 02, F-2), some let an ancilla choose between two arms that may both yield
+//! anything (F-3). Every function is the identity on values, so that what a run answers is known.
 
 use second::rng::Rng;
 
@@ -14,7 +14,8 @@ pub struct Variant {
 pub struct Text {
     pub text: String,
     pub variants: Vec<Variant>,
-    /// The variant of each function, by the function's number, and whether it has an ancilla. Those that are only steered stand behind them.
+    /// The variant of each function, by the function's number, and whether it has ancillae: a number and a way. Those that are only called
+    /// stand behind them.
     pub functions: Vec<(usize, bool)>,
 }
 
@@ -34,7 +35,7 @@ pub fn random_text(rng: &mut Rng) -> Text {
         let variant = maker.variant(number);
         maker.variants.push(variant);
     }
-    let mut text = "type Nat = Zero | Succ Nat  -- numbers in ones\n".to_string();
+    let mut text = "type Nat = Zero | Succ Nat  -- numbers in ones\ntype Way = First | Second\n".to_string();
     let mut declarations: Vec<String> = maker.variants.iter().map(declaration).collect();
     if maker.rng.chance(50) {
         declarations.reverse();
@@ -50,6 +51,7 @@ pub fn random_text(rng: &mut Rng) -> Text {
         }
     }
     text += &(0..count).map(watching).collect::<String>();
+    text += "fun same (way : Way) (u : 1) : Way = case way of First => First | Second => Second\n";
     Text { text, variants: maker.variants, functions }
 }
 
@@ -152,7 +154,7 @@ impl Maker<'_> {
         format!("{head}  case v of\n    {}\n", arms.join("\n  | "))
     }
 
-    /// Function `function`, the one before it under an ancilla, through a tuple. The value may steer a call before it is used.
+    /// Function `function`, the one before it under ancillae, through a tuple. The value may steer a call before it is used.
     fn wrapped(&mut self, function: usize, number: usize) -> String {
         let before = function - 1;
         let steered = match self.rng.below(3) {
@@ -160,10 +162,32 @@ impl Maker<'_> {
             1 => format!("let e = watch{number} a b in "),
             _ => format!("let (e, ()) = (watch{number} (let g = a in f{before} g) b, ()) in "),
         };
+        let chosen = self.chosen(&format!("f{before} a"));
         format!(
-            "fun f{function} (k : Nat) (v : V{number}) : V{number} =\n  let (a, (), (b, ())) = (v, (), (), ()) in\n  {steered}let c = f{before} a in (let d = c in d)\n"
+            "fun f{function} (k : Nat) (way : Way) (v : V{number}) : V{number} =\n  let (a, (), (b, ())) = (v, (), (), ()) in\n  {steered}let c = {chosen} in (let d = c in d)\n"
         )
     }
+
+    /// This call, which gives back a, or a case that an ancilla chooses by: itself, by a call, or after it was turned round.
+    fn chosen(&mut self, call: &str) -> String {
+        let by = match self.rng.below(4) {
+            0 => return call.to_string(),
+            1 => "way",
+            2 => "same way ()",
+            _ => "(let w = way in case w of First => Second | Second => First)",
+        };
+        match self.rng.chance(50) {
+            true => format!("(case {by} of First => a | Second => {call})"),
+            false => format!("(case {by} of First => {call} | Second => a)"),
+        }
+    }
+}
+
+/// Bytes for the ancillae of a function that has them: a number of at most 3 and a way.
+pub fn random_ancillae(rng: &mut Rng) -> Vec<u8> {
+    let number = [&[4, 2].repeat(rng.below(4))[..], &[4, 1, 0]].concat();
+    let way = if rng.chance(50) { [1, 0] } else { [2, 0] };
+    [&number[..], &way].concat()
 }
 
 /// The text of a random value of a type, without parentheses around it.

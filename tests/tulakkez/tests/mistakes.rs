@@ -1,10 +1,9 @@
 //! Mistakes and refusals are told at their places. In each text a `~` stands before the place that is meant.
 
 use tulakkez::command::answer::Status;
-use tulakkez::command::{run, Converter};
+use tulakkez::command::Converter;
 use tulakkez::engine::check;
-use tulakkez_tests::command::Scratch;
-use tulakkez_tests::marked::{converter, marked, refused};
+use tulakkez_tests::marked::{converter, marked, refused, run_refused};
 
 /// The text has this mistake at its mark; the engine is not asked.
 fn mistake(text: &str, what: &str) {
@@ -187,19 +186,6 @@ fn variables_that_are_not_used_as_they_ought_to_be() {
     refused(sided, 8, "this arm does not use n, and another arm does");
     let unit = "fun f (p : (1, Bool, Nat)) : (1, Nat) = let (u, b, n) = p in case b of True => (u, n) | False => ~((), 0)";
     refused(unit, 8, "this arm does not use n, and another arm does");
-}
-
-/// A run of a text in a file: the refusal, and its place.
-fn run_refused(text: &str, words: &[&str], number: u8, what: &str) {
-    let (text, place) = marked(text);
-    let scratch = Scratch::new(&format!("runs{number}"));
-    scratch.file("t.fun", &text);
-    let file = scratch.0.join("t.fun").to_string_lossy().into_owned();
-    let words: Vec<String> = words.iter().map(|word| word.replace("FILE", &file)).collect();
-    let answer = run(&words).answer;
-    assert_eq!(answer.status, Status::Refused, "{}", answer.err);
-    let expected = format!("t.fun:{place}: error: refused {number}: {what}");
-    assert!(answer.err.contains(&expected), "{}\n{expected}", answer.err);
 }
 
 #[test]

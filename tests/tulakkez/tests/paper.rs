@@ -94,6 +94,53 @@ fn records_that_carry_their_own_offset() {
     refuses("steering.fun", &["back", "twice", "(2, 3)"], 16);
 }
 
+/// The model is an ancilla, and both of its arms may yield any volume (document 02, F-3).
+#[test]
+fn records_that_the_model_converts() {
+    let (old, new) = ("Cons (Fill, 7) (Cons (Drain, 0) Nil)", "Cons (Fill, 9) (Cons (Drain, 2) Nil)");
+    answers(
+        "choosing.fun",
+        &[
+            ("run", &["strokes", "Motor", old], new),
+            ("back", &["strokes", "Motor", new], old),
+            ("run", &["strokes", "Hand", old], old),
+            ("back", &["strokes", "Hand", new], new),
+            ("run", &["raise", "Offset 2", "3"], "(2, 5)"),
+            ("back", &["raise", "Offset 2", "(2, 5)"], "3"),
+            ("run", &["raise", "Offset 0", "3"], "(0, 3)"),
+            ("back", &["raise", "Plain", "(0, 3)"], "3"),
+            ("run", &["pace", "Fast", "3"], "4"),
+            ("back", &["pace", "Fast", "4"], "3"),
+            ("run", &["pace", "Normal", "3"], "3"),
+            ("back", &["pace", "Slow", "3"], "3"),
+        ],
+    );
+    // A motor's volume is 2 at least, and an offset is the one that was given.
+    refuses("choosing.fun", &["back", "volume", "Motor", "1"], 16);
+    refuses("choosing.fun", &["back", "raise", "Offset 2", "(3, 5)"], 16);
+    refuses("choosing.fun", &["back", "raise", "Plain", "(1, 3)"], 16);
+}
+
+/// Document 01, P12: what is refused of a pair is given, and comes back, where its first part is an ancilla (document 02, F-3).
+#[test]
+fn a_flag_flipped_by_another() {
+    answers(
+        "choosing.fun",
+        &[
+            ("run", &["pair", "(True, False)"], "False"),
+            ("back", &["pair", "True"], "(True, True)"),
+            ("run", &["flip", "True", "True"], "True"),
+            ("run", &["flip", "False", "True"], "False"),
+            ("run", &["flip", "False", "False"], "True"),
+            ("back", &["flip", "False", "True"], "False"),
+            ("back", &["flip", "False", "False"], "True"),
+            ("back", &["flip", "True", "False"], "False"),
+        ],
+    );
+    refuses("choosing.fun", &["run", "pair", "(False, True)"], 15);
+    refuses("choosing.fun", &["run", "pair", "(False, False)"], 15);
+}
+
 /// Document 01, section 6: values and steps.
 #[test]
 fn the_cases_of_document_01() {

@@ -17,7 +17,7 @@ use tulakkez::journal::Contents;
 use tulakkez::text::Source;
 use tulakkez::values::{self, hexadecimal};
 use tulakkez_tests::command::{deep, program, tulakkez, Ran, Scratch};
-use tulakkez_tests::random::{random_text, random_value, Text};
+use tulakkez_tests::random::{random_ancillae, random_text, random_value, Text};
 
 const PUMP: &str = "type Nat  = Zero | Succ Nat
 type Kind = Fill | Drain
@@ -453,9 +453,9 @@ impl Kept {
         let mut journal = engine::open(&self.program, &self.record, length).expect("opened");
         for _ in 0..count {
             let function = *rng.pick(&self.functions);
-            let number = [&[4, 2].repeat(rng.below(4))[..], &[4, 1, 0]].concat();
-            let ancillae: &[u8] = if self.made.functions[function].1 { &number } else { &[] };
-            engine::convert(&self.program, function as u16, ancillae, LARGEST_FUEL, &mut journal)
+            let has_ancillae = self.made.functions[function].1;
+            let ancillae = if has_ancillae { random_ancillae(rng) } else { Vec::new() };
+            engine::convert(&self.program, function as u16, &ancillae, LARGEST_FUEL, &mut journal)
                 .expect("converted");
         }
         Contents { program: self.program.clone(), journal, text: self.made.text.clone() }

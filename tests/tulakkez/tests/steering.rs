@@ -1,17 +1,16 @@
 //! A dynamic variable that steers a call and comes back later (document 02, F-2): texts that run both ways, and those that are refused, each at
 //! its place. Values and steps are worked out by hand: plus k n is k + n, in 4 steps and 8 for each of n.
 
-use std::sync::atomic::{AtomicUsize, Ordering};
 use tulakkez::build::build;
 use tulakkez::command::run;
 use tulakkez::core::lay_out;
 use tulakkez::core::read::read;
 use tulakkez::show::show;
 use tulakkez::text::Source;
-use tulakkez_tests::command::{root, tulakkez, Scratch};
+use tulakkez_tests::carried::{carries, scratch, PLUS};
+use tulakkez_tests::command::{root, tulakkez};
 use tulakkez_tests::marked::refused;
 
-const PLUS: &str = "fun plus (k : Nat) (n : Nat) : Nat = case n of Zero => k | Succ m => Succ (plus k m)\n";
 const STEERED: &str = "a dynamic variable stands in an ancilla argument, and ";
 const UNBOUND: &str = "no let binds the call";
 const UNUSED: &str = "no let that binds the call uses it in its body";
@@ -20,25 +19,7 @@ fn bytes(text: &str) -> Vec<u8> {
     lay_out(&mut build(&Source::new("t", text)).expect("a program")).bytes
 }
 
-/// The tests run beside each other, each in folders of its own.
-fn scratch() -> Scratch {
-    static COUNT: AtomicUsize = AtomicUsize::new(0);
-    Scratch::new(&format!("steering-{}", COUNT.fetch_add(1, Ordering::Relaxed)))
-}
-
-/// The last function of the text is f; with these ancillae it carries the one value to the other and back.
-fn carries(text: &str, ancillae: &[&str], from: &str, to: &str) {
-    let scratch = scratch();
-    scratch.file("t.fun", &format!("type Nat = Zero | Succ Nat\ntype Bool = True | False\n{PLUS}{text}\n"));
-    for (direction, given, answered) in [("run", from, to), ("back", to, from)] {
-        let words = [&[direction, "t.fun", "f"], ancillae, &[given, "--trace=1"]].concat();
-        let ran = tulakkez(&scratch.0, &words);
-        assert_eq!(ran.status, 0, "{direction} {given}: {}\n{text}", ran.err);
-        assert_eq!(ran.out.lines().nth(1), Some(answered), "{direction} {given}\n{text}");
-    }
-}
-
-/// As above, of a function on two numbers that begins by naming them k and n.
+/// A function on two numbers that begins by naming them k and n carries the one pair to the other and back.
 fn carries_two(body: &str, from: &str, to: &str) {
     carries(&format!("fun f (r : (Nat, Nat)) : (Nat, Nat) = let (k, n) = r in {body}"), &[], from, to);
 }
@@ -194,7 +175,7 @@ fn branches_inside_an_ancilla_argument_are_told_by_a_variable_of_their_own() {
 /// Backward the body is followed first: it brings k back before the call names it.
 #[test]
 fn a_run_back_that_is_followed_knows_the_variable() {
-    let scratch = scratch();
+    let scratch = scratch("steering");
     let text = "type Nat = Zero | Succ Nat\nfun plus (k : Nat) (n : Nat) : Nat =\n  case n of Zero => k | Succ m => Succ (plus k m)\nfun shift (r : (Nat, Nat)) : (Nat, Nat) =\n  let (k, n) = r in\n  let y = plus k n in (k, y)\n";
     scratch.file("t.fun", text);
     let expected = [
@@ -229,7 +210,7 @@ fn a_program_that_is_steered_shows_as_text_that_builds_to_it() {
 /// A record that carries its own offset is converted and rolled back without an ancilla.
 #[test]
 fn a_journal_of_such_records_rolls_back() {
-    let scratch = scratch();
+    let scratch = scratch("steering");
     let journal = scratch.0.join("j").to_string_lossy().into_owned();
     let text = root().join("examples/texts/steering.fun").to_string_lossy().into_owned();
     let (raw, raised) = ("(1, Cons (Fill, 7) Nil)", "(1, Cons (Fill, 8) Nil)");

@@ -11,7 +11,7 @@ use tulakkez::show::show;
 use tulakkez::text::Source;
 use tulakkez::values;
 use tulakkez_tests::command::deep;
-use tulakkez_tests::random::{random_text, random_value, Text};
+use tulakkez_tests::random::{random_ancillae, random_text, random_value, Text};
 
 fn built(text: &str) -> (Program, Vec<u8>) {
     let source = Source::new("text", text);
@@ -64,7 +64,7 @@ struct Spelling {
 
 /// Every function of a random text is the identity, both ways.
 fn runs_both_ways(rng: &mut Rng, made: &Text, mut program: Program, bytes: &[u8], spelling: &mut Spelling) {
-    for (number, &(variant, has_ancilla)) in made.functions.iter().enumerate() {
+    for (number, &(variant, has_ancillae)) in made.functions.iter().enumerate() {
         let text = random_value(rng, &made.variants, Some(variant), 3);
         let ty = program.functions[number].result;
         let mut read = |text: &str| values::read(&mut program.types, &Source::new("value", text), Some(ty));
@@ -76,13 +76,13 @@ fn runs_both_ways(rng: &mut Rng, made: &Text, mut program: Program, bytes: &[u8]
             values::read(&mut program.types, &Source::new("value", written), Some(ty)).as_ref(),
             Ok(&value)
         );
-        let ancillae: &[u8] = if has_ancilla { &[4, 1, 0] } else { &[] };
+        let ancillae = if has_ancillae { random_ancillae(rng) } else { Vec::new() };
         for direction in [Direction::Forward, Direction::Backward] {
             let call = Run {
                 program: bytes,
                 direction,
                 function: number as u16,
-                ancillae,
+                ancillae: &ancillae,
                 value: &value,
                 fuel: LARGEST_FUEL,
             };

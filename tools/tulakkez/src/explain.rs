@@ -1,6 +1,7 @@
 //! The engine's refusals at their places in the text: what is wrong there, and what to do. The engine has decided; here its words are made
 //! plainer with what the text says.
 
+use crate::choosing::{disagreement, first_match};
 use crate::core::program::Found;
 use crate::core::term::{Function, Term, TermKind};
 use crate::core::types::{TypeId, View};
@@ -28,7 +29,7 @@ const HELP: [&str; 20] = [
     "give more fuel; where 65,535 are too few, split the conversion",
     "fewer terms around the calls, or shorter records",
     "the record is too long in the other form, or on the way to it",
-    "there would be no way back: let the arms of this case begin with different constructors",
+    "there would be no way back: let the arms of this case begin with different constructors, or let it choose by ancillae alone",
     "the value did not come from this function with these ancillae; no fuel changes that",
     "lend 1,024 bytes for a value, 66,112 for the entries of a journal",
     "the bytes are not a journal that an open left and that calls alone have written since",
@@ -59,16 +60,26 @@ pub fn explain(program: &mut Program, source: &Source, layout: &Layout, refusal:
         (Refusal::Mismatch(_), _, Some(function)) => explainer.result_differs(function),
         (Refusal::Use(_), Some(found), _) => explainer.misused(found),
         (Refusal::Use(_), _, Some(function)) => Some(parameter_unused(function)),
-        (Refusal::FirstMatch(_), Some(found), _) => Some(first_match(found.term)),
         (_, Some(found), _) => within(refusal, &found.function.name).map(|what| (entry.span, what)),
         _ => None,
     };
-    let named = found.filter(|_| matches!(refusal, Refusal::Use(_))).and_then(|found| misnamed(&found, source));
-    let mistake = named.unwrap_or_else(|| {
+    let mistake = found.and_then(|found| with_reason(refusal, &found, source)).unwrap_or_else(|| {
         let (span, what) = told.unwrap_or((entry.span, refusal.meaning().to_string()));
-        Mistake::new(span, what).help(help(refusal.number()))
+        Mistake::new(span, what)
     });
-    Some(Mistake { what: format!("refused {}: {}", refusal.number(), mistake.what), ..mistake })
+    let what = format!("refused {}: {}", refusal.number(), mistake.what);
+    let helped = mistake.help.clone().unwrap_or_else(|| help(refusal.number()).to_string());
+    Some(Mistake { what, ..mistake }.help(helped))
+}
+
+/// What is told of a term by what stands around it.
+fn with_reason(refusal: Refusal, found: &Found, source: &Source) -> Option<Mistake> {
+    match refusal {
+        Refusal::Use(_) => misnamed(found, source),
+        Refusal::FirstMatch(_) => first_match(found),
+        Refusal::NoInput(_) => Some(disagreement(found)),
+        _ => None,
+    }
 }
 
 /// What is told of a term by the function that holds it.
@@ -78,7 +89,6 @@ fn within(refusal: Refusal, function: &str) -> Option<String> {
         Refusal::Fuel(_) => Some(format!("the fuel is spent, in {function}")),
         Refusal::Height(_) => Some(format!("the height passes 1,024, in {function}")),
         Refusal::Size(_) => Some("this value is over 1,024 bytes".to_string()),
-        Refusal::NoInput(_) => Some("no input leads to this value: it disagrees here".to_string()),
         _ => None,
     }
 }
@@ -101,18 +111,6 @@ fn too_many(over: bool, kind: EntryKind, layout: &Layout, function: Option<&Func
 fn parameter_unused(function: &Function) -> Told {
     let name = function.dynamic().map_or("", |parameter| parameter.name.as_str());
     (function.span, format!("{} does not use its dynamic parameter {name}", function.name))
-}
-
-/// The branch that was taken is the right one; what is known of its arm is less than of the one that stands in its way.
-fn first_match(case: &Term) -> Told {
-    let span = match &case.kind {
-        TermKind::Case(_, left, _) => left.span,
-        _ => case.span,
-    };
-    (
-        span,
-        "an arm for a later alternative was taken, and its value is one that this arm may yield too".to_string(),
-    )
 }
 
 struct Explainer<'a> {
@@ -247,7 +245,7 @@ impl Explainer<'_> {
             };
             // Units may differ.
             if !self.is_unit(used.ty) {
-                let name = name_of(found.function, variable, found.term.span).unwrap_or_default();
+                let name = found.name(variable).unwrap_or("a part of what is matched around it");
                 return Some((span, format!("this arm does not use {name}, and another arm does")));
             }
         }
@@ -266,32 +264,4 @@ fn first_of_its_own(found: &Found) -> usize {
         }
     }
     found.function.parameters.len().saturating_sub(1)
-}
-
-/// The name of a variable as it is bound around a place.
-fn name_of(function: &Function, variable: usize, around: Span) -> Option<String> {
-    if let Some(parameter) = function.parameters.get(variable) {
-        return Some(parameter.name.clone());
-    }
-    let mut name = None;
-    search(&function.body, function.parameters.len(), variable, around, &mut name);
-    name
-}
-
-fn search(term: &Term, variables: usize, variable: usize, around: Span, name: &mut Option<String>) {
-    for (place, part) in term.parts().into_iter().enumerate() {
-        let bound = term.bound_before(place);
-        let binder = match (&term.kind, variable.checked_sub(variables)) {
-            (TermKind::Case(..), Some(0)) => place.checked_sub(1),
-            (_, Some(offset)) if offset < bound => Some(offset),
-            _ => None,
-        };
-        let holds = part.span.start <= around.start && around.end <= part.span.end || part.span == around;
-        if let Some(binder) = binder.and_then(|binder| term.binders.get(binder)) {
-            if holds || name.is_none() {
-                *name = Some(binder.name.to_string());
-            }
-        }
-        search(part, variables + bound, variable, around, name);
-    }
 }

@@ -4,6 +4,7 @@
 //! checks and runs; nothing here decides what is accepted.
 
 pub mod build;
+pub mod choosing;
 pub mod command;
 pub mod core;
 pub mod engine;

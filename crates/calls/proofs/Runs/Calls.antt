@@ -48,7 +48,7 @@ pub record Direction : Type 0 where
   pub ends : (P : Program) (a : Given) (f : ℕ) → Ends (λ w. fits w ≡ true) (run P a f)
   -- the numbers of refusals
   pub numbers : List ℕ
-  pub numbered : (P : Program) (a : Given) (f : ℕ) → EndsBy (λ n. member n numbers ≡ true) (λ w. fits w ≡ true) (run P a f)
+  pub numbered : (P : Program) (a : Given) (f : ℕ) → EndsBy (λ n k. member n numbers ≡ true) (λ w. fits w ≡ true) (run P a f)
   -- what is admitted to a run of a typed program does not stick
   pub safe : (P : Program) (fn : ℕ) (as? : Option (List Val)) (v? : Option Val) (a : Given) (f : ℕ) → WellTyped maxVariables maxNodes P
       → Admits P fn as? v? side a → ¬ (run P a f ≡ stuck)
@@ -61,14 +61,14 @@ unfolding fits maxValueBytes size
 unit-fits = refl
 
 pub forward-numbers : (P : Program) (h : Fun) (vs : List Val) (v : Val) (f : ℕ)
-    → EndsBy (λ n. member n forwardNumbers ≡ true) (λ w. fits w ≡ true) (runForward fits P maxHeight h vs v f)
+    → EndsBy (λ n k. member n forwardNumbers ≡ true) (λ w. fits w ≡ true) (runForward fits P maxHeight h vs v f)
 unfolding range
-forward-numbers P h vs v f = ends-wider (λ c l. in-range 12 4 c (l .0) (omega arith)) (run-forward-numbers fits P maxHeight h vs v f)
+forward-numbers P h vs v f = ends-wider (λ c k l. in-range 12 4 c (l .0) (omega arith)) (run-forward-numbers fits P maxHeight h vs v f)
 
 pub backward-numbers : (P : Program) (h : Fun) (vs : List Val) (v : Val) (f : ℕ)
-    → EndsBy (λ n. member n backwardNumbers ≡ true) (λ w. fits w ≡ true) (runBackward fits P maxHeight h vs v f)
+    → EndsBy (λ n k. member n backwardNumbers ≡ true) (λ w. fits w ≡ true) (runBackward fits P maxHeight h vs v f)
 unfolding range
-backward-numbers P h vs v f = ends-wider (λ c l. in-range 12 5 c (l .0) (omega arith)) (run-backward-ends fits P unit-fits maxHeight h vs v f)
+backward-numbers P h vs v f = ends-wider (λ c k l. in-range 12 5 c (l .0) (omega arith)) (run-backward-ends fits P unit-fits maxHeight h vs v f)
 
 abbrev pub onward : Direction
 onward = record {

@@ -12,8 +12,8 @@ use package.Rattle.rules.specs.Ty.{Ty, HasTy, HasTys}
 use package.Rattle.rules.specs.Term.{Fun, Program, nth}
 use package.Rattle.rules.specs.Typing.{WellTyped}
 use package.Rattle.rules.specs.Run.{ok, stop}
-use package.Rattle.rules.specs.Machine.{runBackward}
-use package.Rattle.rules.specs.Claims.{Carries}
+use package.Rattle.rules.specs.Machine.{runForward, runBackward}
+use package.Rattle.rules.specs.Claims.{Carries, ChoosesAt}
 use package.Rattle.rules.proofs.Basics.{given, some-inj}
 use package.Rattle.rules.proofs.Numbers.{answer-ends}
 use package.Rattle.rules.proofs.Theorems as Rules
@@ -21,7 +21,8 @@ use package.Rattle.calls.specs.Answer.{Answer, refused}
 use package.Rattle.calls.specs.Named.{member}
 use package.Rattle.calls.specs.Values.{read, value}
 use package.Rattle.calls.specs.Runs.{workspaceFor, prepared, goes, returns, checkCall, forwardCall, backwardCall}
-use package.Rattle.calls.specs.Claims.{CheckIffTyped, Admitted, ForwardIffRules, BackwardIffRules, BackwardIffForward, NoInput, NoValue, Injective, MoreNeverChanges, NeverStuck, OldConversionsReturn}
+use package.Rattle.calls.specs.Claims.{CheckIffTyped, Admitted, ForwardIffRules, BackwardIffRules, BackwardIffForward, NoInput, NoValue}
+use package.Rattle.calls.specs.Claims.{NeverAtChoice, Injective, MoreNeverChanges, NeverStuck, OldConversionsReturn}
 use package.Rattle.calls.proofs.Answer.{accepted-inj, via, unbind}
 use package.Rattle.calls.proofs.Values.{got-value, read-encode, value-encode, value-sound}
 use package.Rattle.calls.proofs.Refusals.{Numbered, number}
@@ -144,6 +145,24 @@ no-value ws out fuel fn program anc bytes k e = elim (forward-call-refused ws ou
   | running P h vs v A x ↦ (P, h, vs, v, A, λ fits′ r n w d. Rules.tree-no-value P fits fits′ maxHeight r h vs v w fuel k n x d)
   | short e′ ↦ absurd (omega arith)
 ]
+
+pub never-at-choice : NeverAtChoice
+never-at-choice ws out fuel fn program anc bytes k = (
+  λ e. elim (forward-call-refused ws out fuel fn program anc bytes e) [
+    | before l ↦ absurd (omega arith)
+    | running P h vs v A x ↦ (P, h, vs, v, A, λ C. spared P h vs (A .typed) (A .function) (A .ancillae-typed) C v .0 x)
+    | short e′ ↦ absurd (omega arith)
+  ],
+  λ e. elim (backward-call-refused ws out fuel fn program anc bytes e) [
+    | before l ↦ absurd (omega arith)
+    | running P h vs w A x ↦ (P, h, vs, w, A, λ C. spared P h vs (A .typed) (A .function) (A .ancillae-typed) C w .1 x)
+    | short e′ ↦ absurd (omega arith)
+  ],
+)
+  where
+    spared : (P : Program) (h : Fun) (vs : List Val) → WellTyped maxVariables maxNodes P → nth P fn ≡ some h → HasTys vs (h .ancillae) → ChoosesAt P k
+        → (v : Val) → (¬ (runForward fits P maxHeight h vs v fuel ≡ stop 15 k)) × (¬ (runBackward fits P maxHeight h vs v fuel ≡ stop 15 k))
+    spared P h vs T found hs C v = Rules.tree-never-at-choice maxVariables maxNodes P T fn h found vs hs k C fits maxHeight fuel v
 
 -- numbers begin with 1
 not-zero : {A : Type 0} {ns : List ℕ} {k : ℕ} {x : Answer A} → member 0 ns ≡ false → Numbered ns x → ¬ (x ≡ refused 0 k)

@@ -86,7 +86,7 @@ module _ (fuel : ℕ) where
   ran-iff stuck left w n = (λ e. absurd (refused≢accepted e), λ (e, l). absurd (stuck≢ok e))
 
   -- a run that is not stuck
-  pub ran-numbered : {ns : List ℕ} {Q : Val → Type 0} {x : Res Val} → EndsBy (λ n. member n ns ≡ true) Q x → ¬ (x ≡ stuck) → Numbered ns (ran fuel x)
+  pub ran-numbered : {ns : List ℕ} {Q : Val → Type 0} {x : Res Val} → EndsBy (λ n k. member n ns ≡ true) Q x → ¬ (x ≡ stuck) → Numbered ns (ran fuel x)
   unfolding ran
   ran-numbered (answers q) s = accepts
   ran-numbered (refuses l) s = rejects l

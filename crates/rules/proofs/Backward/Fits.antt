@@ -10,10 +10,11 @@ use mathlib.Core.Logic.{_⊎_, inl as left, inr as right, ⊎-elim}
 use lib.ListN.{length}
 use lib.Dec.{eqb}
 use package.Rattle.rules.specs.Val.{Val, unit, inl, inr, pair, roll, same}
-use package.Rattle.rules.specs.Term.{Term, var, tunit, tinl, tinr, tpair, tlet, tletp, tcase, tcall, troll, tunroll, entry, Fun, Program, nth, scope}
+use package.Rattle.rules.specs.Term.{Term, var, tunit, tinl, tinr, tpair, tlet, tletp, tcase, tcall, troll, tunroll, entry, Fun, Program, nth}
+use package.Rattle.rules.specs.Term.{scope, byAncilla}
 use package.Rattle.rules.specs.Yield.{mayYield}
 use package.Rattle.rules.specs.Run.{ok, Run, _>>=_, give, refuse}
-use package.Rattle.rules.specs.Machine.{State, bindOr, meet, leave, filled, forward, backwardStep, backward, runBackward}
+use package.Rattle.rules.specs.Machine.{State, bindOr, meet, leave, filled, forward, branchBack, caseBack, backwardStep, backward, runBackward}
 use package.Rattle.rules.proofs.Numbers.{Ends, answers, refuses, sticks, ends-after, ends-enter, ends-test, ends-some, ends-sum, ends-pair, ends-roll}
 use package.Rattle.rules.proofs.Numbers.{ends-unit, ends-map, ends-wider, answer-ends, EndsForward, each-ends, forward-ends}
 
@@ -83,6 +84,13 @@ module _ (fits : Val → Bool) where
   leave-ends σ (none ∷ σ₂) k g x s = s unit σ₂ (left refl) (x .1)
   leave-ends σ (some v ∷ σ₂) k g x s = s v σ₂ (right (x .0)) (x .1)
 
+  -- a variable that entered bound leaves
+  bound-ends : (w : Val) (σ σ₁ : State) (g : ℕ) → Gains (some w ∷ σ) σ₁ → Ends (Gains σ) (leave σ₁ (λ u σ₂. give σ₂) g)
+  unfolding leave
+  bound-ends w σ [] g x = absurd x
+  bound-ends w σ (none ∷ σ₂) g x = answers (x .1)
+  bound-ends w σ (some v ∷ σ₂) g x = answers (x .1)
+
   ----------------------------------------------------------------
   -- Terms
 
@@ -96,6 +104,17 @@ module _ (fits : Val → Bool) where
       onward : (σ₁ : State) (t : Term) (v : Val) (g : ℕ) → Gains σ σ₁ → Ends (Gains σ) (go a σ₁ t v g)
       onward σ₁ t v g x = ends-map (λ σ′ y. gains-both σ σ₁ σ′ x y) (B a σ₁ t v g)
 
+      branch-ends : (b : Term) (v w : Val) (g : ℕ) → Ends (Gains σ) (branchBack go a σ b v w g)
+      unfolding branchBack
+      branch-ends b v w g = ends-after _ (B a (some w ∷ σ) b v g) λ σ₁ g x. bound-ends w σ σ₁ g x
+
+      case-ends : (e b b′ : Term) (v : Val) (c y : Bool) (g : ℕ) → Ends (Gains σ) (caseBack fw go a σ e b b′ v c y g)
+      unfolding caseBack
+      case-ends e b b′ v true y g = ends-after _ (ends-wider (λ c k l. omega arith) (S a (filled σ) e g)) λ s g u.
+          ends-sum s _ _ g (λ w. branch-ends b v w g) λ w. branch-ends b′ v w g
+      case-ends e b b′ v false y g = ends-after _ (B a (none ∷ σ) (cond y b b′) v g) λ σ₁ g x. leave-ends σ σ₁ _ g x λ w σ₂ l y′.
+          onward σ₂ e (cond y (inl w) (inr w)) g y′
+
       step-ends : (t : Term) (v : Val) → fits v ≡ true → (g : ℕ) → Ends (Gains σ) (backwardStep fits P fw go a σ t v g)
       unfolding backwardStep
       step-ends (var k i) v ft g = meet-ends k σ i v g ft
@@ -106,10 +125,9 @@ module _ (fits : Val → Bool) where
       step-ends (tlet k e b) v ft g = ends-after _ (B a (none ∷ σ) b v g) λ σ₁ g x. leave-ends σ σ₁ _ g x λ w σ₂ l y. onward σ₂ e w g y
       step-ends (tletp k e b) v ft g = ends-after _ (B a (none ∷ none ∷ σ) b v g) λ σ₁ g x. leave-ends (none ∷ σ) σ₁ _ g x λ w′ σ₂ l y.
           leave-ends σ σ₂ _ g y λ w σ₃ l z. onward σ₃ e (pair w w′) g z
-      step-ends (tcase k e b b′) v ft g = ends-after _ (B a (none ∷ σ) (cond (mayYield a b v) b b′) v g) λ σ₁ g x. leave-ends σ σ₁ _ g x λ w σ₂ l y.
-          onward σ₂ e (cond (mayYield a b v) (inl w) (inr w)) g y
+      step-ends (tcase k e b b′) v ft g = case-ends e b b′ v (byAncilla (length a) (length σ) e) (mayYield a b v) g
       step-ends (tcall k j ts e) v ft g = ends-some (nth P j) _ g λ h.
-          ends-after _ (ends-wider (λ c l. omega arith) (each-ends fits P fw S a (filled σ) ts g)) λ vs g u.
+          ends-after _ (ends-wider (λ c k l. omega arith) (each-ends fits P fw S a (filled σ) ts g)) λ vs g u.
           ends-after _ (B (scope vs []) (none ∷ map some (scope vs [])) (h .body) v g) λ σ₁ g x.
           leave-ends (map some (scope vs [])) σ₁ _ g x λ w σ₂ l y. B a σ e w g
       step-ends (troll k c e) v ft g = ends-roll v _ g λ w. B a σ e w g
@@ -117,8 +135,8 @@ module _ (fits : Val → Bool) where
 
     pub backward-ends : (r : ℕ) → EndsBackward (backward fits P r)
     unfolding backward
-    backward-ends zero a σ t v g = ends-enter (omega arith) (entry t) g (refuse 13 (entry t)) λ g. refuses {c = 13} (omega arith)
-    backward-ends (suc r) a σ t v g = ends-enter (omega arith) (entry t) g _ λ g. ends-test (fits v) 14 (entry t) g _ (omega arith) λ ft.
+    backward-ends zero a σ t v g = ends-enter (entry t) g (refuse 13 (entry t)) (omega arith) λ g. refuses {c = 13} (omega arith)
+    backward-ends (suc r) a σ t v g = ends-enter (entry t) g _ (omega arith) λ g. ends-test (fits v) 14 (entry t) g _ (omega arith) λ ft.
         step-ends (forward fits P r) (forward-ends fits P r) (backward fits P r) (backward-ends r) a σ t v ft g
 
     ----------------------------------------------------------------

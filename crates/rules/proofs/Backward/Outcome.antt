@@ -2,25 +2,30 @@
 use Prim.Native.Nat.{ℕ, zero, suc, _+_}
 use native.Mathlib.Omega.{arith}
 use mathlib.Core.Path.{_≡_, refl, sym, ap, subst, _∙_}
-use mathlib.Core.Bool.{Bool, true, cond, false≢true}
+use mathlib.Core.Bool.{Bool, true, false, false≢true}
 use mathlib.Core.Option.{none, some}
 use mathlib.Core.List.{List, [], _∷_, map}
+use mathlib.Core.Logic.{inl as left}
 use lib.ListN.{length}
 use lib.Dec.{eqb→eq, T}
 use package.Rattle.rules.specs.Val.{Val, unit, inl, inr, pair, roll}
 use package.Rattle.rules.specs.Ty.{Ty, prod, sum, unfoldTy}
-use package.Rattle.rules.specs.Term.{Term, tcase, entry, Fun, Program, scope, usedIn}
+use package.Rattle.rules.specs.Term.{Term, tcase, entry, Fun, Program, scope, byAncilla}
+use package.Rattle.rules.specs.Yield.{mayYield, firstMatch}
 use package.Rattle.rules.specs.Rules.{Judgement, Rule, e-var, e-unit, e-inl, e-inr, e-prod, e-let, e-letp, e-casel, e-caser, e-app, e-roll, e-unroll, Ev}
 use package.Rattle.rules.specs.Typing.{dynamic}
 use package.Rattle.rules.specs.Run.{Run, after, enter, test}
-use package.Rattle.rules.specs.Machine.{onSum, onPair, onRoll, onUnit, State, leave, filled, forward, backwardStep, backward}
+use package.Rattle.rules.specs.Machine.{onSum, onPair, onRoll, onUnit, State, leave, filled, forward, branchBack, caseBack, backwardStep, backward}
 use package.Rattle.rules.proofs.OfType.{OfType}
-use package.Rattle.rules.proofs.Backward.Pop.{meet-good, pop, Ready, ready-push, ready-grow, ready-lend, ready-call, call-pop}
-use package.Rattle.rules.proofs.Basics.{given, some-inj, or-elim}
+use package.Rattle.rules.proofs.Backward.Pop.{leave-good, meet-good, pop, Ready, ready-push, ready-bound, ready-grow, ready-lend, ready-call, call-pop}
+use package.Rattle.rules.proofs.Basics.{given, some-inj, not-true, or-elim}
+use package.Rattle.rules.proofs.Choice.{scrutinee-within, scrutinee-allowed}
 use package.Rattle.rules.proofs.Directed.{allowed, lend, nothing, Spent, Typed, TypedAll, TypedProgram}
 use package.Rattle.rules.proofs.Forward.Outcome.{Out, each-out, outcome}
-use package.Rattle.rules.proofs.Known.{Knows, Mono, Bound, After, enough-filled, bound-both, bound-let, bound-left, bound-right}
-use package.Rattle.rules.proofs.Outcome.{steps, fuel-short, room-short, Good, yields, short, good-after, good-val, good-enter, good-size, good-some, good-swap, good-map}
+use package.Rattle.rules.proofs.Known.{Knows, knows-new, Mono, Bound, After, Either, mono-pop, bound-pop, enough-filled}
+use package.Rattle.rules.proofs.Known.{bound-both, bound-let, bound-left, bound-right, bound-matched, bound-chosen}
+use package.Rattle.rules.proofs.Outcome.{steps, fuel-short, room-short, Good, yields, short, good-after, good-val, good-last, good-enter}
+use package.Rattle.rules.proofs.Outcome.{good-size, good-some, good-swap, good-map}
 use package.Rattle.rules.proofs.Preserve.{types-length, Keeps, all-keeps, preserve}
 use package.Rattle.rules.proofs.State.{Agree, agree-length, Enough}
 use package.Rattle.rules.proofs.Yield.{under-push, May, may}
@@ -74,6 +79,68 @@ module _ (fits fits′ : Val → Bool) (P : Program) (W : TypedProgram P) where
     enough-here : {a ρ : List Val} → Ready a q M Γ ρ σ → Enough (allowed M q (length Γ)) (filled σ) ρ
     enough-here {a} {ρ} rd = enough-filled M q Γ σ ρ (rd .agree) (rd .env) (rd .anc) (rd .lent)
 
+    -- a branch runs back with its variable bound
+    branch-good : {a ρ : List Val} {m : ℕ} (u : Term) (v w : Val) (c : Ty) → R a (v ∷ ρ) u w m → OfType v c → Typed P q M (c ∷ Γ) u τ
+        → Ready a q M Γ ρ σ → (g : ℕ) → Good fits fits′ (After q Γ u ρ σ) g m r r′ (branchBack go a σ u w v g)
+    unfolding branchBack
+    branch-good {a} {ρ} u v w c D h T rd g =
+        given (sym (types-length ρ Γ (rd .env))) λ l. given (agree-length σ ρ (rd .agree)) λ l′.
+        good-last fits fits′ _ (B _ _ _ _ _ D q M (c ∷ Γ) τ T (some v ∷ σ) (ready-bound c v h rd) g) λ σ₁ g (ag, mo, bd).
+        leave-good fits fits′ _ σ₁ v ρ ag (left (mo (length ρ) (knows-new v σ (length ρ) (sym l′)))) λ m σ₂ x ag₂.
+        given (agree-length σ₂ ρ ag₂) λ l₂.
+        yields {g = g} (
+          ag₂,
+          mono-pop (some v) m σ σ₂ (l′ ∙ sym l₂) (subst (Mono (some v ∷ σ)) x mo),
+          bound-pop q Γ u c m σ₂ (l ∙ sym l₂) (subst (Bound q (c ∷ Γ) u) x bd),
+        ) (omega arith)
+
+    -- a case that chooses by an ancilla: the scrutinee gives `s`, with which the branch `u` runs back
+    chosen-good : {a ρ : List Val} {n m : ℕ} (k : ℕ) (e b b′ u : Term) (v s w : Val) (c : Ty) (next : Val → Run State)
+        → next s ≡ branchBack go a σ u w v → byAncilla (length a) (length σ) e ≡ true → R a ρ e s n → R a (v ∷ ρ) u w m
+        → OfType v c → Typed P q M (c ∷ Γ) u τ → ((σ′ : State) → Bound q Γ u σ′ → Either q Γ b b′ σ′) → Ready a q M Γ ρ σ → (g : ℕ)
+        → Good fits fits′ (After q Γ (tcase k e b b′) ρ σ) g (n + m) r r′ (after (fw a (filled σ) e g) next)
+    chosen-good {a} {ρ} {n} {m} k e b b′ u v s w c next same x D D′ h T ei rd g =
+        given (agree-length σ ρ (rd .agree) ∙ types-length ρ Γ (rd .env)) λ l.
+        given (scrutinee-within q (length Γ) e (ap (λ q. byAncilla q (length Γ) e) (sym (rd .parameters))
+        ∙ ap (λ n. byAncilla (length a) n e) (sym l) ∙ x)) λ inner.
+        good-val fits fits′ _ (O _ _ _ _ _ D (allowed M q (length Γ)) (filled σ) (enough-here rd) (scrutinee-allowed q (length Γ) e M inner) g) λ g.
+        subst (λ t. Good fits fits′ (After q Γ (tcase k e b b′) ρ σ) g m r r′ (t g)) (sym same)
+        (good-map fits fits′ (λ σ′ (ag, mo, bd). (ag, mo, bound-chosen q Γ k e b b′ σ′ inner (ei σ′ bd))) (branch-good u v w c D′ h T rd g))
+
+    -- a case under first match: the branch `u`, then the scrutinee, for whose value `v` is wrapped
+    matched-good : {a ρ : List Val} {n m : ℕ} (k : ℕ) (e b b′ u : Term) (v w : Val) (c d : Ty) (wrap : Val → Val)
+        → R a ρ e (wrap v) n → R a (v ∷ ρ) u w m → Typed P q M Γ e d → OfType v c → Typed P q M (c ∷ Γ) u τ → Spent (length Γ) c u
+        → ((σ′ : State) → Bound q Γ u σ′ → Either q Γ b b′ σ′) → Ready a q M Γ ρ σ → (g : ℕ)
+        → Good fits fits′ (After q Γ (tcase k e b b′) ρ σ) g (n + m) r r′ (after (go a (none ∷ σ) u w g) λ σ₁. leave σ₁ λ v σ₂. go a σ₂ e (wrap v))
+    matched-good k e b b′ u v w c d wrap D D′ T h T′ s ei rd g =
+        good-map fits fits′ (λ σ′ (ag, mo, (σ₂, mo₂, bd, bd₂)). (ag, mo, bound-matched q Γ k e b b′ σ₂ σ′ mo₂ bd (ei σ₂ bd₂)))
+        (let-good e u v (wrap v) w c d wrap M (λ σ₂ (ag, mo, bd). ready-grow σ₂ rd ag mo) D refl D′ T h T′ s rd g)
+
+    case-left : {a ρ : List Val} {n m : ℕ} (k : ℕ) (e b b′ : Term) (v w : Val) (c : Bool) → byAncilla (length a) (length σ) e ≡ c
+        → R a ρ e (inl v) n → R a (v ∷ ρ) b w m → Typed P q M Γ (tcase k e b b′) τ → Ready a q M Γ ρ σ → (g : ℕ)
+        → Good fits fits′ (After q Γ (tcase k e b b′) ρ σ) g (n + m) r r′ (caseBack fw go a σ e b b′ w c (mayYield a b w) g)
+    unfolding caseBack onSum
+    case-left k e b b′ v w true x D D′ (a₁, a₂, T, T₁, T₂, s₁, s₂, su) rd g =
+        chosen-good k e b b′ b v (inl v) w a₁ _ refl x D D′ (K _ _ _ _ _ D q M Γ (sum a₁ a₂) (rd .env) T) T₁ (λ σ′. bound-left q Γ b b′ σ′ su) rd g
+    case-left {a} {ρ} {n} {m} k e b b′ v w false x D D′ (a₁, a₂, T, T₁, T₂, s₁, s₂, su) rd g =
+        subst (λ y. Good fits fits′ (After q Γ (tcase k e b b′) ρ σ) g (n + m) r r′ (caseBack fw go a σ e b b′ w false y g))
+        (sym (My _ _ _ _ _ D′ (under-push a ρ v (rd .under))))
+        (matched-good k e b b′ b v w a₁ (sum a₁ a₂) inl D D′ T (K _ _ _ _ _ D q M Γ (sum a₁ a₂) (rd .env) T) T₁ s₁
+        (λ σ′. bound-left q Γ b b′ σ′ su) rd g)
+
+    case-right : {a ρ : List Val} {n m : ℕ} (k : ℕ) (e b b′ : Term) (v w : Val) (c : Bool) → byAncilla (length a) (length σ) e ≡ c
+        → R a ρ e (inr v) n → R a (v ∷ ρ) b′ w m → firstMatch a (length ρ) e b w ≡ true → Typed P q M Γ (tcase k e b b′) τ → Ready a q M Γ ρ σ
+        → (g : ℕ) → Good fits fits′ (After q Γ (tcase k e b b′) ρ σ) g (n + m) r r′ (caseBack fw go a σ e b b′ w c (mayYield a b w) g)
+    unfolding caseBack onSum firstMatch
+    case-right k e b b′ v w true x D D′ y (a₁, a₂, T, T₁, T₂, s₁, s₂, su) rd g =
+        chosen-good k e b b′ b′ v (inr v) w a₂ _ refl x D D′ (K _ _ _ _ _ D q M Γ (sum a₁ a₂) (rd .env) T) T₂ (λ σ′. bound-right q Γ b b′ σ′ su) rd g
+    case-right {a} {ρ} {n} {m} k e b b′ v w false x D D′ y (a₁, a₂, T, T₁, T₂, s₁, s₂, su) rd g =
+        subst (λ y. Good fits fits′ (After q Γ (tcase k e b b′) ρ σ) g (n + m) r r′ (caseBack fw go a σ e b b′ w false y g))
+        (sym (not-true {b = mayYield a b w} (or-elim (byAncilla (length a) (length ρ) e) _ (λ z. absurd (false≢true (sym x
+        ∙ ap (λ n. byAncilla (length a) n e) (agree-length σ ρ (rd .agree)) ∙ z))) (λ z. z) y)))
+        (matched-good k e b b′ b′ v w a₂ (sum a₁ a₂) inr D D′ T (K _ _ _ _ _ D q M Γ (sum a₁ a₂) (rd .env) T) T₂ s₂
+        (λ σ′. bound-right q Γ b b′ σ′ su) rd g)
+
     step-bout : {a ρ : List Val} {t : Term} {v : Val} {n : ℕ} → Rule fits′ P R a ρ t v n → Typed P q M Γ t τ → Ready a q M Γ ρ σ
         → (f : ℕ) → Good fits fits′ (After q Γ t ρ σ) f n (suc r) (suc r′) (enter (entry t) (test (fits v) 14 (entry t) (backwardStep fits P fw go a σ t v)) f)
     unfolding backwardStep onSum onPair onRoll onUnit entry
@@ -98,28 +165,10 @@ module _ (fits fits′ : Val → Bool) (P : Program) (W : TypedProgram P) where
         pop fits fits′ _ q Γ a₁ v b ρ none σ σ₂ l l′ (rd .le) h₁ s₁ A₂ λ σ₃ A₃. given A₃ λ (ag, mo, bd).
         good-map fits fits′ (λ σ′ (ag′, mo′, bd′). (ag′, (λ i k. mo′ i (mo i k)), bound-let q Γ e b σ₃ σ′ mo′ bd′ bd))
         (B _ _ _ _ _ d q (lend M (length Γ) b) Γ (prod a₁ a₂) T σ₃ (ready-lend b σ₃ rd A₃) g)
-    step-bout (e-casel {k} {n} {m} {a} {ρ} {e} {b} {b′} {v} {w} d d′) (a₁, a₂, T, T₁, T₂, s₁, s₂, su) rd f = open-term k f w _ (F _ _ _ _ _ d′) λ g.
-        subst (λ c. Good fits fits′ (After q Γ (tcase k e b b′) ρ σ) g (n + m) r r′ (after (go a (none ∷ σ) (cond c b b′) w g) λ σ₁. leave σ₁ λ v σ₂. go a σ₂ e (cond c (inl v) (inr v))))
-        (sym (My _ _ _ _ _ d′ (under-push a ρ v (rd .under))))
-        (good-map fits fits′ (λ σ′ (ag, mo, (σ₂, mo₂, bd, bd₂)). (
-          ag,
-          mo,
-          λ i c p u ql s.
-              or-elim (usedIn i e) _ (λ x. bd i c p u ql x) (λ x. mo₂ i (bound-left q Γ b b′ σ₂ su bd₂ i c p u ql x)) s,
-        ))
-        (let-good e b v (inl v) w a₁ (sum a₁ a₂) inl M (λ σ₂ (ag, mo, bd). ready-grow σ₂ rd ag mo) d refl d′ T
-        (K _ _ _ _ _ d q M Γ (sum a₁ a₂) (rd .env) T) T₁ s₁ rd g))
-    step-bout (e-caser {k} {n} {m} {a} {ρ} {e} {b} {b′} {v} {w} d d′ y) (a₁, a₂, T, T₁, T₂, s₁, s₂, su) rd f = open-term k f w _ (F _ _ _ _ _ d′) λ g.
-        subst (λ c. Good fits fits′ (After q Γ (tcase k e b b′) ρ σ) g (n + m) r r′ (after (go a (none ∷ σ) (cond c b b′) w g) λ σ₁. leave σ₁ λ v σ₂. go a σ₂ e (cond c (inl v) (inr v))))
-        (sym y)
-        (good-map fits fits′ (λ σ′ (ag, mo, (σ₂, mo₂, bd, bd₂)). (
-          ag,
-          mo,
-          λ i c p u ql s.
-              or-elim (usedIn i e) _ (λ x. bd i c p u ql x) (λ x. mo₂ i (bound-right q Γ b b′ σ₂ su bd₂ i c p u ql x)) s,
-        ))
-        (let-good e b′ v (inr v) w a₂ (sum a₁ a₂) inr M (λ σ₂ (ag, mo, bd). ready-grow σ₂ rd ag mo) d refl d′ T
-        (K _ _ _ _ _ d q M Γ (sum a₁ a₂) (rd .env) T) T₂ s₂ rd g))
+    step-bout (e-casel {k} {a = a} {e = e} {b} {b′} {v} {w} d d′) T rd f = open-term k f w _ (F _ _ _ _ _ d′) λ g.
+        case-left k e b b′ v w (byAncilla (length a) (length σ) e) refl d d′ T rd g
+    step-bout (e-caser {k} {a = a} {e = e} {b} {b′} {v} {w} d d′ y) T rd f = open-term k f w _ (F _ _ _ _ _ d′) λ g.
+        case-right k e b b′ v w (byAncilla (length a) (length σ) e) refl d d′ y T rd g
     step-bout (e-app {k} {g = j} {a = a} {ρ} {ts} {e} {vs} {v} {w} {h} x ds d d′) (h′, y, Ts, T, z, ins) rd f = open-term k f w _ (F _ _ _ _ _ d′) λ g.
         given (some-inj (sym y ∙ x)) λ same-h.
         given (subst (λ (h : Fun). Typed P q M Γ e (h .dynamic)) same-h T) λ T′.

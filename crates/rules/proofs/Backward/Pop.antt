@@ -78,6 +78,7 @@ pub record Ready (a : List Val) (q : ℕ) (M : ℕ → Bool) (Γ : List Ty) (ρ 
   pub anc : (i : ℕ) → i < q → Knows σ i
   pub lent : Lent M Γ σ
   pub le : q ≤ length ρ
+  pub parameters : length a ≡ q
 
 module _ {a : List Val} {q : ℕ} {M : ℕ → Bool} {Γ : List Ty} {ρ : List Val} {σ : State} where
   pub ready-push : (c : Ty) (v : Val) → OfType v c → Ready a q M Γ ρ σ → Ready a q M (c ∷ Γ) (v ∷ ρ) (none ∷ σ)
@@ -88,6 +89,19 @@ module _ {a : List Val} {q : ℕ} {M : ℕ → Bool} {Γ : List Ty} {ρ : List V
     anc = λ i l. knows-push none σ i (R .anc i l);
     lent = lent-push M Γ σ c none (R .lent);
     le = omega (arith, R .le);
+    parameters = R .parameters;
+  }
+
+  -- the same with the variable bound
+  pub ready-bound : (c : Ty) (v : Val) → OfType v c → Ready a q M Γ ρ σ → Ready a q M (c ∷ Γ) (v ∷ ρ) (some v ∷ σ)
+  ready-bound c v h R = record {
+    env = (h, R .env);
+    under = under-push _ _ v (R .under);
+    agree = (refl, R .agree);
+    anc = λ i l. knows-push (some v) σ i (R .anc i l);
+    lent = lent-push M Γ σ c (some v) (R .lent);
+    le = omega (arith, R .le);
+    parameters = R .parameters;
   }
 
   pub ready-grow : (σ′ : State) → Ready a q M Γ ρ σ → Agree σ′ ρ → Mono σ σ′ → Ready a q M Γ ρ σ′
@@ -98,6 +112,7 @@ module _ {a : List Val} {q : ℕ} {M : ℕ → Bool} {Γ : List Ty} {ρ : List V
     anc = λ i l. mo i (R .anc i l);
     lent = lent-grow M Γ σ σ′ mo (R .lent);
     le = R .le;
+    parameters = R .parameters;
   }
 
   -- the bound term of a let, once its body ran back
@@ -109,6 +124,7 @@ module _ {a : List Val} {q : ℕ} {M : ℕ → Bool} {Γ : List Ty} {ρ : List V
     anc = λ i l. mo i (R .anc i l);
     lent = lent-more M q Γ b σ′ (λ i l. mo i (R .anc i l)) bd (lent-grow M Γ σ σ′ mo (R .lent));
     le = R .le;
+    parameters = R .parameters;
   }
 
 pub ready-call : (vs : List Val) (cs : List Ty) (v : Val) (c : Ty) → OfTypes vs cs → OfType v c
@@ -123,6 +139,7 @@ ready-call vs cs v c h h′ =
       anc = λ i l. knows-push none _ i (knows-full (scope vs []) i (omega arith));
       lent = lent-nothing (c ∷ scope cs []) (none ∷ map some (scope vs []));
       le = omega arith;
+      parameters = omega arith;
     }
 
 pub call-pop : (fits fits′ : Val → Bool) {X : Type 0} {Q : X → Type 0} {f n r r′ : ℕ} (k : Val → Run X) (vs : List Val) (cs : List Ty) (c : Ty) (v : Val) (b : Term) (σ₁ : State) → OfTypes vs cs → OfType v c → Spent (length cs) c b

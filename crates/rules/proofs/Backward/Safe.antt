@@ -1,29 +1,31 @@
 -- A typed term is never stuck backward.
 use Prim.Native.Nat.{ℕ, zero, suc, _+_}
 use native.Mathlib.Omega.{arith}
-use mathlib.Core.Path.{_≡_, sym, ap, subst, _∙_}
-use mathlib.Core.Bool.{Bool, true, false, cond, false≢true}
+use mathlib.Core.Path.{_≡_, refl, sym, ap, subst, _∙_}
+use mathlib.Core.Bool.{Bool, true, false, false≢true}
 use mathlib.Core.Option.{none, some}
 use mathlib.Core.List.{List, [], _∷_, map}
 use lib.ListN.{length}
 use lib.Dec.{eqb→eq, T}
 use package.Rattle.rules.specs.Val.{Val, inl, inr, pair, roll}
 use package.Rattle.rules.specs.Ty.{Ty, prod, sum, unfoldTy}
-use package.Rattle.rules.specs.Term.{Term, var, tunit, tinl, tinr, tpair, tlet, tletp, tcase, tcall, troll, tunroll, entry, Fun, Program, scope, usedIn}
+use package.Rattle.rules.specs.Term.{Term, var, tunit, tinl, tinr, tpair, tlet, tletp, tcase, tcall, troll, tunroll, entry, Fun, Program}
+use package.Rattle.rules.specs.Term.{scope, inside, byAncilla}
 use package.Rattle.rules.specs.Yield.{mayYield}
 use package.Rattle.rules.specs.Typing.{dynamic}
 use package.Rattle.rules.specs.Run.{Run, after, refuse}
-use package.Rattle.rules.specs.Machine.{State, leave, filled, forward, backwardStep, backward}
+use package.Rattle.rules.specs.Machine.{State, leave, filled, forward, branchBack, caseBack, backwardStep, backward}
 use package.Rattle.rules.proofs.OfType.{OfType, OfTypes}
-use package.Rattle.rules.proofs.Basics.{given, or-elim}
-use package.Rattle.rules.proofs.Directed.{allowed, lend, nothing, Spent, Typed, TypedFun, TypedProgram}
+use package.Rattle.rules.proofs.Basics.{given}
+use package.Rattle.rules.proofs.Choice.{scrutinee-within, scrutinee-allowed}
+use package.Rattle.rules.proofs.Directed.{Within, allowed, lend, nothing, Spent, Typed, TypedFun, TypedProgram}
 use package.Rattle.rules.proofs.Fine.{Fine, fine, refused, fine-after, fine-map, fine-enter, fine-test, fine-some, fine-pair, fine-sum, fine-roll, fine-unit}
 use package.Rattle.rules.proofs.Forward.Safe.{Safe, each-safe, forward-safe}
-use package.Rattle.rules.proofs.Known.{Knows, Mono, Bound, bound-both, bound-let, bound-left, bound-right}
+use package.Rattle.rules.proofs.Known.{Knows, Mono, Bound, Either, bound-both, bound-let, bound-left, bound-right, bound-matched, bound-chosen}
 use package.Rattle.rules.proofs.Preserve.{types-length}
 use package.Rattle.rules.proofs.Scope.{length-scope}
-use package.Rattle.rules.proofs.StateTy.{StateTy, state-length, length-full, Gives, gives-filled, Left, fine-pop, meet-safe}
-use package.Rattle.rules.proofs.StateTy.{Here, here-push, here-grow, here-lend, here-call}
+use package.Rattle.rules.proofs.StateTy.{StateTy, state-length, length-full, Gives, gives-filled, Left, fine-pop, fine-bound, meet-safe}
+use package.Rattle.rules.proofs.StateTy.{Here, here-push, here-bound, here-grow, here-lend, here-call}
 
 module _ (fits : Val → Bool) (P : Program) (W : TypedProgram P) where
   abbrev pub BackSafe : (List Val → State → Term → Val → Run State) → Type 0
@@ -60,24 +62,44 @@ module _ (fits : Val → Bool) (P : Program) (W : TypedProgram P) where
     given-here : Gives (allowed M q (length Γ)) (filled σ) Γ
     given-here = gives-filled M q Γ σ (hr .state) (hr .anc) (hr .lent)
 
-    case-safe : (k : ℕ) (e b b′ : Term) (v : Val) (τ : Ty) (y : Bool) → Typed P q M Γ (tcase k e b b′) τ → OfType v τ → (g : ℕ)
-        → Fine (Left q Γ (tcase k e b b′) σ) (after (go a (none ∷ σ) (cond y b b′) v g) λ σ₁. leave σ₁ λ w σ₂. go a σ₂ e (cond y (inl w) (inr w)))
-    case-safe k e b b′ v τ true (c, c′, T, T₁, T₂, s, s′, su) h g =
-        fine-map (λ σ′ (st′, mo, (σ₂, mo₂, bd, bd₂)). (
-          st′,
-          mo,
-          λ i c p u ql s.
-              or-elim (usedIn i e) _ (λ x. bd i c p u ql x) (λ x. mo₂ i (bound-left q Γ b b′ σ₂ su bd₂ i c p u ql x)) s,
-        ))
-        (let-safe e b v c (sum c c′) τ inl M (λ σ₂ (st₂, mo, bd). here-grow σ₂ hr st₂ mo) T T₁ (λ w h. h) s h g)
-    case-safe k e b b′ v τ false (c, c′, T, T₁, T₂, s, s′, su) h g =
-        fine-map (λ σ′ (st′, mo, (σ₂, mo₂, bd, bd₂)). (
-          st′,
-          mo,
-          λ i c p u ql s.
-              or-elim (usedIn i e) _ (λ x. bd i c p u ql x) (λ x. mo₂ i (bound-right q Γ b b′ σ₂ su bd₂ i c p u ql x)) s,
-        ))
-        (let-safe e b′ v c′ (sum c c′) τ inr M (λ σ₂ (st₂, mo, bd). here-grow σ₂ hr st₂ mo) T T₂ (λ w h. h) s′ h g)
+    -- a branch with its variable bound
+    branch-safe : (u : Term) (v w : Val) (c τ : Ty) → Typed P q M (c ∷ Γ) u τ → OfType w c → OfType v τ → (g : ℕ)
+        → Fine (Left q Γ u σ) (branchBack go a σ u v w g)
+    unfolding branchBack
+    branch-safe u v w c τ T hw h g =
+        fine-after _ (B a (some w ∷ σ) u v q M (c ∷ Γ) τ T h (here-bound c w hw hr) g) λ σ₁ g L.
+        fine-bound g q Γ c u (some w) σ σ₁ (state-length σ Γ (hr .state)) L
+
+    -- what the scrutinee of a case names that chooses by an ancilla
+    pub scrutinee : (e : Term) → byAncilla (length a) (length σ) e ≡ true → Within (inside q (length Γ)) e
+    scrutinee e x = scrutinee-within q (length Γ) e (ap (λ q. byAncilla q (length Γ) e) (sym (hr .parameters))
+        ∙ ap (λ n. byAncilla (length a) n e) (sym (state-length σ Γ (hr .state))) ∙ x)
+
+    -- the branch `u` of a case that chooses by an ancilla
+    chosen-safe : (k : ℕ) (e b b′ u : Term) (v w : Val) (c τ : Ty) → Within (inside q (length Γ)) e → Typed P q M (c ∷ Γ) u τ → OfType w c → OfType v τ
+        → ((σ′ : State) → Bound q Γ u σ′ → Either q Γ b b′ σ′) → (g : ℕ) → Fine (Left q Γ (tcase k e b b′) σ) (branchBack go a σ u v w g)
+    chosen-safe k e b b′ u v w c τ inner T hw h ei g =
+        fine-map (λ σ′ (st′, mo, bd). (st′, mo, bound-chosen q Γ k e b b′ σ′ inner (ei σ′ bd))) (branch-safe u v w c τ T hw h g)
+
+    -- the branch `u` of a case under first match, then the scrutinee
+    matched-safe : (k : ℕ) (e b b′ u : Term) (v : Val) (c d τ : Ty) (wrap : Val → Val) → Typed P q M Γ e d → Typed P q M (c ∷ Γ) u τ
+        → ((w : Val) → OfType w c → OfType (wrap w) d) → Spent (length Γ) c u → OfType v τ → ((σ′ : State) → Bound q Γ u σ′ → Either q Γ b b′ σ′) → (g : ℕ)
+        → Fine (Left q Γ (tcase k e b b′) σ) (after (go a (none ∷ σ) u v g) λ σ₁. leave σ₁ λ w σ₂. go a σ₂ e (wrap w))
+    matched-safe k e b b′ u v c d τ wrap T T′ hk s h ei g =
+        fine-map (λ σ′ (st′, mo, (σ₂, mo₂, bd, bd₂)). (st′, mo, bound-matched q Γ k e b b′ σ₂ σ′ mo₂ bd (ei σ₂ bd₂)))
+        (let-safe e u v c d τ wrap M (λ σ₂ (st₂, mo, bd). here-grow σ₂ hr st₂ mo) T T′ hk s h g)
+
+    case-safe : (k : ℕ) (e b b′ : Term) (v : Val) (τ : Ty) (c y : Bool) → byAncilla (length a) (length σ) e ≡ c → Typed P q M Γ (tcase k e b b′) τ
+        → OfType v τ → (g : ℕ) → Fine (Left q Γ (tcase k e b b′) σ) (caseBack fw go a σ e b b′ v c y g)
+    unfolding caseBack
+    case-safe k e b b′ v τ true y x (c, c′, T, T₁, T₂, s, s′, su) h g = given (scrutinee e x) λ inner.
+        fine-after _ (S a (filled σ) e q M Γ (sum c c′) T (allowed M q (length Γ)) (scrutinee-allowed q (length Γ) e M inner) given-here g) λ p g hp.
+        fine-sum p c c′ _ _ g hp (λ w hw. chosen-safe k e b b′ b v w c τ inner T₁ hw h (λ σ′. bound-left q Γ b b′ σ′ su) g)
+        (λ w hw. chosen-safe k e b b′ b′ v w c′ τ inner T₂ hw h (λ σ′. bound-right q Γ b b′ σ′ su) g)
+    case-safe k e b b′ v τ false true x (c, c′, T, T₁, T₂, s, s′, su) h g =
+        matched-safe k e b b′ b v c (sum c c′) τ inl T T₁ (λ w h. h) s h (λ σ′. bound-left q Γ b b′ σ′ su) g
+    case-safe k e b b′ v τ false false x (c, c′, T, T₁, T₂, s, s′, su) h g =
+        matched-safe k e b b′ b′ v c′ (sum c c′) τ inr T T₂ (λ w h. h) s′ h (λ σ′. bound-right q Γ b b′ σ′ su) g
 
     step-back-safe : (t : Term) (v : Val) (τ : Ty) → Typed P q M Γ t τ → OfType v τ → (g : ℕ) → Fine (Left q Γ t σ) (backwardStep fits P fw go a σ t v g)
     unfolding backwardStep
@@ -101,7 +123,7 @@ module _ (fits : Val → Bool) (P : Program) (W : TypedProgram P) where
         fine-pop _ g q Γ c b none σ σ₂ (state-length σ Γ (hr .state)) (hr .le) s L₂ λ w σ₃ hw L₃. given L₃ λ (st₃, mo, bd).
         fine-map (λ σ′ (st′, mo′, bd′). (st′, (λ i k. mo′ i (mo i k)), bound-let q Γ e b σ₃ σ′ mo′ bd′ bd))
         (B a σ₃ e (pair w w′) q (lend M (length Γ) b) Γ (prod c c′) T (hw, hw′) (here-lend b σ₃ hr L₃) g)
-    step-back-safe (tcase k e b b′) v τ T h g = case-safe k e b b′ v τ (mayYield a b v) T h g
+    step-back-safe (tcase k e b b′) v τ T h g = case-safe k e b b′ v τ (byAncilla (length a) (length σ) e) (mayYield a b v) refl T h g
     step-back-safe (tcall k j ts e) v τ (fn, x, Ts, T, z, ins) h g =
         fine-some _ g x
         (fine-after _ (each-safe fits P W fw S a (filled σ) q M Γ (allowed M q (length Γ)) given-here (length Γ) ts (fn .ancillae) Ts ins g) λ vs g hs.

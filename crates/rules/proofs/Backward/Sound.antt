@@ -2,20 +2,22 @@
 use Prim.Native.Nat.{ℕ, zero, suc, _+_, _<_}
 use native.Mathlib.Omega.{arith}
 use mathlib.Core.Path.{_≡_, refl, sym, ap, subst, _∙_}
-use mathlib.Core.Bool.{Bool, true, false, cond}
+use mathlib.Core.Bool.{Bool, true, false, not}
 use mathlib.Core.Option.{none, some}
 use mathlib.Core.List.{List, [], _∷_, map}
 use lib.ListN.{length}
-use package.Rattle.rules.specs.Val.{Val, inl, inr, pair, roll}
+use package.Rattle.rules.specs.Val.{Val, unit, inl, inr, pair, roll}
 use package.Rattle.rules.specs.Ty.{Ty, prod, sum, mu, unfoldTy}
-use package.Rattle.rules.specs.Term.{Term, var, tunit, tinl, tinr, tpair, tlet, tletp, tcase, tcall, troll, tunroll, Terms, Fun, Program, nth, scope}
-use package.Rattle.rules.specs.Yield.{mayYield}
+use package.Rattle.rules.specs.Term.{Term, var, tunit, tinl, tinr, tpair, tlet, tletp, tcase, tcall, troll, tunroll, Terms, Fun, Program}
+use package.Rattle.rules.specs.Term.{nth, scope, byAncilla}
+use package.Rattle.rules.specs.Yield.{mayYield, firstMatch}
 use package.Rattle.rules.specs.Rules.{Rule, e-var, e-unit, e-inl, e-inr, e-prod, e-let, e-letp, e-casel, e-caser, e-app, e-roll, e-unroll, Ev}
 use package.Rattle.rules.specs.Run.{ok, Run, _>>=_, enter}
-use package.Rattle.rules.specs.Machine.{State, leave, filled, each, forward, backwardStep, backward}
+use package.Rattle.rules.specs.Machine.{onSum, State, leave, filled, each, forward, branchBack, caseBack, backwardStep, backward}
 use package.Rattle.rules.proofs.OfType.{OfType, OfTypes}
-use package.Rattle.rules.proofs.Basics.{given, some-inj}
-use package.Rattle.rules.proofs.Backward.Safe.{BackSafe, backward-safe}
+use package.Rattle.rules.proofs.Basics.{given, some-inj, or-left, or-right}
+use package.Rattle.rules.proofs.Backward.Safe.{BackSafe, scrutinee, backward-safe}
+use package.Rattle.rules.proofs.Choice.{scrutinee-allowed}
 use package.Rattle.rules.proofs.Directed.{WithinAll, allowed, lend, nothing, Spent, Typed, TypedAll, TypedProgram}
 use package.Rattle.rules.proofs.Fine.{fine-answer}
 use package.Rattle.rules.proofs.Forward.Safe.{Safe, each-safe, forward-safe}
@@ -23,10 +25,10 @@ use package.Rattle.rules.proofs.Known.{Knows, Mono, knows-full, enough-
 use package.Rattle.rules.proofs.Preserve.{types-length}
 use package.Rattle.rules.proofs.Scope.{length-scope}
 use package.Rattle.rules.proofs.StateTy.{StateTy, state-length, length-full, Gives, gives-filled, Left, pop-inv, fill-typed}
-use package.Rattle.rules.proofs.StateTy.{Here, here-push, here-grow, here-lend, here-call}
+use package.Rattle.rules.proofs.StateTy.{Here, here-push, here-bound, here-grow, here-lend, here-call}
 use package.Rattle.rules.proofs.Forward.Sound.{Yields, Sound, each-sound, sound}
-use package.Rattle.rules.proofs.Run.{unbind, stop≢ok, ok-value, ok-fuel, test-inv, some-inv, pair-inv, roll-inv, unit-inv, left-inv, right-inv}
-use package.Rattle.rules.proofs.State.{Agree, full-agree, fill, agree-fill, meet-sound, Enough}
+use package.Rattle.rules.proofs.Run.{unbind, stop≢ok, stuck≢ok, ok-value, ok-fuel, test-inv, some-inv, pair-inv, roll-inv, unit-inv, left-inv, right-inv}
+use package.Rattle.rules.proofs.State.{Agree, agree-length, full-agree, fill, agree-fill, meet-sound, Enough}
 
 -- a state that knows no less than all ancillae
 pub all-known : (vs : List Val) (σ : State) (cs : List Ty) → OfTypes vs cs → StateTy σ (scope cs [])
@@ -74,20 +76,58 @@ module _ (fits : Val → Bool) (P : Program) (W : TypedProgram P) where
         on w σ₂ hw L p₂ λ h₁.
         given (B a (none ∷ σ) b v f (m ∷ σ₂) f₁ (p ∙ ap (λ σ. ok σ f₁) x) q M (c ∷ Γ) τ T hv (here-push c hr) (w ∷ ρ) (fit, h₁) (hw, env)) λ (y, h₂). (y, h₂ .1)
 
-    case-back : (k : ℕ) (e b b′ : Term) (τ : Ty) (y : Bool) → Typed P q M Γ (tcase k e b b′) τ → OfType v τ → mayYield a b v ≡ y
-        → (go a (none ∷ σ) (cond y b b′) v >>= λ σ₁. leave σ₁ λ w σ₂. go a σ₂ e (cond y (inl w) (inr w))) f ≡ ok σ′ g → Goal (tcase k e b b′)
-    case-back k e b b′ τ true (c, c′, T, T₁, T₂, u, u′, su) hv y p =
+    -- a branch ran back with its variable bound
+    branch-back : (u : Term) (c τ : Ty) (w : Val) (f₁ : ℕ) → Typed P q M (c ∷ Γ) u τ → OfType v τ → OfType w c → Spent (length Γ) c u
+        → branchBack go a σ u v w f₁ ≡ ok σ′ g → Yields fits P r a (w ∷ ρ) u v f₁ g × Agree σ ρ
+    unfolding branchBack
+    branch-back u c τ w f₁ T hv hw s p =
+        given (unbind _ _ p) λ (σ₁, f₂, p₁, p₂). given (here-bound c w hw hr) λ hb.
+        given (pop-inv _ q Γ c u (some w) σ σ₁ l (hr .le) s (fine-answer (BS a (some w ∷ σ) u v q M (c ∷ Γ) τ T hv hb f₁) p₁) p₂)
+        λ (m, σ₂, x, same, fit, hx, L, z).
+        given (B a (some w ∷ σ) u v f₁ (m ∷ σ₂) f₂ (p₁ ∙ ap (λ σ. ok σ f₂) same) q M (c ∷ Γ) τ T hv hb (x ∷ ρ)
+        (fit, subst (λ σ. Agree σ ρ) (sym (ok-value z)) h) (hx, env)) λ (y, (e, h₁)).
+        (subst (λ g. Yields fits P r a (w ∷ ρ) u v f₁ g) (ok-fuel z) (subst (λ x. Yields fits P r a (x ∷ ρ) u v f₁ f₂) (sym e) y), h₁)
+
+    -- a case that chooses by an ancilla (02, F-3): the scrutinee ran forward, then the branch `u` for its value ran back
+    chosen-back : (e u : Term) (c d τ : Ty) (s w : Val) (f₁ : ℕ) → byAncilla (length a) (length σ) e ≡ true → Typed P q M Γ e d → Typed P q M (c ∷ Γ) u τ
+        → OfType v τ → (OfType s d → OfType w c) → Spent (length Γ) c u → fw a (filled σ) e f ≡ ok s f₁ → branchBack go a σ u v w f₁ ≡ ok σ′ g
+        → Yields fits P r a ρ e s f f₁ × Yields fits P r a (w ∷ ρ) u v f₁ g × Agree σ ρ
+    chosen-back e u c d τ s w f₁ x T T′ hv hk sp p p′ =
+        given (scrutinee-allowed q (length Γ) e M (scrutinee fits P W fw SF go BS a σ q M Γ hr e x)) λ inner.
+        given (branch-back u c τ w f₁ T′ hv (hk (fine-answer (SF a (filled σ) e q M Γ d T (allowed M q (length Γ)) inner given-here f) p)) sp p′) λ (y, h₁).
+        (S a (filled σ) ρ (allowed M q (length Γ)) (enough-here h₁) e inner f s f₁ p, y, h₁)
+
+    ancilla-back : (k : ℕ) (e b b′ : Term) (τ : Ty) (s : Val) (f₁ : ℕ) → Typed P q M Γ (tcase k e b b′) τ → OfType v τ
+        → byAncilla (length a) (length σ) e ≡ true → fw a (filled σ) e f ≡ ok s f₁
+        → onSum s (branchBack go a σ b v) (branchBack go a σ b′ v) f₁ ≡ ok σ′ g → Goal (tcase k e b b′)
+    unfolding onSum firstMatch
+    ancilla-back k e b b′ τ unit f₁ T hv x p p′ = absurd (stuck≢ok p′)
+    ancilla-back k e b b′ τ (inl w) f₁ (c, c′, T, T₁, T₂, u, u′, su) hv x p p′ =
+        given (chosen-back e b c (sum c c′) τ (inl w) w f₁ x T T₁ hv (λ h. h) u p p′) λ ((n, d, s), (m, d′, s′), h₁).
+        ((suc (n + m), e-casel d d′, omega arith), h₁)
+    ancilla-back k e b b′ τ (inr w) f₁ (c, c′, T, T₁, T₂, u, u′, su) hv x p p′ =
+        given (chosen-back e b′ c′ (sum c c′) τ (inr w) w f₁ x T T₂ hv (λ h. h) u′ p p′) λ ((n, d, s), (m, d′, s′), h₁).
+        given (subst (λ n. byAncilla (length a) n e ≡ true) (agree-length σ ρ h₁) x) λ chooses.
+        ((suc (n + m), e-caser d d′ (or-left (not (mayYield a b v)) chooses), omega arith), h₁)
+    ancilla-back k e b b′ τ (pair w w′) f₁ T hv x p p′ = absurd (stuck≢ok p′)
+    ancilla-back k e b b′ τ (roll w) f₁ T hv x p p′ = absurd (stuck≢ok p′)
+
+    case-back : (k : ℕ) (e b b′ : Term) (τ : Ty) (c y : Bool) → Typed P q M Γ (tcase k e b b′) τ → OfType v τ → byAncilla (length a) (length σ) e ≡ c
+        → mayYield a b v ≡ y → caseBack fw go a σ e b b′ v c y f ≡ ok σ′ g → Goal (tcase k e b b′)
+    unfolding caseBack firstMatch
+    case-back k e b b′ τ true y T hv x z p = given (unbind _ _ p) λ (s, f₁, p₁, p₂). ancilla-back k e b b′ τ s f₁ T hv x p₁ p₂
+    case-back k e b b′ τ false true (c, c′, T, T₁, T₂, u, u′, su) hv x y p =
         given (unbind _ _ p) λ (σ₁, f₁, p₁, p₂).
         let-back b c τ σ₁ f₁ (Goal (tcase k e b b′)) _ T₁ hv u p₁ p₂ λ w σ₂ hw (st, mo, bd) p₃ on.
         given (B a σ₂ e (inl w) f₁ σ′ g p₃ q M Γ (sum c c′) T hw (here-grow σ₂ hr st mo) ρ h env) λ ((n, d, s), h₁).
         given (on h₁) λ ((m, d′, s′), h₂).
         ((suc (n + m), e-casel d d′, omega arith), h₂)
-    case-back k e b b′ τ false (c, c′, T, T₁, T₂, u, u′, su) hv y p =
+    case-back k e b b′ τ false false (c, c′, T, T₁, T₂, u, u′, su) hv x y p =
         given (unbind _ _ p) λ (σ₁, f₁, p₁, p₂).
         let-back b′ c′ τ σ₁ f₁ (Goal (tcase k e b b′)) _ T₂ hv u′ p₁ p₂ λ w σ₂ hw (st, mo, bd) p₃ on.
         given (B a σ₂ e (inr w) f₁ σ′ g p₃ q M Γ (sum c c′) T hw (here-grow σ₂ hr st mo) ρ h env) λ ((n, d, s), h₁).
         given (on h₁) λ ((m, d′, s′), h₂).
-        ((suc (n + m), e-caser d d′ y, omega arith), h₂)
+        ((suc (n + m), e-caser d d′ (or-right (byAncilla (length a) (length ρ) e) (ap not y)), omega arith), h₂)
 
     -- the ancilla terms ran forward, the called body back, and the dynamic term back
     call-back : (k j : ℕ) (ts : Terms) (e : Term) (τ : Ty) (fn : Fun) (vs : List Val) (f₁ : ℕ)
@@ -162,7 +202,7 @@ module _ (fits : Val → Bool) (P : Program) (W : TypedProgram P) where
         q M (c′ ∷ c ∷ Γ) τ T′ hv hb (w₁ ∷ w₂ ∷ ρ) (fit₁, (fit₂, h₁)) (hw₁, (hw₂, env)))
         λ ((m, d′, s′), h₂).
         ((suc (n + m), e-letp d d′, omega arith), h₂ .1 .1)
-    step-back (tcase k e b b′) τ T hv p = case-back k e b b′ τ (mayYield a b v) T hv refl p
+    step-back (tcase k e b b′) τ T hv p = case-back k e b b′ τ (byAncilla (length a) (length σ) e) (mayYield a b v) T hv refl refl p
     step-back (tcall k j ts e) τ (fn′, y, Ts, T, z, ins) hv p =
         given (some-inv _ _ p) λ (fn, x, p₀).
         given (some-inj (sym y ∙ x)) λ same.

@@ -1,13 +1,14 @@
 -- What forward can answer where the rules yield a value.
 use Prim.Native.Nat.{ℕ, zero, suc}
 use native.Mathlib.Omega.{arith}
-use mathlib.Core.Path.{_≡_, refl, sym, subst, _∙_}
-use mathlib.Core.Bool.{Bool, true, false, not}
+use mathlib.Core.Path.{_≡_, refl, sym, ap, subst, _∙_}
+use mathlib.Core.Bool.{Bool, true}
 use mathlib.Core.Option.{some}
 use mathlib.Core.List.{List, [], _∷_}
+use lib.ListN.{length}
 use package.Rattle.rules.specs.Val.{Val, unit, inl, inr, pair, roll}
 use package.Rattle.rules.specs.Term.{Term, Terms, entry, Program, scope}
-use package.Rattle.rules.specs.Yield.{mayYield}
+use package.Rattle.rules.specs.Yield.{firstMatch}
 use package.Rattle.rules.specs.Rules.{Judgement, All, e-end, e-more, Rule, e-var, e-unit, e-inl, e-inr, e-prod, e-let, e-letp, e-casel, e-caser, e-app, e-roll, e-unroll, Ev}
 use package.Rattle.rules.specs.Run.{Run, give, enter, test}
 use package.Rattle.rules.specs.Machine.{onSum, onPair, onRoll, State, each, made, forwardStep, forward}
@@ -25,9 +26,9 @@ module _ (fits fits′ : Val → Bool) where
     unfolding made
     good-made {f} k v ft = good-size fits fits′ k v (give v) ft (yields {g = f} refl (omega arith))
 
-    good-case : {g r r′ : ℕ} (k : ℕ) (w : Val) (c : Bool) → c ≡ false → Good fits fits′ (λ x. w ≡ x) g 0 r r′ (test (not c) 15 k (give w) g)
+    good-case : {g r r′ : ℕ} (k : ℕ) (w : Val) (c : Bool) → c ≡ true → Good fits fits′ (λ x. w ≡ x) g 0 r r′ (test c 15 k (give w) g)
     unfolding test
-    good-case {g} {r} {r′} k w c y = subst (λ c. Good fits fits′ (λ x. w ≡ x) g 0 r r′ (test (not c) 15 k (give w) g)) (sym y) (yields {g = g} refl (omega arith))
+    good-case {g} {r} {r′} k w c y = subst (λ c. Good fits fits′ (λ x. w ≡ x) g 0 r r′ (test c 15 k (give w) g)) (sym y) (yields {g = g} refl (omega arith))
 
     module _ (R : Judgement) (go : List Val → State → Term → Run Val) (r r′ : ℕ) (C : Out R go r r′) (A : ℕ → Bool) (σ : State) where
       pub each-out : {a ρ : List Val} {ts : Terms} {vs : List Val} {n : ℕ} → All (R a ρ) ts vs n
@@ -51,8 +52,10 @@ module _ (fits fits′ : Val → Bool) where
           good-val fits fits′ _ (C _ _ _ _ _ d A σ E W.0 g) λ g. C _ _ _ _ _ d′ A (some v′ ∷ some v ∷ σ) (extend A _ _ v′ (extend A σ ρ v E)) W.1 g
       step-out (e-casel {ρ = ρ} {v = v} d d′) E W f = good-enter fits fits′ _ f _ λ g.
           good-val fits fits′ _ (C _ _ _ _ _ d A σ E W.0 g) λ g. C _ _ _ _ _ d′ A (some v ∷ σ) (extend A σ ρ v E) W.1 g
-      step-out (e-caser {k} {a = a} {ρ} {b = b} {v = v} {w} d d′ y) E W f = good-enter fits fits′ _ f _ λ g.
-          good-val fits fits′ _ (C _ _ _ _ _ d A σ E W.0 g) λ g. good-val-last fits fits′ _ (C _ _ _ _ _ d′ A (some v ∷ σ) (extend A σ ρ v E) W.2 g) λ g. good-case k w (mayYield a b w) y
+      step-out (e-caser {k} {a = a} {ρ} {e} {b} {v = v} {w} d d′ y) E W f = good-enter fits fits′ _ f _ λ g.
+          good-val fits fits′ _ (C _ _ _ _ _ d A σ E W.0 g) λ g.
+          good-val-last fits fits′ _ (C _ _ _ _ _ d′ A (some v ∷ σ) (extend A σ ρ v E) W.2 g) λ g.
+          good-case k w (firstMatch a (length σ) e b w) (ap (λ n. firstMatch a n e b w) (E .0) ∙ y)
       step-out (e-app {vs = vs} {v} {h = h} x ds d d′) E W f = good-enter fits fits′ _ f _ λ g.
           good-some fits fits′ _ x (good-val fits fits′ _ (each-out ds E W.0 g) λ g. good-val fits fits′ _ (C _ _ _ _ _ d A σ E W.1 g) λ g.
           C _ _ _ _ _ d′ any _ (full any (v ∷ scope vs [])) (within-any (h .body)) g)

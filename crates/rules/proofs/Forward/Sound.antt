@@ -2,16 +2,17 @@
 use Prim.Native.Nat.{ℕ, zero, suc, _+_}
 use native.Mathlib.Omega.{arith}
 use mathlib.Core.Path.{_≡_, sym, ap, subst, _∙_}
-use mathlib.Core.Bool.{Bool, true, not}
+use mathlib.Core.Bool.{Bool, true}
 use mathlib.Core.Option.{some}
 use mathlib.Core.List.{List, [], _∷_, map}
+use lib.ListN.{length}
 use package.Rattle.rules.specs.Val.{Val, unit, inl, inr, pair, roll}
 use package.Rattle.rules.specs.Term.{Term, var, tunit, tinl, tinr, tpair, tlet, tletp, tcase, tcall, troll, tunroll, Terms, end, more, Program, scope}
-use package.Rattle.rules.specs.Yield.{mayYield}
+use package.Rattle.rules.specs.Yield.{firstMatch}
 use package.Rattle.rules.specs.Rules.{All, e-end, e-more, e-var, e-unit, e-inl, e-inr, e-prod, e-let, e-letp, e-casel, e-caser, e-app, e-roll, e-unroll, Ev}
 use package.Rattle.rules.specs.Run.{ok, Run, _>>=_, give, enter, test}
 use package.Rattle.rules.specs.Machine.{onSum, State, each, made, forwardStep, forward}
-use package.Rattle.rules.proofs.Basics.{given, not-true}
+use package.Rattle.rules.proofs.Basics.{given}
 use package.Rattle.rules.proofs.Run.{unbind, stop≢ok, stuck≢ok, ok-value, ok-fuel, test-inv, some-inv, pair-inv, roll-inv}
 use package.Rattle.rules.proofs.State.{Enough, extend, full}
 use package.Rattle.rules.proofs.Directed.{Within, WithinAll, any, within-any}
@@ -45,7 +46,7 @@ module _ (fits : Val → Bool) (P : Program) where
         (n + m, subst (λ vs. All (Ev fits P r a ρ) (more t ts) vs (n + m)) (ok-value q₂) (e-more d ds), omega (arith, ok-fuel q₂))
 
     case-sound : (k : ℕ) (e b b′ : Term) → Within A (tcase k e b b′) → (f : ℕ) (w : Val) (f₁ : ℕ) (v : Val) (g : ℕ) → go a σ e f ≡ ok w f₁
-        → onSum w (λ x. go a (some x ∷ σ) b) (λ x. go a (some x ∷ σ) b′ >>= λ y. test (not (mayYield a b y)) 15 k (give y)) f₁ ≡ ok v g
+        → onSum w (λ x. go a (some x ∷ σ) b) (λ x. go a (some x ∷ σ) b′ >>= λ y. test (firstMatch a (length σ) e b y) 15 k (give y)) f₁ ≡ ok v g
         → Yields (suc r) a ρ (tcase k e b b′) v (suc f) g
     unfolding onSum
     case-sound k e b b′ W f unit f₁ v g p q = absurd (stuck≢ok q)
@@ -55,10 +56,14 @@ module _ (fits : Val → Bool) (P : Program) where
         (suc (n + m), e-casel d d′, omega arith)
     case-sound k e b b′ W f (inr x) f₁ v g p q =
         given (unbind _ _ q) λ (y, f₂, p₂, q₂).
-        given (test-inv (not (mayYield a b y)) _ _ _ q₂) λ (c, z).
+        given (test-inv (firstMatch a (length σ) e b y) _ _ _ q₂) λ (c, z).
         given (S a σ ρ A E e (W .0) f (inr x) f₁ p) λ (n, d, s).
-        given (S a (some x ∷ σ) (x ∷ ρ) A (extend A σ ρ x E) b′ (W .2) f₁ y f₂ p₂) λ (m, d′, s′).
-        (suc (n + m), subst (λ v. Ev fits P (suc r) a ρ (tcase k e b b′) v (suc (n + m))) (ok-value z) (e-caser d d′ (not-true c)), omega (arith, ok-fuel z))
+        given (S a (some x ∷ σ) (x ∷ ρ) A (extend A σ ρ x E) b′ (W .2) f₁ y f₂ p₂) λ (m, d′, s′). (
+          suc (n + m),
+          subst (λ v. Ev fits P (suc r) a ρ (tcase k e b b′) v (suc (n + m))) (ok-value z)
+              (e-caser d d′ (subst (λ n. firstMatch a n e b y ≡ true) (E .0) c)),
+          omega (arith, ok-fuel z),
+        )
     case-sound k e b b′ W f (pair x y) f₁ v g p q = absurd (stuck≢ok q)
     case-sound k e b b′ W f (roll x) f₁ v g p q = absurd (stuck≢ok q)
 

@@ -10,14 +10,14 @@ use lib.ListN.{length, length-map}
 use lib.Dec.{ltb, leb}
 use package.Rattle.rules.specs.Ty.{Ty, prod, sum, unfoldTy, isUnit}
 use package.Rattle.rules.specs.Term.{Term, Terms, var, tunit, tinl, tinr, tpair, tlet, tletp, tcase}
-use package.Rattle.rules.specs.Term.{tcall, troll, tunroll, end, more, Fun, Program, look, usedIn}
+use package.Rattle.rules.specs.Term.{tcall, troll, tunroll, end, more, Fun, Program, look, usedIn, inside}
 use package.Rattle.rules.specs.Typing.{Binding, static, dynamic, barred, Context, barOne, bar, Vars, only, _∪_, markOne, mark}
 use package.Rattle.rules.specs.Typing.{Subject, _∶_, arguments, Types, t-var1, t-var2, t-var3, t-unit, t-unit-elm, t-inl, t-inr}
 use package.Rattle.rules.specs.Typing.{t-prod, t-let1, t-let2, t-sum, t-app1, t-app2, t-app2-end, t-roll, t-unroll, WellTyped}
 use package.Rattle.rules.specs.Check.{marked, statics}
 use package.Rattle.rules.proofs.Basics.{given, none≢some, some-inj, or-left, or-right, or-elim}
 use package.Rattle.rules.proofs.Scope.{look-lt}
-use package.Rattle.rules.proofs.Directed.{Within, WithinAll, inside, within-more, within-all-more, allowed, lend}
+use package.Rattle.rules.proofs.Directed.{Within, WithinAll, within-more, within-all-more, allowed, lend}
 use package.Rattle.rules.proofs.Directed.{nothing, Spent, SameUse, Typed, TypedAll, TypedFun, TypedProgram}
 use package.Rattle.rules.proofs.Typing.Contexts.{look-cases, look-map, look-unmap, Dynamic, typeOf, types, length-bar}
 use package.Rattle.rules.proofs.Typing.Contexts.{look-bar, types-bar, length-mark, types-mark, markO, look-mark}
@@ -83,10 +83,6 @@ stands-mark {q} {lo} {Δ} N s = record {
 inside-more : (q lo n : ℕ) → lo ≤ n → (i : ℕ) → inside q n i ≡ true → inside q lo i ≡ true
 inside-more q lo n l i = or-elim (ltb i q) (leb n i) (or-left (leb lo i))
     (λ x. or-right (ltb i q) (leb-yes lo i (omega (arith, leb-sound n i x))))
-
--- a variable between the ancilla parameters and what is bound inside is not inside
-not-inside : (q lo i : ℕ) → q ≤ i → i < lo → inside q lo i ≡ true → ⊥
-not-inside q lo i l m = or-elim (ltb i q) (leb lo i) (λ x. omega (arith, leb-sound (suc i) q x)) (λ x. omega (arith, leb-sound lo i x))
 
 ----------------------------------------------------------------
 -- Marks

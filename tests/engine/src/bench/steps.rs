@@ -3,7 +3,7 @@
 
 use super::measure::*;
 use crate::engine;
-use second::bench::{plus_sample, run_samples, scope_sample, Sample};
+use second::bench::{choice_samples, plus_sample, run_samples, scope_sample, Sample};
 use second::calls::{answer, Answer, Call, Direction, RunCall};
 use second::limits::{workspace, FUEL, VALUE_BYTES};
 
@@ -26,8 +26,19 @@ pub fn bench() -> Result<(), String> {
         let ratios: Vec<f64> = samples.iter().map(|runs| runs.print_step(direction)).collect();
         print_ratio(&format!("{}, geometric mean", name(direction)), geometric_mean(&ratios));
     }
+    bench_choices()?;
     bench_plus()?;
     [30, 120, 240].iter().try_for_each(|&variables| bench_scope(variables))
+}
+
+/// Runs that are mostly cases that choose by an ancilla.
+fn bench_choices() -> Result<(), String> {
+    for sample in choice_samples() {
+        let runs = runs(&sample)?;
+        runs.print_step(Direction::Forward);
+        runs.print_step(Direction::Backward);
+    }
+    Ok(())
 }
 
 /// Section 6's plus with ancillae that the value is compared with at every case.

@@ -1,5 +1,7 @@
-//! Calls with a known point: section 6's cases, each limit exactly and one past it, the readers of a journal, and steered calls.
+//! Calls with a known point: section 6's cases, each limit exactly and one past it, the readers of a journal, steered calls, and choices
+//! by an ancilla.
 
+mod choosing;
 mod limits;
 mod readers;
 mod steering;
@@ -7,9 +9,8 @@ mod steering;
 use crate::calls::{answer, Answer, Call, ConvertCall, Direction, RunCall};
 use crate::draft::{nat, Draft, Function};
 use crate::limits::{workspace, FUEL, VALUE_BYTES};
-use crate::samples::{
-    dup, flipped_by_ancilla, flipped_by_part, nat_bytes, plus, same_in_both_branches, unused_sum,
-};
+use crate::samples::choosing::flipped_by_ancilla;
+use crate::samples::{dup, flipped_by_part, nat_bytes, plus, same_in_both_branches, unused_sum};
 
 const PLUS: u16 = 0;
 const DUP: u16 = 1;
@@ -43,6 +44,7 @@ pub fn cases() -> Vec<Call> {
     calls.extend(limits::at_the_limits());
     calls.extend(readers::readings(&program));
     calls.extend(steering::steering());
+    calls.extend(choosing::choosing());
     calls
 }
 

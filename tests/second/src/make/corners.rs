@@ -3,7 +3,8 @@
 use super::types::{random_type, smallest_term};
 use crate::draft::*;
 use crate::rng::Rng;
-use crate::samples::{dup, flipped_by_ancilla, flipped_by_part, plus, same_in_both_branches, successor};
+use crate::samples::choosing::flipped_by_ancilla;
+use crate::samples::{dup, flipped_by_part, plus, same_in_both_branches, successor};
 
 /// Programs whose values are longer than what they come from, one way or the other.
 pub fn sized_program(rng: &mut Rng) -> Draft {

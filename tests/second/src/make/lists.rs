@@ -3,6 +3,7 @@
 //! Demand 3's premises hold: one program throughout, each call gets the journal as the last one left it, and a
 //! shorter buffer loses only zeros behind the last field. The journal in each call is the one that the book writes.
 
+use super::choose::choosing_program;
 use super::corners::shortening_program;
 use super::sound_program;
 use super::steer::{converters, steered_program};
@@ -39,6 +40,7 @@ pub fn book_list(rng: &mut Rng) -> Vec<Turn> {
         0..=2 => shortening_program(rng),
         3 | 4 => steered_program(rng),
         5 | 6 => converters(),
+        7..=9 => choosing_program(rng),
         _ => sound_program(rng),
     };
     let (mut story, open) = Story::begin(rng, draft);

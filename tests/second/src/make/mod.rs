@@ -1,6 +1,7 @@
 //! Random calls, deterministic for a seed.
 
 mod choices;
+pub mod choose;
 mod corners;
 mod damage;
 mod edges;
@@ -14,6 +15,7 @@ pub mod scripts;
 pub mod steer;
 mod story;
 mod terms;
+pub mod trips;
 mod types;
 pub mod values;
 
@@ -24,14 +26,17 @@ use crate::rng::Rng;
 use std::collections::VecDeque;
 use story::Story;
 
-/// Calls in a hundred on programs that are made for steering.
+/// Calls in a hundred on programs that are made for choosing by an ancilla.
+const CHOOSING: usize = 18;
+
+/// Calls in a hundred of the rest on programs that are made for steering.
 const STEERED: usize = 18;
 
 /// Calls of readers in a hundred of the rest.
-const READERS: usize = 15;
+const READERS: usize = 18;
 
-/// An endless row of calls. The readers' calls and those made for steering stand among the others and have generators of their own, so
-/// that what else a seed names stays as it is.
+/// An endless row of calls. The readers' calls and those made for steering and for choosing stand among the others and have generators of
+/// their own, so that what else a seed names stays as it is.
 pub struct Maker {
     rng: Rng,
     ready: VecDeque<Call>,
@@ -39,7 +44,9 @@ pub struct Maker {
     ready_readers: VecDeque<Call>,
     steered: Rng,
     ready_steered: VecDeque<Call>,
-    /// The journal of the newest call that had one, of those that are not made for steering.
+    choosing: Rng,
+    ready_choosing: VecDeque<Call>,
+    /// The journal of the newest call that had one, of those that are made for neither steering nor choosing.
     met: Vec<u8>,
 }
 
@@ -52,8 +59,17 @@ impl Maker {
             ready_readers: VecDeque::new(),
             steered: Rng::new(seed.rotate_left(32)),
             ready_steered: VecDeque::new(),
+            choosing: Rng::new(!seed.rotate_left(32)),
+            ready_choosing: VecDeque::new(),
             met: Vec::new(),
         }
+    }
+
+    fn choosing_call(&mut self) -> Option<Call> {
+        while self.ready_choosing.is_empty() {
+            self.ready_choosing.extend(choose::choosing_calls(&mut self.choosing));
+        }
+        self.ready_choosing.pop_front()
     }
 
     fn steered_call(&mut self) -> Option<Call> {
@@ -185,6 +201,9 @@ impl Iterator for Maker {
     type Item = Call;
 
     fn next(&mut self) -> Option<Call> {
+        if self.choosing.chance(CHOOSING) {
+            return self.choosing_call();
+        }
         if self.steered.chance(STEERED) {
             return self.steered_call();
         }

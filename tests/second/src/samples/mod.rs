@@ -1,5 +1,6 @@
 //! Programs that tests and measurements name: section 6's functions and some common list functions; the longest journal.
 
+pub mod choosing;
 pub mod steering;
 
 use crate::draft::*;
@@ -37,6 +38,10 @@ pub fn successor(term: Term) -> Term {
     roll(&nat(), inr(&unfold(&nat()), term))
 }
 
+pub fn zero() -> Term {
+    roll(&nat(), inl(&unfold(&nat()), Term::Unit))
+}
+
 /// Section 6: ancilla a and dynamic n; case unroll n of inl u gives a; inr m gives roll inr (plus a m).
 pub fn plus(itself: usize) -> Function {
     let recursion = successor(call(itself, vec![variable(0), variable(2)]));
@@ -70,16 +75,6 @@ pub fn flipped_by_part() -> Function {
         parameters: vec![product(&boolean(), &boolean())],
         result: boolean(),
         body: let_pair(variable(0), case(variable(1), variable(2), flipped)),
-    }
-}
-
-/// P12 with the deciding part as an ancilla: the left branch is the dynamic parameter, which may yield anything.
-pub fn flipped_by_ancilla() -> Function {
-    let flipped = case(variable(1), inr(&boolean(), variable(3)), inl(&boolean(), variable(3)));
-    Function {
-        parameters: vec![boolean(), boolean()],
-        result: boolean(),
-        body: case(variable(0), variable(1), flipped),
     }
 }
 
@@ -152,13 +147,16 @@ pub fn library() -> Draft {
     }
 }
 
-/// A function of one parameter and the functions that call it 2, 4, 8 times and so on, the last one `doublings` times doubled.
+/// A function whose result has its dynamic parameter's type, and the functions that call it 2, 4, 8 times and so on, the last one
+/// `doublings` times doubled. Ancillae are handed on.
 pub fn doubled(function: Function, doublings: usize) -> Draft {
-    let ty = function.result.clone();
+    let (parameters, result) = (function.parameters.clone(), function.result.clone());
+    let ancillae = parameters.len() - 1;
     let mut functions = vec![function];
     for number in 0..doublings {
-        let body = call(number, vec![call(number, vec![variable(0)])]);
-        functions.push(Function { parameters: vec![ty.clone()], result: ty.clone(), body });
+        let again = |term: Term| call(number, (0..ancillae).map(variable).chain([term]).collect());
+        let body = again(again(variable(ancillae)));
+        functions.push(Function { parameters: parameters.clone(), result: result.clone(), body });
     }
     Draft { functions }
 }

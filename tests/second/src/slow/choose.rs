@@ -16,8 +16,11 @@ const PLUS_ANCILLA: usize = 500;
 /// The most that each of two values as long has in a pair.
 const HALF_A_PAIR: usize = (VALUE_BYTES - 1) / 2;
 
-/// Bytes of the ancillae that leaves do not name: a bit to decide on, and one beside each of paired leaves.
-const BITS_BESIDE: usize = 4;
+/// The most cases around the leaves.
+const NESTED: usize = 16;
+
+/// Bytes of the ancillae that are not as long as the value: a bit, and what the nested cases decide on.
+const BITS_BESIDE: usize = 2 + NESTED;
 
 pub fn slow(rng: &mut Rng) -> Slow {
     let direction = if rng.chance(65) { Direction::Backward } else { Direction::Forward };
@@ -88,7 +91,7 @@ fn leaves(rng: &mut Rng, direction: Direction) -> Leaves {
     }
     let made = Leaves {
         direction,
-        nested: rng.between(1, 16),
+        nested: rng.between(1, NESTED),
         leaves: *rng.pick(&[1, 3, 10, 30, 100, 200, 300]),
         leaf,
         chain,

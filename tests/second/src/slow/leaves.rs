@@ -1,5 +1,8 @@
 //! Nested cases over a left branch of many leaves, each an ancilla that is nearly the value. Backward every case asks every
 //! leaf, forward every case that takes its right branch; each leaf that is asked compares two long values.
+//!
+//! A case that chooses by an ancilla asks no leaf (02, F-3). So the outermost case alone decides on an ancilla, whose part is the next
+//! one's to decide on, and so on inwards: under each of those stands a dynamic variable.
 
 use super::call_of;
 use super::chain::Chain;
@@ -69,10 +72,9 @@ impl Leaves {
     pub fn ancilla_bytes(&self) -> Vec<u8> {
         let turns = self.turns - if let Leaf::Within(turns) = self.leaf { turns } else { 0 };
         let mut bytes: Vec<u8> = self.rivals.iter().flat_map(|&tail| self.chain.bytes(turns, tail)).collect();
-        if self.leaf == Leaf::Paired {
-            bytes.extend(LEFT);
-        }
         bytes.extend(LEFT);
+        bytes.resize(bytes.len() + self.decided_in_turn(), LEFT[0]);
+        bytes.push(LEFT[1]);
         bytes
     }
 
@@ -92,9 +94,23 @@ impl Leaves {
         Draft { functions }
     }
 
-    /// The number of the ancilla on which the cases decide; the ancillae before it are the leaves' own.
+    /// The number of the ancilla that is a bit: paired leaves have it beside them, and the cases between leaves decide on it.
+    fn bit(&self) -> usize {
+        self.rivals.len()
+    }
+
+    /// The number of the ancilla on which the nested cases decide; the ancillae before it are the leaves' own.
     fn decider(&self) -> usize {
-        self.rivals.len() + usize::from(self.leaf == Leaf::Paired)
+        self.rivals.len() + 1
+    }
+
+    /// How many cases decide on the decider and then on the part that is left of it; it has a side for one of them at the least.
+    fn decided_in_turn(&self) -> usize {
+        (self.nested - 1).max(1)
+    }
+
+    fn decider_type(&self) -> Type {
+        (0..self.decided_in_turn()).fold(unit_type(), |left, _| sum(&left, &unit_type()))
     }
 
     /// At the least: two for each case, the call with its ancillae, and the value on its way.
@@ -112,8 +128,7 @@ impl Leaves {
 
     fn function(&self, dynamic: Type, body: Term) -> Function {
         let mut parameters = vec![self.chain.ty(); self.rivals.len()];
-        parameters.resize(self.decider() + 1, boolean());
-        parameters.push(dynamic);
+        parameters.extend([boolean(), self.decider_type(), dynamic]);
         Function { parameters, result: self.value_type(), body }
     }
 
@@ -125,7 +140,8 @@ impl Leaves {
         let around = given + 1;
         let innermost = handed_on(self.tree(0, self.leaves), around + self.nested - 1);
         let body = (1..self.nested).rev().fold(innermost, |left, in_scope| {
-            case(variable(self.decider()), left, handed_on(self.leaf(0), around + in_scope))
+            let decided = if in_scope == 1 { self.decider() } else { around + in_scope - 2 };
+            case(variable(decided), left, handed_on(self.leaf(0), around + in_scope))
         });
         self.function(sum(&unit_type(), &self.value_type()), body)
     }
@@ -136,14 +152,14 @@ impl Leaves {
             return self.leaf(first);
         }
         let half = count / 2;
-        case(variable(self.decider()), self.tree(first, half), self.tree(first + half, count - half))
+        case(variable(self.bit()), self.tree(first, half), self.tree(first + half, count - half))
     }
 
     pub fn leaf(&self, number: usize) -> Term {
         let rival = variable(number % self.rivals.len());
         match self.leaf {
             Leaf::Whole => rival,
-            Leaf::Paired => pair(rival, variable(self.rivals.len())),
+            Leaf::Paired => pair(rival, variable(self.bit())),
             Leaf::Within(turns) => self.chain.around(turns, rival),
         }
     }

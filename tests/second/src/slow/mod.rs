@@ -133,14 +133,14 @@ pub fn kept() -> Vec<Slow> {
 }
 
 /// The most leaves that the terms of a program allow beside the cases around them.
-pub const LEAVES: usize = 275;
+pub const LEAVES: usize = 273;
 pub const PAIRED_LEAVES: usize = 155;
 
 /// Cases around the leaves, as many as the variables in scope and the terms allow with the most leaves.
-const NESTED: usize = 16;
+const NESTED: usize = 17;
 
-/// The longest ancilla that leaves room for a bit or two beside it.
-const LONGEST: usize = VALUE_BYTES - 4;
+/// The longest ancilla that leaves room for a bit and for what the cases decide on beside it.
+const LONGEST: usize = VALUE_BYTES - (2 + NESTED);
 
 /// Leaves that differ from the value in the last bit of some 1,000 bytes.
 pub fn last_bit(leaves: usize) -> Leaves {

@@ -1,9 +1,11 @@
 //! Calls in short form, for tests that look at one answer each.
 #![allow(dead_code)]
 
+pub mod choices;
 pub mod namings;
 
 use second::calls::{answer, Answer, Call, ConvertCall, Direction, RunCall};
+use second::draft::Term;
 use second::limits::{self, FUEL, VALUE_BYTES};
 use second::refusal::{Number, Refusal};
 
@@ -94,4 +96,12 @@ pub fn journal_of(answer: Answer) -> Vec<u8> {
         Answer::Opened { journal } | Answer::Held { journal, .. } => journal,
         other => panic!("no journal: {other:?}"),
     }
+}
+
+/// The entry of a part, given by which part of which part it is: a term's entry stands behind those of its parts.
+pub fn entry_of(body: &Term, path: &[usize]) -> u32 {
+    let Some((&first, rest)) = path.split_first() else { return body.count() as u32 - 1 };
+    let parts = body.parts();
+    let before: usize = parts[..first].iter().map(|part| part.count()).sum();
+    before as u32 + entry_of(parts[first], rest)
 }

@@ -1,6 +1,6 @@
 //! A program as a tree of functions with the types that they name.
 
-use super::term::{Function, Term};
+use super::term::{Function, Term, TermKind};
 use super::types::{Shape, TypeId, Types};
 
 #[derive(Clone, Debug, Default)]
@@ -36,6 +36,40 @@ pub struct Found<'a> {
     pub variables: usize,
     /// The terms that hold it, the nearest first, each with the place of the part that does.
     pub around: Vec<(&'a Term, usize)>,
+}
+
+impl<'a> Found<'a> {
+    /// The terms that hold it in a part that they bind variables for, the nearest first, each with how many variables are in scope at it.
+    fn binders(&self) -> impl Iterator<Item = (&'a Term, usize, usize)> + '_ {
+        let mut variables = self.variables;
+        self.around.iter().filter_map(move |&(term, place)| {
+            variables -= term.bound_before(place);
+            (term.bound_before(place) > 0).then_some((term, place, variables))
+        })
+    }
+
+    /// The same without the places.
+    pub fn within(&self) -> impl Iterator<Item = (&'a Term, usize)> + '_ {
+        self.binders().map(|(term, _, variables)| (term, variables))
+    }
+
+    /// The term that binds a variable in scope, and how many variables are in scope at that term; none for a parameter.
+    pub fn bound_by(&self, variable: usize) -> Option<(&'a Term, usize)> {
+        self.within().find(|&(_, variables)| variables <= variable)
+    }
+
+    /// A variable in scope as the text names it; none where a pattern binds it without a name.
+    pub fn name(&self, variable: usize) -> Option<&'a str> {
+        if let Some(parameter) = self.function.parameters.get(variable) {
+            return Some(&parameter.name);
+        }
+        let (term, place, variables) = self.binders().find(|&(_, _, variables)| variables <= variable)?;
+        let binder = match term.kind {
+            TermKind::Case(..) => place - 1,
+            _ => variable - variables,
+        };
+        term.binders.get(binder).map(|binder| &*binder.name).filter(|name| *name != "_")
+    }
 }
 
 /// Parts come before wholes.

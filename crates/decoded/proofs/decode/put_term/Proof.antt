@@ -1,7 +1,8 @@
 use native.Mathlib.Omega.{arith}
-use mathlib.Core.Path.{refl, sym, subst, _∙_}
+use mathlib.Core.Path.{sym, subst, _∙_}
 use borrow.Author.Needs.{needs}
 use Rattle.program.proofs.Rooms.{term-kind, term-kind-room, var-room, case-room}
+use Rattle.decoded.proofs.Trees.{Two}
 use Rattle.decoded.proofs.Decoding as law
 use Rattle.decoded.proofs.decode.put_term.Statement.{statement}
 use Rattle.decoded.proofs.decode.put_term.Tie as tie
@@ -86,8 +87,10 @@ returns c =
     let at-variable = at-wide16 .before in
     let at-match = at-variable .before .before in
     let at-kind = at-match .before in
-    law.put-variable (at-put-heads .put-heads .ensures) (sym (at-kind .kind .ensures) ∙ at-match .match .keys1)
-    (at-wide16 .wide16 .ensures .0 ∙ at-variable .variable .ensures)
+    let start = at-kind .before .before in
+    let variable = sym (at-kind .kind .ensures) ∙ at-match .match .keys1 in
+    law.put-variable (at-put-heads .put-heads .ensures) variable (at-wide16 .wide16 .ensures .0 ∙ at-variable .variable .ensures)
+    (start .pre .1 .1 .variables variable)
 
 returns-2 : tie.Need-returns-2
 returns-2 c = law.put-unit (c .put-heads2 .ensures) (sym (c .before .before .before .kind .ensures) ∙ c .before .before .match .keys2)
@@ -115,7 +118,7 @@ returns-5 c =
     let at-match = at-wide162 .before .before .before in
     let at-kind = at-match .before in
     law.put-two (at-put-heads4 .put-heads4 .ensures) (at-wide162 .wide162 .ensures .0 ∙ at-kind .kind .ensures)
-    (subst law.Two (sym (at-wide162 .wide162 .ensures .0)) (at-match .match .rest)) (at-first2 .first2 .ensures) (at-second2 .second2 .ensures)
+    (subst Two (sym (at-wide162 .wide162 .ensures .0)) (at-match .match .rest)) (at-first2 .first2 .ensures) (at-second2 .second2 .ensures)
 
 returns-6 : tie.Need-returns-6
 returns-6 c =

@@ -5,12 +5,12 @@ mod spoilt;
 pub mod wide;
 mod writer;
 
-use super::runs::{ancilla_bytes, run_call_of};
-use super::values::{typed_near_miss, typical_value};
+use super::runs::run_call_of;
+use super::trips::RoundTrip;
 use super::{choices, damage, story_calls};
-use crate::calls::{answer, Answer, Call, Direction, RunCall};
+use crate::calls::Call;
 use crate::draft::Draft;
-use crate::limits::{self, FUEL, VALUE_BYTES};
+use crate::limits;
 use crate::rng::Rng;
 use crate::samples::plus;
 use crate::samples::steering::{by_first, by_second, over_list, running_sums, under_ancilla};
@@ -35,7 +35,7 @@ pub fn steered_calls(rng: &mut Rng) -> Vec<Call> {
             let program = steered_program(rng).shuffled(rng);
             vec![Call::Check { workspace: limits::workspace(0), program: damage::damaged(rng, &program) }]
         }
-        69..=80 => RoundTrip::new(rng).into_calls(),
+        69..=80 => steered_trip(rng).into_calls(),
         81..=95 => runs(rng),
         _ => {
             let draft = steered_program(rng);
@@ -81,59 +81,14 @@ fn steered_function(rng: &mut Rng, draft: &Draft) -> usize {
     }
 }
 
-/// An accepted program with steering, a forward call that it answers, the call back on the result, and calls back on other values of
-/// the result's type, of which most have no input.
-#[derive(Debug)]
-pub struct RoundTrip {
-    pub forward: RunCall,
-    pub backward: RunCall,
-    pub others: Vec<RunCall>,
-}
-
-impl RoundTrip {
-    pub fn new(rng: &mut Rng) -> RoundTrip {
-        loop {
-            let draft = steered_program(rng);
-            let program = draft.shuffled(rng);
-            let function = steered_function(rng, &draft);
-            // The run is tried with some records: a value may come to be too long, and an ancilla term may meet first match.
-            if let Some(found) = (0..3).find_map(|_| RoundTrip::of(rng, &draft, &program, function)) {
-                return found;
-            }
+/// A program that is accepted and steers, there and back.
+pub fn steered_trip(rng: &mut Rng) -> RoundTrip {
+    loop {
+        let draft = steered_program(rng);
+        let program = draft.shuffled(rng);
+        let function = steered_function(rng, &draft);
+        if let Some(trip) = RoundTrip::tried(rng, &draft, &program, function) {
+            return trip;
         }
-    }
-
-    /// None if the record that is drawn does not run forward.
-    fn of(rng: &mut Rng, draft: &Draft, program: &[u8], function: usize) -> Option<RoundTrip> {
-        let steered = &draft.functions[function];
-        let (dynamic, ancillae) = steered.parameters.split_last().expect("a function has a parameter");
-        let mut forward = RunCall {
-            direction: Direction::Forward,
-            workspace: limits::workspace(FUEL),
-            output: VALUE_BYTES,
-            fuel: FUEL,
-            function: function as u16,
-            program: program.to_vec(),
-            ancillae: ancilla_bytes(rng, ancillae),
-            value: typical_value(rng, dynamic),
-        };
-        let Answer::Value { value, steps } = answer(&Call::Run(forward.clone())) else { return None };
-        let back = |value: Vec<u8>, fuel: u16| RunCall {
-            direction: Direction::Backward,
-            workspace: limits::workspace(fuel),
-            fuel,
-            value,
-            ..forward.clone()
-        };
-        let enough = steps as u16;
-        let others =
-            (0..2).map(|_| back(typed_near_miss(rng, &steered.result, &value), enough.saturating_add(40)));
-        let (others, backward) = (others.collect(), back(value, enough));
-        (forward.fuel, forward.workspace) = (enough, limits::workspace(enough));
-        Some(RoundTrip { forward, backward, others })
-    }
-
-    pub fn into_calls(self) -> Vec<Call> {
-        [self.forward, self.backward].into_iter().chain(self.others).map(Call::Run).collect()
     }
 }

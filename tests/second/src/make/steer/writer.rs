@@ -9,6 +9,7 @@ use crate::draft::*;
 use crate::rng::Rng;
 use crate::samples::steering::{beside, tagged, unsteered};
 use crate::samples::{plus, successor};
+use crate::typing::check;
 
 /// Variables by number, one bit each.
 type Set = u64;
@@ -56,8 +57,11 @@ pub fn steered_draft(rng: &mut Rng) -> Draft {
             named: 0,
         };
         writer.main();
-        if writer.named > 0 && writer.functions.len() <= 20 {
-            return Draft { functions: writer.functions };
+        let steers = writer.named > 0 && writer.functions.len() <= 20;
+        let draft = Draft { functions: writer.functions };
+        // Types shown beside each other may come to too many nodes.
+        if steers && check(&draft.bytes()).is_ok() {
+            return draft;
         }
     }
 }
