@@ -4,20 +4,21 @@ use Prim.Native.Nat.{ℕ, zero, suc, _+_, _≤_, _<_, pred, min, max}
 use native.Mathlib.Omega.{arith}
 use native.Mathlib.Decide.{decLt}
 use mathlib.Core.Path.{_≡_, refl, sym, ap, ap₂, subst, _∙_}
-use mathlib.Core.Bool.{Bool, true, false, _&&_, _||_}
+use mathlib.Core.Bool.{Bool, true, false, _&&_, _||_, cond, and-eq-true-iff}
 use mathlib.Core.List.{List, [], _∷_, _++_}
 use mathlib.Core.Logic.{_↔_}
 use lib.ListN.{length, getD, length-append, List·getD-append}
 use lib.Dec.{eqb, ltb, leb, ltb→lt, lt→ltb}
+use borrow.Author.Tests.{ltb-true, lt-ltb}
 use package.Rattle.rules.specs.Limits.{maxNodes}
-use package.Rattle.rules.specs.Ty.{Ty, one, prod, sum, mu, tyvar, nodes}
-use package.Rattle.rules.proofs.Basics.{given, and-both, eqb-sound, T-true}
+use package.Rattle.rules.specs.Ty.{Ty, one, prod, sum, mu, tyvar, plug, nodes}
+use package.Rattle.rules.proofs.Basics.{given, and-both, eqb-sound, eqb-no, T-true}
 use package.Rattle.rules.proofs.Typing.Tests.{leb-yes, leb-sound}
 use package.Rattle.calls.specs.Answer.{accepted}
 use package.Rattle.calls.specs.Fields.{Layout}
 use package.Rattle.calls.specs.Entries.{TypeEntry, y-unit, y-prod, y-sum, y-mu, y-var, typeTree, typeBelow, typeOf}
 use package.Rattle.calls.specs.Named.{plain, typesOfType, below, member, testTypes}
-use package.Rattle.calls.specs.Figures.{ceiling, nodesOf, freeOf, figures}
+use package.Rattle.calls.specs.Figures.{ceiling, free, nodesOf, freeOf, figures}
 use package.Rattle.calls.specs.Closed.{closed, Lower}
 pub use package.Rattle.calls.specs.Closed.{Plain}
 use package.Rattle.calls.proofs.Answer.{unbind, required}
@@ -30,14 +31,6 @@ same-truth : (a b : Bool) → (a ≡ true) ↔ (b ≡ true) → a ≡ b
 same-truth true b (f, g) = sym (f refl)
 same-truth false true (f, g) = g refl
 same-truth false false (f, g) = refl
-
--- how many recursive types must still enclose a type so that it is closed
-unfoldable pub free : Ty → ℕ
-free one = 0
-free (prod a b) = max (free a) (free b)
-free (sum a b) = max (free a) (free b)
-free (mu a) = pred (free a)
-free (tyvar k) = suc k
 
 both-closed : (n : ℕ) (b c : Bool) (l r : ℕ) → (b ≡ true) ↔ (l ≤ n) → (c ≡ true) ↔ (r ≤ n) → ((b && c) ≡ true) ↔ (max l r ≤ n)
 both-closed n b c l r p q = (
@@ -56,12 +49,26 @@ closed-iff-free n (sum a b) = both-closed n (closed n a) (closed n b) (free a) (
 closed-iff-free n (mu a) = (λ e. under-one (free a) n .0 (closed-iff-free (suc n) a .0 e), λ h. closed-iff-free (suc n) a .1 (under-one (free a) n .1 h))
 closed-iff-free n (tyvar k) = (λ e. ltb→lt k n (rw e tt), λ h. T-true (lt→ltb k n h))
 
+-- nothing is put into a type that has no such variable
+pub plug-closed : (c : Ty) (n : ℕ) (a : Ty) → closed n a ≡ true → plug c n a ≡ a
+unfolding plug closed
+plug-closed c n one e = refl
+plug-closed c n (prod a b) e = given (and-both (closed n a) (closed n b) e) λ (x, y). ap₂ prod (plug-closed c n a x) (plug-closed c n b y)
+plug-closed c n (sum a b) e = given (and-both (closed n a) (closed n b) e) λ (x, y). ap₂ sum (plug-closed c n a x) (plug-closed c n b y)
+plug-closed c n (mu a) e = ap mu (plug-closed c (suc n) a e)
+plug-closed c n (tyvar k) e = ap (λ b. cond b c (tyvar k)) (eqb-no k n (ltb-true k n e))
+
 ----------------------------------------------------------------
 -- Entries that name lower ones
 
 pub below-head : (n i : ℕ) (is : List ℕ) → below n (i ∷ is) ≡ true → (i < n) × (below n is ≡ true)
 unfolding below
 below-head n i is e = given (and-both (ltb i n) (below n is) e) λ (x, y). (ltb→lt i n (rw x tt), y)
+
+pub below-wider : (n m : ℕ) (is : List ℕ) → n ≤ m → below n is ≡ true → below m is ≡ true
+unfolding below
+below-wider n m [] l e = refl
+below-wider n m (i ∷ is) l e = given (below-head n i is e) λ (h, e₁). and-eq-true-iff (ltb i m) (below m is) .1 (lt-ltb i m (omega arith), below-wider n m is l e₁)
 
 pub below-at : (n : ℕ) (is : List ℕ) (i : ℕ) → below n is ≡ true → i < length is → getD is i 0 < n
 below-at n [] i e l = absurd (omega arith)

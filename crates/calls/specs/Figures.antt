@@ -4,11 +4,20 @@ use Prim.Native.Nat.{ℕ, zero, suc, _+_, pred, min, max}
 use mathlib.Core.List.{List, [], _∷_, _++_}
 use lib.ListN.{getD}
 use package.Rattle.rules.specs.Limits.{maxNodes}
+use package.Rattle.rules.specs.Ty.{Ty, one, prod, sum, mu, tyvar}
 use package.Rattle.calls.specs.Entries.{TypeEntry, y-unit, y-prod, y-sum, y-mu, y-var}
 
 -- Counting stops one above the limit: an entry that nothing names may be exponentially large as a tree.
 unfoldable pub ceiling : ℕ
 ceiling = suc maxNodes
+
+-- how many recursive types must still enclose a type so that it is closed
+unfoldable pub free : Ty → ℕ
+free one = 0
+free (prod a b) = max (free a) (free b)
+free (sum a b) = max (free a) (free b)
+free (mu a) = pred (free a)
+free (tyvar k) = suc k
 
 -- nodes of an entry, given those of the lower ones
 unfoldable pub nodesOf : List ℕ → TypeEntry → ℕ

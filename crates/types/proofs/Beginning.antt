@@ -1,4 +1,4 @@
--- How the sources of codes come about: type entries of an accepted layout, no products yet, and the counts of entries.
+-- How the sources of codes come about: type entries of an accepted layout, with their figures, no products yet, and the counts of entries.
 use Prim.Native.Nat.{ℕ, _≤_}
 use native.Mathlib.Omega.{arith}
 use mathlib.Core.Path.{_≡_, sym, ap, _∙_}
@@ -11,14 +11,15 @@ use package.Rattle.calls.specs.Figures.{nodesOf, figures}
 use package.Rattle.calls.proofs.Entries.{nodes-figure}
 use package.Rattle.calls.specs.Tested.{Lower}
 use package.Rattle.program.specs.Parts.{Formed}
+use package.Rattle.types.specs.Figures.{Figured}
 use package.Rattle.types.specs.Codes.{Readable, Sources}
 use package.Rattle.types.specs.Counts.{Counted}
 
 pub readable : {xs : List ℕ} {L : Layout} → Formed xs L → Lower (map (typeAt xs) (L .types)) → Readable xs (L .types)
 readable F low = record { field = F .types; lower = low; few = F .few-types }
 
-pub no-products : {xs types : List ℕ} (heap : List ℕ) → Readable xs types → Sources xs types heap 0
-no-products heap R = record { entries = R; products = record { held = omega arith; node = λ k l. absurd (omega arith) } }
+pub no-products : {xs types heap : List ℕ} → Readable xs types → Figured (map (typeAt xs) types) heap (length types) → Sources xs types heap 0
+no-products R F = record { entries = R; figures = F; products = record { held = omega arith; node = λ k l. absurd (omega arith) } }
 
 -- counts whose front is the figures of calls/specs/Named
 pub counted : {xs types nodes : List ℕ} → Readable xs types → length (map (typeAt xs) types) ≤ length nodes

@@ -42,7 +42,7 @@ unit-kind (suc (suc (suc zero))) a b n = refl
 unit-kind (suc (suc (suc (suc k)))) a b n = ne-eqb (suc (suc (suc (suc k)))) 0 λ e. let z : suc (suc (suc (suc k))) ≡ 0 = e in omega arith
 
 -- trees that differ are not equal
-differing : (a b : Ty) → ¬ (a ≡ b) → false ≡ sameTy a b
+pub differing : (a b : Ty) → ¬ (a ≡ b) → false ≡ sameTy a b
 differing a b d = go (sameTy a b) refl
   where
     go : (r : Bool) → sameTy a b ≡ r → false ≡ r

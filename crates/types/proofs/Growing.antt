@@ -6,17 +6,18 @@ use mathlib.Core.Path.{_≡_, refl, sym, ap, ap₂, subst, _∙_}
 use mathlib.Core.Logic.{_⊎_, ⊎-elim}
 use mathlib.Core.Bool.{true, false, false≢true}
 use mathlib.Core.List.{List, map}
-use lib.ListN.{length, getD, set, length-set}
-use lib.Seq.{getD-set-same, getD-set-other}
+use lib.ListN.{length, getD}
 use borrow.Author.Tests.{le-leb, lt-leb}
 use package.Rattle.octets.specs.Numbers.{put16}
-use package.Rattle.octets.proofs.Puts.{length-put16, set-low, put16-low, put16-other, get16-same, get16-put16}
-use package.Rattle.rules.specs.Limits.{maxNodes}
+use package.Rattle.octets.proofs.Puts.{length-put16, put16-low, put16-other, get16-same, get16-put16}
+use package.Rattle.rules.specs.Limits.{maxTerms, maxNodes}
 use package.Rattle.rules.specs.Ty.{Ty, prod, nodes}
 use package.Rattle.calls.specs.Entries.{TypeEntry, typeAt}
 use package.Rattle.calls.specs.Figures.{ceiling}
 use package.Rattle.types.specs.declared.codes.Code.{Code}
 use package.Rattle.types.specs.Codes.{Room, nodeBytes, productCode, codeAt, leftAt, rightAt, countAt, ofCode, productWithin, productAt, treeOf, treeIn, Known, Right, Products, Sources}
+use package.Rattle.types.specs.Figures.{Figured}
+use package.Rattle.types.proofs.Figuring.{figured-same}
 use package.Rattle.types.specs.Growth.{putCode, putNode, Agree, Grown, Made}
 use package.Rattle.types.proofs.Trees.{same-numbers, tree-product, code-agrees, enough}
 
@@ -25,15 +26,14 @@ use package.Rattle.types.proofs.Trees.{same-numbers, tree-product, code
 
 pub length-code : (heap : List ℕ) (i : ℕ) (c : Code) → length (putCode heap i c) ≡ length heap
 unfolding putCode
-length-code heap i c = simp (length-put16, length-set)
+length-code heap i c = simp length-put16
 
 pub code-low : (heap : List ℕ) (i : ℕ) (c : Code) (j : ℕ) → j < i → getD (putCode heap i c) j 0 ≡ getD heap j 0
 unfolding putCode
 code-low heap i c j h =
     put16-low _ (i + 4) (c .stands) j (omega arith)
     ∙ put16-low _ (i + 2) (c .at) j (omega arith)
-    ∙ set-low (set heap i (c .form)) (i + 1) j (c .depth) (omega arith)
-    ∙ set-low heap i j (c .form) h
+    ∙ put16-low heap i (c .form) j h
 
 -- what is above stays too
 pub code-high : (heap : List ℕ) (i : ℕ) (c : Code) (j : ℕ) → i + 6 ≤ j → getD (putCode heap i c) j 0 ≡ getD heap j 0
@@ -41,46 +41,40 @@ unfolding putCode
 code-high heap i c j h =
     put16-other _ (i + 4) (c .stands) j (λ e. omega arith) (λ e. omega arith)
     ∙ put16-other _ (i + 2) (c .at) j (λ e. omega arith) (λ e. omega arith)
-    ∙ getD-set-other (set heap i (c .form)) (i + 1) j (c .depth) 0 (λ e. omega arith)
-    ∙ getD-set-other heap i j (c .form) 0 (λ e. omega arith)
+    ∙ put16-other heap i (c .form) j (λ e. omega arith) (λ e. omega arith)
 
 -- codes from bytes that agree
 pub code-same : (heap heap′ : List ℕ) (i : ℕ) → ((j : ℕ) → j < i + 6 → getD heap j 0 ≡ getD heap′ j 0) → codeAt heap i ≡ codeAt heap′ i
 unfolding codeAt
 code-same heap heap′ i s =
     same-numbers _ _
-    (s i (omega arith))
-    (s (i + 1) (omega arith))
+    (get16-same _ _ i λ j l. s j (omega arith))
     (get16-same _ _ (i + 2) λ j l. s j (omega arith))
     (get16-same _ _ (i + 4) λ j l. s j (omega arith))
 
 -- The numbers of a code fit their bytes.
 pub record Fitting (c : Code) : Type 0 where
+  pub form : c .form < 65536
   pub at : c .at < 65536
   pub stands : c .stands < 65536
 
 module _ (heap : List ℕ) (i : ℕ) (c : Code) (F : Fitting c) (room : i + 6 ≤ length heap) where
-  marked : List ℕ
-  marked = set (set heap i (c .form)) (i + 1) (c .depth)
+  formed : List ℕ
+  formed = put16 heap i (c .form)
 
-  length-marked : length marked ≡ length heap
-  unfolding marked
-  length-marked = simp length-set
+  length-formed : length formed ≡ length heap
+  unfolding formed
+  length-formed = length-put16 heap i (c .form)
 
   pub code-put : codeAt (putCode heap i c) i ≡ c
-  unfolding codeAt putCode marked
+  unfolding codeAt putCode formed
   code-put =
       same-numbers _ _
-      (put16-low _ (i + 4) (c .stands) i (omega arith)
-      ∙ put16-low _ (i + 2) (c .at) i (omega arith)
-      ∙ set-low (set heap i (c .form)) (i + 1) i (c .depth) (omega arith)
-      ∙ getD-set-same heap i (c .form) 0 (omega arith))
-      (put16-low _ (i + 4) (c .stands) (i + 1) (omega arith)
-      ∙ put16-low _ (i + 2) (c .at) (i + 1) (omega arith)
-      ∙ getD-set-same (set heap i (c .form)) (i + 1) (c .depth) 0 (simp length-set (omega arith)))
-      (get16-same _ (put16 marked (i + 2) (c .at)) (i + 2) (λ j h. put16-low _ (i + 4) (c .stands) j (omega arith))
-      ∙ get16-put16 marked (i + 2) (c .at) (omega (arith, length-marked)) (F .at))
-      (get16-put16 (put16 marked (i + 2) (c .at)) (i + 4) (c .stands) (simp length-put16 (omega (arith, length-marked))) (F .stands))
+      (get16-same _ formed i (λ j h. put16-low _ (i + 4) (c .stands) j (omega arith) ∙ put16-low _ (i + 2) (c .at) j (omega arith))
+      ∙ get16-put16 heap i (c .form) (omega arith) (F .form))
+      (get16-same _ (put16 formed (i + 2) (c .at)) (i + 2) (λ j h. put16-low _ (i + 4) (c .stands) j (omega arith))
+      ∙ get16-put16 formed (i + 2) (c .at) (omega (arith, length-formed)) (F .at))
+      (get16-put16 (put16 formed (i + 2) (c .at)) (i + 4) (c .stands) (simp length-put16 (omega (arith, length-formed))) (F .stands))
 
 ----------------------------------------------------------------
 -- A node that is put
@@ -104,6 +98,14 @@ module _ (heap : List ℕ) (n : ℕ) (left right : Code) (count : ℕ) where
       ∙ code-low placed (nodeBytes * n + 6) right j (omega arith)
       ∙ code-low heap (nodeBytes * n) left j h
 
+  -- what is behind the node stays too
+  node-high : (j : ℕ) → nodeBytes * (n + 1) ≤ j → getD (putNode heap n left right count) j 0 ≡ getD heap j 0
+  unfolding putNode placed
+  node-high j h =
+      put16-other (putCode placed (nodeBytes * n + 6) right) (nodeBytes * n + 12) count j (λ e. omega arith) (λ e. omega arith)
+      ∙ code-high placed (nodeBytes * n + 6) right j (omega arith)
+      ∙ code-high heap (nodeBytes * n) left j (omega arith)
+
   module _ (room : Room heap (n + 1)) where
     left-put : Fitting left → leftAt (putNode heap n left right count) n ≡ left
     unfolding leftAt putNode placed
@@ -125,21 +127,28 @@ module _ (heap : List ℕ) (n : ℕ) (left right : Code) (count : ℕ) where
         get16-put16 (putCode placed (nodeBytes * n + 6) right) (nodeBytes * n + 12) count
         (omega (arith, length-code placed (nodeBytes * n + 6) right, length-placed)) small
 
-pub agree-put : (heap : List ℕ) (n : ℕ) (left right : Code) (count : ℕ) → Agree n heap (putNode heap n left right count)
-agree-put heap n left right count =
-    record { same = λ j h. sym (node-low heap n left right count j h); lengths = sym (length-node heap n left right count) }
+pub agree-put : (heap : List ℕ) (n : ℕ) (left right : Code) (count : ℕ) → n < maxTerms → Agree n heap (putNode heap n left right count)
+agree-put heap n left right count few = record {
+  same = λ j h. sym (node-low heap n left right count j h);
+  behind = λ j h. sym (node-high heap n left right count j (omega arith));
+  lengths = sym (length-node heap n left right count);
+}
 
 ----------------------------------------------------------------
 -- Heaps that agree
 
 pub agree-refl : (top : ℕ) (heap : List ℕ) → Agree top heap heap
-agree-refl top heap = record { same = λ i h. refl; lengths = refl }
+agree-refl top heap = record { same = λ i h. refl; behind = λ i h. refl; lengths = refl }
 
 pub agree-trans : {top : ℕ} {heap heap′ heap″ : List ℕ} → Agree top heap heap′ → Agree top heap′ heap″ → Agree top heap heap″
-agree-trans p q = record { same = λ i h. p .same i h ∙ q .same i h; lengths = p .lengths ∙ q .lengths }
+agree-trans p q = record {
+  same = λ i h. p .same i h ∙ q .same i h;
+  behind = λ i h. p .behind i h ∙ q .behind i h;
+  lengths = p .lengths ∙ q .lengths;
+}
 
 pub agree-down : {top : ℕ} (low : ℕ) {heap heap′ : List ℕ} → low ≤ top → Agree top heap heap′ → Agree low heap heap′
-agree-down low le p = record { same = λ i h. p .same i (omega arith); lengths = p .lengths }
+agree-down low le p = record { same = λ i h. p .same i (omega arith); behind = p .behind; lengths = p .lengths }
 
 module _ {top : ℕ} {heap heap′ : List ℕ} (A : Agree top heap heap′) (k : ℕ) (l : k < top) where
   agree-left : leftAt heap k ≡ leftAt heap′ k
@@ -185,8 +194,11 @@ module _ {ys : List TypeEntry} {n : ℕ} {heap heap′ : List ℕ} {top : ℕ} (
   pub products-kept : Products ys n heap′ top
   products-kept = record { held = omega (arith, P .held, A .lengths); node = right-kept }
 
+pub figures-kept : {ys : List TypeEntry} {n top : ℕ} {heap heap′ : List ℕ} → Figured ys heap n → Agree top heap heap′ → Figured ys heap′ n
+figures-kept F A = figured-same F (A .lengths) λ j l h. A .behind j l
+
 pub sources-kept : {xs types heap heap′ : List ℕ} {top : ℕ} → Sources xs types heap top → Agree top heap heap′ → Sources xs types heap′ top
-sources-kept S A = record { entries = S .entries; products = products-kept (S .products) A }
+sources-kept S A = record { entries = S .entries; figures = figures-kept (S .figures) A; products = products-kept (S .products) A }
 
 ----------------------------------------------------------------
 -- The product of two types
@@ -198,9 +210,9 @@ module _ {xs types heap : List ℕ} {top : ℕ} (S : Sources xs types heap top) 
   abbrev b : Ty
   b = treeIn xs types heap right
 
-  -- counted from 1 on, left then right
-  module _ {n m : ℕ} (e : n ≡ min ceiling (1 + nodes a)) (e′ : m ≡ min ceiling (n + nodes b)) where
-    both-counted : m ≡ min ceiling (nodes (prod a b))
+  -- by the counts of both
+  module _ {x y m : ℕ} (e : x ≡ min ceiling (nodes a)) (e′ : y ≡ min ceiling (nodes b)) (s : m ≡ x + y + 1) where
+    both-counted : min ceiling m ≡ min ceiling (nodes (prod a b))
     unfolding nodes ceiling
     both-counted = omega arith
 
@@ -212,7 +224,7 @@ module _ {xs types heap : List ℕ} {top : ℕ} (S : Sources xs types heap top) 
       old = λ e. refl;
     }
 
-    module _ (room : Room heap (top + 1)) (F : Fitting left) (F′ : Fitting right) (h : m ≤ maxNodes) where
+    module _ (room : Room heap (top + 1)) (F : Fitting left) (F′ : Fitting right) (h : m ≤ maxNodes) (few : top < maxTerms) where
       new : List ℕ
       new = putNode heap top left right m
 
@@ -222,7 +234,7 @@ module _ {xs types heap : List ℕ} {top : ℕ} (S : Sources xs types heap top) 
 
       agree : Agree top heap new
       unfolding new
-      agree = agree-put heap top left right m
+      agree = agree-put heap top left right m few
 
       -- an older code under the new node
       part-kept : {c : Code} → Known (length types) top c → ofCode (map (typeAt xs) types) (productWithin top (map (typeAt xs) types) new) c ≡ treeIn xs types heap c
@@ -255,6 +267,7 @@ module _ {xs types heap : List ℕ} {top : ℕ} (S : Sources xs types heap top) 
       grown = record {
         sources = record {
           entries = S .entries;
+          figures = figures-kept (S .figures) agree;
           products = record {
             held = omega (arith, room, length-node heap top left right m);
             node = λ k l. ⊎-elim

@@ -1,26 +1,30 @@
 -- Laws of unfolding: which body an entry has by the kind in its field, and that it is of the unfolded type.
-use Prim.Native.Nat.{ℕ, zero, suc, _<_}
+use Prim.Native.Nat.{ℕ, zero, suc, _<_, _≤_}
 use native.Mathlib.Omega.{arith}
 use mathlib.Core.Path.{_≡_, refl, sym, ap, subst, _∙_}
 use mathlib.Core.Bool.{true}
 use mathlib.Core.List.{List, [], map}
 use lib.ListN.{length, getD}
-use package.Rattle.rules.specs.Ty.{Ty, plug, unfoldTy}
+use package.Rattle.rules.specs.Ty.{Ty, mu, unfoldTy}
 use package.Rattle.rules.specs.Check.{Site, Checked, bad, asMu}
 use package.Rattle.calls.specs.Fields.{kindAt}
 use package.Rattle.calls.specs.Entries.{TypeEntry, y-unit, y-prod, y-sum, y-mu, y-var, typeAt, typeTree, typeOf}
 use package.Rattle.calls.specs.Named.{below, typesOfType}
-use package.Rattle.calls.proofs.Entries.{below-head}
+use package.Rattle.calls.specs.Figures.{free}
+use package.Rattle.calls.specs.Tested.{closed}
+use package.Rattle.calls.proofs.Entries.{closed-iff-free, below-head}
 use package.Rattle.program.specs.Parts.{first}
 use package.Rattle.program.proofs.Shapes.{type-unit, type-prod, type-sum, type-mu, type-var}
 use package.Rattle.program.specs.Kinds.{recursiveKind}
 use package.Rattle.types.specs.declared.codes.Code.{Code}
 use package.Rattle.types.specs.declared.unfolding.Body.{Body}
 use package.Rattle.types.specs.declared.unfolding.Body.the-variants.{Of, Other}
+use package.Rattle.types.specs.Figures.{closedBy}
 use package.Rattle.types.specs.Codes.{entryCode, underCode, treeIn, Sources}
 use package.Rattle.types.specs.Unfolding.{bodyOf, Unfolds}
 use package.Rattle.types.proofs.Trees.{tree-entry, tree-under}
-use package.Rattle.types.proofs.Outer.{under-known, lower-entry, entry-unfolds}
+use package.Rattle.types.proofs.Closing.{closed-unfolds}
+use package.Rattle.types.proofs.Outer.{under-known, lower-at, unfolds-at}
 
 ----------------------------------------------------------------
 -- By the kind in the entry's field at `at`, which stands in place `n` of the offsets
@@ -53,22 +57,30 @@ of-other p = let z : _≡_ {A = ℕ} 0 1 = cc in omega arith
 of-inj : {c d : Code} → Of c ≡ Of d → c ≡ d
 of-inj p = cc
 
-module _ {xs types heap : List ℕ} {top : ℕ} (S : Sources xs types heap top) (i : ℕ) (l : i < length types) where
+module _ {xs types heap : List ℕ} {top : ℕ} (S : Sources xs types heap top) (i : ℕ) (l : i < length types)
+    (shut : closed 0 (typeOf (map (typeAt xs) types) i) ≡ true) where
   whole-tree : (y : TypeEntry) → typeAt xs (getD types i 0) ≡ y → treeIn xs types heap (entryCode i) ≡ typeTree (typeOf (map (typeAt xs) types)) y
   whole-tree y e =
-      tree-entry (map (typeAt xs) types) heap (entryCode i) refl ∙ sym (entry-unfolds S i l) ∙ ap (typeTree (typeOf (map (typeAt xs) types))) e
+      tree-entry (map (typeAt xs) types) heap (entryCode i) refl ∙ sym (unfolds-at (S .entries) i l) ∙ ap (typeTree (typeOf (map (typeAt xs) types))) e
 
   mu-unfolds : (a : ℕ) → typeAt xs (getD types i 0) ≡ y-mu a → Unfolds xs types heap top i (underCode a i)
   unfolding typeTree typesOfType unfoldTy
   mu-unfolds a e =
-      let h = below-head i a [] (subst (λ y. below i (typesOfType y) ≡ true) e (lower-entry S i l)) .0 in
+      let h = below-head i a [] (subst (λ y. below i (typesOfType y) ≡ true) e (lower-at (S .entries) i l)) .0 in
       record {
         body = typeOf (map (typeAt xs) types) a;
         whole = whole-tree (y-mu a) e;
         tree = tree-under (map (typeAt xs) types) heap (underCode a i) refl
-            ∙ ap (λ t. plug t 0 (typeOf (map (typeAt xs) types) a)) (sym (tree-entry (map (typeAt xs) types) heap (entryCode i) refl) ∙ whole-tree (y-mu a) e);
-        known = under-known a i h l;
+            ∙ ap (λ t. closedBy t (typeOf (map (typeAt xs) types) a)) (is a e)
+            ∙ closed-unfolds (typeOf (map (typeAt xs) types) a) (sym (ap free (is a e)) ∙ none-free);
+        known = under-known a i (omega arith) l;
       }
+    where
+      none-free : free (typeOf (map (typeAt xs) types) i) ≡ 0
+      none-free = let f : free (typeOf (map (typeAt xs) types) i) ≤ 0 = closed-iff-free 0 (typeOf (map (typeAt xs) types) i) .0 shut in omega arith
+
+      is : (a : ℕ) → typeAt xs (getD types i 0) ≡ y-mu a → typeOf (map (typeAt xs) types) i ≡ mu (typeOf (map (typeAt xs) types) a)
+      is a e = sym (tree-entry (map (typeAt xs) types) heap (entryCode i) refl) ∙ whole-tree (y-mu a) e
 
   pub unfolds : {c : Code} → Of c ≡ bodyOf (typeAt xs (getD types i 0)) i → Unfolds xs types heap top i c
   unfolding bodyOf

@@ -7,10 +7,12 @@ use mathlib.Core.List.{List, map}
 use lib.ListN.{length, getD}
 use package.Rattle.octets.specs.Numbers.{get16}
 use package.Rattle.rules.specs.Limits.{maxTypes, maxNodes}
-use package.Rattle.rules.specs.Ty.{Ty, one, prod, plug, nodes}
+use package.Rattle.rules.specs.Ty.{Ty, one, prod, nodes}
 use package.Rattle.calls.specs.Entries.{TypeEntry, typeAt, typeOf}
 use package.Rattle.calls.specs.Tested.{Lower}
 use package.Rattle.program.specs.Parts.{TypeField}
+use package.Rattle.types.specs.Figures.{closedBy, Figured}
+pub use package.Rattle.types.specs.Layout.{nodeBytes}
 use package.Rattle.types.specs.declared.codes.Code.{Code}
 
 ----------------------------------------------------------------
@@ -30,33 +32,23 @@ abbrev pub productForm : ℕ
 productForm = 3
 
 abbrev pub unitCode : Code
-unitCode = record { form = unitForm; depth = 0; at = 0; stands = 0 }
+unitCode = record { form = unitForm; at = 0; stands = 0 }
 
 abbrev pub entryCode : ℕ → Code
-entryCode i = record { form = entryForm; depth = 0; at = i; stands = 0 }
+entryCode i = record { form = entryForm; at = i; stands = 0 }
 
--- the entry `i`, its variable 0 standing for the entry `j`
+-- the entry `i`, its outermost free variable standing for the entry `j`
 abbrev pub underCode : ℕ → ℕ → Code
-underCode i j = record { form = underForm; depth = 0; at = i; stands = j }
+underCode i j = record { form = underForm; at = i; stands = j }
 
 abbrev pub productCode : ℕ → Code
-productCode n = record { form = productForm; depth = 0; at = n; stands = 0 }
-
--- the entry `i`, a part of the entry that `c` is of; the same under a recursive entry
-abbrev pub part : Code → ℕ → Code
-part c i = record { form = c .form; depth = c .depth; at = i; stands = c .stands }
-
-abbrev pub deeper : Code → ℕ → ℕ → Code
-deeper c i step = record { form = c .form; depth = c .depth + step; at = i; stands = c .stands }
+productCode n = record { form = productForm; at = n; stands = 0 }
 
 ----------------------------------------------------------------
--- Product nodes: two codes of six bytes (form, depth, entry or node, entry that is stood for) and the nodes of the tree (2 bytes)
-
-abbrev pub nodeBytes : ℕ
-nodeBytes = 14
+-- Product nodes: two codes (form, entry or node, entry that is stood for: two bytes each) and the nodes of the tree (2 bytes)
 
 unfoldable pub codeAt : List ℕ → ℕ → Code
-codeAt heap i = record { form = getD heap i 0; depth = getD heap (i + 1) 0; at = get16 heap (i + 2); stands = get16 heap (i + 4) }
+codeAt heap i = record { form = get16 heap i; at = get16 heap (i + 2); stands = get16 heap (i + 4) }
 
 unfoldable pub leftAt : List ℕ → ℕ → Code
 leftAt heap n = codeAt heap (nodeBytes * n)
@@ -71,14 +63,14 @@ countAt heap n = get16 heap (nodeBytes * n + 12)
 -- Trees
 
 -- by form, the trees of product nodes given by `go`
-unfoldable pub ofForm : List TypeEntry → (ℕ → Ty) → ℕ → ℕ → ℕ → ℕ → Ty
-ofForm ys go zero depth at stands = one
-ofForm ys go (suc zero) depth at stands = typeOf ys at
-ofForm ys go (suc (suc zero)) depth at stands = plug (typeOf ys stands) depth (typeOf ys at)
-ofForm ys go (suc (suc (suc n))) depth at stands = go at
+unfoldable pub ofForm : List TypeEntry → (ℕ → Ty) → ℕ → ℕ → ℕ → Ty
+ofForm ys go zero at stands = one
+ofForm ys go (suc zero) at stands = typeOf ys at
+ofForm ys go (suc (suc zero)) at stands = closedBy (typeOf ys stands) (typeOf ys at)
+ofForm ys go (suc (suc (suc n))) at stands = go at
 
 unfoldable pub ofCode : List TypeEntry → (ℕ → Ty) → Code → Ty
-ofCode ys go c = ofForm ys go (c .form) (c .depth) (c .at) (c .stands)
+ofCode ys go c = ofForm ys go (c .form) (c .at) (c .stands)
 
 -- the tree of a product node, the parts followed so far down
 unfoldable pub productWithin : ℕ → List TypeEntry → List ℕ → ℕ → Ty
@@ -114,7 +106,7 @@ pub record Readable (xs types : List ℕ) : Type 0 where
 -- The code names one of `n` type entries, or a product node below `top`.
 pub record Known (n top : ℕ) (c : Code) : Type 0 where
   pub form : c .form ≤ productForm
-  pub entry : entryForm ≤ c .form → c .form ≤ underForm → c .at + c .depth < n
+  pub entry : entryForm ≤ c .form → c .form ≤ underForm → c .at < n
   pub stands : c .form ≡ underForm → c .stands < n
   pub product : c .form ≡ productForm → c .at < top
 
@@ -130,7 +122,8 @@ pub record Products (ys : List TypeEntry) (n : ℕ) (heap : List ℕ) (top : ℕ
   pub held : Room heap top
   pub node : (k : ℕ) → k < top → Right ys n heap k
 
--- What the codes of a program stand on: its type entries, and product nodes in the bytes `heap`.
+-- What the codes of a program stand on: its type entries, with their figures, and product nodes in the bytes `heap`.
 pub record Sources (xs types heap : List ℕ) (top : ℕ) : Type 0 where
   pub entries : Readable xs types
+  pub figures : Figured (map (typeAt xs) types) heap (length types)
   pub products : Products (map (typeAt xs) types) (length types) heap top

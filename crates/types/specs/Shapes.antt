@@ -1,7 +1,7 @@
 -- The outermost node of a type, with the codes of its parts. Laws: proofs/Outer.
-use Prim.Native.Nat.{ℕ, zero, suc, _≤_}
+use Prim.Native.Nat.{ℕ, zero, suc, _+_, _≤_}
 use mathlib.Core.Path.{_≡_}
-use mathlib.Core.Bool.{Bool, _&&_, cond}
+use mathlib.Core.Bool.{_&&_, cond}
 use mathlib.Core.List.{List, map}
 use lib.ListN.{length, getD}
 use lib.Dec.{eqb}
@@ -10,7 +10,8 @@ use package.Rattle.calls.specs.Entries.{TypeEntry, y-unit, y-prod, y-sum, y-mu,
 use package.Rattle.program.specs.Kinds.{unitTypeKind, productKind, sumKind, recursiveKind, typeVariableKind}
 use package.Rattle.types.specs.declared.codes.Code.{Code}
 use package.Rattle.types.specs.declared.shapes.Shape.{Shape}
-use package.Rattle.types.specs.Codes.{unitCode, entryCode, part, deeper, leftAt, rightAt, treeOf, treeIn, Known}
+use package.Rattle.types.specs.Figures.{numberAt, freeAt}
+use package.Rattle.types.specs.Codes.{entryForm, underForm, unitCode, entryCode, underCode, leftAt, rightAt, treeOf, treeIn, Known}
 
 -- the type of a kind, over its parts: the kinds are those of the program's bytes (section 1)
 unfoldable pub ofKind : ℕ → Ty → Ty → ℕ → Ty
@@ -30,43 +31,34 @@ node kind variable first second = record { kind = kind; variable = variable; fir
 abbrev pub leaf : ℕ → ℕ → Shape
 leaf kind variable = node kind variable unitCode unitCode
 
--- the node of an entry, its parts in the form of the code `c`; a recursive entry's part is `step` deeper
-unfoldable pub entryShape : TypeEntry → Code → ℕ → Shape
-entryShape y-unit c step = leaf unitTypeKind 0
-entryShape (y-prod a b) c step = node productKind 0 (part c a) (part c b)
-entryShape (y-sum a b) c step = node sumKind 0 (part c a) (part c b)
-entryShape (y-mu a) c step = node recursiveKind 0 (deeper c a step) unitCode
-entryShape (y-var k) c step = leaf typeVariableKind k
+-- The part `a` of the entry that the code `c` is of; `up` is 1 for a recursive entry's part, 0 else. The variable that stands for an entry is the
+-- outermost free one, so it stands in the part exactly if as many are free there; else the part is an entry as it stands.
+unfoldable pub part : List ℕ → Code → ℕ → ℕ → Code
+part heap c a up =
+    cond (eqb (c .form) underForm && eqb (freeAt heap a) (freeAt heap (c .at) + up)) (underCode a (c .stands)) (entryCode a)
 
--- `s` if the node is the variable that stands for an entry in the code `c`
-unfoldable pub jump : Code → Shape → Shape → Shape
-jump c s v = cond (eqb (v .kind) typeVariableKind && eqb (v .variable) (c .depth)) s v
-
--- the node of an entry whose variable number `depth` stands for an entry
-unfoldable pub underShape : List ℕ → List ℕ → Code → Shape
-unfolding jump entryShape
-underShape xs types c =
-    jump c (entryShape (typeAt xs (getD types (c .stands) 0)) (entryCode (c .stands)) 0) (entryShape (typeAt xs (getD types (c .at) 0)) c 1)
+-- the node of an entry that the code `c` is of
+unfoldable pub entryShape : List ℕ → TypeEntry → Code → Shape
+entryShape heap y-unit c = leaf unitTypeKind 0
+entryShape heap (y-prod a b) c = node productKind 0 (part heap c a 0) (part heap c b 0)
+entryShape heap (y-sum a b) c = node sumKind 0 (part heap c a 0) (part heap c b 0)
+entryShape heap (y-mu a) c = node recursiveKind 0 (part heap c a 1) unitCode
+entryShape heap (y-var k) c = leaf typeVariableKind k
 
 abbrev pub productShape : List ℕ → ℕ → Shape
 productShape heap k = node productKind 0 (leftAt heap k) (rightAt heap k)
 
--- the node by form, no variable standing for an entry
+-- the node by form
 unfoldable pub plainForm : List ℕ → List ℕ → List ℕ → ℕ → Code → Shape
 unfolding entryShape
 plainForm xs types heap zero c = leaf unitTypeKind 0
-plainForm xs types heap (suc zero) c = entryShape (typeAt xs (getD types (c .at) 0)) c 0
-plainForm xs types heap (suc (suc zero)) c = entryShape (typeAt xs (getD types (c .at) 0)) c 1
+plainForm xs types heap (suc zero) c = entryShape heap (typeAt xs (getD types (c .at) 0)) c
+plainForm xs types heap (suc (suc zero)) c = entryShape heap (typeAt xs (getD types (c .at) 0)) c
 plainForm xs types heap (suc (suc (suc n))) c = productShape heap (c .at)
 
+-- of a code that is settled
 abbrev pub plainShape : List ℕ → List ℕ → List ℕ → Code → Shape
 plainShape xs types heap c = plainForm xs types heap (c .form) c
-
--- is the entry the variable that stands for an entry in the code `c`?
-unfoldable pub isVariable : List ℕ → List ℕ → Code → Bool
-unfolding entryShape
-isVariable xs types c =
-    eqb (entryShape (typeAt xs (getD types (c .at) 0)) c 1 .kind) typeVariableKind && eqb (entryShape (typeAt xs (getD types (c .at) 0)) c 1 .variable) (c .depth)
 
 -- The node is that of the code's tree, and its parts are known.
 pub record Shaped (xs types heap : List ℕ) (top : ℕ) (c : Code) (s : Shape) : Type 0 where
@@ -75,7 +67,9 @@ pub record Shaped (xs types heap : List ℕ) (top : ℕ) (c : Code) (s : Shape) 
   pub first : Known (length types) top (s .first)
   pub second : Known (length types) top (s .second)
 
--- The code `d`, which is known, has the type of `c`, and its node is plain.
+-- The code `d`, which is known, has the type of `c`; its node is plain, and if it is an entry, it is named by its number.
 pub record Settled (xs types heap : List ℕ) (top : ℕ) (c d : Code) : Type 0 where
   pub shaped : Shaped xs types heap top c (plainShape xs types heap d)
   pub known : Known (length types) top d
+  pub tree : treeIn xs types heap d ≡ treeIn xs types heap c
+  pub own : d .form ≡ entryForm → entryCode (numberAt heap (d .at)) ≡ d

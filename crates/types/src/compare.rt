@@ -18,8 +18,9 @@ pub fn is_unit(p: &[u8], types: &[u16], ws: &[u8], top: u32, c: Code) -> bool
     parts::kind_of(p, types, ws, top, d) == kinds::UNIT_TYPE
 }
 
-// Are the types equal? At most as many nodes are looked at as the smaller tree has; of codes that settle alike, no part. Parts are read one by
-// one, each only where it is asked: a struct of all of them would be copied.
+// Are the types equal? Entries are told equal or apart in one step, by their numbers (02, F-4), and codes that settle alike are; else the outermost
+// nodes are compared, and their parts. Nothing is counted. Parts are read one by one, each only where it is asked: a struct of all of them would be
+// copied.
 pub fn same(p: &[u8], types: &[u16], ws: &[u8], top: u32, c: Code, d: Code) -> bool
     requires { ⌜ Sources (now p) (now types) (now ws) top ⌝ }
     requires { ⌜ Known (length (now types)) top c × Known (length (now types)) top d ⌝ }
@@ -29,6 +30,9 @@ pub fn same(p: &[u8], types: &[u16], ws: &[u8], top: u32, c: Code, d: Code) -> b
     let w = parts::settled(p, types, ws, top, d);
     if codes::identical(v, w) {
         return true;
+    }
+    if codes::are_entries(v, w) {
+        return false;
     }
     let kind = parts::kind_of(p, types, ws, top, v);
     let kind2 = parts::kind_of(p, types, ws, top, w);

@@ -1,76 +1,48 @@
-// How many nodes a type has as a tree, as far as the limit of section 1 lets matter: counting stops one above it. Type entries are
-// counted already, and products keep their count, so that only an unfolded type is walked.
+// How many nodes a type has as a tree, as far as the limit of section 1 lets matter: counting stops one above it. Nothing is counted here (02,
+// F-4): type entries are counted already, products keep their count, and that of an unfolding follows from the counts of the entry and of what
+// stands for its variable, and from how often that variable stands in it.
 ghost use mathlib.Core.Path.{_≡_};
-ghost use Prim.Native.Nat.{_+_, _≤_, min};
-ghost use lib.ListN.{length};
+ghost use Prim.Native.Nat.{_+_, _*_, _-_, _≤_, _<_, min};
+ghost use lib.ListN.{length, getD};
 ghost use lib.Dec.{leb};
-ghost use Rattle.octets.specs.Runs.{Decides};
-ghost use Rattle.rules.specs.Limits.{maxNodes};
+ghost use Rattle.rules.specs.Limits.{maxNodes, maxTypes};
 ghost use Rattle.rules.specs.Ty.{nodes};
 ghost use Rattle.calls.specs.Figures.{ceiling};
+ghost use Rattle.types.specs.Layout.{typingBytes};
+ghost use Rattle.types.specs.Figures.{outerAt};
 ghost use Rattle.types.specs.Codes.{underForm, treeIn, Sources, Known};
-ghost use Rattle.types.specs.Counts.{Counted, Held, Small};
+ghost use Rattle.types.specs.Counts.{Counted};
 use crate::codes;
 use crate::codes::Code;
+use crate::figures;
 use crate::nodes;
-use crate::shapes;
-use program::kinds;
 
 // The limit on the nodes of a type, as wide as a count of them.
 pub const MOST_NODES: u16 = rules::MAX_NODES as u16;
 
-// So many times itself is within the limit.
-const SMALL: u16 = 32;
+const WIDE_MOST: u32 = MOST_NODES as u32;
 
-fn capped(n: u16) -> u16
+// A count that stops one above the limit.
+pub fn capped(n: u32) -> u16
     ensures { λ r. ⌜ r ≡ min ceiling n ⌝ }
 {
-    if MOST_NODES < n {
+    if WIDE_MOST < n {
         return MOST_NODES + 1;
     }
-    n
+    n as u16
 }
 
-// `n` and the nodes of the type.
-pub fn add_nodes(
-    p: &[u8],
-    types: &[u16],
-    counts: &[u16],
-    ws: &[u8],
-    top: u32,
-    c: Code,
-    n: u16,
-) -> u16
-    requires { ⌜ Sources (now p) (now types) (now ws) top ⌝ }
-    requires { ⌜ Known (length (now types)) top c ⌝ }
-    requires { ⌜ Counted (now p) (now types) (now counts) ⌝ }
-    requires { ⌜ n ≤ ceiling ⌝ }
-    ensures { λ r. ⌜ r ≡ min ceiling (n + nodes (treeIn (now (p .entry)) (now (types .entry)) (now (ws .entry)) c)) ⌝ }
+// The nodes of entry `at` with its outermost free variable standing for entry `stands`.
+fn under_count(counts: &[u16], ws: &[u8], at: u16, stands: u16) -> u16
+    requires { ⌜ (typingBytes ≤ length (now ws)) × (at < maxTypes) × (outerAt (now ws) at ≤ ceiling) ⌝ }
+    requires { ⌜ (at < length (now counts)) × (getD (now counts) at 0 ≤ ceiling) ⌝ }
+    requires { ⌜ (stands < length (now counts)) × (1 ≤ getD (now counts) stands 0) × (getD (now counts) stands 0 ≤ ceiling) ⌝ }
+    ensures { λ r. ⌜ r ≡ min ceiling (getD (now (counts .entry)) at 0 + outerAt (now (ws .entry)) at * (getD (now (counts .entry)) stands 0 - 1)) ⌝ }
 {
-    if MOST_NODES < n {
-        return n;
-    }
-    let form = c.form;
-    if form == codes::ENTRY {
-        let i = octets::wide_index(c.at);
-        return capped(n + counts[i]);
-    }
-    if form == codes::PRODUCT {
-        return capped(n + nodes::count_of(ws, c.at));
-    }
-    let s = shapes::shape_of(p, types, ws, top, c);
-    let kind = s.kind;
-    if kind == kinds::UNIT_TYPE {
-        return n + 1;
-    }
-    if kind == kinds::TYPE_VARIABLE {
-        return n + 1;
-    }
-    let m = add_nodes(p, types, counts, ws, top, s.first, n + 1);
-    if kind == kinds::RECURSIVE {
-        return m;
-    }
-    add_nodes(p, types, counts, ws, top, s.second, m)
+    let own = octets::wide32(counts[octets::wide_index(at)]);
+    let times = octets::wide32(figures::outer_of(ws, at));
+    let each = octets::wide32(counts[octets::wide_index(stands)]);
+    capped(own + times * (each - 1))
 }
 
 // How many nodes the type has.
@@ -80,25 +52,17 @@ pub fn node_count(p: &[u8], types: &[u16], counts: &[u16], ws: &[u8], top: u32, 
     requires { ⌜ Counted (now p) (now types) (now counts) ⌝ }
     ensures { λ r. ⌜ r ≡ min ceiling (nodes (treeIn (now (p .entry)) (now (types .entry)) (now (ws .entry)) c)) ⌝ }
 {
-    add_nodes(p, types, counts, ws, top, c, 0)
-}
-
-// Is the type the unfolding of a small entry? Where a variable stands for an entry of so few nodes in one of so few, the limit is kept
-// without counting.
-fn surely_within(counts: &[u16], c: Code) -> bool
-    requires { ⌜ (c .form ≡ underForm → Held (now counts) c) ⌝ }
-    ensures { λ r. ⌜ Decides r (Small (now (counts .entry)) c) ⌝ }
-{
     let form = c.form;
-    if form == codes::UNDER {
-        let i = octets::wide_index(c.at);
-        let j = octets::wide_index(c.stands);
-        if SMALL < counts[i] {
-            return false;
-        }
-        return counts[j] <= SMALL;
+    if form == codes::UNIT {
+        return 1;
     }
-    false
+    if form == codes::ENTRY {
+        return counts[octets::wide_index(c.at)];
+    }
+    if form == codes::UNDER {
+        return under_count(counts, ws, c.at, c.stands);
+    }
+    nodes::count_of(ws, c.at)
 }
 
 // Has the type as few nodes as section 1 allows?
@@ -108,8 +72,5 @@ pub fn within_limit(p: &[u8], types: &[u16], counts: &[u16], ws: &[u8], top: u32
     requires { ⌜ Counted (now p) (now types) (now counts) ⌝ }
     ensures { λ r. ⌜ r ≡ leb (nodes (treeIn (now (p .entry)) (now (types .entry)) (now (ws .entry)) c)) maxNodes ⌝ }
 {
-    if surely_within(counts, c) {
-        return true;
-    }
     node_count(p, types, counts, ws, top, c) <= MOST_NODES
 }

@@ -6,18 +6,18 @@ ghost use Rattle.types.specs.Codes.{codeAt, leftAt, rightAt, countAt, Ro
 ghost use Rattle.types.specs.Growth.{putCode, putNode};
 use crate::codes::Code;
 
-const NODE_BYTES: usize = 14;
+pub const NODE_BYTES: usize = 14;
 
 // The code at an offset.
 pub fn code_at(ws: &[u8], at: usize) -> Code
     requires { ⌜ at + 6 ≤ length (now ws) ⌝ }
     ensures { λ r. ⌜ r ≡ codeAt (now (ws .entry)) at ⌝ }
 {
+    let form = octets::read16(ws, at);
     let n = octets::read16(ws, at + 2);
     let stands = octets::read16(ws, at + 4);
     Code {
-        form: ws[at],
-        depth: ws[at + 1],
+        form,
         at: n,
         stands,
     }
@@ -49,8 +49,7 @@ pub fn put_code(ws: &mut [u8], at: usize, c: Code)
     requires { ⌜ at + 6 ≤ length (now ws) ⌝ }
     ensures { λ _. ⌜ now (ws .exit) ≡ putCode (now (ws .entry)) at c ⌝ }
 {
-    ws[at] = c.form;
-    ws[at + 1] = c.depth;
+    octets::write16(ws, at, c.form);
     octets::write16(ws, at + 2, c.at);
     octets::write16(ws, at + 4, c.stands);
 }

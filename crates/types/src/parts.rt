@@ -1,43 +1,50 @@
-// The outermost node of a type, one part at a time: where only a kind is asked, no part is read. A code is settled first, so that
-// its node is read off the entry or product that it names (specs/Shapes, plainShape).
+// The outermost node of a type, one part at a time: where only a kind is asked, no part is read. A code is settled first, so that its
+// node is read off the entry or product that it names (specs/Shapes, plainShape).
 ghost use mathlib.Core.Path.{_≡_};
-ghost use Prim.Native.Nat.{_<_};
+ghost use Prim.Native.Nat.{_≤_, _<_};
 ghost use lib.ListN.{length};
+ghost use Rattle.rules.specs.Limits.{maxTypes};
 ghost use Rattle.program.specs.Kinds.{unitTypeKind, recursiveKind, typeVariableKind};
-ghost use Rattle.types.specs.Codes.{Readable, Sources, Known};
-ghost use Rattle.types.specs.Shapes.{isVariable, plainShape, Settled};
+ghost use Rattle.types.specs.Layout.{typingBytes};
+ghost use Rattle.types.specs.Codes.{underForm, Sources, Known};
+ghost use Rattle.types.specs.Shapes.{part, plainShape, Settled};
 use crate::codes;
 use crate::codes::Code;
+use crate::figures;
 use crate::nodes;
 use program::kinds;
 
-// Is the entry the variable that stands for an entry in the code?
-fn stood_for(p: &[u8], types: &[u16], c: Code) -> bool
-    requires { ⌜ Readable (now p) (now types) ⌝ }
-    requires { ⌜ c .at < length (now types) ⌝ }
-    ensures { λ r. ⌜ r ≡ isVariable (now (p .entry)) (now (types .entry)) c ⌝ }
+// The code of a type in which a variable stands for an entry. Where the entry is closed, or is the variable, it is an entry's.
+fn settled_under(p: &[u8], types: &[u16], ws: &[u8], top: u32, c: Code) -> Code
+    requires { ⌜ Sources (now p) (now types) (now ws) top ⌝ }
+    requires { ⌜ Known (length (now types)) top c × (c .form ≡ underForm) ⌝ }
+    ensures { λ r. ⌜ Settled (now (p .entry)) (now (types .entry)) (now (ws .entry)) top c r ⌝ }
 {
-    let i = octets::wide_index(c.at);
-    let at = octets::wide_index(types[i]);
+    let i = figures::number_of(ws, c.at);
+    if figures::free_of(ws, i) == 0 {
+        return codes::entry(i);
+    }
+    let j = figures::number_of(ws, c.stands);
+    let at = octets::wide_index(types[octets::wide_index(i)]);
     let kind = program::views::kind(p, at);
     if kind == kinds::TYPE_VARIABLE {
-        return program::views::variable(p, at) == c.depth;
+        return codes::entry(j);
     }
-    false
+    codes::under(i, j)
 }
 
-// A code of the same type, whose entry is not that variable.
+// A code of the same type, by the numbers of its entries, whose entry is not that variable.
 pub fn settled(p: &[u8], types: &[u16], ws: &[u8], top: u32, c: Code) -> Code
     requires { ⌜ Sources (now p) (now types) (now ws) top ⌝ }
     requires { ⌜ Known (length (now types)) top c ⌝ }
     ensures { λ r. ⌜ Settled (now (p .entry)) (now (types .entry)) (now (ws .entry)) top c r ⌝ }
 {
     let form = c.form;
+    if form == codes::ENTRY {
+        return codes::entry(figures::number_of(ws, c.at));
+    }
     if form == codes::UNDER {
-        if stood_for(p, types, c) {
-            return codes::entry(c.stands);
-        }
-        return c;
+        return settled_under(p, types, ws, top, c);
     }
     c
 }
@@ -71,6 +78,24 @@ pub fn variable_of(p: &[u8], types: &[u16], ws: &[u8], top: u32, c: Code) -> u8
     program::views::variable(p, at)
 }
 
+// The part `i` of the entry that the code is of, which is `up` higher under a recursive entry. Where the variable that stands for an entry does
+// not occur in it, it is an entry as it stands: the outermost variable occurs exactly where as many are free.
+fn part(ws: &[u8], c: Code, i: u16, up: u32) -> Code
+    requires { ⌜ (typingBytes ≤ length (now ws)) × (c .form ≡ underForm → c .at < maxTypes) × (i < maxTypes) × (up ≤ 1) ⌝ }
+    ensures { λ r. ⌜ r ≡ part (now (ws .entry)) c i up ⌝ }
+{
+    let form = c.form;
+    if form == codes::UNDER {
+        let mine = octets::wide32(figures::free_of(ws, i));
+        let whole = octets::wide32(figures::free_of(ws, c.at));
+        if mine == whole + up {
+            return codes::under(i, c.stands);
+        }
+        return codes::entry(i);
+    }
+    codes::entry(i)
+}
+
 // The first part, of a product, a sum or a recursive type; the second, of a product or a sum.
 pub fn first_of(p: &[u8], types: &[u16], ws: &[u8], top: u32, c: Code, kind: u8) -> Code
     requires { ⌜ Sources (now p) (now types) (now ws) top ⌝ }
@@ -86,9 +111,9 @@ pub fn first_of(p: &[u8], types: &[u16], ws: &[u8], top: u32, c: Code, kind: u8)
     let at = octets::wide_index(types[i]);
     let n = program::views::first(p, at);
     if kind == kinds::RECURSIVE {
-        return codes::deeper(c, n, form - 1);
+        return part(ws, c, n, 1);
     }
-    codes::part(c, n)
+    part(ws, c, n, 0)
 }
 
 pub fn second_of(p: &[u8], types: &[u16], ws: &[u8], top: u32, c: Code, kind: u8) -> Code
@@ -103,5 +128,5 @@ pub fn second_of(p: &[u8], types: &[u16], ws: &[u8], top: u32, c: Code, kind: u8
     }
     let i = octets::wide_index(c.at);
     let at = octets::wide_index(types[i]);
-    codes::part(c, program::views::second(p, at))
+    part(ws, c, program::views::second(p, at), 0)
 }

@@ -1,6 +1,7 @@
 // New product nodes, for the types of pairs: no entry of the program need name them.
 ghost use Prim.Native.Nat.{_+_, _<_};
 ghost use lib.ListN.{length};
+ghost use Rattle.rules.specs.Limits.{maxTerms};
 ghost use Rattle.types.specs.Codes.{Room, Sources, Known};
 ghost use Rattle.types.specs.Counts.{Counted};
 ghost use Rattle.types.specs.Growth.{Made};
@@ -22,14 +23,15 @@ pub fn product(
     requires { ⌜ Sources (now p) (now types) (now ws) top ⌝ }
     requires { ⌜ Known (length (now types)) top left × Known (length (now types)) top right ⌝ }
     requires { ⌜ Counted (now p) (now types) (now counts) ⌝ }
-    requires { ⌜ Room (now ws) (top + 1) × (top < 65536) ⌝ }
+    requires { ⌜ Room (now ws) (top + 1) × (top < maxTerms) ⌝ }
     ensures { λ r. ⌜ Made (now (p .entry)) (now (types .entry)) (now (ws .entry)) (now (ws .exit)) top left right r ⌝ }
 {
-    let n = counting::add_nodes(p, types, counts, ws, top, left, 1);
-    let m = counting::add_nodes(p, types, counts, ws, top, right, n);
-    if MOST_NODES < m {
+    let n = counting::node_count(p, types, counts, ws, top, left);
+    let m = counting::node_count(p, types, counts, ws, top, right);
+    let count = n + m + 1;
+    if MOST_NODES < count {
         return false;
     }
-    nodes::put_node(ws, top as u16, left, right, m);
+    nodes::put_node(ws, top as u16, left, right, count);
     true
 }

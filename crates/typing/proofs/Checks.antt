@@ -26,6 +26,7 @@ use package.Rattle.program.proofs.Inside.{formed}
 use package.Rattle.program.proofs.Shapes.{function-body}
 use package.Rattle.program.specs.Programs.{programIn, functionIn}
 use package.Rattle.program.proofs.Lists.{ancillae-count}
+use package.Rattle.types.specs.Figures.{Figured}
 use package.Rattle.types.specs.Codes.{treeIn, Readable, Sources}
 use package.Rattle.types.specs.Counts.{Counted}
 use package.Rattle.types.proofs.Beginning.{readable, no-products, counted}
@@ -89,8 +90,11 @@ module _ {xs types terms functions nodes heap : List ℕ} (Y : Typeable xs types
   unfolding entriesAt
   read = readable fields (tested .types-lower)
 
-  pub sources : (bytes : List ℕ) → Sources xs types bytes 0
-  sources bytes = no-products bytes read
+  pub readable-types : Readable xs types
+  readable-types = read
+
+  pub sources : Figured (map (typeAt xs) types) heap (length types) → Sources xs types heap 0
+  sources F = no-products read F
 
   entered : Entered xs types terms functions nodes
   entered = record { formed = fields; tested = tested; counted = counts }
@@ -134,7 +138,7 @@ module _ {xs types terms functions nodes heap : List ℕ} (Y : Typeable xs types
         record {
           entries = entered;
           scoped = S .scoped;
-          room = Y .room;
+          room = omega (arith, Y .room);
           small = omega (arith, length-map terms (termAt xs), fields .few-terms);
           waiting = omega (arith, S .none-wait, length-map terms (termAt xs), fields .few-terms);
         }

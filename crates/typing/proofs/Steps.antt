@@ -13,6 +13,7 @@ use package.Rattle.rules.specs.Ty.{Ty, nodes as nodesIn, sameTy}
 use package.Rattle.rules.specs.Term.{Term, var, tunit, tinl, tinr, troll, tunroll, usedIn}
 use package.Rattle.rules.specs.Check.{Naming, term, Checked, good, _>>_, need, waits, waitsIn, small, infer}
 use package.Rattle.calls.specs.Entries.{typeAt, typeOf}
+use package.Rattle.calls.specs.Named.{closed}
 use package.Rattle.program.specs.Parts.{variable, first, second}
 use package.Rattle.program.specs.Kinds.{inlKind, inrKind, sumKind, variableKind, unitKind, rollKind, unrollKind}
 use package.Rattle.types.specs.declared.codes.Code.{Code}
@@ -37,7 +38,7 @@ use package.Rattle.typing.proofs.Contexts.{waits-context}
 use package.Rattle.typing.proofs.Waiting.{added-none}
 use package.Rattle.typing.proofs.Answers.{Ends, ends-refused, ends-typed, inferred, kept-still, tree-later, known-later, stopped, need-yes, need-no}
 use package.Rattle.typing.proofs.Answers.{around, part-tested, ready-less}
-use package.Rattle.typing.proofs.Trees.{tree-var, tree-unit, tree-inl, tree-inr, parts-inject, tree-roll, parts-roll, tree-unroll, parts-unroll}
+use package.Rattle.typing.proofs.Trees.{tree-var, tree-unit, tree-inl, tree-inr, parts-inject, tree-roll, parts-roll, closed-roll, tree-unroll, parts-unroll, closed-unroll}
 use Rattle.typing.specs.declared.outcomes.Scope.{Scope}
 use Rattle.typing.specs.declared.outcomes.Found.{Found}
 use Rattle.typing.specs.declared.outcomes.Fault.the-variants.{Differ}
@@ -224,6 +225,9 @@ module _ {p types terms functions nodes heap vars : List ℕ} {sc : Scope} {top 
   pub roll-type : i < length types
   roll-type = rw q (parts-roll (rd .entries) H .0)
 
+  roll-closed : closed 0 (typeOf (map (typeAt p) types) i) ≡ true
+  roll-closed = rw q (closed-roll (rd .entries) H)
+
   pub roll-whole : {whole : Code} → whole ≡ entryCode i → Known (length types) top whole
   roll-whole w = subst (Known (length types) top) (sym w) (entry-known i roll-type)
 
@@ -232,11 +236,11 @@ module _ {p types terms functions nodes heap vars : List ℕ} {sc : Scope} {top 
         → Infers p types terms functions heap heap vars vars sc top t r
     unfolding infer faultOf
     roll-no n s x = stopped _ (sc .n) vars (rd .scoped .sources) s x
-        (ap (typingOf p types terms functions (contextIn p types heap vars sc)) rolled ∙ not-recursive (rd .scoped .sources) i roll-type (term t) _ (sym n ∙ e))
+        (ap (typingOf p types terms functions (contextIn p types heap vars sc)) rolled ∙ not-recursive (rd .scoped .sources) i roll-type roll-closed (term t) _ (sym n ∙ e))
 
     module _ {c : Code} (o : b ≡ Of c) where
       roll-unfolds : Unfolds p types heap top i c
-      roll-unfolds = unfolds (rd .scoped .sources) i roll-type (sym o ∙ e)
+      roll-unfolds = unfolds (rd .scoped .sources) i roll-type roll-closed (sym o ∙ e)
 
       pub roll-known : Known (length types) top c
       roll-known = roll-unfolds .known
@@ -249,7 +253,7 @@ module _ {p types terms functions nodes heap vars : List ℕ} {sc : Scope} {top 
       unfolding infer waits
       roll-done w d = around d _ (λ i. ap (usedIn i) rolled) (ap (waitsIn (contextIn p types heap vars sc)) rolled) (omega (arith, size-roll))
           (ap (typingOf p types terms functions (contextIn p types heap vars sc)) rolled
-          ∙ recursive (rd .scoped .sources) i roll-type (term t) _ roll-unfolds
+          ∙ recursive (rd .scoped .sources) i roll-type roll-closed (term t) _ roll-unfolds
           ∙ ap₂ (λ c τ. demanded (typeIn p types terms functions heap vars sc part) c τ t) (sym (roll-unfolds .tree))
           (sym (ap (treeIn p types heap) w ∙ roll-unfolds .whole)))
 
@@ -272,6 +276,9 @@ module _ {p types terms functions nodes heap vars : List ℕ} {sc : Scope} {top 
   pub unroll-type : i < length types
   unroll-type = rw q (parts-unroll (rd .entries) H .0)
 
+  unroll-closed : closed 0 (typeOf (map (typeAt p) types) i) ≡ true
+  unroll-closed = rw q (closed-unroll (rd .entries) H)
+
   pub unroll-whole : {whole : Code} → whole ≡ entryCode i → Known (length types) top whole
   unroll-whole w = subst (Known (length types) top) (sym w) (entry-known i unroll-type)
 
@@ -281,11 +288,11 @@ module _ {p types terms functions nodes heap vars : List ℕ} {sc : Scope} {top 
     unfolding infer faultOf
     unroll-no n s x = stopped _ (sc .n) vars (rd .scoped .sources) s x
         (ap (typingOf p types terms functions (contextIn p types heap vars sc)) unrolled
-        ∙ not-recursive (rd .scoped .sources) i unroll-type (term t) _ (sym n ∙ e))
+        ∙ not-recursive (rd .scoped .sources) i unroll-type unroll-closed (term t) _ (sym n ∙ e))
 
     module _ {c : Code} (o : b ≡ Of c) where
       unroll-unfolds : Unfolds p types heap top i c
-      unroll-unfolds = unfolds (rd .scoped .sources) i unroll-type (sym o ∙ e)
+      unroll-unfolds = unfolds (rd .scoped .sources) i unroll-type unroll-closed (sym o ∙ e)
 
       pub unroll-known : Known (length types) top c
       unroll-known = unroll-unfolds .known
@@ -296,7 +303,7 @@ module _ {p types terms functions nodes heap vars : List ℕ} {sc : Scope} {top 
       unfolding infer small
       unroll-rule =
           ap (typingOf p types terms functions (contextIn p types heap vars sc)) unrolled
-          ∙ recursive (rd .scoped .sources) i unroll-type (term t) _ unroll-unfolds
+          ∙ recursive (rd .scoped .sources) i unroll-type unroll-closed (term t) _ unroll-unfolds
           ∙ ap₂ (λ τ c. need (leb (nodesIn τ) maxNodes) 6 (term t) >> demanded (typeIn p types terms functions heap vars sc part) c τ t)
           (sym (unroll-unfolds .tree)) (sym (unroll-unfolds .whole))
 

@@ -3,14 +3,15 @@ use Prim.Native.Nat.{ℕ, zero, suc, _+_, _*_, _≤_, _<_}
 use native.Mathlib.Omega.{arith}
 use mathlib.Core.Path.{_≡_, refl, sym, ap, subst, _∙_}
 use mathlib.Core.Bool.{true}
+use package.Rattle.rules.proofs.Basics.{and-both}
 use mathlib.Core.List.{List, [], _∷_, _++_, map}
 use lib.ListN.{length, getD, length-map}
 use package.Rattle.rules.specs.Term.{var, tunit, tinl, tinr, tpair, tlet, tletp, tcase, tcall, troll, tunroll}
 use package.Rattle.rules.proofs.Lists.{get-map}
 use package.Rattle.calls.specs.Fields.{kindAt, lengthAt, termLengths}
 use package.Rattle.calls.specs.Entries.{typeAt, typeOf, TermEntry, n-unit, termAt, termTrees, termTree, callAncillae, references, entriesAt, functionAt}
-use package.Rattle.calls.specs.Named.{typesOfTerm, termsOfTerm, functionsOfTerm, below}
-use package.Rattle.calls.proofs.Entries.{below-head}
+use package.Rattle.calls.specs.Named.{closed, plain, typesOfTerm, termsOfTerm, functionsOfTerm, below, allPlain}
+use package.Rattle.calls.proofs.Entries.{below-head, plain-iff}
 use package.Rattle.calls.proofs.Trees.{good-lower, term-unfolds}
 use package.Rattle.program.specs.Parts.{variable, first, second, third, listed, TermField}
 use package.Rattle.program.proofs.Rooms.{term-kind, term-kind-room, var-room, two-room, case-room, call-sized, call-room}
@@ -71,6 +72,12 @@ module _ {p types terms functions nodes : List ℕ} (E : Entered p types terms f
           (subst (λ x. below (length (map (typeAt p) types)) (typesOfTerm x) ≡ true) entry-is
           (E .tested .term t (subst (λ n. t < n) (sym (length-map terms (termAt p))) (H .there)) .types-there))
 
+      plain-are : allPlain (map (typeAt p) types) (typesOfTerm x) ≡ true
+      unfolding entriesAt
+      plain-are =
+          subst (λ x. allPlain (map (typeAt p) types) (typesOfTerm x) ≡ true) entry-is
+          (E .tested .term t (subst (λ n. t < n) (sym (length-map terms (termAt p))) (H .there)) .types-plain)
+
       functions-are : below (length functions) (functionsOfTerm x) ≡ true
       unfolding entriesAt
       functions-are =
@@ -106,6 +113,13 @@ module _ {p types terms functions nodes : List ℕ} (E : Entered p types terms f
     typed-part =
         let l : second p at < t = below-head t (second p at) [] (subst (λ is. below t is ≡ true) q′ (lower-is H e)) .0 in
         (below-head (length types) (first p at) [] (subst (λ is. below (length types) is ≡ true) q (types-are H e)) .0, (l, omega (arith, H .there)))
+
+    -- a type that a term names is closed (section 1)
+    closed-type : closed 0 (typeOf (map (typeAt p) types) (first p at)) ≡ true
+    unfolding allPlain
+    closed-type =
+        plain-iff (map (typeAt p) types) (first p at) .0
+        (and-both (plain (map (typeAt p) types) (first p at)) true (subst (λ is. allPlain (map (typeAt p) types) is ≡ true) q (plain-are H e)) .0) .0
 
   module _ {t at : ℕ} (H : Here p terms t at inlKind) where
     pub tree-inl : termIn p types terms t ≡ tinl t (typeOf (map (typeAt p) types) (first p at)) (termIn p types terms (second p at))
@@ -150,6 +164,10 @@ module _ {p types terms functions nodes : List ℕ} (E : Entered p types terms f
     unfolding typesOfTerm termsOfTerm
     parts-roll = typed-part H (term-roll p at (H .form)) refl refl
 
+    pub closed-roll : closed 0 (typeOf (map (typeAt p) types) (first p at)) ≡ true
+    unfolding typesOfTerm termsOfTerm
+    closed-roll = closed-type H (term-roll p at (H .form)) refl refl
+
     pub read-roll : at + 8 ≤ length p
     unfolding termLengths
     read-roll = two-room (field-here H) (H .form) refl
@@ -165,6 +183,10 @@ module _ {p types terms functions nodes : List ℕ} (E : Entered p types terms f
     pub parts-unroll : (first p at < length types) × Part t (second p at)
     unfolding typesOfTerm termsOfTerm
     parts-unroll = typed-part H (term-unroll p at ten) refl refl
+
+    pub closed-unroll : closed 0 (typeOf (map (typeAt p) types) (first p at)) ≡ true
+    unfolding typesOfTerm termsOfTerm
+    closed-unroll = closed-type H (term-unroll p at ten) refl refl
 
     pub read-unroll : at + 8 ≤ length p
     unfolding termLengths

@@ -18,7 +18,8 @@ use package.Rattle.program.specs.Parts.{FunctionField}
 use package.Rattle.program.specs.Places.{placesOf, Placed}
 use package.Rattle.program.specs.Signatures.{SignatureIs}
 use package.Rattle.program.specs.Programs.{functionIn, programIn}
-use package.Rattle.types.specs.Codes.{nodeBytes, treeIn, Known}
+use package.Rattle.types.specs.Layout.{typingBytes}
+use package.Rattle.types.specs.Codes.{treeIn, Known}
 use package.Rattle.typing.specs.Ready.{variableAt, contextIn, Scoped}
 use package.Rattle.typing.specs.Waiting.{scopeBytes, countIn}
 use package.Rattle.typing.specs.declared.outcomes.Scope.{Scope}
@@ -34,14 +35,14 @@ verdictOf (Differ at) = refused 6 at
 verdictOf (Unscoped at) = refused 7 at
 verdictOf (Misused at) = refused 8 at
 
--- A program whose fields are read and whose entries are tested, with the nodes of its types counted, and room for as many product nodes
--- as there can be terms.
+-- A program whose fields are read and whose entries are tested, with the nodes of its types counted, and room for what typing keeps: as many
+-- product nodes as there can be terms, and the figures of type entries.
 pub record Typeable (xs types terms functions nodes heap : List ℕ) : Type 0 where
   pub read : Placed xs types terms functions
   pub tested : testEntries (placesOf types terms functions) (entriesAt xs (placesOf types terms functions)) ≡ accepted tt
   pub held : length types ≤ length nodes
   pub counted : take (length types) nodes ≡ figures nodesOf [] (map (typeAt xs) types)
-  pub room : nodeBytes * maxTerms ≤ length heap
+  pub room : typingBytes ≤ length heap
 
 -- A function whose field at `at` is read and tested, with its row of the table of signatures.
 pub record Signed (xs types : List ℕ) (at : ℕ) (row : List ℕ) : Type 0 where

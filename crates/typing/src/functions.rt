@@ -2,6 +2,7 @@
 // parameters' types come from the table of signatures, which was filled when the functions were read; product nodes of one function are
 // not needed by the next, so each function has all the room for them.
 use crate::infer;
+use crate::namings;
 use crate::namings::SCOPE_BYTES;
 use crate::outcomes::Fault;
 use crate::outcomes::Scope;
@@ -14,10 +15,13 @@ use types::codes::Code;
 use types::compare;
 use varsets::Uses;
 ghost use mathlib.Core.Path.{_≡_};
+ghost use mathlib.Core.List.{map};
 ghost use Prim.Native.Nat.{_-_, _≤_, _<_};
 ghost use lib.ListN.{length, getD};
 ghost use Rattle.calls.specs.Fields.{parametersAt};
+ghost use Rattle.calls.specs.Entries.{typeAt};
 ghost use Rattle.program.specs.Signatures.{SignaturesAre};
+ghost use Rattle.types.specs.Figures.{Figured};
 ghost use Rattle.types.specs.Codes.{treeIn, Sources, Known};
 ghost use Rattle.varsets.specs.Sets.{has};
 ghost use Rattle.typing.specs.Waiting.{scopeBytes, countIn};
@@ -146,7 +150,7 @@ fn refusal(terms: &[u16], why: Fault) -> Verdict
     }
 }
 
-// Function `g`, whose parameters' types its row of the table has.
+// Function `g`, whose parameters' types its row of the table has. The bytes of its scope are lent, so that they are made once for all functions.
 fn check_function(
     p: &[u8],
     types: &[u16],
@@ -155,17 +159,20 @@ fn check_function(
     table: &[[u16; MAX_PARAMETERS]; MAX_FUNCTIONS],
     nodes: &[u16],
     ws: &mut [u8],
+    vars: &mut [u8],
     g: usize,
 ) -> Verdict
     requires { ⌜ Typeable (now p) (now types) (now terms) (now functions) (now nodes) (now ws) ⌝ }
-    requires { ⌜ (g < length (now functions)) × SignaturesAre (now p) (now functions) (now table) ⌝ }
-    ensures { λ r. ⌜ verdictOf r ≡ functionAnswer (now (p .entry)) (now (types .entry)) (now (terms .entry)) (now (functions .entry)) g ⌝ }
+    requires { ⌜ Figured (map (typeAt (now p)) (now types)) (now ws) (length (now types)) ⌝ }
+    requires { ⌜ (g < length (now functions)) × SignaturesAre (now p) (now functions) (now table) × (scopeBytes ≤ length (now vars)) ⌝ }
+    ensures { λ r. ⌜ (verdictOf r ≡ functionAnswer (now (p .entry)) (now (types .entry)) (now (terms .entry)) (now (functions .entry)) g)
+        × Figured (map (typeAt (now (p .entry))) (now (types .entry))) (now (ws .exit)) (length (now (types .entry))) ⌝ }
 {
     let row = table[g];
     let at = octets::wide_index(functions[g]);
     let body = program::views::function_body(p, at);
-    let mut vars = [0u8; SCOPE_BYTES];
-    let sc = bind_parameters(p, types, ws, &mut vars, at, row);
+    namings::begin(vars);
+    let sc = bind_parameters(p, types, ws, vars, at, row);
     let out = infer::infer(
         p,
         types,
@@ -174,7 +181,7 @@ fn check_function(
         table,
         nodes,
         ws,
-        &mut vars,
+        vars,
         sc,
         0,
         body,
@@ -187,8 +194,39 @@ fn check_function(
     }
 }
 
+// The functions of a program whose entries are tested, in order, the figures of its types being made.
+fn check_all(
+    p: &[u8],
+    types: &[u16],
+    terms: &[u16],
+    functions: &[u16],
+    table: &[[u16; MAX_PARAMETERS]; MAX_FUNCTIONS],
+    nodes: &[u16],
+    ws: &mut [u8],
+) -> Verdict
+    requires { ⌜ Typeable (now p) (now types) (now terms) (now functions) (now nodes) (now ws) ⌝ }
+    requires { ⌜ Figured (map (typeAt (now p)) (now types)) (now ws) (length (now types)) ⌝ }
+    requires { ⌜ SignaturesAre (now p) (now functions) (now table) ⌝ }
+    ensures { λ r. ⌜ verdictOf r ≡ typingAnswer (now (p .entry)) (now (types .entry)) (now (terms .entry)) (now (functions .entry)) ⌝ }
+{
+    let mut vars = [0u8; SCOPE_BYTES];
+    let mut g = 0;
+    while g < functions.len() {
+        let v = check_function(p, types, terms, functions, table, nodes, ws, &mut vars, g);
+        match v {
+            Verdict::Typed => {
+                g += 1;
+            }
+            Verdict::Differ(at) => return Verdict::Differ(at),
+            Verdict::Unscoped(at) => return Verdict::Unscoped(at),
+            Verdict::Misused(at) => return Verdict::Misused(at),
+        }
+    }
+    Verdict::Typed
+}
+
 // The functions of a program whose entries are tested, in order. The table has their signatures, `nodes` the
-// nodes of each type entry; product nodes stand in `ws`.
+// nodes of each type entry; product nodes and what is kept of type entries stand in `ws`.
 pub fn check_functions(
     p: &[u8],
     types: &[u16],
@@ -202,17 +240,6 @@ pub fn check_functions(
     requires { ⌜ SignaturesAre (now p) (now functions) (now table) ⌝ }
     ensures { λ r. ⌜ verdictOf r ≡ typingAnswer (now (p .entry)) (now (types .entry)) (now (terms .entry)) (now (functions .entry)) ⌝ }
 {
-    let mut g = 0;
-    while g < functions.len() {
-        let v = check_function(p, types, terms, functions, table, nodes, ws, g);
-        match v {
-            Verdict::Typed => {
-                g += 1;
-            }
-            Verdict::Differ(at) => return Verdict::Differ(at),
-            Verdict::Unscoped(at) => return Verdict::Unscoped(at),
-            Verdict::Misused(at) => return Verdict::Misused(at),
-        }
-    }
-    Verdict::Typed
+    types::numbering::number_types(p, types, ws);
+    check_all(p, types, terms, functions, table, nodes, ws)
 }

@@ -54,6 +54,14 @@ fn cell(j: u16) -> usize
     NAMINGS_AT + NAMING_BYTES * octets::wide_index(j)
 }
 
+// No naming waits: what stands behind the count is not looked at.
+pub fn begin(vars: &mut [u8])
+    requires { ⌜ scopeBytes ≤ length (now vars) ⌝ }
+    ensures { λ _. ⌜ countIn (now (vars .exit)) ≡ 0 ⌝ }
+{
+    octets::write16(vars, COUNT_AT, 0);
+}
+
 // How many namings there are.
 pub fn count(vars: &[u8]) -> u16
     requires { ⌜ scopeBytes ≤ length (now vars) ⌝ }

@@ -9,7 +9,8 @@ use lib.ListN.{getD}
 use borrow.Author.Tests.{ltb-true, lt-ltb, le-ltb, eq-eqb}
 use package.Rattle.rules.specs.Ty.{Ty, one, prod, sum, mu, tyvar, plug, unfoldTy}
 use package.Rattle.rules.proofs.Basics.{given, and-both, eqb-no}
-use package.Rattle.calls.proofs.Entries.{free, closed-iff-free}
+use package.Rattle.calls.specs.Figures.{free}
+use package.Rattle.calls.proofs.Entries.{closed-iff-free, plug-closed}
 use package.Rattle.calls.specs.Tested.{closed}
 use package.Rattle.valuebytes.specs.Scopes.{plugs}
 
@@ -18,14 +19,6 @@ use package.Rattle.valuebytes.specs.Scopes.{plugs}
 
 closed-more : (n m : ℕ) (c : Ty) → n ≤ m → closed n c ≡ true → closed m c ≡ true
 closed-more n m c h e = closed-iff-free m c .1 (let l : free c ≤ n = closed-iff-free n c .0 e in omega arith)
-
-plug-closed : (c : Ty) (n : ℕ) (a : Ty) → closed n a ≡ true → plug c n a ≡ a
-unfolding plug closed
-plug-closed c n one e = refl
-plug-closed c n (prod a b) e = given (and-both (closed n a) (closed n b) e) λ (x, y). ap₂ prod (plug-closed c n a x) (plug-closed c n b y)
-plug-closed c n (sum a b) e = given (and-both (closed n a) (closed n b) e) λ (x, y). ap₂ sum (plug-closed c n a x) (plug-closed c n b y)
-plug-closed c n (mu a) e = ap mu (plug-closed c (suc n) a e)
-plug-closed c n (tyvar k) e = ap (λ b. cond b c (tyvar k)) (eqb-no k n (ltb-true k n e))
 
 -- every type of the scope is closed; past its end stands unit, which is
 abbrev pub AllClosed : List Ty → Type 0

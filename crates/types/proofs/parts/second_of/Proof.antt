@@ -1,19 +1,23 @@
+use Prim.Native.Nat.{_<_}
+use native.Mathlib.Omega.{arith}
+use mathlib.Core.Path.{refl, sym, subst}
+use Rattle.rules.specs.Limits.{maxTypes}
 use Rattle.types.proofs.Outer.{product-there}
-use Rattle.types.proofs.Plain.{no-unit-form, no-product-form, second-product, offset-there, second-field, second-two}
-use mathlib.Core.Path.{refl}
+use Rattle.types.proofs.Plain.{no-unit-form, no-product-form, second-product, offset-there, second-field, second-inside, part-asked, second-two}
 use borrow.Author.Needs.{needs}
 use Rattle.types.proofs.parts.second_of.Statement.{statement}
 use Rattle.types.proofs.parts.second_of.Tie as tie
 
 right-of-requires : tie.Need-right-of-requires
-right-of-requires c κs = let a = c .before .before .before .before in product-there (a .pre .0) (a .args .c) (a .pre .1 .0) (c .if1 .taken)
+right-of-requires c κs =
+    let start = c .before .before .before .before in
+    product-there (start .pre .0) (start .args .c) (start .pre .1 .0) (c .if1 .taken)
 
 returns : tie.Need-returns
 returns c =
     let at-if1 = c .before in
-    let at-before = at-if1 .before .before .before in
-    let a = at-before .before in
-    second-product (a .args .p .now) (a .args .types .now) (a .args .ws .now) (a .args .c) (at-if1 .if1 .taken) (c .right-of .ensures)
+    let start = at-if1 .before .before .before .before in
+    second-product (start .args .p .now) (start .args .types .now) (start .args .ws .now) (start .args .c) (at-if1 .if1 .taken) (c .right-of .ensures)
 
 wide-index-requires : tie.Need-wide-index-requires
 wide-index-requires c κs = search needs
@@ -25,10 +29,9 @@ shared-slice-read-wide-index : tie.Need-shared-slice-read-wide-index
 shared-slice-read-wide-index c =
     let at-wide-index = c .before in
     let at-if1 = at-wide-index .before in
-    let at-before = at-if1 .before .before .before in
-    let a = at-before .before in
-    offset-there (a .pre .0) (a .args .c) (a .pre .1 .0) (no-unit-form (a .pre .0) (a .args .c) (a .pre .1 .0) (a .pre .1 .1 .0) (a .pre .1 .1 .1))
-    (no-product-form (a .pre .0) (a .args .c) (a .pre .1 .0) (at-if1 .if1 .left)) (at-wide-index .wide-index .ensures .0) refl
+    let start = at-if1 .before .before .before .before in
+    offset-there (start .pre .0) (start .args .c) (start .pre .1 .0) (no-unit-form (start .pre .0) (start .args .c) (start .pre .1 .0) (start .pre .1 .1 .0) (start .pre .1 .1 .1))
+    (no-product-form (start .pre .0) (start .args .c) (start .pre .1 .0) (at-if1 .if1 .left)) (at-wide-index .wide-index .ensures .0) refl
 
 wide-index-requires-2 : tie.Need-wide-index-requires-2
 wide-index-requires-2 c κs = search needs
@@ -37,14 +40,21 @@ second-requires : tie.Need-second-requires
 second-requires c κs =
     let at-wide-index = c .before .before in
     let at-if1 = at-wide-index .before in
-    let at-before = at-if1 .before .before .before in
-    let a = at-before .before in
-    second-field (a .pre .0) (a .args .c) (a .pre .1 .0) (no-unit-form (a .pre .0) (a .args .c) (a .pre .1 .0) (a .pre .1 .1 .0) (a .pre .1 .1 .1))
-    (no-product-form (a .pre .0) (a .args .c) (a .pre .1 .0) (at-if1 .if1 .left)) (at-wide-index .wide-index .ensures .0) (c .wide-index2 .ensures .0)
-    (a .pre .1 .1 .0) (a .pre .1 .1 .1) (a .pre .1 .1 .2)
+    let start = at-if1 .before .before .before .before in
+    second-field (start .pre .0) (start .args .c) (start .pre .1 .0) (no-unit-form (start .pre .0) (start .args .c) (start .pre .1 .0) (start .pre .1 .1 .0) (start .pre .1 .1 .1))
+    (no-product-form (start .pre .0) (start .args .c) (start .pre .1 .0) (at-if1 .if1 .left)) (at-wide-index .wide-index .ensures .0) (c .wide-index2 .ensures .0)
+    (start .pre .1 .1 .0) (start .pre .1 .1 .1) (start .pre .1 .1 .2)
 
 part-requires : tie.Need-part-requires
-part-requires c κs = search needs
+part-requires c κs =
+    let at-wide-index2 = c .before in
+    let at-wide-index = at-wide-index2 .before .before in
+    let at-if1 = at-wide-index .before in
+    let start = at-if1 .before .before .before .before in
+    part-asked (start .pre .0) (start .args .c) (start .pre .1 .0)
+    (subst (λ n. n < maxTypes) (sym (c .second .ensures)) (second-inside (start .pre .0) (start .args .c) (start .pre .1 .0) (no-unit-form (start .pre .0) (start .args .c) (start .pre .1 .0) (start .pre .1 .1 .0) (start .pre .1 .1 .1))
+    (no-product-form (start .pre .0) (start .args .c) (start .pre .1 .0) (at-if1 .if1 .left)) (at-wide-index .wide-index .ensures .0) (at-wide-index2 .wide-index2 .ensures .0)
+    (start .pre .1 .1 .0) (start .pre .1 .1 .1) (start .pre .1 .1 .2))) 0 (omega arith)
 
 returns-2 : tie.Need-returns-2
 returns-2 c =
@@ -52,11 +62,10 @@ returns-2 c =
     let at-wide-index2 = at-second .before in
     let at-wide-index = at-wide-index2 .before .before in
     let at-if1 = at-wide-index .before in
-    let at-before = at-if1 .before .before .before in
-    let a = at-before .before in
-    second-two (a .pre .0) (a .args .c) (a .pre .1 .0) (no-unit-form (a .pre .0) (a .args .c) (a .pre .1 .0) (a .pre .1 .1 .0) (a .pre .1 .1 .1))
-    (no-product-form (a .pre .0) (a .args .c) (a .pre .1 .0) (at-if1 .if1 .left)) (at-wide-index .wide-index .ensures .0)
-    (at-wide-index2 .wide-index2 .ensures .0) (a .pre .1 .1 .0) (a .pre .1 .1 .1) (a .pre .1 .1 .2) (at-second .second .ensures) (c .part .ensures)
+    let start = at-if1 .before .before .before .before in
+    second-two (start .pre .0) (start .args .c) (start .pre .1 .0) (no-unit-form (start .pre .0) (start .args .c) (start .pre .1 .0) (start .pre .1 .1 .0) (start .pre .1 .1 .1))
+    (no-product-form (start .pre .0) (start .args .c) (start .pre .1 .0) (at-if1 .if1 .left)) (at-wide-index .wide-index .ensures .0) (at-wide-index2 .wide-index2 .ensures .0) (start .pre .1 .1 .0) (start .pre .1 .1 .1) (start .pre .1 .1 .2)
+    (at-second .second .ensures) (c .part .ensures)
 
 pub second-of-spec : {M : Type 1} → statement M
 second-of-spec =

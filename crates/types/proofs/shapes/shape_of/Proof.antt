@@ -1,67 +1,106 @@
-use Rattle.types.proofs.Outer.{unit-shaped, entry-there, entry-shaped, under-shaped, product-shaped, product-there, product-form}
-use native.Mathlib.Omega.{arith}
+use mathlib.Core.Path.{sym, _∙_}
+use Rattle.types.proofs.Alike.{parted, twice-parted, unit-node-of, variable-node-of, recursive-node-of, two-node-of}
 use borrow.Author.Needs.{needs}
 use Rattle.types.proofs.shapes.shape_of.Statement.{statement}
 use Rattle.types.proofs.shapes.shape_of.Tie as tie
+
+settled-requires : tie.Need-settled-requires
+settled-requires c κs = search needs
+
+kind-of-requires : tie.Need-kind-of-requires
+kind-of-requires c κs =
+    let start = c .before .before .before .before in
+    (start .pre .0, c .settled .ensures .known)
 
 leaf-requires : tie.Need-leaf-requires
 leaf-requires c κs = search needs
 
 returns : tie.Need-returns
-returns c = let a = c .before .before .before .before .before in unit-shaped (a .pre .0) (a .args .c) (a .pre .1) (c .before .if1 .taken) (c .leaf .ensures)
+returns c =
+    let at-if1 = c .before in
+    let at-kind-of = at-if1 .before in
+    let at-settled = at-kind-of .before in
+    unit-node-of (at-settled .settled .ensures) (at-kind-of .kind-of .ensures) (c .leaf .ensures) (at-if1 .if1 .taken)
 
-entry-shape-requires : tie.Need-entry-shape-requires
-entry-shape-requires c κs =
-    let at-before = c .before .before .before .before in
-    let a = at-before .before in
-    let t = entry-there (a .pre .0) (a .args .c) (a .pre .1) (omega (arith, c .if2 .taken)) (omega (arith, c .if2 .taken)) in
-    (a .pre .0 .entries, (t .0, t .1, omega arith))
+variable-of-requires : tie.Need-variable-of-requires
+variable-of-requires c κs =
+    let at-kind-of = c .before .before in
+    let at-settled = at-kind-of .before in
+    let start = at-settled .before .before .before .before in
+    (start .pre .0, (at-settled .settled .ensures .known, sym (at-kind-of .kind-of .ensures) ∙ c .if2 .taken))
+
+leaf-requires-2 : tie.Need-leaf-requires-2
+leaf-requires-2 c κs = search needs
 
 returns-2 : tie.Need-returns-2
 returns-2 c =
-    let at-if2 = c .before in
-    let at-before = at-if2 .before .before .before .before in
-    let a = at-before .before in
-    entry-shaped (a .pre .0) (a .args .c) (a .pre .1) (at-if2 .if2 .taken) (c .entry-shape .ensures)
+    let at-variable-of = c .before in
+    let at-if2 = at-variable-of .before in
+    let at-kind-of = at-if2 .before .before in
+    let at-settled = at-kind-of .before in
+    variable-node-of (at-settled .settled .ensures) (at-kind-of .kind-of .ensures) (at-variable-of .variable-of .ensures) (c .leaf2 .ensures) (at-if2 .if2 .taken)
 
-under-shape-requires : tie.Need-under-shape-requires
-under-shape-requires c κs = let a = c .before .before .before .before .before .before in
-    (a .pre .0 .entries, (a .pre .1 .entry (omega (arith, c .if3 .taken)) (omega (arith, c .if3 .taken)), a .pre .1 .stands (c .if3 .taken)))
+first-of-requires : tie.Need-first-of-requires
+first-of-requires c κs =
+    let at-if1 = c .before in
+    let at-kind-of = at-if1 .before in
+    let at-settled = at-kind-of .before in
+    let start = at-settled .before .before .before .before in
+    (start .pre .0, (at-settled .settled .ensures .known, (at-kind-of .kind-of .ensures, at-if1 .if1 .left, parted (at-settled .settled .ensures) (at-kind-of .kind-of .ensures) (c .if2 .left))))
+
+unit-requires : tie.Need-unit-requires
+unit-requires c κs = search needs
 
 returns-3 : tie.Need-returns-3
 returns-3 c =
     let at-if3 = c .before in
-    let at-before = at-if3 .before .before .before .before .before in
-    let a = at-before .before in
-    under-shaped (a .pre .0) (a .args .c) (a .pre .1) (at-if3 .if3 .taken) (c .under-shape .ensures)
+    let at-first-of = at-if3 .before in
+    let at-kind-of = at-first-of .before .before .before in
+    let at-settled = at-kind-of .before in
+    recursive-node-of (at-settled .settled .ensures) (at-kind-of .kind-of .ensures) (at-first-of .first-of .ensures) (c .unit .ensures) (at-if3 .if3 .taken)
 
-product-shape-requires : tie.Need-product-shape-requires
-product-shape-requires c κs =
-    let at-if2 = c .before in
+second-of-requires : tie.Need-second-of-requires
+second-of-requires c κs =
+    let at-if2 = c .before .before in
     let at-if1 = at-if2 .before in
-    let at-before = at-if1 .before .before .before in
-    let a = at-before .before in
-    product-there (a .pre .0) (a .args .c) (a .pre .1) (product-form (a .pre .1) (at-if1 .if1 .left) (at-if2 .if2 .left) (c .if3 .left))
+    let at-kind-of = at-if1 .before in
+    let at-settled = at-kind-of .before in
+    let start = at-settled .before .before .before .before in (
+      start .pre .0,
+      (
+        at-settled .settled .ensures .known,
+        (
+          at-kind-of .kind-of .ensures,
+          at-if1 .if1 .left,
+          twice-parted (at-settled .settled .ensures) (at-kind-of .kind-of .ensures) (at-if2 .if2 .left) (c .if3 .left),
+        ),
+      ),
+    )
 
 returns-4 : tie.Need-returns-4
 returns-4 c =
     let at-if3 = c .before in
-    let at-if2 = at-if3 .before in
+    let at-first-of = at-if3 .before in
+    let at-if2 = at-first-of .before in
     let at-if1 = at-if2 .before in
-    let at-before = at-if1 .before .before .before in
-    let a = at-before .before in
-    product-shaped (a .pre .0) (a .args .c) (a .pre .1) (product-form (a .pre .1) (at-if1 .if1 .left) (at-if2 .if2 .left) (at-if3 .if3 .left))
-    (c .product-shape .ensures)
+    let at-kind-of = at-if1 .before in
+    let at-settled = at-kind-of .before in
+    two-node-of (at-settled .settled .ensures) (at-kind-of .kind-of .ensures) (at-first-of .first-of .ensures) (c .second-of .ensures) (at-if1 .if1 .left)
+    (twice-parted (at-settled .settled .ensures) (at-kind-of .kind-of .ensures) (at-if2 .if2 .left) (at-if3 .if3 .left))
 
 pub shape-of-spec : {M : Type 1} → statement M
 shape-of-spec =
     tie.close
     (tie.spec
+    settled-requires
+    kind-of-requires
     leaf-requires
     returns
-    entry-shape-requires
+    variable-of-requires
+    leaf-requires-2
     returns-2
-    under-shape-requires
+    first-of-requires
+    unit-requires
     returns-3
-    product-shape-requires
+    second-of-requires
     returns-4)

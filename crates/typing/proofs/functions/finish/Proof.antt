@@ -92,7 +92,7 @@ returns-3 c =
     let at-function-result = at-entry .before in
     let start = at-function-result .before .before .before .before in
     dynamic-unused (start .pre .1 .1) _ _ (at-function-result .function-result .ensures) (at-entry .entry .ensures) (at-same .same .ensures)
-    (at-if1 .if1 .taken) (omega arith) (at-entry2 .entry2 .ensures) (at-is-unit .is-unit .ensures) _ (at-contains .contains .ensures)
+    (at-if1 .if1 .taken) (omega (arith, at-entry2 .before .function-parameters .ensures)) (at-entry2 .entry2 .ensures) (at-is-unit .is-unit .ensures) _ (at-contains .contains .ensures)
     (at-if2 .if2 .left) (at-if3 .if3 .left)
 
 returns-4 : tie.Need-returns-4

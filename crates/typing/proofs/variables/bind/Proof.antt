@@ -27,6 +27,7 @@ returns c =
     let at-slot = at-put-code .before in
     let start = at-slot .before .before .before .before .before .before in
     opened-unit (start .pre .0) _ (start .pre .1 .0) (start .pre .1 .1) (record {
+      form = omega (arith, start .good .1 .1 .1 .1 .1 .1 .0);
       at = omega (arith, start .good .1 .1 .1 .1 .1 .1 .0);
       stands =
           omega (arith, start .good .1 .1 .1 .1 .1 .1 .0);
@@ -55,6 +56,7 @@ returns-2 c =
     let at-slot = at-put-code .before in
     let start = at-slot .before .before .before .before .before .before in
     opened-used (start .pre .0) _ (start .pre .1 .0) (start .pre .1 .1) (record {
+      form = omega (arith, start .good .1 .1 .1 .1 .1 .1 .0);
       at = omega (arith, start .good .1 .1 .1 .1 .1 .1 .0);
       stands =
           omega (arith, start .good .1 .1 .1 .1 .1 .1 .0);

@@ -1,0 +1,110 @@
+use native.Mathlib.Omega.{arith}
+use mathlib.Core.Path.{sym, _∙_}
+use Rattle.types.proofs.Outer.{kind-there, entry-there}
+use Rattle.types.proofs.Plain.{under-there, closed-settled, variable-settled, under-settled}
+use borrow.Author.Needs.{needs}
+use Rattle.types.proofs.parts.settled_under.Statement.{statement}
+use Rattle.types.proofs.parts.settled_under.Tie as tie
+
+number-of-requires : tie.Need-number-of-requires
+number-of-requires c κs =
+    let start = c .before .before .before in
+    (start .pre .0 .figures .held, entry-there (start .pre .0) (start .args .c) (start .pre .1 .0) (omega (arith, start .pre .1 .1)) (omega (arith, start .pre .1 .1)) .1)
+
+free-of-requires : tie.Need-free-of-requires
+free-of-requires c κs =
+    let start = c .before .before .before .before in
+    (start .pre .0 .figures .held, under-there (start .pre .0) (start .args .c) (start .pre .1 .0) (start .pre .1 .1) (c .number-of .ensures) .1)
+
+entry-requires : tie.Need-entry-requires
+entry-requires c κs = search needs
+
+returns : tie.Need-returns
+returns c =
+    let at-if1 = c .before in
+    let at-free-of = at-if1 .before in
+    let at-number-of = at-free-of .before in
+    let start = at-number-of .before .before .before .before in
+    closed-settled (start .pre .0) (start .args .c) (start .pre .1 .0) (start .pre .1 .1) (at-number-of .number-of .ensures) (sym (at-free-of .free-of .ensures) ∙ at-if1 .if1 .taken) (c .entry .ensures)
+
+number-of-requires-2 : tie.Need-number-of-requires-2
+number-of-requires-2 c κs =
+    let at-number-of = c .before .before in
+    let start = at-number-of .before .before .before .before in
+    (start .pre .0 .figures .held, under-there (start .pre .0) (start .args .c) (start .pre .1 .0) (start .pre .1 .1) (at-number-of .number-of .ensures) .2)
+
+wide-index-requires : tie.Need-wide-index-requires
+wide-index-requires c κs = search needs
+
+mul-wide-index : tie.Need-mul-wide-index
+mul-wide-index c = search needs
+
+shared-slice-read-wide-index : tie.Need-shared-slice-read-wide-index
+shared-slice-read-wide-index c =
+    let at-wide-index = c .before in
+    let at-number-of = at-wide-index .before .before .before .before in
+    let start = at-number-of .before .before .before .before in
+    omega (arith, at-wide-index .wide-index .ensures .0, under-there (start .pre .0) (start .args .c) (start .pre .1 .0) (start .pre .1 .1) (at-number-of .number-of .ensures) .0)
+
+wide-index-requires-2 : tie.Need-wide-index-requires-2
+wide-index-requires-2 c κs = search needs
+
+kind-requires : tie.Need-kind-requires
+kind-requires c κs =
+    let at-wide-index = c .before .before in
+    let at-number-of = at-wide-index .before .before .before .before in
+    let start = at-number-of .before .before .before .before in
+    kind-there (start .pre .0 .entries) (under-there (start .pre .0) (start .args .c) (start .pre .1 .0) (start .pre .1 .1) (at-number-of .number-of .ensures) .0) (at-wide-index .wide-index .ensures .0)
+    (c .wide-index2 .ensures .0)
+
+entry-requires-2 : tie.Need-entry-requires-2
+entry-requires-2 c κs = search needs
+
+returns-2 : tie.Need-returns-2
+returns-2 c =
+    let at-if2 = c .before in
+    let at-kind = at-if2 .before in
+    let at-wide-index2 = at-kind .before in
+    let at-wide-index = at-wide-index2 .before .before in
+    let at-number-of2 = at-wide-index .before in
+    let at-number-of = at-number-of2 .before .before .before in
+    let start = at-number-of .before .before .before .before in
+    variable-settled (start .pre .0) (start .args .c) (start .pre .1 .0) (start .pre .1 .1) (at-number-of .number-of .ensures) (at-number-of2 .number-of2 .ensures)
+    (at-wide-index .wide-index .ensures .0) (at-wide-index2 .wide-index2 .ensures .0) (at-kind .kind .ensures) (at-if2 .if2 .taken) (c .entry2 .ensures)
+
+under-requires : tie.Need-under-requires
+under-requires c κs = search needs
+
+returns-3 : tie.Need-returns-3
+returns-3 c =
+    let at-if2 = c .before in
+    let at-kind = at-if2 .before in
+    let at-wide-index2 = at-kind .before in
+    let at-wide-index = at-wide-index2 .before .before in
+    let at-number-of2 = at-wide-index .before in
+    let at-if1 = at-number-of2 .before in
+    let at-free-of = at-if1 .before in
+    let at-number-of = at-free-of .before in
+    let start = at-number-of .before .before .before .before in
+    under-settled (start .pre .0) (start .args .c) (start .pre .1 .0) (start .pre .1 .1) (at-number-of .number-of .ensures) (at-number-of2 .number-of2 .ensures)
+    (at-wide-index .wide-index .ensures .0) (at-wide-index2 .wide-index2 .ensures .0) (at-kind .kind .ensures)
+    (λ z. at-if1 .if1 .left (at-free-of .free-of .ensures ∙ z)) (at-if2 .if2 .left) (c .under .ensures)
+
+pub settled-under-spec : {M : Type 1} → statement M
+settled-under-spec =
+    tie.close
+    (tie.spec
+    number-of-requires
+    free-of-requires
+    entry-requires
+    returns
+    number-of-requires-2
+    wide-index-requires
+    mul-wide-index
+    shared-slice-read-wide-index
+    wide-index-requires-2
+    kind-requires
+    entry-requires-2
+    returns-2
+    under-requires
+    returns-3)
