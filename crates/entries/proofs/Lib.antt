@@ -3,6 +3,8 @@
 pub mod Turns
 -- the figures of one type entry, by its kind
 pub mod Figures
+-- the tally of the counts of nodes, and what the counts mean
+pub mod Tallies
 -- testing the type entries
 pub mod Types
 -- verdicts on one entry after another

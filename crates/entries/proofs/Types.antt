@@ -3,7 +3,7 @@ use Prim.Native.Nat.{ℕ, suc, _+_, _≤_, _<_, pred, min, max}
 use native.Mathlib.Omega.{arith}
 use native.Mathlib.Numerals.{add-one}
 use mathlib.Core.Path.{_≡_, refl, sym, ap, ap₂, subst, _∙_}
-use mathlib.Core.Bool.{Bool, true, false, false≢true, and-eq-true-iff}
+use mathlib.Core.Bool.{Bool, true, false, and-eq-true-iff}
 use mathlib.Core.List.{List, [], _∷_, _++_, map}
 use lib.ListN.{length, getD, set, take, drop, length-map, List·getD-map, drop-of-length-le}
 use lib.Seq.{take-suc, take-suc-set, take-all, drop-cons, getD-take}
@@ -19,10 +19,12 @@ use package.Rattle.calls.proofs.Entries.{below-head, lower}
 use package.Rattle.program.specs.Places.{placesOf}
 use package.Rattle.program.specs.Parts.{TypeField}
 use package.Rattle.program.specs.Lists.{typesInType}
-use package.Rattle.entries.specs.Marks.{TypeTested}
+use package.Rattle.entries.specs.Tally.{noCounts, CountMade}
 use package.Rattle.entries.specs.Tested.{TypesTested}
+use package.Rattle.entries.specs.declared.measures.Tally.{Tally}
 use package.Rattle.entries.specs.declared.testing.Verdict.the-variants.{Sound, BadReference}
 use package.Rattle.program.proofs.Lists.{types-of-type}
+use package.Rattle.entries.proofs.Tallies.{CountsSo, counts-start, counts-more, counts-tallied}
 
 ----------------------------------------------------------------
 -- One entry
@@ -36,13 +38,6 @@ module _ {xs : List ℕ} {at : ℕ} (F : TypeField xs at) where
   -- the test of the run is the test of the entry
   pub type-answer : (i n : ℕ) (r : Bool) → n ≡ typesInType xs at → r ≡ below i (references xs (at + 4) n) → r ≡ below i (typesOfType (typeAt xs at))
   type-answer i n r e a = a ∙ ap (λ n. below i (references xs (at + 4) n)) e ∙ ap (below i) (sym (types-of-type F))
-
-  pub type-refused : (i : ℕ) (ns fs : List ℕ) (r : Bool) → r ≡ below i (typesOfType (typeAt xs at)) → r ≡ false → TypeTested xs at i ns ns fs fs false
-  type-refused i ns fs r a e = record { answer = sym e ∙ a; nodes-noted = λ t. absurd (false≢true t); free-noted = λ t. absurd (false≢true t) }
-
-  pub type-accepted : (i : ℕ) (ns fs : List ℕ) (m f : ℕ) (r : Bool) → r ≡ below i (typesOfType (typeAt xs at)) → r ≡ true → m ≡ nodesOf ns (typeAt xs at) → f ≡ freeOf fs (typeAt xs at)
-      → TypeTested xs at i ns (set ns i m) fs (set fs i f) true
-  type-accepted i ns fs m f r a e p q = record { answer = sym e ∙ a; nodes-noted = λ t. ap (set ns i) p; free-noted = λ t. ap (set fs i) q }
 
 ----------------------------------------------------------------
 -- Figures that are noted one after another
@@ -103,17 +98,19 @@ module _ {A : Type 0} (f : ℕ → A) (offsets : List ℕ) (i : ℕ) (l : i < le
       ∙ take-suc (map f offsets) i (f 0) (subst (λ n. i < n) (sym (length-map offsets f)) l)
       ∙ ap (λ x. take i (map f offsets) ++ (x ∷ [])) (List·getD-map f offsets i 0)
 
--- the first `i` entries are sound, and their figures noted
-pub record TypesSo (xs types : List ℕ) (i : ℕ) (nodes free : List ℕ) : Type 0 where
+-- the first `i` entries are sound, and their figures noted; of the others no count is made
+pub record TypesSo (xs types : List ℕ) (i : ℕ) (nodes free : List ℕ) (t : Tally) : Type 0 where
   pub rest : (terms functions : List ℕ)
       → testTypes (placesOf types terms functions) 0 (map (typeAt xs) types) ≡ testTypes (placesOf types terms functions) i (drop i (map (typeAt xs) types))
   pub nodes-front : take i nodes ≡ figures nodesOf [] (take i (map (typeAt xs) types))
   pub free-front : take i free ≡ figures freeOf [] (take i (map (typeAt xs) types))
+  pub counts : CountsSo xs types i nodes t
 
 module _ (xs types : List ℕ) where
-  pub types-start : (nodes free : List ℕ) → TypesSo xs types 0 nodes free
+  pub types-start : (nodes free : List ℕ) (t : Tally) → nodes ≡ noCounts → t .counted ≡ 0 → TypesSo xs types 0 nodes free t
   unfolding figures
-  types-start nodes free = record { rest = λ terms functions. refl; nodes-front = refl; free-front = refl }
+  types-start nodes free t e z =
+      record { rest = λ terms functions. refl; nodes-front = refl; free-front = refl; counts = counts-start xs types nodes t e z }
 
   -- the test of entry `i`
   types-turn : (i : ℕ) (terms functions : List ℕ) → i < length types
@@ -126,38 +123,43 @@ module _ (xs types : List ℕ) where
       ∙ ap (λ n. require (below i (typesOfType (typeAt xs (getD types i 0)))) 4 (getD types i 0)
       >>= λ lower. testTypes (placesOf types terms functions) n (drop (i + 1) (map (typeAt xs) types))) (let z : suc i ≡ i + 1 = omega arith in z)
 
-  module _ (i at : ℕ) (l : i < length types) (e : at ≡ getD types i 0) (nodes nodes′ free free′ : List ℕ) (S : TypesSo xs types i nodes free) where
-    pub types-more : i < length nodes → i < length free → (r : Bool) → r ≡ true → TypeTested xs at i nodes nodes′ free free′ r → TypesSo xs types (i + 1) nodes′ free′
+  module _ (i at : ℕ) (l : i < length types) (e : at ≡ getD types i 0) (nodes free : List ℕ) (t : Tally) (S : TypesSo xs types i nodes free t) where
+    pub types-more : (nodes′ free′ : List ℕ) (t′ : Tally) → i < length nodes → i < length free → below i (typesOfType (typeAt xs at)) ≡ true
+        → CountMade xs at i nodes nodes′ t t′ → free′ ≡ set free i (freeOf free (typeAt xs at)) → TypesSo xs types (i + 1) nodes′ free′ t′
     unfolding _>>=_ require
-    types-more ln lf r t T =
-        let b : below i (typesOfType (typeAt xs at)) ≡ true = sym (T .answer) ∙ t in record {
-          rest = λ terms functions.
-              S .rest terms functions ∙ types-turn i terms functions l
-              ∙ ap (λ b. require b 4 (getD types i 0) >>= λ lower. testTypes (placesOf types terms functions) (i + 1) (drop (i + 1) (map (typeAt xs) types)))
-              (ap (λ at. below i (typesOfType (typeAt xs at))) (sym e) ∙ b);
-          nodes-front = ap (λ n. take n nodes′) (add-one i)
-              ∙ noted-more nodesOf nodes-lowers i nodes nodes′ (take i (map (typeAt xs) types)) (typeAt xs at) ln b (S .nodes-front) (T .nodes-noted t)
-              ∙ ap (λ at. figures nodesOf [] (take i (map (typeAt xs) types) ++ (typeAt xs at ∷ []))) e ∙ ap (figures nodesOf []) (sym (entries-to (typeAt xs) types i l));
-          free-front = ap (λ n. take n free′) (add-one i)
-              ∙ noted-more freeOf free-lowers i free free′ (take i (map (typeAt xs) types)) (typeAt xs at) lf b (S .free-front) (T .free-noted t)
-              ∙ ap (λ at. figures freeOf [] (take i (map (typeAt xs) types) ++ (typeAt xs at ∷ []))) e ∙ ap (figures freeOf []) (sym (entries-to (typeAt xs) types i l));
-        }
+    types-more nodes′ free′ t′ ln lf b C f = record {
+      rest = λ terms functions.
+          S .rest terms functions ∙ types-turn i terms functions l
+          ∙ ap (λ b. require b 4 (getD types i 0) >>= λ lower. testTypes (placesOf types terms functions) (i + 1) (drop (i + 1) (map (typeAt xs) types)))
+          (ap (λ at. below i (typesOfType (typeAt xs at))) (sym e) ∙ b);
+      nodes-front = ap (λ n. take n nodes′) (add-one i)
+          ∙ noted-more nodesOf nodes-lowers i nodes nodes′ (take i (map (typeAt xs) types)) (typeAt xs at) ln b (S .nodes-front) (C .keeps)
+          ∙ ap (λ at. figures nodesOf [] (take i (map (typeAt xs) types) ++ (typeAt xs at ∷ []))) e
+          ∙ ap (figures nodesOf []) (sym (entries-to (typeAt xs) types i l));
+      free-front = ap (λ n. take n free′) (add-one i)
+          ∙ noted-more freeOf free-lowers i free free′ (take i (map (typeAt xs) types)) (typeAt xs at) lf b (S .free-front) f
+          ∙ ap (λ at. figures freeOf [] (take i (map (typeAt xs) types) ++ (typeAt xs at ∷ []))) e
+          ∙ ap (figures freeOf []) (sym (entries-to (typeAt xs) types i l));
+      counts = counts-more xs types i at l e (S .counts) b C;
+    }
 
-    pub types-stop : (r : Bool) → r ≡ false → TypeTested xs at i nodes nodes′ free free′ r → TypesTested xs types nodes′ free′ (BadReference at)
+    pub types-stop : (r : Bool) → r ≡ below i (typesOfType (typeAt xs at)) → r ≡ false
+        → TypesTested xs types nodes free (record { verdict = BadReference at; tally = t })
     unfolding _>>=_ require
-    types-stop r t T = record {
+    types-stop r a q = record {
       answer = λ terms functions.
           sym (S .rest terms functions ∙ types-turn i terms functions l
           ∙ ap (λ b. require b 4 (getD types i 0) >>= λ lower. testTypes (placesOf types terms functions) (i + 1) (drop (i + 1) (map (typeAt xs) types)))
-          (ap (λ at. below i (typesOfType (typeAt xs at))) (sym e) ∙ sym (T .answer) ∙ t)
+          (ap (λ at. below i (typesOfType (typeAt xs at))) (sym e) ∙ sym a ∙ q)
           ∙ ap (refused 4) (sym e));
       measured = λ q. absurd (refused≢accepted q);
+      tallied = counts-tallied xs types i nodes t (omega arith) (S .nodes-front) (S .counts);
     }
 
-  pub types-end : (i : ℕ) (nodes free : List ℕ) → i ≤ length types → length types ≤ i → length types ≤ length nodes → length types ≤ length free → TypesSo xs types i nodes free
-      → TypesTested xs types nodes free Sound
+  pub types-end : (i : ℕ) (nodes free : List ℕ) (t : Tally) → i ≤ length types → length types ≤ i → length types ≤ length nodes → length types ≤ length free
+      → TypesSo xs types i nodes free t → TypesTested xs types nodes free (record { verdict = Sound; tally = t })
   unfolding testTypes
-  types-end i nodes free l l′ ln lf S = record {
+  types-end i nodes free t l l′ ln lf S = record {
     answer = λ terms functions. sym (passed terms functions);
     measured = λ q. record {
       types-lower = lower (placesOf types [] []) ys (passed [] []);
@@ -166,6 +168,7 @@ module _ (xs types : List ℕ) where
       nodes-room = omega (arith, same);
       free-room = omega (arith, same);
     };
+    tallied = counts-tallied xs types i nodes t l (S .nodes-front) (S .counts);
   }
     where
       ys : List TypeEntry

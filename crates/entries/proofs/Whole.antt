@@ -1,7 +1,7 @@
 -- All tests on entries, one tag after another.
 use Prim.Native.Nat.{ℕ, _≤_}
 use native.Mathlib.Omega.{arith}
-use mathlib.Core.Path.{_≡_, sym, ap, subst, _∙_}
+use mathlib.Core.Path.{_≡_, refl, sym, ap, subst, _∙_}
 use mathlib.Core.List.{List, [], map}
 use lib.ListN.{length, take, replicate, length-replicate, getD-replicate, length-map}
 use lib.Dec.{ltb}
@@ -9,14 +9,18 @@ use package.Rattle.rules.specs.Limits.{maxTypes, maxTerms}
 use package.Rattle.calls.specs.Answer.{Answer, refused, _>>=_}
 use package.Rattle.calls.specs.Entries.{typeAt, entriesAt}
 use package.Rattle.calls.specs.Named.{member, testEntries}
+use package.Rattle.calls.specs.Figures.{nodesOf, figures}
 use package.Rattle.calls.proofs.Answer.{refused≢accepted}
+use package.Rattle.calls.proofs.Trees.{entries-good}
 use package.Rattle.program.specs.Places.{placesOf, Placed}
 use package.Rattle.program.specs.Parts.{Formed}
 use package.Rattle.entries.specs.Marks.{Marks, Measured}
 use package.Rattle.entries.specs.Tested.{verdictOf, entriesOf, TypesTested, Ready, Ends, usesAnswer, EntriesTested}
+use package.Rattle.entries.specs.declared.testing.Tested.{Tested}
 use package.Rattle.entries.specs.declared.testing.Verdict.{Verdict}
 use package.Rattle.entries.specs.declared.testing.Verdict.the-variants.{Sound, BadReference, BadType}
 use package.Rattle.program.proofs.Inside.{formed}
+use package.Rattle.entries.proofs.Tallies.{named-counted}
 
 ----------------------------------------------------------------
 -- What follows tests that end
@@ -57,23 +61,42 @@ module _ {xs types terms functions : List ℕ} (P : Placed xs types terms functi
   pub types-few : length types ≤ maxTypes
   types-few = placed-formed .few-types
 
-pub types-sound : (xs types nodes free : List ℕ) (v : Verdict) → TypesTested xs types nodes free v → v ≡ Sound → Measured (map (typeAt xs) types) nodes free
-types-sound xs types nodes free v T s = T .measured (ap verdictOf s)
+pub types-sound : (xs types nodes free : List ℕ) (r : Tested) → TypesTested xs types nodes free r → r .verdict ≡ Sound
+    → Measured (map (typeAt xs) types) nodes free
+types-sound xs types nodes free r T s = T .measured (ap verdictOf s)
 
-module _ (xs types terms functions nodes free : List ℕ) (v : Verdict) (T : TypesTested xs types nodes free v) where
-  pub entries-sound : v ≡ Sound → (r : Verdict) → verdictOf r ≡ usesAnswer xs types terms functions → EntriesTested xs types terms functions nodes r
+module _ (xs types terms functions nodes free : List ℕ) (r : Tested) (T : TypesTested xs types nodes free r) where
+  -- the types' tally stands
+  pub entries-sound : r .verdict ≡ Sound → (v : Verdict) → verdictOf v ≡ usesAnswer xs types terms functions
+      → EntriesTested xs types terms functions nodes (record { verdict = v; tally = r .tally })
   unfolding testEntries entriesAt _>>=_
-  entries-sound s r a = record {
-    answer = a ∙ ap (λ t. t >>= λ lower. usesAnswer xs types terms functions) (ap verdictOf (sym s) ∙ T .answer terms functions);
-    counted = λ e. ap (λ n. take n nodes) (sym (length-map types (typeAt xs))) ∙ types-sound xs types nodes free v T s .nodes-front;
+  entries-sound s v a = record {
+    answer = answered;
+    counted = λ e. ap (λ n. take n nodes) (sym (length-map types (typeAt xs))) ∙ fronts;
+    tallied = T .tallied;
+    named = λ e. named-counted (entriesOf xs types terms functions) nodes (entries-good _ _ (sym answered ∙ e)) fronts;
+  }
+    where
+      answered : verdictOf v ≡ testEntries (placesOf types terms functions) (entriesOf xs types terms functions)
+      answered = a ∙ ap (λ t. t >>= λ lower. usesAnswer xs types terms functions) (ap verdictOf (sym s) ∙ T .answer terms functions)
+
+      fronts : take (length (map (typeAt xs) types)) nodes ≡ figures nodesOf [] (map (typeAt xs) types)
+      fronts = types-sound xs types nodes free r T s .nodes-front
+
+  refuses : (v : Verdict) (n at : ℕ) → r .verdict ≡ v → verdictOf v ≡ refused n at
+      → EntriesTested xs types terms functions nodes (record { verdict = v; tally = r .tally })
+  unfolding testEntries entriesAt _>>=_
+  refuses v n at s e = record {
+    answer = e ∙ ap (λ t. t >>= λ lower. usesAnswer xs types terms functions) (sym (ap verdictOf s ∙ e) ∙ T .answer terms functions);
+    counted = λ q. absurd (refused≢accepted (sym e ∙ q));
+    tallied = T .tallied;
+    named = λ q. absurd (refused≢accepted (sym e ∙ q));
   }
 
-  refuses : (n at : ℕ) → verdictOf v ≡ refused n at → refused n at ≡ testEntries (placesOf types terms functions) (entriesOf xs types terms functions)
-  unfolding testEntries entriesAt _>>=_
-  refuses n at e = ap (λ t. t >>= λ lower. usesAnswer xs types terms functions) (sym e ∙ T .answer terms functions)
+  pub entries-bad-reference : (at : ℕ) → r .verdict ≡ BadReference at
+      → EntriesTested xs types terms functions nodes (record { verdict = BadReference at; tally = r .tally })
+  entries-bad-reference at s = refuses (BadReference at) 4 at s refl
 
-  pub entries-bad-reference : (at : ℕ) → v ≡ BadReference at → EntriesTested xs types terms functions nodes (BadReference at)
-  entries-bad-reference at s = record { answer = refuses 4 at (ap verdictOf s); counted = λ e. absurd (refused≢accepted e) }
-
-  pub entries-bad-type : (at : ℕ) → v ≡ BadType at → EntriesTested xs types terms functions nodes (BadType at)
-  entries-bad-type at s = record { answer = refuses 5 at (ap verdictOf s); counted = λ e. absurd (refused≢accepted e) }
+  pub entries-bad-type : (at : ℕ) → r .verdict ≡ BadType at
+      → EntriesTested xs types terms functions nodes (record { verdict = BadType at; tally = r .tally })
+  entries-bad-type at s = refuses (BadType at) 5 at s refl

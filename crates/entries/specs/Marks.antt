@@ -4,11 +4,11 @@ use Prim.Native.Nat.{ℕ, _≤_, _<_}
 use mathlib.Core.Path.{_≡_}
 use mathlib.Core.Bool.{Bool, true, _&&_}
 use mathlib.Core.List.{List, [], _∷_, _++_}
-use lib.ListN.{length, getD, set, take}
+use lib.ListN.{length, getD, take}
 use lib.Dec.{eqb, ltb, leb}
 use package.Rattle.rules.specs.Limits.{maxNodes}
-use package.Rattle.calls.specs.Entries.{TypeEntry, typeAt}
-use package.Rattle.calls.specs.Named.{typesOfType, below, member, fresh}
+use package.Rattle.calls.specs.Entries.{TypeEntry}
+use package.Rattle.calls.specs.Named.{member, fresh}
 use package.Rattle.calls.specs.Figures.{nodesOf, freeOf, figures}
 use package.Rattle.calls.specs.Closed.{Lower}
 
@@ -35,12 +35,6 @@ unfoldable pub allPlainIn : List ℕ → List ℕ → List ℕ → Bool
 unfolding plainIn
 allPlainIn nodes free [] = true
 allPlainIn nodes free (i ∷ is) = plainIn nodes free i && allPlainIn nodes free is
-
--- Type entry `i` at `at` is tested: it names lower types alone, and if so its figures are noted.
-pub record TypeTested (xs : List ℕ) (at i : ℕ) (nodes nodes′ free free′ : List ℕ) (r : Bool) : Type 0 where
-  pub answer : r ≡ below i (typesOfType (typeAt xs at))
-  pub nodes-noted : r ≡ true → nodes′ ≡ set nodes i (nodesOf nodes (typeAt xs at))
-  pub free-noted : r ≡ true → free′ ≡ set free i (freeOf free (typeAt xs at))
 
 -- the fronts of the arrays have the figures of the entries `ys`, which each name lower ones
 pub record Measured (ys : List TypeEntry) (nodes free : List ℕ) : Type 0 where

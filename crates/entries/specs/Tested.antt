@@ -10,9 +10,11 @@ use package.Rattle.calls.specs.Named.{typesOfTerm, termsOfTerm, functionsOfTerm
 use package.Rattle.calls.specs.Figures.{nodesOf, figures}
 use package.Rattle.entries.specs.declared.testing.Verdict.{Verdict}
 use package.Rattle.entries.specs.declared.testing.Verdict.the-variants.{Sound, BadReference, BadType}
+use package.Rattle.entries.specs.declared.testing.Tested.{Tested}
 use package.Rattle.program.specs.Places.{placesOf}
 use package.Rattle.program.specs.Parts.{Formed}
 use package.Rattle.entries.specs.Marks.{Marks, Measured, allPlainIn}
+use package.Rattle.entries.specs.Tally.{Tallied, NamedCounted}
 
 -- the answer in the definitions' terms
 abbrev pub verdictOf : Verdict → Answer (Unit {0})
@@ -27,10 +29,11 @@ entriesOf xs types terms functions = entriesAt xs (placesOf types terms function
 ----------------------------------------------------------------
 -- Types
 
--- The type entries are tested; if they are sound, their figures are noted.
-pub record TypesTested (xs types nodes free : List ℕ) (r : Verdict) : Type 0 where
-  pub answer : (terms functions : List ℕ) → verdictOf r ≡ testTypes (placesOf types terms functions) 0 (map (typeAt xs) types)
-  pub measured : verdictOf r ≡ accepted tt → Measured (map (typeAt xs) types) nodes free
+-- The type entries are tested; if they are sound, their figures are noted. Either way the tally is that of the counts.
+pub record TypesTested (xs types nodes free : List ℕ) (r : Tested) : Type 0 where
+  pub answer : (terms functions : List ℕ) → verdictOf (r .verdict) ≡ testTypes (placesOf types terms functions) 0 (map (typeAt xs) types)
+  pub measured : verdictOf (r .verdict) ≡ accepted tt → Measured (map (typeAt xs) types) nodes free
+  pub tallied : Tallied xs types nodes (r .tally)
 
 ----------------------------------------------------------------
 -- One term or function
@@ -92,7 +95,9 @@ bodiesAnswer xs types terms functions used =
 abbrev pub usesAnswer : List ℕ → List ℕ → List ℕ → List ℕ → Answer (Unit {0})
 usesAnswer xs types terms functions = termsAnswer xs types terms functions [] >>= λ inTerms. bodiesAnswer xs types terms functions inTerms
 
--- The entries are tested; if they are sound, `nodes` has the nodes of each type entry.
-pub record EntriesTested (xs types terms functions nodes : List ℕ) (r : Verdict) : Type 0 where
-  pub answer : verdictOf r ≡ testEntries (placesOf types terms functions) (entriesOf xs types terms functions)
-  pub counted : verdictOf r ≡ accepted tt → take (length types) nodes ≡ figures nodesOf [] (map (typeAt xs) types)
+-- The entries are tested; if they are sound, `nodes` has the nodes of each type entry. Either way the tally is that of the counts (02, F-4).
+pub record EntriesTested (xs types terms functions nodes : List ℕ) (r : Tested) : Type 0 where
+  pub answer : verdictOf (r .verdict) ≡ testEntries (placesOf types terms functions) (entriesOf xs types terms functions)
+  pub counted : verdictOf (r .verdict) ≡ accepted tt → take (length types) nodes ≡ figures nodesOf [] (map (typeAt xs) types)
+  pub tallied : Tallied xs types nodes (r .tally)
+  pub named : verdictOf (r .verdict) ≡ accepted tt → NamedCounted (entriesOf xs types terms functions) nodes

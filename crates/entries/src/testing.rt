@@ -2,6 +2,7 @@
 // 4 and 5), against calls/specs/Named. Of each type entry the nodes and what would close it are counted once, bottom up, in arrays
 // of one number an entry; of each term entry how often it is used. So the cost is linear in the entries.
 use crate::measures;
+use crate::measures::Tally;
 use program::views;
 use rules::MAX_NODES;
 use rules::MAX_TERMS;
@@ -12,10 +13,11 @@ ghost use mathlib.Core.List.{List, [], _∷_, map};
 ghost use Prim.Native.Nat.{ℕ, _+_, _*_, _≤_, _<_};
 ghost use lib.ListN.{length, getD};
 ghost use Rattle.calls.specs.Entries.{typeAt, termAt, functionAt, references};
-ghost use Rattle.calls.specs.Named.{termsOfTerm, typesOfFunction, below};
+ghost use Rattle.calls.specs.Named.{typesOfType, termsOfTerm, typesOfFunction, below};
 ghost use Rattle.program.specs.Parts.{TypeField, TermField, FunctionField, Formed};
 ghost use Rattle.program.specs.Places.{placesOf, Placed};
-ghost use Rattle.entries.specs.Marks.{Marks, allPlainIn, Used, TypeTested, Measured};
+ghost use Rattle.entries.specs.Marks.{Marks, allPlainIn, Used, Measured};
+ghost use Rattle.entries.specs.Tally.{noCounts};
 ghost use Rattle.entries.specs.Tested.{verdictOf, TypesTested, termAnswer, functionAnswer, EntryTested, Ready, Ends, termsAnswer, functionsAnswer, UsedTested, bodiesAnswer, usesAnswer, EntriesTested};
 
 // Runs of `n` references from offset `from` on.
@@ -85,37 +87,46 @@ pub enum Verdict {
     BadType(usize),
 }
 
-// Tests type entry `i`, at `at`, and notes its figures.
-fn test_type(p: &[u8], i: usize, at: usize, nodes: &mut [u16], free: &mut [u16]) -> bool
-    requires { ⌜ TypeField (now p) at ⌝ }
-    requires { ⌜ (i < length (now nodes)) × (i < length (now free)) ⌝ }
-    ensures { λ r. ⌜ TypeTested (now (p .entry)) at i (now (nodes .entry)) (now (nodes .exit)) (now (free .entry)) (now (free .exit)) r ⌝ }
-{
-    let n = views::types_in_type(p, at);
-    if !all_below(p, at + 4, n, i) {
-        return false;
-    }
-    let m = measures::nodes_of(p, at, nodes);
-    nodes[i] = m;
-    let f = measures::free_of(p, at, free);
-    free[i] = f;
-    true
+// The same, with the tally of the counts of nodes (document 02, F-4).
+pub struct Tested {
+    pub verdict: Verdict,
+    pub tally: Tally,
 }
 
-fn test_types(p: &[u8], types: &[u16], nodes: &mut [u16], free: &mut [u16]) -> Verdict
+// Does type entry `i`, at `at`, name lower types alone?
+fn test_type(p: &[u8], i: usize, at: usize) -> bool
+    requires { ⌜ TypeField (now p) at ⌝ }
+    ensures { λ r. ⌜ r ≡ below i (typesOfType (typeAt (now (p .entry)) at)) ⌝ }
+{
+    let n = views::types_in_type(p, at);
+    all_below(p, at + 4, n, i)
+}
+
+// Tests the type entries, and notes the figures of each.
+fn test_types(p: &[u8], types: &[u16], nodes: &mut [u16], free: &mut [u16]) -> Tested
     requires { ⌜ ((i : ℕ) → i < length (now types) → TypeField (now p) (getD (now types) i 0)) ⌝ }
+    requires { ⌜ now nodes ≡ noCounts ⌝ }
     requires { ⌜ (length (now types) ≤ length (now nodes)) × (length (now types) ≤ length (now free)) ⌝ }
     ensures { λ r. ⌜ TypesTested (now (p .entry)) (now (types .entry)) (now (nodes .exit)) (now (free .exit)) r ⌝ }
 {
+    let mut tally = Tally { counted: 0 };
     let mut i = 0;
     while i < types.len() {
         let at = octets::wide_index(types[i]);
-        if !test_type(p, i, at, nodes, free) {
-            return Verdict::BadReference(at);
+        if !test_type(p, i, at) {
+            return Tested {
+                verdict: Verdict::BadReference(at),
+                tally,
+            };
         }
+        tally = measures::count_nodes(p, i, at, nodes, tally);
+        measures::note_free(p, i, at, free);
         i += 1;
     }
-    Verdict::Sound
+    Tested {
+        verdict: Verdict::Sound,
+        tally,
+    }
 }
 
 // Tests term entry `k`, at `at`, of a program of so many types and functions, and notes the terms that it uses.
@@ -325,24 +336,35 @@ fn test_uses(
     }
 }
 
-// The tests on the entries of a program whose fields are read. If the entries are sound, `nodes` has the nodes of each type, to be
-// counted no more.
+// The tests on the entries of a program whose fields are read. `nodes` is left with the counts that were made: if the entries are sound, that
+// of each type, to be counted no more.
 pub fn test_entries(
     p: &[u8],
     types: &[u16],
     terms: &[u16],
     functions: &[u16],
     nodes: &mut [u16],
-) -> Verdict
+) -> Tested
     requires { ⌜ Placed (now p) (now types) (now terms) (now functions) ⌝ }
-    requires { ⌜ length (now types) ≤ length (now nodes) ⌝ }
+    requires { ⌜ now nodes ≡ noCounts ⌝ }
     ensures { λ r. ⌜ EntriesTested (now (p .entry)) (now (types .entry)) (now (terms .entry)) (now (functions .entry)) (now (nodes .exit)) r ⌝ }
 {
     let mut free = [0u16; MAX_TYPES];
-    let v = test_types(p, types, nodes, &mut free);
+    let t = test_types(p, types, nodes, &mut free);
+    let v = t.verdict;
+    let tally = t.tally;
     match v {
-        Verdict::Sound => test_uses(p, types, terms, functions, nodes, &free),
-        Verdict::BadReference(place) => Verdict::BadReference(place),
-        Verdict::BadType(place) => Verdict::BadType(place),
+        Verdict::Sound => {
+            let verdict = test_uses(p, types, terms, functions, nodes, &free);
+            Tested { verdict, tally }
+        }
+        Verdict::BadReference(place) => Tested {
+            verdict: Verdict::BadReference(place),
+            tally,
+        },
+        Verdict::BadType(place) => Tested {
+            verdict: Verdict::BadType(place),
+            tally,
+        },
     }
 }

@@ -24,7 +24,7 @@ use package.Rattle.program.specs.declared.fields.Fields.{Fields}
 use package.Rattle.program.specs.declared.fields.Fields.the-variants.{Read, Malformed, Over}
 use package.Rattle.program.proofs.Inside.{formed}
 use package.Rattle.entries.specs.Tested as entries
-use package.Rattle.entries.specs.declared.testing.Verdict as tests
+use package.Rattle.entries.specs.declared.testing.Tested.{Tested}
 use package.Rattle.entries.specs.declared.testing.Verdict.the-variants.{Sound}
 use package.Rattle.types.specs.Codes.{nodeBytes}
 use package.Rattle.typing.specs.Checked.{Typeable, typingAnswer}
@@ -72,9 +72,10 @@ module _ {xs types terms functions nodes heap : List ℕ} (T : Typeable xs types
 ----------------------------------------------------------------
 -- Row Entries
 
-module _ {xs types terms functions nodes : List ℕ} (P : Placed xs types terms functions) (v : tests.Verdict)
-    (answered : entries.EntriesTested xs types terms functions nodes v) where
-  pub examine-sound : v ≡ Sound → length nodes ≡ maxTypes → (heap : List ℕ) → nodeBytes * maxTerms ≤ length heap → Typeable xs types terms functions nodes heap
+module _ {xs types terms functions nodes : List ℕ} (P : Placed xs types terms functions) (t : Tested)
+    (answered : entries.EntriesTested xs types terms functions nodes t) where
+  pub examine-sound : t .verdict ≡ Sound → length nodes ≡ maxTypes → (heap : List ℕ) → nodeBytes * maxTerms ≤ length heap
+      → Typeable xs types terms functions nodes heap
   examine-sound e l heap room = record {
     read = P;
     tested = sym (answered .answer) ∙ ap entries.verdictOf e;
@@ -83,17 +84,13 @@ module _ {xs types terms functions nodes : List ℕ} (P : Placed xs types terms 
     room = room;
   }
 
-  pub examine-refused : (r : Refusal) → entries.verdictOf v ≡ refused (numberOf r) (placeOf r) → 2 ≤ numberOf r → {table : List (List ℕ)} {c : Counts}
-      → Examined (loaded.Refused r) c xs types terms functions table
+  pub examine-refused : (r : Refusal) → entries.verdictOf (t .verdict) ≡ refused (numberOf r) (placeOf r) → 2 ≤ numberOf r
+      → {table : List (List ℕ)} {c : Counts} → Examined (loaded.Refused r) c xs types terms functions table
   unfolding load
   examine-refused r e l = record { answer = stopped; later = later-refused stopped l; ready = tt }
     where
       stopped : load xs ≡ refused (numberOf r) (placeOf r)
       stopped = via _ (P .read) (stops _ (sym (answered .answer) ∙ e))
-
--- the nodes of each type have their place
-pub types-held : {xs types terms functions : List ℕ} → Placed xs types terms functions → length types ≤ maxTypes
-types-held {xs} P = formed xs (P .read) .few-types
 
 ----------------------------------------------------------------
 -- Row Field reading

@@ -2,6 +2,7 @@
 // calls/specs/Load. The offsets of the entries' fields stand in buffers that the caller lends, so that a run finds them there, and the functions'
 // signatures in a table that it lends, so that admission asks it.
 use answers::Refusal;
+use entries::measures::Tally;
 use entries::testing;
 use program::fields;
 use program::fields::Counts;
@@ -18,6 +19,7 @@ ghost use Rattle.program.specs.Signatures.{unsigned, SignaturesAre};
 ghost use Rattle.types.specs.Codes.{nodeBytes};
 ghost use Rattle.typing.specs.Checked.{Typeable};
 ghost use Rattle.loading.specs.Loading.{Examined, LoadMeans};
+ghost use Rattle.loading.specs.Tally.{Untallied, TallyMeans};
 
 // What loading answers: how many entries of each tag are ready, at the fronts of the buffers, or refusal 2 to 8 at a field's offset.
 pub enum Loaded {
@@ -25,7 +27,27 @@ pub enum Loaded {
     Refused(Refusal),
 }
 
-// Row Typing, for entries that are tested.
+// The same, with the tally of the counts of type nodes that were made, and beside it the table that keeps them (document 02, F-4).
+pub struct TalliedLoad {
+    pub loaded: Loaded,
+    pub tally: Tally,
+    pub counts: [u16; MAX_TYPES],
+}
+
+// No type was counted.
+fn untallied(loaded: Loaded) -> TalliedLoad
+    ensures { λ r. ⌜ Untallied r loaded ⌝ }
+{
+    let tally = Tally { counted: 0 };
+    let counts = [0u16; MAX_TYPES];
+    TalliedLoad {
+        loaded,
+        tally,
+        counts,
+    }
+}
+
+// Row Typing, for entries that are tested. It counts no nodes: it has the counts.
 fn infer(
     p: &[u8],
     counts: Counts,
@@ -58,34 +80,59 @@ fn examine(
     functions: &[u16],
     table: &[[u16; MAX_PARAMETERS]; MAX_FUNCTIONS],
     ws: &mut [u8],
-) -> Loaded
+) -> TalliedLoad
     requires { ⌜ Placed (now p) (now types) (now terms) (now functions) ⌝ }
     requires { ⌜ nodeBytes * maxTerms ≤ length (now ws) ⌝ }
     requires { ⌜ SignaturesAre (now p) (now functions) (now table) ⌝ }
-    ensures { λ r. ⌜ Examined r counts (now (p .entry)) (now (types .entry)) (now (terms .entry)) (now (functions .entry)) (now (table .entry)) ⌝ }
+    ensures { λ r. ⌜ Examined (r .loaded) counts (now (p .entry)) (now (types .entry)) (now (terms .entry)) (now (functions .entry)) (now (table .entry)) ⌝ }
+    ensures { λ r. ⌜ TallyMeans r (now (p .entry)) ⌝ }
 {
     let mut nodes = [0u16; MAX_TYPES];
-    let v = testing::test_entries(p, types, terms, functions, &mut nodes);
+    let t = testing::test_entries(p, types, terms, functions, &mut nodes);
+    let v = t.verdict;
+    let tally = t.tally;
     match v {
-        testing::Verdict::Sound => infer(p, counts, types, terms, functions, table, &nodes, ws),
-        testing::Verdict::BadReference(at) => Loaded::Refused(Refusal::Reference(at)),
-        testing::Verdict::BadType(at) => Loaded::Refused(Refusal::NamedType(at)),
+        testing::Verdict::Sound => {
+            let loaded = infer(p, counts, types, terms, functions, table, &nodes, ws);
+            TalliedLoad {
+                loaded,
+                tally,
+                counts: nodes,
+            }
+        }
+        testing::Verdict::BadReference(at) => {
+            let loaded = Loaded::Refused(Refusal::Reference(at));
+            TalliedLoad {
+                loaded,
+                tally,
+                counts: nodes,
+            }
+        }
+        testing::Verdict::BadType(at) => {
+            let loaded = Loaded::Refused(Refusal::NamedType(at));
+            TalliedLoad {
+                loaded,
+                tally,
+                counts: nodes,
+            }
+        }
     }
 }
 
-// All three rows. The workspace is room for the types that typing makes; the table is left with the signatures of the functions.
-pub fn load(
+// All three rows, with the tally. The workspace is room for the types that typing makes; the table is left with the signatures of the functions.
+pub fn load_tallied(
     p: &[u8],
     types: &mut [u16],
     terms: &mut [u16],
     functions: &mut [u16],
     table: &mut [[u16; MAX_PARAMETERS]; MAX_FUNCTIONS],
     ws: &mut [u8],
-) -> Loaded
+) -> TalliedLoad
     requires { ⌜ Buffers (now types) (now terms) (now functions) ⌝ }
     requires { ⌜ nodeBytes * maxTerms ≤ length (now ws) ⌝ }
     requires { ⌜ now table ≡ unsigned ⌝ }
-    ensures { λ r. ⌜ LoadMeans r (now (p .entry)) (now (types .exit)) (now (terms .exit)) (now (functions .exit)) (now (table .exit)) ⌝ }
+    ensures { λ r. ⌜ LoadMeans (r .loaded) (now (p .entry)) (now (types .exit)) (now (terms .exit)) (now (functions .exit)) (now (table .exit)) ⌝ }
+    ensures { λ r. ⌜ TallyMeans r (now (p .entry)) ⌝ }
 {
     let v = fields::layout(p, types, terms, functions, table);
     match v {
@@ -103,7 +150,25 @@ pub fn load(
                 ws,
             )
         }
-        fields::Fields::Malformed(at) => Loaded::Refused(Refusal::Field(at)),
-        fields::Fields::Over(at) => Loaded::Refused(Refusal::Limit(at)),
+        fields::Fields::Malformed(at) => untallied(Loaded::Refused(Refusal::Field(at))),
+        fields::Fields::Over(at) => untallied(Loaded::Refused(Refusal::Limit(at))),
     }
+}
+
+// All three rows, for callers that do not ask for the tally.
+pub fn load(
+    p: &[u8],
+    types: &mut [u16],
+    terms: &mut [u16],
+    functions: &mut [u16],
+    table: &mut [[u16; MAX_PARAMETERS]; MAX_FUNCTIONS],
+    ws: &mut [u8],
+) -> Loaded
+    requires { ⌜ Buffers (now types) (now terms) (now functions) ⌝ }
+    requires { ⌜ nodeBytes * maxTerms ≤ length (now ws) ⌝ }
+    requires { ⌜ now table ≡ unsigned ⌝ }
+    ensures { λ r. ⌜ LoadMeans r (now (p .entry)) (now (types .exit)) (now (terms .exit)) (now (functions .exit)) (now (table .exit)) ⌝ }
+{
+    let t = load_tallied(p, types, terms, functions, table, ws);
+    t.loaded
 }

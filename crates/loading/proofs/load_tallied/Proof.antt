@@ -1,9 +1,10 @@
-use mathlib.Core.Path.{refl, sym}
+use mathlib.Core.Path.{sym}
 use lib.Seq.{length-take-le}
-use Rattle.loading.proofs.Loading.{fields-placed, types-inside, terms-inside, functions-inside, load-read, load-malformed, load-over}
+use Rattle.loading.proofs.Loading.{fields-placed, types-inside, terms-inside, functions-inside, load-read}
+use Rattle.loading.proofs.Tallies.{malformed-tallied, over-tallied}
 use borrow.Author.Needs.{needs}
-use Rattle.loading.proofs.load.Statement.{statement}
-use Rattle.loading.proofs.load.Tie as tie
+use Rattle.loading.proofs.load_tallied.Statement.{statement}
+use Rattle.loading.proofs.load_tallied.Tie as tie
 
 layout-requires : tie.Need-layout-requires
 layout-requires c κs =
@@ -61,8 +62,14 @@ examine-requires c κs =
 enum-known-v-2 : tie.Need-enum-known-v-2
 enum-known-v-2 c = search needs
 
+untallied-requires : tie.Need-untallied-requires
+untallied-requires c κs = search needs
+
 enum-known-v-3 : tie.Need-enum-known-v-3
 enum-known-v-3 c = search needs
+
+untallied-requires-2 : tie.Need-untallied-requires-2
+untallied-requires-2 c κs = search needs
 
 same-length : tie.Need-same-length
 same-length c = search needs
@@ -81,7 +88,8 @@ returns c =
     let at-examine = c .before .before in
     let at-v = at-examine .before .before .before .before .before .before .before in
     let at-layout = at-v .before .before .before .before .before .before .before .before in
-    load-read _ (at-layout .layout .ensures .0) _ (at-v .v .given .1) _ (at-examine .examine .ensures)
+    let examined = at-examine .examine .ensures in
+    (load-read _ (at-layout .layout .ensures .0) _ (at-v .v .given .1) _ (examined .0), examined .1)
 
 same-length-5 : tie.Need-same-length-5
 same-length-5 c = search needs
@@ -94,9 +102,10 @@ same-length-7 c = search needs
 
 returns-2 : tie.Need-returns-2
 returns-2 c =
-    let at-v2 = c .before in
+    let at-untallied = c in
+    let at-v2 = at-untallied .before .before in
     let at-layout = at-v2 .before .before .before .before .before .before .before .before in
-    load-malformed _ (at-layout .layout .ensures .0) _ (at-v2 .v2 .given .1)
+    malformed-tallied _ (at-layout .layout .ensures .0) _ (at-v2 .v2 .given .1) (at-untallied .untallied .ensures)
 
 same-length-8 : tie.Need-same-length-8
 same-length-8 c = search needs
@@ -108,10 +117,14 @@ same-length-10 : tie.Need-same-length-10
 same-length-10 c = search needs
 
 returns-3 : tie.Need-returns-3
-returns-3 c = load-over _ (c .before .before .before .before .before .before .before .before .before .layout .ensures .0) _ (c .before .v3 .given .1)
+returns-3 c =
+    let at-untallied2 = c in
+    let at-v3 = at-untallied2 .before .before in
+    let at-layout = at-v3 .before .before .before .before .before .before .before .before in
+    over-tallied _ (at-layout .layout .ensures .0) _ (at-v3 .v3 .given .1) (at-untallied2 .untallied2 .ensures)
 
-pub load-spec : {M : Type 1} → statement M
-load-spec =
+pub load-tallied-spec : {M : Type 1} → statement M
+load-tallied-spec =
     tie.close
     (tie.spec
     layout-requires
@@ -124,7 +137,9 @@ load-spec =
     slice-aggregate-examine-3
     examine-requires
     enum-known-v-2
+    untallied-requires
     enum-known-v-3
+    untallied-requires-2
     same-length
     same-length-2
     same-length-3
