@@ -1,7 +1,7 @@
 #!/usr/bin/env bash
 # Makes tests/calls anew. The first 131 calls stay as they are: 31 that each tell two readings of document 01 apart,
 # and 100 others. The rest is made: section 6's cases and the limits, then random calls in three bands of length, then
-# the calls of some lists, steered ones (document 02, F-2) among all of them; after all these the calls of the two
+# the calls of some lists, steered ones (document 02, F-2) and programs over large types (F-4) among them; after all these the calls of the two
 # readers (F-1), from the same sources. The answers of all are the second evaluator's.
 set -euo pipefail
 cd "$(dirname "$0")"
@@ -26,9 +26,9 @@ listed() { "$second" book 4 60 | sed 's/ = .*//'; }
 {
     band 0 100000 131 < "$calls"
     "$second" cases | other_calls
-    "$second" make 1 7100 | other_calls | band 0 1300 1500
-    "$second" make 2 5500 | other_calls | band 2000 4200 240
-    "$second" make 3 35200 | other_calls | band 6000 17000 6
+    "$second" make 1 7100 | other_calls | band 0 1300 1510
+    "$second" make 2 5500 | other_calls | band 2000 4200 300
+    "$second" make 3 35200 | other_calls | band 6000 17000 56
     listed | other_calls | band 0 1300 300
     "$second" cases | reader_calls
     "$second" make 1 7100 | reader_calls | band 0 1300 250

@@ -4,6 +4,7 @@ mod bench;
 mod choose;
 mod compare;
 mod engine;
+mod large;
 mod months;
 mod scripts;
 mod slow;
@@ -20,6 +21,7 @@ usage: harness lines < CALLS         both answer each call, and are compared
        harness steer SEED COUNT      COUNT programs with steering, there and back; enough of them must run both ways
        harness choose SEED COUNT     COUNT programs with cases that choose by an ancilla, there and back; enough of them must run both
                                      ways, and enough of these take a branch that first match would refuse
+       harness large SEED COUNT      COUNT programs over large types; checks of the largest must be fast enough beside the second evaluator
        harness lists SEED COUNT      COUNT lists of journal calls, each on the bytes that the engine left
        harness scripts SEED COUNT    COUNT scripts of journal calls, played whole
        harness months SEED WEEKS STROKES
@@ -41,6 +43,11 @@ fn main() -> ExitCode {
         }
         ["choose", seed, count] => {
             number(seed).and_then(|seed| choose::compare_choosing(seed, number(count)? as usize)).and_then(report)
+        }
+        ["large", seed, count] => {
+            let compared =
+                number(seed).and_then(|seed| report(large::compare_large(seed, number(count)? as usize)));
+            compared.and_then(|()| large::judge())
         }
         ["lists", seed, count] => {
             number(seed).and_then(|seed| report(compare::compare_lists(seed, number(count)? as usize)))

@@ -91,6 +91,16 @@ impl Assembler {
         (self.terms.len() - 1) as u16
     }
 
+    /// How many terms there are.
+    pub fn terms(&self) -> usize {
+        self.terms.len()
+    }
+
+    /// How many types there are.
+    pub fn types(&self) -> usize {
+        self.types.len()
+    }
+
     pub fn bytes(&self) -> Vec<u8> {
         let mut bytes = Vec::new();
         for (tag, entries) in [(1, &self.types), (2, &self.terms), (3, &self.functions)] {

@@ -2,13 +2,14 @@
 
 use crate::calls::{answer, arguments, Answer, Call, ConvertCall, Direction};
 use crate::draft::{boolean, Draft, Function};
+use crate::large::{Family, Large, Program};
 use crate::limits::{self, FUEL};
 use crate::readers::{ReadCall, Reader};
 use crate::run::{run, Start};
 use crate::samples::choosing::{choices_to_the_left, choices_to_the_right};
 use crate::samples::{
-    beside_ancillae, doubled, lets, library, list_bytes, longest_journal, map, nat_bytes, not, reverse, snoc,
-    tuple_bytes, turned,
+    beside_ancillae, doubled, flipped_by_part, lets, library, list_bytes, longest_journal, map, nat_bytes, not,
+    plus, reverse, snoc, tuple_bytes, turned,
 };
 use crate::typing::check;
 use crate::value::Heap;
@@ -153,24 +154,50 @@ fn measure_run(program: &[u8], function: u16, ancillae: &[u8], value: &[u8], dir
 }
 
 fn bench_check() {
-    let (program, terms) = largest_program();
-    let best = best_of(500, || black_box(check(black_box(&program))).is_ok());
-    println!("check of {terms} terms, {} bytes: {:.1} ns a term", program.len(), best / terms as f64);
+    for (program, terms) in [largest_program(), many_functions()] {
+        let best = best_of(500, || black_box(check(black_box(&program))).is_ok());
+        println!("check of {terms} terms, {} bytes: {:.1} ns a term", program.len(), best / terms as f64);
+    }
+    for family in Family::ALL {
+        let Program { bytes, terms, types } = Large::largest(family).program();
+        let best = best_of(100, || black_box(check(black_box(&bytes))).is_ok());
+        let each = best / terms as f64;
+        println!("check of {terms} terms over {types} types, {}: {each:.1} ns a term", family.name());
+    }
 }
 
 /// List functions over and over until the program is near 1,024 terms: its bytes, and its terms.
 pub fn largest_program() -> (Vec<u8>, usize) {
     let element = boolean();
-    let mut functions = vec![not()];
-    let mut terms = functions[0].body.count();
+    filled(|number| match number % 3 {
+        _ if number == 0 => not(),
+        0 => reverse(number, &element, number - 1),
+        1 => map(number, &element, 0),
+        _ => snoc(number, &element),
+    })
+}
+
+/// As many functions as there can be, most of them small, over a few types: what a converter of many fields looks like.
+pub fn many_functions() -> (Vec<u8>, usize) {
+    const FIELDS: usize = 8;
+    let element = boolean();
+    filled(|number| match number % 6 {
+        0 => not(),
+        1 => plus(number),
+        2 => flipped_by_part(),
+        3 => snoc(number, &element),
+        4 => turned(FIELDS),
+        _ => map(number, &element, 0),
+    })
+}
+
+/// Functions by their numbers, until the next would pass a limit: the program's bytes, and its terms.
+fn filled(function: impl Fn(usize) -> Function) -> (Vec<u8>, usize) {
+    let mut functions = Vec::new();
+    let mut terms = 0;
     loop {
-        let number = functions.len();
-        let next = match number % 3 {
-            0 => reverse(number, &element, number - 1),
-            1 => map(number, &element, 0),
-            _ => snoc(number, &element),
-        };
-        if terms + next.body.count() > limits::TERMS || number == limits::FUNCTIONS {
+        let next = function(functions.len());
+        if terms + next.body.count() > limits::TERMS || functions.len() == limits::FUNCTIONS {
             break;
         }
         terms += next.body.count();

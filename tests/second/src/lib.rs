@@ -11,6 +11,7 @@ pub mod draft;
 mod entries;
 mod forward;
 pub mod journal;
+pub mod large;
 pub mod limits;
 pub mod lines;
 pub mod make;

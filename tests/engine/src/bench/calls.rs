@@ -1,9 +1,8 @@
-//! Whole calls: what comes before the first step, short calls lent much fuel, a check, a conversion and its rollback, the two readers.
+//! Whole calls: what comes before the first step, short calls lent much fuel, a conversion and its rollback, the two readers.
 
 use super::measure::*;
 use crate::engine;
 use corefun::foreign;
-use second::bench::largest_program;
 use second::calls::{Call, ConvertCall, Direction, RunCall};
 use second::draft::{nat, variable, Draft, Function};
 use second::limits::{workspace, FUEL, VALUE_BYTES};
@@ -17,7 +16,6 @@ const MICROSECOND: f64 = 1000.0;
 pub fn bench() -> Result<(), String> {
     bench_before_the_first_step()?;
     bench_lent_fuel()?;
-    bench_check()?;
     bench_journal()?;
     bench_readers()
 }
@@ -76,19 +74,6 @@ fn bench_run(name: &str, call: &RunCall, remark: &str) -> Result<(), String> {
 
 fn print_times(name: &str, [engine, second]: [f64; 2], remark: &str) {
     print_row(name, "us a call", engine / MICROSECOND, second / MICROSECOND, remark);
-}
-
-fn bench_check() -> Result<(), String> {
-    let (program, terms) = largest_program();
-    let call = Call::Check { workspace: workspace(0), program: program.clone() };
-    agree(&call)?;
-    let mut space = vec![0; workspace(0)];
-    let mut engine = || {
-        black_box(foreign::check(black_box(&program), &mut space));
-    };
-    let [engine, second] = medians([&mut engine, &mut by_second(call)]).map(|time| time / terms as f64);
-    print_row(&format!("check of {terms} terms"), "ns a term", engine, second, "");
-    Ok(())
 }
 
 /// A conversion of a record of 203 bytes and its rollback, in a buffer of 2,048 bytes, with just the fuel that they need.

@@ -1,13 +1,15 @@
 //! Times of both evaluators in one run, as rows of a table. Nothing is judged here.
 
 mod calls;
+pub mod checks;
 mod compared;
-mod measure;
+pub mod measure;
 mod steps;
 
 pub fn bench() -> Result<(), String> {
     measure::print_head();
     steps::bench()?;
     compared::bench()?;
-    calls::bench()
+    calls::bench()?;
+    checks::bench()
 }

@@ -1,7 +1,8 @@
-//! Calls with a known point: section 6's cases, each limit exactly and one past it, the readers of a journal, steered calls, and choices
-//! by an ancilla.
+//! Calls with a known point: section 6's cases, each limit exactly and one past it, the readers of a journal, steered calls, choices
+//! by an ancilla, and programs over large types.
 
 mod choosing;
+mod large;
 mod limits;
 mod readers;
 mod steering;
@@ -45,6 +46,7 @@ pub fn cases() -> Vec<Call> {
     calls.extend(readers::readings(&program));
     calls.extend(steering::steering());
     calls.extend(choosing::choosing());
+    calls.extend(large::large());
     calls
 }
 

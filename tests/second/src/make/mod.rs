@@ -8,6 +8,7 @@ mod edges;
 pub mod forms;
 mod isos;
 mod journals;
+pub mod large;
 pub mod lists;
 mod readers;
 mod runs;
@@ -26,7 +27,10 @@ use crate::rng::Rng;
 use std::collections::VecDeque;
 use story::Story;
 
-/// Calls in a hundred on programs that are made for choosing by an ancilla.
+/// Calls in a hundred on programs over large types.
+const LARGE: usize = 7;
+
+/// Calls in a hundred of the rest on programs that are made for choosing by an ancilla.
 const CHOOSING: usize = 18;
 
 /// Calls in a hundred of the rest on programs that are made for steering.
@@ -35,8 +39,8 @@ const STEERED: usize = 18;
 /// Calls of readers in a hundred of the rest.
 const READERS: usize = 18;
 
-/// An endless row of calls. The readers' calls and those made for steering and for choosing stand among the others and have generators of
-/// their own, so that what else a seed names stays as it is.
+/// An endless row of calls. The readers' calls, those made for steering and for choosing and those over large types stand among the others
+/// and have generators of their own, so that what else a seed names stays as it is.
 pub struct Maker {
     rng: Rng,
     ready: VecDeque<Call>,
@@ -46,6 +50,8 @@ pub struct Maker {
     ready_steered: VecDeque<Call>,
     choosing: Rng,
     ready_choosing: VecDeque<Call>,
+    large: Rng,
+    ready_large: VecDeque<Call>,
     /// The journal of the newest call that had one, of those that are made for neither steering nor choosing.
     met: Vec<u8>,
 }
@@ -61,8 +67,17 @@ impl Maker {
             ready_steered: VecDeque::new(),
             choosing: Rng::new(!seed.rotate_left(32)),
             ready_choosing: VecDeque::new(),
+            large: Rng::new(seed.rotate_left(16)),
+            ready_large: VecDeque::new(),
             met: Vec::new(),
         }
+    }
+
+    fn large_call(&mut self) -> Option<Call> {
+        if self.ready_large.is_empty() {
+            self.ready_large.extend(large::large_calls(&mut self.large));
+        }
+        self.ready_large.pop_front()
     }
 
     fn choosing_call(&mut self) -> Option<Call> {
@@ -201,6 +216,9 @@ impl Iterator for Maker {
     type Item = Call;
 
     fn next(&mut self) -> Option<Call> {
+        if self.large.chance(LARGE) {
+            return self.large_call();
+        }
         if self.choosing.chance(CHOOSING) {
             return self.choosing_call();
         }
