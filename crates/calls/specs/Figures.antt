@@ -1,6 +1,6 @@
 -- Nodes and free variables of type entries, counted bottom up, as the crates above do it. No claim speaks of it: `plain` (Named) is of trees.
 -- That the figures are those of the trees: proofs/Entries.
-use Prim.Native.Nat.{ℕ, zero, suc, _+_, pred, min, max}
+use Prim.Native.Nat.{ℕ, suc, _+_, pred, min, max}
 use mathlib.Core.List.{List, [], _∷_, _++_}
 use lib.ListN.{getD}
 use package.Rattle.rules.specs.Limits.{maxNodes}

@@ -11,17 +11,16 @@ use rules::MAX_FUNCTIONS;
 use rules::MAX_PARAMETERS;
 use rules::MAX_TERMS;
 use rules::MAX_TYPES;
-ghost use Prim.Native.Nat.{_*_, _≤_};
+ghost use Prim.Native.Nat.{_≤_};
 ghost use lib.ListN.{length};
-ghost use Rattle.rules.specs.Limits.{maxTerms};
-ghost use Rattle.types.specs.Codes.{nodeBytes};
+ghost use Rattle.types.specs.Layout.{typingBytes};
 ghost use Rattle.calls.specs.Runs.{workspaceFor};
 ghost use Rattle.requests.specs.Runs.{Fronts};
 ghost use Rattle.conversions.specs.Turns.{openIn, convertOf, convertIn, rollbackOf, rollbackIn, OpenMeans, TurnMeans, inFronts};
 
 // Open: whether the program is accepted, then the record.
 pub fn open(program: &[u8], record: &[u8], workspace: &mut [u8], journal: &mut [u8]) -> CheckAnswer
-    requires { ⌜ nodeBytes * maxTerms ≤ length (now workspace) ⌝ }
+    requires { ⌜ typingBytes ≤ length (now workspace) ⌝ }
     ensures { λ r. ⌜ OpenMeans r (openIn (now (program .entry)) (now («record» .entry)) (length (now (journal .entry)))) (now (journal .entry)) (now (journal .exit)) ⌝ }
 {
     let checked = requests::checking::check_program(program, workspace);

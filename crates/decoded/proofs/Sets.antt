@@ -5,16 +5,14 @@ use native.Mathlib.Omega.{arith}
 use native.Mathlib.Decide.{ℕ-discrete, decLt}
 use mathlib.Core.Path.{_≡_, refl, sym, ap, ap₂, subst, _∙_}
 use mathlib.Core.Logic.{_⊎_, ⊎-elim, inl as left, inr as right}
-use mathlib.Core.Bool.{Bool, true, _||_, _&&_}
+use mathlib.Core.Bool.{Bool, true, _||_}
 use mathlib.Core.List.{List, [], _∷_, _++_}
 use lib.ListN.{length, getD, set, length-set}
 use lib.Seq.{getD-set-same, getD-set-other}
-use borrow.Author.Tests.{lt-ltb}
 use package.Rattle.rules.specs.Limits.{maxTerms, maxVariables}
-use package.Rattle.rules.proofs.Basics.{given}
 use package.Rattle.calls.specs.Entries.{typeOf, TermEntry, n-case, termTree}
 use package.Rattle.calls.specs.Named.{termsOfTerm, below}
-use package.Rattle.calls.proofs.Entries.{below-head}
+use package.Rattle.calls.proofs.Entries.{below-head, below-wider}
 use package.Rattle.calls.proofs.Trees.{term-unfolds}
 use package.Rattle.program.specs.Kinds.{variableKind, unitKind, pairKind, caseKind, callKind, termKinds}
 use package.Rattle.varsets.specs.declared.Uses.{Uses}
@@ -49,11 +47,6 @@ number-below m code a zero k e l = absurd (omega arith)
 number-below m code a (suc n) zero e l = rw (let z : a + 0 ≡ a = omega arith in z) (below-head m _ _ e .0)
 number-below m code a (suc n) (suc k) e l =
     rw (let z : a + suc k ≡ a + 1 + k = omega arith in z) (number-below m code (a + 1) n k (below-head m _ _ e .1) (omega arith))
-
-below-wider : (m n : ℕ) (is : List ℕ) → m ≤ n → below m is ≡ true → below n is ≡ true
-unfolding below
-below-wider m n [] h e = refl
-below-wider m n (i ∷ is) h e = given (below-head m i is e) λ (l, e₁). ap₂ _&&_ (lt-ltb i n (omega arith)) (below-wider m n is h e₁)
 
 ----------------------------------------------------------------
 -- The union of sets

@@ -1,19 +1,18 @@
 -- Laws of the workspace: its test, which every call makes first, and what it holds afterwards.
-use Prim.Native.Nat.{ℕ, _*_, _≤_}
+use Prim.Native.Nat.{ℕ, _≤_}
 use native.Mathlib.Omega.{arith}
 use mathlib.Core.Path.{_≡_, refl, sym, ap, _∙_}
 use mathlib.Core.Bool.{true, false, cond}
 use mathlib.Core.List.{List}
 use lib.ListN.{length, replicate}
 use lib.Dec.{leb}
-use package.Rattle.rules.specs.Limits.{maxTerms}
 use package.Rattle.rules.proofs.Basics.{eqb-differs}
 use package.Rattle.rules.proofs.Typing.Tests.{leb-sound}
 use package.Rattle.calls.specs.Answer.{Answer, accepted, refused, _>>=_, require, cleared}
 use package.Rattle.calls.specs.Load.{load}
 use package.Rattle.calls.specs.Runs.{Ran, workspaceFor, prepared}
 use package.Rattle.calls.specs.Conversions.{Turned}
-use package.Rattle.types.specs.Codes.{nodeBytes}
+use package.Rattle.types.specs.Layout.{typingBytes}
 use package.Rattle.requests.proofs.Beginning.{enough-types}
 use package.Rattle.answers.specs.Answers.{runAnswer, openAnswer, heldAnswer, summary, Later, accepts, refuses}
 use package.Rattle.answers.specs.declared.RunAnswer.{RunAnswer}
@@ -25,7 +24,7 @@ pub enough-le : (fuel n : ℕ) → leb (workspaceFor fuel) n ≡ true → worksp
 enough-le fuel n e = leb-sound (workspaceFor fuel) n e
 
 -- a workspace that is long enough has room for the types that typing makes
-pub enough-room : (fuel n : ℕ) → leb (workspaceFor fuel) n ≡ true → nodeBytes * maxTerms ≤ n
+pub enough-room : (fuel n : ℕ) → leb (workspaceFor fuel) n ≡ true → typingBytes ≤ n
 enough-room fuel n e = enough-types fuel n (enough-le fuel n e)
 
 pub prepared-enough : (fuel n : ℕ) (xs : List ℕ) → leb (workspaceFor fuel) n ≡ true → prepared xs fuel n ≡ load xs

@@ -3,12 +3,10 @@ use Prim.Native.Nat.{ℕ, suc, _+_, _≤_, _<_, pred, min, max}
 use native.Mathlib.Omega.{arith}
 use native.Mathlib.Numerals.{add-one}
 use mathlib.Core.Path.{_≡_, refl, sym, ap, ap₂, subst, _∙_}
-use mathlib.Core.Bool.{Bool, true, false, and-eq-true-iff}
+use mathlib.Core.Bool.{Bool, true, false}
 use mathlib.Core.List.{List, [], _∷_, _++_, map}
 use lib.ListN.{length, getD, set, take, drop, length-map, List·getD-map, drop-of-length-le}
 use lib.Seq.{take-suc, take-suc-set, take-all, drop-cons, getD-take}
-use lib.Dec.{ltb}
-use borrow.Author.Tests.{lt-ltb}
 use package.Rattle.rules.proofs.Basics.{given}
 use package.Rattle.calls.specs.Answer.{accepted, refused, _>>=_, require}
 use package.Rattle.calls.specs.Entries.{TypeEntry, y-unit, y-prod, y-sum, y-mu, y-var, typeAt, references}
@@ -28,11 +26,6 @@ use package.Rattle.entries.proofs.Tallies.{CountsSo, counts-start, coun
 
 ----------------------------------------------------------------
 -- One entry
-
-pub below-wider : (n m : ℕ) (is : List ℕ) → n ≤ m → below n is ≡ true → below m is ≡ true
-unfolding below
-below-wider n m [] l e = refl
-below-wider n m (i ∷ is) l e = given (below-head n i is e) λ (h, e₁). and-eq-true-iff (ltb i m) (below m is) .1 (lt-ltb i m (omega arith), below-wider n m is l e₁)
 
 module _ {xs : List ℕ} {at : ℕ} (F : TypeField xs at) where
   -- the test of the run is the test of the entry

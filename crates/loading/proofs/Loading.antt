@@ -1,12 +1,12 @@
 -- What each row of the table gives the answer of loading: a refusal that stands, or a row passed.
-use Prim.Native.Nat.{ℕ, _*_, _≤_}
+use Prim.Native.Nat.{ℕ, _≤_}
 use native.Mathlib.Omega.{arith}
 use mathlib.Core.Path.{_≡_, refl, sym, ap, subst, _∙_}
 use mathlib.Core.List.{List}
 use lib.ListN.{length, take}
-use package.Rattle.rules.specs.Limits.{maxTypes, maxTerms, maxVariables, maxNodes}
+use package.Rattle.rules.specs.Limits.{maxTypes, maxVariables, maxNodes}
 use package.Rattle.rules.specs.Typing.{WellTyped}
-use package.Rattle.calls.specs.Answer.{Answer, accepted, refused, _>>=_}
+use package.Rattle.calls.specs.Answer.{Answer, accepted, refused}
 use package.Rattle.calls.specs.Entries.{entriesAt, programOf}
 use package.Rattle.calls.specs.Load.{load}
 use package.Rattle.calls.proofs.Answer.{via, stops}
@@ -26,7 +26,7 @@ use package.Rattle.program.proofs.Inside.{formed}
 use package.Rattle.entries.specs.Tested as entries
 use package.Rattle.entries.specs.declared.testing.Tested.{Tested}
 use package.Rattle.entries.specs.declared.testing.Verdict.the-variants.{Sound}
-use package.Rattle.types.specs.Codes.{nodeBytes}
+use package.Rattle.types.specs.Layout.{typingBytes}
 use package.Rattle.typing.specs.Checked.{Typeable, typingAnswer}
 use package.Rattle.typing.specs.Checked as typing
 use package.Rattle.typing.specs.declared.functions.Verdict as typings
@@ -74,7 +74,7 @@ module _ {xs types terms functions nodes heap : List ℕ} (T : Typeable xs types
 
 module _ {xs types terms functions nodes : List ℕ} (P : Placed xs types terms functions) (t : Tested)
     (answered : entries.EntriesTested xs types terms functions nodes t) where
-  pub examine-sound : t .verdict ≡ Sound → length nodes ≡ maxTypes → (heap : List ℕ) → nodeBytes * maxTerms ≤ length heap
+  pub examine-sound : t .verdict ≡ Sound → length nodes ≡ maxTypes → (heap : List ℕ) → typingBytes ≤ length heap
       → Typeable xs types terms functions nodes heap
   examine-sound e l heap room = record {
     read = P;

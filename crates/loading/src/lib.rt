@@ -10,13 +10,12 @@ use rules::MAX_FUNCTIONS;
 use rules::MAX_PARAMETERS;
 use rules::MAX_TYPES;
 use typing::functions;
-ghost use Prim.Native.Nat.{_*_, _≤_};
+ghost use Prim.Native.Nat.{_≤_};
 ghost use mathlib.Core.Path.{_≡_};
 ghost use lib.ListN.{length};
-ghost use Rattle.rules.specs.Limits.{maxTerms};
 ghost use Rattle.program.specs.Places.{Placed, Buffers};
 ghost use Rattle.program.specs.Signatures.{unsigned, SignaturesAre};
-ghost use Rattle.types.specs.Codes.{nodeBytes};
+ghost use Rattle.types.specs.Layout.{typingBytes};
 ghost use Rattle.typing.specs.Checked.{Typeable};
 ghost use Rattle.loading.specs.Loading.{Examined, LoadMeans};
 ghost use Rattle.loading.specs.Tally.{Untallied, TallyMeans};
@@ -82,7 +81,7 @@ fn examine(
     ws: &mut [u8],
 ) -> TalliedLoad
     requires { ⌜ Placed (now p) (now types) (now terms) (now functions) ⌝ }
-    requires { ⌜ nodeBytes * maxTerms ≤ length (now ws) ⌝ }
+    requires { ⌜ typingBytes ≤ length (now ws) ⌝ }
     requires { ⌜ SignaturesAre (now p) (now functions) (now table) ⌝ }
     ensures { λ r. ⌜ Examined (r .loaded) counts (now (p .entry)) (now (types .entry)) (now (terms .entry)) (now (functions .entry)) (now (table .entry)) ⌝ }
     ensures { λ r. ⌜ TallyMeans r (now (p .entry)) ⌝ }
@@ -129,7 +128,7 @@ pub fn load_tallied(
     ws: &mut [u8],
 ) -> TalliedLoad
     requires { ⌜ Buffers (now types) (now terms) (now functions) ⌝ }
-    requires { ⌜ nodeBytes * maxTerms ≤ length (now ws) ⌝ }
+    requires { ⌜ typingBytes ≤ length (now ws) ⌝ }
     requires { ⌜ now table ≡ unsigned ⌝ }
     ensures { λ r. ⌜ LoadMeans (r .loaded) (now (p .entry)) (now (types .exit)) (now (terms .exit)) (now (functions .exit)) (now (table .exit)) ⌝ }
     ensures { λ r. ⌜ TallyMeans r (now (p .entry)) ⌝ }
@@ -165,7 +164,7 @@ pub fn load(
     ws: &mut [u8],
 ) -> Loaded
     requires { ⌜ Buffers (now types) (now terms) (now functions) ⌝ }
-    requires { ⌜ nodeBytes * maxTerms ≤ length (now ws) ⌝ }
+    requires { ⌜ typingBytes ≤ length (now ws) ⌝ }
     requires { ⌜ now table ≡ unsigned ⌝ }
     ensures { λ r. ⌜ LoadMeans r (now (p .entry)) (now (types .exit)) (now (terms .exit)) (now (functions .exit)) (now (table .exit)) ⌝ }
 {

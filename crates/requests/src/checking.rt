@@ -5,15 +5,14 @@ use rules::MAX_FUNCTIONS;
 use rules::MAX_PARAMETERS;
 use rules::MAX_TERMS;
 use rules::MAX_TYPES;
-ghost use Prim.Native.Nat.{_*_, _≤_};
+ghost use Prim.Native.Nat.{_≤_};
 ghost use lib.ListN.{length};
-ghost use Rattle.rules.specs.Limits.{maxTerms};
-ghost use Rattle.types.specs.Codes.{nodeBytes};
+ghost use Rattle.types.specs.Layout.{typingBytes};
 ghost use Rattle.requests.specs.Calls.{CheckMeans};
 
 // The rows of the program, in a workspace that is long enough and that is left as it comes.
 pub fn check_program(program: &[u8], workspace: &mut [u8]) -> CheckAnswer
-    requires { ⌜ nodeBytes * maxTerms ≤ length (now workspace) ⌝ }
+    requires { ⌜ typingBytes ≤ length (now workspace) ⌝ }
     ensures { λ r. ⌜ CheckMeans r (now (program .entry)) ⌝ }
 {
     let mut types = [0u16; MAX_TYPES];

@@ -1,13 +1,12 @@
 -- The figures of an entry as the code puts them together, by the kind in its field; and looking for a key.
-use Prim.Native.Nat.{ℕ, zero, suc, _+_, _*_, _<_, _≤_, pred, min, max}
+use Prim.Native.Nat.{ℕ, zero, suc, _+_, _<_, _≤_, pred, min, max}
 use native.Mathlib.Omega.{arith}
 use native.Mathlib.Nat.{eq-or-lt-of-le}
 use mathlib.Core.Path.{_≡_, refl, sym, ap, ap₂, subst, _∙_}
 use mathlib.Core.Logic.{⊎-elim}
-use mathlib.Core.Bool.{Bool, true, cond}
+use mathlib.Core.Bool.{true, cond}
 use mathlib.Core.List.{List, [], _∷_}
 use lib.ListN.{length, getD}
-use lib.Dec.{eqb, ltb}
 use borrow.Author.Tests.{eq-eqb, ne-eqb, lt-ltb, le-ltb}
 use package.Rattle.rules.specs.Limits.{maxTypes}
 use package.Rattle.calls.specs.Fields.{kindAt}

@@ -1,14 +1,13 @@
 -- The figures of entries in lent bytes: bytes that agree have the same, and what is put is there.
 use Prim.Native.Nat.{ℕ, _+_, _*_, _<_, _≤_}
 use native.Mathlib.Omega.{arith}
-use mathlib.Core.Path.{_≡_, refl, sym, ap, ap₂, subst, _∙_}
+use mathlib.Core.Path.{_≡_, sym, ap, ap₂, subst, _∙_}
 use mathlib.Core.List.{List}
 use lib.ListN.{length, getD}
 use package.Rattle.octets.specs.Numbers.{get16, put16}
 use package.Rattle.octets.proofs.Puts.{length-put16, put16-other, get16-put16}
-use package.Rattle.rules.specs.Limits.{maxTypes}
 use package.Rattle.calls.specs.Entries.{TypeEntry, typeOf}
-use package.Rattle.types.specs.Layout.{figureBytes, figuresFrom, typingBytes}
+use package.Rattle.types.specs.Layout.{figureBytes, figuresFrom}
 use package.Rattle.types.specs.Figures.{numberAt, freeAt, outerAt, Figured}
 use package.Rattle.types.specs.Numbering.{putFigures}
 

@@ -1,21 +1,21 @@
 -- Keys and figures of one entry, from those of the lower ones: two entries have one key exactly if they are equal as trees; the figures are those
 -- of the tree.
-use Prim.Native.Nat.{ℕ, zero, suc, _+_, _*_, _<_, _≤_, pred, min, max}
+use Prim.Native.Nat.{ℕ, suc, _+_, _*_, _<_, _≤_, pred, min, max}
 use native.Mathlib.Omega.{arith}
 use mathlib.Core.Path.{_≡_, refl, sym, ap, ap₂, _∙_}
 use mathlib.Core.Bool.{Bool, true, false, _&&_, cond, false≢true}
-use mathlib.Core.List.{List, []}
+use mathlib.Core.List.{List}
 use lib.Dec.{eqb, ltb}
 use borrow.Author.Tests.{eq-eqb, ne-eqb, eqb-true}
 use package.Rattle.rules.specs.Limits.{maxTypes}
-use package.Rattle.rules.specs.Ty.{Ty, prod, sum, mu, sameTy}
+use package.Rattle.rules.specs.Ty.{Ty, sameTy}
 use package.Rattle.rules.proofs.Basics.{given, and-both}
 use package.Rattle.rules.proofs.Typing.Tests.{sameTy-refl, sameTy-eq}
 use package.Rattle.calls.specs.Entries.{TypeEntry, y-unit, y-prod, y-sum, y-mu, y-var, typeTree, typeOf}
 use package.Rattle.calls.specs.Named.{below, typesOfType}
 use package.Rattle.calls.specs.Figures.{ceiling, free}
 use package.Rattle.calls.proofs.Entries.{below-head}
-use package.Rattle.types.specs.Figures.{occurs, outer, numberAt, freeAt, outerAt, Figured}
+use package.Rattle.types.specs.Figures.{occurs, outer, numberAt, freeAt, Figured}
 use package.Rattle.types.specs.Numbering.{packed, share, figureOf}
 use package.Rattle.types.proofs.Closing.{outer-part, outer-under, outer-variable}
 

@@ -10,7 +10,7 @@ ghost use Rattle.rules.specs.Ty.{nodes};
 ghost use Rattle.calls.specs.Figures.{ceiling};
 ghost use Rattle.types.specs.Layout.{typingBytes};
 ghost use Rattle.types.specs.Figures.{outerAt};
-ghost use Rattle.types.specs.Codes.{underForm, treeIn, Sources, Known};
+ghost use Rattle.types.specs.Codes.{treeIn, Sources, Known};
 ghost use Rattle.types.specs.Counts.{Counted};
 use crate::codes;
 use crate::codes::Code;

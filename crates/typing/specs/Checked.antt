@@ -1,11 +1,11 @@
 -- What typing the functions of a program answers in code (document 01, section 4, row Typing), against rules/specs/Check and
 -- calls/specs/Load: of all functions, of one, and of one whose body is typed.
-use Prim.Native.Nat.{ℕ, _*_, _≤_, _<_}
+use Prim.Native.Nat.{ℕ, _≤_, _<_}
 use mathlib.Core.Path.{_≡_}
 use mathlib.Core.Bool.{Bool, true, false, _||_}
 use mathlib.Core.List.{List, [], _∷_, map}
 use lib.ListN.{length, getD, take}
-use package.Rattle.rules.specs.Limits.{maxTerms, maxVariables, maxNodes}
+use package.Rattle.rules.specs.Limits.{maxVariables, maxNodes}
 use package.Rattle.rules.specs.Ty.{Ty, isUnit, sameTy}
 use package.Rattle.rules.specs.Typing.{dynamic}
 use package.Rattle.rules.specs.Check.{statics, checkFun, check}

@@ -10,8 +10,7 @@ ghost use mathlib.Core.Path.{_≡_};
 ghost use Prim.Native.Nat.{_+_, _*_, _≤_, _<_};
 ghost use lib.ListN.{length};
 ghost use Rattle.rules.specs.Limits.{maxTerms, maxVariables};
-ghost use Rattle.octets.specs.Numbers.{get16};
-ghost use Rattle.typing.specs.Waiting.{scopeBytes, countAt, cellAt, countIn, Waits, met, markedIn, helpsIn, Settleable, Settles};
+ghost use Rattle.typing.specs.Waiting.{scopeBytes, cellAt, countIn, Waits, met, markedIn, helpsIn, Settleable, Settles};
 
 // How many namings wait stands behind the variables' types.
 const COUNT_AT: usize = VARIABLE_BYTES * MAX_VARIABLES;

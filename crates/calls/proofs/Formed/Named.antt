@@ -2,23 +2,22 @@
 use Prim.Native.Nat.{ℕ, zero, suc, _+_, _≤_, _<_}
 use native.Mathlib.Omega.{arith}
 use native.Mathlib.Decide.{decLt}
-use mathlib.Core.Path.{_≡_, refl, sym, ap, subst, _∙_}
-use mathlib.Core.Bool.{Bool, true, _&&_, _||_, false≢true}
-use mathlib.Core.Option.{some}
+use mathlib.Core.Path.{_≡_, refl, sym, subst}
+use mathlib.Core.Bool.{true, false≢true}
 use mathlib.Core.List.{List, [], _∷_, _++_}
 use mathlib.Core.Logic.{_↔_}
 use lib.ListN.{length, getD}
-use lib.Dec.{eqb, ltb, lt→ltb}
-use package.Rattle.rules.proofs.Basics.{given, and-both, eqb-sound, eqb-yes, or-elim, or-left, or-right, T-true}
-use package.Rattle.calls.specs.Answer.{accepted, _>>=_, require}
+use lib.Dec.{eqb}
+use package.Rattle.rules.proofs.Basics.{given, and-both, eqb-sound, eqb-yes, or-elim, or-left, or-right}
+use package.Rattle.calls.specs.Answer.{accepted}
 use package.Rattle.calls.specs.Fields.{Layout}
 use package.Rattle.calls.specs.Entries.{TypeEntry, y-unit, typeOf, TermEntry, n-unit, FunctionEntry, Entries}
-use package.Rattle.calls.specs.Named.{typesOfType, typesOfTerm, termsOfTerm, functionsOfTerm, typesOfFunction, below, member, fresh, plain, allPlain, testTypes, testTerms, testFunctions, testUsed, testEntries}
-use package.Rattle.calls.specs.Closed.{Plain, Lower, LowerTerms}
+use package.Rattle.calls.specs.Named.{typesOfType, typesOfTerm, termsOfTerm, functionsOfTerm, typesOfFunction, below, member, plain, allPlain, testTypes, testTerms, testFunctions, testUsed, testEntries}
+use package.Rattle.calls.specs.Closed.{Plain, Lower}
 use package.Rattle.calls.specs.Formed.{gathered, typesNamed, termsUsed, times, WellNamed}
 use package.Rattle.calls.proofs.Answer.{accepted-inj, via, unbind, require-yes, required}
-use package.Rattle.calls.proofs.Entries.{below-head, lower, plain-iff}
-use package.Rattle.calls.proofs.Formed.Uses.{times-append, member-times, times-past, Once, fresh-once, once-fresh, below-append, member-append}
+use package.Rattle.calls.proofs.Entries.{below-head, below-wider, lower, plain-iff}
+use package.Rattle.calls.proofs.Formed.Uses.{times-append, member-times, times-past, Once, fresh-once, once-fresh, below-append}
 
 ----------------------------------------------------------------
 -- Plain types, in a list of references that are there
@@ -67,12 +66,6 @@ times-none i = refl
 
 none-used : (i : ℕ) → times i [] ≤ 1
 none-used i = omega (arith, times-none i)
-
-below-wider : (n m : ℕ) (is : List ℕ) → n ≤ m → below n is ≡ true → below m is ≡ true
-unfolding below
-below-wider n m [] l e = refl
-below-wider n m (i ∷ is) l e = given (below-head n i is e) λ (h, e₁).
-    rw (let z : ltb i m ≡ true = T-true (lt→ltb i m (omega arith)) in z, below-wider n m is l e₁)
 
 -- what terms from number `k` on name is there, if each names lower ones
 lower-there : (k n : ℕ) (ts : List TermEntry) → ((i : ℕ) → below (k + i) (termsOfTerm (getD ts i n-unit)) ≡ true) → k + length ts ≤ n

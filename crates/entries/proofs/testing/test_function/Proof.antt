@@ -2,7 +2,7 @@ use native.Mathlib.Omega.{arith}
 use mathlib.Core.Path.{sym, _∙_}
 use borrow.Author.Tests.{not-true, not-false}
 use Rattle.program.proofs.Rooms.{function-room}
-use Rattle.entries.proofs.Types.{below-wider}
+use Rattle.calls.proofs.Entries.{below-wider}
 use Rattle.entries.proofs.Functions.{body-decided, body-noted, type-absent, body-absent, used-before, type-not-plain, function-sound}
 use borrow.Author.Needs.{needs}
 use Rattle.entries.proofs.testing.test_function.Statement.{statement}

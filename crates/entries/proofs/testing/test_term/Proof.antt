@@ -3,7 +3,7 @@ use mathlib.Core.Path.{sym, _∙_}
 use borrow.Author.Tests.{not-true, not-false}
 use Rattle.program.proofs.Rooms.{term-kind-room}
 use Rattle.program.proofs.Lists.{types-in-term, functions-in-term, terms-in-term}
-use Rattle.entries.proofs.Types.{below-wider}
+use Rattle.calls.proofs.Entries.{below-wider}
 use Rattle.entries.proofs.Terms.{types-decided, functions-decided, plain-decided, terms-decided, terms-noted, type-absent, term-not-lower, function-absent, used-before, type-not-plain, term-sound}
 use borrow.Author.Needs.{needs}
 use Rattle.entries.proofs.testing.test_term.Statement.{statement}

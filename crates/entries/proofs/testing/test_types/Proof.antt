@@ -5,7 +5,8 @@ use lib.ListN.{length}
 use borrow.Author.Tests.{not-true, not-false}
 use Rattle.program.specs.Parts.{TypeField}
 use Rattle.entries.proofs.Tallies.{counts-next}
-use Rattle.entries.proofs.Types.{below-wider, TypesSo, types-start, types-more, types-stop, types-end}
+use Rattle.calls.proofs.Entries.{below-wider}
+use Rattle.entries.proofs.Types.{TypesSo, types-start, types-more, types-stop, types-end}
 use borrow.Author.Needs.{needs}
 use Rattle.entries.proofs.testing.test_types.Statement.{statement}
 use Rattle.entries.proofs.testing.test_types.Tie as tie

@@ -1,5 +1,4 @@
 use native.Mathlib.Omega.{arith}
-use mathlib.Core.Path.{_∙_}
 use Rattle.types.proofs.Entering.{entry-asked, numbered-more}
 use borrow.Author.Needs.{needs}
 use Rattle.types.proofs.numbering.enter.Statement.{statement}
