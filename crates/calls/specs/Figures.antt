@@ -1,4 +1,5 @@
--- Nodes and free variables of type entries, counted bottom up, as the crates above do it. No claim speaks of it: `plain` (Named) is of trees.
+-- Nodes and free variables of type entries, counted bottom up, as the crates above do it. No claim of the calls speaks of it, since `plain`
+-- (Named) is of trees; the promise of the tally does (02, F-4).
 -- That the figures are those of the trees: proofs/Entries.
 use Prim.Native.Nat.{ℕ, suc, _+_, pred, min, max}
 use mathlib.Core.List.{List, [], _∷_, _++_}

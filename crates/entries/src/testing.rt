@@ -1,6 +1,6 @@
 // The tests on entries: types, then terms, then functions, then terms that nothing uses (document 01, section 4, row Entries: refusals
-// 4 and 5), against calls/specs/Named. Of each type entry the nodes and what would close it are counted once, bottom up, in arrays
-// of one number an entry; of each term entry how often it is used. So the cost is linear in the entries.
+// 4 and 5), against calls/specs/Named. Of each type entry the nodes are counted once (02, F-4) and what would close it is noted, bottom up, in
+// arrays of one number an entry; of each term entry how often it is used. So the cost is linear in the entries.
 use crate::measures;
 use crate::measures::Tally;
 use program::views;

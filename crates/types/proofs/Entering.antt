@@ -1,5 +1,5 @@
 -- One entry more has its figures: how the number of the new entry goes by the entry that has its key, and what stays of the others.
-use Prim.Native.Nat.{ℕ, _+_, _*_, _<_, _≤_, min}
+use Prim.Native.Nat.{ℕ, suc, _+_, _*_, _<_, _≤_, min}
 use native.Mathlib.Omega.{arith}
 use native.Mathlib.Nat.{eq-or-lt-of-le}
 use mathlib.Core.Path.{_≡_, refl, sym, ap, ap₂, subst, _∙_}
@@ -19,11 +19,11 @@ use package.Rattle.calls.specs.Named.{below, typesOfType}
 use package.Rattle.calls.proofs.Entries.{below-head, below-wider, type-unfolds}
 use package.Rattle.types.specs.Layout.{figureBytes, figuresFrom, typingBytes}
 use package.Rattle.calls.specs.Figures.{ceiling, free}
-use package.Rattle.types.specs.Figures.{outer, numberAt, freeAt, outerAt, Figured}
+use package.Rattle.types.specs.Figures.{outer, numberAt, freeAt, outerAt, standAt, Alias, Figured}
 use package.Rattle.types.specs.Codes.{Readable}
 use package.Rattle.types.specs.declared.numbering.Figure.{Figure}
 use package.Rattle.types.specs.Numbering.{packed, figureOf, numberFrom, putFigures, slots, slotOf, Finds, Numbered}
-use package.Rattle.types.proofs.Figuring.{number-same, figured-same, length-figures, figures-other, number-put, free-put, outer-put}
+use package.Rattle.types.proofs.Figuring.{number-same, figured-same, length-figures, figures-other, number-put, free-put, outer-put, stand-put, alias-kept}
 use package.Rattle.program.specs.Parts.{TypeField}
 use package.Rattle.types.proofs.Outer.{at-place}
 use package.Rattle.types.proofs.Keys.{key-same, figure-free, figure-outer}
@@ -41,6 +41,7 @@ none-numbered held k x = record {
     number-one = λ i j l. absurd (omega arith);
     free-is = λ i l. absurd (omega arith);
     outer-is = λ i l. absurd (omega arith);
+    alias-is = λ i j l. absurd (omega arith);
   };
   keys-held = k;
   index-held = x;
@@ -185,6 +186,9 @@ module _ {xs types heap keys index : List ℕ} {i : ℕ} (R : Readable xs types)
         outer-is = each (λ j. outerAt heap′ j ≡ min ceiling (outer (typeOf ys j))) (older .outer-is)
             (ap (λ heap. outerAt heap i) w ∙ outer-put heap i own (f .free) (f .outer) room outer-fits ∙ ap (λ (f : Figure). f .outer) e
             ∙ figure-outer F few (y i) (lower i (omega arith)) ∙ ap (λ t. min ceiling (outer t)) (sym (unfolds i)));
+        alias-is = λ j m h. each (λ j. standAt heap′ j ≡ suc m → Alias ys heap′ (i + 1) j m)
+            (λ j h t. alias-kept (omega arith) refl (older .alias-is j m h t))
+            (λ t. absurd (omega (arith, t, ap (λ heap. standAt heap i) w, stand-put heap i own (f .free) (f .outer) room))) j h;
       }
 
       ----------------------------------------------------------------

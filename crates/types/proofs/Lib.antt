@@ -29,3 +29,5 @@ pub mod Keys
 pub mod Entering
 -- the figures of an entry as the code puts them together; looking for a key
 pub mod Entries
+-- looking for aliases
+pub mod Tracing

@@ -16,7 +16,7 @@ use package.Rattle.program.specs.Kinds.{unitTypeKind, productKind, recursiveKin
 use package.Rattle.types.specs.declared.codes.Code.{Code}
 use package.Rattle.types.specs.declared.shapes.Shape.{Shape}
 use package.Rattle.types.specs.Layout.{typingBytes}
-use package.Rattle.types.specs.Figures.{closedBy, numberAt, freeAt}
+use package.Rattle.types.specs.Figures.{closedBy, numberAt, freeAt, standAt, aliasAt, Alias}
 use package.Rattle.types.specs.Codes.{unitForm, entryForm, underForm, productForm, entryCode, underCode, leftAt, rightAt, treeIn, Readable, Known, Sources}
 use package.Rattle.types.specs.Shapes.{leaf, part, entryShape, productShape, plainForm, plainShape, Shaped, Settled}
 use package.Rattle.types.proofs.Closing.{closed-itself, closed-variable}
@@ -150,6 +150,19 @@ module _ {xs types heap : List ℕ} {top : ℕ} (S : Sources xs types heap top) 
       pub closed-settled : {r : Code} → freeAt heap i ≡ 0 → r ≡ entryCode i → Settled xs types heap top c r
       closed-settled z q =
           entry-settled c (c .at) at-there (sym (tree-under (map (typeAt xs) types) heap c e ∙ closed-itself τ _ (sym free-at ∙ z))) p q
+
+      -- an alias, for what stands
+      module _ {j : ℕ} (s : j ≡ numberAt heap (c .stands)) {x y z : ℕ} (h : x ≡ standAt heap i) (v : y ≡ x) (w : z ≡ j) (t : y ≡ z + 1) where
+        alias : Alias (map (typeAt xs) types) heap (length types) i j
+        alias = S .figures .alias-is i j (under-there .0) (let one-more : standAt heap i ≡ suc j = omega arith in one-more)
+
+        pub alias-there : {k : ℕ} → k ≡ aliasAt heap i → k < maxTypes
+        alias-there q = omega (arith, q, alias .there, S .entries .few)
+
+        pub alias-settled : {k m : ℕ} {r : Code} → k ≡ aliasAt heap i → m ≡ numberAt heap k → r ≡ entryCode m → Settled xs types heap top c r
+        alias-settled {k} q m r = entry-settled c k (omega (arith, q, alias .there)) (ap (typeOf (map (typeAt xs) types)) q ∙ alias .tree
+            ∙ ap₂ closedBy (ap (typeOf (map (typeAt xs) types)) s ∙ S .figures .number-tree (c .stands) (K .stands e)) same-at
+            ∙ sym (tree-under (map (typeAt xs) types) heap c e)) m r
 
       module _ {j : ℕ} (s : j ≡ numberAt heap (c .stands)) {n at kind : ℕ} (a : n ≡ i) (f : at ≡ getD types n 0) (g : kind ≡ kindAt xs at) where
         kind-under : (d : Code) → d .at ≡ i → kind ≡ entryShape heap (typeAt xs (getD types (d .at) 0)) d .kind

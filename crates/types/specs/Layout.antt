@@ -6,9 +6,10 @@ use package.Rattle.rules.specs.Limits.{maxTypes, maxTerms}
 abbrev pub nodeBytes : ℕ
 nodeBytes = 14
 
--- the figures of an entry: its number, its free variables, how often the outermost of these stands in it
+-- the figures of an entry: its number, its free variables, how often the outermost of these stands in it; then what an alias is kept for, and the
+-- alias: two bytes each
 abbrev pub figureBytes : ℕ
-figureBytes = 6
+figureBytes = 10
 
 -- as many products as there can be terms
 abbrev pub figuresFrom : ℕ

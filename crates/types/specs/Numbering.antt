@@ -1,4 +1,5 @@
--- How the figures of type entries come about, one entry after another, from those of the lower ones. Laws: proofs/Keys, Numbering.
+-- How the figures of type entries come about, one entry after another, from those of the lower ones. Laws: proofs/Keys,
+-- Entering, Tracing.
 use Prim.Native.Nat.{ℕ, suc, _+_, _*_, _%_, _<_, _≤_, pred, min, max}
 use mathlib.Core.Path.{_≡_}
 use mathlib.Core.Bool.{cond}
@@ -12,6 +13,7 @@ use package.Rattle.calls.specs.Figures.{ceiling}
 use package.Rattle.program.specs.Kinds.{unitTypeKind, productKind, sumKind, recursiveKind, typeVariableKind}
 use package.Rattle.types.specs.Layout.{figureBytes, figuresFrom}
 use package.Rattle.types.specs.Figures.{numberAt, freeAt, outerAt, Figured}
+use package.Rattle.types.specs.Codes.{Readable}
 use package.Rattle.types.specs.declared.numbering.Figure.{Figure}
 
 ----------------------------------------------------------------
@@ -51,9 +53,15 @@ figureOf heap (y-var k) = boundOf k
 abbrev pub numberFrom : List ℕ → ℕ → ℕ → ℕ
 numberFrom heap i k = cond (ltb k i) (numberAt heap k) i
 
+-- without an alias
 unfoldable pub putFigures : List ℕ → ℕ → ℕ → ℕ → ℕ → List ℕ
 putFigures heap i number free outer =
-    put16 (put16 (put16 heap (figuresFrom + figureBytes * i) number) (figuresFrom + figureBytes * i + 2) free) (figuresFrom + figureBytes * i + 4) outer
+    put16 (put16 (put16 (put16 heap (figuresFrom + figureBytes * i) number) (figuresFrom + figureBytes * i + 2) free)
+    (figuresFrom + figureBytes * i + 4) outer) (figuresFrom + figureBytes * i + 6) 0
+
+-- the alias of entry `i`, entry `j` standing for its outermost free variable
+unfoldable pub putAlias : List ℕ → ℕ → ℕ → ℕ → List ℕ
+putAlias heap i j alias = put16 (put16 heap (figuresFrom + figureBytes * i + 6) (j + 1)) (figuresFrom + figureBytes * i + 8) alias
 
 ----------------------------------------------------------------
 -- Looking for a key
@@ -69,6 +77,14 @@ pub record Finds (keys : List ℕ) (n key r : ℕ) : Type 0 where
   pub most : r ≤ n
   pub there : r < n → getD keys r 0 ≡ key
   pub none : r ≡ n → (k : ℕ) → k < n → ¬ (getD keys k 0 ≡ key)
+
+-- What looking for aliases goes by: all entries have their figures, and each key's slot is taken.
+pub record Traceable (xs types heap keys index : List ℕ) : Type 0 where
+  pub entries : Readable xs types
+  pub figured : Figured (map (typeAt xs) types) heap (length types)
+  pub keys-held : length keys ≡ maxTypes
+  pub index-held : length index ≡ slots
+  pub taken : (i : ℕ) → i < length types → 0 < getD index (slotOf (getD keys i 0)) 0
 
 -- The first `n` entries have their figures; their keys are kept, and each key's slot is taken.
 pub record Numbered (xs types heap keys index : List ℕ) (n : ℕ) : Type 0 where

@@ -1,6 +1,6 @@
-// How many nodes a type has as a tree, as far as the limit of section 1 lets matter: counting stops one above it. Nothing is counted here (02,
-// F-4): type entries are counted already, products keep their count, and that of an unfolding follows from the counts of the entry and of what
-// stands for its variable, and from how often that variable stands in it.
+// How many nodes a type has as a tree, as far as the limit of section 1 lets matter, from what was counted (02, F-4): type entries have their
+// counts, products keep theirs, and that of an unfolding follows from the counts of the entry and of what stands for its variable, and from how
+// often that variable stands in it. No tree is gone through.
 ghost use mathlib.Core.Path.{_≡_};
 ghost use Prim.Native.Nat.{_+_, _*_, _-_, _≤_, _<_, min};
 ghost use lib.ListN.{length, getD};

@@ -3,7 +3,6 @@
 // own. Where a key is looked for first is told by its slot, so that keys are not compared one by one, unless two fall on one slot.
 ghost use mathlib.Core.Path.{_≡_};
 ghost use mathlib.Core.Bool.{true};
-ghost use mathlib.Core.List.{map};
 ghost use Prim.Native.Nat.{ℕ, _+_, _≤_, _<_, max};
 ghost use lib.ListN.{length, getD};
 ghost use Rattle.rules.specs.Limits.{maxTypes};
@@ -11,19 +10,17 @@ ghost use Rattle.calls.specs.Entries.{typeAt};
 ghost use Rattle.calls.specs.Named.{typesOfType, below};
 ghost use Rattle.program.specs.Parts.{TypeField};
 ghost use Rattle.types.specs.Layout.{typingBytes};
-ghost use Rattle.types.specs.Figures.{Figured};
 ghost use Rattle.types.specs.Codes.{Readable};
 ghost use Rattle.types.specs.Numbering.{slots, slotOf, packed, share, twoOf, recursiveOf, boundOf, figureOf, numberFrom, Finds, Numbered};
 use crate::counting;
 use crate::figures;
 use program::kinds;
 use program::views;
-use rules::MAX_TYPES;
 
 // A prime, some four times as many as there can be entries.
 const SLOTS: u32 = 1021;
 
-const SLOT_COUNT: usize = SLOTS as usize;
+pub const SLOT_COUNT: usize = SLOTS as usize;
 
 pub struct Figure {
     pub key: u32,
@@ -37,7 +34,7 @@ fn slot(key: u32) -> usize
     (key % SLOTS) as usize
 }
 
-fn packed(kind: u8, a: u16, b: u16) -> u32
+pub fn packed(kind: u8, a: u16, b: u16) -> u32
     requires { ⌜ kind ≤ 4 ⌝ }
     ensures { λ r. ⌜ r ≡ packed kind a b ⌝ }
 {
@@ -149,7 +146,7 @@ fn scan(keys: &[u32], n: usize, key: u32) -> usize
 }
 
 // One of `n` keys that is this one; `n` if none is. `index` has one more than the newest entry whose key falls on a slot, 0 where none does.
-fn find(keys: &[u32], index: &[u16], n: usize, key: u32) -> usize
+pub fn find(keys: &[u32], index: &[u16], n: usize, key: u32) -> usize
     requires { ⌜ (n ≤ length (now keys)) × (slots ≤ length (now index)) ⌝ }
     requires { ⌜ ((k : ℕ) → k < n → 0 < getD (now index) (slotOf (getD (now keys) k 0)) 0) ⌝ }
     ensures { λ r. ⌜ Finds (now (keys .entry)) n key r ⌝ }
@@ -197,17 +194,15 @@ fn enter(p: &[u8], types: &[u16], ws: &mut [u8], keys: &mut [u32], index: &mut [
     index[s] = n + 1;
 }
 
-// The figures of the type entries.
-pub fn number_types(p: &[u8], types: &[u16], ws: &mut [u8])
-    requires { ⌜ Readable (now p) (now types) ⌝ }
-    requires { ⌜ typingBytes ≤ length (now ws) ⌝ }
-    ensures { λ _. ⌜ Figured (map (typeAt (now (p .entry))) (now (types .entry))) (now (ws .exit)) (length (now (types .entry))) ⌝ }
+// The figures of the type entries, in keys and slots that are lent.
+pub fn number_types(p: &[u8], types: &[u16], ws: &mut [u8], keys: &mut [u32], index: &mut [u16])
+    requires { ⌜ Readable (now p) (now types) × (typingBytes ≤ length (now ws)) ⌝ }
+    requires { ⌜ (length (now keys) ≡ maxTypes) × (length (now index) ≡ slots) ⌝ }
+    ensures { λ _. ⌜ Numbered (now (p .entry)) (now (types .entry)) (now (ws .exit)) (now (keys .exit)) (now (index .exit)) (length (now (types .entry))) ⌝ }
 {
-    let mut keys = [0u32; MAX_TYPES];
-    let mut index = [0u16; SLOT_COUNT];
     let mut i = 0;
     while i < types.len() {
-        enter(p, types, ws, &mut keys, &mut index, i);
+        enter(p, types, ws, keys, index, i);
         i += 1;
     }
 }

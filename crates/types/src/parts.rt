@@ -14,7 +14,8 @@ use crate::figures;
 use crate::nodes;
 use program::kinds;
 
-// The code of a type in which a variable stands for an entry. Where the entry is closed, or is the variable, it is an entry's.
+// The code of a type in which a variable stands for an entry. Where the entry is closed, has an alias for what stands, or is the variable, it is an
+// entry's.
 fn settled_under(p: &[u8], types: &[u16], ws: &[u8], top: u32, c: Code) -> Code
     requires { ⌜ Sources (now p) (now types) (now ws) top ⌝ }
     requires { ⌜ Known (length (now types)) top c × (c .form ≡ underForm) ⌝ }
@@ -25,6 +26,10 @@ fn settled_under(p: &[u8], types: &[u16], ws: &[u8], top: u32, c: Code) -> Code
         return codes::entry(i);
     }
     let j = figures::number_of(ws, c.stands);
+    if octets::wide32(figures::stand_of(ws, i)) == octets::wide32(j) + 1 {
+        let alias = figures::alias_of(ws, i);
+        return codes::entry(figures::number_of(ws, alias));
+    }
     let at = octets::wide_index(types[octets::wide_index(i)]);
     let kind = program::views::kind(p, at);
     if kind == kinds::TYPE_VARIABLE {

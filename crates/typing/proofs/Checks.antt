@@ -19,7 +19,7 @@ use package.Rattle.calls.specs.Named.{typesOfFunction, below}
 use package.Rattle.calls.specs.Load.{offset, typed}
 use package.Rattle.calls.proofs.Trees.{entries-good}
 use package.Rattle.calls.specs.Tested.{Good}
-use package.Rattle.program.specs.Parts.{FunctionField, Formed, body}
+use package.Rattle.program.specs.Parts.{TermField, FunctionField, Formed, body}
 use package.Rattle.program.specs.Places.{placesOf}
 use package.Rattle.program.specs.Signatures.{SignatureIs}
 use package.Rattle.program.proofs.Inside.{formed}
@@ -92,6 +92,9 @@ module _ {xs types terms functions nodes heap : List ℕ} (Y : Typeable xs types
 
   pub readable-types : Readable xs types
   readable-types = read
+
+  pub term-fields : (t : ℕ) → t < length terms → TermField xs (getD terms t 0)
+  term-fields = fields .terms
 
   pub sources : Figured (map (typeAt xs) types) heap (length types) → Sources xs types heap 0
   sources F = no-products read F

@@ -240,6 +240,6 @@ pub fn check_functions(
     requires { ⌜ SignaturesAre (now p) (now functions) (now table) ⌝ }
     ensures { λ r. ⌜ verdictOf r ≡ typingAnswer (now (p .entry)) (now (types .entry)) (now (terms .entry)) (now (functions .entry)) ⌝ }
 {
-    types::numbering::number_types(p, types, ws);
+    types::aliases::prepare(p, types, terms, ws);
     check_all(p, types, terms, functions, table, nodes, ws)
 }

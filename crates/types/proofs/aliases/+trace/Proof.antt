@@ -1,0 +1,363 @@
+use native.Mathlib.Omega.{arith}
+use mathlib.Core.Path.{_∙_}
+use borrow.Author.Needs.{needs}
+use Rattle.types.proofs.Outer.{kind-there}
+use Rattle.types.proofs.Tracing.{still, figures-asked, own-there, kind-small, first-there, first-falls, both-there, second-falls}
+use Prim.Native.Nat.{ℕ, _<_}
+use borrow.Fn.Kinds.{In}
+use borrow.Fn.PlainCycle.{Measures, is, falls, and}
+use Rattle.types.proofs.aliases.trace.Reads as trace
+use Rattle.types.proofs.aliases.trace.Kinds as trace-kinds
+use Rattle.types.proofs.aliases.+trace.Lts-trace as trace-lts
+use Rattle.octets.proofs.wide32.Reads as wide32-reads
+use Rattle.octets.proofs.wide_index.Reads as wide-index-reads
+use Rattle.program.proofs.views.first.Reads as first-reads
+use Rattle.program.proofs.views.kind.Reads as kind-reads
+use Rattle.program.proofs.views.second.Reads as second-reads
+use Rattle.types.proofs.aliases.keep.Reads as keep-reads
+use Rattle.types.proofs.figures.free_of.Reads as free-of-reads
+use Rattle.types.proofs.figures.number_of.Reads as number-of-reads
+use Rattle.types.proofs.numbering.packed.Reads as packed-reads
+use Rattle.types.proofs.aliases.+trace.{statement}
+use Rattle.types.proofs.aliases.+trace.Tie.{close}
+
+abbrev μ-trace : Measures 5 trace-kinds.ps ℕ
+μ-trace κs a = a .1 .1 .1 .1 .1 .0
+
+abbrev trace-at : ℕ → In 5 trace-kinds.ps
+trace-at t = and 5 trace-kinds.ps (is 5 trace-kinds.ps μ-trace t) trace.Pre
+
+abbrev trace-below : ℕ → In 5 trace-kinds.ps
+trace-below t = and 5 trace-kinds.ps (falls 5 trace-kinds.ps _<_ μ-trace t) trace.Pre
+
+abbrev trace-uses : ℕ → trace-lts.Claims
+trace-uses t = (
+  number-of-reads.Asked,
+  number-of-reads.Learnt,
+  free-of-reads.Asked,
+  free-of-reads.Learnt,
+  wide32-reads.Asked,
+  wide32-reads.Learnt,
+  wide-index-reads.Asked,
+  wide-index-reads.Learnt,
+  kind-reads.Asked,
+  kind-reads.Learnt,
+  first-reads.Asked,
+  first-reads.Learnt,
+  trace-below t,
+  trace.Post,
+  packed-reads.Asked,
+  packed-reads.Learnt,
+  keep-reads.Asked,
+  keep-reads.Learnt,
+  second-reads.Asked,
+  second-reads.Learnt,
+)
+
+trace-number-of-requires : (t : ℕ) → trace-lts.Need-number-of-requires (trace-uses t) (trace-at t) trace.Post
+trace-number-of-requires t c κs =
+    let start = c .before .before .before .before .before .before in
+    figures-asked (start .pre .1 .0) _ (start .pre .1 .1 .0)
+
+trace-free-of-requires : (t : ℕ) → trace-lts.Need-free-of-requires (trace-uses t) (trace-at t) trace.Post
+trace-free-of-requires t c κs =
+    let at-number-of = c .before in
+    let start = at-number-of .before .before .before .before .before .before .before in
+    figures-asked (start .pre .1 .0) _ (own-there (start .pre .1 .0) (start .pre .1 .1 .0) (at-number-of .number-of .ensures) .0)
+
+trace-wide32-requires : (t : ℕ) → trace-lts.Need-wide32-requires (trace-uses t) (trace-at t) trace.Post
+trace-wide32-requires t c κs = search needs
+
+trace-add-result : (t : ℕ) → trace-lts.Need-add-result (trace-uses t) (trace-at t) trace.Post
+trace-add-result t c =
+    let at-number-of = c .before .before .before .before in
+    let start = at-number-of .before .before .before .before .before .before .before in
+    omega (arith, own-there (start .pre .1 .0) (start .pre .1 .1 .0) (at-number-of .number-of .ensures), start .pre .1 .0 .entries .few)
+
+trace-same-length : (t : ℕ) → trace-lts.Need-same-length (trace-uses t) (trace-at t) trace.Post
+trace-same-length t c = search needs
+
+trace-returns : (t : ℕ) → trace-lts.Need-returns (trace-uses t) (trace-at t) trace.Post
+trace-returns t c =
+    let start = c .before .before .before .before .before .before .before .before .before .before .before in
+    start .pre .1 .0 .figured
+
+trace-wide-index-requires : (t : ℕ) → trace-lts.Need-wide-index-requires (trace-uses t) (trace-at t) trace.Post
+trace-wide-index-requires t c κs = search needs
+
+trace-mul-wide-index : (t : ℕ) → trace-lts.Need-mul-wide-index (trace-uses t) (trace-at t) trace.Post
+trace-mul-wide-index t c = search needs
+
+trace-shared-slice-read-wide-index : (t : ℕ) → trace-lts.Need-shared-slice-read-wide-index (trace-uses t) (trace-at t) trace.Post
+trace-shared-slice-read-wide-index t c =
+    let at-wide-index = c .before in
+    let at-number-of = at-wide-index .before .before .before .before .before in
+    let start = at-number-of .before .before .before .before .before .before .before in
+    omega (arith, at-wide-index .wide-index .ensures .0, own-there (start .pre .1 .0) (start .pre .1 .1 .0) (at-number-of .number-of .ensures) .0)
+
+trace-wide-index-requires-2 : (t : ℕ) → trace-lts.Need-wide-index-requires-2 (trace-uses t) (trace-at t) trace.Post
+trace-wide-index-requires-2 t c κs = search needs
+
+trace-kind-requires : (t : ℕ) → trace-lts.Need-kind-requires (trace-uses t) (trace-at t) trace.Post
+trace-kind-requires t c κs =
+    let at-wide-index = c .before .before in
+    let at-number-of = at-wide-index .before .before .before .before .before in
+    let start = at-number-of .before .before .before .before .before .before .before in
+    kind-there (start .pre .1 .0 .entries) (own-there (start .pre .1 .0) (start .pre .1 .1 .0) (at-number-of .number-of .ensures) .0) (at-wide-index .wide-index .ensures .0)
+    (c .wide-index2 .ensures .0)
+
+trace-add-result-2 : (t : ℕ) → trace-lts.Need-add-result-2 (trace-uses t) (trace-at t) trace.Post
+trace-add-result-2 t c =
+    let start = c .before .before .before .before .before .before .before .before .before .before .before .before .before .before .before .before in
+    omega (arith, start .pre .1 .1 .1, start .pre .1 .0 .entries .few)
+
+trace-same-length-2 : (t : ℕ) → trace-lts.Need-same-length-2 (trace-uses t) (trace-at t) trace.Post
+trace-same-length-2 t c = search needs
+
+trace-returns-2 : (t : ℕ) → trace-lts.Need-returns-2 (trace-uses t) (trace-at t) trace.Post
+trace-returns-2 t c =
+    let start = c .before .before .before .before .before .before .before .before .before .before .before .before .before .before .before .before in
+    start .pre .1 .0 .figured
+
+trace-same-length-3 : (t : ℕ) → trace-lts.Need-same-length-3 (trace-uses t) (trace-at t) trace.Post
+trace-same-length-3 t c = search needs
+
+trace-returns-3 : (t : ℕ) → trace-lts.Need-returns-3 (trace-uses t) (trace-at t) trace.Post
+trace-returns-3 t c =
+    let start = c .before .before .before .before .before .before .before .before .before .before .before .before .before .before .before .before .before in
+    start .pre .1 .0 .figured
+
+trace-first-requires : (t : ℕ) → trace-lts.Need-first-requires (trace-uses t) (trace-at t) trace.Post
+trace-first-requires t c κs =
+    let at-if4 = c .before in
+    let at-kind = at-if4 .before .before .before in
+    let at-wide-index2 = at-kind .before in
+    let at-wide-index = at-wide-index2 .before .before in
+    let at-number-of = at-wide-index .before .before .before .before .before in
+    let start = at-number-of .before .before .before .before .before .before .before in
+    first-there (start .pre .1 .0) (start .pre .1 .1 .0) (at-number-of .number-of .ensures) (at-wide-index .wide-index .ensures .0)
+    (at-wide-index2 .wide-index2 .ensures .0) (at-kind .kind .ensures) (at-if4 .if4 .taken)
+
+trace-add-trace : (t : ℕ) → trace-lts.Need-add-trace (trace-uses t) (trace-at t) trace.Post
+trace-add-trace t c =
+    let start = c .before .before .before .before .before .before .before .before .before .before .before .before .before .before .before .before .before .before .before .before in
+    omega (arith, start .pre .1 .1 .2)
+
+trace-trace-requires : (t : ℕ) → trace-lts.Need-trace-requires (trace-uses t) (trace-at t) trace.Post
+trace-trace-requires t c κs =
+    let at-if3 = c .before .before .before in
+    let at-if2 = at-if3 .before in
+    let at-kind = at-if2 .before in
+    let at-wide-index2 = at-kind .before in
+    let at-wide-index = at-wide-index2 .before .before in
+    let at-number-of = at-wide-index .before .before .before .before .before in
+    let start = at-number-of .before .before .before .before .before .before .before in
+    let lower = first-falls (start .pre .1 .0) (start .pre .1 .1 .0) (at-number-of .number-of .ensures) (at-wide-index .wide-index .ensures .0)
+    (at-wide-index2 .wide-index2 .ensures .0) (at-kind .kind .ensures) (at-if3 .if3 .left) (at-if2 .if2 .left) (c .first .ensures) in
+    (omega (arith, start .pre .0, lower .0), (start .pre .1 .0, (lower .1, start .pre .1 .1 .1, omega (arith, start .pre .1 .1 .2, lower .0))))
+
+trace-same-length-4 : (t : ℕ) → trace-lts.Need-same-length-4 (trace-uses t) (trace-at t) trace.Post
+trace-same-length-4 t c =
+    let at-trace = c .before .before .before in
+    at-trace .trace .kept .1 .1 .0
+
+trace-returns-4 : (t : ℕ) → trace-lts.Need-returns-4 (trace-uses t) (trace-at t) trace.Post
+trace-returns-4 t c =
+    let at-trace = c .before .before .before in
+    at-trace .trace .ensures
+
+trace-sub-packed : (t : ℕ) → trace-lts.Need-sub-packed (trace-uses t) (trace-at t) trace.Post
+trace-sub-packed t c =
+    let at-if5 = c .before in
+    omega (arith, at-if5 .if5 .left)
+
+trace-packed-requires : (t : ℕ) → trace-lts.Need-packed-requires (trace-uses t) (trace-at t) trace.Post
+trace-packed-requires t c κs =
+    let at-kind = c .before .before .before .before .before .before .before .before .before .before in
+    let at-wide-index2 = at-kind .before in
+    let at-wide-index = at-wide-index2 .before .before in
+    let at-number-of = at-wide-index .before .before .before .before .before in
+    let start = at-number-of .before .before .before .before .before .before .before in
+    kind-small (start .pre .1 .0) (start .pre .1 .1 .0) (at-number-of .number-of .ensures) (at-wide-index .wide-index .ensures .0)
+    (at-wide-index2 .wide-index2 .ensures .0) (at-kind .kind .ensures)
+
+trace-keep-requires : (t : ℕ) → trace-lts.Need-keep-requires (trace-uses t) (trace-at t) trace.Post
+trace-keep-requires t c κs =
+    let at-trace = c .before .before .before .before .before in
+    let at-number-of = at-trace .before .before .before .before .before .before .before .before .before .before .before .before .before .before in
+    let start = at-number-of .before .before .before .before .before .before .before in
+    (still (start .pre .1 .0) (at-trace .trace .ensures), (own-there (start .pre .1 .0) (start .pre .1 .1 .0) (at-number-of .number-of .ensures) .0, start .pre .1 .1 .1))
+
+trace-same-length-5 : (t : ℕ) → trace-lts.Need-same-length-5 (trace-uses t) (trace-at t) trace.Post
+trace-same-length-5 t c =
+    let at-keep = c .before .before in
+    let at-trace = at-keep .before .before .before .before .before .before in
+    at-keep .keep .kept .1 .1 .0 ∙ at-trace .trace .kept .1 .1 .0
+
+trace-returns-5 : (t : ℕ) → trace-lts.Need-returns-5 (trace-uses t) (trace-at t) trace.Post
+trace-returns-5 t c =
+    let at-keep = c .before .before in
+    at-keep .keep .ensures
+
+trace-first-requires-2 : (t : ℕ) → trace-lts.Need-first-requires-2 (trace-uses t) (trace-at t) trace.Post
+trace-first-requires-2 t c κs =
+    let at-if4 = c .before in
+    let at-if3 = at-if4 .before in
+    let at-if2 = at-if3 .before in
+    let at-kind = at-if2 .before in
+    let at-wide-index2 = at-kind .before in
+    let at-wide-index = at-wide-index2 .before .before in
+    let at-number-of = at-wide-index .before .before .before .before .before in
+    let start = at-number-of .before .before .before .before .before .before .before in
+    omega (
+      arith,
+      both-there (start .pre .1 .0) (start .pre .1 .1 .0) (at-number-of .number-of .ensures) (at-wide-index .wide-index .ensures .0)
+          (at-wide-index2 .wide-index2 .ensures .0) (at-kind .kind .ensures) (at-if3 .if3 .left) (at-if2 .if2 .left) (at-if4 .if4 .left),
+    )
+
+trace-trace-requires-2 : (t : ℕ) → trace-lts.Need-trace-requires-2 (trace-uses t) (trace-at t) trace.Post
+trace-trace-requires-2 t c κs =
+    let at-if3 = c .before .before .before in
+    let at-if2 = at-if3 .before in
+    let at-kind = at-if2 .before in
+    let at-wide-index2 = at-kind .before in
+    let at-wide-index = at-wide-index2 .before .before in
+    let at-number-of = at-wide-index .before .before .before .before .before in
+    let start = at-number-of .before .before .before .before .before .before .before in
+    let lower = first-falls (start .pre .1 .0) (start .pre .1 .1 .0) (at-number-of .number-of .ensures) (at-wide-index .wide-index .ensures .0)
+    (at-wide-index2 .wide-index2 .ensures .0) (at-kind .kind .ensures) (at-if3 .if3 .left) (at-if2 .if2 .left) (c .first2 .ensures) in
+    (omega (arith, start .pre .0, lower .0), (start .pre .1 .0, (lower .1, start .pre .1 .1 .1, omega (arith, start .pre .1 .1 .2, lower .0))))
+
+trace-same-length-6 : (t : ℕ) → trace-lts.Need-same-length-6 (trace-uses t) (trace-at t) trace.Post
+trace-same-length-6 t c =
+    let at-trace2 = c .before .before .before in
+    at-trace2 .trace2 .kept .1 .1 .0
+
+trace-returns-6 : (t : ℕ) → trace-lts.Need-returns-6 (trace-uses t) (trace-at t) trace.Post
+trace-returns-6 t c =
+    let at-trace2 = c .before .before .before in
+    at-trace2 .trace2 .ensures
+
+trace-second-requires : (t : ℕ) → trace-lts.Need-second-requires (trace-uses t) (trace-at t) trace.Post
+trace-second-requires t c κs =
+    let at-if4 = c .before .before .before .before .before .before .before in
+    let at-if3 = at-if4 .before in
+    let at-if2 = at-if3 .before in
+    let at-kind = at-if2 .before in
+    let at-wide-index2 = at-kind .before in
+    let at-wide-index = at-wide-index2 .before .before in
+    let at-number-of = at-wide-index .before .before .before .before .before in
+    let start = at-number-of .before .before .before .before .before .before .before in
+    both-there (start .pre .1 .0) (start .pre .1 .1 .0) (at-number-of .number-of .ensures) (at-wide-index .wide-index .ensures .0)
+    (at-wide-index2 .wide-index2 .ensures .0) (at-kind .kind .ensures) (at-if3 .if3 .left) (at-if2 .if2 .left) (at-if4 .if4 .left)
+
+trace-trace-requires-3 : (t : ℕ) → trace-lts.Need-trace-requires-3 (trace-uses t) (trace-at t) trace.Post
+trace-trace-requires-3 t c κs =
+    let at-trace2 = c .before .before .before .before .before in
+    let at-if4 = at-trace2 .before .before .before in
+    let at-if3 = at-if4 .before in
+    let at-if2 = at-if3 .before in
+    let at-kind = at-if2 .before in
+    let at-wide-index2 = at-kind .before in
+    let at-wide-index = at-wide-index2 .before .before in
+    let at-number-of = at-wide-index .before .before .before .before .before in
+    let start = at-number-of .before .before .before .before .before .before .before in
+    let lower = second-falls (start .pre .1 .0) (start .pre .1 .1 .0) (at-number-of .number-of .ensures) (at-wide-index .wide-index .ensures .0)
+    (at-wide-index2 .wide-index2 .ensures .0) (at-kind .kind .ensures) (at-if3 .if3 .left) (at-if2 .if2 .left) (at-if4 .if4 .left)
+    (c .second .ensures) in
+    (omega (arith, start .pre .0, lower .0), (still (start .pre .1 .0) (at-trace2 .trace2 .ensures), (lower .1, start .pre .1 .1 .1, omega (arith, start .pre .1 .1 .2, lower .0))))
+
+trace-same-length-7 : (t : ℕ) → trace-lts.Need-same-length-7 (trace-uses t) (trace-at t) trace.Post
+trace-same-length-7 t c =
+    let at-trace3 = c .before .before .before in
+    let at-trace2 = at-trace3 .before .before .before .before .before .before in
+    at-trace3 .trace3 .kept .1 .1 .0 ∙ at-trace2 .trace2 .kept .1 .1 .0
+
+trace-returns-7 : (t : ℕ) → trace-lts.Need-returns-7 (trace-uses t) (trace-at t) trace.Post
+trace-returns-7 t c =
+    let at-trace3 = c .before .before .before in
+    at-trace3 .trace3 .ensures
+
+trace-sub-packed-2 : (t : ℕ) → trace-lts.Need-sub-packed-2 (trace-uses t) (trace-at t) trace.Post
+trace-sub-packed-2 t c =
+    let at-if6 = c .before .before .before .before .before .before .before in
+    omega (arith, at-if6 .if6 .left)
+
+trace-sub-packed-3 : (t : ℕ) → trace-lts.Need-sub-packed-3 (trace-uses t) (trace-at t) trace.Post
+trace-sub-packed-3 t c =
+    let at-if7 = c .before in
+    omega (arith, at-if7 .if7 .left)
+
+trace-packed-requires-2 : (t : ℕ) → trace-lts.Need-packed-requires-2 (trace-uses t) (trace-at t) trace.Post
+trace-packed-requires-2 t c κs =
+    let at-kind = c .before .before .before .before .before .before .before .before .before .before .before .before .before .before .before .before in
+    let at-wide-index2 = at-kind .before in
+    let at-wide-index = at-wide-index2 .before .before in
+    let at-number-of = at-wide-index .before .before .before .before .before in
+    let start = at-number-of .before .before .before .before .before .before .before in
+    kind-small (start .pre .1 .0) (start .pre .1 .1 .0) (at-number-of .number-of .ensures) (at-wide-index .wide-index .ensures .0)
+    (at-wide-index2 .wide-index2 .ensures .0) (at-kind .kind .ensures)
+
+trace-keep-requires-2 : (t : ℕ) → trace-lts.Need-keep-requires-2 (trace-uses t) (trace-at t) trace.Post
+trace-keep-requires-2 t c κs =
+    let at-trace3 = c .before .before .before .before .before in
+    let at-number-of = at-trace3 .before .before .before .before .before .before .before .before .before .before .before .before .before .before .before .before .before .before .before .before in
+    let start = at-number-of .before .before .before .before .before .before .before in
+    (still (start .pre .1 .0) (at-trace3 .trace3 .ensures), (own-there (start .pre .1 .0) (start .pre .1 .1 .0) (at-number-of .number-of .ensures) .0, start .pre .1 .1 .1))
+
+trace-same-length-8 : (t : ℕ) → trace-lts.Need-same-length-8 (trace-uses t) (trace-at t) trace.Post
+trace-same-length-8 t c =
+    let at-keep2 = c .before .before in
+    let at-trace3 = at-keep2 .before .before .before .before .before .before in
+    let at-trace2 = at-trace3 .before .before .before .before .before .before in
+    at-keep2 .keep2 .kept .1 .1 .0 ∙ at-trace3 .trace3 .kept .1 .1 .0 ∙ at-trace2 .trace2 .kept .1 .1 .0
+
+trace-returns-8 : (t : ℕ) → trace-lts.Need-returns-8 (trace-uses t) (trace-at t) trace.Post
+trace-returns-8 t c =
+    let at-keep2 = c .before .before in
+    at-keep2 .keep2 .ensures
+
+pub +trace-spec : {M : Type 1} → statement M
++trace-spec = close μ-trace λ t. trace-lts.spec (trace-uses t)
+    (trace-at t)
+    trace.Post
+    (trace-number-of-requires t)
+    (trace-free-of-requires t)
+    (trace-wide32-requires t)
+    (trace-add-result t)
+    (trace-same-length t)
+    (trace-returns t)
+    (trace-wide-index-requires t)
+    (trace-mul-wide-index t)
+    (trace-shared-slice-read-wide-index t)
+    (trace-wide-index-requires-2 t)
+    (trace-kind-requires t)
+    (trace-add-result-2 t)
+    (trace-same-length-2 t)
+    (trace-returns-2 t)
+    (trace-same-length-3 t)
+    (trace-returns-3 t)
+    (trace-first-requires t)
+    (trace-add-trace t)
+    (trace-trace-requires t)
+    (trace-same-length-4 t)
+    (trace-returns-4 t)
+    (trace-sub-packed t)
+    (trace-packed-requires t)
+    (trace-keep-requires t)
+    (trace-same-length-5 t)
+    (trace-returns-5 t)
+    (trace-first-requires-2 t)
+    (trace-trace-requires-2 t)
+    (trace-same-length-6 t)
+    (trace-returns-6 t)
+    (trace-second-requires t)
+    (trace-trace-requires-3 t)
+    (trace-same-length-7 t)
+    (trace-returns-7 t)
+    (trace-sub-packed-2 t)
+    (trace-sub-packed-3 t)
+    (trace-packed-requires-2 t)
+    (trace-keep-requires-2 t)
+    (trace-same-length-8 t)
+    (trace-returns-8 t)

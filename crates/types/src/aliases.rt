@@ -1,0 +1,177 @@
+// Which entries the parts of an unfolding are equal to (02, F-4): a type that a program unrolls or rolls is often spelled out as well, where an inl,
+// an inr or a function names what it unfolds to. With an alias kept, such an unfolding is compared by numbers like any entry. Which entry it could be
+// is told by the key that the part has with its own parts put in; whether it is, by comparing, once a part. An alias that is not found costs nothing but
+// time: the part is then compared node by node.
+ghost use mathlib.Core.List.{map};
+ghost use Prim.Native.Nat.{ℕ, _+_, _≤_, _<_};
+ghost use lib.ListN.{length, getD};
+ghost use Rattle.rules.specs.Limits.{maxTypes};
+ghost use Rattle.calls.specs.Entries.{typeAt};
+ghost use Rattle.program.specs.Parts.{TermField};
+ghost use Rattle.types.specs.Layout.{typingBytes};
+ghost use Rattle.types.specs.Figures.{Figured};
+ghost use Rattle.types.specs.Codes.{Readable};
+ghost use Rattle.types.specs.Numbering.{slots, Traceable};
+use crate::codes;
+use crate::compare;
+use crate::figures;
+use crate::numbering;
+use crate::numbering::SLOT_COUNT;
+use program::kinds;
+use program::views;
+use rules::MAX_TYPES;
+
+// The entry that has the key is the alias of entry `i`, with entry `j` for its outermost free variable, if both are equal as trees. Answers one more
+// than the alias; 0 if there is none.
+fn keep(
+    p: &[u8],
+    types: &[u16],
+    ws: &mut [u8],
+    keys: &[u32],
+    index: &[u16],
+    i: u16,
+    j: u16,
+    key: u32,
+) -> u16
+    requires { ⌜ Traceable (now p) (now types) (now ws) (now keys) (now index) ⌝ }
+    requires { ⌜ (i < length (now types)) × (j < length (now types)) ⌝ }
+    ensures { λ _. ⌜ Figured (map (typeAt (now (p .entry))) (now (types .entry))) (now (ws .exit)) (length (now (types .entry))) ⌝ }
+{
+    let k = numbering::find(keys, index, types.len(), key);
+    if k == types.len() {
+        return 0;
+    }
+    let alias = k as u16;
+    if compare::same(p, types, ws, 0, codes::under(i, j), codes::entry(alias)) {
+        figures::put_alias(ws, i, j, alias);
+        return alias + 1;
+    }
+    0
+}
+
+// One more than the entry that the part is equal to, with entry `j` for the variable that stands in it if `free` variables are free; 0 if none is. Parts
+// come before wholes, so that each is compared by the aliases of its own parts.
+fn trace(
+    p: &[u8],
+    types: &[u16],
+    ws: &mut [u8],
+    keys: &[u32],
+    index: &[u16],
+    part: u16,
+    j: u16,
+    free: u32,
+) -> u16
+    requires { ⌜ Traceable (now p) (now types) (now ws) (now keys) (now index) ⌝ }
+    requires { ⌜ (part < length (now types)) × (j < length (now types)) × (free + part ≤ 512) ⌝ }
+    ensures { λ _. ⌜ Figured (map (typeAt (now (p .entry))) (now (types .entry))) (now (ws .exit)) (length (now (types .entry))) ⌝ }
+{
+    let i = figures::number_of(ws, part);
+    if octets::wide32(figures::free_of(ws, i)) != free {
+        return i + 1;
+    }
+    let at = octets::wide_index(types[octets::wide_index(i)]);
+    let kind = views::kind(p, at);
+    if kind == kinds::TYPE_VARIABLE {
+        return j + 1;
+    }
+    if kind == kinds::UNIT_TYPE {
+        return 0;
+    }
+    if kind == kinds::RECURSIVE {
+        let x = trace(p, types, ws, keys, index, views::first(p, at), j, free + 1);
+        if x == 0 {
+            return 0;
+        }
+        return keep(
+            p,
+            types,
+            ws,
+            keys,
+            index,
+            i,
+            j,
+            numbering::packed(kind, x - 1, 0),
+        );
+    }
+    let x = trace(p, types, ws, keys, index, views::first(p, at), j, free);
+    if x == 0 {
+        return 0;
+    }
+    let y = trace(p, types, ws, keys, index, views::second(p, at), j, free);
+    if y == 0 {
+        return 0;
+    }
+    keep(
+        p,
+        types,
+        ws,
+        keys,
+        index,
+        i,
+        j,
+        numbering::packed(kind, x - 1, y - 1),
+    )
+}
+
+// The type that a roll or unroll at `at` names, once a type.
+fn open_term(
+    p: &[u8],
+    types: &[u16],
+    ws: &mut [u8],
+    keys: &[u32],
+    index: &[u16],
+    tried: &mut [u8],
+    at: usize,
+)
+    requires { ⌜ Traceable (now p) (now types) (now ws) (now keys) (now index) ⌝ }
+    requires { ⌜ TermField (now p) at × (maxTypes ≤ length (now tried)) ⌝ }
+    ensures { λ _. ⌜ Figured (map (typeAt (now (p .entry))) (now (types .entry))) (now (ws .exit)) (length (now (types .entry))) ⌝ }
+{
+    let kind = views::kind(p, at);
+    if kind < kinds::ROLL {
+        return;
+    }
+    let named = views::first(p, at);
+    let n = octets::wide_index(named);
+    if types.len() <= n {
+        return;
+    }
+    if tried[n] == 1 {
+        return;
+    }
+    tried[n] = 1;
+    let from = octets::wide_index(types[n]);
+    let form = views::kind(p, from);
+    if form != kinds::RECURSIVE {
+        return;
+    }
+    let j = figures::number_of(ws, named);
+    trace(p, types, ws, keys, index, views::first(p, from), j, 1);
+}
+
+// The types that the terms roll and unroll.
+fn open_terms(p: &[u8], types: &[u16], terms: &[u16], ws: &mut [u8], keys: &[u32], index: &[u16])
+    requires { ⌜ Traceable (now p) (now types) (now ws) (now keys) (now index) ⌝ }
+    requires { ⌜ ((t : ℕ) → t < length (now terms) → TermField (now p) (getD (now terms) t 0)) ⌝ }
+    ensures { λ _. ⌜ Figured (map (typeAt (now (p .entry))) (now (types .entry))) (now (ws .exit)) (length (now (types .entry))) ⌝ }
+{
+    let mut tried = [0u8; MAX_TYPES];
+    let mut t = 0;
+    while t < terms.len() {
+        let at = octets::wide_index(terms[t]);
+        open_term(p, types, ws, keys, index, &mut tried, at);
+        t += 1;
+    }
+}
+
+// The figures of the type entries, with aliases for the types that the terms roll and unroll.
+pub fn prepare(p: &[u8], types: &[u16], terms: &[u16], ws: &mut [u8])
+    requires { ⌜ Readable (now p) (now types) × (typingBytes ≤ length (now ws)) ⌝ }
+    requires { ⌜ ((t : ℕ) → t < length (now terms) → TermField (now p) (getD (now terms) t 0)) ⌝ }
+    ensures { λ _. ⌜ Figured (map (typeAt (now (p .entry))) (now (types .entry))) (now (ws .exit)) (length (now (types .entry))) ⌝ }
+{
+    let mut keys = [0u32; MAX_TYPES];
+    let mut index = [0u16; SLOT_COUNT];
+    numbering::number_types(p, types, ws, &mut keys, &mut index);
+    open_terms(p, types, terms, ws, &keys, &index);
+}
