@@ -12,8 +12,7 @@ prepare-requires c κs =
 check-all-requires : tie.Need-check-all-requires
 check-all-requires c κs =
     let at-prepare = c .before .before .before in
-    let start = at-prepare .before .before .before .before .before .before .before .before in
-    (
+    let start = at-prepare .before .before .before .before .before .before .before .before in (
       typeable-kept (at-prepare .prepare .kept .1 .1 .1 .0) (start .pre .0),
       (at-prepare .prepare .ensures, start .pre .1),
     )
