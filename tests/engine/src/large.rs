@@ -13,12 +13,10 @@ use second::rng::Rng;
 const MOST_LARGE: f64 = 2.0;
 const MOST_ORDINARY: f64 = 2.0;
 
-/// Where the aim is not met, so that it gets no worse: numbering as many entries as there can be, and an unfolding that is compared node by node
-/// with a type that is spelled out or put together, down to where its variable stands.
+/// Where the aim is not met, so that it gets no worse: numbering as many entries as there can be, and unfoldings of nested recursive types, which
+/// are compared node by node, down to where the variable stands.
 const MOST_ENTRIES: f64 = 3.0;
-const MOST_REBUILT: f64 = 5.0;
 const MOST_NESTED: f64 = 15.0;
-const MOST_SPELLED: f64 = 35.0;
 
 /// The machine's pauses fall on either side: the lowest of a few ratios is judged.
 const TRIES: usize = 3;
@@ -62,11 +60,9 @@ fn judged() -> Vec<(String, Vec<u8>, f64)> {
 
 fn most(family: Family) -> f64 {
     match family {
-        Family::Unrolls | Family::Calls | Family::Rolls | Family::Pairs => MOST_LARGE,
         Family::Distinct | Family::Repeated => MOST_ENTRIES,
-        Family::Rebuilt => MOST_REBUILT,
         Family::Nested => MOST_NESTED,
-        Family::Spelled => MOST_SPELLED,
+        _ => MOST_LARGE,
     }
 }
 
