@@ -7,6 +7,7 @@ use mathlib.Core.List.{List, map}
 use lib.ListN.{length}
 use lib.Dec.{eqb}
 use package.Rattle.rules.specs.Ty.{prod, sum, mu, nodes, isUnit, sameTy}
+use package.Rattle.rules.proofs.Typing.Tests.{sameTy-refl}
 use package.Rattle.calls.specs.Entries.{typeAt, typeOf}
 use package.Rattle.program.specs.Kinds.{unitTypeKind, recursiveKind, typeVariableKind}
 use package.Rattle.types.specs.declared.codes.Code.{Code}
@@ -47,7 +48,11 @@ module _ {xs types heap : List ℕ} {top : ℕ} {c v : Code} (S : Settled xs typ
     pub known-second : Known (length types) top b
     known-second = subst (Known (length types) top) (sym p) (S .shaped .second)
 
--- two types that have one code
+-- a code's type is equal to itself
+pub same-code : (xs types heap : List ℕ) {c d : Code} → c ≡ d → true ≡ sameTy (treeIn xs types heap c) (treeIn xs types heap d)
+same-code xs types heap {c} e = sym (sameTy-refl (treeIn xs types heap c)) ∙ ap (λ d. sameTy (treeIn xs types heap c) (treeIn xs types heap d)) e
+
+-- two types whose codes settle alike
 pub one-code : {xs types heap : List ℕ} {top : ℕ} {c d v w : Code} → Settled xs types heap top c v → Settled xs types heap top d w → v ≡ w
     → true ≡ sameTy (treeIn xs types heap c) (treeIn xs types heap d)
 one-code {xs} {types} {heap} S S′ e = one-node (S .shaped) (S′ .shaped) (ap (plainShape xs types heap) e)

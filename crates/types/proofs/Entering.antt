@@ -26,6 +26,8 @@ use package.Rattle.types.specs.Numbering.{packed, figureOf, numberFrom, 
 use package.Rattle.types.proofs.Figuring.{number-same, figured-same, length-figures, figures-other, number-put, free-put, outer-put, stand-put, alias-kept}
 use package.Rattle.program.specs.Parts.{TypeField}
 use package.Rattle.types.proofs.Outer.{at-place}
+use package.Rattle.types.specs.Growth.{Noted}
+use package.Rattle.types.proofs.Hinting.{noted-figured}
 use package.Rattle.types.proofs.Keys.{key-same, figure-free, figure-outer}
 
 ----------------------------------------------------------------
@@ -61,6 +63,20 @@ key-kept heap heap′ {n} s (y-prod a b) l = given (below-head n a _ l) λ (i, l
 key-kept heap heap′ {n} s (y-sum a b) l = given (below-head n a _ l) λ (i, l₁). given (below-head n b _ l₁) λ (j, l₂). ap₂ (packed 2) (s a i) (s b j)
 key-kept heap heap′ {n} s (y-mu a) l = given (below-head n a _ l) λ (i, l₁). ap (λ a. packed 3 a 0) (s a i)
 key-kept heap heap′ s (y-var k) l = refl
+
+-- and so do numbered entries where a hint is put
+numbered-noted : {xs types heap heap′ keys index : List ℕ} {n : ℕ} → Readable xs types → n ≤ length types → Numbered xs types heap keys index n
+    → Noted heap heap′ → Numbered xs types heap′ keys index n
+numbered-noted {xs} {types} {heap} {heap′} {keys} {index} {n} R le N H = record {
+  figured = noted-figured (omega (arith, R .few)) (N .figured) H;
+  keys-held = N .keys-held;
+  index-held = N .index-held;
+  key = λ i l. N .key i l ∙ key-kept heap heap′ numbers _ (below-wider i n _ (omega arith) (R .lower i));
+  taken = N .taken;
+}
+  where
+    numbers : (i : ℕ) → i < n → numberAt heap i ≡ numberAt heap′ i
+    numbers = number-same heap heap′ λ j g h. H .same j (omega (arith, R .few))
 
 ----------------------------------------------------------------
 -- The new entry
@@ -221,9 +237,9 @@ module _ {xs types heap keys index : List ℕ} {i : ℕ} (R : Readable xs types)
             go true q = subst (λ t. 0 < getD (set index s (i + 1)) t 0) (sym (eqb-true t s q)) now-taken
             go false q = subst (λ n. 0 < n) (sym (getD-set-other index s t (i + 1) 0 (eqb-false t s q))) h
 
-        pub numbered-more : Numbered xs types heap′ (set keys i (f .key)) (set index s (i + 1)) (i + 1)
+        numbered-put : Numbered xs types heap′ (set keys i (f .key)) (set index s (i + 1)) (i + 1)
         unfolding keys′ index′
-        numbered-more = record {
+        numbered-put = record {
           figured = figured-more;
           keys-held = length-set keys i (f .key) ∙ N .keys-held;
           index-held = length-set index s (i + 1) ∙ N .index-held;
@@ -234,3 +250,7 @@ module _ {xs types heap keys index : List ℕ} {i : ℕ} (R : Readable xs types)
               (λ j h. subst (λ k. 0 < getD index′ (slotOf k) 0) (sym (kept j h)) (still-taken _ (N .taken j h)))
               (subst (λ t. 0 < getD index′ t 0) (p ∙ ap slotOf (sym here)) now-taken);
         }
+
+        -- with a hint at the new entry, or none
+        pub numbered-more : {heap″ : List ℕ} → Noted heap′ heap″ → Numbered xs types heap″ (set keys i (f .key)) (set index s (i + 1)) (i + 1)
+        numbered-more H = numbered-noted R (omega arith) numbered-put H

@@ -1,24 +1,21 @@
 -- Laws of new product nodes: what was put is there, what is below stays, and so do the trees of older codes.
-use Prim.Native.Nat.{ℕ, zero, suc, _+_, _*_, _<_, _≤_, min}
+use Prim.Native.Nat.{ℕ, zero, suc, _+_, _*_, _<_, _≤_}
 use native.Mathlib.Omega.{arith}
 use native.Mathlib.Nat.{eq-or-lt-of-le}
 use mathlib.Core.Path.{_≡_, refl, sym, ap, ap₂, subst, _∙_}
 use mathlib.Core.Logic.{_⊎_, ⊎-elim}
-use mathlib.Core.Bool.{true, false, false≢true}
 use mathlib.Core.List.{List, map}
 use lib.ListN.{length, getD}
-use borrow.Author.Tests.{le-leb, lt-leb}
 use package.Rattle.octets.specs.Numbers.{put16}
 use package.Rattle.octets.proofs.Puts.{length-put16, put16-low, put16-other, get16-same, get16-put16}
-use package.Rattle.rules.specs.Limits.{maxTerms, maxNodes}
+use package.Rattle.rules.specs.Limits.{maxTypes, maxTerms, maxNodes}
 use package.Rattle.rules.specs.Ty.{Ty, prod, nodes}
 use package.Rattle.calls.specs.Entries.{TypeEntry, typeAt}
-use package.Rattle.calls.specs.Figures.{ceiling}
 use package.Rattle.types.specs.declared.codes.Code.{Code}
 use package.Rattle.types.specs.Codes.{Room, nodeBytes, productCode, codeAt, leftAt, rightAt, countAt, ofCode, productWithin, productAt, treeOf, treeIn, Known, Right, Products, Sources}
 use package.Rattle.types.specs.Figures.{Figured}
 use package.Rattle.types.proofs.Figuring.{figured-same}
-use package.Rattle.types.specs.Growth.{putCode, putNode, Agree, Grown, Made}
+use package.Rattle.types.specs.Growth.{putCode, putNode, Agree, Grown}
 use package.Rattle.types.proofs.Trees.{same-numbers, tree-product, code-agrees, enough}
 
 ----------------------------------------------------------------
@@ -130,7 +127,7 @@ module _ (heap : List ℕ) (n : ℕ) (left right : Code) (count : ℕ) where
 pub agree-put : (heap : List ℕ) (n : ℕ) (left right : Code) (count : ℕ) → n < maxTerms → Agree n heap (putNode heap n left right count)
 agree-put heap n left right count few = record {
   same = λ j h. sym (node-low heap n left right count j h);
-  behind = λ j h. sym (node-high heap n left right count j (omega arith));
+  behind = λ j h l. sym (node-high heap n left right count j (omega arith));
   lengths = sym (length-node heap n left right count);
 }
 
@@ -138,12 +135,12 @@ agree-put heap n left right count few = record {
 -- Heaps that agree
 
 pub agree-refl : (top : ℕ) (heap : List ℕ) → Agree top heap heap
-agree-refl top heap = record { same = λ i h. refl; behind = λ i h. refl; lengths = refl }
+agree-refl top heap = record { same = λ i h. refl; behind = λ i h l. refl; lengths = refl }
 
 pub agree-trans : {top : ℕ} {heap heap′ heap″ : List ℕ} → Agree top heap heap′ → Agree top heap′ heap″ → Agree top heap heap″
 agree-trans p q = record {
   same = λ i h. p .same i h ∙ q .same i h;
-  behind = λ i h. p .behind i h ∙ q .behind i h;
+  behind = λ i h l. p .behind i h l ∙ q .behind i h l;
   lengths = p .lengths ∙ q .lengths;
 }
 
@@ -194,99 +191,77 @@ module _ {ys : List TypeEntry} {n : ℕ} {heap heap′ : List ℕ} {top : ℕ} (
   pub products-kept : Products ys n heap′ top
   products-kept = record { held = omega (arith, P .held, A .lengths); node = right-kept }
 
-pub figures-kept : {ys : List TypeEntry} {n top : ℕ} {heap heap′ : List ℕ} → Figured ys heap n → Agree top heap heap′ → Figured ys heap′ n
-figures-kept F A = figured-same F (A .lengths) λ j l h. A .behind j l
+pub figures-kept : {ys : List TypeEntry} {n top : ℕ} {heap heap′ : List ℕ} → n ≤ maxTypes → Figured ys heap n → Agree top heap heap′ → Figured ys heap′ n
+figures-kept few F A = figured-same F (A .lengths) λ j l h. A .behind j l (omega arith)
 
 pub sources-kept : {xs types heap heap′ : List ℕ} {top : ℕ} → Sources xs types heap top → Agree top heap heap′ → Sources xs types heap′ top
-sources-kept S A = record { entries = S .entries; figures = figures-kept (S .figures) A; products = products-kept (S .products) A }
+sources-kept S A = record { entries = S .entries; figures = figures-kept (S .entries .few) (S .figures) A; products = products-kept (S .products) A }
 
 ----------------------------------------------------------------
--- The product of two types
+-- A new node, whose parts are known and whose nodes are counted
 
-module _ {xs types heap : List ℕ} {top : ℕ} (S : Sources xs types heap top) {left right : Code} (K : Known (length types) top left) (K′ : Known (length types) top right) where
+module _ {xs types heap : List ℕ} {top : ℕ} (S : Sources xs types heap top) {left right : Code} (K : Known (length types) top left)
+    (K′ : Known (length types) top right) where
   abbrev a : Ty
   a = treeIn xs types heap left
 
   abbrev b : Ty
   b = treeIn xs types heap right
 
-  -- by the counts of both
-  module _ {x y m : ℕ} (e : x ≡ min ceiling (nodes a)) (e′ : y ≡ min ceiling (nodes b)) (s : m ≡ x + y + 1) where
-    both-counted : min ceiling m ≡ min ceiling (nodes (prod a b))
-    unfolding nodes ceiling
-    both-counted = omega arith
+  module _ {m : ℕ} (exact : m ≡ nodes (prod a b)) (room : Room heap (top + 1)) (F : Fitting left) (F′ : Fitting right) (h : m ≤ maxNodes)
+      (few : top < maxTerms) where
+    new : List ℕ
+    new = putNode heap top left right m
 
-    pub made-old : maxNodes < m → Made xs types heap heap top left right false
-    unfolding ceiling
-    made-old h = record {
-      answer = sym (lt-leb (nodes (prod a b)) maxNodes (omega (arith, both-counted)));
-      new = λ e. absurd (false≢true e);
-      old = λ e. refl;
+    agree : Agree top heap new
+    unfolding new
+    agree = agree-put heap top left right m few
+
+    -- an older code under the new node
+    part-kept : {c : Code} → Known (length types) top c
+        → ofCode (map (typeAt xs) types) (productWithin top (map (typeAt xs) types) new) c ≡ treeIn xs types heap c
+    unfolding treeOf productAt
+    part-kept K = code-agrees (map (typeAt xs) types) _ _ K λ k l.
+        sym (within-kept (S .products) agree top k l) ∙ enough (S .products) top (suc k) k l l (omega arith)
+
+    new-tree : productAt (map (typeAt xs) types) new top ≡ prod a b
+    unfolding productAt productWithin new
+    new-tree =
+        let under : Code → Ty = ofCode (map (typeAt xs) types) (productWithin top (map (typeAt xs) types) new) in
+        ap₂ prod
+        (ap under (left-put heap top left right m room F) ∙ part-kept K)
+        (ap under (right-put heap top left right m room F′) ∙ part-kept K′)
+
+    count-is : countAt new top ≡ m
+    unfolding new
+    count-is = count-put heap top left right m room (omega arith)
+
+    new-right : Right (map (typeAt xs) types) (length types) new top
+    unfolding new
+    new-right = record {
+      left = subst (Known (length types) top) (sym (left-put heap top left right m room F)) K;
+      right = subst (Known (length types) top) (sym (right-put heap top left right m room F′)) K′;
+      count = count-is ∙ exact ∙ ap nodes (sym new-tree);
+      small = omega (arith, count-is);
     }
 
-    module _ (room : Room heap (top + 1)) (F : Fitting left) (F′ : Fitting right) (h : m ≤ maxNodes) (few : top < maxTerms) where
-      new : List ℕ
-      new = putNode heap top left right m
-
-      exact : m ≡ nodes (prod a b)
-      unfolding ceiling
-      exact = omega (arith, both-counted)
-
-      agree : Agree top heap new
-      unfolding new
-      agree = agree-put heap top left right m few
-
-      -- an older code under the new node
-      part-kept : {c : Code} → Known (length types) top c → ofCode (map (typeAt xs) types) (productWithin top (map (typeAt xs) types) new) c ≡ treeIn xs types heap c
-      unfolding treeOf productAt
-      part-kept K = code-agrees (map (typeAt xs) types) _ _ K λ k l.
-          sym (within-kept (S .products) agree top k l) ∙ enough (S .products) top (suc k) k l l (omega arith)
-
-      new-tree : productAt (map (typeAt xs) types) new top ≡ prod a b
-      unfolding productAt productWithin new
-      new-tree =
-          ap₂ prod
-          (ap (ofCode (map (typeAt xs) types) (productWithin top (map (typeAt xs) types) new)) (left-put heap top left right m room F) ∙ part-kept K)
-          (ap (ofCode (map (typeAt xs) types) (productWithin top (map (typeAt xs) types) new)) (right-put heap top left right m room F′) ∙ part-kept K′)
-
-      count-is : countAt new top ≡ m
-      unfolding new
-      count-is = count-put heap top left right m room (omega arith)
-
-      new-right : Right (map (typeAt xs) types) (length types) new top
-      unfolding new
-      new-right = record {
-        left = subst (Known (length types) top) (sym (left-put heap top left right m room F)) K;
-        right = subst (Known (length types) top) (sym (right-put heap top left right m room F′)) K′;
-        count = count-is ∙ exact ∙ ap nodes (sym new-tree);
-        small = omega (arith, count-is);
-      }
-
-      grown : Grown xs types heap new top (prod a b)
-      unfolding new
-      grown = record {
-        sources = record {
-          entries = S .entries;
-          figures = figures-kept (S .figures) agree;
-          products = record {
-            held = omega (arith, room, length-node heap top left right m);
-            node = λ k l. ⊎-elim
-                (λ e. subst (Right (map (typeAt xs) types) (length types) new) (sym e) new-right)
-                (λ lt. right-kept (S .products) agree k lt)
-                (at-or-below k (omega arith));
-          };
+    pub grown : Grown xs types heap (putNode heap top left right m) top (prod a b)
+    unfolding new
+    grown = record {
+      sources = record {
+        entries = S .entries;
+        figures = figures-kept (S .entries .few) (S .figures) agree;
+        products = record {
+          held = omega (arith, room, length-node heap top left right m);
+          node = λ k l. ⊎-elim
+              (λ e. subst (Right (map (typeAt xs) types) (length types) new) (sym e) new-right)
+              (λ lt. right-kept (S .products) agree k lt)
+              (at-or-below k (omega arith));
         };
-        agree = agree;
-        tree = tree-product (map (typeAt xs) types) new (productCode top) refl ∙ new-tree;
-      }
-        where
-          at-or-below : (k : ℕ) → k ≤ top → (k ≡ top) ⊎ (k < top)
-          at-or-below k le = eq-or-lt-of-le le
-
-      pub made-new : {heap′ : List ℕ} → heap′ ≡ putNode heap top left right m → Made xs types heap heap′ top left right true
-      unfolding new
-      made-new q = rw q (record {
-        answer = sym (le-leb (nodes (prod a b)) maxNodes (omega (arith, exact)));
-        new = λ e. grown;
-        old = λ e. absurd (false≢true (sym e));
-      })
+      };
+      agree = agree;
+      tree = tree-product (map (typeAt xs) types) new (productCode top) refl ∙ new-tree;
+    }
+      where
+        at-or-below : (k : ℕ) → k ≤ top → (k ≡ top) ⊎ (k < top)
+        at-or-below k le = eq-or-lt-of-le le

@@ -19,6 +19,8 @@ pub mod Unfold
 pub mod Counts
 -- new product nodes: what is put, and what stays
 pub mod Growing
+-- hints at products, and the product of two types by what is found
+pub mod Hinting
 -- what typing asks of a type, by its outermost node
 pub mod Asked
 -- how the sources of codes come about

@@ -41,6 +41,9 @@ module _ {xs types heap keys index : List ℕ} (T : Traceable xs types heap keys
   pub figures-asked : (i : ℕ) → i < length types → (typingBytes ≤ length heap) × (i < maxTypes)
   figures-asked i l = (T .figured .held, omega (arith, T .entries .few))
 
+  pub number-there : {k n alias : ℕ} → k < length types → n ≡ k → alias ≡ numberAt heap n → alias < length types
+  number-there {k} l e q = omega (arith, q, ap (numberAt heap) e, T .figured .number-lower k l)
+
   ----------------------------------------------------------------
   -- An alias kept
 
@@ -87,11 +90,10 @@ module _ {xs types heap keys index : List ℕ} (T : Traceable xs types heap keys
 
   -- the body of a recursive type, in which its variable is free
   pub body-asked : {m : ℕ} → m < length types → {n at kind : ℕ} → n ≡ m → at ≡ getD types n 0 → kind ≡ kindAt xs at → kind ≡ recursiveKind
-      → {x j : ℕ} → x ≡ first xs at → j ≡ numberAt heap m
-      → Traceable xs types heap keys index × ((x < length types) × (j < length types) × (1 + x ≤ 512))
-  body-asked {m} l e f g k p q =
+      → {x : ℕ} → x ≡ first xs at → Traceable xs types heap keys index × ((x < length types) × (m < length types) × (1 + x ≤ 512))
+  body-asked {m} l e f g k p =
       let low : first xs _ < m = first-lower (T .entries) l e f g (λ z. omega (arith, z)) (omega arith) in
-      (T, (omega (arith, low, p), omega (arith, q, T .figured .number-lower m l), omega (arith, low, p, T .entries .few)))
+      (T, (omega (arith, low, p), l, omega (arith, low, p, T .entries .few)))
 
 ----------------------------------------------------------------
 -- A roll or an unroll names a type

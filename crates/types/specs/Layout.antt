@@ -1,4 +1,4 @@
--- The bytes that typing is lent: product nodes, then what is kept of each type entry.
+-- The bytes that typing is lent: product nodes, then what is kept of each type entry, then hints at products.
 use Prim.Native.Nat.{ℕ, _+_, _*_}
 use package.Rattle.rules.specs.Limits.{maxTypes, maxTerms}
 
@@ -15,5 +15,16 @@ figureBytes = 10
 abbrev pub figuresFrom : ℕ
 figuresFrom = nodeBytes * maxTerms
 
+abbrev pub hintsFrom : ℕ
+hintsFrom = figuresFrom + figureBytes * maxTypes
+
+-- a hint: a code, six bytes
+abbrev pub hintBytes : ℕ
+hintBytes = 6
+
+-- a prime, about as many as there can be products
+abbrev pub hintSlots : ℕ
+hintSlots = 1021
+
 abbrev pub typingBytes : ℕ
-typingBytes = figuresFrom + figureBytes * maxTypes
+typingBytes = hintsFrom + hintBytes * hintSlots

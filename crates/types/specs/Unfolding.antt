@@ -8,15 +8,16 @@ use package.Rattle.calls.specs.Entries.{TypeEntry, y-unit, y-prod, y-sum, y-mu,
 use package.Rattle.types.specs.declared.codes.Code.{Code}
 use package.Rattle.types.specs.declared.unfolding.Body.{Body}
 use package.Rattle.types.specs.declared.unfolding.Body.the-variants.{Of, Other}
+use package.Rattle.types.specs.Figures.{numberAt}
 use package.Rattle.types.specs.Codes.{entryCode, underCode, treeIn, Known}
 
--- of entry `i`: its part, with variable 0 standing for the entry itself
-unfoldable pub bodyOf : TypeEntry → ℕ → Body
-bodyOf y-unit i = Other
-bodyOf (y-prod a b) i = Other
-bodyOf (y-sum a b) i = Other
-bodyOf (y-mu a) i = Of (underCode a i)
-bodyOf (y-var k) i = Other
+-- of entry `i`: its part, with variable 0 standing for the entry itself, both by their numbers
+unfoldable pub bodyOf : List ℕ → TypeEntry → ℕ → Body
+bodyOf heap y-unit i = Other
+bodyOf heap (y-prod a b) i = Other
+bodyOf heap (y-sum a b) i = Other
+bodyOf heap (y-mu a) i = Of (underCode (numberAt heap a) (numberAt heap i))
+bodyOf heap (y-var k) i = Other
 
 -- The entry `i` is recursive, and the code is of the type that it unfolds to.
 pub record Unfolds (xs types heap : List ℕ) (top i : ℕ) (c : Code) : Type 0 where

@@ -13,16 +13,18 @@ ghost use Rattle.types.specs.Figures.{Figured};
 ghost use Rattle.types.specs.Codes.{Readable};
 ghost use Rattle.types.specs.Numbering.{slots, Traceable};
 use crate::codes;
+use crate::codes::Code;
 use crate::compare;
 use crate::figures;
+use crate::hints;
 use crate::numbering;
 use crate::numbering::SLOT_COUNT;
 use program::kinds;
 use program::views;
 use rules::MAX_TYPES;
 
-// The entry that has the key is the alias of entry `i`, with entry `j` for its outermost free variable, if both are equal as trees. Answers one more
-// than the alias; 0 if there is none.
+// The entry that has the key is the alias of entry `i`, with entry `j` for its outermost free variable, if both are equal as trees. Answers the code of
+// what that is: the alias, by its number, so that the wholes above are found by keys too, or else the part itself.
 fn keep(
     p: &[u8],
     types: &[u16],
@@ -32,25 +34,59 @@ fn keep(
     i: u16,
     j: u16,
     key: u32,
-) -> u16
+) -> Code
     requires { ⌜ Traceable (now p) (now types) (now ws) (now keys) (now index) ⌝ }
     requires { ⌜ (i < length (now types)) × (j < length (now types)) ⌝ }
     ensures { λ _. ⌜ Figured (map (typeAt (now (p .entry))) (now (types .entry))) (now (ws .exit)) (length (now (types .entry))) ⌝ }
 {
+    let part = codes::under(i, j);
     let k = numbering::find(keys, index, types.len(), key);
     if k == types.len() {
-        return 0;
+        return part;
     }
-    let alias = k as u16;
-    if compare::same(p, types, ws, 0, codes::under(i, j), codes::entry(alias)) {
+    let alias = figures::number_of(ws, k as u16);
+    let whole = codes::entry(alias);
+    if compare::same(p, types, ws, 0, part, whole) {
         figures::put_alias(ws, i, j, alias);
-        return alias + 1;
+        return whole;
     }
-    0
+    part
 }
 
-// One more than the entry that the part is equal to, with entry `j` for the variable that stands in it if `free` variables are free; 0 if none is. Parts
-// come before wholes, so that each is compared by the aliases of its own parts.
+// The same from the codes of its parts. Where it is a product, pairs of such parts are to find it: a hint is put.
+fn join(
+    p: &[u8],
+    types: &[u16],
+    ws: &mut [u8],
+    keys: &[u32],
+    index: &[u16],
+    i: u16,
+    j: u16,
+    kind: u8,
+    left: Code,
+    right: Code,
+) -> Code
+    requires { ⌜ Traceable (now p) (now types) (now ws) (now keys) (now index) ⌝ }
+    requires { ⌜ (i < length (now types)) × (j < length (now types)) × (kind ≤ 4) ⌝ }
+    ensures { λ _. ⌜ Figured (map (typeAt (now (p .entry))) (now (types .entry))) (now (ws .exit)) (length (now (types .entry))) ⌝ }
+{
+    if codes::are_entries(left, right) {
+        let key = numbering::packed(kind, left.at, right.at);
+        let c = keep(p, types, ws, keys, index, i, j, key);
+        if kind == kinds::PRODUCT {
+            hints::put(ws, left, right, c);
+        }
+        return c;
+    }
+    let c = codes::under(i, j);
+    if kind == kinds::PRODUCT {
+        hints::put(ws, left, right, c);
+    }
+    c
+}
+
+// The code of a part in which entry `j` stands for the outermost variable, if `free` variables are free in it; else of the part as it is. Parts come
+// before wholes, so that each is compared by the aliases of its own parts.
 fn trace(
     p: &[u8],
     types: &[u16],
@@ -60,60 +96,35 @@ fn trace(
     part: u16,
     j: u16,
     free: u32,
-) -> u16
+) -> Code
     requires { ⌜ Traceable (now p) (now types) (now ws) (now keys) (now index) ⌝ }
     requires { ⌜ (part < length (now types)) × (j < length (now types)) × (free + part ≤ 512) ⌝ }
     ensures { λ _. ⌜ Figured (map (typeAt (now (p .entry))) (now (types .entry))) (now (ws .exit)) (length (now (types .entry))) ⌝ }
 {
     let i = figures::number_of(ws, part);
     if octets::wide32(figures::free_of(ws, i)) != free {
-        return i + 1;
+        return codes::entry(i);
     }
     let at = octets::wide_index(types[octets::wide_index(i)]);
     let kind = views::kind(p, at);
     if kind == kinds::TYPE_VARIABLE {
-        return j + 1;
+        return codes::entry(j);
     }
     if kind == kinds::UNIT_TYPE {
-        return 0;
+        return codes::entry(i);
     }
     if kind == kinds::RECURSIVE {
-        let x = trace(p, types, ws, keys, index, views::first(p, at), j, free + 1);
-        if x == 0 {
-            return 0;
-        }
-        return keep(
-            p,
-            types,
-            ws,
-            keys,
-            index,
-            i,
-            j,
-            numbering::packed(kind, x - 1, 0),
-        );
+        let body = trace(p, types, ws, keys, index, views::first(p, at), j, free + 1);
+        // a recursive type has one part, and its key 0 for the other
+        let none = codes::entry(0);
+        return join(p, types, ws, keys, index, i, j, kind, body, none);
     }
-    let x = trace(p, types, ws, keys, index, views::first(p, at), j, free);
-    if x == 0 {
-        return 0;
-    }
-    let y = trace(p, types, ws, keys, index, views::second(p, at), j, free);
-    if y == 0 {
-        return 0;
-    }
-    keep(
-        p,
-        types,
-        ws,
-        keys,
-        index,
-        i,
-        j,
-        numbering::packed(kind, x - 1, y - 1),
-    )
+    let left = trace(p, types, ws, keys, index, views::first(p, at), j, free);
+    let right = trace(p, types, ws, keys, index, views::second(p, at), j, free);
+    join(p, types, ws, keys, index, i, j, kind, left, right)
 }
 
-// The type that a roll or unroll at `at` names, once a type.
+// The type that a roll or unroll at `at` names, once for all entries that are equal.
 fn open_term(
     p: &[u8],
     types: &[u16],
@@ -132,10 +143,11 @@ fn open_term(
         return;
     }
     let named = views::first(p, at);
-    let n = octets::wide_index(named);
-    if types.len() <= n {
+    if types.len() <= octets::wide_index(named) {
         return;
     }
+    let j = figures::number_of(ws, named);
+    let n = octets::wide_index(j);
     if tried[n] == 1 {
         return;
     }
@@ -145,7 +157,6 @@ fn open_term(
     if form != kinds::RECURSIVE {
         return;
     }
-    let j = figures::number_of(ws, named);
     trace(p, types, ws, keys, index, views::first(p, from), j, 1);
 }
 

@@ -18,10 +18,10 @@ pub fn is_unit(p: &[u8], types: &[u16], ws: &[u8], top: u32, c: Code) -> bool
     parts::kind_of(p, types, ws, top, d) == kinds::UNIT_TYPE
 }
 
-// Are the types equal? Entries are told equal or apart in one step, by their numbers (02, F-4), and codes that settle alike are; else the outermost
-// nodes are compared, and their parts. Nothing is counted. Parts are read one by one, each only where it is asked: a struct of all of them would be
+// Are the types equal, by their outermost nodes? Entries are told equal or apart in one step, by their numbers (02, F-4), and codes that settle alike
+// are; else the parts are compared. Nothing is counted. Parts are read one by one, each only where it is asked: a struct of all of them would be
 // copied.
-pub fn same(p: &[u8], types: &[u16], ws: &[u8], top: u32, c: Code, d: Code) -> bool
+fn same_nodes(p: &[u8], types: &[u16], ws: &[u8], top: u32, c: Code, d: Code) -> bool
     requires { ⌜ Sources (now p) (now types) (now ws) top ⌝ }
     requires { ⌜ Known (length (now types)) top c × Known (length (now types)) top d ⌝ }
     ensures { λ r. ⌜ r ≡ sameTy (treeIn (now (p .entry)) (now (types .entry)) (now (ws .entry)) c) (treeIn (now (p .entry)) (now (types .entry)) (now (ws .entry)) d) ⌝ }
@@ -49,14 +49,26 @@ pub fn same(p: &[u8], types: &[u16], ws: &[u8], top: u32, c: Code, d: Code) -> b
     }
     let a = parts::first_of(p, types, ws, top, v, kind);
     let b = parts::first_of(p, types, ws, top, w, kind);
-    let first = same(p, types, ws, top, a, b);
+    let first = same_nodes(p, types, ws, top, a, b);
     if kind == kinds::RECURSIVE {
         return first;
     }
     if first {
         let e = parts::second_of(p, types, ws, top, v, kind);
         let f = parts::second_of(p, types, ws, top, w, kind);
-        return same(p, types, ws, top, e, f);
+        return same_nodes(p, types, ws, top, e, f);
     }
     false
+}
+
+// Are the types equal? Where a program goes on with the type that it has, the codes are the same, and nothing is read.
+pub fn same(p: &[u8], types: &[u16], ws: &[u8], top: u32, c: Code, d: Code) -> bool
+    requires { ⌜ Sources (now p) (now types) (now ws) top ⌝ }
+    requires { ⌜ Known (length (now types)) top c × Known (length (now types)) top d ⌝ }
+    ensures { λ r. ⌜ r ≡ sameTy (treeIn (now (p .entry)) (now (types .entry)) (now (ws .entry)) c) (treeIn (now (p .entry)) (now (types .entry)) (now (ws .entry)) d) ⌝ }
+{
+    if codes::identical(c, d) {
+        return true;
+    }
+    same_nodes(p, types, ws, top, c, d)
 }

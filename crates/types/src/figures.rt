@@ -8,10 +8,13 @@ ghost use Rattle.types.specs.Figures.{numberAt, freeAt, outerAt, standAt
 ghost use Rattle.types.specs.Numbering.{putFigures, putAlias};
 use crate::nodes::NODE_BYTES;
 use rules::MAX_TERMS;
+use rules::MAX_TYPES;
 
 const FIGURE_BYTES: usize = 10;
 
 const FIGURES_FROM: usize = NODE_BYTES * MAX_TERMS;
+
+pub const FIGURES_END: usize = FIGURES_FROM + FIGURE_BYTES * MAX_TYPES;
 
 // Where the figures of entry `i` begin.
 fn place(i: u16) -> usize

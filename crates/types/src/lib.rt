@@ -7,6 +7,7 @@ pub mod shapes; // shapes.rt: the same, whole
 pub mod unfolding; // unfolding.rt: what a recursive entry unfolds to
 pub mod compare; // compare.rt: types compared
 pub mod counting; // counting.rt: the nodes of a type
+pub mod hints; // hints.rt: guesses at the codes of products
 pub mod numbering; // numbering.rt: the figures of all type entries, made before typing
 pub mod aliases; // aliases.rt: which entries the parts of an unfolding are equal to
 pub mod products; // products.rt: products of two types

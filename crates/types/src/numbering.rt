@@ -14,6 +14,7 @@ ghost use Rattle.types.specs.Codes.{Readable};
 ghost use Rattle.types.specs.Numbering.{slots, slotOf, packed, share, twoOf, recursiveOf, boundOf, figureOf, numberFrom, Finds, Numbered};
 use crate::counting;
 use crate::figures;
+use crate::hints;
 use program::kinds;
 use program::views;
 
@@ -189,6 +190,7 @@ fn enter(p: &[u8], types: &[u16], ws: &mut [u8], keys: &mut [u32], index: &mut [
     let k = find(keys, index, i, f.key);
     let own = number(ws, n, k);
     figures::put(ws, n, own, f.free, f.outer);
+    hints::put_entry(p, at, ws, own);
     keys[i] = f.key;
     let s = slot(f.key);
     index[s] = n + 1;

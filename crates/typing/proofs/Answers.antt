@@ -10,7 +10,7 @@ use package.Rattle.rules.specs.Term.{Term, usedIn}
 use package.Rattle.rules.specs.Check.{Naming, Site, Checked, good, bad, _>>=_, _>>_, need}
 use package.Rattle.types.specs.declared.codes.Code.{Code}
 use package.Rattle.types.specs.Codes.{treeIn, Known, Sources}
-use package.Rattle.types.specs.Growth.{Grown}
+use package.Rattle.types.specs.Growth.{Formed}
 use package.Rattle.types.proofs.Growing.{agree-refl, agree-trans, agree-down, tree-kept}
 use package.Rattle.types.proofs.Outer.{known-up}
 use package.Rattle.typing.specs.Contexts.{UsedBy, Owed}
@@ -121,13 +121,13 @@ module _ {p types : List ℕ} where
     waited = waited-more size (K .waited) s;
   }
 
-  pub kept-grown : (m : ℕ) (vars : List ℕ) {heap heap′ : List ℕ} {top : ℕ} {τ : Ty} → Grown p types heap heap′ top τ
-      → Kept 1 p types heap heap′ m vars vars top (top + 1)
-  kept-grown m vars G = record {
+  pub kept-formed : (m : ℕ) (vars : List ℕ) {heap heap′ : List ℕ} {top : ℕ} {τ : Ty} {c : Code} {top′ : ℕ} → Formed p types heap heap′ top τ c top′
+      → Kept 1 p types heap heap′ m vars vars top top′
+  kept-formed m vars G = record {
     agree = G .agree;
     sources = G .sources;
-    grows = omega arith;
-    few = omega arith;
+    grows = G .least;
+    few = G .most;
     below = λ j h. refl;
     lengths = refl;
     waited = waited-none 1 vars;

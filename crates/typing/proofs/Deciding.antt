@@ -7,7 +7,8 @@ use mathlib.Core.List.{List}
 use package.Rattle.octets.specs.Runs.{Decides}
 use package.Rattle.rules.specs.Ty.{sameTy}
 use package.Rattle.types.specs.declared.codes.Code.{Code}
-use package.Rattle.types.specs.Codes.{productCode, treeIn}
+use package.Rattle.types.specs.Codes.{treeIn}
+use package.Rattle.types.specs.declared.products.Pairing.{Pairing}
 use package.Rattle.types.specs.Growth.{Made}
 use package.Rattle.varsets.specs.declared.Uses.{Uses}
 use package.Rattle.varsets.specs.Sets.{Holds, has, joined, AgreeOn}
@@ -168,18 +169,13 @@ module _ {p types heap heap′ : List ℕ} {l f : Found} {t : ℕ} {out r : Out}
     typed = λ g q. subst (λ g. Paired p types heap heap′ l g (out .top) t r) (typed-inj (sym s ∙ q)) P;
   }
 
-  module _ {ok : Bool} (s : out .status ≡ Typed f) (M : Made p types heap heap′ (out .top) (l .code) (f .code) ok) where
-    pub pairs-made : ok ≡ true → r .top ≡ out .top + 1 → {c : Code} → c ≡ productCode (out .top)
-        → Joins (record { code = c; uses = f .uses }) (l .uses) (r .status) → Pairs p types heap heap′ l t out r
-    pairs-made k e q J = paired s (record {
-      made = ok;
-      grown = M;
-      yes = λ x. (e, subst (λ c. Joins (record { code = c; uses = f .uses }) (l .uses) (r .status)) q J);
-      no = λ x. absurd (false≢true (sym x ∙ k));
-    })
+  module _ {m : Pairing} (s : out .status ≡ Typed f) (M : Made p types heap heap′ (out .top) (l .code) (f .code) m) where
+    pub pairs-made : m .fits ≡ true → r .top ≡ m .top → Joins (record { code = m .code; uses = f .uses }) (l .uses) (r .status)
+        → Pairs p types heap heap′ l t out r
+    pairs-made k e J = paired s (record { pairing = m; made = M; yes = λ x. (e, J); no = λ x. absurd (false≢true (sym x ∙ k)) })
 
-    pub pairs-large : ok ≡ false → r .top ≡ out .top → r .status ≡ Refused (Differ t) → Pairs p types heap heap′ l t out r
-    pairs-large k e q = paired s (record { made = ok; grown = M; yes = λ x. absurd (false≢true (sym k ∙ x)); no = λ x. (e, q) })
+    pub pairs-large : m .fits ≡ false → r .top ≡ out .top → r .status ≡ Refused (Differ t) → Pairs p types heap heap′ l t out r
+    pairs-large k e q = paired s (record { pairing = m; made = M; yes = λ x. absurd (false≢true (sym k ∙ x)); no = λ x. (e, q) })
 
 pub pairs-refused : {p types heap : List ℕ} {l : Found} {t : ℕ} {out r : Out} {w : Fault} → out .status ≡ Refused w → r ≡ out
     → Pairs p types heap heap l t out r

@@ -1,4 +1,4 @@
--- What a pair does: both parts, then a new product.
+-- What a pair does: both parts, then their product.
 use Prim.Native.Nat.{ℕ, suc, _+_, _≤_, _<_}
 use native.Mathlib.Omega.{arith}
 use mathlib.Core.Path.{_≡_, refl, sym, ap, ap₂, subst, _∙_}
@@ -15,7 +15,6 @@ use package.Rattle.rules.proofs.Basics.{given}
 use package.Rattle.program.specs.Parts.{first, second}
 use package.Rattle.program.specs.Kinds.{pairKind}
 use package.Rattle.types.specs.Codes.{Room, treeIn, Known}
-use package.Rattle.types.proofs.Outer.{product-known}
 use package.Rattle.varsets.specs.declared.Uses.{Uses}
 use package.Rattle.varsets.specs.Sets.{Holds, has, joined}
 use package.Rattle.typing.specs.Contexts.{UsedBy}
@@ -24,7 +23,7 @@ use package.Rattle.typing.specs.Outcomes.{faultOf}
 use package.Rattle.typing.specs.Ready.{termIn, contextIn, typingOf, typeIn, Ready, Here, Kept, Inferred, Paired, Pairs}
 use package.Rattle.typing.specs.Asked.{Infers}
 use package.Rattle.typing.proofs.Answers.{ends-refused, ends-typed, inferred, refusing, kept-then}
-use package.Rattle.typing.proofs.Answers.{kept-more, kept-grown, tree-later, known-later, need-yes}
+use package.Rattle.typing.proofs.Answers.{kept-more, kept-formed, tree-later, known-later, need-yes}
 use package.Rattle.typing.proofs.Answers.{need-no, answered, part-refused, earlier, says, good-then, ready-less, context-later, ready-later}
 use package.Rattle.typing.proofs.Trees.{tree-pair, parts-pair}
 use Rattle.typing.specs.declared.outcomes.Scope.{Scope}
@@ -125,41 +124,42 @@ module _ {p types terms functions nodes heap vars : List ℕ} {sc : Scope} {top 
           rule-made : typeIn p types terms functions heap vars sc t ≡ (need (leb (nodesIn (prod a b)) maxNodes) 6 (term t) >> good (prod a b))
           rule-made = rule-right ∙ good-then _ (answered both e₂)
 
-          made-pair : (Q : Paired p types heap₂ heap₃ f g (o₂ .top) t out) → Q .made ≡ true
+          made-pair : (Q : Paired p types heap₂ heap₃ f g (o₂ .top) t out) → Q .pairing .fits ≡ true
               → Infers p types terms functions heap heap₃ vars vars₂ sc top t out
           made-pair Q y =
-              let G = Q .grown .new y in
-              let J = Q .yes y .1 in
+              let G = Q .made .formed y in
+              let (later, J) = Q .yes y in
               inferred
-              (subst (λ x. Kept (termsIn (termIn p types terms t)) p types heap heap₃ (sc .n) vars vars₂ top x) (sym (Q .yes y .0))
-              (kept-then _ (both .kept) (kept-grown (sc .n) vars₂ G) (omega arith)
+              (subst (λ x. Kept (termsIn (termIn p types terms t)) p types heap heap₃ (sc .n) vars vars₂ top x) (sym later)
+              (kept-then _ (both .kept) (kept-formed (sc .n) vars₂ G) (omega arith)
               (let z : termsIn L + termsIn R + 1 ≤ termsIn (termIn p types terms t) = omega (arith, size-pair) in z)))
               (ends-typed (J .is)
-              (subst (Known (length types) (out .top)) (sym (J .code)) (product-known (o₂ .top) (omega (arith, Q .yes y .0))))
+              (subst (λ x. Known (length types) x (J .found .code)) (sym later)
+              (subst (Known (length types) (Q .pairing .top)) (sym (J .code)) (G .known)))
               (named-both (termIn p types terms t) L R (λ i. ap (usedIn i) paired) (d .uses f e) (d₂ .uses g e₂) (J .uses))
-              (rule-made ∙ need-yes _ _ _ _ (sym (Q .grown .answer) ∙ y) ∙ ap good (sym (ap (treeIn p types heap₃) (J .code) ∙ G .tree))))
+              (rule-made ∙ need-yes _ _ _ _ (sym (Q .made .answer) ∙ y) ∙ ap good (sym (ap (treeIn p types heap₃) (J .code) ∙ G .tree))))
               (λ h q. both .waits g e₂ ∙ sym waits-pair)
 
-          large-pair : (Q : Paired p types heap₂ heap₃ f g (o₂ .top) t out) → Q .made ≡ false
+          large-pair : (Q : Paired p types heap₂ heap₃ f g (o₂ .top) t out) → Q .pairing .fits ≡ false
               → Infers p types terms functions heap heap₃ vars vars₂ sc top t out
           unfolding faultOf
           large-pair Q n = inferred
-              (subst (λ h. Kept (termsIn (termIn p types terms t)) p types heap h (sc .n) vars vars₂ top (out .top)) (sym (Q .grown .old n))
+              (subst (λ h. Kept (termsIn (termIn p types terms t)) p types heap h (sc .n) vars vars₂ top (out .top)) (sym (Q .made .old n))
               (subst (λ x. Kept (termsIn (termIn p types terms t)) p types heap heap₂ (sc .n) vars vars₂ top x) (sym (Q .no n .0))
               (kept-more _ (both .kept) (omega (arith, size-pair)))))
-              (ends-refused (Q .no n .1) (rule-made ∙ need-no _ _ _ _ (sym (Q .grown .answer) ∙ n))) (refusing (Q .no n .1))
+              (ends-refused (Q .no n .1) (rule-made ∙ need-no _ _ _ _ (sym (Q .made .answer) ∙ n))) (refusing (Q .no n .1))
 
         pub pair-done : Infers p types terms functions heap heap₃ vars vars₂ sc top t out
         pair-done = by (o₂ .status) refl
           where
-            made-or-not : (g : Found) → o₂ .status ≡ Typed g → (Q : Paired p types heap₂ heap₃ f g (o₂ .top) t out) → (m : Bool) → Q .made ≡ m
+            made-or-not : (g : Found) → o₂ .status ≡ Typed g → (Q : Paired p types heap₂ heap₃ f g (o₂ .top) t out) → (m : Bool) → Q .pairing .fits ≡ m
                 → Infers p types terms functions heap heap₃ vars vars₂ sc top t out
             made-or-not g e₂ Q true y = made-pair g e₂ Q y
             made-or-not g e₂ Q false y = large-pair g e₂ Q y
 
             by : (s : Status) → o₂ .status ≡ s
                 → Infers p types terms functions heap heap₃ vars vars₂ sc top t out
-            by (Typed g) e₂ = made-or-not g e₂ (P .typed g e₂) (P .typed g e₂ .made) refl
+            by (Typed g) e₂ = made-or-not g e₂ (P .typed g e₂) (P .typed g e₂ .pairing .fits) refl
             by (Refused w) e₂ = given (P .refused w e₂) λ (h, z).
                 subst (λ h. Infers p types terms functions heap h vars vars₂ sc top t out) (sym h)
                 (subst (λ o. Infers p types terms functions heap heap₂ vars vars₂ sc top t o) (sym z)

@@ -231,7 +231,7 @@ module _ {p types terms functions nodes heap vars : List ℕ} {sc : Scope} {top 
   pub roll-whole : {whole : Code} → whole ≡ entryCode i → Known (length types) top whole
   roll-whole w = subst (Known (length types) top) (sym w) (entry-known i roll-type)
 
-  module _ {b : Body} (e : b ≡ bodyOf (typeAt p (getD types i 0)) i) where
+  module _ {b : Body} (e : b ≡ bodyOf heap (typeAt p (getD types i 0)) i) where
     pub roll-no : {r : Out} → b ≡ Other → r .status ≡ Refused (Differ t) → r .top ≡ top
         → Infers p types terms functions heap heap vars vars sc top t r
     unfolding infer faultOf
@@ -282,7 +282,7 @@ module _ {p types terms functions nodes heap vars : List ℕ} {sc : Scope} {top 
   pub unroll-whole : {whole : Code} → whole ≡ entryCode i → Known (length types) top whole
   unroll-whole w = subst (Known (length types) top) (sym w) (entry-known i unroll-type)
 
-  module _ {b : Body} (e : b ≡ bodyOf (typeAt p (getD types i 0)) i) where
+  module _ {b : Body} (e : b ≡ bodyOf heap (typeAt p (getD types i 0)) i) where
     pub unroll-no : {r : Out} → b ≡ Other → r .status ≡ Refused (Differ t) → r .top ≡ top
         → Infers p types terms functions heap heap vars vars sc top t r
     unfolding infer faultOf

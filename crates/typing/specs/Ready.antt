@@ -18,7 +18,8 @@ use package.Rattle.program.specs.Places.{placesOf}
 use package.Rattle.program.specs.Programs.{programIn}
 use package.Rattle.program.specs.Kinds.{callKind}
 use package.Rattle.types.specs.declared.codes.Code.{Code}
-use package.Rattle.types.specs.Codes.{Room, codeAt, unitCode, productCode, treeIn, Known, Sources}
+use package.Rattle.types.specs.Codes.{Room, codeAt, unitCode, treeIn, Known, Sources}
+use package.Rattle.types.specs.declared.products.Pairing.{Pairing}
 use package.Rattle.types.specs.Counts.{Counted}
 use package.Rattle.types.specs.Growth.{Agree, Made}
 use package.Rattle.varsets.specs.declared.Uses.{Uses}
@@ -283,12 +284,12 @@ pub record Meets (p types heap : List ℕ) (l : Found) (u : Uses) (i : ℕ) (d :
   pub both : sameTy (treeIn p types heap (l .code)) (treeIn p types heap (f .code)) ≡ true → spentBy p types heap d i (f .uses) ≡ true
       → AgreeOn (l .uses) (f .uses) owed → Unites l f u s
 
--- The product of two types is made, or refused as too large (6).
+-- The product of two types has a code, or is refused as too large (6).
 pub record Paired (p types heap heap′ : List ℕ) (l f : Found) (top t : ℕ) (r : Out) : Type 0 where
-  pub made : Bool
-  pub grown : Made p types heap heap′ top (l .code) (f .code) made
-  pub yes : made ≡ true → (r .top ≡ top + 1) × Joins (record { code = productCode top; uses = f .uses }) (l .uses) (r .status)
-  pub no : made ≡ false → (r .top ≡ top) × (r .status ≡ Refused (Differ t))
+  pub pairing : Pairing
+  pub made : Made p types heap heap′ top (l .code) (f .code) pairing
+  pub yes : pairing .fits ≡ true → (r .top ≡ pairing .top) × Joins (record { code = pairing .code; uses = f .uses }) (l .uses) (r .status)
+  pub no : pairing .fits ≡ false → (r .top ≡ top) × (r .status ≡ Refused (Differ t))
 
 -- A pair, whose left part has the type and uses `l`, and whose right part the outcome `out`.
 pub record Pairs (p types heap heap′ : List ℕ) (l : Found) (t : ℕ) (out r : Out) : Type 0 where

@@ -101,7 +101,7 @@ fn inject(
     tests::expect(p, types, ws, r, s.second, whole, t)
 }
 
-// A pair: its type is a new product.
+// A pair: its type is the product.
 fn pair(
     p: &[u8],
     types: &[u16],
@@ -155,7 +155,7 @@ fn roll(
 {
     let i = program::views::first(p, at);
     let part = program::views::second(p, at);
-    let body = types::unfolding::unfolded(p, types, i);
+    let body = types::unfolding::unfolded(p, types, ws, i);
     match body {
         Body::Of(c) => {
             let whole = types::codes::entry(i);
@@ -187,7 +187,7 @@ fn unroll(
 {
     let i = program::views::first(p, at);
     let part = program::views::second(p, at);
-    let body = types::unfolding::unfolded(p, types, i);
+    let body = types::unfolding::unfolded(p, types, ws, i);
     match body {
         Body::Of(c) => {
             if types::counting::within_limit(p, types, nodes, ws, top, c) {

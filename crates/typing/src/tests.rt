@@ -237,10 +237,10 @@ pub fn pair_up(
     match status {
         Status::Typed(f) => {
             let made = types::products::product(p, types, nodes, ws, top, left.code, f.code);
-            if made {
-                let code = types::codes::product(top as u16);
+            if made.fits {
+                let code = made.code;
                 let uses = f.uses;
-                return join(top + 1, Found { code, uses }, left.uses);
+                return join(made.top, Found { code, uses }, left.uses);
             }
             outcomes::differ(top, t)
         }

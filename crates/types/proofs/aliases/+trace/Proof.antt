@@ -1,5 +1,5 @@
-use native.Mathlib.Omega.{arith}
 use mathlib.Core.Path.{_∙_}
+use native.Mathlib.Omega.{arith}
 use borrow.Author.Needs.{needs}
 use Rattle.types.proofs.Outer.{kind-there}
 use Rattle.types.proofs.Tracing.{still, figures-asked, own-there, kind-small, first-there, first-falls, both-there, second-falls}
@@ -14,10 +14,10 @@ use Rattle.octets.proofs.wide_index.Reads as wide-index-reads
 use Rattle.program.proofs.views.first.Reads as first-reads
 use Rattle.program.proofs.views.kind.Reads as kind-reads
 use Rattle.program.proofs.views.second.Reads as second-reads
-use Rattle.types.proofs.aliases.keep.Reads as keep-reads
+use Rattle.types.proofs.aliases.join.Reads as join-reads
+use Rattle.types.proofs.codes.entry.Reads as entry-reads
 use Rattle.types.proofs.figures.free_of.Reads as free-of-reads
 use Rattle.types.proofs.figures.number_of.Reads as number-of-reads
-use Rattle.types.proofs.numbering.packed.Reads as packed-reads
 use Rattle.types.proofs.aliases.+trace.{statement}
 use Rattle.types.proofs.aliases.+trace.Tie.{close}
 
@@ -31,28 +31,7 @@ abbrev trace-below : ℕ → In 5 trace-kinds.ps
 trace-below t = and 5 trace-kinds.ps (falls 5 trace-kinds.ps _<_ μ-trace t) trace.Pre
 
 abbrev trace-uses : ℕ → trace-lts.Claims
-trace-uses t = (
-  number-of-reads.Asked,
-  number-of-reads.Learnt,
-  free-of-reads.Asked,
-  free-of-reads.Learnt,
-  wide32-reads.Asked,
-  wide32-reads.Learnt,
-  wide-index-reads.Asked,
-  wide-index-reads.Learnt,
-  kind-reads.Asked,
-  kind-reads.Learnt,
-  first-reads.Asked,
-  first-reads.Learnt,
-  trace-below t,
-  trace.Post,
-  packed-reads.Asked,
-  packed-reads.Learnt,
-  keep-reads.Asked,
-  keep-reads.Learnt,
-  second-reads.Asked,
-  second-reads.Learnt,
-)
+trace-uses t = (number-of-reads.Asked, number-of-reads.Learnt, free-of-reads.Asked, free-of-reads.Learnt, wide32-reads.Asked, wide32-reads.Learnt, entry-reads.Asked, entry-reads.Learnt, wide-index-reads.Asked, wide-index-reads.Learnt, kind-reads.Asked, kind-reads.Learnt, first-reads.Asked, first-reads.Learnt, trace-below t, trace.Post, join-reads.Asked, join-reads.Learnt, second-reads.Asked, second-reads.Learnt)
 
 trace-number-of-requires : (t : ℕ) → trace-lts.Need-number-of-requires (trace-uses t) (trace-at t) trace.Post
 trace-number-of-requires t c κs =
@@ -68,18 +47,15 @@ trace-free-of-requires t c κs =
 trace-wide32-requires : (t : ℕ) → trace-lts.Need-wide32-requires (trace-uses t) (trace-at t) trace.Post
 trace-wide32-requires t c κs = search needs
 
-trace-add-result : (t : ℕ) → trace-lts.Need-add-result (trace-uses t) (trace-at t) trace.Post
-trace-add-result t c =
-    let at-number-of = c .before .before .before .before in
-    let start = at-number-of .before .before .before .before .before .before .before in
-    omega (arith, own-there (start .pre .1 .0) (start .pre .1 .1 .0) (at-number-of .number-of .ensures), start .pre .1 .0 .entries .few)
+trace-entry-requires : (t : ℕ) → trace-lts.Need-entry-requires (trace-uses t) (trace-at t) trace.Post
+trace-entry-requires t c κs = search needs
 
 trace-same-length : (t : ℕ) → trace-lts.Need-same-length (trace-uses t) (trace-at t) trace.Post
 trace-same-length t c = search needs
 
 trace-returns : (t : ℕ) → trace-lts.Need-returns (trace-uses t) (trace-at t) trace.Post
 trace-returns t c =
-    let start = c .before .before .before .before .before .before .before .before .before .before .before in
+    let start = c .before .before .before .before .before .before .before .before .before .before .before .before in
     start .pre .1 .0 .figured
 
 trace-wide-index-requires : (t : ℕ) → trace-lts.Need-wide-index-requires (trace-uses t) (trace-at t) trace.Post
@@ -103,28 +79,29 @@ trace-kind-requires t c κs =
     let at-wide-index = c .before .before in
     let at-number-of = at-wide-index .before .before .before .before .before in
     let start = at-number-of .before .before .before .before .before .before .before in
-    kind-there (start .pre .1 .0 .entries) (own-there (start .pre .1 .0) (start .pre .1 .1 .0) (at-number-of .number-of .ensures) .0) (at-wide-index .wide-index .ensures .0)
-    (c .wide-index2 .ensures .0)
+    kind-there (start .pre .1 .0 .entries) (own-there (start .pre .1 .0) (start .pre .1 .1 .0) (at-number-of .number-of .ensures) .0)
+    (at-wide-index .wide-index .ensures .0) (c .wide-index2 .ensures .0)
 
-trace-add-result-2 : (t : ℕ) → trace-lts.Need-add-result-2 (trace-uses t) (trace-at t) trace.Post
-trace-add-result-2 t c =
-    let start = c .before .before .before .before .before .before .before .before .before .before .before .before .before .before .before .before in
-    omega (arith, start .pre .1 .1 .1, start .pre .1 .0 .entries .few)
+trace-entry-requires-2 : (t : ℕ) → trace-lts.Need-entry-requires-2 (trace-uses t) (trace-at t) trace.Post
+trace-entry-requires-2 t c κs = search needs
 
 trace-same-length-2 : (t : ℕ) → trace-lts.Need-same-length-2 (trace-uses t) (trace-at t) trace.Post
 trace-same-length-2 t c = search needs
 
 trace-returns-2 : (t : ℕ) → trace-lts.Need-returns-2 (trace-uses t) (trace-at t) trace.Post
 trace-returns-2 t c =
-    let start = c .before .before .before .before .before .before .before .before .before .before .before .before .before .before .before .before in
+    let start = c .before .before .before .before .before .before .before .before .before .before .before .before .before .before .before .before .before in
     start .pre .1 .0 .figured
+
+trace-entry-requires-3 : (t : ℕ) → trace-lts.Need-entry-requires-3 (trace-uses t) (trace-at t) trace.Post
+trace-entry-requires-3 t c κs = search needs
 
 trace-same-length-3 : (t : ℕ) → trace-lts.Need-same-length-3 (trace-uses t) (trace-at t) trace.Post
 trace-same-length-3 t c = search needs
 
 trace-returns-3 : (t : ℕ) → trace-lts.Need-returns-3 (trace-uses t) (trace-at t) trace.Post
 trace-returns-3 t c =
-    let start = c .before .before .before .before .before .before .before .before .before .before .before .before .before .before .before .before .before in
+    let start = c .before .before .before .before .before .before .before .before .before .before .before .before .before .before .before .before .before .before in
     start .pre .1 .0 .figured
 
 trace-first-requires : (t : ℕ) → trace-lts.Need-first-requires (trace-uses t) (trace-at t) trace.Post
@@ -156,48 +133,32 @@ trace-trace-requires t c κs =
     (at-wide-index2 .wide-index2 .ensures .0) (at-kind .kind .ensures) (at-if3 .if3 .left) (at-if2 .if2 .left) (c .first .ensures) in
     (omega (arith, start .pre .0, lower .0), (start .pre .1 .0, (lower .1, start .pre .1 .1 .1, omega (arith, start .pre .1 .1 .2, lower .0))))
 
-trace-same-length-4 : (t : ℕ) → trace-lts.Need-same-length-4 (trace-uses t) (trace-at t) trace.Post
-trace-same-length-4 t c =
-    let at-trace = c .before .before .before in
-    at-trace .trace .kept .1 .1 .0
+trace-entry-requires-4 : (t : ℕ) → trace-lts.Need-entry-requires-4 (trace-uses t) (trace-at t) trace.Post
+trace-entry-requires-4 t c κs = search needs
 
-trace-returns-4 : (t : ℕ) → trace-lts.Need-returns-4 (trace-uses t) (trace-at t) trace.Post
-trace-returns-4 t c =
-    let at-trace = c .before .before .before in
-    at-trace .trace .ensures
-
-trace-sub-packed : (t : ℕ) → trace-lts.Need-sub-packed (trace-uses t) (trace-at t) trace.Post
-trace-sub-packed t c =
-    let at-if5 = c .before in
-    omega (arith, at-if5 .if5 .left)
-
-trace-packed-requires : (t : ℕ) → trace-lts.Need-packed-requires (trace-uses t) (trace-at t) trace.Post
-trace-packed-requires t c κs =
-    let at-kind = c .before .before .before .before .before .before .before .before .before .before in
+trace-join-requires : (t : ℕ) → trace-lts.Need-join-requires (trace-uses t) (trace-at t) trace.Post
+trace-join-requires t c κs =
+    let at-trace = c .before .before .before .before in
+    let at-kind = at-trace .before .before .before .before .before .before in
     let at-wide-index2 = at-kind .before in
     let at-wide-index = at-wide-index2 .before .before in
     let at-number-of = at-wide-index .before .before .before .before .before in
     let start = at-number-of .before .before .before .before .before .before .before in
-    kind-small (start .pre .1 .0) (start .pre .1 .1 .0) (at-number-of .number-of .ensures) (at-wide-index .wide-index .ensures .0)
-    (at-wide-index2 .wide-index2 .ensures .0) (at-kind .kind .ensures)
+    let own = own-there (start .pre .1 .0) (start .pre .1 .1 .0) (at-number-of .number-of .ensures) .0 in
+    let few = kind-small (start .pre .1 .0) (start .pre .1 .1 .0) (at-number-of .number-of .ensures) (at-wide-index .wide-index .ensures .0)
+    (at-wide-index2 .wide-index2 .ensures .0) (at-kind .kind .ensures) in
+    (still (start .pre .1 .0) (at-trace .trace .ensures), (own, start .pre .1 .1 .1, few))
 
-trace-keep-requires : (t : ℕ) → trace-lts.Need-keep-requires (trace-uses t) (trace-at t) trace.Post
-trace-keep-requires t c κs =
-    let at-trace = c .before .before .before .before .before in
-    let at-number-of = at-trace .before .before .before .before .before .before .before .before .before .before .before .before .before .before in
-    let start = at-number-of .before .before .before .before .before .before .before in
-    (still (start .pre .1 .0) (at-trace .trace .ensures), (own-there (start .pre .1 .0) (start .pre .1 .1 .0) (at-number-of .number-of .ensures) .0, start .pre .1 .1 .1))
+trace-same-length-4 : (t : ℕ) → trace-lts.Need-same-length-4 (trace-uses t) (trace-at t) trace.Post
+trace-same-length-4 t c =
+    let at-join = c .before .before in
+    let at-trace = at-join .before .before .before .before .before in
+    at-join .join .kept .1 .1 .0 ∙ at-trace .trace .kept .1 .1 .0
 
-trace-same-length-5 : (t : ℕ) → trace-lts.Need-same-length-5 (trace-uses t) (trace-at t) trace.Post
-trace-same-length-5 t c =
-    let at-keep = c .before .before in
-    let at-trace = at-keep .before .before .before .before .before .before in
-    at-keep .keep .kept .1 .1 .0 ∙ at-trace .trace .kept .1 .1 .0
-
-trace-returns-5 : (t : ℕ) → trace-lts.Need-returns-5 (trace-uses t) (trace-at t) trace.Post
-trace-returns-5 t c =
-    let at-keep = c .before .before in
-    at-keep .keep .ensures
+trace-returns-4 : (t : ℕ) → trace-lts.Need-returns-4 (trace-uses t) (trace-at t) trace.Post
+trace-returns-4 t c =
+    let at-join = c .before .before in
+    at-join .join .ensures
 
 trace-first-requires-2 : (t : ℕ) → trace-lts.Need-first-requires-2 (trace-uses t) (trace-at t) trace.Post
 trace-first-requires-2 t c κs =
@@ -228,19 +189,9 @@ trace-trace-requires-2 t c κs =
     (at-wide-index2 .wide-index2 .ensures .0) (at-kind .kind .ensures) (at-if3 .if3 .left) (at-if2 .if2 .left) (c .first2 .ensures) in
     (omega (arith, start .pre .0, lower .0), (start .pre .1 .0, (lower .1, start .pre .1 .1 .1, omega (arith, start .pre .1 .1 .2, lower .0))))
 
-trace-same-length-6 : (t : ℕ) → trace-lts.Need-same-length-6 (trace-uses t) (trace-at t) trace.Post
-trace-same-length-6 t c =
-    let at-trace2 = c .before .before .before in
-    at-trace2 .trace2 .kept .1 .1 .0
-
-trace-returns-6 : (t : ℕ) → trace-lts.Need-returns-6 (trace-uses t) (trace-at t) trace.Post
-trace-returns-6 t c =
-    let at-trace2 = c .before .before .before in
-    at-trace2 .trace2 .ensures
-
 trace-second-requires : (t : ℕ) → trace-lts.Need-second-requires (trace-uses t) (trace-at t) trace.Post
 trace-second-requires t c κs =
-    let at-if4 = c .before .before .before .before .before .before .before in
+    let at-if4 = c .before .before .before .before .before .before in
     let at-if3 = at-if4 .before in
     let at-if2 = at-if3 .before in
     let at-kind = at-if2 .before in
@@ -253,7 +204,7 @@ trace-second-requires t c κs =
 
 trace-trace-requires-3 : (t : ℕ) → trace-lts.Need-trace-requires-3 (trace-uses t) (trace-at t) trace.Post
 trace-trace-requires-3 t c κs =
-    let at-trace2 = c .before .before .before .before .before in
+    let at-trace2 = c .before .before .before .before in
     let at-if4 = at-trace2 .before .before .before in
     let at-if3 = at-if4 .before in
     let at-if2 = at-if3 .before in
@@ -263,59 +214,36 @@ trace-trace-requires-3 t c κs =
     let at-number-of = at-wide-index .before .before .before .before .before in
     let start = at-number-of .before .before .before .before .before .before .before in
     let lower = second-falls (start .pre .1 .0) (start .pre .1 .1 .0) (at-number-of .number-of .ensures) (at-wide-index .wide-index .ensures .0)
-    (at-wide-index2 .wide-index2 .ensures .0) (at-kind .kind .ensures) (at-if3 .if3 .left) (at-if2 .if2 .left) (at-if4 .if4 .left)
-    (c .second .ensures) in
-    (omega (arith, start .pre .0, lower .0), (still (start .pre .1 .0) (at-trace2 .trace2 .ensures), (lower .1, start .pre .1 .1 .1, omega (arith, start .pre .1 .1 .2, lower .0))))
+    (at-wide-index2 .wide-index2 .ensures .0) (at-kind .kind .ensures) (at-if3 .if3 .left) (at-if2 .if2 .left) (at-if4 .if4 .left) (c .second .ensures) in
+    (
+      omega (arith, start .pre .0, lower .0),
+      (still (start .pre .1 .0) (at-trace2 .trace2 .ensures), (lower .1, start .pre .1 .1 .1, omega (arith, start .pre .1 .1 .2, lower .0))),
+    )
 
-trace-same-length-7 : (t : ℕ) → trace-lts.Need-same-length-7 (trace-uses t) (trace-at t) trace.Post
-trace-same-length-7 t c =
+trace-join-requires-2 : (t : ℕ) → trace-lts.Need-join-requires-2 (trace-uses t) (trace-at t) trace.Post
+trace-join-requires-2 t c κs =
     let at-trace3 = c .before .before .before in
-    let at-trace2 = at-trace3 .before .before .before .before .before .before in
-    at-trace3 .trace3 .kept .1 .1 .0 ∙ at-trace2 .trace2 .kept .1 .1 .0
-
-trace-returns-7 : (t : ℕ) → trace-lts.Need-returns-7 (trace-uses t) (trace-at t) trace.Post
-trace-returns-7 t c =
-    let at-trace3 = c .before .before .before in
-    at-trace3 .trace3 .ensures
-
-trace-sub-packed-2 : (t : ℕ) → trace-lts.Need-sub-packed-2 (trace-uses t) (trace-at t) trace.Post
-trace-sub-packed-2 t c =
-    let at-if6 = c .before .before .before .before .before .before .before in
-    omega (arith, at-if6 .if6 .left)
-
-trace-sub-packed-3 : (t : ℕ) → trace-lts.Need-sub-packed-3 (trace-uses t) (trace-at t) trace.Post
-trace-sub-packed-3 t c =
-    let at-if7 = c .before in
-    omega (arith, at-if7 .if7 .left)
-
-trace-packed-requires-2 : (t : ℕ) → trace-lts.Need-packed-requires-2 (trace-uses t) (trace-at t) trace.Post
-trace-packed-requires-2 t c κs =
-    let at-kind = c .before .before .before .before .before .before .before .before .before .before .before .before .before .before .before .before in
+    let at-kind = at-trace3 .before .before .before .before .before .before .before .before .before .before .before in
     let at-wide-index2 = at-kind .before in
     let at-wide-index = at-wide-index2 .before .before in
     let at-number-of = at-wide-index .before .before .before .before .before in
     let start = at-number-of .before .before .before .before .before .before .before in
-    kind-small (start .pre .1 .0) (start .pre .1 .1 .0) (at-number-of .number-of .ensures) (at-wide-index .wide-index .ensures .0)
-    (at-wide-index2 .wide-index2 .ensures .0) (at-kind .kind .ensures)
+    let own = own-there (start .pre .1 .0) (start .pre .1 .1 .0) (at-number-of .number-of .ensures) .0 in
+    let few = kind-small (start .pre .1 .0) (start .pre .1 .1 .0) (at-number-of .number-of .ensures) (at-wide-index .wide-index .ensures .0)
+    (at-wide-index2 .wide-index2 .ensures .0) (at-kind .kind .ensures) in
+    (still (start .pre .1 .0) (at-trace3 .trace3 .ensures), (own, start .pre .1 .1 .1, few))
 
-trace-keep-requires-2 : (t : ℕ) → trace-lts.Need-keep-requires-2 (trace-uses t) (trace-at t) trace.Post
-trace-keep-requires-2 t c κs =
-    let at-trace3 = c .before .before .before .before .before in
-    let at-number-of = at-trace3 .before .before .before .before .before .before .before .before .before .before .before .before .before .before .before .before .before .before .before .before in
-    let start = at-number-of .before .before .before .before .before .before .before in
-    (still (start .pre .1 .0) (at-trace3 .trace3 .ensures), (own-there (start .pre .1 .0) (start .pre .1 .1 .0) (at-number-of .number-of .ensures) .0, start .pre .1 .1 .1))
+trace-same-length-5 : (t : ℕ) → trace-lts.Need-same-length-5 (trace-uses t) (trace-at t) trace.Post
+trace-same-length-5 t c =
+    let at-join2 = c .before .before in
+    let at-trace3 = at-join2 .before .before .before .before in
+    let at-trace2 = at-trace3 .before .before .before .before .before in
+    at-join2 .join2 .kept .1 .1 .0 ∙ at-trace3 .trace3 .kept .1 .1 .0 ∙ at-trace2 .trace2 .kept .1 .1 .0
 
-trace-same-length-8 : (t : ℕ) → trace-lts.Need-same-length-8 (trace-uses t) (trace-at t) trace.Post
-trace-same-length-8 t c =
-    let at-keep2 = c .before .before in
-    let at-trace3 = at-keep2 .before .before .before .before .before .before in
-    let at-trace2 = at-trace3 .before .before .before .before .before .before in
-    at-keep2 .keep2 .kept .1 .1 .0 ∙ at-trace3 .trace3 .kept .1 .1 .0 ∙ at-trace2 .trace2 .kept .1 .1 .0
-
-trace-returns-8 : (t : ℕ) → trace-lts.Need-returns-8 (trace-uses t) (trace-at t) trace.Post
-trace-returns-8 t c =
-    let at-keep2 = c .before .before in
-    at-keep2 .keep2 .ensures
+trace-returns-5 : (t : ℕ) → trace-lts.Need-returns-5 (trace-uses t) (trace-at t) trace.Post
+trace-returns-5 t c =
+    let at-join2 = c .before .before in
+    at-join2 .join2 .ensures
 
 pub +trace-spec : {M : Type 1} → statement M
 +trace-spec = close μ-trace λ t. trace-lts.spec (trace-uses t)
@@ -324,7 +252,7 @@ pub +trace-spec : {M : Type 1} → statement M
     (trace-number-of-requires t)
     (trace-free-of-requires t)
     (trace-wide32-requires t)
-    (trace-add-result t)
+    (trace-entry-requires t)
     (trace-same-length t)
     (trace-returns t)
     (trace-wide-index-requires t)
@@ -332,32 +260,23 @@ pub +trace-spec : {M : Type 1} → statement M
     (trace-shared-slice-read-wide-index t)
     (trace-wide-index-requires-2 t)
     (trace-kind-requires t)
-    (trace-add-result-2 t)
+    (trace-entry-requires-2 t)
     (trace-same-length-2 t)
     (trace-returns-2 t)
+    (trace-entry-requires-3 t)
     (trace-same-length-3 t)
     (trace-returns-3 t)
     (trace-first-requires t)
     (trace-add-trace t)
     (trace-trace-requires t)
+    (trace-entry-requires-4 t)
+    (trace-join-requires t)
     (trace-same-length-4 t)
     (trace-returns-4 t)
-    (trace-sub-packed t)
-    (trace-packed-requires t)
-    (trace-keep-requires t)
-    (trace-same-length-5 t)
-    (trace-returns-5 t)
     (trace-first-requires-2 t)
     (trace-trace-requires-2 t)
-    (trace-same-length-6 t)
-    (trace-returns-6 t)
     (trace-second-requires t)
     (trace-trace-requires-3 t)
-    (trace-same-length-7 t)
-    (trace-returns-7 t)
-    (trace-sub-packed-2 t)
-    (trace-sub-packed-3 t)
-    (trace-packed-requires-2 t)
-    (trace-keep-requires-2 t)
-    (trace-same-length-8 t)
-    (trace-returns-8 t)
+    (trace-join-requires-2 t)
+    (trace-same-length-5 t)
+    (trace-returns-5 t)

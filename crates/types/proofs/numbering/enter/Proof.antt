@@ -23,27 +23,29 @@ cast-n : tie.Need-cast-n
 cast-n c = search needs
 
 find-requires : tie.Need-find-requires
-find-requires c κs =
-    let start = c .before .before .before .before .before .before .before .before .before .before .before in
-    ((omega (arith, start .pre .1 .keys-held, start .pre .0 .0 .few), omega (arith, start .pre .1 .index-held)), start .pre .1 .taken)
+find-requires c κs = search needs
 
 number-requires : tie.Need-number-requires
-number-requires c κs =
-    let at-find = c .before in
-    let start = at-find .before .before .before .before .before .before .before .before .before .before .before .before in
-    (start .pre .1 .figured .held, omega (arith, start .pre .0 .0 .few), at-find .find .ensures .most)
+number-requires c κs = search needs
 
 put-requires : tie.Need-put-requires
-put-requires c κs =
-    let start = c .before .before .before .before .before .before .before .before .before .before .before .before .before .before .before in
-    (start .pre .1 .figured .held, omega (arith, start .pre .0 .0 .few))
+put-requires c κs = search needs
+
+put-entry-requires : tie.Need-put-entry-requires
+put-entry-requires c κs =
+    let at-wide-index = c .before .before .before .before .before .before .before .before .before .before .before .before in
+    let start = at-wide-index .before .before .before .before .before .before .before in
+    let asked = entry-asked (start .pre .0 .0) (start .pre .0 .1) (start .pre .1) (at-wide-index .wide-index .ensures .0) in
+    ((asked .0 .0, search needs), asked .1)
 
 mul-keys : tie.Need-mul-keys
-mul-keys c = search needs
+mul-keys c =
+    let start = c .before .before .before .before .before .before .before .before .before .before .before .before .before .before .before .before .before .before .before .before .before .before in
+    omega (arith, start .pre .0 .0 .few, start .pre .0 .1)
 
 slice-write-keys : tie.Need-slice-write-keys
 slice-write-keys c =
-    let start = c .before .before .before .before .before .before .before .before .before .before .before .before .before .before .before .before .before .before in
+    let start = c .before .before .before .before .before .before .before .before .before .before .before .before .before .before .before .before .before .before .before .before .before .before in
     omega (arith, start .pre .1 .keys-held, start .pre .0 .0 .few)
 
 slot-requires : tie.Need-slot-requires
@@ -51,7 +53,7 @@ slot-requires c κs = search needs
 
 add-index : tie.Need-add-index
 add-index c =
-    let start = c .before .before .before .before .before .before .before .before .before .before .before .before .before .before .before .before .before .before .before in
+    let start = c .before .before .before .before .before .before .before .before .before .before .before .before .before .before .before .before .before .before .before .before .before .before .before in
     omega (arith, start .pre .0 .0 .few)
 
 mul-index : tie.Need-mul-index
@@ -59,7 +61,7 @@ mul-index c = search needs
 
 slice-write-index : tie.Need-slice-write-index
 slice-write-index c =
-    let start = c .before .before .before .before .before .before .before .before .before .before .before .before .before .before .before .before .before .before .before in
+    let start = c .before .before .before .before .before .before .before .before .before .before .before .before .before .before .before .before .before .before .before .before .before .before .before in
     omega (arith, start .pre .1 .index-held, c .slot .ensures .1)
 
 same-length : tie.Need-same-length
@@ -73,7 +75,8 @@ same-length-3 c = search needs
 
 returns : tie.Need-returns
 returns c =
-    let at-put = c .before .before .before in
+    let at-put-entry = c .before .before .before in
+    let at-put = at-put-entry .before .before .before .before in
     let at-number = at-put .before .before in
     let at-find = at-number .before .before in
     let at-figures-of = at-find .before .before .before in
@@ -82,7 +85,7 @@ returns c =
     let ok = at-figures-of .figures-of .ok in
     numbered-more (start .pre .0 .0) (start .pre .0 .1) (start .pre .1) (at-wide-index .wide-index .ensures .0) (at-figures-of .figures-of .ensures)
     (at-find .find .ensures) (at-number .number .ensures) (at-put .put .ensures) (omega (arith, ok)) (omega (arith, ok)) (c .slot .ensures .0)
-    (c .slot .ensures .1)
+    (c .slot .ensures .1) (at-put-entry .put-entry .ensures)
 
 pub enter-spec : {M : Type 1} → statement M
 enter-spec =
@@ -96,6 +99,7 @@ enter-spec =
     find-requires
     number-requires
     put-requires
+    put-entry-requires
     mul-keys
     slice-write-keys
     slot-requires

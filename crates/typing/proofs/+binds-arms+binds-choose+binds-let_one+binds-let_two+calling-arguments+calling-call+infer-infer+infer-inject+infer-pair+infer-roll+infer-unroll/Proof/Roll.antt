@@ -55,7 +55,7 @@ module _ (t : ℕ) where
 
   abbrev roll-before-unfolded : Unfolded → Second × First × Start
   roll-before-unfolded c =
-      let at-second = c .before in
+      let at-second = c .before .before in
       let (at-first, start) = roll-before-second at-second in
       (at-second, at-first, start)
 
@@ -110,10 +110,11 @@ module _ (t : ℕ) where
 
   pub unfolded-requires : lts.Need-unfolded-requires (roll-uses t) (roll-at t) roll.Post
   unfolded-requires c κs =
-      let (at-first, start) = roll-before-second c in (
-        start .pre .1 .ready .scoped .sources .entries,
+      let at-second = c .before in
+      let (at-first, start) = roll-before-second at-second in (
+        (start .pre .1 .ready .scoped .sources .entries, start .pre .1 .ready .scoped .sources .figures .held),
         roll-type (start .pre .1 .ready) (start .pre .1 .here) (at-first .first .ensures)
-            (c .second .ensures),
+            (at-second .second .ensures),
       )
 
   pub enum-known-body : lts.Need-enum-known-body (roll-uses t) (roll-at t) roll.Post
@@ -165,6 +166,9 @@ module _ (t : ℕ) where
       (at-body .body .given .1) (at-entry .entry .ensures) (demand-done (at-infer .infer .ensures) (ready .scoped .sources) known
       (roll-whole (start .pre .1 .ready) (start .pre .1 .here) (at-first .first .ensures) (at-second .second .ensures)
       (at-entry .entry .ensures)) (c .expect .ensures))
+
+  pub same-length-3 : lts.Need-same-length-3 (roll-uses t) (roll-at t) roll.Post
+  same-length-3 c = search needs
 
   pub returns-2 : lts.Need-returns-2 (roll-uses t) (roll-at t) roll.Post
   returns-2 c =

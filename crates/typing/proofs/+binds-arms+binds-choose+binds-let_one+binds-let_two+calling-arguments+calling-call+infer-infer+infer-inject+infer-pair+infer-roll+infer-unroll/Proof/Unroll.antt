@@ -67,7 +67,7 @@ module _ (t : ℕ) where
 
   abbrev unroll-before-unfolded : Unfolded → Second × First × Start
   unroll-before-unfolded c =
-      let at-second = c .before in
+      let at-second = c .before .before in
       let (at-first, start) = unroll-before-second at-second in
       (at-second, at-first, start)
 
@@ -146,10 +146,11 @@ module _ (t : ℕ) where
 
   pub unfolded-requires : lts.Need-unfolded-requires (unroll-uses t) (unroll-at t) unroll.Post
   unfolded-requires c κs =
-      let (at-first, start) = unroll-before-second c in (
-        start .pre .1 .ready .scoped .sources .entries,
+      let at-second = c .before in
+      let (at-first, start) = unroll-before-second at-second in (
+        (start .pre .1 .ready .scoped .sources .entries, start .pre .1 .ready .scoped .sources .figures .held),
         unroll-type (start .pre .1 .ready) (start .pre .1 .here) (at-first .first .ensures)
-            (c .second .ensures),
+            (at-second .second .ensures),
       )
 
   pub enum-known-body : lts.Need-enum-known-body (unroll-uses t) (unroll-at t) unroll.Post
@@ -227,6 +228,9 @@ module _ (t : ℕ) where
       unroll-large (start .pre .1 .ready) (start .pre .1 .here) (at-first .first .ensures) (at-second .second .ensures)
       (at-unfolded .unfolded .ensures) (at-body .body .given .1) (at-within-limit .within-limit .ensures) (at-else1 .if1 .left)
       (c .differ .ensures .0) (c .differ .ensures .1)
+
+  pub same-length-4 : lts.Need-same-length-4 (unroll-uses t) (unroll-at t) unroll.Post
+  same-length-4 c = search needs
 
   pub returns-3 : lts.Need-returns-3 (unroll-uses t) (unroll-at t) unroll.Post
   returns-3 c =

@@ -20,17 +20,6 @@ product-requires c κs =
       ),
     )
 
-cast-product : tie.Need-cast-product
-cast-product c = search needs
-
-product-requires-2 : tie.Need-product-requires-2
-product-requires-2 c κs = search needs
-
-add-join : tie.Need-add-join
-add-join c =
-    let start = c .before .before .before .before .before .before .before .before .before .before .before .before .before .before in
-    omega (arith, start .pre .1 .1 .1 .1)
-
 join-requires : tie.Need-join-requires
 join-requires c κs = search needs
 
@@ -39,13 +28,10 @@ same-length c = search needs
 
 returns : tie.Need-returns
 returns c =
-    let at-join = c in
-    let at-product2 = at-join .before .before in
-    let at-if1 = at-product2 .before in
+    let at-if1 = c .before .before .before in
     let at-product = at-if1 .before .before .before in
     let at-status = at-product .before .before .before in
-    pairs-made (at-status .status .given .1) (at-product .product .ensures) (at-if1 .if1 .taken) (at-join .join .ensures .0)
-    (at-product2 .product2 .ensures) (at-join .join .ensures .1)
+    pairs-made (at-status .status .given .1) (at-product .product .ensures) (at-if1 .if1 .taken) (c .join .ensures .0) (c .join .ensures .1)
 
 differ-requires : tie.Need-differ-requires
 differ-requires c κs = search needs
@@ -58,12 +44,10 @@ same-length-2 c = search needs
 
 returns-2 : tie.Need-returns-2
 returns-2 c =
-    let at-differ = c in
-    let at-if1 = at-differ .before in
+    let at-if1 = c .before in
     let at-product = at-if1 .before .before .before in
     let at-status = at-product .before .before .before in
-    pairs-large (at-status .status .given .1) (at-product .product .ensures) (at-if1 .if1 .left) (at-differ .differ .ensures .1)
-    (at-differ .differ .ensures .0)
+    pairs-large (at-status .status .given .1) (at-product .product .ensures) (at-if1 .if1 .left) (c .differ .ensures .1) (c .differ .ensures .0)
 
 returns-3 : tie.Need-returns-3
 returns-3 c = pairs-refused (c .enum-told .given .1) refl
@@ -74,9 +58,6 @@ pair-up-spec =
     (tie.spec
     enum-known-status
     product-requires
-    cast-product
-    product-requires-2
-    add-join
     join-requires
     same-length
     returns

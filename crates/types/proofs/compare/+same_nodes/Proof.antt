@@ -8,9 +8,9 @@ use Rattle.types.specs.Codes.{treeIn}
 use Prim.Native.Nat.{ℕ, _<_}
 use borrow.Fn.Kinds.{In}
 use borrow.Fn.PlainCycle.{Measures, is, falls, and}
-use Rattle.types.proofs.compare.same.Reads as same
-use Rattle.types.proofs.compare.same.Kinds as same-kinds
-use Rattle.types.proofs.compare.+same.Lts-same as same-lts
+use Rattle.types.proofs.compare.same_nodes.Reads as same
+use Rattle.types.proofs.compare.same_nodes.Kinds as same-kinds
+use Rattle.types.proofs.compare.+same_nodes.Lts-same_nodes as same-lts
 use Rattle.types.proofs.codes.are_entries.Reads as are-entries-reads
 use Rattle.types.proofs.codes.identical.Reads as identical-reads
 use Rattle.types.proofs.parts.first_of.Reads as first-of-reads
@@ -18,8 +18,8 @@ use Rattle.types.proofs.parts.kind_of.Reads as kind-of-reads
 use Rattle.types.proofs.parts.second_of.Reads as second-of-reads
 use Rattle.types.proofs.parts.settled.Reads as settled-reads
 use Rattle.types.proofs.parts.variable_of.Reads as variable-of-reads
-use Rattle.types.proofs.compare.+same.{statement}
-use Rattle.types.proofs.compare.+same.Tie.{close}
+use Rattle.types.proofs.compare.+same_nodes.{statement}
+use Rattle.types.proofs.compare.+same_nodes.Tie.{close}
 
 abbrev μ-same : Measures 3 same-kinds.ps ℕ
 μ-same κs a = nodes (treeIn (a .0 .now) (a .1 .0 .now) (a .1 .1 .0 .now) (a .1 .1 .1 .1 .0))
@@ -146,7 +146,7 @@ same-first-of-requires-2 t c κs =
     let start = at-settled .before .before .before .before in
     (start .pre .1 .0, (at-settled2 .settled2 .ensures .known, (at-if3 .if3 .left ∙ at-kind-of2 .kind-of2 .ensures, at-if4 .if4 .left, (parted (at-settled .settled .ensures) (at-kind-of .kind-of .ensures) (at-if5 .if5 .left)))))
 
-same-same-requires : (t : ℕ) → same-lts.Need-same-requires (same-uses t) (same-at t) same.Post
+same-same-requires : (t : ℕ) → same-lts.Need-same-nodes-requires (same-uses t) (same-at t) same.Post
 same-same-requires t c κs =
     let at-first-of = c .before in
     let at-if5 = at-first-of .before in
@@ -171,7 +171,7 @@ same-returns-6 t c =
     let at-settled2 = at-kind-of .before .before .before .before .before in
     let at-settled = at-settled2 .before in
     recursives (at-settled .settled .ensures) (at-settled2 .settled2 .ensures) (at-kind-of .kind-of .ensures) (at-kind-of2 .kind-of2 .ensures) (at-if3 .if3 .left)
-    (at-first-of .first-of .ensures) (at-first-of2 .first-of2 .ensures) (at-same .same .ensures) (c .if6 .taken)
+    (at-first-of .first-of .ensures) (at-first-of2 .first-of2 .ensures) (at-same .same-nodes .ensures) (c .if6 .taken)
 
 same-second-of-requires : (t : ℕ) → same-lts.Need-second-of-requires (same-uses t) (same-at t) same.Post
 same-second-of-requires t c κs =
@@ -196,7 +196,7 @@ same-second-of-requires-2 t c κs =
     let start = at-settled .before .before .before .before in
     (start .pre .1 .0, (at-settled2 .settled2 .ensures .known, (at-if3 .if3 .left ∙ at-kind-of2 .kind-of2 .ensures, at-if4 .if4 .left, (twice-parted (at-settled .settled .ensures) (at-kind-of .kind-of .ensures) (at-if5 .if5 .left) (at-if6 .if6 .left)))))
 
-same-same-requires-2 : (t : ℕ) → same-lts.Need-same-requires-2 (same-uses t) (same-at t) same.Post
+same-same-requires-2 : (t : ℕ) → same-lts.Need-same-nodes-requires-2 (same-uses t) (same-at t) same.Post
 same-same-requires-2 t c κs =
     let at-second-of = c .before in
     let at-if6 = at-second-of .before .before in
@@ -228,9 +228,9 @@ same-returns-7 t c =
     let at-settled2 = at-kind-of .before .before .before .before .before in
     let at-settled = at-settled2 .before in
     seconds (at-settled .settled .ensures) (at-settled2 .settled2 .ensures) (at-kind-of .kind-of .ensures) (at-kind-of2 .kind-of2 .ensures) (at-if3 .if3 .left)
-    (at-first-of .first-of .ensures) (at-first-of2 .first-of2 .ensures) (at-same .same .ensures) (at-if4 .if4 .left)
+    (at-first-of .first-of .ensures) (at-first-of2 .first-of2 .ensures) (at-same .same-nodes .ensures) (at-if4 .if4 .left)
     (twice-parted (at-settled .settled .ensures) (at-kind-of .kind-of .ensures) (at-if5 .if5 .left) (at-if6 .if6 .left)) (at-if7 .if7 .taken)
-    (at-second-of .second-of .ensures) (at-second-of2 .second-of2 .ensures) (c .same2 .ensures)
+    (at-second-of .second-of .ensures) (at-second-of2 .second-of2 .ensures) (c .same-nodes2 .ensures)
 
 same-returns-8 : (t : ℕ) → same-lts.Need-returns-8 (same-uses t) (same-at t) same.Post
 same-returns-8 t c =
@@ -246,11 +246,11 @@ same-returns-8 t c =
     let at-settled2 = at-kind-of .before .before .before .before .before in
     let at-settled = at-settled2 .before in
     firsts-differ (at-settled .settled .ensures) (at-settled2 .settled2 .ensures) (at-kind-of .kind-of .ensures) (at-kind-of2 .kind-of2 .ensures) (at-if3 .if3 .left)
-    (at-first-of .first-of .ensures) (at-first-of2 .first-of2 .ensures) (at-same .same .ensures) (at-if4 .if4 .left)
+    (at-first-of .first-of .ensures) (at-first-of2 .first-of2 .ensures) (at-same .same-nodes .ensures) (at-if4 .if4 .left)
     (twice-parted (at-settled .settled .ensures) (at-kind-of .kind-of .ensures) (at-if5 .if5 .left) (at-if6 .if6 .left)) (c .if7 .left)
 
-pub +same-spec : {M : Type 1} → statement M
-+same-spec = close μ-same λ t. same-lts.spec (same-uses t)
+pub +same-nodes-spec : {M : Type 1} → statement M
++same-nodes-spec = close μ-same λ t. same-lts.spec (same-uses t)
     (same-at t)
     same.Post
     (same-settled-requires t)
