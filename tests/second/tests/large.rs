@@ -72,6 +72,8 @@ fn terms_of(program: &[u8], kind: u8, begins: &[u8]) -> Vec<u32> {
     fields(program, 2).into_iter().filter(|(_, body)| meant(body)).map(|(at, _)| at).collect()
 }
 
+/// A kind of types, and kinds of terms.
+const BOUND: u8 = 4;
 const INR: u8 = 3;
 const PAIR: u8 = 4;
 const CASE: u8 = 7;
@@ -93,8 +95,10 @@ fn damaged_ones_meet_6_at_the_term_that_compares() {
             (End::Product { .. } | End::Part { .. }, _) => terms(PAIR).pop(),
             (End::Unfolding { .. }, _) => terms(UNROLL).pop(),
             (_, Family::Calls) => terms(CALL).get(1).copied(),
-            (_, Family::Rolls | Family::Spelled | Family::Rebuilt) => terms(ROLL).first().copied(),
-            (_, Family::Pairs) => terms(CASE).first().copied(),
+            (_, Family::Rolls | Family::Spelled | Family::Rebuilt | Family::Unspelled | Family::Shared) => {
+                terms(ROLL).first().copied()
+            }
+            (_, Family::Pairs | Family::Exchanged | Family::Unnamed) => terms(CASE).first().copied(),
             _ => terms(INR).first().copied(),
         };
         let place = place.expect("a term of the kind");
@@ -102,7 +106,9 @@ fn damaged_ones_meet_6_at_the_term_that_compares() {
     }
 }
 
-/// The counts are exact. A body of m nodes with k variables unfolds to m (k + 1): 256 and 3 make 1,024, 257 and 3 are past it.
+/// The counts are exact. A body of m nodes with k variables unfolds to m (k + 1): 256 and 3 make 1,024, 257 and 3 are
+/// past it. Types that double go by steps, so that what is past it may be far past it. Trees that no entry names are
+/// left out: the terms hold them, too.
 #[test]
 fn one_more_node_is_too_many() {
     let with = |family, nodes| check(&Large { nodes, ..Large::largest(family) }.program().bytes);
@@ -110,14 +116,45 @@ fn one_more_node_is_too_many() {
         Answer::Refused(Refusal { number, .. }) => Some(number),
         _ => None,
     };
-    for (family, nodes) in
-        [(Family::Unrolls, 1028), (Family::Rolls, 1026), (Family::Rebuilt, 1026), (Family::Nested, 1026)]
-    {
+    for (family, nodes) in [
+        (Family::Unrolls, 1028),
+        (Family::Rolls, 1026),
+        (Family::Rebuilt, 1026),
+        (Family::Unspelled, 1028),
+        (Family::Shared, 1026),
+        (Family::Nested, 1026),
+    ] {
         assert_eq!(number(family, nodes), Some(Number::Mismatch), "{family:?}");
     }
     // Entries that terms and functions name themselves: 5.
-    for (family, nodes) in [(Family::Calls, 1025), (Family::Spelled, 1026), (Family::Pairs, 1040)] {
+    for (family, nodes) in [
+        (Family::Calls, 1025),
+        (Family::Spelled, 1026),
+        (Family::Pairs, 1040),
+        (Family::Exchanged, 2047),
+        (Family::Doubled, 1037),
+    ] {
         assert_eq!(number(family, nodes), Some(Number::TypeEntry), "{family:?}");
+    }
+}
+
+/// Nodes of the largest type entry.
+fn most_nodes_of_entries(program: &[u8]) -> usize {
+    let mut nodes: Vec<usize> = Vec::new();
+    for (_, body) in fields(program, 1) {
+        let parts = if body[0] == BOUND { &[] } else { &body[1..] };
+        let named = parts.chunks_exact(2).map(|part| nodes[u16::from_be_bytes([part[0], part[1]]) as usize]);
+        nodes.push(1 + named.sum::<usize>());
+    }
+    nodes.into_iter().max().expect("a type")
+}
+
+/// Trees of 1,023 nodes are an entry where they are the result, and else only the parts are that they are made of.
+/// Of an unfolding of 935 nodes, entries have a pair of the recursive type, which has 56, in a sum with unit.
+#[test]
+fn what_no_entry_names() {
+    for (family, nodes) in [(Family::Exchanged, 1023), (Family::Unnamed, 15), (Family::Unspelled, 115)] {
+        assert_eq!(most_nodes_of_entries(&Large::largest(family).program().bytes), nodes, "{family:?}");
     }
 }
 

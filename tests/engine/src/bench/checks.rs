@@ -11,7 +11,18 @@ use std::hint::black_box;
 const MICROSECOND: f64 = 1000.0;
 
 /// The families of which the growth is told.
-const GROWING: [Family; 5] = [Family::Unrolls, Family::Calls, Family::Rolls, Family::Spelled, Family::Pairs];
+const GROWING: [Family; 10] = [
+    Family::Unrolls,
+    Family::Calls,
+    Family::Rolls,
+    Family::Spelled,
+    Family::Pairs,
+    Family::Exchanged,
+    Family::Unnamed,
+    Family::Doubled,
+    Family::Unspelled,
+    Family::Shared,
+];
 
 /// Parts of the terms and of the nodes.
 const PARTS: [usize; 4] = [8, 4, 2, 1];

@@ -92,8 +92,24 @@ impl Chain {
         if renumbered {
             a.bound(3);
         }
-        let sides = Sides::write(a, self.widest());
-        let mut right = early.unwrap_or_else(|| self.leaf.write(a, own, turned));
+        let sides = self.sides(a);
+        let leaf = early.unwrap_or_else(|| self.leaf.write(a, own, turned));
+        self.layers_over(a, &sides, leaf)
+    }
+
+    /// The chain beside parts that another one has beside it, too.
+    pub fn write_beside(&self, a: &mut Assembler, sides: &Sides, writing: Writing) -> Written {
+        let leaf = self.leaf.write(a, writing.own, writing.turned);
+        self.layers_over(a, sides, leaf)
+    }
+
+    /// The closed parts that stand beside the layers.
+    pub fn sides(&self, a: &mut Assembler) -> Sides {
+        Sides::write(a, self.widest())
+    }
+
+    fn layers_over(&self, a: &mut Assembler, sides: &Sides, leaf: u16) -> Written {
+        let mut right = leaf;
         for (number, added) in self.added().into_iter().enumerate() {
             let side = sides.adding(a, added);
             right = match number % 4 {
@@ -157,7 +173,7 @@ impl Chain {
 }
 
 /// Closed parts beside the layers: number k has 2^(k+1) - 1 nodes.
-struct Sides {
+pub struct Sides {
     entries: Vec<u16>,
 }
 

@@ -7,18 +7,18 @@ use super::Large;
 use crate::assemble::Assembler;
 
 /// The parameter of function 0 in so many cells.
-fn nested_in(a: &mut Assembler, cells: usize, cell: impl Fn(&mut Assembler, usize, u16) -> u16) -> u16 {
+pub fn nested_in(a: &mut Assembler, cells: usize, cell: impl Fn(&mut Assembler, usize, u16) -> u16) -> u16 {
     let given = a.variable(0);
     (0..cells).fold(given, |term, number| cell(a, number, term))
 }
 
 /// As many cells as fit beside some other terms and an end.
-fn cells(large: &Large, others: usize, terms: usize) -> usize {
+pub fn cells(large: &Large, others: usize, terms: usize) -> usize {
     large.terms.saturating_sub(others + large.end.terms()) / terms
 }
 
 /// Function 0 with its end around its term, and the type that it is to have.
-fn first_function(
+pub fn first_function(
     large: &Large,
     a: &mut Assembler,
     number: u16,
@@ -117,74 +117,6 @@ fn taken_apart(a: &mut Assembler, opened: &Opened, unrolled: u16) -> u16 {
     let part = a.variable(1);
     let right = a.call(2, &[part]);
     a.case(unrolled, left, right)
-}
-
-/// How often a part of the pairs is doubled: a part of c nodes makes pairs of 16 (c + 1) - 1.
-const DOUBLINGS: usize = 3;
-
-/// Two parts of equal types are doubled by lets, and then exchanged by cases that choose by an ancilla: (v, w) and (w, v). Function 1
-/// takes such pairs by an entry; function 2 gives the second writing of the part's type for the first.
-pub fn pairs(large: &Large, a: &mut Assembler) {
-    const CELL: usize = 10;
-    let chain = large.chain((large.nodes / (2 << DOUBLINGS)).saturating_sub(1), Leaf::Closed);
-    let unit = a.unit_type();
-    let boolean = a.sum(unit, unit);
-    let parts = large.writings().map(|writing| chain.write(a, writing).sum);
-    let halves = parts.map(|part| (0..DOUBLINGS).fold(part, |ty, _| a.product(ty, ty)));
-    let [taken, given] = [a.product(halves[0], halves[0]), a.product(halves[0], halves[1])];
-    // The ancilla, the parameter, its second writing, and each of the two doubled.
-    let in_scope = 3 + 2 * DOUBLINGS as u8;
-    let halves_bound = [a.variable(2 + DOUBLINGS as u8), a.variable(in_scope - 1)];
-    let whole = a.pair(halves_bound[0], halves_bound[1]);
-    let others = 8 + 8 * DOUBLINGS;
-    let mut term = whole;
-    for _ in 0..cells(large, others, CELL) {
-        let exchanged = exchanged(a, in_scope, term);
-        term = a.call(1, &[exchanged]);
-    }
-    let closed = Closed::around(large, a, 3, (term, given), |a, writing| {
-        let part = chain.write(a, writing).sum;
-        let half = (0..DOUBLINGS).fold(part, |ty, _| a.product(ty, ty));
-        a.product(half, half)
-    });
-    let body = doubled_by_lets(a, closed.term);
-    a.function(closed.result, &[boolean, parts[0]], body);
-    for (result, parameter) in [(given, taken), (parts[1], parts[0])] {
-        let handed_on = a.variable(0);
-        a.function(result, &[parameter], handed_on);
-    }
-    closed.function(a);
-}
-
-/// A pair taken apart, and put together in one order or the other.
-fn exchanged(a: &mut Assembler, in_scope: u8, term: u16) -> u16 {
-    let [left, right] = [[0, 1], [1, 0]].map(|order| {
-        let parts = order.map(|part| a.variable(in_scope + part));
-        a.pair(parts[0], parts[1])
-    });
-    let ancilla = a.variable(0);
-    let chosen = a.case(ancilla, left, right);
-    a.let_pair(term, chosen)
-}
-
-/// Lets that bind variable 1 once more, by function 2, and then each of the two doubled and doubled again, around a term.
-fn doubled_by_lets(a: &mut Assembler, inner: u16) -> u16 {
-    let mut body = inner;
-    for first in [3 + DOUBLINGS as u8, 3] {
-        for number in (0..DOUBLINGS as u8).rev() {
-            let below = match (number, first) {
-                (0, 3) => 1,
-                (0, _) => 2,
-                _ => first + number - 1,
-            };
-            let parts = [a.variable(below), a.variable(below)];
-            let bound = a.pair(parts[0], parts[1]);
-            body = a.let_one(bound, body);
-        }
-    }
-    let given = a.variable(1);
-    let again = a.call(2, &[given]);
-    a.let_one(again, body)
 }
 
 /// A recursive type with another inside, in which the variables of both stand: the inner one as it is in the unfolding of the outer

@@ -2,8 +2,11 @@
 //! family is made for its size, sound or with an end that meets 6 only after all the rest.
 
 pub mod chain;
+mod doubled;
 mod ends;
 mod families;
+mod shared;
+mod trees;
 mod types;
 
 use crate::assemble::Assembler;
@@ -24,8 +27,18 @@ pub enum Family {
     Spelled,
     /// Pairs made by terms, compared with each other and with an entry.
     Pairs,
+    /// Trees of pairs, as deep as can be, exchanged over and over; but for the result no entry names them.
+    Exchanged,
+    /// The same, taken apart down to units in the end: no entry names them at all.
+    Unnamed,
     /// Unfoldings taken apart by let pairs, and put together again by pairs.
     Rebuilt,
+    /// Unfoldings whose body doubles, spelled out and rebuilt by lets that double.
+    Doubled,
+    /// The same, spelled out no farther than injections need it, and exchanged with what the lets rebuild.
+    Unspelled,
+    /// Recursive entries that share open ones, by turns, spelled out as far as injections need it.
+    Shared,
     /// As many type entries as the nodes allow, no two of them equal, and terms that name all.
     Distinct,
     /// The same with each type written twice.
@@ -35,13 +48,18 @@ pub enum Family {
 }
 
 impl Family {
-    pub const ALL: [Family; 9] = [
+    pub const ALL: [Family; 14] = [
         Family::Unrolls,
         Family::Calls,
         Family::Rolls,
         Family::Spelled,
         Family::Pairs,
+        Family::Exchanged,
+        Family::Unnamed,
         Family::Rebuilt,
+        Family::Doubled,
+        Family::Unspelled,
+        Family::Shared,
         Family::Distinct,
         Family::Repeated,
         Family::Nested,
@@ -54,7 +72,12 @@ impl Family {
             Family::Rolls => "rolls and unrolls of equal types",
             Family::Spelled => "unfoldings spelled out",
             Family::Pairs => "pairs of pairs",
+            Family::Exchanged => "trees of pairs exchanged",
+            Family::Unnamed => "trees of pairs that no entry names",
             Family::Rebuilt => "unfoldings taken apart and paired",
+            Family::Doubled => "unfoldings that double, spelled out",
+            Family::Unspelled => "unfoldings that double, not spelled out",
+            Family::Shared => "recursive types that share open entries",
             Family::Distinct => "many types",
             Family::Repeated => "many types, each twice",
             Family::Nested => "nested recursive types",
@@ -67,6 +90,7 @@ impl Family {
             Family::Unrolls => 1,
             Family::Rebuilt => 3,
             Family::Nested => 4,
+            Family::Shared => 1 + shared::SHARERS,
             _ => 2,
         }
     }
@@ -74,7 +98,7 @@ impl Family {
     /// Type entries that stand in no chain.
     fn beside_chains(self) -> usize {
         match self {
-            Family::Rebuilt => 48,
+            Family::Rebuilt | Family::Doubled | Family::Unspelled => 48,
             _ => 16,
         }
     }
@@ -190,8 +214,13 @@ impl Large {
             Family::Calls => families::calls(self, &mut a),
             Family::Rolls => families::rolls(self, &mut a),
             Family::Spelled => families::spelled(self, &mut a),
-            Family::Pairs => families::pairs(self, &mut a),
+            Family::Pairs => trees::pairs(self, &mut a),
+            Family::Exchanged => trees::exchanged_trees(self, &mut a),
+            Family::Unnamed => trees::unnamed_trees(self, &mut a),
             Family::Rebuilt => families::rebuilt(self, &mut a),
+            Family::Doubled => doubled::doubled_bodies(self, &mut a),
+            Family::Unspelled => doubled::unspelled_bodies(self, &mut a),
+            Family::Shared => shared::shared_chains(self, &mut a),
             Family::Distinct => types::types(self, &mut a, 1),
             Family::Repeated => types::types(self, &mut a, 2),
             Family::Nested => families::nested(self, &mut a),
@@ -217,9 +246,15 @@ impl Large {
     /// A run of the function with most terms, on a short value.
     pub fn forward(&self) -> RunCall {
         let (ancillae, value) = match self.family {
-            Family::Unrolls | Family::Rolls | Family::Spelled | Family::Nested => (vec![], vec![4, 1, 0]),
+            Family::Unrolls | Family::Rolls | Family::Spelled | Family::Doubled | Family::Nested => {
+                (vec![], vec![4, 1, 0])
+            }
             Family::Calls => (vec![], vec![1, 0]),
             Family::Pairs => (vec![2, 0], vec![1, 0]),
+            Family::Exchanged => (vec![2, 0, 1, 0], vec![2, 0]),
+            Family::Unnamed => ([&[2, 0], &trees::one_value()[..]].concat(), trees::one_value()),
+            Family::Unspelled => (vec![2, 0], doubled::unspelled_value(self)),
+            Family::Shared => (vec![], shared::VALUE.to_vec()),
             Family::Rebuilt => (vec![], [&[4], &[3, 1, 0].repeat(families::LEVELS)[..], &[1, 0]].concat()),
             Family::Distinct | Family::Repeated => (vec![], vec![0]),
         };
