@@ -1,7 +1,7 @@
 -- What is kept of each type entry (02, F-4), made once, bottom up, so that nothing is counted while types are compared: a canonical number,
 -- which entries that are equal as trees share; what the nodes of an unfolding follow from; and an entry that a part of an unfolding is equal to, if
 -- one was found. Laws: proofs/Closing, Figuring.
-use Prim.Native.Nat.{ℕ, suc, _+_, _*_, _<_, _≤_, pred, min}
+use Prim.Native.Nat.{ℕ, suc, _+_, _*_, _%_, _<_, _≤_, pred, min}
 use mathlib.Core.Path.{_≡_}
 use mathlib.Core.Bool.{cond}
 use mathlib.Core.List.{List}
@@ -11,7 +11,9 @@ use package.Rattle.octets.specs.Numbers.{get16}
 use package.Rattle.rules.specs.Ty.{Ty, one, prod, sum, mu, tyvar, plug}
 use package.Rattle.calls.specs.Entries.{TypeEntry, typeOf}
 use package.Rattle.calls.specs.Figures.{ceiling, free}
-use package.Rattle.types.specs.Layout.{figureBytes, figuresFrom, typingBytes}
+use package.Rattle.types.specs.Layout.{figureBytes, figuresFrom, aliasBytes, aliasesFrom, aliasSlots, typingBytes}
+use package.Rattle.types.specs.Forms.{entryForm}
+use package.Rattle.types.specs.declared.codes.Code.{Code}
 
 ----------------------------------------------------------------
 -- The outermost free variable
@@ -44,21 +46,50 @@ freeAt heap i = get16 heap (figuresFrom + figureBytes * i + 2)
 unfoldable pub outerAt : List ℕ → ℕ → ℕ
 outerAt heap i = get16 heap (figuresFrom + figureBytes * i + 4)
 
--- one more than the entry that stands for the outermost free variable in the alias; 0 if there is none
+----------------------------------------------------------------
+-- Aliases
+
+-- the slot of the alias of entry `i`, entry `j` standing for its outermost free variable
+abbrev pub aliasSlotOf : ℕ → ℕ → ℕ
+aliasSlotOf i j = (i + 37 * j) % aliasSlots
+
+unfoldable pub openAt : List ℕ → ℕ → ℕ
+openAt heap s = get16 heap (aliasesFrom + aliasBytes * s)
+
+-- one more than the entry that stands for the variable; 0 if there is no alias
 unfoldable pub standAt : List ℕ → ℕ → ℕ
-standAt heap i = get16 heap (figuresFrom + figureBytes * i + 6)
+standAt heap s = get16 heap (aliasesFrom + aliasBytes * s + 2)
 
 unfoldable pub aliasAt : List ℕ → ℕ → ℕ
-aliasAt heap i = get16 heap (figuresFrom + figureBytes * i + 8)
+aliasAt heap s = get16 heap (aliasesFrom + aliasBytes * s + 4)
 
--- Entry `i`, its outermost free variable standing for entry `j`, is equal as a tree to the entry that is its alias.
-pub record Alias (ys : List TypeEntry) (heap : List ℕ) (n i j : ℕ) : Type 0 where
+-- The alias in slot `s` is right: the entry, its outermost free variable standing for entry `j`, is equal as a tree to the alias.
+pub record Alias (ys : List TypeEntry) (heap : List ℕ) (n s j : ℕ) : Type 0 where
+  pub opened : openAt heap s < n
   pub stands : j < n
-  pub there : aliasAt heap i < n
-  pub tree : typeOf ys (aliasAt heap i) ≡ closedBy (typeOf ys j) (typeOf ys i)
+  pub there : aliasAt heap s < n
+  pub tree : typeOf ys (aliasAt heap s) ≡ closedBy (typeOf ys j) (typeOf ys (openAt heap s))
+
+-- All aliases are right, among the first `n` entries; there need not be any.
+pub record Aliased (ys : List TypeEntry) (heap : List ℕ) (n : ℕ) : Type 0 where
+  pub right : (s j : ℕ) → s < aliasSlots → standAt heap s ≡ suc j → Alias ys heap n s j
+
+-- There is none.
+pub record Forgotten (heap heap′ : List ℕ) : Type 0 where
+  pub none : (s : ℕ) → s < aliasSlots → standAt heap′ s ≡ 0
+  pub lengths : length heap ≡ length heap′
+
+-- What is recalled of entry `i` with entry `j` for its variable: a code that is the alias, if it is an entry's.
+pub record Recalled (heap : List ℕ) (i j : ℕ) (c : Code) : Type 0 where
+  pub opened : c .form ≡ entryForm → openAt heap (aliasSlotOf i j) ≡ i
+  pub stands : c .form ≡ entryForm → standAt heap (aliasSlotOf i j) ≡ suc j
+  pub alias : c .form ≡ entryForm → c .at ≡ aliasAt heap (aliasSlotOf i j)
+
+----------------------------------------------------------------
+-- All of it
 
 -- The first `n` entries have their figures. An entry's number is that of an entry which is equal to it as a tree, and entries that are equal as
--- trees have one number. An alias is right; there need not be one.
+-- trees have one number. Aliases are right.
 pub record Figured (ys : List TypeEntry) (heap : List ℕ) (n : ℕ) : Type 0 where
   pub held : typingBytes ≤ length heap
   pub number-lower : (i : ℕ) → i < n → numberAt heap i ≤ i
@@ -66,4 +97,4 @@ pub record Figured (ys : List TypeEntry) (heap : List ℕ) (n : ℕ) : Type 0 wh
   pub number-one : (i j : ℕ) → i < n → j < n → typeOf ys i ≡ typeOf ys j → numberAt heap i ≡ numberAt heap j
   pub free-is : (i : ℕ) → i < n → freeAt heap i ≡ free (typeOf ys i)
   pub outer-is : (i : ℕ) → i < n → outerAt heap i ≡ min ceiling (outer (typeOf ys i))
-  pub alias-is : (i j : ℕ) → i < n → standAt heap i ≡ suc j → Alias ys heap n i j
+  pub aliases : Aliased ys heap n

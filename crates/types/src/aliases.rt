@@ -19,6 +19,7 @@ use crate::figures;
 use crate::hints;
 use crate::numbering;
 use crate::numbering::SLOT_COUNT;
+use crate::recalled;
 use program::kinds;
 use program::views;
 use rules::MAX_TYPES;
@@ -47,7 +48,7 @@ fn keep(
     let alias = figures::number_of(ws, k as u16);
     let whole = codes::entry(alias);
     if compare::same(p, types, ws, 0, part, whole) {
-        figures::put_alias(ws, i, j, alias);
+        recalled::put(ws, i, j, alias);
         return whole;
     }
     part
@@ -104,6 +105,12 @@ fn trace(
     let i = figures::number_of(ws, part);
     if octets::wide32(figures::free_of(ws, i)) != free {
         return codes::entry(i);
+    }
+    // a part that stands in several places is traced once, if it has an alias
+    let known = recalled::recall(ws, i, j);
+    let form = known.form;
+    if form == codes::ENTRY {
+        return known;
     }
     let at = octets::wide_index(types[octets::wide_index(i)]);
     let kind = views::kind(p, at);

@@ -12,6 +12,7 @@ use crate::codes;
 use crate::codes::Code;
 use crate::figures;
 use crate::nodes;
+use crate::recalled;
 use program::kinds;
 
 // The code of a type in which a variable stands for an entry. Where the entry is closed, has an alias for what stands, or is the variable, it is an
@@ -26,9 +27,10 @@ fn settled_under(p: &[u8], types: &[u16], ws: &[u8], top: u32, c: Code) -> Code
         return codes::entry(i);
     }
     let j = figures::number_of(ws, c.stands);
-    if octets::wide32(figures::stand_of(ws, i)) == octets::wide32(j) + 1 {
-        let alias = figures::alias_of(ws, i);
-        return codes::entry(figures::number_of(ws, alias));
+    let alias = recalled::recall(ws, i, j);
+    let form = alias.form;
+    if form == codes::ENTRY {
+        return codes::entry(figures::number_of(ws, alias.at));
     }
     let at = octets::wide_index(types[octets::wide_index(i)]);
     let kind = program::views::kind(p, at);

@@ -41,16 +41,16 @@ same-requires c κs =
           (at-under .under .ensures) (at-entry .entry .ensures),
     )
 
-put-alias-requires : tie.Need-put-alias-requires
-put-alias-requires c κs = search needs
+put-requires : tie.Need-put-requires
+put-requires c κs = search needs
 
 same-length : tie.Need-same-length
 same-length c = search needs
 
 returns-2 : tie.Need-returns-2
 returns-2 c =
-    let at-put-alias = c .before .before in
-    let at-if2 = at-put-alias .before .before in
+    let at-put = c .before .before in
+    let at-if2 = at-put .before .before in
     let at-same = at-if2 .before in
     let at-entry = at-same .before .before in
     let at-number-of = at-entry .before in
@@ -61,7 +61,7 @@ returns-2 c =
     alias-figured (start .pre .0) (start .pre .1 .0) (start .pre .1 .1)
     (number-there (start .pre .0) (let below : at-find .find .result < _ = omega (arith, at-find .find .ensures .most, at-if1 .if1 .left) in below) refl (at-number-of .number-of .ensures))
     (at-under .under .ensures) (at-entry .entry .ensures)
-    (at-same .same .ensures) (at-if2 .if2 .taken) (at-put-alias .put-alias .ensures)
+    (at-same .same .ensures) (at-if2 .if2 .taken) (at-put .put .ensures)
 
 same-length-2 : tie.Need-same-length-2
 same-length-2 c = search needs
@@ -80,7 +80,7 @@ keep-spec =
     number-of-requires
     entry-requires
     same-requires
-    put-alias-requires
+    put-requires
     same-length
     returns-2
     same-length-2

@@ -9,7 +9,8 @@ use Rattle.types.proofs.parts.settled_under.Tie as tie
 number-of-requires : tie.Need-number-of-requires
 number-of-requires c κs =
     let start = c .before .before .before in
-    (start .pre .0 .figures .held, entry-there (start .pre .0) (start .args .c) (start .pre .1 .0) (omega (arith, start .pre .1 .1)) (omega (arith, start .pre .1 .1)) .1)
+    let form = start .pre .1 .1 in
+    (start .pre .0 .figures .held, entry-there (start .pre .0) (start .args .c) (start .pre .1 .0) (omega (arith, form)) (omega (arith, form)) .1)
 
 free-of-requires : tie.Need-free-of-requires
 free-of-requires c κs =
@@ -25,7 +26,8 @@ returns c =
     let at-free-of = at-if1 .before in
     let at-number-of = at-free-of .before in
     let start = at-number-of .before .before .before .before in
-    closed-settled (start .pre .0) (start .args .c) (start .pre .1 .0) (start .pre .1 .1) (at-number-of .number-of .ensures) (sym (at-free-of .free-of .ensures) ∙ at-if1 .if1 .taken) (c .entry .ensures)
+    closed-settled (start .pre .0) (start .args .c) (start .pre .1 .0) (start .pre .1 .1) (at-number-of .number-of .ensures)
+    (sym (at-free-of .free-of .ensures) ∙ at-if1 .if1 .taken) (c .entry .ensures)
 
 number-of-requires-2 : tie.Need-number-of-requires-2
 number-of-requires-2 c κs =
@@ -33,39 +35,19 @@ number-of-requires-2 c κs =
     let start = at-number-of .before .before .before .before in
     (start .pre .0 .figures .held, under-there (start .pre .0) (start .args .c) (start .pre .1 .0) (start .pre .1 .1) (at-number-of .number-of .ensures) .2)
 
-stand-of-requires : tie.Need-stand-of-requires
-stand-of-requires c κs =
-    let at-number-of = c .before .before .before in
-    let start = at-number-of .before .before .before .before in
-    (start .pre .0 .figures .held, under-there (start .pre .0) (start .args .c) (start .pre .1 .0) (start .pre .1 .1) (at-number-of .number-of .ensures) .1)
-
-wide32-requires : tie.Need-wide32-requires
-wide32-requires c κs = search needs
-
-wide32-requires-2 : tie.Need-wide32-requires-2
-wide32-requires-2 c κs = search needs
-
-add-if2 : tie.Need-add-if2
-add-if2 c = search needs
-
-alias-of-requires : tie.Need-alias-of-requires
-alias-of-requires c κs =
-    let at-number-of = c .before .before .before .before .before .before .before in
-    let start = at-number-of .before .before .before .before in
-    (start .pre .0 .figures .held, under-there (start .pre .0) (start .args .c) (start .pre .1 .0) (start .pre .1 .1) (at-number-of .number-of .ensures) .1)
+recall-requires : tie.Need-recall-requires
+recall-requires c κs = search needs
 
 number-of-requires-3 : tie.Need-number-of-requires-3
 number-of-requires-3 c κs =
-    let at-if2 = c .before in
-    let at-wide322 = at-if2 .before in
-    let at-wide32 = at-wide322 .before in
-    let at-stand-of = at-wide32 .before in
-    let at-number-of2 = at-stand-of .before in
+    let at-recall = c .before in
+    let at-number-of2 = at-recall .before in
     let at-number-of = at-number-of2 .before .before .before in
-    let start = at-number-of .before .before .before .before in (
+    let start = at-number-of .before .before .before .before in
+    (
       start .pre .0 .figures .held,
       alias-there (start .pre .0) (start .args .c) (start .pre .1 .0) (start .pre .1 .1) (at-number-of .number-of .ensures) (at-number-of2 .number-of2 .ensures)
-          (at-stand-of .stand-of .ensures) (at-wide32 .wide32 .ensures .0) (at-wide322 .wide322 .ensures .0) (at-if2 .if2 .taken) (c .alias-of .ensures),
+          (at-recall .recall .ensures) (c .if2 .taken),
     )
 
 entry-requires-2 : tie.Need-entry-requires-2
@@ -74,17 +56,13 @@ entry-requires-2 c κs = search needs
 returns-2 : tie.Need-returns-2
 returns-2 c =
     let at-number-of3 = c .before in
-    let at-alias-of = at-number-of3 .before in
-    let at-if2 = at-alias-of .before in
-    let at-wide322 = at-if2 .before in
-    let at-wide32 = at-wide322 .before in
-    let at-stand-of = at-wide32 .before in
-    let at-number-of2 = at-stand-of .before in
+    let at-if2 = at-number-of3 .before in
+    let at-recall = at-if2 .before in
+    let at-number-of2 = at-recall .before in
     let at-number-of = at-number-of2 .before .before .before in
     let start = at-number-of .before .before .before .before in
     alias-settled (start .pre .0) (start .args .c) (start .pre .1 .0) (start .pre .1 .1) (at-number-of .number-of .ensures) (at-number-of2 .number-of2 .ensures)
-    (at-stand-of .stand-of .ensures) (at-wide32 .wide32 .ensures .0) (at-wide322 .wide322 .ensures .0) (at-if2 .if2 .taken) (at-alias-of .alias-of .ensures)
-    (at-number-of3 .number-of3 .ensures) (c .entry2 .ensures)
+    (at-recall .recall .ensures) (at-if2 .if2 .taken) (at-number-of3 .number-of3 .ensures) (c .entry2 .ensures)
 
 wide-index-requires : tie.Need-wide-index-requires
 wide-index-requires c κs = search needs
@@ -95,9 +73,13 @@ mul-wide-index c = search needs
 shared-slice-read-wide-index : tie.Need-shared-slice-read-wide-index
 shared-slice-read-wide-index c =
     let at-wide-index = c .before in
-    let at-number-of = at-wide-index .before .before .before .before .before .before .before .before in
+    let at-number-of = at-wide-index .before .before .before .before .before .before in
     let start = at-number-of .before .before .before .before in
-    omega (arith, at-wide-index .wide-index .ensures .0, under-there (start .pre .0) (start .args .c) (start .pre .1 .0) (start .pre .1 .1) (at-number-of .number-of .ensures) .0)
+    omega (
+      arith,
+      at-wide-index .wide-index .ensures .0,
+      under-there (start .pre .0) (start .args .c) (start .pre .1 .0) (start .pre .1 .1) (at-number-of .number-of .ensures) .0,
+    )
 
 wide-index-requires-2 : tie.Need-wide-index-requires-2
 wide-index-requires-2 c κs = search needs
@@ -105,10 +87,11 @@ wide-index-requires-2 c κs = search needs
 kind-requires : tie.Need-kind-requires
 kind-requires c κs =
     let at-wide-index = c .before .before in
-    let at-number-of = at-wide-index .before .before .before .before .before .before .before .before in
+    let at-number-of = at-wide-index .before .before .before .before .before .before in
     let start = at-number-of .before .before .before .before in
-    kind-there (start .pre .0 .entries) (under-there (start .pre .0) (start .args .c) (start .pre .1 .0) (start .pre .1 .1) (at-number-of .number-of .ensures) .0) (at-wide-index .wide-index .ensures .0)
-    (c .wide-index2 .ensures .0)
+    kind-there (start .pre .0 .entries)
+    (under-there (start .pre .0) (start .args .c) (start .pre .1 .0) (start .pre .1 .1) (at-number-of .number-of .ensures) .0)
+    (at-wide-index .wide-index .ensures .0) (c .wide-index2 .ensures .0)
 
 entry-requires-3 : tie.Need-entry-requires-3
 entry-requires-3 c κs = search needs
@@ -119,7 +102,7 @@ returns-3 c =
     let at-kind = at-if3 .before in
     let at-wide-index2 = at-kind .before in
     let at-wide-index = at-wide-index2 .before .before in
-    let at-number-of2 = at-wide-index .before .before .before .before .before in
+    let at-number-of2 = at-wide-index .before .before .before in
     let at-number-of = at-number-of2 .before .before .before in
     let start = at-number-of .before .before .before .before in
     variable-settled (start .pre .0) (start .args .c) (start .pre .1 .0) (start .pre .1 .1) (at-number-of .number-of .ensures) (at-number-of2 .number-of2 .ensures)
@@ -134,7 +117,7 @@ returns-4 c =
     let at-kind = at-if3 .before in
     let at-wide-index2 = at-kind .before in
     let at-wide-index = at-wide-index2 .before .before in
-    let at-number-of2 = at-wide-index .before .before .before .before .before in
+    let at-number-of2 = at-wide-index .before .before .before in
     let at-if1 = at-number-of2 .before in
     let at-free-of = at-if1 .before in
     let at-number-of = at-free-of .before in
@@ -152,11 +135,7 @@ settled-under-spec =
     entry-requires
     returns
     number-of-requires-2
-    stand-of-requires
-    wide32-requires
-    wide32-requires-2
-    add-if2
-    alias-of-requires
+    recall-requires
     number-of-requires-3
     entry-requires-2
     returns-2
