@@ -87,7 +87,7 @@ module _ (heap heap′ : List ℕ) (s : ℕ)
 pub aliased-same : {ys : List TypeEntry} {heap heap′ : List ℕ} {n m : ℕ} → n ≤ m
     → ((j : ℕ) → aliasesFrom ≤ j → j < hintsFrom → getD heap j 0 ≡ getD heap′ j 0) → Aliased ys heap n → Aliased ys heap′ m
 aliased-same {ys} {heap} {heap′} h same A = record {
-  right = λ s j l e. alias-kept heap heap′ s (near s l) h (A .right s j l (stand-same heap heap′ s (near s l) ∙ e))
+  right = λ s j l e. alias-kept heap heap′ s (near s l) h (A .right s j l (stand-same heap heap′ s (near s l) ∙ e));
 }
   where
     near : (s : ℕ) → s < aliasSlots → (j : ℕ) → aliasesFrom + aliasBytes * s ≤ j → j < aliasesFrom + aliasBytes * s + aliasBytes

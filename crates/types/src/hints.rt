@@ -16,9 +16,9 @@ ghost use Rattle.rules.specs.Limits.{maxTypes};
 use crate::codes;
 use crate::codes::Code;
 use crate::figures;
-use crate::recalled::ALIASES_END;
 use crate::nodes;
 use crate::parts;
+use crate::recalled::ALIASES_END;
 use program::kinds;
 use program::views;
 
@@ -37,7 +37,9 @@ const RIGHT: usize = 263;
 fn mixed(c: Code) -> usize
     ensures { λ r. ⌜ r < 65536 * 1024 ⌝ }
 {
-    FORM * octets::wide_index(c.form) + octets::wide_index(c.at) + STANDS * octets::wide_index(c.stands)
+    FORM * octets::wide_index(c.form)
+        + octets::wide_index(c.at)
+        + STANDS * octets::wide_index(c.stands)
 }
 
 // Where the hint at the product of two codes stands.
@@ -68,15 +70,7 @@ fn is_known(n: usize, top: u32, c: Code) -> bool
 }
 
 // Is the type the product of two types whose codes are settled, by the codes of its parts?
-fn is_pair(
-    p: &[u8],
-    types: &[u16],
-    ws: &[u8],
-    top: u32,
-    c: Code,
-    left: Code,
-    right: Code,
-) -> bool
+fn is_pair(p: &[u8], types: &[u16], ws: &[u8], top: u32, c: Code, left: Code, right: Code) -> bool
     requires { ⌜ Sources (now p) (now types) (now ws) top ⌝ }
     requires { ⌜ Known (length (now types)) top c ⌝ }
     ensures { λ r. ⌜ (r ≡ true → treeIn (now (p .entry)) (now (types .entry)) (now (ws .entry)) c

@@ -228,8 +228,7 @@ trace-trace-requires-3 t c κs =
     let at-number-of = at-wide-index .before .before .before .before .before .before .before .before in
     let start = at-number-of .before .before .before .before .before .before .before in
     let lower = second-falls (start .pre .1 .0) (start .pre .1 .1 .0) (at-number-of .number-of .ensures) (at-wide-index .wide-index .ensures .0)
-    (at-wide-index2 .wide-index2 .ensures .0) (at-kind .kind .ensures) (at-if4 .if4 .left) (at-if3 .if3 .left) (at-if5 .if5 .left) (c .second .ensures) in
-    (
+    (at-wide-index2 .wide-index2 .ensures .0) (at-kind .kind .ensures) (at-if4 .if4 .left) (at-if3 .if3 .left) (at-if5 .if5 .left) (c .second .ensures) in (
       omega (arith, start .pre .0, lower .0),
       (still (start .pre .1 .0) (at-trace2 .trace2 .ensures), (lower .1, start .pre .1 .1 .1, omega (arith, start .pre .1 .1 .2, lower .0))),
     )

@@ -33,8 +33,7 @@ same-requires c κs =
     let at-if1 = at-number-of .before .before in
     let at-find = at-if1 .before in
     let at-under = at-find .before in
-    let start = at-under .before .before .before .before .before .before in
-    (
+    let start = at-under .before .before .before .before .before .before in (
       sources-then (start .pre .0),
       codes-known (start .pre .0) (start .pre .1 .0) (start .pre .1 .1)
           (number-there (start .pre .0) (let below : at-find .find .result < _ = omega (arith, at-find .find .ensures .most, at-if1 .if1 .left) in below) refl (at-number-of .number-of .ensures))

@@ -40,8 +40,7 @@ loop-less c = omega arith
 loop-again : tie.Need-loop-again Inv-loop μ-loop
 loop-again c =
     let at-enter = c .before .before .before .before .before .before in
-    let at-loop = at-enter .before .before .before .before .before in
-    (
+    let at-loop = at-enter .before .before .before .before .before in (
       omega arith,
       (
         at-enter .enter .kept .1 .1 .0 ∙ at-loop .loop .inv .1 .0,

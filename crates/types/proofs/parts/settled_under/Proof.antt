@@ -43,8 +43,7 @@ number-of-requires-3 c κs =
     let at-recall = c .before in
     let at-number-of2 = at-recall .before in
     let at-number-of = at-number-of2 .before .before .before in
-    let start = at-number-of .before .before .before .before in
-    (
+    let start = at-number-of .before .before .before .before in (
       start .pre .0 .figures .held,
       alias-there (start .pre .0) (start .args .c) (start .pre .1 .0) (start .pre .1 .1) (at-number-of .number-of .ensures) (at-number-of2 .number-of2 .ensures)
           (at-recall .recall .ensures) (c .if2 .taken),

@@ -54,8 +54,7 @@ loop-again c =
     let at-write16 = c .before .before in
     let at-loop-test = at-write16 .before .before in
     let at-loop = at-loop-test .before in
-    let start = at-loop .before .before in
-    (
+    let start = at-loop .before .before in (
       omega (arith, at-loop-test .loop-test .taken),
       omega (arith, at-write16 .write16 .kept, at-loop .loop .inv .1),
       forget-more (at-loop .loop .ws) (at-loop .loop .s) refl (omega (arith, at-loop-test .loop-test .taken, at-loop .loop .inv .1, start .pre)) (at-write16 .write16 .ensures) (at-loop .loop .inv .2),
