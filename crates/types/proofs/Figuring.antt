@@ -67,27 +67,27 @@ module _ (heap heap′ : List ℕ) (s : ℕ)
   unfolding openAt
   open-same = get16-bytes heap heap′ _ (same _ (omega arith) (omega arith)) (same _ (omega arith) (omega arith))
 
-  pub stand-same : standAt heap s ≡ standAt heap′ s
+  stand-same : standAt heap s ≡ standAt heap′ s
   unfolding standAt
   stand-same = get16-bytes heap heap′ _ (same _ (omega arith) (omega arith)) (same _ (omega arith) (omega arith))
 
-  alias-same : aliasAt heap s ≡ aliasAt heap′ s
+  pub alias-same : aliasAt heap s ≡ aliasAt heap′ s
   unfolding aliasAt
   alias-same = get16-bytes heap heap′ _ (same _ (omega arith) (omega arith)) (same _ (omega arith) (omega arith))
 
   -- one alias, among more entries too
-  alias-kept : {ys : List TypeEntry} {n m j : ℕ} → n ≤ m → Alias ys heap n s j → Alias ys heap′ m s j
-  alias-kept {ys} {n} {m} {j} h A = record {
+  alias-kept : {ys : List TypeEntry} {n m k : ℕ} → n ≤ m → Alias ys heap n s k → Alias ys heap′ m s k
+  alias-kept {ys} h A = record {
     opened = omega (arith, open-same, A .opened);
-    stands = omega (arith, A .stands);
-    there = omega (arith, alias-same, A .there);
-    tree = ap (typeOf ys) (sym alias-same) ∙ A .tree ∙ ap (λ i. closedBy (typeOf ys j) (typeOf ys i)) open-same;
+    stands = omega (arith, stand-same, A .stands);
+    there = omega (arith, A .there);
+    tree = A .tree ∙ ap₂ (λ j i. closedBy (typeOf ys j) (typeOf ys i)) stand-same open-same;
   }
 
 pub aliased-same : {ys : List TypeEntry} {heap heap′ : List ℕ} {n m : ℕ} → n ≤ m
     → ((j : ℕ) → aliasesFrom ≤ j → j < hintsFrom → getD heap j 0 ≡ getD heap′ j 0) → Aliased ys heap n → Aliased ys heap′ m
 aliased-same {ys} {heap} {heap′} h same A = record {
-  right = λ s j l e. alias-kept heap heap′ s (near s l) h (A .right s j l (stand-same heap heap′ s (near s l) ∙ e));
+  right = λ s k l e. alias-kept heap heap′ s (near s l) h (A .right s k l (alias-same heap heap′ s (near s l) ∙ e));
 }
   where
     near : (s : ℕ) → s < aliasSlots → (j : ℕ) → aliasesFrom + aliasBytes * s ≤ j → j < aliasesFrom + aliasBytes * s + aliasBytes
@@ -100,7 +100,7 @@ figured-same few F e same = refigured F e (λ j g h. same j g (omega arith)) (al
 
 -- none is kept
 pub none-aliased : {ys : List TypeEntry} {heap heap′ : List ℕ} (n : ℕ) → Forgotten heap heap′ → Aliased ys heap′ n
-none-aliased n N = record { right = λ s j l e. absurd (omega (arith, e, N .none s l)) }
+none-aliased n N = record { right = λ s k l e. absurd (omega (arith, e, N .none s l)) }
 
 ----------------------------------------------------------------
 -- Figures that are put
@@ -161,7 +161,7 @@ module _ (heap : List ℕ) (s i j alias : ℕ) where
   opened-put = put16 heap base i
 
   abbrev stands-put : List ℕ
-  stands-put = put16 opened-put (base + 2) (j + 1)
+  stands-put = put16 opened-put (base + 2) j
 
   length-alias : length (putAlias heap s i j alias) ≡ length heap
   unfolding putAlias
@@ -171,31 +171,31 @@ module _ (heap : List ℕ) (s i j alias : ℕ) where
   alias-other : (k : ℕ) → (k < base) ⊎ (base + aliasBytes ≤ k) → getD (putAlias heap s i j alias) k 0 ≡ getD heap k 0
   unfolding putAlias
   alias-other k o =
-      put16-other stands-put (base + 4) alias k (λ e. ⊎-elim (λ h. omega arith) (λ h. omega arith) o) (λ e. ⊎-elim (λ h. omega arith) (λ h. omega arith) o)
-      ∙ put16-other opened-put (base + 2) (j + 1) k (λ e. ⊎-elim (λ h. omega arith) (λ h. omega arith) o) (λ e. ⊎-elim (λ h. omega arith) (λ h. omega arith) o)
+      put16-other stands-put (base + 4) (alias + 1) k (λ e. ⊎-elim (λ h. omega arith) (λ h. omega arith) o) (λ e. ⊎-elim (λ h. omega arith) (λ h. omega arith) o)
+      ∙ put16-other opened-put (base + 2) j k (λ e. ⊎-elim (λ h. omega arith) (λ h. omega arith) o) (λ e. ⊎-elim (λ h. omega arith) (λ h. omega arith) o)
       ∙ put16-other heap base i k (λ e. ⊎-elim (λ h. omega arith) (λ h. omega arith) o) (λ e. ⊎-elim (λ h. omega arith) (λ h. omega arith) o)
 
   module _ (room : base + aliasBytes ≤ length heap) where
-    first-two : (k : ℕ) → k < base + 4 → getD (put16 stands-put (base + 4) alias) k 0 ≡ getD stands-put k 0
-    first-two k h = put16-other stands-put (base + 4) alias k (λ e. omega arith) (λ e. omega arith)
+    first-two : (k : ℕ) → k < base + 4 → getD (put16 stands-put (base + 4) (alias + 1)) k 0 ≡ getD stands-put k 0
+    first-two k h = put16-other stands-put (base + 4) (alias + 1) k (λ e. omega arith) (λ e. omega arith)
 
-    first-one : (k : ℕ) → k < base + 2 → getD (put16 stands-put (base + 4) alias) k 0 ≡ getD opened-put k 0
-    first-one k h = first-two k (omega arith) ∙ put16-other opened-put (base + 2) (j + 1) k (λ e. omega arith) (λ e. omega arith)
+    first-one : (k : ℕ) → k < base + 2 → getD (put16 stands-put (base + 4) (alias + 1)) k 0 ≡ getD opened-put k 0
+    first-one k h = first-two k (omega arith) ∙ put16-other opened-put (base + 2) j k (λ e. omega arith) (λ e. omega arith)
 
     open-here : i < 65536 → openAt (putAlias heap s i j alias) s ≡ i
     unfolding openAt putAlias
     open-here small =
         get16-bytes _ opened-put base (first-one base (omega arith)) (first-one (base + 1) (omega arith)) ∙ get16-put16 heap base i (omega arith) small
 
-    stand-here : j < 65535 → standAt (putAlias heap s i j alias) s ≡ j + 1
+    stand-here : j < 65536 → standAt (putAlias heap s i j alias) s ≡ j
     unfolding standAt putAlias
     stand-here small =
         get16-bytes _ stands-put (base + 2) (first-two (base + 2) (omega arith)) (first-two (base + 2 + 1) (omega arith))
-        ∙ get16-put16 opened-put (base + 2) (j + 1) (simp length-put16 (omega arith)) (omega arith)
+        ∙ get16-put16 opened-put (base + 2) j (simp length-put16 (omega arith)) small
 
-    alias-here : alias < 65536 → aliasAt (putAlias heap s i j alias) s ≡ alias
+    alias-here : alias < 65535 → aliasAt (putAlias heap s i j alias) s ≡ alias + 1
     unfolding aliasAt putAlias
-    alias-here small = get16-put16 stands-put (base + 4) alias (simp length-put16 (omega arith)) small
+    alias-here small = get16-put16 stands-put (base + 4) (alias + 1) (simp length-put16 (omega arith)) (omega arith)
 
 -- an alias that is right may be kept, in any slot
 pub alias-more : {ys : List TypeEntry} {heap : List ℕ} {n : ℕ} (s : ℕ) {i j k : ℕ} → Figured ys heap n → n ≤ maxTypes → s < aliasSlots
@@ -206,16 +206,16 @@ alias-more {ys} {heap} {n} s {i} {j} {k} F few ls li lj lk t =
     room : aliasesFrom + aliasBytes * s + aliasBytes ≤ length heap
     room = omega (arith, F .held)
 
-    new : (o : ℕ) → standAt (putAlias heap s i j k) s ≡ suc o → Alias ys (putAlias heap s i j k) n s o
+    new : (o : ℕ) → aliasAt (putAlias heap s i j k) s ≡ suc o → Alias ys (putAlias heap s i j k) n s o
     new o e =
         let opened : openAt (putAlias heap s i j k) s ≡ i = open-here heap s i j k room (omega arith) in
-        let here : aliasAt (putAlias heap s i j k) s ≡ k = alias-here heap s i j k room (omega arith) in
-        let same : j ≡ o = omega (arith, e, stand-here heap s i j k room (omega arith)) in
+        let stands : standAt (putAlias heap s i j k) s ≡ j = stand-here heap s i j k room (omega arith) in
+        let same : k ≡ o = omega (arith, e, alias-here heap s i j k room (omega arith)) in
         record {
           opened = omega (arith, opened);
-          stands = omega arith;
-          there = omega (arith, here);
-          tree = ap (typeOf ys) here ∙ t ∙ ap₂ (λ j i. closedBy (typeOf ys j) (typeOf ys i)) same (sym opened);
+          stands = omega (arith, stands);
+          there = omega arith;
+          tree = ap (typeOf ys) (sym same) ∙ t ∙ ap₂ (λ j i. closedBy (typeOf ys j) (typeOf ys i)) (sym stands) (sym opened);
         }
 
     beside : (m : ℕ) → ¬ (m ≡ s) → (o : ℕ) → aliasesFrom + aliasBytes * m ≤ o → o < aliasesFrom + aliasBytes * m + aliasBytes
@@ -226,30 +226,30 @@ alias-more {ys} {heap} {n} s {i} {j} {k} F few ls li lj lk t =
         go (yes l) = left (omega arith)
         go (no l) = right (let above : s < m = omega (arith, n) in omega arith)
 
-    by-slot : (m o : ℕ) → m < aliasSlots → standAt (putAlias heap s i j k) m ≡ suc o → (b : Bool) → eqb m s ≡ b → Alias ys (putAlias heap s i j k) n m o
+    by-slot : (m o : ℕ) → m < aliasSlots → aliasAt (putAlias heap s i j k) m ≡ suc o → (b : Bool) → eqb m s ≡ b → Alias ys (putAlias heap s i j k) n m o
     by-slot m o l e true q =
         let same : m ≡ s = eqb-true m s q in
-        subst (λ m. Alias ys (putAlias heap s i j k) n m o) (sym same) (new o (ap (standAt (putAlias heap s i j k)) (sym same) ∙ e))
+        subst (λ m. Alias ys (putAlias heap s i j k) n m o) (sym same) (new o (ap (aliasAt (putAlias heap s i j k)) (sym same) ∙ e))
     by-slot m o l e false q =
         let apart : ¬ (m ≡ s) = eqb-false m s q in
-        alias-kept heap _ m (beside m apart) (omega arith) (F .aliases .right m o l (stand-same heap _ m (beside m apart) ∙ e))
+        alias-kept heap _ m (beside m apart) (omega arith) (F .aliases .right m o l (alias-same heap _ m (beside m apart) ∙ e))
 
-    new-or-old : (m o : ℕ) → m < aliasSlots → standAt (putAlias heap s i j k) m ≡ suc o → Alias ys (putAlias heap s i j k) n m o
+    new-or-old : (m o : ℕ) → m < aliasSlots → aliasAt (putAlias heap s i j k) m ≡ suc o → Alias ys (putAlias heap s i j k) n m o
     new-or-old m o l e = by-slot m o l e (eqb m s) refl
 
 ----------------------------------------------------------------
 -- None kept: slot after slot
 
-pub forget-more : (heap : List ℕ) {heap′ : List ℕ} (k : ℕ) {at : ℕ} → at ≡ aliasesFrom + aliasBytes * k + 2 → at + 2 ≤ length heap → heap′ ≡ put16 heap at 0
-    → ((s : ℕ) → s < k → standAt heap s ≡ 0) → (s : ℕ) → s < k + 1 → standAt heap′ s ≡ 0
-unfolding standAt
+pub forget-more : (heap : List ℕ) {heap′ : List ℕ} (k : ℕ) {at : ℕ} → at ≡ aliasesFrom + aliasBytes * k + 4 → at + 2 ≤ length heap → heap′ ≡ put16 heap at 0
+    → ((s : ℕ) → s < k → aliasAt heap s ≡ 0) → (s : ℕ) → s < k + 1 → aliasAt heap′ s ≡ 0
+unfolding aliasAt
 forget-more heap {heap′} k {at} a room w older s l = ⊎-elim here earlier (eq-or-lt-of-le (let le : s ≤ k = omega arith in le))
   where
-    here : s ≡ k → get16 heap′ (aliasesFrom + aliasBytes * s + 2) ≡ 0
-    here e = ap₂ get16 w (ap (λ s. aliasesFrom + aliasBytes * s + 2) e ∙ sym a) ∙ get16-put16 heap at 0 room (omega arith)
+    here : s ≡ k → get16 heap′ (aliasesFrom + aliasBytes * s + 4) ≡ 0
+    here e = ap₂ get16 w (ap (λ s. aliasesFrom + aliasBytes * s + 4) e ∙ sym a) ∙ get16-put16 heap at 0 room (omega arith)
 
     kept : (j : ℕ) → j < at → getD heap′ j 0 ≡ getD heap j 0
     kept j h = ap (λ heap. getD heap j 0) w ∙ put16-other heap at 0 j (λ e. omega arith) (λ e. omega arith)
 
-    earlier : s < k → get16 heap′ (aliasesFrom + aliasBytes * s + 2) ≡ 0
+    earlier : s < k → get16 heap′ (aliasesFrom + aliasBytes * s + 4) ≡ 0
     earlier h = get16-bytes heap′ heap _ (kept _ (omega (arith, a))) (kept _ (omega (arith, a))) ∙ older s h

@@ -16,11 +16,11 @@ use package.Rattle.program.specs.Kinds.{unitTypeKind, productKind, recursiveKin
 use package.Rattle.types.specs.declared.codes.Code.{Code}
 use package.Rattle.types.specs.declared.shapes.Shape.{Shape}
 use package.Rattle.types.specs.Layout.{typingBytes}
-use package.Rattle.types.specs.Figures.{closedBy, aliasSlotOf, numberAt, freeAt, Alias, Recalled}
+use package.Rattle.types.specs.Figures.{closedBy, recalledAt, numberAt, freeAt}
 use package.Rattle.types.specs.Codes.{unitForm, entryForm, underForm, productForm, entryCode, underCode, leftAt, rightAt, treeIn, Readable, Known, Sources}
 use package.Rattle.types.specs.Shapes.{leaf, part, entryShape, productShape, plainForm, plainShape, Shaped, Settled}
 use package.Rattle.types.proofs.Closing.{closed-itself, closed-variable}
-use package.Rattle.types.proofs.Figuring.{slot-inside}
+use package.Rattle.types.proofs.Recalling.{Remembered, remembered}
 use package.Rattle.types.proofs.Trees.{tree-entry, tree-under}
 use package.Rattle.types.proofs.Outer.{unit-node, two-node, mu-node, var-node, found-two, found-mu, found-var, few-at, kind-there, mu-there, first-lower, second-lower, two-there, var-there, unfolds-at, entry-there, entry-known, under-known, unit-shaped, entry-shaped, under-shaped, product-shaped}
 
@@ -153,18 +153,18 @@ module _ {xs types heap : List ℕ} {top : ℕ} (S : Sources xs types heap top) 
           entry-settled c (c .at) at-there (sym (tree-under (map (typeAt xs) types) heap c e ∙ closed-itself τ _ (sym free-at ∙ z))) p q
 
       -- an alias, for what stands
-      module _ {j : ℕ} (s : j ≡ numberAt heap (c .stands)) {d : Code} (R : Recalled heap i j d) (q : d .form ≡ entryForm) where
-        alias : Alias (map (typeAt xs) types) heap (length types) (aliasSlotOf i j) j
-        alias = S .figures .aliases .right (aliasSlotOf i j) j (slot-inside i j) (R .stands q)
+      module _ {j : ℕ} (s : j ≡ numberAt heap (c .stands)) {x k : ℕ} (q : x ≡ recalledAt heap i j) (o : x ≡ suc k) where
+        alias : Remembered (map (typeAt xs) types) (length types) i j k
+        alias = remembered (S .figures .aliases) i j (sym q ∙ o)
 
-        pub alias-there : d .at < maxTypes
-        alias-there = omega (arith, R .alias q, alias .there, S .entries .few)
+        pub alias-there : k < maxTypes
+        alias-there = omega (arith, alias .there, S .entries .few)
 
-        pub alias-settled : {m : ℕ} {r : Code} → m ≡ numberAt heap (d .at) → r ≡ entryCode m → Settled xs types heap top c r
+        pub alias-settled : {m : ℕ} {r : Code} → m ≡ numberAt heap k → r ≡ entryCode m → Settled xs types heap top c r
         alias-settled m r =
             let T : ℕ → Ty = typeOf (map (typeAt xs) types) in
-            entry-settled c (d .at) (omega (arith, R .alias q, alias .there)) (ap T (R .alias q) ∙ alias .tree
-            ∙ ap₂ closedBy (ap T s ∙ S .figures .number-tree (c .stands) (K .stands e)) (ap T (R .opened q) ∙ same-at)
+            entry-settled c k (alias .there) (alias .tree
+            ∙ ap₂ closedBy (ap T s ∙ S .figures .number-tree (c .stands) (K .stands e)) same-at
             ∙ sym (tree-under (map (typeAt xs) types) heap c e)) m r
 
       module _ {j : ℕ} (s : j ≡ numberAt heap (c .stands)) {n at kind : ℕ} (a : n ≡ i) (f : at ≡ getD types n 0) (g : kind ≡ kindAt xs at) where

@@ -13,11 +13,23 @@ use package.Rattle.calls.specs.Tested.{Lower}
 use package.Rattle.program.specs.Parts.{TypeField}
 use package.Rattle.types.specs.Figures.{closedBy, Figured}
 pub use package.Rattle.types.specs.Layout.{nodeBytes}
-pub use package.Rattle.types.specs.Forms.{unitForm, entryForm, underForm, productForm}
 use package.Rattle.types.specs.declared.codes.Code.{Code}
 
 ----------------------------------------------------------------
 -- Codes
+
+-- their forms
+abbrev pub unitForm : ℕ
+unitForm = 0
+
+abbrev pub entryForm : ℕ
+entryForm = 1
+
+abbrev pub underForm : ℕ
+underForm = 2
+
+abbrev pub productForm : ℕ
+productForm = 3
 
 abbrev pub unitCode : Code
 unitCode = record { form = unitForm; at = 0; stands = 0 }

@@ -3,7 +3,7 @@
 -- one was found. Laws: proofs/Closing, Figuring.
 use Prim.Native.Nat.{ℕ, suc, _+_, _*_, _%_, _<_, _≤_, pred, min}
 use mathlib.Core.Path.{_≡_}
-use mathlib.Core.Bool.{cond}
+use mathlib.Core.Bool.{_&&_, cond}
 use mathlib.Core.List.{List}
 use lib.ListN.{length}
 use lib.Dec.{eqb}
@@ -12,8 +12,6 @@ use package.Rattle.rules.specs.Ty.{Ty, one, prod, sum, mu, tyvar, plug}
 use package.Rattle.calls.specs.Entries.{TypeEntry, typeOf}
 use package.Rattle.calls.specs.Figures.{ceiling, free}
 use package.Rattle.types.specs.Layout.{figureBytes, figuresFrom, aliasBytes, aliasesFrom, aliasSlots, typingBytes}
-use package.Rattle.types.specs.Forms.{entryForm}
-use package.Rattle.types.specs.declared.codes.Code.{Code}
 
 ----------------------------------------------------------------
 -- The outermost free variable
@@ -56,34 +54,33 @@ aliasSlotOf i j = (i + 37 * j) % aliasSlots
 unfoldable pub openAt : List ℕ → ℕ → ℕ
 openAt heap s = get16 heap (aliasesFrom + aliasBytes * s)
 
--- one more than the entry that stands for the variable; 0 if there is no alias
 unfoldable pub standAt : List ℕ → ℕ → ℕ
 standAt heap s = get16 heap (aliasesFrom + aliasBytes * s + 2)
 
+-- one more than the alias; 0 if there is none
 unfoldable pub aliasAt : List ℕ → ℕ → ℕ
 aliasAt heap s = get16 heap (aliasesFrom + aliasBytes * s + 4)
 
--- The alias in slot `s` is right: the entry, its outermost free variable standing for entry `j`, is equal as a tree to the alias.
-pub record Alias (ys : List TypeEntry) (heap : List ℕ) (n s j : ℕ) : Type 0 where
+-- what is recalled of entry `i` with entry `j` for its variable: one more than its alias, or 0
+abbrev pub recalledAt : List ℕ → ℕ → ℕ → ℕ
+recalledAt heap i j =
+    cond (eqb (openAt heap (aliasSlotOf i j)) i && eqb (standAt heap (aliasSlotOf i j)) j) (aliasAt heap (aliasSlotOf i j)) 0
+
+-- The alias `k` in slot `s` is right: it is equal as a tree to the entry, its outermost free variable standing for what is said.
+pub record Alias (ys : List TypeEntry) (heap : List ℕ) (n s k : ℕ) : Type 0 where
   pub opened : openAt heap s < n
-  pub stands : j < n
-  pub there : aliasAt heap s < n
-  pub tree : typeOf ys (aliasAt heap s) ≡ closedBy (typeOf ys j) (typeOf ys (openAt heap s))
+  pub stands : standAt heap s < n
+  pub there : k < n
+  pub tree : typeOf ys k ≡ closedBy (typeOf ys (standAt heap s)) (typeOf ys (openAt heap s))
 
 -- All aliases are right, among the first `n` entries; there need not be any.
 pub record Aliased (ys : List TypeEntry) (heap : List ℕ) (n : ℕ) : Type 0 where
-  pub right : (s j : ℕ) → s < aliasSlots → standAt heap s ≡ suc j → Alias ys heap n s j
+  pub right : (s k : ℕ) → s < aliasSlots → aliasAt heap s ≡ suc k → Alias ys heap n s k
 
 -- There is none.
 pub record Forgotten (heap heap′ : List ℕ) : Type 0 where
-  pub none : (s : ℕ) → s < aliasSlots → standAt heap′ s ≡ 0
+  pub none : (s : ℕ) → s < aliasSlots → aliasAt heap′ s ≡ 0
   pub lengths : length heap ≡ length heap′
-
--- What is recalled of entry `i` with entry `j` for its variable: a code that is the alias, if it is an entry's.
-pub record Recalled (heap : List ℕ) (i j : ℕ) (c : Code) : Type 0 where
-  pub opened : c .form ≡ entryForm → openAt heap (aliasSlotOf i j) ≡ i
-  pub stands : c .form ≡ entryForm → standAt heap (aliasSlotOf i j) ≡ suc j
-  pub alias : c .form ≡ entryForm → c .at ≡ aliasAt heap (aliasSlotOf i j)
 
 ----------------------------------------------------------------
 -- All of it

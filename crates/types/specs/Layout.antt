@@ -17,13 +17,12 @@ figuresFrom = nodeBytes * maxTerms
 abbrev pub aliasesFrom : ℕ
 aliasesFrom = figuresFrom + figureBytes * maxTypes
 
--- an alias: the entry, one more than what stands for its outermost free variable, and the entry that it then is equal to, two bytes each
+-- an alias: the entry, what stands for its outermost free variable, and one more than the entry that it then is equal to, two bytes each
 abbrev pub aliasBytes : ℕ
 aliasBytes = 6
 
--- a prime
 abbrev pub aliasSlots : ℕ
-aliasSlots = 251
+aliasSlots = 256
 
 abbrev pub hintsFrom : ℕ
 hintsFrom = aliasesFrom + aliasBytes * aliasSlots

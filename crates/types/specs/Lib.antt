@@ -1,8 +1,6 @@
 -- The types that typing gives a term. The modules in reading order:
 -- the bytes that typing is lent
 pub mod Layout
--- the forms of codes
-pub mod Forms
 -- what is kept of each type entry: canonical numbers, free variables; aliases
 pub mod Figures
 -- codes of types, and the tree of a code

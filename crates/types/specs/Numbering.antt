@@ -60,7 +60,7 @@ putFigures heap i number free outer =
 -- in slot `s` the alias of entry `i`, entry `j` standing for its outermost free variable
 unfoldable pub putAlias : List ℕ → ℕ → ℕ → ℕ → ℕ → List ℕ
 putAlias heap s i j alias =
-    put16 (put16 (put16 heap (aliasesFrom + aliasBytes * s) i) (aliasesFrom + aliasBytes * s + 2) (j + 1)) (aliasesFrom + aliasBytes * s + 4) alias
+    put16 (put16 (put16 heap (aliasesFrom + aliasBytes * s) i) (aliasesFrom + aliasBytes * s + 2) j) (aliasesFrom + aliasBytes * s + 4) (alias + 1)
 
 ----------------------------------------------------------------
 -- Looking for a key

@@ -108,9 +108,8 @@ fn trace(
     }
     // a part that stands in several places is traced once, if it has an alias
     let known = recalled::recall(ws, i, j);
-    let form = known.form;
-    if form == codes::ENTRY {
-        return known;
+    if known != 0 {
+        return codes::entry(known - 1);
     }
     let at = octets::wide_index(types[octets::wide_index(i)]);
     let kind = views::kind(p, at);

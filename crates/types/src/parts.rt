@@ -27,10 +27,9 @@ fn settled_under(p: &[u8], types: &[u16], ws: &[u8], top: u32, c: Code) -> Code
         return codes::entry(i);
     }
     let j = figures::number_of(ws, c.stands);
-    let alias = recalled::recall(ws, i, j);
-    let form = alias.form;
-    if form == codes::ENTRY {
-        return codes::entry(figures::number_of(ws, alias.at));
+    let known = recalled::recall(ws, i, j);
+    if known != 0 {
+        return codes::entry(figures::number_of(ws, known - 1));
     }
     let at = octets::wide_index(types[octets::wide_index(i)]);
     let kind = program::views::kind(p, at);

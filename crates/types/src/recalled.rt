@@ -5,15 +5,13 @@ ghost use Prim.Native.Nat.{_+_, _*_, _≤_, _<_};
 ghost use lib.ListN.{length};
 ghost use Rattle.rules.specs.Limits.{maxTypes};
 ghost use Rattle.types.specs.Layout.{aliasBytes, aliasesFrom, aliasSlots, typingBytes};
-ghost use Rattle.types.specs.Figures.{aliasSlotOf, Forgotten, Recalled};
+ghost use Rattle.types.specs.Figures.{aliasSlotOf, recalledAt, Forgotten};
 ghost use Rattle.types.specs.Numbering.{putAlias};
-use crate::codes;
-use crate::codes::Code;
 use crate::figures::FIGURES_END;
 
 const ALIAS_BYTES: usize = 6;
 
-const ALIAS_SLOTS: usize = 251;
+const ALIAS_SLOTS: usize = 256;
 
 pub const ALIASES_END: usize = FIGURES_END + ALIAS_BYTES * ALIAS_SLOTS;
 
@@ -25,30 +23,29 @@ fn place(i: u16, j: u16) -> usize
     FIGURES_END + ALIAS_BYTES * slot
 }
 
-// The alias of entry `i` with entry `j` for its variable; unit's code if none is there.
-pub fn recall(ws: &[u8], i: u16, j: u16) -> Code
+// One more than the alias of entry `i` with entry `j` for its variable; 0 if none is there.
+pub fn recall(ws: &[u8], i: u16, j: u16) -> u16
     requires { ⌜ typingBytes ≤ length (now ws) ⌝ }
-    ensures { λ r. ⌜ Recalled (now (ws .entry)) i j r ⌝ }
+    ensures { λ r. ⌜ r ≡ recalledAt (now (ws .entry)) i j ⌝ }
 {
     let at = place(i, j);
     if octets::read16(ws, at) == i {
-        let stands = octets::wide32(octets::read16(ws, at + 2));
-        if stands == octets::wide32(j) + 1 {
-            return codes::entry(octets::read16(ws, at + 4));
+        if octets::read16(ws, at + 2) == j {
+            return octets::read16(ws, at + 4);
         }
     }
-    codes::unit()
+    0
 }
 
 // It is `alias`.
 pub fn put(ws: &mut [u8], i: u16, j: u16, alias: u16)
-    requires { ⌜ (typingBytes ≤ length (now ws)) × (j < maxTypes) ⌝ }
+    requires { ⌜ (typingBytes ≤ length (now ws)) × (alias < maxTypes) ⌝ }
     ensures { λ _. ⌜ now (ws .exit) ≡ putAlias (now (ws .entry)) (aliasSlotOf i j) i j alias ⌝ }
 {
     let at = place(i, j);
     octets::write16(ws, at, i);
-    octets::write16(ws, at + 2, j + 1);
-    octets::write16(ws, at + 4, alias);
+    octets::write16(ws, at + 2, j);
+    octets::write16(ws, at + 4, alias + 1);
 }
 
 // No alias is kept, whatever the bytes held.
@@ -58,7 +55,7 @@ pub fn forget(ws: &mut [u8])
 {
     let mut s = 0;
     while s < ALIAS_SLOTS {
-        octets::write16(ws, FIGURES_END + ALIAS_BYTES * s + 2, 0);
+        octets::write16(ws, FIGURES_END + ALIAS_BYTES * s + 4, 0);
         s += 1;
     }
 }

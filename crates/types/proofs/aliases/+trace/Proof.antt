@@ -64,12 +64,18 @@ trace-recall-requires t c κs =
     let start = c .before .before .before .before .before .before .before .before .before .before .before .before in
     start .pre .1 .0 .figured .held
 
+trace-sub-entry : (t : ℕ) → trace-lts.Need-sub-entry (trace-uses t) (trace-at t) trace.Post
+trace-sub-entry t c = omega (arith, c .if2 .taken)
+
+trace-entry-requires-2 : (t : ℕ) → trace-lts.Need-entry-requires-2 (trace-uses t) (trace-at t) trace.Post
+trace-entry-requires-2 t c κs = search needs
+
 trace-same-length-2 : (t : ℕ) → trace-lts.Need-same-length-2 (trace-uses t) (trace-at t) trace.Post
 trace-same-length-2 t c = search needs
 
 trace-returns-2 : (t : ℕ) → trace-lts.Need-returns-2 (trace-uses t) (trace-at t) trace.Post
 trace-returns-2 t c =
-    let start = c .before .before .before .before .before .before .before .before .before .before .before .before .before .before in
+    let start = c .before .before .before .before .before .before .before .before .before .before .before .before .before .before .before in
     start .pre .1 .0 .figured
 
 trace-wide-index-requires : (t : ℕ) → trace-lts.Need-wide-index-requires (trace-uses t) (trace-at t) trace.Post
@@ -96,8 +102,8 @@ trace-kind-requires t c κs =
     kind-there (start .pre .1 .0 .entries) (own-there (start .pre .1 .0) (start .pre .1 .1 .0) (at-number-of .number-of .ensures) .0)
     (at-wide-index .wide-index .ensures .0) (c .wide-index2 .ensures .0)
 
-trace-entry-requires-2 : (t : ℕ) → trace-lts.Need-entry-requires-2 (trace-uses t) (trace-at t) trace.Post
-trace-entry-requires-2 t c κs = search needs
+trace-entry-requires-3 : (t : ℕ) → trace-lts.Need-entry-requires-3 (trace-uses t) (trace-at t) trace.Post
+trace-entry-requires-3 t c κs = search needs
 
 trace-same-length-3 : (t : ℕ) → trace-lts.Need-same-length-3 (trace-uses t) (trace-at t) trace.Post
 trace-same-length-3 t c = search needs
@@ -107,8 +113,8 @@ trace-returns-3 t c =
     let start = c .before .before .before .before .before .before .before .before .before .before .before .before .before .before .before .before .before .before .before .before in
     start .pre .1 .0 .figured
 
-trace-entry-requires-3 : (t : ℕ) → trace-lts.Need-entry-requires-3 (trace-uses t) (trace-at t) trace.Post
-trace-entry-requires-3 t c κs = search needs
+trace-entry-requires-4 : (t : ℕ) → trace-lts.Need-entry-requires-4 (trace-uses t) (trace-at t) trace.Post
+trace-entry-requires-4 t c κs = search needs
 
 trace-same-length-4 : (t : ℕ) → trace-lts.Need-same-length-4 (trace-uses t) (trace-at t) trace.Post
 trace-same-length-4 t c = search needs
@@ -147,8 +153,8 @@ trace-trace-requires t c κs =
     (at-wide-index2 .wide-index2 .ensures .0) (at-kind .kind .ensures) (at-if4 .if4 .left) (at-if3 .if3 .left) (c .first .ensures) in
     (omega (arith, start .pre .0, lower .0), (start .pre .1 .0, (lower .1, start .pre .1 .1 .1, omega (arith, start .pre .1 .1 .2, lower .0))))
 
-trace-entry-requires-4 : (t : ℕ) → trace-lts.Need-entry-requires-4 (trace-uses t) (trace-at t) trace.Post
-trace-entry-requires-4 t c κs = search needs
+trace-entry-requires-5 : (t : ℕ) → trace-lts.Need-entry-requires-5 (trace-uses t) (trace-at t) trace.Post
+trace-entry-requires-5 t c κs = search needs
 
 trace-join-requires : (t : ℕ) → trace-lts.Need-join-requires (trace-uses t) (trace-at t) trace.Post
 trace-join-requires t c κs =
@@ -269,6 +275,8 @@ pub +trace-spec : {M : Type 1} → statement M
     (trace-same-length t)
     (trace-returns t)
     (trace-recall-requires t)
+    (trace-sub-entry t)
+    (trace-entry-requires-2 t)
     (trace-same-length-2 t)
     (trace-returns-2 t)
     (trace-wide-index-requires t)
@@ -276,16 +284,16 @@ pub +trace-spec : {M : Type 1} → statement M
     (trace-shared-slice-read-wide-index t)
     (trace-wide-index-requires-2 t)
     (trace-kind-requires t)
-    (trace-entry-requires-2 t)
+    (trace-entry-requires-3 t)
     (trace-same-length-3 t)
     (trace-returns-3 t)
-    (trace-entry-requires-3 t)
+    (trace-entry-requires-4 t)
     (trace-same-length-4 t)
     (trace-returns-4 t)
     (trace-first-requires t)
     (trace-add-trace t)
     (trace-trace-requires t)
-    (trace-entry-requires-4 t)
+    (trace-entry-requires-5 t)
     (trace-join-requires t)
     (trace-same-length-5 t)
     (trace-returns-5 t)

@@ -1,5 +1,6 @@
 use native.Mathlib.Omega.{arith}
-use mathlib.Core.Path.{sym, _∙_}
+use Prim.Native.Nat.{suc, _-_}
+use mathlib.Core.Path.{_≡_, sym, _∙_}
 use Rattle.types.proofs.Outer.{kind-there, entry-there}
 use Rattle.types.proofs.Plain.{under-there, closed-settled, alias-there, alias-settled, variable-settled, under-settled}
 use borrow.Author.Needs.{needs}
@@ -38,6 +39,9 @@ number-of-requires-2 c κs =
 recall-requires : tie.Need-recall-requires
 recall-requires c κs = search needs
 
+sub-number-of : tie.Need-sub-number-of
+sub-number-of c = omega (arith, c .if2 .taken)
+
 number-of-requires-3 : tie.Need-number-of-requires-3
 number-of-requires-3 c κs =
     let at-recall = c .before in
@@ -46,7 +50,7 @@ number-of-requires-3 c κs =
     let start = at-number-of .before .before .before .before in (
       start .pre .0 .figures .held,
       alias-there (start .pre .0) (start .args .c) (start .pre .1 .0) (start .pre .1 .1) (at-number-of .number-of .ensures) (at-number-of2 .number-of2 .ensures)
-          (at-recall .recall .ensures) (c .if2 .taken),
+          (at-recall .recall .ensures) (let known : at-recall .recall .result ≡ suc (at-recall .recall .result - 1) = omega (arith, c .if2 .taken) in known),
     )
 
 entry-requires-2 : tie.Need-entry-requires-2
@@ -61,7 +65,8 @@ returns-2 c =
     let at-number-of = at-number-of2 .before .before .before in
     let start = at-number-of .before .before .before .before in
     alias-settled (start .pre .0) (start .args .c) (start .pre .1 .0) (start .pre .1 .1) (at-number-of .number-of .ensures) (at-number-of2 .number-of2 .ensures)
-    (at-recall .recall .ensures) (at-if2 .if2 .taken) (at-number-of3 .number-of3 .ensures) (c .entry2 .ensures)
+    (at-recall .recall .ensures) (let known : at-recall .recall .result ≡ suc (at-recall .recall .result - 1) = omega (arith, at-if2 .if2 .taken) in known)
+    (at-number-of3 .number-of3 .ensures) (c .entry2 .ensures)
 
 wide-index-requires : tie.Need-wide-index-requires
 wide-index-requires c κs = search needs
@@ -135,6 +140,7 @@ settled-under-spec =
     returns
     number-of-requires-2
     recall-requires
+    sub-number-of
     number-of-requires-3
     entry-requires-2
     returns-2

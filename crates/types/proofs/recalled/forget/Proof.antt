@@ -3,13 +3,13 @@ use native.Mathlib.Omega.{arith}
 use mathlib.Core.Path.{_≡_, refl, sym, subst, _∙_}
 use lib.ListN.{length}
 use Rattle.types.specs.Layout.{aliasSlots}
-use Rattle.types.specs.Figures.{standAt}
+use Rattle.types.specs.Figures.{aliasAt}
 use Rattle.types.proofs.Figuring.{forget-more}
 use Rattle.types.proofs.recalled.forget.Statement.{statement}
 use Rattle.types.proofs.recalled.forget.Tie as tie
 
 abbrev Inv-loop : tie.InvT-loop
-Inv-loop ws₀ s₀ ws s = (s ≤ aliasSlots) × (length ws ≡ length ws₀) × ((k : ℕ) → k < s → standAt ws k ≡ 0)
+Inv-loop ws₀ s₀ ws s = (s ≤ aliasSlots) × (length ws ≡ length ws₀) × ((k : ℕ) → k < s → aliasAt ws k ≡ 0)
 
 abbrev μ-loop : tie.MeasureT-loop
 μ-loop ws₀ s₀ ws s = aliasSlots - s

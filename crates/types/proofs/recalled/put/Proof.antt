@@ -12,11 +12,11 @@ write16-requires c κs = search needs
 add-write16 : tie.Need-add-write16
 add-write16 c = search needs
 
-add-write16-2 : tie.Need-add-write16-2
-add-write16-2 c = search needs
-
 write16-requires-2 : tie.Need-write16-requires-2
 write16-requires-2 c κs = search needs
+
+add-write16-2 : tie.Need-add-write16-2
+add-write16-2 c = search needs
 
 add-write16-3 : tie.Need-add-write16-3
 add-write16-3 c = search needs
@@ -41,8 +41,8 @@ put-spec =
     place-requires
     write16-requires
     add-write16
-    add-write16-2
     write16-requires-2
+    add-write16-2
     add-write16-3
     write16-requires-3
     same-length
