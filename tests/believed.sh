@@ -62,7 +62,7 @@ reached crates/batch/specs/Lent.antt
 fresh '*' && batch=$(($(lines "${found[@]}") + $(clauses crates/batch/src/lib.rt)))
 reached crates/exports/specs/Told.antt
 fresh '*' && exports=$(($(lines "${found[@]}") + $(clauses crates/exports/src/lib.rt)))
-cases=$(lines crates/rules/specs/{Cases,Choices}.antt crates/calls/specs/{Cases,Borders,Samples}.antt crates/borders/specs/Borders.antt)
+cases=$(lines crates/rules/specs/{Cases,Choices}.antt crates/calls/specs/{Cases,Borders,Samples}.antt crates/borders/specs/Borders.antt crates/entries/specs/TallyCases.antt)
 
 row "definitions over trees (rules)" "$trees"
 row "definitions on bytes (calls)" "$bytes"

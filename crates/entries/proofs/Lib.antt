@@ -5,6 +5,8 @@ pub mod Turns
 pub mod Figures
 -- the tally of the counts of nodes, and what the counts mean
 pub mod Tallies
+-- section 6's types and types at the limit, by computation
+pub mod TallyTable
 -- testing the type entries
 pub mod Types
 -- verdicts on one entry after another

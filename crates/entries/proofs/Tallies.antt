@@ -48,6 +48,17 @@ kept-more (suc n ∷ ns) (suc i) (suc m) l e h = ap suc (kept-more ns i (suc m) 
 kept-fewer : (counts : List ℕ) (i : ℕ) → i < length counts → getD counts i 0 ≡ 0 → kept counts < length counts
 kept-fewer counts i l e = omega (arith, kept-more counts i 1 l e (omega arith), kept-few (set counts i 1), length-set counts i 1)
 
+-- exactly the first `n` have one
+kept-front : (counts : List ℕ) (n : ℕ) → ((i : ℕ) → i < n → HasCount counts i) → ((i : ℕ) → HasCount counts i → i < n) → kept counts ≡ n
+unfolding kept
+kept-front [] zero each only = refl
+kept-front [] (suc n) each only = absurd (omega (arith, each 0 (omega arith)))
+kept-front (zero ∷ ns) zero each only = kept-front ns zero (λ i l. absurd (omega arith)) λ i h. absurd (omega (arith, only (suc i) h))
+kept-front (zero ∷ ns) (suc n) each only = absurd (omega (arith, each 0 (omega arith)))
+kept-front (suc m ∷ ns) zero each only = absurd (omega (arith, only 0 (omega arith)))
+kept-front (suc m ∷ ns) (suc n) each only =
+    ap suc (kept-front ns n (λ i l. each (suc i) (omega arith)) λ i h. omega (arith, only (suc i) h))
+
 -- every type has a node
 pub nodes-some : (counts : List ℕ) (y : TypeEntry) → 0 < nodesOf counts y
 unfolding nodesOf ceiling
@@ -214,3 +225,9 @@ named-counted E counts G e = record {
         let so : getD counts i 0 ≡ min ceiling (nodes (typeOf (E .types) i)) = sym (getD-take (length (E .types)) counts i 0 l)
         ∙ ap (λ ns. getD ns i 0) e ∙ nodes-figure (E .types) (G .types-lower) i l in
         omega (arith, nodes-one (typeOf (E .types) i))
+
+-- so the tally of an accepted program is the number of its type entries
+pub named-tally : {xs types counts : List ℕ} {t : Tally} (E : Entries) → E .types ≡ map (typeAt xs) types → Tallied xs types counts t
+    → NamedCounted E counts → t .counted ≡ length types
+named-tally {xs} {types} {counts} E e T N =
+    T .equals ∙ kept-front counts (length types) (λ i l. N .each i (omega (arith, ap length e, length-map types (typeAt xs)))) λ i h. T .right i h .0

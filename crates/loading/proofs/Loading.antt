@@ -74,9 +74,9 @@ module _ {xs types terms functions nodes heap : List ℕ} (T : Typeable xs types
 
 module _ {xs types terms functions nodes : List ℕ} (P : Placed xs types terms functions) (t : Tested)
     (answered : entries.EntriesTested xs types terms functions nodes t) where
-  pub examine-sound : t .verdict ≡ Sound → length nodes ≡ maxTypes → (heap : List ℕ) → typingBytes ≤ length heap
+  pub judge-sound : t .verdict ≡ Sound → length nodes ≡ maxTypes → (heap : List ℕ) → typingBytes ≤ length heap
       → Typeable xs types terms functions nodes heap
-  examine-sound e l heap room = record {
+  judge-sound e l heap room = record {
     read = P;
     tested = sym (answered .answer) ∙ ap entries.verdictOf e;
     held = omega (arith, formed xs (P .read) .few-types);
@@ -84,10 +84,10 @@ module _ {xs types terms functions nodes : List ℕ} (P : Placed xs types terms 
     room = room;
   }
 
-  pub examine-refused : (r : Refusal) → entries.verdictOf (t .verdict) ≡ refused (numberOf r) (placeOf r) → 2 ≤ numberOf r
+  pub judge-refused : (r : Refusal) → entries.verdictOf (t .verdict) ≡ refused (numberOf r) (placeOf r) → 2 ≤ numberOf r
       → {table : List (List ℕ)} {c : Counts} → Examined (loaded.Refused r) c xs types terms functions table
   unfolding load
-  examine-refused r e l = record { answer = stopped; later = later-refused stopped l; ready = tt }
+  judge-refused r e l = record { answer = stopped; later = later-refused stopped l; ready = tt }
     where
       stopped : load xs ≡ refused (numberOf r) (placeOf r)
       stopped = via _ (P .read) (stops _ (sym (answered .answer) ∙ e))

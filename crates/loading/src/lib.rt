@@ -4,6 +4,7 @@
 use answers::Refusal;
 use entries::measures::Tally;
 use entries::testing;
+use entries::testing::Tested;
 use program::fields;
 use program::fields::Counts;
 use rules::MAX_FUNCTIONS;
@@ -13,6 +14,7 @@ use typing::functions;
 ghost use Prim.Native.Nat.{_≤_};
 ghost use mathlib.Core.Path.{_≡_};
 ghost use lib.ListN.{length};
+ghost use Rattle.entries.specs.Tested.{EntriesTested};
 ghost use Rattle.program.specs.Places.{Placed, Buffers};
 ghost use Rattle.program.specs.Signatures.{unsigned, SignaturesAre};
 ghost use Rattle.types.specs.Layout.{typingBytes};
@@ -70,7 +72,33 @@ fn infer(
     }
 }
 
-// Rows Entries and Typing, for fields that are read.
+// Row Entries, whose tests are made, then row Typing.
+fn judge(
+    p: &[u8],
+    counts: Counts,
+    types: &[u16],
+    terms: &[u16],
+    functions: &[u16],
+    table: &[[u16; MAX_PARAMETERS]; MAX_FUNCTIONS],
+    tested: Tested,
+    nodes: &[u16; MAX_TYPES],
+    ws: &mut [u8],
+) -> Loaded
+    requires { ⌜ Placed (now p) (now types) (now terms) (now functions) ⌝ }
+    requires { ⌜ typingBytes ≤ length (now ws) ⌝ }
+    requires { ⌜ SignaturesAre (now p) (now functions) (now table) ⌝ }
+    requires { ⌜ EntriesTested (now p) (now types) (now terms) (now functions) (now nodes) tested ⌝ }
+    ensures { λ r. ⌜ Examined r counts (now (p .entry)) (now (types .entry)) (now (terms .entry)) (now (functions .entry)) (now (table .entry)) ⌝ }
+{
+    let v = tested.verdict;
+    match v {
+        testing::Verdict::Sound => infer(p, counts, types, terms, functions, table, nodes, ws),
+        testing::Verdict::BadReference(at) => Loaded::Refused(Refusal::Reference(at)),
+        testing::Verdict::BadType(at) => Loaded::Refused(Refusal::NamedType(at)),
+    }
+}
+
+// Both rows, for fields that are read, with the tally.
 fn examine(
     p: &[u8],
     counts: Counts,
@@ -88,33 +116,12 @@ fn examine(
 {
     let mut nodes = [0u16; MAX_TYPES];
     let t = testing::test_entries(p, types, terms, functions, &mut nodes);
-    let v = t.verdict;
     let tally = t.tally;
-    match v {
-        testing::Verdict::Sound => {
-            let loaded = infer(p, counts, types, terms, functions, table, &nodes, ws);
-            TalliedLoad {
-                loaded,
-                tally,
-                counts: nodes,
-            }
-        }
-        testing::Verdict::BadReference(at) => {
-            let loaded = Loaded::Refused(Refusal::Reference(at));
-            TalliedLoad {
-                loaded,
-                tally,
-                counts: nodes,
-            }
-        }
-        testing::Verdict::BadType(at) => {
-            let loaded = Loaded::Refused(Refusal::NamedType(at));
-            TalliedLoad {
-                loaded,
-                tally,
-                counts: nodes,
-            }
-        }
+    let loaded = judge(p, counts, types, terms, functions, table, t, &nodes, ws);
+    TalliedLoad {
+        loaded,
+        tally,
+        counts: nodes,
     }
 }
 
