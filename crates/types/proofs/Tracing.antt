@@ -17,7 +17,7 @@ use package.Rattle.program.proofs.Rooms.{term-kind, two-room}
 use package.Rattle.types.specs.Layout.{typingBytes}
 use package.Rattle.types.specs.Figures.{aliasSlotOf, numberAt, Figured}
 use package.Rattle.types.specs.declared.codes.Code.{Code}
-use package.Rattle.types.specs.Codes.{entryCode, underCode, treeIn, Readable, Known, Sources}
+use package.Rattle.types.specs.Codes.{underForm, entryCode, underCode, treeIn, Readable, Known, Sources}
 use package.Rattle.types.specs.Numbering.{slots, slotOf, putAlias, Finds, Numbered, Traceable}
 use package.Rattle.types.proofs.Figuring.{slot-inside, alias-more}
 use package.Rattle.types.proofs.Trees.{tree-entry, tree-under}
@@ -46,6 +46,11 @@ module _ {xs types heap keys index : List ℕ} (T : Traceable xs types heap keys
 
   pub number-there : {k n alias : ℕ} → k < length types → n ≡ k → alias ≡ numberAt heap n → alias < length types
   number-there {k} l e q = omega (arith, q, ap (numberAt heap) e, T .figured .number-lower k l)
+
+  -- what settling asks of a part
+  pub under-asked : {i j : ℕ} {c : Code} → i < length types → j < length types → c ≡ underCode i j
+      → Sources xs types heap 0 × (Known (length types) 0 c × (c .form ≡ underForm))
+  under-asked {i} {j} li lj e = (sources-then, (subst (Known (length types) 0) (sym e) (under-known i j li lj), ap (λ (c : Code). c .form) e))
 
   ----------------------------------------------------------------
   -- An alias kept

@@ -19,6 +19,7 @@ use crate::figures;
 use crate::hints;
 use crate::numbering;
 use crate::numbering::SLOT_COUNT;
+use crate::parts;
 use crate::recalled;
 use program::kinds;
 use program::views;
@@ -106,18 +107,19 @@ fn trace(
     if octets::wide32(figures::free_of(ws, i)) != free {
         return codes::entry(i);
     }
-    // a part that stands in several places is traced once, if it has an alias
-    let known = recalled::recall(ws, i, j);
-    if known != 0 {
-        return codes::entry(known - 1);
+    // the variable itself, or a part that was traced before and has an alias
+    let c = parts::settled_under(p, types, ws, 0, codes::under(i, j));
+    let form = c.form;
+    if form == codes::ENTRY {
+        return c;
     }
     let at = octets::wide_index(types[octets::wide_index(i)]);
     let kind = views::kind(p, at);
     if kind == kinds::TYPE_VARIABLE {
-        return codes::entry(j);
+        return c;
     }
     if kind == kinds::UNIT_TYPE {
-        return codes::entry(i);
+        return c;
     }
     if kind == kinds::RECURSIVE {
         let body = trace(p, types, ws, keys, index, views::first(p, at), j, free + 1);

@@ -17,7 +17,7 @@ use program::kinds;
 
 // The code of a type in which a variable stands for an entry. Where the entry is closed, has an alias for what stands, or is the variable, it is an
 // entry's.
-fn settled_under(p: &[u8], types: &[u16], ws: &[u8], top: u32, c: Code) -> Code
+pub fn settled_under(p: &[u8], types: &[u16], ws: &[u8], top: u32, c: Code) -> Code
     requires { ⌜ Sources (now p) (now types) (now ws) top ⌝ }
     requires { ⌜ Known (length (now types)) top c × (c .form ≡ underForm) ⌝ }
     ensures { λ r. ⌜ Settled (now (p .entry)) (now (types .entry)) (now (ws .entry)) top c r ⌝ }
