@@ -3,7 +3,7 @@ use Prim.Native.Nat.{ℕ, suc, _+_, _*_, _<_, _≤_, min}
 use native.Mathlib.Omega.{arith}
 use native.Mathlib.Nat.{eq-or-lt-of-le}
 use mathlib.Core.Path.{_≡_, refl, sym, ap, ap₂, subst, _∙_}
-use mathlib.Core.Logic.{_⊎_, ⊎-elim, inl as left, inr as right}
+use mathlib.Core.Logic.{_⊎_, ⊎-elim}
 use mathlib.Core.Bool.{Bool, true, false, cond}
 use mathlib.Core.List.{List, map}
 use lib.ListN.{length, getD, set, length-set}
@@ -17,13 +17,13 @@ use package.Rattle.rules.specs.Ty.{Ty, sameTy}
 use package.Rattle.calls.specs.Entries.{TypeEntry, y-unit, y-prod, y-sum, y-mu, y-var, typeAt, typeTree, typeOf}
 use package.Rattle.calls.specs.Named.{below, typesOfType}
 use package.Rattle.calls.proofs.Entries.{below-head, below-wider, type-unfolds}
-use package.Rattle.types.specs.Layout.{figureBytes, figuresFrom, aliasesFrom, hintsFrom, typingBytes}
+use package.Rattle.types.specs.Layout.{figureBytes, figuresFrom, typingBytes}
 use package.Rattle.calls.specs.Figures.{ceiling, free}
-use package.Rattle.types.specs.Figures.{outer, numberAt, freeAt, outerAt, Forgotten, Figured}
+use package.Rattle.types.specs.Figures.{outer, numberAt, freeAt, outerAt, standAt, Alias, Figured}
 use package.Rattle.types.specs.Codes.{Readable}
 use package.Rattle.types.specs.declared.numbering.Figure.{Figure}
 use package.Rattle.types.specs.Numbering.{packed, figureOf, numberFrom, putFigures, slots, slotOf, Finds, Numbered}
-use package.Rattle.types.proofs.Figuring.{number-same, refigured, aliased-same, none-aliased, length-figures, figures-other, number-put, free-put, outer-put}
+use package.Rattle.types.proofs.Figuring.{number-same, figured-same, length-figures, figures-other, number-put, free-put, outer-put, stand-put, alias-kept}
 use package.Rattle.program.specs.Parts.{TypeField}
 use package.Rattle.types.proofs.Outer.{at-place}
 use package.Rattle.types.specs.Growth.{Noted}
@@ -33,17 +33,17 @@ use package.Rattle.types.proofs.Keys.{key-same, figure-free, figure-out
 ----------------------------------------------------------------
 -- The beginning
 
-pub none-numbered : {xs types heap heap′ keys index : List ℕ} → typingBytes ≤ length heap → Forgotten heap heap′ → length keys ≡ maxTypes
-    → length index ≡ slots → Numbered xs types heap′ keys index 0
-none-numbered held N k x = record {
+pub none-numbered : {xs types heap keys index : List ℕ} → typingBytes ≤ length heap → length keys ≡ maxTypes → length index ≡ slots
+    → Numbered xs types heap keys index 0
+none-numbered held k x = record {
   figured = record {
-    held = omega (arith, held, N .lengths);
+    held = held;
     number-lower = λ i l. absurd (omega arith);
     number-tree = λ i l. absurd (omega arith);
     number-one = λ i j l. absurd (omega arith);
     free-is = λ i l. absurd (omega arith);
     outer-is = λ i l. absurd (omega arith);
-    aliases = none-aliased 0 N;
+    alias-is = λ i j l. absurd (omega arith);
   };
   keys-held = k;
   index-held = x;
@@ -169,16 +169,13 @@ module _ {xs types heap keys index : List ℕ} {i : ℕ} (R : Readable xs types)
       lengths = sym (ap length w ∙ length-figures heap i own (f .free) (f .outer))
 
       same : (j : ℕ) → figuresFrom ≤ j → j < figuresFrom + figureBytes * i → getD heap j 0 ≡ getD heap′ j 0
-      same j g h = sym (ap (λ heap. getD heap j 0) w ∙ figures-other heap i own (f .free) (f .outer) j (left h))
-
-      behind : (j : ℕ) → aliasesFrom ≤ j → j < hintsFrom → getD heap j 0 ≡ getD heap′ j 0
-      behind j g h = sym (ap (λ heap. getD heap j 0) w ∙ figures-other heap i own (f .free) (f .outer) j (right (omega (arith, l, R .few))))
+      same j g h = sym (ap (λ heap. getD heap j 0) w ∙ figures-other heap i own (f .free) (f .outer) j h)
 
       numbers : (j : ℕ) → j < i → numberAt heap j ≡ numberAt heap′ j
       numbers = number-same heap heap′ same
 
       older : Figured ys heap′ i
-      older = refigured F lengths same (aliased-same (omega arith) behind (F .aliases))
+      older = figured-same F lengths same
 
       new-number : numberAt heap′ i ≡ numberFrom heap i k
       new-number = ap (λ heap. numberAt heap i) w ∙ number-put heap i own (f .free) (f .outer) room (omega (arith, o, own-lower, R .few)) ∙ o
@@ -205,7 +202,9 @@ module _ {xs types heap keys index : List ℕ} {i : ℕ} (R : Readable xs types)
         outer-is = each (λ j. outerAt heap′ j ≡ min ceiling (outer (typeOf ys j))) (older .outer-is)
             (ap (λ heap. outerAt heap i) w ∙ outer-put heap i own (f .free) (f .outer) room outer-fits ∙ ap (λ (f : Figure). f .outer) e
             ∙ figure-outer F few (y i) (lower i (omega arith)) ∙ ap (λ t. min ceiling (outer t)) (sym (unfolds i)));
-        aliases = aliased-same (omega arith) behind (F .aliases);
+        alias-is = λ j m h. each (λ j. standAt heap′ j ≡ suc m → Alias ys heap′ (i + 1) j m)
+            (λ j h t. alias-kept (omega arith) refl (older .alias-is j m h t))
+            (λ t. absurd (omega (arith, t, ap (λ heap. standAt heap i) w, stand-put heap i own (f .free) (f .outer) room))) j h;
       }
 
       ----------------------------------------------------------------

@@ -15,17 +15,14 @@ use package.Rattle.program.specs.Parts.{TermField, first, second}
 use package.Rattle.program.specs.Kinds.{unitTypeKind, recursiveKind, typeVariableKind, rollKind}
 use package.Rattle.program.proofs.Rooms.{term-kind, two-room}
 use package.Rattle.types.specs.Layout.{typingBytes}
-use package.Rattle.types.specs.Figures.{aliasSlotOf, numberAt, Figured}
+use package.Rattle.types.specs.Figures.{numberAt, Figured}
 use package.Rattle.types.specs.declared.codes.Code.{Code}
-use package.Rattle.types.specs.Codes.{underForm, entryCode, underCode, treeIn, Readable, Known, Sources}
+use package.Rattle.types.specs.Codes.{entryCode, underCode, treeIn, Readable, Known, Sources}
 use package.Rattle.types.specs.Numbering.{slots, slotOf, putAlias, Finds, Numbered, Traceable}
-use package.Rattle.types.proofs.Figuring.{slot-inside, alias-more}
+use package.Rattle.types.proofs.Figuring.{alias-more}
 use package.Rattle.types.proofs.Trees.{tree-entry, tree-under}
 use package.Rattle.types.proofs.Outer.{few-at, kind-there, mu-there, two-there, first-lower, second-lower, entry-known, under-known}
 use package.Rattle.types.proofs.Beginning.{no-products}
-
-pub found-below : {keys : List ℕ} {n key k : ℕ} → Finds keys n key k → ¬ (k ≡ n) → k < n
-found-below F d = omega (arith, F .most, d)
 
 pub numbered-all : {xs types heap keys index : List ℕ} → Readable xs types → Numbered xs types heap keys index (length types)
     → Traceable xs types heap keys index
@@ -47,11 +44,6 @@ module _ {xs types heap keys index : List ℕ} (T : Traceable xs types heap keys
   pub number-there : {k n alias : ℕ} → k < length types → n ≡ k → alias ≡ numberAt heap n → alias < length types
   number-there {k} l e q = omega (arith, q, ap (numberAt heap) e, T .figured .number-lower k l)
 
-  -- what settling asks of a part
-  pub under-asked : {i j : ℕ} {c : Code} → i < length types → j < length types → c ≡ underCode i j
-      → Sources xs types heap 0 × (Known (length types) 0 c × (c .form ≡ underForm))
-  under-asked {i} {j} li lj e = (sources-then, (subst (Known (length types) 0) (sym e) (under-known i j li lj), ap (λ (c : Code). c .form) e))
-
   ----------------------------------------------------------------
   -- An alias kept
 
@@ -59,10 +51,10 @@ module _ {xs types heap keys index : List ℕ} (T : Traceable xs types heap keys
     pub codes-known : Known (length types) 0 c × Known (length types) 0 d
     codes-known = (subst (Known (length types) 0) (sym p) (under-known i j li lj), subst (Known (length types) 0) (sym q) (entry-known k lk))
 
-    pub alias-figured : {r : Bool} → r ≡ sameTy (treeIn xs types heap c) (treeIn xs types heap d) → r ≡ true
-        → {heap′ : List ℕ} → heap′ ≡ putAlias heap (aliasSlotOf i j) i j k → Figured (map (typeAt xs) types) heap′ (length types)
+    pub alias-figured : {r : Bool} → r ≡ sameTy (treeIn xs types heap c) (treeIn xs types heap d) → r ≡ true → {heap′ : List ℕ} → heap′ ≡ putAlias heap i j k
+        → Figured (map (typeAt xs) types) heap′ (length types)
     alias-figured e t w = subst (λ heap. Figured (map (typeAt xs) types) heap (length types)) (sym w)
-        (alias-more (aliasSlotOf i j) (T .figured) (T .entries .few) (slot-inside i j) li lj lk
+        (alias-more (T .figured) (T .entries .few) li lj lk
         (sym (tree-entry (map (typeAt xs) types) heap (entryCode k) refl) ∙ ap (treeIn xs types heap) (sym q)
         ∙ sym (sameTy-eq _ _ (sym e ∙ t)) ∙ ap (treeIn xs types heap) p ∙ tree-under (map (typeAt xs) types) heap (underCode i j) refl))
 

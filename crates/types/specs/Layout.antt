@@ -1,4 +1,4 @@
--- The bytes that typing is lent: product nodes, what is kept of each type entry, aliases of parts of unfoldings, hints at products.
+-- The bytes that typing is lent: product nodes, then what is kept of each type entry, then hints at products.
 use Prim.Native.Nat.{ℕ, _+_, _*_}
 use package.Rattle.rules.specs.Limits.{maxTypes, maxTerms}
 
@@ -6,26 +6,17 @@ use package.Rattle.rules.specs.Limits.{maxTypes, maxTerms}
 abbrev pub nodeBytes : ℕ
 nodeBytes = 14
 
--- the figures of an entry: its number, its free variables, how often the outermost of these stands in it, two bytes each
+-- the figures of an entry: its number, its free variables, how often the outermost of these stands in it; then what an alias is kept for, and the
+-- alias: two bytes each
 abbrev pub figureBytes : ℕ
-figureBytes = 6
+figureBytes = 10
 
 -- as many products as there can be terms
 abbrev pub figuresFrom : ℕ
 figuresFrom = nodeBytes * maxTerms
 
-abbrev pub aliasesFrom : ℕ
-aliasesFrom = figuresFrom + figureBytes * maxTypes
-
--- an alias: the entry, what stands for its outermost free variable, and one more than the entry that it then is equal to, two bytes each
-abbrev pub aliasBytes : ℕ
-aliasBytes = 6
-
-abbrev pub aliasSlots : ℕ
-aliasSlots = 256
-
 abbrev pub hintsFrom : ℕ
-hintsFrom = aliasesFrom + aliasBytes * aliasSlots
+hintsFrom = figuresFrom + figureBytes * maxTypes
 
 -- a hint: a code, six bytes
 abbrev pub hintBytes : ℕ

@@ -1,7 +1,7 @@
 -- The types that typing gives a term. The modules in reading order:
 -- the bytes that typing is lent
 pub mod Layout
--- what is kept of each type entry: canonical numbers, free variables; aliases
+-- what is kept of each type entry: canonical numbers, free variables
 pub mod Figures
 -- codes of types, and the tree of a code
 pub mod Codes

@@ -11,7 +11,7 @@ use package.Rattle.rules.specs.Limits.{maxTypes}
 use package.Rattle.calls.specs.Entries.{TypeEntry, y-unit, y-prod, y-sum, y-mu, y-var, typeAt}
 use package.Rattle.calls.specs.Figures.{ceiling}
 use package.Rattle.program.specs.Kinds.{unitTypeKind, productKind, sumKind, recursiveKind, typeVariableKind}
-use package.Rattle.types.specs.Layout.{figureBytes, figuresFrom, aliasBytes, aliasesFrom}
+use package.Rattle.types.specs.Layout.{figureBytes, figuresFrom}
 use package.Rattle.types.specs.Figures.{numberAt, freeAt, outerAt, Figured}
 use package.Rattle.types.specs.Codes.{Readable}
 use package.Rattle.types.specs.declared.numbering.Figure.{Figure}
@@ -53,14 +53,15 @@ figureOf heap (y-var k) = boundOf k
 abbrev pub numberFrom : List ℕ → ℕ → ℕ → ℕ
 numberFrom heap i k = cond (ltb k i) (numberAt heap k) i
 
+-- without an alias
 unfoldable pub putFigures : List ℕ → ℕ → ℕ → ℕ → ℕ → List ℕ
 putFigures heap i number free outer =
-    put16 (put16 (put16 heap (figuresFrom + figureBytes * i) number) (figuresFrom + figureBytes * i + 2) free) (figuresFrom + figureBytes * i + 4) outer
+    put16 (put16 (put16 (put16 heap (figuresFrom + figureBytes * i) number) (figuresFrom + figureBytes * i + 2) free)
+    (figuresFrom + figureBytes * i + 4) outer) (figuresFrom + figureBytes * i + 6) 0
 
--- in slot `s` the alias of entry `i`, entry `j` standing for its outermost free variable
-unfoldable pub putAlias : List ℕ → ℕ → ℕ → ℕ → ℕ → List ℕ
-putAlias heap s i j alias =
-    put16 (put16 (put16 heap (aliasesFrom + aliasBytes * s) i) (aliasesFrom + aliasBytes * s + 2) j) (aliasesFrom + aliasBytes * s + 4) (alias + 1)
+-- the alias of entry `i`, entry `j` standing for its outermost free variable
+unfoldable pub putAlias : List ℕ → ℕ → ℕ → ℕ → List ℕ
+putAlias heap i j alias = put16 (put16 heap (figuresFrom + figureBytes * i + 6) (j + 1)) (figuresFrom + figureBytes * i + 8) alias
 
 ----------------------------------------------------------------
 -- Looking for a key

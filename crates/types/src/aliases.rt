@@ -19,8 +19,6 @@ use crate::figures;
 use crate::hints;
 use crate::numbering;
 use crate::numbering::SLOT_COUNT;
-use crate::parts;
-use crate::recalled;
 use program::kinds;
 use program::views;
 use rules::MAX_TYPES;
@@ -49,7 +47,7 @@ fn keep(
     let alias = figures::number_of(ws, k as u16);
     let whole = codes::entry(alias);
     if compare::same(p, types, ws, 0, part, whole) {
-        recalled::put(ws, i, j, alias);
+        figures::put_alias(ws, i, j, alias);
         return whole;
     }
     part
@@ -107,19 +105,13 @@ fn trace(
     if octets::wide32(figures::free_of(ws, i)) != free {
         return codes::entry(i);
     }
-    // the variable itself, or a part that was traced before and has an alias
-    let c = parts::settled_under(p, types, ws, 0, codes::under(i, j));
-    let form = c.form;
-    if form == codes::ENTRY {
-        return c;
-    }
     let at = octets::wide_index(types[octets::wide_index(i)]);
     let kind = views::kind(p, at);
     if kind == kinds::TYPE_VARIABLE {
-        return c;
+        return codes::entry(j);
     }
     if kind == kinds::UNIT_TYPE {
-        return c;
+        return codes::entry(i);
     }
     if kind == kinds::RECURSIVE {
         let body = trace(p, types, ws, keys, index, views::first(p, at), j, free + 1);

@@ -4,13 +4,13 @@ ghost use Prim.Native.Nat.{_+_, _*_, _≤_, _<_};
 ghost use lib.ListN.{length};
 ghost use Rattle.rules.specs.Limits.{maxTypes};
 ghost use Rattle.types.specs.Layout.{figureBytes, figuresFrom, typingBytes};
-ghost use Rattle.types.specs.Figures.{numberAt, freeAt, outerAt};
-ghost use Rattle.types.specs.Numbering.{putFigures};
+ghost use Rattle.types.specs.Figures.{numberAt, freeAt, outerAt, standAt, aliasAt};
+ghost use Rattle.types.specs.Numbering.{putFigures, putAlias};
 use crate::nodes::NODE_BYTES;
 use rules::MAX_TERMS;
 use rules::MAX_TYPES;
 
-const FIGURE_BYTES: usize = 6;
+const FIGURE_BYTES: usize = 10;
 
 const FIGURES_FROM: usize = NODE_BYTES * MAX_TERMS;
 
@@ -48,7 +48,33 @@ pub fn outer_of(ws: &[u8], i: u16) -> u16
     octets::read16(ws, place(i) + 4)
 }
 
-// The figures of an entry.
+// One more than the entry that stands for that variable in the entry's alias; 0 if it has none.
+pub fn stand_of(ws: &[u8], i: u16) -> u16
+    requires { ⌜ (typingBytes ≤ length (now ws)) × (i < maxTypes) ⌝ }
+    ensures { λ r. ⌜ r ≡ standAt (now (ws .entry)) i ⌝ }
+{
+    octets::read16(ws, place(i) + 6)
+}
+
+// The entry that it is then equal to.
+pub fn alias_of(ws: &[u8], i: u16) -> u16
+    requires { ⌜ (typingBytes ≤ length (now ws)) × (i < maxTypes) ⌝ }
+    ensures { λ r. ⌜ r ≡ aliasAt (now (ws .entry)) i ⌝ }
+{
+    octets::read16(ws, place(i) + 8)
+}
+
+// The alias of entry `i`, entry `j` standing for its outermost free variable.
+pub fn put_alias(ws: &mut [u8], i: u16, j: u16, alias: u16)
+    requires { ⌜ (typingBytes ≤ length (now ws)) × (i < maxTypes) × (j < maxTypes) ⌝ }
+    ensures { λ _. ⌜ now (ws .exit) ≡ putAlias (now (ws .entry)) i j alias ⌝ }
+{
+    let at = place(i);
+    octets::write16(ws, at + 6, j + 1);
+    octets::write16(ws, at + 8, alias);
+}
+
+// The figures of an entry, without an alias.
 pub fn put(ws: &mut [u8], i: u16, number: u16, free: u16, outer: u16)
     requires { ⌜ (typingBytes ≤ length (now ws)) × (i < maxTypes) ⌝ }
     ensures { λ _. ⌜ now (ws .exit) ≡ putFigures (now (ws .entry)) i number free outer ⌝ }
@@ -57,4 +83,5 @@ pub fn put(ws: &mut [u8], i: u16, number: u16, free: u16, outer: u16)
     octets::write16(ws, at, number);
     octets::write16(ws, at + 2, free);
     octets::write16(ws, at + 4, outer);
+    octets::write16(ws, at + 6, 0);
 }

@@ -15,7 +15,6 @@ ghost use Rattle.types.specs.Numbering.{slots, slotOf, packed, share, tw
 use crate::counting;
 use crate::figures;
 use crate::hints;
-use crate::recalled;
 use program::kinds;
 use program::views;
 
@@ -197,13 +196,12 @@ fn enter(p: &[u8], types: &[u16], ws: &mut [u8], keys: &mut [u32], index: &mut [
     index[s] = n + 1;
 }
 
-// The figures of the type entries, without aliases, in keys and slots that are lent.
+// The figures of the type entries, in keys and slots that are lent.
 pub fn number_types(p: &[u8], types: &[u16], ws: &mut [u8], keys: &mut [u32], index: &mut [u16])
     requires { ⌜ Readable (now p) (now types) × (typingBytes ≤ length (now ws)) ⌝ }
     requires { ⌜ (length (now keys) ≡ maxTypes) × (length (now index) ≡ slots) ⌝ }
     ensures { λ _. ⌜ Numbered (now (p .entry)) (now (types .entry)) (now (ws .exit)) (now (keys .exit)) (now (index .exit)) (length (now (types .entry))) ⌝ }
 {
-    recalled::forget(ws);
     let mut i = 0;
     while i < types.len() {
         enter(p, types, ws, keys, index, i);

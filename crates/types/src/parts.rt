@@ -12,12 +12,11 @@ use crate::codes;
 use crate::codes::Code;
 use crate::figures;
 use crate::nodes;
-use crate::recalled;
 use program::kinds;
 
 // The code of a type in which a variable stands for an entry. Where the entry is closed, has an alias for what stands, or is the variable, it is an
 // entry's.
-pub fn settled_under(p: &[u8], types: &[u16], ws: &[u8], top: u32, c: Code) -> Code
+fn settled_under(p: &[u8], types: &[u16], ws: &[u8], top: u32, c: Code) -> Code
     requires { ⌜ Sources (now p) (now types) (now ws) top ⌝ }
     requires { ⌜ Known (length (now types)) top c × (c .form ≡ underForm) ⌝ }
     ensures { λ r. ⌜ Settled (now (p .entry)) (now (types .entry)) (now (ws .entry)) top c r ⌝ }
@@ -27,9 +26,9 @@ pub fn settled_under(p: &[u8], types: &[u16], ws: &[u8], top: u32, c: Code) -> C
         return codes::entry(i);
     }
     let j = figures::number_of(ws, c.stands);
-    let known = recalled::recall(ws, i, j);
-    if known != 0 {
-        return codes::entry(figures::number_of(ws, known - 1));
+    if octets::wide32(figures::stand_of(ws, i)) == octets::wide32(j) + 1 {
+        let alias = figures::alias_of(ws, i);
+        return codes::entry(figures::number_of(ws, alias));
     }
     let at = octets::wide_index(types[octets::wide_index(i)]);
     let kind = program::views::kind(p, at);

@@ -2,7 +2,7 @@ use mathlib.Core.Path.{_∙_}
 use native.Mathlib.Omega.{arith}
 use borrow.Author.Needs.{needs}
 use Rattle.types.proofs.Outer.{kind-there}
-use Rattle.types.proofs.Tracing.{still, figures-asked, own-there, under-asked, kind-small, first-there, first-falls, both-there, second-falls}
+use Rattle.types.proofs.Tracing.{still, figures-asked, own-there, kind-small, first-there, first-falls, both-there, second-falls}
 use Prim.Native.Nat.{ℕ, _<_}
 use borrow.Fn.Kinds.{In}
 use borrow.Fn.PlainCycle.{Measures, is, falls, and}
@@ -16,10 +16,8 @@ use Rattle.program.proofs.views.kind.Reads as kind-reads
 use Rattle.program.proofs.views.second.Reads as second-reads
 use Rattle.types.proofs.aliases.join.Reads as join-reads
 use Rattle.types.proofs.codes.entry.Reads as entry-reads
-use Rattle.types.proofs.codes.under.Reads as under-reads
 use Rattle.types.proofs.figures.free_of.Reads as free-of-reads
 use Rattle.types.proofs.figures.number_of.Reads as number-of-reads
-use Rattle.types.proofs.parts.settled_under.Reads as settled-under-reads
 use Rattle.types.proofs.aliases.+trace.{statement}
 use Rattle.types.proofs.aliases.+trace.Tie.{close}
 
@@ -33,7 +31,28 @@ abbrev trace-below : ℕ → In 5 trace-kinds.ps
 trace-below t = and 5 trace-kinds.ps (falls 5 trace-kinds.ps _<_ μ-trace t) trace.Pre
 
 abbrev trace-uses : ℕ → trace-lts.Claims
-trace-uses t = (number-of-reads.Asked, number-of-reads.Learnt, free-of-reads.Asked, free-of-reads.Learnt, wide32-reads.Asked, wide32-reads.Learnt, entry-reads.Asked, entry-reads.Learnt, under-reads.Asked, under-reads.Learnt, settled-under-reads.Asked, settled-under-reads.Learnt, wide-index-reads.Asked, wide-index-reads.Learnt, kind-reads.Asked, kind-reads.Learnt, first-reads.Asked, first-reads.Learnt, trace-below t, trace.Post, join-reads.Asked, join-reads.Learnt, second-reads.Asked, second-reads.Learnt)
+trace-uses t = (
+  number-of-reads.Asked,
+  number-of-reads.Learnt,
+  free-of-reads.Asked,
+  free-of-reads.Learnt,
+  wide32-reads.Asked,
+  wide32-reads.Learnt,
+  entry-reads.Asked,
+  entry-reads.Learnt,
+  wide-index-reads.Asked,
+  wide-index-reads.Learnt,
+  kind-reads.Asked,
+  kind-reads.Learnt,
+  first-reads.Asked,
+  first-reads.Learnt,
+  trace-below t,
+  trace.Post,
+  join-reads.Asked,
+  join-reads.Learnt,
+  second-reads.Asked,
+  second-reads.Learnt,
+)
 
 trace-number-of-requires : (t : ℕ) → trace-lts.Need-number-of-requires (trace-uses t) (trace-at t) trace.Post
 trace-number-of-requires t c κs =
@@ -60,23 +79,6 @@ trace-returns t c =
     let start = c .before .before .before .before .before .before .before .before .before .before .before .before in
     start .pre .1 .0 .figured
 
-trace-under-requires : (t : ℕ) → trace-lts.Need-under-requires (trace-uses t) (trace-at t) trace.Post
-trace-under-requires t c κs = search needs
-
-trace-settled-under-requires : (t : ℕ) → trace-lts.Need-settled-under-requires (trace-uses t) (trace-at t) trace.Post
-trace-settled-under-requires t c κs =
-    let at-number-of = c .before .before .before .before .before .before in
-    let start = at-number-of .before .before .before .before .before .before .before in
-    under-asked (start .pre .1 .0) (own-there (start .pre .1 .0) (start .pre .1 .1 .0) (at-number-of .number-of .ensures) .0) (start .pre .1 .1 .1) (c .under .ensures)
-
-trace-same-length-2 : (t : ℕ) → trace-lts.Need-same-length-2 (trace-uses t) (trace-at t) trace.Post
-trace-same-length-2 t c = search needs
-
-trace-returns-2 : (t : ℕ) → trace-lts.Need-returns-2 (trace-uses t) (trace-at t) trace.Post
-trace-returns-2 t c =
-    let start = c .before .before .before .before .before .before .before .before .before .before .before .before .before .before .before in
-    start .pre .1 .0 .figured
-
 trace-wide-index-requires : (t : ℕ) → trace-lts.Need-wide-index-requires (trace-uses t) (trace-at t) trace.Post
 trace-wide-index-requires t c κs = search needs
 
@@ -86,7 +88,7 @@ trace-mul-wide-index t c = search needs
 trace-shared-slice-read-wide-index : (t : ℕ) → trace-lts.Need-shared-slice-read-wide-index (trace-uses t) (trace-at t) trace.Post
 trace-shared-slice-read-wide-index t c =
     let at-wide-index = c .before in
-    let at-number-of = at-wide-index .before .before .before .before .before .before .before .before .before in
+    let at-number-of = at-wide-index .before .before .before .before .before in
     let start = at-number-of .before .before .before .before .before .before .before in
     omega (arith, at-wide-index .wide-index .ensures .0, own-there (start .pre .1 .0) (start .pre .1 .1 .0) (at-number-of .number-of .ensures) .0)
 
@@ -96,58 +98,64 @@ trace-wide-index-requires-2 t c κs = search needs
 trace-kind-requires : (t : ℕ) → trace-lts.Need-kind-requires (trace-uses t) (trace-at t) trace.Post
 trace-kind-requires t c κs =
     let at-wide-index = c .before .before in
-    let at-number-of = at-wide-index .before .before .before .before .before .before .before .before .before in
+    let at-number-of = at-wide-index .before .before .before .before .before in
     let start = at-number-of .before .before .before .before .before .before .before in
     kind-there (start .pre .1 .0 .entries) (own-there (start .pre .1 .0) (start .pre .1 .1 .0) (at-number-of .number-of .ensures) .0)
     (at-wide-index .wide-index .ensures .0) (c .wide-index2 .ensures .0)
+
+trace-entry-requires-2 : (t : ℕ) → trace-lts.Need-entry-requires-2 (trace-uses t) (trace-at t) trace.Post
+trace-entry-requires-2 t c κs = search needs
+
+trace-same-length-2 : (t : ℕ) → trace-lts.Need-same-length-2 (trace-uses t) (trace-at t) trace.Post
+trace-same-length-2 t c = search needs
+
+trace-returns-2 : (t : ℕ) → trace-lts.Need-returns-2 (trace-uses t) (trace-at t) trace.Post
+trace-returns-2 t c =
+    let start = c .before .before .before .before .before .before .before .before .before .before .before .before .before .before .before .before .before in
+    start .pre .1 .0 .figured
+
+trace-entry-requires-3 : (t : ℕ) → trace-lts.Need-entry-requires-3 (trace-uses t) (trace-at t) trace.Post
+trace-entry-requires-3 t c κs = search needs
 
 trace-same-length-3 : (t : ℕ) → trace-lts.Need-same-length-3 (trace-uses t) (trace-at t) trace.Post
 trace-same-length-3 t c = search needs
 
 trace-returns-3 : (t : ℕ) → trace-lts.Need-returns-3 (trace-uses t) (trace-at t) trace.Post
 trace-returns-3 t c =
-    let start = c .before .before .before .before .before .before .before .before .before .before .before .before .before .before .before .before .before .before .before .before in
-    start .pre .1 .0 .figured
-
-trace-same-length-4 : (t : ℕ) → trace-lts.Need-same-length-4 (trace-uses t) (trace-at t) trace.Post
-trace-same-length-4 t c = search needs
-
-trace-returns-4 : (t : ℕ) → trace-lts.Need-returns-4 (trace-uses t) (trace-at t) trace.Post
-trace-returns-4 t c =
-    let start = c .before .before .before .before .before .before .before .before .before .before .before .before .before .before .before .before .before .before .before .before .before in
+    let start = c .before .before .before .before .before .before .before .before .before .before .before .before .before .before .before .before .before .before in
     start .pre .1 .0 .figured
 
 trace-first-requires : (t : ℕ) → trace-lts.Need-first-requires (trace-uses t) (trace-at t) trace.Post
 trace-first-requires t c κs =
-    let at-if5 = c .before in
-    let at-kind = at-if5 .before .before .before in
+    let at-if4 = c .before in
+    let at-kind = at-if4 .before .before .before in
     let at-wide-index2 = at-kind .before in
     let at-wide-index = at-wide-index2 .before .before in
-    let at-number-of = at-wide-index .before .before .before .before .before .before .before .before .before in
+    let at-number-of = at-wide-index .before .before .before .before .before in
     let start = at-number-of .before .before .before .before .before .before .before in
     first-there (start .pre .1 .0) (start .pre .1 .1 .0) (at-number-of .number-of .ensures) (at-wide-index .wide-index .ensures .0)
-    (at-wide-index2 .wide-index2 .ensures .0) (at-kind .kind .ensures) (at-if5 .if5 .taken)
+    (at-wide-index2 .wide-index2 .ensures .0) (at-kind .kind .ensures) (at-if4 .if4 .taken)
 
 trace-add-trace : (t : ℕ) → trace-lts.Need-add-trace (trace-uses t) (trace-at t) trace.Post
 trace-add-trace t c =
-    let start = c .before .before .before .before .before .before .before .before .before .before .before .before .before .before .before .before .before .before .before .before .before .before .before .before in
+    let start = c .before .before .before .before .before .before .before .before .before .before .before .before .before .before .before .before .before .before .before .before in
     omega (arith, start .pre .1 .1 .2)
 
 trace-trace-requires : (t : ℕ) → trace-lts.Need-trace-requires (trace-uses t) (trace-at t) trace.Post
 trace-trace-requires t c κs =
-    let at-if4 = c .before .before .before in
-    let at-if3 = at-if4 .before in
-    let at-kind = at-if3 .before in
+    let at-if3 = c .before .before .before in
+    let at-if2 = at-if3 .before in
+    let at-kind = at-if2 .before in
     let at-wide-index2 = at-kind .before in
     let at-wide-index = at-wide-index2 .before .before in
-    let at-number-of = at-wide-index .before .before .before .before .before .before .before .before .before in
+    let at-number-of = at-wide-index .before .before .before .before .before in
     let start = at-number-of .before .before .before .before .before .before .before in
     let lower = first-falls (start .pre .1 .0) (start .pre .1 .1 .0) (at-number-of .number-of .ensures) (at-wide-index .wide-index .ensures .0)
-    (at-wide-index2 .wide-index2 .ensures .0) (at-kind .kind .ensures) (at-if4 .if4 .left) (at-if3 .if3 .left) (c .first .ensures) in
+    (at-wide-index2 .wide-index2 .ensures .0) (at-kind .kind .ensures) (at-if3 .if3 .left) (at-if2 .if2 .left) (c .first .ensures) in
     (omega (arith, start .pre .0, lower .0), (start .pre .1 .0, (lower .1, start .pre .1 .1 .1, omega (arith, start .pre .1 .1 .2, lower .0))))
 
-trace-entry-requires-2 : (t : ℕ) → trace-lts.Need-entry-requires-2 (trace-uses t) (trace-at t) trace.Post
-trace-entry-requires-2 t c κs = search needs
+trace-entry-requires-4 : (t : ℕ) → trace-lts.Need-entry-requires-4 (trace-uses t) (trace-at t) trace.Post
+trace-entry-requires-4 t c κs = search needs
 
 trace-join-requires : (t : ℕ) → trace-lts.Need-join-requires (trace-uses t) (trace-at t) trace.Post
 trace-join-requires t c κs =
@@ -155,79 +163,79 @@ trace-join-requires t c κs =
     let at-kind = at-trace .before .before .before .before .before .before in
     let at-wide-index2 = at-kind .before in
     let at-wide-index = at-wide-index2 .before .before in
-    let at-number-of = at-wide-index .before .before .before .before .before .before .before .before .before in
+    let at-number-of = at-wide-index .before .before .before .before .before in
     let start = at-number-of .before .before .before .before .before .before .before in
     let own = own-there (start .pre .1 .0) (start .pre .1 .1 .0) (at-number-of .number-of .ensures) .0 in
     let few = kind-small (start .pre .1 .0) (start .pre .1 .1 .0) (at-number-of .number-of .ensures) (at-wide-index .wide-index .ensures .0)
     (at-wide-index2 .wide-index2 .ensures .0) (at-kind .kind .ensures) in
     (still (start .pre .1 .0) (at-trace .trace .ensures), (own, start .pre .1 .1 .1, few))
 
-trace-same-length-5 : (t : ℕ) → trace-lts.Need-same-length-5 (trace-uses t) (trace-at t) trace.Post
-trace-same-length-5 t c =
+trace-same-length-4 : (t : ℕ) → trace-lts.Need-same-length-4 (trace-uses t) (trace-at t) trace.Post
+trace-same-length-4 t c =
     let at-join = c .before .before in
     let at-trace = at-join .before .before .before .before .before in
     at-join .join .kept .1 .1 .0 ∙ at-trace .trace .kept .1 .1 .0
 
-trace-returns-5 : (t : ℕ) → trace-lts.Need-returns-5 (trace-uses t) (trace-at t) trace.Post
-trace-returns-5 t c =
+trace-returns-4 : (t : ℕ) → trace-lts.Need-returns-4 (trace-uses t) (trace-at t) trace.Post
+trace-returns-4 t c =
     let at-join = c .before .before in
     at-join .join .ensures
 
 trace-first-requires-2 : (t : ℕ) → trace-lts.Need-first-requires-2 (trace-uses t) (trace-at t) trace.Post
 trace-first-requires-2 t c κs =
-    let at-if5 = c .before in
-    let at-if4 = at-if5 .before in
+    let at-if4 = c .before in
     let at-if3 = at-if4 .before in
-    let at-kind = at-if3 .before in
+    let at-if2 = at-if3 .before in
+    let at-kind = at-if2 .before in
     let at-wide-index2 = at-kind .before in
     let at-wide-index = at-wide-index2 .before .before in
-    let at-number-of = at-wide-index .before .before .before .before .before .before .before .before .before in
+    let at-number-of = at-wide-index .before .before .before .before .before in
     let start = at-number-of .before .before .before .before .before .before .before in
     omega (
       arith,
       both-there (start .pre .1 .0) (start .pre .1 .1 .0) (at-number-of .number-of .ensures) (at-wide-index .wide-index .ensures .0)
-          (at-wide-index2 .wide-index2 .ensures .0) (at-kind .kind .ensures) (at-if4 .if4 .left) (at-if3 .if3 .left) (at-if5 .if5 .left),
+          (at-wide-index2 .wide-index2 .ensures .0) (at-kind .kind .ensures) (at-if3 .if3 .left) (at-if2 .if2 .left) (at-if4 .if4 .left),
     )
 
 trace-trace-requires-2 : (t : ℕ) → trace-lts.Need-trace-requires-2 (trace-uses t) (trace-at t) trace.Post
 trace-trace-requires-2 t c κs =
-    let at-if4 = c .before .before .before in
-    let at-if3 = at-if4 .before in
-    let at-kind = at-if3 .before in
+    let at-if3 = c .before .before .before in
+    let at-if2 = at-if3 .before in
+    let at-kind = at-if2 .before in
     let at-wide-index2 = at-kind .before in
     let at-wide-index = at-wide-index2 .before .before in
-    let at-number-of = at-wide-index .before .before .before .before .before .before .before .before .before in
+    let at-number-of = at-wide-index .before .before .before .before .before in
     let start = at-number-of .before .before .before .before .before .before .before in
     let lower = first-falls (start .pre .1 .0) (start .pre .1 .1 .0) (at-number-of .number-of .ensures) (at-wide-index .wide-index .ensures .0)
-    (at-wide-index2 .wide-index2 .ensures .0) (at-kind .kind .ensures) (at-if4 .if4 .left) (at-if3 .if3 .left) (c .first2 .ensures) in
+    (at-wide-index2 .wide-index2 .ensures .0) (at-kind .kind .ensures) (at-if3 .if3 .left) (at-if2 .if2 .left) (c .first2 .ensures) in
     (omega (arith, start .pre .0, lower .0), (start .pre .1 .0, (lower .1, start .pre .1 .1 .1, omega (arith, start .pre .1 .1 .2, lower .0))))
 
 trace-second-requires : (t : ℕ) → trace-lts.Need-second-requires (trace-uses t) (trace-at t) trace.Post
 trace-second-requires t c κs =
-    let at-if5 = c .before .before .before .before .before .before in
-    let at-if4 = at-if5 .before in
+    let at-if4 = c .before .before .before .before .before .before in
     let at-if3 = at-if4 .before in
-    let at-kind = at-if3 .before in
+    let at-if2 = at-if3 .before in
+    let at-kind = at-if2 .before in
     let at-wide-index2 = at-kind .before in
     let at-wide-index = at-wide-index2 .before .before in
-    let at-number-of = at-wide-index .before .before .before .before .before .before .before .before .before in
+    let at-number-of = at-wide-index .before .before .before .before .before in
     let start = at-number-of .before .before .before .before .before .before .before in
     both-there (start .pre .1 .0) (start .pre .1 .1 .0) (at-number-of .number-of .ensures) (at-wide-index .wide-index .ensures .0)
-    (at-wide-index2 .wide-index2 .ensures .0) (at-kind .kind .ensures) (at-if4 .if4 .left) (at-if3 .if3 .left) (at-if5 .if5 .left)
+    (at-wide-index2 .wide-index2 .ensures .0) (at-kind .kind .ensures) (at-if3 .if3 .left) (at-if2 .if2 .left) (at-if4 .if4 .left)
 
 trace-trace-requires-3 : (t : ℕ) → trace-lts.Need-trace-requires-3 (trace-uses t) (trace-at t) trace.Post
 trace-trace-requires-3 t c κs =
     let at-trace2 = c .before .before .before .before in
-    let at-if5 = at-trace2 .before .before .before in
-    let at-if4 = at-if5 .before in
+    let at-if4 = at-trace2 .before .before .before in
     let at-if3 = at-if4 .before in
-    let at-kind = at-if3 .before in
+    let at-if2 = at-if3 .before in
+    let at-kind = at-if2 .before in
     let at-wide-index2 = at-kind .before in
     let at-wide-index = at-wide-index2 .before .before in
-    let at-number-of = at-wide-index .before .before .before .before .before .before .before .before .before in
+    let at-number-of = at-wide-index .before .before .before .before .before in
     let start = at-number-of .before .before .before .before .before .before .before in
     let lower = second-falls (start .pre .1 .0) (start .pre .1 .1 .0) (at-number-of .number-of .ensures) (at-wide-index .wide-index .ensures .0)
-    (at-wide-index2 .wide-index2 .ensures .0) (at-kind .kind .ensures) (at-if4 .if4 .left) (at-if3 .if3 .left) (at-if5 .if5 .left) (c .second .ensures) in (
+    (at-wide-index2 .wide-index2 .ensures .0) (at-kind .kind .ensures) (at-if3 .if3 .left) (at-if2 .if2 .left) (at-if4 .if4 .left) (c .second .ensures) in (
       omega (arith, start .pre .0, lower .0),
       (still (start .pre .1 .0) (at-trace2 .trace2 .ensures), (lower .1, start .pre .1 .1 .1, omega (arith, start .pre .1 .1 .2, lower .0))),
     )
@@ -238,22 +246,22 @@ trace-join-requires-2 t c κs =
     let at-kind = at-trace3 .before .before .before .before .before .before .before .before .before .before .before in
     let at-wide-index2 = at-kind .before in
     let at-wide-index = at-wide-index2 .before .before in
-    let at-number-of = at-wide-index .before .before .before .before .before .before .before .before .before in
+    let at-number-of = at-wide-index .before .before .before .before .before in
     let start = at-number-of .before .before .before .before .before .before .before in
     let own = own-there (start .pre .1 .0) (start .pre .1 .1 .0) (at-number-of .number-of .ensures) .0 in
     let few = kind-small (start .pre .1 .0) (start .pre .1 .1 .0) (at-number-of .number-of .ensures) (at-wide-index .wide-index .ensures .0)
     (at-wide-index2 .wide-index2 .ensures .0) (at-kind .kind .ensures) in
     (still (start .pre .1 .0) (at-trace3 .trace3 .ensures), (own, start .pre .1 .1 .1, few))
 
-trace-same-length-6 : (t : ℕ) → trace-lts.Need-same-length-6 (trace-uses t) (trace-at t) trace.Post
-trace-same-length-6 t c =
+trace-same-length-5 : (t : ℕ) → trace-lts.Need-same-length-5 (trace-uses t) (trace-at t) trace.Post
+trace-same-length-5 t c =
     let at-join2 = c .before .before in
     let at-trace3 = at-join2 .before .before .before .before in
     let at-trace2 = at-trace3 .before .before .before .before .before in
     at-join2 .join2 .kept .1 .1 .0 ∙ at-trace3 .trace3 .kept .1 .1 .0 ∙ at-trace2 .trace2 .kept .1 .1 .0
 
-trace-returns-6 : (t : ℕ) → trace-lts.Need-returns-6 (trace-uses t) (trace-at t) trace.Post
-trace-returns-6 t c =
+trace-returns-5 : (t : ℕ) → trace-lts.Need-returns-5 (trace-uses t) (trace-at t) trace.Post
+trace-returns-5 t c =
     let at-join2 = c .before .before in
     at-join2 .join2 .ensures
 
@@ -267,30 +275,28 @@ pub +trace-spec : {M : Type 1} → statement M
     (trace-entry-requires t)
     (trace-same-length t)
     (trace-returns t)
-    (trace-under-requires t)
-    (trace-settled-under-requires t)
-    (trace-same-length-2 t)
-    (trace-returns-2 t)
     (trace-wide-index-requires t)
     (trace-mul-wide-index t)
     (trace-shared-slice-read-wide-index t)
     (trace-wide-index-requires-2 t)
     (trace-kind-requires t)
+    (trace-entry-requires-2 t)
+    (trace-same-length-2 t)
+    (trace-returns-2 t)
+    (trace-entry-requires-3 t)
     (trace-same-length-3 t)
     (trace-returns-3 t)
-    (trace-same-length-4 t)
-    (trace-returns-4 t)
     (trace-first-requires t)
     (trace-add-trace t)
     (trace-trace-requires t)
-    (trace-entry-requires-2 t)
+    (trace-entry-requires-4 t)
     (trace-join-requires t)
-    (trace-same-length-5 t)
-    (trace-returns-5 t)
+    (trace-same-length-4 t)
+    (trace-returns-4 t)
     (trace-first-requires-2 t)
     (trace-trace-requires-2 t)
     (trace-second-requires t)
     (trace-trace-requires-3 t)
     (trace-join-requires-2 t)
-    (trace-same-length-6 t)
-    (trace-returns-6 t)
+    (trace-same-length-5 t)
+    (trace-returns-5 t)

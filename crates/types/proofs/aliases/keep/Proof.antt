@@ -1,6 +1,7 @@
+use Prim.Native.Nat.{_<_}
 use native.Mathlib.Omega.{arith}
 use mathlib.Core.Path.{refl}
-use Rattle.types.proofs.Tracing.{find-asked, sources-then, codes-known, found-below, number-there, alias-figured}
+use Rattle.types.proofs.Tracing.{find-asked, sources-then, codes-known, number-there, alias-figured}
 use borrow.Author.Needs.{needs}
 use Rattle.types.proofs.aliases.keep.Statement.{statement}
 use Rattle.types.proofs.aliases.keep.Tie as tie
@@ -35,25 +36,20 @@ same-requires c κs =
     let start = at-under .before .before .before .before .before .before in (
       sources-then (start .pre .0),
       codes-known (start .pre .0) (start .pre .1 .0) (start .pre .1 .1)
-          (number-there (start .pre .0) (found-below (at-find .find .ensures) (at-if1 .if1 .left)) refl (at-number-of .number-of .ensures))
+          (number-there (start .pre .0) (let below : at-find .find .result < _ = omega (arith, at-find .find .ensures .most, at-if1 .if1 .left) in below) refl (at-number-of .number-of .ensures))
           (at-under .under .ensures) (at-entry .entry .ensures),
     )
 
-put-requires : tie.Need-put-requires
-put-requires c κs =
-    let at-number-of = c .before .before .before .before .before in
-    let at-if1 = at-number-of .before .before in
-    let at-find = at-if1 .before in
-    let start = at-find .before .before .before .before .before .before .before in
-    (start .pre .0 .figured .held, omega (arith, number-there (start .pre .0) (found-below (at-find .find .ensures) (at-if1 .if1 .left)) refl (at-number-of .number-of .ensures), start .pre .0 .entries .few))
+put-alias-requires : tie.Need-put-alias-requires
+put-alias-requires c κs = search needs
 
 same-length : tie.Need-same-length
 same-length c = search needs
 
 returns-2 : tie.Need-returns-2
 returns-2 c =
-    let at-put = c .before .before in
-    let at-if2 = at-put .before .before in
+    let at-put-alias = c .before .before in
+    let at-if2 = at-put-alias .before .before in
     let at-same = at-if2 .before in
     let at-entry = at-same .before .before in
     let at-number-of = at-entry .before in
@@ -62,9 +58,9 @@ returns-2 c =
     let at-under = at-find .before in
     let start = at-under .before .before .before .before .before .before in
     alias-figured (start .pre .0) (start .pre .1 .0) (start .pre .1 .1)
-    (number-there (start .pre .0) (found-below (at-find .find .ensures) (at-if1 .if1 .left)) refl (at-number-of .number-of .ensures))
+    (number-there (start .pre .0) (let below : at-find .find .result < _ = omega (arith, at-find .find .ensures .most, at-if1 .if1 .left) in below) refl (at-number-of .number-of .ensures))
     (at-under .under .ensures) (at-entry .entry .ensures)
-    (at-same .same .ensures) (at-if2 .if2 .taken) (at-put .put .ensures)
+    (at-same .same .ensures) (at-if2 .if2 .taken) (at-put-alias .put-alias .ensures)
 
 same-length-2 : tie.Need-same-length-2
 same-length-2 c = search needs
@@ -83,7 +79,7 @@ keep-spec =
     number-of-requires
     entry-requires
     same-requires
-    put-requires
+    put-alias-requires
     same-length
     returns-2
     same-length-2

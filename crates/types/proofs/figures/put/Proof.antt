@@ -21,13 +21,19 @@ add-write16-2 c = search needs
 write16-requires-3 : tie.Need-write16-requires-3
 write16-requires-3 c κs = search needs
 
+add-write16-3 : tie.Need-add-write16-3
+add-write16-3 c = search needs
+
+write16-requires-4 : tie.Need-write16-requires-4
+write16-requires-4 c κs = search needs
+
 same-length : tie.Need-same-length
 same-length c = search needs
 
 returns : tie.Need-returns
 unfolding putFigures
 returns c =
-    let at-place = c .before .before .before .before .before .before .before .before .before .before .before .before in
+    let at-place = c .before .before .before .before .before .before .before .before .before .before .before .before .before .before .before .before in
     let from = at-place .place .ensures .0 in
     cc
 
@@ -41,5 +47,7 @@ put-spec =
     write16-requires-2
     add-write16-2
     write16-requires-3
+    add-write16-3
+    write16-requires-4
     same-length
     returns)

@@ -1,6 +1,6 @@
 use Prim.Native.Nat.{_-_, _≤_}
 use native.Mathlib.Omega.{arith}
-use mathlib.Core.Path.{_≡_, refl, sym, subst, _∙_}
+use mathlib.Core.Path.{_≡_, refl, subst, _∙_}
 use lib.ListN.{length}
 use Rattle.types.specs.Numbering.{Numbered}
 use Rattle.types.proofs.Entering.{none-numbered}
@@ -14,21 +14,15 @@ Inv-loop p types ws₀ keys₀ index₀ i₀ ws keys index i =
 abbrev μ-loop : tie.MeasureT-loop
 μ-loop p types ws₀ keys₀ index₀ i₀ ws keys index i = length types - i
 
-forget-requires : tie.Need-forget-requires Inv-loop μ-loop
-forget-requires c κs =
-    let start = c .before .before .before .before .before .before in
-    start .pre .0 .1
-
 loop-holds : tie.Need-loop-holds Inv-loop μ-loop
 loop-holds c =
-    let at-forget = c .before .before in
-    let start = at-forget .before .before .before .before .before .before .before in
-    (omega arith, (refl, refl, refl), none-numbered (start .pre .0 .1) (at-forget .forget .ensures) (start .pre .1 .0) (start .pre .1 .1))
+    let start = c .before .before .before .before .before in
+    (omega arith, (refl, refl, refl), none-numbered (start .pre .0 .1) (start .pre .1 .0) (start .pre .1 .1))
 
 enter-requires : tie.Need-enter-requires Inv-loop μ-loop
 enter-requires c κs =
     let at-loop = c .before .before .before .before in
-    let start = at-loop .before .before .before .before .before .before .before .before .before .before in
+    let start = at-loop .before .before .before .before .before .before in
     ((start .pre .0 .0, omega arith), at-loop .loop .inv .2)
 
 add-i : tie.Need-add-i Inv-loop μ-loop
@@ -42,19 +36,14 @@ loop-again c =
     let at-enter = c .before .before .before .before .before .before in
     let at-loop = at-enter .before .before .before .before .before in (
       omega arith,
-      (
-        at-enter .enter .kept .1 .1 .0 ∙ at-loop .loop .inv .1 .0,
-        at-enter .enter .kept .1 .1 .1 .0 ∙ at-loop .loop .inv .1 .1,
-        at-enter .enter .kept .1 .1 .1 .1 .0 ∙ at-loop .loop .inv .1 .2,
-      ),
+      (at-enter .enter .kept .1 .1 .0 ∙ at-loop .loop .inv .1 .0, at-enter .enter .kept .1 .1 .1 .0 ∙ at-loop .loop .inv .1 .1, at-enter .enter .kept .1 .1 .1 .1 .0 ∙ at-loop .loop .inv .1 .2),
       at-enter .enter .ensures,
     )
 
 same-length : tie.Need-same-length Inv-loop μ-loop
 same-length c =
     let at-loop = c .before in
-    let at-forget = at-loop .before .before .before in
-    at-loop .loop .inv .1 .0 ∙ sym (at-forget .forget .ensures .lengths)
+    at-loop .loop .inv .1 .0
 
 same-length-2 : tie.Need-same-length-2 Inv-loop μ-loop
 same-length-2 c =
@@ -77,7 +66,6 @@ number-types-spec =
     (tie.spec
     Inv-loop
     μ-loop
-    forget-requires
     loop-holds
     enter-requires
     add-i
