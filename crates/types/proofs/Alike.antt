@@ -16,7 +16,8 @@ use package.Rattle.types.specs.declared.shapes.Shape.{Shape}
 use package.Rattle.types.specs.Shapes.{ofKind, shapeTree, node, leaf, plainShape, Shaped, Settled}
 use package.Rattle.types.proofs.Outer.{unit-known}
 use package.Rattle.types.proofs.Trees.{tree-entry}
-use package.Rattle.types.proofs.Equal.{differing, is-unit, below-four, two-parts, less-first, less-second, one-node, kinds-differ, both-units, both-variables, both-recursive, first-differs, by-second}
+use package.Rattle.types.proofs.Equal.{differing, is-unit, below-four, two-parts, less-first, less-second}
+use package.Rattle.types.proofs.Equal.{one-node, kinds-differ, both-units, both-variables, both-recursive, first-differs, by-second}
 
 -- one type
 module _ {xs types heap : List ℕ} {top : ℕ} {c v : Code} (S : Settled xs types heap top c v) {kind : ℕ} (k : kind ≡ plainShape xs types heap v .kind) where

@@ -12,7 +12,8 @@ use package.Rattle.rules.specs.Limits.{maxTypes, maxTerms, maxNodes}
 use package.Rattle.rules.specs.Ty.{Ty, prod, nodes}
 use package.Rattle.calls.specs.Entries.{TypeEntry, typeAt}
 use package.Rattle.types.specs.declared.codes.Code.{Code}
-use package.Rattle.types.specs.Codes.{Room, nodeBytes, productCode, codeAt, leftAt, rightAt, countAt, ofCode, productWithin, productAt, treeOf, treeIn, Known, Right, Products, Sources}
+use package.Rattle.types.specs.Codes.{Room, nodeBytes, productCode, codeAt, leftAt, rightAt, countAt, ofCode}
+use package.Rattle.types.specs.Codes.{productWithin, productAt, treeOf, treeIn, Known, Right, Products, Sources}
 use package.Rattle.types.specs.Figures.{Figured}
 use package.Rattle.types.proofs.Figuring.{figured-same}
 use package.Rattle.types.specs.Growth.{putCode, putNode, Agree, Grown}

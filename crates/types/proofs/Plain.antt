@@ -17,11 +17,13 @@ use package.Rattle.types.specs.declared.codes.Code.{Code}
 use package.Rattle.types.specs.declared.shapes.Shape.{Shape}
 use package.Rattle.types.specs.Layout.{typingBytes}
 use package.Rattle.types.specs.Figures.{closedBy, numberAt, freeAt, standAt, aliasAt, Alias}
-use package.Rattle.types.specs.Codes.{unitForm, entryForm, underForm, productForm, entryCode, underCode, leftAt, rightAt, treeIn, Readable, Known, Sources}
+use package.Rattle.types.specs.Codes.{unitForm, entryForm, underForm, productForm, entryCode, underCode}
+use package.Rattle.types.specs.Codes.{leftAt, rightAt, treeIn, Readable, Known, Sources}
 use package.Rattle.types.specs.Shapes.{leaf, part, entryShape, productShape, plainForm, plainShape, Shaped, Settled}
 use package.Rattle.types.proofs.Closing.{closed-itself, closed-variable}
 use package.Rattle.types.proofs.Trees.{tree-entry, tree-under}
-use package.Rattle.types.proofs.Outer.{unit-node, two-node, mu-node, var-node, found-two, found-mu, found-var, few-at, kind-there, mu-there, first-lower, second-lower, two-there, var-there, unfolds-at, entry-there, entry-known, under-known, unit-shaped, entry-shaped, under-shaped, product-shaped}
+use package.Rattle.types.proofs.Outer.{unit-node, two-node, mu-node, var-node, found-two, found-mu, found-var, few-at, kind-there, mu-there, first-lower}
+use package.Rattle.types.proofs.Outer.{second-lower, two-there, var-there, unfolds-at, entry-there, entry-known, under-known, unit-shaped, entry-shaped, under-shaped, product-shaped}
 
 ----------------------------------------------------------------
 -- By form

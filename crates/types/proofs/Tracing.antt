@@ -24,6 +24,9 @@ use package.Rattle.types.proofs.Trees.{tree-entry, tree-under}
 use package.Rattle.types.proofs.Outer.{few-at, kind-there, mu-there, two-there, first-lower, second-lower, entry-known, under-known}
 use package.Rattle.types.proofs.Beginning.{no-products}
 
+pub found-below : {keys : List ℕ} {n key k : ℕ} → Finds keys n key k → ¬ (k ≡ n) → k < n
+found-below F d = omega (arith, F .most, d)
+
 pub numbered-all : {xs types heap keys index : List ℕ} → Readable xs types → Numbered xs types heap keys index (length types)
     → Traceable xs types heap keys index
 numbered-all R N = record { entries = R; figured = N .figured; keys-held = N .keys-held; index-held = N .index-held; taken = N .taken }

@@ -138,7 +138,9 @@ trace-first-requires t c κs =
 
 trace-add-trace : (t : ℕ) → trace-lts.Need-add-trace (trace-uses t) (trace-at t) trace.Post
 trace-add-trace t c =
-    let start = c .before .before .before .before .before .before .before .before .before .before .before .before .before .before .before .before .before .before .before .before in
+    let at-kind = c .before .before .before .before .before in
+    let at-number-of = at-kind .before .before .before .before .before .before .before .before in
+    let start = at-number-of .before .before .before .before .before .before .before in
     omega (arith, start .pre .1 .1 .2)
 
 trace-trace-requires : (t : ℕ) → trace-lts.Need-trace-requires (trace-uses t) (trace-at t) trace.Post

@@ -1,7 +1,5 @@
-use Prim.Native.Nat.{_<_}
-use native.Mathlib.Omega.{arith}
 use mathlib.Core.Path.{refl}
-use Rattle.types.proofs.Tracing.{find-asked, sources-then, codes-known, number-there, alias-figured}
+use Rattle.types.proofs.Tracing.{find-asked, sources-then, codes-known, found-below, number-there, alias-figured}
 use borrow.Author.Needs.{needs}
 use Rattle.types.proofs.aliases.keep.Statement.{statement}
 use Rattle.types.proofs.aliases.keep.Tie as tie
@@ -36,7 +34,7 @@ same-requires c κs =
     let start = at-under .before .before .before .before .before .before in (
       sources-then (start .pre .0),
       codes-known (start .pre .0) (start .pre .1 .0) (start .pre .1 .1)
-          (number-there (start .pre .0) (let below : at-find .find .result < _ = omega (arith, at-find .find .ensures .most, at-if1 .if1 .left) in below) refl (at-number-of .number-of .ensures))
+          (number-there (start .pre .0) (found-below (at-find .find .ensures) (at-if1 .if1 .left)) refl (at-number-of .number-of .ensures))
           (at-under .under .ensures) (at-entry .entry .ensures),
     )
 
@@ -58,7 +56,7 @@ returns-2 c =
     let at-under = at-find .before in
     let start = at-under .before .before .before .before .before .before in
     alias-figured (start .pre .0) (start .pre .1 .0) (start .pre .1 .1)
-    (number-there (start .pre .0) (let below : at-find .find .result < _ = omega (arith, at-find .find .ensures .most, at-if1 .if1 .left) in below) refl (at-number-of .number-of .ensures))
+    (number-there (start .pre .0) (found-below (at-find .find .ensures) (at-if1 .if1 .left)) refl (at-number-of .number-of .ensures))
     (at-under .under .ensures) (at-entry .entry .ensures)
     (at-same .same .ensures) (at-if2 .if2 .taken) (at-put-alias .put-alias .ensures)
 

@@ -1,5 +1,6 @@
 use Rattle.types.proofs.Trees.{decided, refuted}
-use Rattle.types.proofs.Alike.{one-code, other-numbers, parted, twice-parted, fewer-first, known-first, fewer-second, known-second, other-kinds, units, variables, recursives, firsts-differ, seconds}
+use Rattle.types.proofs.Alike.{one-code, other-numbers, parted, twice-parted, fewer-first, known-first, fewer-second}
+use Rattle.types.proofs.Alike.{known-second, other-kinds, units, variables, recursives, firsts-differ, seconds}
 use native.Mathlib.Omega.{arith}
 use mathlib.Core.Path.{sym, _∙_}
 use borrow.Author.Needs.{needs}
@@ -31,7 +32,24 @@ abbrev same-below : ℕ → In 3 same-kinds.ps
 same-below t = and 3 same-kinds.ps (falls 3 same-kinds.ps _<_ μ-same t) same.Pre
 
 abbrev same-uses : ℕ → same-lts.Claims
-same-uses t = (settled-reads.Asked, settled-reads.Learnt, identical-reads.Asked, identical-reads.Learnt, are-entries-reads.Asked, are-entries-reads.Learnt, kind-of-reads.Asked, kind-of-reads.Learnt, variable-of-reads.Asked, variable-of-reads.Learnt, first-of-reads.Asked, first-of-reads.Learnt, same-below t, same.Post, second-of-reads.Asked, second-of-reads.Learnt)
+same-uses t = (
+  settled-reads.Asked,
+  settled-reads.Learnt,
+  identical-reads.Asked,
+  identical-reads.Learnt,
+  are-entries-reads.Asked,
+  are-entries-reads.Learnt,
+  kind-of-reads.Asked,
+  kind-of-reads.Learnt,
+  variable-of-reads.Asked,
+  variable-of-reads.Learnt,
+  first-of-reads.Asked,
+  first-of-reads.Learnt,
+  same-below t,
+  same.Post,
+  second-of-reads.Asked,
+  second-of-reads.Learnt,
+)
 
 same-settled-requires : (t : ℕ) → same-lts.Need-settled-requires (same-uses t) (same-at t) same.Post
 same-settled-requires t c κs =
@@ -96,7 +114,8 @@ same-returns-4 t c =
     let at-kind-of = at-kind-of2 .before in
     let at-settled2 = at-kind-of .before .before .before .before .before in
     let at-settled = at-settled2 .before in
-    units (at-settled .settled .ensures) (at-settled2 .settled2 .ensures) (at-kind-of .kind-of .ensures) (at-kind-of2 .kind-of2 .ensures) (at-if3 .if3 .left) (c .if4 .taken)
+    units (at-settled .settled .ensures) (at-settled2 .settled2 .ensures) (at-kind-of .kind-of .ensures) (at-kind-of2 .kind-of2 .ensures)
+    (at-if3 .if3 .left) (c .if4 .taken)
 
 same-variable-of-requires : (t : ℕ) → same-lts.Need-variable-of-requires (same-uses t) (same-at t) same.Post
 same-variable-of-requires t c κs =
@@ -123,8 +142,8 @@ same-returns-5 t c =
     let at-kind-of = at-kind-of2 .before in
     let at-settled2 = at-kind-of .before .before .before .before .before in
     let at-settled = at-settled2 .before in
-    variables (at-settled .settled .ensures) (at-settled2 .settled2 .ensures) (at-kind-of .kind-of .ensures) (at-kind-of2 .kind-of2 .ensures) (at-if3 .if3 .left) (at-if5 .if5 .taken)
-    (at-variable-of .variable-of .ensures) (c .variable-of2 .ensures)
+    variables (at-settled .settled .ensures) (at-settled2 .settled2 .ensures) (at-kind-of .kind-of .ensures) (at-kind-of2 .kind-of2 .ensures)
+    (at-if3 .if3 .left) (at-if5 .if5 .taken) (at-variable-of .variable-of .ensures) (c .variable-of2 .ensures)
 
 same-first-of-requires : (t : ℕ) → same-lts.Need-first-of-requires (same-uses t) (same-at t) same.Post
 same-first-of-requires t c κs =
@@ -132,7 +151,8 @@ same-first-of-requires t c κs =
     let at-kind-of = at-if4 .before .before .before in
     let at-settled = at-kind-of .before .before .before .before .before .before in
     let start = at-settled .before .before .before .before in
-    (start .pre .1 .0, (at-settled .settled .ensures .known, (at-kind-of .kind-of .ensures, at-if4 .if4 .left, (parted (at-settled .settled .ensures) (at-kind-of .kind-of .ensures) (c .if5 .left)))))
+    let has-one = parted (at-settled .settled .ensures) (at-kind-of .kind-of .ensures) (c .if5 .left) in
+    (start .pre .1 .0, (at-settled .settled .ensures .known, (at-kind-of .kind-of .ensures, at-if4 .if4 .left, has-one)))
 
 same-first-of-requires-2 : (t : ℕ) → same-lts.Need-first-of-requires-2 (same-uses t) (same-at t) same.Post
 same-first-of-requires-2 t c κs =
@@ -144,7 +164,8 @@ same-first-of-requires-2 t c κs =
     let at-settled2 = at-kind-of .before .before .before .before .before in
     let at-settled = at-settled2 .before in
     let start = at-settled .before .before .before .before in
-    (start .pre .1 .0, (at-settled2 .settled2 .ensures .known, (at-if3 .if3 .left ∙ at-kind-of2 .kind-of2 .ensures, at-if4 .if4 .left, (parted (at-settled .settled .ensures) (at-kind-of .kind-of .ensures) (at-if5 .if5 .left)))))
+    let has-one = parted (at-settled .settled .ensures) (at-kind-of .kind-of .ensures) (at-if5 .if5 .left) in
+    (start .pre .1 .0, (at-settled2 .settled2 .ensures .known, (at-if3 .if3 .left ∙ at-kind-of2 .kind-of2 .ensures, at-if4 .if4 .left, has-one)))
 
 same-same-requires : (t : ℕ) → same-lts.Need-same-nodes-requires (same-uses t) (same-at t) same.Post
 same-same-requires t c κs =
@@ -155,9 +176,16 @@ same-same-requires t c κs =
     let at-kind-of = at-kind-of2 .before in
     let at-settled2 = at-kind-of .before .before .before .before .before in
     let at-settled = at-settled2 .before in
-    let start = at-settled .before .before .before .before in (
-      omega (arith, start .pre .0, fewer-first (at-settled .settled .ensures) (at-kind-of .kind-of .ensures) (at-first-of .first-of .ensures) (at-if4 .if4 .left) (parted (at-settled .settled .ensures) (at-kind-of .kind-of .ensures) (at-if5 .if5 .left))),
-      (start .pre .1 .0, (known-first (at-settled .settled .ensures) (at-kind-of .kind-of .ensures) (at-first-of .first-of .ensures), known-first (at-settled2 .settled2 .ensures) (at-kind-of2 .kind-of2 .ensures) (c .first-of2 .ensures))),
+    let start = at-settled .before .before .before .before in
+    let has-one = parted (at-settled .settled .ensures) (at-kind-of .kind-of .ensures) (at-if5 .if5 .left) in (
+      omega (arith, start .pre .0, fewer-first (at-settled .settled .ensures) (at-kind-of .kind-of .ensures) (at-first-of .first-of .ensures) (at-if4 .if4 .left) has-one),
+      (
+        start .pre .1 .0,
+        (
+          known-first (at-settled .settled .ensures) (at-kind-of .kind-of .ensures) (at-first-of .first-of .ensures),
+          known-first (at-settled2 .settled2 .ensures) (at-kind-of2 .kind-of2 .ensures) (c .first-of2 .ensures),
+        ),
+      ),
     )
 
 same-returns-6 : (t : ℕ) → same-lts.Need-returns-6 (same-uses t) (same-at t) same.Post
@@ -181,7 +209,8 @@ same-second-of-requires t c κs =
     let at-kind-of = at-if4 .before .before .before in
     let at-settled = at-kind-of .before .before .before .before .before .before in
     let start = at-settled .before .before .before .before in
-    (start .pre .1 .0, (at-settled .settled .ensures .known, (at-kind-of .kind-of .ensures, at-if4 .if4 .left, (twice-parted (at-settled .settled .ensures) (at-kind-of .kind-of .ensures) (at-if5 .if5 .left) (at-if6 .if6 .left)))))
+    let has-two = twice-parted (at-settled .settled .ensures) (at-kind-of .kind-of .ensures) (at-if5 .if5 .left) (at-if6 .if6 .left) in
+    (start .pre .1 .0, (at-settled .settled .ensures .known, (at-kind-of .kind-of .ensures, at-if4 .if4 .left, has-two)))
 
 same-second-of-requires-2 : (t : ℕ) → same-lts.Need-second-of-requires-2 (same-uses t) (same-at t) same.Post
 same-second-of-requires-2 t c κs =
@@ -194,7 +223,8 @@ same-second-of-requires-2 t c κs =
     let at-settled2 = at-kind-of .before .before .before .before .before in
     let at-settled = at-settled2 .before in
     let start = at-settled .before .before .before .before in
-    (start .pre .1 .0, (at-settled2 .settled2 .ensures .known, (at-if3 .if3 .left ∙ at-kind-of2 .kind-of2 .ensures, at-if4 .if4 .left, (twice-parted (at-settled .settled .ensures) (at-kind-of .kind-of .ensures) (at-if5 .if5 .left) (at-if6 .if6 .left)))))
+    let has-two = twice-parted (at-settled .settled .ensures) (at-kind-of .kind-of .ensures) (at-if5 .if5 .left) (at-if6 .if6 .left) in
+    (start .pre .1 .0, (at-settled2 .settled2 .ensures .known, (at-if3 .if3 .left ∙ at-kind-of2 .kind-of2 .ensures, at-if4 .if4 .left, has-two)))
 
 same-same-requires-2 : (t : ℕ) → same-lts.Need-same-nodes-requires-2 (same-uses t) (same-at t) same.Post
 same-same-requires-2 t c κs =
@@ -206,9 +236,16 @@ same-same-requires-2 t c κs =
     let at-kind-of = at-kind-of2 .before in
     let at-settled2 = at-kind-of .before .before .before .before .before in
     let at-settled = at-settled2 .before in
-    let start = at-settled .before .before .before .before in (
-      omega (arith, start .pre .0, fewer-second (at-settled .settled .ensures) (at-kind-of .kind-of .ensures) (at-second-of .second-of .ensures) (at-if4 .if4 .left) (twice-parted (at-settled .settled .ensures) (at-kind-of .kind-of .ensures) (at-if5 .if5 .left) (at-if6 .if6 .left))),
-      (start .pre .1 .0, (known-second (at-settled .settled .ensures) (at-kind-of .kind-of .ensures) (at-second-of .second-of .ensures), known-second (at-settled2 .settled2 .ensures) (at-kind-of2 .kind-of2 .ensures) (c .second-of2 .ensures))),
+    let start = at-settled .before .before .before .before in
+    let has-two = twice-parted (at-settled .settled .ensures) (at-kind-of .kind-of .ensures) (at-if5 .if5 .left) (at-if6 .if6 .left) in (
+      omega (arith, start .pre .0, fewer-second (at-settled .settled .ensures) (at-kind-of .kind-of .ensures) (at-second-of .second-of .ensures) (at-if4 .if4 .left) has-two),
+      (
+        start .pre .1 .0,
+        (
+          known-second (at-settled .settled .ensures) (at-kind-of .kind-of .ensures) (at-second-of .second-of .ensures),
+          known-second (at-settled2 .settled2 .ensures) (at-kind-of2 .kind-of2 .ensures) (c .second-of2 .ensures),
+        ),
+      ),
     )
 
 same-returns-7 : (t : ℕ) → same-lts.Need-returns-7 (same-uses t) (same-at t) same.Post

@@ -37,7 +37,8 @@ returns-3 c =
     let at-wide-index2 = at-if4 .before in
     let at-if3 = at-wide-index2 .before in
     let start = at-if3 .before .before .before in
-    λ r. known-under (at-if3 .if3 .taken) (omega (arith, at-wide-index2 .wide-index2 .ensures, at-if4 .if4 .taken)) (omega (arith, c .wide-index3 .ensures, ltb-true (c .wide-index3 .result) (start .args .n) r))
+    λ r. known-under (at-if3 .if3 .taken) (omega (arith, at-wide-index2 .wide-index2 .ensures, at-if4 .if4 .taken))
+    (omega (arith, c .wide-index3 .ensures, ltb-true (c .wide-index3 .result) (start .args .n) r))
 
 returns-4 : tie.Need-returns-4
 returns-4 c = λ r. absurd (false≢true r)

@@ -68,8 +68,10 @@ returns-2 c =
     let at-kind-of = at-if1 .before in
     let at-settled = at-kind-of .before in
     λ r. pair-tree (at-settled .settled .ensures) (at-kind-of .kind-of .ensures) (at-if1 .if1 .left)
-    (at-first-of .first-of .ensures) (at-settled2 .settled2 .ensures) (decided (at-identical .identical .result) (at-identical .identical .ensures) (at-if2 .if2 .taken))
-    (at-second-of .second-of .ensures) (at-settled3 .settled3 .ensures) (decided (c .identical2 .result) (c .identical2 .ensures) r)
+    (at-first-of .first-of .ensures) (at-settled2 .settled2 .ensures)
+    (decided (at-identical .identical .result) (at-identical .identical .ensures) (at-if2 .if2 .taken))
+    (at-second-of .second-of .ensures) (at-settled3 .settled3 .ensures)
+    (decided (c .identical2 .result) (c .identical2 .ensures) r)
 
 returns-3 : tie.Need-returns-3
 returns-3 c = λ r. absurd (false≢true r)

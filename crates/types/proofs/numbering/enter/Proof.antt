@@ -40,12 +40,16 @@ put-entry-requires c κs =
 
 mul-keys : tie.Need-mul-keys
 mul-keys c =
-    let start = c .before .before .before .before .before .before .before .before .before .before .before .before .before .before .before .before .before .before .before .before .before .before in
+    let at-put = c .before .before .before .before .before .before in
+    let at-find = at-put .before .before .before .before in
+    let start = at-find .before .before .before .before .before .before .before .before .before .before .before .before in
     omega (arith, start .pre .0 .0 .few, start .pre .0 .1)
 
 slice-write-keys : tie.Need-slice-write-keys
 slice-write-keys c =
-    let start = c .before .before .before .before .before .before .before .before .before .before .before .before .before .before .before .before .before .before .before .before .before .before in
+    let at-put = c .before .before .before .before .before .before in
+    let at-find = at-put .before .before .before .before in
+    let start = at-find .before .before .before .before .before .before .before .before .before .before .before .before in
     omega (arith, start .pre .1 .keys-held, start .pre .0 .0 .few)
 
 slot-requires : tie.Need-slot-requires
@@ -53,7 +57,9 @@ slot-requires c κs = search needs
 
 add-index : tie.Need-add-index
 add-index c =
-    let start = c .before .before .before .before .before .before .before .before .before .before .before .before .before .before .before .before .before .before .before .before .before .before .before in
+    let at-put = c .before .before .before .before .before .before .before in
+    let at-find = at-put .before .before .before .before in
+    let start = at-find .before .before .before .before .before .before .before .before .before .before .before .before in
     omega (arith, start .pre .0 .0 .few)
 
 mul-index : tie.Need-mul-index
@@ -61,7 +67,9 @@ mul-index c = search needs
 
 slice-write-index : tie.Need-slice-write-index
 slice-write-index c =
-    let start = c .before .before .before .before .before .before .before .before .before .before .before .before .before .before .before .before .before .before .before .before .before .before .before in
+    let at-put = c .before .before .before .before .before .before .before in
+    let at-find = at-put .before .before .before .before in
+    let start = at-find .before .before .before .before .before .before .before .before .before .before .before .before in
     omega (arith, start .pre .1 .index-held, c .slot .ensures .1)
 
 same-length : tie.Need-same-length

@@ -50,7 +50,8 @@ returns-2 c =
     let at-if1 = at-if2 .before in
     let at-kind = at-if1 .before in
     let start = at-kind .before .before .before in
-    two-figure (start .args .ws .now) (start .args .p .now) (start .args .at) (at-kind .kind .ensures) (at-if1 .if1 .left) (at-if2 .if2 .taken) (at-first .first .ensures) (at-second .second .ensures) (c .two .ensures)
+    two-figure (start .args .ws .now) (start .args .p .now) (start .args .at) (at-kind .kind .ensures) (at-if1 .if1 .left) (at-if2 .if2 .taken)
+    (at-first .first .ensures) (at-second .second .ensures) (c .two .ensures)
 
 first-requires-2 : tie.Need-first-requires-2
 first-requires-2 c κs =
@@ -71,7 +72,8 @@ returns-3 c =
     let at-if3 = at-first2 .before in
     let at-kind = at-if3 .before .before .before in
     let start = at-kind .before .before .before in
-    recursive-figure (start .args .ws .now) (start .args .p .now) (start .args .at) (at-kind .kind .ensures) (at-if3 .if3 .taken) (at-first2 .first2 .ensures) (c .recursive .ensures)
+    recursive-figure (start .args .ws .now) (start .args .p .now) (start .args .at) (at-kind .kind .ensures) (at-if3 .if3 .taken)
+    (at-first2 .first2 .ensures) (c .recursive .ensures)
 
 variable-requires : tie.Need-variable-requires
 variable-requires c κs =
@@ -90,7 +92,8 @@ returns-4 c =
     let at-if2 = at-if3 .before in
     let at-kind = at-if2 .before .before in
     let start = at-kind .before .before .before in
-    bound-figure (start .args .ws .now) (start .args .p .now) (start .args .at) (variable-kind (start .pre .0 .0) (at-kind .kind .ensures) (at-if2 .if2 .left) (at-if3 .if3 .left))
+    bound-figure (start .args .ws .now) (start .args .p .now) (start .args .at)
+    (variable-kind (start .pre .0 .0) (at-kind .kind .ensures) (at-if2 .if2 .left) (at-if3 .if3 .left))
     (at-variable .variable .ensures) (c .bound .ensures)
 
 pub figures-of-spec : {M : Type 1} → statement M

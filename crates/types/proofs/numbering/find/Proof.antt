@@ -26,7 +26,8 @@ returns c =
     record {
       most = omega arith;
       there = λ h. absurd (omega arith);
-      none = λ e j h. slot-empty (start .args .index .now) (getD (start .args .keys .now) j 0) (start .args .key) (start .pre .1 j h) (at-slot .slot .ensures .0) (sym (at-wide-index .wide-index .ensures .0) ∙ c .if1 .taken);
+      none = λ e j h. slot-empty (start .args .index .now) (getD (start .args .keys .now) j 0) (start .args .key) (start .pre .1 j h)
+          (at-slot .slot .ensures .0) (sym (at-wide-index .wide-index .ensures .0) ∙ c .if1 .taken);
     }
 
 sub-k : tie.Need-sub-k

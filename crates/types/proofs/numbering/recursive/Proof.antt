@@ -19,7 +19,8 @@ returns c =
     let at-packed = at-free-of .before in
     let at-number-of = at-packed .before in
     let start = at-number-of .before .before in
-    recursive-shut (start .args .ws .now) (start .args .a) (at-number-of .number-of .ensures) (at-packed .packed .ensures) (at-free-of .free-of .ensures) (c .if1 .taken)
+    recursive-shut (start .args .ws .now) (start .args .a) (at-number-of .number-of .ensures) (at-packed .packed .ensures) (at-free-of .free-of .ensures)
+    (c .if1 .taken)
 
 outer-of-requires : tie.Need-outer-of-requires
 outer-of-requires c κs = search needs
@@ -34,7 +35,8 @@ returns-2 c =
     let at-packed = at-free-of .before in
     let at-number-of = at-packed .before in
     let start = at-number-of .before .before in
-    recursive-open (start .args .ws .now) (start .args .a) (at-number-of .number-of .ensures) (at-packed .packed .ensures) (at-free-of .free-of .ensures) (at-if1 .if1 .left)
+    recursive-open (start .args .ws .now) (start .args .a) (at-number-of .number-of .ensures) (at-packed .packed .ensures) (at-free-of .free-of .ensures)
+    (at-if1 .if1 .left)
     (c .outer-of .ensures) (omega arith)
 
 pub recursive-spec : {M : Type 1} → statement M

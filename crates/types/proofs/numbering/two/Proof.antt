@@ -44,7 +44,8 @@ returns c =
     let at-number-of2 = at-packed .before in
     let at-number-of = at-number-of2 .before in
     let start = at-number-of .before .before in
-    two-is (start .args .ws .now) (start .args .kind) (start .args .a) (start .args .b) (at-number-of .number-of .ensures) (at-number-of2 .number-of2 .ensures) (at-packed .packed .ensures)
+    two-is (start .args .ws .now) (start .args .kind) (start .args .a) (start .args .b) (at-number-of .number-of .ensures)
+    (at-number-of2 .number-of2 .ensures) (at-packed .packed .ensures)
     (at-free-of .free-of .ensures) (at-free-of2 .free-of2 .ensures) (at-greater .greater .ensures) (at-share .share .ensures .0) (at-share2 .share2 .ensures .0)
     (c .capped .ensures)
 

@@ -30,7 +30,8 @@ shared-slice-read-wide-index c =
     let at-wide-index = c .before in
     let at-if1 = at-wide-index .before in
     let start = at-if1 .before .before .before .before in
-    offset-there (start .pre .0) (start .args .c) (start .pre .1 .0) (no-unit-form (start .pre .0) (start .args .c) (start .pre .1 .0) (start .pre .1 .1 .0) (start .pre .1 .1 .1))
+    offset-there (start .pre .0) (start .args .c) (start .pre .1 .0)
+    (no-unit-form (start .pre .0) (start .args .c) (start .pre .1 .0) (start .pre .1 .1 .0) (start .pre .1 .1 .1))
     (no-product-form (start .pre .0) (start .args .c) (start .pre .1 .0) (at-if1 .if1 .left)) (at-wide-index .wide-index .ensures .0) refl
 
 wide-index-requires-2 : tie.Need-wide-index-requires-2
@@ -41,7 +42,8 @@ first-requires c κs =
     let at-wide-index = c .before .before in
     let at-if1 = at-wide-index .before in
     let start = at-if1 .before .before .before .before in
-    first-field (start .pre .0) (start .args .c) (start .pre .1 .0) (no-unit-form (start .pre .0) (start .args .c) (start .pre .1 .0) (start .pre .1 .1 .0) (start .pre .1 .1 .1))
+    first-field (start .pre .0) (start .args .c) (start .pre .1 .0)
+    (no-unit-form (start .pre .0) (start .args .c) (start .pre .1 .0) (start .pre .1 .1 .0) (start .pre .1 .1 .1))
     (no-product-form (start .pre .0) (start .args .c) (start .pre .1 .0) (at-if1 .if1 .left)) (at-wide-index .wide-index .ensures .0) (c .wide-index2 .ensures .0)
     (start .pre .1 .1 .0) (start .pre .1 .1 .1) (start .pre .1 .1 .2)
 
@@ -54,7 +56,8 @@ part-requires c κs =
     let start = at-if1 .before .before .before .before in
     part-asked (start .pre .0) (start .args .c) (start .pre .1 .0)
     (subst (λ n. n < maxTypes) (sym (at-first .first .ensures)) (first-inside (start .pre .0) (start .args .c) (start .pre .1 .0) (no-unit-form (start .pre .0) (start .args .c) (start .pre .1 .0) (start .pre .1 .1 .0) (start .pre .1 .1 .1))
-    (no-product-form (start .pre .0) (start .args .c) (start .pre .1 .0) (at-if1 .if1 .left)) (at-wide-index .wide-index .ensures .0) (at-wide-index2 .wide-index2 .ensures .0)
+    (no-product-form (start .pre .0) (start .args .c) (start .pre .1 .0) (at-if1 .if1 .left)) (at-wide-index .wide-index .ensures .0)
+    (at-wide-index2 .wide-index2 .ensures .0)
     (start .pre .1 .1 .0) (start .pre .1 .1 .1) (start .pre .1 .1 .2))) 1 (omega arith)
 
 returns-2 : tie.Need-returns-2
@@ -65,8 +68,10 @@ returns-2 c =
     let at-wide-index = at-wide-index2 .before .before in
     let at-if1 = at-wide-index .before in
     let start = at-if1 .before .before .before .before in
-    first-mu (start .pre .0) (start .args .c) (start .pre .1 .0) (no-unit-form (start .pre .0) (start .args .c) (start .pre .1 .0) (start .pre .1 .1 .0) (start .pre .1 .1 .1))
-    (no-product-form (start .pre .0) (start .args .c) (start .pre .1 .0) (at-if1 .if1 .left)) (at-wide-index .wide-index .ensures .0) (at-wide-index2 .wide-index2 .ensures .0) (start .pre .1 .1 .0)
+    first-mu (start .pre .0) (start .args .c) (start .pre .1 .0)
+    (no-unit-form (start .pre .0) (start .args .c) (start .pre .1 .0) (start .pre .1 .1 .0) (start .pre .1 .1 .1))
+    (no-product-form (start .pre .0) (start .args .c) (start .pre .1 .0) (at-if1 .if1 .left)) (at-wide-index .wide-index .ensures .0)
+    (at-wide-index2 .wide-index2 .ensures .0) (start .pre .1 .1 .0)
     (at-first .first .ensures) (c .part .ensures) (at-if2 .if2 .taken)
 
 part-requires-2 : tie.Need-part-requires-2
@@ -78,7 +83,8 @@ part-requires-2 c κs =
     let start = at-if1 .before .before .before .before in
     part-asked (start .pre .0) (start .args .c) (start .pre .1 .0)
     (subst (λ n. n < maxTypes) (sym (at-first .first .ensures)) (first-inside (start .pre .0) (start .args .c) (start .pre .1 .0) (no-unit-form (start .pre .0) (start .args .c) (start .pre .1 .0) (start .pre .1 .1 .0) (start .pre .1 .1 .1))
-    (no-product-form (start .pre .0) (start .args .c) (start .pre .1 .0) (at-if1 .if1 .left)) (at-wide-index .wide-index .ensures .0) (at-wide-index2 .wide-index2 .ensures .0)
+    (no-product-form (start .pre .0) (start .args .c) (start .pre .1 .0) (at-if1 .if1 .left)) (at-wide-index .wide-index .ensures .0)
+    (at-wide-index2 .wide-index2 .ensures .0)
     (start .pre .1 .1 .0) (start .pre .1 .1 .1) (start .pre .1 .1 .2))) 0 (omega arith)
 
 returns-3 : tie.Need-returns-3
@@ -89,8 +95,10 @@ returns-3 c =
     let at-wide-index = at-wide-index2 .before .before in
     let at-if1 = at-wide-index .before in
     let start = at-if1 .before .before .before .before in
-    first-two (start .pre .0) (start .args .c) (start .pre .1 .0) (no-unit-form (start .pre .0) (start .args .c) (start .pre .1 .0) (start .pre .1 .1 .0) (start .pre .1 .1 .1))
-    (no-product-form (start .pre .0) (start .args .c) (start .pre .1 .0) (at-if1 .if1 .left)) (at-wide-index .wide-index .ensures .0) (at-wide-index2 .wide-index2 .ensures .0) (start .pre .1 .1 .0) (start .pre .1 .1 .1)
+    first-two (start .pre .0) (start .args .c) (start .pre .1 .0)
+    (no-unit-form (start .pre .0) (start .args .c) (start .pre .1 .0) (start .pre .1 .1 .0) (start .pre .1 .1 .1))
+    (no-product-form (start .pre .0) (start .args .c) (start .pre .1 .0) (at-if1 .if1 .left)) (at-wide-index .wide-index .ensures .0)
+    (at-wide-index2 .wide-index2 .ensures .0) (start .pre .1 .1 .0) (start .pre .1 .1 .1)
     (omega (arith, start .pre .1 .1 .2, at-if2 .if2 .left)) (at-first .first .ensures) (c .part2 .ensures)
 
 pub first-of-spec : {M : Type 1} → statement M

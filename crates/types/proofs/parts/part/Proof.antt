@@ -34,7 +34,8 @@ returns c =
     let at-free-of = at-wide32 .before in
     let at-if1 = at-free-of .before in
     let start = at-if1 .before .before in
-    part-open (start .args .ws .now) (start .args .c) (start .args .i) (start .args .up) (at-if1 .if1 .taken) (at-wide32 .wide32 .ensures .0 ∙ at-free-of .free-of .ensures) (at-wide322 .wide322 .ensures .0 ∙ at-free-of2 .free-of2 .ensures)
+    part-open (start .args .ws .now) (start .args .c) (start .args .i) (start .args .up) (at-if1 .if1 .taken)
+    (at-wide32 .wide32 .ensures .0 ∙ at-free-of .free-of .ensures) (at-wide322 .wide322 .ensures .0 ∙ at-free-of2 .free-of2 .ensures)
     (at-if2 .if2 .taken) (c .under .ensures)
 
 entry-requires : tie.Need-entry-requires
@@ -49,7 +50,8 @@ returns-2 c =
     let at-free-of = at-wide32 .before in
     let at-if1 = at-free-of .before in
     let start = at-if1 .before .before in
-    part-closed (start .args .ws .now) (start .args .c) (start .args .i) (start .args .up) (at-if1 .if1 .taken) (at-wide32 .wide32 .ensures .0 ∙ at-free-of .free-of .ensures) (at-wide322 .wide322 .ensures .0 ∙ at-free-of2 .free-of2 .ensures)
+    part-closed (start .args .ws .now) (start .args .c) (start .args .i) (start .args .up) (at-if1 .if1 .taken)
+    (at-wide32 .wide32 .ensures .0 ∙ at-free-of .free-of .ensures) (at-wide322 .wide322 .ensures .0 ∙ at-free-of2 .free-of2 .ensures)
     (at-if2 .if2 .left) (c .entry .ensures)
 
 entry-requires-2 : tie.Need-entry-requires-2

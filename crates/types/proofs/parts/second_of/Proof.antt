@@ -30,7 +30,8 @@ shared-slice-read-wide-index c =
     let at-wide-index = c .before in
     let at-if1 = at-wide-index .before in
     let start = at-if1 .before .before .before .before in
-    offset-there (start .pre .0) (start .args .c) (start .pre .1 .0) (no-unit-form (start .pre .0) (start .args .c) (start .pre .1 .0) (start .pre .1 .1 .0) (start .pre .1 .1 .1))
+    offset-there (start .pre .0) (start .args .c) (start .pre .1 .0)
+    (no-unit-form (start .pre .0) (start .args .c) (start .pre .1 .0) (start .pre .1 .1 .0) (start .pre .1 .1 .1))
     (no-product-form (start .pre .0) (start .args .c) (start .pre .1 .0) (at-if1 .if1 .left)) (at-wide-index .wide-index .ensures .0) refl
 
 wide-index-requires-2 : tie.Need-wide-index-requires-2
@@ -41,7 +42,8 @@ second-requires c κs =
     let at-wide-index = c .before .before in
     let at-if1 = at-wide-index .before in
     let start = at-if1 .before .before .before .before in
-    second-field (start .pre .0) (start .args .c) (start .pre .1 .0) (no-unit-form (start .pre .0) (start .args .c) (start .pre .1 .0) (start .pre .1 .1 .0) (start .pre .1 .1 .1))
+    second-field (start .pre .0) (start .args .c) (start .pre .1 .0)
+    (no-unit-form (start .pre .0) (start .args .c) (start .pre .1 .0) (start .pre .1 .1 .0) (start .pre .1 .1 .1))
     (no-product-form (start .pre .0) (start .args .c) (start .pre .1 .0) (at-if1 .if1 .left)) (at-wide-index .wide-index .ensures .0) (c .wide-index2 .ensures .0)
     (start .pre .1 .1 .0) (start .pre .1 .1 .1) (start .pre .1 .1 .2)
 
@@ -53,7 +55,8 @@ part-requires c κs =
     let start = at-if1 .before .before .before .before in
     part-asked (start .pre .0) (start .args .c) (start .pre .1 .0)
     (subst (λ n. n < maxTypes) (sym (c .second .ensures)) (second-inside (start .pre .0) (start .args .c) (start .pre .1 .0) (no-unit-form (start .pre .0) (start .args .c) (start .pre .1 .0) (start .pre .1 .1 .0) (start .pre .1 .1 .1))
-    (no-product-form (start .pre .0) (start .args .c) (start .pre .1 .0) (at-if1 .if1 .left)) (at-wide-index .wide-index .ensures .0) (at-wide-index2 .wide-index2 .ensures .0)
+    (no-product-form (start .pre .0) (start .args .c) (start .pre .1 .0) (at-if1 .if1 .left)) (at-wide-index .wide-index .ensures .0)
+    (at-wide-index2 .wide-index2 .ensures .0)
     (start .pre .1 .1 .0) (start .pre .1 .1 .1) (start .pre .1 .1 .2))) 0 (omega arith)
 
 returns-2 : tie.Need-returns-2
@@ -63,8 +66,10 @@ returns-2 c =
     let at-wide-index = at-wide-index2 .before .before in
     let at-if1 = at-wide-index .before in
     let start = at-if1 .before .before .before .before in
-    second-two (start .pre .0) (start .args .c) (start .pre .1 .0) (no-unit-form (start .pre .0) (start .args .c) (start .pre .1 .0) (start .pre .1 .1 .0) (start .pre .1 .1 .1))
-    (no-product-form (start .pre .0) (start .args .c) (start .pre .1 .0) (at-if1 .if1 .left)) (at-wide-index .wide-index .ensures .0) (at-wide-index2 .wide-index2 .ensures .0) (start .pre .1 .1 .0) (start .pre .1 .1 .1) (start .pre .1 .1 .2)
+    second-two (start .pre .0) (start .args .c) (start .pre .1 .0)
+    (no-unit-form (start .pre .0) (start .args .c) (start .pre .1 .0) (start .pre .1 .1 .0) (start .pre .1 .1 .1))
+    (no-product-form (start .pre .0) (start .args .c) (start .pre .1 .0) (at-if1 .if1 .left)) (at-wide-index .wide-index .ensures .0)
+    (at-wide-index2 .wide-index2 .ensures .0) (start .pre .1 .1 .0) (start .pre .1 .1 .1) (start .pre .1 .1 .2)
     (at-second .second .ensures) (c .part .ensures)
 
 pub second-of-spec : {M : Type 1} → statement M

@@ -25,7 +25,8 @@ returns c =
     let at-free-of = at-if1 .before in
     let at-number-of = at-free-of .before in
     let start = at-number-of .before .before .before .before in
-    closed-settled (start .pre .0) (start .args .c) (start .pre .1 .0) (start .pre .1 .1) (at-number-of .number-of .ensures) (sym (at-free-of .free-of .ensures) ∙ at-if1 .if1 .taken) (c .entry .ensures)
+    closed-settled (start .pre .0) (start .args .c) (start .pre .1 .0) (start .pre .1 .1) (at-number-of .number-of .ensures)
+    (sym (at-free-of .free-of .ensures) ∙ at-if1 .if1 .taken) (c .entry .ensures)
 
 number-of-requires-2 : tie.Need-number-of-requires-2
 number-of-requires-2 c κs =

@@ -36,7 +36,8 @@ returns c =
     let at-node-count2 = at-if1 .before in
     let at-node-count = at-node-count2 .before .before in
     let start = at-node-count .before .before .before .before .before .before in
-    made-large (start .pre .0) (start .args .left) (start .args .right) (at-node-count .node-count .ensures) (at-node-count2 .node-count2 .ensures) refl (at-if1 .if1 .taken)
+    made-large (start .pre .0) (start .args .left) (start .args .right)
+    (at-node-count .node-count .ensures) (at-node-count2 .node-count2 .ensures) refl (at-if1 .if1 .taken)
 
 settled-requires : tie.Need-settled-requires
 settled-requires c κs = search needs
@@ -59,7 +60,8 @@ returns-2 c =
     let at-node-count2 = at-if1 .before in
     let at-node-count = at-node-count2 .before .before in
     let start = at-node-count .before .before .before .before .before .before in
-    made-found (start .pre .0) (start .args .left) (start .args .right) (at-node-count .node-count .ensures) (at-node-count2 .node-count2 .ensures) refl (at-if1 .if1 .left)
+    made-found (start .pre .0) (start .args .left) (start .args .right)
+    (at-node-count .node-count .ensures) (at-node-count2 .node-count2 .ensures) refl (at-if1 .if1 .left)
     (at-settled .settled .ensures) (at-settled2 .settled2 .ensures) (at-hinted .hinted .ensures) (c .if2 .taken)
 
 cast-product : tie.Need-cast-product
@@ -83,12 +85,15 @@ put-node-requires c κs =
 put-requires : tie.Need-put-requires
 put-requires c κs =
     let at-put-node = c .before .before .before in
-    let start = at-put-node .before .before .before .before .before .before .before .before .before .before .before .before .before .before .before .before .before .before .before in
+    let at-settled2 = at-put-node .before .before .before .before .before .before in
+    let start = at-settled2 .before .before .before .before .before .before .before .before .before .before .before .before .before in
     omega (arith, at-put-node .put-node .kept, start .pre .0 .figures .held)
 
 add-t34 : tie.Need-add-t34
 add-t34 c =
-    let start = c .before .before .before .before .before .before .before .before .before .before .before .before .before .before .before .before .before .before .before .before .before .before .before .before .before in
+    let at-put-node = c .before .before .before .before .before .before in
+    let at-settled2 = at-put-node .before .before .before .before .before .before in
+    let start = at-settled2 .before .before .before .before .before .before .before .before .before .before .before .before .before in
     omega (arith, start .pre .1 .1 .1 .1)
 
 same-length-3 : tie.Need-same-length-3
@@ -107,7 +112,8 @@ returns-3 c =
     let start = at-node-count .before .before .before .before .before .before in
     let ok = at-settled .settled .ok in
     let ok2 = at-settled2 .settled2 .ok in
-    made-new (start .pre .0) (start .args .left) (start .args .right) (at-node-count .node-count .ensures) (at-node-count2 .node-count2 .ensures) refl (at-if1 .if1 .left)
+    made-new (start .pre .0) (start .args .left) (start .args .right)
+    (at-node-count .node-count .ensures) (at-node-count2 .node-count2 .ensures) refl (at-if1 .if1 .left)
     (at-settled .settled .ensures) (at-settled2 .settled2 .ensures) (start .pre .1 .1 .1 .0)
     (record { form = omega (arith, ok); at = omega (arith, ok); stands = omega (arith, ok) })
     (record { form = omega (arith, ok2); at = omega (arith, ok2); stands = omega (arith, ok2) })

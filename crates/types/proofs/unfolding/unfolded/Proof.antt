@@ -38,7 +38,8 @@ first-requires c κs =
     let at-wide-index2 = at-kind .before in
     let at-wide-index = at-wide-index2 .before .before in
     let start = at-wide-index .before .before .before .before in
-    mu-there (start .pre .0 .0) (start .pre .1) (at-wide-index .wide-index .ensures .0) (at-wide-index2 .wide-index2 .ensures .0) (at-kind .kind .ensures) (c .if1 .left)
+    mu-there (start .pre .0 .0) (start .pre .1) (at-wide-index .wide-index .ensures .0) (at-wide-index2 .wide-index2 .ensures .0)
+    (at-kind .kind .ensures) (c .if1 .left)
 
 number-of-requires : tie.Need-number-of-requires
 number-of-requires c κs =
@@ -48,8 +49,8 @@ number-of-requires c κs =
     let at-wide-index = at-wide-index2 .before .before in
     let start = at-wide-index .before .before .before .before in
     let k = at-if1 .if1 .left in
-    let low = first-lower (start .pre .0 .0) (start .pre .1) (at-wide-index .wide-index .ensures .0) (at-wide-index2 .wide-index2 .ensures .0) (at-kind .kind .ensures)
-    (λ z. omega (arith, z, k)) (omega (arith, k)) in
+    let low = first-lower (start .pre .0 .0) (start .pre .1) (at-wide-index .wide-index .ensures .0) (at-wide-index2 .wide-index2 .ensures .0)
+    (at-kind .kind .ensures) (λ z. omega (arith, z, k)) (omega (arith, k)) in
     (start .pre .0 .1, omega (arith, c .first .ensures, low, start .pre .0 .0 .few, start .pre .1))
 
 number-of-requires-2 : tie.Need-number-of-requires-2
@@ -69,7 +70,8 @@ returns-2 c =
     let at-wide-index = at-wide-index2 .before .before in
     let start = at-wide-index .before .before .before .before in
     a-body (start .args .p .now) (start .args .types .now) (start .args .ws .now) (start .args .i) (at-wide-index .wide-index .ensures .0)
-    (at-wide-index2 .wide-index2 .ensures .0) (at-kind .kind .ensures) (at-if1 .if1 .left) (at-first .first .ensures) (at-number-of .number-of .ensures) (at-number-of2 .number-of2 .ensures) (c .under .ensures)
+    (at-wide-index2 .wide-index2 .ensures .0) (at-kind .kind .ensures) (at-if1 .if1 .left) (at-first .first .ensures)
+    (at-number-of .number-of .ensures) (at-number-of2 .number-of2 .ensures) (c .under .ensures)
 
 pub unfolded-spec : {M : Type 1} → statement M
 unfolded-spec =
