@@ -47,6 +47,11 @@ module _ {xs types heap keys index : List ℕ} (T : Traceable xs types heap keys
   pub number-there : {k n alias : ℕ} → k < length types → n ≡ k → alias ≡ numberAt heap n → alias < length types
   number-there {k} l e q = omega (arith, q, ap (numberAt heap) e, T .figured .number-lower k l)
 
+  -- what settling asks of a part
+  pub part-asked : {i j : ℕ} {c : Code} → i < length types → j < length types → c ≡ underCode i j
+      → Sources xs types heap 0 × Known (length types) 0 c
+  part-asked {i} {j} li lj e = (sources-then, subst (Known (length types) 0) (sym e) (under-known i j li lj))
+
   ----------------------------------------------------------------
   -- An alias kept
 

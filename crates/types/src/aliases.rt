@@ -19,6 +19,7 @@ use crate::figures;
 use crate::hints;
 use crate::numbering;
 use crate::numbering::SLOT_COUNT;
+use crate::parts;
 use program::kinds;
 use program::views;
 use rules::MAX_TYPES;
@@ -74,31 +75,33 @@ fn join(
         let key = numbering::packed(kind, left.at, right.at);
         let c = keep(p, types, ws, keys, index, i, j, key);
         if kind == kinds::PRODUCT {
-            hints::put(ws, left, right, c);
+            hints::offer(p, types, ws, left, right, c);
         }
         return c;
     }
     let c = codes::under(i, j);
     if kind == kinds::PRODUCT {
-        hints::put(ws, left, right, c);
+        hints::offer(p, types, ws, left, right, c);
     }
     c
 }
 
 // The code of a part in which entry `j` stands for the outermost variable, if `free` variables are free in it; else of the part as it is. Parts come
-// before wholes, so that each is compared by the aliases of its own parts.
+// before wholes, so that each is compared by the aliases of its own parts. `met` has one more than the last entry that stood for the variable of each entry
+// that was traced: a part that stands in several places is traced once.
 fn trace(
     p: &[u8],
     types: &[u16],
     ws: &mut [u8],
     keys: &[u32],
     index: &[u16],
+    met: &mut [u16],
     part: u16,
     j: u16,
     free: u32,
 ) -> Code
     requires { ⌜ Traceable (now p) (now types) (now ws) (now keys) (now index) ⌝ }
-    requires { ⌜ (part < length (now types)) × (j < length (now types)) × (free + part ≤ 512) ⌝ }
+    requires { ⌜ (part < length (now types)) × (j < length (now types)) × (free + part ≤ 512) × (maxTypes ≤ length (now met)) ⌝ }
     ensures { λ _. ⌜ Figured (map (typeAt (now (p .entry))) (now (types .entry))) (now (ws .exit)) (length (now (types .entry))) ⌝ }
 {
     let i = figures::number_of(ws, part);
@@ -113,14 +116,38 @@ fn trace(
     if kind == kinds::UNIT_TYPE {
         return codes::entry(i);
     }
+    if met[octets::wide_index(i)] == j + 1 {
+        return parts::settled(p, types, ws, 0, codes::under(i, j));
+    }
+    met[octets::wide_index(i)] = j + 1;
     if kind == kinds::RECURSIVE {
-        let body = trace(p, types, ws, keys, index, views::first(p, at), j, free + 1);
+        let body = trace(
+            p,
+            types,
+            ws,
+            keys,
+            index,
+            met,
+            views::first(p, at),
+            j,
+            free + 1,
+        );
         // a recursive type has one part, and its key 0 for the other
         let none = codes::entry(0);
         return join(p, types, ws, keys, index, i, j, kind, body, none);
     }
-    let left = trace(p, types, ws, keys, index, views::first(p, at), j, free);
-    let right = trace(p, types, ws, keys, index, views::second(p, at), j, free);
+    let left = trace(p, types, ws, keys, index, met, views::first(p, at), j, free);
+    let right = trace(
+        p,
+        types,
+        ws,
+        keys,
+        index,
+        met,
+        views::second(p, at),
+        j,
+        free,
+    );
     join(p, types, ws, keys, index, i, j, kind, left, right)
 }
 
@@ -132,10 +159,11 @@ fn open_term(
     keys: &[u32],
     index: &[u16],
     tried: &mut [u8],
+    met: &mut [u16],
     at: usize,
 )
     requires { ⌜ Traceable (now p) (now types) (now ws) (now keys) (now index) ⌝ }
-    requires { ⌜ TermField (now p) at × (maxTypes ≤ length (now tried)) ⌝ }
+    requires { ⌜ TermField (now p) at × (maxTypes ≤ length (now tried)) × (maxTypes ≤ length (now met)) ⌝ }
     ensures { λ _. ⌜ Figured (map (typeAt (now (p .entry))) (now (types .entry))) (now (ws .exit)) (length (now (types .entry))) ⌝ }
 {
     let kind = views::kind(p, at);
@@ -157,7 +185,7 @@ fn open_term(
     if form != kinds::RECURSIVE {
         return;
     }
-    trace(p, types, ws, keys, index, views::first(p, from), j, 1);
+    trace(p, types, ws, keys, index, met, views::first(p, from), j, 1);
 }
 
 // The types that the terms roll and unroll.
@@ -167,10 +195,11 @@ fn open_terms(p: &[u8], types: &[u16], terms: &[u16], ws: &mut [u8], keys: &[u32
     ensures { λ _. ⌜ Figured (map (typeAt (now (p .entry))) (now (types .entry))) (now (ws .exit)) (length (now (types .entry))) ⌝ }
 {
     let mut tried = [0u8; MAX_TYPES];
+    let mut met = [0u16; MAX_TYPES];
     let mut t = 0;
     while t < terms.len() {
         let at = octets::wide_index(terms[t]);
-        open_term(p, types, ws, keys, index, &mut tried, at);
+        open_term(p, types, ws, keys, index, &mut tried, &mut met, at);
         t += 1;
     }
 }

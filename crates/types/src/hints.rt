@@ -26,8 +26,8 @@ const HINT_BYTES: usize = 6;
 
 const HINT_SLOTS: usize = 1021;
 
-// Multipliers that keep small numbers apart, below the slots.
-const FORM: usize = 509;
+// Multipliers that spread small numbers over the slots.
+const FORM: usize = 401;
 
 const STANDS: usize = 89;
 
@@ -111,6 +111,18 @@ pub fn put(ws: &mut [u8], left: Code, right: Code, c: Code)
     ensures { λ _. ⌜ Noted (now (ws .entry)) (now (ws .exit)) ⌝ }
 {
     nodes::put_code(ws, place(left, right), c);
+}
+
+// The same, unless the product is found already: an entry's hint stays where a part of an unfolding is equal to that entry.
+pub fn offer(p: &[u8], types: &[u16], ws: &mut [u8], left: Code, right: Code, c: Code)
+    requires { ⌜ Sources (now p) (now types) (now ws) 0 ⌝ }
+    ensures { λ _. ⌜ Noted (now (ws .entry)) (now (ws .exit)) ⌝ }
+{
+    let known = hinted(p, types, ws, 0, left, right);
+    let form = known.form;
+    if form == codes::UNIT {
+        put(ws, left, right, c);
+    }
 }
 
 // A hint at the type entry `own`, if its field at `at` is a product's.

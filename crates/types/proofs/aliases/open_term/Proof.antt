@@ -9,7 +9,7 @@ use Rattle.types.proofs.aliases.open_term.Tie as tie
 
 kind-requires : tie.Need-kind-requires
 kind-requires c κs =
-    let start = c .before .before .before .before .before .before in
+    let start = c .before .before .before .before .before .before .before in
     term-kind-room (start .pre .1 .0)
 
 returns : tie.Need-returns
@@ -18,7 +18,7 @@ returns c = search needs
 first-requires : tie.Need-first-requires
 first-requires c κs =
     let at-kind = c .before in
-    let start = at-kind .before .before .before .before .before .before .before in
+    let start = at-kind .before .before .before .before .before .before .before .before in
     rolls-room (start .pre .1 .0) (at-kind .kind .ensures) (c .if1 .left)
 
 wide-index-requires : tie.Need-wide-index-requires
@@ -39,7 +39,7 @@ slice-read-if3 c =
     let at-number-of = at-wide-index2 .before in
     let at-if2 = at-number-of .before .before in
     let at-wide-index = at-if2 .before in
-    let start = at-wide-index .before .before .before .before .before .before .before .before .before .before in
+    let start = at-wide-index .before .before .before .before .before .before .before .before .before .before .before in
     let own = number-there (start .pre .0) (at-if2 .if2 .left) (sym (at-wide-index .wide-index .ensures .0)) (at-number-of .number-of .ensures) in
     omega (arith, own, at-wide-index2 .wide-index2 .ensures .0, start .pre .0 .entries .few, start .pre .1 .1)
 
@@ -55,7 +55,7 @@ slice-write-tried c =
     let at-number-of = at-wide-index2 .before in
     let at-if2 = at-number-of .before .before in
     let at-wide-index = at-if2 .before in
-    let start = at-wide-index .before .before .before .before .before .before .before .before .before .before in
+    let start = at-wide-index .before .before .before .before .before .before .before .before .before .before .before in
     let own = number-there (start .pre .0) (at-if2 .if2 .left) (sym (at-wide-index .wide-index .ensures .0)) (at-number-of .number-of .ensures) in
     omega (arith, own, at-wide-index2 .wide-index2 .ensures .0, start .pre .0 .entries .few, start .pre .1 .1)
 
@@ -68,7 +68,7 @@ shared-slice-read-wide-index c =
     let at-number-of = at-wide-index2 .before in
     let at-if2 = at-number-of .before .before in
     let at-wide-index = at-if2 .before in
-    let start = at-wide-index .before .before .before .before .before .before .before .before .before .before in
+    let start = at-wide-index .before .before .before .before .before .before .before .before .before .before .before in
     let own = number-there (start .pre .0) (at-if2 .if2 .left) (sym (at-wide-index .wide-index .ensures .0)) (at-number-of .number-of .ensures) in
     omega (arith, own, at-wide-index2 .wide-index2 .ensures .0)
 
@@ -81,7 +81,7 @@ kind-requires-2 c κs =
     let at-number-of = at-wide-index2 .before in
     let at-if2 = at-number-of .before .before in
     let at-wide-index = at-if2 .before in
-    let start = at-wide-index .before .before .before .before .before .before .before .before .before .before in
+    let start = at-wide-index .before .before .before .before .before .before .before .before .before .before .before in
     let own = number-there (start .pre .0) (at-if2 .if2 .left) (sym (at-wide-index .wide-index .ensures .0)) (at-number-of .number-of .ensures) in
     kind-there (start .pre .0 .entries) own (at-wide-index2 .wide-index2 .ensures .0) (c .wide-index3 .ensures .0)
 
@@ -96,20 +96,6 @@ returns-4 c = search needs
 
 first-requires-2 : tie.Need-first-requires-2
 first-requires-2 c κs =
-    let at-if4 = c .before in
-    let at-kind2 = at-if4 .before in
-    let at-wide-index3 = at-kind2 .before in
-    let at-wide-index2 = at-wide-index3 .before .before .before .before in
-    let at-number-of = at-wide-index2 .before in
-    let at-if2 = at-number-of .before .before in
-    let at-wide-index = at-if2 .before in
-    let start = at-wide-index .before .before .before .before .before .before .before .before .before .before in
-    let own = number-there (start .pre .0) (at-if2 .if2 .left) (sym (at-wide-index .wide-index .ensures .0)) (at-number-of .number-of .ensures) in
-    mu-there (start .pre .0 .entries) own (at-wide-index2 .wide-index2 .ensures .0) (at-wide-index3 .wide-index3 .ensures .0)
-    (at-kind2 .kind2 .ensures) (at-if4 .if4 .left)
-
-trace-requires : tie.Need-trace-requires
-trace-requires c κs =
     let at-if4 = c .before .before in
     let at-kind2 = at-if4 .before in
     let at-wide-index3 = at-kind2 .before in
@@ -117,16 +103,33 @@ trace-requires c κs =
     let at-number-of = at-wide-index2 .before in
     let at-if2 = at-number-of .before .before in
     let at-wide-index = at-if2 .before in
-    let start = at-wide-index .before .before .before .before .before .before .before .before .before .before in
+    let start = at-wide-index .before .before .before .before .before .before .before .before .before .before .before in
     let own = number-there (start .pre .0) (at-if2 .if2 .left) (sym (at-wide-index .wide-index .ensures .0)) (at-number-of .number-of .ensures) in
-    body-asked (start .pre .0) own (at-wide-index2 .wide-index2 .ensures .0) (at-wide-index3 .wide-index3 .ensures .0)
-    (at-kind2 .kind2 .ensures) (at-if4 .if4 .left) (c .first2 .ensures)
+    mu-there (start .pre .0 .entries) own (at-wide-index2 .wide-index2 .ensures .0) (at-wide-index3 .wide-index3 .ensures .0)
+    (at-kind2 .kind2 .ensures) (at-if4 .if4 .left)
+
+trace-requires : tie.Need-trace-requires
+trace-requires c κs =
+    let at-if4 = c .before .before .before in
+    let at-kind2 = at-if4 .before in
+    let at-wide-index3 = at-kind2 .before in
+    let at-wide-index2 = at-wide-index3 .before .before .before .before in
+    let at-number-of = at-wide-index2 .before in
+    let at-if2 = at-number-of .before .before in
+    let at-wide-index = at-if2 .before in
+    let start = at-wide-index .before .before .before .before .before .before .before .before .before .before .before in
+    let own = number-there (start .pre .0) (at-if2 .if2 .left) (sym (at-wide-index .wide-index .ensures .0)) (at-number-of .number-of .ensures) in
+    let asked = body-asked (start .pre .0) own (at-wide-index2 .wide-index2 .ensures .0) (at-wide-index3 .wide-index3 .ensures .0) (at-kind2 .kind2 .ensures) (at-if4 .if4 .left) (c .first2 .ensures) in
+    (asked .0, (asked .1 .0, asked .1 .1, asked .1 .2, start .pre .1 .2))
 
 same-length-4 : tie.Need-same-length-4
 same-length-4 c = search needs
 
 same-length-5 : tie.Need-same-length-5
 same-length-5 c = search needs
+
+same-length-6 : tie.Need-same-length-6
+same-length-6 c = search needs
 
 returns-5 : tie.Need-returns-5
 returns-5 c = search needs
@@ -157,4 +160,5 @@ open-term-spec =
     trace-requires
     same-length-4
     same-length-5
+    same-length-6
     returns-5)

@@ -13,16 +13,16 @@ use Rattle.types.proofs.aliases.open_terms.Statement.{statement}
 use Rattle.types.proofs.aliases.open_terms.Tie as tie
 
 abbrev Inv-loop : tie.InvT-loop
-Inv-loop p types terms ws₀ keys index tried₀ t₀ ws tried t =
-    (t ≤ length terms) × ((length ws ≡ length ws₀) × (length tried ≡ maxTypes)) × Figured (map (typeAt p) types) ws (length types)
+Inv-loop p types terms ws₀ keys index tried₀ met₀ t₀ ws tried met t =
+    (t ≤ length terms) × ((length ws ≡ length ws₀) × (length tried ≡ maxTypes) × (length met ≡ maxTypes)) × Figured (map (typeAt p) types) ws (length types)
 
 abbrev μ-loop : tie.MeasureT-loop
-μ-loop p types terms ws₀ keys index tried₀ t₀ ws tried t = length terms - t
+μ-loop p types terms ws₀ keys index tried₀ met₀ t₀ ws tried met t = length terms - t
 
 loop-holds : tie.Need-loop-holds Inv-loop μ-loop
 loop-holds c =
     let start = c .before .before .before .before .before .before in
-    (omega arith, (refl, refl), start .pre .0 .figured)
+    (omega arith, (refl, refl, refl), start .pre .0 .figured)
 
 mul-wide-index : tie.Need-mul-wide-index Inv-loop μ-loop
 mul-wide-index c = search needs
@@ -38,13 +38,22 @@ slice-aggregate-open-term c =
     let at-loop = c .before .before .before .before .before in
     sym (at-loop .loop .inv .1 .1)
 
+slice-aggregate-open-term-2 : tie.Need-slice-aggregate-open-term-2 Inv-loop μ-loop
+slice-aggregate-open-term-2 c =
+    let at-loop = c .before .before .before .before .before .before in
+    sym (at-loop .loop .inv .1 .2)
+
 open-term-requires : tie.Need-open-term-requires Inv-loop μ-loop
 open-term-requires c κs =
-    let at-wide-index = c .before .before in
+    let at-wide-index = c .before .before .before in
     let at-loop = at-wide-index .before .before .before in
     let start = at-loop .before .before .before .before .before .before .before in (
       still (start .pre .0) (at-loop .loop .inv .2),
-      (subst (TermField _) (sym (at-wide-index .wide-index .ensures .0)) (start .pre .1 (at-loop .loop .t) (omega arith)), omega (arith, at-loop .loop .inv .1 .1)),
+      (
+        subst (TermField _) (sym (at-wide-index .wide-index .ensures .0)) (start .pre .1 (at-loop .loop .t) (omega arith)),
+        omega (arith, at-loop .loop .inv .1 .1),
+        omega (arith, at-loop .loop .inv .1 .2),
+      ),
     )
 
 add-t : tie.Need-add-t Inv-loop μ-loop
@@ -55,10 +64,14 @@ loop-less c = omega arith
 
 loop-again : tie.Need-loop-again Inv-loop μ-loop
 loop-again c =
-    let at-open-term = c .before .before .before in
-    let at-loop = at-open-term .before .before .before .before .before .before in (
+    let at-open-term = c .before .before .before .before in
+    let at-loop = at-open-term .before .before .before .before .before .before .before in (
       omega arith,
-      (at-open-term .open-term .kept .1 .1 .0 ∙ at-loop .loop .inv .1 .0, at-open-term .open-term .kept .1 .1 .1 .1 .1 .0 ∙ at-loop .loop .inv .1 .1),
+      (
+        at-open-term .open-term .kept .1 .1 .0 ∙ at-loop .loop .inv .1 .0,
+        at-open-term .open-term .kept .1 .1 .1 .1 .1 .0 ∙ at-loop .loop .inv .1 .1,
+        at-open-term .open-term .kept .1 .1 .1 .1 .1 .1 .0 ∙ at-loop .loop .inv .1 .2,
+      ),
       at-open-term .open-term .ensures,
     )
 
@@ -83,6 +96,7 @@ open-terms-spec =
     shared-slice-read-wide-index
     wide-index-requires
     slice-aggregate-open-term
+    slice-aggregate-open-term-2
     open-term-requires
     add-t
     loop-less
