@@ -119,7 +119,8 @@ trace-same-length-2 t c = search needs
 
 trace-returns-2 : (t : ℕ) → trace-lts.Need-returns-2 (trace-uses t) (trace-at t) trace.Post
 trace-returns-2 t c =
-    let start = c .before .before .before .before .before .before .before .before .before .before .before .before .before .before .before .before .before .before in
+    let on-the-way = c .before .before .before .before .before .before .before .before .before in
+    let start = on-the-way .before .before .before .before .before .before .before .before .before in
     start .pre .1 .0 .figured
 
 trace-entry-requires-3 : (t : ℕ) → trace-lts.Need-entry-requires-3 (trace-uses t) (trace-at t) trace.Post
@@ -130,7 +131,8 @@ trace-same-length-3 t c = search needs
 
 trace-returns-3 : (t : ℕ) → trace-lts.Need-returns-3 (trace-uses t) (trace-at t) trace.Post
 trace-returns-3 t c =
-    let start = c .before .before .before .before .before .before .before .before .before .before .before .before .before .before .before .before .before .before .before in
+    let on-the-way = c .before .before .before .before .before .before .before .before .before in
+    let start = on-the-way .before .before .before .before .before .before .before .before .before .before in
     start .pre .1 .0 .figured
 
 trace-wide-index-requires-3 : (t : ℕ) → trace-lts.Need-wide-index-requires-3 (trace-uses t) (trace-at t) trace.Post
@@ -149,7 +151,8 @@ trace-slice-read-if4 t c =
 
 trace-add-if4 : (t : ℕ) → trace-lts.Need-add-if4 (trace-uses t) (trace-at t) trace.Post
 trace-add-if4 t c =
-    let start = c .before .before .before .before .before .before .before .before .before .before .before .before .before .before .before .before .before .before .before .before in
+    let on-the-way = c .before .before .before .before .before .before .before .before .before .before in
+    let start = on-the-way .before .before .before .before .before .before .before .before .before .before in
     omega (arith, start .pre .1 .1 .1, start .pre .1 .0 .entries .few)
 
 trace-under-requires : (t : ℕ) → trace-lts.Need-under-requires (trace-uses t) (trace-at t) trace.Post
@@ -159,19 +162,22 @@ trace-settled-requires : (t : ℕ) → trace-lts.Need-settled-requires (trace-us
 trace-settled-requires t c κs =
     let at-number-of = c .before .before .before .before .before .before .before .before .before .before .before .before .before .before .before in
     let start = at-number-of .before .before .before .before .before .before .before .before in
-    part-asked (start .pre .1 .0) (own-there (start .pre .1 .0) (start .pre .1 .1 .0) (at-number-of .number-of .ensures) .0) (start .pre .1 .1 .1) (c .under .ensures)
+    part-asked (start .pre .1 .0) (own-there (start .pre .1 .0) (start .pre .1 .1 .0) (at-number-of .number-of .ensures) .0) (start .pre .1 .1 .1)
+    (c .under .ensures)
 
 trace-same-length-4 : (t : ℕ) → trace-lts.Need-same-length-4 (trace-uses t) (trace-at t) trace.Post
 trace-same-length-4 t c = search needs
 
 trace-returns-4 : (t : ℕ) → trace-lts.Need-returns-4 (trace-uses t) (trace-at t) trace.Post
 trace-returns-4 t c =
-    let start = c .before .before .before .before .before .before .before .before .before .before .before .before .before .before .before .before .before .before .before .before .before .before .before .before in
+    let on-the-way = c .before .before .before .before .before .before .before .before .before .before .before .before in
+    let start = on-the-way .before .before .before .before .before .before .before .before .before .before .before .before in
     start .pre .1 .0 .figured
 
 trace-add-met : (t : ℕ) → trace-lts.Need-add-met (trace-uses t) (trace-at t) trace.Post
 trace-add-met t c =
-    let start = c .before .before .before .before .before .before .before .before .before .before .before .before .before .before .before .before .before .before .before .before .before in
+    let on-the-way = c .before .before .before .before .before .before .before .before .before .before in
+    let start = on-the-way .before .before .before .before .before .before .before .before .before .before .before in
     omega (arith, start .pre .1 .1 .1, start .pre .1 .0 .entries .few)
 
 trace-wide-index-requires-4 : (t : ℕ) → trace-lts.Need-wide-index-requires-4 (trace-uses t) (trace-at t) trace.Post
@@ -200,7 +206,8 @@ trace-first-requires t c κs =
 
 trace-add-trace : (t : ℕ) → trace-lts.Need-add-trace (trace-uses t) (trace-at t) trace.Post
 trace-add-trace t c =
-    let start = c .before .before .before .before .before .before .before .before .before .before .before .before .before .before .before .before .before .before .before .before .before .before .before .before .before .before in
+    let on-the-way = c .before .before .before .before .before .before .before .before .before .before .before .before .before in
+    let start = on-the-way .before .before .before .before .before .before .before .before .before .before .before .before .before in
     omega (arith, start .pre .1 .1 .2)
 
 trace-trace-requires : (t : ℕ) → trace-lts.Need-trace-requires (trace-uses t) (trace-at t) trace.Post
@@ -244,7 +251,8 @@ trace-same-length-6 : (t : ℕ) → trace-lts.Need-same-length-6 (trace-uses t) 
 trace-same-length-6 t c =
     let at-trace = c .before .before .before .before .before .before .before .before .before in
     let at-wide-index4 = at-trace .before .before .before .before .before in
-    let start = at-wide-index4 .before .before .before .before .before .before .before .before .before .before .before .before .before .before .before .before .before .before .before .before .before .before in
+    let on-the-way = at-wide-index4 .before .before .before .before .before .before .before .before .before .before .before in
+    let start = on-the-way .before .before .before .before .before .before .before .before .before .before .before in
     at-trace .trace .kept .1 .1 .1 .1 .1 .0 ∙ length-set (start .args .met .now) (at-wide-index4 .wide-index4 .result) (start .args .j + 1)
 
 trace-returns-5 : (t : ℕ) → trace-lts.Need-returns-5 (trace-uses t) (trace-at t) trace.Post
@@ -325,7 +333,8 @@ trace-trace-requires-3 t c κs =
 trace-join-requires-2 : (t : ℕ) → trace-lts.Need-join-requires-2 (trace-uses t) (trace-at t) trace.Post
 trace-join-requires-2 t c κs =
     let at-trace3 = c .before .before .before .before .before in
-    let at-kind = at-trace3 .before .before .before .before .before .before .before .before .before .before .before .before .before .before .before .before .before .before .before in
+    let on-the-way = at-trace3 .before .before .before .before .before .before .before .before .before in
+    let at-kind = on-the-way .before .before .before .before .before .before .before .before .before .before in
     let at-wide-index2 = at-kind .before in
     let at-wide-index = at-wide-index2 .before .before in
     let at-number-of = at-wide-index .before .before .before .before .before in
@@ -347,7 +356,8 @@ trace-same-length-8 t c =
     let at-trace3 = c .before .before .before .before .before .before .before .before in
     let at-trace2 = at-trace3 .before .before .before .before .before .before .before .before in
     let at-wide-index4 = at-trace2 .before .before .before .before .before in
-    let start = at-wide-index4 .before .before .before .before .before .before .before .before .before .before .before .before .before .before .before .before .before .before .before .before .before .before in
+    let on-the-way = at-wide-index4 .before .before .before .before .before .before .before .before .before .before .before in
+    let start = on-the-way .before .before .before .before .before .before .before .before .before .before .before in
     at-trace3 .trace3 .kept .1 .1 .1 .1 .1 .0 ∙ at-trace2 .trace2 .kept .1 .1 .1 .1 .1 .0
     ∙ length-set (start .args .met .now) (at-wide-index4 .wide-index4 .result) (start .args .j + 1)
 

@@ -119,7 +119,8 @@ trace-requires c κs =
     let at-wide-index = at-if2 .before in
     let start = at-wide-index .before .before .before .before .before .before .before .before .before .before .before in
     let own = number-there (start .pre .0) (at-if2 .if2 .left) (sym (at-wide-index .wide-index .ensures .0)) (at-number-of .number-of .ensures) in
-    let asked = body-asked (start .pre .0) own (at-wide-index2 .wide-index2 .ensures .0) (at-wide-index3 .wide-index3 .ensures .0) (at-kind2 .kind2 .ensures) (at-if4 .if4 .left) (c .first2 .ensures) in
+    let asked = body-asked (start .pre .0) own (at-wide-index2 .wide-index2 .ensures .0) (at-wide-index3 .wide-index3 .ensures .0)
+    (at-kind2 .kind2 .ensures) (at-if4 .if4 .left) (c .first2 .ensures) in
     (asked .0, (asked .1 .0, asked .1 .1, asked .1 .2, start .pre .1 .2))
 
 same-length-4 : tie.Need-same-length-4
