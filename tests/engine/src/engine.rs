@@ -5,7 +5,10 @@ use second::calls::{Answer, Call, Direction, RunCall};
 use second::make::scripts::ScriptCall;
 use second::readers::{ReadCall, Reader};
 use second::refusal::{Number, Refusal};
+use second::rng::Rng;
 use second::script::Ended;
+use std::sync::atomic::{AtomicUsize, Ordering};
+use std::sync::OnceLock;
 
 /// The engine's answer, or what it broke: a byte of the workspace, the output or the journal that is not as section 4 has it.
 pub fn answer(call: &Call) -> Result<Answer, String> {
@@ -144,9 +147,36 @@ pub fn pattern(length: usize) -> Vec<u8> {
     bytes
 }
 
-/// Lends a workspace that starts with a pattern: it is zero after every call, unchanged after refusal 1.
+/// What a workspace may come with: by turns the pattern, and small numbers of two bytes, which could be the codes, entries and aliases that an
+/// earlier check left there (02, F-4).
+fn left_behind(length: usize) -> Vec<u8> {
+    const NUMBERS: usize = 40_009;
+    static CALLS: AtomicUsize = AtomicUsize::new(0);
+    static SMALL: OnceLock<Vec<u8>> = OnceLock::new();
+    let call = CALLS.fetch_add(1, Ordering::Relaxed);
+    if call % 2 == 0 {
+        return pattern(length);
+    }
+    let small = SMALL.get_or_init(|| {
+        let mut rng = Rng::new(1);
+        let mut low = || {
+            let most = *rng.pick(&[4, 16, 64, 256]);
+            rng.below(most) as u8
+        };
+        (0..NUMBERS).flat_map(|_| [0, low()]).collect()
+    });
+    let from = 2 * (call % NUMBERS);
+    let mut bytes = small[from..].to_vec();
+    while bytes.len() < length {
+        bytes.extend_from_slice(small);
+    }
+    bytes.truncate(length);
+    bytes
+}
+
+/// Lends a workspace that starts with such bytes: it is zero after every call, unchanged after refusal 1.
 fn with_workspace(room: usize, call: impl FnOnce(&mut [u8]) -> Told) -> Result<(Told, Option<Refusal>), String> {
-    let before = pattern(room);
+    let before = left_behind(room);
     let mut workspace = before.clone();
     let told = call(&mut workspace);
     let refused = refusal(told)?;

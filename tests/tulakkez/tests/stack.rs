@@ -1,4 +1,4 @@
-//! The stack that calls take: a megabyte is enough for each of them, on the program that takes most and on the highest run.
+//! The stack that calls take: what docs/USING.md says is enough for each of them, on the program that takes most and on the highest run.
 
 use tulakkez::build::build;
 use tulakkez::core::lay_out;
@@ -10,7 +10,8 @@ const DEEP: &str = "type Nat = Zero | Succ Nat\nfun f (x : 1 + Nat) : Nat = case
 /// A run of 1,023 terms one inside the other.
 const HIGH: &str = "type Nat = Zero | Succ Nat\nfun plus (k : Nat) (n : Nat) : Nat = case n of Zero => k | Succ m => Succ (plus k m)\n";
 
-const MEGABYTE: usize = 1 << 20;
+/// 1,088 KB.
+const STATED: usize = 1_088 << 10;
 
 fn bytes(text: &str) -> Vec<u8> {
     lay_out(&mut build(&Source::new("t", text)).expect("a program")).bytes
@@ -52,11 +53,11 @@ fn all_calls(program: &[u8], record: &[u8], ancillae: &[u8]) {
 }
 
 #[test]
-fn a_megabyte_of_stack_is_enough_for_every_call() {
+fn the_stack_that_is_stated_is_enough_for_every_call() {
     let deep = (bytes(DEEP), [&[2][..], &nat(501)].concat(), Vec::new());
     let high = (bytes(HIGH), nat(255), nat(0));
     for (program, record, ancillae) in [deep, high] {
-        let thread = std::thread::Builder::new().stack_size(MEGABYTE);
+        let thread = std::thread::Builder::new().stack_size(STATED);
         let calls = move || all_calls(&program, &record, &ancillae);
         thread.spawn(calls).expect("a thread").join().expect("all calls answered");
     }
