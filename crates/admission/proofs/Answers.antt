@@ -7,27 +7,27 @@ use mathlib.Core.Option.{Option, none, some}
 use mathlib.Core.List.{List, [], map}
 use lib.ListN.{length, get_or, length-map}
 use lib.Dec.{eqb}
-use package.Rattle.rules.specs.Limits.{maxFunctions}
+use package.Rattle.rules.specs.Limits.{max_functions}
 use package.Rattle.rules.specs.Val.{Val}
 use package.Rattle.rules.specs.Term.{Fun, nth}
 use package.Rattle.rules.proofs.Basics.{eqb_yes}
 use package.Rattle.calls.specs.Answer.{Answer, accepted, refused, ◌>>=◌, require, present}
-use package.Rattle.calls.specs.Entries.{type_of, termAt, FunctionEntry, functionAt, functionOf}
+use package.Rattle.calls.specs.Entries.{type_of, term_at, FunctionEntry, function_at, function_of}
 use package.Rattle.calls.specs.Values.{value, ancillae, has_ty, has_tys}
 use package.Rattle.calls.specs.Runs.{Given, admit}
-use package.Rattle.calls.proofs.Answer.{via, present-some, require-yes}
+use package.Rattle.calls.proofs.Answer.{via, present_some, require_yes}
 use package.Rattle.answers.specs.declared.Refusal.TheVariants.{Function, Values, ValueType}
 use package.Rattle.answers.specs.Answers.{accepts}
-use package.Rattle.answers.proofs.Answers.{refused-later}
-use package.Rattle.valuebytes.specs.Typing.{entriesOf}
-use package.Rattle.valuebytes.specs.Ends.{valueIn, valuesIn}
+use package.Rattle.answers.proofs.Answers.{refused_later}
+use package.Rattle.valuebytes.specs.Typing.{entries_of}
+use package.Rattle.valuebytes.specs.Ends.{value_in, values_in}
 use package.Rattle.admission.specs.declared.Admitted.TheVariants as admitted
-use package.Rattle.admission.specs.Given.{givenIn}
-use package.Rattle.admission.specs.Admitting.{Callable, Admittable, inNumber, rightIn, sideNumber, side_of, allTyped, AdmitMeans}
+use package.Rattle.admission.specs.Given.{given_in}
+use package.Rattle.admission.specs.Admitting.{Callable, Admittable, in_number, right_in, side_number, side_of, all_typed, AdmitMeans}
 use package.Rattle.admission.proofs.Right.{right-values}
-use package.Rattle.program.proofs.Programs.{function-there, function-none}
+use package.Rattle.program.proofs.Programs.{function-there, function_none}
 use package.Rattle.program.specs.Signatures.{SignatureIs}
-use package.Rattle.program.specs.Programs.{programIn, functionIn}
+use package.Rattle.program.specs.Programs.{program_in, function_in}
 
 ----------------------------------------------------------------
 -- Tests that fail
@@ -45,9 +45,9 @@ module _ {A : Type 0} where
 -- All of 10
 
 -- values that are not right: malformed, over the limit, or wrong in number
-wrong : (h : Fun) (as? : Option (List Val)) (v? : Option Val) (k : List Val → Val → Unit {0} → Answer Given) → inNumber as? v? (length h.ancillae) ≡ false
+wrong : (h : Fun) (as? : Option (List Val)) (v? : Option Val) (k : List Val → Val → Unit {0} → Answer Given) → in_number as? v? (length h.ancillae) ≡ false
     → (present as? 10 >>= λ vs. present v? 10 >>= λ v. require (eqb (length vs) (length h.ancillae)) 10 0 >>= k vs v) ≡ refused 10 0
-unfolding inNumber ◌>>=◌ present
+unfolding in_number ◌>>=◌ present
 wrong h none v? k e = refl
 wrong h (some vs) none k e = refl
 wrong h (some vs) (some v) k e = untrue 10 (k vs v) e
@@ -56,74 +56,74 @@ module _ (xs types functions : List ℕ) (g : ℕ) (anc bytes : List ℕ) (back 
   pub no-function : length functions ≤ g → AdmitMeans (admitted.Refused Function) xs types functions g anc bytes back
   unfolding admit
   no-function l = record {
-    answer = λ terms. sym (absent 9 _ (function-none xs functions g types terms l));
-    later = λ terms. refused-later Function (omega arith);
+    answer = λ terms. sym (absent 9 _ (function_none xs functions g types terms l));
+    later = λ terms. refused_later Function (omega arith);
   }
 
   -- the function is there, its field at `at`
   module _ (l : g < length functions) {at : ℕ} (q : at ≡ get_or functions g 0) where
     abbrev h : FunctionEntry
-    h = functionAt xs at
+    h = function_at xs at
 
-    function-is : (terms : List ℕ) → functionIn xs types terms (get_or functions g 0) ≡ functionOf (entriesOf xs types) (map (termAt xs) terms) h
-    function-is terms = ap (λ at. functionOf (entriesOf xs types) (map (termAt xs) terms) (functionAt xs at)) (sym q)
+    function_is : (terms : List ℕ) → function_in xs types terms (get_or functions g 0) ≡ function_of (entries_of xs types) (map (term_at xs) terms) h
+    function_is terms = ap (λ at. function_of (entries_of xs types) (map (term_at xs) terms) (function_at xs at)) (sym q)
 
-    there : (terms : List ℕ) → nth (programIn xs types terms functions) g ≡ some (functionIn xs types terms (get_or functions g 0))
+    there : (terms : List ℕ) → nth (program_in xs types terms functions) g ≡ some (function_in xs types terms (get_or functions g 0))
     there terms = function-there xs functions g types terms l
 
     -- as many ancillae as the tree of the function has
-    count_same : (terms : List ℕ) → length h.ancillae ≡ length (functionIn xs types terms (get_or functions g 0)).ancillae
-    unfolding functionOf
-    count_same terms = sym (ap (λ h. length h.ancillae) (function-is terms) ∙ length-map h.ancillae (type_of (entriesOf xs types)))
+    count_same : (terms : List ℕ) → length h.ancillae ≡ length (function_in xs types terms (get_or functions g 0)).ancillae
+    unfolding function_of
+    count_same terms = sym (ap (λ h. length h.ancillae) (function_is terms) ∙ length-map h.ancillae (type_of (entries_of xs types)))
 
-    pub bad-values : {b : Bool} → b ≡ rightIn anc bytes h → b ≡ false → AdmitMeans (admitted.Refused Values) xs types functions g anc bytes back
+    pub bad-values : {b : Bool} → b ≡ right_in anc bytes h → b ≡ false → AdmitMeans (admitted.Refused Values) xs types functions g anc bytes back
     unfolding admit
     bad-values e f = record {
-      answer = λ terms. sym (via _ (present-some 9 (there terms)) (wrong (functionIn xs types terms (get_or functions g 0)) (ancillae anc) (value bytes) _
-          (ap (inNumber (ancillae anc) (value bytes)) (sym (count_same terms)) ∙ sym e ∙ f)));
-      later = λ terms. refused-later Values (omega arith);
+      answer = λ terms. sym (via _ (present_some 9 (there terms)) (wrong (function_in xs types terms (get_or functions g 0)) (ancillae anc) (value bytes) _
+          (ap (in_number (ancillae anc) (value bytes)) (sym (count_same terms)) ∙ sym e ∙ f)));
+      later = λ terms. refused_later Values (omega arith);
     }
 
-    module _ (right : rightIn anc bytes h ≡ true) where
+    module _ (right : right_in anc bytes h ≡ true) where
       -- what is left to test
       abbrev last : (terms : List ℕ) → Answer Given
-      last terms = require (has_tys (valuesIn anc) (functionIn xs types terms (get_or functions g 0)).ancillae && has_ty (valueIn bytes)
-          (side_of back (functionIn xs types terms (get_or functions g 0)))) 11 0
-          >>= λ typed. accepted (givenIn xs types terms functions g anc bytes)
+      last terms = require (has_tys (values_in anc) (function_in xs types terms (get_or functions g 0)).ancillae && has_ty (value_in bytes)
+          (side_of back (function_in xs types terms (get_or functions g 0)))) 11 0
+          >>= λ typed. accepted (given_in xs types terms functions g anc bytes)
 
-      reached : (terms : List ℕ) → admit (programIn xs types terms functions) g (ancillae anc) (value bytes) (side_of back) ≡ last terms
+      reached : (terms : List ℕ) → admit (program_in xs types terms functions) g (ancillae anc) (value bytes) (side_of back) ≡ last terms
       unfolding admit
       reached terms =
-          via _ (present-some 9 (there terms))
-          (via _ (present-some 10 (right-values anc bytes xs at right).ancillae-read)
-          (via _ (present-some 10 (right-values anc bytes xs at right).value_read)
-          (via _ (require-yes 10 0 (ap (eqb (length (valuesIn anc))) (sym ((right-values anc bytes xs at right).number ∙ count_same terms))
-          ∙ eqb_yes (length (valuesIn anc)))) refl)))
+          via _ (present_some 9 (there terms))
+          (via _ (present_some 10 (right-values anc bytes xs at right).ancillae_read)
+          (via _ (present_some 10 (right-values anc bytes xs at right).value_read)
+          (via _ (require_yes 10 0 (ap (eqb (length (values_in anc))) (sym ((right-values anc bytes xs at right).number ∙ count_same terms))
+          ∙ eqb_yes (length (values_in anc)))) refl)))
 
-      side_same : (back : Bool) (terms : List ℕ) → side_of back (functionOf (entriesOf xs types) (map (termAt xs) terms) h) ≡ type_of (entriesOf xs types)
-          (sideNumber back h)
-      unfolding functionOf sideNumber
+      side_same : (back : Bool) (terms : List ℕ) → side_of back (function_of (entries_of xs types) (map (term_at xs) terms) h) ≡ type_of (entries_of xs types)
+          (side_number back h)
+      unfolding function_of side_number
       side_same true terms = refl
       side_same false terms = refl
 
-      typed-same : (terms : List ℕ) → (has_tys (valuesIn anc) (functionIn xs types terms (get_or functions g 0)).ancillae && has_ty (valueIn bytes)
-          (side_of back (functionIn xs types terms (get_or functions g 0))))
-          ≡ allTyped (entriesOf xs types) h back anc bytes
-      unfolding functionOf
+      typed-same : (terms : List ℕ) → (has_tys (values_in anc) (function_in xs types terms (get_or functions g 0)).ancillae && has_ty (value_in bytes)
+          (side_of back (function_in xs types terms (get_or functions g 0))))
+          ≡ all_typed (entries_of xs types) h back anc bytes
+      unfolding function_of
       typed-same terms =
-          ap (λ h. has_tys (valuesIn anc) h.ancillae && has_ty (valueIn bytes) (side_of back h)) (function-is terms)
-          ∙ ap (λ c. has_tys (valuesIn anc) (map (type_of (entriesOf xs types)) h.ancillae) && has_ty (valueIn bytes) c) (side_same back terms)
+          ap (λ h. has_tys (values_in anc) h.ancillae && has_ty (value_in bytes) (side_of back h)) (function_is terms)
+          ∙ ap (λ c. has_tys (values_in anc) (map (type_of (entries_of xs types)) h.ancillae) && has_ty (value_in bytes) c) (side_same back terms)
 
-      module _ {b : Bool} (e : b ≡ allTyped (entriesOf xs types) h back anc bytes) where
+      module _ {b : Bool} (e : b ≡ all_typed (entries_of xs types) h back anc bytes) where
         pub wrong_type : b ≡ false → AdmitMeans (admitted.Refused ValueType) xs types functions g anc bytes back
         wrong_type f = record {
           answer = λ terms. sym (reached terms ∙ untrue 11 _ (typed-same terms ∙ sym e ∙ f));
-          later = λ terms. refused-later ValueType (omega arith);
+          later = λ terms. refused_later ValueType (omega arith);
         }
 
-        pub all-given : b ≡ true → AdmitMeans admitted.Given xs types functions g anc bytes back
-        all-given y = record {
-          answer = λ terms. sym (reached terms ∙ via _ (require-yes 11 0 (typed-same terms ∙ sym e ∙ y)) refl);
+        pub all_given : b ≡ true → AdmitMeans admitted.Given xs types functions g anc bytes back
+        all_given y = record {
+          answer = λ terms. sym (reached terms ∙ via _ (require_yes 11 0 (typed-same terms ∙ sym e ∙ y)) refl);
           later = λ terms. accepts;
         }
 
@@ -141,9 +141,9 @@ module _ {xs types functions : List ℕ} {table : List (List ℕ)} (A : Admittab
   callable-at = subst (Callable xs types) (sym q) (A.function g l)
 
   -- its row of the table of signatures, by the number as widened
-  pub row-there : {i : ℕ} → i ≡ g → i < maxFunctions
+  pub row-there : {i : ℕ} → i ≡ g → i < max_functions
   row-there e = omega (arith, l, A.few)
 
-  pub row_at : {i : ℕ} → i ≡ g → SignatureIs (functionAt xs at) (get_or table i [])
-  row_at e = subst (λ i. SignatureIs (functionAt xs at) (get_or table i [])) (sym e)
-      (subst (λ at. SignatureIs (functionAt xs at) (get_or table g [])) (sym q) (A.signed.rows g l))
+  pub row_at : {i : ℕ} → i ≡ g → SignatureIs (function_at xs at) (get_or table i [])
+  row_at e = subst (λ i. SignatureIs (function_at xs at) (get_or table i [])) (sym e)
+      (subst (λ at. SignatureIs (function_at xs at) (get_or table g [])) (sym q) (A.signed.rows g l))

@@ -1,13 +1,13 @@
 // What a call gives a run, admitted or refused (document 01, section 4, row Call): 9 no such function; then all of 10, value bytes
 // malformed, over the limit or wrong in number; then all of 11, a value not of its type. For programs that are loaded.
 ghost use Rattle.std.specs.Prelude.{◌≡◌, true, map, ◌<◌, length, get_or};
-ghost use Rattle.calls.specs.Entries.{type_of, functionAt};
+ghost use Rattle.calls.specs.Entries.{type_of, function_at};
 ghost use Rattle.calls.specs.Values.{has_tys};
 ghost use Rattle.program.specs.Parts.{FunctionField};
 ghost use Rattle.program.specs.Signatures.{SignatureIs};
-ghost use Rattle.valuebytes.specs.Typing.{entriesOf, TypesRead};
-ghost use Rattle.valuebytes.specs.Ends.{valuesIn};
-ghost use Rattle.admission.specs.Admitting.{Callable, Admittable, rightIn, AsMany, sideNumber, allTyped, AdmitMeans};
+ghost use Rattle.valuebytes.specs.Typing.{entries_of, TypesRead};
+ghost use Rattle.valuebytes.specs.Ends.{values_in};
+ghost use Rattle.admission.specs.Admitting.{Callable, Admittable, right_in, AsMany, side_number, all_typed, AdmitMeans};
 
 use answers::Refusal;
 use program::views;
@@ -24,7 +24,7 @@ pub enum Admitted {
 // All of 10: ancillae and value are values within the limits, and there are as many ancillae as the function whose field is at `at` has.
 fn values_right(p: &[u8], at: usize, ancillae: &[u8], value: &[u8]) -> bool
     requires { FunctionField p.now at }
-    ensures { result ≡ rightIn ancillae.now value.now (functionAt p.now at) }
+    ensures { result ≡ right_in ancillae.now value.now (function_at p.now at) }
 {
     let counted = scan::count_values(ancillae);
     let scan::Counted::Values(n) = counted else {
@@ -49,8 +49,8 @@ fn ancillae_typed(
     requires types_read { TypesRead p.now types.now }
     requires callable { Callable p.now types.now at }
     requires as_many { AsMany p.now at bytes.now }
-    requires signature_is { SignatureIs (functionAt p.now at) row }
-    ensures { result ≡ has_tys (valuesIn bytes.now) (map (type_of (entriesOf p.now types.now)) (functionAt p.now at).ancillae) }
+    requires signature_is { SignatureIs (function_at p.now at) row }
+    ensures { result ≡ has_tys (values_in bytes.now) (map (type_of (entries_of p.now types.now)) (function_at p.now at).ancillae) }
 {
     let mut k = 0;
     let mut next = 0;
@@ -68,8 +68,8 @@ fn ancillae_typed(
 // The type that the value is held to: a forward run's the dynamic parameter's, which is the last of the row, a backward run's the result's.
 fn side(p: &[u8], at: usize, row: [u16; MAX_PARAMETERS], back: bool) -> u16
     requires function_field { FunctionField p.now at }
-    requires signature_is { SignatureIs (functionAt p.now at) row }
-    ensures { result ≡ sideNumber back (functionAt p.now at) }
+    requires signature_is { SignatureIs (function_at p.now at) row }
+    ensures { result ≡ side_number back (function_at p.now at) }
 {
     if back {
         return views::function_result(p, at);
@@ -90,9 +90,9 @@ fn values_typed(
 ) -> bool
     requires types_read { TypesRead p.now types.now }
     requires callable { Callable p.now types.now at }
-    requires at_value { rightIn ancillae.now value.now (functionAt p.now at) ≡ true }
-    requires signature_is { SignatureIs (functionAt p.now at) row }
-    ensures { result ≡ allTyped (entriesOf p.now types.now) (functionAt p.now at) back ancillae.now value.now }
+    requires at_value { right_in ancillae.now value.now (function_at p.now at) ≡ true }
+    requires signature_is { SignatureIs (function_at p.now at) row }
+    ensures { result ≡ all_typed (entries_of p.now types.now) (function_at p.now at) back ancillae.now value.now }
 {
     let ok = ancillae_typed(p, types, at, row, ancillae);
     if ok {

@@ -19,53 +19,53 @@ use package.Rattle.answers.specs.declared.WriteAnswer.TheVariants as writes
 
 -- the number of a refusal by section 4's table, and its place: for 2 to 8 the offset of the field's first byte, for 12 to 16 the term entry,
 -- otherwise 0
-abbrev pub numberAndPlace : Refusal → ℕ × ℕ
-numberAndPlace Workspace = (1, 0)
-numberAndPlace (Field at) = (2, at)
-numberAndPlace (Limit at) = (3, at)
-numberAndPlace (Reference at) = (4, at)
-numberAndPlace (NamedType at) = (5, at)
-numberAndPlace (Mismatch at) = (6, at)
-numberAndPlace (Scope at) = (7, at)
-numberAndPlace (Usage at) = (8, at)
-numberAndPlace Function = (9, 0)
-numberAndPlace Values = (10, 0)
-numberAndPlace ValueType = (11, 0)
-numberAndPlace (Fuel k) = (12, k)
-numberAndPlace (Height k) = (13, k)
-numberAndPlace (Long k) = (14, k)
-numberAndPlace (FirstMatch k) = (15, k)
-numberAndPlace (NoInput k) = (16, k)
-numberAndPlace Output = (17, 0)
-numberAndPlace Journal = (18, 0)
-numberAndPlace Standing = (19, 0)
-numberAndPlace Full = (20, 0)
+abbrev pub number_and_place : Refusal → ℕ × ℕ
+number_and_place Workspace = (1, 0)
+number_and_place (Field at) = (2, at)
+number_and_place (Limit at) = (3, at)
+number_and_place (Reference at) = (4, at)
+number_and_place (NamedType at) = (5, at)
+number_and_place (Mismatch at) = (6, at)
+number_and_place (Scope at) = (7, at)
+number_and_place (Usage at) = (8, at)
+number_and_place Function = (9, 0)
+number_and_place Values = (10, 0)
+number_and_place ValueType = (11, 0)
+number_and_place (Fuel k) = (12, k)
+number_and_place (Height k) = (13, k)
+number_and_place (Long k) = (14, k)
+number_and_place (FirstMatch k) = (15, k)
+number_and_place (NoInput k) = (16, k)
+number_and_place Output = (17, 0)
+number_and_place Journal = (18, 0)
+number_and_place Standing = (19, 0)
+number_and_place Full = (20, 0)
 
 abbrev pub number_of : Refusal → ℕ
-number_of r = (numberAndPlace r).0
+number_of r = (number_and_place r).0
 
 abbrev pub place_of : Refusal → ℕ
-place_of r = (numberAndPlace r).1
+place_of r = (number_and_place r).1
 
 -- check answers only that it accepts, or a refusal (section 4)
-abbrev pub checkAnswer : CheckAnswer → Answer (Unit {0})
-checkAnswer checks.Accepted = accepted tt
-checkAnswer (checks.Refused r) = refused (number_of r) (place_of r)
+abbrev pub check_answer : CheckAnswer → Answer (Unit {0})
+check_answer checks.Accepted = accepted tt
+check_answer (checks.Refused r) = refused (number_of r) (place_of r)
 
 -- a run, and convert and rollback, answer a value's length and the steps, or a refusal (section 4)
-abbrev pub runAnswer : RunAnswer → Answer (ℕ × ℕ)
-runAnswer (runs.Ran d) = accepted (d.len, d.steps)
-runAnswer (runs.Refused r) = refused (number_of r) (place_of r)
+abbrev pub run_answer : RunAnswer → Answer (ℕ × ℕ)
+run_answer (runs.Ran d) = accepted (d.len, d.steps)
+run_answer (runs.Refused r) = refused (number_of r) (place_of r)
 
 -- the nurse's reader answers the held value's length and how many conversions stand, or a refusal (02, F-1)
-abbrev pub nurseAnswer : NurseAnswer → Answer (ℕ × ℕ)
-nurseAnswer (nurses.Shows s) = accepted (s.len, s.standing)
-nurseAnswer (nurses.Refused r) = refused (number_of r) (place_of r)
+abbrev pub nurse_answer : NurseAnswer → Answer (ℕ × ℕ)
+nurse_answer (nurses.Shows s) = accepted (s.len, s.standing)
+nurse_answer (nurses.Refused r) = refused (number_of r) (place_of r)
 
 -- a call that writes bytes into its output answers their length, or a refusal
-abbrev pub writeAnswer : WriteAnswer → Answer ℕ
-writeAnswer (writes.Wrote n) = accepted n
-writeAnswer (writes.Refused r) = refused (number_of r) (place_of r)
+abbrev pub write_answer : WriteAnswer → Answer ℕ
+write_answer (writes.Wrote n) = accepted n
+write_answer (writes.Refused r) = refused (number_of r) (place_of r)
 
 -- what is answered of an outcome; a refusal stands
 abbrev pub answering : {A B : Type 0} → (A → B) → Answer A → Answer B
@@ -77,20 +77,20 @@ abbrev pub summary : Answer Ran → Answer (ℕ × ℕ)
 summary = answering λ r. (size r.value, r.steps)
 
 -- of open only that it accepts
-abbrev pub openAnswer : Answer (List ℕ) → Answer (Unit {0})
-openAnswer = answering λ journal. tt
+abbrev pub open_answer : Answer (List ℕ) → Answer (Unit {0})
+open_answer = answering λ journal. tt
 
 -- of convert and rollback the held value's length and the steps
-abbrev pub heldAnswer : Answer Turned → Answer (ℕ × ℕ)
-heldAnswer = answering λ t. (t.held, t.steps)
+abbrev pub held_answer : Answer Turned → Answer (ℕ × ℕ)
+held_answer = answering λ t. (t.held, t.steps)
 
 -- of what the nurse is told the held value's length, since the value itself fills the output, and the count
-abbrev pub seenAnswer : Answer Seen → Answer (ℕ × ℕ)
-seenAnswer = answering λ s. (size s.held, s.standing)
+abbrev pub seen_answer : Answer Seen → Answer (ℕ × ℕ)
+seen_answer = answering λ s. (size s.held, s.standing)
 
 -- of bytes their length
-abbrev pub lengthAnswer : Answer (List ℕ) → Answer ℕ
-lengthAnswer = answering length
+abbrev pub length_answer : Answer (List ℕ) → Answer ℕ
+length_answer = answering length
 
 -- Answered in a workspace that is long enough: whatever is refused, not with 1. Such a call clears its workspace (section 4).
 pub data Later {A : Type 0} : Answer A → Type 0 where

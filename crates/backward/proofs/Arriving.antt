@@ -9,30 +9,30 @@ use lib.ListN.{length, get_or, set, length-set}
 use lib.Seq.{get_or-set_other}
 use lib.Dec.{eqb}
 use borrow.Author.Tests.{eq-eqb, eqb-true, eqb-false}
-use package.Rattle.rules.specs.Limits.{maxVariables}
-use package.Rattle.program.specs.Kinds.{variableKind, unit_kind}
+use package.Rattle.rules.specs.Limits.{max_variables}
+use package.Rattle.program.specs.Kinds.{variable_kind, unit_kind}
 use package.Rattle.rules.specs.Val.{Val, same}
 use package.Rattle.rules.specs.Run.{give}
-use package.Rattle.rules.specs.Machine.{meet, onUnit}
-use package.Rattle.decoded.specs.Rows.{firstIn, kindIn}
+use package.Rattle.rules.specs.Machine.{meet, on_unit}
+use package.Rattle.decoded.specs.Rows.{first_in, kind_in}
 use package.Rattle.decoded.proofs.Trees.{NoKind, none_left}
 use package.Rattle.valuegraph.specs.Nodes.{Made, value_at, kind_at as nodeKind}
-use package.Rattle.scopes.specs.Slots.{unknown, found, Slot, Machine, Scope, machine_of, slots_of, scopeIn, Moved}
+use package.Rattle.scopes.specs.Slots.{unknown, found, Slot, Machine, Scope, machine_of, slots_of, scope_in, Moved}
 use package.Rattle.scopes.specs.Cells.{Linked}
 use package.Rattle.scopes.specs.declared.slots.Found.TheVariants.{Node}
-use package.Rattle.scopes.specs.Bindings.{slotsFrom, state_of, said, seen, Meets, Meetable}
+use package.Rattle.scopes.specs.Bindings.{slots_from, state_of, said, seen, Meets, Meetable}
 use package.Rattle.scopes.specs.declared.bindings.Bindings.{Bindings}
-use package.Rattle.scopes.proofs.Views.{view-at, binds-view, compares-view, tells-later, tells-bound, said-told, told-seen, by-slot}
-use package.Rattle.forward.specs.Outcomes.{refusalIn}
-use package.Rattle.backward.specs.Ready.{Prepared, Gone, GoneFrom, Variable, UnitMet, Stays, run_at, stepAt, PreparedIn, StepsBack}
-use package.Rattle.backward.specs.Outcomes.{Refused, carried, outcomeOf, scopeView, statusOf, tooLong}
+use package.Rattle.scopes.proofs.Views.{view_at, binds_view, compares_view, tells_later, tells-bound, said-told, told-seen, by_slot}
+use package.Rattle.forward.specs.Outcomes.{refusal_in}
+use package.Rattle.backward.specs.Ready.{Prepared, Gone, GoneFrom, Variable, UnitMet, Stays, run_at, step_at, PreparedIn, StepsBack}
+use package.Rattle.backward.specs.Outcomes.{Refused, carried, outcome_of, scope_view, status_of, too_long}
 use package.Rattle.backward.proofs.Runs.{small_top}
-use package.Rattle.backward.proofs.Stops.{is-done, number-height, number-fuel}
-use package.Rattle.backward.proofs.Frames.{older-later, few-ancillae, gone-refused}
+use package.Rattle.backward.proofs.Stops.{is_done, number-height, number-fuel}
+use package.Rattle.backward.proofs.Frames.{older_later, few-ancillae, gone-refused}
 use package.Rattle.backward.proofs.Leaves.{variable-met, variable-differs, variable-bound, unit-met, unit-stuck}
 use package.Rattle.backward.proofs.Parts.{scoped-var}
-use package.Rattle.backward.proofs.Entering.{term-ready, term-done, over-ready, over_done, over-long, term-high, term-spent}
-use package.Rattle.backward.proofs.Steps.{var-done, var-bound, unit-done}
+use package.Rattle.backward.proofs.Entering.{term-ready, term_done, over-ready, over_done, over-long, term_high, term-spent}
+use package.Rattle.backward.proofs.Steps.{var_done, var-bound, unit_done}
 use Rattle.backward.specs.declared.outcomes.Out.{Out}
 use Rattle.backward.specs.declared.outcomes.Refusal.TheVariants.{NoInput}
 
@@ -41,14 +41,14 @@ use Rattle.backward.specs.declared.outcomes.Refusal.TheVariants.{NoInput}
 
 module _ {code heap slots : List ℕ} {m : Machine} {b : Bindings} {sc : Scope} {t room : ℕ} (P : Prepared 0 0 code heap slots m b sc sc.n t room)
     {node : ℕ} (low : node < m.top) where
-  pub fuel-gone : {r : Out} → statusOf r.stop ≡ Refused (carried (refusalIn 12 t)) → m.fuel ≡ 0
+  pub fuel-gone : {r : Out} → status_of r.stop ≡ Refused (carried (refusal_in 12 t)) → m.fuel ≡ 0
       → Gone 0 heap heap slots slots m m sc r (run_at code heap slots m sc t (value_at heap node) room)
   fuel-gone e z = gone-refused e (term-spent P.ready low _ (e ∙ ap Refused (number-fuel t)) refl z)
 
   module _ (some-fuel : ¬ (m.fuel ≡ 0)) where
-    pub height-gone : {r : Out} → statusOf r.stop ≡ Refused (carried (refusalIn 13 t)) → room ≡ 0
+    pub height-gone : {r : Out} → status_of r.stop ≡ Refused (carried (refusal_in 13 t)) → room ≡ 0
         → Gone 0 heap heap slots slots m m sc r (run_at code heap slots m sc t (value_at heap node) room)
-    height-gone e z = gone-refused e (term-high P.ready low some-fuel _ (e ∙ ap Refused (number-height t)) refl z)
+    height-gone e z = gone-refused e (term_high P.ready low some-fuel _ (e ∙ ap Refused (number-height t)) refl z)
 
     module _ (some-room : ¬ (room ≡ 0)) {slots₁ : List ℕ} (es : slots₁ ≡ slots) {m₁ : Machine} (em : m₁ ≡ record { top = m.top; fuel = m.fuel - 1 }) where
       pub taken-prepared : Prepared 2 1 code heap slots₁ m₁ b sc sc.n t room
@@ -60,15 +60,15 @@ module _ {code heap slots : List ℕ} {m : Machine} {b : Bindings} {sc : Scope} 
       pub taken-fuel : m₁.fuel + 1 ≡ m.fuel
       taken-fuel = rw em (omega (arith, pos_of_ne-zero some-fuel))
 
-      pub taken-done : {heap' slots' : List ℕ} {m' : Machine} {r : Out}
-          → Gone 2 heap heap' slots₁ slots' m₁ m' sc r (stepAt code heap slots₁ m₁ sc t (value_at heap node) room)
+      pub taken_done : {heap' slots' : List ℕ} {m' : Machine} {r : Out}
+          → Gone 2 heap heap' slots₁ slots' m₁ m' sc r (step_at code heap slots₁ m₁ sc t (value_at heap node) room)
           → Gone 0 heap heap' slots slots' m m' sc r (run_at code heap slots m sc t (value_at heap node) room)
-      taken-done {heap'} {slots'} {m'} {r} G = from (rw (es, em) at G)
+      taken_done {heap'} {slots'} {m'} {r} G = from (rw (es, em) at G)
         where
           from : Gone 2 heap heap' slots slots' (record { top = m.top; fuel = m.fuel - 1 }) m' sc r
-              (stepAt code heap slots (record { top = m.top; fuel = m.fuel - 1 }) sc t (value_at heap node) room)
+              (step_at code heap slots (record { top = m.top; fuel = m.fuel - 1 }) sc t (value_at heap node) room)
               → Gone 0 heap heap' slots slots' m m' sc r (run_at code heap slots m sc t (value_at heap node) room)
-          from G = record { ran = term-done P.ready low some-fuel some-room G.ran; below = G.below; tells = G.tells }
+          from G = record { ran = term_done P.ready low some-fuel some-room G.ran; below = G.below; tells = G.tells }
 
 ----------------------------------------------------------------
 -- A node is made
@@ -83,25 +83,25 @@ module _ {code heap slots : List ℕ} {m : Machine} {b : Bindings} {sc : Scope} 
     pub made-prepared : Prepared 0 0 code heap₁ slots₁ m₁ b sc sc.n t room
     made-prepared = rw (es, em) (record {
       ready = over-ready P.ready M e;
-      tells = tells-later slots (m.top + 1) P.tells (M.new e).agree (omega arith) (λ i l. refl);
-      older = older-later (m.top + 1) P.older (λ j l. refl) (M.new e).agree (omega arith);
+      tells = tells_later slots (m.top + 1) P.tells (M.new e).agree (omega arith) (λ i l. refl);
+      older = older_later (m.top + 1) P.older (λ j l. refl) (M.new e).agree (omega arith);
       space = P.space;
     })
 
     pub made-node : top < m₁.top
     made-node = rw (qt, em) (omega arith)
 
-    pub made-done : {heap₂ slots₂ : List ℕ} {m' : Machine} {r : Out}
+    pub made_done : {heap₂ slots₂ : List ℕ} {m' : Machine} {r : Out}
         → Gone 0 heap₁ heap₂ slots₁ slots₂ m₁ m' sc r (run_at code heap₁ slots₁ m₁ sc t (value_at heap₁ top) room)
         → Gone 1 heap heap₂ slots slots₂ m m' sc r (run_at code heap slots m sc t v room)
-    made-done {heap₂} {slots₂} {m'} {r} G = from (rw (es, em, qt) at G)
+    made_done {heap₂} {slots₂} {m'} {r} G = from (rw (es, em, qt) at G)
       where
         from : Gone 0 heap₁ heap₂ slots slots₂ (record { top = m.top + 1; fuel = m.fuel }) m' sc r
             (run_at code heap₁ slots (record { top = m.top + 1; fuel = m.fuel }) sc t (value_at heap₁ m.top) room)
             → Gone 1 heap heap₂ slots slots₂ m m' sc r (run_at code heap slots m sc t v room)
         from G = record { ran = over_done P.ready M e G.ran; below = G.below; tells = G.tells }
 
-  pub made-long : made ≡ false → {fuel : ℕ} → fuel ≡ m.fuel → {r : Out} → statusOf r.stop ≡ Refused (tooLong fuel room t)
+  pub made-long : made ≡ false → {fuel : ℕ} → fuel ≡ m.fuel → {r : Out} → status_of r.stop ≡ Refused (too_long fuel room t)
       → Gone 1 heap heap₁ slots slots m m sc r (run_at code heap slots m sc t v room)
   made-long e q s = gone-refused s (over-long P.ready M e _ (rw q at s) refl)
 
@@ -110,20 +110,20 @@ module _ {code heap slots : List ℕ} {m : Machine} {b : Bindings} {sc : Scope} 
 
 module _ {code heap slots : List ℕ} {m : Machine} {b : Bindings} {sc : Scope} {t room : ℕ}
     (P : Prepared 2 1 code heap slots m b sc sc.n t room) {node : ℕ} (low : node < m.top) where
-  module _ (kind : kindIn code t ≡ variableKind) where
-    in_scope : firstIn code t < sc.n
+  module _ (kind : kind_in code t ≡ variable_kind) where
+    in_scope : first_in code t < sc.n
     in_scope = scoped-var P.ready kind
 
-    few : sc.n ≤ maxVariables
+    few : sc.n ≤ max_variables
     few = P.ready.binds.bound.few
 
-    here : get_or (slotsFrom slots sc.base maxVariables) (firstIn code t) 0 ≡ get_or slots (sc.base + firstIn code t) 0
-    here = view-at slots sc.base (firstIn code t) (omega (arith, in_scope, few))
+    here : get_or (slots_from slots sc.base max_variables) (first_in code t) 0 ≡ get_or slots (sc.base + first_in code t) 0
+    here = view_at slots sc.base (first_in code t) (omega (arith, in_scope, few))
 
-    pub variable-slot : Slot heap (get_or slots (sc.base + firstIn code t) 0) m.top
-    variable-slot = rw (← here) (P.ready.binds.bound.held.held (firstIn code t) in_scope)
+    pub variable-slot : Slot heap (get_or slots (sc.base + first_in code t) 0) m.top
+    variable-slot = rw (← here) (P.ready.binds.bound.held.held (first_in code t) in_scope)
 
-    there : sc.base + firstIn code t < length slots
+    there : sc.base + first_in code t < length slots
     there = omega (arith, P.space, P.ready.machine.all, in_scope)
 
     small : m.top + 1 ≤ unknown
@@ -131,82 +131,82 @@ module _ {code heap slots : List ℕ} {m : Machine} {b : Bindings} {sc : Scope} 
     small = omega (arith, P.ready.machine.small)
 
     -- what the state says is what the slot says
-    pub variable-said : said heap slots b sc (firstIn code t) ≡ found heap (get_or slots (sc.base + firstIn code t) 0)
-    variable-said = said-told heap slots b sc P.tells (firstIn code t) in_scope
+    pub variable-said : said heap slots b sc (first_in code t) ≡ found heap (get_or slots (sc.base + first_in code t) 0)
+    variable-said = said-told heap slots b sc P.tells (first_in code t) in_scope
 
     -- and what it sees in it
-    pub variable-seen : seen heap b (get_or slots (sc.base + firstIn code t) 0) ≡ found heap (get_or slots (sc.base + firstIn code t) 0)
+    pub variable-seen : seen heap b (get_or slots (sc.base + first_in code t) 0) ≡ found heap (get_or slots (sc.base + first_in code t) 0)
     variable-seen = told-seen P.tells (omega (arith, small))
-        (λ j l. rw (← view-at slots sc.base j (omega (arith, few-ancillae P))) (P.ready.binds.ancillae j l)) (firstIn code t) in_scope
+        (λ j l. rw (← view_at slots sc.base j (omega (arith, few-ancillae P))) (P.ready.binds.ancillae j l)) (first_in code t) in_scope
 
     abbrev Stepped : (heap' slots' : List ℕ) → Machine → Out → Type 0
-    Stepped heap' slots' m' r = Gone 2 heap heap' slots slots' m m' sc r (stepAt code heap slots m sc t (value_at heap node) room)
+    Stepped heap' slots' m' r = Gone 2 heap heap' slots slots' m m' sc r (step_at code heap slots m sc t (value_at heap node) room)
 
     -- it was bound before
-    pub compared-gone : {r : Out} {old : ℕ} → (get_or slots (sc.base + firstIn code t) 0 ≡ unknown → ⊥)
-        → found heap (get_or slots (sc.base + firstIn code t) 0) ≡ Node old → eqb r.stop 0 ≡ same (value_at heap old) (value_at heap node)
-        → r.state ≡ b → ((r.stop ≡ 0 → ⊥) → statusOf r.stop ≡ Refused (NoInput t)) → Stepped heap slots m r
-    compared-gone {r} {old} known f agrees same-state differs = go (eqb r.stop 0) refl
+    pub compared_gone : {r : Out} {old : ℕ} → (get_or slots (sc.base + first_in code t) 0 ≡ unknown → ⊥)
+        → found heap (get_or slots (sc.base + first_in code t) 0) ≡ Node old → eqb r.stop 0 ≡ same (value_at heap old) (value_at heap node)
+        → r.state ≡ b → ((r.stop ≡ 0 → ⊥) → status_of r.stop ≡ Refused (NoInput t)) → Stepped heap slots m r
+    compared_gone {r} {old} known f agrees same-state differs = go (eqb r.stop 0) refl
       where
-        met : Meets heap (scopeView slots sc) (firstIn code t) node node (eqb r.stop 0) (scopeView slots sc)
-        met = compares-view slots sc.base (firstIn code t) sc.n in_scope few heap node node known f agrees
+        met : Meets heap (scope_view slots sc) (first_in code t) node node (eqb r.stop 0) (scope_view slots sc)
+        met = compares_view slots sc.base (first_in code t) sc.n in_scope few heap node node known f agrees
 
-        gone : Stays heap m (scopeView slots sc) (outcomeOf r.stop slots m sc)
-            (meet t (state_of heap (scopeView slots sc)) (firstIn code t) (value_at heap node) m.fuel) → Stepped heap slots m r
-        gone S = record { ran = var-done P.ready low kind refl S; below = λ j l. refl; tells = λ _. rw same-state P.tells }
+        gone : Stays heap m (scope_view slots sc) (outcome_of r.stop slots m sc)
+            (meet t (state_of heap (scope_view slots sc)) (first_in code t) (value_at heap node) m.fuel) → Stepped heap slots m r
+        gone S = record { ran = var_done P.ready low kind refl S; below = λ j l. refl; tells = λ _. rw same-state P.tells }
 
         go : (stops : Bool) → eqb r.stop 0 ≡ stops → Stepped heap slots m r
-        go true e = gone (variable-met met P.ready.binds.bound (omega (arith, small)) in_scope low t e (is-done (eqb-true r.stop 0 e)))
+        go true e = gone (variable-met met P.ready.binds.bound (omega (arith, small)) in_scope low t e (is_done (eqb-true r.stop 0 e)))
         go false e = gone (variable-differs met P.ready.binds.bound (omega (arith, small)) in_scope low t e (differs (eqb-false r.stop 0 e)))
 
     -- it was not
-    pub assigned-gone : {heap' slots' : List ℕ} {m' : Machine} {r : Out} → get_or slots (sc.base + firstIn code t) 0 ≡ unknown → r.stop ≡ 0
-        → Linked heap heap' m.top node (firstIn code t) b.head → slots' ≡ set slots (sc.base + firstIn code t) (unknown + m.top)
+    pub assigned_gone : {heap' slots' : List ℕ} {m' : Machine} {r : Out} → get_or slots (sc.base + first_in code t) 0 ≡ unknown → r.stop ≡ 0
+        → Linked heap heap' m.top node (first_in code t) b.head → slots' ≡ set slots (sc.base + first_in code t) (unknown + m.top)
         → m' ≡ record { top = m.top + 1; fuel = m.fuel } → r.state.head ≡ m.top → Stepped heap' slots' m' r
-    assigned-gone {heap'} {slots'} {m'} {r} none-known e C s em eh = rw em (record {
+    assigned_gone {heap'} {slots'} {m'} {r} none-known e C s em eh = rw em (record {
       ran = var-bound P.ready low kind (variable-bound slots slots' m P.ready.machine.graph C met P.ready.binds.bound small in_scope low
-          lengths t (eq-eqb r.stop 0 e) (is-done e));
-      below = λ j l. rw s (sym (get_or-set_other slots (sc.base + firstIn code t) j (unknown + m.top) 0 (λ z. omega arith)));
+          lengths t (eq-eqb r.stop 0 e) (is_done e));
+      below = λ j l. rw s (sym (get_or-set_other slots (sc.base + first_in code t) j (unknown + m.top) 0 (λ z. omega arith)));
       tells = λ _. tells-bound P.tells in_scope C low (omega (arith, small)) (omega (arith, P.ready.machine.small)) there s eh;
     })
       where
-        met : Meets heap' (scopeView slots sc) (firstIn code t) node (unknown + m.top) (eqb r.stop 0) (scopeView slots' sc)
-        met = binds-view slots sc.base (firstIn code t) sc.n in_scope few heap' node there none-known (eq-eqb r.stop 0 e) s
+        met : Meets heap' (scope_view slots sc) (first_in code t) node (unknown + m.top) (eqb r.stop 0) (scope_view slots' sc)
+        met = binds_view slots sc.base (first_in code t) sc.n in_scope few heap' node there none-known (eq-eqb r.stop 0 e) s
 
         lengths : length slots ≡ length slots'
-        lengths = rw s (sym (length-set slots (sc.base + firstIn code t) (unknown + m.top)))
+        lengths = rw s (sym (length-set slots (sc.base + first_in code t) (unknown + m.top)))
 
   ----------------------------------------------------------------
   -- The unit
 
-  pub unit-gone : kindIn code t ≡ unit_kind → {r : Out} → UnitMet heap b node r
-      → Gone 2 heap heap slots slots m m sc r (stepAt code heap slots m sc t (value_at heap node) room)
+  pub unit-gone : kind_in code t ≡ unit_kind → {r : Out} → UnitMet heap b node r
+      → Gone 2 heap heap slots slots m m sc r (step_at code heap slots m sc t (value_at heap node) room)
   unit-gone kind {r} U = go (eqb (nodeKind heap node) 0) refl
     where
-      gone : Stays heap m (scopeView slots sc) (outcomeOf r.stop slots m sc)
-          (onUnit (value_at heap node) (give (state_of heap (scopeView slots sc))) m.fuel)
-          → Gone 2 heap heap slots slots m m sc r (stepAt code heap slots m sc t (value_at heap node) room)
-      gone S = record { ran = unit-done P.ready low kind S; below = λ j l. refl; tells = λ _. rw U.state P.tells }
+      gone : Stays heap m (scope_view slots sc) (outcome_of r.stop slots m sc)
+          (on_unit (value_at heap node) (give (state_of heap (scope_view slots sc))) m.fuel)
+          → Gone 2 heap heap slots slots m m sc r (step_at code heap slots m sc t (value_at heap node) room)
+      gone S = record { ran = unit_done P.ready low kind S; below = λ j l. refl; tells = λ _. rw U.state P.tells }
 
-      go : (u : Bool) → eqb (nodeKind heap node) 0 ≡ u → Gone 2 heap heap slots slots m m sc r (stepAt code heap slots m sc t (value_at heap node) room)
+      go : (u : Bool) → eqb (nodeKind heap node) 0 ≡ u → Gone 2 heap heap slots slots m m sc r (step_at code heap slots m sc t (value_at heap node) room)
       go true e =
           let u = eqb-true (nodeKind heap node) 0 e in
-          gone (unit-met m P.ready.machine.graph P.ready.binds.bound node u (is-done (U.met u)))
+          gone (unit-met m P.ready.machine.graph P.ready.binds.bound node u (is_done (U.met u)))
       go false e =
           let u = eqb-false (nodeKind heap node) 0 e in
           gone (unit-stuck m P.ready.machine.graph P.ready.binds.bound node u (U.differs u))
 
   -- there is no other kind
-  pub no_kind : {k : ℕ} → k ≡ kindIn code t → NoKind k → {A : Type 0} → A
+  pub no_kind : {k : ℕ} → k ≡ kind_in code t → NoKind k → {A : Type 0} → A
   no_kind e d = absurd (none_left _ (rw e (P.ready.machine.rows.known t P.ready.term)) d)
 
 ----------------------------------------------------------------
 -- By the numbers that a run is lent
 
 -- the variable can be met
-pub variable-meetable : {code heap st : List ℕ} {b : Bindings} {scope t room : ℕ} → PreparedIn 2 1 code heap st b scope t room → kindIn code t ≡ variableKind
-    → {node : ℕ} → node < (machine_of st).top → Meetable heap st b (scopeIn scope) (firstIn code t)
-variable-meetable Q kind low = let P = Q.prepared in record {
+pub variable_meetable : {code heap st : List ℕ} {b : Bindings} {scope t room : ℕ} → PreparedIn 2 1 code heap st b scope t room → kind_in code t ≡ variable_kind
+    → {node : ℕ} → node < (machine_of st).top → Meetable heap st b (scope_in scope) (first_in code t)
+variable_meetable Q kind low = let P = Q.prepared in record {
   cell = record {
     full = Q.full;
     graph = P.ready.machine.graph.right;
@@ -221,25 +221,25 @@ variable-meetable Q kind low = let P = Q.prepared in record {
 }
 
 pub variable-step : {code heap heap' st st' : List ℕ} {b : Bindings} {scope t room : ℕ} → PreparedIn 2 1 code heap st b scope t room → {node : ℕ}
-    → node < (machine_of st).top → kindIn code t ≡ variableKind
-    → {r : Out} → Variable heap heap' st st' b (scopeIn scope) (firstIn code t) node t r → StepsBack code heap heap' st st' scope t node room r
+    → node < (machine_of st).top → kind_in code t ≡ variable_kind
+    → {r : Out} → Variable heap heap' st st' b (scope_in scope) (first_in code t) node t r → StepsBack code heap heap' st st' scope t node room r
 variable-step {code} {heap} {heap'} {st} {st'} {b} {scope} {t} {room} Q {node} low kind {r} E =
     let P = Q.prepared in
-    by-slot (scopeIn scope) E.met (variable-said P low kind) (variable-slot P low kind) (small_top P.ready.machine)
+    by_slot (scope_in scope) E.met (variable-said P low kind) (variable-slot P low kind) (small_top P.ready.machine)
     (λ u A. record {
       lengths = A.lengths;
-      gone = assigned-gone P low kind u (eqb-true r.stop 0 A.agrees) A.linked A.slots A.machine A.head;
+      gone = assigned_gone P low kind u (eqb-true r.stop 0 A.agrees) A.linked A.slots A.machine A.head;
     })
-    (λ old d f C. step_same C.heap-same C.numbers-same (record {
+    (λ old d f C. step_same C.heap_same C.numbers_same (record {
       lengths = refl;
-      gone = compared-gone P low kind d f C.agrees C.state-same E.differs;
+      gone = compared_gone P low kind d f C.agrees C.state_same E.differs;
     }))
   where
     step_same : heap' ≡ heap → st' ≡ st → StepsBack code heap heap st st scope t node room r → StepsBack code heap heap' st st' scope t node room r
     step_same p q R = rw (p, q) R
 
 pub unit-step : {code heap st : List ℕ} {b : Bindings} {scope t room : ℕ} → PreparedIn 2 1 code heap st b scope t room → {node : ℕ}
-    → node < (machine_of st).top → kindIn code t ≡ unit_kind
+    → node < (machine_of st).top → kind_in code t ≡ unit_kind
     → {r : Out} → UnitMet heap b node r → StepsBack code heap heap st st scope t node room r
 unit-step Q low kind U = record { lengths = refl; gone = unit-gone Q.prepared low kind U }
 
@@ -254,14 +254,14 @@ module _ {code heap st : List ℕ} {b : Bindings} {scope t room : ℕ} (Q : Prep
   pub entered : PreparedIn 2 1 code heap st₁ b scope t room
   entered = record { full = S.lengths ∙ Q.full; prepared = taken-prepared Q.prepared low fuel-there some-room S.slots S.machine }
 
-  pub entered-node : node < (machine_of st₁).top
-  entered-node = taken-node Q.prepared low fuel-there some-room S.slots S.machine
+  pub entered_node : node < (machine_of st₁).top
+  entered_node = taken-node Q.prepared low fuel-there some-room S.slots S.machine
 
   -- a unit of fuel is gone, and what is run from here on is what is run from the term on
-  pub entered-fuel : (machine_of st₁).fuel + 1 ≡ (machine_of st).fuel
-  entered-fuel = taken-fuel Q.prepared low fuel-there some-room S.slots S.machine
+  pub entered_fuel : (machine_of st₁).fuel + 1 ≡ (machine_of st).fuel
+  entered_fuel = taken-fuel Q.prepared low fuel-there some-room S.slots S.machine
 
-  pub entered-done : {heap' slots' : List ℕ} {m' : Machine} {r : Out}
-      → GoneFrom 2 heap heap' st₁ slots' m' scope r (stepAt code heap (slots_of st₁) (machine_of st₁) (scopeIn scope) t (value_at heap node) room)
-      → GoneFrom 0 heap heap' st slots' m' scope r (run_at code heap (slots_of st) (machine_of st) (scopeIn scope) t (value_at heap node) room)
-  entered-done G = taken-done Q.prepared low fuel-there some-room S.slots S.machine G
+  pub entered_done : {heap' slots' : List ℕ} {m' : Machine} {r : Out}
+      → GoneFrom 2 heap heap' st₁ slots' m' scope r (step_at code heap (slots_of st₁) (machine_of st₁) (scope_in scope) t (value_at heap node) room)
+      → GoneFrom 0 heap heap' st slots' m' scope r (run_at code heap (slots_of st) (machine_of st) (scope_in scope) t (value_at heap node) room)
+  entered_done G = taken_done Q.prepared low fuel-there some-room S.slots S.machine G

@@ -8,33 +8,33 @@ use mathlib.Core.Logic.{inl as left, inr as right}
 use mathlib.Core.List.{List, [], ◌∷◌}
 use lib.ListN.{get_or, set, length-set}
 use lib.Seq.{get_or-set_same, get_or-set_other}
-use package.Rattle.rules.specs.Limits.{fits, maxVariables}
+use package.Rattle.rules.specs.Limits.{fits, max_variables}
 use package.Rattle.rules.specs.Val.{Val}
 use package.Rattle.rules.specs.Term.{Term, scope}
 use package.Rattle.rules.specs.Run.{Res, ok, Run, after}
 use package.Rattle.rules.specs.Machine.{State, filled, each, forward}
 use package.Rattle.rules.proofs.Run.{after-after}
-use package.Rattle.calls.specs.Entries.{TypeEntry, termTrees}
-use package.Rattle.decoded.specs.Rows.{argumentIn, argumentsIn, programIn, treeIn}
+use package.Rattle.calls.specs.Entries.{TypeEntry, term_trees}
+use package.Rattle.decoded.specs.Rows.{argument_in, arguments_in, program_in, tree_in}
 use package.Rattle.valuegraph.specs.Nodes.{value_at}
 use package.Rattle.valuegraph.proofs.Heaps.{value-kept}
 use package.Rattle.scopes.specs.Slots.{Slot, Machine, Scope}
 use package.Rattle.scopes.specs.Bindings.{View, state_of}
 use package.Rattle.scopes.specs.declared.bindings.Bindings.{Bindings}
-use package.Rattle.scopes.proofs.Views.{view-at, view-bound, view-state}
-use package.Rattle.yields.specs.Yields.{ancillaeAt}
+use package.Rattle.scopes.proofs.Views.{view_at, view_bound, view_state}
+use package.Rattle.yields.specs.Yields.{ancillae_at}
 use package.Rattle.forward.specs.Outcomes.{Out as ForwardOut}
-use package.Rattle.forward.specs.Ready.{Ready as ForwardReady, RanForward as ForwardRan, Calls, valuesAt, run_of as forwardRun, ancillaeOf as forwardAncillae, state_of as forwardState}
+use package.Rattle.forward.specs.Ready.{Ready as ForwardReady, RanForward as ForwardRan, Calls, values_at, run_of as forwardRun, ancillae_of as forwardAncillae, state_of as forwardState}
 use package.Rattle.forward.specs.declared.outcomes.Status.TheVariants.{Value, Refused as ForwardRefused}
 use package.Rattle.forward.specs.declared.outcomes.Refusal.{Refusal as Carried}
-use package.Rattle.forward.proofs.Runs.{answered, refused, ancillae-later as forward-ancillae, state-later as forward-state}
-use package.Rattle.forward.proofs.Placing.{place-room, place-less, few-count, values_same, values-none, values-front}
+use package.Rattle.forward.proofs.Runs.{answered, refused, ancillae_later as forward-ancillae, state_later as forward-state}
+use package.Rattle.forward.proofs.Placing.{place-room, place-less, few-count, values_same, values_none, values-front}
 use package.Rattle.forward.proofs.Starting.{arguments-ancillae}
-use package.Rattle.backward.specs.Outcomes.{Status, Done, Refused, refusalOf, carried, statusOf, outcomeOf, scopeView}
-use package.Rattle.backward.specs.Ready.{Moves, Prepared, ancillaeOf}
-use package.Rattle.backward.specs.Calls.{Collected, gatheredOf, listed_of, gatherOf, Gathers, Arguments}
-use package.Rattle.backward.proofs.Runs.{refusal-after, carried-means, not_done, moves-none, moves-then}
-use package.Rattle.backward.proofs.Frames.{view-ancillae, few-ancillae}
+use package.Rattle.backward.specs.Outcomes.{Status, Done, Refused, refusal_of, carried, status_of, outcome_of, scope_view}
+use package.Rattle.backward.specs.Ready.{Moves, Prepared, ancillae_of}
+use package.Rattle.backward.specs.Calls.{Collected, gathered_of, listed_of, gather_of, Gathers, Arguments}
+use package.Rattle.backward.proofs.Runs.{refusal-after, carried-means, not_done, moves_none, moves-then}
+use package.Rattle.backward.proofs.Frames.{view_ancillae, few-ancillae}
 use Rattle.backward.specs.declared.outcomes.Refusal.{Refusal}
 
 ----------------------------------------------------------------
@@ -43,53 +43,53 @@ use Rattle.backward.specs.declared.outcomes.Refusal.{Refusal}
 module _ (go : Term → Run Val) (tree : ℕ → Term) (code : List ℕ) (t : ℕ) where
   -- the terms of call `t` from number `i` on, `n` of them
   abbrev pub run-each : ℕ → ℕ → ℕ → (List Val → Run State) → Res State
-  run-each i n fuel next = after (each go (termTrees tree (argumentsIn code t i n)) fuel) next
+  run-each i n fuel next = after (each go (term_trees tree (arguments_in code t i n)) fuel) next
 
   pub each_none : (i n fuel : ℕ) (next : List Val → Run State) → n ≡ 0 → run-each i n fuel next ≡ next [] fuel
-  unfolding argumentsIn termTrees each after
+  unfolding arguments_in term_trees each after
   each_none i n fuel next e = rw e
 
   abbrev onward : Val → Run (List Val) → Run (List Val)
   onward v m fuel = after (m fuel) (λ vs fuel. ok (v ∷ vs) fuel)
 
   each-front : (i n n' fuel : ℕ) (next : List Val → Run State) → n ≡ suc n' → run-each i n fuel next
-      ≡ after (after (go (tree (argumentIn code t i)) fuel) (λ v. onward v (each go (termTrees tree (argumentsIn code t (i + 1) n'))))) next
-  unfolding argumentsIn termTrees each
+      ≡ after (after (go (tree (argument_in code t i)) fuel) (λ v. onward v (each go (term_trees tree (arguments_in code t (i + 1) n'))))) next
+  unfolding arguments_in term_trees each
   each-front i n n' fuel next e = rw e
 
   module _ (i n n' fuel : ℕ) (next : List Val → Run State) (e : n ≡ suc n') where
-    pub each_more : {v : Val} {fuel' : ℕ} → go (tree (argumentIn code t i)) fuel ≡ ok v fuel'
+    pub each_more : {v : Val} {fuel' : ℕ} → go (tree (argument_in code t i)) fuel ≡ ok v fuel'
         → run-each i n fuel next ≡ run-each (i + 1) n' fuel' (λ vs. next (v ∷ vs))
     unfolding after
     each_more {v} {fuel'} p =
         each-front i n n' fuel next e
-        ∙ ap (λ x. after (after x (λ v. onward v (each go (termTrees tree (argumentsIn code t (i + 1) n'))))) next) p
-        ∙ after-after (each go (termTrees tree (argumentsIn code t (i + 1) n')) fuel') (λ vs fuel. ok (v ∷ vs) fuel) next
+        ∙ ap (λ x. after (after x (λ v. onward v (each go (term_trees tree (arguments_in code t (i + 1) n'))))) next) p
+        ∙ after-after (each go (term_trees tree (arguments_in code t (i + 1) n')) fuel') (λ vs fuel. ok (v ∷ vs) fuel) next
 
-    pub each-refused : (why : Refusal) → go (tree (argumentIn code t i)) fuel ≡ refusalOf why → run-each i n fuel next ≡ refusalOf why
+    pub each-refused : (why : Refusal) → go (tree (argument_in code t i)) fuel ≡ refusal_of why → run-each i n fuel next ≡ refusal_of why
     each-refused why p =
         each-front i n n' fuel next e
-        ∙ ap (λ x. after (after x (λ v. onward v (each go (termTrees tree (argumentsIn code t (i + 1) n'))))) next) p
-        ∙ ap (λ x. after x next) (refusal-after why (λ v. onward v (each go (termTrees tree (argumentsIn code t (i + 1) n')))))
+        ∙ ap (λ x. after (after x (λ v. onward v (each go (term_trees tree (arguments_in code t (i + 1) n'))))) next) p
+        ∙ ap (λ x. after x next) (refusal-after why (λ v. onward v (each go (term_trees tree (arguments_in code t (i + 1) n')))))
         ∙ refusal-after why next
 
-pub gathered-done : (heap : List ℕ) (args : View) (count fuel : ℕ) {s : Status} (next : List Val → Run State) → s ≡ Done
-    → gatheredOf heap args count fuel s next ≡ next (ancillaeAt heap args.slots 0 count) fuel
-unfolding gatheredOf
-gathered-done heap args count fuel next e = ap (λ s. gatheredOf heap args count fuel s next) e
+pub gathered_done : (heap : List ℕ) (args : View) (count fuel : ℕ) {s : Status} (next : List Val → Run State) → s ≡ Done
+    → gathered_of heap args count fuel s next ≡ next (ancillae_at heap args.slots 0 count) fuel
+unfolding gathered_of
+gathered_done heap args count fuel next e = ap (λ s. gathered_of heap args count fuel s next) e
 
 pub gathered-refused : (heap : List ℕ) (args : View) (count fuel : ℕ) {s : Status} {why : Refusal} (next : List Val → Run State) → s ≡ Refused why
-    → gatheredOf heap args count fuel s next ≡ refusalOf why
-unfolding gatheredOf
-gathered-refused heap args count fuel next e = ap (λ s. gatheredOf heap args count fuel s next) e
+    → gathered_of heap args count fuel s next ≡ refusal_of why
+unfolding gathered_of
+gathered-refused heap args count fuel next e = ap (λ s. gathered_of heap args count fuel s next) e
 
-pub listed-done : (heap slots : List ℕ) (from n fuel : ℕ) {s : Status} (next : List Val → Run State) → s ≡ Done
-    → listed_of heap slots from n fuel s next ≡ next (valuesAt heap slots from n) fuel
+pub listed_done : (heap slots : List ℕ) (from n fuel : ℕ) {s : Status} (next : List Val → Run State) → s ≡ Done
+    → listed_of heap slots from n fuel s next ≡ next (values_at heap slots from n) fuel
 unfolding listed_of
-listed-done heap slots from n fuel next e = ap (λ s. listed_of heap slots from n fuel s next) e
+listed_done heap slots from n fuel next e = ap (λ s. listed_of heap slots from n fuel s next) e
 
 pub listed-refused : (heap slots : List ℕ) (from n fuel : ℕ) {s : Status} {why : Refusal} (next : List Val → Run State) → s ≡ Refused why
-    → listed_of heap slots from n fuel s next ≡ refusalOf why
+    → listed_of heap slots from n fuel s next ≡ refusal_of why
 unfolding listed_of
 listed-refused heap slots from n fuel next e = ap (λ s. listed_of heap slots from n fuel s next) e
 
@@ -107,33 +107,33 @@ module _ {code heap slots : List ℕ} {st : Machine} {sc : Scope} {t room : ℕ}
   m = sc.base + sc.n
 
   abbrev go : List TypeEntry → Term → Run Val
-  go ys = forward fits (programIn code ys) (room - 1) (forwardAncillae heap slots sc) (forwardState heap slots sc)
+  go ys = forward fits (program_in code ys) (room - 1) (forwardAncillae heap slots sc) (forwardState heap slots sc)
 
   -- there are no more
-  pub gather-end : k ≡ count → {s : ℕ} → statusOf s ≡ Done → Gathers code heap heap slots slots st sc t room k count s st
-  gather-end e {s} d = record {
-    moves = moves-none rd.graph refl refl;
+  pub gather_end : k ≡ count → {s : ℕ} → status_of s ≡ Done → Gathers code heap heap slots slots st sc t room k count s st
+  gather_end e {s} d = record {
+    moves = moves_none rd.graph refl refl;
     below = λ j h. refl;
     held = λ _ j low high. absurd (omega arith);
     answer = λ ys next.
-        each_none (go ys) (treeIn code ys) code t k (count - k) st.fuel next (omega arith)
-        ∙ ap (λ vs. next vs st.fuel) (sym (values-none heap slots (m + k) (count - k) (omega arith)))
-        ∙ sym (listed-done heap slots (m + k) (count - k) st.fuel next d);
+        each_none (go ys) (tree_in code ys) code t k (count - k) st.fuel next (omega arith)
+        ∙ ap (λ vs. next vs st.fuel) (sym (values_none heap slots (m + k) (count - k) (omega arith)))
+        ∙ sym (listed_done heap slots (m + k) (count - k) st.fuel next d);
   }
 
-  module _ (more : ¬ (k ≡ count)) (b : ℕ) (q : b ≡ argumentIn code t k) {heap₁ slots₁ : List ℕ} {r₁ : ForwardOut}
+  module _ (more : ¬ (k ≡ count)) (b : ℕ) (q : b ≡ argument_in code t k) {heap₁ slots₁ : List ℕ} {r₁ : ForwardOut}
       (d : ForwardRan 0 heap heap₁ m slots slots₁ st r₁ (forwardRun code heap slots st sc b (room - 1))) where
-    at_place : (ys : List TypeEntry) → go ys (treeIn code ys (argumentIn code t k)) st.fuel ≡ forwardRun code heap slots st sc b (room - 1) ys
+    at_place : (ys : List TypeEntry) → go ys (tree_in code ys (argument_in code t k)) st.fuel ≡ forwardRun code heap slots st sc b (room - 1) ys
     at_place ys = ap (λ b. forwardRun code heap slots st sc b (room - 1) ys) (sym q)
 
-    pub gather-refused : {w : Carried} → r₁.status ≡ ForwardRefused w → {s : ℕ} → statusOf s ≡ Refused (carried w)
+    pub gather_refused : {w : Carried} → r₁.status ≡ ForwardRefused w → {s : ℕ} → status_of s ≡ Refused (carried w)
         → Gathers code heap heap₁ slots slots₁ st sc t room k count s r₁.state
-    gather-refused {w} e {s} c = record {
+    gather_refused {w} e {s} c = record {
       moves = moves-forward d;
       below = d.below;
       held = λ n. absurd (not_done c n);
       answer = λ ys next.
-          each-refused (go ys) (treeIn code ys) code t k (count - k) (count - (k + 1)) st.fuel next
+          each-refused (go ys) (tree_in code ys) code t k (count - k) (count - (k + 1)) st.fuel next
           (omega (arith, place-less rd C more)) (carried w) (at_place ys ∙ refused d e ys ∙ carried-means w)
           ∙ sym (listed-refused heap₁ slots₁ (m + k) (count - k) r₁.state.fuel next c);
     }
@@ -151,11 +151,11 @@ module _ {code heap slots : List ℕ} {st : Machine} {sc : Scope} {t room : ℕ}
       elsewhere : (j : ℕ) → ¬ (j ≡ m + k) → get_or slots₂ j 0 ≡ get_or slots₃ j 0
       elsewhere j n = rw e₃ (sym (get_or-set_other slots₂ (m + k) j x 0 n))
 
-      values : value_at heap₁ x ∷ valuesAt heap₂ slots₂ (m + (k + 1)) (count - (k + 1)) ≡ valuesAt heap₂ slots₃ (m + k) (count - k)
+      values : value_at heap₁ x ∷ values_at heap₂ slots₂ (m + (k + 1)) (count - (k + 1)) ≡ values_at heap₂ slots₃ (m + k) (count - k)
       values =
           ap₂ ◌∷◌ (value-kept heap₁ heap₂ r₁.state.top d.graph.right D.moves.agree x (d.node x e) ∙ ap (value_at heap₂) (sym here))
           (values_same heap₂ slots₂ slots₃ (m + (k + 1)) (count - (k + 1)) (λ j h. elsewhere j (λ q. omega arith))
-          ∙ ap (λ i. valuesAt heap₂ slots₃ i (count - (k + 1))) (let z : m + (k + 1) ≡ m + k + 1 = omega arith in z))
+          ∙ ap (λ i. values_at heap₂ slots₃ i (count - (k + 1))) (let z : m + (k + 1) ≡ m + k + 1 = omega arith in z))
           ∙ sym (values-front heap₂ slots₃ (m + k) (count - k) (count - (k + 1)) (omega (arith, less)))
 
       -- where the others were placed, this one is too
@@ -168,14 +168,14 @@ module _ {code heap slots : List ℕ} {st : Machine} {sc : Scope} {t room : ℕ}
 
       -- the others, in the scope as it was
       others : (ys : List TypeEntry) (next : List Val → Run State)
-          → run-each (go ys) (treeIn code ys) code t (k + 1) (count - (k + 1)) r₁.state.fuel next
-          ≡ gatherOf code heap₁ slots₁ r₁.state sc t room (k + 1) count ys next
+          → run-each (go ys) (tree_in code ys) code t (k + 1) (count - (k + 1)) r₁.state.fuel next
+          ≡ gather_of code heap₁ slots₁ r₁.state sc t room (k + 1) count ys next
       others ys next =
-          ap (λ (G : Term → Run Val). run-each G (treeIn code ys) code t (k + 1) (count - (k + 1)) r₁.state.fuel next)
-          (ap₂ (λ a σ. forward fits (programIn code ys) (room - 1) a σ) (forward-ancillae rd d) (forward-state rd d))
+          ap (λ (G : Term → Run Val). run-each G (tree_in code ys) code t (k + 1) (count - (k + 1)) r₁.state.fuel next)
+          (ap₂ (λ a σ. forward fits (program_in code ys) (room - 1) a σ) (forward-ancillae rd d) (forward-state rd d))
 
-      gather-more : Gathers code heap heap₂ slots slots₃ st sc t room k count s₂ st₂
-      gather-more = record {
+      gather_more : Gathers code heap heap₂ slots slots₃ st sc t room k count s₂ st₂
+      gather_more = record {
         moves = moves-then 0 (omega arith) (moves-forward d) (record {
           agree = D.moves.agree;
           graph = D.moves.graph;
@@ -187,23 +187,23 @@ module _ {code heap slots : List ℕ} {st : Machine} {sc : Scope} {t room : ℕ}
         below = λ j h. d.below j h ∙ D.below j h ∙ elsewhere j (λ q. omega arith);
         held = λ n j low high. slot n j low high (dec_lt k j);
         answer = λ ys next.
-            each_more (go ys) (treeIn code ys) code t k (count - k) (count - (k + 1)) st.fuel next (omega (arith, less))
+            each_more (go ys) (tree_in code ys) code t k (count - k) (count - (k + 1)) st.fuel next (omega (arith, less))
             (at_place ys ∙ answered d e ys)
             ∙ others ys (λ vs. next (value_at heap₁ x ∷ vs))
             ∙ D.answer ys (λ vs. next (value_at heap₁ x ∷ vs))
-            ∙ one_more next (statusOf s₂);
+            ∙ one_more next (status_of s₂);
       }
         where
-          slot : statusOf s₂ ≡ Done → (j : ℕ) → k ≤ j → j < count → Dec (k < j) → get_or slots₃ (m + j) 0 < st₂.top
+          slot : status_of s₂ ≡ Done → (j : ℕ) → k ≤ j → j < count → Dec (k < j) → get_or slots₃ (m + j) 0 < st₂.top
           slot n j low high (yes h) = rw (← elsewhere (m + j) (λ z. omega arith)) (D.held n j (omega arith) high)
           slot n j low high (no h) = rw (let z : m + j ≡ m + k = omega arith in z, here) (omega (arith, d.node x e, D.moves.grows))
 
     -- the slot and the machine as the code leaves them
-    pub gather-placed : {x : ℕ} → r₁.status ≡ Value x → {heap₂ slots₂ : List ℕ} {s₂ : ℕ} {st₂ : Machine}
+    pub gather_placed : {x : ℕ} → r₁.status ≡ Value x → {heap₂ slots₂ : List ℕ} {s₂ : ℕ} {st₂ : Machine}
         → Gathers code heap₁ heap₂ slots₁ slots₂ r₁.state sc t room (k + 1) count s₂ st₂
         → {at : ℕ} → at ≡ m + k → {slots₃ : List ℕ} → slots₃ ≡ set slots₂ at x → {st₃ : Machine} → st₃ ≡ st₂
         → Gathers code heap heap₂ slots slots₃ st sc t room k count s₂ st₃
-    gather-placed e D qa {slots₃} e₃ em = rw em (gather-more e D slots₃ (rw qa at e₃))
+    gather_placed e D qa {slots₃} e₃ em = rw em (gather_more e D slots₃ (rw qa at e₃))
 
 ----------------------------------------------------------------
 -- In the state at hand
@@ -216,7 +216,7 @@ module _ {code heap slots : List ℕ} {m : Machine} {b : Bindings} {sc : Scope} 
     term = P.ready.term;
     graph = P.ready.machine.graph;
     held = record { held = λ j h. slot j h (dec_lt j sc.base) };
-    ancillae = λ i h. rw (← view-at slots sc.base i (omega (arith, few-ancillae P))) (P.ready.binds.ancillae i h);
+    ancillae = λ i h. rw (← view_at slots sc.base i (omega (arith, few-ancillae P))) (P.ready.binds.ancillae i h);
     within = P.ready.binds.within;
     nodes = omega (arith, P.ready.machine.nodes);
     small = omega (arith, P.ready.machine.small);
@@ -229,7 +229,7 @@ module _ {code heap slots : List ℕ} {m : Machine} {b : Bindings} {sc : Scope} 
       slot j h (yes l) = P.older.held j l
       slot j h (no l) =
           let z : j ≡ sc.base + (j - sc.base) = omega arith in
-          rw (z, ← view-at slots sc.base (j - sc.base) (omega (arith, P.ready.binds.bound.few)))
+          rw (z, ← view_at slots sc.base (j - sc.base) (omega (arith, P.ready.binds.bound.few)))
           (P.ready.binds.bound.held.held (j - sc.base) (omega arith))
 
   module _ {count : ℕ} (C : Calls code t 0 count) {heap₁ slots₁ : List ℕ} {m₁ : Machine} {s : ℕ}
@@ -238,44 +238,44 @@ module _ {code heap slots : List ℕ} {m : Machine} {b : Bindings} {sc : Scope} 
     abbrev pub callee : Scope
     callee = record { base = sc.base + sc.n; q = count; n = count }
 
-    few : count ≤ maxVariables
+    few : count ≤ max_variables
     few = omega (arith, few-count scope-ready C)
 
-    pub placed : statusOf s ≡ Done → (i : ℕ) → i < count → get_or slots₁ (sc.base + sc.n + i) 0 < m₁.top
+    pub placed : status_of s ≡ Done → (i : ℕ) → i < count → get_or slots₁ (sc.base + sc.n + i) 0 < m₁.top
     placed e i l = D.held e i (omega arith) l
 
     -- the arguments, as a scope behind the caller's
-    all_known : statusOf s ≡ Done → Collected heap₁ (scopeView slots₁ callee) count m₁.top
+    all_known : status_of s ≡ Done → Collected heap₁ (scope_view slots₁ callee) count m₁.top
     all_known e = record {
       binds = record {
-        bound = view-bound heap₁ slots₁ (sc.base + sc.n) count m₁.top few (λ i l. right (left (placed e i l)));
+        bound = view_bound heap₁ slots₁ (sc.base + sc.n) count m₁.top few (λ i l. right (left (placed e i l)));
         within = omega arith;
-        ancillae = λ i l. rw (view-at slots₁ (sc.base + sc.n) i (omega (arith, few))) (placed e i l);
+        ancillae = λ i l. rw (view_at slots₁ (sc.base + sc.n) i (omega (arith, few))) (placed e i l);
       };
       all = refl;
     }
 
-    as-listed : (next : List Val → Run State) (st : Status)
-        → listed_of heap₁ slots₁ (sc.base + sc.n + 0) (count - 0) m₁.fuel st (λ vs. next (scope vs [])) ≡ gatheredOf heap₁
-        (scopeView slots₁ callee) count m₁.fuel st next
-    unfolding listed_of gatheredOf
-    as-listed next Done =
+    as_listed : (next : List Val → Run State) (st : Status)
+        → listed_of heap₁ slots₁ (sc.base + sc.n + 0) (count - 0) m₁.fuel st (λ vs. next (scope vs [])) ≡ gathered_of heap₁
+        (scope_view slots₁ callee) count m₁.fuel st next
+    unfolding listed_of gathered_of
+    as_listed next Done =
         ap (λ ρ. next ρ m₁.fuel)
-        (ap₂ (λ i n. scope (valuesAt heap₁ slots₁ i n) []) (let z : sc.base + sc.n + 0 ≡ sc.base + sc.n = omega arith in z)
+        (ap₂ (λ i n. scope (values_at heap₁ slots₁ i n) []) (let z : sc.base + sc.n + 0 ≡ sc.base + sc.n = omega arith in z)
         (let z : count - 0 ≡ count = omega arith in z)
-        ∙ arguments-ancillae heap₁ slots₁ (sc.base + sc.n) count ∙ sym (view-ancillae heap₁ slots₁ (sc.base + sc.n) count few))
-    as-listed next (Refused why) = refl
+        ∙ arguments-ancillae heap₁ slots₁ (sc.base + sc.n) count ∙ sym (view_ancillae heap₁ slots₁ (sc.base + sc.n) count few))
+    as_listed next (Refused why) = refl
 
-    pub arguments-done : Arguments code heap heap₁ slots slots₁ m (scopeView slots sc) sc.q t room count (outcomeOf s slots₁ m₁ callee)
-    arguments-done = record {
+    pub arguments_done : Arguments code heap heap₁ slots slots₁ m (scope_view slots sc) sc.q t room count (outcome_of s slots₁ m₁ callee)
+    arguments_done = record {
       moves = D.moves;
       collected = all_known;
       answer = λ ys next.
-          ap (λ c. run-each (forward fits (programIn code ys) (room - 1) (ancillaeOf heap (scopeView slots sc) sc.q)
-          (filled (state_of heap (scopeView slots sc)))) (treeIn code ys) code t 0 c m.fuel (λ vs. next (scope vs [])))
+          ap (λ c. run-each (forward fits (program_in code ys) (room - 1) (ancillae_of heap (scope_view slots sc) sc.q)
+          (filled (state_of heap (scope_view slots sc)))) (tree_in code ys) code t 0 c m.fuel (λ vs. next (scope vs [])))
           (let z : count ≡ count - 0 = omega arith in z)
-          ∙ ap₂ (λ a σ. run-each (forward fits (programIn code ys) (room - 1) a σ) (treeIn code ys) code t 0 (count - 0) m.fuel (λ vs. next (scope vs [])))
-          (view-ancillae heap slots sc.base sc.q (few-ancillae P)) (ap filled (view-state heap slots sc.base sc.n P.ready.binds.bound.few))
+          ∙ ap₂ (λ a σ. run-each (forward fits (program_in code ys) (room - 1) a σ) (tree_in code ys) code t 0 (count - 0) m.fuel (λ vs. next (scope vs [])))
+          (view_ancillae heap slots sc.base sc.q (few-ancillae P)) (ap filled (view_state heap slots sc.base sc.n P.ready.binds.bound.few))
           ∙ D.answer ys (λ vs. next (scope vs []))
-          ∙ as-listed next (statusOf s);
+          ∙ as_listed next (status_of s);
     }

@@ -9,13 +9,13 @@ use package.Rattle.rules.specs.Run.{Res}
 use package.Rattle.rules.specs.Machine.{State}
 use package.Rattle.calls.specs.Entries.{TypeEntry}
 use package.Rattle.valuegraph.specs.Nodes.{value_at}
-use package.Rattle.scopes.specs.Slots.{Machine, machine_of, slots_of, scopeIn, Moved}
+use package.Rattle.scopes.specs.Slots.{Machine, machine_of, slots_of, scope_in, Moved}
 use package.Rattle.scopes.specs.declared.bindings.Bindings.{Bindings}
-use package.Rattle.forward.specs.Outcomes.{refusalIn}
-use package.Rattle.backward.specs.Outcomes.{Refused, carried, statusOf}
-use package.Rattle.backward.specs.Ready.{PreparedIn, GoneFrom, GoneIn, RunsBack, StepsBack, GoesOn, LeadsTo, StepsTo, run_at, stepAt}
+use package.Rattle.forward.specs.Outcomes.{refusal_in}
+use package.Rattle.backward.specs.Outcomes.{Refused, carried, status_of}
+use package.Rattle.backward.specs.Ready.{PreparedIn, GoneFrom, GoneIn, RunsBack, StepsBack, GoesOn, LeadsTo, StepsTo, run_at, step_at}
 use package.Rattle.backward.proofs.Frames.{runs-back}
-use package.Rattle.backward.proofs.Arriving.{fuel-gone, height-gone, entered, entered-node, entered-fuel, entered-done}
+use package.Rattle.backward.proofs.Arriving.{fuel-gone, height-gone, entered, entered_node, entered_fuel, entered_done}
 use Rattle.backward.specs.declared.outcomes.Out.{Out}
 use Rattle.backward.specs.declared.outcomes.Next.{Next}
 
@@ -63,7 +63,7 @@ leaf-leads e S = leads-over e S.lengths S.gone
 pub record Going (code heap heap' st st' : List ℕ) (scope t node room : ℕ) (b' : Bindings) (t' node' room' : ℕ) : Type 0 where
   pub workspace : length heap' ≡ length heap
   pub lengths : length st' ≡ length st
-  pub goes : GoesOn 0 code heap heap' st st' scope room' (run_at code heap (slots_of st) (machine_of st) (scopeIn scope) t (value_at heap node) room) b' t' node'
+  pub goes : GoesOn 0 code heap heap' st st' scope room' (run_at code heap (slots_of st) (machine_of st) (scope_in scope) t (value_at heap node) room) b' t' node'
 
 pub going_start : {code heap st : List ℕ} {b : Bindings} {scope t node room : ℕ} → PreparedIn 0 0 code heap st b scope t room → node < (machine_of st).top
     → Going code heap heap st st scope t node room b t node room
@@ -73,39 +73,39 @@ module _ {code heap heap' st st' : List ℕ} {scope t node room : ℕ} {b' : Bin
     (W : Going code heap heap' st st' scope t node room b' t' node' room') where
   -- there is no fuel left, or no height
   pub going-spent : {b : Bindings} → PreparedIn 0 0 code heap st b scope t room → {out out' : Out} {f : ℕ} → f ≡ (machine_of st').fuel → f ≡ 0
-      → statusOf out.stop ≡ Refused (carried (refusalIn 12 t')) → out' ≡ out → RunsBack code heap heap' st st' b scope t node room out'
+      → status_of out.stop ≡ Refused (carried (refusal_in 12 t')) → out' ≡ out → RunsBack code heap heap' st st' b scope t node room out'
   going-spent Q qf z s e =
       rw e (runs-back Q (W.goes.becomes (fuel-gone W.goes.prepared.prepared W.goes.there s (sym qf ∙ z))) W.lengths)
 
-  pub going-high : {b : Bindings} → PreparedIn 0 0 code heap st b scope t room → {out out' : Out} {f : ℕ} → f ≡ (machine_of st').fuel → ¬ (f ≡ 0) → room' ≡ 0
-      → statusOf out.stop ≡ Refused (carried (refusalIn 13 t')) → out' ≡ out → RunsBack code heap heap' st st' b scope t node room out'
-  going-high Q qf d z s e =
+  pub going_high : {b : Bindings} → PreparedIn 0 0 code heap st b scope t room → {out out' : Out} {f : ℕ} → f ≡ (machine_of st').fuel → ¬ (f ≡ 0) → room' ≡ 0
+      → status_of out.stop ≡ Refused (carried (refusal_in 13 t')) → out' ≡ out → RunsBack code heap heap' st st' b scope t node room out'
+  going_high Q qf d z s e =
       rw e (runs-back Q (W.goes.becomes (height-gone W.goes.prepared.prepared W.goes.there (λ q. d (qf ∙ q)) s z)) W.lengths)
 
   -- the term is entered, and what it comes to
   module _ {f : ℕ} (qf : f ≡ (machine_of st').fuel) (some-fuel : ¬ (f ≡ 0)) (some-room : ¬ (room' ≡ 0)) {st₁ : List ℕ}
       (S : Moved st' st₁ (record { top = (machine_of st').top; fuel = (machine_of st').fuel - 1 })) where
-    pub going-entered : PreparedIn 2 1 code heap' st₁ b' scope t' room'
-    going-entered = entered W.goes.prepared W.goes.there qf some-fuel some-room S
+    pub going_entered : PreparedIn 2 1 code heap' st₁ b' scope t' room'
+    going_entered = entered W.goes.prepared W.goes.there qf some-fuel some-room S
 
     pub going-node : node' < (machine_of st₁).top
-    going-node = entered-node W.goes.prepared W.goes.there qf some-fuel some-room S
+    going-node = entered_node W.goes.prepared W.goes.there qf some-fuel some-room S
 
     pub going_less : (machine_of st₁).fuel + 1 ≤ (machine_of st).fuel
-    going_less = omega (arith, entered-fuel W.goes.prepared W.goes.there qf some-fuel some-room S, W.goes.spends)
+    going_less = omega (arith, entered_fuel W.goes.prepared W.goes.there qf some-fuel some-room S, W.goes.spends)
 
     module _ {heap₂ st₂ : List ℕ} {n : Next} (E : StepsTo code heap' heap₂ st₁ st₂ scope t' node' room' n) where
       back_to : {heap'' slots'' : List ℕ} {m'' : Machine} {r : Out}
-          → GoneFrom 2 heap' heap'' st₁ slots'' m'' scope r (stepAt code heap' (slots_of st₁) (machine_of st₁) (scopeIn scope) t' (value_at heap' node') room')
-          → GoneFrom 0 heap' heap'' st' slots'' m'' scope r (run_at code heap' (slots_of st') (machine_of st') (scopeIn scope) t' (value_at heap' node') room')
-      back_to G = entered-done W.goes.prepared W.goes.there qf some-fuel some-room S G
+          → GoneFrom 2 heap' heap'' st₁ slots'' m'' scope r (step_at code heap' (slots_of st₁) (machine_of st₁) (scope_in scope) t' (value_at heap' node') room')
+          → GoneFrom 0 heap' heap'' st' slots'' m'' scope r (run_at code heap' (slots_of st') (machine_of st') (scope_in scope) t' (value_at heap' node') room')
+      back_to G = entered_done W.goes.prepared W.goes.there qf some-fuel some-room S G
 
       pub going-over : {b : Bindings} → PreparedIn 0 0 code heap st b scope t room → {out : Out} → n.more ≡ false → out ≡ n.out
           → RunsBack code heap heap₂ st st₂ b scope t node room out
       going-over Q e q = rw q (runs-back Q (W.goes.becomes (back_to (E.over e))) (E.lengths ∙ S.lengths ∙ W.lengths))
 
-      pub going-falls : n.more ≡ true → (machine_of st₂).fuel < (machine_of st').fuel
-      going-falls e = omega (arith, (E.on e).spends, entered-fuel W.goes.prepared W.goes.there qf some-fuel some-room S)
+      pub going_falls : n.more ≡ true → (machine_of st₂).fuel < (machine_of st').fuel
+      going_falls e = omega (arith, (E.on e).spends, entered_fuel W.goes.prepared W.goes.there qf some-fuel some-room S)
 
       pub going_on : length heap₂ ≡ length heap' → n.more ≡ true → Going code heap heap₂ st st₂ scope t node room n.out.state n.term n.node (room' - 1)
       going_on l e = let G = E.on e in record {
@@ -122,6 +122,6 @@ module _ {code heap heap' st st' : List ℕ} {scope t node room : ℕ} {b' : Bin
 ----------------------------------------------------------------
 -- An outcome, in one number and out of it
 
-pub unpacked-run : {code heap heap' st st' : List ℕ} {b : Bindings} {scope t node room : ℕ} {out out' : Out} → out ≡ out'
+pub unpacked_run : {code heap heap' st st' : List ℕ} {b : Bindings} {scope t node room : ℕ} {out out' : Out} → out ≡ out'
     → RunsBack code heap heap' st st' b scope t node room out' → RunsBack code heap heap' st st' b scope t node room out
-unpacked-run e R = rw e R
+unpacked_run e R = rw e R

@@ -9,44 +9,44 @@ use lib.ListN.{length, get_or, set, length-set}
 use lib.Seq.{get_or-set_same, get_or-set_other}
 use lib.Dec.{eqb}
 use borrow.Author.Tests.{eq-eqb, ne_eqb, eqb-true, eqb-false}
-use package.Rattle.rules.specs.Limits.{maxVariables}
+use package.Rattle.rules.specs.Limits.{max_variables}
 use package.Rattle.rules.specs.Val.{Val, unit}
 use package.Rattle.rules.specs.Run.{stuck, Run, give}
-use package.Rattle.rules.specs.Machine.{State, meet, leave, onUnit}
-use package.Rattle.valuegraph.specs.Nodes.{kind_at, ofKind, valueWithin, value_at}
+use package.Rattle.rules.specs.Machine.{State, meet, leave, on_unit}
+use package.Rattle.valuegraph.specs.Nodes.{kind_at, of_kind, value_within, value_at}
 use package.Rattle.valuegraph.proofs.Heaps.{value-unit, value-kept}
-use package.Rattle.scopes.specs.Slots.{unknown, found, nodeOr, meaning as slotMeaning, Slot, Slots, Machine, Scope}
+use package.Rattle.scopes.specs.Slots.{unknown, found, node_or, meaning as slotMeaning, Slot, Slots, Machine, Scope}
 use package.Rattle.scopes.specs.Cells.{Linked}
 use package.Rattle.scopes.specs.declared.slots.Found.TheVariants.{Node, Unknown}
-use package.Rattle.scopes.specs.Bindings.{View, AfterLeaving, slotsFrom, view_of, state_of, Bound, Opens, Meets, LeavesScope, Meetable, MeetsAt}
+use package.Rattle.scopes.specs.Bindings.{View, AfterLeaving, slots_from, view_of, state_of, Bound, Opens, Meets, LeavesScope, Meetable, MeetsAt}
 use package.Rattle.scopes.specs.declared.bindings.Bindings.{Bindings}
 use package.Rattle.scopes.specs.declared.bindings.Met.{Met}
-use package.Rattle.scopes.proofs.Marks.{found-mark, found-node, found_below, node-or, node-none}
-use package.Rattle.scopes.proofs.Scopes.{slots-bind}
+use package.Rattle.scopes.proofs.Marks.{found-mark, found-node, found_below, node_or_lem, node_none}
+use package.Rattle.scopes.proofs.Scopes.{slots_bind}
 use package.Rattle.scopes.proofs.Bound.{meet-bound, leaves-state}
-use package.Rattle.scopes.proofs.Views.{view-at, new-found}
+use package.Rattle.scopes.proofs.Views.{view_at, new-found}
 use package.Rattle.forward.specs.Ready.{Graph}
 use package.Rattle.forward.proofs.Making.{graph-grown}
-use package.Rattle.backward.specs.Outcomes.{Status, Done, Refused, statusOf, refusalOf, tooLong, against, mismatch}
+use package.Rattle.backward.specs.Outcomes.{Status, Done, Refused, status_of, refusal_of, too_long, against, mismatch}
 use package.Rattle.backward.specs.Ready.{Binds, Follows, RanBackward, Stays, Goes, Variable, UnitMet}
-use package.Rattle.backward.proofs.Runs.{meaning-done, meaning-refused, not_done, bound-later, follows_same, state-later}
+use package.Rattle.backward.proofs.Runs.{meaning_done, meaning-refused, not_done, bound_later, follows_same, state_later}
 use Rattle.backward.specs.declared.outcomes.Out.{Out}
 use Rattle.backward.specs.declared.outcomes.Refusal.TheVariants.{Fuel, Height, Long, NoInput, Stuck}
 
 ----------------------------------------------------------------
 -- Refusals
 
-pub long-fuel : (fuel room t : ℕ) → fuel ≡ 0 → Fuel t ≡ tooLong fuel room t
-unfolding tooLong
+pub long-fuel : (fuel room t : ℕ) → fuel ≡ 0 → Fuel t ≡ too_long fuel room t
+unfolding too_long
 long-fuel fuel room t e = rw e
 
-pub long-height : (fuel room t : ℕ) → ¬ (fuel ≡ 0) → room ≡ 0 → Height t ≡ tooLong fuel room t
-unfolding tooLong
+pub long-height : (fuel room t : ℕ) → ¬ (fuel ≡ 0) → room ≡ 0 → Height t ≡ too_long fuel room t
+unfolding too_long
 long-height zero room t n e = absurd (n refl)
 long-height (suc fuel) room t n e = rw e
 
-pub long-value : (fuel room t : ℕ) → ¬ (fuel ≡ 0) → ¬ (room ≡ 0) → Long t ≡ tooLong fuel room t
-unfolding tooLong
+pub long-value : (fuel room t : ℕ) → ¬ (fuel ≡ 0) → ¬ (room ≡ 0) → Long t ≡ too_long fuel room t
+unfolding too_long
 long-value zero room t n n' = absurd (n refl)
 long-value (suc fuel) zero t n n' = absurd (n' refl)
 long-value (suc fuel) (suc room) t n n' = refl
@@ -55,9 +55,9 @@ pub against-other : (other found t : ℕ) → found ≡ other → NoInput t ≡ 
 unfolding against
 against-other other found t e = rw (against, eq-eqb found other e)
 
-pub against-none : (other found t : ℕ) → ¬ (found ≡ other) → Stuck ≡ against other found t
+pub against_none : (other found t : ℕ) → ¬ (found ≡ other) → Stuck ≡ against other found t
 unfolding against
-against-none other found t n = rw (against, ne_eqb found other n)
+against_none other found t n = rw (against, ne_eqb found other n)
 
 pub mismatch-left : (kind found t : ℕ) → kind ≡ 1 → against 2 found t ≡ mismatch kind found t
 unfolding mismatch
@@ -67,43 +67,43 @@ pub mismatch-right : (kind found t : ℕ) → ¬ (kind ≡ 1) → kind ≡ 2 →
 unfolding mismatch
 mismatch-right kind found t n e = rw (mismatch, ne_eqb kind 1 n, eq-eqb kind 2 e)
 
-pub mismatch-none : (kind found t : ℕ) → ¬ (kind ≡ 1) → ¬ (kind ≡ 2) → Stuck ≡ mismatch kind found t
+pub mismatch_none : (kind found t : ℕ) → ¬ (kind ≡ 1) → ¬ (kind ≡ 2) → Stuck ≡ mismatch kind found t
 unfolding mismatch
-mismatch-none kind found t n n' = rw (mismatch, ne_eqb kind 1 n, ne_eqb kind 2 n')
+mismatch_none kind found t n n' = rw (mismatch, ne_eqb kind 1 n, ne_eqb kind 2 n')
 
 ----------------------------------------------------------------
 -- Branches
 
-pub choice-left : {A : Type 0} {b : Bool} {x y : A} (z : A) → b ≡ true → x ≡ y → x ≡ cond b y z
-choice-left z e q = rw e q
+pub choice_left : {A : Type 0} {b : Bool} {x y : A} (z : A) → b ≡ true → x ≡ y → x ≡ cond b y z
+choice_left z e q = rw e q
 
-pub choice-right : {A : Type 0} {b : Bool} {x z : A} (y : A) → b ≡ false → x ≡ z → x ≡ cond b y z
-choice-right y e q = rw e q
+pub choice_right : {A : Type 0} {b : Bool} {x z : A} (y : A) → b ≡ false → x ≡ z → x ≡ cond b y z
+choice_right y e q = rw e q
 
 ----------------------------------------------------------------
 -- Variables
 
-pub meetable-same : {heap st : List ℕ} {b : Bindings} {sc : Scope} {i i' : ℕ} → i ≡ i' → Meetable heap st b sc i' → Meetable heap st b sc i
-meetable-same q M = rw q M
+pub meetable_same : {heap st : List ℕ} {b : Bindings} {sc : Scope} {i i' : ℕ} → i ≡ i' → Meetable heap st b sc i' → Meetable heap st b sc i
+meetable_same q M = rw q M
 
 -- what the code met, as the outcome says it
-met-as : {heap heap' st st' : List ℕ} {b : Bindings} {sc : Scope} {i node : ℕ} {r : Met} → MeetsAt heap heap' st st' b sc i node r → (agrees : Bool)
+met_as : {heap heap' st st' : List ℕ} {b : Bindings} {sc : Scope} {i node : ℕ} {r : Met} → MeetsAt heap heap' st st' b sc i node r → (agrees : Bool)
     → agrees ≡ r.agrees → MeetsAt heap heap' st st' b sc i node (record { agrees = agrees; state = r.state })
-met-as M agrees e = rw e M
+met_as M agrees e = rw e M
 
 module _ {heap heap' st st' : List ℕ} {b : Bindings} {sc : Scope} {i i' node : ℕ} {r : Met} (M : MeetsAt heap heap' st st' b sc i node r)
     (q : i ≡ i') (t : ℕ) where
   pub agrees-out : r.agrees ≡ true → Variable heap heap' st st' b sc i' node t (record { stop = 0; state = r.state })
-  agrees-out e = rw (← q) (record { met = met-as M (eqb 0 0) (eq-eqb 0 0 refl ∙ sym e); differs = λ n. absurd (n refl) })
+  agrees-out e = rw (← q) (record { met = met_as M (eqb 0 0) (eq-eqb 0 0 refl ∙ sym e); differs = λ n. absurd (n refl) })
 
-  pub differs-out : r.agrees ≡ false → statusOf (t + 1) ≡ Refused (NoInput t)
+  pub differs-out : r.agrees ≡ false → status_of (t + 1) ≡ Refused (NoInput t)
       → Variable heap heap' st st' b sc i' node t (record { stop = t + 1; state = r.state })
-  differs-out e w = rw (← q) (record { met = met-as M (eqb (t + 1) 0) (ne_eqb (t + 1) 0 (λ z. omega arith) ∙ sym e); differs = λ _. w })
+  differs-out e w = rw (← q) (record { met = met_as M (eqb (t + 1) 0) (ne_eqb (t + 1) 0 (λ z. omega arith) ∙ sym e); differs = λ _. w })
 
 -- meeting keeps what is known
-pub meets-follows : (heap : List ℕ) (b : View) (i node x top : ℕ) (agrees : Bool) (r : View) → Meets heap b i node x agrees r → Bound heap b top → i < b.len
+pub meets_follows : (heap : List ℕ) (b : View) (i node x top : ℕ) (agrees : Bool) (r : View) → Meets heap b i node x agrees r → Bound heap b top → i < b.len
     → Slot heap x top → Follows heap b r top
-meets-follows heap b i node x top agrees r M B l low = go (eqb (get_or b.slots i 0) unknown) refl
+meets_follows heap b i node x top agrees r M B l low = go (eqb (get_or b.slots i 0) unknown) refl
   where
     bound-slot : (slots : List ℕ) → slots ≡ set b.slots i x → (j : ℕ) → (y : Bool) → eqb j i ≡ y → j < b.len → Slot heap (get_or slots j 0) top
     bound-slot slots e j true q h = rw (e, eqb-true j i q, get_or-set_same b.slots i x 0 (omega (arith, B.full, B.few))) low
@@ -131,14 +131,14 @@ module _ {heap : List ℕ} {st : Machine} {b : View} {i node : ℕ} {agrees : Bo
       (meet t (state_of heap b) i (value_at heap node) st.fuel)
   variable-met e d = record {
     state = refl;
-    follows = λ _. meets-follows heap b i node node st.top agrees r M B l (right (left low));
-    answer = meaning-done heap (record { status = s; state = st; bindings = r }) d
+    follows = λ _. meets_follows heap b i node node st.top agrees r M B l (right (left low));
+    answer = meaning_done heap (record { status = s; state = st; bindings = r }) d
         ∙ sym ((meet-bound heap b i node node st.top t st.fuel agrees r M B l small (found-node heap node (omega arith))).0 e);
   }
 
   pub variable-differs : agrees ≡ false → s ≡ Refused (NoInput t)
       → Stays heap st b (record { status = s; state = st; bindings = r }) (meet t (state_of heap b) i (value_at heap node) st.fuel)
-  unfolding refusalOf
+  unfolding refusal_of
   variable-differs e w = record {
     state = refl;
     follows = λ d. absurd (not_done w d);
@@ -154,7 +154,7 @@ module _ {heap heap' : List ℕ} (slots slots' : List ℕ) (st : Machine) {b : V
   grown = record { top = st.top + 1; fuel = st.fuel }
 
   bound-now : Bound heap' b (st.top + 1)
-  bound-now = bound-later (st.top + 1) B C.made.grown.agree (omega arith)
+  bound-now = bound_later (st.top + 1) B C.made.grown.agree (omega arith)
 
   cell-slot : Slot heap' (unknown + st.top) (st.top + 1)
   cell-slot =
@@ -176,20 +176,20 @@ module _ {heap heap' : List ℕ} (slots slots' : List ℕ) (st : Machine) {b : V
       spends = omega arith;
       owes = omega arith;
     };
-    follows = λ _. meets-follows heap' b i node (unknown + st.top) (st.top + 1) agrees r M bound-now l cell-slot;
+    follows = λ _. meets_follows heap' b i node (unknown + st.top) (st.top + 1) agrees r M bound-now l cell-slot;
     answer = λ ys.
-        meaning-done heap' (record { status = s; state = grown; bindings = r }) d
+        meaning_done heap' (record { status = s; state = grown; bindings = r }) d
         ∙ sym ((meet-bound heap' b i node (unknown + st.top) (st.top + 1) t st.fuel agrees r M bound-now l small
         (new-found C.made (omega arith))).0 e)
-        ∙ ap₂ (λ σ v. meet t σ i v st.fuel) (sym (state-later G C.made.grown.agree b B (omega arith)))
+        ∙ ap₂ (λ σ v. meet t σ i v st.fuel) (sym (state_later G C.made.grown.agree b B (omega arith)))
         (sym (value-kept heap heap' st.top G.right C.made.grown.agree node low));
   }
 
 ----------------------------------------------------------------
 -- The unit
 
-no-unit : {A : Type 0} (n : ℕ) (v w : Val) (m : Run A) (fuel : ℕ) → ¬ (n ≡ 0) → onUnit (ofKind n v w) m fuel ≡ stuck
-unfolding onUnit ofKind
+no-unit : {A : Type 0} (n : ℕ) (v w : Val) (m : Run A) (fuel : ℕ) → ¬ (n ≡ 0) → on_unit (of_kind n v w) m fuel ≡ stuck
+unfolding on_unit of_kind
 no-unit zero v w m fuel d = absurd (d refl)
 no-unit (suc zero) v w m fuel d = refl
 no-unit (suc (suc zero)) v w m fuel d = refl
@@ -198,18 +198,18 @@ no-unit (suc (suc (suc (suc n)))) v w m fuel d = refl
 
 module _ {heap : List ℕ} (st : Machine) (G : Graph heap st.top) {b : View} (B : Bound heap b st.top) (node : ℕ) {s : Status} where
   pub unit-met : kind_at heap node ≡ 0 → s ≡ Done → Stays heap st b (record { status = s; state = st; bindings = b })
-      (onUnit (value_at heap node) (give (state_of heap b)) st.fuel)
-  unfolding onUnit
+      (on_unit (value_at heap node) (give (state_of heap b)) st.fuel)
+  unfolding on_unit
   unit-met e d = record {
     state = refl;
     follows = λ _. follows_same B;
-    answer = meaning-done heap (record { status = s; state = st; bindings = b }) d
-        ∙ sym (ap (λ v. onUnit v (give (state_of heap b)) st.fuel) (value-unit heap st.top G.right node e));
+    answer = meaning_done heap (record { status = s; state = st; bindings = b }) d
+        ∙ sym (ap (λ v. on_unit v (give (state_of heap b)) st.fuel) (value-unit heap st.top G.right node e));
   }
 
   pub unit-stuck : ¬ (kind_at heap node ≡ 0) → s ≡ Refused Stuck
-      → Stays heap st b (record { status = s; state = st; bindings = b }) (onUnit (value_at heap node) (give (state_of heap b)) st.fuel)
-  unfolding refusalOf value_at valueWithin
+      → Stays heap st b (record { status = s; state = st; bindings = b }) (on_unit (value_at heap node) (give (state_of heap b)) st.fuel)
+  unfolding refusal_of value_at value_within
   unit-stuck n w = record {
     state = refl;
     follows = λ d. absurd (not_done w d);
@@ -217,22 +217,22 @@ module _ {heap : List ℕ} (st : Machine) (G : Graph heap st.top) {b : View} (B 
         ∙ sym (no-unit (kind_at heap node) _ _ (give (state_of heap b)) st.fuel n);
   }
 
-pub unit-there : {heap : List ℕ} (b : Bindings) (node : ℕ) → kind_at heap node ≡ 0 → UnitMet heap b node (record { stop = 0; state = b })
-unit-there b node e = record { met = λ _. refl; differs = λ n. absurd (n e); state = refl }
+pub unit_there : {heap : List ℕ} (b : Bindings) (node : ℕ) → kind_at heap node ≡ 0 → UnitMet heap b node (record { stop = 0; state = b })
+unit_there b node e = record { met = λ _. refl; differs = λ n. absurd (n e); state = refl }
 
-pub unit-missing : {heap : List ℕ} (b : Bindings) (node : ℕ) {r : Out} → ¬ (kind_at heap node ≡ 0) → statusOf r.stop ≡ Refused Stuck → r.state ≡ b
+pub unit_missing : {heap : List ℕ} (b : Bindings) (node : ℕ) {r : Out} → ¬ (kind_at heap node ≡ 0) → status_of r.stop ≡ Refused Stuck → r.state ≡ b
     → UnitMet heap b node r
-unit-missing b node n e s = record { met = λ k. absurd (n k); differs = λ _. e; state = s }
+unit_missing b node n e s = record { met = λ k. absurd (n k); differs = λ _. e; state = s }
 
 ----------------------------------------------------------------
 -- A variable comes into scope, not known, and leaves it
 
 -- the newest of the variables that stand in slots from `base` on
-pub view-goes : (heap slots : List ℕ) (base n : ℕ) → n < maxVariables → Goes heap (view_of slots base (n + 1))
-    (record { newest = nodeOr (found heap (get_or slots (base + n) 0)); state = view_of slots base n })
-view-goes heap slots base n l = record {
-  newest = ap (λ x. nodeOr (found heap x))
-      (sym (ap (λ j. get_or (slotsFrom slots base maxVariables) j 0) (let z : n + 1 - 1 ≡ n = omega arith in z) ∙ view-at slots base n l));
+pub view_goes : (heap slots : List ℕ) (base n : ℕ) → n < max_variables → Goes heap (view_of slots base (n + 1))
+    (record { newest = node_or (found heap (get_or slots (base + n) 0)); state = view_of slots base n })
+view_goes heap slots base n l = record {
+  newest = ap (λ x. node_or (found heap x))
+      (sym (ap (λ j. get_or (slots_from slots base max_variables) j 0) (let z : n + 1 - 1 ≡ n = omega arith in z) ∙ view_at slots base n l));
   slots = refl;
   len = let z : n ≡ n + 1 - 1 = omega arith in z;
 }
@@ -242,38 +242,38 @@ module _ {heap : List ℕ} {b : View} {r : AfterLeaving} (L : Goes heap b r) {to
   newest = get_or b.slots (b.len - 1) 0
 
   -- by whether it is known
-  by-newest : {P : Type 0} → top ≤ unknown → (found heap newest ≡ Unknown → r.newest ≡ 0 → P)
+  by_newest : {P : Type 0} → top ≤ unknown → (found heap newest ≡ Unknown → r.newest ≡ 0 → P)
       → ((node : ℕ) → node < top → found heap newest ≡ Node node → r.newest ≡ node → P) → P
-  by-newest {P} small none-it node-it = go (eqb newest unknown) refl
+  by_newest {P} small none-it node-it = go (eqb newest unknown) refl
     where
       go : (e : Bool) → eqb (get_or b.slots (b.len - 1) 0) unknown ≡ e → P
       go true e =
           let f = found-mark heap _ (eqb-true (get_or b.slots (b.len - 1) 0) unknown e) in
-          none-it f (L.newest ∙ node-none f)
+          none-it f (L.newest ∙ node_none f)
       go false e = found_below (B.held.held (b.len - 1) (omega arith)) small (eqb-false (get_or b.slots (b.len - 1) 0) unknown e)
-          λ node low f. node-it node low f (L.newest ∙ node-or f)
+          λ node low f. node-it node low f (L.newest ∙ node_or_lem f)
 
   pub goes-node : 0 < top → top ≤ unknown → r.newest < top
-  goes-node pos small = by-newest small (λ f e. rw e pos) (λ node low f e. rw e low)
+  goes-node pos small = by_newest small (λ f e. rw e pos) (λ node low f e. rw e low)
 
-  as-left : LeavesScope b (record { newest = newest; state = r.state })
-  as-left = record { newest = refl; slots = L.slots; len = L.len }
+  as_left : LeavesScope b (record { newest = newest; state = r.state })
+  as_left = record { newest = refl; slots = L.slots; len = L.len }
 
   -- as the rules have it
   pub goes-state : {A : Type 0} → value_at heap 0 ≡ unit → top ≤ unknown → (next : Val → State → Run A) (fuel : ℕ)
       → leave (state_of heap b) next fuel ≡ next (value_at heap r.newest) (state_of heap r.state) fuel
   unfolding leave
-  goes-state u small next fuel = by-newest small
+  goes-state u small next fuel = by_newest small
       (λ f e. ap (λ σ. leave σ next fuel) (front ∙ ap (λ f. slotMeaning heap f ∷ state_of heap r.state) f)
       ∙ ap (λ v. next v (state_of heap r.state) fuel) (sym u ∙ ap (value_at heap) (sym e)))
       (λ node low f e. ap (λ σ. leave σ next fuel) (front ∙ ap (λ f. slotMeaning heap f ∷ state_of heap r.state) f)
       ∙ ap (λ v. next v (state_of heap r.state) fuel) (ap (value_at heap) (sym e)))
     where
       front : state_of heap b ≡ slotMeaning heap (found heap (get_or b.slots (b.len - 1) 0)) ∷ state_of heap r.state
-      front = leaves-state heap b (record { newest = get_or b.slots (b.len - 1) 0; state = r.state }) as-left some
+      front = leaves-state heap b (record { newest = get_or b.slots (b.len - 1) 0; state = r.state }) as_left some
 
   -- an outer state that `b` follows, with one variable more
-  pub goes-follows : {c c₁ : View} {x : ℕ} → Opens c x c₁ → length c.slots ≡ maxVariables → Follows heap c₁ b top → Follows heap c r.state top
+  pub goes-follows : {c c₁ : View} {x : ℕ} → Opens c x c₁ → length c.slots ≡ max_variables → Follows heap c₁ b top → Follows heap c r.state top
   goes-follows {c} {c₁} {x} O full F = record {
     bound = record {
       full = ap length L.slots ∙ B.full;
@@ -289,13 +289,13 @@ module _ {heap : List ℕ} {b : View} {r : AfterLeaving} (L : Goes heap b r) {to
       same : (i : ℕ) → i < c.len → get_or c₁.slots i 0 ≡ get_or c.slots i 0
       same i h = ap (λ (l : List ℕ). get_or l i 0) O.slots ∙ get_or-set_other c.slots c.len i x 0 (λ q. omega arith)
 
-module _ {heap : List ℕ} {c c₁ : View} {x : ℕ} (O : Opens c x c₁) {top : ℕ} (B : Bound heap c top) (room : c.len < maxVariables) (low : Slot heap x top) where
+module _ {heap : List ℕ} {c c₁ : View} {x : ℕ} (O : Opens c x c₁) {top : ℕ} (B : Bound heap c top) (room : c.len < max_variables) (low : Slot heap x top) where
   pub opened-bound : Bound heap c₁ top
   opened-bound = record {
     full = ap length O.slots ∙ length-set c.slots c.len x ∙ B.full;
     few = omega (arith, O.len);
     held = rw O.slots (subst (λ n. Slots heap (set c.slots c.len x) n top) (let z : suc c.len ≡ c₁.len = omega (arith, O.len) in z)
-        (slots-bind heap c.slots c.len top x (omega (arith, B.full)) B.held low));
+        (slots_bind heap c.slots c.len top x (omega (arith, B.full)) B.held low));
   }
 
   pub opened-binds : {q : ℕ} → Binds heap c q top → Binds heap c₁ q top

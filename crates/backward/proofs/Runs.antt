@@ -4,7 +4,7 @@ use native.Mathlib.Omega.{arith}
 use mathlib.Core.Path.{◌≡◌, refl, sym, ap, subst, ◌∙◌}
 use mathlib.Core.List.{List}
 use lib.ListN.{length, get_or}
-use package.Rattle.rules.specs.Limits.{maxParameters}
+use package.Rattle.rules.specs.Limits.{max_parameters}
 use package.Rattle.rules.specs.Val.{Val}
 use package.Rattle.rules.specs.Run.{Res, ok, Run, after}
 use package.Rattle.rules.specs.Machine.{State, leave}
@@ -14,33 +14,33 @@ use package.Rattle.valuegraph.specs.Nodes.{value_at, Agree}
 use package.Rattle.valuegraph.proofs.Places.{agree_refl, agree_trans, agree-down}
 use package.Rattle.scopes.specs.Slots.{unknown, Slots, Machine}
 use package.Rattle.scopes.specs.Bindings.{View, state_of, Bound}
-use package.Rattle.scopes.proofs.Marks.{slots-later}
+use package.Rattle.scopes.proofs.Marks.{slots_later}
 use package.Rattle.scopes.proofs.Scopes.{state-kept}
 use package.Rattle.yields.specs.Yields.{Ancillae}
 use package.Rattle.yields.proofs.Ancillae.{ancillae-same, ancillae-kept}
-use package.Rattle.forward.specs.Outcomes.{refusalOf as carriedRefusal}
+use package.Rattle.forward.specs.Outcomes.{refusal_of as carriedRefusal}
 use package.Rattle.forward.specs.Ready.{Graph}
 use package.Rattle.forward.specs.declared.outcomes.Refusal.{Refusal as Carried}
 use package.Rattle.forward.specs.declared.outcomes.Refusal.TheVariants.{Fuel as cFuel, Height as cHeight, Long as cLong, FirstMatch as cFirstMatch, Stuck as cStuck}
-use package.Rattle.backward.specs.Outcomes.{Status, Done, Refused, Outcome, Inner, refusalOf, answer_of, meaning, leftWith, carried}
-use package.Rattle.backward.specs.Ready.{Held, Binds, Follows, Moves, RanBackward, Stays, RanUnder, ancillaeOf}
+use package.Rattle.backward.specs.Outcomes.{Status, Done, Refused, Outcome, Inner, refusal_of, answer_of, meaning, left_with, carried}
+use package.Rattle.backward.specs.Ready.{Held, Binds, Follows, Moves, RanBackward, Stays, RanUnder, ancillae_of}
 use Rattle.backward.specs.declared.outcomes.Refusal.{Refusal}
 use Rattle.backward.specs.declared.outcomes.Refusal.TheVariants.{Fuel, Height, Long, FirstMatch, NoInput, Stuck}
 
 ----------------------------------------------------------------
 -- What an outcome says
 
-pub meaning-done : (heap : List ℕ) (out : Outcome) → out.status ≡ Done → meaning heap out ≡ ok (state_of heap out.bindings) out.state.fuel
+pub meaning_done : (heap : List ℕ) (out : Outcome) → out.status ≡ Done → meaning heap out ≡ ok (state_of heap out.bindings) out.state.fuel
 unfolding answer_of
-meaning-done heap out e = ap (answer_of heap out.bindings out.state.fuel) e
+meaning_done heap out e = ap (answer_of heap out.bindings out.state.fuel) e
 
-pub meaning-refused : (heap : List ℕ) (out : Outcome) {w : Refusal} → out.status ≡ Refused w → meaning heap out ≡ refusalOf w
+pub meaning-refused : (heap : List ℕ) (out : Outcome) {w : Refusal} → out.status ≡ Refused w → meaning heap out ≡ refusal_of w
 unfolding answer_of
 meaning-refused heap out e = ap (answer_of heap out.bindings out.state.fuel) e
 
 -- a refusal stands
-pub refusal-after : {A B : Type 0} (w : Refusal) (k : A → Run B) → after (refusalOf w) k ≡ refusalOf w
-unfolding refusalOf after
+pub refusal-after : {A B : Type 0} (w : Refusal) (k : A → Run B) → after (refusal_of w) k ≡ refusal_of w
+unfolding refusal_of after
 refusal-after (Fuel t) k = refl
 refusal-after (Height t) k = refl
 refusal-after (Long t) k = refl
@@ -49,8 +49,8 @@ refusal-after (NoInput t) k = refl
 refusal-after Stuck k = refl
 
 -- a refusal of an ancilla term
-pub carried-means : {A : Type 0} (w : Carried) → carriedRefusal {A = A} w ≡ refusalOf (carried w)
-unfolding refusalOf carriedRefusal carried
+pub carried-means : {A : Type 0} (w : Carried) → carriedRefusal {A = A} w ≡ refusal_of (carried w)
+unfolding refusal_of carriedRefusal carried
 carried-means (cFuel t) = refl
 carried-means (cHeight t) = refl
 carried-means (cLong t) = refl
@@ -60,28 +60,28 @@ carried-means cStuck = refl
 pub not_done : {s : Status} {w : Refusal} → s ≡ Refused w → s ≡ Done → ⊥
 not_done p q = let z : ◌≡◌ {A = ℕ} 0 1 = cc in omega arith
 
-pub left-done : (heap : List ℕ) (b : View) (newest fuel : ℕ) {s : Status} (next : Val → State → Run State) → s ≡ Done
-    → leftWith heap b newest fuel s next ≡ next (value_at heap newest) (state_of heap b) fuel
-unfolding leftWith
-left-done heap b newest fuel next e = ap (λ s. leftWith heap b newest fuel s next) e
+pub left_done : (heap : List ℕ) (b : View) (newest fuel : ℕ) {s : Status} (next : Val → State → Run State) → s ≡ Done
+    → left_with heap b newest fuel s next ≡ next (value_at heap newest) (state_of heap b) fuel
+unfolding left_with
+left_done heap b newest fuel next e = ap (λ s. left_with heap b newest fuel s next) e
 
 pub left-refused : (heap : List ℕ) (b : View) (newest fuel : ℕ) {s : Status} {w : Refusal} (next : Val → State → Run State) → s ≡ Refused w
-    → leftWith heap b newest fuel s next ≡ refusalOf w
-unfolding leftWith
-left-refused heap b newest fuel next e = ap (λ s. leftWith heap b newest fuel s next) e
+    → left_with heap b newest fuel s next ≡ refusal_of w
+unfolding left_with
+left-refused heap b newest fuel next e = ap (λ s. left_with heap b newest fuel s next) e
 
 ----------------------------------------------------------------
 -- Views that follow
 
-pub bound-later : {heap heap' : List ℕ} {b : View} {top : ℕ} (top' : ℕ) → Bound heap b top → Agree top heap heap' → top ≤ top' → Bound heap' b top'
-bound-later top' B A le = record { full = B.full; few = B.few; held = slots-later A top' le B.held }
+pub bound_later : {heap heap' : List ℕ} {b : View} {top : ℕ} (top' : ℕ) → Bound heap b top → Agree top heap heap' → top ≤ top' → Bound heap' b top'
+bound_later top' B A le = record { full = B.full; few = B.few; held = slots_later A top' le B.held }
 
 pub follows_same : {heap : List ℕ} {b : View} {top : ℕ} → Bound heap b top → Follows heap b b top
 follows_same B = record { bound = B; len = refl; kept = λ i h n. refl }
 
-pub follows-later : {heap heap' : List ℕ} {b c : View} {top : ℕ} (top' : ℕ) → Follows heap b c top → Agree top heap heap' → top ≤ top'
+pub follows_later : {heap heap' : List ℕ} {b c : View} {top : ℕ} (top' : ℕ) → Follows heap b c top → Agree top heap heap' → top ≤ top'
     → Follows heap' b c top'
-follows-later top' F A le = record { bound = bound-later top' F.bound A le; len = F.len; kept = F.kept }
+follows_later top' F A le = record { bound = bound_later top' F.bound A le; len = F.len; kept = F.kept }
 
 pub follows_then : {heap heap' : List ℕ} {b c d : View} {top top' : ℕ} → Follows heap b c top → Follows heap' c d top' → Follows heap' b d top'
 follows_then {heap} {heap'} {b} {c} {d} F G = record {
@@ -90,10 +90,10 @@ follows_then {heap} {heap'} {b} {c} {d} F G = record {
   kept = λ i h n. G.kept i (omega (arith, F.len)) (λ e. n (sym (F.kept i h n) ∙ e)) ∙ F.kept i h n;
 }
 
-pub binds-later : {heap heap' : List ℕ} {b : View} {q top : ℕ} (top' : ℕ) → Binds heap b q top → Agree top heap heap' → top ≤ top'
+pub binds_later : {heap heap' : List ℕ} {b : View} {q top : ℕ} (top' : ℕ) → Binds heap b q top → Agree top heap heap' → top ≤ top'
     → Binds heap' b q top'
-binds-later top' B A le = record {
-  bound = bound-later top' B.bound A le;
+binds_later top' B A le = record {
+  bound = bound_later top' B.bound A le;
   within = B.within;
   ancillae = λ i h. omega (arith, B.ancillae i h);
 }
@@ -103,15 +103,15 @@ module _ {heap heap' : List ℕ} {b b' : View} {q top top' : ℕ} (B : Binds hea
   ancilla-kept : (i : ℕ) → i < q → get_or b'.slots i 0 ≡ get_or b.slots i 0
   ancilla-kept i h = F.kept i (omega (arith, B.within)) (λ e. omega (arith, B.ancillae i h))
 
-  pub binds-follow : Binds heap' b' q top'
-  binds-follow = record {
+  pub binds_follow : Binds heap' b' q top'
+  binds_follow = record {
     bound = F.bound;
     within = omega (arith, B.within, F.len);
     ancillae = λ i h. rw (ancilla-kept i h) (omega (arith, B.ancillae i h));
   }
 
-  pub ancillae-follow : (heap'' : List ℕ) → ancillaeOf heap'' b q ≡ ancillaeOf heap'' b' q
-  ancillae-follow heap'' = ancillae-same heap'' b.slots b'.slots 0 q (λ j h. sym (ancilla-kept j (omega arith)))
+  pub ancillae_follow : (heap'' : List ℕ) → ancillae_of heap'' b q ≡ ancillae_of heap'' b' q
+  ancillae_follow heap'' = ancillae-same heap'' b.slots b'.slots 0 q (λ j h. sym (ancilla-kept j (omega arith)))
 
 pub ancillae-held : {heap : List ℕ} {b : View} {q top : ℕ} → Binds heap b q top → Ancillae b.slots 0 q top
 ancillae-held B = record {
@@ -123,20 +123,20 @@ ancillae-held B = record {
 -- A heap that has grown
 
 module _ {heap heap' : List ℕ} {top : ℕ} (G : Graph heap top) (A : Agree top heap heap') where
-  pub state-later : (b : View) → Bound heap b top → top ≤ unknown → state_of heap b ≡ state_of heap' b
+  pub state_later : (b : View) → Bound heap b top → top ≤ unknown → state_of heap b ≡ state_of heap' b
   unfolding state_of
-  state-later b B small = state-kept heap heap' b.slots 0 b.len top G.right A
+  state_later b B small = state-kept heap heap' b.slots 0 b.len top G.right A
       (subst (λ n. Slots heap b.slots n top) (let z : b.len ≡ 0 + b.len = omega arith in z) B.held) small
 
-  pub ancillae-later : (b : View) (q : ℕ) → Binds heap b q top → ancillaeOf heap b q ≡ ancillaeOf heap' b q
-  ancillae-later b q B = ancillae-kept heap heap' b.slots 0 q top G.right A (ancillae-held B)
+  pub ancillae_later : (b : View) (q : ℕ) → Binds heap b q top → ancillae_of heap b q ≡ ancillae_of heap' b q
+  ancillae_later b q B = ancillae-kept heap heap' b.slots 0 q top G.right A (ancillae-held B)
 
 ----------------------------------------------------------------
 -- Moves
 
-pub moves-none : {heap slots slots' : List ℕ} {st st' : Machine} → Graph heap st.top → length slots ≡ length slots' → st' ≡ st
+pub moves_none : {heap slots slots' : List ℕ} {st st' : Machine} → Graph heap st.top → length slots ≡ length slots' → st' ≡ st
     → Moves 0 heap heap slots slots' st st'
-moves-none {heap} G l e = record {
+moves_none {heap} G l e = record {
   agree = agree_refl _ heap;
   graph = rw e G;
   lengths = l;
@@ -171,9 +171,9 @@ moves-slack k' a le = record {
 -- What stays
 
 module _ {k : ℕ} {code heap slots : List ℕ} {st : Machine} {room : ℕ} (H : Held k code heap slots st room) where
-  pub held-later : (k' : ℕ) {j : ℕ} → k' + j ≤ k → {heap' slots' : List ℕ} {st' : Machine} → Moves j heap heap' slots slots' st st'
+  pub held_later : (k' : ℕ) {j : ℕ} → k' + j ≤ k → {heap' slots' : List ℕ} {st' : Machine} → Moves j heap heap' slots slots' st st'
       → Held k' code heap' slots' st' room
-  held-later k' le {heap'} M = record {
+  held_later k' le {heap'} M = record {
     rows = H.rows;
     bodies = H.bodies;
     graph = M.graph;
@@ -185,7 +185,7 @@ module _ {k : ℕ} {code heap slots : List ℕ} {st : Machine} {room : ℕ} (H :
 
   -- with fewer nodes owed, and less height
   pub held-less : (k' room' : ℕ) → k' ≤ k → room' ≤ room → Held k' code heap slots st room'
-  unfolding maxParameters
+  unfolding max_parameters
   held-less k' room' le le' = record {
     rows = H.rows;
     bodies = H.bodies;
@@ -220,25 +220,25 @@ pub stays : {heap slots slots' : List ℕ} {st : Machine} {b : View} {out : Outc
     → Graph heap st.top → length slots ≡ length slots'
     → Stays heap st b out res → ((ys : List TypeEntry) → res ≡ res' ys) → RanBackward 0 heap heap slots slots' st b out res'
 stays {heap = heap} {b = b} {out = out} G l S e = record {
-  moves = moves-none G l S.state;
+  moves = moves_none G l S.state;
   follows = λ d. subst (λ (s : Machine). Follows heap b out.bindings s.top) (sym S.state) (S.follows d);
   answer = λ ys. S.answer ∙ e ys;
 }
 
 -- a refusal on the spot
 pub refuses : {heap slots : List ℕ} {st : Machine} {b : View} {w : Refusal} {res : List TypeEntry → Res State} (out : Outcome) → Graph heap st.top
-    → out.status ≡ Refused w → out.state ≡ st → ((ys : List TypeEntry) → res ys ≡ refusalOf w) → RanBackward 0 heap heap slots slots st b out res
+    → out.status ≡ Refused w → out.state ≡ st → ((ys : List TypeEntry) → res ys ≡ refusal_of w) → RanBackward 0 heap heap slots slots st b out res
 refuses {heap} out G s q e = record {
-  moves = moves-none G refl q;
+  moves = moves_none G refl q;
   follows = λ d. absurd (not_done s d);
   answer = λ ys. meaning-refused heap out s ∙ sym (e ys);
 }
 
 -- a refusal says nothing of the bindings
-pub refused-with : {k : ℕ} {heap heap₁ slots slots₁ : List ℕ} {st : Machine} {b c : View} {r : Outcome} {w : Refusal} {res : List TypeEntry → Res State}
+pub refused_with : {k : ℕ} {heap heap₁ slots slots₁ : List ℕ} {st : Machine} {b c : View} {r : Outcome} {w : Refusal} {res : List TypeEntry → Res State}
     → RanBackward k heap heap₁ slots slots₁ st b r res → r.status ≡ Refused w → (d : View)
     → RanBackward k heap heap₁ slots slots₁ st c (record { status = r.status; state = r.state; bindings = d }) res
-refused-with {heap₁ = heap₁} {r = r} R s d = record {
+refused_with {heap₁ = heap₁} {r = r} R s d = record {
   moves = R.moves;
   follows = λ n. absurd (not_done s n);
   answer = λ ys. meaning-refused heap₁ (record { status = r.status; state = r.state; bindings = d }) s ∙ sym (meaning-refused heap₁ r s) ∙ R.answer ys;
@@ -249,15 +249,15 @@ pub moves_from : {k : ℕ} {heap heap₁ slots₀ slots₁ : List ℕ} {st st₁
     → Moves k heap heap₁ slots₀ slots₁ st st₁ → Moves k heap heap₁ slots slots₁ st st₁
 moves_from slots e M = record { agree = M.agree; graph = M.graph; lengths = e ∙ M.lengths; grows = M.grows; spends = M.spends; owes = M.owes }
 
-pub ran-from : {k : ℕ} {heap heap₁ slots₀ slots₁ : List ℕ} {st : Machine} {b : View} {r : Outcome} {res : List TypeEntry → Res State} (slots : List ℕ)
+pub ran_from : {k : ℕ} {heap heap₁ slots₀ slots₁ : List ℕ} {st : Machine} {b : View} {r : Outcome} {res : List TypeEntry → Res State} (slots : List ℕ)
     → length slots ≡ length slots₀
     → RanBackward k heap heap₁ slots₀ slots₁ st b r res → RanBackward k heap heap₁ slots slots₁ st b r res
-ran-from slots e R = record { moves = moves_from slots e R.moves; follows = R.follows; answer = R.answer }
+ran_from slots e R = record { moves = moves_from slots e R.moves; follows = R.follows; answer = R.answer }
 
-pub under-from : {k : ℕ} {heap heap₁ slots₀ slots₁ : List ℕ} {st : Machine} {b : View} {r : Inner} {res : List TypeEntry → Res State} (slots : List ℕ)
+pub under_from : {k : ℕ} {heap heap₁ slots₀ slots₁ : List ℕ} {st : Machine} {b : View} {r : Inner} {res : List TypeEntry → Res State} (slots : List ℕ)
     → length slots ≡ length slots₀
     → RanUnder k heap heap₁ slots₀ slots₁ st b r res → RanUnder k heap heap₁ slots slots₁ st b r res
-under-from slots e R = record { moves = moves_from slots e R.moves; follows = R.follows; there = R.there; answer = R.answer }
+under_from slots e R = record { moves = moves_from slots e R.moves; follows = R.follows; there = R.there; answer = R.answer }
 
 module _ {k : ℕ} {heap heap₁ slots slots₁ : List ℕ} {st : Machine} {b : View} {r : Outcome} {res₁ : List TypeEntry → Res State}
     (d : RanBackward k heap heap₁ slots slots₁ st b r res₁) where
@@ -278,24 +278,24 @@ module _ {heap heap₁ slots slots₁ : List ℕ} {st : Machine} {b : View} {r :
       ∙ sym (ap (λ x. after x (next ys)) (sym (d.answer ys) ∙ meaning-refused heap₁ r s)) ∙ sym (e ys))
 
   -- a part was run, and the run goes on
-  pub part-done : {res : List TypeEntry → Res State} (next : List TypeEntry → State → Run State) → r.status ≡ Done
+  pub part_done : {res : List TypeEntry → Res State} (next : List TypeEntry → State → Run State) → r.status ≡ Done
       → ((ys : List TypeEntry) → res ys ≡ after (res₁ ys) (next ys))
       → {k : ℕ} {heap₂ slots₂ : List ℕ} {out : Outcome} → RanBackward k heap₁ heap₂ slots₁ slots₂ r.state r.bindings out
       (λ ys. next ys (state_of heap₁ r.bindings) r.state.fuel)
       → RanBackward k heap heap₂ slots slots₂ st b out res
-  part-done next s e b₂ = record {
+  part_done next s e b₂ = record {
     moves = moves-then _ (omega arith) d.moves b₂.moves;
     follows = λ q. follows_then (d.follows s) (b₂.follows q);
-    answer = λ ys. b₂.answer ys ∙ sym (via (next ys) (sym (d.answer ys) ∙ meaning-done heap₁ r s) refl) ∙ sym (e ys);
+    answer = λ ys. b₂.answer ys ∙ sym (via (next ys) (sym (d.answer ys) ∙ meaning_done heap₁ r s) refl) ∙ sym (e ys);
   }
 
 ----------------------------------------------------------------
 -- Runs under one variable more
 
 -- the same run, said to give another thing that is equal
-pub under-says : {k : ℕ} {heap heap₁ slots slots₁ : List ℕ} {st : Machine} {b : View} {r : Inner} {res res' : List TypeEntry → Res State}
+pub under_says : {k : ℕ} {heap heap₁ slots slots₁ : List ℕ} {st : Machine} {b : View} {r : Inner} {res res' : List TypeEntry → Res State}
     → RanUnder k heap heap₁ slots slots₁ st b r res → ((ys : List TypeEntry) → res ys ≡ res' ys) → RanUnder k heap heap₁ slots slots₁ st b r res'
-under-says d e = record {
+under_says d e = record {
   moves = d.moves;
   follows = d.follows;
   there = d.there;
@@ -313,15 +313,15 @@ module _ {j : ℕ} {heap heap₁ slots slots₁ : List ℕ} {st : Machine} {b : 
         ∙ sym (d.answer ys (next ys)) ∙ sym (e ys);
   }
 
-  pub under-done : {c c₁ : View} {res : List TypeEntry → Res State} (next : List TypeEntry → Val → State → Run State) → r.out.status ≡ Done
+  pub under_done : {c c₁ : View} {res : List TypeEntry → Res State} (next : List TypeEntry → Val → State → Run State) → r.out.status ≡ Done
       → ((ys : List TypeEntry) → res ys ≡ after (res₁ ys) (λ σ. leave σ (next ys)))
       → {k : ℕ} (l : ℕ) → j + k ≤ l → {heap₂ slots₂ : List ℕ} {out : Outcome}
       → RanBackward k heap₁ heap₂ slots₁ slots₂ r.out.state c₁ out
       (λ ys. next ys (value_at heap₁ r.newest) (state_of heap₁ r.out.bindings) r.out.state.fuel)
       → Follows heap₁ c c₁ r.out.state.top → RanBackward l heap heap₂ slots slots₂ st c out res
-  under-done next s e l le b₂ F = record {
+  under_done next s e l le b₂ F = record {
     moves = moves-then l le d.moves b₂.moves;
     follows = λ q. follows_then F (b₂.follows q);
-    answer = λ ys. b₂.answer ys ∙ sym (left-done heap₁ r.out.bindings r.newest r.out.state.fuel (next ys) s) ∙ sym (d.answer ys (next ys))
+    answer = λ ys. b₂.answer ys ∙ sym (left_done heap₁ r.out.bindings r.newest r.out.state.fuel (next ys) s) ∙ sym (d.answer ys (next ys))
         ∙ sym (e ys);
   }

@@ -1,4 +1,4 @@
--- The run of a function in code is the rules' `runBackward`: its ancilla values are known, its dynamic parameter is not, and the value that
+-- The run of a function in code is the rules' `run_backward`: its ancilla values are known, its dynamic parameter is not, and the value that
 -- this was met with is the answer.
 use Prim.Native.Nat.{ℕ, ◌+◌, ◌<◌}
 use native.Mathlib.Omega.{arith}
@@ -6,27 +6,27 @@ use mathlib.Core.Path.{◌≡◌, refl, sym, ap, ap₂, ◌∙◌}
 use mathlib.Core.Option.{none, some}
 use mathlib.Core.List.{List, [], ◌∷◌, map}
 use lib.ListN.{get_or}
-use package.Rattle.rules.specs.Limits.{fits, maxFunctions, maxVariables}
+use package.Rattle.rules.specs.Limits.{fits, max_functions, max_variables}
 use package.Rattle.rules.specs.Val.{Val}
 use package.Rattle.rules.specs.Term.{Term}
 use package.Rattle.rules.specs.Run.{Res, ok, stop, stuck, Run, after, give, lost}
-use package.Rattle.rules.specs.Machine.{State, leave, backward, runBackward}
+use package.Rattle.rules.specs.Machine.{State, leave, backward, run_backward}
 use package.Rattle.calls.specs.Entries.{TypeEntry}
-use package.Rattle.decoded.specs.Rows.{bodyIn, programIn, treeIn}
+use package.Rattle.decoded.specs.Rows.{body_in, program_in, tree_in}
 use package.Rattle.decoded.proofs.Trees.{called-body, called-tree}
 use package.Rattle.valuegraph.specs.Nodes.{value_at}
 use package.Rattle.scopes.specs.Bindings.{View, bound}
-use package.Rattle.scopes.specs.Slots.{Machine, Scope, machine_of, slots_of, scopeIn, found, nodeOr}
+use package.Rattle.scopes.specs.Slots.{Machine, Scope, machine_of, slots_of, scope_in, found, node_or}
 use package.Rattle.scopes.specs.declared.bindings.Bindings.{Bindings}
 use package.Rattle.scopes.proofs.Views.{tells_first}
-use package.Rattle.yields.specs.Yields.{ancillaeAt}
+use package.Rattle.yields.specs.Yields.{ancillae_at}
 use package.Rattle.forward.proofs.Starting.{arguments-ancillae}
-use package.Rattle.backward.specs.Outcomes.{Status, Done, Refused, Inner, whyOf, statusOf, outcomeOf, refusalOf, leftWith, inner_of, scopeView}
-use package.Rattle.backward.specs.Ready.{Ready, RanUnder, Prepared, PreparedUnder, GoneUnder, underOf, Leavable, underAt}
-use package.Rattle.backward.specs.Calls.{Starts, returned, Returns, StartsIn, valuesScope}
+use package.Rattle.backward.specs.Outcomes.{Status, Done, Refused, Inner, why_of, status_of, outcome_of, refusal_of, left_with, inner_of, scope_view}
+use package.Rattle.backward.specs.Ready.{Ready, RanUnder, Prepared, PreparedUnder, GoneUnder, under_of, Leavable, under_at}
+use package.Rattle.backward.specs.Calls.{Starts, returned, Returns, StartsIn, values_scope}
 use package.Rattle.backward.proofs.Runs.{refusal-after, not_done, small_top}
-use package.Rattle.backward.proofs.Stops.{is-stopped}
-use package.Rattle.backward.proofs.Leaving.{held-under, looked, in-slot}
+use package.Rattle.backward.proofs.Stops.{is_stopped}
+use package.Rattle.backward.proofs.Leaving.{held-under, looked, in_slot}
 use package.Rattle.backward.proofs.Calling.{arguments-state, body-ready}
 use Rattle.backward.specs.declared.outcomes.Out.{Out}
 
@@ -50,8 +50,8 @@ leave-value (ok (some v ∷ σ) f) = refl
 leave-value (stop n e) = refl
 leave-value stuck = refl
 
-left-returned : (heap : List ℕ) (b : View) (node fuel : ℕ) (s : Status) → after (leftWith heap b node fuel s keep) newest ≡ returned heap node fuel s
-unfolding after newest leftWith returned
+left-returned : (heap : List ℕ) (b : View) (node fuel : ℕ) (s : Status) → after (left_with heap b node fuel s keep) newest ≡ returned heap node fuel s
+unfolding after newest left_with returned
 left-returned heap b node fuel Done = refl
 left-returned heap b node fuel (Refused why) = refusal-after why newest
 
@@ -59,30 +59,30 @@ left-returned heap b node fuel (Refused why) = refusal-after why newest
 -- The run
 
 module _ {code heap slots : List ℕ} {st : Machine} {args : View} {q g node room : ℕ} (S : Starts code heap slots st args q g node room) where
-  pub start-reads : g < maxFunctions
-  start-reads = omega (arith, S.function, S.machine.rows.few-functions)
+  pub start-reads : g < max_functions
+  start-reads = omega (arith, S.function, S.machine.rows.few_functions)
 
-  pub start-space : args.len < maxVariables
+  pub start-space : args.len < max_variables
   start-space = omega (arith, S.arguments.all, S.parameters, S.machine.bodies.few g S.function)
 
-  module _ {u : ℕ} (qu : u ≡ bodyIn code g) where
+  module _ {u : ℕ} (qu : u ≡ body_in code g) where
     pub start-ready : Ready 0 0 code heap slots st args q (args.len + 1) u room
     start-ready = body-ready S.machine S.arguments S.function S.parameters qu
 
-    pub start-done : {heap' slots' : List ℕ} {r : Inner} → RanUnder 0 heap heap' slots slots' st args r (underOf code heap st args q u (value_at heap node) room)
+    pub start_done : {heap' slots' : List ℕ} {r : Inner} → RanUnder 0 heap heap' slots slots' st args r (under_of code heap st args q u (value_at heap node) room)
         → Returns code heap heap' slots slots' st args q g node room r
-    unfolding runBackward
-    start-done {heap'} {slots'} {r} d = record {
+    unfolding run_backward
+    start_done {heap'} {slots'} {r} d = record {
       moves = d.moves;
       there = d.there;
       answer = λ ys.
           sym (left-returned heap' r.out.bindings r.newest r.out.state.fuel r.out.status)
           ∙ ap (λ x. after x newest) (sym (d.answer ys keep))
-          ∙ sym (leave-value (underOf code heap st args q u (value_at heap node) room ys))
-          ∙ ap₂ (λ σ (T : Term). after (backward fits (programIn code ys) room (ancillaeAt heap args.slots 0 q) (none ∷ σ) T (value_at heap node)
+          ∙ sym (leave-value (under_of code heap st args q u (value_at heap node) room ys))
+          ∙ ap₂ (λ σ (T : Term). after (backward fits (program_in code ys) room (ancillae_at heap args.slots 0 q) (none ∷ σ) T (value_at heap node)
           st.fuel) (λ σ. leave σ (λ w σ. give w)))
-          (sym (arguments-state S.arguments (small_top S.machine))) (ap (treeIn code ys) qu ∙ sym (called-body code ys g))
-          ∙ ap (λ (a : List Val). after (backward fits (programIn code ys) room a (none ∷ map some a) (function ys) (value_at heap node) st.fuel)
+          (sym (arguments-state S.arguments (small_top S.machine))) (ap (tree_in code ys) qu ∙ sym (called-body code ys g))
+          ∙ ap (λ (a : List Val). after (backward fits (program_in code ys) room a (none ∷ map some a) (function ys) (value_at heap node) st.fuel)
           (λ σ. leave σ (λ w σ. give w)))
           (sym (arguments-ancillae heap args.slots 0 q));
     }
@@ -94,56 +94,56 @@ module _ {code heap slots : List ℕ} {st : Machine} {args : View} {q g node roo
 -- In code
 
 module _ {code heap st : List ℕ} {q g node room : ℕ} (S : StartsIn code heap st q g node room) where
-  pub begin-space : q < maxVariables
-  begin-space = start-space S.starts
+  pub begin_space : q < max_variables
+  begin_space = start-space S.starts
 
-  module _ {sc : Scope} (w : sc ≡ valuesScope q) {u : ℕ} (qu : u ≡ bodyIn code g) where
-    pub begin-few : sc.n < maxVariables
-    begin-few = rw w begin-space
+  module _ {sc : Scope} (w : sc ≡ values_scope q) {u : ℕ} (qu : u ≡ body_in code g) where
+    pub begin_few : sc.n < max_variables
+    begin_few = rw w begin_space
 
-    pub begin-prepared : {args : Bindings} → args.head ≡ 0 → Prepared 0 0 code heap (slots_of st) (machine_of st) args sc (sc.n + 1) u room
-    begin-prepared none-bound = rw w (record {
+    pub begin_prepared : {args : Bindings} → args.head ≡ 0 → Prepared 0 0 code heap (slots_of st) (machine_of st) args sc (sc.n + 1) u room
+    begin_prepared none_bound = rw w (record {
       ready = start-ready S.starts qu;
-      tells = tells_first heap (slots_of st) 0 q (machine_of st).top none-bound S.starts.machine.graph.some;
+      tells = tells_first heap (slots_of st) 0 q (machine_of st).top none_bound S.starts.machine.graph.some;
       older = record { held = λ j l. absurd (omega arith) };
       space = omega (arith, S.space);
     })
 
     module _ {heap' slots' : List ℕ} {m' : Machine} {r : Out}
-        (G : GoneUnder heap heap' (slots_of st) slots' (machine_of st) m' sc r (underAt code heap (slots_of st) (machine_of st) sc u (value_at heap node) room))
+        (G : GoneUnder heap heap' (slots_of st) slots' (machine_of st) m' sc r (under_at code heap (slots_of st) (machine_of st) sc u (value_at heap node) room))
       where
-        here : GoneUnder heap heap' (slots_of st) slots' (machine_of st) m' (valuesScope q) r
-            (underAt code heap (slots_of st) (machine_of st) (valuesScope q) u (value_at heap node) room)
+        here : GoneUnder heap heap' (slots_of st) slots' (machine_of st) m' (values_scope q) r
+            (under_at code heap (slots_of st) (machine_of st) (values_scope q) u (value_at heap node) room)
         here = rw w at G
 
-        pub begin-leaves : r.stop ≡ 0 → Leavable heap' slots' r.state sc m'.top
-        begin-leaves e =
+        pub begin_leaves : r.stop ≡ 0 → Leavable heap' slots' r.state sc m'.top
+        begin_leaves e =
             looked (held-under S.starts.machine refl here) here e q (omega arith) (omega arith) (omega (arith, S.space)) (here.slot e)
             (ap (λ (sc : Scope). sc.base) w) (ap (λ (sc : Scope). sc.n) w)
 
-        all_done : Returns code heap heap' (slots_of st) slots' (machine_of st) (scopeView (slots_of st) (valuesScope q)) q g node room
-            (inner_of heap' r.stop slots' m' (valuesScope q))
-        all_done = start-done S.starts qu here.ran
+        all_done : Returns code heap heap' (slots_of st) slots' (machine_of st) (scope_view (slots_of st) (values_scope q)) q g node room
+            (inner_of heap' r.stop slots' m' (values_scope q))
+        all_done = start_done S.starts qu here.ran
 
-        pub input-there : r.stop ≡ 0 → {x : ℕ} → x ≡ nodeOr (bound heap' r.state sc.n) → {stop : ℕ} → stop ≡ r.stop
-            → Returns code heap heap' (slots_of st) slots' (machine_of st) (scopeView (slots_of st) (valuesScope q)) q g node room
-            (record { out = outcomeOf stop slots' m' (valuesScope q); newest = x })
-        input-there e qx f =
-            rw (in-slot (held-under S.starts.machine refl here) here e q (omega arith) (omega arith) (rw w at qx), f) all_done
+        pub input_there : r.stop ≡ 0 → {x : ℕ} → x ≡ node_or (bound heap' r.state sc.n) → {stop : ℕ} → stop ≡ r.stop
+            → Returns code heap heap' (slots_of st) slots' (machine_of st) (scope_view (slots_of st) (values_scope q)) q g node room
+            (record { out = outcome_of stop slots' m' (values_scope q); newest = x })
+        input_there e qx f =
+            rw (in_slot (held-under S.starts.machine refl here) here e q (omega arith) (omega arith) (rw w at qx), f) all_done
 
-        pub input-missing : ¬ (r.stop ≡ 0)
-            → Returns code heap heap' (slots_of st) slots' (machine_of st) (scopeView (slots_of st) (valuesScope q)) q g node room
-            (record { out = outcomeOf r.stop slots' m' (valuesScope q); newest = 0 })
+        pub input_missing : ¬ (r.stop ≡ 0)
+            → Returns code heap heap' (slots_of st) slots' (machine_of st) (scope_view (slots_of st) (values_scope q)) q g node room
+            (record { out = outcome_of r.stop slots' m' (values_scope q); newest = 0 })
         unfolding returned
-        input-missing d = record {
+        input_missing d = record {
           moves = all_done.moves;
-          there = λ n. absurd (not_done (is-stopped d) n);
-          answer = λ ys. refused 0 ∙ sym (refused (nodeOr (found heap' (get_or slots' (0 + q) 0)))) ∙ all_done.answer ys;
+          there = λ n. absurd (not_done (is_stopped d) n);
+          answer = λ ys. refused 0 ∙ sym (refused (node_or (found heap' (get_or slots' (0 + q) 0)))) ∙ all_done.answer ys;
         }
           where
-            refused : (x : ℕ) → returned heap' x m'.fuel (statusOf r.stop) ≡ refusalOf (whyOf r.stop)
-            refused x = ap (returned heap' x m'.fuel) (is-stopped d)
+            refused : (x : ℕ) → returned heap' x m'.fuel (status_of r.stop) ≡ refusal_of (why_of r.stop)
+            refused x = ap (returned heap' x m'.fuel) (is_stopped d)
 
-pub begin-inner : {code heap st : List ℕ} {q g node room : ℕ} (S : StartsIn code heap st q g node room) {callee : ℕ} → scopeIn callee ≡ valuesScope q
-    → {u : ℕ} → u ≡ bodyIn code g → {args : Bindings} → args.head ≡ 0 → PreparedUnder code heap st args callee u room
-begin-inner S w qu none-bound = record { full = S.full; prepared = begin-prepared S w qu none-bound }
+pub begin_inner : {code heap st : List ℕ} {q g node room : ℕ} (S : StartsIn code heap st q g node room) {callee : ℕ} → scope_in callee ≡ values_scope q
+    → {u : ℕ} → u ≡ body_in code g → {args : Bindings} → args.head ≡ 0 → PreparedUnder code heap st args callee u room
+begin_inner S w qu none_bound = record { full = S.full; prepared = begin_prepared S w qu none_bound }

@@ -5,9 +5,9 @@ use package.Rattle.rules.specs.Val.{Val}
 use package.Rattle.rules.specs.Run.{Res, ok, stop, stuck, Run}
 use package.Rattle.rules.specs.Machine.{State}
 use package.Rattle.valuegraph.specs.Nodes.{value_at}
-use package.Rattle.scopes.specs.Slots.{part, Machine, Scope, found, nodeOr}
+use package.Rattle.scopes.specs.Slots.{part, Machine, Scope, found, node_or}
 use package.Rattle.scopes.specs.Bindings.{View, view_of, state_of}
-use package.Rattle.forward.specs.Outcomes.{stopped, refusalIn}
+use package.Rattle.forward.specs.Outcomes.{stopped, refusal_in}
 use package.Rattle.forward.specs.declared.outcomes.Refusal.{Refusal as Carried}
 use package.Rattle.forward.specs.declared.outcomes.Refusal.TheVariants.{Fuel as cFuel, Height as cHeight, Long as cLong, FirstMatch as cFirstMatch, Stuck as cStuck}
 use Rattle.backward.specs.declared.outcomes.Out.{Out}
@@ -41,8 +41,8 @@ carried (cFirstMatch t) = FirstMatch t
 carried cStuck = Stuck
 
 -- A number that stops a run: from `stopped` on a refusal as forward has it, below it the term, and one more, that has no input (16).
-unfoldable pub whyOf : ℕ → Refusal
-whyOf s = elim (ltb s stopped) [ true ↦ NoInput ((s - 1) % part) | false ↦ carried (refusalIn ((s - stopped) / part) ((s - stopped) % part)) ]
+unfoldable pub why_of : ℕ → Refusal
+why_of s = elim (ltb s stopped) [ true ↦ NoInput ((s - 1) % part) | false ↦ carried (refusal_in ((s - stopped) / part) ((s - stopped) % part)) ]
 
 -- a number of 64 bits holds two below this one
 abbrev pub half : ℕ
@@ -53,52 +53,52 @@ unfoldable pub out_in : ℕ → Out
 out_in r = record { stop = r / half; state = record { head = r % half } }
 
 -- 0 stops nothing
-unfoldable pub statusOf : ℕ → Status
-statusOf s = elim (eqb s 0) [ true ↦ Done | false ↦ Refused (whyOf s) ]
+unfoldable pub status_of : ℕ → Status
+status_of s = elim (eqb s 0) [ true ↦ Done | false ↦ Refused (why_of s) ]
 
 -- what the slots of a scope hold
-abbrev pub scopeView : List ℕ → Scope → View
-scopeView slots sc = view_of slots sc.base sc.n
+abbrev pub scope_view : List ℕ → Scope → View
+scope_view slots sc = view_of slots sc.base sc.n
 
 -- the outcome that the number `s` says, with the machine that is left and the slots of a scope
-abbrev pub outcomeOf : ℕ → List ℕ → Machine → Scope → Outcome
-outcomeOf s slots m sc = record { status = statusOf s; state = m; bindings = scopeView slots sc }
+abbrev pub outcome_of : ℕ → List ℕ → Machine → Scope → Outcome
+outcome_of s slots m sc = record { status = status_of s; state = m; bindings = scope_view slots sc }
 
 ----------------------------------------------------------------
 -- What an outcome means
 
 -- the number of a refusal, and its place
-unfoldable pub refusalOf : {A : Type 0} → Refusal → Res A
-refusalOf (Fuel t) = stop 12 t
-refusalOf (Height t) = stop 13 t
-refusalOf (Long t) = stop 14 t
-refusalOf (FirstMatch t) = stop 15 t
-refusalOf (NoInput t) = stop 16 t
-refusalOf Stuck = stuck
+unfoldable pub refusal_of : {A : Type 0} → Refusal → Res A
+refusal_of (Fuel t) = stop 12 t
+refusal_of (Height t) = stop 13 t
+refusal_of (Long t) = stop 14 t
+refusal_of (FirstMatch t) = stop 15 t
+refusal_of (NoInput t) = stop 16 t
+refusal_of Stuck = stuck
 
 -- a status, with the bindings and the fuel that is left, on the heap that their nodes are in
 unfoldable pub answer_of : List ℕ → View → ℕ → Status → Res State
 answer_of heap b fuel Done = ok (state_of heap b) fuel
-answer_of heap b fuel (Refused why) = refusalOf why
+answer_of heap b fuel (Refused why) = refusal_of why
 
 -- the same with the rules' state itself
-unfoldable pub toldOf : State → ℕ → Status → Res State
-toldOf σ fuel Done = ok σ fuel
-toldOf σ fuel (Refused why) = refusalOf why
+unfoldable pub told_of : State → ℕ → Status → Res State
+told_of σ fuel Done = ok σ fuel
+told_of σ fuel (Refused why) = refusal_of why
 
 abbrev pub meaning : List ℕ → Outcome → Res State
 meaning heap out = answer_of heap out.bindings out.state.fuel out.status
 
 -- how a run goes on with the node of a variable that has left the scope, and the other bindings
-unfoldable pub leftWith : List ℕ → View → ℕ → ℕ → Status → (Val → State → Run State) → Res State
-leftWith heap b newest fuel Done next = next (value_at heap newest) (state_of heap b) fuel
-leftWith heap b newest fuel (Refused why) next = refusalOf why
+unfoldable pub left_with : List ℕ → View → ℕ → ℕ → Status → (Val → State → Run State) → Res State
+left_with heap b newest fuel Done next = next (value_at heap newest) (state_of heap b) fuel
+left_with heap b newest fuel (Refused why) next = refusal_of why
 
 -- Term `t` is entered with a value that is too long: 14 is met after 12 and 13.
-unfoldable pub tooLong : ℕ → ℕ → ℕ → Refusal
-tooLong zero room t = Fuel t
-tooLong (suc fuel) zero t = Height t
-tooLong (suc fuel) (suc room) t = Long t
+unfoldable pub too_long : ℕ → ℕ → ℕ → Refusal
+too_long zero room t = Fuel t
+too_long (suc fuel) zero t = Height t
+too_long (suc fuel) (suc room) t = Long t
 
 -- Term `t` makes values of one kind, and its value is of the kind `found`: inl against inr has no input (16), other kinds are of no typed value.
 unfoldable pub against : ℕ → ℕ → ℕ → Refusal
@@ -112,4 +112,4 @@ mismatch kind found t = elim (eqb kind 1) [
 
 -- the outcome of a run in the scope with one variable more, which then leaves it
 abbrev pub inner_of : List ℕ → ℕ → List ℕ → Machine → Scope → Inner
-inner_of heap s slots m sc = record { out = outcomeOf s slots m sc; newest = nodeOr (found heap (get_or slots (sc.base + sc.n) 0)) }
+inner_of heap s slots m sc = record { out = outcome_of s slots m sc; newest = node_or (found heap (get_or slots (sc.base + sc.n) 0)) }

@@ -3,23 +3,23 @@
 -- slots and the state that the code has, and both to the numbers that it is lent. Laws: proofs/Runs; proofs/Frames of the last sections.
 use Rattle.std.specs.Prelude.{ℕ, ◌+◌, ◌*◌, ◌-◌, ◌≤◌, ◌<◌, ◌≡◌, Bool, true, false, List, ◌∷◌, length, get_or, set, eqb}
 use Rattle.std.proofs.Math.Option.{none}
-use package.Rattle.rules.specs.Limits.{fits, maxVariables}
+use package.Rattle.rules.specs.Limits.{fits, max_variables}
 use package.Rattle.rules.specs.Val.{Val, pair}
-use package.Rattle.rules.specs.Term.{byAncilla}
+use package.Rattle.rules.specs.Term.{by_ancilla}
 use package.Rattle.rules.specs.Run.{Res, Run, after}
-use package.Rattle.rules.specs.Machine.{State, leave, forward, branchBack, backwardStep, backward}
+use package.Rattle.rules.specs.Machine.{State, leave, forward, branch_back, backward_step, backward}
 use package.Rattle.calls.specs.Entries.{TypeEntry}
-use package.Rattle.program.specs.Kinds.{caseKind}
-use package.Rattle.decoded.specs.Rows.{kindIn, firstIn, termCount, treeIn, programIn, Rows}
-use package.Rattle.valuegraph.specs.Nodes.{nodeBytes, ofKind, value_at, Agree, kind_at as nodeKind}
-use package.Rattle.scopes.specs.Slots.{unknown, slotCount, stateCount, Machine, Scope, machine_of, slots_of, scopeIn, found, nodeOr, Slot, Slots, slotsPerHeight}
-use package.Rattle.scopes.specs.Cells.{cellCount}
-use package.Rattle.scopes.specs.Bindings.{View, state_of, stateIn, Bound, AfterLeaving, Tells, bound, seen, Looks, MeetsAt}
+use package.Rattle.program.specs.Kinds.{case_kind}
+use package.Rattle.decoded.specs.Rows.{kind_in, first_in, term_count, tree_in, program_in, Rows}
+use package.Rattle.valuegraph.specs.Nodes.{node_bytes, of_kind, value_at, Agree, kind_at as nodeKind}
+use package.Rattle.scopes.specs.Slots.{unknown, slot_count, state_count, Machine, Scope, machine_of, slots_of, scope_in, found, node_or, Slot, Slots, slots_per_height}
+use package.Rattle.scopes.specs.Cells.{cell_count}
+use package.Rattle.scopes.specs.Bindings.{View, state_of, state_in, Bound, AfterLeaving, Tells, bound, seen, Looks, MeetsAt}
 use package.Rattle.scopes.specs.declared.bindings.Bindings.{Bindings}
-use package.Rattle.yields.specs.Yields.{ancillaeAt, ancillaeIn}
+use package.Rattle.yields.specs.Yields.{ancillae_at, ancillae_in}
 use package.Rattle.forward.specs.Ready.{Graph}
 use package.Rattle.backward.specs.Scoped.{ScopedAt, Bodies}
-use package.Rattle.backward.specs.Outcomes.{Done, Refused, Outcome, Inner, statusOf, scopeView, outcomeOf, inner_of, meaning, toldOf, leftWith}
+use package.Rattle.backward.specs.Outcomes.{Done, Refused, Outcome, Inner, status_of, scope_view, outcome_of, inner_of, meaning, told_of, left_with}
 use Rattle.backward.specs.declared.outcomes.Refusal.TheVariants.{NoInput, Stuck}
 use Rattle.backward.specs.declared.outcomes.Out.{Out}
 use Rattle.backward.specs.declared.outcomes.Next.{Next}
@@ -33,10 +33,10 @@ pub record Held (k : ℕ) (code heap slots : List ℕ) (st : Machine) (room : �
   pub rows : Rows code
   pub bodies : Bodies code
   pub graph : Graph heap st.top
-  pub nodes : nodeBytes * (st.top + 2 * st.fuel + k) ≤ length heap
-  pub small : st.top + 2 * st.fuel + k ≤ cellCount
-  pub variables : slotsPerHeight * room ≤ length slots
-  pub all : length slots ≡ slotCount
+  pub nodes : node_bytes * (st.top + 2 * st.fuel + k) ≤ length heap
+  pub small : st.top + 2 * st.fuel + k ≤ cell_count
+  pub variables : slots_per_height * room ≤ length slots
+  pub all : length slots ≡ slot_count
 
 -- the view of a scope holds nodes and cells of the graph, and of the ancilla parameters nodes
 pub record Binds (heap : List ℕ) (b : View) (q top : ℕ) : Type 0 where
@@ -48,7 +48,7 @@ pub record Binds (heap : List ℕ) (b : View) (q top : ℕ) : Type 0 where
 pub record Ready (k h : ℕ) (code heap slots : List ℕ) (st : Machine) (b : View) (q n t room : ℕ) : Type 0 where
   pub machine : Held k code heap slots st room
   pub binds : Binds heap b q st.top
-  pub term : t < termCount code
+  pub term : t < term_count code
   pub scoped : ScopedAt code n t
   pub tall : h ≤ room
 
@@ -84,7 +84,7 @@ pub record Stays (heap : List ℕ) (st : Machine) (b : View) (out : Outcome) (re
 
 -- The newest variable leaves the scope, with a node in any case.
 pub record Goes (heap : List ℕ) (b : View) (r : AfterLeaving) : Type 0 where
-  pub newest : r.newest ≡ nodeOr (found heap (get_or b.slots (b.len - 1) 0))
+  pub newest : r.newest ≡ node_or (found heap (get_or b.slots (b.len - 1) 0))
   pub slots : r.state.slots ≡ b.slots
   pub len : r.state.len ≡ b.len - 1
 
@@ -94,35 +94,35 @@ pub record RanUnder (k : ℕ) (heap heap' slots slots' : List ℕ) (st : Machine
   pub follows : r.out.status ≡ Done → Follows heap' b r.out.bindings r.out.state.top
   pub there : r.out.status ≡ Done → r.newest < r.out.state.top
   pub answer : (ys : List TypeEntry) (next : Val → State → Run State) → after (res ys) (λ σ. leave σ next)
-      ≡ leftWith heap' r.out.bindings r.newest r.out.state.fuel r.out.status next
+      ≡ left_with heap' r.out.bindings r.newest r.out.state.fuel r.out.status next
 
 ----------------------------------------------------------------
 -- What is run
 
 -- the values of the ancilla parameters
-abbrev pub ancillaeOf : List ℕ → View → ℕ → List Val
-ancillaeOf heap b q = ancillaeAt heap b.slots 0 q
+abbrev pub ancillae_of : List ℕ → View → ℕ → List Val
+ancillae_of heap b q = ancillae_at heap b.slots 0 q
 
 -- term `t` with value `v`, from its entering on, with height `room`
 abbrev pub run_of : (code heap : List ℕ) → Machine → View → ℕ → ℕ → Val → ℕ → List TypeEntry → Res State
 run_of code heap st b q t v room ys =
-    backward fits (programIn code ys) room (ancillaeOf heap b q) (state_of heap b) (treeIn code ys t) v st.fuel
+    backward fits (program_in code ys) room (ancillae_of heap b q) (state_of heap b) (tree_in code ys t) v st.fuel
 
 -- the same, once the term is entered
 abbrev pub step_of : (code heap : List ℕ) → Machine → View → ℕ → ℕ → Val → ℕ → List TypeEntry → Res State
 step_of code heap st b q t v room ys =
-    backwardStep fits (programIn code ys) (forward fits (programIn code ys) (room - 1))
-    (backward fits (programIn code ys) (room - 1)) (ancillaeOf heap b q) (state_of heap b) (treeIn code ys t) v st.fuel
+    backward_step fits (program_in code ys) (forward fits (program_in code ys) (room - 1))
+    (backward fits (program_in code ys) (room - 1)) (ancillae_of heap b q) (state_of heap b) (tree_in code ys t) v st.fuel
 
 -- the same from its entering on, in a scope with one variable more, of which nothing is known
-abbrev pub underOf : (code heap : List ℕ) → Machine → View → ℕ → ℕ → Val → ℕ → List TypeEntry → Res State
-underOf code heap st b q t v room ys =
-    backward fits (programIn code ys) room (ancillaeOf heap b q) (none ∷ state_of heap b) (treeIn code ys t) v st.fuel
+abbrev pub under_of : (code heap : List ℕ) → Machine → View → ℕ → ℕ → Val → ℕ → List TypeEntry → Res State
+under_of code heap st b q t v room ys =
+    backward fits (program_in code ys) room (ancillae_of heap b q) (none ∷ state_of heap b) (tree_in code ys t) v st.fuel
 
 -- the same with the variable bound, which leaves when the term is run (02, F-3)
-abbrev pub boundOf : (code heap : List ℕ) → Machine → View → ℕ → ℕ → (v w : Val) → ℕ → List TypeEntry → Res State
-boundOf code heap st b q t v w room ys =
-    branchBack (backward fits (programIn code ys) room) (ancillaeOf heap b q) (state_of heap b) (treeIn code ys t) v w st.fuel
+abbrev pub bound_of : (code heap : List ℕ) → Machine → View → ℕ → ℕ → (v w : Val) → ℕ → List TypeEntry → Res State
+bound_of code heap st b q t v w room ys =
+    branch_back (backward fits (program_in code ys) room) (ancillae_of heap b q) (state_of heap b) (tree_in code ys t) v w st.fuel
 
 ----------------------------------------------------------------
 -- Slots and state
@@ -130,82 +130,82 @@ boundOf code heap st b q t v w room ys =
 -- The state `b` and the slots of a scope agree, with the callers' scopes below and room for what is above; term `t` can be run in the scope of
 -- `s` variables from there on.
 pub record Prepared (k h : ℕ) (code heap slots : List ℕ) (m : Machine) (b : Bindings) (sc : Scope) (s t room : ℕ) : Type 0 where
-  pub ready : Ready k h code heap slots m (scopeView slots sc) sc.q s t room
+  pub ready : Ready k h code heap slots m (scope_view slots sc) sc.q s t room
   pub tells : Tells heap slots b sc.base sc.q sc.n m.top
   pub older : Slots heap slots sc.base m.top
-  pub space : sc.base + s + slotsPerHeight * room ≤ slotCount
+  pub space : sc.base + s + slots_per_height * room ≤ slot_count
 
 -- A run in a scope, which leaves the slots below as they were.
 pub record Gone (k : ℕ) (heap heap' slots slots' : List ℕ) (m m' : Machine) (sc : Scope) (r : Out) (res : List TypeEntry → Res State) : Type 0 where
-  pub ran : RanBackward k heap heap' slots slots' m (scopeView slots sc) (outcomeOf r.stop slots' m' sc) res
+  pub ran : RanBackward k heap heap' slots slots' m (scope_view slots sc) (outcome_of r.stop slots' m' sc) res
   pub below : (j : ℕ) → j < sc.base → get_or slots j 0 ≡ get_or slots' j 0
   pub tells : r.stop ≡ 0 → Tells heap' slots' r.state sc.base sc.q sc.n m'.top
 
 -- The same in the scope with one variable more, which is there to leave it.
 pub record GoneUnder (heap heap' slots slots' : List ℕ) (m m' : Machine) (sc : Scope) (r : Out) (res : List TypeEntry → Res State) : Type 0 where
-  pub ran : RanUnder 0 heap heap' slots slots' m (scopeView slots sc) (inner_of heap' r.stop slots' m' sc) res
+  pub ran : RanUnder 0 heap heap' slots slots' m (scope_view slots sc) (inner_of heap' r.stop slots' m' sc) res
   pub slot : r.stop ≡ 0 → Slot heap' (get_or slots' (sc.base + sc.n) 0) m'.top
   pub below : (j : ℕ) → j < sc.base → get_or slots j 0 ≡ get_or slots' j 0
   pub tells : r.stop ≡ 0 → Tells heap' slots' r.state sc.base sc.q (sc.n + 1) m'.top
 
 -- The newest variable, the one above scope `sc`, can be looked up: in its slot the state sees what it binds it to.
 pub record Leavable (heap slots : List ℕ) (b : Bindings) (sc : Scope) (top : ℕ) : Type 0 where
-  pub there : sc.base + sc.n < slotCount
+  pub there : sc.base + sc.n < slot_count
   pub looks : Looks heap b (get_or slots (sc.base + sc.n) 0) top
   pub told : seen heap b (get_or slots (sc.base + sc.n) 0) ≡ bound heap b sc.n
 
 -- what is run, by the slots of a scope
 abbrev pub run_at : (code heap slots : List ℕ) → Machine → Scope → ℕ → Val → ℕ → List TypeEntry → Res State
-run_at code heap slots m sc t v room = run_of code heap m (scopeView slots sc) sc.q t v room
+run_at code heap slots m sc t v room = run_of code heap m (scope_view slots sc) sc.q t v room
 
-abbrev pub underAt : (code heap slots : List ℕ) → Machine → Scope → ℕ → Val → ℕ → List TypeEntry → Res State
-underAt code heap slots m sc t v room = underOf code heap m (scopeView slots sc) sc.q t v room
+abbrev pub under_at : (code heap slots : List ℕ) → Machine → Scope → ℕ → Val → ℕ → List TypeEntry → Res State
+under_at code heap slots m sc t v room = under_of code heap m (scope_view slots sc) sc.q t v room
 
 abbrev pub bound_at : (code heap slots : List ℕ) → Machine → Scope → ℕ → (v w : Val) → ℕ → List TypeEntry → Res State
-bound_at code heap slots m sc t v w room = boundOf code heap m (scopeView slots sc) sc.q t v w room
+bound_at code heap slots m sc t v w room = bound_of code heap m (scope_view slots sc) sc.q t v w room
 
-abbrev pub stepAt : (code heap slots : List ℕ) → Machine → Scope → ℕ → Val → ℕ → List TypeEntry → Res State
-stepAt code heap slots m sc t v room = step_of code heap m (scopeView slots sc) sc.q t v room
+abbrev pub step_at : (code heap slots : List ℕ) → Machine → Scope → ℕ → Val → ℕ → List TypeEntry → Res State
+step_at code heap slots m sc t v room = step_of code heap m (scope_view slots sc) sc.q t v room
 
 ----------------------------------------------------------------
 -- In code: the numbers that a run is lent, and a scope in one number
 
 -- Term `t` can be run in the scope; in the scope with one variable more.
 pub record PreparedIn (k h : ℕ) (code heap st : List ℕ) (b : Bindings) (scope t room : ℕ) : Type 0 where
-  pub full : length st ≡ stateCount
-  pub prepared : Prepared k h code heap (slots_of st) (machine_of st) b (scopeIn scope) (scopeIn scope).n t room
+  pub full : length st ≡ state_count
+  pub prepared : Prepared k h code heap (slots_of st) (machine_of st) b (scope_in scope) (scope_in scope).n t room
 
 pub record PreparedUnder (code heap st : List ℕ) (b : Bindings) (scope t room : ℕ) : Type 0 where
-  pub full : length st ≡ stateCount
-  pub prepared : Prepared 0 0 code heap (slots_of st) (machine_of st) b (scopeIn scope) ((scopeIn scope).n + 1) t room
+  pub full : length st ≡ state_count
+  pub prepared : Prepared 0 0 code heap (slots_of st) (machine_of st) b (scope_in scope) ((scope_in scope).n + 1) t room
 
 -- Term `t` can be run in the scope with one variable more, for which there is a slot and a cell, and a cell more when it leaves.
 pub record PreparedBound (code heap st : List ℕ) (b : Bindings) (scope t room : ℕ) : Type 0 where
-  pub full : length st ≡ stateCount
-  pub few : (scopeIn scope).n < maxVariables
-  pub prepared : Prepared 2 0 code heap (slots_of st) (machine_of st) b (scopeIn scope) ((scopeIn scope).n + 1) t room
+  pub full : length st ≡ state_count
+  pub few : (scope_in scope).n < max_variables
+  pub prepared : Prepared 2 0 code heap (slots_of st) (machine_of st) b (scope_in scope) ((scope_in scope).n + 1) t room
 
 -- Case `t` chooses by an ancilla (02, F-3), or does not: whatever the type entries are.
 pub record CaseThat (c : Bool) (code : List ℕ) (scope t : ℕ) : Type 0 where
-  pub kind : kindIn code t ≡ caseKind
-  pub chooses : (ys : List TypeEntry) → byAncilla (scopeIn scope).q (scopeIn scope).n (treeIn code ys (firstIn code t)) ≡ c
+  pub kind : kind_in code t ≡ case_kind
+  pub chooses : (ys : List TypeEntry) → by_ancilla (scope_in scope).q (scope_in scope).n (tree_in code ys (first_in code t)) ≡ c
 
 -- one variable more can come into scope
 pub record WidenReady (st : List ℕ) (scope : ℕ) : Type 0 where
-  pub full : length st ≡ stateCount
-  pub there : (scopeIn scope).base + (scopeIn scope).n < slotCount
-  pub few : (scopeIn scope).n < maxVariables
+  pub full : length st ≡ state_count
+  pub there : (scope_in scope).base + (scope_in scope).n < slot_count
+  pub few : (scope_in scope).n < max_variables
 
 -- it came into scope, not known
 pub record Widened (st st' : List ℕ) (scope wide : ℕ) : Type 0 where
   pub lengths : length st' ≡ length st
-  pub slots : slots_of st' ≡ set (slots_of st) ((scopeIn scope).base + (scopeIn scope).n) unknown
+  pub slots : slots_of st' ≡ set (slots_of st) ((scope_in scope).base + (scope_in scope).n) unknown
   pub machine : machine_of st' ≡ machine_of st
-  pub scope-is : scopeIn wide ≡ record { base = (scopeIn scope).base; q = (scopeIn scope).q; n = (scopeIn scope).n + 1 }
+  pub scope_is : scope_in wide ≡ record { base = (scope_in scope).base; q = (scope_in scope).q; n = (scope_in scope).n + 1 }
 
 -- a run from the numbers `st` on; and to the numbers `st'`
 abbrev pub GoneFrom : ℕ → (heap heap' st slots' : List ℕ) → Machine → ℕ → Out → (List TypeEntry → Res State) → Type 0
-GoneFrom k heap heap' st slots' m' scope r res = Gone k heap heap' (slots_of st) slots' (machine_of st) m' (scopeIn scope) r res
+GoneFrom k heap heap' st slots' m' scope r res = Gone k heap heap' (slots_of st) slots' (machine_of st) m' (scope_in scope) r res
 
 abbrev pub GoneIn : ℕ → (heap heap' st st' : List ℕ) → ℕ → Out → (List TypeEntry → Res State) → Type 0
 GoneIn k heap heap' st st' scope r res = GoneFrom k heap heap' st (slots_of st') (machine_of st') scope r res
@@ -214,28 +214,28 @@ GoneIn k heap heap' st st' scope r res = GoneFrom k heap heap' st (slots_of st')
 -- that `b` is to the state that is handed back, or to the refusal.
 pub record RunsBack (code heap heap' st st' : List ℕ) (b : Bindings) (scope t node room : ℕ) (r : Out) : Type 0 where
   pub lengths : length st' ≡ length st
-  pub gone : GoneIn 0 heap heap' st st' scope r (run_at code heap (slots_of st) (machine_of st) (scopeIn scope) t (value_at heap node) room)
+  pub gone : GoneIn 0 heap heap' st st' scope r (run_at code heap (slots_of st) (machine_of st) (scope_in scope) t (value_at heap node) room)
   pub answer : (ys : List TypeEntry)
-      → toldOf (stateIn heap' (slots_of st') r.state (scopeIn scope)) (machine_of st').fuel (statusOf r.stop)
-      ≡ backward fits (programIn code ys) room (ancillaeIn heap st scope) (stateIn heap (slots_of st) b (scopeIn scope)) (treeIn code ys t)
+      → told_of (state_in heap' (slots_of st') r.state (scope_in scope)) (machine_of st').fuel (status_of r.stop)
+      ≡ backward fits (program_in code ys) room (ancillae_in heap st scope) (state_in heap (slots_of st) b (scope_in scope)) (tree_in code ys t)
       (value_at heap node) (machine_of st).fuel
 
 -- The same by the slots, from the term's entering on; and in the scope with one variable more.
 
 pub record StepsBack (code heap heap' st st' : List ℕ) (scope t node room : ℕ) (r : Out) : Type 0 where
   pub lengths : length st' ≡ length st
-  pub gone : GoneIn 2 heap heap' st st' scope r (stepAt code heap (slots_of st) (machine_of st) (scopeIn scope) t (value_at heap node) room)
+  pub gone : GoneIn 2 heap heap' st st' scope r (step_at code heap (slots_of st) (machine_of st) (scope_in scope) t (value_at heap node) room)
 
 pub record RunsUnder (code heap heap' st st' : List ℕ) (scope t node room : ℕ) (r : Out) : Type 0 where
   pub lengths : length st' ≡ length st
-  pub gone : GoneUnder heap heap' (slots_of st) (slots_of st') (machine_of st) (machine_of st') (scopeIn scope) r
-      (underAt code heap (slots_of st) (machine_of st) (scopeIn scope) t (value_at heap node) room)
+  pub gone : GoneUnder heap heap' (slots_of st) (slots_of st') (machine_of st) (machine_of st') (scope_in scope) r
+      (under_at code heap (slots_of st) (machine_of st) (scope_in scope) t (value_at heap node) room)
 
 -- ... and in the scope with one variable more, bound to the value of `part`, which leaves at the end
 pub record RunsBound (code heap heap' st st' : List ℕ) (scope t part node room : ℕ) (r : Out) : Type 0 where
   pub lengths : length st' ≡ length st
   pub gone : GoneIn 2 heap heap' st st' scope r
-      (bound_at code heap (slots_of st) (machine_of st) (scopeIn scope) t (value_at heap node) (value_at heap part) room)
+      (bound_at code heap (slots_of st) (machine_of st) (scope_in scope) t (value_at heap node) (value_at heap part) room)
 
 ----------------------------------------------------------------
 -- The last part of a term
@@ -246,7 +246,7 @@ pub record GoesOn (k : ℕ) (code heap heap' st st' : List ℕ) (scope room : �
   pub there : node < (machine_of st').top
   pub spends : (machine_of st').fuel ≤ (machine_of st).fuel
   pub becomes : {heap'' slots'' : List ℕ} {m'' : Machine} {r : Out}
-      → GoneFrom 0 heap' heap'' st' slots'' m'' scope r (run_at code heap' (slots_of st') (machine_of st') (scopeIn scope) t (value_at heap' node) room)
+      → GoneFrom 0 heap' heap'' st' slots'' m'' scope r (run_at code heap' (slots_of st') (machine_of st') (scope_in scope) t (value_at heap' node) room)
       → GoneFrom k heap heap'' st slots'' m'' scope r res
 
 -- what a step comes to: the run is over, or goes on
@@ -258,16 +258,16 @@ pub record LeadsTo (k : ℕ) (code heap heap' st st' : List ℕ) (scope room : �
 -- of term `t`, entered with the value at `node`
 abbrev pub StepsTo : (code heap heap' st st' : List ℕ) → ℕ → ℕ → ℕ → ℕ → Next → Type 0
 StepsTo code heap heap' st st' scope t node room n = LeadsTo 2 code heap heap' st st' scope (room - 1)
-    (stepAt code heap (slots_of st) (machine_of st) (scopeIn scope) t (value_at heap node) room) n
+    (step_at code heap (slots_of st) (machine_of st) (scope_in scope) t (value_at heap node) room) n
 
 -- of term `t`, to be entered with a value that is made for it
 abbrev pub Enters : (code heap heap' st st' : List ℕ) → ℕ → ℕ → Val → ℕ → Next → Type 0
 Enters code heap heap' st st' scope t v room n = LeadsTo 1 code heap heap' st st' scope room
-    (run_at code heap (slots_of st) (machine_of st) (scopeIn scope) t v room) n
+    (run_at code heap (slots_of st) (machine_of st) (scope_in scope) t v room) n
 
 abbrev pub EntersSingle : (code heap heap' st st' : List ℕ) → ℕ → ℕ → ℕ → ℕ → ℕ → Next → Type 0
 EntersSingle code heap heap' st st' scope t kind part room n = Enters code heap heap' st st' scope t
-    (ofKind kind (value_at heap part) (value_at heap part)) room n
+    (of_kind kind (value_at heap part) (value_at heap part)) room n
 
 abbrev pub EntersPair : (code heap heap' st st' : List ℕ) → ℕ → ℕ → ℕ → ℕ → ℕ → Next → Type 0
 EntersPair code heap heap' st st' scope t left right room n = Enters code heap heap' st st' scope t (pair (value_at heap left) (value_at heap right)) room n
@@ -278,10 +278,10 @@ EntersPair code heap heap' st st' scope t left right room n = Enters code heap h
 -- Variable `i` was met at term `t`: 16 where the values differ.
 pub record Variable (heap heap' st st' : List ℕ) (b : Bindings) (sc : Scope) (i node t : ℕ) (r : Out) : Type 0 where
   pub met : MeetsAt heap heap' st st' b sc i node (record { agrees = eqb r.stop 0; state = r.state })
-  pub differs : (r.stop ≡ 0 → ⊥) → statusOf r.stop ≡ Refused (NoInput t)
+  pub differs : (r.stop ≡ 0 → ⊥) → status_of r.stop ≡ Refused (NoInput t)
 
 -- The unit was met with a value.
 pub record UnitMet (heap : List ℕ) (b : Bindings) (node : ℕ) (r : Out) : Type 0 where
   pub met : nodeKind heap node ≡ 0 → r.stop ≡ 0
-  pub differs : (nodeKind heap node ≡ 0 → ⊥) → statusOf r.stop ≡ Refused Stuck
+  pub differs : (nodeKind heap node ≡ 0 → ⊥) → status_of r.stop ≡ Refused Stuck
   pub state : r.state ≡ b

@@ -4,9 +4,9 @@
 // node; `over` and `over_pair` make new ones. The slots of scopes stand in the lent numbers `st`, behind the machine, and find the cells of the
 // state; a function that is called has its scope behind its caller's. Laws: proofs/Entering to Calling, in code proofs/Arriving to Called.
 ghost use Rattle.std.specs.Prelude.{◌≡◌, true, false, ◌<◌};
-ghost use Rattle.program.specs.Kinds.{pairKind, letKind, letPairKind, caseKind, callKind, unrollKind};
+ghost use Rattle.program.specs.Kinds.{pair_kind, let_kind, let_pair_kind, case_kind, call_kind, unroll_kind};
 ghost use Rattle.valuegraph.specs.Nodes.{Single};
-ghost use Rattle.decoded.specs.Rows.{kindIn};
+ghost use Rattle.decoded.specs.Rows.{kind_in};
 ghost use Rattle.scopes.specs.Slots.{machine_of};
 ghost use Rattle.yields.specs.Yields.{Wraps};
 ghost use Rattle.backward.specs.Outcomes.{out_in};
@@ -155,7 +155,7 @@ fn unwrap(
     kind: u8,
 ) -> Next
     requires prepared_in { PreparedIn 2 1 code.now ws.old st.old b scope t room }
-    requires node_bound { (node < (machine_of st.old).top) × Wraps (kindIn code.now t) kind }
+    requires node_bound { (node < (machine_of st.old).top) × Wraps (kind_in code.now t) kind }
     ensures { StepsTo code.now ws.old ws.new st.old st.new scope t node room result }
 {
     let found = nodes::kind_of(ws, node);
@@ -180,7 +180,7 @@ fn pair(
     room: u16,
 ) -> Next
     requires prepared_in { PreparedIn 2 1 code.now ws.old st.old b scope t room }
-    requires node_bound { (node < (machine_of st.old).top) × (kindIn code.now t ≡ pairKind) }
+    requires node_bound { (node < (machine_of st.old).top) × (kind_in code.now t ≡ pair_kind) }
     ensures { StepsTo code.now ws.old ws.new st.old st.new scope t node room result }
 {
     let found = nodes::kind_of(ws, node);
@@ -213,7 +213,7 @@ fn let_one(
     room: u16,
 ) -> Next
     requires prepared_in { PreparedIn 2 1 code.now ws.old st.old b scope t room }
-    requires node_bound { (node < (machine_of st.old).top) × (kindIn code.now t ≡ letKind) }
+    requires node_bound { (node < (machine_of st.old).top) × (kind_in code.now t ≡ let_kind) }
     ensures { StepsTo code.now ws.old ws.new st.old st.new scope t node room result }
 {
     let bound = rows::first_of(code, t);
@@ -243,7 +243,7 @@ fn let_two(
     room: u16,
 ) -> Next
     requires prepared_in { PreparedIn 2 1 code.now ws.old st.old b scope t room }
-    requires node_bound { (node < (machine_of st.old).top) × (kindIn code.now t ≡ letPairKind) }
+    requires node_bound { (node < (machine_of st.old).top) × (kind_in code.now t ≡ let_pair_kind) }
     ensures { StepsTo code.now ws.old ws.new st.old st.new scope t node room result }
 {
     let bound = rows::first_of(code, t);
@@ -275,7 +275,7 @@ fn choose(
     room: u16,
 ) -> Next
     requires prepared_in { PreparedIn 2 1 code.now ws.old st.old b scope t room }
-    requires node_bound { (node < (machine_of st.old).top) × (kindIn code.now t ≡ caseKind) }
+    requires node_bound { (node < (machine_of st.old).top) × (kind_in code.now t ≡ case_kind) }
     ensures { StepsTo code.now ws.old ws.new st.old st.new scope t node room result }
 {
     let q = state::ancillae_in(scope);
@@ -396,7 +396,7 @@ fn call(
     room: u16,
 ) -> Next
     requires prepared_in { PreparedIn 2 1 code.now ws.old st.old b scope t room }
-    requires node_bound { (node < (machine_of st.old).top) × (kindIn code.now t ≡ callKind) }
+    requires node_bound { (node < (machine_of st.old).top) × (kind_in code.now t ≡ call_kind) }
     ensures { StepsTo code.now ws.old ws.new st.old st.new scope t node room result }
 {
     let k = octets::wide_index(rows::third_of(code, t));
@@ -430,7 +430,7 @@ fn unroll(
     room: u16,
 ) -> Next
     requires prepared_in { PreparedIn 2 1 code.now ws.old st.old b scope t room }
-    requires node_bound { (node < (machine_of st.old).top) × (kindIn code.now t ≡ unrollKind) }
+    requires node_bound { (node < (machine_of st.old).top) × (kind_in code.now t ≡ unroll_kind) }
     ensures { StepsTo code.now ws.old ws.new st.old st.new scope t node room result }
 {
     let part = rows::second_of(code, t);

@@ -1,13 +1,13 @@
 // Outcomes of backward evaluation, and the steps that have no parts to run: variables, the unit, refusals, and which branch of a case is run.
 // specs/Outcomes says what an outcome means.
 ghost use Rattle.std.specs.Prelude.{◌≡◌, true, false, cond, ◌+◌, ◌≤◌, ◌<◌};
-ghost use Rattle.rules.specs.Limits.{maxTerms};
-ghost use Rattle.decoded.specs.Rows.{firstIn, secondIn, thirdIn};
+ghost use Rattle.rules.specs.Limits.{max_terms};
+ghost use Rattle.decoded.specs.Rows.{first_in, second_in, third_in};
 ghost use Rattle.valuegraph.specs.Nodes.{Room};
-ghost use Rattle.scopes.specs.Slots.{unknown, machine_of, slots_of, scopeIn, nodeOr};
+ghost use Rattle.scopes.specs.Slots.{unknown, machine_of, slots_of, scope_in, node_or};
 ghost use Rattle.scopes.specs.Bindings.{bound, CellReady, Adds, Meetable};
-ghost use Rattle.forward.specs.Outcomes.{refusalIn};
-ghost use Rattle.backward.specs.Outcomes.{Refused, out_in, carried, whyOf, statusOf, tooLong, against, mismatch};
+ghost use Rattle.forward.specs.Outcomes.{refusal_in};
+ghost use Rattle.backward.specs.Outcomes.{Refused, out_in, carried, why_of, status_of, too_long, against, mismatch};
 ghost use Rattle.backward.specs.Ready.{WidenReady, Widened, Variable, UnitMet, Leavable};
 
 use decoded::rows;
@@ -95,7 +95,7 @@ pub fn unpacked(r: u64) -> Out
 // A refusal that forward evaluation has too.
 pub fn refuse(b: Bindings, number: u32, t: u16) -> Out
     requires { number ≤ 16 }
-    ensures { (statusOf result.stop ≡ Refused (carried (refusalIn number t))) × (result.state ≡ b) }
+    ensures { (status_of result.stop ≡ Refused (carried (refusal_in number t))) × (result.state ≡ b) }
 {
     Out {
         stop: forward::outcomes::refuse(number, t),
@@ -105,7 +105,7 @@ pub fn refuse(b: Bindings, number: u32, t: u16) -> Out
 
 // Term t has no input (16).
 fn no_input(b: Bindings, t: u16) -> Out
-    ensures { (statusOf result.stop ≡ Refused (Refusal.NoInput t)) × (result ≡ record { stop = t + 1; state = b }) }
+    ensures { (status_of result.stop ≡ Refused (Refusal.NoInput t)) × (result ≡ record { stop = t + 1; state = b }) }
 {
     Out {
         stop: octets::wide32(t) + 1,
@@ -129,7 +129,7 @@ pub fn carry(why: forward::outcomes::Refusal) -> Refusal
 // What a number that stopped a run says.
 pub fn why(stop: u32) -> Refusal
     requires { 0 < stop }
-    ensures { result ≡ whyOf stop }
+    ensures { result ≡ why_of stop }
 {
     if stop < STOPPED {
         let t = (stop - 1) % PLACE;
@@ -142,7 +142,7 @@ pub fn why(stop: u32) -> Refusal
 
 // Term t is entered with a value over the limit: 14, after 12 and 13 ("backward it is met on entering that term, after 13", section 4).
 pub fn long(b: Bindings, fuel: u32, t: u16, room: u16) -> Out
-    ensures { statusOf result.stop ≡ Refused (tooLong fuel room t) }
+    ensures { status_of result.stop ≡ Refused (too_long fuel room t) }
 {
     if fuel == 0 {
         return refuse(b, FUEL, t);
@@ -155,7 +155,7 @@ pub fn long(b: Bindings, fuel: u32, t: u16, room: u16) -> Out
 
 // Term t makes values of one kind, and its value is of another: inl against inr has no input (16).
 pub fn differ(b: Bindings, kind: u8, found: u8, t: u16) -> Out
-    ensures { statusOf result.stop ≡ Refused (mismatch kind found t) }
+    ensures { status_of result.stop ≡ Refused (mismatch kind found t) }
 {
     if kind == nodes::INL {
         return clash(b, nodes::INR, found, t);
@@ -167,7 +167,7 @@ pub fn differ(b: Bindings, kind: u8, found: u8, t: u16) -> Out
 }
 
 fn clash(b: Bindings, other: u8, found: u8, t: u16) -> Out
-    ensures { statusOf result.stop ≡ Refused (against other found t) }
+    ensures { status_of result.stop ≡ Refused (against other found t) }
 {
     if found == other {
         return no_input(b, t);
@@ -185,10 +185,10 @@ pub fn variable(
     t: u16,
     node: u32,
 ) -> Out
-    requires t_lt_max_terms { t < maxTerms }
-    requires meetable { Meetable ws.old st.old b (scopeIn scope) (firstIn code.now t) }
+    requires t_lt_max_terms { t < max_terms }
+    requires meetable { Meetable ws.old st.old b (scope_in scope) (first_in code.now t) }
     requires node_bound { node < (machine_of st.old).top }
-    ensures { Variable ws.old ws.new st.old st.new b (scopeIn scope) (firstIn code.now t) node t result }
+    ensures { Variable ws.old ws.new st.old st.new b (scope_in scope) (first_in code.now t) node t result }
 {
     let i = rows::first_of(code, t);
     let met = b.meet(ws, st, scope, i, node);
@@ -223,16 +223,16 @@ pub fn widen(st: &mut [u32; STATE], scope: u64) -> u64
 
 // The newest variable of a scope, the one above `scope`: its node in the state, or node 0, the unit, if it was never met.
 pub fn leave(ws: &[u8], st: &[u32; STATE], b: Bindings, scope: u64) -> u32
-    requires { Leavable ws.now (slots_of st.now) b (scopeIn scope) (machine_of st.now).top }
-    ensures { result ≡ nodeOr (bound ws.now b (scopeIn scope).n) }
+    requires { Leavable ws.now (slots_of st.now) b (scope_in scope) (machine_of st.now).top }
+    ensures { result ≡ node_or (bound ws.now b (scope_in scope).n) }
 {
     b.node_of(ws, st, state::end_of(scope))
 }
 
 // The state of the variables of `scope`, once those above have left.
 pub fn outer(ws: &mut [u8], st: &mut [u32; STATE], b: Bindings, scope: u64) -> Bindings
-    requires { CellReady ws.old st.old b (scopeIn scope).n }
-    ensures { Adds ws.old ws.new st.old st.new b unknown (scopeIn scope).n result }
+    requires { CellReady ws.old st.old b (scope_in scope).n }
+    ensures { Adds ws.old ws.new st.old st.new b unknown (scope_in scope).n result }
 {
     let n = state::count_in(scope);
     b.left(ws, st, n as u16)
@@ -240,8 +240,8 @@ pub fn outer(ws: &mut [u8], st: &mut [u32; STATE], b: Bindings, scope: u64) -> B
 
 // The branch of case t that is run: the left exactly if it may yield the value (section 3).
 pub fn branch_of(code: &[u16; CODE], t: u16, left: bool) -> u16
-    requires { t < maxTerms }
-    ensures { result ≡ cond left (secondIn code.now t) (thirdIn code.now t) }
+    requires { t < max_terms }
+    ensures { result ≡ cond left (second_in code.now t) (third_in code.now t) }
 {
     if left {
         return rows::second_of(code, t);

@@ -7,25 +7,25 @@ use mathlib.Core.List.{List, ◌++◌}
 use lib.ListN.{length, take, drop}
 use lib.Dec.{leb}
 use borrow.Author.Tests.{le-leb, lt-leb, leb-true}
-use package.Rattle.calltext.specs.Calls.{Line, readLine}
-use package.Rattle.calltext.specs.Left.{programLeft, ancillaeLeft, valueLeft}
+use package.Rattle.calltext.specs.Calls.{Line, read_line}
+use package.Rattle.calltext.specs.Left.{program_left, ancillae_left, value_left}
 use package.Rattle.calltext.specs.Wrote.{Wrote}
-use package.Rattle.calltext.proofs.Writing.{wrote-to}
-use package.Rattle.batch.specs.Capped.{mostWorkspace, mostOutput, answerRoom}
-use package.Rattle.batch.specs.Answering.{answerLine}
-use package.Rattle.batch.specs.Lent.{onFront, Replies, Lent, digitsFit, enough, enoughFor, LineCase, LineMeans}
+use package.Rattle.calltext.proofs.Writing.{wrote_to}
+use package.Rattle.batch.specs.Capped.{most_workspace, most_output, answer_room}
+use package.Rattle.batch.specs.Answering.{answer_line}
+use package.Rattle.batch.specs.Lent.{on_front, Replies, Lent, digits_fit, enough, enough_for, LineCase, LineMeans}
 use package.Rattle.batch.specs.declared.LineAnswer.{LineAnswer}
 use package.Rattle.batch.specs.declared.LineAnswer.TheVariants.{Ends, Short}
 
 -- a front part that was lent, as a call left it, and the rest
-pub on-front : {n k : ℕ} → k ≡ n → (buffer : List ℕ) {part : List ℕ} (f : List ℕ → List ℕ) → part ≡ f (take k buffer) → part ++ drop k buffer ≡ onFront n f buffer
-unfolding onFront
+pub on-front : {n k : ℕ} → k ≡ n → (buffer : List ℕ) {part : List ℕ} (f : List ℕ → List ℕ) → part ≡ f (take k buffer) → part ++ drop k buffer ≡ on_front n f buffer
+unfolding on_front
 on-front {k = k} e buffer f h = ap (λ p. p ++ drop k buffer) h ∙ ap (λ m. f (take m buffer) ++ drop m buffer) e
 
 -- the same call, and the same buffer before it, by other names
-pub replies-as : {l l' : Line} {end : ℕ} {v u v' ws ws' o o' out out' : List ℕ} → Replies l end v v' ws ws' o o' out out' → l ≡ l' → v ≡ u
+pub replies_as : {l l' : Line} {end : ℕ} {v u v' ws ws' o o' out out' : List ℕ} → Replies l end v v' ws ws' o o' out out' → l ≡ l' → v ≡ u
     → Replies l' end u v' ws ws' o o' out out'
-replies-as {l} {l'} {end} {v} {u} {v'} {ws} {ws'} {o} {o'} {out} {out'} h e f =
+replies_as {l} {l'} {end} {v} {u} {v'} {ws} {ws'} {o} {o'} {out} {out'} h e f =
     subst (λ w. Replies l' end w v' ws ws' o o' out out') f (subst (λ x. Replies x end v v' ws ws' o o' out out') e h)
 
 ----------------------------------------------------------------
@@ -45,64 +45,64 @@ all-six a b c d e f h =
     (a?, b?, c?, d?, e?, f?)
 
 pub enough-all : (n p anc v ws o out : ℕ) → enough n p anc v ws o out ≡ true
-    → ((n ≤ 2 * p) × (n ≤ 2 * anc) × (n ≤ 2 * v)) × (((mostWorkspace ≤ ws) × (mostOutput ≤ o)) × (2 * v + answerRoom ≤ out))
-unfolding enough digitsFit
+    → ((n ≤ 2 * p) × (n ≤ 2 * anc) × (n ≤ 2 * v)) × (((most_workspace ≤ ws) × (most_output ≤ o)) × (2 * v + answer_room ≤ out))
+unfolding enough digits_fit
 enough-all n p anc v ws o out e =
     let (p?, anc?, v?, ws?, o?, out?) =
-    all-six (leb n (2 * p)) (leb n (2 * anc)) (leb n (2 * v)) (leb mostWorkspace ws) (leb mostOutput o) (leb (2 * v + answerRoom) out) e in (
+    all-six (leb n (2 * p)) (leb n (2 * anc)) (leb n (2 * v)) (leb most_workspace ws) (leb most_output o) (leb (2 * v + answer_room) out) e in (
       (leb-true n (2 * p) p?, leb-true n (2 * anc) anc?, leb-true n (2 * v) v?),
-      ((leb-true mostWorkspace ws ws?, leb-true mostOutput o o?), leb-true (2 * v + answerRoom) out out?),
+      ((leb-true most_workspace ws ws?, leb-true most_output o o?), leb-true (2 * v + answer_room) out out?),
     )
 
 -- one test after another
 module _ (n p anc v ws o out : ℕ) where
-  pub short-program : digitsFit n p ≡ false → false ≡ enough n p anc v ws o out
+  pub short-program : digits_fit n p ≡ false → false ≡ enough n p anc v ws o out
   unfolding enough
   short-program e = sym (rw e)
 
-  module _ (e₁ : digitsFit n p ≡ true) where
-    pub short-ancillae : digitsFit n anc ≡ false → false ≡ enough n p anc v ws o out
+  module _ (e₁ : digits_fit n p ≡ true) where
+    pub short-ancillae : digits_fit n anc ≡ false → false ≡ enough n p anc v ws o out
     unfolding enough
     short-ancillae e = sym (rw (e₁, e))
 
-    module _ (e₂ : digitsFit n anc ≡ true) where
-      pub short-value : digitsFit n v ≡ false → false ≡ enough n p anc v ws o out
+    module _ (e₂ : digits_fit n anc ≡ true) where
+      pub short-value : digits_fit n v ≡ false → false ≡ enough n p anc v ws o out
       unfolding enough
       short-value e = sym (rw (e₁, e₂, e))
 
-      module _ (e₃ : digitsFit n v ≡ true) where
-        pub short-workspace : ws < mostWorkspace → false ≡ enough n p anc v ws o out
+      module _ (e₃ : digits_fit n v ≡ true) where
+        pub short-workspace : ws < most_workspace → false ≡ enough n p anc v ws o out
         unfolding enough
-        short-workspace h = sym (rw (e₁, e₂, e₃, lt-leb mostWorkspace ws h))
+        short-workspace h = sym (rw (e₁, e₂, e₃, lt-leb most_workspace ws h))
 
-        module _ (h₄ : mostWorkspace ≤ ws) where
-          pub short-output : o < mostOutput → false ≡ enough n p anc v ws o out
+        module _ (h₄ : most_workspace ≤ ws) where
+          pub short-output : o < most_output → false ≡ enough n p anc v ws o out
           unfolding enough
-          short-output h = sym (rw (e₁, e₂, e₃, le-leb mostWorkspace ws h₄, lt-leb mostOutput o h))
+          short-output h = sym (rw (e₁, e₂, e₃, le-leb most_workspace ws h₄, lt-leb most_output o h))
 
-          pub last-test : mostOutput ≤ o → leb (2 * v + answerRoom) out ≡ enough n p anc v ws o out
+          pub last-test : most_output ≤ o → leb (2 * v + answer_room) out ≡ enough n p anc v ws o out
           unfolding enough
-          last-test h = sym (rw (e₁, e₂, e₃, le-leb mostWorkspace ws h₄, le-leb mostOutput o h))
+          last-test h = sym (rw (e₁, e₂, e₃, le-leb most_workspace ws h₄, le-leb most_output o h))
 
 ----------------------------------------------------------------
 -- A line
 
 module _ {line : List ℕ} {b b' : Lent} where
-  pub short-line : enoughFor line b ≡ false → b' ≡ b → LineMeans Short line b b'
+  pub short-line : enough_for line b ≡ false → b' ≡ b → LineMeans Short line b b'
   short-line e h = record { means = subst (λ t. LineCase t Short line b b') (sym e) (record { short = refl; kept = h }) }
 
-  pub answered-line : {end : ℕ} → enoughFor line b ≡ true
-      → Replies (readLine line) end (valueLeft line b.value) b'.value b.workspace b'.workspace b.output b'.output b.out b'.out
-      → b'.program ≡ programLeft line b.program → b'.ancillae ≡ ancillaeLeft line b.ancillae → LineMeans (Ends end) line b b'
-  unfolding answerLine
+  pub answered-line : {end : ℕ} → enough_for line b ≡ true
+      → Replies (read_line line) end (value_left line b.value) b'.value b.workspace b'.workspace b.output b'.output b.out b'.out
+      → b'.program ≡ program_left line b.program → b'.ancillae ≡ ancillae_left line b.ancillae → LineMeans (Ends end) line b b'
+  unfolding answer_line
   answered-line {end} e h p anc =
-      let ends : end ≡ length (answerLine line) = omega (arith, h.told.ends) in
+      let ends : end ≡ length (answer_line line) = omega (arith, h.told.ends) in
       record {
         means =
             subst (λ t. LineCase t (Ends end) line b b') (sym e)
             (record {
               ends = ap Ends ends;
-              told = wrote-to h.told ends;
+              told = wrote_to h.told ends;
               program = p;
               ancillae = anc;
               value = h.value;
@@ -117,9 +117,9 @@ end_of (Ends n) = n
 end_of Short = 0
 
 -- an answer that ends stands at the start of its buffer
-pub ends-told : {r : LineAnswer} {line : List ℕ} {b b' : Lent} → LineMeans r line b b' → {n : ℕ} → r ≡ Ends n → Wrote b.out b'.out 0 n (answerLine line)
-ends-told {r} {line} {b} {b'} h {n} e = by (enoughFor line b) h.means
+pub ends-told : {r : LineAnswer} {line : List ℕ} {b b' : Lent} → LineMeans r line b b' → {n : ℕ} → r ≡ Ends n → Wrote b.out b'.out 0 n (answer_line line)
+ends-told {r} {line} {b} {b'} h {n} e = by (enough_for line b) h.means
   where
-    by : (t : Bool) → LineCase t r line b b' → Wrote b.out b'.out 0 n (answerLine line)
-    by true m = wrote-to m.told (sym (ap end_of m.ends) ∙ ap end_of e)
+    by : (t : Bool) → LineCase t r line b b' → Wrote b.out b'.out 0 n (answer_line line)
+    by true m = wrote_to m.told (sym (ap end_of m.ends) ∙ ap end_of e)
     by false m = absurd (let short = m.short in let z : ◌≡◌ {A = ℕ} 0 1 = cc in omega arith)

@@ -1,13 +1,13 @@
 -- What the buffers that are lent hold after a line is answered. Laws: proofs/Lending.
 use Rattle.std.specs.Prelude.{ℕ, ◌+◌, ◌*◌, ◌≡◌, Bool, true, false, ◌&&◌, List, ◌++◌, length, take, drop, leb}
 use package.Rattle.calls.specs.Answer.{cleared, overwritten}
-use package.Rattle.calls.specs.Runs.{checkCall, written}
-use package.Rattle.calls.specs.Book.{afterOpen, afterTurned}
-use package.Rattle.calltext.specs.Calls.{Line, checkLine, runLine, openLine, convertLine, rollbackLine, readerLine, noCall, wordCount, noNumber, noBytes, readLine}
-use package.Rattle.calltext.specs.Left.{programLeft, ancillaeLeft, valueLeft}
+use package.Rattle.calls.specs.Runs.{check_call, written}
+use package.Rattle.calls.specs.Book.{after_open, after_turned}
+use package.Rattle.calltext.specs.Calls.{Line, check_line, run_line, open_line, convert_line, rollback_line, reader_line, no_call, word_count, no_number, no_bytes, read_line}
+use package.Rattle.calltext.specs.Left.{program_left, ancillae_left, value_left}
 use package.Rattle.calltext.specs.Wrote.{Wrote}
-use package.Rattle.batch.specs.Capped.{mostWorkspace, mostOutput, capped, answerRoom}
-use package.Rattle.batch.specs.Answering.{ranBy, openedBy, convertedBy, rolledBackBy, read_by, answerTo, answerLine}
+use package.Rattle.batch.specs.Capped.{most_workspace, most_output, capped, answer_room}
+use package.Rattle.batch.specs.Answering.{ran_by, opened_by, converted_by, rolled_back_by, read_by, answer_to, answer_line}
 use package.Rattle.batch.specs.declared.LineAnswer.{LineAnswer}
 use package.Rattle.batch.specs.declared.LineAnswer.TheVariants.{Ends, Short}
 
@@ -15,57 +15,57 @@ use package.Rattle.batch.specs.declared.LineAnswer.TheVariants.{Ends, Short}
 -- The call of a line
 
 -- a buffer with its first `n` bytes changed, the rest unchanged
-unfoldable pub onFront : ℕ → (List ℕ → List ℕ) → List ℕ → List ℕ
-onFront n f buffer = f (take n buffer) ++ drop n buffer
+unfoldable pub on_front : ℕ → (List ℕ → List ℕ) → List ℕ → List ℕ
+on_front n f buffer = f (take n buffer) ++ drop n buffer
 
 -- the part of the workspace that a line names is what section 4 says of the call
-unfoldable pub workspaceAfter : Line → List ℕ → List ℕ
-unfolding onFront
-workspaceAfter (checkLine ws p) buffer = onFront (capped mostWorkspace ws) (cleared (checkCall p ws)) buffer
-workspaceAfter (runLine c) buffer = onFront (capped mostWorkspace c.workspace) (cleared (ranBy c)) buffer
-workspaceAfter (openLine c) buffer = onFront (capped mostWorkspace c.workspace) (cleared (openedBy c)) buffer
-workspaceAfter (convertLine c) buffer = onFront (capped mostWorkspace c.workspace) (cleared (convertedBy c)) buffer
-workspaceAfter (rollbackLine c) buffer = onFront (capped mostWorkspace c.workspace) (cleared (rolledBackBy c)) buffer
-workspaceAfter (readerLine c) buffer = buffer
-workspaceAfter noCall buffer = buffer
-workspaceAfter wordCount buffer = buffer
-workspaceAfter (noNumber k) buffer = buffer
-workspaceAfter (noBytes k) buffer = buffer
+unfoldable pub workspace_after : Line → List ℕ → List ℕ
+unfolding on_front
+workspace_after (check_line ws p) buffer = on_front (capped most_workspace ws) (cleared (check_call p ws)) buffer
+workspace_after (run_line c) buffer = on_front (capped most_workspace c.workspace) (cleared (ran_by c)) buffer
+workspace_after (open_line c) buffer = on_front (capped most_workspace c.workspace) (cleared (opened_by c)) buffer
+workspace_after (convert_line c) buffer = on_front (capped most_workspace c.workspace) (cleared (converted_by c)) buffer
+workspace_after (rollback_line c) buffer = on_front (capped most_workspace c.workspace) (cleared (rolled_back_by c)) buffer
+workspace_after (reader_line c) buffer = buffer
+workspace_after no_call buffer = buffer
+workspace_after word_count buffer = buffer
+workspace_after (no_number k) buffer = buffer
+workspace_after (no_bytes k) buffer = buffer
 
 -- the part of the output that a line names, after a run or a reader
-unfoldable pub outputAfter : Line → List ℕ → List ℕ
-unfolding onFront
-outputAfter (runLine c) buffer = onFront (capped mostOutput c.output) (written (ranBy c)) buffer
-outputAfter (readerLine c) buffer = onFront (capped mostOutput c.output) (overwritten (read_by c)) buffer
-outputAfter (checkLine ws p) buffer = buffer
-outputAfter (openLine c) buffer = buffer
-outputAfter (convertLine c) buffer = buffer
-outputAfter (rollbackLine c) buffer = buffer
-outputAfter noCall buffer = buffer
-outputAfter wordCount buffer = buffer
-outputAfter (noNumber k) buffer = buffer
-outputAfter (noBytes k) buffer = buffer
+unfoldable pub output_after : Line → List ℕ → List ℕ
+unfolding on_front
+output_after (run_line c) buffer = on_front (capped most_output c.output) (written (ran_by c)) buffer
+output_after (reader_line c) buffer = on_front (capped most_output c.output) (overwritten (read_by c)) buffer
+output_after (check_line ws p) buffer = buffer
+output_after (open_line c) buffer = buffer
+output_after (convert_line c) buffer = buffer
+output_after (rollback_line c) buffer = buffer
+output_after no_call buffer = buffer
+output_after word_count buffer = buffer
+output_after (no_number k) buffer = buffer
+output_after (no_bytes k) buffer = buffer
 
 -- the journal at the start of the value's buffer
-unfoldable pub journalAfter : Line → List ℕ → List ℕ
-unfolding onFront
-journalAfter (openLine c) buffer = onFront (length c.journal) (λ j. (afterOpen j (openedBy c)).journal) buffer
-journalAfter (convertLine c) buffer = onFront (length c.journal) (λ j. (afterTurned j (convertedBy c)).journal) buffer
-journalAfter (rollbackLine c) buffer = onFront (length c.journal) (λ j. (afterTurned j (rolledBackBy c)).journal) buffer
-journalAfter (checkLine ws p) buffer = buffer
-journalAfter (runLine c) buffer = buffer
-journalAfter (readerLine c) buffer = buffer
-journalAfter noCall buffer = buffer
-journalAfter wordCount buffer = buffer
-journalAfter (noNumber k) buffer = buffer
-journalAfter (noBytes k) buffer = buffer
+unfoldable pub journal_after : Line → List ℕ → List ℕ
+unfolding on_front
+journal_after (open_line c) buffer = on_front (length c.journal) (λ j. (after_open j (opened_by c)).journal) buffer
+journal_after (convert_line c) buffer = on_front (length c.journal) (λ j. (after_turned j (converted_by c)).journal) buffer
+journal_after (rollback_line c) buffer = on_front (length c.journal) (λ j. (after_turned j (rolled_back_by c)).journal) buffer
+journal_after (check_line ws p) buffer = buffer
+journal_after (run_line c) buffer = buffer
+journal_after (reader_line c) buffer = buffer
+journal_after no_call buffer = buffer
+journal_after word_count buffer = buffer
+journal_after (no_number k) buffer = buffer
+journal_after (no_bytes k) buffer = buffer
 
 -- the line is answered up to `end`, with the call made: the buffers before and after
 pub record Replies (line : Line) (end : ℕ) (v v' ws ws' o o' out out' : List ℕ) : Type 0 where
-  pub told : Wrote out out' 0 end (answerTo line)
-  pub value : v' ≡ journalAfter line v
-  pub workspace : ws' ≡ workspaceAfter line ws
-  pub output : o' ≡ outputAfter line o
+  pub told : Wrote out out' 0 end (answer_to line)
+  pub value : v' ≡ journal_after line v
+  pub workspace : ws' ≡ workspace_after line ws
+  pub output : o' ≡ output_after line o
 
 ----------------------------------------------------------------
 -- A line
@@ -83,17 +83,17 @@ abbrev pub lent : List ℕ → List ℕ → List ℕ → List ℕ → List ℕ �
 lent p anc v ws o out = record { program = p; ancillae = anc; value = v; workspace = ws; output = o; out = out }
 
 -- Is there room for `n` digits, two a byte?
-unfoldable pub digitsFit : ℕ → ℕ → Bool
-digitsFit n len = leb n (2 * len)
+unfoldable pub digits_fit : ℕ → ℕ → Bool
+digits_fit n len = leb n (2 * len)
 
 -- Is each buffer long enough for a line of `n` bytes? (A journal is answered from the value's buffer, two digits a byte.)
 unfoldable pub enough : ℕ → ℕ → ℕ → ℕ → ℕ → ℕ → ℕ → Bool
-unfolding digitsFit
+unfolding digits_fit
 enough n p anc v ws o out =
-    digitsFit n p && digitsFit n anc && digitsFit n v && leb mostWorkspace ws && leb mostOutput o && leb (2 * v + answerRoom) out
+    digits_fit n p && digits_fit n anc && digits_fit n v && leb most_workspace ws && leb most_output o && leb (2 * v + answer_room) out
 
-abbrev pub enoughFor : List ℕ → Lent → Bool
-enoughFor line b =
+abbrev pub enough_for : List ℕ → Lent → Bool
+enough_for line b =
     enough (length line) (length b.program) (length b.ancillae) (length b.value) (length b.workspace) (length b.output) (length b.out)
 
 -- the buffers are too short: nothing is done
@@ -103,13 +103,13 @@ pub record TooShort (r : LineAnswer) (b b' : Lent) : Type 0 where
 
 -- the line is answered
 pub record Answered (r : LineAnswer) (line : List ℕ) (b b' : Lent) : Type 0 where
-  pub ends : r ≡ Ends (length (answerLine line))
-  pub told : Wrote b.out b'.out 0 (length (answerLine line)) (answerLine line)
-  pub program : b'.program ≡ programLeft line b.program
-  pub ancillae : b'.ancillae ≡ ancillaeLeft line b.ancillae
-  pub value : b'.value ≡ journalAfter (readLine line) (valueLeft line b.value)
-  pub workspace : b'.workspace ≡ workspaceAfter (readLine line) b.workspace
-  pub output : b'.output ≡ outputAfter (readLine line) b.output
+  pub ends : r ≡ Ends (length (answer_line line))
+  pub told : Wrote b.out b'.out 0 (length (answer_line line)) (answer_line line)
+  pub program : b'.program ≡ program_left line b.program
+  pub ancillae : b'.ancillae ≡ ancillae_left line b.ancillae
+  pub value : b'.value ≡ journal_after (read_line line) (value_left line b.value)
+  pub workspace : b'.workspace ≡ workspace_after (read_line line) b.workspace
+  pub output : b'.output ≡ output_after (read_line line) b.output
 
 abbrev pub LineCase : Bool → LineAnswer → List ℕ → Lent → Lent → Type 0
 LineCase true r line b b' = Answered r line b b'
@@ -117,4 +117,4 @@ LineCase false r line b b' = TooShort r b b'
 
 -- what a line is answered, with the buffers before and after
 pub record LineMeans (r : LineAnswer) (line : List ℕ) (b b' : Lent) : Type 0 where
-  pub means : LineCase (enoughFor line b) r line b b'
+  pub means : LineCase (enough_for line b) r line b b'

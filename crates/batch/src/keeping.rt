@@ -1,12 +1,12 @@
 // The calls on a journal that a line says, made in a workspace of the length that it names, and answered by a line with the journal.
 ghost use Rattle.std.specs.Prelude.{◌≡◌, ◌+◌, ◌*◌, ◌≤◌, length, take};
 ghost use Rattle.calls.specs.Answer.{cleared};
-ghost use Rattle.calls.specs.Conversions.{openCall, convertCall, rollbackCall};
-ghost use Rattle.calls.specs.Book.{afterOpen, afterTurned};
+ghost use Rattle.calls.specs.Conversions.{open_call, convert_call, rollback_call};
+ghost use Rattle.calls.specs.Book.{after_open, after_turned};
 ghost use Rattle.calltext.specs.Wrote.{Wrote};
-ghost use Rattle.batch.specs.Capped.{mostWorkspace, capped};
-ghost use Rattle.batch.specs.Answering.{openText, turnText};
-ghost use Rattle.batch.specs.Lent.{onFront};
+ghost use Rattle.batch.specs.Capped.{most_workspace, capped};
+ghost use Rattle.batch.specs.Answering.{open_text, turn_text};
+ghost use Rattle.batch.specs.Lent.{on_front};
 
 use crate::making;
 use calltext::calls::{ConvertCall, OpenCall, RollbackCall};
@@ -21,9 +21,9 @@ fn open_lent(
     out: &mut [u8],
 ) -> usize
     requires { 2 * length journal.old + 64 ≤ length out.old }
-    ensures answer { Wrote out.old out.new 0 result (openText (openCall program.now held.now (length workspace.old) (length journal.old))) }
-    ensures keeps { journal.new ≡ (afterOpen journal.old (openCall program.now held.now (length workspace.old) (length journal.old))).journal }
-    ensures clear { workspace.new ≡ cleared (openCall program.now held.now (length workspace.old) (length journal.old)) workspace.old }
+    ensures answer { Wrote out.old out.new 0 result (open_text (open_call program.now held.now (length workspace.old) (length journal.old))) }
+    ensures keeps { journal.new ≡ (after_open journal.old (open_call program.now held.now (length workspace.old) (length journal.old))).journal }
+    ensures clear { workspace.new ≡ cleared (open_call program.now held.now (length workspace.old) (length journal.old)) workspace.old }
 {
     let answer = engine::open(program, held, workspace, journal);
     replies::opened_line(answer, journal, out)
@@ -39,11 +39,11 @@ pub(crate) fn open(
     out: &mut [u8],
 ) -> usize
     requires program_in_bounds { (call.program ≤ length program.now) × (call.held ≤ length held.now) × (call.journal ≤ length journal.old) }
-    requires most_workspace_in_bounds { mostWorkspace ≤ length workspace.old }
+    requires most_workspace_in_bounds { most_workspace ≤ length workspace.old }
     requires journal_in_bounds { 2 * length journal.old + 64 ≤ length out.old }
-    ensures answer { Wrote out.old out.new 0 result (openText (openCall (take call.program program.now) (take call.held held.now) call.workspace (length (take call.journal journal.old)))) }
-    ensures keeps { journal.new ≡ onFront (length (take call.journal journal.old)) (λ j. (afterOpen j (openCall (take call.program program.now) (take call.held held.now) call.workspace (length (take call.journal journal.old)))).journal) journal.old }
-    ensures clear { workspace.new ≡ onFront (capped mostWorkspace call.workspace) (cleared (openCall (take call.program program.now) (take call.held held.now) call.workspace (length (take call.journal journal.old)))) workspace.old }
+    ensures answer { Wrote out.old out.new 0 result (open_text (open_call (take call.program program.now) (take call.held held.now) call.workspace (length (take call.journal journal.old)))) }
+    ensures keeps { journal.new ≡ on_front (length (take call.journal journal.old)) (λ j. (after_open j (open_call (take call.program program.now) (take call.held held.now) call.workspace (length (take call.journal journal.old)))).journal) journal.old }
+    ensures clear { workspace.new ≡ on_front (capped most_workspace call.workspace) (cleared (open_call (take call.program program.now) (take call.held held.now) call.workspace (length (take call.journal journal.old)))) workspace.old }
 {
     let p = call.program;
     let h = call.held;
@@ -69,9 +69,9 @@ fn convert_lent(
     out: &mut [u8],
 ) -> usize
     requires { 2 * length journal.old + 64 ≤ length out.old }
-    ensures answer { Wrote out.old out.new 0 result (turnText (convertCall program.now function ancillae.now fuel (length workspace.old) journal.old)) }
-    ensures keeps { journal.new ≡ (afterTurned journal.old (convertCall program.now function ancillae.now fuel (length workspace.old) journal.old)).journal }
-    ensures clear { workspace.new ≡ cleared (convertCall program.now function ancillae.now fuel (length workspace.old) journal.old) workspace.old }
+    ensures answer { Wrote out.old out.new 0 result (turn_text (convert_call program.now function ancillae.now fuel (length workspace.old) journal.old)) }
+    ensures keeps { journal.new ≡ (after_turned journal.old (convert_call program.now function ancillae.now fuel (length workspace.old) journal.old)).journal }
+    ensures clear { workspace.new ≡ cleared (convert_call program.now function ancillae.now fuel (length workspace.old) journal.old) workspace.old }
 {
     let answer = engine::convert(program, function, ancillae, fuel, workspace, journal);
     replies::held_line(answer, journal, out)
@@ -87,11 +87,11 @@ pub(crate) fn convert(
     out: &mut [u8],
 ) -> usize
     requires program_in_bounds { (call.program ≤ length program.now) × (call.ancillae ≤ length ancillae.now) × (call.journal ≤ length journal.old) }
-    requires most_workspace_in_bounds { mostWorkspace ≤ length workspace.old }
+    requires most_workspace_in_bounds { most_workspace ≤ length workspace.old }
     requires journal_in_bounds { 2 * length journal.old + 64 ≤ length out.old }
-    ensures answer { Wrote out.old out.new 0 result (turnText (convertCall (take call.program program.now) call.function (take call.ancillae ancillae.now) call.fuel call.workspace (take call.journal journal.old))) }
-    ensures keeps { journal.new ≡ onFront (length (take call.journal journal.old)) (λ j. (afterTurned j (convertCall (take call.program program.now) call.function (take call.ancillae ancillae.now) call.fuel call.workspace (take call.journal journal.old))).journal) journal.old }
-    ensures clear { workspace.new ≡ onFront (capped mostWorkspace call.workspace) (cleared (convertCall (take call.program program.now) call.function (take call.ancillae ancillae.now) call.fuel call.workspace (take call.journal journal.old))) workspace.old }
+    ensures answer { Wrote out.old out.new 0 result (turn_text (convert_call (take call.program program.now) call.function (take call.ancillae ancillae.now) call.fuel call.workspace (take call.journal journal.old))) }
+    ensures keeps { journal.new ≡ on_front (length (take call.journal journal.old)) (λ j. (after_turned j (convert_call (take call.program program.now) call.function (take call.ancillae ancillae.now) call.fuel call.workspace (take call.journal journal.old))).journal) journal.old }
+    ensures clear { workspace.new ≡ on_front (capped most_workspace call.workspace) (cleared (convert_call (take call.program program.now) call.function (take call.ancillae ancillae.now) call.fuel call.workspace (take call.journal journal.old))) workspace.old }
 {
     let p = call.program;
     let a = call.ancillae;
@@ -117,9 +117,9 @@ fn rollback_lent(
     out: &mut [u8],
 ) -> usize
     requires { 2 * length journal.old + 64 ≤ length out.old }
-    ensures answer { Wrote out.old out.new 0 result (turnText (rollbackCall program.now fuel (length workspace.old) journal.old)) }
-    ensures keeps { journal.new ≡ (afterTurned journal.old (rollbackCall program.now fuel (length workspace.old) journal.old)).journal }
-    ensures clear { workspace.new ≡ cleared (rollbackCall program.now fuel (length workspace.old) journal.old) workspace.old }
+    ensures answer { Wrote out.old out.new 0 result (turn_text (rollback_call program.now fuel (length workspace.old) journal.old)) }
+    ensures keeps { journal.new ≡ (after_turned journal.old (rollback_call program.now fuel (length workspace.old) journal.old)).journal }
+    ensures clear { workspace.new ≡ cleared (rollback_call program.now fuel (length workspace.old) journal.old) workspace.old }
 {
     let answer = engine::rollback(program, fuel, workspace, journal);
     replies::held_line(answer, journal, out)
@@ -134,11 +134,11 @@ pub(crate) fn rollback(
     out: &mut [u8],
 ) -> usize
     requires program_in_bounds { (call.program ≤ length program.now) × (call.journal ≤ length journal.old) }
-    requires most_workspace_in_bounds { mostWorkspace ≤ length workspace.old }
+    requires most_workspace_in_bounds { most_workspace ≤ length workspace.old }
     requires journal_in_bounds { 2 * length journal.old + 64 ≤ length out.old }
-    ensures answer { Wrote out.old out.new 0 result (turnText (rollbackCall (take call.program program.now) call.fuel call.workspace (take call.journal journal.old))) }
-    ensures keeps { journal.new ≡ onFront (length (take call.journal journal.old)) (λ j. (afterTurned j (rollbackCall (take call.program program.now) call.fuel call.workspace (take call.journal journal.old))).journal) journal.old }
-    ensures clear { workspace.new ≡ onFront (capped mostWorkspace call.workspace) (cleared (rollbackCall (take call.program program.now) call.fuel call.workspace (take call.journal journal.old))) workspace.old }
+    ensures answer { Wrote out.old out.new 0 result (turn_text (rollback_call (take call.program program.now) call.fuel call.workspace (take call.journal journal.old))) }
+    ensures keeps { journal.new ≡ on_front (length (take call.journal journal.old)) (λ j. (after_turned j (rollback_call (take call.program program.now) call.fuel call.workspace (take call.journal journal.old))).journal) journal.old }
+    ensures clear { workspace.new ≡ on_front (capped most_workspace call.workspace) (cleared (rollback_call (take call.program program.now) call.fuel call.workspace (take call.journal journal.old))) workspace.old }
 {
     let p = call.program;
     let j = call.journal;

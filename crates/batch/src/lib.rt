@@ -13,9 +13,9 @@ mod replying;
 mod room;
 
 ghost use Rattle.std.specs.Prelude.{◌+◌, ◌*◌, ◌≤◌, ◌≡◌, length};
-ghost use Rattle.calltext.specs.Calls.{readLine};
-ghost use Rattle.calltext.specs.Left.{programLeft, ancillaeLeft, valueLeft};
-ghost use Rattle.batch.specs.Capped.{mostWorkspace, mostOutput, answerRoom};
+ghost use Rattle.calltext.specs.Calls.{read_line};
+ghost use Rattle.calltext.specs.Left.{program_left, ancillae_left, value_left};
+ghost use Rattle.batch.specs.Capped.{most_workspace, most_output, answer_room};
 ghost use Rattle.batch.specs.Lent.{Replies, lent, LineMeans};
 
 // Where the answer ends; or a buffer is too short for the line, and nothing was done.
@@ -36,10 +36,10 @@ fn answer_within(
     out: &mut [u8],
 ) -> usize
     requires line_len_bound { (length line.now ≤ 2 * length program.old) × (length line.now ≤ 2 * length ancillae.old) × (length line.now ≤ 2 * length value.old) }
-    requires most_workspace_in_bounds { (mostWorkspace ≤ length workspace.old) × (mostOutput ≤ length output.old) }
-    requires answer_room_in_bounds { 2 * length value.old + answerRoom ≤ length out.old }
-    ensures replies { Replies (readLine line.now) result (valueLeft line.now value.old) value.new workspace.old workspace.new output.old output.new out.old out.new }
-    ensures program_after { (program.new ≡ programLeft line.now program.old) × (ancillae.new ≡ ancillaeLeft line.now ancillae.old) }
+    requires most_workspace_in_bounds { (most_workspace ≤ length workspace.old) × (most_output ≤ length output.old) }
+    requires answer_room_in_bounds { 2 * length value.old + answer_room ≤ length out.old }
+    ensures replies { Replies (read_line line.now) result (value_left line.now value.old) value.new workspace.old workspace.new output.old output.new out.old out.new }
+    ensures program_after { (program.new ≡ program_left line.now program.old) × (ancillae.new ≡ ancillae_left line.now ancillae.old) }
 {
     let parsed = calltext::calls::parse(line, program, ancillae, value);
     replying::reply(parsed, program, ancillae, value, workspace, output, out)

@@ -1,13 +1,13 @@
 // The calls that a line says, made in a workspace and an output of the lengths that it names, and answered by a line.
 ghost use Rattle.std.specs.Prelude.{◌≡◌, ◌+◌, ◌*◌, ◌≤◌, length, take};
 ghost use Rattle.calls.specs.Answer.{cleared};
-ghost use Rattle.calls.specs.Runs.{checkCall, written};
-ghost use Rattle.engine.specs.Runs.{runCall, CallMeans};
+ghost use Rattle.calls.specs.Runs.{check_call, written};
+ghost use Rattle.engine.specs.Runs.{run_call, CallMeans};
 ghost use Rattle.calltext.specs.Wrote.{Wrote};
-ghost use Rattle.messages.specs.Replies.{checkText};
-ghost use Rattle.batch.specs.Capped.{mostWorkspace, mostOutput, answerRoom, capped};
-ghost use Rattle.batch.specs.Answering.{ranText};
-ghost use Rattle.batch.specs.Lent.{onFront};
+ghost use Rattle.messages.specs.Replies.{check_text};
+ghost use Rattle.batch.specs.Capped.{most_workspace, most_output, answer_room, capped};
+ghost use Rattle.batch.specs.Answering.{ran_text};
+ghost use Rattle.batch.specs.Lent.{on_front};
 
 use answers::RunAnswer;
 use calltext::calls::{CheckCall, RunCall};
@@ -34,10 +34,10 @@ pub(crate) fn least(n: usize, most: usize) -> usize
 // A check, made and answered.
 pub(crate) fn check(call: CheckCall, program: &[u8], workspace: &mut [u8], out: &mut [u8]) -> usize
     requires program_in_bounds { call.program ≤ length program.now }
-    requires most_workspace_in_bounds { mostWorkspace ≤ length workspace.old }
+    requires most_workspace_in_bounds { most_workspace ≤ length workspace.old }
     requires in_bounds { 64 ≤ length out.old }
-    ensures answer { Wrote out.old out.new 0 result (checkText (checkCall (take call.program program.now) call.workspace)) }
-    ensures clear { workspace.new ≡ onFront (capped mostWorkspace call.workspace) (cleared (checkCall (take call.program program.now) call.workspace)) workspace.old }
+    ensures answer { Wrote out.old out.new 0 result (check_text (check_call (take call.program program.now) call.workspace)) }
+    ensures clear { workspace.new ≡ on_front (capped most_workspace call.workspace) (cleared (check_call (take call.program program.now) call.workspace)) workspace.old }
 {
     let n = call.program;
     let ws = least(call.workspace, MOST_WORKSPACE);
@@ -56,7 +56,7 @@ fn run_either(
     workspace: &mut [u8],
     output: &mut [u8],
 ) -> RunAnswer
-    ensures { CallMeans result (runCall backward program.now function ancillae.now value.now fuel (length workspace.old) (length output.old)) output.old output.new workspace.old workspace.new }
+    ensures { CallMeans result (run_call backward program.now function ancillae.now value.now fuel (length workspace.old) (length output.old)) output.old output.new workspace.old workspace.new }
 {
     if backward {
         return engine::backward(program, function, ancillae, value, fuel, workspace, output);
@@ -77,9 +77,9 @@ fn run_lent(
     out: &mut [u8],
 ) -> usize
     requires { 2 * length output.old + 64 ≤ length out.old }
-    ensures answer { Wrote out.old out.new 0 result (ranText (runCall backward program.now function ancillae.now value.now fuel (length workspace.old) (length output.old))) }
-    ensures fills { output.new ≡ written (runCall backward program.now function ancillae.now value.now fuel (length workspace.old) (length output.old)) output.old }
-    ensures clear { workspace.new ≡ cleared (runCall backward program.now function ancillae.now value.now fuel (length workspace.old) (length output.old)) workspace.old }
+    ensures answer { Wrote out.old out.new 0 result (ran_text (run_call backward program.now function ancillae.now value.now fuel (length workspace.old) (length output.old))) }
+    ensures fills { output.new ≡ written (run_call backward program.now function ancillae.now value.now fuel (length workspace.old) (length output.old)) output.old }
+    ensures clear { workspace.new ≡ cleared (run_call backward program.now function ancillae.now value.now fuel (length workspace.old) (length output.old)) workspace.old }
 {
     let answer = run_either(
         backward, program, function, ancillae, value, fuel, workspace, output,
@@ -98,11 +98,11 @@ pub(crate) fn run(
     out: &mut [u8],
 ) -> usize
     requires program_in_bounds { (call.program ≤ length program.now) × (call.ancillae ≤ length ancillae.now) × (call.value ≤ length value.now) }
-    requires most_workspace_in_bounds { (mostWorkspace ≤ length workspace.old) × (mostOutput ≤ length output.old) }
-    requires answer_room_in_bounds { answerRoom ≤ length out.old }
-    ensures answer { Wrote out.old out.new 0 result (ranText (runCall call.backward (take call.program program.now) call.function (take call.ancillae ancillae.now) (take call.value value.now) call.fuel call.workspace call.output)) }
-    ensures fills { output.new ≡ onFront (capped mostOutput call.output) (written (runCall call.backward (take call.program program.now) call.function (take call.ancillae ancillae.now) (take call.value value.now) call.fuel call.workspace call.output)) output.old }
-    ensures clear { workspace.new ≡ onFront (capped mostWorkspace call.workspace) (cleared (runCall call.backward (take call.program program.now) call.function (take call.ancillae ancillae.now) (take call.value value.now) call.fuel call.workspace call.output)) workspace.old }
+    requires most_workspace_in_bounds { (most_workspace ≤ length workspace.old) × (most_output ≤ length output.old) }
+    requires answer_room_in_bounds { answer_room ≤ length out.old }
+    ensures answer { Wrote out.old out.new 0 result (ran_text (run_call call.backward (take call.program program.now) call.function (take call.ancillae ancillae.now) (take call.value value.now) call.fuel call.workspace call.output)) }
+    ensures fills { output.new ≡ on_front (capped most_output call.output) (written (run_call call.backward (take call.program program.now) call.function (take call.ancillae ancillae.now) (take call.value value.now) call.fuel call.workspace call.output)) output.old }
+    ensures clear { workspace.new ≡ on_front (capped most_workspace call.workspace) (cleared (run_call call.backward (take call.program program.now) call.function (take call.ancillae ancillae.now) (take call.value value.now) call.fuel call.workspace call.output)) workspace.old }
 {
     let p = call.program;
     let a = call.ancillae;

@@ -2,8 +2,8 @@
 ghost use Rattle.std.specs.Prelude.{◌+◌, ◌*◌, ◌≤◌, length};
 ghost use Rattle.calltext.specs.Parsed.{line_of, Within};
 ghost use Rattle.calltext.specs.Wrote.{Wrote};
-ghost use Rattle.batch.specs.Capped.{mostWorkspace, mostOutput, answerRoom};
-ghost use Rattle.batch.specs.Answering.{wordError};
+ghost use Rattle.batch.specs.Capped.{most_workspace, most_output, answer_room};
+ghost use Rattle.batch.specs.Answering.{word_error};
 ghost use Rattle.batch.specs.Lent.{Replies};
 
 use crate::{keeping, making, reading};
@@ -13,7 +13,7 @@ use calltext::{answers as texts, decimal};
 // What is wrong with word k.
 fn word_error(k: u8, what: &[u8], out: &mut [u8]) -> usize
     requires { length what.now + 32 ≤ length out.old }
-    ensures { Wrote out.old out.new 0 result (wordError k what.now) }
+    ensures { Wrote out.old out.new 0 result (word_error k what.now) }
 {
     let named = texts::put(b"error word ", out, 0);
     let counted = decimal::put_number(k as u64, out, named);
@@ -32,8 +32,8 @@ pub(crate) fn reply(
     out: &mut [u8],
 ) -> usize
     requires within { Within parsed program.now ancillae.now value.old }
-    requires most_workspace_in_bounds { (mostWorkspace ≤ length workspace.old) × (mostOutput ≤ length output.old) }
-    requires answer_room_in_bounds { 2 * length value.old + answerRoom ≤ length out.old }
+    requires most_workspace_in_bounds { (most_workspace ≤ length workspace.old) × (most_output ≤ length output.old) }
+    requires answer_room_in_bounds { 2 * length value.old + answer_room ≤ length out.old }
     ensures { Replies (line_of parsed program.now ancillae.now value.old) result value.old value.new workspace.old workspace.new output.old output.new out.old out.new }
 {
     match parsed {

@@ -1,7 +1,7 @@
 // Whether the buffers that are lent are long enough for a line, by their lengths.
 ghost use Rattle.std.specs.Prelude.{◌≡◌, ◌+◌, ◌*◌, leb};
-ghost use Rattle.batch.specs.Capped.{answerRoom};
-ghost use Rattle.batch.specs.Lent.{digitsFit, enough};
+ghost use Rattle.batch.specs.Capped.{answer_room};
+ghost use Rattle.batch.specs.Lent.{digits_fit, enough};
 
 use crate::making;
 
@@ -10,7 +10,7 @@ const ANSWER_ROOM: usize = 2 * making::MOST_OUTPUT + 64;
 
 // Is there room for so many digits in so many bytes, two a byte?
 fn fits_digits(digits: usize, len: usize) -> bool
-    ensures { result ≡ digitsFit digits len }
+    ensures { result ≡ digits_fit digits len }
 {
     if len < digits / 2 + digits % 2 {
         return false;
@@ -20,7 +20,7 @@ fn fits_digits(digits: usize, len: usize) -> bool
 
 // Is there room for the answer, beside a journal as long as the value's buffer?
 fn fits_answer(value: usize, out: usize) -> bool
-    ensures { result ≡ leb (2 * value + answerRoom) out }
+    ensures { result ≡ leb (2 * value + answer_room) out }
 {
     if out < ANSWER_ROOM {
         return false;

@@ -4,8 +4,8 @@
 use Rattle.std.specs.Prelude.{ℕ, zero, suc, ◌+◌, ◌≡◌, List, [], ◌∷◌, ◌++◌}
 use package.Rattle.calls.specs.Answer.{accepted, refused}
 use package.Rattle.calls.specs.Fields.{layout}
-use package.Rattle.calls.specs.Runs.{checkCall}
-use package.Rattle.calls.specs.Cases.{typeField, termField, functionField, ample}
+use package.Rattle.calls.specs.Runs.{check_call}
+use package.Rattle.calls.specs.Cases.{type_field, term_field, function_field, ample}
 use package.Rattle.calls.specs.Borders.{copies}
 
 -- where so many fields of four bytes stand, from a place on
@@ -14,19 +14,19 @@ offsets zero at = []
 offsets (suc n) at = at ∷ offsets n (at + 4)
 
 -- so many functions that give unit, each with a body of its own
-unfoldable pub functionsFrom : ℕ → ℕ → List ℕ
-unfolding functionField
-functionsFrom zero i = []
-functionsFrom (suc n) i = functionField 0 (0 ∷ []) i ++ functionsFrom n (i + 1)
+unfoldable pub functions_from : ℕ → ℕ → List ℕ
+unfolding function_field
+functions_from zero i = []
+functions_from (suc n) i = function_field 0 (0 ∷ []) i ++ functions_from n (i + 1)
 
-unfoldable pub unitFunctions : ℕ → List ℕ
-unfolding typeField termField copies functionsFrom
-unitFunctions n = typeField 0 [] ++ copies n (termField 1 []) ++ functionsFrom n 0
+unfoldable pub unit_functions : ℕ → List ℕ
+unfolding type_field term_field copies functions_from
+unit_functions n = type_field 0 [] ++ copies n (term_field 1 []) ++ functions_from n 0
 
 pub record EntryEdges : Type 0 where
-  pub types : checkCall (copies 256 (typeField 0 [])) ample ≡ accepted tt
-  pub types-past : checkCall (copies 257 (typeField 0 [])) ample ≡ refused 3 1024
-  pub terms : layout (copies 1024 (termField 1 [])) ≡ accepted (record { types = []; terms = offsets 1024 0; functions = [] })
-  pub terms-past : checkCall (copies 1025 (termField 1 [])) ample ≡ refused 3 4096
-  pub functions : checkCall (unitFunctions 64) ample ≡ accepted tt
-  pub functions-past : checkCall (unitFunctions 65) ample ≡ refused 3 904
+  pub types : check_call (copies 256 (type_field 0 [])) ample ≡ accepted tt
+  pub types_past : check_call (copies 257 (type_field 0 [])) ample ≡ refused 3 1024
+  pub terms : layout (copies 1024 (term_field 1 [])) ≡ accepted (record { types = []; terms = offsets 1024 0; functions = [] })
+  pub terms_past : check_call (copies 1025 (term_field 1 [])) ample ≡ refused 3 4096
+  pub functions : check_call (unit_functions 64) ample ≡ accepted tt
+  pub functions_past : check_call (unit_functions 65) ample ≡ refused 3 904

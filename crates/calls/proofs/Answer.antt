@@ -8,13 +8,13 @@ use mathlib.Core.List.{List, ◌++◌}
 use lib.ListN.{length, take, drop, length-append}
 use lib.Seq.{take_at}
 use package.Rattle.octets.specs.Runs.{pasted}
-use package.Rattle.calls.specs.Answer.{Answer, accepted, refused, ◌>>=◌, require, present, bytesWritten, overwritten}
+use package.Rattle.calls.specs.Answer.{Answer, accepted, refused, ◌>>=◌, require, present, bytes_written, overwritten}
 
 pub refused≢accepted : {A : Type 0} {n p : ℕ} {a : A} → refused n p ≡ accepted a → ⊥
 refused≢accepted e = let z : ◌≡◌ {A = ℕ} 0 1 = cc in omega arith
 
-pub accepted-inj : {A : Type 0} {a b : A} → accepted a ≡ accepted b → a ≡ b
-accepted-inj e = cc
+pub accepted_inj : {A : Type 0} {a b : A} → accepted a ≡ accepted b → a ≡ b
+accepted_inj e = cc
 
 pub refused-number : {A : Type 0} {n m p q : ℕ} → ◌≡◌ {A = Answer A} (refused n p) (refused m q) → n ≡ m
 refused-number e = cc
@@ -49,9 +49,9 @@ module _ {A B : Type 0} where
       refused-same : {n m p q : ℕ} → ◌≡◌ {A = Answer B} (refused m q) (refused n p) → ◌≡◌ {A = Answer A} (refused m q) (refused n p)
       refused-same e = cc
 
-pub require-yes : (n p : ℕ) {b : Bool} → b ≡ true → require b n p ≡ accepted tt
+pub require_yes : (n p : ℕ) {b : Bool} → b ≡ true → require b n p ≡ accepted tt
 unfolding require
-require-yes n p e = ap (λ b. require b n p) e
+require_yes n p e = ap (λ b. require b n p) e
 
 pub require-no : (n p : ℕ) {b : Bool} → b ≡ false → require b n p ≡ refused n p
 unfolding require
@@ -68,18 +68,18 @@ unfolding require
 require-number true n p e = absurd (refused≢accepted (sym e))
 require-number false n p e = refused-number e
 
-pub present-some : {A : Type 0} (n : ℕ) {o : Option A} {a : A} → o ≡ some a → present o n ≡ accepted a
+pub present_some : {A : Type 0} (n : ℕ) {o : Option A} {a : A} → o ≡ some a → present o n ≡ accepted a
 unfolding present
-present-some n e = ap (λ o. present o n) e
+present_some n e = ap (λ o. present o n) e
 
-pub present-none : {A : Type 0} (n : ℕ) {o : Option A} → o ≡ none → present o n ≡ refused n 0
+pub present_none : {A : Type 0} (n : ℕ) {o : Option A} → o ≡ none → present o n ≡ refused n 0
 unfolding present
-present-none n e = ap (λ o. present o n) e
+present_none n e = ap (λ o. present o n) e
 
 pub presented : {A : Type 0} (o : Option A) (n : ℕ) {a : A} → present o n ≡ accepted a → o ≡ some a
 unfolding present
 presented none n e = absurd (refused≢accepted e)
-presented (some b) n e = ap some (accepted-inj e)
+presented (some b) n e = ap some (accepted_inj e)
 
 pub present-number : {A : Type 0} (o : Option A) (n : ℕ) {m q : ℕ} → present o n ≡ refused m q → n ≡ m
 unfolding present
@@ -96,10 +96,10 @@ overwritten-pasted out xs = ap (λ n. xs ++ drop n out) (let z : 0 + length xs �
 
 -- what was written is no longer than the output, and stands at its start
 module _ (x : Answer (List ℕ)) (out : List ℕ) where
-  pub bytes-within : length (overwritten x out) ≡ length out → length (bytesWritten x) ≤ length out
+  pub bytes-within : length (overwritten x out) ≡ length out → length (bytes_written x) ≤ length out
   unfolding overwritten
-  bytes-within h = omega (arith, h, length-append (bytesWritten x) (drop (length (bytesWritten x)) out))
+  bytes-within h = omega (arith, h, length-append (bytes_written x) (drop (length (bytes_written x)) out))
 
-  pub bytes-first : take (length (bytesWritten x)) (overwritten x out) ≡ bytesWritten x
+  pub bytes-first : take (length (bytes_written x)) (overwritten x out) ≡ bytes_written x
   unfolding overwritten
-  bytes-first = take_at (bytesWritten x) (drop (length (bytesWritten x)) out) (length (bytesWritten x)) refl
+  bytes-first = take_at (bytes_written x) (drop (length (bytes_written x)) out) (length (bytes_written x)) refl

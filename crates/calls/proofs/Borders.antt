@@ -1,46 +1,46 @@
 -- Border cases, by computation.
 use mathlib.Core.Path.{refl}
-use package.Rattle.calls.specs.Borders.{copies, ofUnits, letFields, unitLets, doubled, bigTypes, namesType, pairsTypes, higher, wide, withEntries, Edges, Outcomes, Lists}
+use package.Rattle.calls.specs.Borders.{copies, of_units, let_fields, unit_lets, doubled, big_types, names_type, pairs_types, higher, wide, with_entries, Edges, Outcomes, Lists}
 use package.Rattle.calls.proofs.Compute.{computing}
 
 pub edges : Edges
-unfolding computing copies ofUnits letFields unitLets doubled bigTypes namesType pairsTypes higher wide withEntries
+unfolding computing copies of_units let_fields unit_lets doubled big_types names_type pairs_types higher wide with_entries
 edges = record {
   workspace = refl;
-  workspace-past = refl;
-  workspace-fuel = refl;
-  workspace-fuel-past = refl;
+  workspace_past = refl;
+  workspace_fuel = refl;
+  workspace_fuel_past = refl;
   bytes = refl;
   bytes_past = refl;
   parameters = refl;
-  parameters-past = refl;
-  no-parameters = refl;
+  parameters_past = refl;
+  no_parameters = refl;
   variables = refl;
-  variables-past = refl;
+  variables_past = refl;
   nodes = refl;
-  nodes-past = refl;
-  nodes-given = refl;
-  nodes-given-past = refl;
-  value-bytes = refl;
-  value-bytes-past = refl;
-  ancilla-bytes = refl;
-  ancilla-bytes-past = refl;
+  nodes_past = refl;
+  nodes_given = refl;
+  nodes_given_past = refl;
+  value_bytes_lem = refl;
+  value_bytes_past = refl;
+  ancilla_bytes = refl;
+  ancilla_bytes_past = refl;
   height = refl;
-  height-past = refl;
+  height_past = refl;
   output = refl;
-  output-past = refl;
-  function-past = refl;
+  output_past = refl;
+  function_past = refl;
   conversions = refl;
-  conversions-past = refl;
+  conversions_past = refl;
   entries = refl;
-  entries-past = refl;
+  entries_past = refl;
   room = refl;
-  room-past = refl;
+  room_past = refl;
 }
 
 pub outcomes : Outcomes
 unfolding computing
-outcomes = record { clear = refl; clear-refused = refl; clear-2 = refl; untouched = refl; filled = refl; kept = refl }
+outcomes = record { clear = refl; clear_refused = refl; clear_2 = refl; untouched = refl; filled = refl; kept = refl }
 
 pub lists : Lists
 unfolding computing

@@ -10,15 +10,15 @@ use mathlib.Core.Logic.{◌↔◌}
 use lib.ListN.{length, get_or, length-append, get_or-append}
 use lib.Dec.{eqb, ltb, leb, ltb→lt, lt→ltb}
 use borrow.Author.Tests.{ltb-true, lt-ltb}
-use package.Rattle.rules.specs.Limits.{maxNodes}
+use package.Rattle.rules.specs.Limits.{max_nodes}
 use package.Rattle.rules.specs.Ty.{Ty, one, prod, sum, mu, tyvar, plug, nodes}
 use package.Rattle.rules.proofs.Basics.{given, and_both, eqb-sound, eqb_no, T_true}
 use package.Rattle.rules.proofs.Typing.Tests.{leb_yes, leb-sound}
 use package.Rattle.calls.specs.Answer.{accepted}
 use package.Rattle.calls.specs.Fields.{Layout}
-use package.Rattle.calls.specs.Entries.{TypeEntry, y-unit, y-prod, y-sum, y-mu, y-var, typeTree, typeBelow, type_of}
-use package.Rattle.calls.specs.Named.{plain, typesOfType, below, member, testTypes}
-use package.Rattle.calls.specs.Figures.{ceiling, free, nodesOf, freeOf, figures}
+use package.Rattle.calls.specs.Entries.{TypeEntry, y_unit, y_prod, y_sum, y_mu, y_var, type_tree, type_below, type_of}
+use package.Rattle.calls.specs.Named.{plain, types_of_type, below, member, test_types}
+use package.Rattle.calls.specs.Figures.{ceiling, free, nodes_of, free_of, figures}
 use package.Rattle.calls.specs.Closed.{closed, Lower}
 pub use package.Rattle.calls.specs.Closed.{Plain}
 use package.Rattle.calls.proofs.Answer.{unbind, required}
@@ -41,13 +41,13 @@ both-closed n b c l r p q = (
 under_one : (l n : ℕ) → (l ≤ suc n) ↔ (pred l ≤ n)
 under_one l n = (λ h. omega arith, λ h. omega arith)
 
-pub closed-iff-free : (n : ℕ) (c : Ty) → (closed n c ≡ true) ↔ (free c ≤ n)
+pub closed_iff_free : (n : ℕ) (c : Ty) → (closed n c ≡ true) ↔ (free c ≤ n)
 unfolding closed free
-closed-iff-free n one = (λ e. omega arith, λ h. refl)
-closed-iff-free n (prod a b) = both-closed n (closed n a) (closed n b) (free a) (free b) (closed-iff-free n a) (closed-iff-free n b)
-closed-iff-free n (sum a b) = both-closed n (closed n a) (closed n b) (free a) (free b) (closed-iff-free n a) (closed-iff-free n b)
-closed-iff-free n (mu a) = (λ e. (under_one (free a) n).0 ((closed-iff-free (suc n) a).0 e), λ h. (closed-iff-free (suc n) a).1 ((under_one (free a) n).1 h))
-closed-iff-free n (tyvar k) = (λ e. ltb→lt k n (rw e tt), λ h. T_true (lt→ltb k n h))
+closed_iff_free n one = (λ e. omega arith, λ h. refl)
+closed_iff_free n (prod a b) = both-closed n (closed n a) (closed n b) (free a) (free b) (closed_iff_free n a) (closed_iff_free n b)
+closed_iff_free n (sum a b) = both-closed n (closed n a) (closed n b) (free a) (free b) (closed_iff_free n a) (closed_iff_free n b)
+closed_iff_free n (mu a) = (λ e. (under_one (free a) n).0 ((closed_iff_free (suc n) a).0 e), λ h. (closed_iff_free (suc n) a).1 ((under_one (free a) n).1 h))
+closed_iff_free n (tyvar k) = (λ e. ltb→lt k n (rw e tt), λ h. T_true (lt→ltb k n h))
 
 -- nothing is put into a type that has no such variable
 pub plug-closed : (c : Ty) (n : ℕ) (a : Ty) → closed n a ≡ true → plug c n a ≡ a
@@ -86,37 +86,37 @@ member-middle k t (s ∷ ts) us = ap (λ b. eqb k s || b) (member-middle k t ts 
     swap true false c = refl
     swap false b c = refl
 
-lower-from : (L : Layout) (k : ℕ) (ys : List TypeEntry) → testTypes L k ys ≡ accepted tt → (i : ℕ) → below (k + i) (typesOfType (get_or ys i y-unit)) ≡ true
-unfolding testTypes below typesOfType
-lower-from L k [] e i = refl
-lower-from L k (y ∷ ys) e zero = given (unbind _ _ e) λ (lower, p, q). rw (let z : k + 0 ≡ k = omega arith in z) (required _ 4 _ p)
-lower-from L k (y ∷ ys) e (suc i) = given (unbind _ _ e) λ (lower, p, q). rw (let z : k + suc i ≡ suc k + i = omega arith in z) (lower-from L (suc k) ys q i)
+lower_from : (L : Layout) (k : ℕ) (ys : List TypeEntry) → test_types L k ys ≡ accepted tt → (i : ℕ) → below (k + i) (types_of_type (get_or ys i y_unit)) ≡ true
+unfolding test_types below types_of_type
+lower_from L k [] e i = refl
+lower_from L k (y ∷ ys) e zero = given (unbind _ _ e) λ (lower, p, q). rw (let z : k + 0 ≡ k = omega arith in z) (required _ 4 _ p)
+lower_from L k (y ∷ ys) e (suc i) = given (unbind _ _ e) λ (lower, p, q). rw (let z : k + suc i ≡ suc k + i = omega arith in z) (lower_from L (suc k) ys q i)
 
-pub lower : (L : Layout) (ys : List TypeEntry) → testTypes L 0 ys ≡ accepted tt → Lower ys
-lower L ys e i = subst (λ n. below n (typesOfType (get_or ys i y-unit)) ≡ true) (let z : 0 + i ≡ i = omega arith in z) (lower-from L 0 ys e i)
+pub lower : (L : Layout) (ys : List TypeEntry) → test_types L 0 ys ≡ accepted tt → Lower ys
+lower L ys e i = subst (λ n. below n (types_of_type (get_or ys i y_unit)) ≡ true) (let z : 0 + i ≡ i = omega arith in z) (lower_from L 0 ys e i)
 
 -- trees of an entry agree if those of the entries that it names do
-tree-agrees : (go go' : ℕ → Ty) (n : ℕ) (y : TypeEntry) → below n (typesOfType y) ≡ true → ((i : ℕ) → i < n → go i ≡ go' i) → typeTree go y ≡ typeTree go' y
-unfolding typeTree typesOfType
-tree-agrees go go' n y-unit e s = refl
-tree-agrees go go' n (y-prod a b) e s = given (below-head n a _ e) λ (l, e₁). given (below-head n b _ e₁) λ (l', e₂). ap₂ prod (s a l) (s b l')
-tree-agrees go go' n (y-sum a b) e s = given (below-head n a _ e) λ (l, e₁). given (below-head n b _ e₁) λ (l', e₂). ap₂ sum (s a l) (s b l')
-tree-agrees go go' n (y-mu a) e s = given (below-head n a _ e) λ (l, e₁). ap mu (s a l)
-tree-agrees go go' n (y-var k) e s = refl
+tree-agrees : (go go' : ℕ → Ty) (n : ℕ) (y : TypeEntry) → below n (types_of_type y) ≡ true → ((i : ℕ) → i < n → go i ≡ go' i) → type_tree go y ≡ type_tree go' y
+unfolding type_tree types_of_type
+tree-agrees go go' n y_unit e s = refl
+tree-agrees go go' n (y_prod a b) e s = given (below-head n a _ e) λ (l, e₁). given (below-head n b _ e₁) λ (l', e₂). ap₂ prod (s a l) (s b l')
+tree-agrees go go' n (y_sum a b) e s = given (below-head n a _ e) λ (l, e₁). given (below-head n b _ e₁) λ (l', e₂). ap₂ sum (s a l) (s b l')
+tree-agrees go go' n (y_mu a) e s = given (below-head n a _ e) λ (l, e₁). ap mu (s a l)
+tree-agrees go go' n (y_var k) e s = refl
 
 module _ (ys : List TypeEntry) (low : Lower ys) where
   -- the bound of the recursion does not matter
-  bound-agrees : (n m i : ℕ) → i < n → i < m → typeBelow n ys i ≡ typeBelow m ys i
-  unfolding typeBelow
+  bound-agrees : (n m i : ℕ) → i < n → i < m → type_below n ys i ≡ type_below m ys i
+  unfolding type_below
   bound-agrees zero m i l l' = absurd (omega arith)
   bound-agrees (suc n) zero i l l' = absurd (omega arith)
   bound-agrees (suc n) (suc m) i l l' =
-      tree-agrees (typeBelow n ys) (typeBelow m ys) i (get_or ys i y-unit) (low i) λ j h. bound-agrees n m j (omega arith) (omega arith)
+      tree-agrees (type_below n ys) (type_below m ys) i (get_or ys i y_unit) (low i) λ j h. bound-agrees n m j (omega arith) (omega arith)
 
   -- the tree of an entry, from the trees of the entries that it names
-  pub type-unfolds : (i : ℕ) → type_of ys i ≡ typeTree (type_of ys) (get_or ys i y-unit)
-  unfolding type_of typeBelow
-  type-unfolds i = tree-agrees (typeBelow i ys) (type_of ys) i (get_or ys i y-unit) (low i) λ j h. bound-agrees i (suc j) j h (omega arith)
+  pub type-unfolds : (i : ℕ) → type_of ys i ≡ type_tree (type_of ys) (get_or ys i y_unit)
+  unfolding type_of type_below
+  type-unfolds i = tree-agrees (type_below i ys) (type_of ys) i (get_or ys i y_unit) (low i) λ j h. bound-agrees i (suc j) j h (omega arith)
 
 ----------------------------------------------------------------
 -- Figures
@@ -128,9 +128,9 @@ stops-one c a p = omega arith
 stops-two : (c : ℕ) {m n : ℕ} (a b : ℕ) → m ≡ min c a → n ≡ min c b → min c (suc (m + n)) ≡ min c (suc (a + b))
 stops-two c a b p q = omega arith
 
-getD-last : {A : Type 0} (xs : List A) (x d : A) → get_or (xs ++ (x ∷ [])) (length xs) d ≡ x
-getD-last [] x d = refl
-getD-last (y ∷ xs) x d = getD-last xs x d
+get_d_last : {A : Type 0} (xs : List A) (x d : A) → get_or (xs ++ (x ∷ [])) (length xs) d ≡ x
+get_d_last [] x d = refl
+get_d_last (y ∷ xs) x d = get_d_last xs x d
 
 module _ (ys : List TypeEntry) (low : Lower ys) where
   -- the figures of the first entries are those of their trees
@@ -139,25 +139,25 @@ module _ (ys : List TypeEntry) (low : Lower ys) where
 
   -- `of` gives an entry the figure of its tree, if the lower figures are those of their trees
   abbrev Measures : (List ℕ → TypeEntry → ℕ) → (Ty → ℕ) → Type 0
-  Measures of measure = (ns : List ℕ) (y : TypeEntry) → below (length ns) (typesOfType y) ≡ true → Right measure ns → of ns y ≡ measure (typeTree (type_of ys) y)
+  Measures of measure = (ns : List ℕ) (y : TypeEntry) → below (length ns) (types_of_type y) ≡ true → Right measure ns → of ns y ≡ measure (type_tree (type_of ys) y)
 
   module _ (of : List ℕ → TypeEntry → ℕ) (measure : Ty → ℕ) (m : Measures of measure) where
     -- one more entry
-    right-more : (ns : List ℕ) → Right measure ns → Right measure (ns ++ (of ns (get_or ys (length ns) y-unit) ∷ []))
+    right-more : (ns : List ℕ) → Right measure ns → Right measure (ns ++ (of ns (get_or ys (length ns) y_unit) ∷ []))
     right-more ns r i l = go (dec_lt i (length ns))
       where
         x : ℕ
-        x = of ns (get_or ys (length ns) y-unit)
+        x = of ns (get_or ys (length ns) y_unit)
 
         go : Dec (i < length ns) → get_or (ns ++ (x ∷ [])) i 0 ≡ measure (type_of ys i)
         go (yes h) = get_or-append ns (x ∷ []) 0 i h ∙ r i h
-        go (no h) = ap (λ i. get_or (ns ++ (x ∷ [])) i 0) last ∙ getD-last ns x 0 ∙ m ns _ (low (length ns)) r
+        go (no h) = ap (λ i. get_or (ns ++ (x ∷ [])) i 0) last ∙ get_d_last ns x 0 ∙ m ns _ (low (length ns)) r
             ∙ ap measure (sym (type-unfolds ys low (length ns)) ∙ ap (type_of ys) (sym last))
           where
             last : i ≡ length ns
             last = omega (arith, length-append ns (x ∷ []))
 
-    figures-right : (ns : List ℕ) (zs : List TypeEntry) → ((i : ℕ) → get_or zs i y-unit ≡ get_or ys (length ns + i) y-unit) → Right measure ns
+    figures-right : (ns : List ℕ) (zs : List TypeEntry) → ((i : ℕ) → get_or zs i y_unit ≡ get_or ys (length ns + i) y_unit) → Right measure ns
         → (length (figures of ns zs) ≡ length ns + length zs) × Right measure (figures of ns zs)
     unfolding figures
     figures-right ns [] s r = (omega arith, r)
@@ -166,17 +166,17 @@ module _ (ys : List TypeEntry) (low : Lower ys) where
         longer : length (ns ++ (of ns z ∷ [])) ≡ length ns + 1
         longer = length-append ns (of ns z ∷ [])
 
-        here : z ≡ get_or ys (length ns) y-unit
-        here = s 0 ∙ ap (λ n. get_or ys n y-unit) (let e : length ns + 0 ≡ length ns = omega arith in e)
+        here : z ≡ get_or ys (length ns) y_unit
+        here = s 0 ∙ ap (λ n. get_or ys n y_unit) (let e : length ns + 0 ≡ length ns = omega arith in e)
 
-        after : (i : ℕ) → get_or zs i y-unit ≡ get_or ys (length (ns ++ (of ns z ∷ [])) + i) y-unit
-        after i = s (suc i) ∙ ap (λ n. get_or ys n y-unit) (let e : length ns + suc i ≡ length (ns ++ (of ns z ∷ [])) + i = omega (arith, longer) in e)
+        after : (i : ℕ) → get_or zs i y_unit ≡ get_or ys (length (ns ++ (of ns z ∷ [])) + i) y_unit
+        after i = s (suc i) ∙ ap (λ n. get_or ys n y_unit) (let e : length ns + suc i ≡ length (ns ++ (of ns z ∷ [])) + i = omega (arith, longer) in e)
 
         right : Right measure (ns ++ (of ns z ∷ []))
         right = subst (λ z. Right measure (ns ++ (of ns z ∷ []))) (sym here) (right-more ns r)
 
-    figure-is : (i : ℕ) → i < length ys → get_or (figures of [] ys) i 0 ≡ measure (type_of ys i)
-    figure-is i l = given (figures-right [] ys (λ i. ap (λ n. get_or ys n y-unit) (let e : i ≡ 0 + i = omega arith in e)) λ i l. absurd (omega arith)) λ (e, r).
+    figure_is_lem : (i : ℕ) → i < length ys → get_or (figures of [] ys) i 0 ≡ measure (type_of ys i)
+    figure_is_lem i l = given (figures-right [] ys (λ i. ap (λ n. get_or ys n y_unit) (let e : i ≡ 0 + i = omega arith in e)) λ i l. absurd (omega arith)) λ (e, r).
         r i (omega arith)
 
   -- the figure of an entry that is named, and of two
@@ -187,68 +187,68 @@ module _ (ys : List TypeEntry) (low : Lower ys) where
       → (get_or ns a 0 ≡ measure (type_of ys a)) × (get_or ns b 0 ≡ measure (type_of ys b))
   two-right measure ns a b e r = given (below-head (length ns) a (b ∷ []) e) λ (l, e₁). (r a l, one_right measure ns b e₁ r)
 
-  nodes-measures : Measures nodesOf λ c. min ceiling (nodes c)
-  unfolding nodesOf ceiling nodes typeTree typesOfType
-  nodes-measures ns y-unit e r = refl
-  nodes-measures ns (y-prod a b) e r = given (two-right (λ c. min ceiling (nodes c)) ns a b e r) λ (p, q). stops-two ceiling _ _ p q
-  nodes-measures ns (y-sum a b) e r = given (two-right (λ c. min ceiling (nodes c)) ns a b e r) λ (p, q). stops-two ceiling _ _ p q
-  nodes-measures ns (y-mu a) e r = stops-one ceiling _ (one_right (λ c. min ceiling (nodes c)) ns a e r)
-  nodes-measures ns (y-var k) e r = refl
+  nodes_measures : Measures nodes_of λ c. min ceiling (nodes c)
+  unfolding nodes_of ceiling nodes type_tree types_of_type
+  nodes_measures ns y_unit e r = refl
+  nodes_measures ns (y_prod a b) e r = given (two-right (λ c. min ceiling (nodes c)) ns a b e r) λ (p, q). stops-two ceiling _ _ p q
+  nodes_measures ns (y_sum a b) e r = given (two-right (λ c. min ceiling (nodes c)) ns a b e r) λ (p, q). stops-two ceiling _ _ p q
+  nodes_measures ns (y_mu a) e r = stops-one ceiling _ (one_right (λ c. min ceiling (nodes c)) ns a e r)
+  nodes_measures ns (y_var k) e r = refl
 
-  free-measures : Measures freeOf free
-  unfolding freeOf free typeTree typesOfType
-  free-measures ns y-unit e r = refl
-  free-measures ns (y-prod a b) e r = given (two-right free ns a b e r) λ (p, q). ap₂ max p q
-  free-measures ns (y-sum a b) e r = given (two-right free ns a b e r) λ (p, q). ap₂ max p q
-  free-measures ns (y-mu a) e r = ap pred (one_right free ns a e r)
-  free-measures ns (y-var k) e r = refl
+  free_measures : Measures free_of free
+  unfolding free_of free type_tree types_of_type
+  free_measures ns y_unit e r = refl
+  free_measures ns (y_prod a b) e r = given (two-right free ns a b e r) λ (p, q). ap₂ max p q
+  free_measures ns (y_sum a b) e r = given (two-right free ns a b e r) λ (p, q). ap₂ max p q
+  free_measures ns (y_mu a) e r = ap pred (one_right free ns a e r)
+  free_measures ns (y_var k) e r = refl
 
   ----------------------------------------------------------------
   -- What the figures say
 
   -- the smaller of `ceiling` and the nodes of the tree
-  pub nodes-figure : (i : ℕ) → i < length ys → get_or (figures nodesOf [] ys) i 0 ≡ min ceiling (nodes (type_of ys i))
-  nodes-figure = figure-is nodesOf (λ c. min ceiling (nodes c)) nodes-measures
+  pub nodes_figure : (i : ℕ) → i < length ys → get_or (figures nodes_of [] ys) i 0 ≡ min ceiling (nodes (type_of ys i))
+  nodes_figure = figure_is_lem nodes_of (λ c. min ceiling (nodes c)) nodes_measures
 
   -- how many recursive types must still enclose the tree
-  pub free-figure : (i : ℕ) → i < length ys → get_or (figures freeOf [] ys) i 0 ≡ free (type_of ys i)
-  free-figure = figure-is freeOf free free-measures
+  pub free_figure : (i : ℕ) → i < length ys → get_or (figures free_of [] ys) i 0 ≡ free (type_of ys i)
+  free_figure = figure_is_lem free_of free free_measures
 
-  pub free-figure-zero : (i : ℕ) → i < length ys → (get_or (figures freeOf [] ys) i 0 ≡ 0) ↔ (closed 0 (type_of ys i) ≡ true)
-  free-figure-zero i l = (
-    λ e. (closed-iff-free 0 (type_of ys i)).1 (omega (arith, free-figure i l)),
-    λ c. let h : free (type_of ys i) ≤ 0 = (closed-iff-free 0 (type_of ys i)).0 c in omega (arith, free-figure i l),
+  pub free_figure_zero : (i : ℕ) → i < length ys → (get_or (figures free_of [] ys) i 0 ≡ 0) ↔ (closed 0 (type_of ys i) ≡ true)
+  free_figure_zero i l = (
+    λ e. (closed_iff_free 0 (type_of ys i)).1 (omega (arith, free_figure i l)),
+    λ c. let h : free (type_of ys i) ≤ 0 = (closed_iff_free 0 (type_of ys i)).0 c in omega (arith, free_figure i l),
   )
 
   -- so an entry is plain exactly if its figures are within the limits
   pub plain-figures : (i : ℕ) → i < length ys
-      → plain ys i ≡ (eqb (get_or (figures freeOf [] ys) i 0) 0 && leb (get_or (figures nodesOf [] ys) i 0) maxNodes)
+      → plain ys i ≡ (eqb (get_or (figures free_of [] ys) i 0) 0 && leb (get_or (figures nodes_of [] ys) i 0) max_nodes)
   unfolding plain ceiling
   plain-figures i l = ap₂ (λ c n. c && n) closed-so nodes-so
     where
       τ : Ty
       τ = type_of ys i
 
-      closed-so : closed 0 τ ≡ eqb (get_or (figures freeOf [] ys) i 0) 0
-      closed-so = same_truth _ _ (λ c. rw ((free-figure-zero i l).1 c), λ e. (free-figure-zero i l).0 (eqb-sound _ 0 e))
+      closed-so : closed 0 τ ≡ eqb (get_or (figures free_of [] ys) i 0) 0
+      closed-so = same_truth _ _ (λ c. rw ((free_figure_zero i l).1 c), λ e. (free_figure_zero i l).0 (eqb-sound _ 0 e))
 
-      few-counted : leb (nodes τ) maxNodes ≡ true → leb (get_or (figures nodesOf [] ys) i 0) maxNodes ≡ true
-      few-counted e = rw (nodes-figure i l) (leb_yes (min ceiling (nodes τ)) maxNodes (omega (arith, leb-sound (nodes τ) maxNodes e)))
+      few-counted : leb (nodes τ) max_nodes ≡ true → leb (get_or (figures nodes_of [] ys) i 0) max_nodes ≡ true
+      few-counted e = rw (nodes_figure i l) (leb_yes (min ceiling (nodes τ)) max_nodes (omega (arith, leb-sound (nodes τ) max_nodes e)))
 
-      few : leb (get_or (figures nodesOf [] ys) i 0) maxNodes ≡ true → leb (nodes τ) maxNodes ≡ true
+      few : leb (get_or (figures nodes_of [] ys) i 0) max_nodes ≡ true → leb (nodes τ) max_nodes ≡ true
       few e =
-          let h : min ceiling (nodes τ) ≤ maxNodes = subst (λ n. n ≤ maxNodes) (nodes-figure i l) (leb-sound _ maxNodes e) in
-          leb_yes (nodes τ) maxNodes (omega arith)
+          let h : min ceiling (nodes τ) ≤ max_nodes = subst (λ n. n ≤ max_nodes) (nodes_figure i l) (leb-sound _ max_nodes e) in
+          leb_yes (nodes τ) max_nodes (omega arith)
 
-      nodes-so : leb (nodes τ) maxNodes ≡ leb (get_or (figures nodesOf [] ys) i 0) maxNodes
+      nodes-so : leb (nodes τ) max_nodes ≡ leb (get_or (figures nodes_of [] ys) i 0) max_nodes
       nodes-so = same_truth _ _ (few-counted, few)
 
 ----------------------------------------------------------------
 -- The test as propositions
 
-pub plain-iff : (ys : List TypeEntry) (i : ℕ) → (plain ys i ≡ true) ↔ Plain (type_of ys i)
+pub plain_iff : (ys : List TypeEntry) (i : ℕ) → (plain ys i ≡ true) ↔ Plain (type_of ys i)
 unfolding plain
-plain-iff ys i = (
-  λ e. given (and_both (closed 0 (type_of ys i)) _ e) λ (c, n). (c, leb-sound (nodes (type_of ys i)) maxNodes n),
-  λ (c, s). rw (c, leb_yes (nodes (type_of ys i)) maxNodes s),
+plain_iff ys i = (
+  λ e. given (and_both (closed 0 (type_of ys i)) _ e) λ (c, n). (c, leb-sound (nodes (type_of ys i)) max_nodes n),
+  λ (c, s). rw (c, leb_yes (nodes (type_of ys i)) max_nodes s),
 )

@@ -44,10 +44,10 @@ past low n p l = by_order (dec_lt low n)
     by_order (yes h) = omega arith
     by_order (no h) = absurd (false≢true (sym p ∙ subst (λ k. eqb n k ≡ true) (let z : n ≡ low = omega arith in z) (eqb_yes n)))
 
-pub in-range : (low k n : ℕ) → low ≤ n → n < low + k → member n (range low k) ≡ true
+pub in_range : (low k n : ℕ) → low ≤ n → n < low + k → member n (range low k) ≡ true
 unfolding range member
-in-range low zero n l h = absurd (omega arith)
-in-range low (suc k) n l h = by_first (eqb n low) refl (λ l. in-range (suc low) k n l (omega arith))
+in_range low zero n l h = absurd (omega arith)
+in_range low (suc k) n l h = by_first (eqb n low) refl (λ l. in_range (suc low) k n l (omega arith))
   where
     by_first : (b : Bool) → eqb n low ≡ b → (suc low ≤ n → member n (range (suc low) k) ≡ true) → (b || member n (range (suc low) k)) ≡ true
     by_first true p s = refl
@@ -84,10 +84,10 @@ module _ {A : Type 0} {ns : List ℕ} where
   numbered-either false h h' = h'
 
   -- what follows may use that the first part was accepted
-  pub numbered-bind : {B : Type 0} {x : Answer A} (k : A → Answer B) → Numbered ns x → ((a : A) → x ≡ accepted a → Numbered ns (k a)) → Numbered ns (x >>= k)
+  pub numbered_bind : {B : Type 0} {x : Answer A} (k : A → Answer B) → Numbered ns x → ((a : A) → x ≡ accepted a → Numbered ns (k a)) → Numbered ns (x >>= k)
   unfolding ◌>>=◌
-  numbered-bind k (accepts {a}) s = s a refl
-  numbered-bind k (refuses m) s = refuses m
+  numbered_bind k (accepts {a}) s = s a refl
+  numbered_bind k (refuses m) s = refuses m
 
 -- a test, then the rest
 pub numbered-test : {B : Type 0} {ns : List ℕ} (b : Bool) (n p : ℕ) (k : Unit {0} → Answer B) → member n ns ≡ true

@@ -8,57 +8,57 @@ pub table : Table
 unfolding computing
 table = record {
   loads = refl;
-  p10-loads = refl;
-  p11-trees = refl;
-  p12-loads = refl;
+  p10_loads = refl;
+  p11_trees = refl;
+  p12_loads = refl;
   checked = refl;
   p1 = refl;
   p2 = refl;
-  p2-fuel = refl;
+  p2_fuel = refl;
   p3 = refl;
   p4 = refl;
   p5 = refl;
-  p5-height = refl;
-  p5-lower = refl;
+  p5_height = refl;
+  p5_lower = refl;
   p9 = refl;
-  p9-equal = refl;
-  p10-inl = refl;
-  p10-inr = refl;
+  p9_equal = refl;
+  p10_inl = refl;
+  p10_inr = refl;
   p11 = refl;
-  p12-left-inl = refl;
-  p12-left-inr = refl;
-  p12-right-inl = refl;
-  p12-right-inr = refl;
-  p13-open = refl;
-  p13-convert = refl;
-  p13-rollback = refl;
+  p12_left_inl = refl;
+  p12_left_inr = refl;
+  p12_right_inl = refl;
+  p12_right_inr = refl;
+  p13_open = refl;
+  p13_convert = refl;
+  p13_rollback = refl;
 }
 
 pub limits : Limits
 unfolding computing
-limits = record { p6 = refl; p7 = refl; p7-short = refl; p8 = refl }
+limits = record { p6 = refl; p7 = refl; p7_short = refl; p8 = refl }
 
 pub orders : Orders
 unfolding computing
-orders = record { converts = refl; room = refl; steps-before-room = refl; malformed-before-typed = refl; typed = refl; second = refl }
+orders = record { converts = refl; room = refl; steps_before_room = refl; malformed_before_typed = refl; typed = refl; second = refl }
 
 pub readings : Readings
 unfolding computing
 readings = record {
-  most-entries = refl;
+  most_entries_lem = refl;
   nurse = refl;
-  nurse-short = refl;
-  nurse-opened = refl;
-  nurse-other = refl;
+  nurse_short = refl;
+  nurse_opened = refl;
+  nurse_other = refl;
   workshop = refl;
-  workshop-short = refl;
-  workshop-opened = refl;
-  workshop-oldest-first = refl;
-  nurse-malformed = refl;
-  workshop-malformed = refl;
-  nurse-output = refl;
-  nurse-kept = refl;
-  workshop-output = refl;
+  workshop_short = refl;
+  workshop_opened = refl;
+  workshop_oldest_first = refl;
+  nurse_malformed = refl;
+  workshop_malformed = refl;
+  nurse_output = refl;
+  nurse_kept = refl;
+  workshop_output = refl;
 }
 
 pub steering : Steering
@@ -68,50 +68,50 @@ steering = record {
   forward = refl;
   back = refl;
   none = refl;
-  nested-forward = refl;
-  nested-back = refl;
-  unmet-forward = refl;
-  unmet-back = refl;
+  nested_forward = refl;
+  nested_back = refl;
+  unmet_forward = refl;
+  unmet_back = refl;
   lost = refl;
   lowest = refl;
   converts = refl;
-  rolls-back = refl;
+  rolls_back_lem = refl;
 }
 
 pub choosing : Choosing
 unfolding computing
 choosing = record {
   loads = refl;
-  left-inl = refl;
-  left-inr = refl;
-  right-inl = refl;
-  right-inr = refl;
-  back-left-inl = refl;
-  back-left-inr = refl;
-  back-right-inl = refl;
-  back-right-inr = refl;
-  back-fuel = refl;
+  left_inl = refl;
+  left_inr = refl;
+  right_inl = refl;
+  right_inr = refl;
+  back_left_inl = refl;
+  back_left_inr = refl;
+  back_right_inl = refl;
+  back_right_inr = refl;
+  back_fuel = refl;
   converts = refl;
-  rolls-back = refl;
+  rolls_back_lem = refl;
 }
 
 pub samples : Samples
 unfolding computing
 samples = record {
-  check-accepts = refl;
-  check-2 = refl;
-  check-4 = refl;
-  check-5 = refl;
-  check-6 = refl;
-  check-7 = refl;
-  check-8 = refl;
-  forward-answers = refl;
-  forward-12 = refl;
-  backward-answers = refl;
-  backward-16 = refl;
-  open-accepts = refl;
-  convert-turns = refl;
-  rollback-turns = refl;
-  rollback-18 = refl;
-  rollback-19 = refl;
+  check_accepts = refl;
+  check_2 = refl;
+  check_4 = refl;
+  check_5 = refl;
+  check_6 = refl;
+  check_7 = refl;
+  check_8 = refl;
+  forward_answers = refl;
+  forward_12 = refl;
+  backward_answers = refl;
+  backward_16 = refl;
+  open_accepts = refl;
+  convert_turns = refl;
+  rollback_turns = refl;
+  rollback_18 = refl;
+  rollback_19 = refl;
 }

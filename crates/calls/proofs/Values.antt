@@ -8,12 +8,12 @@ use mathlib.Core.Option.{Option, none, some}
 use mathlib.Core.List.{List, [], ◌∷◌, ◌++◌, append_assoc, append-nil}
 use lib.ListN.{length, length-append}
 use lib.Dec.{leb}
-use package.Rattle.rules.specs.Limits.{fits, maxAncillaBytes}
+use package.Rattle.rules.specs.Limits.{fits, max_ancilla_bytes}
 use package.Rattle.rules.specs.Val.{Val, unit, inl, inr, pair, roll, size, encode}
 use package.Rattle.rules.proofs.Basics.{given, none≢some, some_inj}
 use package.Rattle.rules.proofs.Val.{length-encode}
 use package.Rattle.rules.proofs.Typing.Tests.{leb_yes, leb-sound}
-use package.Rattle.calls.specs.Values.{Read, got, malformed, then, read, alone, value, encodeAll, consTo, read_all, ancillae}
+use package.Rattle.calls.specs.Values.{Read, got, malformed, then, read, alone, value, encode_all, cons_to, read_all, ancillae}
 
 ----------------------------------------------------------------
 -- An answer under a test
@@ -22,19 +22,19 @@ module _ {A : Type 0} where
   abbrev provided : Bool → Option A → Option A
   provided b x = elim b [ true ↦ x | false ↦ none ]
 
-  provided-true : {b : Bool} (x : Option A) → b ≡ true → provided b x ≡ x
-  provided-true x e = rw e
+  provided_true : {b : Bool} (x : Option A) → b ≡ true → provided b x ≡ x
+  provided_true x e = rw e
 
-  provided-some : (b : Bool) (x : Option A) {a : A} → provided b x ≡ some a → (b ≡ true) × (x ≡ some a)
-  provided-some true x e = (refl, e)
-  provided-some false x e = absurd (none≢some e)
+  provided_some : (b : Bool) (x : Option A) {a : A} → provided b x ≡ some a → (b ≡ true) × (x ≡ some a)
+  provided_some true x e = (refl, e)
+  provided_some false x e = absurd (none≢some e)
 
 ----------------------------------------------------------------
 -- One value
 
-then-via : {x : Read} {v : Val} {xs : List ℕ} (k : Val → List ℕ → Read) {y : Read} → x ≡ got v xs → k v xs ≡ y → then x k ≡ y
+then_via : {x : Read} {v : Val} {xs : List ℕ} (k : Val → List ℕ → Read) {y : Read} → x ≡ got v xs → k v xs ≡ y → then x k ≡ y
 unfolding then
-then-via k p q = ap (λ x. then x k) p ∙ q
+then_via k p q = ap (λ x. then x k) p ∙ q
 
 pub malformed≢got : {v : Val} {xs : List ℕ} → malformed ≡ got v xs → ⊥
 malformed≢got e = let z : ◌≡◌ {A = ℕ} 0 1 = cc in omega arith
@@ -55,14 +55,14 @@ unfolding read encode size
 read-encode unit zero xs h = absurd (omega arith)
 read-encode unit (suc n) xs h = refl
 read-encode (inl v) zero xs h = absurd (omega arith)
-read-encode (inl v) (suc n) xs h = then-via _ (read-encode v n xs (omega arith)) refl
+read-encode (inl v) (suc n) xs h = then_via _ (read-encode v n xs (omega arith)) refl
 read-encode (inr v) zero xs h = absurd (omega arith)
-read-encode (inr v) (suc n) xs h = then-via _ (read-encode v n xs (omega arith)) refl
+read-encode (inr v) (suc n) xs h = then_via _ (read-encode v n xs (omega arith)) refl
 read-encode (pair v w) zero xs h = absurd (omega arith)
 read-encode (pair v w) (suc n) xs h = rw (append_assoc (encode v) (encode w) xs)
-    (then-via _ (read-encode v n (encode w ++ xs) (omega arith)) (then-via _ (read-encode w n xs (omega arith)) refl))
+    (then_via _ (read-encode v n (encode w ++ xs) (omega arith)) (then_via _ (read-encode w n xs (omega arith)) refl))
 read-encode (roll v) zero xs h = absurd (omega arith)
-read-encode (roll v) (suc n) xs h = then-via _ (read-encode v n xs (omega arith)) refl
+read-encode (roll v) (suc n) xs h = then_via _ (read-encode v n xs (omega arith)) refl
 
 -- the bytes of what was read, and those left behind it
 written : Read → List ℕ
@@ -102,11 +102,11 @@ read_first v xs = read-encode v (length (encode v ++ xs)) xs (omega (arith, leng
 
 pub value-encode : (v : Val) → fits v ≡ true → value (encode v) ≡ some v
 unfolding value alone
-value-encode v e = ap alone (rw append-nil at (read_first v [])) ∙ provided-true (some v) e
+value-encode v e = ap alone (rw append-nil at (read_first v [])) ∙ provided_true (some v) e
 
 alone-sound : (r : Read) {v : Val} → alone r ≡ some v → (r ≡ got v []) × (fits v ≡ true)
 unfolding alone
-alone-sound (got w []) e = given (provided-some (fits w) (some w) e) λ (f, p). (ap (λ u. got u []) (some_inj p), rw (some_inj p) at f)
+alone-sound (got w []) e = given (provided_some (fits w) (some w) e) λ (f, p). (ap (λ u. got u []) (some_inj p), rw (some_inj p) at f)
 alone-sound (got w (x ∷ xs)) e = absurd (none≢some e)
 alone-sound malformed e = absurd (none≢some e)
 
@@ -118,35 +118,35 @@ value-sound xs {v} e = given (alone-sound (read (length xs) xs) e) λ (p, f). (r
 -- Ancillae
 
 -- a value is read off the front
-readAll-more : (n : ℕ) (xs : List ℕ) {v : Val} {ys : List ℕ} → read (length xs) xs ≡ got v ys → read_all (suc n) xs ≡ consTo v (read_all n ys)
+read_all-more : (n : ℕ) (xs : List ℕ) {v : Val} {ys : List ℕ} → read (length xs) xs ≡ got v ys → read_all (suc n) xs ≡ cons_to v (read_all n ys)
 unfolding read_all read
-readAll-more n [] e = absurd (malformed≢got e)
-readAll-more n (x ∷ xs) e = rw e
+read_all-more n [] e = absurd (malformed≢got e)
+read_all-more n (x ∷ xs) e = rw e
 
-pub readAll-nil : (n : ℕ) → read_all n [] ≡ some []
+pub read_all_nil : (n : ℕ) → read_all n [] ≡ some []
 unfolding read_all
-readAll-nil zero = refl
-readAll-nil (suc n) = refl
+read_all_nil zero = refl
+read_all_nil (suc n) = refl
 
-readAll-encodeAll : (vs : List Val) (n : ℕ) → length (encodeAll vs) ≤ n → read_all n (encodeAll vs) ≡ some vs
-unfolding encodeAll consTo
-readAll-encodeAll [] n h = readAll-nil n
-readAll-encodeAll (v ∷ vs) zero h = absurd (omega (arith, size-positive v, length-encode-append v (encodeAll vs)))
-readAll-encodeAll (v ∷ vs) (suc n) h =
-    readAll-more n (encode v ++ encodeAll vs) (read_first v (encodeAll vs))
-    ∙ ap (consTo v) (readAll-encodeAll vs n (omega (arith, size-positive v, length-encode-append v (encodeAll vs))))
+read_all-encode_all : (vs : List Val) (n : ℕ) → length (encode_all vs) ≤ n → read_all n (encode_all vs) ≡ some vs
+unfolding encode_all cons_to
+read_all-encode_all [] n h = read_all_nil n
+read_all-encode_all (v ∷ vs) zero h = absurd (omega (arith, size-positive v, length-encode-append v (encode_all vs)))
+read_all-encode_all (v ∷ vs) (suc n) h =
+    read_all-more n (encode v ++ encode_all vs) (read_first v (encode_all vs))
+    ∙ ap (cons_to v) (read_all-encode_all vs n (omega (arith, size-positive v, length-encode-append v (encode_all vs))))
 
-pub ancillae-encode : (vs : List Val) → length (encodeAll vs) ≤ maxAncillaBytes → ancillae (encodeAll vs) ≡ some vs
+pub ancillae-encode : (vs : List Val) → length (encode_all vs) ≤ max_ancilla_bytes → ancillae (encode_all vs) ≡ some vs
 unfolding ancillae
 ancillae-encode vs h =
-    provided-true (read_all (length (encodeAll vs)) (encodeAll vs)) (leb_yes (length (encodeAll vs)) maxAncillaBytes h)
-    ∙ readAll-encodeAll vs (length (encodeAll vs)) (le_refl _)
+    provided_true (read_all (length (encode_all vs)) (encode_all vs)) (leb_yes (length (encode_all vs)) max_ancilla_bytes h)
+    ∙ read_all-encode_all vs (length (encode_all vs)) (le_refl _)
 
 -- what was read before the rest
-consTo-some : (v : Val) (r : Option (List Val)) {vs : List Val} → consTo v r ≡ some vs → (ws : List Val) × (r ≡ some ws) × (v ∷ ws ≡ vs)
-unfolding consTo
-consTo-some v none e = absurd (none≢some e)
-consTo-some v (some ws) e = (ws, refl, some_inj e)
+cons_to_some : (v : Val) (r : Option (List Val)) {vs : List Val} → cons_to v r ≡ some vs → (ws : List Val) × (r ≡ some ws) × (v ∷ ws ≡ vs)
+unfolding cons_to
+cons_to_some v none e = absurd (none≢some e)
+cons_to_some v (some ws) e = (ws, refl, some_inj e)
 
 first_some : (r : Read) (k : Val → List ℕ → Option (List Val)) {vs : List Val}
     → elim r as (λ r. Option (List Val)) [ got v ys ↦ k v ys | malformed ↦ none ] ≡ some vs
@@ -154,15 +154,15 @@ first_some : (r : Read) (k : Val → List ℕ → Option (List Val)) {vs : List 
 first_some (got v ys) k e = (v, ys, refl, e)
 first_some malformed k e = absurd (none≢some e)
 
-readAll-sound : (n : ℕ) (xs : List ℕ) {vs : List Val} → read_all n xs ≡ some vs → xs ≡ encodeAll vs
-unfolding read_all encodeAll
-readAll-sound zero [] e = ap encodeAll (some_inj e)
-readAll-sound zero (x ∷ xs) e = absurd (none≢some e)
-readAll-sound (suc n) [] e = ap encodeAll (some_inj e)
-readAll-sound (suc n) (x ∷ xs) e = given (first_some (read (length (x ∷ xs)) (x ∷ xs)) _ e) λ (v, ys, p, q). given (consTo-some v (read_all n ys) q) λ (ws, r, z).
-    read-sound (length (x ∷ xs)) (x ∷ xs) p ∙ ap (λ r. encode v ++ r) (readAll-sound n ys r) ∙ ap encodeAll z
+read_all-sound : (n : ℕ) (xs : List ℕ) {vs : List Val} → read_all n xs ≡ some vs → xs ≡ encode_all vs
+unfolding read_all encode_all
+read_all-sound zero [] e = ap encode_all (some_inj e)
+read_all-sound zero (x ∷ xs) e = absurd (none≢some e)
+read_all-sound (suc n) [] e = ap encode_all (some_inj e)
+read_all-sound (suc n) (x ∷ xs) e = given (first_some (read (length (x ∷ xs)) (x ∷ xs)) _ e) λ (v, ys, p, q). given (cons_to_some v (read_all n ys) q) λ (ws, r, z).
+    read-sound (length (x ∷ xs)) (x ∷ xs) p ∙ ap (λ r. encode v ++ r) (read_all-sound n ys r) ∙ ap encode_all z
 
-pub ancillae-sound : (xs : List ℕ) {vs : List Val} → ancillae xs ≡ some vs → (xs ≡ encodeAll vs) × (length xs ≤ maxAncillaBytes)
+pub ancillae-sound : (xs : List ℕ) {vs : List Val} → ancillae xs ≡ some vs → (xs ≡ encode_all vs) × (length xs ≤ max_ancilla_bytes)
 unfolding ancillae
-ancillae-sound xs e = given (provided-some (leb (length xs) maxAncillaBytes) (read_all (length xs) xs) e) λ (b, p).
-    (readAll-sound (length xs) xs p, leb-sound (length xs) maxAncillaBytes b)
+ancillae-sound xs e = given (provided_some (leb (length xs) max_ancilla_bytes) (read_all (length xs) xs) e) λ (b, p).
+    (read_all-sound (length xs) xs p, leb-sound (length xs) max_ancilla_bytes b)

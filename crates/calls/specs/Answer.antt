@@ -29,11 +29,11 @@ cleared (accepted a) ws = replicate (length ws) 0
 cleared (refused n p) ws = cond (eqb n 1) ws (replicate (length ws) 0)
 
 -- The bytes that a call writes into its output: none after a refusal.
-unfoldable pub bytesWritten : Answer (List ℕ) → List ℕ
-bytesWritten (accepted xs) = xs
-bytesWritten (refused n p) = []
+unfoldable pub bytes_written : Answer (List ℕ) → List ℕ
+bytes_written (accepted xs) = xs
+bytes_written (refused n p) = []
 
 -- The output after the call: the bytes fill it from its start, the rest unchanged (section 4).
 unfoldable pub overwritten : Answer (List ℕ) → List ℕ → List ℕ
-unfolding bytesWritten
-overwritten x out = bytesWritten x ++ drop (length (bytesWritten x)) out
+unfolding bytes_written
+overwritten x out = bytes_written x ++ drop (length (bytes_written x)) out

@@ -3,12 +3,12 @@
 -- unchanged; the workspace after a call is given by `cleared` (Answer).
 use Rattle.std.specs.Prelude.{ℕ, List, [], ◌∷◌, ◌++◌, length, eqb, ltb, leb}
 use Rattle.std.proofs.Math.Option.{Option, none, some}
-use package.Rattle.rules.specs.Limits.{maxConversions}
+use package.Rattle.rules.specs.Limits.{max_conversions}
 use package.Rattle.rules.specs.Val.{size}
 use package.Rattle.calls.specs.Answer.{Answer, accepted, ◌>>=◌, require, present}
 use package.Rattle.calls.specs.Values.{value, ancillae}
 use package.Rattle.calls.specs.Runs.{Ran, prepared, admit, goes, returns}
-use package.Rattle.calls.specs.Journal.{Entry, Journal, fields, writeOut, readJournal}
+use package.Rattle.calls.specs.Journal.{Entry, Journal, fields, write_out, read_journal}
 
 -- what convert and rollback answer: the new held value's length and the steps; and the journal that they leave
 pub record Turned : Type 0 where
@@ -20,7 +20,7 @@ pub record Turned : Type 0 where
 unfoldable pub kept : ℕ → Journal → Answer (List ℕ)
 kept n J = do
   fit ← require (leb (length (fields J)) n) 20 0
-  accepted (writeOut n J)
+  accepted (write_out n J)
 
 -- the answer of a run that leaves the journal `J` in a buffer of `n` bytes
 unfoldable pub turned : ℕ → Ran → Journal → Answer Turned
@@ -49,28 +49,28 @@ newest (e ∷ es) = behind e (newest es)
 ----------------------------------------------------------------
 -- The calls
 
-unfoldable pub openCall : List ℕ → List ℕ → ℕ → ℕ → Answer (List ℕ)
+unfoldable pub open_call : List ℕ → List ℕ → ℕ → ℕ → Answer (List ℕ)
 unfolding prepared kept
-openCall program bytes ws n = do
+open_call program bytes ws n = do
   P ← prepared program 0 ws
   v ← present (value bytes) 10
   kept n (record { held = v; entries = [] })
 
-unfoldable pub convertCall : List ℕ → ℕ → List ℕ → ℕ → ℕ → List ℕ → Answer Turned
+unfoldable pub convert_call : List ℕ → ℕ → List ℕ → ℕ → ℕ → List ℕ → Answer Turned
 unfolding prepared admit goes turned
-convertCall program fn anc fuel ws journal = do
+convert_call program fn anc fuel ws journal = do
   P ← prepared program fuel ws
-  J ← present (readJournal journal) 18
-  few ← require (ltb (length J.entries) maxConversions) 20 0
+  J ← present (read_journal journal) 18
+  few ← require (ltb (length J.entries) max_conversions) 20 0
   a ← admit P fn (ancillae anc) (some J.held) λ h. h.dynamic
   r ← goes P fuel a
   turned (length journal) r (record { held = r.value; entries = J.entries ++ (record { function = fn; steps = r.steps; ancillae = a.ancillae } ∷ []) })
 
-unfoldable pub rollbackCall : List ℕ → ℕ → ℕ → List ℕ → Answer Turned
+unfoldable pub rollback_call : List ℕ → ℕ → ℕ → List ℕ → Answer Turned
 unfolding prepared admit returns turned newest
-rollbackCall program fuel ws journal = do
+rollback_call program fuel ws journal = do
   P ← prepared program fuel ws
-  J ← present (readJournal journal) 18
+  J ← present (read_journal journal) 18
   s ← present (newest J.entries) 19
   a ← admit P s.newest.function (some s.newest.ancillae) (some J.held) λ h. h.result
   r ← returns P fuel a

@@ -1,11 +1,11 @@
 -- Well-formed programs, as section 1 says it: propositions over a program's fields and entries, in no order of tests. That check accepts
 -- exactly these, if the rules type them: Claims.
 use Rattle.std.specs.Prelude.{ℕ, suc, ◌+◌, ◌≤◌, ◌<◌, ◌≡◌, true, cond, List, [], ◌∷◌, ◌++◌, length, eqb}
-use package.Rattle.rules.specs.Limits.{maxTypes, maxTerms, maxFunctions, maxParameters, maxProgramBytes}
+use package.Rattle.rules.specs.Limits.{max_types, max_terms, max_functions, max_parameters, max_program_bytes}
 use package.Rattle.rules.specs.Term.{Program}
-use package.Rattle.calls.specs.Fields.{tag_at, next_at, parametersAt, bodyFits, Layout}
+use package.Rattle.calls.specs.Fields.{tag_at, next_at, parameters_at, body_fits, Layout}
 use package.Rattle.calls.specs.Entries.{type_of, Entries, entries_at, program_of}
-use package.Rattle.calls.specs.Named.{typesOfTerm, termsOfTerm, functionsOfTerm, typesOfFunction, below, member}
+use package.Rattle.calls.specs.Named.{types_of_term, terms_of_term, functions_of_term, types_of_function, below, member}
 use package.Rattle.calls.specs.Closed.{Plain, Lower, LowerTerms}
 
 ----------------------------------------------------------------
@@ -15,7 +15,7 @@ use package.Rattle.calls.specs.Closed.{Plain, Lower, LowerTerms}
 -- then terms, then functions: no tag is lower than the one before, `last`.
 pub data FieldsAt (xs : List ℕ) : ℕ → ℕ → List ℕ → Type 0 where
   no_more : {at last : ℕ} → at ≡ length xs → FieldsAt xs at last []
-  one_more : {at last : ℕ} {places : List ℕ} → at + 3 ≤ length xs → last ≤ tag_at xs at → next_at xs at ≤ length xs → bodyFits xs at ≡ true
+  one_more : {at last : ℕ} {places : List ℕ} → at + 3 ≤ length xs → last ≤ tag_at xs at → next_at xs at ≤ length xs → body_fits xs at ≡ true
       → FieldsAt xs (next_at xs at) (tag_at xs at) places → FieldsAt xs at last (at ∷ places)
 
 -- the places of one tag: "entries of each tag count from 0"
@@ -28,11 +28,11 @@ by_tag xs places = record { types = tagged xs 1 places; terms = tagged xs 2 plac
 
 -- within the limits on bytes and counts
 pub record Few (xs : List ℕ) (L : Layout) : Type 0 where
-  pub bytes : length xs ≤ maxProgramBytes
-  pub types : length L.types ≤ maxTypes
-  pub terms : length L.terms ≤ maxTerms
-  pub functions : length L.functions ≤ maxFunctions
-  pub parameters : (at : ℕ) → member at L.functions ≡ true → (1 ≤ parametersAt xs at) × (parametersAt xs at ≤ maxParameters)
+  pub bytes : length xs ≤ max_program_bytes
+  pub types : length L.types ≤ max_types
+  pub terms : length L.terms ≤ max_terms
+  pub functions : length L.functions ≤ max_functions
+  pub parameters : (at : ℕ) → member at L.functions ≡ true → (1 ≤ parameters_at xs at) × (parameters_at xs at ≤ max_parameters)
 
 ----------------------------------------------------------------
 -- Entries
@@ -43,11 +43,11 @@ gathered names [] = []
 gathered names (x ∷ xs) = names x ++ gathered names xs
 
 -- the types that terms and functions name; the terms that are used, as parts or as bodies
-abbrev pub typesNamed : Entries → List ℕ
-typesNamed E = gathered typesOfTerm E.terms ++ gathered typesOfFunction E.functions
+abbrev pub types_named : Entries → List ℕ
+types_named E = gathered types_of_term E.terms ++ gathered types_of_function E.functions
 
-abbrev pub termsUsed : Entries → List ℕ
-termsUsed E = gathered termsOfTerm E.terms ++ gathered (λ h. h.body ∷ []) E.functions
+abbrev pub terms_used : Entries → List ℕ
+terms_used E = gathered terms_of_term E.terms ++ gathered (λ h. h.body ∷ []) E.functions
 
 -- how often a number stands in a list
 unfoldable pub times : ℕ → List ℕ → ℕ
@@ -56,15 +56,15 @@ times i (j ∷ js) = cond (eqb i j) (suc (times i js)) (times i js)
 
 pub record WellNamed (E : Entries) : Type 0 where
   -- a type names lower types, a term lower terms; any other reference names an entry that exists
-  pub types-lower : Lower E.types
-  pub terms-lower : LowerTerms E.terms
-  pub types-there : below (length E.types) (typesNamed E) ≡ true
-  pub terms-there : below (length E.terms) (termsUsed E) ≡ true
-  pub functions-there : below (length E.functions) (gathered functionsOfTerm E.terms) ≡ true
+  pub types_lower : Lower E.types
+  pub terms_lower : LowerTerms E.terms
+  pub types_there : below (length E.types) (types_named E) ≡ true
+  pub terms_there : below (length E.terms) (terms_used E) ≡ true
+  pub functions_there : below (length E.functions) (gathered functions_of_term E.terms) ≡ true
   -- each term is used once, as a part of one term or as one body
-  pub used-once : (k : ℕ) → k < length E.terms → times k (termsUsed E) ≡ 1
+  pub used_once : (k : ℕ) → k < length E.terms → times k (terms_used E) ≡ 1
   -- a type that a term or function names is closed and has at most 1,024 nodes when written out as a tree
-  pub types-plain : (i : ℕ) → member i (typesNamed E) ≡ true → Plain (type_of E.types i)
+  pub types_plain : (i : ℕ) → member i (types_named E) ≡ true → Plain (type_of E.types i)
 
 ----------------------------------------------------------------
 -- Programs

@@ -2,10 +2,10 @@
 use Rattle.std.specs.Prelude.{ℕ, zero, suc, ◌+◌, ◌-◌, Bool, true, false, ◌&&◌, List, [], ◌∷◌, ◌++◌, length, take, drop, replicate, eqb, leb}
 use Rattle.std.proofs.Math.Option.{Option, none, some}
 use package.Rattle.octets.specs.Numbers.{get16, get32, bytes16, bytes32}
-use package.Rattle.rules.specs.Limits.{maxConversions}
+use package.Rattle.rules.specs.Limits.{max_conversions}
 use package.Rattle.rules.specs.Val.{Val, encode}
-use package.Rattle.calls.specs.Fields.{fieldHead}
-use package.Rattle.calls.specs.Values.{value, ancillae, encodeAll}
+use package.Rattle.calls.specs.Fields.{field_head}
+use package.Rattle.calls.specs.Values.{value, ancillae, encode_all}
 
 -- a standing conversion
 pub record Entry : Type 0 where
@@ -25,36 +25,36 @@ pub record Journal : Type 0 where
 unfoldable pub field : ℕ → List ℕ → List ℕ
 field tag body = tag ∷ (bytes16 (length body) ++ body)
 
-unfoldable pub heldTag : ℕ
-heldTag = 0x21
+unfoldable pub held_tag : ℕ
+held_tag = 0x21
 
-unfoldable pub entryTag : ℕ
-entryTag = 0x22
+unfoldable pub entry_tag : ℕ
+entry_tag = 0x22
 
 -- the bytes of an entry's body before its ancilla values
-abbrev pub entryHead : ℕ
-entryHead = 6
+abbrev pub entry_head : ℕ
+entry_head = 6
 
 -- and of its field
-abbrev pub entryBytes : ℕ
-entryBytes = fieldHead + entryHead
+abbrev pub entry_bytes : ℕ
+entry_bytes = field_head + entry_head
 
 -- function (2 bytes), steps (4), ancilla values
-unfoldable pub entryBody : Entry → List ℕ
-entryBody e = bytes16 e.function ++ bytes32 e.steps ++ encodeAll e.ancillae
+unfoldable pub entry_body : Entry → List ℕ
+entry_body e = bytes16 e.function ++ bytes32 e.steps ++ encode_all e.ancillae
 
-unfoldable pub entryFields : List Entry → List ℕ
-unfolding field entryTag entryBody
-entryFields [] = []
-entryFields (e ∷ es) = field entryTag (entryBody e) ++ entryFields es
+unfoldable pub entry_fields : List Entry → List ℕ
+unfolding field entry_tag entry_body
+entry_fields [] = []
+entry_fields (e ∷ es) = field entry_tag (entry_body e) ++ entry_fields es
 
 unfoldable pub fields : Journal → List ℕ
-unfolding field heldTag entryFields
-fields J = field heldTag (encode J.held) ++ entryFields J.entries
+unfolding field held_tag entry_fields
+fields J = field held_tag (encode J.held) ++ entry_fields J.entries
 
 -- the fields, then zeros to the end of a buffer of `n` bytes
-unfoldable pub writeOut : ℕ → Journal → List ℕ
-writeOut n J = fields J ++ replicate (n - length (fields J)) 0
+unfoldable pub write_out : ℕ → Journal → List ℕ
+write_out n J = fields J ++ replicate (n - length (fields J)) 0
 
 ----------------------------------------------------------------
 -- Reading back
@@ -87,33 +87,33 @@ opened tag (t ∷ a ∷ b ∷ xs) = do
 -- the head, and whole values
 unfoldable pub read_entry : List ℕ → Option Entry
 read_entry xs = do
-  long ← provided (leb entryHead (length xs))
-  vs ← ancillae (drop entryHead xs)
+  long ← provided (leb entry_head (length xs))
+  vs ← ancillae (drop entry_head xs)
   some (record { function = get16 xs 0; steps = get32 xs 2; ancillae = vs })
 
-unfoldable pub allZero : List ℕ → Bool
-allZero [] = true
-allZero (x ∷ xs) = eqb x 0 && allZero xs
+unfoldable pub all_zero : List ℕ → Bool
+all_zero [] = true
+all_zero (x ∷ xs) = eqb x 0 && all_zero xs
 
 -- fields 22 while the next byte is not zero, then zeros to the end; `n` bounds how many fields there are
-unfoldable pub readEntries : ℕ → List ℕ → Option (List Entry)
+unfoldable pub read_entries : ℕ → List ℕ → Option (List Entry)
 unfolding opened read_entry
-readEntries zero xs = none
-readEntries (suc n) [] = some []
-readEntries (suc n) (zero ∷ xs) = do
-  zeros ← provided (allZero xs)
+read_entries zero xs = none
+read_entries (suc n) [] = some []
+read_entries (suc n) (zero ∷ xs) = do
+  zeros ← provided (all_zero xs)
   some []
-readEntries (suc n) (suc x ∷ xs) = do
-  f ← opened entryTag (suc x ∷ xs)
+read_entries (suc n) (suc x ∷ xs) = do
+  f ← opened entry_tag (suc x ∷ xs)
   e ← read_entry f.body
-  es ← readEntries n f.rest
+  es ← read_entries n f.rest
   some (e ∷ es)
 
 -- what a buffer says, if it has the journal's form
-unfoldable pub readJournal : List ℕ → Option Journal
-unfolding opened readEntries
-readJournal xs = do
-  f ← opened heldTag xs
+unfoldable pub read_journal : List ℕ → Option Journal
+unfolding opened read_entries
+read_journal xs = do
+  f ← opened held_tag xs
   v ← value f.body
-  es ← readEntries (suc maxConversions) f.rest
+  es ← read_entries (suc max_conversions) f.rest
   some (record { held = v; entries = es })

@@ -1,12 +1,12 @@
 -- A program, read and typed: rows Field reading, Entries and Typing of section 4's table (refusals 2 to 8).
 use Rattle.std.specs.Prelude.{ℕ, List, get_or}
-use package.Rattle.rules.specs.Limits.{maxVariables, maxNodes}
+use package.Rattle.rules.specs.Limits.{max_variables, max_nodes}
 use package.Rattle.rules.specs.Term.{Program}
 use package.Rattle.rules.specs.Check.{Site, term, function, Checked, good, bad, check}
 use package.Rattle.calls.specs.Answer.{Answer, accepted, refused, ◌>>=◌}
 use package.Rattle.calls.specs.Fields.{Layout, layout}
 use package.Rattle.calls.specs.Entries.{entries_at, program_of}
-use package.Rattle.calls.specs.Named.{testEntries}
+use package.Rattle.calls.specs.Named.{test_entries}
 
 -- the place of a typing refusal: the offset of the entry's field
 unfoldable pub offset : Layout → Site → ℕ
@@ -22,6 +22,6 @@ typed L (bad n p) = refused n (offset L p)
 unfoldable pub load : List ℕ → Answer Program
 load xs = do
   L ← layout xs
-  named ← testEntries L (entries_at xs L)
-  checked ← typed L (check maxVariables maxNodes (program_of (entries_at xs L)))
+  named ← test_entries L (entries_at xs L)
+  checked ← typed L (check max_variables max_nodes (program_of (entries_at xs L)))
   accepted (program_of (entries_at xs L))

@@ -3,12 +3,12 @@
 -- (Answer) and `written`.
 use Rattle.std.specs.Prelude.{ℕ, ◌+◌, ◌*◌, ◌-◌, ◌&&◌, List, length, eqb, leb}
 use Rattle.std.proofs.Math.Option.{Option}
-use package.Rattle.rules.specs.Limits.{fits, maxHeight, workspaceBase, workspacePerFuel}
+use package.Rattle.rules.specs.Limits.{fits, max_height, workspace_base, workspace_per_fuel}
 use package.Rattle.rules.specs.Val.{Val, size, encode}
 use package.Rattle.rules.specs.Ty.{Ty}
 use package.Rattle.rules.specs.Term.{Fun, Program, nth}
 use package.Rattle.rules.specs.Run.{Res, ok, stop, stuck}
-use package.Rattle.rules.specs.Machine.{runForward, runBackward}
+use package.Rattle.rules.specs.Machine.{run_forward, run_backward}
 use package.Rattle.calls.specs.Answer.{Answer, accepted, refused, ◌>>=◌, require, present, overwritten}
 use package.Rattle.calls.specs.Load.{load}
 use package.Rattle.calls.specs.Values.{value, ancillae, has_ty, has_tys}
@@ -17,14 +17,14 @@ use package.Rattle.calls.specs.Values.{value, ancillae, has_ty, has_tys}
 -- Row Workspace
 
 -- the workspace that a call with so much fuel needs (section 2)
-unfoldable pub workspaceFor : ℕ → ℕ
-workspaceFor fuel = workspaceBase + workspacePerFuel * fuel
+unfoldable pub workspace_for : ℕ → ℕ
+workspace_for fuel = workspace_base + workspace_per_fuel * fuel
 
 -- refusal 1, then the rows of the program
 unfoldable pub prepared : List ℕ → ℕ → ℕ → Answer Program
-unfolding workspaceFor
+unfolding workspace_for
 prepared program fuel ws = do
-  enough ← require (leb (workspaceFor fuel) ws) 1 0
+  enough ← require (leb (workspace_for fuel) ws) 1 0
   load program
 
 ----------------------------------------------------------------
@@ -61,33 +61,33 @@ ran fuel stuck = refused 0 0
 
 unfoldable pub goes : Program → ℕ → Given → Answer Ran
 unfolding ran
-goes P fuel a = ran fuel (runForward fits P maxHeight a.fun a.ancillae a.value fuel)
+goes P fuel a = ran fuel (run_forward fits P max_height a.fun a.ancillae a.value fuel)
 
 unfoldable pub returns : Program → ℕ → Given → Answer Ran
 unfolding ran
-returns P fuel a = ran fuel (runBackward fits P maxHeight a.fun a.ancillae a.value fuel)
+returns P fuel a = ran fuel (run_backward fits P max_height a.fun a.ancillae a.value fuel)
 
 ----------------------------------------------------------------
 -- The calls
 
-unfoldable pub checkCall : List ℕ → ℕ → Answer (Unit {0})
+unfoldable pub check_call : List ℕ → ℕ → Answer (Unit {0})
 unfolding prepared
-checkCall program ws = do
+check_call program ws = do
   P ← prepared program 0 ws
   accepted tt
 
-unfoldable pub forwardCall : List ℕ → ℕ → List ℕ → List ℕ → ℕ → ℕ → ℕ → Answer Ran
+unfoldable pub forward_call : List ℕ → ℕ → List ℕ → List ℕ → ℕ → ℕ → ℕ → Answer Ran
 unfolding prepared admit goes
-forwardCall program fn anc v fuel ws out = do
+forward_call program fn anc v fuel ws out = do
   P ← prepared program fuel ws
   a ← admit P fn (ancillae anc) (value v) λ h. h.dynamic
   r ← goes P fuel a
   room ← require (leb (size r.value) out) 17 0
   accepted r
 
-unfoldable pub backwardCall : List ℕ → ℕ → List ℕ → List ℕ → ℕ → ℕ → ℕ → Answer Ran
+unfoldable pub backward_call : List ℕ → ℕ → List ℕ → List ℕ → ℕ → ℕ → ℕ → Answer Ran
 unfolding prepared admit returns
-backwardCall program fn anc v fuel ws out = do
+backward_call program fn anc v fuel ws out = do
   P ← prepared program fuel ws
   a ← admit P fn (ancillae anc) (value v) λ h. h.result
   r ← returns P fuel a
@@ -95,12 +95,12 @@ backwardCall program fn anc v fuel ws out = do
   accepted r
 
 -- the bytes that a run writes: its value's
-unfoldable pub valueBytes : Answer Ran → Answer (List ℕ)
-valueBytes x = do
+unfoldable pub value_bytes : Answer Ran → Answer (List ℕ)
+value_bytes x = do
   r ← x
   accepted (encode r.value)
 
 -- the output after it
 unfoldable pub written : Answer Ran → List ℕ → List ℕ
-unfolding valueBytes overwritten
-written x out = overwritten (valueBytes x) out
+unfolding value_bytes overwritten
+written x out = overwritten (value_bytes x) out

@@ -1,7 +1,7 @@
 -- Values from bytes (section 1). Whether a value is of a type: rules/specs/Ty.
 use Rattle.std.specs.Prelude.{ℕ, zero, suc, true, false, List, [], ◌∷◌, ◌++◌, length, leb}
 use Rattle.std.proofs.Math.Option.{Option, none, some}
-use package.Rattle.rules.specs.Limits.{fits, maxAncillaBytes}
+use package.Rattle.rules.specs.Limits.{fits, max_ancilla_bytes}
 use package.Rattle.rules.specs.Val.{Val, unit, inl, inr, pair, roll, encode}
 unfoldable pub use package.Rattle.rules.specs.Ty.{has_ty, has_tys}
 
@@ -43,22 +43,22 @@ value xs = alone (read (length xs) xs)
 ----------------------------------------------------------------
 -- Ancillae: values one after another
 
-unfoldable pub encodeAll : List Val → List ℕ
-encodeAll [] = []
-encodeAll (v ∷ vs) = encode v ++ encodeAll vs
+unfoldable pub encode_all : List Val → List ℕ
+encode_all [] = []
+encode_all (v ∷ vs) = encode v ++ encode_all vs
 
-unfoldable pub consTo : Val → Option (List Val) → Option (List Val)
-consTo v none = none
-consTo v (some vs) = some (v ∷ vs)
+unfoldable pub cons_to : Val → Option (List Val) → Option (List Val)
+cons_to v none = none
+cons_to v (some vs) = some (v ∷ vs)
 
 -- `n` bounds how many there are
 unfoldable pub read_all : ℕ → List ℕ → Option (List Val)
-unfolding consTo
+unfolding cons_to
 read_all zero [] = some []
 read_all zero (x ∷ xs) = none
 read_all (suc n) [] = some []
-read_all (suc n) (x ∷ xs) = elim (read (length (x ∷ xs)) (x ∷ xs)) [ got v ys ↦ consTo v (read_all n ys) | malformed ↦ none ]
+read_all (suc n) (x ∷ xs) = elim (read (length (x ∷ xs)) (x ∷ xs)) [ got v ys ↦ cons_to v (read_all n ys) | malformed ↦ none ]
 
 -- the values that the bytes are, if they are values within the limits
 unfoldable pub ancillae : List ℕ → Option (List Val)
-ancillae xs = elim (leb (length xs) maxAncillaBytes) [ true ↦ read_all (length xs) xs | false ↦ none ]
+ancillae xs = elim (leb (length xs) max_ancilla_bytes) [ true ↦ read_all (length xs) xs | false ↦ none ]

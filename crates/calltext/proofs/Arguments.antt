@@ -4,152 +4,152 @@ use mathlib.Core.Path.{◌≡◌}
 use mathlib.Core.Bool.{Bool}
 use mathlib.Core.Option.{none, some}
 use mathlib.Core.List.{List}
-use package.Rattle.rules.specs.Limits.{maxFuel}
+use package.Rattle.rules.specs.Limits.{max_fuel}
 use package.Rattle.calltext.specs.Words.{word_at}
 use package.Rattle.calltext.specs.Decimal.{number_in}
-use package.Rattle.calltext.specs.Hexadecimal.{bytesIn}
-use package.Rattle.calltext.specs.Calls.{Line, runLine, openLine, convertLine, rollbackLine, noNumber, noBytes, with_number, withBytes, mostLength, mostShort, readPair, readRun, readOpen, readConvert, readRollback}
+use package.Rattle.calltext.specs.Hexadecimal.{bytes_in}
+use package.Rattle.calltext.specs.Calls.{Line, run_line, open_line, convert_line, rollback_line, no_number, no_bytes, with_number, with_bytes, most_length, most_short, read_pair, read_run, read_open, read_convert, read_rollback}
 
 -- the calls of three words
 module _ (says : ℕ → List ℕ → Line) (line : List ℕ) where
-  pub pair-1 : number_in mostLength (word_at 1 line) ≡ none → noNumber 1 ≡ readPair says line
-  unfolding readPair with_number
-  pair-1 e = rw e
+  pub pair_1 : number_in most_length (word_at 1 line) ≡ none → no_number 1 ≡ read_pair says line
+  unfolding read_pair with_number
+  pair_1 e = rw e
 
-  module _ {n : ℕ} (e₁ : number_in mostLength (word_at 1 line) ≡ some n) where
-    pub pair-2 : bytesIn (word_at 2 line) ≡ none → noBytes 2 ≡ readPair says line
-    unfolding readPair with_number withBytes
-    pair-2 e = rw (e₁, e)
+  module _ {n : ℕ} (e₁ : number_in most_length (word_at 1 line) ≡ some n) where
+    pub pair_2 : bytes_in (word_at 2 line) ≡ none → no_bytes 2 ≡ read_pair says line
+    unfolding read_pair with_number with_bytes
+    pair_2 e = rw (e₁, e)
 
-    pub pair-all : {xs : List ℕ} → bytesIn (word_at 2 line) ≡ some xs → says n xs ≡ readPair says line
-    unfolding readPair with_number withBytes
+    pub pair-all : {xs : List ℕ} → bytes_in (word_at 2 line) ≡ some xs → says n xs ≡ read_pair says line
+    unfolding read_pair with_number with_bytes
     pair-all e = rw (e₁, e)
 
 -- what is read of a run so far, and the rest of the line
 module _ (b : Bool) (line : List ℕ) where
-  pub run-1 : number_in mostLength (word_at 1 line) ≡ none → noNumber 1 ≡ readRun b line
-  unfolding readRun with_number
-  run-1 e = rw e
+  pub run_1 : number_in most_length (word_at 1 line) ≡ none → no_number 1 ≡ read_run b line
+  unfolding read_run with_number
+  run_1 e = rw e
 
-module _ (b : Bool) (line : List ℕ) {ws : ℕ} (e₁ : number_in mostLength (word_at 1 line) ≡ some ws) where
-  pub run-2 : number_in mostLength (word_at 2 line) ≡ none → noNumber 2 ≡ readRun b line
-  unfolding readRun with_number
-  run-2 e = rw (e₁, e)
+module _ (b : Bool) (line : List ℕ) {ws : ℕ} (e₁ : number_in most_length (word_at 1 line) ≡ some ws) where
+  pub run_2 : number_in most_length (word_at 2 line) ≡ none → no_number 2 ≡ read_run b line
+  unfolding read_run with_number
+  run_2 e = rw (e₁, e)
 
-  module _ {out : ℕ} (e₂ : number_in mostLength (word_at 2 line) ≡ some out) where
-    pub run-3 : number_in maxFuel (word_at 3 line) ≡ none → noNumber 3 ≡ readRun b line
-    unfolding readRun with_number
-    run-3 e = rw (e₁, e₂, e)
+  module _ {out : ℕ} (e₂ : number_in most_length (word_at 2 line) ≡ some out) where
+    pub run_3 : number_in max_fuel (word_at 3 line) ≡ none → no_number 3 ≡ read_run b line
+    unfolding read_run with_number
+    run_3 e = rw (e₁, e₂, e)
 
-    module _ {fuel : ℕ} (e₃ : number_in maxFuel (word_at 3 line) ≡ some fuel) where
-      pub run-4 : number_in mostShort (word_at 4 line) ≡ none → noNumber 4 ≡ readRun b line
-      unfolding readRun with_number
-      run-4 e = rw (e₁, e₂, e₃, e)
+    module _ {fuel : ℕ} (e₃ : number_in max_fuel (word_at 3 line) ≡ some fuel) where
+      pub run_4 : number_in most_short (word_at 4 line) ≡ none → no_number 4 ≡ read_run b line
+      unfolding read_run with_number
+      run_4 e = rw (e₁, e₂, e₃, e)
 
-      module _ {fn : ℕ} (e₄ : number_in mostShort (word_at 4 line) ≡ some fn) where
-        pub run-5 : bytesIn (word_at 5 line) ≡ none → noBytes 5 ≡ readRun b line
-        unfolding readRun with_number withBytes
-        run-5 e = rw (e₁, e₂, e₃, e₄, e)
+      module _ {fn : ℕ} (e₄ : number_in most_short (word_at 4 line) ≡ some fn) where
+        pub run_5 : bytes_in (word_at 5 line) ≡ none → no_bytes 5 ≡ read_run b line
+        unfolding read_run with_number with_bytes
+        run_5 e = rw (e₁, e₂, e₃, e₄, e)
 
-        module _ {p : List ℕ} (e₅ : bytesIn (word_at 5 line) ≡ some p) where
-          pub run-6 : bytesIn (word_at 6 line) ≡ none → noBytes 6 ≡ readRun b line
-          unfolding readRun with_number withBytes
-          run-6 e = rw (e₁, e₂, e₃, e₄, e₅, e)
+        module _ {p : List ℕ} (e₅ : bytes_in (word_at 5 line) ≡ some p) where
+          pub run_6 : bytes_in (word_at 6 line) ≡ none → no_bytes 6 ≡ read_run b line
+          unfolding read_run with_number with_bytes
+          run_6 e = rw (e₁, e₂, e₃, e₄, e₅, e)
 
-          module _ {anc : List ℕ} (e₆ : bytesIn (word_at 6 line) ≡ some anc) where
-            pub run-7 : bytesIn (word_at 7 line) ≡ none → noBytes 7 ≡ readRun b line
-            unfolding readRun with_number withBytes
-            run-7 e = rw (e₁, e₂, e₃, e₄, e₅, e₆, e)
+          module _ {anc : List ℕ} (e₆ : bytes_in (word_at 6 line) ≡ some anc) where
+            pub run_7 : bytes_in (word_at 7 line) ≡ none → no_bytes 7 ≡ read_run b line
+            unfolding read_run with_number with_bytes
+            run_7 e = rw (e₁, e₂, e₃, e₄, e₅, e₆, e)
 
-            pub run-all : {v : List ℕ} → bytesIn (word_at 7 line) ≡ some v
-                → runLine (record { backward = b; workspace = ws; output = out; fuel = fuel; function = fn; program = p; ancillae = anc; value = v }) ≡ readRun b line
-            unfolding readRun with_number withBytes
+            pub run-all : {v : List ℕ} → bytes_in (word_at 7 line) ≡ some v
+                → run_line (record { backward = b; workspace = ws; output = out; fuel = fuel; function = fn; program = p; ancillae = anc; value = v }) ≡ read_run b line
+            unfolding read_run with_number with_bytes
             run-all e = rw (e₁, e₂, e₃, e₄, e₅, e₆, e)
 
 -- what is read of an open so far, and the rest of the line
 module _ (line : List ℕ) where
-  pub open-1 : number_in mostLength (word_at 1 line) ≡ none → noNumber 1 ≡ readOpen line
-  unfolding readOpen with_number
-  open-1 e = rw e
+  pub open_1 : number_in most_length (word_at 1 line) ≡ none → no_number 1 ≡ read_open line
+  unfolding read_open with_number
+  open_1 e = rw e
 
-  module _ {ws : ℕ} (e₁ : number_in mostLength (word_at 1 line) ≡ some ws) where
-    pub open-2 : bytesIn (word_at 2 line) ≡ none → noBytes 2 ≡ readOpen line
-    unfolding readOpen with_number withBytes
-    open-2 e = rw (e₁, e)
+  module _ {ws : ℕ} (e₁ : number_in most_length (word_at 1 line) ≡ some ws) where
+    pub open_2 : bytes_in (word_at 2 line) ≡ none → no_bytes 2 ≡ read_open line
+    unfolding read_open with_number with_bytes
+    open_2 e = rw (e₁, e)
 
-    module _ {p : List ℕ} (e₂ : bytesIn (word_at 2 line) ≡ some p) where
-      pub open-3 : bytesIn (word_at 3 line) ≡ none → noBytes 3 ≡ readOpen line
-      unfolding readOpen with_number withBytes
-      open-3 e = rw (e₁, e₂, e)
+    module _ {p : List ℕ} (e₂ : bytes_in (word_at 2 line) ≡ some p) where
+      pub open_3 : bytes_in (word_at 3 line) ≡ none → no_bytes 3 ≡ read_open line
+      unfolding read_open with_number with_bytes
+      open_3 e = rw (e₁, e₂, e)
 
-      module _ {v : List ℕ} (e₃ : bytesIn (word_at 3 line) ≡ some v) where
-        pub open-4 : bytesIn (word_at 4 line) ≡ none → noBytes 4 ≡ readOpen line
-        unfolding readOpen with_number withBytes
-        open-4 e = rw (e₁, e₂, e₃, e)
+      module _ {v : List ℕ} (e₃ : bytes_in (word_at 3 line) ≡ some v) where
+        pub open_4 : bytes_in (word_at 4 line) ≡ none → no_bytes 4 ≡ read_open line
+        unfolding read_open with_number with_bytes
+        open_4 e = rw (e₁, e₂, e₃, e)
 
-        pub open-all : {j : List ℕ} → bytesIn (word_at 4 line) ≡ some j
-            → openLine (record { workspace = ws; program = p; held = v; journal = j }) ≡ readOpen line
-        unfolding readOpen with_number withBytes
-        open-all e = rw (e₁, e₂, e₃, e)
+        pub open_all : {j : List ℕ} → bytes_in (word_at 4 line) ≡ some j
+            → open_line (record { workspace = ws; program = p; held = v; journal = j }) ≡ read_open line
+        unfolding read_open with_number with_bytes
+        open_all e = rw (e₁, e₂, e₃, e)
 
 -- what is read of a convert so far, and the rest of the line
 module _ (line : List ℕ) where
-  pub convert-1 : number_in mostLength (word_at 1 line) ≡ none → noNumber 1 ≡ readConvert line
-  unfolding readConvert with_number
-  convert-1 e = rw e
+  pub convert_1 : number_in most_length (word_at 1 line) ≡ none → no_number 1 ≡ read_convert line
+  unfolding read_convert with_number
+  convert_1 e = rw e
 
-  module _ {ws : ℕ} (e₁ : number_in mostLength (word_at 1 line) ≡ some ws) where
-    pub convert-2 : number_in maxFuel (word_at 2 line) ≡ none → noNumber 2 ≡ readConvert line
-    unfolding readConvert with_number
-    convert-2 e = rw (e₁, e)
+  module _ {ws : ℕ} (e₁ : number_in most_length (word_at 1 line) ≡ some ws) where
+    pub convert_2 : number_in max_fuel (word_at 2 line) ≡ none → no_number 2 ≡ read_convert line
+    unfolding read_convert with_number
+    convert_2 e = rw (e₁, e)
 
-    module _ {fuel : ℕ} (e₂ : number_in maxFuel (word_at 2 line) ≡ some fuel) where
-      pub convert-3 : number_in mostShort (word_at 3 line) ≡ none → noNumber 3 ≡ readConvert line
-      unfolding readConvert with_number
-      convert-3 e = rw (e₁, e₂, e)
+    module _ {fuel : ℕ} (e₂ : number_in max_fuel (word_at 2 line) ≡ some fuel) where
+      pub convert_3 : number_in most_short (word_at 3 line) ≡ none → no_number 3 ≡ read_convert line
+      unfolding read_convert with_number
+      convert_3 e = rw (e₁, e₂, e)
 
-      module _ {fn : ℕ} (e₃ : number_in mostShort (word_at 3 line) ≡ some fn) where
-        pub convert-4 : bytesIn (word_at 4 line) ≡ none → noBytes 4 ≡ readConvert line
-        unfolding readConvert with_number withBytes
-        convert-4 e = rw (e₁, e₂, e₃, e)
+      module _ {fn : ℕ} (e₃ : number_in most_short (word_at 3 line) ≡ some fn) where
+        pub convert_4 : bytes_in (word_at 4 line) ≡ none → no_bytes 4 ≡ read_convert line
+        unfolding read_convert with_number with_bytes
+        convert_4 e = rw (e₁, e₂, e₃, e)
 
-        module _ {p : List ℕ} (e₄ : bytesIn (word_at 4 line) ≡ some p) where
-          pub convert-5 : bytesIn (word_at 5 line) ≡ none → noBytes 5 ≡ readConvert line
-          unfolding readConvert with_number withBytes
-          convert-5 e = rw (e₁, e₂, e₃, e₄, e)
+        module _ {p : List ℕ} (e₄ : bytes_in (word_at 4 line) ≡ some p) where
+          pub convert_5 : bytes_in (word_at 5 line) ≡ none → no_bytes 5 ≡ read_convert line
+          unfolding read_convert with_number with_bytes
+          convert_5 e = rw (e₁, e₂, e₃, e₄, e)
 
-          module _ {anc : List ℕ} (e₅ : bytesIn (word_at 5 line) ≡ some anc) where
-            pub convert-6 : bytesIn (word_at 6 line) ≡ none → noBytes 6 ≡ readConvert line
-            unfolding readConvert with_number withBytes
-            convert-6 e = rw (e₁, e₂, e₃, e₄, e₅, e)
+          module _ {anc : List ℕ} (e₅ : bytes_in (word_at 5 line) ≡ some anc) where
+            pub convert_6 : bytes_in (word_at 6 line) ≡ none → no_bytes 6 ≡ read_convert line
+            unfolding read_convert with_number with_bytes
+            convert_6 e = rw (e₁, e₂, e₃, e₄, e₅, e)
 
-            pub convert-all : {j : List ℕ} → bytesIn (word_at 6 line) ≡ some j
-                → convertLine (record { workspace = ws; fuel = fuel; function = fn; program = p; ancillae = anc; journal = j }) ≡ readConvert line
-            unfolding readConvert with_number withBytes
-            convert-all e = rw (e₁, e₂, e₃, e₄, e₅, e)
+            pub convert_all : {j : List ℕ} → bytes_in (word_at 6 line) ≡ some j
+                → convert_line (record { workspace = ws; fuel = fuel; function = fn; program = p; ancillae = anc; journal = j }) ≡ read_convert line
+            unfolding read_convert with_number with_bytes
+            convert_all e = rw (e₁, e₂, e₃, e₄, e₅, e)
 
 -- what is read of a rollback so far, and the rest of the line
 module _ (line : List ℕ) where
-  pub rollback-1 : number_in mostLength (word_at 1 line) ≡ none → noNumber 1 ≡ readRollback line
-  unfolding readRollback with_number
-  rollback-1 e = rw e
+  pub rollback_1 : number_in most_length (word_at 1 line) ≡ none → no_number 1 ≡ read_rollback line
+  unfolding read_rollback with_number
+  rollback_1 e = rw e
 
-  module _ {ws : ℕ} (e₁ : number_in mostLength (word_at 1 line) ≡ some ws) where
-    pub rollback-2 : number_in maxFuel (word_at 2 line) ≡ none → noNumber 2 ≡ readRollback line
-    unfolding readRollback with_number
-    rollback-2 e = rw (e₁, e)
+  module _ {ws : ℕ} (e₁ : number_in most_length (word_at 1 line) ≡ some ws) where
+    pub rollback_2 : number_in max_fuel (word_at 2 line) ≡ none → no_number 2 ≡ read_rollback line
+    unfolding read_rollback with_number
+    rollback_2 e = rw (e₁, e)
 
-    module _ {fuel : ℕ} (e₂ : number_in maxFuel (word_at 2 line) ≡ some fuel) where
-      pub rollback-3 : bytesIn (word_at 3 line) ≡ none → noBytes 3 ≡ readRollback line
-      unfolding readRollback with_number withBytes
-      rollback-3 e = rw (e₁, e₂, e)
+    module _ {fuel : ℕ} (e₂ : number_in max_fuel (word_at 2 line) ≡ some fuel) where
+      pub rollback_3 : bytes_in (word_at 3 line) ≡ none → no_bytes 3 ≡ read_rollback line
+      unfolding read_rollback with_number with_bytes
+      rollback_3 e = rw (e₁, e₂, e)
 
-      module _ {p : List ℕ} (e₃ : bytesIn (word_at 3 line) ≡ some p) where
-        pub rollback-4 : bytesIn (word_at 4 line) ≡ none → noBytes 4 ≡ readRollback line
-        unfolding readRollback with_number withBytes
-        rollback-4 e = rw (e₁, e₂, e₃, e)
+      module _ {p : List ℕ} (e₃ : bytes_in (word_at 3 line) ≡ some p) where
+        pub rollback_4 : bytes_in (word_at 4 line) ≡ none → no_bytes 4 ≡ read_rollback line
+        unfolding read_rollback with_number with_bytes
+        rollback_4 e = rw (e₁, e₂, e₃, e)
 
-        pub rollback-all : {j : List ℕ} → bytesIn (word_at 4 line) ≡ some j
-            → rollbackLine (record { workspace = ws; fuel = fuel; program = p; journal = j }) ≡ readRollback line
-        unfolding readRollback with_number withBytes
-        rollback-all e = rw (e₁, e₂, e₃, e)
+        pub rollback_all : {j : List ℕ} → bytes_in (word_at 4 line) ≡ some j
+            → rollback_line (record { workspace = ws; fuel = fuel; program = p; journal = j }) ≡ read_rollback line
+        unfolding read_rollback with_number with_bytes
+        rollback_all e = rw (e₁, e₂, e₃, e)

@@ -10,20 +10,20 @@ use lib.ListN.{length, drop, get_or, length-append, drop_of_length-le}
 use lib.Seq.{drop-cons}
 use lib.Dec.{ltb}
 use borrow.Author.Tests.{lt-ltb, le-ltb, ltb-true, ltb-false}
-use package.Rattle.calltext.specs.Decimal.{carried, number_in, textIn, decimalText}
+use package.Rattle.calltext.specs.Decimal.{carried, number_in, text_in, decimal_text}
 
 ----------------------------------------------------------------
 -- Reading: the first `i` digits carry 0 to `n`
 
-pub no-digits : (most : ℕ) (w : List ℕ) → length w ≡ 0 → none ≡ number_in most w
+pub no_digits : (most : ℕ) (w : List ℕ) → length w ≡ 0 → none ≡ number_in most w
 unfolding number_in
-no-digits most [] e = refl
-no-digits most (b ∷ w) e = absurd (omega (arith, e))
+no_digits most [] e = refl
+no_digits most (b ∷ w) e = absurd (omega (arith, e))
 
-pub some-digits : (most : ℕ) (w : List ℕ) → (length w ≡ 0 → ⊥) → number_in most w ≡ carried most 0 (drop 0 w)
+pub some_digits : (most : ℕ) (w : List ℕ) → (length w ≡ 0 → ⊥) → number_in most w ≡ carried most 0 (drop 0 w)
 unfolding number_in
-some-digits most [] e = absurd (e refl)
-some-digits most (b ∷ w) e = refl
+some_digits most [] e = absurd (e refl)
+some_digits most (b ∷ w) e = refl
 
 digit : (most n : ℕ) (w : List ℕ) (i : ℕ) → i < length w → carried most n (drop i w) ≡ carried most n (get_or w i 0 ∷ drop (suc i) w)
 digit most n w i h = ap (carried most n) (drop-cons w i 0 h)
@@ -33,13 +33,13 @@ module _ (most n : ℕ) (w : List ℕ) (i : ℕ) (left : number_in most w ≡ ca
   unfolding carried
   stops-low h l = sym (left ∙ digit most n w i h ∙ rw (lt-ltb (get_or w i 0) 48 l))
 
-  pub stops-high : i < length w → 48 ≤ get_or w i 0 → 57 < get_or w i 0 → none ≡ number_in most w
+  pub stops_high : i < length w → 48 ≤ get_or w i 0 → 57 < get_or w i 0 → none ≡ number_in most w
   unfolding carried
-  stops-high h l l' = sym (left ∙ digit most n w i h ∙ rw (le-ltb (get_or w i 0) 48 l, lt-ltb 57 (get_or w i 0) l'))
+  stops_high h l l' = sym (left ∙ digit most n w i h ∙ rw (le-ltb (get_or w i 0) 48 l, lt-ltb 57 (get_or w i 0) l'))
 
-  pub stops-large : i < length w → 48 ≤ get_or w i 0 → get_or w i 0 ≤ 57 → most < n * 10 + (get_or w i 0 - 48) → none ≡ number_in most w
+  pub stops_large : i < length w → 48 ≤ get_or w i 0 → get_or w i 0 ≤ 57 → most < n * 10 + (get_or w i 0 - 48) → none ≡ number_in most w
   unfolding carried
-  stops-large h l l' m = sym (left ∙ digit most n w i h ∙ rw (le-ltb (get_or w i 0) 48 l, le-ltb 57 (get_or w i 0) l', lt-ltb most _ m))
+  stops_large h l l' m = sym (left ∙ digit most n w i h ∙ rw (le-ltb (get_or w i 0) 48 l, le-ltb 57 (get_or w i 0) l', lt-ltb most _ m))
 
   pub carries : i < length w → 48 ≤ get_or w i 0 → get_or w i 0 ≤ 57 → n * 10 + (get_or w i 0 - 48) ≤ most
       → number_in most w ≡ carried most (n * 10 + (get_or w i 0 - 48)) (drop (i + 1) w)
@@ -56,41 +56,41 @@ module _ (most n : ℕ) (w : List ℕ) (i : ℕ) (left : number_in most w ≡ ca
 ----------------------------------------------------------------
 -- Writing
 
-tenth-falls : (n : ℕ) → 10 ≤ n → n / 10 < n
-tenth-falls n h = omega arith
+tenth_falls : (n : ℕ) → 10 ≤ n → n / 10 < n
+tenth_falls n h = omega arith
 
-text-more : (f g n : ℕ) (t : Bool) → ltb n 10 ≡ t → (10 ≤ n → textIn f (n / 10) ≡ textIn g (n / 10))
-    → cond t ((48 + n) ∷ []) (textIn f (n / 10) ++ ((48 + n % 10) ∷ [])) ≡ cond t ((48 + n) ∷ []) (textIn g (n / 10) ++ ((48 + n % 10) ∷ []))
+text-more : (f g n : ℕ) (t : Bool) → ltb n 10 ≡ t → (10 ≤ n → text_in f (n / 10) ≡ text_in g (n / 10))
+    → cond t ((48 + n) ∷ []) (text_in f (n / 10) ++ ((48 + n % 10) ∷ [])) ≡ cond t ((48 + n) ∷ []) (text_in g (n / 10) ++ ((48 + n % 10) ∷ []))
 text-more f g n true e r = refl
 text-more f g n false e r = ap (λ l. l ++ ((48 + n % 10) ∷ [])) (r (ltb-false n 10 e))
 
 -- room beyond what a number needs changes nothing
-more_room : (f g n : ℕ) → n < f → n < g → textIn f n ≡ textIn g n
-unfolding textIn
+more_room : (f g n : ℕ) → n < f → n < g → text_in f n ≡ text_in g n
+unfolding text_in
 more_room zero g n h h' = absurd (omega arith)
 more_room (suc f) zero n h h' = absurd (omega arith)
-more_room (suc f) (suc g) n h h' = text-more f g n (ltb n 10) refl λ ten. more_room f g (n / 10) (omega (arith, tenth-falls n ten)) (omega (arith, tenth-falls n ten))
+more_room (suc f) (suc g) n h h' = text-more f g n (ltb n 10) refl λ ten. more_room f g (n / 10) (omega (arith, tenth_falls n ten)) (omega (arith, tenth_falls n ten))
 
-pub one-digit : (n : ℕ) → n < 10 → (48 + n) ∷ [] ≡ decimalText n
-unfolding decimalText
+pub one-digit : (n : ℕ) → n < 10 → (48 + n) ∷ [] ≡ decimal_text n
+unfolding decimal_text
 one-digit n h = sym (rw (lt-ltb n 10 h))
 
-pub more-digits : (n : ℕ) → 10 ≤ n → decimalText (n / 10) ++ ((48 + n % 10) ∷ []) ≡ decimalText n
-unfolding decimalText
-more-digits n h =
-    ap (λ l. l ++ ((48 + n % 10) ∷ [])) (more_room (suc (n / 10)) n (n / 10) (omega arith) (tenth-falls n h)) ∙ sym (rw (le-ltb n 10 h))
+pub more_digits : (n : ℕ) → 10 ≤ n → decimal_text (n / 10) ++ ((48 + n % 10) ∷ []) ≡ decimal_text n
+unfolding decimal_text
+more_digits n h =
+    ap (λ l. l ++ ((48 + n % 10) ∷ [])) (more_room (suc (n / 10)) n (n / 10) (omega arith) (tenth_falls n h)) ∙ sym (rw (le-ltb n 10 h))
 
-pub longer-by-one : (n : ℕ) → 10 ≤ n → length (decimalText n) ≡ length (decimalText (n / 10)) + 1
-longer-by-one n h = ap length (sym (more-digits n h)) ∙ length-append (decimalText (n / 10)) ((48 + n % 10) ∷ [])
+pub longer_by_one : (n : ℕ) → 10 ≤ n → length (decimal_text n) ≡ length (decimal_text (n / 10)) + 1
+longer_by_one n h = ap length (sym (more_digits n h)) ∙ length-append (decimal_text (n / 10)) ((48 + n % 10) ∷ [])
 
-short-by : (k n : ℕ) (t : Bool) → ltb n 10 ≡ t → n < 10 ^ suc k → (10 ≤ n → length (decimalText (n / 10)) ≤ k) → length (decimalText n) ≤ suc k
-short-by k n true e h r = omega (arith, ap length (one-digit n (ltb-true n 10 e)))
-short-by k n false e h r = omega (arith, longer-by-one n (ltb-false n 10 e), r (ltb-false n 10 e))
+short_by : (k n : ℕ) (t : Bool) → ltb n 10 ≡ t → n < 10 ^ suc k → (10 ≤ n → length (decimal_text (n / 10)) ≤ k) → length (decimal_text n) ≤ suc k
+short_by k n true e h r = omega (arith, ap length (one-digit n (ltb-true n 10 e)))
+short_by k n false e h r = omega (arith, longer_by_one n (ltb-false n 10 e), r (ltb-false n 10 e))
 
-short : (k n : ℕ) → n < 10 ^ suc k → length (decimalText n) ≤ suc k
+short : (k n : ℕ) → n < 10 ^ suc k → length (decimal_text n) ≤ suc k
 short zero n h = omega (arith, ap length (one-digit n h))
-short (suc k) n h = short-by (suc k) n (ltb n 10) refl h λ ten. short k (n / 10) ((div-lt_iff_lt-mul (omega arith)).1 (rw (pow-suc 10 (suc k)) at h))
+short (suc k) n h = short_by (suc k) n (ltb n 10) refl h λ ten. short k (n / 10) ((div-lt_iff_lt-mul (omega arith)).1 (rw (pow-suc 10 (suc k)) at h))
 
 -- a number of 64 bits has at most 20 digits
-pub at-most-twenty : (n : ℕ) → n < 2 ^ 64 → length (decimalText n) ≤ 20
-at-most-twenty n h = short 19 n (omega arith)
+pub at-most_twenty : (n : ℕ) → n < 2 ^ 64 → length (decimal_text n) ≤ 20
+at-most_twenty n h = short 19 n (omega arith)

@@ -8,7 +8,7 @@ use lib.ListN.{length, take, drop, get_or, drop_of_length-le}
 use lib.Seq.{drop-cons, drop-drop, take-length}
 use lib.Dec.{eqb}
 use package.Rattle.bytes.specs.Bytes.{index_of, slice}
-use package.Rattle.calltext.specs.Words.{first, behind, from, word_at, isSpace, spaces}
+use package.Rattle.calltext.specs.Words.{first, behind, from, word_at, is_space, spaces}
 
 -- what is found is the end of the word
 pub found : (xs : List ℕ) (at end : ℕ) → end ≡ at + index_of 32 (slice at (length xs) xs) → end ≡ at + index_of 32 (drop at xs)
@@ -43,15 +43,15 @@ the_word xs at end k e f =
 -- Spaces counted: `n` among the first `i`
 
 pub one_byte : (xs : List ℕ) (n i : ℕ) → spaces xs ≡ n + spaces (drop i xs) → i < length xs
-    → spaces xs ≡ n + isSpace (get_or xs i 0) + spaces (drop (i + 1) xs)
+    → spaces xs ≡ n + is_space (get_or xs i 0) + spaces (drop (i + 1) xs)
 unfolding spaces
 one_byte xs n i left h =
     left
     ∙ ap (λ l. n + spaces l) (drop-cons xs i 0 h)
-    ∙ ap (λ k. n + (isSpace (get_or xs i 0) + spaces (drop k xs))) (let z : suc i ≡ i + 1 = omega arith in z)
+    ∙ ap (λ k. n + (is_space (get_or xs i 0) + spaces (drop k xs))) (let z : suc i ≡ i + 1 = omega arith in z)
     ∙ omega arith
 
-pub at_most_one : (x : ℕ) → isSpace x ≤ 1
+pub at_most_one : (x : ℕ) → is_space x ≤ 1
 at_most_one x = by (eqb x 32)
   where
     by : (t : Bool) → cond t 1 0 ≤ 1

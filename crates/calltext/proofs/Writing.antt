@@ -33,13 +33,13 @@ pub wrote_as : {a b : List ℕ} {i j : ℕ} {s t : List ℕ} → Wrote a b i j s
 wrote_as {a} {b} {i} {j} p e = subst (λ l. Wrote a b i j l) e p
 
 -- the same end by another name
-pub wrote-to : {a b : List ℕ} {i j k : ℕ} {s : List ℕ} → Wrote a b i j s → j ≡ k → Wrote a b i k s
-wrote-to {a} {b} {i} {s = s} p e = subst (λ n. Wrote a b i n s) e p
+pub wrote_to : {a b : List ℕ} {i j k : ℕ} {s : List ℕ} → Wrote a b i j s → j ≡ k → Wrote a b i k s
+wrote_to {a} {b} {i} {s = s} p e = subst (λ n. Wrote a b i n s) e p
 
 -- a copy of a text
-pub wrote-copy : (out : List ℕ) (at : ℕ) (s : List ℕ) → at + length s ≤ length out → Wrote out (pasted out at s) at (at + length s) s
+pub wrote_copy : (out : List ℕ) (at : ℕ) (s : List ℕ) → at + length s ≤ length out → Wrote out (pasted out at s) at (at + length s) s
 unfolding pasted
-wrote-copy out at s h =
+wrote_copy out at s h =
     record {
       front =
           take_at (take at out ++ s) (drop (at + length s) out) (at + length s)

@@ -18,11 +18,11 @@ number_in most [] = none
 number_in most (b ∷ rest) = carried most 0 (b ∷ rest)
 
 -- the digits of a number, given more room than it has tens
-unfoldable pub textIn : ℕ → ℕ → List ℕ
-textIn zero n = []
-textIn (suc room) n = cond (ltb n 10) ((48 + n) ∷ []) (textIn room (n / 10) ++ ((48 + n % 10) ∷ []))
+unfoldable pub text_in : ℕ → ℕ → List ℕ
+text_in zero n = []
+text_in (suc room) n = cond (ltb n 10) ((48 + n) ∷ []) (text_in room (n / 10) ++ ((48 + n % 10) ∷ []))
 
 -- the digits of a number
-unfoldable pub decimalText : ℕ → List ℕ
-unfolding textIn
-decimalText n = textIn (suc n) n
+unfoldable pub decimal_text : ℕ → List ℕ
+unfolding text_in
+decimal_text n = text_in (suc n) n

@@ -3,8 +3,8 @@ use Rattle.std.specs.Prelude.{ℕ, ◌+◌, ◌*◌, ◌-◌, ◌/◌, ◌%◌, 
 use Rattle.std.proofs.Math.Option.{Option, none, some}
 
 -- the number of a digit, of either case; 16 for a byte that is none
-unfoldable pub digitOf : ℕ → ℕ
-digitOf b =
+unfoldable pub digit_of : ℕ → ℕ
+digit_of b =
     cond (ltb b 48) 16
     (cond (leb b 57) (b - 48)
     (cond (ltb b 65) 16
@@ -13,8 +13,8 @@ digitOf b =
     (cond (leb b 102) (b - 87) 16)))))
 
 -- the digit of a number, in lower case
-unfoldable pub glyphOf : ℕ → ℕ
-glyphOf d = cond (ltb d 10) (48 + d) (87 + d)
+unfoldable pub glyph_of : ℕ → ℕ
+glyph_of d = cond (ltb d 10) (48 + d) (87 + d)
 
 -- bytes in front of bytes, if those are any
 unfoldable pub onto : List ℕ → Option (List ℕ) → Option (List ℕ)
@@ -27,18 +27,18 @@ unfolding onto
 byte_of high low rest = cond (leb 16 high) none (cond (leb 16 low) none (onto ((high * 16 + low) ∷ []) rest))
 
 -- the bytes that digits are
-unfoldable pub pairsOf : List ℕ → Option (List ℕ)
-unfolding digitOf byte_of
-pairsOf [] = some []
-pairsOf (x ∷ []) = none
-pairsOf (x ∷ y ∷ rest) = byte_of (digitOf x) (digitOf y) (pairsOf rest)
+unfoldable pub pairs_of : List ℕ → Option (List ℕ)
+unfolding digit_of byte_of
+pairs_of [] = some []
+pairs_of (x ∷ []) = none
+pairs_of (x ∷ y ∷ rest) = byte_of (digit_of x) (digit_of y) (pairs_of rest)
 
 -- the bytes that a word is
-unfoldable pub bytesIn : List ℕ → Option (List ℕ)
-unfolding pairsOf
-bytesIn [] = none
-bytesIn (x ∷ []) = cond (eqb x 45) (some []) none
-bytesIn (x ∷ y ∷ rest) = pairsOf (x ∷ y ∷ rest)
+unfoldable pub bytes_in : List ℕ → Option (List ℕ)
+unfolding pairs_of
+bytes_in [] = none
+bytes_in (x ∷ []) = cond (eqb x 45) (some []) none
+bytes_in (x ∷ y ∷ rest) = pairs_of (x ∷ y ∷ rest)
 
 -- the byte of two digits in front of the rest; nothing if one is no digit
 unfoldable pub leads : ℕ → ℕ → List ℕ → List ℕ
@@ -46,10 +46,10 @@ leads high low rest = cond (leb 16 high) [] (cond (leb 16 low) [] ((high * 16 + 
 
 -- the bytes of the pairs of digits that a word starts with, whatever stands behind them
 unfoldable pub leading : List ℕ → List ℕ
-unfolding digitOf leads
+unfolding digit_of leads
 leading [] = []
 leading (x ∷ []) = []
-leading (x ∷ y ∷ rest) = leads (digitOf x) (digitOf y) (leading rest)
+leading (x ∷ y ∷ rest) = leads (digit_of x) (digit_of y) (leading rest)
 
 -- a buffer with these at its start, the rest unchanged
 unfoldable pub filled : List ℕ → List ℕ → List ℕ
@@ -57,13 +57,13 @@ unfolding leading
 filled word buffer = leading word ++ drop (length (leading word)) buffer
 
 -- the digits of bytes
-unfoldable pub digitsOf : List ℕ → List ℕ
-unfolding glyphOf
-digitsOf [] = []
-digitsOf (b ∷ rest) = glyphOf (b / 16) ∷ glyphOf (b % 16) ∷ digitsOf rest
+unfoldable pub digits_of : List ℕ → List ℕ
+unfolding glyph_of
+digits_of [] = []
+digits_of (b ∷ rest) = glyph_of (b / 16) ∷ glyph_of (b % 16) ∷ digits_of rest
 
 -- the word of bytes
-unfoldable pub hexText : List ℕ → List ℕ
-unfolding digitsOf
-hexText [] = 45 ∷ []
-hexText (b ∷ rest) = digitsOf (b ∷ rest)
+unfoldable pub hex_text : List ℕ → List ℕ
+unfolding digits_of
+hex_text [] = 45 ∷ []
+hex_text (b ∷ rest) = digits_of (b ∷ rest)

@@ -3,7 +3,7 @@ use Rattle.std.specs.Prelude.{ℕ, ◌≡◌, Bool, true, false, cond, List, leb
 use Rattle.std.proofs.Math.Option.{Option, none, some}
 use package.Rattle.calltext.specs.Words.{word_at}
 use package.Rattle.calltext.specs.Hexadecimal.{filled}
-use package.Rattle.calltext.specs.Calls.{Line, checkLine, runLine, openLine, convertLine, rollbackLine, readerLine, noCall, wordCount, noNumber, noBytes, nameOf, readLine}
+use package.Rattle.calltext.specs.Calls.{Line, check_line, run_line, open_line, convert_line, rollback_line, reader_line, no_call, word_count, no_number, no_bytes, name_of, read_line}
 use package.Rattle.calltext.specs.declared.calls.Name.{Name}
 use package.Rattle.calltext.specs.declared.calls.Name.TheVariants.{Check, Forward, Backward, Open, Convert, Rollback, Nurse, Workshop, Other}
 
@@ -27,41 +27,41 @@ words_of Other = record { program = none; ancillae = none; value = none }
 
 -- Does the reading come to word k, which is to be bytes? All numbers stand before it, and the first word that is wrong ends the reading.
 abbrev pub reads : Line → ℕ → Bool
-reads (checkLine ws p) k = true
-reads (runLine c) k = true
-reads (openLine c) k = true
-reads (convertLine c) k = true
-reads (rollbackLine c) k = true
-reads (readerLine c) k = true
-reads noCall k = false
-reads wordCount k = false
-reads (noNumber n) k = false
-reads (noBytes n) k = leb k n
+reads (check_line ws p) k = true
+reads (run_line c) k = true
+reads (open_line c) k = true
+reads (convert_line c) k = true
+reads (rollback_line c) k = true
+reads (reader_line c) k = true
+reads no_call k = false
+reads word_count k = false
+reads (no_number n) k = false
+reads (no_bytes n) k = leb k n
 
 -- a buffer afterwards
-abbrev pub leftIn : Line → List ℕ → Option ℕ → List ℕ → List ℕ
-leftIn line text none buffer = buffer
-leftIn line text (some k) buffer = cond (reads line k) (filled (word_at k text) buffer) buffer
+abbrev pub left_in : Line → List ℕ → Option ℕ → List ℕ → List ℕ
+left_in line text none buffer = buffer
+left_in line text (some k) buffer = cond (reads line k) (filled (word_at k text) buffer) buffer
 
 -- the three buffers before and after
 pub record LeavesBuffers (line : Line) (text : List ℕ) (words : ByteWords) (p₀ anc₀ v₀ p anc v : List ℕ) : Type 0 where
-  pub program : p ≡ leftIn line text words.program p₀
-  pub ancillae : anc ≡ leftIn line text words.ancillae anc₀
-  pub value : v ≡ leftIn line text words.value v₀
+  pub program : p ≡ left_in line text words.program p₀
+  pub ancillae : anc ≡ left_in line text words.ancillae anc₀
+  pub value : v ≡ left_in line text words.value v₀
 
 -- the words of a line
 unfoldable pub bytes_of : List ℕ → ByteWords
-bytes_of text = words_of (nameOf (word_at 0 text))
+bytes_of text = words_of (name_of (word_at 0 text))
 
 -- the buffers after a line is read
-unfoldable pub programLeft : List ℕ → List ℕ → List ℕ
+unfoldable pub program_left : List ℕ → List ℕ → List ℕ
 unfolding bytes_of
-programLeft text buffer = leftIn (readLine text) text (bytes_of text).program buffer
+program_left text buffer = left_in (read_line text) text (bytes_of text).program buffer
 
-unfoldable pub ancillaeLeft : List ℕ → List ℕ → List ℕ
+unfoldable pub ancillae_left : List ℕ → List ℕ → List ℕ
 unfolding bytes_of
-ancillaeLeft text buffer = leftIn (readLine text) text (bytes_of text).ancillae buffer
+ancillae_left text buffer = left_in (read_line text) text (bytes_of text).ancillae buffer
 
-unfoldable pub valueLeft : List ℕ → List ℕ → List ℕ
+unfoldable pub value_left : List ℕ → List ℕ → List ℕ
 unfolding bytes_of
-valueLeft text buffer = leftIn (readLine text) text (bytes_of text).value buffer
+value_left text buffer = left_in (read_line text) text (bytes_of text).value buffer

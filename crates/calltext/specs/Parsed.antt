@@ -1,6 +1,6 @@
 -- What a parsed call says, with the bytes that it leaves in the buffers.
 use Rattle.std.specs.Prelude.{ℕ, ◌≤◌, ◌≡◌, List, length, take}
-use package.Rattle.calltext.specs.Calls.{Line, checkLine, runLine, openLine, convertLine, rollbackLine, readerLine, noCall, wordCount, noNumber, noBytes}
+use package.Rattle.calltext.specs.Calls.{Line, check_line, run_line, open_line, convert_line, rollback_line, reader_line, no_call, word_count, no_number, no_bytes}
 use package.Rattle.calltext.specs.Left.{ByteWords, LeavesBuffers}
 use package.Rattle.calltext.specs.declared.calls.Parsed.{Parsed}
 use package.Rattle.calltext.specs.declared.calls.Parsed.TheVariants.{Checks, Runs, Opens, Converts, RollsBack, Reads, NoCall, WordCount, NoNumber, NoBytes}
@@ -8,9 +8,9 @@ use package.Rattle.calltext.specs.declared.calls.Parsed.TheVariants.{Checks, Run
 -- program, ancillae and value stand at the starts of their buffers; the value to be held stands where ancillae would, a journal where a
 -- value would
 abbrev pub line_of : Parsed → List ℕ → List ℕ → List ℕ → Line
-line_of (Checks c) p anc v = checkLine c.workspace (take c.program p)
+line_of (Checks c) p anc v = check_line c.workspace (take c.program p)
 line_of (Runs c) p anc v =
-    runLine
+    run_line
     record {
       backward = c.backward;
       workspace = c.workspace;
@@ -22,9 +22,9 @@ line_of (Runs c) p anc v =
       value = take c.value v;
     }
 line_of (Opens c) p anc v =
-    openLine record { workspace = c.workspace; program = take c.program p; held = take c.held anc; journal = take c.journal v }
+    open_line record { workspace = c.workspace; program = take c.program p; held = take c.held anc; journal = take c.journal v }
 line_of (Converts c) p anc v =
-    convertLine
+    convert_line
     record {
       workspace = c.workspace;
       fuel = c.fuel;
@@ -34,12 +34,12 @@ line_of (Converts c) p anc v =
       journal = take c.journal v;
     }
 line_of (RollsBack c) p anc v =
-    rollbackLine record { workspace = c.workspace; fuel = c.fuel; program = take c.program p; journal = take c.journal v }
-line_of (Reads c) p anc v = readerLine record { workshop = c.workshop; output = c.output; journal = take c.journal v }
-line_of NoCall p anc v = noCall
-line_of WordCount p anc v = wordCount
-line_of (NoNumber k) p anc v = noNumber k
-line_of (NoBytes k) p anc v = noBytes k
+    rollback_line record { workspace = c.workspace; fuel = c.fuel; program = take c.program p; journal = take c.journal v }
+line_of (Reads c) p anc v = reader_line record { workshop = c.workshop; output = c.output; journal = take c.journal v }
+line_of NoCall p anc v = no_call
+line_of WordCount p anc v = word_count
+line_of (NoNumber k) p anc v = no_number k
+line_of (NoBytes k) p anc v = no_bytes k
 
 -- the bytes are within the buffers
 abbrev pub Within : Parsed → List ℕ → List ℕ → List ℕ → Type 0

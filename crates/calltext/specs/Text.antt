@@ -9,8 +9,8 @@ text [] = nil
 text (c ∷ rest) = code c then text rest
 
 -- are the bytes the same?
-unfoldable pub sameBytes : List ℕ → List ℕ → Bool
-sameBytes nil nil = true
-sameBytes nil (y then ys) = false
-sameBytes (x then xs) nil = false
-sameBytes (x then xs) (y then ys) = eqb x y && sameBytes xs ys
+unfoldable pub same_bytes : List ℕ → List ℕ → Bool
+same_bytes nil nil = true
+same_bytes nil (y then ys) = false
+same_bytes (x then xs) nil = false
+same_bytes (x then xs) (y then ys) = eqb x y && same_bytes xs ys

@@ -21,9 +21,9 @@ unfolding first from
 word_at k xs = first (from k xs)
 
 -- how many spaces there are
-abbrev pub isSpace : ℕ → ℕ
-isSpace x = cond (eqb x 32) 1 0
+abbrev pub is_space : ℕ → ℕ
+is_space x = cond (eqb x 32) 1 0
 
 unfoldable pub spaces : List ℕ → ℕ
 spaces [] = 0
-spaces (x ∷ rest) = isSpace x + spaces rest
+spaces (x ∷ rest) = is_space x + spaces rest

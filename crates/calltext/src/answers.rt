@@ -1,7 +1,7 @@
 // Answers as lines, put into a buffer from its start, each with the byte that ends it.
 ghost use Rattle.std.specs.Prelude.{◌≡◌, ◌+◌, ◌*◌, ◌≤◌, length};
 ghost use Rattle.calltext.specs.Wrote.{Wrote};
-ghost use Rattle.calltext.specs.Answers.{numberedLine, word_line, twoNumbers, refusedLine, countsText, heldLine};
+ghost use Rattle.calltext.specs.Answers.{numbered_line, word_line, two_numbers, refused_line, counts_text, held_line};
 
 use crate::{decimal, hexadecimal};
 
@@ -17,7 +17,7 @@ pub fn put(text: &[u8], out: &mut [u8], at: usize) -> usize
 // Bytes and a number behind a word: a run's value and its steps, or a held value and how many conversions stand.
 pub fn numbered_line(word: &[u8], bytes: &[u8], number: u64, out: &mut [u8]) -> usize
     requires { length word.now + 2 * length bytes.now + 24 ≤ length out.old }
-    ensures { Wrote out.old out.new 0 result (numberedLine word.now bytes.now number) }
+    ensures { Wrote out.old out.new 0 result (numbered_line word.now bytes.now number) }
 {
     let named = put(word, out, 0);
     let valued = hexadecimal::encode(bytes, out, named);
@@ -46,7 +46,7 @@ pub fn two_numbers(
     out: &mut [u8],
 ) -> usize
     requires { length before.now + length between.now + length behind.now + 40 ≤ length out.old }
-    ensures tells { Wrote out.old out.new 0 result (twoNumbers before.now first between.now second behind.now) }
+    ensures tells { Wrote out.old out.new 0 result (two_numbers before.now first between.now second behind.now) }
     ensures short { result ≤ length before.now + length between.now + length behind.now + 40 }
 {
     let led = put(before, out, 0);
@@ -59,7 +59,7 @@ pub fn two_numbers(
 // A refusal's number and its place.
 pub fn refused_line(number: u64, place: u64, out: &mut [u8]) -> usize
     requires { 64 ≤ length out.old }
-    ensures { Wrote out.old out.new 0 result (refusedLine number place) }
+    ensures { Wrote out.old out.new 0 result (refused_line number place) }
 {
     two_numbers(b"refused ", number, b" ", place, b"\n", out)
 }
@@ -67,7 +67,7 @@ pub fn refused_line(number: u64, place: u64, out: &mut [u8]) -> usize
 // A held value's length and the steps, in front of the journal.
 fn put_counts(len: u64, steps: u64, out: &mut [u8]) -> usize
     requires { 48 ≤ length out.old }
-    ensures { Wrote out.old out.new 0 result (countsText len steps) × (result ≤ 48) }
+    ensures { Wrote out.old out.new 0 result (counts_text len steps) × (result ≤ 48) }
 {
     two_numbers(b"held ", len, b" ", steps, b" ", out)
 }
@@ -75,7 +75,7 @@ fn put_counts(len: u64, steps: u64, out: &mut [u8]) -> usize
 // A held value's length, the steps, and the journal, the whole buffer.
 pub fn held_line(len: u64, steps: u64, journal: &[u8], out: &mut [u8]) -> usize
     requires { 2 * length journal.now + 64 ≤ length out.old }
-    ensures { Wrote out.old out.new 0 result (heldLine len steps journal.now) }
+    ensures { Wrote out.old out.new 0 result (held_line len steps journal.now) }
 {
     let counted = put_counts(len, steps, out);
     let kept = hexadecimal::encode(journal, out, counted);

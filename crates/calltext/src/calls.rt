@@ -3,9 +3,9 @@ ghost use Rattle.std.specs.Prelude.{◌≡◌, true, false, ℕ, ◌*◌, ◌≤
 ghost use Rattle.calltext.specs.Words.{word_at, spaces};
 ghost use Rattle.calltext.specs.Decimal.{number_in};
 ghost use Rattle.calltext.specs.Numbered.{Numbers};
-ghost use Rattle.calltext.specs.Hexadecimal.{bytesIn};
+ghost use Rattle.calltext.specs.Hexadecimal.{bytes_in};
 ghost use Rattle.calltext.specs.Decoded.{DecodesWord};
-ghost use Rattle.calltext.specs.Calls.{journalName, nameOf, readCheck, readRun, readOpen, readConvert, readRollback, readReader, ofLength, readLine};
+ghost use Rattle.calltext.specs.Calls.{journal_name, name_of, read_check, read_run, read_open, read_convert, read_rollback, read_reader, of_length, read_line};
 ghost use Rattle.calltext.specs.Left.{words_of, bytes_of};
 ghost use Rattle.calltext.specs.Parsed.{Parses};
 ghost use Rattle.calltext.specs.declared.calls.Name.TheVariants.{Check, Forward, Open, Convert, Rollback, Nurse};
@@ -108,7 +108,7 @@ pub enum Parsed {
 
 // The calls on a journal, by their names.
 fn journal_name(word: &[u8]) -> Name
-    ensures { result ≡ journalName word.now }
+    ensures { result ≡ journal_name word.now }
 {
     if octets::equal(word, b"open") {
         return Name::Open;
@@ -129,7 +129,7 @@ fn journal_name(word: &[u8]) -> Name
 }
 
 fn name_of(word: &[u8]) -> Name
-    ensures { result ≡ nameOf word.now }
+    ensures { result ≡ name_of word.now }
 {
     if octets::equal(word, b"check") {
         return Name::Check;
@@ -145,7 +145,7 @@ fn name_of(word: &[u8]) -> Name
 
 // The name that a line starts with.
 fn first_name(line: &[u8]) -> Name
-    ensures { result ≡ nameOf (word_at 0 line.now) }
+    ensures { result ≡ name_of (word_at 0 line.now) }
 {
     name_of(words::word(line, 0))
 }
@@ -161,7 +161,7 @@ fn number_at(line: &[u8], k: u8, most: u64) -> Number
 // The bytes that word k is, at the start of `out`.
 fn bytes_at(line: &[u8], k: u8, out: &mut [u8]) -> Decoded
     requires { length line.now ≤ 2 * length out.old }
-    ensures { DecodesWord result (word_at k line.now) out.old out.new (bytesIn (word_at k line.now)) }
+    ensures { DecodesWord result (word_at k line.now) out.old out.new (bytes_in (word_at k line.now)) }
 {
     hexadecimal::decode(words::word(line, k), out)
 }
@@ -170,7 +170,7 @@ fn bytes_at(line: &[u8], k: u8, out: &mut [u8]) -> Decoded
 
 fn check_call(line: &[u8], program: &mut [u8]) -> Parsed
     requires { length line.now ≤ 2 * length program.old }
-    ensures { (anc v : List ℕ) → Parses result line.now (words_of Check) program.old anc v program.new anc v (ofLength (spaces line.now) 2 (readCheck line.now)) }
+    ensures { (anc v : List ℕ) → Parses result line.now (words_of Check) program.old anc v program.new anc v (of_length (spaces line.now) 2 (read_check line.now)) }
 {
     let count = words::count_spaces(line);
     if count != 2 {
@@ -198,7 +198,7 @@ fn run_call(
     requires line_len_bound { length line.now ≤ 2 * length program.old }
     requires line_len_bound_2 { length line.now ≤ 2 * length ancillae.old }
     requires line_len_bound_3 { length line.now ≤ 2 * length value.old }
-    ensures { Parses result line.now (words_of Forward) program.old ancillae.old value.old program.new ancillae.new value.new (ofLength (spaces line.now) 7 (readRun backward line.now)) }
+    ensures { Parses result line.now (words_of Forward) program.old ancillae.old value.old program.new ancillae.new value.new (of_length (spaces line.now) 7 (read_run backward line.now)) }
 {
     let count = words::count_spaces(line);
     if count != 7 {
@@ -241,7 +241,7 @@ fn open_call(line: &[u8], program: &mut [u8], ancillae: &mut [u8], value: &mut [
     requires line_len_bound { length line.now ≤ 2 * length program.old }
     requires line_len_bound_2 { length line.now ≤ 2 * length ancillae.old }
     requires line_len_bound_3 { length line.now ≤ 2 * length value.old }
-    ensures { Parses result line.now (words_of Open) program.old ancillae.old value.old program.new ancillae.new value.new (ofLength (spaces line.now) 4 (readOpen line.now)) }
+    ensures { Parses result line.now (words_of Open) program.old ancillae.old value.old program.new ancillae.new value.new (of_length (spaces line.now) 4 (read_open line.now)) }
 {
     let count = words::count_spaces(line);
     if count != 4 {
@@ -271,7 +271,7 @@ fn convert_call(line: &[u8], program: &mut [u8], ancillae: &mut [u8], value: &mu
     requires line_len_bound { length line.now ≤ 2 * length program.old }
     requires line_len_bound_2 { length line.now ≤ 2 * length ancillae.old }
     requires line_len_bound_3 { length line.now ≤ 2 * length value.old }
-    ensures { Parses result line.now (words_of Convert) program.old ancillae.old value.old program.new ancillae.new value.new (ofLength (spaces line.now) 6 (readConvert line.now)) }
+    ensures { Parses result line.now (words_of Convert) program.old ancillae.old value.old program.new ancillae.new value.new (of_length (spaces line.now) 6 (read_convert line.now)) }
 {
     let count = words::count_spaces(line);
     if count != 6 {
@@ -308,7 +308,7 @@ fn convert_call(line: &[u8], program: &mut [u8], ancillae: &mut [u8], value: &mu
 fn rollback_call(line: &[u8], program: &mut [u8], value: &mut [u8]) -> Parsed
     requires line_len_bound { length line.now ≤ 2 * length program.old }
     requires line_len_bound_2 { length line.now ≤ 2 * length value.old }
-    ensures { (anc : List ℕ) → Parses result line.now (words_of Rollback) program.old anc value.old program.new anc value.new (ofLength (spaces line.now) 4 (readRollback line.now)) }
+    ensures { (anc : List ℕ) → Parses result line.now (words_of Rollback) program.old anc value.old program.new anc value.new (of_length (spaces line.now) 4 (read_rollback line.now)) }
 {
     let count = words::count_spaces(line);
     if count != 4 {
@@ -336,7 +336,7 @@ fn rollback_call(line: &[u8], program: &mut [u8], value: &mut [u8]) -> Parsed
 
 fn reader_call(line: &[u8], workshop: bool, value: &mut [u8]) -> Parsed
     requires { length line.now ≤ 2 * length value.old }
-    ensures { (p anc : List ℕ) → Parses result line.now (words_of Nurse) p anc value.old p anc value.new (ofLength (spaces line.now) 2 (readReader workshop line.now)) }
+    ensures { (p anc : List ℕ) → Parses result line.now (words_of Nurse) p anc value.old p anc value.new (of_length (spaces line.now) 2 (read_reader workshop line.now)) }
 {
     let count = words::count_spaces(line);
     if count != 2 {
@@ -360,7 +360,7 @@ pub fn parse(line: &[u8], program: &mut [u8], ancillae: &mut [u8], value: &mut [
     requires line_len_bound { length line.now ≤ 2 * length program.old }
     requires line_len_bound_2 { length line.now ≤ 2 * length ancillae.old }
     requires line_len_bound_3 { length line.now ≤ 2 * length value.old }
-    ensures { Parses result line.now (bytes_of line.now) program.old ancillae.old value.old program.new ancillae.new value.new (readLine line.now) }
+    ensures { Parses result line.now (bytes_of line.now) program.old ancillae.old value.old program.new ancillae.new value.new (read_line line.now) }
 {
     match first_name(line) {
         Name::Check => check_call(line, program),

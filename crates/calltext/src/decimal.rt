@@ -1,7 +1,7 @@
 // Numbers as decimal digits.
 ghost use Rattle.std.specs.Prelude.{◌≡◌, ◌+◌, ◌≤◌, ◌<◌, length};
 ghost use Rattle.calltext.specs.Wrote.{Wrote};
-ghost use Rattle.calltext.specs.Decimal.{number_in, decimalText};
+ghost use Rattle.calltext.specs.Decimal.{number_in, decimal_text};
 ghost use Rattle.calltext.specs.Numbered.{Numbers};
 
 // The number that a word is; or it is none, or too large.
@@ -41,8 +41,8 @@ pub fn read_number(word: &[u8], most: u64) -> Number
 
 // The digits of a number, put into `out` from `at` on: where they end.
 pub fn put_number(n: u64, out: &mut [u8], at: usize) -> usize
-    requires { at + length (decimalText n) ≤ length out.old }
-    ensures { Wrote out.old out.new at result (decimalText n) }
+    requires { at + length (decimal_text n) ≤ length out.old }
+    ensures { Wrote out.old out.new at result (decimal_text n) }
 {
     if n < 10 {
         out[at] = 48 + n as u8;

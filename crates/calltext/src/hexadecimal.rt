@@ -1,7 +1,7 @@
 // Bytes as hexadecimal digits, two a byte; a `-` stands for no bytes.
 ghost use Rattle.std.specs.Prelude.{◌≡◌, ◌+◌, ◌*◌, ◌≤◌, ◌<◌, length};
 ghost use Rattle.calltext.specs.Wrote.{Wrote};
-ghost use Rattle.calltext.specs.Hexadecimal.{digitOf, glyphOf, pairsOf, bytesIn, hexText};
+ghost use Rattle.calltext.specs.Hexadecimal.{digit_of, glyph_of, pairs_of, bytes_in, hex_text};
 ghost use Rattle.calltext.specs.Decoded.{DecodesWord};
 
 // Bytes at the start of a buffer, so many of them; or the word is none.
@@ -13,7 +13,7 @@ pub enum Decoded {
 
 // A digit's number, or 16 for a byte that is no digit.
 fn digit(b: u8) -> u8
-    ensures { result ≡ digitOf b }
+    ensures { result ≡ digit_of b }
 {
     if b < 48 {
         return 16;
@@ -39,7 +39,7 @@ fn digit(b: u8) -> u8
 // The digit of a number, in lower case.
 fn glyph(d: u8) -> u8
     requires { d < 16 }
-    ensures { result ≡ glyphOf d }
+    ensures { result ≡ glyph_of d }
 {
     if d < 10 { 48 + d } else { 87 + d }
 }
@@ -47,7 +47,7 @@ fn glyph(d: u8) -> u8
 // The bytes that the digits are, put at the start of `out`.
 fn pairs(word: &[u8], out: &mut [u8]) -> Decoded
     requires { length word.now ≤ 2 * length out.old }
-    ensures { DecodesWord result word.now out.old out.new (pairsOf word.now) }
+    ensures { DecodesWord result word.now out.old out.new (pairs_of word.now) }
 {
     let mut i: usize = 0;
     let mut n: usize = 0;
@@ -74,7 +74,7 @@ fn pairs(word: &[u8], out: &mut [u8]) -> Decoded
 // The bytes that a word is, put at the start of `out`.
 pub fn decode(word: &[u8], out: &mut [u8]) -> Decoded
     requires { length word.now ≤ 2 * length out.old }
-    ensures { DecodesWord result word.now out.old out.new (bytesIn word.now) }
+    ensures { DecodesWord result word.now out.old out.new (bytes_in word.now) }
 {
     if word.len() == 0 {
         return Decoded::Not;
@@ -91,7 +91,7 @@ pub fn decode(word: &[u8], out: &mut [u8]) -> Decoded
 // The word that bytes are, put into `out` from `at` on: where it ends.
 pub fn encode(bytes: &[u8], out: &mut [u8], at: usize) -> usize
     requires { at + 2 * length bytes.now < length out.old }
-    ensures { Wrote out.old out.new at result (hexText bytes.now) }
+    ensures { Wrote out.old out.new at result (hex_text bytes.now) }
 {
     if bytes.len() == 0 {
         out[at] = 45;

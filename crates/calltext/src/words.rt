@@ -1,9 +1,9 @@
 // The words of a line: what stands between single spaces.
 ghost use Rattle.std.specs.Prelude.{◌≡◌, ◌≤◌, length, drop};
-ghost use Rattle.calltext.specs.Words.{behind, from, word_at, isSpace, spaces};
+ghost use Rattle.calltext.specs.Words.{behind, from, word_at, is_space, spaces};
 
 fn space(b: u8) -> usize
-    ensures { result ≡ isSpace b }
+    ensures { result ≡ is_space b }
 {
     if b == 32 { 1 } else { 0 }
 }

@@ -9,25 +9,25 @@ use package.Rattle.rules.specs.Val.{size, encode}
 use package.Rattle.rules.proofs.Val.{length-encode}
 use package.Rattle.calls.specs.Answer.{Answer, accepted, refused, ◌>>=◌}
 use package.Rattle.calls.specs.Runs.{Ran, written}
-use package.Rattle.answers.specs.Answers.{number_of, place_of, runAnswer, summary}
+use package.Rattle.answers.specs.Answers.{number_of, place_of, run_answer, summary}
 use package.Rattle.answers.specs.declared.Refusal.{Refusal}
 use package.Rattle.answers.specs.declared.RunAnswer.{RunAnswer}
 use package.Rattle.answers.specs.declared.RunAnswer.TheVariants.{Ran as Done, Refused}
-use package.Rattle.calltext.specs.Answers.{valueLine}
-use package.Rattle.messages.specs.Replies.{length_of, refusalText}
-use package.Rattle.command.specs.Reports.{refusedReport, runReport, filledReport}
+use package.Rattle.calltext.specs.Answers.{value_line}
+use package.Rattle.messages.specs.Replies.{length_of, refusal_text}
+use package.Rattle.command.specs.Reports.{refused_report, run_report, filled_report}
 
 -- a refusal's text goes by its number and place
-pub refusal-reported : (r : Refusal) → refusalText r ≡ refusedReport (number_of r) (place_of r)
-unfolding refusalText refusedReport
-refusal-reported r = refl
+pub refusal_reported : (r : Refusal) → refusal_text r ≡ refused_report (number_of r) (place_of r)
+unfolding refusal_text refused_report
+refusal_reported r = refl
 
 -- how many bytes of the output an answer says it filled
 filled : Answer (ℕ × ℕ) → ℕ
 filled (accepted a) = a.0
 filled (refused n p) = 0
 
-filled-answer : (r : RunAnswer) → length_of r ≡ filled (runAnswer r)
+filled-answer : (r : RunAnswer) → length_of r ≡ filled (run_answer r)
 unfolding filled
 filled-answer (Done d) = refl
 filled-answer (Refused r) = refl
@@ -40,16 +40,16 @@ fills-within (refused n p) out h = omega arith
 
 -- an answered length is within the output
 pub within : (r : RunAnswer) (x : Answer Ran) (out : List ℕ) {out' : List ℕ}
-    → runAnswer r ≡ summary x → out' ≡ written x out → length out' ≡ length out → length_of r ≤ length out'
+    → run_answer r ≡ summary x → out' ≡ written x out → length out' ≡ length out → length_of r ≤ length out'
 within r x out {out'} a f k =
     omega (arith, filled-answer r, ap filled a, fills-within x out (ap length (sym f) ∙ k), k)
 
-read_back : (x : Answer Ran) (out : List ℕ) → filledReport (summary x) (written x out) ≡ runReport x
-unfolding filledReport written ◌>>=◌ runReport
-read_back (accepted r) out = ap (λ v. valueLine v r.steps) (take_at (encode r.value) _ (size r.value) (length-encode r.value))
+read_back : (x : Answer Ran) (out : List ℕ) → filled_report (summary x) (written x out) ≡ run_report x
+unfolding filled_report written ◌>>=◌ run_report
+read_back (accepted r) out = ap (λ v. value_line v r.steps) (take_at (encode r.value) _ (size r.value) (length-encode r.value))
 read_back (refused n p) out = refl
 
 -- a run's report is the call's
-pub run-reported : (r : RunAnswer) (x : Answer Ran) (out : List ℕ) {out' : List ℕ}
-    → runAnswer r ≡ summary x → out' ≡ written x out → filledReport (runAnswer r) out' ≡ runReport x
-run-reported r x out {out'} a f = ap (λ y. filledReport y out') a ∙ ap (λ o. filledReport (summary x) o) f ∙ read_back x out
+pub run_reported : (r : RunAnswer) (x : Answer Ran) (out : List ℕ) {out' : List ℕ}
+    → run_answer r ≡ summary x → out' ≡ written x out → filled_report (run_answer r) out' ≡ run_report x
+run_reported r x out {out'} a f = ap (λ y. filled_report y out') a ∙ ap (λ o. filled_report (summary x) o) f ∙ read_back x out

@@ -2,27 +2,27 @@
 use Rattle.std.specs.Prelude.{ℕ, cond, List, [], ◌++◌, get_or, eqb}
 use package.Rattle.octets.specs.Numbers.{get16, get32}
 use package.Rattle.calltext.specs.Text.{text}
-use package.Rattle.calltext.specs.Decimal.{decimalText}
-use package.Rattle.calltext.specs.Answers.{refusedLine}
-use package.Rattle.replay.specs.Playing.{Reply, played, malformed, tooWide, shortAnswers, unopened, cut}
-use package.Rattle.command.specs.Reports.{heldText, refusedReport}
+use package.Rattle.calltext.specs.Decimal.{decimal_text}
+use package.Rattle.calltext.specs.Answers.{refused_line}
+use package.Rattle.replay.specs.Playing.{Reply, played, malformed, too_wide, short_answers, unopened, cut}
+use package.Rattle.command.specs.Reports.{held_text, refused_report}
 
 -- the line of the call that seven bytes answer, as a line of calls and answers has it without the journal; none where they answer none
-unfoldable pub toldText : List ℕ → List ℕ
-toldText line =
+unfoldable pub told_text : List ℕ → List ℕ
+told_text line =
     cond (eqb (get_or line 0 0) 0x41) (text "ok\n")
-    (cond (eqb (get_or line 0 0) 0x42) (heldText (get16 line 1) (get32 line 3))
-    (cond (eqb (get_or line 0 0) 0x43) (refusedLine (get16 line 1) (get32 line 3)) []))
+    (cond (eqb (get_or line 0 0) 0x42) (held_text (get16 line 1) (get32 line 3))
+    (cond (eqb (get_or line 0 0) 0x43) (refused_line (get16 line 1) (get32 line 3)) []))
 
 -- the first open is refused
-unfoldable pub unopenedText : ℕ → ℕ → List ℕ
-unopenedText number place = text "not opened: " ++ refusedReport number place
+unfoldable pub unopened_text : ℕ → ℕ → List ℕ
+unopened_text number place = text "not opened: " ++ refused_report number place
 
 -- how the playing ended
-unfoldable pub endedText : Reply → List ℕ
-endedText (played k) = text "played " ++ decimalText k ++ text "\n"
-endedText (malformed at) = text "malformed at " ++ decimalText at ++ text ": no call stands there\n"
-endedText (tooWide at) = text "too wide at " ++ decimalText at ++ text ": the call's buffer is longer than 131072 bytes\n"
-endedText shortAnswers = text "answers do not fit\n"
-endedText (unopened number place) = unopenedText number place
-endedText (cut at) = text "cut at " ++ decimalText at ++ text ": the call's buffer would cut the journal's fields\n"
+unfoldable pub ended_text : Reply → List ℕ
+ended_text (played k) = text "played " ++ decimal_text k ++ text "\n"
+ended_text (malformed at) = text "malformed at " ++ decimal_text at ++ text ": no call stands there\n"
+ended_text (too_wide at) = text "too wide at " ++ decimal_text at ++ text ": the call's buffer is longer than 131072 bytes\n"
+ended_text short_answers = text "answers do not fit\n"
+ended_text (unopened number place) = unopened_text number place
+ended_text (cut at) = text "cut at " ++ decimal_text at ++ text ": the call's buffer would cut the journal's fields\n"

@@ -1,10 +1,10 @@
 // What a script's playing answered, as text: a line for each call, and a line that says how it ended.
 ghost use Rattle.std.specs.Prelude.{◌≤◌, ◌++◌, length};
 ghost use Rattle.answers.specs.Answers.{number_of, place_of};
-ghost use Rattle.calltext.specs.Decimal.{decimalText};
+ghost use Rattle.calltext.specs.Decimal.{decimal_text};
 ghost use Rattle.calltext.specs.Wrote.{Wrote};
-ghost use Rattle.replay.specs.Playing.{replyOf};
-ghost use Rattle.command.specs.Plays.{toldText, endedText, unopenedText};
+ghost use Rattle.replay.specs.Playing.{reply_of};
+ghost use Rattle.command.specs.Plays.{told_text, ended_text, unopened_text};
 
 use crate::reports;
 use answers::Refusal;
@@ -21,7 +21,7 @@ const REFUSED: u8 = 0x43;
 pub fn told_line(line: &[u8], out: &mut [u8]) -> usize
     requires in_bounds { 7 ≤ length line.now }
     requires in_bounds_2 { 64 ≤ length out.old }
-    ensures { Wrote out.old out.new 0 result (toldText line.now) }
+    ensures { Wrote out.old out.new 0 result (told_text line.now) }
 {
     let kind = line[0];
     let number = octets::read16(line, 1);
@@ -42,7 +42,7 @@ pub fn told_line(line: &[u8], out: &mut [u8]) -> usize
 fn put_between(front: &[u8], n: u64, behind: &[u8], out: &mut [u8]) -> usize
     requires front_len_bound { (length front.now ≤ 32) × (length behind.now ≤ 128) }
     requires in_bounds { 256 ≤ length out.old }
-    ensures { Wrote out.old out.new 0 result (front.now ++ decimalText n ++ behind.now) }
+    ensures { Wrote out.old out.new 0 result (front.now ++ decimal_text n ++ behind.now) }
 {
     let named = texts::put(front, out, 0);
     let counted = reports::put_figure(n, out, named);
@@ -52,7 +52,7 @@ fn put_between(front: &[u8], n: u64, behind: &[u8], out: &mut [u8]) -> usize
 // The first open is refused.
 fn unopened(r: Refusal, out: &mut [u8]) -> usize
     requires { 512 ≤ length out.old }
-    ensures { Wrote out.old out.new 0 result (unopenedText (number_of r) (place_of r)) }
+    ensures { Wrote out.old out.new 0 result (unopened_text (number_of r) (place_of r)) }
 {
     let named = texts::put(b"not opened: ", out, 0);
     let told = reports::refusal(r, &mut out[named..]);
@@ -62,7 +62,7 @@ fn unopened(r: Refusal, out: &mut [u8]) -> usize
 // How the playing ended.
 pub fn ended_line(answer: ReplayAnswer, out: &mut [u8]) -> usize
     requires { 512 ≤ length out.old }
-    ensures { Wrote out.old out.new 0 result (endedText (replyOf answer)) }
+    ensures { Wrote out.old out.new 0 result (ended_text (reply_of answer)) }
 {
     match answer {
         ReplayAnswer::Played(k) => put_between(b"played ", k as u64, b"\n", out),

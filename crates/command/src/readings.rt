@@ -2,17 +2,17 @@
 // it is never too short.
 ghost use Rattle.std.specs.Prelude.{◌≡◌, ◌+◌, ◌*◌, ◌≤◌, length};
 ghost use Rattle.calls.specs.Answer.{overwritten};
-ghost use Rattle.calls.specs.Readers.{heldBytes, nurseCall, workshopCall};
+ghost use Rattle.calls.specs.Readers.{held_bytes, nurse_call, workshop_call};
 ghost use Rattle.calltext.specs.Wrote.{Wrote};
-ghost use Rattle.command.specs.Reports.{nurseReport, workshopReport};
+ghost use Rattle.command.specs.Reports.{nurse_report, workshop_report};
 
 use crate::reports;
 
 // At the bedside.
 pub fn nurse(journal: &[u8], output: &mut [u8], out: &mut [u8]) -> usize
     requires { 2 * length output.old + 256 ≤ length out.old }
-    ensures report { Wrote out.old out.new 0 result (nurseReport (nurseCall journal.now (length output.old))) }
-    ensures fills { output.new ≡ overwritten (heldBytes (nurseCall journal.now (length output.old))) output.old }
+    ensures report { Wrote out.old out.new 0 result (nurse_report (nurse_call journal.now (length output.old))) }
+    ensures fills { output.new ≡ overwritten (held_bytes (nurse_call journal.now (length output.old))) output.old }
 {
     let answer = engine::nurse(journal, output);
     reports::nurse_report(answer, output, out)
@@ -21,8 +21,8 @@ pub fn nurse(journal: &[u8], output: &mut [u8], out: &mut [u8]) -> usize
 // At the desk.
 pub fn workshop(journal: &[u8], output: &mut [u8], out: &mut [u8]) -> usize
     requires { 2 * length output.old + 256 ≤ length out.old }
-    ensures report { Wrote out.old out.new 0 result (workshopReport (workshopCall journal.now (length output.old))) }
-    ensures fills { output.new ≡ overwritten (workshopCall journal.now (length output.old)) output.old }
+    ensures report { Wrote out.old out.new 0 result (workshop_report (workshop_call journal.now (length output.old))) }
+    ensures fills { output.new ≡ overwritten (workshop_call journal.now (length output.old)) output.old }
 {
     let answer = engine::workshop(journal, output);
     reports::write_report(answer, output, out)

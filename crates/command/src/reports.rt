@@ -1,10 +1,10 @@
 // What a call answered, as text: as a line of calls and answers has it (crate calltext), a refusal with its meaning.
 ghost use Rattle.std.specs.Prelude.{◌+◌, ◌*◌, ◌≤◌, length};
-ghost use Rattle.answers.specs.Answers.{number_of, place_of, checkAnswer, runAnswer, nurseAnswer, writeAnswer};
-ghost use Rattle.calltext.specs.Decimal.{decimalText};
+ghost use Rattle.answers.specs.Answers.{number_of, place_of, check_answer, run_answer, nurse_answer, write_answer};
+ghost use Rattle.calltext.specs.Decimal.{decimal_text};
 ghost use Rattle.calltext.specs.Wrote.{Wrote};
-ghost use Rattle.messages.specs.Replies.{length_of, seenLength, writtenLength};
-ghost use Rattle.command.specs.Reports.{refusedReport, checkReport, filledReport, shownReport, wroteReport, heldText};
+ghost use Rattle.messages.specs.Replies.{length_of, seen_length, written_length};
+ghost use Rattle.command.specs.Reports.{refused_report, check_report, filled_report, shown_report, wrote_report, held_text};
 
 use answers::{CheckAnswer, NurseAnswer, Refusal, RunAnswer, WriteAnswer};
 use calltext::{answers as texts, decimal};
@@ -13,7 +13,7 @@ use messages::replies;
 // A refusal: its number, its place and its meaning.
 pub(crate) fn refusal(r: Refusal, out: &mut [u8]) -> usize
     requires { 256 ≤ length out.old }
-    ensures { Wrote out.old out.new 0 result (refusedReport (number_of r) (place_of r)) }
+    ensures { Wrote out.old out.new 0 result (refused_report (number_of r) (place_of r)) }
 {
     replies::refusal_text(r, out)
 }
@@ -21,7 +21,7 @@ pub(crate) fn refusal(r: Refusal, out: &mut [u8]) -> usize
 // What a check answered.
 pub fn check_report(answer: CheckAnswer, out: &mut [u8]) -> usize
     requires { 256 ≤ length out.old }
-    ensures { Wrote out.old out.new 0 result (checkReport (checkAnswer answer)) }
+    ensures { Wrote out.old out.new 0 result (check_report (check_answer answer)) }
 {
     match answer {
         CheckAnswer::Accepted => texts::put(b"ok\n", out, 0),
@@ -33,7 +33,7 @@ pub fn check_report(answer: CheckAnswer, out: &mut [u8]) -> usize
 pub fn run_report(answer: RunAnswer, output: &[u8], out: &mut [u8]) -> usize
     requires answer_in_bounds { length_of answer ≤ length output.now }
     requires output_in_bounds { 2 * length output.now + 256 ≤ length out.old }
-    ensures { Wrote out.old out.new 0 result (filledReport (runAnswer answer) output.now) }
+    ensures { Wrote out.old out.new 0 result (filled_report (run_answer answer) output.now) }
 {
     match answer {
         RunAnswer::Ran(d) => replies::run_line(RunAnswer::Ran(d), output, out),
@@ -43,9 +43,9 @@ pub fn run_report(answer: RunAnswer, output: &[u8], out: &mut [u8]) -> usize
 
 // What the nurse's reader answered, which the output starts with.
 pub fn nurse_report(answer: NurseAnswer, output: &[u8], out: &mut [u8]) -> usize
-    requires answer_in_bounds { seenLength answer ≤ length output.now }
+    requires answer_in_bounds { seen_length answer ≤ length output.now }
     requires output_in_bounds { 2 * length output.now + 256 ≤ length out.old }
-    ensures { Wrote out.old out.new 0 result (shownReport (nurseAnswer answer) output.now) }
+    ensures { Wrote out.old out.new 0 result (shown_report (nurse_answer answer) output.now) }
 {
     match answer {
         NurseAnswer::Shows(s) => replies::nurse_line(NurseAnswer::Shows(s), output, out),
@@ -55,9 +55,9 @@ pub fn nurse_report(answer: NurseAnswer, output: &[u8], out: &mut [u8]) -> usize
 
 // What a call that writes bytes answered, which the output starts with.
 pub fn write_report(answer: WriteAnswer, output: &[u8], out: &mut [u8]) -> usize
-    requires answer_in_bounds { writtenLength answer ≤ length output.now }
+    requires answer_in_bounds { written_length answer ≤ length output.now }
     requires output_in_bounds { 2 * length output.now + 256 ≤ length out.old }
-    ensures { Wrote out.old out.new 0 result (wroteReport (writeAnswer answer) output.now) }
+    ensures { Wrote out.old out.new 0 result (wrote_report (write_answer answer) output.now) }
 {
     match answer {
         WriteAnswer::Wrote(n) => replies::write_line(WriteAnswer::Wrote(n), output, out),
@@ -68,7 +68,7 @@ pub fn write_report(answer: WriteAnswer, output: &[u8], out: &mut [u8]) -> usize
 // A number, which has at most 20 digits.
 pub(crate) fn put_figure(n: u64, out: &mut [u8], at: usize) -> usize
     requires { at + 20 ≤ length out.old }
-    ensures { Wrote out.old out.new at result (decimalText n) × (result ≤ at + 20) }
+    ensures { Wrote out.old out.new at result (decimal_text n) × (result ≤ at + 20) }
 {
     decimal::put_number(n, out, at)
 }
@@ -76,7 +76,7 @@ pub(crate) fn put_figure(n: u64, out: &mut [u8], at: usize) -> usize
 // The length of the held record, and the steps.
 pub(crate) fn held(len: u64, steps: u64, out: &mut [u8]) -> usize
     requires { 64 ≤ length out.old }
-    ensures { Wrote out.old out.new 0 result (heldText len steps) }
+    ensures { Wrote out.old out.new 0 result (held_text len steps) }
 {
     let named = texts::put(b"held ", out, 0);
     let counted = put_figure(len, out, named);

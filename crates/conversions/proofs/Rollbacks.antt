@@ -7,31 +7,31 @@ use mathlib.Core.Option.{some}
 use mathlib.Core.List.{List}
 use lib.ListN.{length, take}
 use lib.Dec.{eqb, leb}
-use package.Rattle.rules.specs.Limits.{fits, maxValueBytes}
+use package.Rattle.rules.specs.Limits.{fits, max_value_bytes}
 use package.Rattle.rules.specs.Val.{Val, encode}
 use package.Rattle.rules.specs.Term.{Program}
 use package.Rattle.rules.proofs.Basics.{given, eqb_yes, eqb-differs}
 use package.Rattle.rules.proofs.Typing.Tests.{leb-sound}
 use package.Rattle.rules.proofs.Val.{length-encode}
 use package.Rattle.calls.specs.Answer.{Answer, accepted, refused, ◌>>=◌}
-use package.Rattle.calls.specs.Values.{value, ancillae, encodeAll}
+use package.Rattle.calls.specs.Values.{value, ancillae, encode_all}
 use package.Rattle.calls.specs.Runs.{admit, Ran, returns}
-use package.Rattle.calls.specs.Journal.{Journal, fields, writeOut}
+use package.Rattle.calls.specs.Journal.{Journal, fields, write_out}
 use package.Rattle.calls.specs.Conversions.{Turned, turned, newest}
-use package.Rattle.calls.proofs.Answer.{via, stops, unbind, require-yes, require-no, present-some, present-none}
+use package.Rattle.calls.proofs.Answer.{via, stops, unbind, require_yes, require-no, present_some, present_none}
 use package.Rattle.calls.proofs.Values.{value-encode, ancillae-encode}
 use package.Rattle.calls.proofs.Journal.Fields.{WritableEntry}
-use package.Rattle.calls.proofs.Journal.Entries.{WritableEntries, entries-unsnoc}
-use package.Rattle.valuebytes.specs.Ends.{is_value, valueIn}
+use package.Rattle.calls.proofs.Journal.Entries.{WritableEntries, entries_unsnoc}
+use package.Rattle.valuebytes.specs.Ends.{is_value, value_in}
 use package.Rattle.admission.specs.Admitting.{side_of}
 use package.Rattle.runs.specs.Ended.{finished}
 use package.Rattle.journal.specs.declared.places.Places.{Places}
 use package.Rattle.journal.specs.declared.places.Survey.{Survey}
 use package.Rattle.journal.specs.declared.places.Survey.TheVariants as survey
-use package.Rattle.journal.specs.Places.{newestOf, journalIn, Surveyed, Stands}
-use package.Rattle.journal.specs.Turns.{rolledBack}
-use package.Rattle.journal.proofs.Stands.{surveyed-as, standing, count-place, unformed, newest-split, newest-none, newest-some}
-use package.Rattle.journal.proofs.Turns.{is-value}
+use package.Rattle.journal.specs.Places.{newest_of, journal_in, Surveyed, Stands}
+use package.Rattle.journal.specs.Turns.{rolled_back}
+use package.Rattle.journal.proofs.Stands.{surveyed_as, standing, count-place, unformed, newest_split, newest_none, newest_some}
+use package.Rattle.journal.proofs.Turns.{is_value_lem}
 use package.Rattle.answers.specs.declared.Done.{Done}
 use package.Rattle.answers.specs.declared.Refusal.{Refusal}
 use package.Rattle.answers.specs.declared.Refusal.TheVariants.{Journal as Unread, Standing, Full}
@@ -39,9 +39,9 @@ use package.Rattle.answers.specs.declared.RunAnswer.{RunAnswer}
 use package.Rattle.answers.specs.declared.RunAnswer.TheVariants as runs
 use package.Rattle.answers.specs.Answers.{refuses}
 use package.Rattle.requests.specs.Runs.{run_of, called, RunMeans}
-use package.Rattle.conversions.specs.Turns.{rollbackOf, TurnMeans}
-use package.Rattle.conversions.specs.Rollbacks.{ranTo, takenBack, struck}
-use package.Rattle.conversions.proofs.Values.{run_fits, finished-whole, Into, ran-into, refused-into, front-is-value, front-valueIn, turn-refused, turn-full, turn-written}
+use package.Rattle.conversions.specs.Turns.{rollback_of, TurnMeans}
+use package.Rattle.conversions.specs.Rollbacks.{ran_to, taken_back, struck}
+use package.Rattle.conversions.proofs.Values.{run_fits, finished_whole, Into, ran-into, refused-into, front_is_value, front-value_in, turn-refused, turn-full, turn-written}
 
 ----------------------------------------------------------------
 -- Answers that go on
@@ -62,135 +62,135 @@ module _ {A B : Type 0} where
 
 -- in an output as long as a value may be row Output refuses nothing
 back_whole : (P : Program) (g fuel : ℕ) (anc bytes : List ℕ) (vs : List Val) (v : Val) → ancillae anc ≡ some vs → value bytes ≡ some v
-    → called true P g anc bytes fuel maxValueBytes ≡ (admit P g (some vs) (some v) (λ h. h.result) >>= returns P fuel)
+    → called true P g anc bytes fuel max_value_bytes ≡ (admit P g (some vs) (some v) (λ h. h.result) >>= returns P fuel)
 unfolding called run_of
 back_whole P g fuel anc bytes vs v p q =
-    ap₂ (λ a b. admit P g a b (side_of true) >>= λ a. finished maxValueBytes (run_of true P fuel a)) p q
-    ∙ goes-alike _ _ _ λ a. finished-whole (returns P fuel a) λ r e. run_fits true P fuel a e
+    ap₂ (λ a b. admit P g a b (side_of true) >>= λ a. finished max_value_bytes (run_of true P fuel a)) p q
+    ∙ goes-alike _ _ _ λ a. finished_whole (returns P fuel a) λ r e. run_fits true P fuel a e
 
 -- its value fits
-taken-fits : (P : Program) (fuel : ℕ) (J : Journal) {r : Ran} → takenBack P fuel J ≡ accepted r → fits r.value ≡ true
-unfolding takenBack run_of
-taken-fits P fuel J e = given (unbind (admit P (newestOf J.entries).newest.function (some (newestOf J.entries).newest.ancillae) (some J.held) λ h. h.result) _ e) λ (a, p, q).
+taken-fits : (P : Program) (fuel : ℕ) (J : Journal) {r : Ran} → taken_back P fuel J ≡ accepted r → fits r.value ≡ true
+unfolding taken_back run_of
+taken-fits P fuel J e = given (unbind (admit P (newest_of J.entries).newest.function (some (newest_of J.entries).newest.ancillae) (some J.held) λ h. h.result) _ e) λ (a, p, q).
     run_fits true P fuel a q
 
 module _ (pl : Places) (j : List ℕ) (s : Stands pl j) (stood : 0 < pl.count) where
-  some-stand : 0 < length (journalIn j).entries
-  some-stand = omega (arith, stood, count-place (standing pl j s))
+  some_stand : 0 < length (journal_in j).entries
+  some_stand = omega (arith, stood, count-place (standing pl j s))
 
   -- what the journal says is read back from the bytes that it has
-  newest-writable : WritableEntry (newestOf (journalIn j).entries).newest
-  newest-writable = (entries-unsnoc (newestOf (journalIn j).entries).older
-      (subst WritableEntries (newest-split (journalIn j).entries some-stand) (standing pl j s).writable.entries-writable)).1
+  newest-writable : WritableEntry (newest_of (journal_in j).entries).newest
+  newest-writable = (entries_unsnoc (newest_of (journal_in j).entries).older
+      (subst WritableEntries (newest_split (journal_in j).entries some_stand) (standing pl j s).writable.entries_writable)).1
 
-  newest-read : ancillae (encodeAll (newestOf (journalIn j).entries).newest.ancillae) ≡ some (newestOf (journalIn j).entries).newest.ancillae
-  newest-read = ancillae-encode _ newest-writable.ancillae-within
+  newest-read : ancillae (encode_all (newest_of (journal_in j).entries).newest.ancillae) ≡ some (newest_of (journal_in j).entries).newest.ancillae
+  newest-read = ancillae-encode _ newest-writable.ancillae_within
 
-  held-read : value (encode (journalIn j).held) ≡ some (journalIn j).held
+  held-read : value (encode (journal_in j).held) ≡ some (journal_in j).held
   held-read = value-encode _ (standing pl j s).writable.held_fits
 
   module _ (P : Program) (fuel : ℕ) where
-    called-back : {g : ℕ} {anc bytes : List ℕ} (out : List ℕ) → g ≡ (newestOf (journalIn j).entries).newest.function
-        → anc ≡ encodeAll (newestOf (journalIn j).entries).newest.ancillae → bytes ≡ encode (journalIn j).held → length out ≡ maxValueBytes
-        → called true P g anc bytes fuel (length out) ≡ takenBack P fuel (journalIn j)
-    unfolding takenBack maxValueBytes
+    called-back : {g : ℕ} {anc bytes : List ℕ} (out : List ℕ) → g ≡ (newest_of (journal_in j).entries).newest.function
+        → anc ≡ encode_all (newest_of (journal_in j).entries).newest.ancillae → bytes ≡ encode (journal_in j).held → length out ≡ max_value_bytes
+        → called true P g anc bytes fuel (length out) ≡ taken_back P fuel (journal_in j)
+    unfolding taken_back max_value_bytes
     called-back {g} {anc} {bytes} out p q r l =
         ap (called true P g anc bytes fuel) l ∙ back_whole P g fuel anc bytes _ _ (ap ancillae q ∙ newest-read) (ap value r ∙ held-read)
-        ∙ ap (λ g. admit P g (some (newestOf (journalIn j).entries).newest.ancillae) (some (journalIn j).held) (λ h. h.result) >>= returns P fuel) p
+        ∙ ap (λ g. admit P g (some (newest_of (journal_in j).entries).newest.ancillae) (some (journal_in j).held) (λ h. h.result) >>= returns P fuel) p
 
-    pub taken_back : {g : ℕ} {anc bytes out out' : List ℕ} {r : RunAnswer} → g ≡ (newestOf (journalIn j).entries).newest.function
-        → anc ≡ encodeAll (newestOf (journalIn j).entries).newest.ancillae → bytes ≡ encode (journalIn j).held → length out ≡ maxValueBytes
-        → RunMeans r (called true P g anc bytes fuel (length out)) out out' → RunMeans r (takenBack P fuel (journalIn j)) out out'
-    taken_back {out = out} {out' = out'} {r = r} p q b l R = subst (λ x. RunMeans r x out out') (called-back out p q b l) R
+    pub taken_back_lem : {g : ℕ} {anc bytes out out' : List ℕ} {r : RunAnswer} → g ≡ (newest_of (journal_in j).entries).newest.function
+        → anc ≡ encode_all (newest_of (journal_in j).entries).newest.ancillae → bytes ≡ encode (journal_in j).held → length out ≡ max_value_bytes
+        → RunMeans r (called true P g anc bytes fuel (length out)) out out' → RunMeans r (taken_back P fuel (journal_in j)) out out'
+    taken_back_lem {out = out} {out' = out'} {r = r} p q b l R = subst (λ x. RunMeans r x out out') (called-back out p q b l) R
 
     ----------------------------------------------------------------
     -- The rows behind it
 
-    rollback-is : rollbackOf P fuel j ≡ (takenBack P fuel (journalIn j) >>= struck (length j) (journalIn j))
-    unfolding rollbackOf takenBack struck
-    rollback-is =
-        via _ (present-some 18 (standing pl j s).read) (via _ (present-some 19 (newest-some (journalIn j).entries some-stand))
-        (sym (goes_further (admit P (newestOf (journalIn j).entries).newest.function (some (newestOf (journalIn j).entries).newest.ancillae) (some (journalIn j).held) λ h. h.result)
-        (returns P fuel) (struck (length j) (journalIn j)))))
+    rollback_is : rollback_of P fuel j ≡ (taken_back P fuel (journal_in j) >>= struck (length j) (journal_in j))
+    unfolding rollback_of taken_back struck
+    rollback_is =
+        via _ (present_some 18 (standing pl j s).read) (via _ (present_some 19 (newest_some (journal_in j).entries some_stand))
+        (sym (goes_further (admit P (newest_of (journal_in j).entries).newest.function (some (newest_of (journal_in j).entries).newest.ancillae) (some (journal_in j).held) λ h. h.result)
+        (returns P fuel) (struck (length j) (journal_in j)))))
 
-    module _ {a : RunAnswer} {out out' : List ℕ} (R : RunMeans a (takenBack P fuel (journalIn j)) out out') where
+    module _ {a : RunAnswer} {out out' : List ℕ} (R : RunMeans a (taken_back P fuel (journal_in j)) out out') where
       -- a run that is refused
-      pub not_taken : {r : Refusal} → a ≡ runs.Refused r → TurnMeans (runs.Refused r) (rollbackOf P fuel j) j j
-      not_taken {r} q = turn-refused r j (rollback-is ∙ stops _ (refused-into refusal)) refusal.later
+      pub not_taken : {r : Refusal} → a ≡ runs.Refused r → TurnMeans (runs.Refused r) (rollback_of P fuel j) j j
+      not_taken {r} q = turn-refused r j (rollback_is ∙ stops _ (refused-into refusal)) refusal.later
         where
-          refusal : RunMeans (runs.Refused r) (takenBack P fuel (journalIn j)) out out'
-          refusal = subst (λ a. RunMeans a (takenBack P fuel (journalIn j)) out out') q R
+          refusal : RunMeans (runs.Refused r) (taken_back P fuel (journal_in j)) out out'
+          refusal = subst (λ a. RunMeans a (taken_back P fuel (journal_in j)) out out') q R
 
       -- one that is not: its value is the front of the output
       module _ {d : Done} (q : a ≡ runs.Ran d) (n : ℕ) (e : n ≡ d.len) where
-        into : Into (takenBack P fuel (journalIn j)) out' d
-        into = ran-into (subst (λ a. RunMeans a (takenBack P fuel (journalIn j)) out out') q R)
+        into : Into (taken_back P fuel (journal_in j)) out' d
+        into = ran-into (subst (λ a. RunMeans a (taken_back P fuel (journal_in j)) out out') q R)
 
         front : take n out' ≡ encode into.ran.value
         front = ap (λ n. take n out') e ∙ into.front
 
         fitting : fits into.ran.value ≡ true
-        fitting = taken-fits P fuel (journalIn j) into.is
+        fitting = taken-fits P fuel (journal_in j) into.is
 
         pub inside : n ≤ length out'
         inside = omega (arith, e, into.inside)
 
         pub front-one : is_value (take n out') ≡ true
-        front-one = front-is-value into.ran.value front fitting
+        front-one = front_is_value into.ran.value front fitting
 
         pub front_long : d.len ≡ length (take n out')
         front_long = into.len ∙ sym (ap length front ∙ length-encode into.ran.value)
 
-        pub taken : {r : RunAnswer} {j' : List ℕ} → TurnMeans r (struck (length j) (journalIn j) (ranTo (valueIn (take n out')) d.steps)) j j'
-            → TurnMeans r (rollbackOf P fuel j) j j'
+        pub taken : {r : RunAnswer} {j' : List ℕ} → TurnMeans r (struck (length j) (journal_in j) (ran_to (value_in (take n out')) d.steps)) j j'
+            → TurnMeans r (rollback_of P fuel j) j j'
         taken {r} {j'} T = subst (λ x. TurnMeans r x j j')
-            (sym (rollback-is ∙ via _ into.is
-            (ap₂ (λ v k. struck (length j) (journalIn j) (ranTo v k)) (sym (front-valueIn into.ran.value front fitting)) (sym into.steps)))) T
+            (sym (rollback_is ∙ via _ into.is
+            (ap₂ (λ v k. struck (length j) (journal_in j) (ran_to v k)) (sym (front-value_in into.ran.value front fitting)) (sym into.steps)))) T
 
 ----------------------------------------------------------------
 -- The steps, and the journal without the newest conversion
 
-module _ (j h : List ℕ) (d : Done) {m k : ℕ} (t : is_value h ≡ true) (long : d.len ≡ length h) (same : m ≡ d.steps) (noted : k ≡ (newestOf (journalIn j).entries).newest.steps) where
+module _ (j h : List ℕ) (d : Done) {m k : ℕ} (t : is_value h ≡ true) (long : d.len ≡ length h) (same : m ≡ d.steps) (noted : k ≡ (newest_of (journal_in j).entries).newest.steps) where
   abbrev after : Answer Turned
-  after = struck (length j) (journalIn j) (ranTo (valueIn h) d.steps)
+  after = struck (length j) (journal_in j) (ran_to (value_in h) d.steps)
 
   pub other-steps : ¬ (m ≡ k) → TurnMeans (runs.Refused Unread) after j j
   unfolding struck
   other-steps o = turn-refused Unread j (stops _ (require-no 18 0 (eqb-differs _ _ λ z. o (same ∙ z ∙ sym noted)))) (refuses {n = 18} (omega arith))
 
   module _ (e : m ≡ k) where
-    counted : after ≡ turned (length j) (ranTo (valueIn h) d.steps) (rolledBack (journalIn j) (valueIn h))
+    counted : after ≡ turned (length j) (ran_to (value_in h) d.steps) (rolled_back (journal_in j) (value_in h))
     unfolding struck
-    counted = via _ (require-yes 18 0 (ap (eqb d.steps) (sym (sym same ∙ e ∙ noted)) ∙ eqb_yes d.steps)) refl
+    counted = via _ (require_yes 18 0 (ap (eqb d.steps) (sym (sym same ∙ e ∙ noted)) ∙ eqb_yes d.steps)) refl
 
-    module _ {fit : Bool} (f : fit ≡ leb (length (fields (rolledBack (journalIn j) (valueIn h)))) (length j)) where
-      pub room : fit ≡ true → length (fields (rolledBack (journalIn j) (valueIn h))) ≤ length j
+    module _ {fit : Bool} (f : fit ≡ leb (length (fields (rolled_back (journal_in j) (value_in h)))) (length j)) where
+      pub room : fit ≡ true → length (fields (rolled_back (journal_in j) (value_in h))) ≤ length j
       room y = leb-sound _ _ (sym f ∙ y)
 
       pub no_room : fit ≡ false → TurnMeans (runs.Refused Full) after j j
-      no_room y = subst (λ x. TurnMeans (runs.Refused Full) x j j) (sym counted) (turn-full (valueIn h) d.steps (rolledBack (journalIn j) (valueIn h)) j (sym f ∙ y))
+      no_room y = subst (λ x. TurnMeans (runs.Refused Full) x j j) (sym counted) (turn-full (value_in h) d.steps (rolled_back (journal_in j) (value_in h)) j (sym f ∙ y))
 
-      pub rolled : fit ≡ true → {j' : List ℕ} → j' ≡ writeOut (length j) (rolledBack (journalIn j) (valueIn h)) → TurnMeans (runs.Ran d) after j j'
+      pub rolled : fit ≡ true → {j' : List ℕ} → j' ≡ write_out (length j) (rolled_back (journal_in j) (value_in h)) → TurnMeans (runs.Ran d) after j j'
       rolled y {j'} w = subst (λ x. TurnMeans (runs.Ran d) x j j') (sym counted)
-          (turn-written (valueIn h) d.steps (rolledBack (journalIn j) (valueIn h)) j d (sym f ∙ y) (long ∙ (is-value h t).long) refl w)
+          (turn-written (value_in h) d.steps (rolled_back (journal_in j) (value_in h)) j d (sym f ∙ y) (long ∙ (is_value_lem h t).long) refl w)
 
 ----------------------------------------------------------------
 -- Before the run
 
 module _ (j : List ℕ) {v : Survey} (S : Surveyed v j) where
   pub stands : {pl : Places} → v ≡ survey.Form pl → Stands pl j
-  stands e = surveyed-as S e
+  stands e = surveyed_as S e
 
   module _ (P : Program) (fuel : ℕ) where
-    pub unread : v ≡ survey.Malformed → TurnMeans (runs.Refused Unread) (rollbackOf P fuel j) j j
-    unfolding rollbackOf
-    unread e = turn-refused Unread j (stops _ (present-none 18 (unformed j (surveyed-as S e)))) (refuses {n = 18} (omega arith))
+    pub unread : v ≡ survey.Malformed → TurnMeans (runs.Refused Unread) (rollback_of P fuel j) j j
+    unfolding rollback_of
+    unread e = turn-refused Unread j (stops _ (present_none 18 (unformed j (surveyed_as S e)))) (refuses {n = 18} (omega arith))
 
-    pub none-stands : {pl : Places} → v ≡ survey.Form pl → pl.count ≡ 0 → TurnMeans (runs.Refused Standing) (rollbackOf P fuel j) j j
-    unfolding rollbackOf
-    none-stands {pl} e z = turn-refused Standing j
-        (via _ (present-some 18 (standing pl j (stands e)).read) (stops _ (present-none 19 (newest-none (journalIn j).entries (sym (count-place (standing pl j (stands e))) ∙ z)))))
+    pub none_stands : {pl : Places} → v ≡ survey.Form pl → pl.count ≡ 0 → TurnMeans (runs.Refused Standing) (rollback_of P fuel j) j j
+    unfolding rollback_of
+    none_stands {pl} e z = turn-refused Standing j
+        (via _ (present_some 18 (standing pl j (stands e)).read) (stops _ (present_none 19 (newest_none (journal_in j).entries (sym (count-place (standing pl j (stands e))) ∙ z)))))
         (refuses {n = 19} (omega arith))
 
-pub some-count : {n : ℕ} → ¬ (n ≡ 0) → 0 < n
-some-count h = omega arith
+pub some_count : {n : ℕ} → ¬ (n ≡ 0) → 0 < n
+some_count h = omega arith

@@ -2,28 +2,28 @@
 -- program that has loaded in a workspace that is long enough.
 use Rattle.std.specs.Prelude.{ℕ, ◌≡◌, List, [], ◌∷◌, ◌++◌, length, take, eqb, ltb}
 use Rattle.std.proofs.Math.Option.{some}
-use package.Rattle.rules.specs.Limits.{maxConversions}
+use package.Rattle.rules.specs.Limits.{max_conversions}
 use package.Rattle.rules.specs.Term.{Program}
 use package.Rattle.calls.specs.Answer.{Answer, ◌>>=◌, require, present}
 use package.Rattle.calls.specs.Load.{load}
 use package.Rattle.calls.specs.Values.{value, ancillae}
 use package.Rattle.calls.specs.Runs.{admit, goes, returns}
-use package.Rattle.calls.specs.Journal.{readJournal}
+use package.Rattle.calls.specs.Journal.{read_journal}
 use package.Rattle.calls.specs.Conversions.{Turned, kept, turned, newest}
-use package.Rattle.calls.specs.Book.{afterOpen, afterTurned}
+use package.Rattle.calls.specs.Book.{after_open, after_turned}
 use package.Rattle.program.specs.declared.fields.Counts.{Counts}
-use package.Rattle.program.specs.Programs.{programIn}
+use package.Rattle.program.specs.Programs.{program_in}
 use package.Rattle.answers.specs.declared.CheckAnswer.{CheckAnswer}
 use package.Rattle.answers.specs.declared.RunAnswer.{RunAnswer}
-use package.Rattle.answers.specs.Answers.{checkAnswer, runAnswer, openAnswer, heldAnswer, Later}
+use package.Rattle.answers.specs.Answers.{check_answer, run_answer, open_answer, held_answer, Later}
 
 ----------------------------------------------------------------
 -- The calls
 
 -- open: the record (10), and whether its field fits a buffer of `n` bytes (20)
-unfoldable pub openOf : List ℕ → ℕ → Answer (List ℕ)
+unfoldable pub open_of : List ℕ → ℕ → Answer (List ℕ)
 unfolding kept
-openOf bytes n = do
+open_of bytes n = do
   v ← present (value bytes) 10
   kept n (record { held = v; entries = [] })
 
@@ -31,17 +31,17 @@ openOf bytes n = do
 unfoldable pub convert_of : Program → ℕ → ℕ → List ℕ → List ℕ → Answer Turned
 unfolding admit goes turned
 convert_of P fuel fn anc journal = do
-  J ← present (readJournal journal) 18
-  few ← require (ltb (length J.entries) maxConversions) 20 0
+  J ← present (read_journal journal) 18
+  few ← require (ltb (length J.entries) max_conversions) 20 0
   a ← admit P fn (ancillae anc) (some J.held) λ h. h.dynamic
   r ← goes P fuel a
   turned (length journal) r (record { held = r.value; entries = J.entries ++ (record { function = fn; steps = r.steps; ancillae = a.ancillae } ∷ []) })
 
 -- rollback: the journal (18, 19), the newest conversion's call and its run backward, its steps (18), and whether the journal fits (20)
-unfoldable pub rollbackOf : Program → ℕ → List ℕ → Answer Turned
+unfoldable pub rollback_of : Program → ℕ → List ℕ → Answer Turned
 unfolding admit returns turned newest
-rollbackOf P fuel journal = do
-  J ← present (readJournal journal) 18
+rollback_of P fuel journal = do
+  J ← present (read_journal journal) 18
   s ← present (newest J.entries) 19
   a ← admit P s.newest.function (some s.newest.ancillae) (some J.held) λ h. h.result
   r ← returns P fuel a
@@ -53,26 +53,26 @@ rollbackOf P fuel journal = do
 
 -- An open whose meaning is `x`, in a workspace that is long enough, and the journal before and after it.
 pub record OpenMeans (r : CheckAnswer) (x : Answer (List ℕ)) (j j' : List ℕ) : Type 0 where
-  pub answer : checkAnswer r ≡ openAnswer x
-  pub later : Later (checkAnswer r)
-  pub journal : j' ≡ (afterOpen j x).journal
+  pub answer : check_answer r ≡ open_answer x
+  pub later : Later (check_answer r)
+  pub journal : j' ≡ (after_open j x).journal
 
 -- the same of a convert or a rollback
 pub record TurnMeans (r : RunAnswer) (x : Answer Turned) (j j' : List ℕ) : Type 0 where
-  pub answer : runAnswer r ≡ heldAnswer x
-  pub later : Later (runAnswer r)
-  pub journal : j' ≡ (afterTurned j x).journal
+  pub answer : run_answer r ≡ held_answer x
+  pub later : Later (run_answer r)
+  pub journal : j' ≡ (after_turned j x).journal
 
 -- the program whose entries stand at the offsets at the fronts of buffers
-abbrev pub inFronts : Counts → List ℕ → List ℕ → List ℕ → List ℕ → Program
-inFronts c xs types terms functions = programIn xs (take c.types types) (take c.terms terms) (take c.functions functions)
+abbrev pub in_fronts : Counts → List ℕ → List ℕ → List ℕ → List ℕ → Program
+in_fronts c xs types terms functions = program_in xs (take c.types types) (take c.terms terms) (take c.functions functions)
 
 -- the same of the program that the bytes are, if they are one
 abbrev pub open_in : List ℕ → List ℕ → ℕ → Answer (List ℕ)
-open_in xs bytes n = load xs >>= λ P. openOf bytes n
+open_in xs bytes n = load xs >>= λ P. open_of bytes n
 
-abbrev pub convertIn : List ℕ → ℕ → ℕ → List ℕ → List ℕ → Answer Turned
-convertIn xs fuel fn anc journal = load xs >>= λ P. convert_of P fuel fn anc journal
+abbrev pub convert_in : List ℕ → ℕ → ℕ → List ℕ → List ℕ → Answer Turned
+convert_in xs fuel fn anc journal = load xs >>= λ P. convert_of P fuel fn anc journal
 
-abbrev pub rollbackIn : List ℕ → ℕ → List ℕ → Answer Turned
-rollbackIn xs fuel journal = load xs >>= λ P. rollbackOf P fuel journal
+abbrev pub rollback_in : List ℕ → ℕ → List ℕ → Answer Turned
+rollback_in xs fuel journal = load xs >>= λ P. rollback_of P fuel journal

@@ -1,15 +1,15 @@
 // Convert (document 01, section 4, rows Journal, Call and Run; section 5), for a program that is accepted and a workspace that is long
 // enough. The run's value goes to an output of its own, so that the journal is written only after all tests.
 ghost use Rattle.std.specs.Prelude.{◌≡◌, true, ◌≤◌, ◌<◌, length, take};
-ghost use Rattle.rules.specs.Limits.{maxConversions, maxValueBytes};
-ghost use Rattle.calls.specs.Runs.{workspaceFor};
+ghost use Rattle.rules.specs.Limits.{max_conversions, max_value_bytes};
+ghost use Rattle.calls.specs.Runs.{workspace_for};
 ghost use Rattle.valuebytes.specs.Ends.{is_value};
 ghost use Rattle.journal.specs.Places.{Stands};
-ghost use Rattle.journal.specs.Turns.{areValues};
-ghost use Rattle.program.specs.Programs.{programIn};
+ghost use Rattle.journal.specs.Turns.{are_values};
+ghost use Rattle.program.specs.Programs.{program_in};
 ghost use Rattle.loading.specs.Loading.{Accepted};
 ghost use Rattle.conversions.specs.Turns.{convert_of, TurnMeans};
-ghost use Rattle.conversions.specs.Converting.{convertedTo};
+ghost use Rattle.conversions.specs.Converting.{converted_to};
 
 use answers::{Done, Refusal, RunAnswer};
 use journal::places::{Places, Survey};
@@ -27,9 +27,9 @@ fn keep(
     ancillae: &[u8],
 ) -> RunAnswer
     requires stands { Stands pl journal.old }
-    requires held_value { (is_value held.now ≡ true) × (areValues ancillae.now ≡ true) }
+    requires held_value { (is_value held.now ≡ true) × (are_values ancillae.now ≡ true) }
     requires len_value { done.len ≡ length held.now }
-    ensures { TurnMeans result (convertedTo journal.old held.now done.steps function ancillae.now) journal.old journal.new }
+    ensures { TurnMeans result (converted_to journal.old held.now done.steps function ancillae.now) journal.old journal.new }
 {
     let fits = writing::fits_convert(journal, pl, held, ancillae);
     if fits {
@@ -50,9 +50,9 @@ fn keep_front(
     ancillae: &[u8],
 ) -> RunAnswer
     requires stands { Stands pl journal.old }
-    requires output_value { (is_value (take done.len output.now) ≡ true) × (areValues ancillae.now ≡ true) }
+    requires output_value { (is_value (take done.len output.now) ≡ true) × (are_values ancillae.now ≡ true) }
     requires len_in_bounds { done.len ≤ length output.now }
-    ensures { TurnMeans result (convertedTo journal.old (take done.len output.now) done.steps function ancillae.now) journal.old journal.new }
+    ensures { TurnMeans result (converted_to journal.old (take done.len output.now) done.steps function ancillae.now) journal.old journal.new }
 {
     let n = done.len as usize;
     keep(journal, pl, &output[..n], done, function, ancillae)
@@ -73,10 +73,10 @@ fn convert_held(
     pl: Places,
     output: &mut [u8],
 ) -> RunAnswer
-    requires accepted { (Accepted program.now types.now terms.now functions.now table.now) × (workspaceFor fuel ≤ length workspace.old) }
+    requires accepted { (Accepted program.now types.now terms.now functions.now table.now) × (workspace_for fuel ≤ length workspace.old) }
     requires stands { Stands pl journal.old }
-    requires count_lt_max_conversions { (pl.count < maxConversions) × (length output.old ≡ maxValueBytes) }
-    ensures { TurnMeans result (convert_of (programIn program.now types.now terms.now functions.now) fuel function ancillae.now journal.old) journal.old journal.new }
+    requires count_lt_max_conversions { (pl.count < max_conversions) × (length output.old ≡ max_value_bytes) }
+    ensures { TurnMeans result (convert_of (program_in program.now types.now terms.now functions.now) fuel function ancillae.now journal.old) journal.old journal.new }
 {
     let value = parts::held_value(journal, pl);
     let ran = running::run(
@@ -103,8 +103,8 @@ pub fn convert(
     journal: &mut [u8],
 ) -> RunAnswer
     requires accepted { Accepted program.now types.now terms.now functions.now table.now }
-    requires fuel_in_bounds { workspaceFor fuel ≤ length workspace.old }
-    ensures { TurnMeans result (convert_of (programIn program.now types.now terms.now functions.now) fuel function ancillae.now journal.old) journal.old journal.new }
+    requires fuel_in_bounds { workspace_for fuel ≤ length workspace.old }
+    ensures { TurnMeans result (convert_of (program_in program.now types.now terms.now functions.now) fuel function ancillae.now journal.old) journal.old journal.new }
 {
     let survey = form::survey(journal);
     let Survey::Form(pl) = survey else {

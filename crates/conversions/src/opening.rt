@@ -1,13 +1,13 @@
 // Open, from the rows of the program on (document 01, sections 4 and 5): the record, and room for its field. Open reads no byte of
 // the journal, and strikes whatever stood there.
 ghost use Rattle.std.specs.Prelude.{length};
-ghost use Rattle.conversions.specs.Turns.{openOf, OpenMeans};
+ghost use Rattle.conversions.specs.Turns.{open_of, OpenMeans};
 
 use answers::{CheckAnswer, Refusal};
 
 // Writes the record to the journal, with no conversion behind it.
 pub fn open(held: &[u8], journal: &mut [u8]) -> CheckAnswer
-    ensures { OpenMeans result (openOf held.now (length journal.old)) journal.old journal.new }
+    ensures { OpenMeans result (open_of held.now (length journal.old)) journal.old journal.new }
 {
     let ok = valuebytes::scan::one_value(held);
     if ok {

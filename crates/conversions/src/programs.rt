@@ -1,10 +1,10 @@
 // Open, convert and rollback for a program in bytes, in a workspace that is long enough and that is left as it comes: the rows of the
 // program (document 01, section 4), then those of the journal.
 ghost use Rattle.std.specs.Prelude.{◌≤◌, length};
-ghost use Rattle.types.specs.Layout.{typingBytes};
-ghost use Rattle.calls.specs.Runs.{workspaceFor};
+ghost use Rattle.types.specs.Layout.{typing_bytes};
+ghost use Rattle.calls.specs.Runs.{workspace_for};
 ghost use Rattle.requests.specs.Runs.{Fronts};
-ghost use Rattle.conversions.specs.Turns.{open_in, convert_of, convertIn, rollbackOf, rollbackIn, OpenMeans, TurnMeans, inFronts};
+ghost use Rattle.conversions.specs.Turns.{open_in, convert_of, convert_in, rollback_of, rollback_in, OpenMeans, TurnMeans, in_fronts};
 
 use crate::{converting, opening, returning};
 use answers::{CheckAnswer, RunAnswer};
@@ -14,7 +14,7 @@ use rules::{MAX_FUNCTIONS, MAX_PARAMETERS, MAX_TERMS, MAX_TYPES};
 
 // Open: whether the program is accepted, then the record.
 pub fn open(program: &[u8], record: &[u8], workspace: &mut [u8], journal: &mut [u8]) -> CheckAnswer
-    requires { typingBytes ≤ length workspace.old }
+    requires { typing_bytes ≤ length workspace.old }
     ensures { OpenMeans result (open_in program.now «record».now (length journal.old)) journal.old journal.new }
 {
     let checked = requests::checking::check_program(program, workspace);
@@ -39,8 +39,8 @@ fn convert_fronts(
     journal: &mut [u8],
 ) -> RunAnswer
     requires fronts { Fronts counts program.now types.now terms.now functions.now table.now }
-    requires fuel_in_bounds { workspaceFor fuel ≤ length workspace.old }
-    ensures { TurnMeans result (convert_of (inFronts counts program.now types.now terms.now functions.now) fuel function ancillae.now journal.old) journal.old journal.new }
+    requires fuel_in_bounds { workspace_for fuel ≤ length workspace.old }
+    ensures { TurnMeans result (convert_of (in_fronts counts program.now types.now terms.now functions.now) fuel function ancillae.now journal.old) journal.old journal.new }
 {
     let i = counts.types;
     let j = counts.terms;
@@ -68,8 +68,8 @@ pub fn convert(
     workspace: &mut [u8],
     journal: &mut [u8],
 ) -> RunAnswer
-    requires { workspaceFor fuel ≤ length workspace.old }
-    ensures { TurnMeans result (convertIn program.now fuel function ancillae.now journal.old) journal.old journal.new }
+    requires { workspace_for fuel ≤ length workspace.old }
+    ensures { TurnMeans result (convert_in program.now fuel function ancillae.now journal.old) journal.old journal.new }
 {
     let mut types = [0u16; MAX_TYPES];
     let mut terms = [0u16; MAX_TERMS];
@@ -105,8 +105,8 @@ fn rollback_fronts(
     journal: &mut [u8],
 ) -> RunAnswer
     requires fronts { Fronts counts program.now types.now terms.now functions.now table.now }
-    requires fuel_in_bounds { workspaceFor fuel ≤ length workspace.old }
-    ensures { TurnMeans result (rollbackOf (inFronts counts program.now types.now terms.now functions.now) fuel journal.old) journal.old journal.new }
+    requires fuel_in_bounds { workspace_for fuel ≤ length workspace.old }
+    ensures { TurnMeans result (rollback_of (in_fronts counts program.now types.now terms.now functions.now) fuel journal.old) journal.old journal.new }
 {
     let i = counts.types;
     let j = counts.terms;
@@ -125,8 +125,8 @@ fn rollback_fronts(
 
 // Rollback: the rows of the program, then those of the journal, the call and the run.
 pub fn rollback(program: &[u8], fuel: u16, workspace: &mut [u8], journal: &mut [u8]) -> RunAnswer
-    requires { workspaceFor fuel ≤ length workspace.old }
-    ensures { TurnMeans result (rollbackIn program.now fuel journal.old) journal.old journal.new }
+    requires { workspace_for fuel ≤ length workspace.old }
+    ensures { TurnMeans result (rollback_in program.now fuel journal.old) journal.old journal.new }
 {
     let mut types = [0u16; MAX_TYPES];
     let mut terms = [0u16; MAX_TERMS];

@@ -1,15 +1,15 @@
 // Rollback, from the rows of the program on (document 01, sections 4 and 5): the newest conversion's function is run backward on the held
 // value. The run's value goes to an array as long as a value can be, so that it always has room there.
 ghost use Rattle.std.specs.Prelude.{◌≡◌, true, ◌≤◌, ◌<◌, length};
-ghost use Rattle.rules.specs.Limits.{maxValueBytes};
-ghost use Rattle.calls.specs.Runs.{workspaceFor};
-ghost use Rattle.valuebytes.specs.Ends.{is_value, valueIn};
-ghost use Rattle.program.specs.Programs.{programIn};
+ghost use Rattle.rules.specs.Limits.{max_value_bytes};
+ghost use Rattle.calls.specs.Runs.{workspace_for};
+ghost use Rattle.valuebytes.specs.Ends.{is_value, value_in};
+ghost use Rattle.program.specs.Programs.{program_in};
 ghost use Rattle.loading.specs.Loading.{Accepted};
-ghost use Rattle.journal.specs.Places.{Stands, journalIn};
+ghost use Rattle.journal.specs.Places.{Stands, journal_in};
 ghost use Rattle.requests.specs.Runs.{RunMeans};
-ghost use Rattle.conversions.specs.Turns.{rollbackOf, TurnMeans};
-ghost use Rattle.conversions.specs.Rollbacks.{ranTo, takenBack, struck};
+ghost use Rattle.conversions.specs.Turns.{rollback_of, TurnMeans};
+ghost use Rattle.conversions.specs.Rollbacks.{ran_to, taken_back, struck};
 
 use answers::{Done, Refusal, RunAnswer};
 use journal::places::{Places, Survey};
@@ -29,9 +29,9 @@ fn run_newest(
     output: &mut [u8],
 ) -> RunAnswer
     requires accepted { Accepted program.now types.now terms.now functions.now table.now }
-    requires fuel_in_bounds { workspaceFor fuel ≤ length workspace.old }
-    requires stands { Stands pl journal.now × (0 < pl.count) × (length output.old ≡ maxValueBytes) }
-    ensures { RunMeans result (takenBack (programIn program.now types.now terms.now functions.now) fuel (journalIn journal.now)) output.old output.new }
+    requires fuel_in_bounds { workspace_for fuel ≤ length workspace.old }
+    requires stands { Stands pl journal.now × (0 < pl.count) × (length output.old ≡ max_value_bytes) }
+    ensures { RunMeans result (taken_back (program_in program.now types.now terms.now functions.now) fuel (journal_in journal.now)) output.old output.new }
 {
     let function = journal::parts::newest_function(journal, pl);
     let ancillae = journal::parts::newest_ancillae(journal, pl);
@@ -46,7 +46,7 @@ fn run_newest(
 fn strike(journal: &mut [u8], pl: Places, held: &[u8], done: Done) -> RunAnswer
     requires stands { Stands pl journal.old × (0 < pl.count) }
     requires held_value { (is_value held.now ≡ true) × (done.len ≡ length held.now) }
-    ensures { TurnMeans result (struck (length journal.old) (journalIn journal.old) (ranTo (valueIn held.now) done.steps)) journal.old journal.new }
+    ensures { TurnMeans result (struck (length journal.old) (journal_in journal.old) (ran_to (value_in held.now) done.steps)) journal.old journal.new }
 {
     let noted = journal::parts::newest_steps(journal, pl);
     let steps = octets::wide32(done.steps);
@@ -75,9 +75,9 @@ fn roll_newest(
     output: &mut [u8],
 ) -> RunAnswer
     requires accepted { Accepted program.now types.now terms.now functions.now table.now }
-    requires fuel_in_bounds { workspaceFor fuel ≤ length workspace.old }
-    requires stands { Stands pl journal.old × (0 < pl.count) × (length output.old ≡ maxValueBytes) }
-    ensures { TurnMeans result (rollbackOf (programIn program.now types.now terms.now functions.now) fuel journal.old) journal.old journal.new }
+    requires fuel_in_bounds { workspace_for fuel ≤ length workspace.old }
+    requires stands { Stands pl journal.old × (0 < pl.count) × (length output.old ≡ max_value_bytes) }
+    ensures { TurnMeans result (rollback_of (program_in program.now types.now terms.now functions.now) fuel journal.old) journal.old journal.new }
 {
     let answer = run_newest(
         program, types, terms, functions, table, fuel, journal, pl, workspace, output,
@@ -103,8 +103,8 @@ pub fn rollback(
     journal: &mut [u8],
 ) -> RunAnswer
     requires accepted { Accepted program.now types.now terms.now functions.now table.now }
-    requires fuel_in_bounds { workspaceFor fuel ≤ length workspace.old }
-    ensures { TurnMeans result (rollbackOf (programIn program.now types.now terms.now functions.now) fuel journal.old) journal.old journal.new }
+    requires fuel_in_bounds { workspace_for fuel ≤ length workspace.old }
+    ensures { TurnMeans result (rollback_of (program_in program.now types.now terms.now functions.now) fuel journal.old) journal.old journal.new }
 {
     let survey = journal::form::survey(journal);
     let Survey::Form(pl) = survey else {

@@ -5,9 +5,9 @@ use package.Rattle.corefun.specs.declared.files.Held.TheVariants.{Bytes, Not}
 use package.Rattle.corefun.specs.declared.input.Window.{Window}
 
 -- how many bytes a file filled
-abbrev pub heldIn : Held → ℕ
-heldIn (Bytes n) = n
-heldIn Not = 0
+abbrev pub held_in : Held → ℕ
+held_in (Bytes n) = n
+held_in Not = 0
 
 -- a window lies within a buffer of so many bytes
 abbrev pub Fits : Window → ℕ → Type 0

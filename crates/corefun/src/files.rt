@@ -1,6 +1,6 @@
 // Files, read whole.
 ghost use Rattle.std.specs.Prelude.{◌≤◌, length};
-ghost use Rattle.corefun.specs.Bounds.{heldIn};
+ghost use Rattle.corefun.specs.Bounds.{held_in};
 
 use crate::printing;
 
@@ -14,7 +14,7 @@ pub(crate) enum Held {
 // Reads once, behind the first `n` bytes: how many there are then, or the same number at the end of the file.
 fn read_behind(fd: i32, into: &mut [u8], n: usize) -> Held
     requires { n ≤ length into.old }
-    ensures { heldIn result ≤ length into.new }
+    ensures { held_in result ≤ length into.new }
 {
     let got = libc::read(fd, &mut into[n..]);
     if got < 0 {
@@ -26,7 +26,7 @@ fn read_behind(fd: i32, into: &mut [u8], n: usize) -> Held
 
 // Reads until the file ends or the buffer is full.
 fn read_whole(fd: i32, into: &mut [u8]) -> Held
-    ensures { heldIn result ≤ length into.new }
+    ensures { held_in result ≤ length into.new }
 {
     let mut n: usize = 0;
     while n < into.len() {
@@ -48,7 +48,7 @@ fn read_whole(fd: i32, into: &mut [u8]) -> Held
 
 // The file of this name, from its start.
 fn load_named(path: &[u8], into: &mut [u8]) -> Held
-    ensures { heldIn result ≤ length into.new }
+    ensures { held_in result ≤ length into.new }
 {
     let fd = os::open_read(path);
     if fd < 0 {
@@ -72,7 +72,7 @@ fn load_named(path: &[u8], into: &mut [u8]) -> Held
 // The file that argument i names, as much of it as the buffer holds. A program that is cut so is over the limit as the whole file is, and
 // the engine refuses either with 3 at 0.
 pub(crate) fn load(i: usize, word: &mut [u8], into: &mut [u8]) -> Held
-    ensures { heldIn result ≤ length into.new }
+    ensures { held_in result ≤ length into.new }
 {
     let n = os::arg(i, word);
     load_named(&word[..n], into)
@@ -80,7 +80,7 @@ pub(crate) fn load(i: usize, word: &mut [u8], into: &mut [u8]) -> Held
 
 // The same of a file that the buffer has to hold, with a byte to spare. `subject` is the argument's name.
 pub(crate) fn load_all(i: usize, subject: &[u8], word: &mut [u8], into: &mut [u8]) -> Held
-    ensures { heldIn result ≤ length into.new }
+    ensures { held_in result ≤ length into.new }
 {
     let held = load(i, word, into);
     match held {

@@ -8,16 +8,16 @@ use mathlib.Core.List.{List, [], ◌∷◌, map}
 use lib.ListN.{length, get_or, set, length-set}
 use lib.Seq.{get_or-set_same, get_or-set_other}
 use package.Rattle.octets.specs.Numbers.{get16}
-use package.Rattle.rules.specs.Limits.{maxTerms, maxFunctions, maxVariables}
-use package.Rattle.calls.specs.Fields.{kind_at, length_at, parametersAt, termLengths}
-use package.Rattle.calls.specs.Entries.{n-var, n-call, termOfKind, callAncillae, references, termAt, termOf, functionAt}
+use package.Rattle.rules.specs.Limits.{max_terms, max_functions, max_variables}
+use package.Rattle.calls.specs.Fields.{kind_at, length_at, parameters_at, term_lengths}
+use package.Rattle.calls.specs.Entries.{n_var, n_call, term_of_kind, call_ancillae, references, term_at, term_of, function_at}
 use package.Rattle.program.specs.Parts.{variable, first, second, third, listed as listed_at, result, body, TermField, FunctionField}
-use package.Rattle.program.proofs.Shapes.{term-var, term-unit, term-case, term-call, term-by}
+use package.Rattle.program.proofs.Shapes.{term-var, term-unit, term_case, term-call, term_by}
 use package.Rattle.program.proofs.Rooms.{term-kind, two-room}
-use package.Rattle.program.specs.Kinds.{variableKind, unit_kind, caseKind, callKind, termKinds}
-use package.Rattle.decoded.specs.Rows.{rowNumbers, functionRows, countsAt, codeNumbers, room_for, kindIn, firstIn, secondIn, thirdIn, argumentIn}
-use package.Rattle.decoded.specs.Rows.{argumentsIn, ancillaeIn, parametersIn, bodyIn, termCount, functionCount, entryIn, functionIn, termsIn}
-use package.Rattle.decoded.specs.Rows.{functionsIn, listed, namesIn, named}
+use package.Rattle.program.specs.Kinds.{variable_kind, unit_kind, case_kind, call_kind, term_kinds}
+use package.Rattle.decoded.specs.Rows.{row_numbers, function_rows, counts_at, code_numbers, room_for, kind_in, first_in, second_in, third_in, argument_in}
+use package.Rattle.decoded.specs.Rows.{arguments_in, ancillae_in, parameters_in, body_in, term_count, function_count, entry_in, function_in, terms_in}
+use package.Rattle.decoded.specs.Rows.{functions_in, listed, names_in, named}
 use package.Rattle.decoded.specs.Naming.{RowAsked, RowsNamed}
 use package.Rattle.varsets.specs.Sets.{Holds}
 use package.Rattle.decoded.proofs.Trees.{Two}
@@ -31,46 +31,46 @@ use package.Rattle.decoded.proofs.Agreeing.{Same, kind-same, first-same, third-s
 
 module _ {code code' : List ℕ} {t kind a b c : ℕ} (H : Heads code code' t kind a b c) where
   -- what the row says, by its numbers
-  by_heads : entryIn code' t ≡ termOfKind kind a b c a (argumentsIn code' t 0 (min room_for c)) (argumentIn code' t (min room_for c))
-  unfolding entryIn ancillaeIn
-  by_heads = rw (H.kind-is, H.first-is, H.second_is, H.third-is) refl
+  by_heads : entry_in code' t ≡ term_of_kind kind a b c a (arguments_in code' t 0 (min room_for c)) (argument_in code' t (min room_for c))
+  unfolding entry_in ancillae_in
+  by_heads = rw (H.kind_is, H.first_is, H.second_is, H.third_is) refl
 
   beside-heads : Beside code code' t
   beside-heads = record { kept = λ j h. H.others j (⊎_elim (λ l. left l) (λ l. right (omega arith)) h) }
 
   -- of a term that is no call
-  put-plain : {p : List ℕ} {at : ℕ} → kind ≡ kind_at p at → ¬ (kind ≡ callKind) → (kind ≡ variableKind → a < maxVariables)
-      → termOfKind kind a b c a (argumentsIn code' t 0 (min room_for c)) (argumentIn code' t (min room_for c)) ≡ termAt p at → TermPut code code' t p at
+  put-plain : {p : List ℕ} {at : ℕ} → kind ≡ kind_at p at → ¬ (kind ≡ call_kind) → (kind ≡ variable_kind → a < max_variables)
+      → term_of_kind kind a b c a (arguments_in code' t 0 (min room_for c)) (argument_in code' t (min room_for c)) ≡ term_at p at → TermPut code code' t p at
   put-plain e d small same = record {
     lengths = H.lengths;
     row = record {
       entry = by_heads ∙ same;
-      kind = H.kind-is ∙ e;
-      few = λ q. absurd (d (sym H.kind-is ∙ q));
-      variables = λ q. rw H.first-is (small (sym H.kind-is ∙ q));
+      kind = H.kind_is ∙ e;
+      few = λ q. absurd (d (sym H.kind_is ∙ q));
+      variables = λ q. rw H.first_is (small (sym H.kind_is ∙ q));
     };
     beside = beside-heads;
   }
 
-pub put-variable : {code code' : List ℕ} {t v : ℕ} {p : List ℕ} {at : ℕ} → Heads code code' t variableKind v 0 0 → kind_at p at ≡ variableKind → v ≡ variable p at
-    → variable p at < maxVariables → TermPut code code' t p at
-unfolding termOfKind
-put-variable {p = p} {at} H k e small = put-plain H (sym k) (λ q. omega arith) (λ q. omega arith) (ap n-var e ∙ sym (term-var p at k))
+pub put-variable : {code code' : List ℕ} {t v : ℕ} {p : List ℕ} {at : ℕ} → Heads code code' t variable_kind v 0 0 → kind_at p at ≡ variable_kind → v ≡ variable p at
+    → variable p at < max_variables → TermPut code code' t p at
+unfolding term_of_kind
+put-variable {p = p} {at} H k e small = put-plain H (sym k) (λ q. omega arith) (λ q. omega arith) (ap n_var e ∙ sym (term-var p at k))
 
 pub put-unit : {code code' : List ℕ} {t : ℕ} {p : List ℕ} {at : ℕ} → Heads code code' t unit_kind 0 0 0 → kind_at p at ≡ unit_kind → TermPut code code' t p at
-unfolding termOfKind
+unfolding term_of_kind
 put-unit {p = p} {at} H k = put-plain H (sym k) (λ q. omega arith) (λ q. absurd (omega arith)) (sym (term-unit p at k))
 
-pub put-case : {code code' : List ℕ} {t a b c : ℕ} {p : List ℕ} {at : ℕ} → Heads code code' t caseKind a b c → kind_at p at ≡ caseKind → a ≡ first p at → b ≡ second p at
+pub put_case : {code code' : List ℕ} {t a b c : ℕ} {p : List ℕ} {at : ℕ} → Heads code code' t case_kind a b c → kind_at p at ≡ case_kind → a ≡ first p at → b ≡ second p at
     → c ≡ third p at
     → TermPut code code' t p at
-unfolding termOfKind
-put-case {p = p} {at} H k ea eb ec = put-plain H (sym k) (λ q. omega arith) (λ q. absurd (omega arith)) (rw (ea, eb, ec) (sym (term-case p at k)))
+unfolding term_of_kind
+put_case {p = p} {at} H k ea eb ec = put-plain H (sym k) (λ q. omega arith) (λ q. absurd (omega arith)) (rw (ea, eb, ec) (sym (term_case p at k)))
 
 -- a kind with two references, which says nothing of the other numbers
-two-references : (k a b c n t c' n' t' : ℕ) (ts ts' : List ℕ) → ¬ (k ≡ variableKind) → ¬ (k ≡ unit_kind) → ¬ (k ≡ caseKind) → ¬ (k ≡ callKind)
-    → termOfKind k a b c n ts t ≡ termOfKind k a b c' n' ts' t'
-unfolding termOfKind
+two-references : (k a b c n t c' n' t' : ℕ) (ts ts' : List ℕ) → ¬ (k ≡ variable_kind) → ¬ (k ≡ unit_kind) → ¬ (k ≡ case_kind) → ¬ (k ≡ call_kind)
+    → term_of_kind k a b c n ts t ≡ term_of_kind k a b c' n' ts' t'
+unfolding term_of_kind
 two-references zero a b c n t c' n' t' ts ts' d e f g = absurd (d refl)
 two-references (suc zero) a b c n t c' n' t' ts ts' d e f g = absurd (e refl)
 two-references (suc (suc zero)) a b c n t c' n' t' ts ts' d e f g = refl
@@ -84,8 +84,8 @@ two-references (suc (suc (suc (suc (suc (suc (suc (suc (suc zero))))))))) a b c 
 two-references (suc (suc (suc (suc (suc (suc (suc (suc (suc (suc k)))))))))) a b c n t c' n' t' ts ts' d e f g = refl
 
 -- such a kind's field has both references
-two-long : (k : ℕ) → k < termKinds → ¬ (k ≡ variableKind) → ¬ (k ≡ unit_kind) → ¬ (k ≡ caseKind) → ¬ (k ≡ callKind) → get_or termLengths k 0 ≡ 5
-unfolding termLengths
+two-long : (k : ℕ) → k < term_kinds → ¬ (k ≡ variable_kind) → ¬ (k ≡ unit_kind) → ¬ (k ≡ case_kind) → ¬ (k ≡ call_kind) → get_or term_lengths k 0 ≡ 5
+unfolding term_lengths
 two-long zero l d e f g = absurd (d refl)
 two-long (suc zero) l d e f g = absurd (e refl)
 two-long (suc (suc zero)) l d e f g = refl
@@ -101,43 +101,43 @@ two-long (suc (suc (suc (suc (suc (suc (suc (suc (suc (suc (suc k))))))))))) l d
 
 pub two-there : {p : List ℕ} {at k : ℕ} → TermField p at → k ≡ kind_at p at → Two k → at + 8 ≤ length p
 two-there {k = k} F e ((((u, d₀), d₁), d₇), d₈) =
-    let l : k < termKinds = omega (arith, term-kind F) in two-room F (sym e) (two-long k l d₀ d₁ d₇ d₈)
+    let l : k < term_kinds = omega (arith, term-kind F) in two-room F (sym e) (two-long k l d₀ d₁ d₇ d₈)
 
 pub put_two : {code code' : List ℕ} {t k a b : ℕ} {p : List ℕ} {at : ℕ} → Heads code code' t k a b 0 → k ≡ kind_at p at → Two k → a ≡ first p at
     → b ≡ second p at → TermPut code code' t p at
 put_two {k = k} {a} {b} {p = p} {at} H e ((((u, d₀), d₁), d₇), d₈) ea eb =
     put-plain H e d₈ (λ q. absurd (d₀ q))
-    (two-references k a b _ _ _ (third p at) (variable p at) _ _ (references p (at + 6) (callAncillae (length_at p at))) d₀ d₁ d₇ d₈
-    ∙ ap₂ (λ a b. termOfKind k a b (third p at) (variable p at) (references p (at + 6) (callAncillae (length_at p at)))
-    (listed_at p at (callAncillae (length_at p at)))) ea eb
-    ∙ sym (term-by p at (sym e)))
+    (two-references k a b _ _ _ (third p at) (variable p at) _ _ (references p (at + 6) (call_ancillae (length_at p at))) d₀ d₁ d₇ d₈
+    ∙ ap₂ (λ a b. term_of_kind k a b (third p at) (variable p at) (references p (at + 6) (call_ancillae (length_at p at)))
+    (listed_at p at (call_ancillae (length_at p at)))) ea eb
+    ∙ sym (term_by p at (sym e)))
 
 ----------------------------------------------------------------
 -- References behind the head
 
 module _ {code code' : List ℕ} {r : ℕ} {p : List ℕ} {i n : ℕ} (L : Listed code code' r p i n) where
-  listed-are : (k m j : ℕ) → k + m ≤ n → j ≡ i + 2 * k → argumentsIn code' r k m ≡ references p j m
-  unfolding argumentsIn references
-  listed-are k zero j h e = refl
-  listed-are k (suc m) j h e = ap₂ ◌∷◌ (L.arguments k (omega arith) ∙ ap (get16 p) (sym e)) (listed-are (k + 1) m (j + 2) (omega arith) (omega arith))
+  listed_are : (k m j : ℕ) → k + m ≤ n → j ≡ i + 2 * k → arguments_in code' r k m ≡ references p j m
+  unfolding arguments_in references
+  listed_are k zero j h e = refl
+  listed_are k (suc m) j h e = ap₂ ◌∷◌ (L.arguments k (omega arith) ∙ ap (get16 p) (sym e)) (listed_are (k + 1) m (j + 2) (omega arith) (omega arith))
 
-  head-kept : (j : ℕ) → j < 4 → get_or code' (rowNumbers * r + j) 0 ≡ get_or code (rowNumbers * r + j) 0
-  head-kept j h = L.others (rowNumbers * r + j) (left (omega arith))
+  head-kept : (j : ℕ) → j < 4 → get_or code' (row_numbers * r + j) 0 ≡ get_or code (row_numbers * r + j) 0
+  head-kept j h = L.others (row_numbers * r + j) (left (omega arith))
 
-  kind-kept : kindIn code' r ≡ kindIn code r
-  unfolding kindIn
-  kind-kept = rw (let z : rowNumbers * r + 0 ≡ rowNumbers * r = omega arith in z) at (head-kept 0 (omega arith))
+  kind-kept : kind_in code' r ≡ kind_in code r
+  unfolding kind_in
+  kind-kept = rw (let z : row_numbers * r + 0 ≡ row_numbers * r = omega arith in z) at (head-kept 0 (omega arith))
 
-  first-kept : firstIn code' r ≡ firstIn code r
-  unfolding firstIn
+  first-kept : first_in code' r ≡ first_in code r
+  unfolding first_in
   first-kept = head-kept 1 (omega arith)
 
-  second-kept : secondIn code' r ≡ secondIn code r
-  unfolding secondIn
+  second-kept : second_in code' r ≡ second_in code r
+  unfolding second_in
   second-kept = head-kept 2 (omega arith)
 
-  third-kept : thirdIn code' r ≡ thirdIn code r
-  unfolding thirdIn
+  third-kept : third_in code' r ≡ third_in code r
+  unfolding third_in
   third-kept = head-kept 3 (omega arith)
 
   beside-listed : n ≤ room_for + 1 → Beside code code' r
@@ -148,18 +148,18 @@ both-beside : {code code₁ code₂ : List ℕ} {r kind a b c : ℕ} {p : List �
     → Beside code code₂ r
 both-beside H L h = record { kept = λ j b. (beside-listed L h).kept j b ∙ (beside-heads H).kept j b }
 
-pub put-call : {code code₁ code₂ : List ℕ} {t f n : ℕ} {p : List ℕ} {at : ℕ} → Heads code code₁ t callKind f 0 n → Listed code₁ code₂ t p (at + 6) (n + 1)
-    → kind_at p at ≡ callKind
-    → f ≡ first p at → n ≡ callAncillae (length_at p at) → n ≤ room_for → TermPut code code₂ t p at
-unfolding entryIn ancillaeIn termOfKind
+pub put-call : {code code₁ code₂ : List ℕ} {t f n : ℕ} {p : List ℕ} {at : ℕ} → Heads code code₁ t call_kind f 0 n → Listed code₁ code₂ t p (at + 6) (n + 1)
+    → kind_at p at ≡ call_kind
+    → f ≡ first p at → n ≡ call_ancillae (length_at p at) → n ≤ room_for → TermPut code code₂ t p at
+unfolding entry_in ancillae_in term_of_kind
 put-call {code₂ = code₂} {t} {f} {n} {p} {at} H L k ef en few = record {
   lengths = L.lengths ∙ H.lengths;
   row = record {
-    entry = rw (kind-kept L ∙ H.kind-is, first-kept L ∙ H.first-is, third-kept L ∙ H.third-is, all)
-        (ap₂ (n-call f) (listed-are L 0 n (at + 6) (omega arith) (omega arith)) (L.arguments n (omega arith)) ∙ rw (ef, en) (sym (term-call p at k)));
-    kind = kind-kept L ∙ H.kind-is ∙ sym k;
-    few = λ q. omega (arith, third-kept L, H.third-is);
-    variables = λ q. absurd (omega (arith, kind-kept L, H.kind-is, q));
+    entry = rw (kind-kept L ∙ H.kind_is, first-kept L ∙ H.first_is, third-kept L ∙ H.third_is, all)
+        (ap₂ (n_call f) (listed_are L 0 n (at + 6) (omega arith) (omega arith)) (L.arguments n (omega arith)) ∙ rw (ef, en) (sym (term-call p at k)));
+    kind = kind-kept L ∙ H.kind_is ∙ sym k;
+    few = λ q. omega (arith, third-kept L, H.third_is);
+    variables = λ q. absurd (omega (arith, kind-kept L, H.kind_is, q));
   };
   beside = both-beside H L (omega arith);
 }
@@ -167,18 +167,18 @@ put-call {code₂ = code₂} {t} {f} {n} {p} {at} H L k ef en few = record {
     all : min room_for n ≡ n
     all = omega arith
 
-pub put_function : {code code₁ code₂ : List ℕ} {g n b c : ℕ} {p : List ℕ} {at : ℕ} → Heads code code₁ (functionRows + g) n b c 0
-    → Listed code₁ code₂ (functionRows + g) p (at + 6) n
-    → FunctionField p at → n ≡ parametersAt p at → b ≡ body p at → c ≡ result p at → n ≤ room_for + 1 → FunctionPut code code₂ g p at
-unfolding functionIn parametersIn bodyIn functionAt
+pub put_function : {code code₁ code₂ : List ℕ} {g n b c : ℕ} {p : List ℕ} {at : ℕ} → Heads code code₁ (function_rows + g) n b c 0
+    → Listed code₁ code₂ (function_rows + g) p (at + 6) n
+    → FunctionField p at → n ≡ parameters_at p at → b ≡ body p at → c ≡ result p at → n ≤ room_for + 1 → FunctionPut code code₂ g p at
+unfolding function_in parameters_in body_in function_at
 put_function {code₂ = code₂} {g} {n} {b} {c} {p} {at} H L F en eb ec few = record {
   lengths = L.lengths ∙ H.lengths;
   row = record {
-    entry = rw (kind-kept L ∙ H.kind-is, first-kept L ∙ H.first-is, second-kept L ∙ H.second_is, all)
+    entry = rw (kind-kept L ∙ H.kind_is, first-kept L ∙ H.first_is, second-kept L ∙ H.second_is, all)
         (rw (eb, ec) (ap₂ (λ (ts : List ℕ) (t : ℕ). record { result = result p at; ancillae = ts; dynamic = t; body = body p at })
-        (listed-are L 0 (n - 1) (at + 6) (omega arith) (omega arith) ∙ ap (λ n. references p (at + 6) (n - 1)) en)
+        (listed_are L 0 (n - 1) (at + 6) (omega arith) (omega arith) ∙ ap (λ n. references p (at + 6) (n - 1)) en)
         (L.arguments (n - 1) (omega (arith, F.some)) ∙ ap (get16 p) last)));
-    parameters = kind-kept L ∙ H.kind-is ∙ en;
+    parameters = kind-kept L ∙ H.kind_is ∙ en;
   };
   beside = both-beside H L few;
 }
@@ -187,7 +187,7 @@ put_function {code₂ = code₂} {g} {n} {b} {c} {p} {at} H L F en eb ec few = r
     all = omega arith
 
     -- where the dynamic parameter stands
-    last : at + 6 + 2 * (n - 1) ≡ at + 4 + 2 * parametersAt p at
+    last : at + 6 + 2 * (n - 1) ≡ at + 4 + 2 * parameters_at p at
     last = omega (arith, F.some)
 
 ----------------------------------------------------------------
@@ -195,9 +195,9 @@ put_function {code₂ = code₂} {g} {n} {b} {c} {p} {at} H L F en eb ec few = r
 
 -- a row beside the one that was put
 same_beside : {code code' : List ℕ} {r u : ℕ} → Beside code code' r → ¬ (u ≡ r) → Same code code' u
-same_beside {r = r} {u} B d = record { number = λ j h. B.kept (rowNumbers * u + j) (go j h (dec_lt u r)) }
+same_beside {r = r} {u} B d = record { number = λ j h. B.kept (row_numbers * u + j) (go j h (dec_lt u r)) }
   where
-    go : (j : ℕ) → j < rowNumbers → Dec (u < r) → (rowNumbers * u + j < rowNumbers * r) ⊎ (rowNumbers * r + rowNumbers ≤ rowNumbers * u + j)
+    go : (j : ℕ) → j < row_numbers → Dec (u < r) → (row_numbers * u + j < row_numbers * r) ⊎ (row_numbers * r + row_numbers ≤ row_numbers * u + j)
     go j h (yes l) = left (omega arith)
     go j h (no l) = let z : r < u = omega arith in right (omega arith)
 
@@ -209,9 +209,9 @@ row_same S R = record {
   variables = λ q. rw (first-same S) (R.variables (sym (kind-same S) ∙ q));
 }
 
-function-row-same : {code code' : List ℕ} {g : ℕ} {p : List ℕ} {at : ℕ} → Same code code' (functionRows + g) → FunctionRow code g p at
+function-row-same : {code code' : List ℕ} {g : ℕ} {p : List ℕ} {at : ℕ} → Same code code' (function_rows + g) → FunctionRow code g p at
     → FunctionRow code' g p at
-unfolding parametersIn
+unfolding parameters_in
 function-row-same {g = g} S R = record { entry = function-same g S ∙ R.entry; parameters = kind-same S ∙ R.parameters }
 
 -- the field that is asked for, at an offset that was read
@@ -251,8 +251,8 @@ functions_more {code} {code₁} {code₂} {p} {functions} {n} R here P = record 
     go g (yes l) h = function-row-same (same_beside P.beside (λ e. omega arith)) (R.row g l)
     go g (no l) h = let e : g ≡ n = omega arith in rw (e, sym here) P.row
 
-pub functions-whole : {code code' p functions : List ℕ} {n m : ℕ} → FunctionRows code code' p functions n → n ≡ m → FunctionRows code code' p functions m
-functions-whole {code} {code'} {p} {functions} R e = subst (FunctionRows code code' p functions) e R
+pub functions_whole : {code code' p functions : List ℕ} {n m : ℕ} → FunctionRows code code' p functions n → n ≡ m → FunctionRows code code' p functions m
+functions_whole {code} {code'} {p} {functions} R e = subst (FunctionRows code code' p functions) e R
 
 ----------------------------------------------------------------
 -- The variables that the terms name
@@ -279,65 +279,65 @@ module _ {code₀ code p terms : List ℕ} (A : FieldsOfTerms p terms) (T : Term
         }
 
     -- the sets, by the program's entries
-    pub names-kept : (t : ℕ) → t < length terms → kindIn code₁ t ≡ caseKind
-        → Holds (namesIn code₁ t) (λ i. named i (termOf [] (map (termAt p) terms) (firstIn code₁ t)))
+    pub names-kept : (t : ℕ) → t < length terms → kind_in code₁ t ≡ case_kind
+        → Holds (names_in code₁ t) (λ i. named i (term_of [] (map (term_at p) terms) (first_in code₁ t)))
     names-kept t l e = let K = N.kept t l in
-        rw (law.first-kept K, sym entries-are) (N.names t l (sym (law.kind-kept K) ∙ e))
+        rw (law.first-kept K, sym entries_are) (N.names t l (sym (law.kind-kept K) ∙ e))
       where
-        entries-are : listed (entryIn code) 0 (length terms) ≡ map (termAt p) terms
-        entries-are = listed-map (entryIn code) (termAt p) terms 0 (λ k l. ap (entryIn code) (let z : 0 + k ≡ k = omega arith in z) ∙ (T.row k l).entry)
+        entries_are : listed (entry_in code) 0 (length terms) ≡ map (term_at p) terms
+        entries_are = listed-map (entry_in code) (term_at p) terms 0 (λ k l. ap (entry_in code) (let z : 0 + k ≡ k = omega arith in z) ∙ (T.row k l).entry)
 
 ----------------------------------------------------------------
 -- The program
 
-module _ {code₀ code code₁ p terms functions : List ℕ} (full : length code₁ ≡ codeNumbers) (few-terms : length terms ≤ maxTerms)
-    (few-functions : length functions ≤ maxFunctions)
+module _ {code₀ code code₁ p terms functions : List ℕ} (full : length code₁ ≡ code_numbers) (few_terms : length terms ≤ max_terms)
+    (few_functions : length functions ≤ max_functions)
     (T : TermRows code₀ code p terms (length terms))
-    (N : (t : ℕ) → t < length terms → kindIn code t ≡ caseKind → Holds (namesIn code t) (λ i. named i (termOf [] (map (termAt p) terms) (firstIn code t))))
+    (N : (t : ℕ) → t < length terms → kind_in code t ≡ case_kind → Holds (names_in code t) (λ i. named i (term_of [] (map (term_at p) terms) (first_in code t))))
     (F : FunctionRows code code₁ p functions (length functions)) where
   abbrev counted : List ℕ
-  counted = set (set code₁ countsAt (length terms)) (countsAt + 1) (length functions)
+  counted = set (set code₁ counts_at (length terms)) (counts_at + 1) (length functions)
 
   -- the counts stand behind all rows
-  numbers-kept : (j : ℕ) → j < countsAt → get_or counted j 0 ≡ get_or code₁ j 0
+  numbers-kept : (j : ℕ) → j < counts_at → get_or counted j 0 ≡ get_or code₁ j 0
   numbers-kept j l =
-      get_or-set_other (set code₁ countsAt (length terms)) (countsAt + 1) j (length functions) 0 (λ e. omega arith)
-      ∙ get_or-set_other code₁ countsAt j (length terms) 0 (λ e. omega arith)
+      get_or-set_other (set code₁ counts_at (length terms)) (counts_at + 1) j (length functions) 0 (λ e. omega arith)
+      ∙ get_or-set_other code₁ counts_at j (length terms) 0 (λ e. omega arith)
 
   term-same : (t : ℕ) → t < length terms → Same code counted t
-  term-same t l = record { number = λ j h. numbers-kept (rowNumbers * t + j) (omega arith) ∙ F.before (rowNumbers * t + j) (omega arith) }
+  term-same t l = record { number = λ j h. numbers-kept (row_numbers * t + j) (omega arith) ∙ F.before (row_numbers * t + j) (omega arith) }
 
   term-row : (t : ℕ) → t < length terms → TermRow counted t p (get_or terms t 0)
   term-row t l = row_same (term-same t l) (T.row t l)
 
   function-row : (g : ℕ) → g < length functions → FunctionRow counted g p (get_or functions g 0)
-  function-row g l = function-row-same (record { number = λ j h. numbers-kept (rowNumbers * (functionRows + g) + j) (omega arith) }) (F.row g l)
+  function-row g l = function-row-same (record { number = λ j h. numbers-kept (row_numbers * (function_rows + g) + j) (omega arith) }) (F.row g l)
 
-  count-terms : termCount counted ≡ length terms
-  unfolding termCount
+  count-terms : term_count counted ≡ length terms
+  unfolding term_count
   count-terms =
-      get_or-set_other (set code₁ countsAt (length terms)) (countsAt + 1) countsAt (length functions) 0 (λ e. omega arith)
-      ∙ get_or-set_same code₁ countsAt (length terms) 0 (omega arith)
+      get_or-set_other (set code₁ counts_at (length terms)) (counts_at + 1) counts_at (length functions) 0 (λ e. omega arith)
+      ∙ get_or-set_same code₁ counts_at (length terms) 0 (omega arith)
 
-  count-functions : functionCount counted ≡ length functions
-  unfolding functionCount
-  count-functions = get_or-set_same (set code₁ countsAt (length terms)) (countsAt + 1) (length functions) 0 (simp length-set (omega arith))
+  count-functions : function_count counted ≡ length functions
+  unfolding function_count
+  count-functions = get_or-set_same (set code₁ counts_at (length terms)) (counts_at + 1) (length functions) 0 (simp length-set (omega arith))
 
-  terms-counted : termsIn counted ≡ map (termAt p) terms
-  unfolding termsIn
+  terms-counted : terms_in counted ≡ map (term_at p) terms
+  unfolding terms_in
   terms-counted =
-      ap (listed (entryIn counted) 0) count-terms
-      ∙ listed-map (entryIn counted) (termAt p) terms 0 (λ k l. ap (entryIn counted) (let z : 0 + k ≡ k = omega arith in z) ∙ (term-row k l).entry)
+      ap (listed (entry_in counted) 0) count-terms
+      ∙ listed-map (entry_in counted) (term_at p) terms 0 (λ k l. ap (entry_in counted) (let z : 0 + k ≡ k = omega arith in z) ∙ (term-row k l).entry)
 
   pub decodes : Decodes counted p terms functions
-  unfolding functionsIn
+  unfolding functions_in
   decodes = record {
-    terms-are = terms-counted;
-    functions-are = ap (listed (functionIn counted) 0) count-functions
-        ∙ listed-map (functionIn counted) (functionAt p) functions 0
-        (λ k l. ap (functionIn counted) (let z : 0 + k ≡ k = omega arith in z) ∙ (function-row k l).entry);
-    as-many-terms = count-terms;
-    as-many-functions = count-functions;
+    terms_are = terms-counted;
+    functions_are = ap (listed (function_in counted) 0) count-functions
+        ∙ listed-map (function_in counted) (function_at p) functions 0
+        (λ k l. ap (function_in counted) (let z : 0 + k ≡ k = omega arith in z) ∙ (function-row k l).entry);
+    as_many_terms = count-terms;
+    as_many_functions = count-functions;
     row = term-row;
     function = function-row;
     names = λ t l e. let same = term-same t l in

@@ -8,47 +8,47 @@ use mathlib.Core.List.{List}
 use lib.ListN.{length, get_or, set, length-set}
 use lib.Seq.{get_or-set_same, get_or-set_other}
 use package.Rattle.octets.specs.Numbers.{get16}
-use package.Rattle.decoded.specs.Rows.{rowNumbers, codeNumbers, kindIn, firstIn, secondIn, thirdIn, argumentIn}
+use package.Rattle.decoded.specs.Rows.{row_numbers, code_numbers, kind_in, first_in, second_in, third_in, argument_in}
 use package.Rattle.decoded.specs.Decoding.{Heads, Listed}
 
 ----------------------------------------------------------------
 -- The head of a row
 
-module _ (code : List ℕ) (r kind a b c : ℕ) (room : rowNumbers * r + 4 ≤ length code) where
+module _ (code : List ℕ) (r kind a b c : ℕ) (room : row_numbers * r + 4 ≤ length code) where
   abbrev one : List ℕ
-  one = set code (rowNumbers * r) kind
+  one = set code (row_numbers * r) kind
 
   abbrev two : List ℕ
-  two = set one (rowNumbers * r + 1) a
+  two = set one (row_numbers * r + 1) a
 
   abbrev three : List ℕ
-  three = set two (rowNumbers * r + 2) b
+  three = set two (row_numbers * r + 2) b
 
   abbrev four : List ℕ
-  four = set three (rowNumbers * r + 3) c
+  four = set three (row_numbers * r + 3) c
 
   -- a number that none of these stores is at
-  pub beside_head : (j : ℕ) → (j < rowNumbers * r) ⊎ (rowNumbers * r + 4 ≤ j) → get_or four j 0 ≡ get_or code j 0
+  pub beside_head : (j : ℕ) → (j < row_numbers * r) ⊎ (row_numbers * r + 4 ≤ j) → get_or four j 0 ≡ get_or code j 0
   beside_head j h =
-      get_or-set_other three (rowNumbers * r + 3) j c 0 (λ e. ⊎_elim (λ l. omega arith) (λ l. omega arith) h)
-      ∙ get_or-set_other two (rowNumbers * r + 2) j b 0 (λ e. ⊎_elim (λ l. omega arith) (λ l. omega arith) h)
-      ∙ get_or-set_other one (rowNumbers * r + 1) j a 0 (λ e. ⊎_elim (λ l. omega arith) (λ l. omega arith) h)
-      ∙ get_or-set_other code (rowNumbers * r) j kind 0 (λ e. ⊎_elim (λ l. omega arith) (λ l. omega arith) h)
+      get_or-set_other three (row_numbers * r + 3) j c 0 (λ e. ⊎_elim (λ l. omega arith) (λ l. omega arith) h)
+      ∙ get_or-set_other two (row_numbers * r + 2) j b 0 (λ e. ⊎_elim (λ l. omega arith) (λ l. omega arith) h)
+      ∙ get_or-set_other one (row_numbers * r + 1) j a 0 (λ e. ⊎_elim (λ l. omega arith) (λ l. omega arith) h)
+      ∙ get_or-set_other code (row_numbers * r) j kind 0 (λ e. ⊎_elim (λ l. omega arith) (λ l. omega arith) h)
 
   pub heads : Heads code four r kind a b c
-  unfolding kindIn firstIn secondIn thirdIn
+  unfolding kind_in first_in second_in third_in
   heads = record {
     lengths = simp length-set;
-    kind-is = get_or-set_other three (rowNumbers * r + 3) (rowNumbers * r) c 0 (λ e. omega arith)
-        ∙ get_or-set_other two (rowNumbers * r + 2) (rowNumbers * r) b 0 (λ e. omega arith)
-        ∙ get_or-set_other one (rowNumbers * r + 1) (rowNumbers * r) a 0 (λ e. omega arith)
-        ∙ get_or-set_same code (rowNumbers * r) kind 0 (omega arith);
-    first-is = get_or-set_other three (rowNumbers * r + 3) (rowNumbers * r + 1) c 0 (λ e. omega arith)
-        ∙ get_or-set_other two (rowNumbers * r + 2) (rowNumbers * r + 1) b 0 (λ e. omega arith)
-        ∙ get_or-set_same one (rowNumbers * r + 1) a 0 (simp length-set (omega arith));
-    second_is = get_or-set_other three (rowNumbers * r + 3) (rowNumbers * r + 2) c 0 (λ e. omega arith)
-        ∙ get_or-set_same two (rowNumbers * r + 2) b 0 (simp length-set (omega arith));
-    third-is = get_or-set_same three (rowNumbers * r + 3) c 0 (simp length-set (omega arith));
+    kind_is = get_or-set_other three (row_numbers * r + 3) (row_numbers * r) c 0 (λ e. omega arith)
+        ∙ get_or-set_other two (row_numbers * r + 2) (row_numbers * r) b 0 (λ e. omega arith)
+        ∙ get_or-set_other one (row_numbers * r + 1) (row_numbers * r) a 0 (λ e. omega arith)
+        ∙ get_or-set_same code (row_numbers * r) kind 0 (omega arith);
+    first_is = get_or-set_other three (row_numbers * r + 3) (row_numbers * r + 1) c 0 (λ e. omega arith)
+        ∙ get_or-set_other two (row_numbers * r + 2) (row_numbers * r + 1) b 0 (λ e. omega arith)
+        ∙ get_or-set_same one (row_numbers * r + 1) a 0 (simp length-set (omega arith));
+    second_is = get_or-set_other three (row_numbers * r + 3) (row_numbers * r + 2) c 0 (λ e. omega arith)
+        ∙ get_or-set_same two (row_numbers * r + 2) b 0 (simp length-set (omega arith));
+    third_is = get_or-set_same three (row_numbers * r + 3) c 0 (simp length-set (omega arith));
     others = beside_head;
   }
 
@@ -56,18 +56,18 @@ module _ (code : List ℕ) (r kind a b c : ℕ) (room : rowNumbers * r + 4 ≤ l
 -- References behind it
 
 -- none yet
-pub none-listed : (code : List ℕ) (r : ℕ) (p : List ℕ) (i : ℕ) → Listed code code r p i 0
-none-listed code r p i = record { lengths = refl; arguments = λ k l. absurd (omega arith); others = λ j h. refl }
+pub none_listed : (code : List ℕ) (r : ℕ) (p : List ℕ) (i : ℕ) → Listed code code r p i 0
+none_listed code r p i = record { lengths = refl; arguments = λ k l. absurd (omega arith); others = λ j h. refl }
 
 -- all
-pub listed-whole : {code code' : List ℕ} {r : ℕ} {p : List ℕ} {i n m : ℕ} → Listed code code' r p i n → n ≡ m → Listed code code' r p i m
-listed-whole {code} {code'} {r} {p} {i} L e = subst (Listed code code' r p i) e L
+pub listed_whole : {code code' : List ℕ} {r : ℕ} {p : List ℕ} {i n m : ℕ} → Listed code code' r p i n → n ≡ m → Listed code code' r p i m
+listed_whole {code} {code'} {r} {p} {i} L e = subst (Listed code code' r p i) e L
 
 -- one more
-pub listed_more : {code code' code'' : List ℕ} {r : ℕ} {p : List ℕ} {i n x at : ℕ} → Listed code code' r p i n → at ≡ rowNumbers * r + 4 + n
+pub listed_more : {code code' code'' : List ℕ} {r : ℕ} {p : List ℕ} {i n x at : ℕ} → Listed code code' r p i n → at ≡ row_numbers * r + 4 + n
     → at < length code' → x ≡ get16 p (i + 2 * n)
     → code'' ≡ set code' at x → Listed code code'' r p i (n + 1)
-unfolding argumentIn
+unfolding argument_in
 listed_more {code} {code'} {code''} {r} {p} {i} {n} {x} {at} L here room e s = record {
   lengths = rw s (length-set code' at x ∙ L.lengths);
   arguments = λ k l. rw s (argument k (dec_lt k n) l);
@@ -75,8 +75,8 @@ listed_more {code} {code'} {code''} {r} {p} {i} {n} {x} {at} L here room e s = r
       ∙ L.others j (⊎_elim (λ l. left l) (λ l. right (omega arith)) h));
 }
   where
-    argument : (k : ℕ) → Dec (k < n) → k < n + 1 → get_or (set code' at x) (rowNumbers * r + 4 + k) 0 ≡ get16 p (i + 2 * k)
-    argument k (yes l) h = get_or-set_other code' at (rowNumbers * r + 4 + k) x 0 (λ q. omega arith) ∙ L.arguments k l
+    argument : (k : ℕ) → Dec (k < n) → k < n + 1 → get_or (set code' at x) (row_numbers * r + 4 + k) 0 ≡ get16 p (i + 2 * k)
+    argument k (yes l) h = get_or-set_other code' at (row_numbers * r + 4 + k) x 0 (λ q. omega arith) ∙ L.arguments k l
     argument k (no l) h =
         let q : k ≡ n = omega arith in
-        let z : rowNumbers * r + 4 + k ≡ at = omega arith in rw (z, q) (get_or-set_same code' at x 0 room ∙ e)
+        let z : row_numbers * r + 4 + k ≡ at = omega arith in rw (z, q) (get_or-set_same code' at x 0 room ∙ e)

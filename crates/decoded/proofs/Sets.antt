@@ -9,21 +9,21 @@ use mathlib.Core.Bool.{Bool, true, ◌||◌}
 use mathlib.Core.List.{List, [], ◌∷◌, ◌++◌}
 use lib.ListN.{length, get_or, set, length-set}
 use lib.Seq.{get_or-set_same, get_or-set_other}
-use package.Rattle.rules.specs.Limits.{maxTerms, maxVariables}
-use package.Rattle.calls.specs.Entries.{type_of, TermEntry, n-case, termTree}
-use package.Rattle.calls.specs.Named.{termsOfTerm, below}
+use package.Rattle.rules.specs.Limits.{max_terms, max_variables}
+use package.Rattle.calls.specs.Entries.{type_of, TermEntry, n_case, term_tree}
+use package.Rattle.calls.specs.Named.{terms_of_term, below}
 use package.Rattle.calls.proofs.Entries.{below-head, below_wider}
 use package.Rattle.calls.proofs.Trees.{term-unfolds}
-use package.Rattle.program.specs.Kinds.{variableKind, unit_kind, pairKind, caseKind, callKind, termKinds}
+use package.Rattle.program.specs.Kinds.{variable_kind, unit_kind, pair_kind, case_kind, call_kind, term_kinds}
 use package.Rattle.varsets.specs.declared.Uses.{Uses}
-use package.Rattle.varsets.specs.Sets.{has, Holds, nobody, alone, joined, low_half, high_half, ofHalves}
-use package.Rattle.varsets.proofs.Inside.{halves-whole}
-use package.Rattle.decoded.specs.Rows.{rowNumbers, rowHeads, kindIn, firstIn, secondIn, thirdIn, argumentIn, argumentsIn, entryIn, listed, namesIn, named}
-use package.Rattle.decoded.specs.Naming.{setIn, hasSet, numbersFrom, any_of, named_by, RowAsked, ScrutineePut, RowKept, tree_of, RowsNamed}
+use package.Rattle.varsets.specs.Sets.{has, Holds, nobody, alone, joined, low_half, high_half, of_halves}
+use package.Rattle.varsets.proofs.Inside.{halves_whole}
+use package.Rattle.decoded.specs.Rows.{row_numbers, row_heads, kind_in, first_in, second_in, third_in, argument_in, arguments_in, entry_in, listed, names_in, named}
+use package.Rattle.decoded.specs.Naming.{set_in, has_set, numbers_from, any_of, named_by, RowAsked, ScrutineePut, RowKept, tree_of, RowsNamed}
 use package.Rattle.decoded.proofs.Agreeing.{entry-same, listed-entry, listed-lower}
-use package.Rattle.decoded.proofs.Trees.{Two, entry-var, entry-unit, entry-inl, entry-inr, entry-pair, entry-let, entry-letp, entry_case}
-use package.Rattle.decoded.proofs.Trees.{entry-call, entry-roll, entry-unroll}
-use package.Rattle.decoded.proofs.Named.{or-none, or_assoc, named-tree}
+use package.Rattle.decoded.proofs.Trees.{Two, entry-var, entry-unit, entry_inl, entry_inr, entry-pair, entry_let, entry_letp, entry_case}
+use package.Rattle.decoded.proofs.Trees.{entry-call, entry-roll, entry_unroll}
+use package.Rattle.decoded.proofs.Named.{or_none_lem, or_assoc, named_tree}
 
 ----------------------------------------------------------------
 -- Numbers in an array
@@ -33,16 +33,16 @@ one_more n = omega arith
 
 -- the last of the numbers
 any-suc : (S : ℕ → ℕ → Bool) (code : List ℕ) (i a n : ℕ)
-    → any_of S (numbersFrom code a (suc n)) i ≡ (any_of S (numbersFrom code a n) i || S (get_or code (a + n) 0) i)
-unfolding numbersFrom any_of
-any-suc S code i a zero = or-none (S (get_or code a 0) i) ∙ ap (λ a. S (get_or code a 0) i) (let z : a ≡ a + 0 = omega arith in z)
+    → any_of S (numbers_from code a (suc n)) i ≡ (any_of S (numbers_from code a n) i || S (get_or code (a + n) 0) i)
+unfolding numbers_from any_of
+any-suc S code i a zero = or_none_lem (S (get_or code a 0) i) ∙ ap (λ a. S (get_or code a 0) i) (let z : a ≡ a + 0 = omega arith in z)
 any-suc S code i a (suc n) =
     ap (λ b. S (get_or code a 0) i || b) (any-suc S code i (a + 1) n
-    ∙ ap (λ k. any_of S (numbersFrom code (a + 1) n) i || S (get_or code k 0) i) (let z : a + 1 + n ≡ a + suc n = omega arith in z))
-    ∙ sym (or_assoc (S (get_or code a 0) i) (any_of S (numbersFrom code (a + 1) n) i) (S (get_or code (a + suc n) 0) i))
+    ∙ ap (λ k. any_of S (numbers_from code (a + 1) n) i || S (get_or code k 0) i) (let z : a + 1 + n ≡ a + suc n = omega arith in z))
+    ∙ sym (or_assoc (S (get_or code a 0) i) (any_of S (numbers_from code (a + 1) n) i) (S (get_or code (a + suc n) 0) i))
 
-pub number-below : (m : ℕ) (code : List ℕ) (a n k : ℕ) → below m (numbersFrom code a n) ≡ true → k < n → get_or code (a + k) 0 < m
-unfolding numbersFrom
+pub number-below : (m : ℕ) (code : List ℕ) (a n k : ℕ) → below m (numbers_from code a n) ≡ true → k < n → get_or code (a + k) 0 < m
+unfolding numbers_from
 number-below m code a zero k e l = absurd (omega arith)
 number-below m code a (suc n) zero e l = rw (let z : a + 0 ≡ a = omega arith in z) (below-head m _ _ e).0
 number-below m code a (suc n) (suc k) e l =
@@ -54,16 +54,16 @@ number-below m code a (suc n) (suc k) e l =
 module _ (code sets : List ℕ) (a : ℕ) where
   -- the variables of the first `n` terms
   abbrev pub United : Uses → ℕ → Type 0
-  United u n = Holds u (any_of (hasSet sets) (numbersFrom code a n))
+  United u n = Holds u (any_of (has_set sets) (numbers_from code a n))
 
-  pub united-none : {u : Uses} → Holds u nobody → United u 0
-  unfolding numbersFrom any_of
-  united-none H = H
+  pub united_none : {u : Uses} → Holds u nobody → United u 0
+  unfolding numbers_from any_of
+  united_none H = H
 
-  pub united-more : {u v w : Uses} (n : ℕ) → United u n → v ≡ setIn sets (get_or code (a + n) 0) → Holds w (joined (has u) (has v)) → United w (n + 1)
+  pub united-more : {u v w : Uses} (n : ℕ) → United u n → v ≡ set_in sets (get_or code (a + n) 0) → Holds w (joined (has u) (has v)) → United w (n + 1)
   united-more n U e H = record {
     each = λ i l. H.each i l ∙ ap₂ ◌||◌ (U.each i l) (ap (λ v. has v i) e)
-        ∙ sym (any-suc (hasSet sets) code i a n) ∙ ap (λ n. any_of (hasSet sets) (numbersFrom code a n) i) (sym (one_more n));
+        ∙ sym (any-suc (has_set sets) code i a n) ∙ ap (λ n. any_of (has_set sets) (numbers_from code a n) i) (sym (one_more n));
   }
 
 ----------------------------------------------------------------
@@ -71,133 +71,133 @@ module _ (code sets : List ℕ) (a : ℕ) where
 
 -- `n` numbers from `from` on are the terms of row `t`, which is no variable
 pub record Parts (code : List ℕ) (t from n : ℕ) : Type 0 where
-  pub terms : numbersFrom code from n ≡ termsOfTerm (entryIn code t)
-  pub whole : (S : ℕ → ℕ → Bool) (i : ℕ) → any_of S (termsOfTerm (entryIn code t)) i ≡ named_by S (entryIn code t) i
+  pub terms : numbers_from code from n ≡ terms_of_term (entry_in code t)
+  pub whole : (S : ℕ → ℕ → Bool) (i : ℕ) → any_of S (terms_of_term (entry_in code t)) i ≡ named_by S (entry_in code t) i
 
 module _ {code : List ℕ} {t from n : ℕ} (P : Parts code t from n) where
-  pub parts_below : RowAsked code t → t < maxTerms → below maxTerms (numbersFrom code from n) ≡ true
-  parts_below R l = rw P.terms (below_wider t maxTerms (termsOfTerm (entryIn code t)) (omega arith) R.lower)
+  pub parts_below : RowAsked code t → t < max_terms → below max_terms (numbers_from code from n) ≡ true
+  parts_below R l = rw P.terms (below_wider t max_terms (terms_of_term (entry_in code t)) (omega arith) R.lower)
 
-  pub parts-named : (sets : List ℕ) {u : Uses} → United code sets from u n → Holds u (named_by (hasSet sets) (entryIn code t))
-  parts-named sets U = record { each = λ i l. U.each i l ∙ ap (λ is. any_of (hasSet sets) is i) P.terms ∙ P.whole (hasSet sets) i }
+  pub parts_named : (sets : List ℕ) {u : Uses} → United code sets from u n → Holds u (named_by (has_set sets) (entry_in code t))
+  parts_named sets U = record { each = λ i l. U.each i l ∙ ap (λ is. any_of (has_set sets) is i) P.terms ∙ P.whole (has_set sets) i }
 
 module _ (code : List ℕ) (t : ℕ) where
-  parts-by : {x : TermEntry} (from n : ℕ) → entryIn code t ≡ x → numbersFrom code from n ≡ termsOfTerm x
-      → ((S : ℕ → ℕ → Bool) (i : ℕ) → any_of S (termsOfTerm x) i ≡ named_by S x i) → Parts code t from n
-  parts-by {x} from n e terms whole = record {
-    terms = terms ∙ ap termsOfTerm (sym e);
-    whole = subst (λ x. (S : ℕ → ℕ → Bool) (i : ℕ) → any_of S (termsOfTerm x) i ≡ named_by S x i) (sym e) whole;
+  parts_by : {x : TermEntry} (from n : ℕ) → entry_in code t ≡ x → numbers_from code from n ≡ terms_of_term x
+      → ((S : ℕ → ℕ → Bool) (i : ℕ) → any_of S (terms_of_term x) i ≡ named_by S x i) → Parts code t from n
+  parts_by {x} from n e terms whole = record {
+    terms = terms ∙ ap terms_of_term (sym e);
+    whole = subst (λ x. (S : ℕ → ℕ → Bool) (i : ℕ) → any_of S (terms_of_term x) i ≡ named_by S x i) (sym e) whole;
   }
 
-  second-number : {from : ℕ} → from ≡ rowNumbers * t + 2 → numbersFrom code from 1 ≡ secondIn code t ∷ []
-  unfolding numbersFrom secondIn
+  second-number : {from : ℕ} → from ≡ row_numbers * t + 2 → numbers_from code from 1 ≡ second_in code t ∷ []
+  unfolding numbers_from second_in
   second-number e = ap (λ j. get_or code j 0 ∷ []) e
 
-  two-numbers : {from : ℕ} → from ≡ rowNumbers * t + 1 → numbersFrom code from 2 ≡ firstIn code t ∷ secondIn code t ∷ []
-  unfolding numbersFrom firstIn secondIn
-  two-numbers {from} e = ap₂ (λ j k. get_or code j 0 ∷ get_or code k 0 ∷ []) e (let z : from + 1 ≡ rowNumbers * t + 2 = omega arith in z)
+  two-numbers : {from : ℕ} → from ≡ row_numbers * t + 1 → numbers_from code from 2 ≡ first_in code t ∷ second_in code t ∷ []
+  unfolding numbers_from first_in second_in
+  two-numbers {from} e = ap₂ (λ j k. get_or code j 0 ∷ get_or code k 0 ∷ []) e (let z : from + 1 ≡ row_numbers * t + 2 = omega arith in z)
 
-  three-numbers : {from : ℕ} → from ≡ rowNumbers * t + 1 → numbersFrom code from 3 ≡ firstIn code t ∷ secondIn code t ∷ thirdIn code t ∷ []
-  unfolding numbersFrom firstIn secondIn thirdIn
-  three-numbers {from} e = let z : from + 1 ≡ rowNumbers * t + 2 = omega arith in let w : from + 1 + 1 ≡ rowNumbers * t + 3 = omega arith in rw (w, z, e) refl
+  three-numbers : {from : ℕ} → from ≡ row_numbers * t + 1 → numbers_from code from 3 ≡ first_in code t ∷ second_in code t ∷ third_in code t ∷ []
+  unfolding numbers_from first_in second_in third_in
+  three-numbers {from} e = let z : from + 1 ≡ row_numbers * t + 2 = omega arith in let w : from + 1 + 1 ≡ row_numbers * t + 3 = omega arith in rw (w, z, e) refl
 
-  argument-numbers : (k n : ℕ) {from : ℕ} → from ≡ rowNumbers * t + rowHeads + k
-      → numbersFrom code from (suc n) ≡ argumentsIn code t k n ++ (argumentIn code t (k + n) ∷ [])
-  unfolding numbersFrom argumentsIn argumentIn
-  argument-numbers k zero {from} e = ap (λ j. get_or code j 0 ∷ []) (let z : from ≡ rowNumbers * t + rowHeads + (k + 0) = omega arith in z)
+  argument-numbers : (k n : ℕ) {from : ℕ} → from ≡ row_numbers * t + row_heads + k
+      → numbers_from code from (suc n) ≡ arguments_in code t k n ++ (argument_in code t (k + n) ∷ [])
+  unfolding numbers_from arguments_in argument_in
+  argument-numbers k zero {from} e = ap (λ j. get_or code j 0 ∷ []) (let z : from ≡ row_numbers * t + row_heads + (k + 0) = omega arith in z)
   argument-numbers k (suc n) {from} e =
-      ap₂ ◌∷◌ (ap (λ j. get_or code j 0) e) (argument-numbers (k + 1) n (let z : from + 1 ≡ rowNumbers * t + rowHeads + (k + 1) = omega arith in z)
-      ∙ ap (λ m. argumentsIn code t (k + 1) n ++ (argumentIn code t m ∷ [])) (let z : k + 1 + n ≡ k + suc n = omega arith in z))
+      ap₂ ◌∷◌ (ap (λ j. get_or code j 0) e) (argument-numbers (k + 1) n (let z : from + 1 ≡ row_numbers * t + row_heads + (k + 1) = omega arith in z)
+      ∙ ap (λ m. arguments_in code t (k + 1) n ++ (argument_in code t m ∷ [])) (let z : k + 1 + n ≡ k + suc n = omega arith in z))
 
   -- of a pair or a let
-  pub parts-two : {from k : ℕ} → from ≡ rowNumbers * t + 1 → k ≡ kindIn code t → pairKind ≤ k → k < caseKind → Parts code t from 2
-  unfolding named_by termsOfTerm
+  pub parts-two : {from k : ℕ} → from ≡ row_numbers * t + 1 → k ≡ kind_in code t → pair_kind ≤ k → k < case_kind → Parts code t from 2
+  unfolding named_by terms_of_term
   parts-two {from} {k} f q = go k (sym q)
     where
-      go : (k : ℕ) → kindIn code t ≡ k → pairKind ≤ k → k < caseKind → Parts code t from 2
+      go : (k : ℕ) → kind_in code t ≡ k → pair_kind ≤ k → k < case_kind → Parts code t from 2
       go zero e l h = absurd (omega arith)
       go (suc zero) e l h = absurd (omega arith)
       go (suc (suc zero)) e l h = absurd (omega arith)
       go (suc (suc (suc zero))) e l h = absurd (omega arith)
-      go (suc (suc (suc (suc zero)))) e l h = parts-by from 2 (entry-pair code t e) (two-numbers f) (λ S i. refl)
-      go (suc (suc (suc (suc (suc zero))))) e l h = parts-by from 2 (entry-let code t e) (two-numbers f) (λ S i. refl)
-      go (suc (suc (suc (suc (suc (suc zero)))))) e l h = parts-by from 2 (entry-letp code t e) (two-numbers f) (λ S i. refl)
+      go (suc (suc (suc (suc zero)))) e l h = parts_by from 2 (entry-pair code t e) (two-numbers f) (λ S i. refl)
+      go (suc (suc (suc (suc (suc zero))))) e l h = parts_by from 2 (entry_let code t e) (two-numbers f) (λ S i. refl)
+      go (suc (suc (suc (suc (suc (suc zero)))))) e l h = parts_by from 2 (entry_letp code t e) (two-numbers f) (λ S i. refl)
       go (suc (suc (suc (suc (suc (suc (suc k))))))) e l h = absurd (omega arith)
 
-  pub parts-case : {from : ℕ} → from ≡ rowNumbers * t + 1 → kindIn code t ≡ caseKind → Parts code t from 3
-  unfolding named_by termsOfTerm
-  parts-case {from} f e = parts-by from 3 (entry_case code t e) (three-numbers f) (λ S i. refl)
+  pub parts_case : {from : ℕ} → from ≡ row_numbers * t + 1 → kind_in code t ≡ case_kind → Parts code t from 3
+  unfolding named_by terms_of_term
+  parts_case {from} f e = parts_by from 3 (entry_case code t e) (three-numbers f) (λ S i. refl)
 
-  pub parts-call : {from n : ℕ} → from ≡ rowNumbers * t + rowHeads → n ≡ thirdIn code t + 1 → RowAsked code t → kindIn code t ≡ callKind
+  pub parts-call : {from n : ℕ} → from ≡ row_numbers * t + row_heads → n ≡ third_in code t + 1 → RowAsked code t → kind_in code t ≡ call_kind
       → Parts code t from n
-  unfolding named_by termsOfTerm
-  parts-call {from} {n} f m R e = rw (m ∙ one_more (thirdIn code t))
-      (parts-by from (suc (thirdIn code t)) (entry-call code t e (R.few e)) (argument-numbers 0 (thirdIn code t) (omega arith)
-      ∙ ap (λ k. argumentsIn code t 0 (thirdIn code t) ++ (argumentIn code t k ∷ [])) (let z : 0 + thirdIn code t ≡ thirdIn code t = omega arith in z))
+  unfolding named_by terms_of_term
+  parts-call {from} {n} f m R e = rw (m ∙ one_more (third_in code t))
+      (parts_by from (suc (third_in code t)) (entry-call code t e (R.few e)) (argument-numbers 0 (third_in code t) (omega arith)
+      ∙ ap (λ k. arguments_in code t 0 (third_in code t) ++ (argument_in code t k ∷ [])) (let z : 0 + third_in code t ≡ third_in code t = omega arith in z))
       (λ S i. refl))
 
   -- of a kind with a type and a term: no pair and no let, and none of the kinds that a match leaves
-  pub parts-one : {from k : ℕ} → from ≡ rowNumbers * t + 2 → RowAsked code t → k ≡ kindIn code t → Two k → (pairKind ≤ k → k < caseKind → ⊥)
+  pub parts-one : {from k : ℕ} → from ≡ row_numbers * t + 2 → RowAsked code t → k ≡ kind_in code t → Two k → (pair_kind ≤ k → k < case_kind → ⊥)
       → Parts code t from 1
-  unfolding named_by termsOfTerm
+  unfolding named_by terms_of_term
   parts-one {from} {k} f R q ((((u, d₀), d₁), d₇), d₈) d = go k (sym q) (rw q R.known) d d₀ d₁ d₇ d₈
     where
-      go : (k : ℕ) → kindIn code t ≡ k → k < termKinds → (pairKind ≤ k → k < caseKind → ⊥) → ¬ (k ≡ variableKind) → ¬ (k ≡ unit_kind) → ¬ (k ≡ caseKind)
-          → ¬ (k ≡ callKind) → Parts code t from 1
+      go : (k : ℕ) → kind_in code t ≡ k → k < term_kinds → (pair_kind ≤ k → k < case_kind → ⊥) → ¬ (k ≡ variable_kind) → ¬ (k ≡ unit_kind) → ¬ (k ≡ case_kind)
+          → ¬ (k ≡ call_kind) → Parts code t from 1
       go zero e l d d₀ d₁ d₇ d₈ = absurd (d₀ refl)
       go (suc zero) e l d d₀ d₁ d₇ d₈ = absurd (d₁ refl)
-      go (suc (suc zero)) e l d d₀ d₁ d₇ d₈ = parts-by from 1 (entry-inl code t e) (second-number f) (λ S i. refl)
-      go (suc (suc (suc zero))) e l d d₀ d₁ d₇ d₈ = parts-by from 1 (entry-inr code t e) (second-number f) (λ S i. refl)
+      go (suc (suc zero)) e l d d₀ d₁ d₇ d₈ = parts_by from 1 (entry_inl code t e) (second-number f) (λ S i. refl)
+      go (suc (suc (suc zero))) e l d d₀ d₁ d₇ d₈ = parts_by from 1 (entry_inr code t e) (second-number f) (λ S i. refl)
       go (suc (suc (suc (suc zero)))) e l d d₀ d₁ d₇ d₈ = absurd (d (omega arith) (omega arith))
       go (suc (suc (suc (suc (suc zero))))) e l d d₀ d₁ d₇ d₈ = absurd (d (omega arith) (omega arith))
       go (suc (suc (suc (suc (suc (suc zero)))))) e l d d₀ d₁ d₇ d₈ = absurd (d (omega arith) (omega arith))
       go (suc (suc (suc (suc (suc (suc (suc zero))))))) e l d d₀ d₁ d₇ d₈ = absurd (d₇ refl)
       go (suc (suc (suc (suc (suc (suc (suc (suc zero)))))))) e l d d₀ d₁ d₇ d₈ = absurd (d₈ refl)
-      go (suc (suc (suc (suc (suc (suc (suc (suc (suc zero))))))))) e l d d₀ d₁ d₇ d₈ = parts-by from 1 (entry-roll code t e) (second-number f) (λ S i. refl)
+      go (suc (suc (suc (suc (suc (suc (suc (suc (suc zero))))))))) e l d d₀ d₁ d₇ d₈ = parts_by from 1 (entry-roll code t e) (second-number f) (λ S i. refl)
       go (suc (suc (suc (suc (suc (suc (suc (suc (suc (suc zero)))))))))) e l d d₀ d₁ d₇ d₈ =
-          parts-by from 1 (entry-unroll code t e) (second-number f) (λ S i. refl)
+          parts_by from 1 (entry_unroll code t e) (second-number f) (λ S i. refl)
       go (suc (suc (suc (suc (suc (suc (suc (suc (suc (suc (suc k))))))))))) e l d d₀ d₁ d₇ d₈ = absurd (omega arith)
 
   ----------------------------------------------------------------
   -- Rows without terms
 
   module _ (sets : List ℕ) {u : Uses} where
-    pub named-variable : {v : ℕ} → kindIn code t ≡ variableKind → v ≡ firstIn code t → Holds u (alone v) → Holds u (named_by (hasSet sets) (entryIn code t))
+    pub named_variable : {v : ℕ} → kind_in code t ≡ variable_kind → v ≡ first_in code t → Holds u (alone v) → Holds u (named_by (has_set sets) (entry_in code t))
     unfolding named_by
-    named-variable e q H = record { each = λ i l. rw (entry-var code t e, sym q) (H.each i l) }
+    named_variable e q H = record { each = λ i l. rw (entry-var code t e, sym q) (H.each i l) }
 
-    pub named-unit : kindIn code t ≡ unit_kind → Holds u nobody → Holds u (named_by (hasSet sets) (entryIn code t))
+    pub named_unit : kind_in code t ≡ unit_kind → Holds u nobody → Holds u (named_by (has_set sets) (entry_in code t))
     unfolding named_by
-    named-unit e H = record { each = λ i l. rw (entry-unit code t e) (H.each i l) }
+    named_unit e H = record { each = λ i l. rw (entry-unit code t e) (H.each i l) }
 
 ----------------------------------------------------------------
 -- Rows that are kept
 
 module _ {code code' : List ℕ} {t : ℕ} (K : RowKept code code' t) where
-  pub kind-kept : kindIn code' t ≡ kindIn code t
-  unfolding kindIn
-  kind-kept = rw (let z : rowNumbers * t + 0 ≡ rowNumbers * t = omega arith in z) at (K.head 0 (omega arith))
+  pub kind-kept : kind_in code' t ≡ kind_in code t
+  unfolding kind_in
+  kind-kept = rw (let z : row_numbers * t + 0 ≡ row_numbers * t = omega arith in z) at (K.head 0 (omega arith))
 
-  pub first-kept : firstIn code' t ≡ firstIn code t
-  unfolding firstIn
+  pub first-kept : first_in code' t ≡ first_in code t
+  unfolding first_in
   first-kept = K.head 1 (omega arith)
 
-  second-kept : secondIn code' t ≡ secondIn code t
-  unfolding secondIn
+  second-kept : second_in code' t ≡ second_in code t
+  unfolding second_in
   second-kept = K.head 2 (omega arith)
 
-  pub third-kept : thirdIn code' t ≡ thirdIn code t
-  unfolding thirdIn
+  pub third-kept : third_in code' t ≡ third_in code t
+  unfolding third_in
   third-kept = K.head 3 (omega arith)
 
   -- what a case says is in its first four numbers
-  pub entry_kept : entryIn code' t ≡ entryIn code t
-  entry_kept = go (ℕ_discrete (kindIn code t) caseKind)
+  pub entry_kept : entry_in code' t ≡ entry_in code t
+  entry_kept = go (ℕ_discrete (kind_in code t) case_kind)
     where
-      go : Dec (kindIn code t ≡ caseKind) → entryIn code' t ≡ entryIn code t
+      go : Dec (kind_in code t ≡ case_kind) → entry_in code' t ≡ entry_in code t
       go (yes e) =
           entry_case code' t (kind-kept ∙ e)
-          ∙ ap₂ (λ a (f : ℕ → TermEntry). f a) first-kept (ap₂ (λ b c a. n-case a b c) second-kept third-kept) ∙ sym (entry_case code t e)
+          ∙ ap₂ (λ a (f : ℕ → TermEntry). f a) first-kept (ap₂ (λ b c a. n_case a b c) second-kept third-kept) ∙ sym (entry_case code t e)
       go (no d) = entry-same (record { number = K.rest d })
 
   pub asked-kept : RowAsked code t → RowAsked code' t
@@ -221,53 +221,53 @@ kept-twice K L = record {
 -- The set of a scrutinee
 
 -- where it stands in the row
-pub scrutinee-number : (code : List ℕ) (t : ℕ) {j : ℕ} → j ≡ rowNumbers * t + 1 → get_or code j 0 ≡ firstIn code t
-unfolding firstIn
+pub scrutinee-number : (code : List ℕ) (t : ℕ) {j : ℕ} → j ≡ row_numbers * t + 1 → get_or code j 0 ≡ first_in code t
+unfolding first_in
 scrutinee-number code t e = ap (λ j. get_or code j 0) e
 
 -- a scrutinee is a lower term
-case-lower : {code : List ℕ} {t : ℕ} → RowAsked code t → kindIn code t ≡ caseKind → firstIn code t < t
-unfolding termsOfTerm
-case-lower {code} {t} R e = (below-head t (firstIn code t) _ (subst (λ x. below t (termsOfTerm x) ≡ true) (entry_case code t e) R.lower)).0
+case_lower : {code : List ℕ} {t : ℕ} → RowAsked code t → kind_in code t ≡ case_kind → first_in code t < t
+unfolding terms_of_term
+case_lower {code} {t} R e = (below-head t (first_in code t) _ (subst (λ x. below t (terms_of_term x) ≡ true) (entry_case code t e) R.lower)).0
 
 -- its parts are terms that are there
-pub part-there : {code : List ℕ} {t j : ℕ} → RowAsked code t → kindIn code t ≡ caseKind → t < maxTerms → rowNumbers * t + 1 ≤ j → j < rowNumbers * t + rowHeads
-    → get_or code j 0 < maxTerms
+pub part-there : {code : List ℕ} {t j : ℕ} → RowAsked code t → kind_in code t ≡ case_kind → t < max_terms → row_numbers * t + 1 ≤ j → j < row_numbers * t + row_heads
+    → get_or code j 0 < max_terms
 part-there {code} {t} {j} R e l from below =
-    subst (λ j. get_or code j 0 < maxTerms) (let z : rowNumbers * t + 1 + (j - (rowNumbers * t + 1)) ≡ j = omega arith in z)
-    (number-below maxTerms code (rowNumbers * t + 1) 3 (j - (rowNumbers * t + 1)) (parts_below (parts-case code t refl e) R l) (omega arith))
+    subst (λ j. get_or code j 0 < max_terms) (let z : row_numbers * t + 1 + (j - (row_numbers * t + 1)) ≡ j = omega arith in z)
+    (number-below max_terms code (row_numbers * t + 1) 3 (j - (row_numbers * t + 1)) (parts_below (parts_case code t refl e) R l) (omega arith))
 
 module _ {code sets : List ℕ} {t : ℕ} where
-  pub no-scrutinee : ¬ (kindIn code t ≡ caseKind) → ScrutineePut code code sets t
+  pub no-scrutinee : ¬ (kind_in code t ≡ case_kind) → ScrutineePut code code sets t
   no-scrutinee d = record { lengths = refl; names = λ e. absurd (d e); others = λ j h. refl; unless = λ d. refl }
 
-  pub scrutinee-put : {u : Uses} {at low high : ℕ} → at ≡ rowNumbers * t + rowHeads → at + 2 ≤ length code → kindIn code t ≡ caseKind
-      → u ≡ setIn sets (firstIn code t) → low ≡ low_half u → high ≡ high_half u → ScrutineePut code (set (set code at low) (at + 1) high) sets t
-  unfolding namesIn
+  pub scrutinee-put : {u : Uses} {at low high : ℕ} → at ≡ row_numbers * t + row_heads → at + 2 ≤ length code → kind_in code t ≡ case_kind
+      → u ≡ set_in sets (first_in code t) → low ≡ low_half u → high ≡ high_half u → ScrutineePut code (set (set code at low) (at + 1) high) sets t
+  unfolding names_in
   scrutinee-put {u} {at} {low} {high} here room e q lo hi = record {
     lengths = length-set (set code at low) (at + 1) high ∙ length-set code at low;
-    names = λ e. ap₂ ofHalves low-there high-there ∙ ap₂ ofHalves lo hi ∙ halves-whole u ∙ q;
+    names = λ e. ap₂ of_halves low-there high_there ∙ ap₂ of_halves lo hi ∙ halves_whole u ∙ q;
     others = λ j h. get_or-set_other (set code at low) (at + 1) j high 0 (λ x. ⊎_elim (λ l. omega arith) (λ l. omega arith) h)
         ∙ get_or-set_other code at j low 0 (λ x. ⊎_elim (λ l. omega arith) (λ l. omega arith) h);
     unless = λ d. absurd (d e);
   }
     where
-      low-there : get_or (set (set code at low) (at + 1) high) (rowNumbers * t + rowHeads + 0) 0 ≡ low
+      low-there : get_or (set (set code at low) (at + 1) high) (row_numbers * t + row_heads + 0) 0 ≡ low
       low-there =
-          rw (let z : rowNumbers * t + rowHeads + 0 ≡ at = omega arith in z)
+          rw (let z : row_numbers * t + row_heads + 0 ≡ at = omega arith in z)
           (get_or-set_other (set code at low) (at + 1) at high 0 (λ x. omega arith) ∙ get_or-set_same code at low 0 (omega arith))
 
-      high-there : get_or (set (set code at low) (at + 1) high) (rowNumbers * t + rowHeads + 1) 0 ≡ high
-      high-there =
-          rw (let z : rowNumbers * t + rowHeads + 1 ≡ at + 1 = omega arith in z)
+      high_there : get_or (set (set code at low) (at + 1) high) (row_numbers * t + row_heads + 1) 0 ≡ high
+      high_there =
+          rw (let z : row_numbers * t + row_heads + 1 ≡ at + 1 = omega arith in z)
           (get_or-set_same (set code at low) (at + 1) high 0 (simp length-set (omega arith)))
 
 module _ {code code' sets : List ℕ} {t : ℕ} (P : ScrutineePut code code' sets t) where
   -- no other row is changed
-  beside : (r : ℕ) → ¬ (r ≡ t) → (j : ℕ) → j < rowNumbers → get_or code' (rowNumbers * r + j) 0 ≡ get_or code (rowNumbers * r + j) 0
-  beside r d j l = P.others (rowNumbers * r + j) (go (dec_lt r t))
+  beside : (r : ℕ) → ¬ (r ≡ t) → (j : ℕ) → j < row_numbers → get_or code' (row_numbers * r + j) 0 ≡ get_or code (row_numbers * r + j) 0
+  beside r d j l = P.others (row_numbers * r + j) (go (dec_lt r t))
     where
-      go : Dec (r < t) → (rowNumbers * r + j < rowNumbers * t + rowHeads) ⊎ (rowNumbers * t + rowHeads + 2 ≤ rowNumbers * r + j)
+      go : Dec (r < t) → (row_numbers * r + j < row_numbers * t + row_heads) ⊎ (row_numbers * t + row_heads + 2 ≤ row_numbers * r + j)
       go (yes x) = left (omega arith)
       go (no x) = let z : t < r = omega arith in right (omega arith)
 
@@ -276,29 +276,29 @@ module _ {code code' sets : List ℕ} {t : ℕ} (P : ScrutineePut code code' set
     where
       go : Dec (r ≡ t) → RowKept code code' r
       go (yes e) = record {
-        head = λ j l. P.others (rowNumbers * r + j) (left (omega arith));
-        rest = λ d j l. ap (λ code. get_or code (rowNumbers * r + j) 0) (P.unless (λ q. d (ap (kindIn code) e ∙ q)));
+        head = λ j l. P.others (row_numbers * r + j) (left (omega arith));
+        rest = λ d j l. ap (λ code. get_or code (row_numbers * r + j) 0) (P.unless (λ q. d (ap (kind_in code) e ∙ q)));
       }
       go (no d) = record { head = λ j l. beside r d j (omega arith); rest = λ x j l. beside r d j l }
 
   -- nor the set of another row
-  names-beside : (r : ℕ) → ¬ (r ≡ t) → namesIn code' r ≡ namesIn code r
-  unfolding namesIn
-  names-beside r d = ap₂ ofHalves (number 0 (omega arith)) (number 1 (omega arith))
+  names-beside : (r : ℕ) → ¬ (r ≡ t) → names_in code' r ≡ names_in code r
+  unfolding names_in
+  names-beside r d = ap₂ of_halves (number 0 (omega arith)) (number 1 (omega arith))
     where
-      number : (k : ℕ) → k < 2 → get_or code' (rowNumbers * r + rowHeads + k) 0 ≡ get_or code (rowNumbers * r + rowHeads + k) 0
-      number k l = let z : rowNumbers * r + rowHeads + k ≡ rowNumbers * r + (rowHeads + k) = omega arith in rw z (beside r d (rowHeads + k) (omega arith))
+      number : (k : ℕ) → k < 2 → get_or code' (row_numbers * r + row_heads + k) 0 ≡ get_or code (row_numbers * r + row_heads + k) 0
+      number k l = let z : row_numbers * r + row_heads + k ≡ row_numbers * r + (row_heads + k) = omega arith in rw z (beside r d (row_heads + k) (omega arith))
 
 ----------------------------------------------------------------
 -- A turn of the pass
 
 -- of `n` rows, the first `m` terms have their sets in the table
 pub record SetsOf (code : List ℕ) (n : ℕ) (sets : List ℕ) (m : ℕ) : Type 0 where
-  pub lengths : length sets ≡ maxTerms
-  pub each : (t : ℕ) → t < m → Holds (setIn sets t) (λ i. named i (tree_of code n t))
+  pub lengths : length sets ≡ max_terms
+  pub each : (t : ℕ) → t < m → Holds (set_in sets t) (λ i. named i (tree_of code n t))
 
-pub no-sets : (code : List ℕ) (n : ℕ) (sets : List ℕ) → length sets ≡ maxTerms → SetsOf code n sets 0
-no-sets code n sets e = record { lengths = e; each = λ t l. absurd (omega arith) }
+pub no_sets : (code : List ℕ) (n : ℕ) (sets : List ℕ) → length sets ≡ max_terms → SetsOf code n sets 0
+no_sets code n sets e = record { lengths = e; each = λ t l. absurd (omega arith) }
 
 pub none_named : (code : List ℕ) (n : ℕ) → RowsNamed code code n 0
 none_named code n = record { lengths = refl; kept = λ t l. kept_same code t; names = λ t l. absurd (omega arith) }
@@ -310,19 +310,19 @@ module _ {code₀ code : List ℕ} {n : ℕ} (asked : (t : ℕ) → t < n → Ro
   asked-now = asked-kept (N.kept t l) (asked t l)
 
   -- by the sets of its parts, a term has its own
-  own-set : (i : ℕ) → i < maxVariables → named_by (hasSet sets) (entryIn code t) i ≡ named i (tree_of code₀ n t)
+  own-set : (i : ℕ) → i < max_variables → named_by (has_set sets) (entry_in code t) i ≡ named i (tree_of code₀ n t)
   own-set i h =
-      ap (λ x. named_by (hasSet sets) x i) (entry_kept (N.kept t l))
-      ∙ named-tree (hasSet sets) i (tree_of code₀ n) t (λ u x. (S.each u x).each i h) (type_of []) t (entryIn code₀ t) (asked t l).lower
-      ∙ ap (λ x. named i (termTree (type_of []) (tree_of code₀ n) t x)) (sym (listed-entry code₀ n t l))
-      ∙ ap (λ e. named i e) (sym (term-unfolds [] (listed (entryIn code₀) 0 n) (listed-lower code₀ n (λ t l. (asked t l).lower)) t))
+      ap (λ x. named_by (has_set sets) x i) (entry_kept (N.kept t l))
+      ∙ named_tree (has_set sets) i (tree_of code₀ n) t (λ u x. (S.each u x).each i h) (type_of []) t (entry_in code₀ t) (asked t l).lower
+      ∙ ap (λ x. named i (term_tree (type_of []) (tree_of code₀ n) t x)) (sym (listed-entry code₀ n t l))
+      ∙ ap (λ e. named i e) (sym (term-unfolds [] (listed (entry_in code₀) 0 n) (listed-lower code₀ n (λ t l. (asked t l).lower)) t))
 
-  pub sets_more : {u : Uses} {at : ℕ} → t < maxTerms → at ≡ t → Holds u (named_by (hasSet sets) (entryIn code t))
+  pub sets_more : {u : Uses} {at : ℕ} → t < max_terms → at ≡ t → Holds u (named_by (has_set sets) (entry_in code t))
       → SetsOf code₀ n (set sets at u.bits) (t + 1)
-  unfolding setIn
+  unfolding set_in
   sets_more {u} {at} few here H = record { lengths = length-set sets at u.bits ∙ S.lengths; each = λ r x. go r (dec_lt r t) x }
     where
-      go : (r : ℕ) → Dec (r < t) → r < t + 1 → Holds (setIn (set sets at u.bits) r) (λ i. named i (tree_of code₀ n r))
+      go : (r : ℕ) → Dec (r < t) → r < t + 1 → Holds (set_in (set sets at u.bits) r) (λ i. named i (tree_of code₀ n r))
       go r (yes x) h = record {
         each = λ i k. ap (λ b. has (record { bits = b }) i) (get_or-set_other sets at r u.bits 0 (λ e. omega arith)) ∙ (S.each r x).each i k;
       }
@@ -338,10 +338,10 @@ module _ {code₀ code : List ℕ} {n : ℕ} (asked : (t : ℕ) → t < n → Ro
     names = λ r x. go r (dec_lt r t) x;
   }
     where
-      go : (r : ℕ) → Dec (r < t) → r < t + 1 → kindIn code₀ r ≡ caseKind → Holds (namesIn code' r) (λ i. named i (tree_of code₀ n (firstIn code₀ r)))
+      go : (r : ℕ) → Dec (r < t) → r < t + 1 → kind_in code₀ r ≡ case_kind → Holds (names_in code' r) (λ i. named i (tree_of code₀ n (first_in code₀ r)))
       go r (yes x) h e = rw (names-beside P r (λ q. omega arith)) (N.names r x e)
       go r (no x) h e = let q : r ≡ t = omega arith in
-          rw (q, P.names (kind-kept (N.kept t l) ∙ rw q at e), first-kept (N.kept t l)) (S'.each (firstIn code₀ t) (scrutinee-lower (rw q at e)))
+          rw (q, P.names (kind-kept (N.kept t l) ∙ rw q at e), first-kept (N.kept t l)) (S'.each (first_in code₀ t) (scrutinee-lower (rw q at e)))
         where
-          scrutinee-lower : kindIn code₀ t ≡ caseKind → firstIn code₀ t < t + 1
-          scrutinee-lower e = let z = case-lower (asked t l) e in omega arith
+          scrutinee-lower : kind_in code₀ t ≡ case_kind → first_in code₀ t < t + 1
+          scrutinee-lower e = let z = case_lower (asked t l) e in omega arith

@@ -12,9 +12,9 @@ use package.Rattle.rules.specs.Term.{nth}
 use package.Rattle.rules.proofs.Basics.{given, or_left, or_right, or_elim, eqb_yes, eqb-sound}
 use package.Rattle.calls.specs.Answer.{accepted}
 use package.Rattle.calls.specs.Fields.{Layout}
-use package.Rattle.calls.specs.Entries.{TermEntry, n-unit, FunctionEntry, Entries}
-use package.Rattle.calls.specs.Named.{termsOfTerm, below, member, testTypes, testTerms, testFunctions, testUsed, testEntries}
-use package.Rattle.calls.proofs.Answer.{accepted-inj, unbind, required}
+use package.Rattle.calls.specs.Entries.{TermEntry, n_unit, FunctionEntry, Entries}
+use package.Rattle.calls.specs.Named.{terms_of_term, below, member, test_types, test_terms, test_functions, test_used, test_entries}
+use package.Rattle.calls.proofs.Answer.{accepted_inj, unbind, required}
 use package.Rattle.calls.proofs.Entries.{below-head}
 use package.Rattle.calls.proofs.Trees.{entries-good}
 
@@ -50,24 +50,24 @@ below_all n (i ∷ is) e = given (below-head n i is e) λ (l, e₁). all_more (�
 
 module _ (L : Layout) (E : Entries) where
   module _ (P : ℕ → Type 0) where
-    terms-collect : (k : ℕ) (used : List ℕ) (ts : List TermEntry) {more : List ℕ} → testTerms L E k used ts ≡ accepted more → All P used
-        → ((i : ℕ) → i < length ts → All P (termsOfTerm (get_or ts i n-unit))) → All P more
-    unfolding testTerms
-    terms-collect k used [] e f g = subst (All P) (accepted-inj e) f
-    terms-collect k used (t ∷ ts) e f g =
+    terms_collect : (k : ℕ) (used : List ℕ) (ts : List TermEntry) {more : List ℕ} → test_terms L E k used ts ≡ accepted more → All P used
+        → ((i : ℕ) → i < length ts → All P (terms_of_term (get_or ts i n_unit))) → All P more
+    unfolding test_terms
+    terms_collect k used [] e f g = subst (All P) (accepted_inj e) f
+    terms_collect k used (t ∷ ts) e f g =
         given (unbind _ _ e) λ (u, p, e₁). given (unbind _ _ e₁) λ (u', p', e₂).
-        terms-collect (suc k) (termsOfTerm t ++ used) ts e₂ (all_both P (termsOfTerm t) used (g 0 (omega arith)) f) (λ i l. g (suc i) (omega arith))
+        terms_collect (suc k) (terms_of_term t ++ used) ts e₂ (all_both P (terms_of_term t) used (g 0 (omega arith)) f) (λ i l. g (suc i) (omega arith))
 
-    functions-collect : (g : ℕ) (used : List ℕ) (hs : List FunctionEntry) {more : List ℕ} → testFunctions L E g used hs ≡ accepted more → All P used
+    functions_collect : (g : ℕ) (used : List ℕ) (hs : List FunctionEntry) {more : List ℕ} → test_functions L E g used hs ≡ accepted more → All P used
         → ((i : ℕ) (h : FunctionEntry) → nth hs i ≡ some h → P h.body) → All P more
-    unfolding testFunctions nth
-    functions-collect g used [] e f b = subst (All P) (accepted-inj e) f
-    functions-collect g used (h ∷ hs) e f b =
+    unfolding test_functions nth
+    functions_collect g used [] e f b = subst (All P) (accepted_inj e) f
+    functions_collect g used (h ∷ hs) e f b =
         given (unbind _ _ e) λ (u, p, e₁). given (unbind _ _ e₁) λ (u', p', e₂).
-        functions-collect (suc g) (h.body ∷ used) hs e₂ (all_more P h.body used (b 0 h refl) f) (λ i. b (suc i))
+        functions_collect (suc g) (h.body ∷ used) hs e₂ (all_more P h.body used (b 0 h refl) f) (λ i. b (suc i))
 
-  all-used : (k : ℕ) (used : List ℕ) (ts : List TermEntry) → testUsed L E k used ts ≡ accepted tt → (i : ℕ) → i < length ts → member (k + i) used ≡ true
-  unfolding testUsed
+  all-used : (k : ℕ) (used : List ℕ) (ts : List TermEntry) → test_used L E k used ts ≡ accepted tt → (i : ℕ) → i < length ts → member (k + i) used ≡ true
+  unfolding test_used
   all-used k used [] e i l = absurd (omega arith)
   all-used k used (t ∷ ts) e zero l =
       given (unbind _ _ e) λ (u, p, e₁). rw (let z : k + 0 ≡ k = omega arith in z) (required _ 4 _ p)
@@ -75,28 +75,28 @@ module _ (L : Layout) (E : Entries) where
       given (unbind _ _ e) λ (u, p, e₁). rw (let z : k + suc i ≡ suc k + i = omega arith in z) (all-used (suc k) used ts e₁ i (omega arith))
 
   -- what holds of all that term entries name and of all bodies, holds of every term entry
-  used-by : (P : ℕ → Type 0) → testEntries L E ≡ accepted tt → ((u : ℕ) → u < length E.terms → All P (termsOfTerm (get_or E.terms u n-unit)))
+  used_by : (P : ℕ → Type 0) → test_entries L E ≡ accepted tt → ((u : ℕ) → u < length E.terms → All P (terms_of_term (get_or E.terms u n_unit)))
       → ((g : ℕ) (h : FunctionEntry) → nth E.functions g ≡ some h → P h.body) → (k : ℕ) → k < length E.terms → P k
-  unfolding testEntries
-  used-by P e named bodies k l =
-      given (unbind (testTypes L 0 E.types) _ e) λ (u, p, e₁).
-      given (unbind (testTerms L E 0 [] E.terms) _ e₁) λ (inTerms, p₂, e₂).
-      given (unbind (testFunctions L E 0 inTerms E.functions) _ e₂) λ (inAll, p₃, e₃).
-      functions-collect P 0 inTerms E.functions p₃ (terms-collect P 0 [] E.terms p₂ (all_none P) named) bodies k
+  unfolding test_entries
+  used_by P e named bodies k l =
+      given (unbind (test_types L 0 E.types) _ e) λ (u, p, e₁).
+      given (unbind (test_terms L E 0 [] E.terms) _ e₁) λ (inTerms, p₂, e₂).
+      given (unbind (test_functions L E 0 inTerms E.functions) _ e₂) λ (inAll, p₃, e₃).
+      functions_collect P 0 inTerms E.functions p₃ (terms_collect P 0 [] E.terms p₂ (all_none P) named) bodies k
       (rw (let z : 0 + k ≡ k = omega arith in z) at (all-used 0 inAll E.terms e₃ k l))
 
   ----------------------------------------------------------------
   -- From the bodies down
 
-  module _ (P : ℕ → Type 0) (tested : testEntries L E ≡ accepted tt) (bodies : (g : ℕ) (h : FunctionEntry) → nth E.functions g ≡ some h → P h.body)
-      (parts : (u : ℕ) → u < length E.terms → P u → All P (termsOfTerm (get_or E.terms u n-unit))) where
+  module _ (P : ℕ → Type 0) (tested : test_entries L E ≡ accepted tt) (bodies : (g : ℕ) (h : FunctionEntry) → nth E.functions g ≡ some h → P h.body)
+      (parts : (u : ℕ) → u < length E.terms → P u → All P (terms_of_term (get_or E.terms u n_unit))) where
     -- of the highest `n` entries: an entry that names one of them is higher
     highest : (n k : ℕ) → length E.terms ≤ k + n → k < length E.terms → P k
     highest zero k h l = absurd (omega arith)
     highest (suc n) k h l =
-        used-by (λ j. length E.terms ≤ j + suc n → P j) tested
-        (λ u l j e h. parts u l (highest n u (let z : j < u = below_all u _ ((entries-good L E tested).term u l).terms-lower j e in omega arith) l) j e)
+        used_by (λ j. length E.terms ≤ j + suc n → P j) tested
+        (λ u l j e h. parts u l (highest n u (let z : j < u = below_all u _ ((entries-good L E tested).term u l).terms_lower j e in omega arith) l) j e)
         (λ g h q i. bodies g h q) k l h
 
-    pub every-term : (k : ℕ) → k < length E.terms → P k
-    every-term k l = highest (length E.terms) k (omega arith) l
+    pub every_term : (k : ℕ) → k < length E.terms → P k
+    every_term k l = highest (length E.terms) k (omega arith) l

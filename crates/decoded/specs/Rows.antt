@@ -6,99 +6,99 @@
 -- Laws: proofs/Agreeing, proofs/Trees, proofs/Named.
 use Rattle.std.specs.Prelude.{ℕ, zero, suc, ◌+◌, ◌*◌, ◌-◌, ◌≤◌, ◌<◌, min, ◌≡◌, Bool, true, not, List, [], ◌∷◌, get_or, eqb}
 use package.Rattle.rules.specs.Term.{Term, Program, within}
-use package.Rattle.rules.specs.Limits.{maxTerms, maxFunctions, maxVariables}
-use package.Rattle.calls.specs.Entries.{TypeEntry, TermEntry, termOfKind, termOf, FunctionEntry, program_of}
-use package.Rattle.calls.specs.Named.{termsOfTerm, functionsOfTerm, below}
-use package.Rattle.program.specs.Kinds.{termKinds, variableKind, caseKind, callKind}
+use package.Rattle.rules.specs.Limits.{max_terms, max_functions, max_variables}
+use package.Rattle.calls.specs.Entries.{TypeEntry, TermEntry, term_of_kind, term_of, FunctionEntry, program_of}
+use package.Rattle.calls.specs.Named.{terms_of_term, functions_of_term, below}
+use package.Rattle.program.specs.Kinds.{term_kinds, variable_kind, case_kind, call_kind}
 use package.Rattle.varsets.specs.declared.Uses.{Uses}
-use package.Rattle.varsets.specs.Sets.{Holds, ofHalves}
+use package.Rattle.varsets.specs.Sets.{Holds, of_halves}
 
 ----------------------------------------------------------------
 -- The numbers of a row
 
--- how many ancilla terms a row has room for: as many as `maxParameters` allows, the dynamic one apart (proofs/Accepted)
+-- how many ancilla terms a row has room for: as many as `max_parameters` allows, the dynamic one apart (proofs/Accepted)
 abbrev pub room_for : ℕ
 room_for = 7
 
 -- how many numbers a row has: four, then those of the ancilla terms and of the dynamic one
-abbrev pub rowHeads : ℕ
-rowHeads = 4
+abbrev pub row_heads : ℕ
+row_heads = 4
 
-abbrev pub rowNumbers : ℕ
-rowNumbers = rowHeads + (room_for + 1)
+abbrev pub row_numbers : ℕ
+row_numbers = row_heads + (room_for + 1)
 
 -- where the rows of functions and the counts begin
-abbrev pub functionRows : ℕ
-functionRows = maxTerms
+abbrev pub function_rows : ℕ
+function_rows = max_terms
 
 abbrev pub all_rows : ℕ
-all_rows = functionRows + maxFunctions
+all_rows = function_rows + max_functions
 
-abbrev pub countsAt : ℕ
-countsAt = rowNumbers * all_rows
+abbrev pub counts_at : ℕ
+counts_at = row_numbers * all_rows
 
 -- all numbers
-abbrev pub codeNumbers : ℕ
-codeNumbers = countsAt + 2
+abbrev pub code_numbers : ℕ
+code_numbers = counts_at + 2
 
-unfoldable pub kindIn : List ℕ → ℕ → ℕ
-kindIn code t = get_or code (rowNumbers * t) 0
+unfoldable pub kind_in : List ℕ → ℕ → ℕ
+kind_in code t = get_or code (row_numbers * t) 0
 
-unfoldable pub firstIn : List ℕ → ℕ → ℕ
-firstIn code t = get_or code (rowNumbers * t + 1) 0
+unfoldable pub first_in : List ℕ → ℕ → ℕ
+first_in code t = get_or code (row_numbers * t + 1) 0
 
-unfoldable pub secondIn : List ℕ → ℕ → ℕ
-secondIn code t = get_or code (rowNumbers * t + 2) 0
+unfoldable pub second_in : List ℕ → ℕ → ℕ
+second_in code t = get_or code (row_numbers * t + 2) 0
 
-unfoldable pub thirdIn : List ℕ → ℕ → ℕ
-thirdIn code t = get_or code (rowNumbers * t + 3) 0
+unfoldable pub third_in : List ℕ → ℕ → ℕ
+third_in code t = get_or code (row_numbers * t + 3) 0
 
 -- the numbers from the fifth on, eight of them
-unfoldable pub argumentIn : List ℕ → ℕ → ℕ → ℕ
-argumentIn code t k = get_or code (rowNumbers * t + rowHeads + k) 0
+unfoldable pub argument_in : List ℕ → ℕ → ℕ → ℕ
+argument_in code t k = get_or code (row_numbers * t + row_heads + k) 0
 
 -- `n` of them, from number `k` on
-unfoldable pub argumentsIn : List ℕ → ℕ → ℕ → ℕ → List ℕ
-argumentsIn code t k zero = []
-argumentsIn code t k (suc n) = argumentIn code t k ∷ argumentsIn code t (k + 1) n
+unfoldable pub arguments_in : List ℕ → ℕ → ℕ → ℕ → List ℕ
+arguments_in code t k zero = []
+arguments_in code t k (suc n) = argument_in code t k ∷ arguments_in code t (k + 1) n
 
 -- the ancilla terms of a call's row
-unfoldable pub ancillaeIn : List ℕ → ℕ → ℕ
-ancillaeIn code t = min room_for (thirdIn code t)
+unfoldable pub ancillae_in : List ℕ → ℕ → ℕ
+ancillae_in code t = min room_for (third_in code t)
 
 -- the variables that the scrutinee of a case's row names: a set in two numbers
-unfoldable pub namesIn : List ℕ → ℕ → Uses
-unfolding argumentIn
-namesIn code t = ofHalves (argumentIn code t 0) (argumentIn code t 1)
+unfoldable pub names_in : List ℕ → ℕ → Uses
+unfolding argument_in
+names_in code t = of_halves (argument_in code t 0) (argument_in code t 1)
 
 -- how many parameters a function's row says; the last is dynamic
-unfoldable pub parametersIn : List ℕ → ℕ → ℕ
-parametersIn code g = kindIn code (functionRows + g)
+unfoldable pub parameters_in : List ℕ → ℕ → ℕ
+parameters_in code g = kind_in code (function_rows + g)
 
-unfoldable pub bodyIn : List ℕ → ℕ → ℕ
-bodyIn code g = firstIn code (functionRows + g)
+unfoldable pub body_in : List ℕ → ℕ → ℕ
+body_in code g = first_in code (function_rows + g)
 
-unfoldable pub termCount : List ℕ → ℕ
-termCount code = get_or code countsAt 0
+unfoldable pub term_count : List ℕ → ℕ
+term_count code = get_or code counts_at 0
 
-unfoldable pub functionCount : List ℕ → ℕ
-functionCount code = get_or code (countsAt + 1) 0
+unfoldable pub function_count : List ℕ → ℕ
+function_count code = get_or code (counts_at + 1) 0
 
 ----------------------------------------------------------------
 -- The program that the rows are
 
 -- the term entry that row `t` says
-unfoldable pub entryIn : List ℕ → ℕ → TermEntry
-entryIn code t = termOfKind (kindIn code t) (firstIn code t) (secondIn code t) (thirdIn code t) (firstIn code t)
-    (argumentsIn code t 0 (ancillaeIn code t)) (argumentIn code t (ancillaeIn code t))
+unfoldable pub entry_in : List ℕ → ℕ → TermEntry
+entry_in code t = term_of_kind (kind_in code t) (first_in code t) (second_in code t) (third_in code t) (first_in code t)
+    (arguments_in code t 0 (ancillae_in code t)) (argument_in code t (ancillae_in code t))
 
 -- the function entry that the row of function `g` says
-unfoldable pub functionIn : List ℕ → ℕ → FunctionEntry
-functionIn code g = record {
-  result = secondIn code (functionRows + g);
-  ancillae = argumentsIn code (functionRows + g) 0 (min room_for (parametersIn code g - 1));
-  dynamic = argumentIn code (functionRows + g) (min room_for (parametersIn code g - 1));
-  body = bodyIn code g;
+unfoldable pub function_in : List ℕ → ℕ → FunctionEntry
+function_in code g = record {
+  result = second_in code (function_rows + g);
+  ancillae = arguments_in code (function_rows + g) 0 (min room_for (parameters_in code g - 1));
+  dynamic = argument_in code (function_rows + g) (min room_for (parameters_in code g - 1));
+  body = body_in code g;
 }
 
 -- what `f` says of `n` numbers, from `i` on
@@ -106,18 +106,18 @@ unfoldable pub listed : {A : Type 0} → (ℕ → A) → ℕ → ℕ → List A
 listed f i zero = []
 listed f i (suc n) = f i ∷ listed f (i + 1) n
 
-unfoldable pub termsIn : List ℕ → List TermEntry
-termsIn code = listed (entryIn code) 0 (termCount code)
+unfoldable pub terms_in : List ℕ → List TermEntry
+terms_in code = listed (entry_in code) 0 (term_count code)
 
-unfoldable pub functionsIn : List ℕ → List FunctionEntry
-functionsIn code = listed (functionIn code) 0 (functionCount code)
+unfoldable pub functions_in : List ℕ → List FunctionEntry
+functions_in code = listed (function_in code) 0 (function_count code)
 
 -- the tree of term `t`, and the program, whatever the type entries are: a run looks at no type
-abbrev pub treeIn : List ℕ → List TypeEntry → ℕ → Term
-treeIn code ys t = termOf ys (termsIn code) t
+abbrev pub tree_in : List ℕ → List TypeEntry → ℕ → Term
+tree_in code ys t = term_of ys (terms_in code) t
 
-abbrev pub programIn : List ℕ → List TypeEntry → Program
-programIn code ys = program_of (record { types = ys; terms = termsIn code; functions = functionsIn code })
+abbrev pub program_in : List ℕ → List TypeEntry → Program
+program_in code ys = program_of (record { types = ys; terms = terms_in code; functions = functions_in code })
 
 -- Is the variable named in the tree, as a use or inside an ancilla argument? (02, F-3)
 abbrev pub named : ℕ → Term → Bool
@@ -130,12 +130,12 @@ named i e = not (within (λ j. not (eqb i j)) e)
 -- function's body is a term that is there; a variable's number is one that a set has room for, and the row of a case has the set of the
 -- variables that its scrutinee names.
 pub record Rows (code : List ℕ) : Type 0 where
-  pub few-terms : termCount code ≤ maxTerms
-  pub few-functions : functionCount code ≤ maxFunctions
-  pub known : (t : ℕ) → t < termCount code → kindIn code t < termKinds
-  pub few : (t : ℕ) → t < termCount code → kindIn code t ≡ callKind → thirdIn code t ≤ room_for
-  pub lower : (t : ℕ) → t < termCount code → below t (termsOfTerm (entryIn code t)) ≡ true
-  pub called : (t : ℕ) → t < termCount code → below (functionCount code) (functionsOfTerm (entryIn code t)) ≡ true
-  pub bodies : (g : ℕ) → g < functionCount code → bodyIn code g < termCount code
-  pub variables : (t : ℕ) → t < termCount code → kindIn code t ≡ variableKind → firstIn code t < maxVariables
-  pub names : (t : ℕ) → t < termCount code → kindIn code t ≡ caseKind → Holds (namesIn code t) (λ i. named i (treeIn code [] (firstIn code t)))
+  pub few_terms : term_count code ≤ max_terms
+  pub few_functions : function_count code ≤ max_functions
+  pub known : (t : ℕ) → t < term_count code → kind_in code t < term_kinds
+  pub few : (t : ℕ) → t < term_count code → kind_in code t ≡ call_kind → third_in code t ≤ room_for
+  pub lower : (t : ℕ) → t < term_count code → below t (terms_of_term (entry_in code t)) ≡ true
+  pub called : (t : ℕ) → t < term_count code → below (function_count code) (functions_of_term (entry_in code t)) ≡ true
+  pub bodies : (g : ℕ) → g < function_count code → body_in code g < term_count code
+  pub variables : (t : ℕ) → t < term_count code → kind_in code t ≡ variable_kind → first_in code t < max_variables
+  pub names : (t : ℕ) → t < term_count code → kind_in code t ≡ case_kind → Holds (names_in code t) (λ i. named i (tree_in code [] (first_in code t)))

@@ -1,10 +1,10 @@
 // A loaded program becomes rows: one pass over its terms, one for the variables that they name, one over its functions.
 ghost use Rattle.std.specs.Prelude.{◌≡◌, ◌+◌, ◌*◌, ◌≤◌, ◌<◌, length};
-ghost use Rattle.rules.specs.Limits.{maxTerms, maxFunctions};
+ghost use Rattle.rules.specs.Limits.{max_terms, max_functions};
 ghost use Rattle.calls.specs.Fields.{kind_at};
 ghost use Rattle.program.specs.Parts.{FunctionField};
-ghost use Rattle.program.specs.Kinds.{callKind};
-ghost use Rattle.decoded.specs.Rows.{room_for, all_rows, codeNumbers};
+ghost use Rattle.program.specs.Kinds.{call_kind};
+ghost use Rattle.decoded.specs.Rows.{room_for, all_rows, code_numbers};
 ghost use Rattle.decoded.specs.Decoding.{FieldOfRow, FieldsOfTerms, FieldsOfFunctions, Heads, Listed, TermPut, FunctionPut, TermRows, FunctionRows, Decodes};
 
 use crate::naming;
@@ -13,7 +13,7 @@ use program::{kinds, views};
 
 // The first four numbers of a row.
 fn put_heads(code: &mut [u16; CODE], row: usize, kind: u16, a: u16, b: u16, c: u16)
-    requires code_len { length code.old ≡ codeNumbers }
+    requires code_len { length code.old ≡ code_numbers }
     requires row_lt_all_rows { row < all_rows }
     ensures { Heads code.old code.new row kind a b c }
 {
@@ -26,7 +26,7 @@ fn put_heads(code: &mut [u16; CODE], row: usize, kind: u16, a: u16, b: u16, c: u
 
 // The numbers of a row from the fifth on: n references from place `from` of the program.
 fn put_listed(code: &mut [u16; CODE], row: usize, p: &[u8], from: usize, n: usize)
-    requires code_len { length code.old ≡ codeNumbers }
+    requires code_len { length code.old ≡ code_numbers }
     requires row_lt_all_rows { (row < all_rows) × (n ≤ room_for + 1) × (from + 2 * n ≤ length p.now) }
     ensures { Listed code.old code.new row p.now from n }
 {
@@ -39,8 +39,8 @@ fn put_listed(code: &mut [u16; CODE], row: usize, p: &[u8], from: usize, n: usiz
 
 // The row of term t, whose field is at `at`.
 fn put_term(code: &mut [u16; CODE], t: usize, p: &[u8], at: usize)
-    requires code_len { length code.old ≡ codeNumbers }
-    requires t_lt_max_terms { (t < maxTerms) × FieldOfRow p.now at }
+    requires code_len { length code.old ≡ code_numbers }
+    requires t_lt_max_terms { (t < max_terms) × FieldOfRow p.now at }
     ensures { TermPut code.old code.new t p.now at }
 {
     let kind = views::kind(p, at);
@@ -84,9 +84,9 @@ fn put_term(code: &mut [u16; CODE], t: usize, p: &[u8], at: usize)
 
 // The row of a call: function, how many ancilla terms, then all its terms.
 fn put_call(code: &mut [u16; CODE], t: usize, p: &[u8], at: usize)
-    requires code_len { length code.old ≡ codeNumbers }
-    requires t_lt_max_terms { (t < maxTerms) × FieldOfRow p.now at }
-    requires at_value { kind_at p.now at ≡ callKind }
+    requires code_len { length code.old ≡ code_numbers }
+    requires t_lt_max_terms { (t < max_terms) × FieldOfRow p.now at }
+    requires at_value { kind_at p.now at ≡ call_kind }
     ensures { TermPut code.old code.new t p.now at }
 {
     let n = views::call_ancillae(p, at);
@@ -103,8 +103,8 @@ fn put_call(code: &mut [u16; CODE], t: usize, p: &[u8], at: usize)
 
 // The row of function g, whose field is at `at`: how many parameters, body, result type, the parameters' types.
 fn put_function(code: &mut [u16; CODE], g: usize, p: &[u8], at: usize)
-    requires code_len { length code.old ≡ codeNumbers }
-    requires g_lt_max_functions { (g < maxFunctions) × FunctionField p.now at }
+    requires code_len { length code.old ≡ code_numbers }
+    requires g_lt_max_functions { (g < max_functions) × FunctionField p.now at }
     ensures { FunctionPut code.old code.new g p.now at }
 {
     let n = views::function_parameters(p, at);
@@ -117,7 +117,7 @@ fn put_function(code: &mut [u16; CODE], g: usize, p: &[u8], at: usize)
 
 // The rows of the terms at these offsets.
 fn put_terms(code: &mut [u16; CODE], p: &[u8], terms: &[u16])
-    requires code_len { length code.old ≡ codeNumbers }
+    requires code_len { length code.old ≡ code_numbers }
     requires fields_of_terms { FieldsOfTerms p.now terms.now }
     ensures { TermRows code.old code.new p.now terms.now (length terms.now) }
 {
@@ -130,7 +130,7 @@ fn put_terms(code: &mut [u16; CODE], p: &[u8], terms: &[u16])
 
 // The rows of the functions at these offsets, behind those of the terms.
 fn put_functions(code: &mut [u16; CODE], p: &[u8], functions: &[u16])
-    requires code_len { length code.old ≡ codeNumbers }
+    requires code_len { length code.old ≡ code_numbers }
     requires fields_of_functions { FieldsOfFunctions p.now functions.now }
     ensures { FunctionRows code.old code.new p.now functions.now (length functions.now) }
 {
@@ -143,7 +143,7 @@ fn put_functions(code: &mut [u16; CODE], p: &[u8], functions: &[u16])
 
 // A program whose terms and functions are at these offsets.
 pub fn decode(code: &mut [u16; CODE], p: &[u8], terms: &[u16], functions: &[u16])
-    requires code_len { length code.old ≡ codeNumbers }
+    requires code_len { length code.old ≡ code_numbers }
     requires fields_of_terms { FieldsOfTerms p.now terms.now }
     requires fields_of_functions { FieldsOfFunctions p.now functions.now }
     ensures { Decodes code.new p.now terms.now functions.now }

@@ -1,11 +1,11 @@
 // The variables that terms name (02, F-3). The parts of a term stand before it, so that one pass over the rows finds the set of each from the
 // sets of its parts. The row of a case gets the set of its scrutinee: whether the case chooses by an ancilla is then one test, and no walk.
 ghost use Rattle.std.specs.Prelude.{◌≡◌, true, ℕ, ◌+◌, ◌≤◌, ◌<◌, length};
-ghost use Rattle.rules.specs.Limits.{maxTerms};
+ghost use Rattle.rules.specs.Limits.{max_terms};
 ghost use Rattle.calls.specs.Named.{below};
 ghost use Rattle.varsets.specs.Sets.{Holds};
-ghost use Rattle.decoded.specs.Rows.{codeNumbers, entryIn};
-ghost use Rattle.decoded.specs.Naming.{setIn, hasSet, numbersFrom, any_of, named_by, RowAsked, ScrutineePut, RowsNamed};
+ghost use Rattle.decoded.specs.Rows.{code_numbers, entry_in};
+ghost use Rattle.decoded.specs.Naming.{set_in, has_set, numbers_from, any_of, named_by, RowAsked, ScrutineePut, RowsNamed};
 
 use crate::rows::{CODE, HEADS, ROW};
 use crate::{kinds, rows};
@@ -14,8 +14,8 @@ use varsets::Uses;
 
 // The set of term t.
 fn set_of(sets: &[u32; MAX_TERMS], t: u16) -> Uses
-    requires { t < maxTerms }
-    ensures { result ≡ setIn sets.now t }
+    requires { t < max_terms }
+    ensures { result ≡ set_in sets.now t }
 {
     let at = octets::wide_index(t);
     Uses { bits: sets[at] }
@@ -23,9 +23,9 @@ fn set_of(sets: &[u32; MAX_TERMS], t: u16) -> Uses
 
 // The variables of n terms together, whose numbers stand from number `from` of the rows on.
 fn union_of(code: &[u16; CODE], sets: &[u32; MAX_TERMS], from: usize, n: usize) -> Uses
-    requires n_bound { from + n ≤ codeNumbers }
-    requires n_value { below maxTerms (numbersFrom code.now from n) ≡ true }
-    ensures { Holds result (any_of (hasSet sets.now) (numbersFrom code.now from n)) }
+    requires n_bound { from + n ≤ code_numbers }
+    requires n_value { below max_terms (numbers_from code.now from n) ≡ true }
+    ensures { Holds result (any_of (has_set sets.now) (numbers_from code.now from n)) }
 {
     let mut names = Uses::none();
     let mut k = 0;
@@ -39,8 +39,8 @@ fn union_of(code: &[u16; CODE], sets: &[u32; MAX_TERMS], from: usize, n: usize) 
 
 // The variables that term t names, by the sets of its parts.
 fn names_of(code: &[u16; CODE], sets: &[u32; MAX_TERMS], t: u16) -> Uses
-    requires { (t < maxTerms) × RowAsked code.now t }
-    ensures { Holds result (named_by (hasSet sets.now) (entryIn code.now t)) }
+    requires { (t < max_terms) × RowAsked code.now t }
+    ensures { Holds result (named_by (has_set sets.now) (entry_in code.now t)) }
 {
     let row = ROW * octets::wide_index(t);
     let kind = rows::kind_of(code, t);
@@ -60,8 +60,8 @@ fn names_of(code: &[u16; CODE], sets: &[u32; MAX_TERMS], t: u16) -> Uses
 
 // If term t is a case, its row gets the set of its scrutinee.
 fn put_scrutinee(code: &mut [u16; CODE], sets: &[u32; MAX_TERMS], t: u16)
-    requires code_len { length code.old ≡ codeNumbers }
-    requires t_lt_max_terms { (t < maxTerms) × RowAsked code.old t }
+    requires code_len { length code.old ≡ code_numbers }
+    requires t_lt_max_terms { (t < max_terms) × RowAsked code.old t }
     ensures { ScrutineePut code.old code.new sets.now t }
 {
     if rows::kind_of(code, t) != kinds::CASE {
@@ -76,8 +76,8 @@ fn put_scrutinee(code: &mut [u16; CODE], sets: &[u32; MAX_TERMS], t: u16)
 
 // The sets of the cases among the first n rows.
 pub fn put_names(code: &mut [u16; CODE], n: u16)
-    requires code_len { length code.old ≡ codeNumbers }
-    requires n_le_max_terms { (n ≤ maxTerms) × ((t : ℕ) → t < n → RowAsked code.old t) }
+    requires code_len { length code.old ≡ code_numbers }
+    requires n_le_max_terms { (n ≤ max_terms) × ((t : ℕ) → t < n → RowAsked code.old t) }
     ensures { RowsNamed code.old code.new n n }
 {
     let mut sets = [0u32; MAX_TERMS];

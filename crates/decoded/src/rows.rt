@@ -1,10 +1,10 @@
 // The rows of a decoded program, read: term t has row t, and function g the row behind those of the terms. A kind is one of section 1's.
 ghost use Rattle.std.specs.Prelude.{◌≡◌, ◌+◌, ◌<◌, ◌≤◌, List};
-ghost use Rattle.rules.specs.Limits.{maxTerms, maxFunctions};
-ghost use Rattle.rules.specs.Term.{byAncilla};
+ghost use Rattle.rules.specs.Limits.{max_terms, max_functions};
+ghost use Rattle.rules.specs.Term.{by_ancilla};
 ghost use Rattle.calls.specs.Entries.{TypeEntry};
-ghost use Rattle.program.specs.Kinds.{caseKind};
-ghost use Rattle.decoded.specs.Rows.{room_for, kindIn, firstIn, secondIn, thirdIn, argumentIn, bodyIn, termCount, treeIn, Rows};
+ghost use Rattle.program.specs.Kinds.{case_kind};
+ghost use Rattle.decoded.specs.Rows.{room_for, kind_in, first_in, second_in, third_in, argument_in, body_in, term_count, tree_in, Rows};
 
 use rules::{MAX_FUNCTIONS, MAX_PARAMETERS, MAX_TERMS};
 use varsets::Uses;
@@ -23,8 +23,8 @@ pub const CODE: usize = COUNTS + 2;
 
 // The kind of term t (section 1).
 pub fn kind_of(code: &[u16; CODE], t: u16) -> u16
-    requires { t < maxTerms }
-    ensures { result ≡ kindIn code.now t }
+    requires { t < max_terms }
+    ensures { result ≡ kind_in code.now t }
 {
     let row = octets::wide_index(t);
     code[ROW * row]
@@ -32,16 +32,16 @@ pub fn kind_of(code: &[u16; CODE], t: u16) -> u16
 
 // The references of term t by position; the first of a variable is its number, of a call its function.
 pub fn first_of(code: &[u16; CODE], t: u16) -> u16
-    requires { t < maxTerms }
-    ensures { result ≡ firstIn code.now t }
+    requires { t < max_terms }
+    ensures { result ≡ first_in code.now t }
 {
     let row = octets::wide_index(t);
     code[ROW * row + 1]
 }
 
 pub fn second_of(code: &[u16; CODE], t: u16) -> u16
-    requires { t < maxTerms }
-    ensures { result ≡ secondIn code.now t }
+    requires { t < max_terms }
+    ensures { result ≡ second_in code.now t }
 {
     let row = octets::wide_index(t);
     code[ROW * row + 2]
@@ -49,8 +49,8 @@ pub fn second_of(code: &[u16; CODE], t: u16) -> u16
 
 // The third of a call is how many ancilla terms it has.
 pub fn third_of(code: &[u16; CODE], t: u16) -> u16
-    requires { t < maxTerms }
-    ensures { result ≡ thirdIn code.now t }
+    requires { t < max_terms }
+    ensures { result ≡ third_in code.now t }
 {
     let row = octets::wide_index(t);
     code[ROW * row + 3]
@@ -58,8 +58,8 @@ pub fn third_of(code: &[u16; CODE], t: u16) -> u16
 
 // Term k of call t; the dynamic term comes after the ancilla terms.
 pub fn argument_of(code: &[u16; CODE], t: u16, k: usize) -> u16
-    requires { (t < maxTerms) × (k ≤ room_for) }
-    ensures { result ≡ argumentIn code.now t k }
+    requires { (t < max_terms) × (k ≤ room_for) }
+    ensures { result ≡ argument_in code.now t k }
 {
     let row = octets::wide_index(t);
     code[ROW * row + HEADS + k]
@@ -67,8 +67,8 @@ pub fn argument_of(code: &[u16; CODE], t: u16, k: usize) -> u16
 
 // The body of function g.
 pub fn body_of(code: &[u16; CODE], g: u16) -> u16
-    requires { g < maxFunctions }
-    ensures { result ≡ bodyIn code.now g }
+    requires { g < max_functions }
+    ensures { result ≡ body_in code.now g }
 {
     let row = FUNCTIONS_FROM + octets::wide_index(g);
     code[ROW * row + 1]
@@ -77,8 +77,8 @@ pub fn body_of(code: &[u16; CODE], g: u16) -> u16
 // With q ancilla parameters and n variables in scope: does case t choose by an ancilla (02, F-3)?
 pub fn chooses_by_ancilla(code: &[u16; CODE], t: u16, q: usize, n: usize) -> bool
     requires rows { Rows code.now }
-    requires t_bound { (t < termCount code.now) × (kindIn code.now t ≡ caseKind) }
-    ensures { (ys : List TypeEntry) → result ≡ byAncilla q n (treeIn code.now ys (firstIn code.now t)) }
+    requires t_bound { (t < term_count code.now) × (kind_in code.now t ≡ case_kind) }
+    ensures { (ys : List TypeEntry) → result ≡ by_ancilla q n (tree_in code.now ys (first_in code.now t)) }
 {
     let low = argument_of(code, t, 0);
     let high = argument_of(code, t, 1);

@@ -1,17 +1,17 @@
 -- The calls forward and backward as one, and what they answer (section 4), against calls/specs/Runs.
 use Rattle.std.specs.Prelude.{ℕ, ◌≡◌, Bool, true, false, List}
 use package.Rattle.calls.specs.Answer.{Answer, cleared}
-use package.Rattle.calls.specs.Runs.{Ran, forwardCall, backwardCall, written}
+use package.Rattle.calls.specs.Runs.{Ran, forward_call, backward_call, written}
 use package.Rattle.answers.specs.declared.RunAnswer.{RunAnswer}
-use package.Rattle.answers.specs.Answers.{runAnswer, summary}
+use package.Rattle.answers.specs.Answers.{run_answer, summary}
 
 -- all rows
-unfoldable pub runCall : Bool → List ℕ → ℕ → List ℕ → List ℕ → ℕ → ℕ → ℕ → Answer Ran
-runCall true = backwardCall
-runCall false = forwardCall
+unfoldable pub run_call : Bool → List ℕ → ℕ → List ℕ → List ℕ → ℕ → ℕ → ℕ → Answer Ran
+run_call true = backward_call
+run_call false = forward_call
 
 -- An answer whose meaning is `x`, with the output and the workspace before and after it.
 pub record CallMeans (r : RunAnswer) (x : Answer Ran) (out out' ws ws' : List ℕ) : Type 0 where
-  pub answer : runAnswer r ≡ summary x
+  pub answer : run_answer r ≡ summary x
   pub fills : out' ≡ written x out
   pub clear : ws' ≡ cleared x ws

@@ -2,17 +2,17 @@
 // the workspace is all zero after every call, but unchanged if it is too short.
 ghost use Rattle.std.specs.Prelude.{◌≡◌, length};
 ghost use Rattle.calls.specs.Answer.{cleared};
-ghost use Rattle.calls.specs.Conversions.{openCall, convertCall, rollbackCall};
-ghost use Rattle.calls.specs.Book.{afterOpen, afterTurned};
-ghost use Rattle.answers.specs.Answers.{checkAnswer, runAnswer, openAnswer, heldAnswer};
+ghost use Rattle.calls.specs.Conversions.{open_call, convert_call, rollback_call};
+ghost use Rattle.calls.specs.Book.{after_open, after_turned};
+ghost use Rattle.answers.specs.Answers.{check_answer, run_answer, open_answer, held_answer};
 
 use answers::{CheckAnswer, Refusal, RunAnswer};
 
 // Opens a journal with a record: whatever the buffer holds, it says the record and no conversion afterwards.
 pub fn open(program: &[u8], record: &[u8], workspace: &mut [u8], journal: &mut [u8]) -> CheckAnswer
-    ensures answer { checkAnswer result ≡ openAnswer (openCall program.now «record».now (length workspace.old) (length journal.old)) }
-    ensures keeps { journal.new ≡ (afterOpen journal.old (openCall program.now «record».now (length workspace.old) (length journal.old))).journal }
-    ensures clear { workspace.new ≡ cleared (openCall program.now «record».now (length workspace.old) (length journal.old)) workspace.old }
+    ensures answer { check_answer result ≡ open_answer (open_call program.now «record».now (length workspace.old) (length journal.old)) }
+    ensures keeps { journal.new ≡ (after_open journal.old (open_call program.now «record».now (length workspace.old) (length journal.old))).journal }
+    ensures clear { workspace.new ≡ cleared (open_call program.now «record».now (length workspace.old) (length journal.old)) workspace.old }
 {
     if requests::preparing::enough(workspace.len(), 0) {
         let answer = conversions::programs::open(program, record, workspace, journal);
@@ -31,9 +31,9 @@ pub fn convert(
     workspace: &mut [u8],
     journal: &mut [u8],
 ) -> RunAnswer
-    ensures answer { runAnswer result ≡ heldAnswer (convertCall program.now function ancillae.now fuel (length workspace.old) journal.old) }
-    ensures keeps { journal.new ≡ (afterTurned journal.old (convertCall program.now function ancillae.now fuel (length workspace.old) journal.old)).journal }
-    ensures clear { workspace.new ≡ cleared (convertCall program.now function ancillae.now fuel (length workspace.old) journal.old) workspace.old }
+    ensures answer { run_answer result ≡ held_answer (convert_call program.now function ancillae.now fuel (length workspace.old) journal.old) }
+    ensures keeps { journal.new ≡ (after_turned journal.old (convert_call program.now function ancillae.now fuel (length workspace.old) journal.old)).journal }
+    ensures clear { workspace.new ≡ cleared (convert_call program.now function ancillae.now fuel (length workspace.old) journal.old) workspace.old }
 {
     if requests::preparing::enough(workspace.len(), fuel) {
         let answer = conversions::programs::convert(
@@ -47,9 +47,9 @@ pub fn convert(
 
 // Runs the newest conversion backward on the held record, and strikes it: no earlier record is stored.
 pub fn rollback(program: &[u8], fuel: u16, workspace: &mut [u8], journal: &mut [u8]) -> RunAnswer
-    ensures answer { runAnswer result ≡ heldAnswer (rollbackCall program.now fuel (length workspace.old) journal.old) }
-    ensures keeps { journal.new ≡ (afterTurned journal.old (rollbackCall program.now fuel (length workspace.old) journal.old)).journal }
-    ensures clear { workspace.new ≡ cleared (rollbackCall program.now fuel (length workspace.old) journal.old) workspace.old }
+    ensures answer { run_answer result ≡ held_answer (rollback_call program.now fuel (length workspace.old) journal.old) }
+    ensures keeps { journal.new ≡ (after_turned journal.old (rollback_call program.now fuel (length workspace.old) journal.old)).journal }
+    ensures clear { workspace.new ≡ cleared (rollback_call program.now fuel (length workspace.old) journal.old) workspace.old }
 {
     if requests::preparing::enough(workspace.len(), fuel) {
         let answer = conversions::programs::rollback(program, fuel, workspace, journal);

@@ -1,9 +1,9 @@
 // The calls that run a function, forward and backward (document 01, section 4), with `back` the direction.
 ghost use Rattle.std.specs.Prelude.{◌≡◌, length};
 ghost use Rattle.calls.specs.Answer.{cleared};
-ghost use Rattle.calls.specs.Runs.{forwardCall, backwardCall, written};
-ghost use Rattle.answers.specs.Answers.{runAnswer, summary};
-ghost use Rattle.engine.specs.Runs.{runCall, CallMeans};
+ghost use Rattle.calls.specs.Runs.{forward_call, backward_call, written};
+ghost use Rattle.answers.specs.Answers.{run_answer, summary};
+ghost use Rattle.engine.specs.Runs.{run_call, CallMeans};
 
 use answers::{Refusal, RunAnswer};
 
@@ -18,7 +18,7 @@ fn call(
     workspace: &mut [u8],
     output: &mut [u8],
 ) -> RunAnswer
-    ensures { CallMeans result (runCall back program.now function ancillae.now value.now fuel (length workspace.old) (length output.old)) output.old output.new workspace.old workspace.new }
+    ensures { CallMeans result (run_call back program.now function ancillae.now value.now fuel (length workspace.old) (length output.old)) output.old output.new workspace.old workspace.new }
 {
     if requests::preparing::enough(workspace.len(), fuel) {
         let answer = requests::running::run_program(
@@ -40,9 +40,9 @@ pub fn forward(
     workspace: &mut [u8],
     output: &mut [u8],
 ) -> RunAnswer
-    ensures answer { runAnswer result ≡ summary (forwardCall program.now function ancillae.now value.now fuel (length workspace.old) (length output.old)) }
-    ensures fills { output.new ≡ written (forwardCall program.now function ancillae.now value.now fuel (length workspace.old) (length output.old)) output.old }
-    ensures clear { workspace.new ≡ cleared (forwardCall program.now function ancillae.now value.now fuel (length workspace.old) (length output.old)) workspace.old }
+    ensures answer { run_answer result ≡ summary (forward_call program.now function ancillae.now value.now fuel (length workspace.old) (length output.old)) }
+    ensures fills { output.new ≡ written (forward_call program.now function ancillae.now value.now fuel (length workspace.old) (length output.old)) output.old }
+    ensures clear { workspace.new ≡ cleared (forward_call program.now function ancillae.now value.now fuel (length workspace.old) (length output.old)) workspace.old }
 {
     call(
         program, function, ancillae, value, false, fuel, workspace, output,
@@ -59,9 +59,9 @@ pub fn backward(
     workspace: &mut [u8],
     output: &mut [u8],
 ) -> RunAnswer
-    ensures answer { runAnswer result ≡ summary (backwardCall program.now function ancillae.now value.now fuel (length workspace.old) (length output.old)) }
-    ensures fills { output.new ≡ written (backwardCall program.now function ancillae.now value.now fuel (length workspace.old) (length output.old)) output.old }
-    ensures clear { workspace.new ≡ cleared (backwardCall program.now function ancillae.now value.now fuel (length workspace.old) (length output.old)) workspace.old }
+    ensures answer { run_answer result ≡ summary (backward_call program.now function ancillae.now value.now fuel (length workspace.old) (length output.old)) }
+    ensures fills { output.new ≡ written (backward_call program.now function ancillae.now value.now fuel (length workspace.old) (length output.old)) output.old }
+    ensures clear { workspace.new ≡ cleared (backward_call program.now function ancillae.now value.now fuel (length workspace.old) (length output.old)) workspace.old }
 {
     call(
         program, function, ancillae, value, true, fuel, workspace, output,

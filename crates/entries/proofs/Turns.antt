@@ -9,13 +9,13 @@ use lib.Seq.{get_or-set_same, get_or-set_other}
 use lib.Dec.{eqb, ltb, leb}
 use borrow.Author.Tests.{lt-ltb, le-ltb, le-leb, lt-leb, eq-eqb, ne_eqb, eqb-true, eqb-false}
 use package.Rattle.octets.specs.Numbers.{get16}
-use package.Rattle.rules.specs.Limits.{maxNodes}
+use package.Rattle.rules.specs.Limits.{max_nodes}
 use package.Rattle.rules.proofs.Basics.{given, and_both}
 use package.Rattle.calls.specs.Entries.{references}
 use package.Rattle.calls.specs.Named.{below, member, fresh}
 use package.Rattle.calls.proofs.Entries.{below-head, member-middle}
-use package.Rattle.entries.specs.Marks.{Marks, Used, plainIn, allPlainIn}
-use package.Rattle.program.proofs.Lists.{references-snoc, references-at}
+use package.Rattle.entries.specs.Marks.{Marks, Used, plain_in, all_plain_in}
+use package.Rattle.program.proofs.Lists.{references_snoc, references-at}
 
 -- a loop that counts has come to its end
 ended : (P : ℕ → Type 0) (i n : ℕ) → i ≤ n → n ≤ i → P i → P n
@@ -42,7 +42,7 @@ module _ (xs : List ℕ) (from limit : ℕ) where
   pub below_more : (i : ℕ) → below limit (references xs from i) ≡ true → get16 xs (from + 2 * i) < limit → below limit (references xs from (i + 1)) ≡ true
   unfolding below
   below_more i e h =
-      ap (below limit) (references-snoc xs from i) ∙ below-append limit (references xs from i) (get16 xs (from + 2 * i) ∷ [])
+      ap (below limit) (references_snoc xs from i) ∙ below-append limit (references xs from i) (get16 xs (from + 2 * i) ∷ [])
       ∙ ap₂ (λ a b. a && (b && true)) e (lt-ltb (get16 xs (from + 2 * i)) limit h)
 
   pub below_all : (i n : ℕ) → i ≤ n → n ≤ i → below limit (references xs from i) ≡ true → true ≡ below limit (references xs from n)
@@ -63,43 +63,43 @@ module _ (xs : List ℕ) (from limit : ℕ) where
 -- Plain types
 
 module _ (nodes free : List ℕ) where
-  pub plain-append : (is js : List ℕ) → allPlainIn nodes free (is ++ js) ≡ (allPlainIn nodes free is && allPlainIn nodes free js)
-  unfolding allPlainIn
+  pub plain-append : (is js : List ℕ) → all_plain_in nodes free (is ++ js) ≡ (all_plain_in nodes free is && all_plain_in nodes free js)
+  unfolding all_plain_in
   plain-append [] js = refl
-  plain-append (i ∷ is) js = ap (λ b. plainIn nodes free i && b) (plain-append is js) ∙ sym (and_assoc (plainIn nodes free i) (allPlainIn nodes free is) (allPlainIn nodes free js))
+  plain-append (i ∷ is) js = ap (λ b. plain_in nodes free i && b) (plain-append is js) ∙ sym (and_assoc (plain_in nodes free i) (all_plain_in nodes free is) (all_plain_in nodes free js))
 
-  pub plain-none : (xs : List ℕ) (from : ℕ) → allPlainIn nodes free (references xs from 0) ≡ true
-  unfolding references allPlainIn
-  plain-none xs from = refl
+  pub plain_none : (xs : List ℕ) (from : ℕ) → all_plain_in nodes free (references xs from 0) ≡ true
+  unfolding references all_plain_in
+  plain_none xs from = refl
 
-  pub plain-yes : (i : ℕ) → get_or free i 0 ≤ 0 → get_or nodes i 0 ≤ maxNodes → plainIn nodes free i ≡ true
-  unfolding plainIn
-  plain-yes i f n = ap₂ (λ a b. a && b) (eq-eqb (get_or free i 0) 0 (omega arith)) (le-leb (get_or nodes i 0) maxNodes n)
+  pub plain_yes : (i : ℕ) → get_or free i 0 ≤ 0 → get_or nodes i 0 ≤ max_nodes → plain_in nodes free i ≡ true
+  unfolding plain_in
+  plain_yes i f n = ap₂ (λ a b. a && b) (eq-eqb (get_or free i 0) 0 (omega arith)) (le-leb (get_or nodes i 0) max_nodes n)
 
-  pub plain-open : (i : ℕ) → 0 < get_or free i 0 → plainIn nodes free i ≡ false
-  unfolding plainIn
-  plain-open i f = ap (λ b. b && leb (get_or nodes i 0) maxNodes) (ne_eqb (get_or free i 0) 0 λ e. omega arith)
+  pub plain_open : (i : ℕ) → 0 < get_or free i 0 → plain_in nodes free i ≡ false
+  unfolding plain_in
+  plain_open i f = ap (λ b. b && leb (get_or nodes i 0) max_nodes) (ne_eqb (get_or free i 0) 0 λ e. omega arith)
 
-  pub plain-large : (i : ℕ) → maxNodes < get_or nodes i 0 → plainIn nodes free i ≡ false
-  unfolding plainIn
-  plain-large i n = ap (λ b. eqb (get_or free i 0) 0 && b) (lt-leb (get_or nodes i 0) maxNodes n) ∙ and-false (eqb (get_or free i 0) 0)
+  pub plain_large : (i : ℕ) → max_nodes < get_or nodes i 0 → plain_in nodes free i ≡ false
+  unfolding plain_in
+  plain_large i n = ap (λ b. eqb (get_or free i 0) 0 && b) (lt-leb (get_or nodes i 0) max_nodes n) ∙ and-false (eqb (get_or free i 0) 0)
 
-  pub plain_more : (xs : List ℕ) (from i t : ℕ) → t ≡ get16 xs (from + 2 * i) → allPlainIn nodes free (references xs from i) ≡ true → plainIn nodes free t ≡ true
-      → allPlainIn nodes free (references xs from (i + 1)) ≡ true
-  unfolding allPlainIn
+  pub plain_more : (xs : List ℕ) (from i t : ℕ) → t ≡ get16 xs (from + 2 * i) → all_plain_in nodes free (references xs from i) ≡ true → plain_in nodes free t ≡ true
+      → all_plain_in nodes free (references xs from (i + 1)) ≡ true
+  unfolding all_plain_in
   plain_more xs from i t r e h =
-      ap (allPlainIn nodes free) (references-snoc xs from i) ∙ plain-append (references xs from i) (get16 xs (from + 2 * i) ∷ [])
-      ∙ ap₂ (λ a b. a && (b && true)) e (ap (plainIn nodes free) (sym r) ∙ h)
+      ap (all_plain_in nodes free) (references_snoc xs from i) ∙ plain-append (references xs from i) (get16 xs (from + 2 * i) ∷ [])
+      ∙ ap₂ (λ a b. a && (b && true)) e (ap (plain_in nodes free) (sym r) ∙ h)
 
-  pub plain-all : (xs : List ℕ) (from i n : ℕ) → i ≤ n → n ≤ i → allPlainIn nodes free (references xs from i) ≡ true → true ≡ allPlainIn nodes free (references xs from n)
-  plain-all xs from i n l l' e = sym (ended (λ n. allPlainIn nodes free (references xs from n) ≡ true) i n l l' e)
+  pub plain-all : (xs : List ℕ) (from i n : ℕ) → i ≤ n → n ≤ i → all_plain_in nodes free (references xs from i) ≡ true → true ≡ all_plain_in nodes free (references xs from n)
+  plain-all xs from i n l l' e = sym (ended (λ n. all_plain_in nodes free (references xs from n) ≡ true) i n l l' e)
 
-  pub plain-stops : (xs : List ℕ) (from i n t : ℕ) → t ≡ get16 xs (from + 2 * i) → i < n → plainIn nodes free t ≡ false → false ≡ allPlainIn nodes free (references xs from n)
-  unfolding allPlainIn
+  pub plain-stops : (xs : List ℕ) (from i n t : ℕ) → t ≡ get16 xs (from + 2 * i) → i < n → plain_in nodes free t ≡ false → false ≡ all_plain_in nodes free (references xs from n)
+  unfolding all_plain_in
   plain-stops xs from i n t r h e =
-      sym (ap (allPlainIn nodes free) (references-at xs from i n h) ∙ plain-append (references xs from i) _
-      ∙ ap (λ b. allPlainIn nodes free (references xs from i) && (b && allPlainIn nodes free (references xs (from + 2 * i + 2) (n - (i + 1))))) (ap (plainIn nodes free) (sym r) ∙ e)
-      ∙ and-false (allPlainIn nodes free (references xs from i)))
+      sym (ap (all_plain_in nodes free) (references-at xs from i n h) ∙ plain-append (references xs from i) _
+      ∙ ap (λ b. all_plain_in nodes free (references xs from i) && (b && all_plain_in nodes free (references xs (from + 2 * i + 2) (n - (i + 1))))) (ap (plain_in nodes free) (sym r) ∙ e)
+      ∙ and-false (all_plain_in nodes free (references xs from i)))
 
 ----------------------------------------------------------------
 -- Terms that were unused
@@ -136,15 +136,15 @@ pub record Using (us us' ts : List ℕ) : Type 0 where
   pub unused : (used : List ℕ) → Marks us used → fresh used ts ≡ true
   pub noted : (used : List ℕ) → Marks us used → Marks us' (ts ++ used)
 
-pub using-none : (xs : List ℕ) (from : ℕ) (us : List ℕ) → Using us us (references xs from 0)
+pub using_none : (xs : List ℕ) (from : ℕ) (us : List ℕ) → Using us us (references xs from 0)
 unfolding references fresh
-using-none xs from us = record { unused = λ used M. refl; noted = λ used M. M }
+using_none xs from us = record { unused = λ used M. refl; noted = λ used M. M }
 
 module _ (xs : List ℕ) (from : ℕ) (us us' : List ℕ) where
-  pub using-more : (i t : ℕ) → t ≡ get16 xs (from + 2 * i) → t < length us' → get_or us' t 0 ≤ 0 → Using us us' (references xs from i)
+  pub using_more : (i t : ℕ) → t ≡ get16 xs (from + 2 * i) → t < length us' → get_or us' t 0 ≤ 0 → Using us us' (references xs from i)
       → Using us (set us' t 1) (references xs from (i + 1))
   unfolding fresh
-  using-more i t e l z U = subst (λ ts. Using us (set us' t 1) ts) (sym (references-snoc xs from i ∙ ap (λ t. references xs from i ++ (t ∷ [])) (sym e)))
+  using_more i t e l z U = subst (λ ts. Using us (set us' t 1) ts) (sym (references_snoc xs from i ∙ ap (λ t. references xs from i ++ (t ∷ [])) (sym e)))
       (record {
         unused = λ used M.
             fresh-next used (references xs from i) [] t
@@ -157,10 +157,10 @@ module _ (xs : List ℕ) (from : ℕ) (us us' : List ℕ) where
         };
       })
 
-  pub using-stops : (i n t : ℕ) → t ≡ get16 xs (from + 2 * i) → i < n → t < length us' → 0 < get_or us' t 0 → Using us us' (references xs from i)
+  pub using_stops : (i n t : ℕ) → t ≡ get16 xs (from + 2 * i) → i < n → t < length us' → 0 < get_or us' t 0 → Using us us' (references xs from i)
       → Used us us' (references xs from n) false
   unfolding fresh
-  using-stops i n t e h l z U = record {
+  using_stops i n t e h l z U = record {
     answer = λ used M.
         sym (ap (fresh used) (references-at xs from i n h ∙ ap (λ t. references xs from i ++ (t ∷ references xs (from + 2 * i + 2) (n - (i + 1)))) (sym e))
         ∙ fresh-next used (references xs from i) (references xs (from + 2 * i + 2) (n - (i + 1))) t
@@ -170,6 +170,6 @@ module _ (xs : List ℕ) (from : ℕ) (us us' : List ℕ) where
     marks = λ used M e. absurd (false≢true e);
   }
 
-  pub using-all : (i n : ℕ) → i ≤ n → n ≤ i → Using us us' (references xs from i) → Used us us' (references xs from n) true
-  using-all i n l l' U =
+  pub using_all : (i n : ℕ) → i ≤ n → n ≤ i → Using us us' (references xs from i) → Used us us' (references xs from n) true
+  using_all i n l l' U =
       ended (λ n. Used us us' (references xs from n) true) i n l l' (record { answer = λ used M. sym (U.unused used M); marks = λ used M e. U.noted used M })

@@ -7,15 +7,15 @@ use mathlib.Core.List.{List, [], ◌∷◌, ◌++◌, map}
 use lib.ListN.{length, get_or, length-map}
 use lib.Seq.{get_or-take}
 use lib.Dec.{eqb, leb}
-use package.Rattle.rules.specs.Limits.{maxNodes}
+use package.Rattle.rules.specs.Limits.{max_nodes}
 use package.Rattle.rules.proofs.Basics.{given}
 use package.Rattle.calls.specs.Answer.{Answer, accepted, refused, ◌>>=◌, require}
 use package.Rattle.calls.specs.Entries.{TypeEntry, type_at}
-use package.Rattle.calls.specs.Named.{plain, allPlain, below}
+use package.Rattle.calls.specs.Named.{plain, all_plain, below}
 use package.Rattle.calls.proofs.Entries.{below-head, plain-figures}
 use package.Rattle.calls.proofs.Answer.{refused≢accepted}
-use package.Rattle.entries.specs.Marks.{Marks, Measured, plainIn, allPlainIn}
-use package.Rattle.entries.specs.Tested.{verdictOf, EntryTested, Ends}
+use package.Rattle.entries.specs.Marks.{Marks, Measured, plain_in, all_plain_in}
+use package.Rattle.entries.specs.Tested.{verdict_of, EntryTested, Ends}
 use package.Rattle.entries.specs.declared.testing.Verdict.{Verdict}
 use package.Rattle.entries.specs.declared.testing.Verdict.TheVariants.{Sound, BadReference, BadType}
 
@@ -23,8 +23,8 @@ use package.Rattle.entries.specs.declared.testing.Verdict.TheVariants.{Sound, Ba
 -- One entry
 
 module _ (answered : List ℕ → Answer (Unit {0})) (ts us us' : List ℕ) where
-  pub bad-reference : (at : ℕ) → ((used : List ℕ) → Marks us used → refused 4 at ≡ answered used) → EntryTested answered ts us us' (BadReference at)
-  bad-reference at a = record { answer = a; marks = λ used M e. absurd (refused≢accepted e) }
+  pub bad_reference : (at : ℕ) → ((used : List ℕ) → Marks us used → refused 4 at ≡ answered used) → EntryTested answered ts us us' (BadReference at)
+  bad_reference at a = record { answer = a; marks = λ used M e. absurd (refused≢accepted e) }
 
   pub bad-type : (at : ℕ) → ((used : List ℕ) → Marks us used → refused 5 at ≡ answered used) → EntryTested answered ts us us' (BadType at)
   bad-type at a = record { answer = a; marks = λ used M e. absurd (refused≢accepted e) }
@@ -52,20 +52,20 @@ module _ (whole rest next : List ℕ → Answer (List ℕ)) (answered : List ℕ
   going_more e = record {
     going = λ used₀ M₀.
         given (G.going used₀ M₀) λ (used, w, M).
-        let passed : verdictOf r ≡ accepted tt = ap verdictOf e in
+        let passed : verdict_of r ≡ accepted tt = ap verdict_of e in
         (ts ++ used, w ∙ step used ∙ ap (λ a. a >>= λ p. next (ts ++ used)) (sym (T.answer used M) ∙ passed), T.marks used M passed);
   }
 
-  stops : (n at : ℕ) → verdictOf r ≡ refused n at → (used : List ℕ) → Marks us₀ used → whole used ≡ refused n at
+  stops : (n at : ℕ) → verdict_of r ≡ refused n at → (used : List ℕ) → Marks us₀ used → whole used ≡ refused n at
   unfolding ◌>>=◌
   stops n at e used₀ M₀ =
       given (G.going used₀ M₀) λ (used, w, M). w ∙ step used ∙ ap (λ a. a >>= λ p. next (ts ++ used)) (sym (T.answer used M) ∙ e)
 
-  pub going-bad-reference : (at : ℕ) → r ≡ BadReference at → (used : List ℕ) → Marks us₀ used → Ends (BadReference at) us' (whole used)
-  going-bad-reference at e = stops 4 at (ap verdictOf e)
+  pub going-bad_reference : (at : ℕ) → r ≡ BadReference at → (used : List ℕ) → Marks us₀ used → Ends (BadReference at) us' (whole used)
+  going-bad_reference at e = stops 4 at (ap verdict_of e)
 
   pub going-bad-type : (at : ℕ) → r ≡ BadType at → (used : List ℕ) → Marks us₀ used → Ends (BadType at) us' (whole used)
-  going-bad-type at e = stops 5 at (ap verdictOf e)
+  going-bad-type at e = stops 5 at (ap verdict_of e)
 
 pub going_end : (whole rest : List ℕ → Answer (List ℕ)) (us us' : List ℕ) → ((used : List ℕ) → rest used ≡ accepted used) → Going whole rest us us'
     → (used : List ℕ) → Marks us used → Ends Sound us' (whole used)
@@ -75,16 +75,16 @@ going_end whole rest us us' end G used₀ M₀ = given (G.going used₀ M₀) λ
 -- The two tests of an entry, by noted figures
 
 -- a type entry is plain by its noted figures
-plain-noted : (ys : List TypeEntry) (nodes free : List ℕ) (i : ℕ) → Measured ys nodes free → i < length ys → plain ys i ≡ plainIn nodes free i
-unfolding plainIn
+plain-noted : (ys : List TypeEntry) (nodes free : List ℕ) (i : ℕ) → Measured ys nodes free → i < length ys → plain ys i ≡ plain_in nodes free i
+unfolding plain_in
 plain-noted ys nodes free i N l =
-    plain-figures ys N.types-lower i l
-    ∙ ap₂ (λ f n. eqb f 0 && leb n maxNodes)
-    (ap (λ l. get_or l i 0) (sym N.free-front) ∙ get_or-take (length ys) free i 0 l)
-    (ap (λ l. get_or l i 0) (sym N.nodes-front) ∙ get_or-take (length ys) nodes i 0 l)
+    plain-figures ys N.types_lower i l
+    ∙ ap₂ (λ f n. eqb f 0 && leb n max_nodes)
+    (ap (λ l. get_or l i 0) (sym N.free_front) ∙ get_or-take (length ys) free i 0 l)
+    (ap (λ l. get_or l i 0) (sym N.nodes_front) ∙ get_or-take (length ys) nodes i 0 l)
 
-all-plain-noted : (ys : List TypeEntry) (nodes free is : List ℕ) → Measured ys nodes free → below (length ys) is ≡ true → allPlain ys is ≡ allPlainIn nodes free is
-unfolding allPlain allPlainIn
+all-plain-noted : (ys : List TypeEntry) (nodes free is : List ℕ) → Measured ys nodes free → below (length ys) is ≡ true → all_plain ys is ≡ all_plain_in nodes free is
+unfolding all_plain all_plain_in
 all-plain-noted ys nodes free [] N e = refl
 all-plain-noted ys nodes free (i ∷ is) N e =
     given (below-head (length ys) i is e) λ (l, e₁). ap₂ (λ a b. a && b) (plain-noted ys nodes free i N l) (all-plain-noted ys nodes free is N e₁)
@@ -97,11 +97,11 @@ two-tests true a b at next s = ap (λ b. require b 5 at >>= λ g. next) (s refl)
 two-tests false a b at next s = refl
 
 -- `named` has a test that the types `is` are there
-pub by-figures : {B : Type 0} (ys : List TypeEntry) (nodes free is : List ℕ) (named : Bool) (at : ℕ) (next : Answer B) → Measured ys nodes free
+pub by_figures : {B : Type 0} (ys : List TypeEntry) (nodes free is : List ℕ) (named : Bool) (at : ℕ) (next : Answer B) → Measured ys nodes free
     → (named ≡ true → below (length ys) is ≡ true)
-    → (require named 4 at >>= λ n. require (allPlain ys is) 5 at >>= λ g. next) ≡ ((require named 4 at >>= λ n. require (allPlainIn nodes free is) 5 at) >>= λ p. next)
-by-figures ys nodes free is named at next N s = two-tests named _ _ at next λ e. all-plain-noted ys nodes free is N (s e)
+    → (require named 4 at >>= λ n. require (all_plain ys is) 5 at >>= λ g. next) ≡ ((require named 4 at >>= λ n. require (all_plain_in nodes free is) 5 at) >>= λ p. next)
+by_figures ys nodes free is named at next N s = two-tests named _ _ at next λ e. all-plain-noted ys nodes free is N (s e)
 
 -- the arrays have room for as many types
 pub measured-room : (xs types nodes free : List ℕ) → Measured (map (type_at xs) types) nodes free → (length types ≤ length nodes) × (length types ≤ length free)
-measured-room xs types nodes free N = (omega (arith, N.nodes-room, length-map types (type_at xs)), omega (arith, N.free-room, length-map types (type_at xs)))
+measured-room xs types nodes free N = (omega (arith, N.nodes_room, length-map types (type_at xs)), omega (arith, N.free_room, length-map types (type_at xs)))

@@ -1,10 +1,10 @@
 -- What the code notes of entries, in arrays with one number an entry: how often each term is used, and the figures of types. What the
 -- notes mean is said by the lists of calls/specs/Named.
 use Rattle.std.specs.Prelude.{ℕ, ◌≤◌, ◌<◌, ◌≡◌, Bool, true, ◌&&◌, List, [], ◌∷◌, ◌++◌, length, get_or, take, eqb, ltb, leb}
-use package.Rattle.rules.specs.Limits.{maxNodes}
+use package.Rattle.rules.specs.Limits.{max_nodes}
 use package.Rattle.calls.specs.Entries.{TypeEntry}
 use package.Rattle.calls.specs.Named.{member, fresh}
-use package.Rattle.calls.specs.Figures.{nodesOf, freeOf, figures}
+use package.Rattle.calls.specs.Figures.{nodes_of, free_of, figures}
 use package.Rattle.calls.specs.Closed.{Lower}
 
 ----------------------------------------------------------------
@@ -23,18 +23,18 @@ pub record Used (us us' ts : List ℕ) (r : Bool) : Type 0 where
 -- Figures of types
 
 -- `plain` by noted figures
-unfoldable pub plainIn : List ℕ → List ℕ → ℕ → Bool
-plainIn nodes free i = eqb (get_or free i 0) 0 && leb (get_or nodes i 0) maxNodes
+unfoldable pub plain_in : List ℕ → List ℕ → ℕ → Bool
+plain_in nodes free i = eqb (get_or free i 0) 0 && leb (get_or nodes i 0) max_nodes
 
-unfoldable pub allPlainIn : List ℕ → List ℕ → List ℕ → Bool
-unfolding plainIn
-allPlainIn nodes free [] = true
-allPlainIn nodes free (i ∷ is) = plainIn nodes free i && allPlainIn nodes free is
+unfoldable pub all_plain_in : List ℕ → List ℕ → List ℕ → Bool
+unfolding plain_in
+all_plain_in nodes free [] = true
+all_plain_in nodes free (i ∷ is) = plain_in nodes free i && all_plain_in nodes free is
 
 -- the fronts of the arrays have the figures of the entries `ys`, which each name lower ones
 pub record Measured (ys : List TypeEntry) (nodes free : List ℕ) : Type 0 where
-  pub types-lower : Lower ys
-  pub nodes-front : take (length ys) nodes ≡ figures nodesOf [] ys
-  pub free-front : take (length ys) free ≡ figures freeOf [] ys
-  pub nodes-room : length ys ≤ length nodes
-  pub free-room : length ys ≤ length free
+  pub types_lower : Lower ys
+  pub nodes_front : take (length ys) nodes ≡ figures nodes_of [] ys
+  pub free_front : take (length ys) free ≡ figures free_of [] ys
+  pub nodes_room : length ys ≤ length nodes
+  pub free_room : length ys ≤ length free

@@ -2,12 +2,12 @@
 -- In order: what a table keeps, one count, the counts of a check, the types that a program names.
 use Rattle.std.specs.Prelude.{ℕ, zero, suc, ◌<◌, min, ◌≡◌, true, List, [], ◌∷◌, map, length, get_or, set, replicate}
 use Rattle.std.proofs.Math.Option.{some}
-use package.Rattle.rules.specs.Limits.{maxTypes}
+use package.Rattle.rules.specs.Limits.{max_types}
 use package.Rattle.rules.specs.Ty.{Ty, nodes}
 use package.Rattle.rules.specs.Term.{nth}
-use package.Rattle.calls.specs.Entries.{y-unit, type_at, type_of, n-unit, FunctionEntry, Entries}
-use package.Rattle.calls.specs.Named.{typesOfType, typesOfTerm, typesOfFunction, member}
-use package.Rattle.calls.specs.Figures.{ceiling, nodesOf}
+use package.Rattle.calls.specs.Entries.{y_unit, type_at, type_of, n_unit, FunctionEntry, Entries}
+use package.Rattle.calls.specs.Named.{types_of_type, types_of_term, types_of_function, member}
+use package.Rattle.calls.specs.Figures.{ceiling, nodes_of}
 use package.Rattle.entries.specs.declared.measures.Tally.{Tally}
 
 ----------------------------------------------------------------
@@ -24,13 +24,13 @@ kept (zero ∷ ns) = kept ns
 kept (suc n ∷ ns) = suc (kept ns)
 
 -- a table in which no count is kept
-abbrev pub noCounts : List ℕ
-noCounts = replicate maxTypes 0
+abbrev pub no_counts : List ℕ
+no_counts = replicate max_types 0
 
 -- a table with a place for each type entry, and its tally: the number of entries with a kept count
 pub record TallyOf (counts : List ℕ) (t : Tally) : Type 0 where
   pub equals : t.counted ≡ kept counts
-  pub sized : length counts ≡ maxTypes
+  pub sized : length counts ≡ max_types
 
 ----------------------------------------------------------------
 -- One count
@@ -42,7 +42,7 @@ pub record Uncounted (counts : List ℕ) (i : ℕ) : Type 0 where
 
 -- The nodes of type entry `i` at `at` are counted: `counts` and `t` before, `counts'` and `t'` after.
 pub record CountMade (xs : List ℕ) (at i : ℕ) (counts counts' : List ℕ) (t t' : Tally) : Type 0 where
-  pub keeps : counts' ≡ set counts i (nodesOf counts (type_at xs at))
+  pub keeps : counts' ≡ set counts i (nodes_of counts (type_at xs at))
   pub raises : t'.counted ≡ suc t.counted
   pub tally : TallyOf counts' t'
 
@@ -69,6 +69,6 @@ AllCounted counts is = (i : ℕ) → member i is ≡ true → HasCount counts i
 -- every type entry has a kept count, and so has every type that an entry names
 pub record NamedCounted (E : Entries) (counts : List ℕ) : Type 0 where
   pub each : (i : ℕ) → i < length E.types → HasCount counts i
-  pub by-type : (i : ℕ) → i < length E.types → AllCounted counts (typesOfType (get_or E.types i y-unit))
-  pub by-term : (k : ℕ) → k < length E.terms → AllCounted counts (typesOfTerm (get_or E.terms k n-unit))
-  pub by-function : (g : ℕ) (h : FunctionEntry) → nth E.functions g ≡ some h → AllCounted counts (typesOfFunction h)
+  pub by_type : (i : ℕ) → i < length E.types → AllCounted counts (types_of_type (get_or E.types i y_unit))
+  pub by_term : (k : ℕ) → k < length E.terms → AllCounted counts (types_of_term (get_or E.terms k n_unit))
+  pub by_function : (g : ℕ) (h : FunctionEntry) → nth E.functions g ≡ some h → AllCounted counts (types_of_function h)

@@ -2,10 +2,10 @@
 // tree), against calls/specs/Named. Counting stops one above the limit on nodes. Nodes are counted by one function, which keeps the count
 // and raises the tally (document 02, F-4).
 ghost use Rattle.std.specs.Prelude.{◌≡◌, true, suc, ◌+◌, ◌<◌, min, max, pred, length, set};
-ghost use Rattle.rules.specs.Limits.{maxTypes};
+ghost use Rattle.rules.specs.Limits.{max_types};
 ghost use Rattle.calls.specs.Entries.{type_at};
-ghost use Rattle.calls.specs.Named.{typesOfType, below};
-ghost use Rattle.calls.specs.Figures.{ceiling, nodesOf, freeOf};
+ghost use Rattle.calls.specs.Named.{types_of_type, below};
+ghost use Rattle.calls.specs.Figures.{ceiling, nodes_of, free_of};
 ghost use Rattle.program.specs.Parts.{TypeField};
 ghost use Rattle.entries.specs.Tally.{TallyOf, Uncounted, CountMade};
 
@@ -40,8 +40,8 @@ fn greater(a: u16, b: u16) -> u16
 // The nodes of the type at `at`, from those of the types that it names.
 fn nodes_of(p: &[u8], at: usize, nodes: &[u16]) -> u16
     requires type_field { TypeField p.now at }
-    requires at_value { below (length nodes.now) (typesOfType (type_at p.now at)) ≡ true }
-    ensures { result ≡ nodesOf nodes.now (type_at p.now at) }
+    requires at_value { below (length nodes.now) (types_of_type (type_at p.now at)) ≡ true }
+    ensures { result ≡ nodes_of nodes.now (type_at p.now at) }
 {
     let kind = views::kind(p, at);
     match kind {
@@ -70,7 +70,7 @@ pub struct Tally {
 impl Tally {
     // One count more.
     fn raised(self) -> Self
-        requires { self.counted < maxTypes }
+        requires { self.counted < max_types }
         ensures { result.counted ≡ suc self.counted }
     {
         let counted = self.counted + 1;
@@ -82,7 +82,7 @@ impl Tally {
 // is not counted again.
 pub fn count_nodes(p: &[u8], i: usize, at: usize, nodes: &mut [u16], tally: Tally) -> Tally
     requires type_field { TypeField p.now at }
-    requires at_value { below (length nodes.old) (typesOfType (type_at p.now at)) ≡ true }
+    requires at_value { below (length nodes.old) (types_of_type (type_at p.now at)) ≡ true }
     requires tally_of { TallyOf nodes.old tally }
     requires uncounted { Uncounted nodes.old i }
     ensures { CountMade p.now at i nodes.old nodes.new tally result }
@@ -95,8 +95,8 @@ pub fn count_nodes(p: &[u8], i: usize, at: usize, nodes: &mut [u16], tally: Tall
 // How many recursive types must still enclose the type at `at`, from the same of the types that it names.
 fn free_of(p: &[u8], at: usize, free: &[u16]) -> u16
     requires type_field { TypeField p.now at }
-    requires at_value { below (length free.now) (typesOfType (type_at p.now at)) ≡ true }
-    ensures { result ≡ freeOf free.now (type_at p.now at) }
+    requires at_value { below (length free.now) (types_of_type (type_at p.now at)) ≡ true }
+    ensures { result ≡ free_of free.now (type_at p.now at) }
 {
     let kind = views::kind(p, at);
     match kind {
@@ -119,9 +119,9 @@ fn free_of(p: &[u8], at: usize, free: &[u16]) -> u16
 // Notes that of type entry `i`, at `at`.
 pub fn note_free(p: &[u8], i: usize, at: usize, free: &mut [u16])
     requires type_field { TypeField p.now at }
-    requires at_value { below (length free.old) (typesOfType (type_at p.now at)) ≡ true }
+    requires at_value { below (length free.old) (types_of_type (type_at p.now at)) ≡ true }
     requires i_in_bounds { i < length free.old }
-    ensures { free.new ≡ set free.old i (freeOf free.old (type_at p.now at)) }
+    ensures { free.new ≡ set free.old i (free_of free.old (type_at p.now at)) }
 {
     let f = free_of(p, at, free);
     free[i] = f;

@@ -2,13 +2,13 @@
 // 4 and 5), against calls/specs/Named. Of each type entry the nodes are counted once (02, F-4) and what would close it is noted, bottom up, in
 // arrays of one number an entry; of each term entry how often it is used. So the cost is linear in the entries.
 ghost use Rattle.std.specs.Prelude.{◌≡◌, true, List, [], ◌∷◌, map, ℕ, ◌+◌, ◌*◌, ◌≤◌, ◌<◌, length, get_or};
-ghost use Rattle.calls.specs.Entries.{type_at, termAt, functionAt, references};
-ghost use Rattle.calls.specs.Named.{typesOfType, termsOfTerm, typesOfFunction, below};
+ghost use Rattle.calls.specs.Entries.{type_at, term_at, function_at, references};
+ghost use Rattle.calls.specs.Named.{types_of_type, terms_of_term, types_of_function, below};
 ghost use Rattle.program.specs.Parts.{TypeField, TermField, FunctionField, Formed};
 ghost use Rattle.program.specs.Places.{places_of, Placed};
-ghost use Rattle.entries.specs.Marks.{Marks, allPlainIn, Used, Measured};
-ghost use Rattle.entries.specs.Tally.{noCounts};
-ghost use Rattle.entries.specs.Tested.{verdictOf, TypesTested, termAnswer, functionAnswer, EntryTested, Ready, Ends, termsAnswer, functionsAnswer, UsedTested, bodiesAnswer, usesAnswer, EntriesTested};
+ghost use Rattle.entries.specs.Marks.{Marks, all_plain_in, Used, Measured};
+ghost use Rattle.entries.specs.Tally.{no_counts};
+ghost use Rattle.entries.specs.Tested.{verdict_of, TypesTested, term_answer, function_answer, EntryTested, Ready, Ends, terms_answer, functions_answer, UsedTested, bodies_answer, uses_answer, EntriesTested};
 
 use crate::measures;
 use crate::measures::Tally;
@@ -59,7 +59,7 @@ fn all_plain(p: &[u8], from: usize, n: usize, nodes: &[u16], free: &[u16]) -> bo
     requires n_in_bounds { from + 2 * n ≤ length p.now }
     requires n_value { below (length nodes.now) (references p.now from n) ≡ true }
     requires n_value_2 { below (length free.now) (references p.now from n) ≡ true }
-    ensures { result ≡ allPlainIn nodes.now free.now (references p.now from n) }
+    ensures { result ≡ all_plain_in nodes.now free.now (references p.now from n) }
 {
     let mut i = 0;
     while i < n {
@@ -93,7 +93,7 @@ pub struct Tested {
 // Does type entry `i`, at `at`, name lower types alone?
 fn test_type(p: &[u8], i: usize, at: usize) -> bool
     requires { TypeField p.now at }
-    ensures { result ≡ below i (typesOfType (type_at p.now at)) }
+    ensures { result ≡ below i (types_of_type (type_at p.now at)) }
 {
     let n = views::types_in_type(p, at);
     all_below(p, at + 4, n, i)
@@ -102,7 +102,7 @@ fn test_type(p: &[u8], i: usize, at: usize) -> bool
 // Tests the type entries, and notes the figures of each.
 fn test_types(p: &[u8], types: &[u16], nodes: &mut [u16], free: &mut [u16]) -> Tested
     requires by_index { (i : ℕ) → i < length types.now → TypeField p.now (get_or types.now i 0) }
-    requires nodes_value { nodes.old ≡ noCounts }
+    requires nodes_value { nodes.old ≡ no_counts }
     requires types_in_bounds { (length types.now ≤ length nodes.old) × (length types.now ≤ length free.old) }
     ensures { TypesTested p.now types.now nodes.new free.new result }
 {
@@ -139,7 +139,7 @@ fn test_term(
 ) -> Verdict
     requires term_field { TermField p.now at }
     requires types_in_bounds { (types ≤ length nodes.now) × (types ≤ length free.now) × (k ≤ length used.old) }
-    ensures { EntryTested (λ us. termAnswer types functions k at us nodes.now free.now (termAt p.now at)) (termsOfTerm (termAt p.now at)) used.old used.new result }
+    ensures { EntryTested (λ us. term_answer types functions k at us nodes.now free.now (term_at p.now at)) (terms_of_term (term_at p.now at)) used.old used.new result }
 {
     let t = views::types_in_term(p, at);
     let f = views::functions_in_term(p, at);
@@ -173,7 +173,7 @@ fn test_terms(
     used: &mut [u8],
 ) -> Verdict
     requires { Ready p.now types.now terms.now functions.now nodes.now free.now used.old }
-    ensures { (us : List ℕ) → Marks used.old us → Ends result used.new (termsAnswer p.now types.now terms.now functions.now us) }
+    ensures { (us : List ℕ) → Marks used.old us → Ends result used.new (terms_answer p.now types.now terms.now functions.now us) }
 {
     let mut k = 0;
     while k < terms.len() {
@@ -195,7 +195,7 @@ fn test_terms(
 // Is each below `limit`?
 fn signature_below(p: &[u8], at: usize, limit: usize) -> bool
     requires { FunctionField p.now at }
-    ensures { result ≡ below limit (typesOfFunction (functionAt p.now at)) }
+    ensures { result ≡ below limit (types_of_function (function_at p.now at)) }
 {
     if !all_below(p, at + 3, 1, limit) {
         return false;
@@ -207,9 +207,9 @@ fn signature_below(p: &[u8], at: usize, limit: usize) -> bool
 // Is each closed, and within the limit on nodes?
 fn signature_plain(p: &[u8], at: usize, nodes: &[u16], free: &[u16]) -> bool
     requires function_field { FunctionField p.now at }
-    requires at_value { below (length nodes.now) (typesOfFunction (functionAt p.now at)) ≡ true }
-    requires at_value_2 { below (length free.now) (typesOfFunction (functionAt p.now at)) ≡ true }
-    ensures { result ≡ allPlainIn nodes.now free.now (typesOfFunction (functionAt p.now at)) }
+    requires at_value { below (length nodes.now) (types_of_function (function_at p.now at)) ≡ true }
+    requires at_value_2 { below (length free.now) (types_of_function (function_at p.now at)) ≡ true }
+    ensures { result ≡ all_plain_in nodes.now free.now (types_of_function (function_at p.now at)) }
 {
     if !all_plain(p, at + 3, 1, nodes, free) {
         return false;
@@ -230,7 +230,7 @@ fn test_function(
 ) -> Verdict
     requires function_field { FunctionField p.now at }
     requires types_in_bounds { (types ≤ length nodes.now) × (types ≤ length free.now) × (terms ≤ length used.old) }
-    ensures { EntryTested (λ us. functionAnswer types terms at us nodes.now free.now (functionAt p.now at)) ((functionAt p.now at).body ∷ []) used.old used.new result }
+    ensures { EntryTested (λ us. function_answer types terms at us nodes.now free.now (function_at p.now at)) ((function_at p.now at).body ∷ []) used.old used.new result }
 {
     let from = at + 6 + 2 * views::function_parameters(p, at);
     if !signature_below(p, at, types) {
@@ -258,7 +258,7 @@ fn test_functions(
     used: &mut [u8],
 ) -> Verdict
     requires { Ready p.now types.now terms.now functions.now nodes.now free.now used.old }
-    ensures { (us : List ℕ) → Marks used.old us → Ends result used.new (functionsAnswer p.now types.now terms.now functions.now us) }
+    ensures { (us : List ℕ) → Marks used.old us → Ends result used.new (functions_answer p.now types.now terms.now functions.now us) }
 {
     let mut g = 0;
     while g < functions.len() {
@@ -301,7 +301,7 @@ fn test_bodies(
     used: &mut [u8],
 ) -> Verdict
     requires { Ready p.now types.now terms.now functions.now nodes.now free.now used.old }
-    ensures { (us : List ℕ) → Marks used.old us → verdictOf result ≡ bodiesAnswer p.now types.now terms.now functions.now us }
+    ensures { (us : List ℕ) → Marks used.old us → verdict_of result ≡ bodies_answer p.now types.now terms.now functions.now us }
 {
     let v = test_functions(p, types, terms, functions, nodes, free, used);
     match v {
@@ -322,7 +322,7 @@ fn test_uses(
 ) -> Verdict
     requires formed { Formed p.now (places_of types.now terms.now functions.now) }
     requires measured { Measured (map (type_at p.now) types.now) nodes.now free.now }
-    ensures { verdictOf result ≡ usesAnswer p.now types.now terms.now functions.now }
+    ensures { verdict_of result ≡ uses_answer p.now types.now terms.now functions.now }
 {
     let mut used = [0u8; MAX_TERMS];
     let v = test_terms(p, types, terms, functions, nodes, free, &mut used);
@@ -343,7 +343,7 @@ pub fn test_entries(
     nodes: &mut [u16],
 ) -> Tested
     requires placed { Placed p.now types.now terms.now functions.now }
-    requires nodes_value { nodes.old ≡ noCounts }
+    requires nodes_value { nodes.old ≡ no_counts }
     ensures { EntriesTested p.now types.now terms.now functions.now nodes.new result }
 {
     let mut free = [0u16; MAX_TYPES];

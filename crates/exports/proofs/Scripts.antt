@@ -5,8 +5,8 @@ use mathlib.Core.List.{List}
 use package.Rattle.replay.specs.Playing.{Reply}
 use package.Rattle.replay.specs.Booked.{Booked}
 
-pub booked-as : (program script journal answers workspace journal' answers' workspace' : List ℕ) {x y : Reply} → x ≡ y
+pub booked_as : (program script journal answers workspace journal' answers' workspace' : List ℕ) {x y : Reply} → x ≡ y
     → Booked program script journal answers workspace journal' answers' workspace' x
     → Booked program script journal answers workspace journal' answers' workspace' y
-booked-as program script journal answers workspace journal' answers' workspace' e book =
+booked_as program script journal answers workspace journal' answers' workspace' e book =
     subst (Booked program script journal answers workspace journal' answers' workspace') e book

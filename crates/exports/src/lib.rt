@@ -3,20 +3,20 @@
 // were written; the steps, or how many conversions stand.
 ghost use Rattle.std.specs.Prelude.{◌≡◌, length};
 ghost use Rattle.calls.specs.Answer.{cleared, overwritten};
-ghost use Rattle.calls.specs.Runs.{checkCall, forwardCall, backwardCall, written};
-ghost use Rattle.calls.specs.Conversions.{openCall, convertCall, rollbackCall};
-ghost use Rattle.calls.specs.Readers.{heldBytes, nurseCall, workshopCall};
-ghost use Rattle.calls.specs.Book.{afterOpen, afterTurned};
-ghost use Rattle.answers.specs.Answers.{checkAnswer, runAnswer, nurseAnswer, writeAnswer, openAnswer, heldAnswer, seenAnswer, lengthAnswer, summary};
-ghost use Rattle.replay.specs.Playing.{replyOf, replayed};
+ghost use Rattle.calls.specs.Runs.{check_call, forward_call, backward_call, written};
+ghost use Rattle.calls.specs.Conversions.{open_call, convert_call, rollback_call};
+ghost use Rattle.calls.specs.Readers.{held_bytes, nurse_call, workshop_call};
+ghost use Rattle.calls.specs.Book.{after_open, after_turned};
+ghost use Rattle.answers.specs.Answers.{check_answer, run_answer, nurse_answer, write_answer, open_answer, held_answer, seen_answer, length_answer, summary};
+ghost use Rattle.replay.specs.Playing.{reply_of, replayed};
 ghost use Rattle.replay.specs.Booked.{Booked};
-ghost use Rattle.exports.specs.Told.{checkTold, runTold, lengthTold, replayTold};
+ghost use Rattle.exports.specs.Told.{check_told, run_told, length_told, replay_told};
 
 use answers::{CheckAnswer, NurseAnswer, RunAnswer, WriteAnswer};
 use replay::replies::ReplayAnswer;
 
 fn check_told(answer: CheckAnswer) -> [u64; 4]
-    ensures { result ≡ checkTold (checkAnswer answer) }
+    ensures { result ≡ check_told (check_answer answer) }
 {
     match answer {
         CheckAnswer::Accepted => [0, 0, 0, 0],
@@ -25,7 +25,7 @@ fn check_told(answer: CheckAnswer) -> [u64; 4]
 }
 
 fn run_told(answer: RunAnswer) -> [u64; 4]
-    ensures { result ≡ runTold (runAnswer answer) }
+    ensures { result ≡ run_told (run_answer answer) }
 {
     match answer {
         RunAnswer::Ran(d) => [0, 0, d.len as u64, d.steps as u64],
@@ -34,7 +34,7 @@ fn run_told(answer: RunAnswer) -> [u64; 4]
 }
 
 fn nurse_told(answer: NurseAnswer) -> [u64; 4]
-    ensures { result ≡ runTold (nurseAnswer answer) }
+    ensures { result ≡ run_told (nurse_answer answer) }
 {
     match answer {
         NurseAnswer::Shows(s) => [0, 0, s.len as u64, s.standing as u64],
@@ -43,7 +43,7 @@ fn nurse_told(answer: NurseAnswer) -> [u64; 4]
 }
 
 fn write_told(answer: WriteAnswer) -> [u64; 4]
-    ensures { result ≡ lengthTold (writeAnswer answer) }
+    ensures { result ≡ length_told (write_answer answer) }
 {
     match answer {
         WriteAnswer::Wrote(n) => [0, 0, n as u64, 0],
@@ -52,7 +52,7 @@ fn write_told(answer: WriteAnswer) -> [u64; 4]
 }
 
 fn replay_told(answer: ReplayAnswer) -> [u64; 4]
-    ensures { result ≡ replayTold (replyOf answer) }
+    ensures { result ≡ replay_told (reply_of answer) }
 {
     match answer {
         ReplayAnswer::Played(k) => [0, k as u64, 0, 0],
@@ -67,8 +67,8 @@ fn replay_told(answer: ReplayAnswer) -> [u64; 4]
 // Is the program accepted?
 #[unsafe(no_mangle)]
 pub extern "C" fn corefun_check(program: &[u8], workspace: &mut [u8], told: &mut [u64; 4])
-    ensures answer { told.new ≡ checkTold (checkCall program.now (length workspace.old)) }
-    ensures clear { workspace.new ≡ cleared (checkCall program.now (length workspace.old)) workspace.old }
+    ensures answer { told.new ≡ check_told (check_call program.now (length workspace.old)) }
+    ensures clear { workspace.new ≡ cleared (check_call program.now (length workspace.old)) workspace.old }
 {
     let answer = engine::check(program, workspace);
     *told = check_told(answer);
@@ -86,9 +86,9 @@ pub extern "C" fn corefun_forward(
     output: &mut [u8],
     told: &mut [u64; 4],
 )
-    ensures answer { told.new ≡ runTold (summary (forwardCall program.now function ancillae.now value.now fuel (length workspace.old) (length output.old))) }
-    ensures fills { output.new ≡ written (forwardCall program.now function ancillae.now value.now fuel (length workspace.old) (length output.old)) output.old }
-    ensures clear { workspace.new ≡ cleared (forwardCall program.now function ancillae.now value.now fuel (length workspace.old) (length output.old)) workspace.old }
+    ensures answer { told.new ≡ run_told (summary (forward_call program.now function ancillae.now value.now fuel (length workspace.old) (length output.old))) }
+    ensures fills { output.new ≡ written (forward_call program.now function ancillae.now value.now fuel (length workspace.old) (length output.old)) output.old }
+    ensures clear { workspace.new ≡ cleared (forward_call program.now function ancillae.now value.now fuel (length workspace.old) (length output.old)) workspace.old }
 {
     let answer = engine::forward(program, function, ancillae, value, fuel, workspace, output);
     *told = run_told(answer);
@@ -106,9 +106,9 @@ pub extern "C" fn corefun_backward(
     output: &mut [u8],
     told: &mut [u64; 4],
 )
-    ensures answer { told.new ≡ runTold (summary (backwardCall program.now function ancillae.now value.now fuel (length workspace.old) (length output.old))) }
-    ensures fills { output.new ≡ written (backwardCall program.now function ancillae.now value.now fuel (length workspace.old) (length output.old)) output.old }
-    ensures clear { workspace.new ≡ cleared (backwardCall program.now function ancillae.now value.now fuel (length workspace.old) (length output.old)) workspace.old }
+    ensures answer { told.new ≡ run_told (summary (backward_call program.now function ancillae.now value.now fuel (length workspace.old) (length output.old))) }
+    ensures fills { output.new ≡ written (backward_call program.now function ancillae.now value.now fuel (length workspace.old) (length output.old)) output.old }
+    ensures clear { workspace.new ≡ cleared (backward_call program.now function ancillae.now value.now fuel (length workspace.old) (length output.old)) workspace.old }
 {
     let answer = engine::backward(program, function, ancillae, value, fuel, workspace, output);
     *told = run_told(answer);
@@ -123,9 +123,9 @@ pub extern "C" fn corefun_open(
     journal: &mut [u8],
     told: &mut [u64; 4],
 )
-    ensures answer { told.new ≡ checkTold (openAnswer (openCall program.now «record».now (length workspace.old) (length journal.old))) }
-    ensures keeps { journal.new ≡ (afterOpen journal.old (openCall program.now «record».now (length workspace.old) (length journal.old))).journal }
-    ensures clear { workspace.new ≡ cleared (openCall program.now «record».now (length workspace.old) (length journal.old)) workspace.old }
+    ensures answer { told.new ≡ check_told (open_answer (open_call program.now «record».now (length workspace.old) (length journal.old))) }
+    ensures keeps { journal.new ≡ (after_open journal.old (open_call program.now «record».now (length workspace.old) (length journal.old))).journal }
+    ensures clear { workspace.new ≡ cleared (open_call program.now «record».now (length workspace.old) (length journal.old)) workspace.old }
 {
     let answer = engine::open(program, record, workspace, journal);
     *told = check_told(answer);
@@ -142,9 +142,9 @@ pub extern "C" fn corefun_convert(
     journal: &mut [u8],
     told: &mut [u64; 4],
 )
-    ensures answer { told.new ≡ runTold (heldAnswer (convertCall program.now function ancillae.now fuel (length workspace.old) journal.old)) }
-    ensures keeps { journal.new ≡ (afterTurned journal.old (convertCall program.now function ancillae.now fuel (length workspace.old) journal.old)).journal }
-    ensures clear { workspace.new ≡ cleared (convertCall program.now function ancillae.now fuel (length workspace.old) journal.old) workspace.old }
+    ensures answer { told.new ≡ run_told (held_answer (convert_call program.now function ancillae.now fuel (length workspace.old) journal.old)) }
+    ensures keeps { journal.new ≡ (after_turned journal.old (convert_call program.now function ancillae.now fuel (length workspace.old) journal.old)).journal }
+    ensures clear { workspace.new ≡ cleared (convert_call program.now function ancillae.now fuel (length workspace.old) journal.old) workspace.old }
 {
     let answer = engine::convert(program, function, ancillae, fuel, workspace, journal);
     *told = run_told(answer);
@@ -159,9 +159,9 @@ pub extern "C" fn corefun_rollback(
     journal: &mut [u8],
     told: &mut [u64; 4],
 )
-    ensures answer { told.new ≡ runTold (heldAnswer (rollbackCall program.now fuel (length workspace.old) journal.old)) }
-    ensures keeps { journal.new ≡ (afterTurned journal.old (rollbackCall program.now fuel (length workspace.old) journal.old)).journal }
-    ensures clear { workspace.new ≡ cleared (rollbackCall program.now fuel (length workspace.old) journal.old) workspace.old }
+    ensures answer { told.new ≡ run_told (held_answer (rollback_call program.now fuel (length workspace.old) journal.old)) }
+    ensures keeps { journal.new ≡ (after_turned journal.old (rollback_call program.now fuel (length workspace.old) journal.old)).journal }
+    ensures clear { workspace.new ≡ cleared (rollback_call program.now fuel (length workspace.old) journal.old) workspace.old }
 {
     let answer = engine::rollback(program, fuel, workspace, journal);
     *told = run_told(answer);
@@ -170,8 +170,8 @@ pub extern "C" fn corefun_rollback(
 // The nurse's reader of a journal (document 02, F-1): the held value, and how many conversions stand.
 #[unsafe(no_mangle)]
 pub extern "C" fn corefun_nurse(journal: &[u8], output: &mut [u8], told: &mut [u64; 4])
-    ensures answer { told.new ≡ runTold (seenAnswer (nurseCall journal.now (length output.old))) }
-    ensures fills { output.new ≡ overwritten (heldBytes (nurseCall journal.now (length output.old))) output.old }
+    ensures answer { told.new ≡ run_told (seen_answer (nurse_call journal.now (length output.old))) }
+    ensures fills { output.new ≡ overwritten (held_bytes (nurse_call journal.now (length output.old))) output.old }
 {
     let answer = engine::nurse(journal, output);
     *told = nurse_told(answer);
@@ -180,8 +180,8 @@ pub extern "C" fn corefun_nurse(journal: &[u8], output: &mut [u8], told: &mut [u
 // The workshop's reader of a journal: the fields of all conversions, oldest first.
 #[unsafe(no_mangle)]
 pub extern "C" fn corefun_workshop(journal: &[u8], output: &mut [u8], told: &mut [u64; 4])
-    ensures answer { told.new ≡ lengthTold (lengthAnswer (workshopCall journal.now (length output.old))) }
-    ensures fills { output.new ≡ overwritten (workshopCall journal.now (length output.old)) output.old }
+    ensures answer { told.new ≡ length_told (length_answer (workshop_call journal.now (length output.old))) }
+    ensures fills { output.new ≡ overwritten (workshop_call journal.now (length output.old)) output.old }
 {
     let answer = engine::workshop(journal, output);
     *told = write_told(answer);
@@ -199,7 +199,7 @@ pub extern "C" fn corefun_replay(
     answers: &mut [u8],
     told: &mut [u64; 4],
 )
-    ensures answer { told.new ≡ replayTold (replayed program.now script.now journal.old answers.old workspace.old).reply }
+    ensures answer { told.new ≡ replay_told (replayed program.now script.now journal.old answers.old workspace.old).reply }
     ensures keeps { journal.new ≡ (replayed program.now script.now journal.old answers.old workspace.old).journal }
     ensures fills { answers.new ≡ (replayed program.now script.now journal.old answers.old workspace.old).answers }
     ensures clear { workspace.new ≡ (replayed program.now script.now journal.old answers.old workspace.old).workspace }

@@ -10,9 +10,9 @@ use package.Rattle.rules.specs.Run.{give, test}
 use package.Rattle.valuegraph.specs.Nodes.{Agree, Heap, Grown, Made}
 use package.Rattle.valuegraph.proofs.Heaps.{value-kept}
 use package.Rattle.valuegraph.proofs.Places.{agree_refl}
-use package.Rattle.forward.specs.Outcomes.{Out, stopped, statusOf, refusalOf, finished}
+use package.Rattle.forward.specs.Outcomes.{Out, stopped, status_of, refusal_of, finished}
 use package.Rattle.forward.specs.Ready.{Graph, Makes}
-use package.Rattle.forward.proofs.Answers.{is-value}
+use package.Rattle.forward.proofs.Answers.{is_value_lem}
 use package.Rattle.forward.proofs.Runs.{meaning-value, meaning-refused}
 use Rattle.forward.specs.declared.outcomes.Refusal.TheVariants.{Long}
 use Rattle.forward.specs.declared.outcomes.Status.{Status}
@@ -20,25 +20,25 @@ use Rattle.forward.specs.declared.outcomes.Status.TheVariants.{Refused}
 use package.Rattle.scopes.specs.Slots.{Machine}
 
 -- more nodes
-pub graph-later : {heap heap' : List ℕ} {top top' : ℕ} → Graph heap top → Agree top heap heap' → Heap heap' top' → top ≤ top' → Graph heap' top'
-graph-later {heap} {heap'} {top} G agree right le = record {
+pub graph_later : {heap heap' : List ℕ} {top top' : ℕ} → Graph heap top → Agree top heap heap' → Heap heap' top' → top ≤ top' → Graph heap' top'
+graph_later {heap} {heap'} {top} G agree right le = record {
   right = right;
   short = λ n l. (right.node n l).fit;
   some = omega (arith, G.some);
-  unit-there = sym (value-kept heap heap' top G.right agree 0 G.some) ∙ G.unit-there;
+  unit_there = sym (value-kept heap heap' top G.right agree 0 G.some) ∙ G.unit_there;
 }
 
 -- one more
 pub graph-grown : {heap heap' : List ℕ} {top : ℕ} {v : Val} → Graph heap top → Grown heap heap' top v → Graph heap' (top + 1)
-graph-grown G g = graph-later G g.agree g.right (omega arith)
+graph-grown G g = graph_later G g.agree g.right (omega arith)
 
-pub test-true : (b : Bool) (n t : ℕ) (v : Val) (fuel : ℕ) → b ≡ true → test b n t (give v) fuel ≡ give v fuel
+pub test_true : (b : Bool) (n t : ℕ) (v : Val) (fuel : ℕ) → b ≡ true → test b n t (give v) fuel ≡ give v fuel
 unfolding test
-test-true b n t v fuel e = rw e
+test_true b n t v fuel e = rw e
 
-test-false : (b : Bool) (n t : ℕ) (v : Val) (fuel : ℕ) → b ≡ false → test b 14 t (give v) fuel ≡ refusalOf (Long t)
-unfolding test refusalOf
-test-false b n t v fuel e = rw e
+test_false : (b : Bool) (n t : ℕ) (v : Val) (fuel : ℕ) → b ≡ false → test b 14 t (give v) fuel ≡ refusal_of (Long t)
+unfolding test refusal_of
+test_false b n t v fuel e = rw e
 
 -- a new node of a value within the limit
 makes-new : {heap heap' : List ℕ} {st : Machine} {v : Val} (t : ℕ) → Graph heap st.top → Grown heap heap' st.top v → fits v ≡ true
@@ -51,7 +51,7 @@ makes-new {heap} {heap'} {st} {v} t G g f = record {
   spends = refl;
   one = omega arith;
   node = λ n s. let z : st.top ≡ n = cc in omega arith;
-  answer = meaning-value heap' (finished true st t) refl ∙ ap (λ w. give w st.fuel) g.value ∙ sym (test-true (fits v) 14 t v st.fuel f);
+  answer = meaning-value heap' (finished true st t) refl ∙ ap (λ w. give w st.fuel) g.value ∙ sym (test_true (fits v) 14 t v st.fuel f);
 }
 
 makes-old : {heap : List ℕ} {st : Machine} {v : Val} (t : ℕ) → Graph heap st.top → fits v ≡ false → Makes heap heap st (finished false st t) t v
@@ -63,7 +63,7 @@ makes-old {heap} {st} {v} t G f = record {
   spends = refl;
   one = omega arith;
   node = λ n s. let z : ◌≡◌ {A = ℕ} 0 1 = cc in absurd (omega arith);
-  answer = meaning-refused heap (finished false st t) refl ∙ sym (test-false (fits v) 14 t v st.fuel f);
+  answer = meaning-refused heap (finished false st t) refl ∙ sym (test_false (fits v) 14 t v st.fuel f);
 }
 
 -- what the value graph answers, finished
@@ -74,19 +74,19 @@ makes {heap} {heap'} {st} {v} t false G d = rw (d.old refl) (makes-old t G (sym 
 
 -- a number that finishes so
 module _ (st : Machine) {made : Bool} (t : ℕ) where
-  pub finish-new : made ≡ true → st.top < stopped → record { status = statusOf st.top; state = record { top = st.top + 1; fuel = st.fuel } } ≡ finished
+  pub finish_new : made ≡ true → st.top < stopped → record { status = status_of st.top; state = record { top = st.top + 1; fuel = st.fuel } } ≡ finished
       made st t
   unfolding finished
-  finish-new e l = rw (finished, e, is-value l)
+  finish_new e l = rw (finished, e, is_value_lem l)
 
-  pub finish-old : made ≡ false → {s : Status} → s ≡ Refused (Long t) → record { status = s; state = st } ≡ finished made st t
+  pub finish_old : made ≡ false → {s : Status} → s ≡ Refused (Long t) → record { status = s; state = st } ≡ finished made st t
   unfolding finished
-  finish-old e q = rw (finished, e, q)
+  finish_old e q = rw (finished, e, q)
 
 -- the same of an answer that is finished so
 module _ {heap heap' : List ℕ} {st : Machine} {v : Val} {t : ℕ} {out : Out} where
-  pub makes-as : {b : Bool} → out ≡ finished b st t → Graph heap st.top → Made heap heap' st.top v b → Makes heap heap' st out t v
-  makes-as {b} e G d = rw e (makes t b G d)
+  pub makes_as : {b : Bool} → out ≡ finished b st t → Graph heap st.top → Made heap heap' st.top v b → Makes heap heap' st out t v
+  makes_as {b} e G d = rw e (makes t b G d)
 
-  pub makes-new-as : out ≡ finished true st t → Graph heap st.top → Grown heap heap' st.top v → fits v ≡ true → Makes heap heap' st out t v
-  makes-new-as e G g f = rw e (makes-new t G g f)
+  pub makes-new_as : out ≡ finished true st t → Graph heap st.top → Grown heap heap' st.top v → fits v ≡ true → Makes heap heap' st out t v
+  makes-new_as e G g f = rw e (makes-new t G g f)

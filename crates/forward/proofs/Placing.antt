@@ -7,24 +7,24 @@ use mathlib.Core.Logic.{inr as right}
 use mathlib.Core.List.{List, [], ◌∷◌}
 use lib.ListN.{get_or, set, length-set}
 use lib.Seq.{get_or-set_same, get_or-set_other}
-use package.Rattle.program.specs.Kinds.{callKind}
-use package.Rattle.rules.specs.Limits.{fits, maxParameters}
+use package.Rattle.program.specs.Kinds.{call_kind}
+use package.Rattle.rules.specs.Limits.{fits, max_parameters}
 use package.Rattle.rules.specs.Val.{Val}
 use package.Rattle.rules.specs.Term.{Term}
 use package.Rattle.rules.specs.Run.{Res, ok, Run, after}
 use package.Rattle.rules.proofs.Run.{via, after-after}
 use package.Rattle.rules.specs.Machine.{each, forward}
-use package.Rattle.calls.specs.Entries.{TypeEntry, termTrees}
+use package.Rattle.calls.specs.Entries.{TypeEntry, term_trees}
 use package.Rattle.valuegraph.specs.Nodes.{value_at}
 use package.Rattle.valuegraph.proofs.Heaps.{value-kept}
-use package.Rattle.scopes.specs.Slots.{slotCount, Machine, Scope}
-use package.Rattle.forward.specs.Outcomes.{Out, refusalOf}
-use package.Rattle.forward.specs.Ready.{Ready, RanForward, ancillaeOf, state_of, run_of, valuesAt, argumentsOf, placed_of, Places, Calls}
-use package.Rattle.forward.proofs.Runs.{refusal-after, answered, refused, says, then, fewer, ancillae-later, state-later, part}
+use package.Rattle.scopes.specs.Slots.{slot_count, Machine, Scope}
+use package.Rattle.forward.specs.Outcomes.{Out, refusal_of}
+use package.Rattle.forward.specs.Ready.{Ready, RanForward, ancillae_of, state_of, run_of, values_at, arguments_of, placed_of, Places, Calls}
+use package.Rattle.forward.proofs.Runs.{refusal-after, answered, refused, says, then, fewer, ancillae_later, state_later, part}
 use Rattle.forward.specs.declared.outcomes.Refusal.{Refusal}
 use Rattle.forward.specs.declared.outcomes.Status.{Status}
 use Rattle.forward.specs.declared.outcomes.Status.TheVariants.{Value, Refused}
-use package.Rattle.decoded.specs.Rows.{room_for, argumentIn, argumentsIn, kindIn, programIn, thirdIn, treeIn}
+use package.Rattle.decoded.specs.Rows.{room_for, argument_in, arguments_in, kind_in, program_in, third_in, tree_in}
 use package.Rattle.decoded.proofs.Trees.{part-argument}
 
 ----------------------------------------------------------------
@@ -33,64 +33,64 @@ use package.Rattle.decoded.proofs.Trees.{part-argument}
 module _ (go : Term → Run Val) (tree : ℕ → Term) (code : List ℕ) (t : ℕ) (last : Term) where
   -- the terms of call `t` from number `i` on, `n` of them, and the last
   abbrev pub arguments : ℕ → ℕ → ℕ → (List Val → Val → Run Val) → Res Val
-  arguments i n fuel next = after (each go (termTrees tree (argumentsIn code t i n)) fuel) (λ vs fuel. after (go last fuel) (next vs))
+  arguments i n fuel next = after (each go (term_trees tree (arguments_in code t i n)) fuel) (λ vs fuel. after (go last fuel) (next vs))
 
   arguments-last : (i n fuel : ℕ) (next : List Val → Val → Run Val) → n ≡ 0 → arguments i n fuel next ≡ after (go last fuel) (next [])
-  unfolding argumentsIn termTrees each after
+  unfolding arguments_in term_trees each after
   arguments-last i n fuel next e = rw e
 
   abbrev onward : Val → Run (List Val) → Run (List Val)
   onward v m fuel = after (m fuel) (λ vs fuel. ok (v ∷ vs) fuel)
 
   arguments-front : (i n n' fuel : ℕ) (next : List Val → Val → Run Val) → n ≡ suc n' → arguments i n fuel next
-      ≡ after (after (go (tree (argumentIn code t i)) fuel) (λ v. onward v (each go (termTrees tree (argumentsIn code t (i + 1) n')))))
+      ≡ after (after (go (tree (argument_in code t i)) fuel) (λ v. onward v (each go (term_trees tree (arguments_in code t (i + 1) n')))))
       (λ vs fuel. after (go last fuel) (next vs))
-  unfolding argumentsIn termTrees each
+  unfolding arguments_in term_trees each
   arguments-front i n n' fuel next e = rw e
 
   module _ (i n n' fuel : ℕ) (next : List Val → Val → Run Val) (e : n ≡ suc n') where
-    arguments-more : {v : Val} {fuel' : ℕ} → go (tree (argumentIn code t i)) fuel ≡ ok v fuel'
+    arguments-more : {v : Val} {fuel' : ℕ} → go (tree (argument_in code t i)) fuel ≡ ok v fuel'
         → arguments i n fuel next ≡ arguments (i + 1) n' fuel' (λ vs. next (v ∷ vs))
     unfolding after
     arguments-more {v} {fuel'} p =
         arguments-front i n n' fuel next e
-        ∙ ap (λ x. after (after x (λ v. onward v (each go (termTrees tree (argumentsIn code t (i + 1) n'))))) (λ vs fuel. after (go last fuel) (next vs))) p
-        ∙ after-after (each go (termTrees tree (argumentsIn code t (i + 1) n')) fuel') (λ vs fuel. ok (v ∷ vs) fuel) (λ vs fuel. after (go last fuel) (next vs))
+        ∙ ap (λ x. after (after x (λ v. onward v (each go (term_trees tree (arguments_in code t (i + 1) n'))))) (λ vs fuel. after (go last fuel) (next vs))) p
+        ∙ after-after (each go (term_trees tree (arguments_in code t (i + 1) n')) fuel') (λ vs fuel. ok (v ∷ vs) fuel) (λ vs fuel. after (go last fuel) (next vs))
 
-    arguments-refused : (why : Refusal) → go (tree (argumentIn code t i)) fuel ≡ refusalOf why → arguments i n fuel next ≡ refusalOf why
+    arguments-refused : (why : Refusal) → go (tree (argument_in code t i)) fuel ≡ refusal_of why → arguments i n fuel next ≡ refusal_of why
     arguments-refused why p =
         arguments-front i n n' fuel next e
-        ∙ ap (λ x. after (after x (λ v. onward v (each go (termTrees tree (argumentsIn code t (i + 1) n'))))) (λ vs fuel. after (go last fuel) (next vs))) p
+        ∙ ap (λ x. after (after x (λ v. onward v (each go (term_trees tree (arguments_in code t (i + 1) n'))))) (λ vs fuel. after (go last fuel) (next vs))) p
         ∙ ap (λ x. after x (λ vs fuel. after (go last fuel) (next vs)))
-        (refusal-after why (λ v. onward v (each go (termTrees tree (argumentsIn code t (i + 1) n')))))
+        (refusal-after why (λ v. onward v (each go (term_trees tree (arguments_in code t (i + 1) n')))))
         ∙ refusal-after why (λ vs fuel. after (go last fuel) (next vs))
 
 ----------------------------------------------------------------
 -- Values in slots
 
 pub values_same : (heap slots slots' : List ℕ) (from n : ℕ) → ((j : ℕ) → from ≤ j → get_or slots j 0 ≡ get_or slots' j 0)
-    → valuesAt heap slots from n ≡ valuesAt heap slots' from n
-unfolding valuesAt
+    → values_at heap slots from n ≡ values_at heap slots' from n
+unfolding values_at
 values_same heap slots slots' from zero s = refl
 values_same heap slots slots' from (suc n) s = ap₂ ◌∷◌ (ap (value_at heap) (s from (omega arith)))
     (values_same heap slots slots' (from + 1) n λ j h. s j (omega arith))
 
-pub values-none : (heap slots : List ℕ) (from n : ℕ) → n ≡ 0 → valuesAt heap slots from n ≡ []
-unfolding valuesAt
-values-none heap slots from n e = rw e
+pub values_none : (heap slots : List ℕ) (from n : ℕ) → n ≡ 0 → values_at heap slots from n ≡ []
+unfolding values_at
+values_none heap slots from n e = rw e
 
 pub values-front : (heap slots : List ℕ) (from n n' : ℕ) → n ≡ suc n'
-    → valuesAt heap slots from n ≡ value_at heap (get_or slots from 0) ∷ valuesAt heap slots (from + 1) n'
-unfolding valuesAt
+    → values_at heap slots from n ≡ value_at heap (get_or slots from 0) ∷ values_at heap slots (from + 1) n'
+unfolding values_at
 values-front heap slots from n n' e = rw e
 
 pub placed-value : (heap slots : List ℕ) (m k count fuel : ℕ) {s : Status} {node : ℕ} (next : List Val → Val → Run Val) → s ≡ Value node
-    → placed_of heap slots m k count fuel s next ≡ next (valuesAt heap slots (m + k) (count - k)) (value_at heap (get_or slots (m + count) 0)) fuel
+    → placed_of heap slots m k count fuel s next ≡ next (values_at heap slots (m + k) (count - k)) (value_at heap (get_or slots (m + count) 0)) fuel
 unfolding placed_of
 placed-value heap slots m k count fuel next e = ap (λ s. placed_of heap slots m k count fuel s next) e
 
 pub placed-refused : (heap slots : List ℕ) (m k count fuel : ℕ) {s : Status} {why : Refusal} (next : List Val → Val → Run Val) → s ≡ Refused why
-    → placed_of heap slots m k count fuel s next ≡ refusalOf why
+    → placed_of heap slots m k count fuel s next ≡ refusal_of why
 unfolding placed_of
 placed-refused heap slots m k count fuel next e = ap (λ s. placed_of heap slots m k count fuel s next) e
 
@@ -103,14 +103,14 @@ module _ {code heap slots : List ℕ} {st : Machine} {sc : Scope} {t room : ℕ}
   m = sc.base + sc.n
 
   abbrev go : List TypeEntry → Term → Run Val
-  go ys = forward fits (programIn code ys) (room - 1) (ancillaeOf heap slots sc) (state_of heap slots sc)
+  go ys = forward fits (program_in code ys) (room - 1) (ancillae_of heap slots sc) (state_of heap slots sc)
 
   pub few-count : count ≤ room_for
   few-count = omega (arith, C.ancillae, rd.rows.few t rd.term C.kind)
 
   -- the slot of argument `k` is there
-  pub place-room : m + k < slotCount
-  unfolding maxParameters
+  pub place-room : m + k < slot_count
+  unfolding max_parameters
   place-room = omega (arith, rd.variables, rd.full, rd.tall, few-count, C.next)
 
   -- the next argument
@@ -124,18 +124,18 @@ module _ {code heap slots : List ℕ} {st : Machine} {sc : Scope} {t room : ℕ}
   pub place-next : ¬ (k ≡ count) → Calls code t (k + 1) count
   place-next n = record { kind = C.kind; ancillae = C.ancillae; next = omega (arith, place-less n) }
 
-  module _ (b : ℕ) (q : b ≡ argumentIn code t k) where
+  module _ (b : ℕ) (q : b ≡ argument_in code t k) where
     pub place-ready : Ready 0 0 code heap slots st sc b (room - 1)
     place-ready =
-        rw q (fewer (part rd (argumentIn code t k) (part-argument rd.rows t rd.term C.kind k (omega (arith, C.ancillae, C.next)))) 0 (omega arith))
+        rw q (fewer (part rd (argument_in code t k) (part-argument rd.rows t rd.term C.kind k (omega (arith, C.ancillae, C.next)))) 0 (omega arith))
 
     module _ {heap₁ slots₁ : List ℕ} {r₁ : Out} (d : RanForward 0 heap heap₁ m slots slots₁ st r₁ (run_of code heap slots st sc b (room - 1))) where
       -- argument `k`, as it stands among the others
-      at_place : (ys : List TypeEntry) → go ys (treeIn code ys (argumentIn code t k)) st.fuel ≡ run_of code heap slots st sc b (room - 1) ys
+      at_place : (ys : List TypeEntry) → go ys (tree_in code ys (argument_in code t k)) st.fuel ≡ run_of code heap slots st sc b (room - 1) ys
       at_place ys = ap (λ b. run_of code heap slots st sc b (room - 1) ys) (sym q)
 
-      at-end : k ≡ count → (ys : List TypeEntry) → go ys (treeIn code ys (argumentIn code t count)) st.fuel ≡ run_of code heap slots st sc b (room - 1) ys
-      at-end e ys = ap (λ b. run_of code heap slots st sc b (room - 1) ys) (ap (argumentIn code t) (sym e) ∙ sym q)
+      at-end : k ≡ count → (ys : List TypeEntry) → go ys (tree_in code ys (argument_in code t count)) st.fuel ≡ run_of code heap slots st sc b (room - 1) ys
+      at-end e ys = ap (λ b. run_of code heap slots st sc b (room - 1) ys) (ap (argument_in code t) (sym e) ∙ sym q)
 
       pub place-refused : {why : Refusal} → r₁.status ≡ Refused why → Places code heap heap₁ slots slots₁ st sc t room k count r₁
       place-refused {why} s = record {
@@ -145,13 +145,13 @@ module _ {code heap slots : List ℕ} {st : Machine} {sc : Scope} {t room : ℕ}
       }
         where
           go_on : (ys : List TypeEntry) (next : List Val → Val → Run Val) → Dec (k < count)
-              → argumentsOf code heap slots st sc t room k count ys next ≡ refusalOf why
+              → arguments_of code heap slots st sc t room k count ys next ≡ refusal_of why
           go_on ys next (yes l) =
-              arguments-refused (go ys) (treeIn code ys) code t (treeIn code ys (argumentIn code t count)) k (count - k) (count - (k + 1)) st.fuel next
+              arguments-refused (go ys) (tree_in code ys) code t (tree_in code ys (argument_in code t count)) k (count - k) (count - (k + 1)) st.fuel next
               (omega arith) why
               (at_place ys ∙ refused d s ys)
           go_on ys next (no l) =
-              arguments-last (go ys) (treeIn code ys) code t (treeIn code ys (argumentIn code t count)) k (count - k) st.fuel next (omega (arith, C.next))
+              arguments-last (go ys) (tree_in code ys) code t (tree_in code ys (argument_in code t count)) k (count - k) st.fuel next (omega (arith, C.next))
               ∙ ap (λ x. after x (next [])) (at-end (omega (arith, C.next)) ys ∙ refused d s ys)
               ∙ refusal-after why (next [])
 
@@ -172,10 +172,10 @@ module _ {code heap slots : List ℕ} {st : Machine} {sc : Scope} {t room : ℕ}
           };
           held = λ n q j low high. rw (let z : m + j ≡ m + k = omega arith in z, here) (d.node x s);
           answer = λ ys next.
-              arguments-last (go ys) (treeIn code ys) code t (treeIn code ys (argumentIn code t count)) k (count - k) st.fuel next (omega arith)
+              arguments-last (go ys) (tree_in code ys) code t (tree_in code ys (argument_in code t count)) k (count - k) st.fuel next (omega arith)
               ∙ value-next next ys
               ∙ sym (placed-value heap₁ slots₂ m k count r₁.state.fuel next s
-              ∙ ap₂ (λ vs v. next vs v r₁.state.fuel) (values-none heap₁ slots₂ (m + k) (count - k) (omega arith))
+              ∙ ap₂ (λ vs v. next vs v r₁.state.fuel) (values_none heap₁ slots₂ (m + k) (count - k) (omega arith))
               (ap (value_at heap₁) (ap (λ k. get_or slots₂ (m + k) 0) (sym e) ∙ here)));
         }
           where
@@ -183,7 +183,7 @@ module _ {code heap slots : List ℕ} {st : Machine} {sc : Scope} {t room : ℕ}
             here = rw e₂ (get_or-set_same slots₁ (m + k) x 0 (omega (arith, place-room, rd.full, d.lengths)))
 
             value-next : (next : List Val → Val → Run Val) (ys : List TypeEntry)
-                → after (go ys (treeIn code ys (argumentIn code t count)) st.fuel) (next []) ≡ next [] (value_at heap₁ x) r₁.state.fuel
+                → after (go ys (tree_in code ys (argument_in code t count)) st.fuel) (next []) ≡ next [] (value_at heap₁ x) r₁.state.fuel
             value-next next ys = via (next []) (at-end e ys ∙ answered d s ys) refl
 
         -- an ancilla term, and the others behind it
@@ -207,21 +207,21 @@ module _ {code heap slots : List ℕ} {st : Machine} {sc : Scope} {t room : ℕ}
               ∙ ap₂ (λ vs v. next vs v r₂.state.fuel) values (ap (value_at heap₂) (elsewhere (m + count) (λ q. omega arith)))
               ∙ sym (placed-value heap₂ slots₃ m k count r₂.state.fuel next refl)
             where
-              values : value_at heap₁ x ∷ valuesAt heap₂ slots₂ (m + (k + 1)) (count - (k + 1)) ≡ valuesAt heap₂ slots₃ (m + k) (count - k)
+              values : value_at heap₁ x ∷ values_at heap₂ slots₂ (m + (k + 1)) (count - (k + 1)) ≡ values_at heap₂ slots₃ (m + k) (count - k)
               values =
                   ap₂ ◌∷◌ (value-kept heap₁ heap₂ r₁.state.top d.graph.right D.ran.agree x (d.node x s) ∙ ap (value_at heap₂) (sym here))
                   (values_same heap₂ slots₂ slots₃ (m + (k + 1)) (count - (k + 1)) (λ j h. elsewhere j (λ q. omega arith))
-                  ∙ ap (λ i. valuesAt heap₂ slots₃ i (count - (k + 1))) (let z : m + (k + 1) ≡ m + k + 1 = omega arith in z))
+                  ∙ ap (λ i. values_at heap₂ slots₃ i (count - (k + 1))) (let z : m + (k + 1) ≡ m + k + 1 = omega arith in z))
                   ∙ sym (values-front heap₂ slots₃ (m + k) (count - k) (count - (k + 1)) (omega arith))
 
           -- the others, in the scope as it was
           others : (ys : List TypeEntry) (next : List Val → Val → Run Val)
-              → arguments (go ys) (treeIn code ys) code t (treeIn code ys (argumentIn code t count)) (k + 1) (count - (k + 1)) r₁.state.fuel next
-              ≡ argumentsOf code heap₁ slots₁ r₁.state sc t room (k + 1) count ys next
+              → arguments (go ys) (tree_in code ys) code t (tree_in code ys (argument_in code t count)) (k + 1) (count - (k + 1)) r₁.state.fuel next
+              ≡ arguments_of code heap₁ slots₁ r₁.state sc t room (k + 1) count ys next
           others ys next =
-              ap (λ (G : Term → Run Val). arguments G (treeIn code ys) code t (treeIn code ys (argumentIn code t count)) (k + 1) (count - (k + 1))
+              ap (λ (G : Term → Run Val). arguments G (tree_in code ys) code t (tree_in code ys (argument_in code t count)) (k + 1) (count - (k + 1))
               r₁.state.fuel next)
-              (ap₂ (λ a σ. forward fits (programIn code ys) (room - 1) a σ) (ancillae-later rd d) (state-later rd d))
+              (ap₂ (λ a σ. forward fits (program_in code ys) (room - 1) a σ) (ancillae_later rd d) (state_later rd d))
 
           pub place-more : Places code heap heap₂ slots slots₃ st sc t room k count r₂
           place-more = record {
@@ -238,7 +238,7 @@ module _ {code heap slots : List ℕ} {st : Machine} {sc : Scope} {t room : ℕ}
             }) (omega arith);
             held = λ n q j low high. slot n q j low high (dec_lt k j);
             answer = λ ys next.
-                arguments-more (go ys) (treeIn code ys) code t (treeIn code ys (argumentIn code t count)) k (count - k) (count - (k + 1)) st.fuel next
+                arguments-more (go ys) (tree_in code ys) code t (tree_in code ys (argument_in code t count)) k (count - k) (count - (k + 1)) st.fuel next
                 (omega arith)
                 (at_place ys ∙ answered d s ys)
                 ∙ others ys (λ vs. next (value_at heap₁ x ∷ vs))
@@ -251,5 +251,5 @@ module _ {code heap slots : List ℕ} {st : Machine} {sc : Scope} {t room : ℕ}
               slot n q j low high (no h) = rw (let z : m + j ≡ m + k = omega arith in z, here) (omega (arith, d.node x s, D.ran.grows))
 
 -- the arguments of a call, none placed yet
-pub all-to-place : {code : List ℕ} {t count : ℕ} → kindIn code t ≡ callKind → count ≡ thirdIn code t → Calls code t 0 count
-all-to-place e q = record { kind = e; ancillae = q; next = omega arith }
+pub all_to_place : {code : List ℕ} {t count : ℕ} → kind_in code t ≡ call_kind → count ≡ third_in code t → Calls code t 0 count
+all_to_place e q = record { kind = e; ancillae = q; next = omega arith }

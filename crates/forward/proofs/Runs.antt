@@ -11,15 +11,15 @@ use package.Rattle.rules.proofs.Run.{via}
 use package.Rattle.calls.specs.Entries.{TypeEntry}
 use package.Rattle.valuegraph.specs.Nodes.{value_at}
 use package.Rattle.valuegraph.proofs.Places.{agree_refl, agree_trans, agree-down}
-use package.Rattle.rules.specs.Limits.{maxParameters}
+use package.Rattle.rules.specs.Limits.{max_parameters}
 use package.Rattle.scopes.specs.Slots.{Slots, Machine, Scope}
-use package.Rattle.scopes.proofs.Marks.{slot-later}
-use package.Rattle.scopes.proofs.Scopes.{state-same, state-kept}
+use package.Rattle.scopes.proofs.Marks.{slot_later}
+use package.Rattle.scopes.proofs.Scopes.{state_same, state-kept}
 use package.Rattle.forward.proofs.Answers.{below-mark}
 use package.Rattle.yields.specs.Yields.{Ancillae}
 use package.Rattle.yields.proofs.Ancillae.{ancillae-same, ancillae-kept}
-use package.Rattle.forward.specs.Outcomes.{Out, refusalOf, answer_of, meaning}
-use package.Rattle.forward.specs.Ready.{Graph, Ready, RanForward, Makes, ancillaeOf, state_of}
+use package.Rattle.forward.specs.Outcomes.{Out, refusal_of, answer_of, meaning}
+use package.Rattle.forward.specs.Ready.{Graph, Ready, RanForward, Makes, ancillae_of, state_of}
 use Rattle.forward.specs.declared.outcomes.Refusal.{Refusal}
 use Rattle.forward.specs.declared.outcomes.Refusal.TheVariants.{Fuel, Height, Long, FirstMatch, Stuck}
 use Rattle.forward.specs.declared.outcomes.Status.TheVariants.{Value, Refused}
@@ -31,13 +31,13 @@ pub meaning-value : (heap : List ℕ) (out : Out) {x : ℕ} → out.status ≡ V
 unfolding answer_of
 meaning-value heap out e = ap (answer_of heap out.state.fuel) e
 
-pub meaning-refused : (heap : List ℕ) (out : Out) {w : Refusal} → out.status ≡ Refused w → meaning heap out ≡ refusalOf w
+pub meaning-refused : (heap : List ℕ) (out : Out) {w : Refusal} → out.status ≡ Refused w → meaning heap out ≡ refusal_of w
 unfolding answer_of
 meaning-refused heap out e = ap (answer_of heap out.state.fuel) e
 
 -- a refusal stands
-pub refusal-after : {A B : Type 0} (w : Refusal) (k : A → Run B) → after (refusalOf w) k ≡ refusalOf w
-unfolding refusalOf after
+pub refusal-after : {A B : Type 0} (w : Refusal) (k : A → Run B) → after (refusal_of w) k ≡ refusal_of w
+unfolding refusal_of after
 refusal-after (Fuel t) k = refl
 refusal-after (Height t) k = refl
 refusal-after (Long t) k = refl
@@ -49,7 +49,7 @@ module _ {k : ℕ} {heap heap' : List ℕ} {m : ℕ} {slots slots' : List ℕ} {
   pub answered : {x : ℕ} → out.status ≡ Value x → (ys : List TypeEntry) → res ys ≡ ok (value_at heap' x) out.state.fuel
   answered e ys = sym (d.answer ys) ∙ meaning-value heap' out e
 
-  pub refused : {w : Refusal} → out.status ≡ Refused w → (ys : List TypeEntry) → res ys ≡ refusalOf w
+  pub refused : {w : Refusal} → out.status ≡ Refused w → (ys : List TypeEntry) → res ys ≡ refusal_of w
   refused e ys = sym (d.answer ys) ∙ meaning-refused heap' out e
 
   -- the same run, said to give another thing that is equal
@@ -98,7 +98,7 @@ module _ {heap : List ℕ} {st : Machine} (G : Graph heap st.top) (m : ℕ) (slo
   }
 
   pub halted : (out : Out) {w : Refusal} {res : List TypeEntry → Res Val} → out.state ≡ st → out.status ≡ Refused w
-      → ((ys : List TypeEntry) → res ys ≡ refusalOf w) → RanForward 0 heap heap m slots slots st out res
+      → ((ys : List TypeEntry) → res ys ≡ refusal_of w) → RanForward 0 heap heap m slots slots st out res
   halted out e s a =
       still out e (λ n q. let z : ◌≡◌ {A = ℕ} 0 1 = cc in absurd (omega arith)) (λ ys. meaning-refused heap out s ∙ sym (a ys))
 
@@ -175,15 +175,15 @@ module _ {k v : ℕ} {code heap slots : List ℕ} {st : Machine} {sc : Scope} {t
   }
 
   module _ {heap' slots' : List ℕ} {out : Out} {res : List TypeEntry → Res Val} (d : RanForward 0 heap heap' (sc.base + sc.n) slots slots' st out res) where
-    pub held-later : Slots heap' slots' (sc.base + sc.n) out.state.top
-    held-later = record { held = λ j h. rw (← d.below j h) (slot-later d.agree out.state.top d.grows (rd.held.held j h)) }
+    pub held_later : Slots heap' slots' (sc.base + sc.n) out.state.top
+    held_later = record { held = λ j h. rw (← d.below j h) (slot_later d.agree out.state.top d.grows (rd.held.held j h)) }
 
     pub later : Ready k v code heap' slots' out.state sc t room
     later = record {
       rows = rd.rows;
       term = rd.term;
       graph = d.graph;
-      held = held-later;
+      held = held_later;
       ancillae = λ i h. rw (← d.below (sc.base + i) (omega (arith, rd.within))) (omega (arith, rd.ancillae i h, d.grows));
       within = rd.within;
       nodes = omega (arith, rd.nodes, d.owes, d.agree.lengths);
@@ -193,20 +193,20 @@ module _ {k v : ℕ} {code heap slots : List ℕ} {st : Machine} {sc : Scope} {t
       tall = rd.tall;
     }
 
-    pub ancillae-later : ancillaeOf heap slots sc ≡ ancillaeOf heap' slots' sc
-    ancillae-later =
+    pub ancillae_later : ancillae_of heap slots sc ≡ ancillae_of heap' slots' sc
+    ancillae_later =
         ancillae-kept heap heap' slots sc.base sc.q st.top rd.graph.right d.agree ancillae-held
         ∙ ancillae-same heap' slots slots' sc.base sc.q (λ j h. d.below j (omega (arith, rd.within)))
 
-    pub state-later : state_of heap slots sc ≡ state_of heap' slots' sc
-    state-later =
+    pub state_later : state_of heap slots sc ≡ state_of heap' slots' sc
+    state_later =
         ap filled (state-kept heap heap' slots sc.base sc.n st.top rd.graph.right d.agree rd.held (omega (arith, rd.small, below-mark))
-        ∙ state-same heap' slots slots' sc.base sc.n d.below)
+        ∙ state_same heap' slots slots' sc.base sc.n d.below)
 
 -- a part of the term, in its scope and with room for two variables more, the most that a term binds
 pub part : {v : ℕ} {code heap slots : List ℕ} {st : Machine} {sc : Scope} {t room : ℕ} → Ready 1 v code heap slots st sc t room
     → (b : ℕ) → b < t → Ready 0 2 code heap slots st sc b (room - 1)
-unfolding maxParameters
+unfolding max_parameters
 part rd b q = record {
   rows = rd.rows;
   term = omega (arith, rd.term);

@@ -20,8 +20,8 @@ abbrev pub stopped : ℕ
 stopped = 2147483648
 
 -- a refusal by its number; no number of section 4 is a value of wrong shape
-unfoldable pub refusalIn : ℕ → ℕ → Refusal
-refusalIn number t = elim (eqb number 12) [
+unfoldable pub refusal_in : ℕ → ℕ → Refusal
+refusal_in number t = elim (eqb number 12) [
   | true ↦ Fuel t
   | false ↦ elim (eqb number 13) [
     | true ↦ Height t
@@ -32,13 +32,13 @@ refusalIn number t = elim (eqb number 12) [
   ]
 ]
 
-unfoldable pub statusOf : ℕ → Status
-statusOf r = elim (ltb r stopped) [ true ↦ Value r | false ↦ Refused (refusalIn ((r - stopped) / part) ((r - stopped) % part)) ]
+unfoldable pub status_of : ℕ → Status
+status_of r = elim (ltb r stopped) [ true ↦ Value r | false ↦ Refused (refusal_in ((r - stopped) / part) ((r - stopped) % part)) ]
 
 -- the answer that is this refusal
 pub record Stops (r number t : ℕ) : Type 0 where
   pub is : r ≡ stopped + part * number + t
-  pub status : statusOf r ≡ Refused (refusalIn number t)
+  pub status : status_of r ≡ Refused (refusal_in number t)
 
 -- an answer, with the machine that is left
 pub record Out : Type 0 where
@@ -47,23 +47,23 @@ pub record Out : Type 0 where
 
 -- the same of the numbers that a run leaves
 abbrev pub out_of : ℕ → List ℕ → Out
-out_of r st = record { status = statusOf r; state = machine_of st }
+out_of r st = record { status = status_of r; state = machine_of st }
 
 ----------------------------------------------------------------
 -- What an answer means
 
 -- the number of a refusal, and its place
-unfoldable pub refusalOf : {A : Type 0} → Refusal → Res A
-refusalOf (Fuel t) = stop 12 t
-refusalOf (Height t) = stop 13 t
-refusalOf (Long t) = stop 14 t
-refusalOf (FirstMatch t) = stop 15 t
-refusalOf Stuck = stuck
+unfoldable pub refusal_of : {A : Type 0} → Refusal → Res A
+refusal_of (Fuel t) = stop 12 t
+refusal_of (Height t) = stop 13 t
+refusal_of (Long t) = stop 14 t
+refusal_of (FirstMatch t) = stop 15 t
+refusal_of Stuck = stuck
 
 -- a status, with the fuel that is left, on the heap that its node is in
 unfoldable pub answer_of : List ℕ → ℕ → Status → Res Val
 answer_of heap fuel (Value node) = ok (value_at heap node) fuel
-answer_of heap fuel (Refused why) = refusalOf why
+answer_of heap fuel (Refused why) = refusal_of why
 
 abbrev pub meaning : List ℕ → Out → Res Val
 meaning heap out = answer_of heap out.state.fuel out.status
@@ -76,10 +76,10 @@ finished made st t = elim made [
 ]
 
 -- A variable is its node, if it is in scope.
-unfoldable pub foundOut : Found → Machine → Out
-foundOut (Node node) st = record { status = Value node; state = st }
-foundOut Unknown st = record { status = Refused Stuck; state = st }
+unfoldable pub found_out : Found → Machine → Out
+found_out (Node node) st = record { status = Value node; state = st }
+found_out Unknown st = record { status = Refused Stuck; state = st }
 
 -- The answer `r` is what was found, whatever the machine is.
 pub record Finds (r : ℕ) (f : Found) : Type 0 where
-  pub is : (st : Machine) → record { status = statusOf r; state = st } ≡ foundOut f st
+  pub is : (st : Machine) → record { status = status_of r; state = st } ≡ found_out f st

@@ -3,18 +3,18 @@
 -- proofs/Runs, Steps; proofs/Lending of the last section.
 use Rattle.std.specs.Prelude.{ℕ, zero, suc, ◌+◌, ◌*◌, ◌-◌, ◌≤◌, ◌<◌, ◌≡◌, Bool, true, List, [], ◌∷◌, length, get_or}
 use Rattle.std.proofs.Math.Option.{some}
-use package.Rattle.program.specs.Kinds.{caseKind, callKind}
+use package.Rattle.program.specs.Kinds.{case_kind, call_kind}
 use package.Rattle.rules.specs.Limits.{fits}
 use package.Rattle.rules.specs.Val.{Val, unit}
 use package.Rattle.rules.specs.Run.{Res, Run, after, give, test}
-use package.Rattle.rules.specs.Yield.{firstMatch}
-use package.Rattle.rules.specs.Machine.{State, onRoll, filled, each, forwardStep, forward}
-use package.Rattle.calls.specs.Entries.{TypeEntry, termTrees}
-use package.Rattle.decoded.specs.Rows.{kindIn, firstIn, secondIn, thirdIn, argumentIn, argumentsIn, termCount, treeIn, programIn, Rows}
-use package.Rattle.valuegraph.specs.Nodes.{nodeBytes, Room, value_at, Agree, Heap}
-use package.Rattle.scopes.specs.Slots.{unknown, slotCount, stateCount, Machine, Scope, machine_of, slots_of, scopeIn, stateAt, Slots, slotsPerHeight}
-use package.Rattle.yields.specs.Yields.{ancillaeAt, AncillaeIn}
-use package.Rattle.forward.specs.Outcomes.{Out, stopped, statusOf, out_of, refusalOf, meaning, finished}
+use package.Rattle.rules.specs.Yield.{first_match}
+use package.Rattle.rules.specs.Machine.{State, on_roll, filled, each, forward_step, forward}
+use package.Rattle.calls.specs.Entries.{TypeEntry, term_trees}
+use package.Rattle.decoded.specs.Rows.{kind_in, first_in, second_in, third_in, argument_in, arguments_in, term_count, tree_in, program_in, Rows}
+use package.Rattle.valuegraph.specs.Nodes.{node_bytes, Room, value_at, Agree, Heap}
+use package.Rattle.scopes.specs.Slots.{unknown, slot_count, state_count, Machine, Scope, machine_of, slots_of, scope_in, state_at, Slots, slots_per_height}
+use package.Rattle.yields.specs.Yields.{ancillae_at, AncillaeIn}
+use package.Rattle.forward.specs.Outcomes.{Out, stopped, status_of, out_of, refusal_of, meaning, finished}
 use Rattle.forward.specs.declared.outcomes.Status.{Status}
 use Rattle.forward.specs.declared.outcomes.Status.TheVariants.{Value, Refused}
 
@@ -26,7 +26,7 @@ pub record Graph (heap : List ℕ) (top : ℕ) : Type 0 where
   pub right : Heap heap top
   pub short : (n : ℕ) → n < top → fits (value_at heap n) ≡ true
   pub some : 0 < top
-  pub unit-there : value_at heap 0 ≡ unit
+  pub unit_there : value_at heap 0 ≡ unit
 
 ----------------------------------------------------------------
 -- Before
@@ -35,15 +35,15 @@ pub record Graph (heap : List ℕ) (top : ℕ) : Type 0 where
 -- for `v` variables more than the height says. Every node is an answer, so none has the number that marks a variable as not known.
 pub record Ready (k v : ℕ) (code heap slots : List ℕ) (st : Machine) (sc : Scope) (t room : ℕ) : Type 0 where
   pub rows : Rows code
-  pub term : t < termCount code
+  pub term : t < term_count code
   pub graph : Graph heap st.top
   pub held : Slots heap slots (sc.base + sc.n) st.top
   pub ancillae : (i : ℕ) → i < sc.q → get_or slots (sc.base + i) 0 < st.top
   pub within : sc.q ≤ sc.n
-  pub nodes : nodeBytes * (st.top + st.fuel + k) ≤ length heap
+  pub nodes : node_bytes * (st.top + st.fuel + k) ≤ length heap
   pub small : st.top + st.fuel + k ≤ stopped
-  pub variables : sc.base + sc.n + v + slotsPerHeight * room ≤ length slots
-  pub full : length slots ≡ slotCount
+  pub variables : sc.base + sc.n + v + slots_per_height * room ≤ length slots
+  pub full : length slots ≡ slot_count
   pub tall : k ≤ room
 
 ----------------------------------------------------------------
@@ -76,109 +76,109 @@ pub record Makes (heap heap' : List ℕ) (st : Machine) (out : Out) (t : ℕ) (v
 -- What is run
 
 -- the values of the ancilla parameters, and what is read of each variable: one that was not met so far, backward, is unit (02, F-2)
-abbrev pub ancillaeOf : List ℕ → List ℕ → Scope → List Val
-ancillaeOf heap slots sc = ancillaeAt heap slots sc.base sc.q
+abbrev pub ancillae_of : List ℕ → List ℕ → Scope → List Val
+ancillae_of heap slots sc = ancillae_at heap slots sc.base sc.q
 
 abbrev pub state_of : List ℕ → List ℕ → Scope → State
-state_of heap slots sc = filled (stateAt heap slots sc.base sc.n)
+state_of heap slots sc = filled (state_at heap slots sc.base sc.n)
 
 -- term `t`, from its entering on, with height `room`
 abbrev pub run_of : (code heap slots : List ℕ) → Machine → Scope → ℕ → ℕ → List TypeEntry → Res Val
 run_of code heap slots st sc t room ys =
-    forward fits (programIn code ys) room (ancillaeOf heap slots sc) (state_of heap slots sc) (treeIn code ys t) st.fuel
+    forward fits (program_in code ys) room (ancillae_of heap slots sc) (state_of heap slots sc) (tree_in code ys t) st.fuel
 
 -- the same, once it is entered
 abbrev pub step_of : (code heap slots : List ℕ) → Machine → Scope → ℕ → ℕ → List TypeEntry → Res Val
 step_of code heap slots st sc t room ys =
-    forwardStep fits (programIn code ys) (forward fits (programIn code ys) (room - 1)) (ancillaeOf heap slots sc)
-    (state_of heap slots sc) (treeIn code ys t) st.fuel
+    forward_step fits (program_in code ys) (forward fits (program_in code ys) (room - 1)) (ancillae_of heap slots sc)
+    (state_of heap slots sc) (tree_in code ys t) st.fuel
 
 -- the same in a scope with one variable more, known by its node
-abbrev pub underOf : (code heap slots : List ℕ) → Machine → Scope → ℕ → ℕ → ℕ → List TypeEntry → Res Val
-underOf code heap slots st sc node t room ys =
-    forward fits (programIn code ys) room (ancillaeOf heap slots sc) (some (value_at heap node) ∷ state_of heap slots sc) (treeIn code ys t) st.fuel
+abbrev pub under_of : (code heap slots : List ℕ) → Machine → Scope → ℕ → ℕ → ℕ → List TypeEntry → Res Val
+under_of code heap slots st sc node t room ys =
+    forward fits (program_in code ys) room (ancillae_of heap slots sc) (some (value_at heap node) ∷ state_of heap slots sc) (tree_in code ys t) st.fuel
 
 ----------------------------------------------------------------
 -- Calls
 
 -- the values in `n` slots, in order
-unfoldable pub valuesAt : List ℕ → List ℕ → ℕ → ℕ → List Val
-valuesAt heap slots from zero = []
-valuesAt heap slots from (suc n) = value_at heap (get_or slots from 0) ∷ valuesAt heap slots (from + 1) n
+unfoldable pub values_at : List ℕ → List ℕ → ℕ → ℕ → List Val
+values_at heap slots from zero = []
+values_at heap slots from (suc n) = value_at heap (get_or slots from 0) ∷ values_at heap slots (from + 1) n
 
 -- The arguments of call `t` from ancilla term `k` of `count` on, the dynamic term last; then `next` with their values.
-abbrev pub argumentsOf : (code heap slots : List ℕ) → Machine → Scope → ℕ → ℕ → ℕ → ℕ → List TypeEntry → (List Val → Val → Run Val) → Res Val
-argumentsOf code heap slots st sc t room k count ys next =
+abbrev pub arguments_of : (code heap slots : List ℕ) → Machine → Scope → ℕ → ℕ → ℕ → ℕ → List TypeEntry → (List Val → Val → Run Val) → Res Val
+arguments_of code heap slots st sc t room k count ys next =
     after
-    (each (forward fits (programIn code ys) (room - 1) (ancillaeOf heap slots sc) (state_of heap slots sc))
-    (termTrees (treeIn code ys) (argumentsIn code t k (count - k))) st.fuel)
+    (each (forward fits (program_in code ys) (room - 1) (ancillae_of heap slots sc) (state_of heap slots sc))
+    (term_trees (tree_in code ys) (arguments_in code t k (count - k))) st.fuel)
     (λ vs fuel. after
-    (forward fits (programIn code ys) (room - 1) (ancillaeOf heap slots sc) (state_of heap slots sc) (treeIn code ys (argumentIn code t count)) fuel)
+    (forward fits (program_in code ys) (room - 1) (ancillae_of heap slots sc) (state_of heap slots sc) (tree_in code ys (argument_in code t count)) fuel)
     (next vs))
 
 -- `next` with the values in the slots from ancilla argument `k` on, where `m` is the slot of the first argument; or the refusal
 unfoldable pub placed_of : List ℕ → List ℕ → ℕ → ℕ → ℕ → ℕ → Status → (List Val → Val → Run Val) → Res Val
-placed_of heap slots m k count fuel (Value node) next = next (valuesAt heap slots (m + k) (count - k)) (value_at heap (get_or slots (m + count) 0)) fuel
-placed_of heap slots m k count fuel (Refused why) next = refusalOf why
+placed_of heap slots m k count fuel (Value node) next = next (values_at heap slots (m + k) (count - k)) (value_at heap (get_or slots (m + count) 0)) fuel
+placed_of heap slots m k count fuel (Refused why) next = refusal_of why
 
 -- The arguments stand in the slots behind the caller's scope, which is as it was.
 pub record Places (code heap heap' slots slots' : List ℕ) (st : Machine) (sc : Scope) (t room k count : ℕ) (out : Out) : Type 0 where
   pub ran : RanForward 0 heap heap' (sc.base + sc.n) slots slots' st out (λ ys. meaning heap' out)
   pub held : (n : ℕ) → out.status ≡ Value n → (j : ℕ) → k ≤ j → j ≤ count → get_or slots' (sc.base + sc.n + j) 0 < out.state.top
   pub answer : (ys : List TypeEntry) (next : List Val → Val → Run Val)
-      → argumentsOf code heap slots st sc t room k count ys next ≡ placed_of heap' slots' (sc.base + sc.n) k count out.state.fuel out.status next
+      → arguments_of code heap slots st sc t room k count ys next ≡ placed_of heap' slots' (sc.base + sc.n) k count out.state.fuel out.status next
 
 -- a call of `count` ancilla terms, of which argument `k` is next
 pub record Calls (code : List ℕ) (t k count : ℕ) : Type 0 where
-  pub kind : kindIn code t ≡ callKind
-  pub ancillae : count ≡ thirdIn code t
+  pub kind : kind_in code t ≡ call_kind
+  pub ancillae : count ≡ third_in code t
   pub next : k ≤ count
 
 ----------------------------------------------------------------
 -- Unrolls and cases
 
--- What a roll holds is the answer (rules/specs/Machine, `onRoll`); it was within the limit before.
+-- What a roll holds is the answer (rules/specs/Machine, `on_roll`); it was within the limit before.
 pub record Unrolls (heap : List ℕ) (st : Machine) (node : ℕ) (r : Out) : Type 0 where
   pub state : r.state ≡ st
   pub below : (n : ℕ) → r.status ≡ Value n → n < st.top
-  pub answer : (t : ℕ) → meaning heap r ≡ onRoll (value_at heap node) (λ v. test (fits v) 14 t (give v)) st.fuel
+  pub answer : (t : ℕ) → meaning heap r ≡ on_roll (value_at heap node) (λ v. test (fits v) 14 t (give v)) st.fuel
 
 -- The same of the answer `r`, whatever the machine is that the node is of.
 pub record Unrolled (heap : List ℕ) (node r : ℕ) : Type 0 where
-  pub is : (st : Machine) → Graph heap st.top → node < st.top → st.top ≤ stopped → Unrolls heap st node (record { status = statusOf r; state = st })
+  pub is : (st : Machine) → Graph heap st.top → node < st.top → st.top ≤ stopped → Unrolls heap st node (record { status = status_of r; state = st })
 
 -- The right branch of case `t` gave the answer `out`, and the left branch's form can be asked about it.
 pub record CheckReady (code heap st : List ℕ) (scope t out : ℕ) : Type 0 where
   pub rows : Rows code
-  pub term : t < termCount code
-  pub kind : kindIn code t ≡ caseKind
+  pub term : t < term_count code
+  pub kind : kind_in code t ≡ case_kind
   pub graph : Heap heap (machine_of st).top
   pub small : (machine_of st).top ≤ unknown
   pub ancillae : AncillaeIn st scope
-  pub node : (n : ℕ) → statusOf out ≡ Value n → n < (machine_of st).top
+  pub node : (n : ℕ) → status_of out ≡ Value n → n < (machine_of st).top
 
 -- The right branch of case `t` gave `out`, with `n` variables in scope around the case; `r` is the answer, with first match tested (15).
 pub record Checks (code heap slots : List ℕ) (base q n t : ℕ) (out r : Out) : Type 0 where
   pub state : r.state ≡ out.state
   pub node : (at : ℕ) → r.status ≡ Value at → out.status ≡ Value at
   pub answer : (ys : List TypeEntry) → meaning heap r
-      ≡ after (meaning heap out) (λ w. test (firstMatch (ancillaeAt heap slots base q) n (treeIn code ys (firstIn code t))
-      (treeIn code ys (secondIn code t)) w) 15 t (give w))
+      ≡ after (meaning heap out) (λ w. test (first_match (ancillae_at heap slots base q) n (tree_in code ys (first_in code t))
+      (tree_in code ys (second_in code t)) w) 15 t (give w))
 
 ----------------------------------------------------------------
 -- In code: the numbers that a run is lent, and a scope in one number
 
 pub record ReadyIn (k v : ℕ) (code heap st : List ℕ) (scope t room : ℕ) : Type 0 where
-  pub full : length st ≡ stateCount
-  pub ready : Ready k v code heap (slots_of st) (machine_of st) (scopeIn scope) t room
+  pub full : length st ≡ state_count
+  pub ready : Ready k v code heap (slots_of st) (machine_of st) (scope_in scope) t room
 
 -- the slot behind a scope
 abbrev pub end_of : ℕ → ℕ
-end_of scope = (scopeIn scope).base + (scopeIn scope).n
+end_of scope = (scope_in scope).base + (scope_in scope).n
 
 -- a variable of a scope can be looked up
 pub record FindReady (heap st : List ℕ) (scope : ℕ) : Type 0 where
-  pub there : end_of scope ≤ slotCount
+  pub there : end_of scope ≤ slot_count
   pub graph : Graph heap (machine_of st).top
   pub held : Slots heap (slots_of st) (end_of scope) (machine_of st).top
   pub small : (machine_of st).top ≤ stopped
@@ -190,29 +190,29 @@ RanIn k heap heap' st st' scope r res = RanForward k heap heap' (end_of scope) (
 -- Term `t` was evaluated; in the scope with one variable more; from its entering on.
 pub record Evaluates (code heap heap' st st' : List ℕ) (scope t room r : ℕ) : Type 0 where
   pub lengths : length st' ≡ length st
-  pub ran : RanIn 0 heap heap' st st' scope r (run_of code heap (slots_of st) (machine_of st) (scopeIn scope) t room)
+  pub ran : RanIn 0 heap heap' st st' scope r (run_of code heap (slots_of st) (machine_of st) (scope_in scope) t room)
 
 pub record EvaluatesUnder (code heap heap' st st' : List ℕ) (scope node t room r : ℕ) : Type 0 where
   pub lengths : length st' ≡ length st
-  pub ran : RanIn 0 heap heap' st st' scope r (underOf code heap (slots_of st) (machine_of st) (scopeIn scope) node t room)
+  pub ran : RanIn 0 heap heap' st st' scope r (under_of code heap (slots_of st) (machine_of st) (scope_in scope) node t room)
 
 pub record Steps (code heap heap' st st' : List ℕ) (scope t room r : ℕ) : Type 0 where
   pub lengths : length st' ≡ length st
-  pub ran : RanIn 1 heap heap' st st' scope r (step_of code heap (slots_of st) (machine_of st) (scopeIn scope) t room)
+  pub ran : RanIn 1 heap heap' st st' scope r (step_of code heap (slots_of st) (machine_of st) (scope_in scope) t room)
 
 -- the arguments of call `t` were placed, from number `k` on
 pub record PlacesIn (code heap heap' st st' : List ℕ) (scope t room k count r : ℕ) : Type 0 where
   pub lengths : length st' ≡ length st
-  pub places : Places code heap heap' (slots_of st) (slots_of st') (machine_of st) (scopeIn scope) t room k count (out_of r st')
+  pub places : Places code heap heap' (slots_of st) (slots_of st') (machine_of st) (scope_in scope) t room k count (out_of r st')
 
 -- the right branch of case `t` gave `out`, and `r` is the answer
 abbrev pub ChecksIn : (code heap st : List ℕ) → ℕ → ℕ → ℕ → ℕ → Type 0
 ChecksIn code heap st scope t out r =
-    Checks code heap (slots_of st) (scopeIn scope).base (scopeIn scope).q (scopeIn scope).n t (out_of out st) (out_of r st)
+    Checks code heap (slots_of st) (scope_in scope).base (scope_in scope).q (scope_in scope).n t (out_of out st) (out_of r st)
 
 -- a node can be made
 pub record MakeReady (heap st : List ℕ) : Type 0 where
-  pub full : length st ≡ stateCount
+  pub full : length st ≡ state_count
   pub graph : Graph heap (machine_of st).top
   pub room : Room heap ((machine_of st).top + 1)
   pub small : (machine_of st).top < stopped

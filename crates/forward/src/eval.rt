@@ -4,8 +4,8 @@
 // is the first free node and the fuel, and the slots; `scope` is the scope in one number (scopes::state). Laws of each kind: proofs/Steps, Binds,
 // Placing, Calling.
 ghost use Rattle.std.specs.Prelude.{◌≡◌, ◌+◌, ◌≤◌, ◌<◌};
-ghost use Rattle.program.specs.Kinds.{pairKind, letKind, letPairKind, caseKind, callKind, unrollKind};
-ghost use Rattle.decoded.specs.Rows.{kindIn};
+ghost use Rattle.program.specs.Kinds.{pair_kind, let_kind, let_pair_kind, case_kind, call_kind, unroll_kind};
+ghost use Rattle.decoded.specs.Rows.{kind_in};
 ghost use Rattle.scopes.specs.Slots.{machine_of};
 ghost use Rattle.yields.specs.Yields.{Wraps};
 ghost use Rattle.forward.specs.Ready.{ReadyIn, Evaluates, EvaluatesUnder, Steps, PlacesIn, Calls};
@@ -86,7 +86,7 @@ fn wrap(
     kind: u8,
 ) -> u32
     requires ready_in { ReadyIn 1 0 code.now ws.old st.old scope t room }
-    requires wraps { Wraps (kindIn code.now t) kind }
+    requires wraps { Wraps (kind_in code.now t) kind }
     ensures { Steps code.now ws.old ws.new st.old st.new scope t room result }
 {
     let part = rows::second_of(code, t);
@@ -107,7 +107,7 @@ fn pair(
     room: u16,
 ) -> u32
     requires ready_in { ReadyIn 1 0 code.now ws.old st.old scope t room }
-    requires t_value { kindIn code.now t ≡ pairKind }
+    requires t_value { kind_in code.now t ≡ pair_kind }
     ensures { Steps code.now ws.old ws.new st.old st.new scope t room result }
 {
     let left = rows::first_of(code, t);
@@ -134,7 +134,7 @@ fn let_one(
     room: u16,
 ) -> u32
     requires ready_in { ReadyIn 1 0 code.now ws.old st.old scope t room }
-    requires t_value { kindIn code.now t ≡ letKind }
+    requires t_value { kind_in code.now t ≡ let_kind }
     ensures { Steps code.now ws.old ws.new st.old st.new scope t room result }
 {
     let bound = rows::first_of(code, t);
@@ -157,7 +157,7 @@ fn let_two(
     room: u16,
 ) -> u32
     requires ready_in { ReadyIn 1 0 code.now ws.old st.old scope t room }
-    requires t_value { kindIn code.now t ≡ letPairKind }
+    requires t_value { kind_in code.now t ≡ let_pair_kind }
     ensures { Steps code.now ws.old ws.new st.old st.new scope t room result }
 {
     let bound = rows::first_of(code, t);
@@ -188,7 +188,7 @@ fn choose(
     room: u16,
 ) -> u32
     requires ready_in { ReadyIn 1 0 code.now ws.old st.old scope t room }
-    requires t_value { kindIn code.now t ≡ caseKind }
+    requires t_value { kind_in code.now t ≡ case_kind }
     ensures { Steps code.now ws.old ws.new st.old st.new scope t room result }
 {
     let sum = rows::first_of(code, t);
@@ -221,7 +221,7 @@ fn unroll(
     room: u16,
 ) -> u32
     requires ready_in { ReadyIn 1 0 code.now ws.old st.old scope t room }
-    requires t_value { kindIn code.now t ≡ unrollKind }
+    requires t_value { kind_in code.now t ≡ unroll_kind }
     ensures { Steps code.now ws.old ws.new st.old st.new scope t room result }
 {
     let part = rows::second_of(code, t);
@@ -276,7 +276,7 @@ fn call(
     room: u16,
 ) -> u32
     requires ready_in { ReadyIn 1 0 code.now ws.old st.old scope t room }
-    requires t_value { kindIn code.now t ≡ callKind }
+    requires t_value { kind_in code.now t ≡ call_kind }
     ensures { Steps code.now ws.old ws.new st.old st.new scope t room result }
 {
     let count = octets::wide_index(rows::third_of(code, t));

@@ -3,9 +3,9 @@
 // hands back nothing that has to be copied.
 ghost use Rattle.std.specs.Prelude.{◌≡◌, ◌+◌, ◌≤◌, ◌<◌, length};
 ghost use Rattle.rules.specs.Val.{unit, pair};
-ghost use Rattle.valuegraph.specs.Nodes.{Room, ofKind, Single, value_at};
-ghost use Rattle.scopes.specs.Slots.{stateCount, machine_of, slots_of, scopeIn, slot_at};
-ghost use Rattle.forward.specs.Outcomes.{stopped, refusalIn, statusOf, Stops, Finds};
+ghost use Rattle.valuegraph.specs.Nodes.{Room, of_kind, Single, value_at};
+ghost use Rattle.scopes.specs.Slots.{state_count, machine_of, slots_of, scope_in, slot_at};
+ghost use Rattle.forward.specs.Outcomes.{stopped, refusal_in, status_of, Stops, Finds};
 ghost use Rattle.forward.specs.Ready.{FindReady, Finishes, MakeReady, MakesIn, Unrolled, CheckReady, ChecksIn};
 
 use decoded::rows;
@@ -56,7 +56,7 @@ pub fn refuse(number: u32, t: u16) -> u32
 // What an answer says.
 
 pub fn refusal_of(number: u32, t: u16) -> Refusal
-    ensures { result ≡ refusalIn number t }
+    ensures { result ≡ refusal_in number t }
 {
     if number == FUEL {
         return Refusal::Fuel(t);
@@ -74,7 +74,7 @@ pub fn refusal_of(number: u32, t: u16) -> Refusal
 }
 
 pub fn status_of(answer: u32) -> Status
-    ensures { result ≡ statusOf answer }
+    ensures { result ≡ status_of answer }
 {
     if answer < STOPPED {
         return Status::Value(answer);
@@ -88,7 +88,7 @@ pub fn status_of(answer: u32) -> Status
 
 // The node at top is the answer, if it was made; else its value is too long.
 fn finish(made: bool, st: &mut [u32; STATE], t: u16) -> u32
-    requires { (length st.old ≡ stateCount) × ((machine_of st.old).top < stopped) }
+    requires { (length st.old ≡ state_count) × ((machine_of st.old).top < stopped) }
     ensures { Finishes made st.old st.new t result }
 {
     if made {
@@ -111,7 +111,7 @@ pub fn make_unit(ws: &mut [u8], st: &mut [u32; STATE], t: u16) -> u32
 pub fn make_single(ws: &mut [u8], st: &mut [u32; STATE], t: u16, kind: u8, part: u32) -> u32
     requires make_ready { MakeReady ws.old st.old }
     requires part_bound { (part < (machine_of st.old).top) × Single kind }
-    ensures { MakesIn ws.old ws.new st.old st.new result t (ofKind kind (value_at ws.old part) (value_at ws.old part)) }
+    ensures { MakesIn ws.old ws.new st.old st.new result t (of_kind kind (value_at ws.old part) (value_at ws.old part)) }
 {
     let made = nodes::single(ws, state::top(st), kind, part);
     finish(made, st, t)
@@ -131,7 +131,7 @@ pub fn make_pair(ws: &mut [u8], st: &mut [u32; STATE], t: u16, left: u32, right:
 // Variable i is its node, if it is in scope.
 pub fn variable(ws: &[u8], st: &[u32; STATE], scope: u64, i: u16) -> u32
     requires { FindReady ws.now st.now scope }
-    ensures { Finds result (slot_at ws.now (slots_of st.now) (scopeIn scope).base (scopeIn scope).n i) }
+    ensures { Finds result (slot_at ws.now (slots_of st.now) (scope_in scope).base (scope_in scope).n i) }
 {
     match scopes::slots::find(ws, st, state::base_in(scope), state::count_in(scope), i) {
         Found::Node(node) => node,

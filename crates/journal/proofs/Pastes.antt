@@ -7,7 +7,7 @@ use lib.ListN.{length, get_or, set, take, drop, length-drop, take-append-drop, d
 use lib.Seq.{length-take-le, take-suc, drop-cons, set_at, get_or-append-add, get_or-take, get_or-drop, paste, length_paste_head}
 use package.Rattle.octets.specs.Runs.{pasted}
 use package.Rattle.octets.proofs.Runs.{pasted-suc, pasted-all}
-use package.Rattle.octets.proofs.Pastes.{length-pasted, getD-pasted-low}
+use package.Rattle.octets.proofs.Pastes.{length-pasted, get_d_pasted_low}
 
 -- a byte put before a run
 set_before : (xs : List ℕ) (k : ℕ) (ys : List ℕ) (a : ℕ) → k < length xs → set (pasted xs (suc k) ys) k a ≡ pasted xs k (a ∷ ys)
@@ -29,13 +29,13 @@ run xs from n = take n (drop from xs)
 pub length_run : (xs : List ℕ) (from n : ℕ) → from + n ≤ length xs → length (run xs from n) ≡ n
 length_run xs from n h = length-take-le n (drop from xs) (omega (arith, length-drop from xs))
 
-getD-run : (xs : List ℕ) (from n i : ℕ) → i < n → get_or (run xs from n) i 0 ≡ get_or xs (from + i) 0
-getD-run xs from n i h = get_or-take n (drop from xs) i 0 h ∙ get_or-drop from xs i 0
+get_d_run : (xs : List ℕ) (from n i : ℕ) → i < n → get_or (run xs from n) i 0 ≡ get_or xs (from + i) 0
+get_d_run xs from n i h = get_or-take n (drop from xs) i 0 h ∙ get_or-drop from xs i 0
 
 module _ (xs : List ℕ) (from to n : ℕ) (whole : from + n ≤ length xs) (room : to + n ≤ length xs) where
   -- to lower indices: a byte above what was put is still there
-  getD-above : (i : ℕ) → to ≤ from → i < n → get_or (paste xs to (run xs from n) i) (from + i) 0 ≡ get_or xs (from + i) 0
-  getD-above i low h =
+  get_d_above : (i : ℕ) → to ≤ from → i < n → get_or (paste xs to (run xs from n) i) (from + i) 0 ≡ get_or xs (from + i) 0
+  get_d_above i low h =
       ap (λ j. get_or (paste xs to (run xs from n) i) j 0) (let z : from + i ≡ length front + (from - to) = omega (arith, long) in z)
       ∙ get_or-append-add front (drop (to + i) xs) (from - to) 0
       ∙ get_or-drop (to + i) xs (from - to) 0
@@ -50,11 +50,11 @@ module _ (xs : List ℕ) (from to n : ℕ) (whole : from + n ≤ length xs) (roo
   pub down-more : (i : ℕ) (zs : List ℕ) → to ≤ from → i < n → zs ≡ paste xs to (run xs from n) i
       → set zs (to + i) (get_or zs (from + i) 0) ≡ paste xs to (run xs from n) (i + 1)
   down-more i zs low h e =
-      ap (set zs (to + i)) (ap (λ s. get_or s (from + i) 0) e ∙ getD-above i low h ∙ sym (getD-run xs from n i h))
+      ap (set zs (to + i)) (ap (λ s. get_or s (from + i) 0) e ∙ get_d_above i low h ∙ sym (get_d_run xs from n i h))
       ∙ pasted-suc xs to (run xs from n) i zs e (omega arith) (omega (arith, length_run xs from n whole))
 
-  pub down-done : (i : ℕ) → n ≡ i → paste xs to (run xs from n) i ≡ pasted xs to (run xs from n)
-  down-done i e = pasted-all xs to (run xs from n) i (length_run xs from n whole ∙ e)
+  pub down_done : (i : ℕ) → n ≡ i → paste xs to (run xs from n) i ≡ pasted xs to (run xs from n)
+  down_done i e = pasted-all xs to (run xs from n) i (length_run xs from n whole ∙ e)
 
   -- to higher indices: the bytes from `i` on are put
   abbrev pub upper : ℕ → List ℕ
@@ -85,7 +85,7 @@ module _ (xs : List ℕ) (from to n : ℕ) (whole : from + n ≤ length xs) (roo
   up_more i k zs e low h p =
       ap₂ (λ s a. set s (to + i) a) state (ap (λ s. get_or s (from + i) 0) state ∙ same)
       ∙ set_before xs (to + i) left (get_or xs (from + i) 0) (omega arith)
-      ∙ ap (λ ys. pasted xs (to + i) ys) (sym (drop-cons (run xs from n) i 0 (omega (arith, length_run xs from n whole)) ∙ ap (λ a. a ∷ left) (getD-run xs from n i (omega arith))))
+      ∙ ap (λ ys. pasted xs (to + i) ys) (sym (drop-cons (run xs from n) i 0 (omega (arith, length_run xs from n whole)) ∙ ap (λ a. a ∷ left) (get_d_run xs from n i (omega arith))))
     where
       left : List ℕ
       left = drop (suc i) (run xs from n)
@@ -94,4 +94,4 @@ module _ (xs : List ℕ) (from to n : ℕ) (whole : from + n ≤ length xs) (roo
       state = p ∙ ap₂ (λ at j. pasted xs at (drop j (run xs from n))) (let z : to + k ≡ suc (to + i) = omega (arith, e) in z) e
 
       same : get_or (pasted xs (suc (to + i)) left) (from + i) 0 ≡ get_or xs (from + i) 0
-      same = getD-pasted-low xs (suc (to + i)) left (omega (arith, length-left (suc i) (omega (arith, e)))) (from + i) (omega arith)
+      same = get_d_pasted_low xs (suc (to + i)) left (omega (arith, length-left (suc i) (omega (arith, e)))) (from + i) (omega arith)

@@ -9,31 +9,31 @@ use mathlib.Core.List.{List, [], ◌∷◌, ◌++◌, append_assoc, append-nil}
 use lib.ListN.{length, get_or, drop, length-append, length-drop, drop_of_length-le}
 use lib.Seq.{get_or-drop}
 use package.Rattle.octets.specs.Numbers.{AreBytes}
-use package.Rattle.rules.specs.Limits.{maxConversions}
+use package.Rattle.rules.specs.Limits.{max_conversions}
 use package.Rattle.rules.specs.Val.{Val, size}
 use package.Rattle.rules.proofs.Basics.{given, none≢some, some_inj}
 use package.Rattle.rules.proofs.Val.{length-encode}
-use package.Rattle.calls.specs.Values.{value, encodeAll}
-use package.Rattle.calls.specs.Journal.{entryBytes, Entry, Journal, heldTag, entryTag, entryFields, fields, Opened, opened, read_entry, allZero, readEntries, readJournal, provided, ◌>>=◌}
+use package.Rattle.calls.specs.Values.{value, encode_all}
+use package.Rattle.calls.specs.Journal.{entry_bytes, Entry, Journal, held_tag, entry_tag, entry_fields, fields, Opened, opened, read_entry, all_zero, read_entries, read_journal, provided, ◌>>=◌}
 use package.Rattle.calls.specs.Conversions.{Newest, newest}
 use package.Rattle.calls.proofs.Values.{value-sound}
-use package.Rattle.calls.proofs.Journal.Fields.{there, was-there, length-entryBody, readEntry-sound, opened-bytes}
-use package.Rattle.calls.proofs.Journal.Buffers.{length_fields, length-fields-snoc}
-use package.Rattle.calls.proofs.Book.Rows.{newest-snoc}
-use package.Rattle.calls.specs.Fields.{fieldHead}
+use package.Rattle.calls.proofs.Journal.Fields.{there, was_there, length-entry_body, read_entry-sound, opened-bytes}
+use package.Rattle.calls.proofs.Journal.Buffers.{length_fields, length-fields_snoc}
+use package.Rattle.calls.proofs.Book.Rows.{newest_snoc}
+use package.Rattle.calls.specs.Fields.{field_head}
 use package.Rattle.journal.specs.declared.places.Survey.TheVariants as survey
 use package.Rattle.journal.specs.declared.places.Field.TheVariants as field
-use package.Rattle.journal.specs.Places.{or_else, noNewest, heldField, entryField, end_of, newestOf, places_of, surveyOf, Surveyed}
-use package.Rattle.journal.proofs.Ends.{not-here, is-here, here, here-rest, here-within, bytes-from}
+use package.Rattle.journal.specs.Places.{or_else, no_newest, held_field, entry_field, end_of, newest_of, places_of, survey_of, Surveyed}
+use package.Rattle.journal.proofs.Ends.{not_here, is_here, here, here_rest, here-within, bytes_from}
 
 ----------------------------------------------------------------
 -- Options
 
 -- what is there with a test, and is none, is none with more behind it
-tested-none : {X Y : Type 0} (o : Option Opened) (g : Opened → Option X) (k : Opened → X → Option Y) → (o >>= λ f. g f >>= λ x. some f) ≡ none → (o >>= λ f. g f >>= k f) ≡ none
+tested_none : {X Y : Type 0} (o : Option Opened) (g : Opened → Option X) (k : Opened → X → Option Y) → (o >>= λ f. g f >>= λ x. some f) ≡ none → (o >>= λ f. g f >>= k f) ≡ none
 unfolding ◌>>=◌
-tested-none none g k e = refl
-tested-none (some f) g k e = go (g f) e
+tested_none none g k e = refl
+tested_none (some f) g k e = go (g f) e
   where
     go : (r : Option _) → (r >>= λ x. some f) ≡ none → (r >>= k f) ≡ none
     go none e = refl
@@ -54,44 +54,44 @@ more_left v es e (some ds) = ap (λ ds. said v ds) (sym (append_assoc es (e ∷ 
 -- Reading one entry more
 
 -- the next byte is not zero
-readEntries-next : (n : ℕ) (ys : List ℕ) → (get_or ys 0 0 ≡ 0 → ⊥)
-    → readEntries (suc n) ys ≡ (opened entryTag ys >>= λ f. read_entry f.body >>= λ e. readEntries n f.rest >>= λ es. some (e ∷ es))
-unfolding readEntries
-readEntries-next n [] d = absurd (d refl)
-readEntries-next n (zero ∷ ys) d = absurd (d refl)
-readEntries-next n (suc y ∷ ys) d = refl
+read_entries-next : (n : ℕ) (ys : List ℕ) → (get_or ys 0 0 ≡ 0 → ⊥)
+    → read_entries (suc n) ys ≡ (opened entry_tag ys >>= λ f. read_entry f.body >>= λ e. read_entries n f.rest >>= λ es. some (e ∷ es))
+unfolding read_entries
+read_entries-next n [] d = absurd (d refl)
+read_entries-next n (zero ∷ ys) d = absurd (d refl)
+read_entries-next n (suc y ∷ ys) d = refl
 
 -- or it is
-readEntries-zero : (n : ℕ) (ys : List ℕ) → 0 < length ys → get_or ys 0 0 ≡ 0 → readEntries (suc n) ys ≡ (provided (allZero ys) >>= λ u. some [])
-unfolding readEntries allZero
-readEntries-zero n [] h e = absurd (omega arith)
-readEntries-zero n (zero ∷ ys) h e = refl
-readEntries-zero n (suc y ∷ ys) h e = absurd (omega arith)
+read_entries-zero : (n : ℕ) (ys : List ℕ) → 0 < length ys → get_or ys 0 0 ≡ 0 → read_entries (suc n) ys ≡ (provided (all_zero ys) >>= λ u. some [])
+unfolding read_entries all_zero
+read_entries-zero n [] h e = absurd (omega arith)
+read_entries-zero n (zero ∷ ys) h e = refl
+read_entries-zero n (suc y ∷ ys) h e = absurd (omega arith)
 
-readEntries-end : (n : ℕ) → readEntries (suc n) [] ≡ some []
-unfolding readEntries
-readEntries-end n = refl
+read_entries-end : (n : ℕ) → read_entries (suc n) [] ≡ some []
+unfolding read_entries
+read_entries-end n = refl
 
-readEntries-over : (ys : List ℕ) → readEntries 0 ys ≡ none
-unfolding readEntries
-readEntries-over ys = refl
+read_entries-over : (ys : List ℕ) → read_entries 0 ys ≡ none
+unfolding read_entries
+read_entries-over ys = refl
 
 -- the held value, and what is behind its field
 pub record HeldRead (xs : List ℕ) (held : ℕ) : Type 0 where
   pub value : Val
-  pub read : readJournal xs ≡ (readEntries (suc maxConversions) (drop held xs) >>= λ es. said value es)
-  pub place : held ≡ fieldHead + size value
+  pub read : read_journal xs ≡ (read_entries (suc max_conversions) (drop held xs) >>= λ es. said value es)
+  pub place : held ≡ field_head + size value
   pub inside : held ≤ length xs
 
-held-read : (xs : List ℕ) (held : ℕ) → AreBytes xs → field.To held ≡ end_of 0 (heldField xs) → HeldRead xs held
-unfolding heldField readJournal end_of
+held-read : (xs : List ℕ) (held : ℕ) → AreBytes xs → field.To held ≡ end_of 0 (held_field xs) → HeldRead xs held
+unfolding held_field read_journal end_of
 held-read xs held h p =
-    given (is-here 0 held (heldField xs) p) λ (f, is, place). given (was-there (opened heldTag xs) _ is) λ (f', first, next).
-    given (was-there (value f'.body) _ next) λ (v, second, last).
-    given (here heldTag 0 held xs h (ap field.To place ∙ sym (ap (end_of 0) (first ∙ last)))) λ q.
+    given (is_here 0 held (held_field xs) p) λ (f, is, place). given (was_there (opened held_tag xs) _ is) λ (f', first, next).
+    given (was_there (value f'.body) _ next) λ (v, second, last).
+    given (here held_tag 0 held xs h (ap field.To place ∙ sym (ap (end_of 0) (first ∙ last)))) λ q.
     record {
       value = v;
-      read = there _ first (there _ second (ap (λ r. readEntries (suc maxConversions) r >>= λ es. said v es) (ap (λ f. f.rest) (some_inj (sym first ∙ q.is)) ∙ here-rest q)));
+      read = there _ first (there _ second (ap (λ r. read_entries (suc max_conversions) r >>= λ es. said v es) (ap (λ f. f.rest) (some_inj (sym first ∙ q.is)) ∙ here_rest q)));
       place = omega (arith, place, ap (λ f. length f.body) (some_inj last), ap length (value-sound f'.body second).0, length-encode v);
       inside = (here-within q).1;
     }
@@ -99,131 +99,131 @@ held-read xs held h p =
 -- an entry, and what is behind its field
 pub record EntryRead (xs : List ℕ) (end next : ℕ) : Type 0 where
   pub entry : Entry
-  pub read : (n : ℕ) → (get_or xs end 0 ≡ 0 → ⊥) → readEntries (suc n) (drop end xs) ≡ (readEntries n (drop next xs) >>= λ es. some (entry ∷ es))
-  pub place : next ≡ end + entryBytes + length (encodeAll entry.ancillae)
+  pub read : (n : ℕ) → (get_or xs end 0 ≡ 0 → ⊥) → read_entries (suc n) (drop end xs) ≡ (read_entries n (drop next xs) >>= λ es. some (entry ∷ es))
+  pub place : next ≡ end + entry_bytes + length (encode_all entry.ancillae)
   pub inside : next ≤ length xs
 
 -- the first byte behind a place
 byte_at : (xs : List ℕ) (end : ℕ) → get_or (drop end xs) 0 0 ≡ get_or xs end 0
 byte_at xs end = get_or-drop end xs 0 0 ∙ ap (λ n. get_or xs n 0) (let z : end + 0 ≡ end = omega arith in z)
 
-entry_read : (xs : List ℕ) (end next : ℕ) → AreBytes xs → field.To next ≡ end_of end (entryField (drop end xs)) → EntryRead xs end next
-unfolding entryField end_of
+entry_read : (xs : List ℕ) (end next : ℕ) → AreBytes xs → field.To next ≡ end_of end (entry_field (drop end xs)) → EntryRead xs end next
+unfolding entry_field end_of
 entry_read xs end next h p =
-    given (is-here end next (entryField (drop end xs)) p) λ (f, is, place). given (was-there (opened entryTag (drop end xs)) _ is) λ (f', first, behind).
-    given (was-there (read_entry f'.body) _ behind) λ (e, second, last).
-    given (here entryTag end next xs h (ap field.To place ∙ sym (ap (end_of end) (first ∙ last)))) λ q.
-    given (opened-bytes entryTag (drop end xs) q.field.body q.field.rest (bytes-from xs end h) q.bytes) λ (in_Body, in_rest).
-    given (readEntry-sound q.field.body in_Body (ap (λ f. read_entry f.body) (some_inj (sym q.is ∙ first)) ∙ second)) λ (same, w).
+    given (is_here end next (entry_field (drop end xs)) p) λ (f, is, place). given (was_there (opened entry_tag (drop end xs)) _ is) λ (f', first, behind).
+    given (was_there (read_entry f'.body) _ behind) λ (e, second, last).
+    given (here entry_tag end next xs h (ap field.To place ∙ sym (ap (end_of end) (first ∙ last)))) λ q.
+    given (opened-bytes entry_tag (drop end xs) q.field.body q.field.rest (bytes_from xs end h) q.bytes) λ (in_Body, in_rest).
+    given (read_entry-sound q.field.body in_Body (ap (λ f. read_entry f.body) (some_inj (sym q.is ∙ first)) ∙ second)) λ (same, w).
     record {
       entry = e;
-      read = λ n d. readEntries-next n (drop end xs) (λ z. d (sym (byte_at xs end) ∙ z))
-          ∙ there _ first (there _ second (ap (λ r. readEntries n r >>= λ es. some (e ∷ es)) (ap (λ f. f.rest) (some_inj (sym first ∙ q.is)) ∙ here-rest q)));
-      place = omega (arith, q.place, ap length same, length-entryBody e);
+      read = λ n d. read_entries-next n (drop end xs) (λ z. d (sym (byte_at xs end) ∙ z))
+          ∙ there _ first (there _ second (ap (λ r. read_entries n r >>= λ es. some (e ∷ es)) (ap (λ f. f.rest) (some_inj (sym first ∙ q.is)) ∙ here_rest q)));
+      place = omega (arith, q.place, ap length same, length-entry_body e);
       inside = (here-within q).1;
     }
 
 ----------------------------------------------------------------
 -- The walk
 
-pub newestOf-snoc : (es : List Entry) (e : Entry) → newestOf (es ++ (e ∷ [])) ≡ record { older = es; newest = e }
-newestOf-snoc es e = ap (or_else noNewest) (newest-snoc es e)
+pub newest_of_snoc : (es : List Entry) (e : Entry) → newest_of (es ++ (e ∷ [])) ≡ record { older = es; newest = e }
+newest_of_snoc es e = ap (or_else no_newest) (newest_snoc es e)
 
 -- What was read so far: the held value and the entries, the field of the newest at `newest`. The bytes from `end` on are left.
 pub record Walk (xs : List ℕ) (held end newest count : ℕ) : Type 0 where
   pub value : Val
   pub entries : List Entry
-  pub left : readJournal xs ≡ (readEntries (suc maxConversions - count) (drop end xs) >>= λ es. said value (entries ++ es))
-  pub head : held ≡ fieldHead + size value
+  pub left : read_journal xs ≡ (read_entries (suc max_conversions - count) (drop end xs) >>= λ es. said value (entries ++ es))
+  pub head : held ≡ field_head + size value
   pub counted : count ≡ length entries
-  pub few : count ≤ maxConversions
-  pub last : newest ≡ length (fields (record { held = value; entries = (newestOf entries).older }))
+  pub few : count ≤ max_conversions
+  pub last : newest ≡ length (fields (record { held = value; entries = (newest_of entries).older }))
   pub place : end ≡ length (fields (record { held = value; entries = entries }))
   pub inside : end ≤ length xs
 
-pub walk_none : (xs : List ℕ) → AreBytes xs → field.Malformed ≡ end_of 0 (heldField xs) → Surveyed survey.Malformed xs
-unfolding heldField readJournal surveyOf
+pub walk_none : (xs : List ℕ) → AreBytes xs → field.Malformed ≡ end_of 0 (held_field xs) → Surveyed survey.Malformed xs
+unfolding held_field read_journal survey_of
 walk_none xs h p = record {
-  answer = ap surveyOf (sym (tested-none (opened heldTag xs) (λ f. value f.body) _ (not-here 0 (heldField xs) p)));
+  answer = ap survey_of (sym (tested_none (opened held_tag xs) (λ f. value f.body) _ (not_here 0 (held_field xs) p)));
   bytes = h;
 }
 
-pub walk-starts : (xs : List ℕ) (held : ℕ) → AreBytes xs → field.To held ≡ end_of 0 (heldField xs) → Walk xs held held held 0
-unfolding newest entryFields
-walk-starts xs held h p = given (held-read xs held h p) λ r.
-    let fields-are : held ≡ length (fields (record { held = r.value; entries = [] })) = omega (arith, r.place, length_fields (record { held = r.value; entries = [] })) in
+pub walk_starts : (xs : List ℕ) (held : ℕ) → AreBytes xs → field.To held ≡ end_of 0 (held_field xs) → Walk xs held held held 0
+unfolding newest entry_fields
+walk_starts xs held h p = given (held-read xs held h p) λ r.
+    let fields_are : held ≡ length (fields (record { held = r.value; entries = [] })) = omega (arith, r.place, length_fields (record { held = r.value; entries = [] })) in
     record {
       value = r.value;
       entries = [];
-      left = r.read ∙ ap (λ n. readEntries n (drop held xs) >>= λ es. said r.value es) (let z : suc maxConversions ≡ suc maxConversions - 0 = omega arith in z);
+      left = r.read ∙ ap (λ n. read_entries n (drop held xs) >>= λ es. said r.value es) (let z : suc max_conversions ≡ suc max_conversions - 0 = omega arith in z);
       head = r.place;
       counted = refl;
       few = omega arith;
-      last = fields-are;
-      place = fields-are;
+      last = fields_are;
+      place = fields_are;
       inside = r.inside;
     }
 
 module _ {xs : List ℕ} {held end newest count : ℕ} (h : AreBytes xs) (w : Walk xs held end newest count) where
   -- no journal is read
-  unread : readEntries (suc maxConversions - count) (drop end xs) ≡ none → Surveyed survey.Malformed xs
-  unfolding surveyOf ◌>>=◌
-  unread e = record { answer = ap surveyOf (sym (w.left ∙ ap (λ r. r >>= λ es. said w.value (w.entries ++ es)) e)); bytes = h }
+  unread : read_entries (suc max_conversions - count) (drop end xs) ≡ none → Surveyed survey.Malformed xs
+  unfolding survey_of ◌>>=◌
+  unread e = record { answer = ap survey_of (sym (w.left ∙ ap (λ r. r >>= λ es. said w.value (w.entries ++ es)) e)); bytes = h }
 
   -- the journal is read, and its fields stand so
-  formed : readEntries (suc maxConversions - count) (drop end xs) ≡ some [] → Surveyed (survey.Form (record { held = held; count = count; newest = newest; end = end })) xs
-  unfolding surveyOf places_of ◌>>=◌
+  formed : read_entries (suc max_conversions - count) (drop end xs) ≡ some [] → Surveyed (survey.Form (record { held = held; count = count; newest = newest; end = end })) xs
+  unfolding survey_of places_of ◌>>=◌
   formed e = record {
     answer =
         ap survey.Form (λ i. record { held = w.head i; count = w.counted i; newest = w.last i; end = w.place i })
-        ∙ ap surveyOf (sym (w.left ∙ ap (λ r. r >>= λ es. said w.value (w.entries ++ es)) e ∙ ap (λ es. said w.value es) (append-nil w.entries)));
+        ∙ ap survey_of (sym (w.left ∙ ap (λ r. r >>= λ es. said w.value (w.entries ++ es)) e ∙ ap (λ es. said w.value es) (append-nil w.entries)));
     bytes = h;
   }
 
-  one_more : suc maxConversions - count ≡ suc (maxConversions - count)
+  one_more : suc max_conversions - count ≡ suc (max_conversions - count)
   one_more = omega (arith, w.few)
 
   pub walk_ends : length xs ≤ end → Surveyed (survey.Form (record { held = held; count = count; newest = newest; end = end })) xs
-  walk_ends l = formed (ap₂ readEntries one_more (drop_of_length-le xs l) ∙ readEntries-end (maxConversions - count))
+  walk_ends l = formed (ap₂ read_entries one_more (drop_of_length-le xs l) ∙ read_entries-end (max_conversions - count))
 
   module _ (l : end < length xs) where
-    behind-zero : get_or xs end 0 ≡ 0 → (b : Bool) → b ≡ allZero (drop end xs) → readEntries (suc maxConversions - count) (drop end xs) ≡ (provided b >>= λ u. some [])
+    behind-zero : get_or xs end 0 ≡ 0 → (b : Bool) → b ≡ all_zero (drop end xs) → read_entries (suc max_conversions - count) (drop end xs) ≡ (provided b >>= λ u. some [])
     behind-zero e b z =
-        ap (λ n. readEntries n (drop end xs)) one_more ∙ readEntries-zero (maxConversions - count) (drop end xs) (omega (arith, length-drop end xs)) (byte_at xs end ∙ e)
+        ap (λ n. read_entries n (drop end xs)) one_more ∙ read_entries-zero (max_conversions - count) (drop end xs) (omega (arith, length-drop end xs)) (byte_at xs end ∙ e)
         ∙ ap (λ b. provided b >>= λ u. some []) (sym z)
 
-    pub walk-zeros : get_or xs end 0 ≡ 0 → (b : Bool) → b ≡ allZero (drop end xs) → b ≡ true
+    pub walk_zeros : get_or xs end 0 ≡ 0 → (b : Bool) → b ≡ all_zero (drop end xs) → b ≡ true
         → Surveyed (survey.Form (record { held = held; count = count; newest = newest; end = end })) xs
     unfolding provided ◌>>=◌
-    walk-zeros e b z t = formed (behind-zero e b z ∙ ap (λ b. provided b >>= λ u. some []) t)
+    walk_zeros e b z t = formed (behind-zero e b z ∙ ap (λ b. provided b >>= λ u. some []) t)
 
-    pub walk-dirty : get_or xs end 0 ≡ 0 → (b : Bool) → b ≡ allZero (drop end xs) → b ≡ false → Surveyed survey.Malformed xs
+    pub walk_dirty : get_or xs end 0 ≡ 0 → (b : Bool) → b ≡ all_zero (drop end xs) → b ≡ false → Surveyed survey.Malformed xs
     unfolding provided ◌>>=◌
-    walk-dirty e b z t = unread (behind-zero e b z ∙ ap (λ b. provided b >>= λ u. some []) t)
+    walk_dirty e b z t = unread (behind-zero e b z ∙ ap (λ b. provided b >>= λ u. some []) t)
 
     module _ (d : get_or xs end 0 ≡ 0 → ⊥) where
-      next : (n : ℕ) → readEntries (suc n) (drop end xs)
-          ≡ (opened entryTag (drop end xs) >>= λ f. read_entry f.body >>= λ e. readEntries n f.rest >>= λ es. some (e ∷ es))
-      next n = readEntries-next n (drop end xs) (λ z. d (sym (byte_at xs end) ∙ z))
+      next : (n : ℕ) → read_entries (suc n) (drop end xs)
+          ≡ (opened entry_tag (drop end xs) >>= λ f. read_entry f.body >>= λ e. read_entries n f.rest >>= λ es. some (e ∷ es))
+      next n = read_entries-next n (drop end xs) (λ z. d (sym (byte_at xs end) ∙ z))
 
-      pub walk-stops : field.Malformed ≡ end_of end (entryField (drop end xs)) → Surveyed survey.Malformed xs
-      unfolding entryField
-      walk-stops p = unread (ap (λ n. readEntries n (drop end xs)) one_more ∙ next (maxConversions - count)
-          ∙ tested-none (opened entryTag (drop end xs)) (λ f. read_entry f.body) _ (not-here end (entryField (drop end xs)) p))
+      pub walk_stops : field.Malformed ≡ end_of end (entry_field (drop end xs)) → Surveyed survey.Malformed xs
+      unfolding entry_field
+      walk_stops p = unread (ap (λ n. read_entries n (drop end xs)) one_more ∙ next (max_conversions - count)
+          ∙ tested_none (opened entry_tag (drop end xs)) (λ f. read_entry f.body) _ (not_here end (entry_field (drop end xs)) p))
 
-      pub walk-full : maxConversions ≤ count → Surveyed survey.Malformed xs
+      pub walk_full : max_conversions ≤ count → Surveyed survey.Malformed xs
       unfolding ◌>>=◌
-      walk-full m = unread (ap (λ n. readEntries n (drop end xs)) (let z : suc maxConversions - count ≡ suc 0 = omega (arith, w.few) in z) ∙ next 0 ∙ go (opened entryTag (drop end xs)))
+      walk_full m = unread (ap (λ n. read_entries n (drop end xs)) (let z : suc max_conversions - count ≡ suc 0 = omega (arith, w.few) in z) ∙ next 0 ∙ go (opened entry_tag (drop end xs)))
         where
-          go : (o : Option Opened) → (o >>= λ f. read_entry f.body >>= λ e. readEntries 0 f.rest >>= λ es. some (e ∷ es)) ≡ none
+          go : (o : Option Opened) → (o >>= λ f. read_entry f.body >>= λ e. read_entries 0 f.rest >>= λ es. some (e ∷ es)) ≡ none
           go none = refl
           go (some f) = further (read_entry f.body)
             where
-              further : (r : Option Entry) → (r >>= λ e. readEntries 0 f.rest >>= λ es. some (e ∷ es)) ≡ none
+              further : (r : Option Entry) → (r >>= λ e. read_entries 0 f.rest >>= λ es. some (e ∷ es)) ≡ none
               further none = refl
-              further (some e) = ap (λ r. r >>= λ es. some (e ∷ es)) (readEntries-over f.rest)
+              further (some e) = ap (λ r. r >>= λ es. some (e ∷ es)) (read_entries-over f.rest)
 
-      pub walk_more : (to : ℕ) → count < maxConversions → field.To to ≡ end_of end (entryField (drop end xs)) → Walk xs held to end (count + 1)
+      pub walk_more : (to : ℕ) → count < max_conversions → field.To to ≡ end_of end (entry_field (drop end xs)) → Walk xs held to end (count + 1)
       walk_more to m p = given (entry_read xs end to h p) λ r.
           record {
             value = w.value;
@@ -231,19 +231,19 @@ module _ {xs : List ℕ} {held end newest count : ℕ} (h : AreBytes xs) (w : Wa
             left =
                 w.left
                 ∙ ap (λ r. r >>= λ es. said w.value (w.entries ++ es))
-                (ap (λ n. readEntries n (drop end xs)) (let z : suc maxConversions - count ≡ suc (suc maxConversions - (count + 1)) = omega (arith, m) in z)
-                ∙ r.read (suc maxConversions - (count + 1)) d)
-                ∙ more_left w.value w.entries r.entry (readEntries (suc maxConversions - (count + 1)) (drop to xs));
+                (ap (λ n. read_entries n (drop end xs)) (let z : suc max_conversions - count ≡ suc (suc max_conversions - (count + 1)) = omega (arith, m) in z)
+                ∙ r.read (suc max_conversions - (count + 1)) d)
+                ∙ more_left w.value w.entries r.entry (read_entries (suc max_conversions - (count + 1)) (drop to xs));
             head = w.head;
             counted = omega (arith, w.counted, length-append w.entries (r.entry ∷ []));
             few = omega (arith, m);
-            last = w.place ∙ ap (λ (s : Newest). length (fields (record { held = w.value; entries = s.older }))) (sym (newestOf-snoc w.entries r.entry));
+            last = w.place ∙ ap (λ (s : Newest). length (fields (record { held = w.value; entries = s.older }))) (sym (newest_of_snoc w.entries r.entry));
             place = omega (
               arith,
               r.place,
               w.place,
               length_fields (record { held = w.value; entries = w.entries }),
-              length-fields-snoc w.value w.entries r.entry,
+              length-fields_snoc w.value w.entries r.entry,
             );
             inside = r.inside;
           }

@@ -1,7 +1,7 @@
 // Has a buffer the journal's form (document 01, section 5; section 4, row Journal: refusal 18)? In one pass, without recursion.
 ghost use Rattle.std.specs.Prelude.{◌≡◌, ◌≤◌, length, drop};
-ghost use Rattle.calls.specs.Journal.{opened, allZero};
-ghost use Rattle.journal.specs.Places.{heldField, entryField, end_of, Surveyed};
+ghost use Rattle.calls.specs.Journal.{opened, all_zero};
+ghost use Rattle.journal.specs.Places.{held_field, entry_field, end_of, Surveyed};
 
 use crate::places::{ENTRY_BYTES, ENTRY_TAG, Field, HELD_TAG, Places, Survey};
 use program::fields::FIELD_HEAD;
@@ -28,7 +28,7 @@ fn field_end(journal: &[u8], at: usize, tag: u8) -> Field
 
 // Where the held value's field ends: its body is one value within the limit.
 fn held_end(journal: &[u8]) -> Field
-    ensures { result ≡ end_of 0 (heldField journal.now) }
+    ensures { result ≡ end_of 0 (held_field journal.now) }
 {
     let field = field_end(journal, 0, HELD_TAG);
     let Field::To(end) = field else {
@@ -45,7 +45,7 @@ fn held_end(journal: &[u8]) -> Field
 // Where a conversion's field ends: its body is a head, and whole values within the limit.
 fn entry_end(journal: &[u8], at: usize) -> Field
     requires { at ≤ length journal.now }
-    ensures { result ≡ end_of at (entryField (drop at journal.now)) }
+    ensures { result ≡ end_of at (entry_field (drop at journal.now)) }
 {
     let field = field_end(journal, at, ENTRY_TAG);
     let Field::To(end) = field else {
@@ -65,7 +65,7 @@ fn entry_end(journal: &[u8], at: usize) -> Field
 
 // Are the bytes from a place on all zero?
 fn zero_from(journal: &[u8], at: usize) -> bool
-    ensures { result ≡ allZero (drop at journal.now) }
+    ensures { result ≡ all_zero (drop at journal.now) }
 {
     let mut i = at;
     while i < journal.len() {

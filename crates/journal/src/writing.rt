@@ -3,11 +3,11 @@
 ghost use Rattle.std.specs.Prelude.{◌≡◌, true, ◌∷◌, ◌++◌, ℕ, ◌+◌, ◌-◌, ◌≤◌, ◌<◌, length, take, drop, replicate, leb};
 ghost use Rattle.octets.specs.Numbers.{bytes16, bytes32};
 ghost use Rattle.octets.specs.Runs.{pasted};
-ghost use Rattle.calls.specs.Journal.{entryHead, entryBytes, field, heldTag, entryTag, fields, writeOut};
-ghost use Rattle.calls.specs.Fields.{fieldHead};
-ghost use Rattle.valuebytes.specs.Ends.{is_value, valueIn, valuesIn};
-ghost use Rattle.journal.specs.Places.{Stands, journalIn};
-ghost use Rattle.journal.specs.Turns.{areValues, conversion, opens, converted, rolledBack};
+ghost use Rattle.calls.specs.Journal.{entry_head, entry_bytes, field, held_tag, entry_tag, fields, write_out};
+ghost use Rattle.calls.specs.Fields.{field_head};
+ghost use Rattle.valuebytes.specs.Ends.{is_value, value_in, values_in};
+ghost use Rattle.journal.specs.Places.{Stands, journal_in};
+ghost use Rattle.journal.specs.Turns.{are_values, conversion, opens, converted, rolled_back};
 
 use crate::moves;
 use crate::places::{ENTRY_BYTES, ENTRY_HEAD, ENTRY_TAG, FUNCTION_AT, HELD_TAG, Places, STEPS_AT};
@@ -19,7 +19,7 @@ const BOTH_HEADS: usize = FIELD_HEAD + ENTRY_BYTES;
 // Does the journal that open leaves fit?
 pub fn fits_open(journal: &[u8], held: &[u8]) -> bool
     requires { is_value held.now ≡ true }
-    ensures { result ≡ leb (length (fields (opens (valueIn held.now)))) (length journal.now) }
+    ensures { result ≡ leb (length (fields (opens (value_in held.now)))) (length journal.now) }
 {
     FIELD_HEAD + held.len() <= journal.len()
 }
@@ -27,8 +27,8 @@ pub fn fits_open(journal: &[u8], held: &[u8]) -> bool
 // And that convert leaves, whatever its function and steps?
 pub fn fits_convert(journal: &[u8], pl: Places, held: &[u8], ancillae: &[u8]) -> bool
     requires stands { Stands pl journal.now }
-    requires held_value { (is_value held.now ≡ true) × (areValues ancillae.now ≡ true) }
-    ensures { (f s : ℕ) → result ≡ leb (length (fields (converted (journalIn journal.now) (valueIn held.now) (conversion f s (valuesIn ancillae.now))))) (length journal.now) }
+    requires held_value { (is_value held.now ≡ true) × (are_values ancillae.now ≡ true) }
+    ensures { (f s : ℕ) → result ≡ leb (length (fields (converted (journal_in journal.now) (value_in held.now) (conversion f s (values_in ancillae.now))))) (length journal.now) }
 {
     let from = pl.held;
     let to = pl.end;
@@ -39,7 +39,7 @@ pub fn fits_convert(journal: &[u8], pl: Places, held: &[u8], ancillae: &[u8]) ->
 pub fn fits_rollback(journal: &[u8], pl: Places, held: &[u8]) -> bool
     requires stands { Stands pl journal.now }
     requires held_value { is_value held.now ≡ true }
-    ensures { result ≡ leb (length (fields (rolledBack (journalIn journal.now) (valueIn held.now)))) (length journal.now) }
+    ensures { result ≡ leb (length (fields (rolled_back (journal_in journal.now) (value_in held.now)))) (length journal.now) }
 {
     let from = pl.held;
     let to = pl.newest;
@@ -48,7 +48,7 @@ pub fn fits_rollback(journal: &[u8], pl: Places, held: &[u8]) -> bool
 
 // A field's tag and the length of its body.
 fn put_head(journal: &mut [u8], at: usize, tag: u8, n: usize)
-    requires { (at + fieldHead ≤ length journal.old) × (n < 65536) }
+    requires { (at + field_head ≤ length journal.old) × (n < 65536) }
     ensures { journal.new ≡ pasted journal.old at (tag ∷ bytes16 n) }
 {
     journal[at] = tag;
@@ -57,8 +57,8 @@ fn put_head(journal: &mut [u8], at: usize, tag: u8, n: usize)
 
 // The held value's field, at the start.
 fn put_held(journal: &mut [u8], held: &[u8])
-    requires { (fieldHead + length held.now ≤ length journal.old) × (length held.now < 65536) }
-    ensures { journal.new ≡ pasted journal.old 0 (field heldTag held.now) }
+    requires { (field_head + length held.now ≤ length journal.old) × (length held.now < 65536) }
+    ensures { journal.new ≡ pasted journal.old 0 (field held_tag held.now) }
 {
     put_head(journal, 0, HELD_TAG, held.len());
     octets::copy(journal, FIELD_HEAD, held);
@@ -67,8 +67,8 @@ fn put_held(journal: &mut [u8], held: &[u8])
 // The held value's field anew; the fields in the bytes from `from` to `to` stand directly behind it.
 fn set_held(journal: &mut [u8], from: usize, to: usize, held: &[u8])
     requires from_le_to { (from ≤ to) × (to ≤ length journal.old) }
-    requires from_in_bounds { (fieldHead + length held.now + (to - from) ≤ length journal.old) × (length held.now < 65536) }
-    ensures { journal.new ≡ pasted journal.old 0 (field heldTag held.now ++ take (to - from) (drop from journal.old)) }
+    requires from_in_bounds { (field_head + length held.now + (to - from) ≤ length journal.old) × (length held.now < 65536) }
+    ensures { journal.new ≡ pasted journal.old 0 (field held_tag held.now ++ take (to - from) (drop from journal.old)) }
 {
     moves::shift(journal, from, FIELD_HEAD + held.len(), to - from);
     put_held(journal, held);
@@ -76,8 +76,8 @@ fn set_held(journal: &mut [u8], from: usize, to: usize, held: &[u8])
 
 // A conversion's field.
 fn add_entry(journal: &mut [u8], at: usize, function: u16, steps: u32, ancillae: &[u8])
-    requires { (at + entryBytes + length ancillae.now ≤ length journal.old) × (entryHead + length ancillae.now < 65536) }
-    ensures { journal.new ≡ pasted journal.old at (field entryTag (bytes16 function ++ bytes32 steps ++ ancillae.now)) }
+    requires { (at + entry_bytes + length ancillae.now ≤ length journal.old) × (entry_head + length ancillae.now < 65536) }
+    ensures { journal.new ≡ pasted journal.old at (field entry_tag (bytes16 function ++ bytes32 steps ++ ancillae.now)) }
 {
     put_head(journal, at, ENTRY_TAG, ENTRY_HEAD + ancillae.len());
     octets::write16(journal, at + FUNCTION_AT, function);
@@ -96,8 +96,8 @@ fn clear_from(journal: &mut [u8], at: usize)
 // The journal that open leaves: the record, and no conversion.
 pub fn write_open(journal: &mut [u8], held: &[u8])
     requires held_value { is_value held.now ≡ true }
-    requires held_in_bounds { length (fields (opens (valueIn held.now))) ≤ length journal.old }
-    ensures { journal.new ≡ writeOut (length journal.old) (opens (valueIn held.now)) }
+    requires held_in_bounds { length (fields (opens (value_in held.now))) ≤ length journal.old }
+    ensures { journal.new ≡ write_out (length journal.old) (opens (value_in held.now)) }
 {
     put_held(journal, held);
     clear_from(journal, FIELD_HEAD + held.len());
@@ -113,9 +113,9 @@ pub fn write_convert(
     ancillae: &[u8],
 )
     requires stands { Stands pl journal.old }
-    requires held_value { (is_value held.now ≡ true) × (areValues ancillae.now ≡ true) }
-    requires ancillae_in_bounds { length (fields (converted (journalIn journal.old) (valueIn held.now) (conversion function steps (valuesIn ancillae.now)))) ≤ length journal.old }
-    ensures { journal.new ≡ writeOut (length journal.old) (converted (journalIn journal.old) (valueIn held.now) (conversion function steps (valuesIn ancillae.now))) }
+    requires held_value { (is_value held.now ≡ true) × (are_values ancillae.now ≡ true) }
+    requires ancillae_in_bounds { length (fields (converted (journal_in journal.old) (value_in held.now) (conversion function steps (values_in ancillae.now)))) ≤ length journal.old }
+    ensures { journal.new ≡ write_out (length journal.old) (converted (journal_in journal.old) (value_in held.now) (conversion function steps (values_in ancillae.now))) }
 {
     let from = pl.held;
     let to = pl.end;
@@ -129,8 +129,8 @@ pub fn write_convert(
 pub fn write_rollback(journal: &mut [u8], pl: Places, held: &[u8])
     requires stands { Stands pl journal.old }
     requires held_value { is_value held.now ≡ true }
-    requires held_in_bounds { length (fields (rolledBack (journalIn journal.old) (valueIn held.now))) ≤ length journal.old }
-    ensures { journal.new ≡ writeOut (length journal.old) (rolledBack (journalIn journal.old) (valueIn held.now)) }
+    requires held_in_bounds { length (fields (rolled_back (journal_in journal.old) (value_in held.now))) ≤ length journal.old }
+    ensures { journal.new ≡ write_out (length journal.old) (rolled_back (journal_in journal.old) (value_in held.now)) }
 {
     let from = pl.held;
     let to = pl.newest;

@@ -7,9 +7,9 @@ use package.Rattle.rules.proofs.Basics.{given}
 use package.Rattle.calls.specs.Answer.{accepted, refused}
 use package.Rattle.calls.specs.Fields.{Layout, layout}
 use package.Rattle.calls.specs.Entries.{entries_at}
-use package.Rattle.calls.specs.Named.{testEntries}
+use package.Rattle.calls.specs.Named.{test_entries}
 use package.Rattle.calls.specs.Load.{load}
-use package.Rattle.calls.proofs.Answer.{refused≢accepted, accepted-inj, unbind}
+use package.Rattle.calls.proofs.Answer.{refused≢accepted, accepted_inj, unbind}
 use package.Rattle.answers.specs.declared.Refusal.TheVariants.{Field, Limit}
 use package.Rattle.program.specs.Places.{Placed, FieldsMean, answer_of}
 use package.Rattle.program.specs.declared.fields.Fields.{Fields}
@@ -17,28 +17,28 @@ use package.Rattle.program.specs.declared.fields.Fields.TheVariants.{Malformed, 
 use package.Rattle.entries.specs.Tally.{Tallied, NamedCounted}
 use package.Rattle.entries.specs.Tested.{EntriesTested}
 use package.Rattle.entries.specs.declared.testing.Tested.{Tested}
-use package.Rattle.entries.proofs.Tallies.{tallied-none}
+use package.Rattle.entries.proofs.Tallies.{tallied_none}
 use package.Rattle.loading.specs.Loading.{LoadMeans}
-use package.Rattle.loading.specs.Tally.{Untallied, typesRead, TallyMeans}
+use package.Rattle.loading.specs.Tally.{Untallied, types_read, TallyMeans}
 use package.Rattle.loading.specs.declared.TalliedLoad.{TalliedLoad}
 use package.Rattle.loading.specs.declared.Loaded.{Loaded}
 use package.Rattle.loading.specs.declared.Loaded.TheVariants.{Refused}
-use package.Rattle.loading.proofs.Loading.{load-malformed, load-over}
+use package.Rattle.loading.proofs.Loading.{load_malformed, load_over}
 
 -- the entries of an accepted program are sound
-loaded-tested : (xs : List ℕ) {L : Layout} {P : Program} → layout xs ≡ accepted L → load xs ≡ accepted P → testEntries L (entries_at xs L) ≡ accepted tt
+loaded-tested : (xs : List ℕ) {L : Layout} {P : Program} → layout xs ≡ accepted L → load xs ≡ accepted P → test_entries L (entries_at xs L) ≡ accepted tt
 unfolding load
 loaded-tested xs {L} e a = given (unbind (layout xs) _ a) λ (L', e', a₁).
-    given (unbind (testEntries L' (entries_at xs L')) _ a₁) λ (u, tested, a₂).
-    subst (λ L. testEntries L (entries_at xs L) ≡ accepted tt) (accepted-inj (sym e' ∙ e)) tested
+    given (unbind (test_entries L' (entries_at xs L')) _ a₁) λ (u, tested, a₂).
+    subst (λ L. test_entries L (entries_at xs L) ≡ accepted tt) (accepted_inj (sym e' ∙ e)) tested
 
 -- fields that are read, whatever follows
 module _ {xs types terms functions nodes : List ℕ} (P : Placed xs types terms functions) {t : Tested}
     (E : EntriesTested xs types terms functions nodes t) where
   pub tally-counted : (l : Loaded) → TallyMeans (record { loaded = l; tally = t.tally; counts = nodes }) xs
   tally-counted l = record {
-    tallied = subst (λ a. Tallied xs (typesRead a) nodes t.tally) (sym P.read) E.tallied;
-    named = λ L Q e a. subst (λ L. NamedCounted (entries_at xs L) nodes) (accepted-inj (sym P.read ∙ e)) (E.named (E.answer ∙ loaded-tested xs P.read a));
+    tallied = subst (λ a. Tallied xs (types_read a) nodes t.tally) (sym P.read) E.tallied;
+    named = λ L Q e a. subst (λ L. NamedCounted (entries_at xs L) nodes) (accepted_inj (sym P.read ∙ e)) (E.named (E.answer ∙ loaded-tested xs P.read a));
   }
 
 -- fields that are refused
@@ -48,14 +48,14 @@ module _ {xs types terms functions : List ℕ} {table : List (List ℕ)} {r : Ta
   refused-tallied U e M = (
     subst (λ l. LoadMeans l xs types terms functions table) (sym U.answer) M,
     record {
-      tallied = tallied-none xs (typesRead (layout xs)) r.counts r.tally U.counts-none U.tally-zero;
+      tallied = tallied_none xs (types_read (layout xs)) r.counts r.tally U.counts_none U.tally_zero;
       named = λ L P a l. absurd (refused≢accepted (sym e ∙ a));
     },
   )
 
   module _ (v : Fields) (F : FieldsMean v xs types terms functions) (at : ℕ) where
     pub malformed-tallied : v ≡ Malformed at → Untallied r (Refused (Field at)) → LoadMeans r.loaded xs types terms functions table × TallyMeans r xs
-    malformed-tallied e U = refused-tallied U (F.answer ∙ ap (λ v. answer_of v types terms functions) e) (load-malformed v F at e)
+    malformed-tallied e U = refused-tallied U (F.answer ∙ ap (λ v. answer_of v types terms functions) e) (load_malformed v F at e)
 
     pub over-tallied : v ≡ Over at → Untallied r (Refused (Limit at)) → LoadMeans r.loaded xs types terms functions table × TallyMeans r xs
-    over-tallied e U = refused-tallied U (F.answer ∙ ap (λ v. answer_of v types terms functions) e) (load-over v F at e)
+    over-tallied e U = refused-tallied U (F.answer ∙ ap (λ v. answer_of v types terms functions) e) (load_over v F at e)

@@ -2,11 +2,11 @@
 // calls/specs/Load. The offsets of the entries' fields stand in buffers that the caller lends, so that a run finds them there, and the functions'
 // signatures in a table that it lends, so that admission asks it.
 ghost use Rattle.std.specs.Prelude.{◌≤◌, ◌≡◌, length};
-ghost use Rattle.rules.specs.Limits.{maxTypes};
+ghost use Rattle.rules.specs.Limits.{max_types};
 ghost use Rattle.entries.specs.Tested.{EntriesTested};
 ghost use Rattle.program.specs.Places.{Placed, Buffers};
 ghost use Rattle.program.specs.Signatures.{unsigned, SignaturesAre};
-ghost use Rattle.types.specs.Layout.{typingBytes};
+ghost use Rattle.types.specs.Layout.{typing_bytes};
 ghost use Rattle.typing.specs.Checked.{Typeable};
 ghost use Rattle.loading.specs.Loading.{Examined, LoadMeans};
 ghost use Rattle.loading.specs.Tally.{Untallied, TallyMeans};
@@ -85,9 +85,9 @@ fn judge(
     ws: &mut [u8],
 ) -> Loaded
     requires placed { Placed p.now types.now terms.now functions.now }
-    requires typing_bytes_in_bounds { typingBytes ≤ length ws.old }
+    requires typing_bytes_in_bounds { typing_bytes ≤ length ws.old }
     requires signatures_are { SignaturesAre p.now functions.now table.now }
-    requires entries_tested { EntriesTested p.now types.now terms.now functions.now nodes.now tested × (length nodes.now ≡ maxTypes) }
+    requires entries_tested { EntriesTested p.now types.now terms.now functions.now nodes.now tested × (length nodes.now ≡ max_types) }
     ensures { Examined result counts p.now types.now terms.now functions.now table.now }
 {
     let v = tested.verdict;
@@ -109,7 +109,7 @@ fn examine(
     ws: &mut [u8],
 ) -> TalliedLoad
     requires placed { Placed p.now types.now terms.now functions.now }
-    requires typing_bytes_in_bounds { typingBytes ≤ length ws.old }
+    requires typing_bytes_in_bounds { typing_bytes ≤ length ws.old }
     requires signatures_are { SignaturesAre p.now functions.now table.now }
     ensures examined { Examined result.loaded counts p.now types.now terms.now functions.now table.now }
     ensures tally_means { TallyMeans result p.now }
@@ -135,7 +135,7 @@ pub fn load_tallied(
     ws: &mut [u8],
 ) -> TalliedLoad
     requires buffers { Buffers types.old terms.old functions.old }
-    requires typing_bytes_in_bounds { typingBytes ≤ length ws.old }
+    requires typing_bytes_in_bounds { typing_bytes ≤ length ws.old }
     requires table_value { table.old ≡ unsigned }
     ensures load_means { LoadMeans result.loaded p.now types.new terms.new functions.new table.new }
     ensures tally_means { TallyMeans result p.now }
@@ -171,7 +171,7 @@ pub fn load(
     ws: &mut [u8],
 ) -> Loaded
     requires buffers { Buffers types.old terms.old functions.old }
-    requires typing_bytes_in_bounds { typingBytes ≤ length ws.old }
+    requires typing_bytes_in_bounds { typing_bytes ≤ length ws.old }
     requires table_value { table.old ≡ unsigned }
     ensures { LoadMeans result p.now types.new terms.new functions.new table.new }
 {

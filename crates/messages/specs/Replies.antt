@@ -10,53 +10,53 @@ use package.Rattle.answers.specs.declared.NurseAnswer.TheVariants as nurses
 use package.Rattle.answers.specs.declared.WriteAnswer.{WriteAnswer}
 use package.Rattle.answers.specs.declared.WriteAnswer.TheVariants as writes
 use package.Rattle.calltext.specs.Text.{text}
-use package.Rattle.calltext.specs.Answers.{twoNumbers, valueLine, seenLine, bytesLine, refusedLine, openedLine, heldLine}
-use package.Rattle.messages.specs.Meanings.{meaningOf}
+use package.Rattle.calltext.specs.Answers.{two_numbers, value_line, seen_line, bytes_line, refused_line, opened_line, held_line}
+use package.Rattle.messages.specs.Meanings.{meaning_of}
 
 -- the line that answers a check
-unfoldable pub checkText : Answer (Unit {0}) → List ℕ
-checkText (accepted a) = text "ok\n"
-checkText (refused n p) = refusedLine n p
+unfoldable pub check_text : Answer (Unit {0}) → List ℕ
+check_text (accepted a) = text "ok\n"
+check_text (refused n p) = refused_line n p
 
 -- the line that answers a run: its value's length and steps are answered, the value itself is at the start of the output
-unfoldable pub runText : Answer (ℕ × ℕ) → List ℕ → List ℕ
-runText (accepted a) output = valueLine (take a.0 output) a.1
-runText (refused n p) output = refusedLine n p
+unfoldable pub run_text : Answer (ℕ × ℕ) → List ℕ → List ℕ
+run_text (accepted a) output = value_line (take a.0 output) a.1
+run_text (refused n p) output = refused_line n p
 
 -- the lines that answer a journal's readers: what the reader wrote is at the start of the output
-unfoldable pub nurseText : Answer (ℕ × ℕ) → List ℕ → List ℕ
-nurseText (accepted a) output = seenLine (take a.0 output) a.1
-nurseText (refused n p) output = refusedLine n p
+unfoldable pub nurse_text : Answer (ℕ × ℕ) → List ℕ → List ℕ
+nurse_text (accepted a) output = seen_line (take a.0 output) a.1
+nurse_text (refused n p) output = refused_line n p
 
-unfoldable pub writeText : Answer ℕ → List ℕ → List ℕ
-writeText (accepted n) output = bytesLine (take n output)
-writeText (refused n p) output = refusedLine n p
+unfoldable pub write_text : Answer ℕ → List ℕ → List ℕ
+write_text (accepted n) output = bytes_line (take n output)
+write_text (refused n p) output = refused_line n p
 
 -- the lines that answer the calls on a journal, with the journal's buffer as the call left it
-unfoldable pub openedText : Answer (Unit {0}) → List ℕ → List ℕ
-openedText (accepted a) journal = openedLine journal
-openedText (refused n p) journal = refusedLine n p
+unfoldable pub opened_text : Answer (Unit {0}) → List ℕ → List ℕ
+opened_text (accepted a) journal = opened_line journal
+opened_text (refused n p) journal = refused_line n p
 
-unfoldable pub heldText : Answer (ℕ × ℕ) → List ℕ → List ℕ
-heldText (accepted a) journal = heldLine a.0 a.1 journal
-heldText (refused n p) journal = refusedLine n p
+unfoldable pub held_text : Answer (ℕ × ℕ) → List ℕ → List ℕ
+held_text (accepted a) journal = held_line a.0 a.1 journal
+held_text (refused n p) journal = refused_line n p
 
 -- how many bytes of the output a call filled
 abbrev pub length_of : RunAnswer → ℕ
 length_of (runs.Ran d) = d.len
 length_of (runs.Refused r) = 0
 
-abbrev pub seenLength : NurseAnswer → ℕ
-seenLength (nurses.Shows s) = s.len
-seenLength (nurses.Refused r) = 0
+abbrev pub seen_length : NurseAnswer → ℕ
+seen_length (nurses.Shows s) = s.len
+seen_length (nurses.Refused r) = 0
 
-abbrev pub writtenLength : WriteAnswer → ℕ
-writtenLength (writes.Wrote n) = n
-writtenLength (writes.Refused r) = 0
+abbrev pub written_length : WriteAnswer → ℕ
+written_length (writes.Wrote n) = n
+written_length (writes.Refused r) = 0
 
 -- number and place, in front of the meaning
-abbrev pub whereText : ℕ → ℕ → List ℕ
-whereText number place = twoNumbers (text "refused ") number (text " at ") place (text ": ")
+abbrev pub where_text : ℕ → ℕ → List ℕ
+where_text number place = two_numbers (text "refused ") number (text " at ") place (text ": ")
 
-unfoldable pub refusalText : Refusal → List ℕ
-refusalText r = whereText (number_of r) (place_of r) ++ meaningOf (number_of r) ++ text "\n"
+unfoldable pub refusal_text : Refusal → List ℕ
+refusal_text r = where_text (number_of r) (place_of r) ++ meaning_of (number_of r) ++ text "\n"

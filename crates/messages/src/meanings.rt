@@ -2,14 +2,14 @@
 // ends. A function for each row keeps the matches short.
 ghost use Rattle.std.specs.Prelude.{◌+◌, ◌≤◌, length};
 ghost use Rattle.calltext.specs.Wrote.{Wrote};
-ghost use Rattle.messages.specs.Meanings.{readingMeaning, typingMeaning, callMeaning, runMeaning, keepingMeaning, meaningOf};
+ghost use Rattle.messages.specs.Meanings.{reading_meaning, typing_meaning, call_meaning, run_meaning, keeping_meaning, meaning_of};
 
 use calltext::answers as texts;
 
 // The rows of workspace, fields and entries (1 to 5).
 fn put_reading(n: u64, out: &mut [u8], at: usize) -> usize
     requires { at + 80 ≤ length out.old }
-    ensures { Wrote out.old out.new at result (readingMeaning n) }
+    ensures { Wrote out.old out.new at result (reading_meaning n) }
 {
     if n == 1 {
         return texts::put(b"the workspace is too short", out, at);
@@ -37,7 +37,7 @@ fn put_reading(n: u64, out: &mut [u8], at: usize) -> usize
 // The rows of typing (6 to 8).
 fn put_typing(n: u64, out: &mut [u8], at: usize) -> usize
     requires { at + 80 ≤ length out.old }
-    ensures { Wrote out.old out.new at result (typingMeaning n) }
+    ensures { Wrote out.old out.new at result (typing_meaning n) }
 {
     if n == 6 {
         return texts::put(
@@ -55,7 +55,7 @@ fn put_typing(n: u64, out: &mut [u8], at: usize) -> usize
 // The rows of the call (9 to 11).
 fn put_call(n: u64, out: &mut [u8], at: usize) -> usize
     requires { at + 80 ≤ length out.old }
-    ensures { Wrote out.old out.new at result (callMeaning n) }
+    ensures { Wrote out.old out.new at result (call_meaning n) }
 {
     if n == 9 {
         return texts::put(b"there is no such function", out, at);
@@ -73,7 +73,7 @@ fn put_call(n: u64, out: &mut [u8], at: usize) -> usize
 // The rows of the run (12 to 16).
 fn put_run(n: u64, out: &mut [u8], at: usize) -> usize
     requires { at + 80 ≤ length out.old }
-    ensures { Wrote out.old out.new at result (runMeaning n) }
+    ensures { Wrote out.old out.new at result (run_meaning n) }
 {
     if n == 12 {
         return texts::put(b"the fuel is spent", out, at);
@@ -97,7 +97,7 @@ fn put_run(n: u64, out: &mut [u8], at: usize) -> usize
 // The rows of output and journal (17 to 20).
 fn put_keeping(n: u64, out: &mut [u8], at: usize) -> usize
     requires { at + 80 ≤ length out.old }
-    ensures { Wrote out.old out.new at result (keepingMeaning n) }
+    ensures { Wrote out.old out.new at result (keeping_meaning n) }
 {
     if n == 17 {
         return texts::put(b"the output is too short", out, at);
@@ -118,7 +118,7 @@ fn put_keeping(n: u64, out: &mut [u8], at: usize) -> usize
 // What refusal n means.
 pub fn put_meaning(n: u64, out: &mut [u8], at: usize) -> usize
     requires { at + 80 ≤ length out.old }
-    ensures { Wrote out.old out.new at result (meaningOf n) }
+    ensures { Wrote out.old out.new at result (meaning_of n) }
 {
     if n < 6 {
         return put_reading(n, out, at);

@@ -1,10 +1,10 @@
 // Answers as text: a line of calls and answers each (crate calltext), and a refusal with its meaning.
 ghost use Rattle.std.specs.Prelude.{◌+◌, ◌*◌, ◌≤◌, length, take};
-ghost use Rattle.answers.specs.Answers.{number_of, place_of, checkAnswer, runAnswer, nurseAnswer, writeAnswer};
+ghost use Rattle.answers.specs.Answers.{number_of, place_of, check_answer, run_answer, nurse_answer, write_answer};
 ghost use Rattle.calltext.specs.Wrote.{Wrote};
-ghost use Rattle.calltext.specs.Answers.{numberedLine, twoNumbers, refusedLine, heldLine};
+ghost use Rattle.calltext.specs.Answers.{numbered_line, two_numbers, refused_line, held_line};
 ghost use Rattle.calltext.specs.Text.{text};
-ghost use Rattle.messages.specs.Replies.{checkText, runText, nurseText, writeText, openedText, heldText, length_of, seenLength, writtenLength, whereText, refusalText};
+ghost use Rattle.messages.specs.Replies.{check_text, run_text, nurse_text, write_text, opened_text, held_text, length_of, seen_length, written_length, where_text, refusal_text};
 
 use crate::meanings;
 use answers::{CheckAnswer, Done, NurseAnswer, Refusal, RunAnswer, WriteAnswer};
@@ -13,7 +13,7 @@ use calltext::answers as texts;
 // A refusal's number and place, with a text between and behind them.
 fn put_refusal(r: Refusal, between: &[u8], behind: &[u8], out: &mut [u8]) -> usize
     requires { length between.now + length behind.now + 48 ≤ length out.old }
-    ensures tells { Wrote out.old out.new 0 result (twoNumbers (text "refused ") (number_of r) between.now (place_of r) behind.now) }
+    ensures tells { Wrote out.old out.new 0 result (two_numbers (text "refused ") (number_of r) between.now (place_of r) behind.now) }
     ensures short { result ≤ length between.now + length behind.now + 48 }
 {
     let number = crate::number(r);
@@ -24,7 +24,7 @@ fn put_refusal(r: Refusal, between: &[u8], behind: &[u8], out: &mut [u8]) -> usi
 // The line of a refusal.
 fn refusal_line(r: Refusal, out: &mut [u8]) -> usize
     requires { 64 ≤ length out.old }
-    ensures { Wrote out.old out.new 0 result (refusedLine (number_of r) (place_of r)) }
+    ensures { Wrote out.old out.new 0 result (refused_line (number_of r) (place_of r)) }
 {
     put_refusal(r, b" ", b"\n", out)
 }
@@ -33,7 +33,7 @@ fn refusal_line(r: Refusal, out: &mut [u8]) -> usize
 fn front_line(word: &[u8], len: u16, number: u16, output: &[u8], out: &mut [u8]) -> usize
     requires len_in_bounds { len ≤ length output.now }
     requires output_in_bounds { length word.now + 2 * length output.now + 24 ≤ length out.old }
-    ensures { Wrote out.old out.new 0 result (numberedLine word.now (take len output.now) number) }
+    ensures { Wrote out.old out.new 0 result (numbered_line word.now (take len output.now) number) }
 {
     let n = octets::wide_index(len);
     texts::numbered_line(word, &output[..n], number as u64, out)
@@ -42,7 +42,7 @@ fn front_line(word: &[u8], len: u16, number: u16, output: &[u8], out: &mut [u8])
 // The line that answers a check.
 pub fn check_line(answer: CheckAnswer, out: &mut [u8]) -> usize
     requires { 64 ≤ length out.old }
-    ensures { Wrote out.old out.new 0 result (checkText (checkAnswer answer)) }
+    ensures { Wrote out.old out.new 0 result (check_text (check_answer answer)) }
 {
     match answer {
         CheckAnswer::Accepted => texts::put(b"ok\n", out, 0),
@@ -54,7 +54,7 @@ pub fn check_line(answer: CheckAnswer, out: &mut [u8]) -> usize
 pub fn run_line(answer: RunAnswer, output: &[u8], out: &mut [u8]) -> usize
     requires answer_in_bounds { length_of answer ≤ length output.now }
     requires output_in_bounds { (2 * length output.now + 32 ≤ length out.old) × (64 ≤ length out.old) }
-    ensures { Wrote out.old out.new 0 result (runText (runAnswer answer) output.now) }
+    ensures { Wrote out.old out.new 0 result (run_text (run_answer answer) output.now) }
 {
     match answer {
         RunAnswer::Ran(d) => front_line(b"value ", d.len, d.steps, output, out),
@@ -64,9 +64,9 @@ pub fn run_line(answer: RunAnswer, output: &[u8], out: &mut [u8]) -> usize
 
 // The line that answers the nurse's reader, whose held value the output starts with.
 pub fn nurse_line(answer: NurseAnswer, output: &[u8], out: &mut [u8]) -> usize
-    requires answer_in_bounds { seenLength answer ≤ length output.now }
+    requires answer_in_bounds { seen_length answer ≤ length output.now }
     requires output_in_bounds { (2 * length output.now + 32 ≤ length out.old) × (64 ≤ length out.old) }
-    ensures { Wrote out.old out.new 0 result (nurseText (nurseAnswer answer) output.now) }
+    ensures { Wrote out.old out.new 0 result (nurse_text (nurse_answer answer) output.now) }
 {
     match answer {
         NurseAnswer::Shows(s) => front_line(b"held ", s.len, s.standing, output, out),
@@ -76,9 +76,9 @@ pub fn nurse_line(answer: NurseAnswer, output: &[u8], out: &mut [u8]) -> usize
 
 // The line that answers a call which writes bytes, with which the output starts.
 pub fn write_line(answer: WriteAnswer, output: &[u8], out: &mut [u8]) -> usize
-    requires answer_in_bounds { writtenLength answer ≤ length output.now }
+    requires answer_in_bounds { written_length answer ≤ length output.now }
     requires output_in_bounds { (2 * length output.now + 8 ≤ length out.old) × (64 ≤ length out.old) }
-    ensures { Wrote out.old out.new 0 result (writeText (writeAnswer answer) output.now) }
+    ensures { Wrote out.old out.new 0 result (write_text (write_answer answer) output.now) }
 {
     match answer {
         WriteAnswer::Wrote(n) => texts::word_line(b"bytes ", &output[..n], out),
@@ -89,7 +89,7 @@ pub fn write_line(answer: WriteAnswer, output: &[u8], out: &mut [u8]) -> usize
 // The line that answers an open, with the journal as it left it.
 pub fn opened_line(answer: CheckAnswer, journal: &[u8], out: &mut [u8]) -> usize
     requires { 2 * length journal.now + 64 ≤ length out.old }
-    ensures { Wrote out.old out.new 0 result (openedText (checkAnswer answer) journal.now) }
+    ensures { Wrote out.old out.new 0 result (opened_text (check_answer answer) journal.now) }
 {
     match answer {
         CheckAnswer::Accepted => texts::word_line(b"ok ", journal, out),
@@ -100,7 +100,7 @@ pub fn opened_line(answer: CheckAnswer, journal: &[u8], out: &mut [u8]) -> usize
 // The line of a convert or rollback that was done.
 fn turned_line(d: Done, journal: &[u8], out: &mut [u8]) -> usize
     requires { 2 * length journal.now + 64 ≤ length out.old }
-    ensures { Wrote out.old out.new 0 result (heldLine d.len d.steps journal.now) }
+    ensures { Wrote out.old out.new 0 result (held_line d.len d.steps journal.now) }
 {
     let len = d.len as u64;
     let steps = d.steps as u64;
@@ -110,7 +110,7 @@ fn turned_line(d: Done, journal: &[u8], out: &mut [u8]) -> usize
 // The line that answers a convert or rollback, with the journal as it left it.
 pub fn held_line(answer: RunAnswer, journal: &[u8], out: &mut [u8]) -> usize
     requires { 2 * length journal.now + 64 ≤ length out.old }
-    ensures { Wrote out.old out.new 0 result (heldText (runAnswer answer) journal.now) }
+    ensures { Wrote out.old out.new 0 result (held_text (run_answer answer) journal.now) }
 {
     match answer {
         RunAnswer::Ran(d) => turned_line(d, journal, out),
@@ -121,7 +121,7 @@ pub fn held_line(answer: RunAnswer, journal: &[u8], out: &mut [u8]) -> usize
 // The number and the place of a refusal, in front of its meaning.
 fn put_where(r: Refusal, out: &mut [u8]) -> usize
     requires { 64 ≤ length out.old }
-    ensures { Wrote out.old out.new 0 result (whereText (number_of r) (place_of r)) × (result ≤ 54) }
+    ensures { Wrote out.old out.new 0 result (where_text (number_of r) (place_of r)) × (result ≤ 54) }
 {
     put_refusal(r, b" at ", b": ", out)
 }
@@ -129,7 +129,7 @@ fn put_where(r: Refusal, out: &mut [u8]) -> usize
 // A refusal: its number, its place and its meaning.
 pub fn refusal_text(r: Refusal, out: &mut [u8]) -> usize
     requires { 256 ≤ length out.old }
-    ensures { Wrote out.old out.new 0 result (refusalText r) }
+    ensures { Wrote out.old out.new 0 result (refusal_text r) }
 {
     let told = put_where(r, out);
     let n = crate::number(r);

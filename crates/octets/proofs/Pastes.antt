@@ -29,9 +29,9 @@ module _ (xs : List ℕ) (at : ℕ) (ys : List ℕ) (h : at + length ys ≤ leng
   drop-pasted = drop_at (take at xs ++ ys) (drop (at + length ys) xs) (at + length ys) length_front
 
   -- a byte before the run
-  pub getD-pasted-low : (i : ℕ) → i < at → get_or (pasted xs at ys) i 0 ≡ get_or xs i 0
+  pub get_d_pasted_low : (i : ℕ) → i < at → get_or (pasted xs at ys) i 0 ≡ get_or xs i 0
   unfolding pasted
-  getD-pasted-low i l =
+  get_d_pasted_low i l =
       get_or-append (take at xs ++ ys) (drop (at + length ys) xs) 0 i (omega (arith, length_front))
       ∙ get_or-append (take at xs) ys 0 i (omega (arith, length-take-le at xs (omega arith)))
       ∙ get_or-take at xs i 0 l

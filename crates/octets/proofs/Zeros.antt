@@ -43,14 +43,14 @@ seen_all xs n seen e s z =
     ext_get_or 0 xs (replicate (length xs) 0) (sym (length-replicate (length xs) 0))
     (λ k h. s.none z k (omega arith) ∙ sym (get_or-replicate (length xs) k 0 0 h))
 
-pub seen-some : (xs : List ℕ) (n seen : ℕ) → length xs ≡ n → Seen xs n seen → 0 < seen → xs ≡ replicate (length xs) 0 → ⊥
-seen-some xs n seen e s more z =
+pub seen_some : (xs : List ℕ) (n seen : ℕ) → length xs ≡ n → Seen xs n seen → 0 < seen → xs ≡ replicate (length xs) 0 → ⊥
+seen_some xs n seen e s more z =
     omega (arith, s.all (λ k h. ap (λ l. get_or l k 0) z ∙ get_or-replicate (length xs) k 0 0 (omega arith)))
 
 -- what was decided, and holds
-pub provided-true : {P : Type 0} (b : Bool) → Decides b P → b ≡ true → P
-provided-true true h e = h
-provided-true false h e = absurd (let z : ◌≡◌ {A = Bool} false true = e in let y : ◌≡◌ {A = ℕ} 0 1 = cc in omega arith)
+pub provided_true : {P : Type 0} (b : Bool) → Decides b P → b ≡ true → P
+provided_true true h e = h
+provided_true false h e = absurd (let z : ◌≡◌ {A = Bool} false true = e in let y : ◌≡◌ {A = ℕ} 0 1 = cc in omega arith)
 
 -- the part from `i` to `e`, cleared
 joined : (xs : List ℕ) (i k : ℕ) (fs ys rs : List ℕ) → fs ≡ replicate i 0 → ys ≡ replicate k 0 → rs ≡ drop (i + k) xs

@@ -6,23 +6,23 @@ use mathlib.Core.Option.{none, some}
 use mathlib.Core.List.{List, map}
 use lib.ListN.{length, get_or, length-map}
 use package.Rattle.rules.specs.Term.{nth}
-use package.Rattle.rules.proofs.Lists.{nth-map, nth-there, nth-none}
-use package.Rattle.calls.specs.Entries.{functionAt, entries_at, program_of}
-use package.Rattle.program.specs.Programs.{programIn, functionIn}
+use package.Rattle.rules.proofs.Lists.{nth-map, nth-there, nth_none}
+use package.Rattle.calls.specs.Entries.{function_at, entries_at, program_of}
+use package.Rattle.program.specs.Programs.{program_in, function_in}
 
 module _ (xs functions : List ℕ) (g : ℕ) where
   -- entry `g`
-  pub entry-there : g < length functions → nth (map (functionAt xs) functions) g ≡ some (functionAt xs (get_or functions g 0))
-  entry-there l = nth-map (functionAt xs) functions g (nth-there functions g l)
+  pub entry-there : g < length functions → nth (map (function_at xs) functions) g ≡ some (function_at xs (get_or functions g 0))
+  entry-there l = nth-map (function_at xs) functions g (nth-there functions g l)
 
   module _ (types terms : List ℕ) where
-    pub function-there : g < length functions → nth (programIn xs types terms functions) g ≡ some (functionIn xs types terms (get_or functions g 0))
+    pub function-there : g < length functions → nth (program_in xs types terms functions) g ≡ some (function_in xs types terms (get_or functions g 0))
     unfolding program_of entries_at
-    function-there l = nth-map _ (map (functionAt xs) functions) g (entry-there l)
+    function-there l = nth-map _ (map (function_at xs) functions) g (entry-there l)
 
-    pub function-none : length functions ≤ g → nth (programIn xs types terms functions) g ≡ none
+    pub function_none : length functions ≤ g → nth (program_in xs types terms functions) g ≡ none
     unfolding program_of entries_at
-    function-none l = nth-none (programIn xs types terms functions) g (omega (arith, program-length))
+    function_none l = nth_none (program_in xs types terms functions) g (omega (arith, program-length))
       where
-        program-length : length (programIn xs types terms functions) ≡ length functions
-        program-length = length-map (map (functionAt xs) functions) _ ∙ length-map functions (functionAt xs)
+        program-length : length (program_in xs types terms functions) ≡ length functions
+        program-length = length-map (map (function_at xs) functions) _ ∙ length-map functions (function_at xs)

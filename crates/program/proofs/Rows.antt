@@ -8,46 +8,46 @@ use mathlib.Core.List.{List, []}
 use lib.ListN.{length, get_or, set, drop, replicate, length-set, get_or-replicate, get_or-eq_default}
 use lib.Seq.{get_or-set_same, get_or-set_other}
 use package.Rattle.octets.specs.Numbers.{get16}
-use package.Rattle.rules.specs.Limits.{maxFunctions, maxParameters}
-use package.Rattle.calls.specs.Fields.{parametersAt}
-use package.Rattle.calls.specs.Entries.{references, functionAt}
-use package.Rattle.calls.specs.Named.{typesOfFunction}
+use package.Rattle.rules.specs.Limits.{max_functions, max_parameters}
+use package.Rattle.calls.specs.Fields.{parameters_at}
+use package.Rattle.calls.specs.Entries.{references, function_at}
+use package.Rattle.calls.specs.Named.{types_of_function}
 use package.Rattle.program.specs.Places.{Placed}
 use package.Rattle.program.specs.Parts.{FunctionField, listed}
-use package.Rattle.program.specs.Signatures.{parameterTypes, SignatureIs, FunctionFields, unsigned, SignaturesAre}
+use package.Rattle.program.specs.Signatures.{parameter_types, SignatureIs, FunctionFields, unsigned, SignaturesAre}
 use package.Rattle.program.proofs.Inside.{formed}
 use package.Rattle.program.proofs.Lists.{length-references, types-of-function}
 
 ----------------------------------------------------------------
 -- References
 
-getD-references : (xs : List ℕ) (i n k : ℕ) → k < n → get_or (references xs i n) k 0 ≡ get16 xs (i + 2 * k)
+get_d_references : (xs : List ℕ) (i n k : ℕ) → k < n → get_or (references xs i n) k 0 ≡ get16 xs (i + 2 * k)
 unfolding references
-getD-references xs i zero k h = absurd (omega arith)
-getD-references xs i (suc n) zero h = ap (get16 xs) (let e : i ≡ i + 2 * 0 = omega arith in e)
-getD-references xs i (suc n) (suc k) h =
-    getD-references xs (i + 2) n k (omega arith) ∙ ap (get16 xs) (let e : i + 2 + 2 * k ≡ i + 2 * suc k = omega arith in e)
+get_d_references xs i zero k h = absurd (omega arith)
+get_d_references xs i (suc n) zero h = ap (get16 xs) (let e : i ≡ i + 2 * 0 = omega arith in e)
+get_d_references xs i (suc n) (suc k) h =
+    get_d_references xs (i + 2) n k (omega arith) ∙ ap (get16 xs) (let e : i + 2 + 2 * k ≡ i + 2 * suc k = omega arith in e)
 
 ----------------------------------------------------------------
 -- The parameters of a function
 
 module _ {xs : List ℕ} {at : ℕ} (F : FunctionField xs at) where
-  parameters-are : parameterTypes (functionAt xs at) ≡ references xs (at + 6) (parametersAt xs at)
-  unfolding typesOfFunction references
-  parameters-are = ap (drop 1) (types-of-function F)
+  parameters_are : parameter_types (function_at xs at) ≡ references xs (at + 6) (parameters_at xs at)
+  unfolding types_of_function references
+  parameters_are = ap (drop 1) (types-of-function F)
 
-  parameter-count : length (parameterTypes (functionAt xs at)) ≡ parametersAt xs at
-  parameter-count = ap length parameters-are ∙ length-references xs (at + 6) (parametersAt xs at)
+  parameter_count : length (parameter_types (function_at xs at)) ≡ parameters_at xs at
+  parameter_count = ap length parameters_are ∙ length-references xs (at + 6) (parameters_at xs at)
 
-  pub parameter-at : (k : ℕ) → k < parametersAt xs at → listed xs at k ≡ get_or (parameterTypes (functionAt xs at)) k 0
-  parameter-at k h = sym (ap (λ l. get_or l k 0) parameters-are ∙ getD-references xs (at + 6) (parametersAt xs at) k h)
+  pub parameter_at : (k : ℕ) → k < parameters_at xs at → listed xs at k ≡ get_or (parameter_types (function_at xs at)) k 0
+  parameter_at k h = sym (ap (λ l. get_or l k 0) parameters_are ∙ get_d_references xs (at + 6) (parameters_at xs at) k h)
 
-  no-parameter-at : (k : ℕ) → parametersAt xs at ≤ k → 0 ≡ get_or (parameterTypes (functionAt xs at)) k 0
-  no-parameter-at k h = sym (get_or-eq_default (parameterTypes (functionAt xs at)) 0 (omega (arith, parameter-count)))
+  no_parameter_at : (k : ℕ) → parameters_at xs at ≤ k → 0 ≡ get_or (parameter_types (function_at xs at)) k 0
+  no_parameter_at k h = sym (get_or-eq_default (parameter_types (function_at xs at)) 0 (omega (arith, parameter_count)))
 
 -- the function fields of a program that was read
 pub function-fields : {xs types terms functions : List ℕ} → Placed xs types terms functions → FunctionFields xs functions
-function-fields p = record { few = (formed _ p.read).few-functions; each = (formed _ p.read).functions }
+function-fields p = record { few = (formed _ p.read).few_functions; each = (formed _ p.read).functions }
 
 ----------------------------------------------------------------
 -- Stores, one after another
@@ -77,52 +77,52 @@ zeros-at (suc n) (suc j) = zeros-at n j
 
 -- `k` of the parameters stand in the row, and zeros after them
 pub record Filled (xs : List ℕ) (at k : ℕ) (row : List ℕ) : Type 0 where
-  pub sized : length row ≡ maxParameters
+  pub sized : length row ≡ max_parameters
   pub front : (j : ℕ) → j < k → get_or row j 0 ≡ listed xs at j
   pub back : (j : ℕ) → k ≤ j → get_or row j 0 ≡ 0
 
-pub none_filled : (xs : List ℕ) (at : ℕ) → Filled xs at 0 (replicate maxParameters 0)
-unfolding maxParameters
-none_filled xs at = record { sized = refl; front = λ j h. absurd (omega arith); back = λ j h. zeros-at maxParameters j }
+pub none_filled : (xs : List ℕ) (at : ℕ) → Filled xs at 0 (replicate max_parameters 0)
+unfolding max_parameters
+none_filled xs at = record { sized = refl; front = λ j h. absurd (omega arith); back = λ j h. zeros-at max_parameters j }
 
-pub one-filled : {xs : List ℕ} {at k : ℕ} {row : List ℕ} {x : ℕ} → k < maxParameters → x ≡ listed xs at k → Filled xs at k row → Filled xs at (k + 1) (set row k x)
+pub one-filled : {xs : List ℕ} {at k : ℕ} {row : List ℕ} {x : ℕ} → k < max_parameters → x ≡ listed xs at k → Filled xs at k row → Filled xs at (k + 1) (set row k x)
 one-filled {xs} {at} {k} {row} {x} h e f = record {
   sized = length-set row k x ∙ f.sized;
   front = stored_more 0 (λ j y. y ≡ listed xs at j) row k x (omega (arith, f.sized)) f.front e;
   back = kept-beyond 0 (λ j y. y ≡ 0) row k x f.back;
 }
 
-pub all-filled : {xs : List ℕ} {at k : ℕ} {row : List ℕ} → FunctionField xs at → k ≡ parametersAt xs at → Filled xs at k row → SignatureIs (functionAt xs at) row
-unfolding maxParameters
+pub all-filled : {xs : List ℕ} {at k : ℕ} {row : List ℕ} → FunctionField xs at → k ≡ parameters_at xs at → Filled xs at k row → SignatureIs (function_at xs at) row
+unfolding max_parameters
 all-filled {xs} {at} {k} {row} F e f = record {
   sized = f.sized;
-  few = omega (arith, parameter-count F, F.few);
-  each = λ j. by j (dec_lt j (parametersAt xs at));
+  few = omega (arith, parameter_count F, F.few);
+  each = λ j. by j (dec_lt j (parameters_at xs at));
 }
   where
-    by : (j : ℕ) → Dec (j < parametersAt xs at) → get_or row j 0 ≡ get_or (parameterTypes (functionAt xs at)) j 0
-    by j (yes lt) = f.front j (omega arith) ∙ parameter-at F j lt
-    by j (no ge) = f.back j (omega arith) ∙ no-parameter-at F j (omega arith)
+    by : (j : ℕ) → Dec (j < parameters_at xs at) → get_or row j 0 ≡ get_or (parameter_types (function_at xs at)) j 0
+    by j (yes lt) = f.front j (omega arith) ∙ parameter_at F j lt
+    by j (no ge) = f.back j (omega arith) ∙ no_parameter_at F j (omega arith)
 
 ----------------------------------------------------------------
 -- The table, as it is filled
 
 -- the rows of `g` functions stand in the table, and rows of zeros after them
 pub record Tabled (xs functions : List ℕ) (g : ℕ) (table : List (List ℕ)) : Type 0 where
-  pub sized : length table ≡ maxFunctions
-  pub front : (j : ℕ) → j < g → SignatureIs (functionAt xs (get_or functions j 0)) (get_or table j [])
-  pub back : (j : ℕ) → g ≤ j → j < maxFunctions → get_or table j [] ≡ replicate maxParameters 0
+  pub sized : length table ≡ max_functions
+  pub front : (j : ℕ) → j < g → SignatureIs (function_at xs (get_or functions j 0)) (get_or table j [])
+  pub back : (j : ℕ) → g ≤ j → j < max_functions → get_or table j [] ≡ replicate max_parameters 0
 
-pub none-tabled : (xs functions : List ℕ) → Tabled xs functions 0 unsigned
-none-tabled xs functions = record { sized = refl; front = λ j h. absurd (omega arith); back = λ j h l. get_or-replicate maxFunctions j (replicate maxParameters 0) [] l }
+pub none_tabled : (xs functions : List ℕ) → Tabled xs functions 0 unsigned
+none_tabled xs functions = record { sized = refl; front = λ j h. absurd (omega arith); back = λ j h l. get_or-replicate max_functions j (replicate max_parameters 0) [] l }
 
-pub one-tabled : {xs functions : List ℕ} {g : ℕ} {table : List (List ℕ)} {row : List ℕ} → g < maxFunctions → SignatureIs (functionAt xs (get_or functions g 0)) row
+pub one_tabled : {xs functions : List ℕ} {g : ℕ} {table : List (List ℕ)} {row : List ℕ} → g < max_functions → SignatureIs (function_at xs (get_or functions g 0)) row
     → Tabled xs functions g table → Tabled xs functions (g + 1) (set table g row)
-one-tabled {xs} {functions} {g} {table} {row} h s t = record {
+one_tabled {xs} {functions} {g} {table} {row} h s t = record {
   sized = length-set table g row ∙ t.sized;
-  front = stored_more [] (λ j y. SignatureIs (functionAt xs (get_or functions j 0)) y) table g row (omega (arith, t.sized)) t.front s;
-  back = kept-beyond [] (λ j y. j < maxFunctions → y ≡ replicate maxParameters 0) table g row t.back;
+  front = stored_more [] (λ j y. SignatureIs (function_at xs (get_or functions j 0)) y) table g row (omega (arith, t.sized)) t.front s;
+  back = kept-beyond [] (λ j y. j < max_functions → y ≡ replicate max_parameters 0) table g row t.back;
 }
 
-pub all-tabled : {xs functions : List ℕ} {g : ℕ} {table : List (List ℕ)} → g ≡ length functions → Tabled xs functions g table → SignaturesAre xs functions table
-all-tabled e t = record { sized = t.sized; rows = λ j h. t.front j (omega arith); beyond = λ j h l. t.back j (omega arith) l }
+pub all_tabled : {xs functions : List ℕ} {g : ℕ} {table : List (List ℕ)} → g ≡ length functions → Tabled xs functions g table → SignaturesAre xs functions table
+all_tabled e t = record { sized = t.sized; rows = λ j h. t.front j (omega arith); beyond = λ j h l. t.back j (omega arith) l }

@@ -1,62 +1,62 @@
 -- The kinds of type and term entries by name, as src/kinds.rt has them for code (document 01, section 1). A call's: calls/specs/Fields.
 use Rattle.std.specs.Prelude.{ℕ}
-pub use package.Rattle.calls.specs.Fields.{callKind}
+pub use package.Rattle.calls.specs.Fields.{call_kind}
 
 ----------------------------------------------------------------
 -- Types
 
-abbrev pub unitTypeKind : ℕ
-unitTypeKind = 0
+abbrev pub unit_type_kind : ℕ
+unit_type_kind = 0
 
-abbrev pub productKind : ℕ
-productKind = 1
+abbrev pub product_kind : ℕ
+product_kind = 1
 
-abbrev pub sumKind : ℕ
-sumKind = 2
+abbrev pub sum_kind : ℕ
+sum_kind = 2
 
-abbrev pub recursiveKind : ℕ
-recursiveKind = 3
+abbrev pub recursive_kind : ℕ
+recursive_kind = 3
 
-abbrev pub typeVariableKind : ℕ
-typeVariableKind = 4
+abbrev pub type_variable_kind : ℕ
+type_variable_kind = 4
 
 -- how many there are
-abbrev pub typeKinds : ℕ
-typeKinds = 5
+abbrev pub type_kinds : ℕ
+type_kinds = 5
 
 ----------------------------------------------------------------
 -- Terms
 
-abbrev pub variableKind : ℕ
-variableKind = 0
+abbrev pub variable_kind : ℕ
+variable_kind = 0
 
 abbrev pub unit_kind : ℕ
 unit_kind = 1
 
-abbrev pub inlKind : ℕ
-inlKind = 2
+abbrev pub inl_kind : ℕ
+inl_kind = 2
 
-abbrev pub inrKind : ℕ
-inrKind = 3
+abbrev pub inr_kind : ℕ
+inr_kind = 3
 
-abbrev pub pairKind : ℕ
-pairKind = 4
+abbrev pub pair_kind : ℕ
+pair_kind = 4
 
-abbrev pub letKind : ℕ
-letKind = 5
+abbrev pub let_kind : ℕ
+let_kind = 5
 
-abbrev pub letPairKind : ℕ
-letPairKind = 6
+abbrev pub let_pair_kind : ℕ
+let_pair_kind = 6
 
-abbrev pub caseKind : ℕ
-caseKind = 7
+abbrev pub case_kind : ℕ
+case_kind = 7
 
-abbrev pub rollKind : ℕ
-rollKind = 9
+abbrev pub roll_kind : ℕ
+roll_kind = 9
 
-abbrev pub unrollKind : ℕ
-unrollKind = 10
+abbrev pub unroll_kind : ℕ
+unroll_kind = 10
 
 -- how many there are
-abbrev pub termKinds : ℕ
-termKinds = 11
+abbrev pub term_kinds : ℕ
+term_kinds = 11

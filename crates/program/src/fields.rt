@@ -1,8 +1,8 @@
 // Reading a program's fields, from the first byte (document 01, section 1; section 4, row Field reading: refusals 2 and 3).
 // The functions on one field equal the definitions of calls/specs/Fields; a definition reads 0 past the end, and so does `byte_at`.
 ghost use Rattle.std.specs.Prelude.{◌≡◌, ◌+◌, ◌≤◌, length, get_or};
-ghost use Rattle.calls.specs.Fields.{fieldHead, tag_at, length_at, next_at, kind_at, parametersAt, typeLengths, termLengths, callLength, typeLength, termLength, functionLength, bodyFits, wellFormed};
-ghost use Rattle.program.specs.Places.{parametersWithin, frontsOf, Placeable, PlacingMeans, Buffers, FieldsMean};
+ghost use Rattle.calls.specs.Fields.{field_head, tag_at, length_at, next_at, kind_at, parameters_at, type_lengths, term_lengths, call_length, type_length, term_length, function_length, body_fits, well_formed};
+ghost use Rattle.program.specs.Places.{parameters_within, fronts_of, Placeable, PlacingMeans, Buffers, FieldsMean};
 ghost use Rattle.program.specs.Signatures.{Signable, Signs, unsigned, Tabulated};
 
 use crate::reader::Field;
@@ -42,7 +42,7 @@ pub fn tag_at(p: &[u8], at: usize) -> u8
 
 // The length of the body.
 pub fn length_at(p: &[u8], at: usize) -> u16
-    requires { at + fieldHead ≤ length p.now }
+    requires { at + field_head ≤ length p.now }
     ensures { result ≡ length_at p.now at }
 {
     octets::read16(p, at + 1)
@@ -50,29 +50,29 @@ pub fn length_at(p: &[u8], at: usize) -> u16
 
 // The offset of the next field.
 pub fn next_at(p: &[u8], at: usize) -> usize
-    requires { at + fieldHead ≤ length p.now }
+    requires { at + field_head ≤ length p.now }
     ensures { result ≡ next_at p.now at }
 {
     at + FIELD_HEAD + octets::wide_index(length_at(p, at))
 }
 
 pub fn kind_at(p: &[u8], at: usize) -> u8
-    requires { at + fieldHead ≤ length p.now }
+    requires { at + field_head ≤ length p.now }
     ensures { result ≡ kind_at p.now at }
 {
     byte_at(p, at + FIELD_HEAD)
 }
 
 pub fn parameters_at(p: &[u8], at: usize) -> u8
-    requires { at + fieldHead ≤ length p.now }
-    ensures { result ≡ parametersAt p.now at }
+    requires { at + field_head ≤ length p.now }
+    ensures { result ≡ parameters_at p.now at }
 {
     byte_at(p, at + 5)
 }
 
 // The length that a type of this kind has, 0 where there is no such kind.
 fn type_bytes(kind: u8) -> u16
-    ensures { result ≡ get_or typeLengths kind 0 }
+    ensures { result ≡ get_or type_lengths kind 0 }
 {
     let k = octets::wide_index(octets::wide16(kind));
     if k < kinds::TYPE_KINDS {
@@ -82,7 +82,7 @@ fn type_bytes(kind: u8) -> u16
 }
 
 fn term_bytes(kind: u8) -> u16
-    ensures { result ≡ get_or termLengths kind 0 }
+    ensures { result ≡ get_or term_lengths kind 0 }
 {
     let k = octets::wide_index(octets::wide16(kind));
     if k < kinds::TERM_KINDS {
@@ -92,7 +92,7 @@ fn term_bytes(kind: u8) -> u16
 }
 
 pub fn type_length(kind: u8, n: u16) -> bool
-    ensures { result ≡ typeLength kind n }
+    ensures { result ≡ type_length kind n }
 {
     if n < 1 {
         return false;
@@ -101,7 +101,7 @@ pub fn type_length(kind: u8, n: u16) -> bool
 }
 
 fn call_length(n: u16) -> bool
-    ensures { result ≡ callLength n }
+    ensures { result ≡ call_length n }
 {
     if n < 5 {
         return false;
@@ -110,7 +110,7 @@ fn call_length(n: u16) -> bool
 }
 
 pub fn term_length(kind: u8, n: u16) -> bool
-    ensures { result ≡ termLength kind n }
+    ensures { result ≡ term_length kind n }
 {
     if n < 1 {
         return false;
@@ -122,15 +122,15 @@ pub fn term_length(kind: u8, n: u16) -> bool
 }
 
 pub fn function_length(parameters: u8, n: u16) -> bool
-    ensures { result ≡ functionLength parameters n }
+    ensures { result ≡ function_length parameters n }
 {
     n == 5 + 2 * octets::wide16(parameters)
 }
 
 // Has the body a length that its tag and kind have? No other tag is known.
 pub fn body_fits(p: &[u8], at: usize) -> bool
-    requires { at + fieldHead ≤ length p.now }
-    ensures { result ≡ bodyFits p.now at }
+    requires { at + field_head ≤ length p.now }
+    ensures { result ≡ body_fits p.now at }
 {
     let tag = tag_at(p, at);
     let n = length_at(p, at);
@@ -149,7 +149,7 @@ pub fn body_fits(p: &[u8], at: usize) -> bool
 // Is the field at `at` well-formed, `last` being the tag of the field before it?
 pub fn well_formed(p: &[u8], at: usize, last: u8) -> bool
     requires { at ≤ length p.now }
-    ensures { result ≡ wellFormed p.now at last }
+    ensures { result ≡ well_formed p.now at last }
 {
     if p.len() < at + FIELD_HEAD {
         return false;
@@ -190,7 +190,7 @@ enum Placing {
 const MOST_PARAMETERS: u8 = MAX_PARAMETERS as u8;
 
 fn parameters_within(parameters: u8) -> bool
-    ensures { result ≡ parametersWithin parameters }
+    ensures { result ≡ parameters_within parameters }
 {
     if parameters < 1 {
         return false;
@@ -208,7 +208,7 @@ fn place(
     functions: &mut [u16],
 ) -> Placing
     requires { Placeable p.now at counts types.old terms.old functions.old }
-    ensures { PlacingMeans result p.now at (frontsOf types.old terms.old functions.old counts) types.new terms.new functions.new }
+    ensures { PlacingMeans result p.now at (fronts_of types.old terms.old functions.old counts) types.new terms.new functions.new }
 {
     let tag = tag_at(p, at);
     let offset = at as u16;

@@ -3,7 +3,7 @@
 // handles a struct with a reference inside, so `new`, `field` and `read_field` are proved by hand, each by a walk of its code;
 // `read_field` has plain parameters, so that its caller, the pass over the fields, is covered again.
 ghost use Rattle.std.specs.Prelude.{◌≡◌, ◌≤◌, length};
-ghost use Rattle.program.specs.Found.{foundOf, fieldAt};
+ghost use Rattle.program.specs.Found.{found_of, field_at};
 
 use crate::fields;
 
@@ -23,7 +23,7 @@ pub enum Field {
 // The field at an offset, `last` being the tag of the field before it.
 pub fn field_at(p: &[u8], at: usize, last: u8) -> Field
     requires { at ≤ length p.now }
-    ensures { foundOf result at ≡ fieldAt p.now at last }
+    ensures { found_of result at ≡ field_at p.now at last }
 {
     if fields::well_formed(p, at, last) {
         let tag = fields::tag_at(p, at);
@@ -43,7 +43,7 @@ impl<'a> FieldReader<'a> {
     // The field at the reader's position.
     pub fn field(self, last: u8) -> Field
         requires { self.at ≤ length self.program.now }
-        ensures { foundOf result self.entry.at ≡ fieldAt self.entry.program.now self.entry.at last }
+        ensures { found_of result self.entry.at ≡ field_at self.entry.program.now self.entry.at last }
     {
         field_at(self.program, self.at, last)
     }
@@ -52,7 +52,7 @@ impl<'a> FieldReader<'a> {
 // The field at an offset, by a reader that stands there.
 pub fn read_field(p: &[u8], at: usize, last: u8) -> Field
     requires { at ≤ length p.now }
-    ensures { foundOf result at ≡ fieldAt p.now at last }
+    ensures { found_of result at ≡ field_at p.now at last }
 {
     FieldReader::new(p, at).field(last)
 }

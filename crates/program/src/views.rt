@@ -2,11 +2,11 @@
 // Types and terms have their kind and their references at the same places; a call and a function have a list of references.
 // specs/Parts names the places; proofs/Shapes says which entry a kind makes of them, and proofs/Rooms that an accepted field holds them.
 ghost use Rattle.std.specs.Prelude.{◌≡◌, ◌+◌, ◌*◌, ◌≤◌, ◌<◌, length};
-ghost use Rattle.calls.specs.Fields.{kind_at, length_at, parametersAt};
-ghost use Rattle.calls.specs.Entries.{callAncillae};
+ghost use Rattle.calls.specs.Fields.{kind_at, length_at, parameters_at};
+ghost use Rattle.calls.specs.Entries.{call_ancillae};
 ghost use Rattle.program.specs.Parts.{variable, first, second, third, listed, result, body, TypeField, TermField};
-ghost use Rattle.program.specs.Kinds.{typeKinds, termKinds};
-ghost use Rattle.program.specs.Lists.{typesInType, typesInTerm, functionsInTerm, termsInTerm, termsFrom};
+ghost use Rattle.program.specs.Kinds.{type_kinds, term_kinds};
+ghost use Rattle.program.specs.Lists.{types_in_type, types_in_term, functions_in_term, terms_in_term, terms_from};
 
 use crate::kinds;
 
@@ -22,14 +22,14 @@ pub fn kind(p: &[u8], at: usize) -> u8
 // The same of a well-formed field: one of five kinds, one of eleven.
 pub fn type_kind(p: &[u8], at: usize) -> usize
     requires { TypeField p.now at }
-    ensures* { λ r. ⌜ (r ≡ kind_at p.now at) × (r < typeKinds) ⌝ }
+    ensures* { λ r. ⌜ (r ≡ kind_at p.now at) × (r < type_kinds) ⌝ }
 {
     octets::wide_index(octets::wide16(kind(p, at)))
 }
 
 pub fn term_kind(p: &[u8], at: usize) -> usize
     requires { TermField p.now at }
-    ensures* { λ r. ⌜ (r ≡ kind_at p.now at) × (r < termKinds) ⌝ }
+    ensures* { λ r. ⌜ (r ≡ kind_at p.now at) × (r < term_kinds) ⌝ }
 {
     octets::wide_index(octets::wide16(kind(p, at)))
 }
@@ -76,7 +76,7 @@ pub fn listed(p: &[u8], at: usize, k: usize) -> u16
 // How many ancilla terms a call has. Its dynamic term is the reference after so many.
 pub fn call_ancillae(p: &[u8], at: usize) -> usize
     requires { (at + 3 ≤ length p.now) × (5 ≤ length_at p.now at) }
-    ensures* { λ r. ⌜ r ≡ callAncillae (length_at p.now at) ⌝ }
+    ensures* { λ r. ⌜ r ≡ call_ancillae (length_at p.now at) ⌝ }
 {
     let n = octets::wide_index(octets::read16(p, at + 1));
     (n - 5) / 2
@@ -93,13 +93,13 @@ pub fn function_result(p: &[u8], at: usize) -> u16
 
 pub fn function_parameters(p: &[u8], at: usize) -> usize
     requires { at + 6 ≤ length p.now }
-    ensures* { λ r. ⌜ (r ≡ parametersAt p.now at) × (r < 256) ⌝ }
+    ensures* { λ r. ⌜ (r ≡ parameters_at p.now at) × (r < 256) ⌝ }
 {
     octets::wide_index(octets::wide16(p[at + 5]))
 }
 
 pub fn function_body(p: &[u8], at: usize) -> u16
-    requires { at + 8 + 2 * parametersAt p.now at ≤ length p.now }
+    requires { at + 8 + 2 * parameters_at p.now at ≤ length p.now }
     ensures* { λ r. ⌜ r ≡ body p.now at ⌝ }
 {
     let n = function_parameters(p, at);
@@ -122,7 +122,7 @@ const CALL: usize = kinds::CALL as usize;
 
 pub fn types_in_type(p: &[u8], at: usize) -> usize
     requires { TypeField p.now at }
-    ensures* { λ r. ⌜ r ≡ typesInType p.now at ⌝ }
+    ensures* { λ r. ⌜ r ≡ types_in_type p.now at ⌝ }
 {
     let k = type_kind(p, at);
     TYPES_IN_TYPE[k]
@@ -130,7 +130,7 @@ pub fn types_in_type(p: &[u8], at: usize) -> usize
 
 pub fn types_in_term(p: &[u8], at: usize) -> usize
     requires { TermField p.now at }
-    ensures* { λ r. ⌜ r ≡ typesInTerm p.now at ⌝ }
+    ensures* { λ r. ⌜ r ≡ types_in_term p.now at ⌝ }
 {
     let k = term_kind(p, at);
     octets::wide_index(octets::wide16(TYPES_IN_TERM[k]))
@@ -138,7 +138,7 @@ pub fn types_in_term(p: &[u8], at: usize) -> usize
 
 pub fn functions_in_term(p: &[u8], at: usize) -> usize
     requires { TermField p.now at }
-    ensures* { λ r. ⌜ r ≡ functionsInTerm p.now at ⌝ }
+    ensures* { λ r. ⌜ r ≡ functions_in_term p.now at ⌝ }
 {
     let k = term_kind(p, at);
     octets::wide_index(octets::wide16(FUNCTIONS_IN_TERM[k]))
@@ -146,7 +146,7 @@ pub fn functions_in_term(p: &[u8], at: usize) -> usize
 
 pub fn terms_in_term(p: &[u8], at: usize) -> usize
     requires { TermField p.now at }
-    ensures* { λ r. ⌜ r ≡ termsInTerm p.now at ⌝ }
+    ensures* { λ r. ⌜ r ≡ terms_in_term p.now at ⌝ }
 {
     let k = term_kind(p, at);
     if k == CALL {
@@ -158,7 +158,7 @@ pub fn terms_in_term(p: &[u8], at: usize) -> usize
 // Where a term's references to terms start.
 pub fn terms_from(p: &[u8], at: usize) -> usize
     requires { TermField p.now at }
-    ensures* { λ r. ⌜ r ≡ termsFrom p.now at ⌝ }
+    ensures* { λ r. ⌜ r ≡ terms_from p.now at ⌝ }
 {
     at + 4 + 2 * (types_in_term(p, at) + functions_in_term(p, at))
 }

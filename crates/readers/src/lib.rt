@@ -2,8 +2,8 @@
 // reader tests the whole form first, then the output's length, and writes only then: a refused call leaves the output as it was.
 ghost use Rattle.std.specs.Prelude.{◌≡◌, length};
 ghost use Rattle.calls.specs.Answer.{overwritten};
-ghost use Rattle.calls.specs.Readers.{heldBytes, nurseCall, workshopCall};
-ghost use Rattle.answers.specs.Answers.{nurseAnswer, writeAnswer, seenAnswer, lengthAnswer};
+ghost use Rattle.calls.specs.Readers.{held_bytes, nurse_call, workshop_call};
+ghost use Rattle.answers.specs.Answers.{nurse_answer, write_answer, seen_answer, length_answer};
 ghost use Rattle.journal.specs.Places.{Stands};
 
 use answers::{NurseAnswer, Refusal, Shown, WriteAnswer};
@@ -13,8 +13,8 @@ use journal::{form, parts};
 // The nurse's reader of a journal that has its form: the held value's bytes, and how many conversions stand.
 fn show_held(journal: &[u8], pl: Places, output: &mut [u8]) -> NurseAnswer
     requires { Stands pl journal.now }
-    ensures answer { nurseAnswer result ≡ seenAnswer (nurseCall journal.now (length output.old)) }
-    ensures fills { output.new ≡ overwritten (heldBytes (nurseCall journal.now (length output.old))) output.old }
+    ensures answer { nurse_answer result ≡ seen_answer (nurse_call journal.now (length output.old)) }
+    ensures fills { output.new ≡ overwritten (held_bytes (nurse_call journal.now (length output.old))) output.old }
 {
     let held = parts::held_value(journal, pl);
     if output.len() < held.len() {
@@ -29,8 +29,8 @@ fn show_held(journal: &[u8], pl: Places, output: &mut [u8]) -> NurseAnswer
 // At the bedside: the held value fills the output from its start, and the answer is its length and how many conversions stand. Nothing
 // of the conversions themselves is told.
 pub fn nurse(journal: &[u8], output: &mut [u8]) -> NurseAnswer
-    ensures answer { nurseAnswer result ≡ seenAnswer (nurseCall journal.now (length output.old)) }
-    ensures fills { output.new ≡ overwritten (heldBytes (nurseCall journal.now (length output.old))) output.old }
+    ensures answer { nurse_answer result ≡ seen_answer (nurse_call journal.now (length output.old)) }
+    ensures fills { output.new ≡ overwritten (held_bytes (nurse_call journal.now (length output.old))) output.old }
 {
     match form::survey(journal) {
         Survey::Form(pl) => show_held(journal, pl, output),
@@ -41,8 +41,8 @@ pub fn nurse(journal: &[u8], output: &mut [u8]) -> NurseAnswer
 // The workshop's reader of a journal that has its form: the conversions' fields.
 fn show_fields(journal: &[u8], pl: Places, output: &mut [u8]) -> WriteAnswer
     requires { Stands pl journal.now }
-    ensures answer { writeAnswer result ≡ lengthAnswer (workshopCall journal.now (length output.old)) }
-    ensures fills { output.new ≡ overwritten (workshopCall journal.now (length output.old)) output.old }
+    ensures answer { write_answer result ≡ length_answer (workshop_call journal.now (length output.old)) }
+    ensures fills { output.new ≡ overwritten (workshop_call journal.now (length output.old)) output.old }
 {
     let fields = parts::standing_fields(journal, pl);
     if output.len() < fields.len() {
@@ -54,8 +54,8 @@ fn show_fields(journal: &[u8], pl: Places, output: &mut [u8]) -> WriteAnswer
 
 // At the desk: the fields of all conversions as they stand, oldest first, fill the output from its start; the answer is their length.
 pub fn workshop(journal: &[u8], output: &mut [u8]) -> WriteAnswer
-    ensures answer { writeAnswer result ≡ lengthAnswer (workshopCall journal.now (length output.old)) }
-    ensures fills { output.new ≡ overwritten (workshopCall journal.now (length output.old)) output.old }
+    ensures answer { write_answer result ≡ length_answer (workshop_call journal.now (length output.old)) }
+    ensures fills { output.new ≡ overwritten (workshop_call journal.now (length output.old)) output.old }
 {
     match form::survey(journal) {
         Survey::Form(pl) => show_fields(journal, pl, output),

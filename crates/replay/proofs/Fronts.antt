@@ -7,18 +7,18 @@ use lib.ListN.{length, take, drop, replicate, length-append, length-drop}
 use lib.Seq.{length-take-le, take_at}
 use mathlib.Core.Option.{Option, none, some}
 use package.Rattle.calls.specs.Answer.{cleared}
-use package.Rattle.calls.specs.Conversions.{openCall, convertCall, rollbackCall}
-use package.Rattle.calls.specs.Book.{Call, opens, converts, rollsBack, buffer, resized, afterOpen, afterTurned, call}
-use package.Rattle.calls.specs.Claims.{lastField}
-use package.Rattle.calls.specs.Journal.{Journal, readJournal}
-use package.Rattle.journal.specs.Places.{places_of, surveyOf}
+use package.Rattle.calls.specs.Conversions.{open_call, convert_call, rollback_call}
+use package.Rattle.calls.specs.Book.{Call, opens, converts, rolls_back, buffer, resized, after_open, after_turned, call}
+use package.Rattle.calls.specs.Claims.{last_field}
+use package.Rattle.calls.specs.Journal.{Journal, read_journal}
+use package.Rattle.journal.specs.Places.{places_of, survey_of}
 use package.Rattle.journal.specs.declared.places.Places.{Places}
 use package.Rattle.journal.specs.declared.places.Survey.TheVariants as survey
-use package.Rattle.answers.specs.Answers.{checkAnswer, runAnswer, openAnswer, heldAnswer}
+use package.Rattle.answers.specs.Answers.{check_answer, run_answer, open_answer, held_answer}
 use package.Rattle.answers.specs.declared.CheckAnswer.{CheckAnswer}
 use package.Rattle.answers.specs.declared.RunAnswer.{RunAnswer}
 use package.Rattle.replay.specs.Lines.{line}
-use package.Rattle.replay.specs.Inner.Told.{checkLine, runLine}
+use package.Rattle.replay.specs.Inner.Told.{check_line, run_line}
 use package.Rattle.replay.specs.Inner.Steps.{swept, leaves, Made}
 use package.Rattle.replay.proofs.Lines.{opened-line, turned-line, opened-swept, turned-swept}
 
@@ -40,24 +40,24 @@ resized-longer n xs h = ap (λ ys. ys ++ replicate (n - length xs) 0) (take_all 
 ----------------------------------------------------------------
 -- The last field's end
 
-missing-by : (xs : List ℕ) (o : Option Journal) → readJournal xs ≡ o → survey.Malformed ≡ surveyOf o → length xs ≡ lastField xs
-unfolding lastField surveyOf
-missing-by xs none e p = rw (e, lastField)
-missing-by xs (some J) e p = absurd (let z : ◌≡◌ {A = ℕ} 0 1 = cc in omega arith)
+missing_by : (xs : List ℕ) (o : Option Journal) → read_journal xs ≡ o → survey.Malformed ≡ survey_of o → length xs ≡ last_field xs
+unfolding last_field survey_of
+missing_by xs none e p = rw (e, last_field)
+missing_by xs (some J) e p = absurd (let z : ◌≡◌ {A = ℕ} 0 1 = cc in omega arith)
 
-pub last-missing : (xs : List ℕ) → survey.Malformed ≡ surveyOf (readJournal xs) → length xs ≡ lastField xs
-last-missing xs p = missing-by xs (readJournal xs) refl p
+pub last_missing : (xs : List ℕ) → survey.Malformed ≡ survey_of (read_journal xs) → length xs ≡ last_field xs
+last_missing xs p = missing_by xs (read_journal xs) refl p
 
-form-inj : {p q : Places} → survey.Form p ≡ survey.Form q → p ≡ q
-form-inj e = cc
+form_inj : {p q : Places} → survey.Form p ≡ survey.Form q → p ≡ q
+form_inj e = cc
 
-there-by : (xs : List ℕ) (pl : Places) (o : Option Journal) → readJournal xs ≡ o → survey.Form pl ≡ surveyOf o → pl.end ≡ lastField xs
-unfolding lastField surveyOf places_of
-there-by xs pl none e p = absurd (let z : ◌≡◌ {A = ℕ} 0 1 = cc in omega arith)
-there-by xs pl (some J) e p = rw (e, lastField) (ap (λ (q : Places). q.end) (form-inj p))
+there_by : (xs : List ℕ) (pl : Places) (o : Option Journal) → read_journal xs ≡ o → survey.Form pl ≡ survey_of o → pl.end ≡ last_field xs
+unfolding last_field survey_of places_of
+there_by xs pl none e p = absurd (let z : ◌≡◌ {A = ℕ} 0 1 = cc in omega arith)
+there_by xs pl (some J) e p = rw (e, last_field) (ap (λ (q : Places). q.end) (form_inj p))
 
-pub last-there : (xs : List ℕ) (pl : Places) → survey.Form pl ≡ surveyOf (readJournal xs) → pl.end ≡ lastField xs
-last-there xs pl p = there-by xs pl (readJournal xs) refl p
+pub last-there : (xs : List ℕ) (pl : Places) → survey.Form pl ≡ survey_of (read_journal xs) → pl.end ≡ last_field xs
+last-there xs pl p = there_by xs pl (read_journal xs) refl p
 
 ----------------------------------------------------------------
 -- One call on the front part
@@ -85,36 +85,36 @@ module _ (program : List ℕ) (J W f l J' W' : List ℕ) where
       }
 
   pub open_made : (held : List ℕ) (n : ℕ) (r : CheckAnswer) → n ≤ length J → length f ≡ length (take n J)
-      → checkAnswer r ≡ openAnswer (openCall program held (length W) (length (take n J)))
-      → f ≡ (afterOpen (take n J) (openCall program held (length W) (length (take n J)))).journal
-      → W' ≡ cleared (openCall program held (length W) (length (take n J))) W → l ≡ checkLine (checkAnswer r) → J' ≡ cleared-behind n f J
+      → check_answer r ≡ open_answer (open_call program held (length W) (length (take n J)))
+      → f ≡ (after_open (take n J) (open_call program held (length W) (length (take n J)))).journal
+      → W' ≡ cleared (open_call program held (length W) (length (take n J))) W → l ≡ check_line (check_answer r) → J' ≡ cleared-behind n f J
       → Made program (opens held (length W) n) J W l J' W'
   unfolding call buffer
   open_made held n r h e er ef ew el ej =
       let k : length (take n J) ≡ n = length-take-le n J h in
-      let same : openCall program held (length W) (length (take n J)) ≡ openCall program held (length W) n = ap (openCall program held (length W)) k in
-      made-front (opens held (length W) n) n refl h (e ∙ k) (ef ∙ ap (λ x. (afterOpen (take n J) x).journal) same)
-      (el ∙ ap checkLine (er ∙ ap openAnswer same) ∙ opened-line (take n J) (openCall program held (length W) n))
-      (ew ∙ ap (λ x. cleared x W) same ∙ opened-swept (take n J) W (openCall program held (length W) n)) ej
+      let same : open_call program held (length W) (length (take n J)) ≡ open_call program held (length W) n = ap (open_call program held (length W)) k in
+      made-front (opens held (length W) n) n refl h (e ∙ k) (ef ∙ ap (λ x. (after_open (take n J) x).journal) same)
+      (el ∙ ap check_line (er ∙ ap open_answer same) ∙ opened-line (take n J) (open_call program held (length W) n))
+      (ew ∙ ap (λ x. cleared x W) same ∙ opened-swept (take n J) W (open_call program held (length W) n)) ej
 
-  pub convert-made : (fuel fn : ℕ) (anc : List ℕ) (n : ℕ) (r : RunAnswer) → n ≤ length J → length f ≡ length (take n J)
-      → runAnswer r ≡ heldAnswer (convertCall program fn anc fuel (length W) (take n J))
-      → f ≡ (afterTurned (take n J) (convertCall program fn anc fuel (length W) (take n J))).journal
-      → W' ≡ cleared (convertCall program fn anc fuel (length W) (take n J)) W → l ≡ runLine (runAnswer r) → J' ≡ cleared-behind n f J
+  pub convert_made : (fuel fn : ℕ) (anc : List ℕ) (n : ℕ) (r : RunAnswer) → n ≤ length J → length f ≡ length (take n J)
+      → run_answer r ≡ held_answer (convert_call program fn anc fuel (length W) (take n J))
+      → f ≡ (after_turned (take n J) (convert_call program fn anc fuel (length W) (take n J))).journal
+      → W' ≡ cleared (convert_call program fn anc fuel (length W) (take n J)) W → l ≡ run_line (run_answer r) → J' ≡ cleared-behind n f J
       → Made program (converts fn anc fuel (length W) n) J W l J' W'
   unfolding call buffer
-  convert-made fuel fn anc n r h e er ef ew el ej =
+  convert_made fuel fn anc n r h e er ef ew el ej =
       made-front (converts fn anc fuel (length W) n) n refl h (e ∙ length-take-le n J h) ef
-      (el ∙ ap runLine er ∙ turned-line (take n J) (convertCall program fn anc fuel (length W) (take n J)))
-      (ew ∙ turned-swept (take n J) W (convertCall program fn anc fuel (length W) (take n J))) ej
+      (el ∙ ap run_line er ∙ turned-line (take n J) (convert_call program fn anc fuel (length W) (take n J)))
+      (ew ∙ turned-swept (take n J) W (convert_call program fn anc fuel (length W) (take n J))) ej
 
-  pub rollback-made : (fuel n : ℕ) (r : RunAnswer) → n ≤ length J → length f ≡ length (take n J)
-      → runAnswer r ≡ heldAnswer (rollbackCall program fuel (length W) (take n J))
-      → f ≡ (afterTurned (take n J) (rollbackCall program fuel (length W) (take n J))).journal
-      → W' ≡ cleared (rollbackCall program fuel (length W) (take n J)) W → l ≡ runLine (runAnswer r) → J' ≡ cleared-behind n f J
-      → Made program (rollsBack fuel (length W) n) J W l J' W'
+  pub rollback_made : (fuel n : ℕ) (r : RunAnswer) → n ≤ length J → length f ≡ length (take n J)
+      → run_answer r ≡ held_answer (rollback_call program fuel (length W) (take n J))
+      → f ≡ (after_turned (take n J) (rollback_call program fuel (length W) (take n J))).journal
+      → W' ≡ cleared (rollback_call program fuel (length W) (take n J)) W → l ≡ run_line (run_answer r) → J' ≡ cleared-behind n f J
+      → Made program (rolls_back fuel (length W) n) J W l J' W'
   unfolding call buffer
-  rollback-made fuel n r h e er ef ew el ej =
-      made-front (rollsBack fuel (length W) n) n refl h (e ∙ length-take-le n J h) ef
-      (el ∙ ap runLine er ∙ turned-line (take n J) (rollbackCall program fuel (length W) (take n J)))
-      (ew ∙ turned-swept (take n J) W (rollbackCall program fuel (length W) (take n J))) ej
+  rollback_made fuel n r h e er ef ew el ej =
+      made-front (rolls_back fuel (length W) n) n refl h (e ∙ length-take-le n J h) ef
+      (el ∙ ap run_line er ∙ turned-line (take n J) (rollback_call program fuel (length W) (take n J)))
+      (ew ∙ turned-swept (take n J) W (rollback_call program fuel (length W) (take n J))) ej

@@ -8,29 +8,29 @@ use lib.Dec.{eqb}
 use package.Rattle.octets.specs.Numbers.{bytes16, bytes32}
 use package.Rattle.calls.specs.Answer.{Answer, accepted, refused, cleared}
 use package.Rattle.calls.specs.Conversions.{Turned}
-use package.Rattle.calls.specs.Book.{Told, isOpen, holds, refuses, afterOpen, afterTurned}
-use package.Rattle.answers.specs.Answers.{openAnswer, heldAnswer}
+use package.Rattle.calls.specs.Book.{Told, is_open, holds, refuses, after_open, after_turned}
+use package.Rattle.answers.specs.Answers.{open_answer, held_answer}
 use package.Rattle.replay.specs.Lines.{line_of, line}
-use package.Rattle.replay.specs.Inner.Told.{checkLine, runLine}
+use package.Rattle.replay.specs.Inner.Told.{check_line, run_line}
 use package.Rattle.replay.specs.Inner.Steps.{swept}
 
-pub opened-line : (j : List ℕ) (x : Answer (List ℕ)) → checkLine (openAnswer x) ≡ line (afterOpen j x).told
-unfolding checkLine afterOpen
+pub opened-line : (j : List ℕ) (x : Answer (List ℕ)) → check_line (open_answer x) ≡ line (after_open j x).told
+unfolding check_line after_open
 opened-line j (accepted xs) = refl
 opened-line j (refused n p) = refl
 
-pub turned-line : (j : List ℕ) (x : Answer Turned) → runLine (heldAnswer x) ≡ line (afterTurned j x).told
-unfolding runLine afterTurned
+pub turned-line : (j : List ℕ) (x : Answer Turned) → run_line (held_answer x) ≡ line (after_turned j x).told
+unfolding run_line after_turned
 turned-line j (accepted t) = refl
 turned-line j (refused n p) = refl
 
-pub opened-swept : (j ws : List ℕ) (x : Answer (List ℕ)) → cleared x ws ≡ swept (afterOpen j x).told ws
-unfolding cleared swept afterOpen
+pub opened-swept : (j ws : List ℕ) (x : Answer (List ℕ)) → cleared x ws ≡ swept (after_open j x).told ws
+unfolding cleared swept after_open
 opened-swept j ws (accepted xs) = refl
 opened-swept j ws (refused n p) = refl
 
-pub turned-swept : (j ws : List ℕ) (x : Answer Turned) → cleared x ws ≡ swept (afterTurned j x).told ws
-unfolding cleared swept afterTurned
+pub turned-swept : (j ws : List ℕ) (x : Answer Turned) → cleared x ws ≡ swept (after_turned j x).told ws
+unfolding cleared swept after_turned
 turned-swept j ws (accepted t) = refl
 turned-swept j ws (refused n p) = refl
 
@@ -39,7 +39,7 @@ refused-line kind e f = cc
 
 pub length-line : (t : Told) → length (line t) ≡ 7
 unfolding line line_of bytes16 bytes32
-length-line isOpen = refl
+length-line is_open = refl
 length-line (holds l s) = refl
 length-line (refuses n p) = refl
 
@@ -56,6 +56,6 @@ cond-zeros false k = ap zeros (zeros-length k)
 -- a clear workspace stays so
 pub swept-zeros : (t : Told) (k : ℕ) → swept t (zeros k) ≡ zeros k
 unfolding swept
-swept-zeros isOpen k = ap zeros (zeros-length k)
+swept-zeros is_open k = ap zeros (zeros-length k)
 swept-zeros (holds l s) k = ap zeros (zeros-length k)
 swept-zeros (refuses n p) k = cond-zeros (eqb n 1) k

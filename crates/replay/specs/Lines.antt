@@ -2,10 +2,10 @@
 -- length or the refusal's number; four bytes, the steps or the place.
 use Rattle.std.specs.Prelude.{ℕ, List, [], ◌∷◌, ◌++◌}
 use package.Rattle.octets.specs.Numbers.{bytes16, bytes32}
-use package.Rattle.calls.specs.Book.{Told, isOpen, holds, refuses}
+use package.Rattle.calls.specs.Book.{Told, is_open, holds, refuses}
 
-abbrev pub lineLength : ℕ
-lineLength = 7
+abbrev pub line_length : ℕ
+line_length = 7
 
 unfoldable pub line_of : ℕ → ℕ → ℕ → List ℕ
 unfolding bytes16 bytes32
@@ -13,7 +13,7 @@ line_of kind number detail = kind ∷ (bytes16 number ++ bytes32 detail)
 
 unfoldable pub line : Told → List ℕ
 unfolding line_of
-line isOpen = line_of 0x41 0 0
+line is_open = line_of 0x41 0 0
 line (holds l s) = line_of 0x42 l s
 line (refuses n p) = line_of 0x43 n p
 

@@ -5,12 +5,12 @@ use Rattle.std.proofs.Math.Option.{Option, none, some}
 use mathlib.Core.List.{List, [], ◌∷◌}
 use package.Rattle.octets.specs.Runs.{pasted}
 use package.Rattle.calls.specs.Answer.{Answer, accepted, refused, cleared}
-use package.Rattle.calls.specs.Conversions.{openCall}
-use package.Rattle.calls.specs.Book.{Call, opens, converts, rollsBack, buffer, isOpen, resized, call, callRun}
-use package.Rattle.calls.specs.Claims.{lastField}
+use package.Rattle.calls.specs.Conversions.{open_call}
+use package.Rattle.calls.specs.Book.{Call, opens, converts, rolls_back, buffer, is_open, resized, call, call_run}
+use package.Rattle.calls.specs.Claims.{last_field}
 use package.Rattle.answers.specs.Answers.{number_of, place_of}
 use package.Rattle.replay.specs.Scripts.{pick, Placed, calls_of, parse}
-use package.Rattle.replay.specs.Lines.{lineLength, lines}
+use package.Rattle.replay.specs.Lines.{line_length, lines}
 use package.Rattle.replay.specs.declared.replies.ReplayAnswer.{ReplayAnswer}
 use package.Rattle.replay.specs.declared.replies.ReplayAnswer.TheVariants as replies
 
@@ -24,21 +24,21 @@ pub data Reply : Type 0 where
   -- no call stands at this place of the script, or at its start no open
   malformed : ℕ → Reply
   -- the buffer of the call at this place is longer than the journal's
-  tooWide : ℕ → Reply
+  too_wide : ℕ → Reply
   -- there is no room for the next answer
-  shortAnswers : Reply
+  short_answers : Reply
   -- the first open is refused, with this number and place
   unopened : ℕ → ℕ → Reply
   -- the buffer of the call at this place would cut the journal's fields; the calls before it stand played
   cut : ℕ → Reply
 
-abbrev pub replyOf : ReplayAnswer → Reply
-replyOf (replies.Played k) = played k
-replyOf (replies.Malformed at) = malformed at
-replyOf (replies.TooWide at) = tooWide at
-replyOf replies.ShortAnswers = shortAnswers
-replyOf (replies.Unopened r) = unopened (number_of r) (place_of r)
-replyOf (replies.Cut at) = cut at
+abbrev pub reply_of : ReplayAnswer → Reply
+reply_of (replies.Played k) = played k
+reply_of (replies.Malformed at) = malformed at
+reply_of (replies.TooWide at) = too_wide at
+reply_of replies.ShortAnswers = short_answers
+reply_of (replies.Unopened r) = unopened (number_of r) (place_of r)
+reply_of (replies.Cut at) = cut at
 
 ----------------------------------------------------------------
 -- Before a call is made
@@ -50,8 +50,8 @@ unfolding buffer
 hindrance width room [] none = none
 hindrance width room [] (some at) = some (malformed at)
 hindrance width room (c ∷ cs) broken =
-    pick (ltb width (buffer c.call)) (some (tooWide c.place))
-    (pick (ltb room lineLength) (some shortAnswers) (hindrance width (room - lineLength) cs broken))
+    pick (ltb width (buffer c.call)) (some (too_wide c.place))
+    (pick (ltb room line_length) (some short_answers) (hindrance width (room - line_length) cs broken))
 
 ----------------------------------------------------------------
 -- The calls behind the first open
@@ -62,17 +62,17 @@ pub record Split : Type 0 where
   pub rest : List Placed
 
 unfoldable pub split : List ℕ → List Placed → List ℕ → Split
-unfolding buffer lastField call resized
+unfolding buffer last_field call resized
 split program [] journal = record { made = []; rest = [] }
 split program (c ∷ cs) journal =
-    pick (ltb (buffer c.call) (lastField journal)) (record { made = []; rest = c ∷ cs })
+    pick (ltb (buffer c.call) (last_field journal)) (record { made = []; rest = c ∷ cs })
     (let behind = split program cs (call program c.call (resized (buffer c.call) journal)).journal in
     record { made = c ∷ behind.made; rest = behind.rest })
 
 -- `k` calls are made, and these are not
-unfoldable pub replyTo : ℕ → List Placed → Reply
-replyTo k [] = played k
-replyTo k (c ∷ cs) = cut c.place
+unfoldable pub reply_to : ℕ → List Placed → Reply
+reply_to k [] = played k
+reply_to k (c ∷ cs) = cut c.place
 
 ----------------------------------------------------------------
 -- A script
@@ -88,45 +88,45 @@ abbrev pub ends : Reply → List ℕ → List ℕ → List ℕ → Result
 ends r journal answers workspace = record { reply = r; journal = journal; answers = answers; workspace = workspace }
 
 module _ (program journal answers workspace : List ℕ) where
-  -- The first open's answer, and the calls `cs` behind it. If it leaves `xs` in its buffer, they are `callRun` up to a cut; in the whole buffer
+  -- The first open's answer, and the calls `cs` behind it. If it leaves `xs` in its buffer, they are `call_run` up to a cut; in the whole buffer
   -- zeros stand behind.
   unfoldable pub opened : Answer (List ℕ) → List Placed → Result
-  unfolding cleared split callRun calls_of resized pasted lines replyTo
+  unfolding cleared split call_run calls_of resized pasted lines reply_to
   opened (refused n p) cs = ends (unopened n p) journal answers (cleared {A = List ℕ} (refused n p) workspace)
   opened (accepted xs) cs =
       let x = split program cs xs in
-      let run = callRun program (calls_of x.made) xs in
+      let run = call_run program (calls_of x.made) xs in
       record {
-        reply = replyTo (suc (length x.made)) x.rest;
+        reply = reply_to (suc (length x.made)) x.rest;
         journal = resized (length journal) run.journal;
-        answers = pasted answers 0 (lines (isOpen ∷ run.answers));
+        answers = pasted answers 0 (lines (is_open ∷ run.answers));
         workspace = cleared (accepted xs) workspace;
       }
 
   -- the first call is an open
   unfoldable pub starts_with : Call → List Placed → Result
-  unfolding opened openCall
-  starts_with (opens v ws n) cs = opened (openCall program v ws n) cs
+  unfolding opened open_call
+  starts_with (opens v ws n) cs = opened (open_call program v ws n) cs
   starts_with (converts fn anc fuel ws n) cs = ends (malformed 0) journal answers workspace
-  starts_with (rollsBack fuel ws n) cs = ends (malformed 0) journal answers workspace
+  starts_with (rolls_back fuel ws n) cs = ends (malformed 0) journal answers workspace
 
   -- all calls, unless something hinders their playing: then nothing is touched
-  unfoldable pub playsUnless : Option Reply → List Placed → Result
+  unfoldable pub plays_unless : Option Reply → List Placed → Result
   unfolding starts_with
-  playsUnless (some r) cs = ends r journal answers workspace
-  playsUnless none [] = ends (malformed 0) journal answers workspace
-  playsUnless none (c ∷ cs) = starts_with c.call cs
+  plays_unless (some r) cs = ends r journal answers workspace
+  plays_unless none [] = ends (malformed 0) journal answers workspace
+  plays_unless none (c ∷ cs) = starts_with c.call cs
 
 -- what playing a script answers and leaves
 unfoldable pub replayed : List ℕ → List ℕ → List ℕ → List ℕ → List ℕ → Result
-unfolding parse hindrance playsUnless
+unfolding parse hindrance plays_unless
 replayed program script journal answers workspace =
     let s = parse (length workspace) script in
-    playsUnless program journal answers workspace (hindrance (length journal) (length answers) s.calls s.broken) s.calls
+    plays_unless program journal answers workspace (hindrance (length journal) (length answers) s.calls s.broken) s.calls
 
 -- a script was played: the answer, and what the buffers are afterwards
 pub record ReplayMeans (a : ReplayAnswer) (r : Result) (journal' answers' workspace' : List ℕ) : Type 0 where
-  pub answer : replyOf a ≡ r.reply
+  pub answer : reply_of a ≡ r.reply
   pub kept : journal' ≡ r.journal
   pub told : answers' ≡ r.answers
   pub clear : workspace' ≡ r.workspace

@@ -4,7 +4,7 @@
 use Rattle.std.specs.Prelude.{ℕ, zero, suc, ◌+◌, ◌-◌, Bool, true, false, List, [], ◌∷◌, length, take, drop, get_or, eqb, ltb}
 use Rattle.std.proofs.Math.Option.{Option, none, some}
 use package.Rattle.octets.specs.Numbers.{get16, get32}
-use package.Rattle.calls.specs.Book.{Call, opens, converts, rollsBack}
+use package.Rattle.calls.specs.Book.{Call, opens, converts, rolls_back}
 use package.Rattle.replay.specs.declared.scripts.Part.{Part}
 use package.Rattle.replay.specs.declared.scripts.Step.{Step}
 use package.Rattle.replay.specs.declared.scripts.Step.TheVariants.{End, Malformed, Play}
@@ -13,55 +13,55 @@ abbrev pub pick : {A : Type 0} → Bool → A → A → A
 pick true a b = a
 pick false a b = b
 
-abbrev pub openTag : ℕ
-openTag = 0x31
+abbrev pub open_tag : ℕ
+open_tag = 0x31
 
-abbrev pub convertTag : ℕ
-convertTag = 0x32
+abbrev pub convert_tag : ℕ
+convert_tag = 0x32
 
-abbrev pub rollbackTag : ℕ
-rollbackTag = 0x33
+abbrev pub rollback_tag : ℕ
+rollback_tag = 0x33
 
 -- how many bytes a call has before the record or the ancilla values
-abbrev pub openBytes : ℕ
-openBytes = 7
+abbrev pub open_bytes : ℕ
+open_bytes = 7
 
-abbrev pub convertBytes : ℕ
-convertBytes = 11
+abbrev pub convert_bytes : ℕ
+convert_bytes = 11
 
-abbrev pub rollbackBytes : ℕ
-rollbackBytes = 7
+abbrev pub rollback_bytes : ℕ
+rollback_bytes = 7
 
 ----------------------------------------------------------------
 -- One call
 
 -- the call ends with the bytes whose length stands at `at`
-unfoldable pub givenAt : List ℕ → ℕ → ℕ → ℕ → ℕ → ℕ → Step
-givenAt s kind n fuel function at =
+unfoldable pub given_at : List ℕ → ℕ → ℕ → ℕ → ℕ → ℕ → Step
+given_at s kind n fuel function at =
     pick (ltb (length s - (at + 2)) (get16 s at)) Malformed
     (Play (record { kind = kind; n = n; fuel = fuel; function = function; from = at + 2; next = at + 2 + get16 s at }))
 
 unfoldable pub open_at : List ℕ → ℕ → Step
-unfolding givenAt
-open_at s at = pick (ltb (length s - at) openBytes) Malformed (givenAt s openTag (get32 s (at + 1)) 0 0 (at + 5))
+unfolding given_at
+open_at s at = pick (ltb (length s - at) open_bytes) Malformed (given_at s open_tag (get32 s (at + 1)) 0 0 (at + 5))
 
-unfoldable pub convertAt : List ℕ → ℕ → Step
-unfolding givenAt
-convertAt s at = pick (ltb (length s - at) convertBytes) Malformed (givenAt s convertTag (get32 s (at + 1)) (get16 s (at + 5)) (get16 s (at + 7)) (at + 9))
+unfoldable pub convert_at : List ℕ → ℕ → Step
+unfolding given_at
+convert_at s at = pick (ltb (length s - at) convert_bytes) Malformed (given_at s convert_tag (get32 s (at + 1)) (get16 s (at + 5)) (get16 s (at + 7)) (at + 9))
 
-unfoldable pub rollbackAt : List ℕ → ℕ → Step
-rollbackAt s at =
-    pick (ltb (length s - at) rollbackBytes) Malformed
-    (Play (record { kind = rollbackTag; n = get32 s (at + 1); fuel = get16 s (at + 5); function = 0; from = at + rollbackBytes; next = at + rollbackBytes }))
+unfoldable pub rollback_at : List ℕ → ℕ → Step
+rollback_at s at =
+    pick (ltb (length s - at) rollback_bytes) Malformed
+    (Play (record { kind = rollback_tag; n = get32 s (at + 1); fuel = get16 s (at + 5); function = 0; from = at + rollback_bytes; next = at + rollback_bytes }))
 
 -- what stands at a place of a script
-unfoldable pub stepAt : List ℕ → ℕ → Step
-unfolding open_at convertAt rollbackAt
-stepAt s at =
+unfoldable pub step_at : List ℕ → ℕ → Step
+unfolding open_at convert_at rollback_at
+step_at s at =
     pick (eqb (length s - at) 0) End
-    (pick (eqb (get_or s at 0) openTag) (open_at s at)
-    (pick (eqb (get_or s at 0) convertTag) (convertAt s at)
-    (pick (eqb (get_or s at 0) rollbackTag) (rollbackAt s at) Malformed)))
+    (pick (eqb (get_or s at 0) open_tag) (open_at s at)
+    (pick (eqb (get_or s at 0) convert_tag) (convert_at s at)
+    (pick (eqb (get_or s at 0) rollback_tag) (rollback_at s at) Malformed)))
 
 -- the record, or the ancilla values
 abbrev pub given_of : List ℕ → Part → List ℕ
@@ -70,8 +70,8 @@ given_of s p = take (p.next - p.from) (drop p.from s)
 -- the call, with a workspace of `ws` bytes
 unfoldable pub call_of : ℕ → List ℕ → Part → Call
 call_of ws s p =
-    pick (eqb p.kind openTag) (opens (given_of s p) ws p.n)
-    (pick (eqb p.kind convertTag) (converts p.function (given_of s p) p.fuel ws p.n) (rollsBack p.fuel ws p.n))
+    pick (eqb p.kind open_tag) (opens (given_of s p) ws p.n)
+    (pick (eqb p.kind convert_tag) (converts p.function (given_of s p) p.fuel ws p.n) (rolls_back p.fuel ws p.n))
 
 ----------------------------------------------------------------
 -- All calls
@@ -91,17 +91,17 @@ pub record Script : Type 0 where
   pub broken : Option ℕ
 
 -- the script from a place on; `left` bounds how many calls there are
-unfoldable pub parseFrom : ℕ → ℕ → List ℕ → ℕ → Script
-unfolding stepAt call_of
-parseFrom zero ws s at = record { calls = []; broken = some at }
-parseFrom (suc left) ws s at = elim (stepAt s at) [
+unfoldable pub parse_from : ℕ → ℕ → List ℕ → ℕ → Script
+unfolding step_at call_of
+parse_from zero ws s at = record { calls = []; broken = some at }
+parse_from (suc left) ws s at = elim (step_at s at) [
   | End ↦ record { calls = []; broken = none }
   | Malformed ↦ record { calls = []; broken = some at }
-  | Play p ↦ let behind = parseFrom left ws s p.next in
+  | Play p ↦ let behind = parse_from left ws s p.next in
       record { calls = record { place = at; call = call_of ws s p } ∷ behind.calls; broken = behind.broken }
 ]
 
 -- a call has at least one byte
 unfoldable pub parse : ℕ → List ℕ → Script
-unfolding parseFrom
-parse ws s = parseFrom (suc (length s)) ws s 0
+unfolding parse_from
+parse ws s = parse_from (suc (length s)) ws s 0

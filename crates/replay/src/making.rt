@@ -1,8 +1,8 @@
 // One call of a script, made on the front part of the journal's buffer that it names. The bytes behind that part become zeros, as the
 // fields end before it.
 ghost use Rattle.std.specs.Prelude.{◌≡◌, ◌++◌, ◌-◌, ◌≤◌, length, take, replicate};
-ghost use Rattle.calls.specs.Book.{opens, converts, rollsBack};
-ghost use Rattle.calls.specs.Claims.{lastField};
+ghost use Rattle.calls.specs.Book.{opens, converts, rolls_back};
+ghost use Rattle.calls.specs.Claims.{last_field};
 ghost use Rattle.replay.specs.Scripts.{call_of};
 ghost use Rattle.replay.specs.Inner.Steps.{Made};
 
@@ -65,7 +65,7 @@ fn make_rollback(
     journal: &mut [u8],
 ) -> [u8; LINE]
     requires { n ≤ length journal.old }
-    ensures { Made program.now (rollsBack fuel (length workspace.old) n) journal.old workspace.old result journal.new workspace.new }
+    ensures { Made program.now (rolls_back fuel (length workspace.old) n) journal.old workspace.old result journal.new workspace.new }
 {
     let answer = engine::rollback(program, fuel, workspace, &mut journal[..n]);
     clear_from(journal, n);
@@ -102,7 +102,7 @@ pub(crate) fn make(
 
 // The end of the journal's last field, or of the buffer where it has not the journal's form.
 pub(crate) fn last_field(journal: &[u8]) -> usize
-    ensures { result ≡ lastField journal.now }
+    ensures { result ≡ last_field journal.now }
 {
     let found = journal::form::survey(journal);
     match found {

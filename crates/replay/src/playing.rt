@@ -1,11 +1,11 @@
 // Playing a script (specs/Playing). What the functions below `replay` promise: specs/Inner/Steps.
 ghost use Rattle.std.specs.Prelude.{◌≡◌, ◌+◌, ◌*◌, ◌≤◌, length};
-ghost use Rattle.answers.specs.Answers.{checkAnswer};
-ghost use Rattle.replay.specs.Scripts.{stepAt, call_of, parse};
-ghost use Rattle.replay.specs.Lines.{lineLength};
+ghost use Rattle.answers.specs.Answers.{check_answer};
+ghost use Rattle.replay.specs.Scripts.{step_at, call_of, parse};
+ghost use Rattle.replay.specs.Lines.{line_length};
 ghost use Rattle.replay.specs.Booked.{Booked};
-ghost use Rattle.replay.specs.Playing.{replyOf, replayed, ReplayMeans};
-ghost use Rattle.replay.specs.Inner.Steps.{next_of, stopOf, hinders, room_for, tested, beginsAt, makes, turn_of, play, follows, begins, Ahead, PlayMeans};
+ghost use Rattle.replay.specs.Playing.{reply_of, replayed, ReplayMeans};
+ghost use Rattle.replay.specs.Inner.Steps.{next_of, stop_of, hinders, room_for, tested, begins_at, makes, turn_of, play, follows, begins, Ahead, PlayMeans};
 
 use crate::replies::{Move, ReplayAnswer};
 use crate::scripts::{Part, Step};
@@ -15,7 +15,7 @@ use answers::CheckAnswer;
 
 // Is there room for the call at a place, with a buffer of `n` bytes, and for its line?
 fn fits(n: usize, at: usize, next: usize, count: usize, width: usize, room: usize) -> Move
-    requires { lineLength * count ≤ room }
+    requires { line_length * count ≤ room }
     ensures { next_of result ≡ room_for n at next count width room }
 {
     if width < n {
@@ -40,7 +40,7 @@ fn test(n: usize, at: usize, next: usize, journal: &[u8]) -> Move
 
 // Reads a script to its end: how many calls it has, all whole and with room.
 fn read_all(script: &[u8], width: usize, room: usize) -> Move
-    ensures { stopOf result ≡ hinders width room (parse 0 script.now) }
+    ensures { stop_of result ≡ hinders width room (parse 0 script.now) }
 {
     let mut at: usize = 0;
     let mut count: usize = 0;
@@ -82,7 +82,7 @@ fn turn(
     answers: &mut [u8],
 ) -> Move
     requires from_le_next { (part.from ≤ part.next) × (part.next ≤ length script.now) }
-    requires n_in_bounds { (part.n ≤ length journal.old) × (lineLength * count + lineLength ≤ length answers.old) }
+    requires n_in_bounds { (part.n ≤ length journal.old) × (line_length * count + line_length ≤ length answers.old) }
     ensures { PlayMeans result (makes (tested part.n at part.next journal.old) program.now (call_of (length workspace.old) script.now part) count journal.old answers.old workspace.old) journal.new answers.new workspace.new }
 {
     let n = part.n;
@@ -109,7 +109,7 @@ fn turn_at(
     answers: &mut [u8],
 ) -> Move
     requires { Ahead script.now (length journal.old) (length answers.old) at count }
-    ensures { PlayMeans result (turn_of program.now script.now (stepAt script.now at) at count journal.old answers.old workspace.old) journal.new answers.new workspace.new }
+    ensures { PlayMeans result (turn_of program.now script.now (step_at script.now at) at count journal.old answers.old workspace.old) journal.new answers.new workspace.new }
 {
     let step = scripts::step_at(script, at);
     match step {
@@ -162,7 +162,7 @@ fn opened_on(
 ) -> ReplayAnswer
     requires n_in_bounds { part.n ≤ length journal.old }
     requires ahead { Ahead script.now (length journal.old) (length answers.old) part.next 1 }
-    ensures { ReplayMeans result (follows (checkAnswer answer) program.now script.now part journal.old answers.old workspace.old) journal.new answers.new workspace.new }
+    ensures { ReplayMeans result (follows (check_answer answer) program.now script.now part journal.old answers.old workspace.old) journal.new answers.new workspace.new }
 {
     let n = part.n;
     let next = part.next;
@@ -212,7 +212,7 @@ fn start(
     answers: &mut [u8],
 ) -> ReplayAnswer
     requires { Ahead script.now (length journal.old) (length answers.old) 0 0 }
-    ensures { ReplayMeans result (beginsAt (stepAt script.now 0) program.now script.now journal.old answers.old workspace.old) journal.new answers.new workspace.new }
+    ensures { ReplayMeans result (begins_at (step_at script.now 0) program.now script.now journal.old answers.old workspace.old) journal.new answers.new workspace.new }
 {
     let step = scripts::step_at(script, 0);
     match step {
@@ -232,7 +232,7 @@ pub fn replay(
     answers: &mut [u8],
 ) -> ReplayAnswer
     ensures result { ReplayMeans result (replayed program.now script.now journal.old answers.old workspace.old) journal.new answers.new workspace.new }
-    ensures book { Booked program.now script.now journal.old answers.old workspace.old journal.new answers.new workspace.new (replyOf result) }
+    ensures book { Booked program.now script.now journal.old answers.old workspace.old journal.new answers.new workspace.new (reply_of result) }
 {
     let read = read_all(script, journal.len(), answers.len());
     match read {

@@ -1,6 +1,6 @@
 // Reading a script (specs/Scripts): one call at a place.
 ghost use Rattle.std.specs.Prelude.{◌≡◌, ◌+◌, ◌≤◌, length};
-ghost use Rattle.replay.specs.Scripts.{givenAt, open_at, convertAt, rollbackAt, stepAt};
+ghost use Rattle.replay.specs.Scripts.{given_at, open_at, convert_at, rollback_at, step_at};
 
 pub const OPEN: u8 = 0x31;
 
@@ -38,7 +38,7 @@ pub enum Step {
 // The call ends with the bytes whose length stands at a place.
 fn given_at(script: &[u8], kind: u8, n: usize, fuel: u16, function: u16, at: usize) -> Step
     requires { at + 2 ≤ length script.now }
-    ensures { result ≡ givenAt script.now kind n fuel function at }
+    ensures { result ≡ given_at script.now kind n fuel function at }
 {
     let len = octets::wide_index(octets::read16(script, at));
     let from = at + 2;
@@ -68,7 +68,7 @@ fn open_at(script: &[u8], at: usize) -> Step
 
 fn convert_at(script: &[u8], at: usize) -> Step
     requires { at ≤ length script.now }
-    ensures { result ≡ convertAt script.now at }
+    ensures { result ≡ convert_at script.now at }
 {
     if script.len() - at < CONVERT_BYTES {
         return Step::Malformed;
@@ -81,7 +81,7 @@ fn convert_at(script: &[u8], at: usize) -> Step
 
 fn rollback_at(script: &[u8], at: usize) -> Step
     requires { at ≤ length script.now }
-    ensures { result ≡ rollbackAt script.now at }
+    ensures { result ≡ rollback_at script.now at }
 {
     if script.len() - at < ROLLBACK_BYTES {
         return Step::Malformed;
@@ -102,7 +102,7 @@ fn rollback_at(script: &[u8], at: usize) -> Step
 // What stands at a place.
 pub(crate) fn step_at(script: &[u8], at: usize) -> Step
     requires { at ≤ length script.now }
-    ensures { result ≡ stepAt script.now at }
+    ensures { result ≡ step_at script.now at }
 {
     if script.len() - at == 0 {
         return Step::End;

@@ -1,8 +1,8 @@
 // The line that answers a call (specs/Lines).
 ghost use Rattle.std.specs.Prelude.{◌≡◌};
-ghost use Rattle.answers.specs.Answers.{checkAnswer, runAnswer};
+ghost use Rattle.answers.specs.Answers.{check_answer, run_answer};
 ghost use Rattle.replay.specs.Lines.{line_of};
-ghost use Rattle.replay.specs.Inner.Told.{checkLine, runLine};
+ghost use Rattle.replay.specs.Inner.Told.{check_line, run_line};
 
 use answers::{CheckAnswer, RunAnswer};
 
@@ -32,7 +32,7 @@ fn line_of(kind: u8, number: u64, detail: u64) -> [u8; LINE]
 
 // The line that answers an open.
 pub(crate) fn open_line(answer: CheckAnswer) -> [u8; LINE]
-    ensures { result ≡ checkLine (checkAnswer answer) }
+    ensures { result ≡ check_line (check_answer answer) }
 {
     match answer {
         CheckAnswer::Accepted => line_of(OPENED, 0, 0),
@@ -42,7 +42,7 @@ pub(crate) fn open_line(answer: CheckAnswer) -> [u8; LINE]
 
 // The line that answers a convert or a rollback.
 pub(crate) fn turn_line(answer: RunAnswer) -> [u8; LINE]
-    ensures { result ≡ runLine (runAnswer answer) }
+    ensures { result ≡ run_line (run_answer answer) }
 {
     match answer {
         RunAnswer::Ran(d) => line_of(HELD, d.len as u64, d.steps as u64),

@@ -10,7 +10,7 @@ use package.Rattle.program.specs.declared.fields.Counts.{Counts}
 use package.Rattle.loading.specs.declared.Loaded.{Loaded}
 use package.Rattle.loading.specs.declared.Loaded.TheVariants.{Ready, Refused}
 use package.Rattle.loading.specs.Loading.{LoadMeans}
-use package.Rattle.loading.proofs.Loading.{loaded-is, refused-is, refused-number}
+use package.Rattle.loading.proofs.Loading.{loaded_is, refused_is, refused-number}
 use package.Rattle.requests.specs.Calls.{CheckMeans}
 
 ----------------------------------------------------------------
@@ -19,8 +19,8 @@ use package.Rattle.requests.specs.Calls.{CheckMeans}
 module _ {xs types terms functions : List ℕ} {table : List (List ℕ)} {v : Loaded} (M : LoadMeans v xs types terms functions table) where
   pub check-ready : {c : Counts} → v ≡ Ready c → CheckMeans checks.Accepted xs
   unfolding ◌>>=◌
-  check-ready e = record { answer = ap (λ a. a >>= λ P. accepted tt) (sym (loaded-is M e)); later = accepts }
+  check-ready e = record { answer = ap (λ a. a >>= λ P. accepted tt) (sym (loaded_is M e)); later = accepts }
 
   pub check-refused : {r : Refusal} → v ≡ Refused r → CheckMeans (checks.Refused r) xs
   unfolding ◌>>=◌
-  check-refused e = record { answer = ap (λ a. a >>= λ P. accepted tt) (sym (refused-is M e)); later = refuses (refused-number M e) }
+  check-refused e = record { answer = ap (λ a. a >>= λ P. accepted tt) (sym (refused_is M e)); later = refuses (refused-number M e) }

@@ -5,23 +5,23 @@ use mathlib.Core.Path.{◌≡◌, refl, sym, ap, subst, ◌∙◌}
 use mathlib.Core.Bool.{Bool, true, false}
 use mathlib.Core.List.{List}
 use lib.ListN.{length}
-use package.Rattle.rules.specs.Limits.{maxVariables, maxNodes}
+use package.Rattle.rules.specs.Limits.{max_variables, max_nodes}
 use package.Rattle.rules.specs.Typing.{WellTyped}
 use package.Rattle.calls.specs.Answer.{Answer, refused, ◌>>=◌}
 use package.Rattle.calls.specs.Values.{value, ancillae}
-use package.Rattle.calls.specs.Runs.{workspaceFor, admit, Ran, written}
+use package.Rattle.calls.specs.Runs.{workspace_for, admit, Ran, written}
 use package.Rattle.calls.proofs.Answer.{via}
-use package.Rattle.calls.proofs.Load.{load-iff}
+use package.Rattle.calls.proofs.Load.{load_iff}
 use package.Rattle.answers.specs.declared.Refusal.{Refusal}
 use package.Rattle.answers.specs.declared.RunAnswer.{RunAnswer}
 use package.Rattle.answers.specs.declared.RunAnswer.TheVariants as runs
 use package.Rattle.answers.specs.Answers.{number_of, place_of, summary, Later, refuses}
-use package.Rattle.answers.proofs.Answers.{later-number}
+use package.Rattle.answers.proofs.Answers.{later_number}
 use package.Rattle.program.specs.declared.fields.Counts.{Counts}
-use package.Rattle.program.specs.Programs.{programIn}
+use package.Rattle.program.specs.Programs.{program_in}
 use package.Rattle.admission.specs.declared.Admitted.{Admitted}
 use package.Rattle.admission.specs.declared.Admitted.TheVariants as admitted
-use package.Rattle.admission.specs.Given.{givenIn}
+use package.Rattle.admission.specs.Given.{given_in}
 use package.Rattle.admission.specs.Admitting.{side_of, Admittable, answer_of, AdmitMeans}
 use package.Rattle.admission.proofs.Tested.{admittable}
 use package.Rattle.runs.specs.Ended.{finished}
@@ -30,8 +30,8 @@ use package.Rattle.runs.specs.Back.{Returnable, Returns}
 use package.Rattle.loading.specs.declared.Loaded.{Loaded}
 use package.Rattle.loading.specs.declared.Loaded.TheVariants.{Ready, Refused}
 use package.Rattle.loading.specs.Loading.{Accepted, LoadMeans}
-use package.Rattle.loading.proofs.Loading.{loaded-is, loaded-accepted, refused-is, refused-number}
-use package.Rattle.requests.specs.Runs.{run_of, called, calledOf, frontsRun, Fronts, ofProgram, EndMeans, RunMeans}
+use package.Rattle.loading.proofs.Loading.{loaded_is, loaded-accepted, refused_is, refused-number}
+use package.Rattle.requests.specs.Runs.{run_of, called, called_of, fronts_run, Fronts, of_program, EndMeans, RunMeans}
 
 -- a refusal of the definitions is one of the answer, and the output is unchanged
 refused_as : {x : Answer Ran} (r : Refusal) (out : List ℕ) → x ≡ refused (number_of r) (place_of r) → 2 ≤ number_of r → RunMeans (runs.Refused r) x out out
@@ -45,36 +45,36 @@ module _ {xs types terms functions : List ℕ} {table : List (List ℕ)} (A : Ac
   pub askable : Admittable xs types functions table
   askable = admittable A.read A.tested A.signed
 
-  typed : WellTyped maxVariables maxNodes (programIn xs types terms functions)
-  typed = ((load-iff xs (programIn xs types terms functions)).0 A.loads).1
+  typed : WellTyped max_variables max_nodes (program_in xs types terms functions)
+  typed = ((load_iff xs (program_in xs types terms functions)).0 A.loads).1
 
   module _ {g : ℕ} {anc bytes : List ℕ} {back : Bool} {v : Admitted} (M : AdmitMeans v xs types functions g anc bytes back) where
-    gave : {w : Admitted} → v ≡ w → admit (programIn xs types terms functions) g (ancillae anc) (value bytes) (side_of back) ≡ answer_of w
-        (givenIn xs types terms functions g anc bytes)
-    gave e = sym (M.answer terms) ∙ ap (λ v. answer_of v (givenIn xs types terms functions g anc bytes)) e
+    gave : {w : Admitted} → v ≡ w → admit (program_in xs types terms functions) g (ancillae anc) (value bytes) (side_of back) ≡ answer_of w
+        (given_in xs types terms functions g anc bytes)
+    gave e = sym (M.answer terms) ∙ ap (λ v. answer_of v (given_in xs types terms functions g anc bytes)) e
 
-    pub allowed : v ≡ admitted.Given → {heap : List ℕ} {fuel : ℕ} → workspaceFor fuel ≤ length heap
+    pub allowed : v ≡ admitted.Given → {heap : List ℕ} {fuel : ℕ} → workspace_for fuel ≤ length heap
         → Allowed (side_of back) xs terms functions heap g anc bytes fuel
     allowed e l = record { types = types; loaded = record { read = A.read; tested = A.tested; typed = typed }; given = gave e; enough = l }
 
     module _ (fuel : ℕ) (out : List ℕ) where
-      pub not-called : {r : Refusal} → v ≡ admitted.Refused r
-          → RunMeans (runs.Refused r) (calledOf back xs types terms functions g anc bytes fuel (length out)) out out
+      pub not_called : {r : Refusal} → v ≡ admitted.Refused r
+          → RunMeans (runs.Refused r) (called_of back xs types terms functions g anc bytes fuel (length out)) out out
       unfolding called ◌>>=◌
-      not-called {r} e =
-          refused_as r out (ap (λ a. a >>= λ a. finished (length out) (run_of back (programIn xs types terms functions) fuel a)) (gave e))
-          (later-number (subst (λ v. Later (answer_of v (givenIn xs types terms functions g anc bytes))) e (M.later terms)))
+      not_called {r} e =
+          refused_as r out (ap (λ a. a >>= λ a. finished (length out) (run_of back (program_in xs types terms functions) fuel a)) (gave e))
+          (later_number (subst (λ v. Later (answer_of v (given_in xs types terms functions g anc bytes))) e (M.later terms)))
 
       reached : v ≡ admitted.Given
-          → calledOf back xs types terms functions g anc bytes fuel (length out) ≡ finished (length out)
-          (run_of back (programIn xs types terms functions) fuel (givenIn xs types terms functions g anc bytes))
+          → called_of back xs types terms functions g anc bytes fuel (length out) ≡ finished (length out)
+          (run_of back (program_in xs types terms functions) fuel (given_in xs types terms functions g anc bytes))
       unfolding called
       reached y = via _ (gave y) refl
 
       -- what the run gave is the answer
-      pub ran-as : v ≡ admitted.Given → {r : RunAnswer} {out' : List ℕ} → EndMeans back r xs terms functions g anc bytes fuel out out'
-          → RunMeans r (calledOf back xs types terms functions g anc bytes fuel (length out)) out out'
-      ran-as y G = record {
+      pub ran_as : v ≡ admitted.Given → {r : RunAnswer} {out' : List ℕ} → EndMeans back r xs terms functions g anc bytes fuel out out'
+          → RunMeans r (called_of back xs types terms functions g anc bytes fuel (length out)) out out'
+      ran_as y G = record {
         answer = (G.means types).answer ∙ ap summary (sym (reached y));
         later = (G.means types).later;
         output = (G.means types).output ∙ ap (λ x. written x out) (sym (reached y));
@@ -83,13 +83,13 @@ module _ {xs types terms functions : List ℕ} {table : List (List ℕ)} (A : Ac
 -- the fronts are inside the buffers
 module _ {c : Counts} {xs types terms functions : List ℕ} {table : List (List ℕ)} (F : Fronts c xs types terms functions table) where
   pub types-inside : c.types ≤ length types
-  types-inside = omega (arith, F.within.types, F.buffers.forTypes)
+  types-inside = omega (arith, F.within.types, F.buffers.for_types)
 
   pub terms-inside : c.terms ≤ length terms
-  terms-inside = omega (arith, F.within.terms, F.buffers.forTerms)
+  terms-inside = omega (arith, F.within.terms, F.buffers.for_terms)
 
   pub functions-inside : c.functions ≤ length functions
-  functions-inside = omega (arith, F.within.functions, F.buffers.forFunctions)
+  functions-inside = omega (arith, F.within.functions, F.buffers.for_functions)
 
 ----------------------------------------------------------------
 -- After the rows of the program
@@ -100,16 +100,16 @@ module _ {xs types terms functions : List ℕ} {table : List (List ℕ)} {v : Lo
 
   module _ (back : Bool) (g : ℕ) (anc bytes : List ℕ) (fuel : ℕ) {out out' : List ℕ} where
     pub loaded-run : {c : Counts} → v ≡ Ready c → {r : RunAnswer}
-        → RunMeans r (frontsRun c back xs types terms functions g anc bytes fuel (length out)) out out'
-        → RunMeans r (ofProgram back xs g anc bytes fuel (length out)) out out'
+        → RunMeans r (fronts_run c back xs types terms functions g anc bytes fuel (length out)) out out'
+        → RunMeans r (of_program back xs g anc bytes fuel (length out)) out out'
     unfolding ◌>>=◌
-    loaded-run e {r} R = subst (λ x. RunMeans r x out out') (sym (via _ (loaded-is M e) refl)) R
+    loaded-run e {r} R = subst (λ x. RunMeans r x out out') (sym (via _ (loaded_is M e) refl)) R
 
   pub loaded-refused : (back : Bool) (g : ℕ) (anc bytes : List ℕ) (fuel : ℕ) (out : List ℕ) {r : Refusal} → v ≡ Refused r
-      → RunMeans (runs.Refused r) (ofProgram back xs g anc bytes fuel (length out)) out out
+      → RunMeans (runs.Refused r) (of_program back xs g anc bytes fuel (length out)) out out
   unfolding ◌>>=◌
   loaded-refused back g anc bytes fuel out {r} e =
-      refused_as r out (ap (λ a. a >>= λ P. called back P g anc bytes fuel (length out)) (refused-is M e)) (refused-number M e)
+      refused_as r out (ap (λ a. a >>= λ P. called back P g anc bytes fuel (length out)) (refused_is M e)) (refused-number M e)
 
 ----------------------------------------------------------------
 -- The run in a direction

@@ -3,9 +3,9 @@ use Rattle.std.specs.Prelude.{ℕ, ◌≡◌, List}
 use package.Rattle.calls.specs.Answer.{accepted, ◌>>=◌}
 use package.Rattle.calls.specs.Load.{load}
 use package.Rattle.answers.specs.declared.CheckAnswer.{CheckAnswer}
-use package.Rattle.answers.specs.Answers.{checkAnswer, Later}
+use package.Rattle.answers.specs.Answers.{check_answer, Later}
 
 -- check accepts what loads
 pub record CheckMeans (r : CheckAnswer) (xs : List ℕ) : Type 0 where
-  pub answer : checkAnswer r ≡ (load xs >>= λ P. accepted tt)
-  pub later : Later (checkAnswer r)
+  pub answer : check_answer r ≡ (load xs >>= λ P. accepted tt)
+  pub later : Later (check_answer r)

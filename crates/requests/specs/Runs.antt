@@ -7,13 +7,13 @@ use package.Rattle.calls.specs.Values.{value, ancillae}
 use package.Rattle.calls.specs.Runs.{Given, admit, Ran, goes, returns, written}
 use package.Rattle.program.specs.Places.{Buffers, Within}
 use package.Rattle.program.specs.declared.fields.Counts.{Counts}
-use package.Rattle.program.specs.Programs.{programIn}
-use package.Rattle.admission.specs.Given.{givenIn}
+use package.Rattle.program.specs.Programs.{program_in}
+use package.Rattle.admission.specs.Given.{given_in}
 use package.Rattle.admission.specs.Admitting.{side_of}
 use package.Rattle.loading.specs.Loading.{Accepted}
 use package.Rattle.runs.specs.Ended.{finished, Means}
 use package.Rattle.answers.specs.declared.RunAnswer.{RunAnswer}
-use package.Rattle.answers.specs.Answers.{runAnswer, summary, Later}
+use package.Rattle.answers.specs.Answers.{run_answer, summary, Later}
 
 -- the run of what is given, back or forward
 unfoldable pub run_of : Bool → Program → ℕ → Given → Answer Ran
@@ -27,12 +27,12 @@ called back P g anc bytes fuel out = do
   finished out (run_of back P fuel a)
 
 -- the same of the program whose entries stand at these offsets
-abbrev pub calledOf : Bool → List ℕ → List ℕ → List ℕ → List ℕ → ℕ → List ℕ → List ℕ → ℕ → ℕ → Answer Ran
-calledOf back xs types terms functions g anc bytes fuel out = called back (programIn xs types terms functions) g anc bytes fuel out
+abbrev pub called_of : Bool → List ℕ → List ℕ → List ℕ → List ℕ → ℕ → List ℕ → List ℕ → ℕ → ℕ → Answer Ran
+called_of back xs types terms functions g anc bytes fuel out = called back (program_in xs types terms functions) g anc bytes fuel out
 
 -- the same, with the offsets at the fronts of buffers
-abbrev pub frontsRun : Counts → Bool → List ℕ → List ℕ → List ℕ → List ℕ → ℕ → List ℕ → List ℕ → ℕ → ℕ → Answer Ran
-frontsRun c back xs types terms functions g anc bytes fuel out = calledOf back xs (take c.types types) (take c.terms terms) (take c.functions functions) g anc bytes fuel out
+abbrev pub fronts_run : Counts → Bool → List ℕ → List ℕ → List ℕ → List ℕ → ℕ → List ℕ → List ℕ → ℕ → ℕ → Answer Ran
+fronts_run c back xs types terms functions g anc bytes fuel out = called_of back xs (take c.types types) (take c.terms terms) (take c.functions functions) g anc bytes fuel out
 
 -- a program that is accepted has its offsets there
 pub record Fronts (c : Counts) (xs types terms functions : List ℕ) (table : List (List ℕ)) : Type 0 where
@@ -41,15 +41,15 @@ pub record Fronts (c : Counts) (xs types terms functions : List ℕ) (table : Li
   pub accepts : Accepted xs (take c.types types) (take c.terms terms) (take c.functions functions) table
 
 -- the same of the program that the bytes are, if they are one
-abbrev pub ofProgram : Bool → List ℕ → ℕ → List ℕ → List ℕ → ℕ → ℕ → Answer Ran
-ofProgram back xs g anc bytes fuel out = load xs >>= λ P. called back P g anc bytes fuel out
+abbrev pub of_program : Bool → List ℕ → ℕ → List ℕ → List ℕ → ℕ → ℕ → Answer Ran
+of_program back xs g anc bytes fuel out = load xs >>= λ P. called back P g anc bytes fuel out
 
 -- how the run of a function that was admitted ends, whatever the types are
 pub record EndMeans (back : Bool) (r : RunAnswer) (xs terms functions : List ℕ) (g : ℕ) (anc bytes : List ℕ) (fuel : ℕ) (out out' : List ℕ) : Type 0 where
-  pub means : (types : List ℕ) → Means r out out' (run_of back (programIn xs types terms functions) fuel (givenIn xs types terms functions g anc bytes))
+  pub means : (types : List ℕ) → Means r out out' (run_of back (program_in xs types terms functions) fuel (given_in xs types terms functions g anc bytes))
 
 -- An answer whose meaning is `x`, in a workspace that is long enough, and the output before and after it.
 pub record RunMeans (r : RunAnswer) (x : Answer Ran) (out out' : List ℕ) : Type 0 where
-  pub answer : runAnswer r ≡ summary x
-  pub later : Later (runAnswer r)
+  pub answer : run_answer r ≡ summary x
+  pub later : Later (run_answer r)
   pub output : out' ≡ written x out

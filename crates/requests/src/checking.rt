@@ -1,6 +1,6 @@
 // Rows Field reading, Entries and Typing of document 01's section 4, as the call check answers them.
 ghost use Rattle.std.specs.Prelude.{◌≤◌, length};
-ghost use Rattle.types.specs.Layout.{typingBytes};
+ghost use Rattle.types.specs.Layout.{typing_bytes};
 ghost use Rattle.requests.specs.Calls.{CheckMeans};
 
 use answers::CheckAnswer;
@@ -9,7 +9,7 @@ use rules::{MAX_FUNCTIONS, MAX_PARAMETERS, MAX_TERMS, MAX_TYPES};
 
 // The rows of the program, in a workspace that is long enough and that is left as it comes.
 pub fn check_program(program: &[u8], workspace: &mut [u8]) -> CheckAnswer
-    requires { typingBytes ≤ length workspace.old }
+    requires { typing_bytes ≤ length workspace.old }
     ensures { CheckMeans result program.now }
 {
     let mut types = [0u16; MAX_TYPES];

@@ -1,11 +1,11 @@
 // Rows Call, Run and Output of document 01's section 4, for the calls that run a function. Forward and backward differ in the type that
 // the value is held to, and in the run: all else they share, with `back` the direction.
 ghost use Rattle.std.specs.Prelude.{◌≤◌, length};
-ghost use Rattle.calls.specs.Runs.{workspaceFor};
+ghost use Rattle.calls.specs.Runs.{workspace_for};
 ghost use Rattle.admission.specs.Admitting.{side_of};
 ghost use Rattle.runs.specs.Ahead.{Allowed};
 ghost use Rattle.loading.specs.Loading.{Accepted};
-ghost use Rattle.requests.specs.Runs.{EndMeans, RunMeans, ofProgram, calledOf, Fronts, frontsRun};
+ghost use Rattle.requests.specs.Runs.{EndMeans, RunMeans, of_program, called_of, Fronts, fronts_run};
 
 use admission::Admitted;
 use answers::RunAnswer;
@@ -55,8 +55,8 @@ pub fn run(
     output: &mut [u8],
 ) -> RunAnswer
     requires accepted { Accepted program.now types.now terms.now functions.now table.now }
-    requires fuel_in_bounds { workspaceFor fuel ≤ length workspace.old }
-    ensures { RunMeans result (calledOf back program.now types.now terms.now functions.now function ancillae.now value.now fuel (length output.old)) output.old output.new }
+    requires fuel_in_bounds { workspace_for fuel ≤ length workspace.old }
+    ensures { RunMeans result (called_of back program.now types.now terms.now functions.now function ancillae.now value.now fuel (length output.old)) output.old output.new }
 {
     // a run back is given the result, a forward run the dynamic argument
     let by_result = back;
@@ -88,8 +88,8 @@ fn run_fronts(
     output: &mut [u8],
 ) -> RunAnswer
     requires fronts { Fronts counts program.now types.now terms.now functions.now table.now }
-    requires fuel_in_bounds { workspaceFor fuel ≤ length workspace.old }
-    ensures { RunMeans result (frontsRun counts back program.now types.now terms.now functions.now function ancillae.now value.now fuel (length output.old)) output.old output.new }
+    requires fuel_in_bounds { workspace_for fuel ≤ length workspace.old }
+    ensures { RunMeans result (fronts_run counts back program.now types.now terms.now functions.now function ancillae.now value.now fuel (length output.old)) output.old output.new }
 {
     let i = counts.types;
     let j = counts.terms;
@@ -121,8 +121,8 @@ pub fn run_program(
     workspace: &mut [u8],
     output: &mut [u8],
 ) -> RunAnswer
-    requires { workspaceFor fuel ≤ length workspace.old }
-    ensures { RunMeans result (ofProgram back program.now function ancillae.now value.now fuel (length output.old)) output.old output.new }
+    requires { workspace_for fuel ≤ length workspace.old }
+    ensures { RunMeans result (of_program back program.now function ancillae.now value.now fuel (length output.old)) output.old output.new }
 {
     let mut types = [0u16; MAX_TYPES];
     let mut terms = [0u16; MAX_TERMS];

@@ -7,9 +7,9 @@ use mathlib.Core.Option.{some}
 use mathlib.Core.List.{List, [], ◌∷◌}
 use lib.ListN.{length}
 use lib.Dec.{ltb}
-use package.Rattle.rules.specs.Ty.{Ty, one, prod, sum, mu, unfoldTy, is_unit}
+use package.Rattle.rules.specs.Ty.{Ty, one, prod, sum, mu, unfold_ty, is_unit}
 use package.Rattle.rules.specs.Term.{Term, Terms, var, tunit, tinl, tinr, tpair, tlet, tletp, tcase, tcall}
-use package.Rattle.rules.specs.Term.{troll, tunroll, end, more, Fun, Program, nth, look, scope, usedIn, inside}
+use package.Rattle.rules.specs.Term.{troll, tunroll, end, more, Fun, Program, nth, look, scope, used_in, inside}
 
 ----------------------------------------------------------------
 -- Which variables a term names, ancilla arguments included
@@ -79,11 +79,11 @@ mutual
 
 -- the variable numbered `i`, of type `c`, is used by `b`, or may go unused
 abbrev pub Spent : ℕ → Ty → Term → Type 0
-Spent i c b = (is_unit c || usedIn i b) ≡ true
+Spent i c b = (is_unit c || used_in i b) ≡ true
 
 -- both branches use the same dynamic variables that are not unit
 abbrev pub SameUse : ℕ → List Ty → Term → Term → Type 0
-SameUse q Γ b b' = (i : ℕ) (c : Ty) → look Γ i ≡ some c → is_unit c ≡ false → q ≤ i → usedIn i b ≡ usedIn i b'
+SameUse q Γ b b' = (i : ℕ) (c : Ty) → look Γ i ≡ some c → is_unit c ≡ false → q ≤ i → used_in i b ≡ used_in i b'
 
 ----------------------------------------------------------------
 -- Namings (02, F-2)
@@ -94,7 +94,7 @@ allowed M q n i = inside q n i || M i
 
 -- what is lent to the bound term of a let with body `b`: besides `M`, what the body uses
 abbrev pub lend : (ℕ → Bool) → ℕ → Term → ℕ → Bool
-lend M n b i = M i || (ltb i n && usedIn i b)
+lend M n b i = M i || (ltb i n && used_in i b)
 
 abbrev pub nothing : ℕ → Bool
 nothing i = false
@@ -117,8 +117,8 @@ module _ (P : Program) where
         × Spent (length Γ) a b × Spent (length Γ) a' b' × SameUse q Γ b b'
     Typed q M Γ (tcall k g ts e) τ = (h : Fun) × (nth P g ≡ some h) × TypedAll (length Γ) M Γ ts h.ancillae × Typed q M Γ e h.dynamic
         × (h.result ≡ τ) × WithinAll (allowed M q (length Γ)) ts
-    Typed q M Γ (troll k c e) τ = (a : Ty) × (mu a ≡ c) × (c ≡ τ) × Typed q M Γ e (unfoldTy a)
-    Typed q M Γ (tunroll k c e) τ = (a : Ty) × (mu a ≡ c) × (unfoldTy a ≡ τ) × Typed q M Γ e c
+    Typed q M Γ (troll k c e) τ = (a : Ty) × (mu a ≡ c) × (c ≡ τ) × Typed q M Γ e (unfold_ty a)
+    Typed q M Γ (tunroll k c e) τ = (a : Ty) × (mu a ≡ c) × (unfold_ty a ≡ τ) × Typed q M Γ e c
 
     pub TypedAll : ℕ → (ℕ → Bool) → List Ty → Terms → List Ty → Type 0
     TypedAll q M Γ end cs = [] ≡ cs

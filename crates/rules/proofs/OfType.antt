@@ -4,7 +4,7 @@ use mathlib.Core.Bool.{Bool, true, false, ◌&&◌, false≢true, and-eq-true_if
 use mathlib.Core.List.{List, [], ◌∷◌}
 use mathlib.Core.Logic.{◌↔◌}
 use package.Rattle.rules.specs.Val.{Val, unit, inl, inr, pair, roll}
-use package.Rattle.rules.specs.Ty.{Ty, one, prod, sum, mu, tyvar, unfoldTy, has_ty, has_tys}
+use package.Rattle.rules.specs.Ty.{Ty, one, prod, sum, mu, tyvar, unfold_ty, has_ty, has_tys}
 
 abbrev pub OfType : Val → Ty → Type 0
 OfType unit one = Unit {0}
@@ -30,7 +30,7 @@ OfType (pair v w) (tyvar n) = ⊥
 OfType (roll v) one = ⊥
 OfType (roll v) (prod a b) = ⊥
 OfType (roll v) (sum a b) = ⊥
-OfType (roll v) (mu a) = OfType v (unfoldTy a)
+OfType (roll v) (mu a) = OfType v (unfold_ty a)
 OfType (roll v) (tyvar n) = ⊥
 
 -- values of types, in order
@@ -54,40 +54,40 @@ both b c p q = (λ e. (p.0 ((and-eq-true_iff b c).0 e).0, q.0 ((and-eq-true_iff 
 ----------------------------------------------------------------
 -- One value
 
-pub of-type-iff : (v : Val) (τ : Ty) → (has_ty v τ ≡ true) ↔ OfType v τ
+pub of-type_iff : (v : Val) (τ : Ty) → (has_ty v τ ≡ true) ↔ OfType v τ
 unfolding has_ty
-of-type-iff unit one = (λ e. tt, λ t. refl)
-of-type-iff unit (prod a b) = never
-of-type-iff unit (sum a b) = never
-of-type-iff unit (mu a) = never
-of-type-iff unit (tyvar n) = never
-of-type-iff (inl v) one = never
-of-type-iff (inl v) (prod a b) = never
-of-type-iff (inl v) (sum a b) = of-type-iff v a
-of-type-iff (inl v) (mu a) = never
-of-type-iff (inl v) (tyvar n) = never
-of-type-iff (inr v) one = never
-of-type-iff (inr v) (prod a b) = never
-of-type-iff (inr v) (sum a b) = of-type-iff v b
-of-type-iff (inr v) (mu a) = never
-of-type-iff (inr v) (tyvar n) = never
-of-type-iff (pair v w) one = never
-of-type-iff (pair v w) (prod a b) = both (has_ty v a) (has_ty w b) (of-type-iff v a) (of-type-iff w b)
-of-type-iff (pair v w) (sum a b) = never
-of-type-iff (pair v w) (mu a) = never
-of-type-iff (pair v w) (tyvar n) = never
-of-type-iff (roll v) one = never
-of-type-iff (roll v) (prod a b) = never
-of-type-iff (roll v) (sum a b) = never
-of-type-iff (roll v) (mu a) = of-type-iff v (unfoldTy a)
-of-type-iff (roll v) (tyvar n) = never
+of-type_iff unit one = (λ e. tt, λ t. refl)
+of-type_iff unit (prod a b) = never
+of-type_iff unit (sum a b) = never
+of-type_iff unit (mu a) = never
+of-type_iff unit (tyvar n) = never
+of-type_iff (inl v) one = never
+of-type_iff (inl v) (prod a b) = never
+of-type_iff (inl v) (sum a b) = of-type_iff v a
+of-type_iff (inl v) (mu a) = never
+of-type_iff (inl v) (tyvar n) = never
+of-type_iff (inr v) one = never
+of-type_iff (inr v) (prod a b) = never
+of-type_iff (inr v) (sum a b) = of-type_iff v b
+of-type_iff (inr v) (mu a) = never
+of-type_iff (inr v) (tyvar n) = never
+of-type_iff (pair v w) one = never
+of-type_iff (pair v w) (prod a b) = both (has_ty v a) (has_ty w b) (of-type_iff v a) (of-type_iff w b)
+of-type_iff (pair v w) (sum a b) = never
+of-type_iff (pair v w) (mu a) = never
+of-type_iff (pair v w) (tyvar n) = never
+of-type_iff (roll v) one = never
+of-type_iff (roll v) (prod a b) = never
+of-type_iff (roll v) (sum a b) = never
+of-type_iff (roll v) (mu a) = of-type_iff v (unfold_ty a)
+of-type_iff (roll v) (tyvar n) = never
 
 ----------------------------------------------------------------
 -- Values in order
 
-pub of-types-iff : (vs : List Val) (τs : List Ty) → (has_tys vs τs ≡ true) ↔ OfTypes vs τs
+pub of-types_iff : (vs : List Val) (τs : List Ty) → (has_tys vs τs ≡ true) ↔ OfTypes vs τs
 unfolding has_tys
-of-types-iff [] [] = (λ e. tt, λ t. refl)
-of-types-iff [] (τ ∷ τs) = never
-of-types-iff (v ∷ vs) [] = never
-of-types-iff (v ∷ vs) (τ ∷ τs) = both (has_ty v τ) (has_tys vs τs) (of-type-iff v τ) (of-types-iff vs τs)
+of-types_iff [] [] = (λ e. tt, λ t. refl)
+of-types_iff [] (τ ∷ τs) = never
+of-types_iff (v ∷ vs) [] = never
+of-types_iff (v ∷ vs) (τ ∷ τs) = both (has_ty v τ) (has_tys vs τs) (of-type_iff v τ) (of-types_iff vs τs)

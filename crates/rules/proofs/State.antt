@@ -11,10 +11,10 @@ use lib.Dec.{eqb}
 use package.Rattle.rules.specs.Val.{Val, unit, same}
 use package.Rattle.rules.specs.Term.{look}
 use package.Rattle.rules.specs.Run.{ok, Run, ◌>>=◌, give}
-use package.Rattle.rules.specs.Machine.{State, known, bindOr, meet, leave, filled}
+use package.Rattle.rules.specs.Machine.{State, known, bind_or, meet, leave, filled}
 use package.Rattle.rules.proofs.Basics.{none≢some, eqb_yes}
-use package.Rattle.rules.proofs.Run.{unbind, stuck≢ok, ok-value, ok-fuel, test-inv}
-use package.Rattle.rules.proofs.Val.{same-eq}
+use package.Rattle.rules.proofs.Run.{unbind, stuck≢ok, ok-value, ok-fuel, test_inv}
+use package.Rattle.rules.proofs.Val.{same_eq}
 
 ----------------------------------------------------------------
 -- A state agrees with a scope: it says of the variables nothing but what is so
@@ -87,28 +87,28 @@ full A (v ∷ ρ) = extend A (map some ρ) ρ v (full A ρ)
 -- Variables are met, and leave
 
 -- a variable left the scope: what it was, and what is left
-pub leave-inv : {B : Type 0} (σ : State) (k : Val → State → Run B) {f g : ℕ} {x : B} → leave σ k f ≡ ok x g
+pub leave_inv : {B : Type 0} (σ : State) (k : Val → State → Run B) {f g : ℕ} {x : B} → leave σ k f ≡ ok x g
     → (m : Option Val) × (σ' : State) × (w : Val) × (σ ≡ m ∷ σ') × Fit m w × (k w σ' f ≡ ok x g)
 unfolding leave
-leave-inv [] k p = absurd (stuck≢ok p)
-leave-inv (none ∷ σ) k p = (none, σ, unit, refl, tt, p)
-leave-inv (some v ∷ σ) k p = (some v, σ, v, refl, refl, p)
+leave_inv [] k p = absurd (stuck≢ok p)
+leave_inv (none ∷ σ) k p = (none, σ, unit, refl, tt, p)
+leave_inv (some v ∷ σ) k p = (some v, σ, v, refl, refl, p)
 
-pub bindOr-sound : (k : ℕ) (m : Option Val) (v : Val) (f : ℕ) (m' : Option Val) (g : ℕ) → bindOr k m v f ≡ ok m' g → (some v ≡ m') × Fit m v × (f ≡ g)
-unfolding bindOr
-bindOr-sound k none v f m' g p = (ok-value p, tt, ok-fuel p)
-bindOr-sound k (some w) v f m' g p =
-    let (t, q) = test-inv (same w v) _ _ _ p in
-    let e : w ≡ v = same-eq w v t in
+pub bind_or-sound : (k : ℕ) (m : Option Val) (v : Val) (f : ℕ) (m' : Option Val) (g : ℕ) → bind_or k m v f ≡ ok m' g → (some v ≡ m') × Fit m v × (f ≡ g)
+unfolding bind_or
+bind_or-sound k none v f m' g p = (ok-value p, tt, ok-fuel p)
+bind_or-sound k (some w) v f m' g p =
+    let (t, q) = test_inv (same w v) _ _ _ p in
+    let e : w ≡ v = same_eq w v t in
     (ap some (sym e) ∙ ok-value q, e, ok-fuel q)
 
-look-new : (σ : State) (ρ : List Val) (i : ℕ) (v u : Val) → length σ ≡ length ρ → eqb i (length σ) ≡ true → v ≡ u → look (u ∷ ρ) i ≡ some v
+look_new : (σ : State) (ρ : List Val) (i : ℕ) (v u : Val) → length σ ≡ length ρ → eqb i (length σ) ≡ true → v ≡ u → look (u ∷ ρ) i ≡ some v
 unfolding look
-look-new σ ρ i v u l e h = rw (← l, e, h) refl
+look_new σ ρ i v u l e h = rw (← l, e, h) refl
 
-look-old : (σ : State) (ρ : List Val) (i : ℕ) (v u : Val) → length σ ≡ length ρ → eqb i (length σ) ≡ false → look ρ i ≡ some v → look (u ∷ ρ) i ≡ some v
+look_old : (σ : State) (ρ : List Val) (i : ℕ) (v u : Val) → length σ ≡ length ρ → eqb i (length σ) ≡ false → look ρ i ≡ some v → look (u ∷ ρ) i ≡ some v
 unfolding look
-look-old σ ρ i v u l e h = rw (← l, e) h
+look_old σ ρ i v u l e h = rw (← l, e) h
 
 -- after a variable was met with `v`
 pub meet-sound : (k : ℕ) (σ : State) (i : ℕ) (v : Val) (f : ℕ) (σ' : State) (g : ℕ) → meet k σ i v f ≡ ok σ' g → (ρ : List Val) → Agree σ' ρ
@@ -119,22 +119,22 @@ meet-sound k (m ∷ σ) i v f σ' g p ρ h = go (eqb i (length σ)) refl p (λ �
   where
     new : (ρ : List Val) → eqb i (length σ) ≡ true → Fit m v → Agree (some v ∷ σ) ρ → (look ρ i ≡ some v) × Agree (m ∷ σ) ρ
     new [] e ft h = absurd h
-    new (u ∷ ρ) e ft h = (look-new σ ρ i v u (agree-length σ ρ h.1) e h.0, (subst (Fit m) h.0 ft, h.1))
+    new (u ∷ ρ) e ft h = (look_new σ ρ i v u (agree-length σ ρ h.1) e h.0, (subst (Fit m) h.0 ft, h.1))
 
     old : (σ₁ : State) (ρ : List Val) → eqb i (length σ) ≡ false → Agree (m ∷ σ₁) ρ
         → ((ρ₁ : List Val) → Agree σ₁ ρ₁ → (look ρ₁ i ≡ some v) × Agree σ ρ₁ × (f ≡ g)) → (look ρ i ≡ some v) × Agree (m ∷ σ) ρ × (f ≡ g)
     old σ₁ [] e h s = absurd h
     old σ₁ (u ∷ ρ) e h s =
         let (x, y, z) = s ρ h.1 in
-        (look-old σ ρ i v u (agree-length σ ρ y) e x, (h.0, y), z)
+        (look_old σ ρ i v u (agree-length σ ρ y) e x, (h.0, y), z)
 
     go : (b : Bool) → eqb i (length σ) ≡ b
-        → cond b (bindOr k m v >>= λ m'. give (m' ∷ σ)) (meet k σ i v >>= λ σ'. give (m ∷ σ')) f ≡ ok σ' g
+        → cond b (bind_or k m v >>= λ m'. give (m' ∷ σ)) (meet k σ i v >>= λ σ'. give (m ∷ σ')) f ≡ ok σ' g
         → ((σ₁ : State) (g₁ : ℕ) → meet k σ i v f ≡ ok σ₁ g₁ → (ρ₁ : List Val) → Agree σ₁ ρ₁ → (look ρ₁ i ≡ some v) × Agree σ ρ₁ × (f ≡ g₁))
         → (look ρ i ≡ some v) × Agree (m ∷ σ) ρ × (f ≡ g)
     go true e q s =
         let (m', f₁, p₁, q₁) = unbind _ _ q in
-        let (x, ft, y) = bindOr-sound k m v f m' f₁ p₁ in
+        let (x, ft, y) = bind_or-sound k m v f m' f₁ p₁ in
         let (z, w) = new ρ e ft (subst (λ σ'. Agree σ' ρ) (sym (ok-value q₁) ∙ ap (λ m. m ∷ σ) (sym x)) h) in
         (z, w, y ∙ ok-fuel q₁)
     go false e q s =

@@ -9,16 +9,16 @@ use lib.ListN.{length}
 use lib.Dec.{eqb, eqb→eq, ltb, leb, leb→le, ltb→lt}
 use package.Rattle.rules.specs.Val.{Val, unit, same}
 use package.Rattle.rules.specs.Ty.{Ty, one, prod, sum, mu, tyvar, is_unit}
-use package.Rattle.rules.specs.Term.{Term, look, usedIn, inside, scope}
+use package.Rattle.rules.specs.Term.{Term, look, used_in, inside, scope}
 use package.Rattle.rules.specs.Run.{ok, Run, ◌>>=◌, give}
-use package.Rattle.rules.specs.Machine.{State, known, bindOr, meet, leave, filled}
+use package.Rattle.rules.specs.Machine.{State, known, bind_or, meet, leave, filled}
 use package.Rattle.rules.proofs.OfType.{OfType, OfTypes}
 use package.Rattle.rules.proofs.Basics.{given, none≢some, some_inj, or_elim}
 use package.Rattle.rules.proofs.Directed.{Spent, allowed, lend, nothing}
 use package.Rattle.rules.proofs.Fine.{Fine, fine, fine-after, fine-test}
 use package.Rattle.rules.proofs.Known.{Knows, known-new, knows-push, knows-pop, Mono, Bound, mono-pop, bound-pop, knows-new}
-use package.Rattle.rules.proofs.Known.{mono-set, mono-push, knows-full, Lent, lent_nothing, lent-push, lent-grow, lent-more}
-use package.Rattle.rules.proofs.Scope.{look-lt, look-newest, length-scope}
+use package.Rattle.rules.proofs.Known.{mono-set, mono-push, knows-full, Lent, lent_nothing, lent-push, lent_grow, lent-more}
+use package.Rattle.rules.proofs.Scope.{look_lt, look_newest, length-scope}
 use package.Rattle.rules.proofs.State.{Fit, fill, length-filled, Read, filled-read}
 use package.Rattle.rules.proofs.Preserve.{types-length, scope-ty}
 
@@ -101,7 +101,7 @@ pub gives-filled : (M : ℕ → Bool) (q : ℕ) (Γ : List Ty) (σ : State) → 
 gives-filled M q Γ σ st anc lent = (
   length-filled σ ∙ l,
   λ i c a p.
-      given (look-lt Γ i p) λ m. given (filled-read σ i (omega (arith, l, m))) λ (v, e, r). (v, e, go i c v a p (known σ i) refl r),
+      given (look_lt Γ i p) λ m. given (filled-read σ i (omega (arith, l, m))) λ (v, e, r). (v, e, go i c v a p (known σ i) refl r),
 )
   where
     l : length σ ≡ length Γ
@@ -111,7 +111,7 @@ gives-filled M q Γ σ st anc lent = (
     unmet : (i : ℕ) (c : Ty) → look Γ i ≡ some c → known σ i ≡ none → allowed M q (length Γ) i ≡ true → (b : Bool) → is_unit c ≡ b → OfType unit c
     unmet i c p e a true u = unit-has c u
     unmet i c p e a false u = or_elim (inside q (length Γ) i) (M i) (or_elim (ltb i q) (leb (length Γ) i) (λ x. clash (anc i (ltb→lt i q (rw x tt))))
-        (λ x. absurd (omega (arith, look-lt Γ i p, leb→le (length Γ) i (rw x tt))))) (λ x. clash ((lent i x).1 c p u)) a
+        (λ x. absurd (omega (arith, look_lt Γ i p, leb→le (length Γ) i (rw x tt))))) (λ x. clash ((lent i x).1 c p u)) a
       where
         clash : Knows σ i → OfType unit c
         clash (v, k) = absurd (none≢some (sym e ∙ k))
@@ -130,19 +130,19 @@ unmet-unit : (q : ℕ) (Γ : List Ty) (c : Ty) (b : Term) (m₀ : Option Val) (�
     → q ≤ length Γ → Spent (length Γ) c b → Left q (c ∷ Γ) b (m₀ ∷ σ) (none ∷ σ₂) → OfType unit c
 unmet-unit q Γ c b m₀ σ σ₂ ql s L = typed (is_unit c) refl s
   where
-    typed : (u : Bool) → is_unit c ≡ u → (u || usedIn (length Γ) b) ≡ true → OfType unit c
+    typed : (u : Bool) → is_unit c ≡ u → (u || used_in (length Γ) b) ≡ true → OfType unit c
     typed true e s = unit-has c e
-    typed false e s = given (L.2 (length Γ) c (look-newest c Γ) e ql s) λ (v, p).
+    typed false e s = given (L.2 (length Γ) c (look_newest c Γ) e ql s) λ (v, p).
         absurd (none≢some (sym (known-new none σ₂) ∙ ap (λ l. known (none ∷ σ₂) l) (state-length σ₂ Γ L.0.1) ∙ p))
 
 -- what an answer says of the newest variable that left
-pub pop-inv : {X : Type 0} (k : Val → State → Run X) {f g : ℕ} {x : X} (q : ℕ) (Γ : List Ty) (c : Ty) (b : Term) (m₀ : Option Val) (σ σ₁ : State)
+pub pop_inv : {X : Type 0} (k : Val → State → Run X) {f g : ℕ} {x : X} (q : ℕ) (Γ : List Ty) (c : Ty) (b : Term) (m₀ : Option Val) (σ σ₁ : State)
     → length σ ≡ length Γ → q ≤ length Γ → Spent (length Γ) c b → Left q (c ∷ Γ) b (m₀ ∷ σ) σ₁ → leave σ₁ k f ≡ ok x g
     → (m : Option Val) × (σ₂ : State) × (w : Val) × (σ₁ ≡ m ∷ σ₂) × Fit m w × OfType w c × Left q Γ b σ σ₂ × (k w σ₂ f ≡ ok x g)
 unfolding leave
-pop-inv k q Γ c b m₀ σ [] l ql s L p = absurd L.0
-pop-inv k q Γ c b m₀ σ (some w ∷ σ₂) l ql s L p = (some w, σ₂, w, refl, refl, L.0.0, pop-left q Γ c b m₀ (some w) σ σ₂ l L, p)
-pop-inv k q Γ c b m₀ σ (none ∷ σ₂) l ql s L p = (none, σ₂, unit, refl, tt, unmet-unit q Γ c b m₀ σ σ₂ ql s L, pop-left q Γ c b m₀ none σ σ₂ l L, p)
+pop_inv k q Γ c b m₀ σ [] l ql s L p = absurd L.0
+pop_inv k q Γ c b m₀ σ (some w ∷ σ₂) l ql s L p = (some w, σ₂, w, refl, refl, L.0.0, pop-left q Γ c b m₀ (some w) σ σ₂ l L, p)
+pop_inv k q Γ c b m₀ σ (none ∷ σ₂) l ql s L p = (none, σ₂, unit, refl, tt, unmet-unit q Γ c b m₀ σ σ₂ ql s L, pop-left q Γ c b m₀ none σ σ₂ l L, p)
 
 -- a state that knows all
 pub fill-typed : (σ : State) (Γ : List Ty) → StateTy σ Γ → ((i : ℕ) → i < length σ → Knows σ i) → OfTypes (fill σ) Γ
@@ -169,10 +169,10 @@ fine-bound f q Γ c b m₀ σ [] l L = absurd L.0
 fine-bound f q Γ c b m₀ σ (none ∷ σ₂) l L = fine (pop-left q Γ c b m₀ none σ σ₂ l L)
 fine-bound f q Γ c b m₀ σ (some w ∷ σ₂) l L = fine (pop-left q Γ c b m₀ (some w) σ σ₂ l L)
 
-bindOr-safe : (k : ℕ) (m : Option Val) (v : Val) (f : ℕ) (c : Ty) → OptTy m c → OfType v c → Fine (λ m'. (w : Val) × (some w ≡ m') × OfType w c) (bindOr k m v f)
-unfolding bindOr
-bindOr-safe k none v f c h h' = fine (v, refl, h')
-bindOr-safe k (some w) v f c h h' = fine-test (same w v) 16 k f (give (some w)) (fine (w, refl, h))
+bind_or-safe : (k : ℕ) (m : Option Val) (v : Val) (f : ℕ) (c : Ty) → OptTy m c → OfType v c → Fine (λ m'. (w : Val) × (some w ≡ m') × OfType w c) (bind_or k m v f)
+unfolding bind_or
+bind_or-safe k none v f c h h' = fine (v, refl, h')
+bind_or-safe k (some w) v f c h h' = fine-test (same w v) 16 k f (give (some w)) (fine (w, refl, h))
 
 pub meet-safe : (k : ℕ) (σ : State) (i : ℕ) (v : Val) (f : ℕ) (Γ : List Ty) (c : Ty) → StateTy σ Γ → look Γ i ≡ some c → OfType v c
     → Fine (λ σ'. StateTy σ' Γ × Mono σ σ' × Knows σ' i) (meet k σ i v f)
@@ -186,8 +186,8 @@ meet-safe k (m ∷ σ) i v f (d ∷ Γ) c st p h =
     go : (b : Bool) → eqb i (length σ) ≡ b → cond b (some d) (look Γ i) ≡ some c
         → (look Γ i ≡ some c → Fine (λ σ'. StateTy σ' Γ × Mono σ σ' × Knows σ' i) (meet k σ i v f))
         → Fine (λ σ'. StateTy σ' (d ∷ Γ) × Mono (m ∷ σ) σ' × Knows σ' i)
-        (cond b (bindOr k m v >>= λ m'. give (m' ∷ σ)) (meet k σ i v >>= λ σ'. give (m ∷ σ')) f)
-    go true e q s = fine-after _ (bindOr-safe k m v f d st.0 (subst (OfType v) (sym (some_inj q)) h)) λ m' g (w, x, hw).
+        (cond b (bind_or k m v >>= λ m'. give (m' ∷ σ)) (meet k σ i v >>= λ σ'. give (m ∷ σ')) f)
+    go true e q s = fine-after _ (bind_or-safe k m v f d st.0 (subst (OfType v) (sym (some_inj q)) h)) λ m' g (w, x, hw).
         subst (λ m'. Fine (λ σ'. StateTy σ' (d ∷ Γ) × Mono (m ∷ σ) σ' × Knows σ' i) (ok (m' ∷ σ) g)) x
         (fine ((hw, st.1), mono-set m w σ, knows-new w σ i (eqb→eq i (length σ) (rw e tt))))
     go false e q s = fine-after _ (s q) λ σ₁ g (st₁, mo, kn).
@@ -223,11 +223,11 @@ module _ {a : List Val} {q : ℕ} {M : ℕ → Bool} {Γ : List Ty} {σ : State}
     parameters = h.parameters;
   }
 
-  pub here-grow : (σ' : State) → Here a q M Γ σ → StateTy σ' Γ → Mono σ σ' → Here a q M Γ σ'
-  here-grow σ' h st mo = record {
+  pub here_grow : (σ' : State) → Here a q M Γ σ → StateTy σ' Γ → Mono σ σ' → Here a q M Γ σ'
+  here_grow σ' h st mo = record {
     state = st;
     anc = λ i l. mo i (h.anc i l);
-    lent = lent-grow M Γ σ σ' mo h.lent;
+    lent = lent_grow M Γ σ σ' mo h.lent;
     le = h.le;
     parameters = h.parameters;
   }
@@ -237,7 +237,7 @@ module _ {a : List Val} {q : ℕ} {M : ℕ → Bool} {Γ : List Ty} {σ : State}
   here-lend b σ' h (st, mo, bd) = record {
     state = st;
     anc = λ i l. mo i (h.anc i l);
-    lent = lent-more M q Γ b σ' (λ i l. mo i (h.anc i l)) bd (lent-grow M Γ σ σ' mo h.lent);
+    lent = lent-more M q Γ b σ' (λ i l. mo i (h.anc i l)) bd (lent_grow M Γ σ σ' mo h.lent);
     le = h.le;
     parameters = h.parameters;
   }

@@ -7,62 +7,62 @@ use package.Rattle.rules.specs.Val.{Val, size}
 ----------------------------------------------------------------
 -- Programs (section 1)
 
-abbrev pub maxTypes : ℕ
-maxTypes = 256
+abbrev pub max_types : ℕ
+max_types = 256
 
-abbrev pub maxTerms : ℕ
-maxTerms = 1024
+abbrev pub max_terms : ℕ
+max_terms = 1024
 
-abbrev pub maxFunctions : ℕ
-maxFunctions = 64
+abbrev pub max_functions : ℕ
+max_functions = 64
 
-unfoldable pub maxProgramBytes : ℕ
-maxProgramBytes = 32768
+unfoldable pub max_program_bytes : ℕ
+max_program_bytes = 32768
 
-unfoldable pub maxParameters : ℕ
-maxParameters = 8
+unfoldable pub max_parameters : ℕ
+max_parameters = 8
 
 -- variables in scope at one point
-abbrev pub maxVariables : ℕ
-maxVariables = 32
+abbrev pub max_variables : ℕ
+max_variables = 32
 
 -- nodes of a type that a term or function names, or that typing gives a term
-abbrev pub maxNodes : ℕ
-maxNodes = 1024
+abbrev pub max_nodes : ℕ
+max_nodes = 1024
 
 ----------------------------------------------------------------
 -- Values (section 1)
 
-unfoldable pub maxValueBytes : ℕ
-maxValueBytes = 1024
+unfoldable pub max_value_bytes : ℕ
+max_value_bytes = 1024
 
 -- ancillae of one call, together
-unfoldable pub maxAncillaBytes : ℕ
-maxAncillaBytes = 1024
+unfoldable pub max_ancilla_bytes : ℕ
+max_ancilla_bytes = 1024
 
 -- Is the value within the limit on values?
 unfoldable pub fits : Val → Bool
-fits v = leb (size v) maxValueBytes
+fits v = leb (size v) max_value_bytes
 
 ----------------------------------------------------------------
 -- Runs (section 2)
 
-unfoldable pub maxHeight : ℕ
-maxHeight = 1024
+unfoldable pub max_height : ℕ
+max_height = 1024
 
-unfoldable pub maxFuel : ℕ
-maxFuel = 65535
+unfoldable pub max_fuel : ℕ
+max_fuel = 65535
 
 -- the workspace needs the base and so many bytes for each unit of fuel
-unfoldable pub workspaceBase : ℕ
-workspaceBase = 32768
+unfoldable pub workspace_base : ℕ
+workspace_base = 32768
 
-unfoldable pub workspacePerFuel : ℕ
-workspacePerFuel = 32
+unfoldable pub workspace_per_fuel : ℕ
+workspace_per_fuel = 32
 
 ----------------------------------------------------------------
 -- Journals (section 5)
 
 -- standing conversions
-unfoldable pub maxConversions : ℕ
-maxConversions = 64
+unfoldable pub max_conversions : ℕ
+max_conversions = 64

@@ -6,28 +6,28 @@ use Rattle.std.proofs.Math.Option.{Option, none, some}
 use mathlib.Core.List.{List, [], ◌∷◌, map}
 use package.Rattle.rules.specs.Val.{Val, unit, inl, inr, pair, roll, same}
 use package.Rattle.rules.specs.Term.{Term, Terms, var, tunit, tinl, tinr, tpair, tlet, tletp, tcase, tcall, troll, tunroll, end, more, Fun}
-use package.Rattle.rules.specs.Term.{Program, nth, entry, scope, byAncilla}
-use package.Rattle.rules.specs.Yield.{mayYield, firstMatch}
+use package.Rattle.rules.specs.Term.{Program, nth, entry, scope, by_ancilla}
+use package.Rattle.rules.specs.Yield.{may_yield, first_match}
 use package.Rattle.rules.specs.Run.{Run, ◌>>=◌, give, refuse, lost, enter, test}
 
 ----------------------------------------------------------------
 -- By the shape of a value: a wrong shape is stuck
 
-unfoldable pub onSum : {A : Type 0} → Val → (Val → Run A) → (Val → Run A) → Run A
-onSum v l r = elim v [ unit ↦ lost | inl v ↦ l v | inr v ↦ r v | pair v w ↦ lost | roll v ↦ lost ]
+unfoldable pub on_sum : {A : Type 0} → Val → (Val → Run A) → (Val → Run A) → Run A
+on_sum v l r = elim v [ unit ↦ lost | inl v ↦ l v | inr v ↦ r v | pair v w ↦ lost | roll v ↦ lost ]
 
-unfoldable pub onPair : {A : Type 0} → Val → (Val → Val → Run A) → Run A
-onPair v k = elim v [ unit ↦ lost | inl v ↦ lost | inr v ↦ lost | pair v w ↦ k v w | roll v ↦ lost ]
+unfoldable pub on_pair : {A : Type 0} → Val → (Val → Val → Run A) → Run A
+on_pair v k = elim v [ unit ↦ lost | inl v ↦ lost | inr v ↦ lost | pair v w ↦ k v w | roll v ↦ lost ]
 
-unfoldable pub onRoll : {A : Type 0} → Val → (Val → Run A) → Run A
-onRoll v k = elim v [ unit ↦ lost | inl v ↦ lost | inr v ↦ lost | pair v w ↦ lost | roll v ↦ k v ]
+unfoldable pub on_roll : {A : Type 0} → Val → (Val → Run A) → Run A
+on_roll v k = elim v [ unit ↦ lost | inl v ↦ lost | inr v ↦ lost | pair v w ↦ lost | roll v ↦ k v ]
 
-unfoldable pub onUnit : {A : Type 0} → Val → Run A → Run A
-onUnit v m = elim v [ unit ↦ m | inl v ↦ lost | inr v ↦ lost | pair v w ↦ lost | roll v ↦ lost ]
+unfoldable pub on_unit : {A : Type 0} → Val → Run A → Run A
+on_unit v m = elim v [ unit ↦ m | inl v ↦ lost | inr v ↦ lost | pair v w ↦ lost | roll v ↦ lost ]
 
-unfoldable pub onSome : {A B : Type 0} → Option A → (A → Run B) → Run B
-onSome none k = lost
-onSome (some a) k = k a
+unfoldable pub on_some : {A B : Type 0} → Option A → (A → Run B) → Run B
+on_some none k = lost
+on_some (some a) k = k a
 
 ----------------------------------------------------------------
 -- States: what is known of each variable in scope, the newest first
@@ -41,15 +41,15 @@ known [] i = none
 known (m ∷ σ) i = cond (eqb i (length σ)) m (known σ i)
 
 -- a variable is met with value `v`, at term `k`: it is bound, or compared ("a variable met again backward must have the same value")
-unfoldable pub bindOr : ℕ → Option Val → Val → Run (Option Val)
-bindOr k none v = give (some v)
-bindOr k (some w) v = test (same w v) 16 k (give (some w))
+unfoldable pub bind_or : ℕ → Option Val → Val → Run (Option Val)
+bind_or k none v = give (some v)
+bind_or k (some w) v = test (same w v) 16 k (give (some w))
 
 -- the same for variable `i` of the state
 unfoldable pub meet : ℕ → State → ℕ → Val → Run State
-unfolding bindOr
+unfolding bind_or
 meet k [] i v = lost
-meet k (m ∷ σ) i v = cond (eqb i (length σ)) (bindOr k m v >>= λ m'. give (m' ∷ σ)) (meet k σ i v >>= λ σ'. give (m ∷ σ'))
+meet k (m ∷ σ) i v = cond (eqb i (length σ)) (bind_or k m v >>= λ m'. give (m' ∷ σ)) (meet k σ i v >>= λ σ'. give (m ∷ σ'))
 
 -- the newest variable leaves the scope ("a unit variable never met is unit")
 unfoldable pub leave : {A : Type 0} → State → (Val → State → Run A) → Run A
@@ -72,20 +72,20 @@ each go (more t ts) = do
   give (v ∷ vs)
 
 -- a branch backward, its variable bound to `w`
-unfoldable pub branchBack : (List Val → State → Term → Val → Run State) → List Val → State → Term → Val → Val → Run State
-branchBack go a σ b v w = do
+unfoldable pub branch_back : (List Val → State → Term → Val → Run State) → List Val → State → Term → Val → Val → Run State
+branch_back go a σ b v w = do
   σ₁ ← go a (some w ∷ σ) b v
   leave σ₁ λ u σ₂. give σ₂
 
 -- a case backward, by the runs `fw` and `go` of one term; `c` tells whether it chooses by an ancilla, `y` whether the left may yield
-unfoldable pub caseBack : (List Val → State → Term → Run Val) → (List Val → State → Term → Val → Run State)
+unfoldable pub case_back : (List Val → State → Term → Run Val) → (List Val → State → Term → Val → Run State)
     → List Val → State → Term → Term → Term → Val → (c y : Bool) → Run State
 -- by an ancilla (02, F-3): the scrutinee forward, then the branch
-caseBack fw go a σ e b b' v true y = do
+case_back fw go a σ e b b' v true y = do
   s ← fw a (filled σ) e
-  onSum s (branchBack go a σ b v) (branchBack go a σ b' v)
+  on_sum s (branch_back go a σ b v) (branch_back go a σ b' v)
 -- the left branch exactly if the left may yield the value; then the scrutinee
-caseBack fw go a σ e b b' v false y = do
+case_back fw go a σ e b b' v false y = do
   σ₁ ← go a (none ∷ σ) (cond y b b') v
   leave σ₁ λ w σ₂. go a σ₂ e (cond y (inl w) (inr w))
 
@@ -98,85 +98,85 @@ module _ (fits : Val → Bool) (P : Program) where
   made k v = test (fits v) 14 k (give v)
 
   -- what a term does forward, once it is entered; its parts are run by `go`, in the written order
-  unfoldable pub forwardStep : (List Val → State → Term → Run Val) → List Val → State → Term → Run Val
+  unfoldable pub forward_step : (List Val → State → Term → Run Val) → List Val → State → Term → Run Val
   unfolding made
-  forwardStep go a σ (var k i) = onSome (known σ i) (made k)
-  forwardStep go a σ (tunit k) = made k unit
-  forwardStep go a σ (tinl k c e) = do
+  forward_step go a σ (var k i) = on_some (known σ i) (made k)
+  forward_step go a σ (tunit k) = made k unit
+  forward_step go a σ (tinl k c e) = do
     v ← go a σ e
     made k (inl v)
-  forwardStep go a σ (tinr k c e) = do
+  forward_step go a σ (tinr k c e) = do
     v ← go a σ e
     made k (inr v)
-  forwardStep go a σ (tpair k e e') = do
+  forward_step go a σ (tpair k e e') = do
     v ← go a σ e
     w ← go a σ e'
     made k (pair v w)
-  forwardStep go a σ (tlet k e b) = do
+  forward_step go a σ (tlet k e b) = do
     v ← go a σ e
     go a (some v ∷ σ) b
-  forwardStep go a σ (tletp k e b) = do
+  forward_step go a σ (tletp k e b) = do
     p ← go a σ e
-    onPair p λ v w. go a (some w ∷ some v ∷ σ) b
-  forwardStep go a σ (tcase k e b b') = do
+    on_pair p λ v w. go a (some w ∷ some v ∷ σ) b
+  forward_step go a σ (tcase k e b b') = do
     s ← go a σ e
-    onSum s (λ v. go a (some v ∷ σ) b) λ v. do
+    on_sum s (λ v. go a (some v ∷ σ) b) λ v. do
       w ← go a (some v ∷ σ) b'
-      test (firstMatch a (length σ) e b w) 15 k (give w)
-  forwardStep go a σ (tcall k g ts e) = onSome (nth P g) λ h. do
+      test (first_match a (length σ) e b w) 15 k (give w)
+  forward_step go a σ (tcall k g ts e) = on_some (nth P g) λ h. do
     vs ← each (go a σ) ts
     v ← go a σ e
     go (scope vs []) (some v ∷ map some (scope vs [])) h.body
-  forwardStep go a σ (troll k c e) = do
+  forward_step go a σ (troll k c e) = do
     v ← go a σ e
     made k (roll v)
-  forwardStep go a σ (tunroll k c e) = do
+  forward_step go a σ (tunroll k c e) = do
     v ← go a σ e
-    onRoll v (made k)
+    on_roll v (made k)
 
   -- at a term 12 is tested first, then 13
   unfoldable pub forward : ℕ → List Val → State → Term → Run Val
   forward zero a σ t = enter (entry t) (refuse 13 (entry t))
-  forward (suc r) a σ t = enter (entry t) (forwardStep (forward r) a σ t)
+  forward (suc r) a σ t = enter (entry t) (forward_step (forward r) a σ t)
 
   -- what a term does backward with its value, once it is entered; what is run forward on the way is run by `fw`
-  unfoldable pub backwardStep : (List Val → State → Term → Run Val) → (List Val → State → Term → Val → Run State)
+  unfoldable pub backward_step : (List Val → State → Term → Run Val) → (List Val → State → Term → Val → Run State)
       → List Val → State → Term → Val → Run State
-  backwardStep fw go a σ (var k i) v = meet k σ i v
-  backwardStep fw go a σ (tunit k) v = onUnit v (give σ)
-  backwardStep fw go a σ (tinl k c e) v = onSum v (go a σ e) (λ w. refuse 16 k)
-  backwardStep fw go a σ (tinr k c e) v = onSum v (λ w. refuse 16 k) (go a σ e)
-  backwardStep fw go a σ (tpair k e e') v = onPair v λ w w'. do
+  backward_step fw go a σ (var k i) v = meet k σ i v
+  backward_step fw go a σ (tunit k) v = on_unit v (give σ)
+  backward_step fw go a σ (tinl k c e) v = on_sum v (go a σ e) (λ w. refuse 16 k)
+  backward_step fw go a σ (tinr k c e) v = on_sum v (λ w. refuse 16 k) (go a σ e)
+  backward_step fw go a σ (tpair k e e') v = on_pair v λ w w'. do
     σ₁ ← go a σ e w
     go a σ₁ e' w'
   -- the body, then the bound term
-  backwardStep fw go a σ (tlet k e b) v = do
+  backward_step fw go a σ (tlet k e b) v = do
     σ₁ ← go a (none ∷ σ) b v
     leave σ₁ λ w σ₂. go a σ₂ e w
-  backwardStep fw go a σ (tletp k e b) v = do
+  backward_step fw go a σ (tletp k e b) v = do
     σ₁ ← go a (none ∷ none ∷ σ) b v
     leave σ₁ λ w' σ₂. leave σ₂ λ w σ₃. go a σ₃ e (pair w w')
-  backwardStep fw go a σ (tcase k e b b') v = caseBack fw go a σ e b b' v (byAncilla (length a) (length σ) e) (mayYield a b v)
+  backward_step fw go a σ (tcase k e b b') v = case_back fw go a σ e b b' v (by_ancilla (length a) (length σ) e) (may_yield a b v)
   -- the ancilla terms forward, the body backward, the dynamic term backward
-  backwardStep fw go a σ (tcall k g ts e) v = onSome (nth P g) λ h. do
+  backward_step fw go a σ (tcall k g ts e) v = on_some (nth P g) λ h. do
     vs ← each (fw a (filled σ)) ts
     σ₁ ← go (scope vs []) (none ∷ map some (scope vs [])) h.body v
     leave σ₁ λ w σ₂. go a σ e w
-  backwardStep fw go a σ (troll k c e) v = onRoll v (go a σ e)
-  backwardStep fw go a σ (tunroll k c e) v = go a σ e (roll v)
+  backward_step fw go a σ (troll k c e) v = on_roll v (go a σ e)
+  backward_step fw go a σ (tunroll k c e) v = go a σ e (roll v)
 
   -- at a term 12 is tested first, then 13, then 14
   unfoldable pub backward : ℕ → List Val → State → Term → Val → Run State
   backward zero a σ t v = enter (entry t) (refuse 13 (entry t))
-  backward (suc r) a σ t v = enter (entry t) (test (fits v) 14 (entry t) (backwardStep (forward r) (backward r) a σ t v))
+  backward (suc r) a σ t v = enter (entry t) (test (fits v) 14 (entry t) (backward_step (forward r) (backward r) a σ t v))
 
   ----------------------------------------------------------------
   -- Runs of functions, with ancilla values `vs`
 
-  unfoldable pub runForward : ℕ → Fun → List Val → Val → Run Val
-  runForward r h vs v = forward r (scope vs []) (some v ∷ map some (scope vs [])) h.body
+  unfoldable pub run_forward : ℕ → Fun → List Val → Val → Run Val
+  run_forward r h vs v = forward r (scope vs []) (some v ∷ map some (scope vs [])) h.body
 
-  unfoldable pub runBackward : ℕ → Fun → List Val → Val → Run Val
-  runBackward r h vs v = do
+  unfoldable pub run_backward : ℕ → Fun → List Val → Val → Run Val
+  run_backward r h vs v = do
     σ ← backward r (scope vs []) (none ∷ map some (scope vs [])) h.body v
     leave σ λ w σ'. give w

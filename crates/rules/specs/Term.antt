@@ -74,19 +74,19 @@ scope (v ∷ vs) ρ = scope vs (v ∷ ρ)
 
 -- Does the term use variable `i`, bound outside it: does it stand in the term with no ancilla argument of the term around it? What stands
 -- in one is named, which is no use (02, F-2). Of a term inside an ancilla argument this tells of variables from outside that argument
--- too, which are named there: those who ask leave them out (Typing, `markOne`; Check, `mustUse`, `helps`).
-abbrev pub usedIn : ℕ → Term → Bool
-usedIn i (var k j) = eqb i j
-usedIn i (tunit k) = false
-usedIn i (tinl k c e) = usedIn i e
-usedIn i (tinr k c e) = usedIn i e
-usedIn i (tpair k e e') = usedIn i e || usedIn i e'
-usedIn i (tlet k e b) = usedIn i e || usedIn i b
-usedIn i (tletp k e b) = usedIn i e || usedIn i b
-usedIn i (tcase k e b b') = usedIn i e || (usedIn i b || usedIn i b')
-usedIn i (tcall k g ts e) = usedIn i e
-usedIn i (troll k c e) = usedIn i e
-usedIn i (tunroll k c e) = usedIn i e
+-- too, which are named there: those who ask leave them out (Typing, `mark_one`; Check, `must_use`, `helps`).
+abbrev pub used_in : ℕ → Term → Bool
+used_in i (var k j) = eqb i j
+used_in i (tunit k) = false
+used_in i (tinl k c e) = used_in i e
+used_in i (tinr k c e) = used_in i e
+used_in i (tpair k e e') = used_in i e || used_in i e'
+used_in i (tlet k e b) = used_in i e || used_in i b
+used_in i (tletp k e b) = used_in i e || used_in i b
+used_in i (tcase k e b b') = used_in i e || (used_in i b || used_in i b')
+used_in i (tcall k g ts e) = used_in i e
+used_in i (troll k c e) = used_in i e
+used_in i (tunroll k c e) = used_in i e
 
 ----------------------------------------------------------------
 -- Which variables a term names, and which cases choose by an ancilla (02, F-3)
@@ -102,13 +102,13 @@ unfoldable mutual
   within A (tlet k e b) = within A e && within A b
   within A (tletp k e b) = within A e && within A b
   within A (tcase k e b b') = within A e && (within A b && within A b')
-  within A (tcall k g ts e) = withinAll A ts && within A e
+  within A (tcall k g ts e) = within_all A ts && within A e
   within A (troll k c e) = within A e
   within A (tunroll k c e) = within A e
 
-  pub withinAll : (ℕ → Bool) → Terms → Bool
-  withinAll A end = true
-  withinAll A (more t ts) = within A t && withinAll A ts
+  pub within_all : (ℕ → Bool) → Terms → Bool
+  within_all A end = true
+  within_all A (more t ts) = within A t && within_all A ts
 
 -- With `q` ancilla parameters and `n` variables in scope around a term: an ancilla parameter, or a variable bound inside the term. Every
 -- other variable is dynamic and bound outside it.
@@ -116,29 +116,29 @@ abbrev pub inside : ℕ → ℕ → ℕ → Bool
 inside q n i = ltb i q || leb n i
 
 -- A case chooses by an ancilla (02, F-3): its scrutinee names no dynamic variable bound outside it.
-unfoldable pub byAncilla : ℕ → ℕ → Term → Bool
-byAncilla q n e = within (inside q n) e
+unfoldable pub by_ancilla : ℕ → ℕ → Term → Bool
+by_ancilla q n e = within (inside q n) e
 
 -- Do all the cases of a term that have entry number `k` choose by an ancilla?
 unfoldable mutual
-  pub choosesAt : ℕ → ℕ → ℕ → Term → Bool
-  choosesAt k q n (var j i) = true
-  choosesAt k q n (tunit j) = true
-  choosesAt k q n (tinl j c e) = choosesAt k q n e
-  choosesAt k q n (tinr j c e) = choosesAt k q n e
-  choosesAt k q n (tpair j e e') = choosesAt k q n e && choosesAt k q n e'
-  choosesAt k q n (tlet j e b) = choosesAt k q n e && choosesAt k q (suc n) b
-  choosesAt k q n (tletp j e b) = choosesAt k q n e && choosesAt k q (suc (suc n)) b
-  choosesAt k q n (tcase j e b b') = cond (eqb j k) (byAncilla q n e) true
-      && (choosesAt k q n e && (choosesAt k q (suc n) b && choosesAt k q (suc n) b'))
-  choosesAt k q n (tcall j g ts e) = chooseAllAt k q n ts && choosesAt k q n e
-  choosesAt k q n (troll j c e) = choosesAt k q n e
-  choosesAt k q n (tunroll j c e) = choosesAt k q n e
+  pub chooses_at : ℕ → ℕ → ℕ → Term → Bool
+  chooses_at k q n (var j i) = true
+  chooses_at k q n (tunit j) = true
+  chooses_at k q n (tinl j c e) = chooses_at k q n e
+  chooses_at k q n (tinr j c e) = chooses_at k q n e
+  chooses_at k q n (tpair j e e') = chooses_at k q n e && chooses_at k q n e'
+  chooses_at k q n (tlet j e b) = chooses_at k q n e && chooses_at k q (suc n) b
+  chooses_at k q n (tletp j e b) = chooses_at k q n e && chooses_at k q (suc (suc n)) b
+  chooses_at k q n (tcase j e b b') = cond (eqb j k) (by_ancilla q n e) true
+      && (chooses_at k q n e && (chooses_at k q (suc n) b && chooses_at k q (suc n) b'))
+  chooses_at k q n (tcall j g ts e) = choose_all_at k q n ts && chooses_at k q n e
+  chooses_at k q n (troll j c e) = chooses_at k q n e
+  chooses_at k q n (tunroll j c e) = chooses_at k q n e
 
-  pub chooseAllAt : ℕ → ℕ → ℕ → Terms → Bool
-  chooseAllAt k q n end = true
-  chooseAllAt k q n (more t ts) = choosesAt k q n t && chooseAllAt k q n ts
+  pub choose_all_at : ℕ → ℕ → ℕ → Terms → Bool
+  choose_all_at k q n end = true
+  choose_all_at k q n (more t ts) = chooses_at k q n t && choose_all_at k q n ts
 
 -- ... and all those of a function's body?
-abbrev pub choosesIn : ℕ → Fun → Bool
-choosesIn k h = choosesAt k (length h.ancillae) (suc (length h.ancillae)) h.body
+abbrev pub chooses_in : ℕ → Fun → Bool
+chooses_in k h = chooses_at k (length h.ancillae) (suc (length h.ancillae)) h.body

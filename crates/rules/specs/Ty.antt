@@ -22,8 +22,8 @@ plug c n (mu a) = mu (plug c (suc n) a)
 plug c n (tyvar m) = cond (eqb m n) c (tyvar m)
 
 -- what `mu a` unfolds to
-unfoldable pub unfoldTy : Ty → Ty
-unfoldTy a = plug (mu a) 0 a
+unfoldable pub unfold_ty : Ty → Ty
+unfold_ty a = plug (mu a) 0 a
 
 ----------------------------------------------------------------
 -- Tests
@@ -56,7 +56,7 @@ has_ty unit τ = elim τ [ one ↦ true | prod a b ↦ false | sum a b ↦ false
 has_ty (inl v) τ = elim τ [ one ↦ false | prod a b ↦ false | sum a b ↦ has_ty v a | mu a ↦ false | tyvar n ↦ false ]
 has_ty (inr v) τ = elim τ [ one ↦ false | prod a b ↦ false | sum a b ↦ has_ty v b | mu a ↦ false | tyvar n ↦ false ]
 has_ty (pair v w) τ = elim τ [ one ↦ false | prod a b ↦ has_ty v a && has_ty w b | sum a b ↦ false | mu a ↦ false | tyvar n ↦ false ]
-has_ty (roll v) τ = elim τ [ one ↦ false | prod a b ↦ false | sum a b ↦ false | mu a ↦ has_ty v (unfoldTy a) | tyvar n ↦ false ]
+has_ty (roll v) τ = elim τ [ one ↦ false | prod a b ↦ false | sum a b ↦ false | mu a ↦ has_ty v (unfold_ty a) | tyvar n ↦ false ]
 
 unfoldable pub has_tys : List Val → List Ty → Bool
 has_tys [] [] = true

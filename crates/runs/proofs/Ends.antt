@@ -14,12 +14,12 @@ use package.Rattle.calls.proofs.Answer.{overwritten-pasted}
 use package.Rattle.answers.specs.declared.Refusal.TheVariants.{Fuel, Height, Long, FirstMatch, NoInput, Output}
 use package.Rattle.answers.specs.declared.RunAnswer.TheVariants as runs
 use package.Rattle.answers.specs.Answers.{summary, accepts}
-use package.Rattle.answers.proofs.Answers.{refused-later}
-use package.Rattle.valuegraph.specs.Nodes.{nodeBytes, length_at, value_at}
+use package.Rattle.answers.proofs.Answers.{refused_later}
+use package.Rattle.valuegraph.specs.Nodes.{node_bytes, length_at, value_at}
 use package.Rattle.valuegraph.specs.Stores.{StoreReady, StoreDone}
 use package.Rattle.backward.specs.declared.outcomes.Refusal.{Refusal}
 use package.Rattle.backward.specs.declared.outcomes.Refusal.TheVariants as why
-use package.Rattle.backward.specs.Outcomes.{refusalOf}
+use package.Rattle.backward.specs.Outcomes.{refusal_of}
 use package.Rattle.runs.specs.Ended.{finished, Means, Gives}
 
 ----------------------------------------------------------------
@@ -35,7 +35,7 @@ module _ (out : List ℕ) (r : Ran) where
   long-enough h = ap (λ b. require b 17 0 >>= λ room. accepted r) (le-leb (size r.value) (length out) h)
 
 module _ {heap : List ℕ} {node fuel left : ℕ} (G : Gives heap node fuel left) where
-  pub node-room : nodeBytes * (node + 1) ≤ length heap
+  pub node-room : node_bytes * (node + 1) ≤ length heap
   node-room = G.right.held
 
   module _ {len : ℕ} (e : len ≡ length_at heap node) where
@@ -48,23 +48,23 @@ module _ {heap : List ℕ} {node fuel left : ℕ} (G : Gives heap node fuel left
 
       pub give-short : {i : ℕ} → i ≡ len → length out < i → Means (runs.Refused Output) out out (ran fuel (ok (value_at heap node) left))
       unfolding ran written ◌>>=◌
-      give-short q h = record { answer = ap summary (sym short); later = refused-later Output (omega arith); output = ap (λ x. written x out) (sym short) }
+      give-short q h = record { answer = ap summary (sym short); later = refused_later Output (omega arith); output = ap (λ x. written x out) (sym short) }
         where
           short : finished (length out) (accepted answer) ≡ refused 17 0
           short = too_short out answer (omega (arith, sized))
 
       module _ {i : ℕ} (q : i ≡ len) (h : i ≤ length out) where
-        pub store-ready : StoreReady heap node out 0
-        store-ready = record { right = G.right; room = omega (arith, sized) }
+        pub store_ready : StoreReady heap node out 0
+        store_ready = record { right = G.right; room = omega (arith, sized) }
 
         filled : pasted out 0 (encode (value_at heap node)) ≡ written (accepted answer) out
         unfolding written ◌>>=◌
         filled = overwritten-pasted out (encode (value_at heap node))
 
-        pub give-done : {out' : List ℕ} {next steps : ℕ} → StoreDone heap node out out' 0 next → steps ≡ fuel - left
+        pub give_done : {out' : List ℕ} {next steps : ℕ} → StoreDone heap node out out' 0 next → steps ≡ fuel - left
             → Means (runs.Ran (record { len = len; steps = steps })) out out' (ran fuel (ok (value_at heap node) left))
         unfolding ran written ◌>>=◌
-        give-done d s = record {
+        give_done d s = record {
           answer = ap₂ (λ l n. accepted (l, n)) sized s ∙ ap summary (sym enough);
           later = accepts;
           output = d.bytes ∙ filled ∙ ap (λ x. written x out) (sym enough);
@@ -77,22 +77,22 @@ module _ {heap : List ℕ} {node fuel left : ℕ} (G : Gives heap node fuel left
 -- A refusal
 
 module _ (out : List ℕ) (fuel : ℕ) {w : Refusal} {t : ℕ} where
-  pub refused-fuel : w ≡ why.Fuel t → Means (runs.Refused (Fuel t)) out out (ran fuel (refusalOf w))
-  unfolding ran refusalOf finished ◌>>=◌ written
-  refused-fuel e = rw e (record { answer = refl; later = refused-later (Fuel t) (omega arith); output = refl })
+  pub refused-fuel : w ≡ why.Fuel t → Means (runs.Refused (Fuel t)) out out (ran fuel (refusal_of w))
+  unfolding ran refusal_of finished ◌>>=◌ written
+  refused-fuel e = rw e (record { answer = refl; later = refused_later (Fuel t) (omega arith); output = refl })
 
-  pub refused-height : w ≡ why.Height t → Means (runs.Refused (Height t)) out out (ran fuel (refusalOf w))
-  unfolding ran refusalOf finished ◌>>=◌ written
-  refused-height e = rw e (record { answer = refl; later = refused-later (Height t) (omega arith); output = refl })
+  pub refused-height : w ≡ why.Height t → Means (runs.Refused (Height t)) out out (ran fuel (refusal_of w))
+  unfolding ran refusal_of finished ◌>>=◌ written
+  refused-height e = rw e (record { answer = refl; later = refused_later (Height t) (omega arith); output = refl })
 
-  pub refused-long : w ≡ why.Long t → Means (runs.Refused (Long t)) out out (ran fuel (refusalOf w))
-  unfolding ran refusalOf finished ◌>>=◌ written
-  refused-long e = rw e (record { answer = refl; later = refused-later (Long t) (omega arith); output = refl })
+  pub refused-long : w ≡ why.Long t → Means (runs.Refused (Long t)) out out (ran fuel (refusal_of w))
+  unfolding ran refusal_of finished ◌>>=◌ written
+  refused-long e = rw e (record { answer = refl; later = refused_later (Long t) (omega arith); output = refl })
 
-  pub refused-match : w ≡ why.FirstMatch t → Means (runs.Refused (FirstMatch t)) out out (ran fuel (refusalOf w))
-  unfolding ran refusalOf finished ◌>>=◌ written
-  refused-match e = rw e (record { answer = refl; later = refused-later (FirstMatch t) (omega arith); output = refl })
+  pub refused_match : w ≡ why.FirstMatch t → Means (runs.Refused (FirstMatch t)) out out (ran fuel (refusal_of w))
+  unfolding ran refusal_of finished ◌>>=◌ written
+  refused_match e = rw e (record { answer = refl; later = refused_later (FirstMatch t) (omega arith); output = refl })
 
-  pub refused-input : w ≡ why.NoInput t → Means (runs.Refused (NoInput t)) out out (ran fuel (refusalOf w))
-  unfolding ran refusalOf finished ◌>>=◌ written
-  refused-input e = rw e (record { answer = refl; later = refused-later (NoInput t) (omega arith); output = refl })
+  pub refused_input : w ≡ why.NoInput t → Means (runs.Refused (NoInput t)) out out (ran fuel (refusal_of w))
+  unfolding ran refusal_of finished ◌>>=◌ written
+  refused_input e = rw e (record { answer = refl; later = refused_later (NoInput t) (omega arith); output = refl })

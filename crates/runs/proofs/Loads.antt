@@ -7,29 +7,29 @@ use mathlib.Core.Path.{◌≡◌, refl, sym, ap, ap₂, subst, ◌∙◌}
 use mathlib.Core.List.{List, [], ◌∷◌, ◌++◌, append-nil}
 use lib.ListN.{length, get_or, set, drop, length-set, get_or-append}
 use lib.Seq.{get_or-set_same, get_or-set_other, get_or-append_seam}
-use package.Rattle.rules.specs.Limits.{fits, maxValueBytes, maxAncillaBytes, maxParameters}
+use package.Rattle.rules.specs.Limits.{fits, max_value_bytes, max_ancilla_bytes, max_parameters}
 use package.Rattle.rules.specs.Val.{Val, unit, size, encode}
 use package.Rattle.rules.proofs.Basics.{given}
 use package.Rattle.rules.proofs.Val.{length-encode}
 use package.Rattle.rules.proofs.Typing.Tests.{leb-sound}
-use package.Rattle.calls.specs.Values.{encodeAll}
+use package.Rattle.calls.specs.Values.{encode_all}
 use package.Rattle.calls.proofs.Values.{read-sound, size-positive, value-sound, ancillae-sound}
 use package.Rattle.valuegraph.specs.Nodes.{Agree, length_at, Room, value_at, Heap, Grown}
 use package.Rattle.valuegraph.specs.Loads.{LoadReady, LoadedFrom}
 use package.Rattle.valuegraph.proofs.Places.{agree_refl}
 use package.Rattle.valuegraph.proofs.Heaps.{value-kept}
 use package.Rattle.valuegraph.proofs.Loading.{loaded-value}
-use package.Rattle.valuebytes.specs.Ends.{valueIn, valuesIn}
-use package.Rattle.valuebytes.proofs.Walks.{Begins, walk_start, walk-done, walk_more, walk_first, walk_inside, walk-next}
-use package.Rattle.scopes.specs.Slots.{slotCount}
-use package.Rattle.forward.specs.Ready.{Graph, valuesAt}
-use package.Rattle.forward.proofs.Making.{graph-later}
+use package.Rattle.valuebytes.specs.Ends.{value_in, values_in}
+use package.Rattle.valuebytes.proofs.Walks.{Begins, walk_start, walk_done, walk_more, walk_first, walk_inside, walk_next}
+use package.Rattle.scopes.specs.Slots.{slot_count}
+use package.Rattle.forward.specs.Ready.{Graph, values_at}
+use package.Rattle.forward.proofs.Making.{graph_later}
 use package.Rattle.runs.specs.declared.begin.Start.{Start}
-use package.Rattle.runs.specs.Begun.{startNodes, Enough, Beginning, AncillaeLoaded, Begun}
+use package.Rattle.runs.specs.Begun.{start_nodes, Enough, Beginning, AncillaeLoaded, Begun}
 
 -- the first node, which is the unit
 first-node : {heap heap₁ : List ℕ} → Grown heap heap₁ 0 unit → Graph heap₁ 1
-first-node g = record { right = g.right; short = λ n l. (g.right.node n l).fit; some = omega arith; unit-there = g.value }
+first-node g = record { right = g.right; short = λ n l. (g.right.node n l).fit; some = omega arith; unit_there = g.value }
 
 ----------------------------------------------------------------
 -- One value more
@@ -45,7 +45,7 @@ module _ {heap heap' slots : List ℕ} {vs : List Val} {k top : ℕ} (h : Held h
   held_more : {node top' : ℕ} → k < length slots → Heap heap' top' → top ≤ top' → node < top' → value_at heap' node ≡ get_or vs k unit
       → Held heap' (set slots k node) vs (suc k) top'
   held_more {node} {top'} room right le low v = record {
-    graph = graph-later h.graph agree right le;
+    graph = graph_later h.graph agree right le;
     held = λ i l. at_slot (λ i n. n < top') (λ i l. omega (arith, h.held i l)) low i l;
     values = λ i l. at_slot (λ i n. value_at heap' n ≡ get_or vs i unit)
         (λ i l. sym (value-kept heap heap' top h.graph.right agree _ (h.held i l)) ∙ h.values i l) v i l;
@@ -62,18 +62,18 @@ module _ {heap heap' slots : List ℕ} {vs : List Val} {k top : ℕ} (h : Held h
 -- Ancillae, one after another
 
 module _ {heap slots anc : List ℕ} (E : Enough heap slots anc) where
-  ancillae-short : length anc ≤ maxValueBytes
+  ancillae-short : length anc ≤ max_value_bytes
   ancillae-short = (walk_start anc E.read).short
 
   module _ {heap₁ : List ℕ} (g : Grown heap heap₁ 0 unit) where
     pub ancillae-ready : LoadReady heap₁ 1 anc
-    unfolding startNodes maxAncillaBytes maxValueBytes
+    unfolding start_nodes max_ancilla_bytes max_value_bytes
     ancillae-ready = record {
       right = g.right;
-      values = valuesIn anc;
+      values = values_in anc;
       whole = (ancillae-sound anc E.read).0;
       short = ancillae-short;
-      room = omega (arith, ancillae-short, E.nodes-there, g.agree.lengths);
+      room = omega (arith, ancillae-short, E.nodes_there, g.agree.lengths);
       small = omega (arith, ancillae-short);
     }
 
@@ -83,9 +83,9 @@ pub record Named (heap slots₀ slots anc : List ℕ) (k node top : ℕ) : Type 
   pub before : List ℕ
   pub loaded : LoadedFrom before heap 1 anc 0 top
   pub inside : node ≤ length anc
-  pub begins : Begins anc (valuesIn anc) k (length anc - node)
-  pub counted : k ≤ length (valuesIn anc)
-  pub nodes : Held heap slots (valuesIn anc) k top
+  pub begins : Begins anc (values_in anc) k (length anc - node)
+  pub counted : k ≤ length (values_in anc)
+  pub nodes : Held heap slots (values_in anc) k top
   pub slots_length : length slots₀ ≡ length slots
 
 module _ {heap slots anc heap₁ heap₂ : List ℕ} {top : ℕ} (E : Enough heap slots anc) (g : Grown heap heap₁ 0 unit)
@@ -95,17 +95,17 @@ module _ {heap slots anc heap₁ heap₂ : List ℕ} {top : ℕ} (E : Enough hea
     enough = record {
       read = E.read;
       few = E.few;
-      slots-there = E.slots-there;
-      nodes-there = omega (arith, E.nodes-there, g.agree.lengths, L.agree.lengths);
+      slots_there = E.slots_there;
+      nodes_there = omega (arith, E.nodes_there, g.agree.lengths, L.agree.lengths);
     };
     before = heap₁;
     loaded = L;
     inside = omega (arith, L.nodes);
     begins = let z : 0 ≡ length anc - (top - 1) = omega (arith, L.nodes) in
-        subst (λ (at : ℕ). Begins anc (valuesIn anc) 0 at) z (walk_start anc E.read);
+        subst (λ (at : ℕ). Begins anc (values_in anc) 0 at) z (walk_start anc E.read);
     counted = omega arith;
     nodes = record {
-      graph = graph-later (first-node g) L.agree L.right (omega (arith, L.nodes));
+      graph = graph_later (first-node g) L.agree L.right (omega (arith, L.nodes));
       held = λ i l. absurd (omega arith);
       values = λ i l. absurd (omega arith);
     };
@@ -113,14 +113,14 @@ module _ {heap slots anc heap₁ heap₂ : List ℕ} {top : ℕ} (E : Enough hea
   }
 
 module _ {heap slots₀ slots anc : List ℕ} {k node top : ℕ} (N : Named heap slots₀ slots anc k node top) where
-  pub named-done : node ≤ 0 → {before : List ℕ} → length before ≡ length heap → AncillaeLoaded before heap slots₀ slots anc (record { count = k; top = top })
-  named-done h e = record {
+  pub named_done : node ≤ 0 → {before : List ℕ} → length before ≡ length heap → AncillaeLoaded before heap slots₀ slots anc (record { count = k; top = top })
+  named_done h e = record {
     graph = N.nodes.graph;
     nodes = omega (arith, N.loaded.nodes);
-    count = omega (arith, walk-done N.begins (omega arith), N.counted);
+    count = omega (arith, walk_done N.begins (omega arith), N.counted);
     held = N.nodes.held;
     values = N.nodes.values;
-    heap-length = e;
+    heap_length = e;
     slots_length = N.slots_length;
   }
 
@@ -132,116 +132,116 @@ module _ {heap slots₀ slots anc : List ℕ} {k node top : ℕ} (N : Named heap
     unfolding at
     at-inside = omega (arith, N.inside)
 
-    there : k < length (valuesIn anc)
+    there : k < length (values_in anc)
     unfolding at
     there = walk_more N.begins at-inside
 
     abbrev here : Val
-    here = get_or (valuesIn anc) k unit
+    here = get_or (values_in anc) k unit
 
     is : value_at heap node ≡ here
     unfolding at
     is =
         let z : 1 + (length anc - (length anc - node + 1)) ≡ node = omega (arith, N.inside) in
         ap (value_at heap) (sym z)
-        ∙ loaded-value N.loaded at here (encodeAll (drop (suc k) (valuesIn anc))) at-inside (read-sound _ _ (walk_first N.begins there))
+        ∙ loaded-value N.loaded at here (encode_all (drop (suc k) (values_in anc))) at-inside (read-sound _ _ (walk_first N.begins there))
 
-    pub named-low : node < top
-    named-low = omega (arith, N.loaded.nodes, N.inside)
+    pub named_low : node < top
+    named_low = omega (arith, N.loaded.nodes, N.inside)
 
-    pub named-room : Room heap (node + 1)
-    named-room = omega (arith, N.loaded.right.held, named-low)
+    pub named_room : Room heap (node + 1)
+    named_room = omega (arith, N.loaded.right.held, named_low)
 
     -- so many nodes has the ancilla, and no more than there are
     long : length_at heap node ≡ size here
-    long = (N.loaded.right.node node named-low).len ∙ ap size is
+    long = (N.loaded.right.node node named_low).len ∙ ap size is
 
-    pub named-length : length_at heap node ≤ node
+    pub named_length : length_at heap node ≤ node
     unfolding at
-    named-length = omega (arith, long, walk_inside N.begins there, N.inside)
+    named_length = omega (arith, long, walk_inside N.begins there, N.inside)
 
-    pub named-less : (n : ℕ) → n ≡ length_at heap node → node - n < node
-    named-less n e = omega (arith, long, size-positive here)
+    pub named_less : (n : ℕ) → n ≡ length_at heap node → node - n < node
+    named_less n e = omega (arith, long, size-positive here)
 
-    pub named-bind : k < slotCount
-    named-bind = omega (arith, there, N.enough.few)
+    pub named_bind : k < slot_count
+    named_bind = omega (arith, there, N.enough.few)
 
     pub named_small : k + 1 < 2 ^ 16
-    unfolding maxParameters
+    unfolding max_parameters
     named_small = omega (arith, there, N.enough.few)
 
-    pub named-next : {n : ℕ} {slots' : List ℕ} → slots' ≡ set slots k node → n ≡ length_at heap node
+    pub named_next : {n : ℕ} {slots' : List ℕ} → slots' ≡ set slots k node → n ≡ length_at heap node
         → Named heap slots₀ slots' anc (k + 1) (node - n) top
     unfolding at
-    named-next {n} s e = rw (s, add-one k) (record {
+    named_next {n} s e = rw (s, add-one k) (record {
       enough = N.enough;
       before = N.before;
       loaded = N.loaded;
       inside = omega (arith, N.inside);
-      begins = walk-next N.begins there (omega (arith, e, long, named-length, N.inside));
+      begins = walk_next N.begins there (omega (arith, e, long, named_length, N.inside));
       counted = omega (arith, there);
-      nodes = held_more N.nodes (agree_refl top heap) (omega (arith, there, N.enough.few, N.enough.slots-there, N.slots_length))
-          N.nodes.graph.right (omega arith) named-low is;
+      nodes = held_more N.nodes (agree_refl top heap) (omega (arith, there, N.enough.few, N.enough.slots_there, N.slots_length))
+          N.nodes.graph.right (omega arith) named_low is;
       slots_length = N.slots_length ∙ sym (length-set slots k node);
     })
 
 ----------------------------------------------------------------
 -- The value behind them
 
-values-are : (heap slots : List ℕ) (vs : List Val) (from : ℕ) → ((i : ℕ) → i < length vs → value_at heap (get_or slots (from + i) 0) ≡ get_or vs i unit)
-    → valuesAt heap slots from (length vs) ≡ vs
-unfolding valuesAt
-values-are heap slots [] from e = refl
-values-are heap slots (v ∷ vs) from e =
+values_are : (heap slots : List ℕ) (vs : List Val) (from : ℕ) → ((i : ℕ) → i < length vs → value_at heap (get_or slots (from + i) 0) ≡ get_or vs i unit)
+    → values_at heap slots from (length vs) ≡ vs
+unfolding values_at
+values_are heap slots [] from e = refl
+values_are heap slots (v ∷ vs) from e =
     ap₂ ◌∷◌ (ap (λ i. value_at heap (get_or slots i 0)) (let z : from ≡ from + 0 = omega arith in z) ∙ e 0 (omega arith))
-    (values-are heap slots vs (from + 1) λ i l.
+    (values_are heap slots vs (from + 1) λ i l.
     ap (λ i. value_at heap (get_or slots i 0)) (let z : from + 1 + i ≡ from + suc i = omega arith in z) ∙ e (suc i) (omega arith))
 
 -- the values are those of slots that hold the same nodes
 pub values_same : (heap slots slots' : List ℕ) (from n : ℕ) → ((j : ℕ) → from ≤ j → j < from + n → get_or slots j 0 ≡ get_or slots' j 0)
-    → valuesAt heap slots from n ≡ valuesAt heap slots' from n
-unfolding valuesAt
+    → values_at heap slots from n ≡ values_at heap slots' from n
+unfolding values_at
 values_same heap slots slots' from zero s = refl
 values_same heap slots slots' from (suc n) s =
     ap₂ ◌∷◌ (ap (value_at heap) (s from (omega arith) (omega arith))) (values_same heap slots slots' (from + 1) n λ j h h'. s j (omega arith) (omega arith))
 
 module _ {heap slots anc bytes : List ℕ} (B : Beginning heap slots anc bytes) where
   -- the value's bytes are within the limit
-  value-short : length bytes ≤ maxValueBytes
+  value-short : length bytes ≤ max_value_bytes
   unfolding fits
   value-short = given (value-sound bytes B.read) λ (e, f).
-      omega (arith, ap length e, length-encode (valueIn bytes), leb-sound (size (valueIn bytes)) maxValueBytes f)
+      omega (arith, ap length e, length-encode (value_in bytes), leb-sound (size (value_in bytes)) max_value_bytes f)
 
-  few_bytes : length anc ≤ maxValueBytes
-  few_bytes = ancillae-short B.for-ancillae
+  few_bytes : length anc ≤ max_value_bytes
+  few_bytes = ancillae-short B.for_ancillae
 
-  value-bytes : bytes ≡ encode (valueIn bytes) ++ []
-  value-bytes = (value-sound bytes B.read).0 ∙ sym (append-nil (encode (valueIn bytes)))
+  value_bytes_lem : bytes ≡ encode (value_in bytes) ++ []
+  value_bytes_lem = (value-sound bytes B.read).0 ∙ sym (append-nil (encode (value_in bytes)))
 
   module _ {heap₁ slots₁ : List ℕ} {start : Start} (A : AncillaeLoaded heap heap₁ slots slots₁ anc start) where
     pub begun-ready : LoadReady heap₁ start.top bytes
-    unfolding startNodes maxAncillaBytes maxValueBytes encodeAll
+    unfolding start_nodes max_ancilla_bytes max_value_bytes encode_all
     begun-ready = record {
       right = A.graph.right;
-      values = valueIn bytes ∷ [];
-      whole = value-bytes;
+      values = value_in bytes ∷ [];
+      whole = value_bytes_lem;
       short = value-short;
-      room = omega (arith, A.nodes, value-short, few_bytes, B.for-ancillae.nodes-there, A.heap-length);
+      room = omega (arith, A.nodes, value-short, few_bytes, B.for_ancillae.nodes_there, A.heap_length);
       small = omega (arith, A.nodes, value-short, few_bytes);
     }
 
     last-there : start.count < length slots₁
-    last-there = omega (arith, A.count, B.for-ancillae.few, B.for-ancillae.slots-there, A.slots_length)
+    last-there = omega (arith, A.count, B.for_ancillae.few, B.for_ancillae.slots_there, A.slots_length)
 
     -- the values in order, the dynamic one last
     abbrev all : List Val
-    all = valuesIn anc ++ (valueIn bytes ∷ [])
+    all = values_in anc ++ (value_in bytes ∷ [])
 
-    all-before : (i : ℕ) → i < start.count → get_or all i unit ≡ get_or (valuesIn anc) i unit
-    all-before i l = get_or-append (valuesIn anc) (valueIn bytes ∷ []) unit i (omega (arith, A.count))
+    all-before : (i : ℕ) → i < start.count → get_or all i unit ≡ get_or (values_in anc) i unit
+    all-before i l = get_or-append (values_in anc) (value_in bytes ∷ []) unit i (omega (arith, A.count))
 
-    all-last : get_or all start.count unit ≡ valueIn bytes
-    all-last = ap (λ i. get_or all i unit) A.count ∙ get_or-append_seam (valuesIn anc) (valueIn bytes) [] unit
+    all-last : get_or all start.count unit ≡ value_in bytes
+    all-last = ap (λ i. get_or all i unit) A.count ∙ get_or-append_seam (values_in anc) (value_in bytes) [] unit
 
     earlier : Held heap₁ slots₁ all start.count start.top
     earlier = record {
@@ -252,31 +252,31 @@ module _ {heap slots anc bytes : List ℕ} (B : Beginning heap slots anc bytes) 
 
     module _ {heap' : List ℕ} {top : ℕ} (d : LoadedFrom heap₁ heap' start.top bytes 0 top) where
       some : 0 < length bytes
-      some = omega (arith, ap length (value-sound bytes B.read).0, length-encode (valueIn bytes), size-positive (valueIn bytes))
+      some = omega (arith, ap length (value-sound bytes B.read).0, length-encode (value_in bytes), size-positive (value_in bytes))
 
       abbrev slots' : List ℕ
       slots' = set slots₁ start.count (top - 1)
 
-      is-value : value_at heap' (top - 1) ≡ valueIn bytes
-      is-value =
+      is_value_lem : value_at heap' (top - 1) ≡ value_in bytes
+      is_value_lem =
           let z : top - 1 ≡ start.top + (length bytes - (0 + 1)) = omega (arith, d.nodes, some) in
-          ap (value_at heap') z ∙ loaded-value d 0 (valueIn bytes) [] some value-bytes
+          ap (value_at heap') z ∙ loaded-value d 0 (value_in bytes) [] some value_bytes_lem
 
       now : Held heap' slots' all (suc start.count) top
-      now = held_more earlier d.agree last-there d.right (omega (arith, d.nodes)) (omega (arith, d.nodes, some)) (is-value ∙ sym all-last)
+      now = held_more earlier d.agree last-there d.right (omega (arith, d.nodes)) (omega (arith, d.nodes, some)) (is_value_lem ∙ sym all-last)
 
       begun-set : Begun heap heap' slots slots' anc bytes (record { count = start.count; top = top })
-      unfolding startNodes maxAncillaBytes maxValueBytes
+      unfolding start_nodes max_ancilla_bytes max_value_bytes
       begun-set = record {
         graph = now.graph;
         few = omega (arith, A.nodes, few_bytes, d.nodes, value-short);
         count = A.count;
         held = λ i l. now.held i (omega arith);
-        values = ap (valuesAt heap' slots' 0) A.count ∙ values-are heap' slots' (valuesIn anc) 0 λ i l.
+        values = ap (values_at heap' slots' 0) A.count ∙ values_are heap' slots' (values_in anc) 0 λ i l.
             ap (λ i. value_at heap' (get_or slots' i 0)) (let z : 0 + i ≡ i = omega arith in z)
             ∙ now.values i (omega (arith, A.count)) ∙ all-before i (omega (arith, A.count));
         last = now.values start.count (omega arith) ∙ all-last;
-        heap-length = A.heap-length ∙ d.agree.lengths;
+        heap_length = A.heap_length ∙ d.agree.lengths;
         slots_length = A.slots_length ∙ sym (length-set slots₁ start.count (top - 1));
       }
 

@@ -4,7 +4,7 @@ use package.Rattle.rules.specs.Val.{size}
 use package.Rattle.calls.specs.Answer.{Answer, accepted, ◌>>=◌, require}
 use package.Rattle.calls.specs.Runs.{Ran, written}
 use package.Rattle.answers.specs.declared.RunAnswer.{RunAnswer}
-use package.Rattle.answers.specs.Answers.{runAnswer, summary, Later}
+use package.Rattle.answers.specs.Answers.{run_answer, summary, Later}
 use package.Rattle.valuegraph.specs.Nodes.{Heap}
 use package.Rattle.backward.specs.declared.outcomes.Refusal.{Refusal}
 use package.Rattle.backward.specs.declared.outcomes.Refusal.TheVariants as why
@@ -18,8 +18,8 @@ finished out x = do
 
 -- The end of a run whose answer is `x`, and the output before and after it.
 pub record Means (r : RunAnswer) (out out' : List ℕ) (x : Answer Ran) : Type 0 where
-  pub answer : runAnswer r ≡ summary (finished (length out) x)
-  pub later : Later (runAnswer r)
+  pub answer : run_answer r ≡ summary (finished (length out) x)
+  pub later : Later (run_answer r)
   pub output : out' ≡ written (finished (length out) x) out
 
 -- a node that a run has given, with what is left of its fuel

@@ -1,6 +1,6 @@
 // The run of a function backward (refusals 12 to 16, then 17).
 ghost use Rattle.scopes.specs.Slots.{machine_of};
-ghost use Rattle.backward.specs.Outcomes.{statusOf};
+ghost use Rattle.backward.specs.Outcomes.{status_of};
 ghost use Rattle.runs.specs.Back.{Returnable, Undone, Returns};
 
 use crate::{begin, ended};
@@ -24,7 +24,7 @@ fn undo(
     m: &mut [u32; 2],
 ) -> Input
     requires { Returnable p.now terms.now functions.now ws.old function ancillae.now value.now fuel }
-    ensures { Undone p.now terms.now functions.now ws.new function ancillae.now value.now fuel (statusOf result.stop) result.node (machine_of m.new) }
+    ensures { Undone p.now terms.now functions.now ws.new function ancillae.now value.now fuel (status_of result.stop) result.node (machine_of m.new) }
 {
     let mut code = [0u16; CODE];
     decode::decode(&mut code, p, terms, functions);

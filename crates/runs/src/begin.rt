@@ -1,7 +1,7 @@
 // Where a run begins, forward or back: its values stand in the workspace as nodes, the unit first, then the ancillae, then the
 // value; the first slots hold the nodes of the ancillae, and the slot behind them that of the value.
 ghost use Rattle.std.specs.Prelude.{◌≡◌, length};
-ghost use Rattle.scopes.specs.Slots.{stateCount, slots_of};
+ghost use Rattle.scopes.specs.Slots.{state_count, slots_of};
 ghost use Rattle.runs.specs.Begun.{Enough, Beginning, AncillaeIn, BegunIn};
 
 use scopes::slots;
@@ -19,7 +19,7 @@ pub struct Start {
 }
 
 fn load_ancillae(ws: &mut [u8], st: &mut [u32; STATE], bytes: &[u8]) -> Start
-    requires st_len { length st.old ≡ stateCount }
+    requires st_len { length st.old ≡ state_count }
     requires enough { Enough ws.old (slots_of st.old) bytes.now }
     ensures { AncillaeIn ws.old ws.new st.old st.new bytes.now result }
 {
@@ -37,7 +37,7 @@ fn load_ancillae(ws: &mut [u8], st: &mut [u32; STATE], bytes: &[u8]) -> Start
 }
 
 pub fn begin(ws: &mut [u8], st: &mut [u32; STATE], ancillae: &[u8], value: &[u8]) -> Start
-    requires st_len { length st.old ≡ stateCount }
+    requires st_len { length st.old ≡ state_count }
     requires beginning { Beginning ws.old (slots_of st.old) ancillae.now value.now }
     ensures { BegunIn ws.old ws.new st.old st.new ancillae.now value.now result }
 {

@@ -2,7 +2,7 @@
 ghost use Rattle.rules.specs.Run.{ok};
 ghost use Rattle.calls.specs.Runs.{ran};
 ghost use Rattle.valuegraph.specs.Nodes.{value_at};
-ghost use Rattle.backward.specs.Outcomes.{refusalOf};
+ghost use Rattle.backward.specs.Outcomes.{refusal_of};
 ghost use Rattle.runs.specs.Ended.{Shaped, Gives, Means};
 
 use answers::{Done, Refusal, RunAnswer};
@@ -26,7 +26,7 @@ pub fn give(ws: &[u8], node: u32, fuel: u16, left: u32, out: &mut [u8]) -> RunAn
 // The run was refused, with 12 to 16.
 pub fn refuse(why: outcomes::Refusal, fuel: u16, out: &mut [u8]) -> RunAnswer
     requires { Shaped why }
-    ensures { Means result out.old out.new (ran fuel (refusalOf why)) }
+    ensures { Means result out.old out.new (ran fuel (refusal_of why)) }
 {
     match why {
         outcomes::Refusal::Fuel(t) => RunAnswer::Refused(Refusal::Fuel(t)),

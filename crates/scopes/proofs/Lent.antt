@@ -5,7 +5,7 @@ use mathlib.Core.Path.{◌≡◌, refl, sym, ap, ap₂, ◌∙◌}
 use mathlib.Core.List.{List}
 use lib.ListN.{length, get_or, set, drop, length-set}
 use lib.Seq.{get_or-set_same, get_or-set_other, get_or-drop, drop-set-lt, drop-set-add}
-use package.Rattle.scopes.specs.Slots.{Machine, Scope, machine_of, slots_of, scopeIn, Moved, Written}
+use package.Rattle.scopes.specs.Slots.{Machine, Scope, machine_of, slots_of, scope_in, Moved, Written}
 
 ----------------------------------------------------------------
 -- The machine
@@ -50,7 +50,7 @@ slot-written st at node = record {
 ----------------------------------------------------------------
 -- Scopes
 
-pub scope-packed : (base q n x : ℕ) → q < 65536 → n < 65536 → x ≡ 65536 * (65536 * base + q) + n → scopeIn x ≡ record { base = base; q = q; n = n }
+pub scope-packed : (base q n x : ℕ) → q < 65536 → n < 65536 → x ≡ 65536 * (65536 * base + q) + n → scope_in x ≡ record { base = base; q = q; n = n }
 scope-packed base q n x lq ln e =
     let y = 65536 * base + q in
     let low : x % 65536 ≡ n = omega arith in

@@ -10,7 +10,7 @@ use lib.Dec.{eqb}
 use borrow.Author.Tests.{eq-eqb, ne_eqb, eqb-true, eqb-false, lt-ltb, le-ltb}
 use package.Rattle.valuegraph.specs.Nodes.{left_at, Room, Heap, Agree}
 use package.Rattle.valuegraph.proofs.Places.{agree_left}
-use package.Rattle.scopes.specs.Slots.{unknown, found, nodeOr, slot_at, Slot, Slots}
+use package.Rattle.scopes.specs.Slots.{unknown, found, node_or, slot_at, Slot, Slots}
 use Rattle.scopes.specs.declared.slots.Found.{Found}
 use Rattle.scopes.specs.declared.slots.Found.TheVariants.{Node, Unknown}
 
@@ -30,9 +30,9 @@ unfolding found
 found-cell heap s l = rw (found, le-ltb s unknown (omega arith), ne_eqb s unknown (λ e. omega arith))
 
 -- a variable in scope has a node
-pub slot-in : (heap slots : List ℕ) (base n i : ℕ) → i < n → slot_at heap slots base n i ≡ Node (nodeOr (found heap (get_or slots (base + i) 0)))
+pub slot_in : (heap slots : List ℕ) (base n i : ℕ) → i < n → slot_at heap slots base n i ≡ Node (node_or (found heap (get_or slots (base + i) 0)))
 unfolding slot_at
-slot-in heap slots base n i l = rw (slot_at, lt-ltb i n l)
+slot_in heap slots base n i l = rw (slot_at, lt-ltb i n l)
 
 pub slot-out : (heap slots : List ℕ) (base n i : ℕ) → n ≤ i → slot_at heap slots base n i ≡ Unknown
 unfolding slot_at
@@ -47,21 +47,21 @@ found_below {heap} {s} {top} S small d k =
     (λ z. ⊎_elim (λ l. k s l (found-node heap s (omega arith))) (λ C. k (left_at heap (s - unknown)) C.node (found-cell heap s C.above)) z)
     S
 
-pub node-or : {f : Found} {node : ℕ} → f ≡ Node node → nodeOr f ≡ node
-unfolding nodeOr
-node-or e = ap nodeOr e
+pub node_or_lem : {f : Found} {node : ℕ} → f ≡ Node node → node_or f ≡ node
+unfolding node_or
+node_or_lem e = ap node_or e
 
-pub node-none : {f : Found} → f ≡ Unknown → nodeOr f ≡ 0
-unfolding nodeOr
-node-none e = ap nodeOr e
+pub node_none : {f : Found} → f ≡ Unknown → node_or f ≡ 0
+unfolding node_or
+node_none e = ap node_or e
 
 -- what a number says is a node below `top`, or node 0
-pub found-low : {heap : List ℕ} {s top : ℕ} → Slot heap s top → top ≤ unknown → 0 < top → nodeOr (found heap s) < top
+pub found-low : {heap : List ℕ} {s top : ℕ} → Slot heap s top → top ≤ unknown → 0 < top → node_or (found heap s) < top
 found-low {heap} {s} {top} S small some = go (eqb s unknown) refl
   where
-    go : (y : Bool) → eqb s unknown ≡ y → nodeOr (found heap s) < top
-    go true q = rw (node-none (found-mark heap s (eqb-true s unknown q))) some
-    go false q = found_below S small (eqb-false s unknown q) λ node low e. rw (node-or e) low
+    go : (y : Bool) → eqb s unknown ≡ y → node_or (found heap s) < top
+    go true q = rw (node_none (found-mark heap s (eqb-true s unknown q))) some
+    go false q = found_below S small (eqb-false s unknown q) λ node low e. rw (node_or_lem e) low
 
 -- a cell that a slot names is there
 pub cell_room : {heap : List ℕ} {s top : ℕ} → Heap heap top → Slot heap s top → unknown < s → Room heap (s - unknown + 1)
@@ -72,8 +72,8 @@ cell_room {s = s} {top = top} H S l =
 -- A heap that has grown
 
 module _ {heap heap' : List ℕ} {top : ℕ} (A : Agree top heap heap') where
-  pub slot-later : {s : ℕ} (top' : ℕ) → top ≤ top' → Slot heap s top → Slot heap' s top'
-  slot-later {s} top' le S =
+  pub slot_later : {s : ℕ} (top' : ℕ) → top ≤ top' → Slot heap s top → Slot heap' s top'
+  slot_later {s} top' le S =
       ⊎_elim
       (λ e. left e)
       (λ z. right (⊎_elim (λ l. left (omega arith)) (λ C. right (record {
@@ -83,11 +83,11 @@ module _ {heap heap' : List ℕ} {top : ℕ} (A : Agree top heap heap') where
       })) z))
       S
 
-  pub slots-later : {slots : List ℕ} {m : ℕ} (top' : ℕ) → top ≤ top' → Slots heap slots m top → Slots heap' slots m top'
-  slots-later top' le S = record { held = λ j l. slot-later top' le (S.held j l) }
+  pub slots_later : {slots : List ℕ} {m : ℕ} (top' : ℕ) → top ≤ top' → Slots heap slots m top → Slots heap' slots m top'
+  slots_later top' le S = record { held = λ j l. slot_later top' le (S.held j l) }
 
-  pub found-later : {s : ℕ} → Slot heap s top → top ≤ unknown → found heap s ≡ found heap' s
-  found-later {s} S small =
+  pub found_later : {s : ℕ} → Slot heap s top → top ≤ unknown → found heap s ≡ found heap' s
+  found_later {s} S small =
       ⊎_elim
       (λ e. found-mark heap s e ∙ sym (found-mark heap' s e))
       (λ z. ⊎_elim

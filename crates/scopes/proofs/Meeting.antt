@@ -7,10 +7,10 @@ use mathlib.Core.List.{List}
 use lib.ListN.{get_or, set}
 use package.Rattle.rules.specs.Val.{same}
 use package.Rattle.valuegraph.specs.Nodes.{value_at}
-use package.Rattle.scopes.specs.Slots.{unknown, Scope, machine_of, slots_of, nodeOr, Written}
+use package.Rattle.scopes.specs.Slots.{unknown, Scope, machine_of, slots_of, node_or, Written}
 use package.Rattle.scopes.specs.Bindings.{said, seen, Looks, Adds, EntersBound, Meetable, MeetsBy, MeetsAt}
 use package.Rattle.scopes.proofs.Views.{seen_low}
-use package.Rattle.scopes.proofs.Marks.{node-or}
+use package.Rattle.scopes.proofs.Marks.{node_or_lem}
 use Rattle.scopes.specs.declared.slots.Found.{Found}
 use Rattle.scopes.specs.declared.slots.Found.TheVariants.{Node, Unknown}
 use Rattle.scopes.specs.declared.bindings.Bindings.{Bindings}
@@ -35,10 +35,10 @@ module _ {heap st : List ℕ} {b : Bindings} {sc : Scope} {i : ℕ} (M : Meetabl
 
   -- a node that is seen is there
   pub old-low : {f : Found} {old : ℕ} → f ≡ seen heap b s → f ≡ Node old → old < top
-  unfolding nodeOr
+  unfolding node_or
   old-low q z =
-      let low : nodeOr (seen heap b s) < top = seen_low b looks.slot looks.small (omega (arith, looks.within)) in
-      subst (λ x. x < top) (node-or (sym q ∙ z)) low
+      let low : node_or (seen heap b s) < top = seen_low b looks.slot looks.small (omega (arith, looks.within)) in
+      subst (λ x. x < top) (node_or_lem (sym q ∙ z)) low
 
 module _ (heap st : List ℕ) (b : Bindings) (sc : Scope) (i node : ℕ) (M : Meetable heap st b sc i) {base v s : ℕ} (eb : base ≡ sc.base)
     (e : v ≡ i) (n : Number st base v s)
@@ -46,11 +46,11 @@ module _ (heap st : List ℕ) (b : Bindings) (sc : Scope) (i node : ℕ) (M : Me
   said-there : {g : Found} → f ≡ g → g ≡ said heap (slots_of st) b sc i
   said-there z = sym z ∙ q ∙ ap (seen heap b) (number st eb e n) ∙ M.reads
 
-  pub met-compared : {old : ℕ} → f ≡ Node old → {agrees : Bool} → agrees ≡ same (value_at heap old) (value_at heap node)
+  pub met_compared : {old : ℕ} → f ≡ Node old → {agrees : Bool} → agrees ≡ same (value_at heap old) (value_at heap node)
       → MeetsAt heap heap st st b sc i node (record { agrees = agrees; state = b })
-  met-compared {old} z {agrees} a = record {
+  met_compared {old} z {agrees} a = record {
     met = subst (MeetsBy heap heap st st b sc.base i node (record { agrees = agrees; state = b })) (said-there z)
-        (record { agrees = a; heap-same = refl; numbers-same = refl; state-same = refl });
+        (record { agrees = a; heap_same = refl; numbers_same = refl; state_same = refl });
   }
 
   pub met-bound : {heap' st₁ st' : List ℕ} {top : ℕ} → top ≡ (machine_of st).top → f ≡ Unknown → {r : Bindings} → Adds heap heap' st st₁ b node i r
@@ -67,9 +67,9 @@ module _ (heap st : List ℕ) (b : Bindings) (sc : Scope) (i node : ℕ) (M : Me
   }
 
 -- a variable comes into scope bound, by a cell and its slot
-pub entered-it : {heap heap' st st₁ st' : List ℕ} {b r : Bindings} (sc : Scope) {node n at top : ℕ} → n ≡ sc.n → top ≡ (machine_of st).top
+pub entered_it : {heap heap' st st₁ st' : List ℕ} {b r : Bindings} (sc : Scope) {node n at top : ℕ} → n ≡ sc.n → top ≡ (machine_of st).top
     → at ≡ sc.base + sc.n → Adds heap heap' st st₁ b node n r → Written st₁ st' at (unknown + top) → EntersBound heap heap' st st' b sc node r
-entered-it {st = st} {b = b} {r = r} sc {node} {n} {at} {top} qn qt qa A W = record {
+entered_it {st = st} {b = b} {r = r} sc {node} {n} {at} {top} qn qt qa A W = record {
   linked = rw (← qn) A.linked;
   lengths = W.lengths ∙ A.moved.lengths;
   slots = W.slots ∙ ap (λ s. set s at (unknown + top)) A.moved.slots ∙ rw (qa, qt);

@@ -13,8 +13,8 @@ use borrow.Author.Tests.{eqb-true, eqb-false, lt-ltb, le-ltb}
 use package.Rattle.valuegraph.specs.Nodes.{left_at, Heap, Agree}
 use package.Rattle.valuegraph.proofs.Places.{agree_left}
 use package.Rattle.scopes.specs.Slots.{unknown, found, meaning, Scope, Slot}
-use package.Rattle.scopes.specs.Cells.{cell_at, number_in, stateWith}
-use package.Rattle.scopes.specs.Bindings.{stateIn, Tells, seen}
+use package.Rattle.scopes.specs.Cells.{cell_at, number_in, state_with}
+use package.Rattle.scopes.specs.Bindings.{state_in, Tells, seen}
 use package.Rattle.scopes.proofs.Marks.{found-mark, found-node, found-cell}
 use package.Rattle.scopes.proofs.Scopes.{meaning-kept}
 use package.Rattle.scopes.proofs.Cells.{cell-le, cell-kept}
@@ -82,10 +82,10 @@ module _ {heap heap' : List ℕ} (slots slots' : List ℕ) {b : Bindings} (sc : 
       rw (le-ltb i sc.q (omega arith))
       (meaning-kept H A (sound i) small ∙ ap (λ c. meaning heap' (found heap' (unknown + c))) (cell-kept A b.head i within))
 
-  older-with : (n : ℕ) → stateWith heap slots b.head sc n ≡ stateWith heap' slots' b.head sc n
-  unfolding stateWith
-  older-with zero = refl
-  older-with (suc n) = ap₂ ◌∷◌ (older-number n (dec_lt n sc.q)) (older-with n)
+  older_with : (n : ℕ) → state_with heap slots b.head sc n ≡ state_with heap' slots' b.head sc n
+  unfolding state_with
+  older_with zero = refl
+  older_with (suc n) = ap₂ ◌∷◌ (older-number n (dec_lt n sc.q)) (older_with n)
 
-  pub older-state : stateIn heap slots b sc ≡ stateIn heap' slots' b sc
-  older-state = older-with sc.n
+  pub older-state : state_in heap slots b sc ≡ state_in heap' slots' b sc
+  older-state = older_with sc.n

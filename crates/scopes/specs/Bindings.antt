@@ -2,12 +2,12 @@
 -- many numbers as there may be variables, of which the first `len` are of variables in scope. Slots are an index, by which the code finds a
 -- variable's cell; the state decides whether the cell counts. Laws: proofs/Bound over views, proofs/Views from the code to views.
 use Rattle.std.specs.Prelude.{ℕ, zero, suc, ◌+◌, ◌-◌, ◌≤◌, ◌<◌, ◌≡◌, Bool, true, false, List, [], ◌∷◌, length, get_or, set, ltb}
-use package.Rattle.rules.specs.Limits.{maxVariables}
+use package.Rattle.rules.specs.Limits.{max_variables}
 use package.Rattle.rules.specs.Val.{same}
 use package.Rattle.rules.specs.Machine.{State}
 use package.Rattle.valuegraph.specs.Nodes.{value_at, Room, Heap}
-use package.Rattle.scopes.specs.Slots.{unknown, slotCount, stateCount, Scope, machine_of, slots_of, Moved, found, nodeOr, stateAt, Slot, Slots}
-use package.Rattle.scopes.specs.Cells.{cellCount, Linked, cell_at, number_in, stateWith}
+use package.Rattle.scopes.specs.Slots.{unknown, slot_count, state_count, Scope, machine_of, slots_of, Moved, found, node_or, state_at, Slot, Slots}
+use package.Rattle.scopes.specs.Cells.{cell_count, Linked, cell_at, number_in, state_with}
 use Rattle.scopes.specs.declared.slots.Found.{Found}
 use Rattle.scopes.specs.declared.slots.Found.TheVariants.{Node, Unknown}
 use Rattle.scopes.specs.declared.bindings.Bindings.{Bindings}
@@ -21,22 +21,22 @@ pub record View : Type 0 where
   pub len : ℕ
 
 -- `n` slots from `base` on
-unfoldable pub slotsFrom : List ℕ → ℕ → ℕ → List ℕ
-slotsFrom slots base zero = []
-slotsFrom slots base (suc n) = get_or slots base 0 ∷ slotsFrom slots (base + 1) n
+unfoldable pub slots_from : List ℕ → ℕ → ℕ → List ℕ
+slots_from slots base zero = []
+slots_from slots base (suc n) = get_or slots base 0 ∷ slots_from slots (base + 1) n
 
 -- the scope of `n` variables from slot `base` on
 abbrev pub view_of : List ℕ → ℕ → ℕ → View
-view_of slots base n = record { slots = slotsFrom slots base maxVariables; len = n }
+view_of slots base n = record { slots = slots_from slots base max_variables; len = n }
 
 -- the state, the newest variable first
 unfoldable pub state_of : List ℕ → View → State
-state_of heap b = stateAt heap b.slots 0 b.len
+state_of heap b = state_at heap b.slots 0 b.len
 
 -- the view holds nodes and cells below `top`
 pub record Bound (heap : List ℕ) (b : View) (top : ℕ) : Type 0 where
-  pub full : length b.slots ≡ maxVariables
-  pub few : b.len ≤ maxVariables
+  pub full : length b.slots ≡ max_variables
+  pub few : b.len ≤ max_variables
   pub held : Slots heap b.slots b.len top
 
 -- a variable comes into scope
@@ -48,7 +48,7 @@ pub record Opens (b : View) (x : ℕ) (r : View) : Type 0 where
 pub record Meets (heap : List ℕ) (b : View) (i node x : ℕ) (agrees : Bool) (r : View) : Type 0 where
   pub binds : get_or b.slots i 0 ≡ unknown → (agrees ≡ true) × (r.slots ≡ set b.slots i x) × (r.len ≡ b.len)
   pub compares : (get_or b.slots i 0 ≡ unknown → ⊥)
-      → (agrees ≡ same (value_at heap (nodeOr (found heap (get_or b.slots i 0)))) (value_at heap node)) × (r ≡ b)
+      → (agrees ≡ same (value_at heap (node_or (found heap (get_or b.slots i 0)))) (value_at heap node)) × (r ≡ b)
 
 -- the newest variable has left: its slot's number, and the view of the others
 pub record AfterLeaving : Type 0 where
@@ -64,8 +64,8 @@ pub record LeavesScope (b : View) (r : AfterLeaving) : Type 0 where
 -- The state in code
 
 -- The rules' state that a state by value is, in a scope.
-abbrev pub stateIn : (heap slots : List ℕ) → Bindings → Scope → State
-stateIn heap slots b sc = stateWith heap slots b.head sc sc.n
+abbrev pub state_in : (heap slots : List ℕ) → Bindings → Scope → State
+state_in heap slots b sc = state_with heap slots b.head sc sc.n
 
 -- The slots of the variables from `q` to `n` name the cells that bind them in the state, which binds none from `n` on.
 pub record Tells (heap slots : List ℕ) (b : Bindings) (base q n top : ℕ) : Type 0 where
@@ -94,12 +94,12 @@ pub record Looks (heap : List ℕ) (b : Bindings) (number top : ℕ) : Type 0 wh
 
 -- a cell can be made for variable `i`
 pub record CellReady (heap st : List ℕ) (b : Bindings) (i : ℕ) : Type 0 where
-  pub full : length st ≡ stateCount
+  pub full : length st ≡ state_count
   pub graph : Heap heap (machine_of st).top
   pub room : Room heap ((machine_of st).top + 1)
-  pub small : (machine_of st).top < cellCount
+  pub small : (machine_of st).top < cell_count
   pub within : b.head < (machine_of st).top
-  pub few : i ≤ maxVariables
+  pub few : i ≤ max_variables
 
 -- A cell is made, with the left part `x`: the state that it is the newest cell of.
 pub record Adds (heap heap' st st' : List ℕ) (b : Bindings) (x i : ℕ) (r : Bindings) : Type 0 where
@@ -119,16 +119,16 @@ pub record EntersBound (heap heap' st st' : List ℕ) (b : Bindings) (sc : Scope
 -- name a newer cell; then the state does not bind the variable.)
 pub record Meetable (heap st : List ℕ) (b : Bindings) (sc : Scope) (i : ℕ) : Type 0 where
   pub cell : CellReady heap st b i
-  pub there : sc.base + i < slotCount
+  pub there : sc.base + i < slot_count
   pub slot : Slot heap (get_or (slots_of st) (sc.base + i) 0) (machine_of st).top
   pub reads : seen heap b (get_or (slots_of st) (sc.base + i) 0) ≡ said heap (slots_of st) b sc i
 
 -- it is compared with what it is bound to, and all is as it was
 pub record Compared (heap heap' st st' : List ℕ) (b : Bindings) (old node : ℕ) (r : Met) : Type 0 where
   pub agrees : r.agrees ≡ same (value_at heap old) (value_at heap node)
-  pub heap-same : heap' ≡ heap
-  pub numbers-same : st' ≡ st
-  pub state-same : r.state ≡ b
+  pub heap_same : heap' ≡ heap
+  pub numbers_same : st' ≡ st
+  pub state_same : r.state ≡ b
 
 -- it is bound, by a new cell, which its slot names
 pub record Assigns (heap heap' st st' : List ℕ) (b : Bindings) (base i node : ℕ) (r : Met) : Type 0 where

@@ -2,7 +2,7 @@
 -- mark if the variable is not known. A scope is the state that the rules' runs have (rules/specs/Machine). Laws: proofs/Scopes.
 use Rattle.std.specs.Prelude.{ℕ, zero, suc, ◌+◌, ◌*◌, ◌-◌, ◌<◌, ◌/◌, ◌%◌, ◌≡◌, true, false, List, [], ◌∷◌, ◌⊎◌, length, get_or, set, drop, eqb, ltb}
 use Rattle.std.proofs.Math.Option.{Option, none, some}
-use package.Rattle.rules.specs.Limits.{maxHeight, maxParameters, maxVariables}
+use package.Rattle.rules.specs.Limits.{max_height, max_parameters, max_variables}
 use package.Rattle.rules.specs.Val.{Val}
 use package.Rattle.rules.specs.Machine.{State}
 use package.Rattle.valuegraph.specs.Nodes.{left_at, value_at}
@@ -14,16 +14,16 @@ unfoldable pub unknown : ℕ
 unknown = 2147483648
 
 -- how many variables a height may add: a function's parameters are more than any term binds
-abbrev pub slotsPerHeight : ℕ
-slotsPerHeight = maxParameters
+abbrev pub slots_per_height : ℕ
+slots_per_height = max_parameters
 
 -- how many slots there are: room for the variables of a run of the greatest height (section 2), and those of one scope more
-abbrev pub slotCount : ℕ
-slotCount = maxVariables + slotsPerHeight * (maxHeight + 1)
+abbrev pub slot_count : ℕ
+slot_count = max_variables + slots_per_height * (max_height + 1)
 
 -- all numbers that a run is lent: the machine, then the slots
-abbrev pub stateCount : ℕ
-stateCount = slotCount + 2
+abbrev pub state_count : ℕ
+state_count = slot_count + 2
 
 -- a part of a number that holds several is below this one
 abbrev pub part : ℕ
@@ -50,8 +50,8 @@ abbrev pub slots_of : List ℕ → List ℕ
 slots_of st = drop 2 st
 
 -- a scope in one number
-abbrev pub scopeIn : ℕ → Scope
-scopeIn x = record { base = x / part / part; q = x / part % part; n = x % part }
+abbrev pub scope_in : ℕ → Scope
+scope_in x = record { base = x / part / part; q = x / part % part; n = x % part }
 
 -- the machine is another one, and the slots are as they were
 pub record Moved (st st' : List ℕ) (m : Machine) : Type 0 where
@@ -81,19 +81,19 @@ meaning heap (Node node) = some (value_at heap node)
 meaning heap Unknown = none
 
 -- its node: node 0 is the unit, which a variable that is never met is
-unfoldable pub nodeOr : Found → ℕ
-nodeOr (Node node) = node
-nodeOr Unknown = 0
+unfoldable pub node_or : Found → ℕ
+node_or (Node node) = node
+node_or Unknown = 0
 
 -- What a term that runs forward reads of variable `i` of `n`: nothing, if it is not in scope; else its node, which is node 0, the unit, if
 -- it was not met so far (02, F-2).
 unfoldable pub slot_at : List ℕ → List ℕ → ℕ → ℕ → ℕ → Found
-slot_at heap slots base n i = elim (ltb i n) [ true ↦ Node (nodeOr (found heap (get_or slots (base + i) 0))) | false ↦ Unknown ]
+slot_at heap slots base n i = elim (ltb i n) [ true ↦ Node (node_or (found heap (get_or slots (base + i) 0))) | false ↦ Unknown ]
 
 -- the scope of `n` variables, the newest first
-unfoldable pub stateAt : List ℕ → List ℕ → ℕ → ℕ → State
-stateAt heap slots base zero = []
-stateAt heap slots base (suc n) = meaning heap (found heap (get_or slots (base + n) 0)) ∷ stateAt heap slots base n
+unfoldable pub state_at : List ℕ → List ℕ → ℕ → ℕ → State
+state_at heap slots base zero = []
+state_at heap slots base (suc n) = meaning heap (found heap (get_or slots (base + n) 0)) ∷ state_at heap slots base n
 
 -- The number of a cell below `top`, which is bound to a node below `top`.
 pub record Cell (heap : List ℕ) (s top : ℕ) : Type 0 where

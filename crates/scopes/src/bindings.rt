@@ -2,7 +2,7 @@
 // value" (section 2): meeting a variable binds it, by a new cell, or compares, as the state says, and hands the state back. Slots name the
 // cells of the variables in scope, so that none is searched for; a cell that is newer than the state does not count.
 ghost use Rattle.std.specs.Prelude.{◌≡◌, ◌+◌, ◌<◌, get_or};
-ghost use Rattle.scopes.specs.Slots.{unknown, slotCount, machine_of, slots_of, scopeIn, nodeOr};
+ghost use Rattle.scopes.specs.Slots.{unknown, slot_count, machine_of, slots_of, scope_in, node_or};
 ghost use Rattle.scopes.specs.Bindings.{seen, Looks, CellReady, Adds, EntersBound, Meetable, MeetsAt};
 
 use crate::slots::{Found, UNKNOWN};
@@ -56,9 +56,9 @@ impl Bindings {
 
     // Variable i of a scope is met with a node's value: it is bound, or compared, as the state says.
     pub fn meet(self, ws: &mut [u8], st: &mut [u32; STATE], scope: u64, i: u16, node: u32) -> Met
-        requires meetable { Meetable ws.old st.old self (scopeIn scope) i }
+        requires meetable { Meetable ws.old st.old self (scope_in scope) i }
         requires node_bound { node < (machine_of st.old).top }
-        ensures { MeetsAt ws.old ws.new st.old st.new self (scopeIn scope) i node result }
+        ensures { MeetsAt ws.old ws.new st.old st.new self (scope_in scope) i node result }
     {
         let top = state::top(st);
         let at = state::base_in(scope) + octets::wide_index(i);
@@ -80,9 +80,9 @@ impl Bindings {
 
     // The variable behind a scope comes into it bound to a node, by a new cell, which its slot names: the state with it.
     pub fn entered(self, ws: &mut [u8], st: &mut [u32; STATE], scope: u64, node: u32) -> Bindings
-        requires cell_ready { CellReady ws.old st.old self (scopeIn scope).n }
-        requires scope_bound { (scopeIn scope).base + (scopeIn scope).n < slotCount }
-        ensures { EntersBound ws.old ws.new st.old st.new self (scopeIn scope) node result }
+        requires cell_ready { CellReady ws.old st.old self (scope_in scope).n }
+        requires scope_bound { (scope_in scope).base + (scope_in scope).n < slot_count }
+        ensures { EntersBound ws.old ws.new st.old st.new self (scope_in scope) node result }
     {
         let top = state::top(st);
         let n = state::count_in(scope);
@@ -93,9 +93,9 @@ impl Bindings {
 
     // The node of the variable that has this slot; node 0, the unit, if it was never met.
     pub fn node_of(self, ws: &[u8], st: &[u32; STATE], slot: usize) -> u32
-        requires slot_lt_slot_count { slot < slotCount }
+        requires slot_lt_slot_count { slot < slot_count }
         requires looks { Looks ws.now self (get_or (slots_of st.now) slot 0) (machine_of st.now).top }
-        ensures { result ≡ nodeOr (seen ws.now self (get_or (slots_of st.now) slot 0)) }
+        ensures { result ≡ node_or (seen ws.now self (get_or (slots_of st.now) slot 0)) }
     {
         match self.seen(ws, state::top(st), slots::at(st, slot)) {
             Found::Node(node) => node,

@@ -3,7 +3,7 @@
 // calls do, so a function that is called has its slots above those of its caller, and nothing is copied.
 ghost use Rattle.std.specs.Prelude.{◌≡◌, ◌+◌, ◌≤◌, ◌<◌, length, get_or};
 ghost use Rattle.valuegraph.specs.Nodes.{Heap};
-ghost use Rattle.scopes.specs.Slots.{slotCount, stateCount, machine_of, slots_of, found, slot_at, Slot, Slots, Written};
+ghost use Rattle.scopes.specs.Slots.{slot_count, state_count, machine_of, slots_of, found, slot_at, Slot, Slots, Written};
 
 use crate::state;
 use crate::state::{SLOTS_FROM, STATE};
@@ -34,7 +34,7 @@ pub fn known(ws: &[u8], top: u32, number: u32) -> Found
 
 // Slot `at`.
 pub fn at(st: &[u32; STATE], slot: usize) -> u32
-    requires { slot < slotCount }
+    requires { slot < slot_count }
     ensures { result ≡ get_or (slots_of st.now) slot 0 }
 {
     st[SLOTS_FROM + slot]
@@ -42,7 +42,7 @@ pub fn at(st: &[u32; STATE], slot: usize) -> u32
 
 // What a term that runs forward reads of variable i of n: its node, if it is in scope; node 0, the unit, if it was not met so far (02, F-2).
 pub fn find(ws: &[u8], st: &[u32; STATE], base: usize, n: usize, i: u16) -> Found
-    requires n_bound { base + n ≤ slotCount }
+    requires n_bound { base + n ≤ slot_count }
     requires heap { Heap ws.now (machine_of st.now).top }
     requires slots { Slots ws.now (slots_of st.now) (base + n) (machine_of st.now).top }
     ensures { result ≡ slot_at ws.now (slots_of st.now) base n i }
@@ -59,7 +59,7 @@ pub fn find(ws: &[u8], st: &[u32; STATE], base: usize, n: usize, i: u16) -> Foun
 
 // A variable comes into scope.
 pub fn bind(st: &mut [u32; STATE], slot: usize, node: u32)
-    requires { (length st.old ≡ stateCount) × (slot < slotCount) }
+    requires { (length st.old ≡ state_count) × (slot < slot_count) }
     ensures { Written st.old st.new slot node }
 {
     st[SLOTS_FROM + slot] = node;

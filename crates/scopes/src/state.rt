@@ -1,7 +1,7 @@
 // The numbers that a run is lent: the machine, which is the first free node and the fuel, then the slots of scopes (specs/Slots). A scope is one
 // number too: its first slot, how many variables of it are ancilla parameters, and how many variables it has.
 ghost use Rattle.std.specs.Prelude.{◌≡◌, ◌+◌, ◌-◌, ◌≤◌, ◌<◌, length};
-ghost use Rattle.scopes.specs.Slots.{slotCount, stateCount, part, slots_of, machine_of, scopeIn, Moved};
+ghost use Rattle.scopes.specs.Slots.{slot_count, state_count, part, slots_of, machine_of, scope_in, Moved};
 
 use rules::{MAX_HEIGHT, MAX_PARAMETERS, MAX_VARIABLES};
 
@@ -29,7 +29,7 @@ pub fn fuel(st: &[u32; STATE]) -> u32
 
 // One unit of fuel is taken.
 pub fn spend(st: &mut [u32; STATE])
-    requires { (length st.old ≡ stateCount) × (0 < (machine_of st.old).fuel) }
+    requires { (length st.old ≡ state_count) × (0 < (machine_of st.old).fuel) }
     ensures { Moved st.old st.new (record { top = (machine_of st.old).top; fuel = (machine_of st.old).fuel - 1 }) }
 {
     st[1] = st[1] - 1;
@@ -37,7 +37,7 @@ pub fn spend(st: &mut [u32; STATE])
 
 // A node was made.
 pub fn grow(st: &mut [u32; STATE])
-    requires { (length st.old ≡ stateCount) × ((machine_of st.old).top + 1 < 4294967296) }
+    requires { (length st.old ≡ state_count) × ((machine_of st.old).top + 1 < 4294967296) }
     ensures { Moved st.old st.new (record { top = (machine_of st.old).top + 1; fuel = (machine_of st.old).fuel }) }
 {
     st[0] = st[0] + 1;
@@ -45,7 +45,7 @@ pub fn grow(st: &mut [u32; STATE])
 
 // The machine of a run that begins.
 pub fn begin(st: &mut [u32; STATE], top: u32, fuel: u32)
-    requires { length st.old ≡ stateCount }
+    requires { length st.old ≡ state_count }
     ensures { Moved st.old st.new (record { top = top; fuel = fuel }) }
 {
     st[0] = top;
@@ -54,41 +54,41 @@ pub fn begin(st: &mut [u32; STATE], top: u32, fuel: u32)
 
 // A scope of n variables from slot `base` on, of which the first q are ancilla parameters.
 pub fn scope(base: usize, q: usize, n: usize) -> u64
-    requires { (base ≤ slotCount) × (q < part) × (n < part) }
-    ensures { scopeIn result ≡ record { base = base; q = q; n = n } }
+    requires { (base ≤ slot_count) × (q < part) × (n < part) }
+    ensures { scope_in result ≡ record { base = base; q = q; n = n } }
 {
     PART * (PART * (base as u64) + q as u64) + n as u64
 }
 
 pub fn base_in(scope: u64) -> usize
-    ensures { result ≡ (scopeIn scope).base }
+    ensures { result ≡ (scope_in scope).base }
 {
     (scope / PART / PART) as usize
 }
 
 pub fn ancillae_in(scope: u64) -> usize
-    ensures { result ≡ (scopeIn scope).q }
+    ensures { result ≡ (scope_in scope).q }
 {
     (scope / PART % PART) as usize
 }
 
 pub fn count_in(scope: u64) -> usize
-    ensures { result ≡ (scopeIn scope).n }
+    ensures { result ≡ (scope_in scope).n }
 {
     (scope % PART) as usize
 }
 
 // The slot behind a scope.
 pub fn end_of(scope: u64) -> usize
-    ensures { result ≡ (scopeIn scope).base + (scopeIn scope).n }
+    ensures { result ≡ (scope_in scope).base + (scope_in scope).n }
 {
     base_in(scope) + count_in(scope)
 }
 
 // The scope with one variable more.
 pub fn wider(scope: u64) -> u64
-    requires { ((scopeIn scope).base ≤ slotCount) × ((scopeIn scope).n + 1 < part) }
-    ensures { scopeIn result ≡ record { base = (scopeIn scope).base; q = (scopeIn scope).q; n = (scopeIn scope).n + 1 } }
+    requires { ((scope_in scope).base ≤ slot_count) × ((scope_in scope).n + 1 < part) }
+    ensures { scope_in result ≡ record { base = (scope_in scope).base; q = (scope_in scope).q; n = (scope_in scope).n + 1 } }
 {
     scope + 1
 }

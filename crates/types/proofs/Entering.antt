@@ -10,45 +10,45 @@ use lib.ListN.{length, get_or, set, length-set}
 use lib.Seq.{get_or-set_same, get_or-set_other}
 use lib.Dec.{eqb}
 use borrow.Author.Tests.{eqb-true, eqb-false, eq-eqb, lt-ltb, le-ltb}
-use package.Rattle.rules.specs.Limits.{maxTypes}
+use package.Rattle.rules.specs.Limits.{max_types}
 use package.Rattle.rules.proofs.Basics.{given}
-use package.Rattle.rules.proofs.Typing.Tests.{sameTy-refl, sameTy-eq}
+use package.Rattle.rules.proofs.Typing.Tests.{same_ty_refl, same_ty_eq}
 use package.Rattle.rules.specs.Ty.{Ty, same_ty}
-use package.Rattle.calls.specs.Entries.{TypeEntry, y-unit, y-prod, y-sum, y-mu, y-var, type_at, typeTree, type_of}
-use package.Rattle.calls.specs.Named.{below, typesOfType}
+use package.Rattle.calls.specs.Entries.{TypeEntry, y_unit, y_prod, y_sum, y_mu, y_var, type_at, type_tree, type_of}
+use package.Rattle.calls.specs.Named.{below, types_of_type}
 use package.Rattle.calls.proofs.Entries.{below-head, below_wider, type-unfolds}
-use package.Rattle.types.specs.Layout.{figureBytes, figuresFrom, furtherFrom, furtherSlots, hintsFrom, typingBytes}
+use package.Rattle.types.specs.Layout.{figure_bytes, figures_from, further_from, further_slots, hints_from, typing_bytes}
 use package.Rattle.calls.specs.Figures.{ceiling, free}
-use package.Rattle.types.specs.Figures.{outer, number_at, freeAt, outerAt, standAt, aliasAt, pair_at, Alias, Figured}
+use package.Rattle.types.specs.Figures.{outer, number_at, free_at, outer_at, stand_at, alias_at, pair_at, Alias, Figured}
 use package.Rattle.types.specs.Codes.{Readable}
 use package.Rattle.types.specs.declared.numbering.Figure.{Figure}
-use package.Rattle.types.specs.Numbering.{packed, figureOf, numberFrom, putFigures, slots, slot_of, Finds, Numbered}
+use package.Rattle.types.specs.Numbering.{packed, figure_of, number_from, put_figures, slots, slot_of, Finds, Numbered}
 use package.Rattle.types.proofs.Figuring.{number_same, alias-kept, figured-same, length-figures, figures-other, figures-behind}
-use package.Rattle.types.proofs.Figuring.{number_put, free-put, outer-put, stand-put}
+use package.Rattle.types.proofs.Figuring.{number_put, free-put, outer-put, stand_put}
 use package.Rattle.program.specs.Parts.{TypeField}
 use package.Rattle.types.proofs.Outer.{at_place}
 use package.Rattle.types.specs.Growth.{Noted}
 use package.Rattle.types.proofs.Hinting.{noted-figured}
-use package.Rattle.types.proofs.Keys.{key-same, figure-free, figure-outer}
+use package.Rattle.types.proofs.Keys.{key-same, figure_free, figure_outer}
 
 ----------------------------------------------------------------
 -- The beginning
 
-pub none-numbered : {xs types heap keys index : List ℕ} → typingBytes ≤ length heap → length keys ≡ maxTypes → length index ≡ slots
-    → ((s : ℕ) → s < furtherSlots → pair_at heap s ≡ 0) → Numbered xs types heap keys index 0
-none-numbered held k x none = record {
+pub none_numbered : {xs types heap keys index : List ℕ} → typing_bytes ≤ length heap → length keys ≡ max_types → length index ≡ slots
+    → ((s : ℕ) → s < further_slots → pair_at heap s ≡ 0) → Numbered xs types heap keys index 0
+none_numbered held k x none = record {
   figured = record {
     held = held;
-    number-lower = λ i l. absurd (omega arith);
-    number-tree = λ i l. absurd (omega arith);
-    number-one = λ i j l. absurd (omega arith);
-    free-is = λ i l. absurd (omega arith);
-    outer-is = λ i l. absurd (omega arith);
-    alias-is = λ i j l. absurd (omega arith);
-    further-is = λ s i j l m o e. absurd (omega (arith, none s l, e, o));
+    number_lower = λ i l. absurd (omega arith);
+    number_tree = λ i l. absurd (omega arith);
+    number_one = λ i j l. absurd (omega arith);
+    free_is = λ i l. absurd (omega arith);
+    outer_is = λ i l. absurd (omega arith);
+    alias_is = λ i j l. absurd (omega arith);
+    further_is = λ s i j l m o e. absurd (omega (arith, none s l, e, o));
   };
-  keys-held = k;
-  index-held = x;
+  keys_held = k;
+  index_held = x;
   key = λ i l. absurd (omega arith);
   taken = λ i l. absurd (omega arith);
 }
@@ -57,22 +57,22 @@ none-numbered held k x none = record {
 -- What stays
 
 -- keys go by the numbers of lower entries
-key-kept : (heap heap' : List ℕ) {n : ℕ} → ((i : ℕ) → i < n → number_at heap i ≡ number_at heap' i) → (y : TypeEntry) → below n (typesOfType y) ≡ true
-    → (figureOf heap y).key ≡ (figureOf heap' y).key
-unfolding figureOf typesOfType
-key-kept heap heap' s y-unit l = refl
-key-kept heap heap' {n} s (y-prod a b) l = given (below-head n a _ l) λ (i, l₁). given (below-head n b _ l₁) λ (j, l₂). ap₂ (packed 1) (s a i) (s b j)
-key-kept heap heap' {n} s (y-sum a b) l = given (below-head n a _ l) λ (i, l₁). given (below-head n b _ l₁) λ (j, l₂). ap₂ (packed 2) (s a i) (s b j)
-key-kept heap heap' {n} s (y-mu a) l = given (below-head n a _ l) λ (i, l₁). ap (λ a. packed 3 a 0) (s a i)
-key-kept heap heap' s (y-var k) l = refl
+key-kept : (heap heap' : List ℕ) {n : ℕ} → ((i : ℕ) → i < n → number_at heap i ≡ number_at heap' i) → (y : TypeEntry) → below n (types_of_type y) ≡ true
+    → (figure_of heap y).key ≡ (figure_of heap' y).key
+unfolding figure_of types_of_type
+key-kept heap heap' s y_unit l = refl
+key-kept heap heap' {n} s (y_prod a b) l = given (below-head n a _ l) λ (i, l₁). given (below-head n b _ l₁) λ (j, l₂). ap₂ (packed 1) (s a i) (s b j)
+key-kept heap heap' {n} s (y_sum a b) l = given (below-head n a _ l) λ (i, l₁). given (below-head n b _ l₁) λ (j, l₂). ap₂ (packed 2) (s a i) (s b j)
+key-kept heap heap' {n} s (y_mu a) l = given (below-head n a _ l) λ (i, l₁). ap (λ a. packed 3 a 0) (s a i)
+key-kept heap heap' s (y_var k) l = refl
 
 -- and so do numbered entries where a hint is put
 numbered-noted : {xs types heap heap' keys index : List ℕ} {n : ℕ} → Readable xs types → n ≤ length types → Numbered xs types heap keys index n
     → Noted heap heap' → Numbered xs types heap' keys index n
 numbered-noted {xs} {types} {heap} {heap'} {keys} {index} {n} R le N H = record {
   figured = noted-figured (omega (arith, R.few)) N.figured H;
-  keys-held = N.keys-held;
-  index-held = N.index-held;
+  keys_held = N.keys_held;
+  index_held = N.index_held;
   key = λ i l. N.key i l ∙ key-kept heap heap' numbers _ (below_wider i n _ (omega arith) (R.lower i));
   taken = N.taken;
 }
@@ -88,7 +88,7 @@ module _ {xs types heap keys index : List ℕ} {i : ℕ} (R : Readable xs types)
   ys = map (type_at xs) types
 
   abbrev y : ℕ → TypeEntry
-  y j = get_or ys j y-unit
+  y j = get_or ys j y_unit
 
   T : ℕ → Ty
   T = type_of ys
@@ -101,45 +101,45 @@ module _ {xs types heap keys index : List ℕ} {i : ℕ} (R : Readable xs types)
 
   -- what reading the entry asks
   pub entry-asked : {at : ℕ} → at ≡ get_or types i 0
-      → (TypeField xs at × (typingBytes ≤ length heap)) × (below maxTypes (typesOfType (type_at xs at)) ≡ true)
+      → (TypeField xs at × (typing_bytes ≤ length heap)) × (below max_types (types_of_type (type_at xs at)) ≡ true)
   entry-asked e = (
     (subst (TypeField xs) (sym e) (R.field i l), F.held),
-    subst (λ y. below maxTypes (typesOfType y) ≡ true) (sym (place e))
-        (below_wider i maxTypes (typesOfType (y i)) (omega (arith, R.few)) (R.lower i)),
+    subst (λ y. below max_types (types_of_type y) ≡ true) (sym (place e))
+        (below_wider i max_types (types_of_type (y i)) (omega (arith, R.few)) (R.lower i)),
   )
 
-  few : i ≤ maxTypes
+  few : i ≤ max_types
   few = omega (arith, R.few)
 
-  lower : (j : ℕ) → j ≤ i → below i (typesOfType (y j)) ≡ true
-  lower j h = below_wider j i (typesOfType (y j)) h (R.lower j)
+  lower : (j : ℕ) → j ≤ i → below i (types_of_type (y j)) ≡ true
+  lower j h = below_wider j i (types_of_type (y j)) h (R.lower j)
 
-  unfolds : (j : ℕ) → T j ≡ typeTree T (y j)
+  unfolds : (j : ℕ) → T j ≡ type_tree T (y j)
   unfolding T
   unfolds j = type-unfolds ys R.lower j
 
   -- the tests on keys and on trees are the same
-  by_key : (j : ℕ) → j < i → eqb (get_or keys j 0) (figureOf heap (y i)).key ≡ same_ty (T j) (T i)
+  by_key : (j : ℕ) → j < i → eqb (get_or keys j 0) (figure_of heap (y i)).key ≡ same_ty (T j) (T i)
   unfolding T
   by_key j h =
-      ap (λ k. eqb k (figureOf heap (y i)).key) (N.key j h) ∙ key-same F few (y j) (y i) (lower j (omega arith)) (lower i (omega arith))
+      ap (λ k. eqb k (figure_of heap (y i)).key) (N.key j h) ∙ key-same F few (y j) (y i) (lower j (omega arith)) (lower i (omega arith))
       ∙ sym (ap₂ same_ty (unfolds j) (unfolds i))
 
-  module _ {f : Figure} {at : ℕ} (a : at ≡ get_or types i 0) (r : f ≡ figureOf heap (type_at xs at)) {k : ℕ} (D : Finds keys i f.key k) where
-    e : f ≡ figureOf heap (y i)
-    e = r ∙ ap (figureOf heap) (place a)
+  module _ {f : Figure} {at : ℕ} (a : at ≡ get_or types i 0) (r : f ≡ figure_of heap (type_at xs at)) {k : ℕ} (D : Finds keys i f.key k) where
+    e : f ≡ figure_of heap (y i)
+    e = r ∙ ap (figure_of heap) (place a)
 
     -- the entry that is found has the same tree
     found-tree : k < i → T k ≡ T i
-    found-tree h = sameTy-eq (T k) (T i) (sym (by_key k h) ∙ eq-eqb _ _ (D.there h ∙ ap (λ (f : Figure). f.key) e))
+    found-tree h = same_ty_eq (T k) (T i) (sym (by_key k h) ∙ eq-eqb _ _ (D.there h ∙ ap (λ (f : Figure). f.key) e))
 
     -- if none is found, no lower entry has it
-    none-tree : k ≡ i → (j : ℕ) → j < i → ¬ (T j ≡ T i)
-    none-tree q j h t =
-        D.none q j h (eqb-true _ _ (by_key j h ∙ ap (λ t. same_ty t (T i)) t ∙ sameTy-refl (T i)) ∙ sym (ap (λ (f : Figure). f.key) e))
+    none_tree : k ≡ i → (j : ℕ) → j < i → ¬ (T j ≡ T i)
+    none_tree q j h t =
+        D.none q j h (eqb-true _ _ (by_key j h ∙ ap (λ t. same_ty t (T i)) t ∙ same_ty_refl (T i)) ∙ sym (ap (λ (f : Figure). f.key) e))
 
-    number-if : (k < i → numberFrom heap i k ≡ number_at heap k) × (k ≡ i → numberFrom heap i k ≡ i)
-    number-if = (
+    number_if : (k < i → number_from heap i k ≡ number_at heap k) × (k ≡ i → number_from heap i k ≡ i)
+    number_if = (
       λ h. ap (λ b. cond b (number_at heap k) i) (lt-ltb k i h),
       λ q. ap (λ b. cond b (number_at heap k) i) (le-ltb k i (omega arith)),
     )
@@ -147,33 +147,33 @@ module _ {xs types heap keys index : List ℕ} {i : ℕ} (R : Readable xs types)
     either : {A : Type 0} → (k < i → A) → (k ≡ i → A) → A
     either p q = ⊎_elim q p (eq-or-lt_of_le D.most)
 
-    own-lower : numberFrom heap i k ≤ i
+    own-lower : number_from heap i k ≤ i
     own-lower = either
-        (λ h. subst (λ n. n ≤ i) (sym (number-if.0 h)) (let low : number_at heap k ≤ i = omega (arith, F.number-lower k h) in low))
-        (λ q. subst (λ n. n ≤ i) (sym (number-if.1 q)) (omega arith))
+        (λ h. subst (λ n. n ≤ i) (sym (number_if.0 h)) (let low : number_at heap k ≤ i = omega (arith, F.number_lower k h) in low))
+        (λ q. subst (λ n. n ≤ i) (sym (number_if.1 q)) (omega arith))
 
-    own-tree : T (numberFrom heap i k) ≡ T i
+    own-tree : T (number_from heap i k) ≡ T i
     unfolding T
-    own-tree = either (λ h. ap T (number-if.0 h) ∙ F.number-tree k h ∙ found-tree h) (λ q. ap T (number-if.1 q))
+    own-tree = either (λ h. ap T (number_if.0 h) ∙ F.number_tree k h ∙ found-tree h) (λ q. ap T (number_if.1 q))
 
-    own-one : (j : ℕ) → j < i → T j ≡ T i → number_at heap j ≡ numberFrom heap i k
+    own-one : (j : ℕ) → j < i → T j ≡ T i → number_at heap j ≡ number_from heap i k
     unfolding T
     own-one j h t = either
-        (λ l. F.number-one j k h l (t ∙ sym (found-tree l)) ∙ sym (number-if.0 l))
-        (λ q. absurd (none-tree q j h t))
+        (λ l. F.number_one j k h l (t ∙ sym (found-tree l)) ∙ sym (number_if.0 l))
+        (λ q. absurd (none_tree q j h t))
 
-    module _ {own : ℕ} (o : own ≡ numberFrom heap i k) {heap' : List ℕ} (w : heap' ≡ putFigures heap i own f.free f.outer)
+    module _ {own : ℕ} (o : own ≡ number_from heap i k) {heap' : List ℕ} (w : heap' ≡ put_figures heap i own f.free f.outer)
         (free-fits : f.free < 65536) (outer-fits : f.outer < 65536) where
-      room : figuresFrom + figureBytes * i + figureBytes ≤ length heap
+      room : figures_from + figure_bytes * i + figure_bytes ≤ length heap
       room = omega (arith, F.held, R.few)
 
       lengths : length heap ≡ length heap'
       lengths = sym (ap length w ∙ length-figures heap i own f.free f.outer)
 
-      same : (j : ℕ) → figuresFrom ≤ j → j < figuresFrom + figureBytes * i → get_or heap j 0 ≡ get_or heap' j 0
+      same : (j : ℕ) → figures_from ≤ j → j < figures_from + figure_bytes * i → get_or heap j 0 ≡ get_or heap' j 0
       same j g h = sym (ap (λ heap. get_or heap j 0) w ∙ figures-other heap i own f.free f.outer j h)
 
-      rows : (j : ℕ) → furtherFrom ≤ j → j < hintsFrom → get_or heap j 0 ≡ get_or heap' j 0
+      rows : (j : ℕ) → further_from ≤ j → j < hints_from → get_or heap j 0 ≡ get_or heap' j 0
       rows j g h = sym (ap (λ heap. get_or heap j 0) w ∙ figures-behind heap i own f.free f.outer j (omega (arith, R.few)))
 
       numbers : (j : ℕ) → j < i → number_at heap j ≡ number_at heap' j
@@ -182,7 +182,7 @@ module _ {xs types heap keys index : List ℕ} {i : ℕ} (R : Readable xs types)
       older : Figured ys heap' i
       older = figured-same F lengths same rows
 
-      new-number : number_at heap' i ≡ numberFrom heap i k
+      new-number : number_at heap' i ≡ number_from heap i k
       new-number = ap (λ heap. number_at heap i) w ∙ number_put heap i own f.free f.outer room (omega (arith, o, own-lower, R.few)) ∙ o
 
       -- for the older entries and for the new one
@@ -196,21 +196,21 @@ module _ {xs types heap keys index : List ℕ} {i : ℕ} (R : Readable xs types)
       unfolding T
       figured-more = record {
         held = older.held;
-        number-lower = each (λ j. number_at heap' j ≤ j) older.number-lower (subst (λ n. n ≤ i) (sym new-number) own-lower);
-        number-tree = each (λ j. type_of ys (number_at heap' j) ≡ type_of ys j) older.number-tree (ap (type_of ys) new-number ∙ own-tree);
-        number-one = λ j m h h'. each (λ j. type_of ys j ≡ type_of ys m → number_at heap' j ≡ number_at heap' m)
-            (λ j h. each (λ m. type_of ys j ≡ type_of ys m → number_at heap' j ≡ number_at heap' m) (λ m h'. older.number-one j m h h') (one-new j h) m h')
+        number_lower = each (λ j. number_at heap' j ≤ j) older.number_lower (subst (λ n. n ≤ i) (sym new-number) own-lower);
+        number_tree = each (λ j. type_of ys (number_at heap' j) ≡ type_of ys j) older.number_tree (ap (type_of ys) new-number ∙ own-tree);
+        number_one = λ j m h h'. each (λ j. type_of ys j ≡ type_of ys m → number_at heap' j ≡ number_at heap' m)
+            (λ j h. each (λ m. type_of ys j ≡ type_of ys m → number_at heap' j ≡ number_at heap' m) (λ m h'. older.number_one j m h h') (one-new j h) m h')
             (each (λ m. type_of ys i ≡ type_of ys m → number_at heap' i ≡ number_at heap' m) (λ m h' t. sym (one-new m h' (sym t))) (λ t. refl) m h') j h;
-        free-is = each (λ j. freeAt heap' j ≡ free (type_of ys j)) older.free-is
-            (ap (λ heap. freeAt heap i) w ∙ free-put heap i own f.free f.outer room free-fits ∙ ap (λ (f : Figure). f.free) e
-            ∙ figure-free F few (y i) (lower i (omega arith)) ∙ ap free (sym (unfolds i)));
-        outer-is = each (λ j. outerAt heap' j ≡ min ceiling (outer (type_of ys j))) older.outer-is
-            (ap (λ heap. outerAt heap i) w ∙ outer-put heap i own f.free f.outer room outer-fits ∙ ap (λ (f : Figure). f.outer) e
-            ∙ figure-outer F few (y i) (lower i (omega arith)) ∙ ap (λ t. min ceiling (outer t)) (sym (unfolds i)));
-        alias-is = λ j m h. each (λ j. standAt heap' j ≡ suc m → Alias ys heap' (i + 1) j m (aliasAt heap' j))
-            (λ j h t. alias-kept (omega arith) (λ k l. refl) refl (older.alias-is j m h t))
-            (λ t. absurd (omega (arith, t, ap (λ heap. standAt heap i) w, stand-put heap i own f.free f.outer room))) j h;
-        further-is = λ s a b l m o t. alias-kept (omega arith) (λ k l. refl) refl (older.further-is s a b l m o t);
+        free_is = each (λ j. free_at heap' j ≡ free (type_of ys j)) older.free_is
+            (ap (λ heap. free_at heap i) w ∙ free-put heap i own f.free f.outer room free-fits ∙ ap (λ (f : Figure). f.free) e
+            ∙ figure_free F few (y i) (lower i (omega arith)) ∙ ap free (sym (unfolds i)));
+        outer_is = each (λ j. outer_at heap' j ≡ min ceiling (outer (type_of ys j))) older.outer_is
+            (ap (λ heap. outer_at heap i) w ∙ outer-put heap i own f.free f.outer room outer-fits ∙ ap (λ (f : Figure). f.outer) e
+            ∙ figure_outer F few (y i) (lower i (omega arith)) ∙ ap (λ t. min ceiling (outer t)) (sym (unfolds i)));
+        alias_is = λ j m h. each (λ j. stand_at heap' j ≡ suc m → Alias ys heap' (i + 1) j m (alias_at heap' j))
+            (λ j h t. alias-kept (omega arith) (λ k l. refl) refl (older.alias_is j m h t))
+            (λ t. absurd (omega (arith, t, ap (λ heap. stand_at heap i) w, stand_put heap i own f.free f.outer room))) j h;
+        further_is = λ s a b l m o t. alias-kept (omega arith) (λ k l. refl) refl (older.further_is s a b l m o t);
       }
 
       ----------------------------------------------------------------
@@ -225,7 +225,7 @@ module _ {xs types heap keys index : List ℕ} {i : ℕ} (R : Readable xs types)
 
         here : get_or keys' i 0 ≡ f.key
         unfolding keys'
-        here = get_or-set_same keys i f.key 0 (omega (arith, N.keys-held, R.few))
+        here = get_or-set_same keys i f.key 0 (omega (arith, N.keys_held, R.few))
 
         kept : (j : ℕ) → j < i → get_or keys' j 0 ≡ get_or keys j 0
         unfolding keys'
@@ -233,7 +233,7 @@ module _ {xs types heap keys index : List ℕ} {i : ℕ} (R : Readable xs types)
 
         now-taken : 0 < get_or index' s 0
         unfolding index'
-        now-taken = subst (λ n. 0 < n) (sym (get_or-set_same index s (i + 1) 0 (omega (arith, N.index-held)))) (omega arith)
+        now-taken = subst (λ n. 0 < n) (sym (get_or-set_same index s (i + 1) 0 (omega (arith, N.index_held)))) (omega arith)
 
         still-taken : (t : ℕ) → 0 < get_or index t 0 → 0 < get_or index' t 0
         unfolding index'
@@ -247,9 +247,9 @@ module _ {xs types heap keys index : List ℕ} {i : ℕ} (R : Readable xs types)
         unfolding keys' index'
         numbered-put = record {
           figured = figured-more;
-          keys-held = length-set keys i f.key ∙ N.keys-held;
-          index-held = length-set index s (i + 1) ∙ N.index-held;
-          key = each (λ j. get_or keys' j 0 ≡ (figureOf heap' (y j)).key)
+          keys_held = length-set keys i f.key ∙ N.keys_held;
+          index_held = length-set index s (i + 1) ∙ N.index_held;
+          key = each (λ j. get_or keys' j 0 ≡ (figure_of heap' (y j)).key)
               (λ j h. kept j h ∙ N.key j h ∙ key-kept heap heap' numbers (y j) (lower j (omega arith)))
               (here ∙ ap (λ (f : Figure). f.key) e ∙ key-kept heap heap' numbers (y i) (lower i (omega arith)));
           taken = each (λ j. 0 < get_or index' (slot_of (get_or keys' j 0)) 0)

@@ -8,35 +8,35 @@ use mathlib.Core.List.{List, map}
 use lib.ListN.{length, get_or}
 use package.Rattle.octets.specs.Numbers.{put16}
 use package.Rattle.octets.proofs.Puts.{length-put16, put16-low, put16-other, get16-same, get16-put16}
-use package.Rattle.rules.specs.Limits.{maxTypes, maxTerms, maxNodes}
+use package.Rattle.rules.specs.Limits.{max_types, max_terms, max_nodes}
 use package.Rattle.rules.specs.Ty.{Ty, prod, nodes}
 use package.Rattle.calls.specs.Entries.{TypeEntry, type_at}
 use package.Rattle.types.specs.declared.codes.Code.{Code}
-use package.Rattle.types.specs.Codes.{Room, nodeBytes, productCode, code_at, left_at, rightAt, countAt, of_code}
-use package.Rattle.types.specs.Codes.{productWithin, productAt, tree_of, treeIn, Known, Right, Products, Sources}
+use package.Rattle.types.specs.Codes.{Room, node_bytes, product_code, code_at, left_at, right_at, count_at, of_code}
+use package.Rattle.types.specs.Codes.{product_within, product_at, tree_of, tree_in, Known, Right, Products, Sources}
 use package.Rattle.types.specs.Figures.{Figured}
 use package.Rattle.types.proofs.Figuring.{figured-same}
-use package.Rattle.types.specs.Growth.{putCode, putNode, Agree, Grown}
-use package.Rattle.types.proofs.Trees.{same_numbers, tree-product, code-agrees, enough}
+use package.Rattle.types.specs.Growth.{put_code, put_node, Agree, Grown}
+use package.Rattle.types.proofs.Trees.{same_numbers, tree-product, code_agrees, enough}
 
 ----------------------------------------------------------------
 -- A code that is put
 
-pub length-code : (heap : List ℕ) (i : ℕ) (c : Code) → length (putCode heap i c) ≡ length heap
-unfolding putCode
-length-code heap i c = simp length-put16
+pub length_code : (heap : List ℕ) (i : ℕ) (c : Code) → length (put_code heap i c) ≡ length heap
+unfolding put_code
+length_code heap i c = simp length-put16
 
-pub code-low : (heap : List ℕ) (i : ℕ) (c : Code) (j : ℕ) → j < i → get_or (putCode heap i c) j 0 ≡ get_or heap j 0
-unfolding putCode
-code-low heap i c j h =
+pub code_low : (heap : List ℕ) (i : ℕ) (c : Code) (j : ℕ) → j < i → get_or (put_code heap i c) j 0 ≡ get_or heap j 0
+unfolding put_code
+code_low heap i c j h =
     put16-low _ (i + 4) c.stands j (omega arith)
     ∙ put16-low _ (i + 2) c.at j (omega arith)
     ∙ put16-low heap i c.form j h
 
 -- what is above stays too
-pub code-high : (heap : List ℕ) (i : ℕ) (c : Code) (j : ℕ) → i + 6 ≤ j → get_or (putCode heap i c) j 0 ≡ get_or heap j 0
-unfolding putCode
-code-high heap i c j h =
+pub code_high : (heap : List ℕ) (i : ℕ) (c : Code) (j : ℕ) → i + 6 ≤ j → get_or (put_code heap i c) j 0 ≡ get_or heap j 0
+unfolding put_code
+code_high heap i c j h =
     put16-other _ (i + 4) c.stands j (λ e. omega arith) (λ e. omega arith)
     ∙ put16-other _ (i + 2) c.at j (λ e. omega arith) (λ e. omega arith)
     ∙ put16-other heap i c.form j (λ e. omega arith) (λ e. omega arith)
@@ -64,8 +64,8 @@ module _ (heap : List ℕ) (i : ℕ) (c : Code) (F : Fitting c) (room : i + 6 �
   unfolding formed
   length-formed = length-put16 heap i c.form
 
-  pub code_put : code_at (putCode heap i c) i ≡ c
-  unfolding code_at putCode formed
+  pub code_put : code_at (put_code heap i c) i ≡ c
+  unfolding code_at put_code formed
   code_put =
       same_numbers _ _
       (get16-same _ formed i (λ j h. put16-low _ (i + 4) c.stands j (omega arith) ∙ put16-low _ (i + 2) c.at j (omega arith))
@@ -77,58 +77,58 @@ module _ (heap : List ℕ) (i : ℕ) (c : Code) (F : Fitting c) (room : i + 6 �
 ----------------------------------------------------------------
 -- A node that is put
 
-pub length-node : (heap : List ℕ) (n : ℕ) (left right : Code) (count : ℕ) → length (putNode heap n left right count) ≡ length heap
-unfolding putNode
-length-node heap n left right count = simp (length-put16, length-code)
+pub length-node : (heap : List ℕ) (n : ℕ) (left right : Code) (count : ℕ) → length (put_node heap n left right count) ≡ length heap
+unfolding put_node
+length-node heap n left right count = simp (length-put16, length_code)
 
 module _ (heap : List ℕ) (n : ℕ) (left right : Code) (count : ℕ) where
   placed : List ℕ
-  placed = putCode heap (nodeBytes * n) left
+  placed = put_code heap (node_bytes * n) left
 
   length-placed : length placed ≡ length heap
   unfolding placed
-  length-placed = length-code heap (nodeBytes * n) left
+  length-placed = length_code heap (node_bytes * n) left
 
-  node-low : (j : ℕ) → j < nodeBytes * n → get_or (putNode heap n left right count) j 0 ≡ get_or heap j 0
-  unfolding putNode placed
+  node-low : (j : ℕ) → j < node_bytes * n → get_or (put_node heap n left right count) j 0 ≡ get_or heap j 0
+  unfolding put_node placed
   node-low j h =
-      put16-low (putCode placed (nodeBytes * n + 6) right) (nodeBytes * n + 12) count j (omega arith)
-      ∙ code-low placed (nodeBytes * n + 6) right j (omega arith)
-      ∙ code-low heap (nodeBytes * n) left j h
+      put16-low (put_code placed (node_bytes * n + 6) right) (node_bytes * n + 12) count j (omega arith)
+      ∙ code_low placed (node_bytes * n + 6) right j (omega arith)
+      ∙ code_low heap (node_bytes * n) left j h
 
   -- what is behind the node stays too
-  node-high : (j : ℕ) → nodeBytes * (n + 1) ≤ j → get_or (putNode heap n left right count) j 0 ≡ get_or heap j 0
-  unfolding putNode placed
-  node-high j h =
-      put16-other (putCode placed (nodeBytes * n + 6) right) (nodeBytes * n + 12) count j (λ e. omega arith) (λ e. omega arith)
-      ∙ code-high placed (nodeBytes * n + 6) right j (omega arith)
-      ∙ code-high heap (nodeBytes * n) left j (omega arith)
+  node_high : (j : ℕ) → node_bytes * (n + 1) ≤ j → get_or (put_node heap n left right count) j 0 ≡ get_or heap j 0
+  unfolding put_node placed
+  node_high j h =
+      put16-other (put_code placed (node_bytes * n + 6) right) (node_bytes * n + 12) count j (λ e. omega arith) (λ e. omega arith)
+      ∙ code_high placed (node_bytes * n + 6) right j (omega arith)
+      ∙ code_high heap (node_bytes * n) left j (omega arith)
 
   module _ (room : Room heap (n + 1)) where
-    left-put : Fitting left → left_at (putNode heap n left right count) n ≡ left
-    unfolding left_at putNode placed
+    left-put : Fitting left → left_at (put_node heap n left right count) n ≡ left
+    unfolding left_at put_node placed
     left-put F =
-        code_same (putNode heap n left right count) placed (nodeBytes * n)
-        (λ j h. put16-low (putCode placed (nodeBytes * n + 6) right) (nodeBytes * n + 12) count j (omega arith) ∙ code-low placed (nodeBytes * n + 6) right j (omega arith))
-        ∙ code_put heap (nodeBytes * n) left F (omega arith)
+        code_same (put_node heap n left right count) placed (node_bytes * n)
+        (λ j h. put16-low (put_code placed (node_bytes * n + 6) right) (node_bytes * n + 12) count j (omega arith) ∙ code_low placed (node_bytes * n + 6) right j (omega arith))
+        ∙ code_put heap (node_bytes * n) left F (omega arith)
 
-    right-put : Fitting right → rightAt (putNode heap n left right count) n ≡ right
-    unfolding rightAt putNode placed
+    right-put : Fitting right → right_at (put_node heap n left right count) n ≡ right
+    unfolding right_at put_node placed
     right-put F =
-        code_same (putNode heap n left right count) (putCode placed (nodeBytes * n + 6) right) (nodeBytes * n + 6)
-        (λ j h. put16-low (putCode placed (nodeBytes * n + 6) right) (nodeBytes * n + 12) count j (omega arith))
-        ∙ code_put placed (nodeBytes * n + 6) right F (omega (arith, length-placed))
+        code_same (put_node heap n left right count) (put_code placed (node_bytes * n + 6) right) (node_bytes * n + 6)
+        (λ j h. put16-low (put_code placed (node_bytes * n + 6) right) (node_bytes * n + 12) count j (omega arith))
+        ∙ code_put placed (node_bytes * n + 6) right F (omega (arith, length-placed))
 
-    count-put : count < 65536 → countAt (putNode heap n left right count) n ≡ count
-    unfolding countAt putNode placed
+    count-put : count < 65536 → count_at (put_node heap n left right count) n ≡ count
+    unfolding count_at put_node placed
     count-put small =
-        get16-put16 (putCode placed (nodeBytes * n + 6) right) (nodeBytes * n + 12) count
-        (omega (arith, length-code placed (nodeBytes * n + 6) right, length-placed)) small
+        get16-put16 (put_code placed (node_bytes * n + 6) right) (node_bytes * n + 12) count
+        (omega (arith, length_code placed (node_bytes * n + 6) right, length-placed)) small
 
-pub agree-put : (heap : List ℕ) (n : ℕ) (left right : Code) (count : ℕ) → n < maxTerms → Agree n heap (putNode heap n left right count)
+pub agree-put : (heap : List ℕ) (n : ℕ) (left right : Code) (count : ℕ) → n < max_terms → Agree n heap (put_node heap n left right count)
 agree-put heap n left right count few = record {
   same = λ j h. sym (node-low heap n left right count j h);
-  behind = λ j h l. sym (node-high heap n left right count j (omega arith));
+  behind = λ j h l. sym (node_high heap n left right count j (omega arith));
   lengths = sym (length-node heap n left right count);
 }
 
@@ -151,33 +151,33 @@ agree-down low le p = record { same = λ i h. p.same i (omega arith); behind = p
 module _ {top : ℕ} {heap heap' : List ℕ} (A : Agree top heap heap') (k : ℕ) (l : k < top) where
   agree_left : left_at heap k ≡ left_at heap' k
   unfolding left_at
-  agree_left = code_same heap heap' (nodeBytes * k) λ j h. A.same j (omega arith)
+  agree_left = code_same heap heap' (node_bytes * k) λ j h. A.same j (omega arith)
 
-  agree_right : rightAt heap k ≡ rightAt heap' k
-  unfolding rightAt
-  agree_right = code_same heap heap' (nodeBytes * k + 6) λ j h. A.same j (omega arith)
+  agree_right : right_at heap k ≡ right_at heap' k
+  unfolding right_at
+  agree_right = code_same heap heap' (node_bytes * k + 6) λ j h. A.same j (omega arith)
 
-  agree-count : countAt heap k ≡ countAt heap' k
-  unfolding countAt
-  agree-count = get16-same heap heap' (nodeBytes * k + 12) λ j h. A.same j (omega arith)
+  agree-count : count_at heap k ≡ count_at heap' k
+  unfolding count_at
+  agree-count = get16-same heap heap' (node_bytes * k + 12) λ j h. A.same j (omega arith)
 
 module _ {ys : List TypeEntry} {n : ℕ} {heap heap' : List ℕ} {top : ℕ} (P : Products ys n heap top) (A : Agree top heap heap') where
-  within-kept : (d k : ℕ) → k < top → productWithin d ys heap k ≡ productWithin d ys heap' k
-  unfolding productWithin
+  within-kept : (d k : ℕ) → k < top → product_within d ys heap k ≡ product_within d ys heap' k
+  unfolding product_within
   within-kept zero k l = refl
   within-kept (suc d) k l =
       ap₂ prod
-      (code-agrees ys _ _ (P.node k l).left (λ j h. within-kept d j (omega arith)) ∙ ap (of_code ys (productWithin d ys heap')) (agree_left A k l))
-      (code-agrees ys _ _ (P.node k l).right (λ j h. within-kept d j (omega arith)) ∙ ap (of_code ys (productWithin d ys heap')) (agree_right A k l))
+      (code_agrees ys _ _ (P.node k l).left (λ j h. within-kept d j (omega arith)) ∙ ap (of_code ys (product_within d ys heap')) (agree_left A k l))
+      (code_agrees ys _ _ (P.node k l).right (λ j h. within-kept d j (omega arith)) ∙ ap (of_code ys (product_within d ys heap')) (agree_right A k l))
 
-  product-kept : (k : ℕ) → k < top → productAt ys heap k ≡ productAt ys heap' k
-  unfolding productAt
+  product-kept : (k : ℕ) → k < top → product_at ys heap k ≡ product_at ys heap' k
+  unfolding product_at
   product-kept k l = within-kept (suc k) k l
 
   -- older codes keep their trees
   pub tree-kept : {c : Code} → Known n top c → tree_of ys heap c ≡ tree_of ys heap' c
   unfolding tree_of
-  tree-kept K = code-agrees ys _ _ K product-kept
+  tree-kept K = code_agrees ys _ _ K product-kept
 
   right_kept : (k : ℕ) → k < top → Right ys n heap' k
   right_kept k l =
@@ -186,13 +186,13 @@ module _ {ys : List TypeEntry} {n : ℕ} {heap heap' : List ℕ} {top : ℕ} (P 
         left = subst (Known n k) (agree_left A k l) N.left;
         right = subst (Known n k) (agree_right A k l) N.right;
         count = sym (agree-count A k l) ∙ N.count ∙ ap nodes (product-kept k l);
-        small = subst (λ m. m ≤ maxNodes) (agree-count A k l) N.small;
+        small = subst (λ m. m ≤ max_nodes) (agree-count A k l) N.small;
       }
 
   pub products-kept : Products ys n heap' top
   products-kept = record { held = omega (arith, P.held, A.lengths); node = right_kept }
 
-pub figures-kept : {ys : List TypeEntry} {n top : ℕ} {heap heap' : List ℕ} → n ≤ maxTypes → Figured ys heap n → Agree top heap heap' → Figured ys heap' n
+pub figures-kept : {ys : List TypeEntry} {n top : ℕ} {heap heap' : List ℕ} → n ≤ max_types → Figured ys heap n → Agree top heap heap' → Figured ys heap' n
 figures-kept few F A = figured-same F A.lengths (λ j l h. A.behind j l (omega arith)) λ j l h. A.behind j (omega arith) h
 
 pub sources-kept : {xs types heap heap' : List ℕ} {top : ℕ} → Sources xs types heap top → Agree top heap heap' → Sources xs types heap' top
@@ -204,15 +204,15 @@ sources-kept S A = record { entries = S.entries; figures = figures-kept S.entrie
 module _ {xs types heap : List ℕ} {top : ℕ} (S : Sources xs types heap top) {left right : Code} (K : Known (length types) top left)
     (K' : Known (length types) top right) where
   abbrev a : Ty
-  a = treeIn xs types heap left
+  a = tree_in xs types heap left
 
   abbrev b : Ty
-  b = treeIn xs types heap right
+  b = tree_in xs types heap right
 
-  module _ {m : ℕ} (exact : m ≡ nodes (prod a b)) (room : Room heap (top + 1)) (F : Fitting left) (F' : Fitting right) (h : m ≤ maxNodes)
-      (few : top < maxTerms) where
+  module _ {m : ℕ} (exact : m ≡ nodes (prod a b)) (room : Room heap (top + 1)) (F : Fitting left) (F' : Fitting right) (h : m ≤ max_nodes)
+      (few : top < max_terms) where
     new : List ℕ
-    new = putNode heap top left right m
+    new = put_node heap top left right m
 
     agree : Agree top heap new
     unfolding new
@@ -220,33 +220,33 @@ module _ {xs types heap : List ℕ} {top : ℕ} (S : Sources xs types heap top) 
 
     -- an older code under the new node
     part-kept : {c : Code} → Known (length types) top c
-        → of_code (map (type_at xs) types) (productWithin top (map (type_at xs) types) new) c ≡ treeIn xs types heap c
-    unfolding tree_of productAt
-    part-kept K = code-agrees (map (type_at xs) types) _ _ K λ k l.
+        → of_code (map (type_at xs) types) (product_within top (map (type_at xs) types) new) c ≡ tree_in xs types heap c
+    unfolding tree_of product_at
+    part-kept K = code_agrees (map (type_at xs) types) _ _ K λ k l.
         sym (within-kept S.products agree top k l) ∙ enough S.products top (suc k) k l l (omega arith)
 
-    new-tree : productAt (map (type_at xs) types) new top ≡ prod a b
-    unfolding productAt productWithin new
+    new-tree : product_at (map (type_at xs) types) new top ≡ prod a b
+    unfolding product_at product_within new
     new-tree =
-        let under : Code → Ty = of_code (map (type_at xs) types) (productWithin top (map (type_at xs) types) new) in
+        let under : Code → Ty = of_code (map (type_at xs) types) (product_within top (map (type_at xs) types) new) in
         ap₂ prod
         (ap under (left-put heap top left right m room F) ∙ part-kept K)
         (ap under (right-put heap top left right m room F') ∙ part-kept K')
 
-    count-is : countAt new top ≡ m
+    count_is : count_at new top ≡ m
     unfolding new
-    count-is = count-put heap top left right m room (omega arith)
+    count_is = count-put heap top left right m room (omega arith)
 
     new-right : Right (map (type_at xs) types) (length types) new top
     unfolding new
     new-right = record {
       left = subst (Known (length types) top) (sym (left-put heap top left right m room F)) K;
       right = subst (Known (length types) top) (sym (right-put heap top left right m room F')) K';
-      count = count-is ∙ exact ∙ ap nodes (sym new-tree);
-      small = omega (arith, count-is);
+      count = count_is ∙ exact ∙ ap nodes (sym new-tree);
+      small = omega (arith, count_is);
     }
 
-    pub grown : Grown xs types heap (putNode heap top left right m) top (prod a b)
+    pub grown : Grown xs types heap (put_node heap top left right m) top (prod a b)
     unfolding new
     grown = record {
       sources = record {
@@ -257,12 +257,12 @@ module _ {xs types heap : List ℕ} {top : ℕ} (S : Sources xs types heap top) 
           node = λ k l. ⊎_elim
               (λ e. subst (Right (map (type_at xs) types) (length types) new) (sym e) new-right)
               (λ lt. right_kept S.products agree k lt)
-              (at-or-below k (omega arith));
+              (at_or_below k (omega arith));
         };
       };
       agree = agree;
-      tree = tree-product (map (type_at xs) types) new (productCode top) refl ∙ new-tree;
+      tree = tree-product (map (type_at xs) types) new (product_code top) refl ∙ new-tree;
     }
       where
-        at-or-below : (k : ℕ) → k ≤ top → (k ≡ top) ⊎ (k < top)
-        at-or-below k le = eq-or-lt_of_le le
+        at_or_below : (k : ℕ) → k ≤ top → (k ≡ top) ⊎ (k < top)
+        at_or_below k le = eq-or-lt_of_le le

@@ -3,48 +3,48 @@
 -- in lent bytes, appended and never changed. The tree is a total function; laws: proofs/Trees.
 use Rattle.std.specs.Prelude.{ℕ, zero, suc, ◌+◌, ◌*◌, ◌<◌, ◌≤◌, ◌≡◌, cond, List, map, length, get_or, eqb}
 use package.Rattle.octets.specs.Numbers.{get16}
-use package.Rattle.rules.specs.Limits.{maxTypes, maxNodes}
+use package.Rattle.rules.specs.Limits.{max_types, max_nodes}
 use package.Rattle.rules.specs.Ty.{Ty, one, prod, nodes}
 use package.Rattle.calls.specs.Entries.{TypeEntry, type_at, type_of}
 use package.Rattle.calls.specs.Tested.{Lower}
 use package.Rattle.program.specs.Parts.{TypeField}
-use package.Rattle.types.specs.Figures.{closedBy, pair_of, furtherSlot, pair_at, furtherAt, Figured}
-pub use package.Rattle.types.specs.Layout.{nodeBytes}
+use package.Rattle.types.specs.Figures.{closed_by, pair_of, further_slot, pair_at, further_at, Figured}
+pub use package.Rattle.types.specs.Layout.{node_bytes}
 use package.Rattle.types.specs.declared.codes.Code.{Code}
 
 ----------------------------------------------------------------
 -- Codes
 
 -- their forms
-abbrev pub unitForm : ℕ
-unitForm = 0
+abbrev pub unit_form : ℕ
+unit_form = 0
 
-abbrev pub entryForm : ℕ
-entryForm = 1
+abbrev pub entry_form : ℕ
+entry_form = 1
 
-abbrev pub underForm : ℕ
-underForm = 2
+abbrev pub under_form : ℕ
+under_form = 2
 
-abbrev pub productForm : ℕ
-productForm = 3
+abbrev pub product_form : ℕ
+product_form = 3
 
-abbrev pub unitCode : Code
-unitCode = record { form = unitForm; at = 0; stands = 0 }
+abbrev pub unit_code : Code
+unit_code = record { form = unit_form; at = 0; stands = 0 }
 
-abbrev pub entryCode : ℕ → Code
-entryCode i = record { form = entryForm; at = i; stands = 0 }
+abbrev pub entry_code : ℕ → Code
+entry_code i = record { form = entry_form; at = i; stands = 0 }
 
 -- the entry `i`, its outermost free variable standing for the entry `j`
-abbrev pub underCode : ℕ → ℕ → Code
-underCode i j = record { form = underForm; at = i; stands = j }
+abbrev pub under_code : ℕ → ℕ → Code
+under_code i j = record { form = under_form; at = i; stands = j }
 
 -- the same as a further alias, if one is there
-abbrev pub recalledCode : List ℕ → ℕ → ℕ → Code
-recalledCode heap i j =
-    cond (eqb (pair_at heap (furtherSlot i j)) (pair_of i j)) (entryCode (furtherAt heap (furtherSlot i j))) (underCode i j)
+abbrev pub recalled_code : List ℕ → ℕ → ℕ → Code
+recalled_code heap i j =
+    cond (eqb (pair_at heap (further_slot i j)) (pair_of i j)) (entry_code (further_at heap (further_slot i j))) (under_code i j)
 
-abbrev pub productCode : ℕ → Code
-productCode n = record { form = productForm; at = n; stands = 0 }
+abbrev pub product_code : ℕ → Code
+product_code n = record { form = product_form; at = n; stands = 0 }
 
 ----------------------------------------------------------------
 -- Product nodes: two codes (form, entry or node, entry that is stood for: two bytes each) and the nodes of the tree (2 bytes)
@@ -53,71 +53,71 @@ unfoldable pub code_at : List ℕ → ℕ → Code
 code_at heap i = record { form = get16 heap i; at = get16 heap (i + 2); stands = get16 heap (i + 4) }
 
 unfoldable pub left_at : List ℕ → ℕ → Code
-left_at heap n = code_at heap (nodeBytes * n)
+left_at heap n = code_at heap (node_bytes * n)
 
-unfoldable pub rightAt : List ℕ → ℕ → Code
-rightAt heap n = code_at heap (nodeBytes * n + 6)
+unfoldable pub right_at : List ℕ → ℕ → Code
+right_at heap n = code_at heap (node_bytes * n + 6)
 
-unfoldable pub countAt : List ℕ → ℕ → ℕ
-countAt heap n = get16 heap (nodeBytes * n + 12)
+unfoldable pub count_at : List ℕ → ℕ → ℕ
+count_at heap n = get16 heap (node_bytes * n + 12)
 
 ----------------------------------------------------------------
 -- Trees
 
 -- by form, the trees of product nodes given by `go`
-unfoldable pub ofForm : List TypeEntry → (ℕ → Ty) → ℕ → ℕ → ℕ → Ty
-ofForm ys go zero at stands = one
-ofForm ys go (suc zero) at stands = type_of ys at
-ofForm ys go (suc (suc zero)) at stands = closedBy (type_of ys stands) (type_of ys at)
-ofForm ys go (suc (suc (suc n))) at stands = go at
+unfoldable pub of_form : List TypeEntry → (ℕ → Ty) → ℕ → ℕ → ℕ → Ty
+of_form ys go zero at stands = one
+of_form ys go (suc zero) at stands = type_of ys at
+of_form ys go (suc (suc zero)) at stands = closed_by (type_of ys stands) (type_of ys at)
+of_form ys go (suc (suc (suc n))) at stands = go at
 
 unfoldable pub of_code : List TypeEntry → (ℕ → Ty) → Code → Ty
-of_code ys go c = ofForm ys go c.form c.at c.stands
+of_code ys go c = of_form ys go c.form c.at c.stands
 
 -- the tree of a product node, the parts followed so far down
-unfoldable pub productWithin : ℕ → List TypeEntry → List ℕ → ℕ → Ty
-unfolding of_code ofForm
-productWithin zero ys heap n = one
-productWithin (suc down) ys heap n =
-    prod (of_code ys (productWithin down ys heap) (left_at heap n)) (of_code ys (productWithin down ys heap) (rightAt heap n))
+unfoldable pub product_within : ℕ → List TypeEntry → List ℕ → ℕ → Ty
+unfolding of_code of_form
+product_within zero ys heap n = one
+product_within (suc down) ys heap n =
+    prod (of_code ys (product_within down ys heap) (left_at heap n)) (of_code ys (product_within down ys heap) (right_at heap n))
 
 -- parts are lower nodes, so the node's number bounds how far
-unfoldable pub productAt : List TypeEntry → List ℕ → ℕ → Ty
-productAt ys heap n = productWithin (suc n) ys heap n
+unfoldable pub product_at : List TypeEntry → List ℕ → ℕ → Ty
+product_at ys heap n = product_within (suc n) ys heap n
 
 unfoldable pub tree_of : List TypeEntry → List ℕ → Code → Ty
-tree_of ys heap c = of_code ys (productAt ys heap) c
+tree_of ys heap c = of_code ys (product_at ys heap) c
 
 -- the tree of a code, over the program's bytes and the offsets of its type entries
-abbrev pub treeIn : List ℕ → List ℕ → List ℕ → Code → Ty
-treeIn xs types heap c = tree_of (map (type_at xs) types) heap c
+abbrev pub tree_in : List ℕ → List ℕ → List ℕ → Code → Ty
+tree_in xs types heap c = tree_of (map (type_at xs) types) heap c
 
 ----------------------------------------------------------------
 -- What codes stand on
 
 -- the bytes hold so many product nodes
 abbrev pub Room : List ℕ → ℕ → Type 0
-Room heap n = nodeBytes * n ≤ length heap
+Room heap n = node_bytes * n ≤ length heap
 
 -- The fields of the type entries are well-formed, and each entry names lower ones.
 pub record Readable (xs types : List ℕ) : Type 0 where
   pub field : (i : ℕ) → i < length types → TypeField xs (get_or types i 0)
   pub lower : Lower (map (type_at xs) types)
-  pub few : length types ≤ maxTypes
+  pub few : length types ≤ max_types
 
 -- The code names one of `n` type entries, or a product node below `top`.
 pub record Known (n top : ℕ) (c : Code) : Type 0 where
-  pub form : c.form ≤ productForm
-  pub entry : entryForm ≤ c.form → c.form ≤ underForm → c.at < n
-  pub stands : c.form ≡ underForm → c.stands < n
-  pub product : c.form ≡ productForm → c.at < top
+  pub form : c.form ≤ product_form
+  pub entry : entry_form ≤ c.form → c.form ≤ under_form → c.at < n
+  pub stands : c.form ≡ under_form → c.stands < n
+  pub product : c.form ≡ product_form → c.at < top
 
 -- The parts of the product node are lower, its count of nodes is right, and it is within the limit on nodes (section 1).
 pub record Right (ys : List TypeEntry) (n : ℕ) (heap : List ℕ) (k : ℕ) : Type 0 where
   pub left : Known n k (left_at heap k)
-  pub right : Known n k (rightAt heap k)
-  pub count : countAt heap k ≡ nodes (productAt ys heap k)
-  pub small : countAt heap k ≤ maxNodes
+  pub right : Known n k (right_at heap k)
+  pub count : count_at heap k ≡ nodes (product_at ys heap k)
+  pub small : count_at heap k ≤ max_nodes
 
 -- Every product node below `top` is there, and right, `n` being the number of type entries.
 pub record Products (ys : List TypeEntry) (n : ℕ) (heap : List ℕ) (top : ℕ) : Type 0 where

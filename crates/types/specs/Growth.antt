@@ -1,24 +1,24 @@
 -- Products: new nodes, and hints at those that have a code already. Laws: proofs/Growing, Hinting.
 use Rattle.std.specs.Prelude.{ℕ, ◌+◌, ◌*◌, ◌<◌, ◌≤◌, ◌≡◌, Bool, true, false, List, length, get_or, leb}
 use package.Rattle.octets.specs.Numbers.{put16}
-use package.Rattle.rules.specs.Limits.{maxNodes}
+use package.Rattle.rules.specs.Limits.{max_nodes}
 use package.Rattle.rules.specs.Ty.{Ty, prod, nodes}
 use package.Rattle.types.specs.declared.codes.Code.{Code}
 use package.Rattle.types.specs.declared.products.Pairing.{Pairing}
-use package.Rattle.types.specs.Layout.{figuresFrom, hintsFrom}
-use package.Rattle.types.specs.Codes.{nodeBytes, unitForm, productCode, treeIn, Known, Sources}
+use package.Rattle.types.specs.Layout.{figures_from, hints_from}
+use package.Rattle.types.specs.Codes.{node_bytes, unit_form, product_code, tree_in, Known, Sources}
 
-unfoldable pub putCode : List ℕ → ℕ → Code → List ℕ
-putCode heap i c = put16 (put16 (put16 heap i c.form) (i + 2) c.at) (i + 4) c.stands
+unfoldable pub put_code : List ℕ → ℕ → Code → List ℕ
+put_code heap i c = put16 (put16 (put16 heap i c.form) (i + 2) c.at) (i + 4) c.stands
 
-unfoldable pub putNode : List ℕ → ℕ → Code → Code → ℕ → List ℕ
-putNode heap n left right count =
-    put16 (putCode (putCode heap (nodeBytes * n) left) (nodeBytes * n + 6) right) (nodeBytes * n + 12) count
+unfoldable pub put_node : List ℕ → ℕ → Code → Code → ℕ → List ℕ
+put_node heap n left right count =
+    put16 (put_code (put_code heap (node_bytes * n) left) (node_bytes * n + 6) right) (node_bytes * n + 12) count
 
 -- two heaps, of one length, agree on the nodes below `top`, and on the figures of entries
 pub record Agree (top : ℕ) (heap heap' : List ℕ) : Type 0 where
-  pub same : (i : ℕ) → i < nodeBytes * top → get_or heap i 0 ≡ get_or heap' i 0
-  pub behind : (i : ℕ) → figuresFrom ≤ i → i < hintsFrom → get_or heap i 0 ≡ get_or heap' i 0
+  pub same : (i : ℕ) → i < node_bytes * top → get_or heap i 0 ≡ get_or heap' i 0
+  pub behind : (i : ℕ) → figures_from ≤ i → i < hints_from → get_or heap i 0 ≡ get_or heap' i 0
   pub lengths : length heap ≡ length heap'
 
 ----------------------------------------------------------------
@@ -26,13 +26,13 @@ pub record Agree (top : ℕ) (heap heap' : List ℕ) : Type 0 where
 
 -- A hint is kept: product nodes and figures are as they were. Which slot it is in, nothing goes by.
 pub record Noted (heap heap' : List ℕ) : Type 0 where
-  pub same : (i : ℕ) → i < hintsFrom → get_or heap i 0 ≡ get_or heap' i 0
+  pub same : (i : ℕ) → i < hints_from → get_or heap i 0 ≡ get_or heap' i 0
   pub lengths : length heap ≡ length heap'
 
 -- What a hint tells of the product of two types: a code of it, unless it is unit's.
 pub record Hinted (xs types heap : List ℕ) (top : ℕ) (left right c : Code) : Type 0 where
-  pub known : ¬ (c.form ≡ unitForm) → Known (length types) top c
-  pub tree : ¬ (c.form ≡ unitForm) → treeIn xs types heap c ≡ prod (treeIn xs types heap left) (treeIn xs types heap right)
+  pub known : ¬ (c.form ≡ unit_form) → Known (length types) top c
+  pub tree : ¬ (c.form ≡ unit_form) → tree_in xs types heap c ≡ prod (tree_in xs types heap left) (tree_in xs types heap right)
 
 ----------------------------------------------------------------
 -- Products
@@ -41,7 +41,7 @@ pub record Hinted (xs types heap : List ℕ) (top : ℕ) (left right c : Code) :
 pub record Grown (xs types heap heap' : List ℕ) (top : ℕ) (t : Ty) : Type 0 where
   pub sources : Sources xs types heap' (top + 1)
   pub agree : Agree top heap heap'
-  pub tree : treeIn xs types heap' (productCode top) ≡ t
+  pub tree : tree_in xs types heap' (product_code top) ≡ t
 
 -- A type has a code, one from before or a new node's: there are `top'` nodes then, and what was there is as it was.
 pub record Formed (xs types heap heap' : List ℕ) (top : ℕ) (t : Ty) (c : Code) (top' : ℕ) : Type 0 where
@@ -50,10 +50,10 @@ pub record Formed (xs types heap heap' : List ℕ) (top : ℕ) (t : Ty) (c : Cod
   pub least : top ≤ top'
   pub most : top' ≤ top + 1
   pub known : Known (length types) top' c
-  pub tree : treeIn xs types heap' c ≡ t
+  pub tree : tree_in xs types heap' c ≡ t
 
 -- The product of two types has a code exactly if it is within the limit on nodes (section 1); else the bytes stay.
 pub record Made (xs types heap heap' : List ℕ) (top : ℕ) (left right : Code) (r : Pairing) : Type 0 where
-  pub answer : r.fits ≡ leb (nodes (prod (treeIn xs types heap left) (treeIn xs types heap right))) maxNodes
-  pub formed : r.fits ≡ true → Formed xs types heap heap' top (prod (treeIn xs types heap left) (treeIn xs types heap right)) r.code r.top
+  pub answer : r.fits ≡ leb (nodes (prod (tree_in xs types heap left) (tree_in xs types heap right))) max_nodes
+  pub formed : r.fits ≡ true → Formed xs types heap heap' top (prod (tree_in xs types heap left) (tree_in xs types heap right)) r.code r.top
   pub old : r.fits ≡ false → heap' ≡ heap

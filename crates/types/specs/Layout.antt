@@ -1,40 +1,40 @@
 -- The bytes that typing is lent: product nodes, then what is kept of each type entry, then further aliases, then hints at products.
 use Rattle.std.specs.Prelude.{ℕ, ◌+◌, ◌*◌}
-use package.Rattle.rules.specs.Limits.{maxTypes, maxTerms}
+use package.Rattle.rules.specs.Limits.{max_types, max_terms}
 
 -- a product node: two codes of six bytes and the nodes of its tree
-abbrev pub nodeBytes : ℕ
-nodeBytes = 14
+abbrev pub node_bytes : ℕ
+node_bytes = 14
 
 -- the figures of an entry: its number, its free variables, how often the outermost of these stands in it; then what an alias is kept for, and the
 -- alias: two bytes each
-abbrev pub figureBytes : ℕ
-figureBytes = 10
+abbrev pub figure_bytes : ℕ
+figure_bytes = 10
 
 -- as many products as there can be terms
-abbrev pub figuresFrom : ℕ
-figuresFrom = nodeBytes * maxTerms
+abbrev pub figures_from : ℕ
+figures_from = node_bytes * max_terms
 
-abbrev pub furtherFrom : ℕ
-furtherFrom = figuresFrom + figureBytes * maxTypes
+abbrev pub further_from : ℕ
+further_from = figures_from + figure_bytes * max_types
 
 -- a further alias: an entry and what stands for its outermost free variable, in one number, and the alias: two bytes each
-abbrev pub furtherBytes : ℕ
-furtherBytes = 4
+abbrev pub further_bytes : ℕ
+further_bytes = 4
 
-abbrev pub furtherSlots : ℕ
-furtherSlots = 256
+abbrev pub further_slots : ℕ
+further_slots = 256
 
-abbrev pub hintsFrom : ℕ
-hintsFrom = furtherFrom + furtherBytes * furtherSlots
+abbrev pub hints_from : ℕ
+hints_from = further_from + further_bytes * further_slots
 
 -- a hint: a code, six bytes
-abbrev pub hintBytes : ℕ
-hintBytes = 6
+abbrev pub hint_bytes : ℕ
+hint_bytes = 6
 
 -- a prime, about as many as there can be products
-abbrev pub hintSlots : ℕ
-hintSlots = 1021
+abbrev pub hint_slots : ℕ
+hint_slots = 1021
 
-abbrev pub typingBytes : ℕ
-typingBytes = hintsFrom + hintBytes * hintSlots
+abbrev pub typing_bytes : ℕ
+typing_bytes = hints_from + hint_bytes * hint_slots

@@ -2,12 +2,12 @@
 -- Entering, Tracing.
 use Rattle.std.specs.Prelude.{ℕ, zero, suc, ◌+◌, ◌*◌, ◌%◌, ◌<◌, ◌≤◌, pred, min, max, ◌≡◌, cond, List, map, length, get_or, eqb, ltb}
 use package.Rattle.octets.specs.Numbers.{put16}
-use package.Rattle.rules.specs.Limits.{maxTypes}
-use package.Rattle.calls.specs.Entries.{TypeEntry, y-unit, y-prod, y-sum, y-mu, y-var, type_at}
+use package.Rattle.rules.specs.Limits.{max_types}
+use package.Rattle.calls.specs.Entries.{TypeEntry, y_unit, y_prod, y_sum, y_mu, y_var, type_at}
 use package.Rattle.calls.specs.Figures.{ceiling}
-use package.Rattle.program.specs.Kinds.{unitTypeKind, productKind, sumKind, recursiveKind, typeVariableKind}
-use package.Rattle.types.specs.Layout.{figureBytes, figuresFrom, furtherBytes, furtherFrom}
-use package.Rattle.types.specs.Figures.{number_at, freeAt, outerAt, standAt, pair_of, furtherSlot, Figured}
+use package.Rattle.program.specs.Kinds.{unit_type_kind, product_kind, sum_kind, recursive_kind, type_variable_kind}
+use package.Rattle.types.specs.Layout.{figure_bytes, figures_from, further_bytes, further_from}
+use package.Rattle.types.specs.Figures.{number_at, free_at, outer_at, stand_at, pair_of, further_slot, Figured}
 use package.Rattle.types.specs.Codes.{Readable}
 use package.Rattle.types.specs.declared.numbering.Figure.{Figure}
 
@@ -18,59 +18,59 @@ use package.Rattle.types.specs.declared.numbering.Figure.{Figure}
 abbrev pub packed : ℕ → ℕ → ℕ → ℕ
 packed kind a b = 65536 * kind + 256 * a + b
 
-abbrev pub figureIs : ℕ → ℕ → ℕ → Figure
-figureIs key free outer = record { key = key; free = free; outer = outer }
+abbrev pub figure_is : ℕ → ℕ → ℕ → Figure
+figure_is key free outer = record { key = key; free = free; outer = outer }
 
 -- how often the outermost free variable of a whole with `f` free ones stands in its part `a`
 abbrev pub share : List ℕ → ℕ → ℕ → ℕ
-share heap f a = cond (eqb (freeAt heap a) f) (outerAt heap a) 0
+share heap f a = cond (eqb (free_at heap a) f) (outer_at heap a) 0
 
-abbrev pub twoOf : List ℕ → ℕ → ℕ → ℕ → Figure
-twoOf heap kind a b =
-    figureIs (packed kind (number_at heap a) (number_at heap b)) (max (freeAt heap a) (freeAt heap b))
-    (min ceiling (share heap (max (freeAt heap a) (freeAt heap b)) a + share heap (max (freeAt heap a) (freeAt heap b)) b))
+abbrev pub two_of : List ℕ → ℕ → ℕ → ℕ → Figure
+two_of heap kind a b =
+    figure_is (packed kind (number_at heap a) (number_at heap b)) (max (free_at heap a) (free_at heap b))
+    (min ceiling (share heap (max (free_at heap a) (free_at heap b)) a + share heap (max (free_at heap a) (free_at heap b)) b))
 
-abbrev pub recursiveOf : List ℕ → ℕ → Figure
-recursiveOf heap a =
-    figureIs (packed recursiveKind (number_at heap a) 0) (pred (freeAt heap a)) (cond (ltb (freeAt heap a) 2) 0 (outerAt heap a))
+abbrev pub recursive_of : List ℕ → ℕ → Figure
+recursive_of heap a =
+    figure_is (packed recursive_kind (number_at heap a) 0) (pred (free_at heap a)) (cond (ltb (free_at heap a) 2) 0 (outer_at heap a))
 
-abbrev pub boundOf : ℕ → Figure
-boundOf k = figureIs (packed typeVariableKind k 0) (suc k) 1
+abbrev pub bound_of : ℕ → Figure
+bound_of k = figure_is (packed type_variable_kind k 0) (suc k) 1
 
-unfoldable pub figureOf : List ℕ → TypeEntry → Figure
-figureOf heap y-unit = figureIs (packed unitTypeKind 0 0) 0 0
-figureOf heap (y-prod a b) = twoOf heap productKind a b
-figureOf heap (y-sum a b) = twoOf heap sumKind a b
-figureOf heap (y-mu a) = recursiveOf heap a
-figureOf heap (y-var k) = boundOf k
+unfoldable pub figure_of : List ℕ → TypeEntry → Figure
+figure_of heap y_unit = figure_is (packed unit_type_kind 0 0) 0 0
+figure_of heap (y_prod a b) = two_of heap product_kind a b
+figure_of heap (y_sum a b) = two_of heap sum_kind a b
+figure_of heap (y_mu a) = recursive_of heap a
+figure_of heap (y_var k) = bound_of k
 
 -- the number of entry `i`, if `k` is the entry that has its key
-abbrev pub numberFrom : List ℕ → ℕ → ℕ → ℕ
-numberFrom heap i k = cond (ltb k i) (number_at heap k) i
+abbrev pub number_from : List ℕ → ℕ → ℕ → ℕ
+number_from heap i k = cond (ltb k i) (number_at heap k) i
 
 -- without an alias
-unfoldable pub putFigures : List ℕ → ℕ → ℕ → ℕ → ℕ → List ℕ
-putFigures heap i number free outer =
-    put16 (put16 (put16 (put16 heap (figuresFrom + figureBytes * i) number) (figuresFrom + figureBytes * i + 2) free)
-    (figuresFrom + figureBytes * i + 4) outer) (figuresFrom + figureBytes * i + 6) 0
+unfoldable pub put_figures : List ℕ → ℕ → ℕ → ℕ → ℕ → List ℕ
+put_figures heap i number free outer =
+    put16 (put16 (put16 (put16 heap (figures_from + figure_bytes * i) number) (figures_from + figure_bytes * i + 2) free)
+    (figures_from + figure_bytes * i + 4) outer) (figures_from + figure_bytes * i + 6) 0
 
 -- the alias of entry `i`, entry `j` standing for its outermost free variable
-unfoldable pub putAlias : List ℕ → ℕ → ℕ → ℕ → List ℕ
-putAlias heap i j alias = put16 (put16 heap (figuresFrom + figureBytes * i + 6) (j + 1)) (figuresFrom + figureBytes * i + 8) alias
+unfoldable pub put_alias : List ℕ → ℕ → ℕ → ℕ → List ℕ
+put_alias heap i j alias = put16 (put16 heap (figures_from + figure_bytes * i + 6) (j + 1)) (figures_from + figure_bytes * i + 8) alias
 
 -- the same as a further alias
-unfoldable pub putFurther : List ℕ → ℕ → ℕ → ℕ → List ℕ
-putFurther heap i j alias =
-    put16 (put16 heap (furtherFrom + furtherBytes * furtherSlot i j) (pair_of i j)) (furtherFrom + furtherBytes * furtherSlot i j + 2) alias
+unfoldable pub put_further : List ℕ → ℕ → ℕ → ℕ → List ℕ
+put_further heap i j alias =
+    put16 (put16 heap (further_from + further_bytes * further_slot i j) (pair_of i j)) (further_from + further_bytes * further_slot i j + 2) alias
 
 -- the first alias of an entry stands with its figures
-abbrev pub withAlias : List ℕ → ℕ → ℕ → ℕ → List ℕ
-withAlias heap i j alias = cond (eqb (standAt heap i) 0) (putAlias heap i j alias) (putFurther heap i j alias)
+abbrev pub with_alias : List ℕ → ℕ → ℕ → ℕ → List ℕ
+with_alias heap i j alias = cond (eqb (stand_at heap i) 0) (put_alias heap i j alias) (put_further heap i j alias)
 
 -- no further alias in the first slots, so many
 unfoldable pub forgotten : ℕ → List ℕ → List ℕ
 forgotten zero heap = heap
-forgotten (suc s) heap = put16 (forgotten s heap) (furtherFrom + furtherBytes * s) 0
+forgotten (suc s) heap = put16 (forgotten s heap) (further_from + further_bytes * s) 0
 
 ----------------------------------------------------------------
 -- Looking for a key
@@ -91,14 +91,14 @@ pub record Finds (keys : List ℕ) (n key r : ℕ) : Type 0 where
 pub record Traceable (xs types heap keys index : List ℕ) : Type 0 where
   pub entries : Readable xs types
   pub figured : Figured (map (type_at xs) types) heap (length types)
-  pub keys-held : length keys ≡ maxTypes
-  pub index-held : length index ≡ slots
+  pub keys_held : length keys ≡ max_types
+  pub index_held : length index ≡ slots
   pub taken : (i : ℕ) → i < length types → 0 < get_or index (slot_of (get_or keys i 0)) 0
 
 -- The first `n` entries have their figures; their keys are kept, and each key's slot is taken.
 pub record Numbered (xs types heap keys index : List ℕ) (n : ℕ) : Type 0 where
   pub figured : Figured (map (type_at xs) types) heap n
-  pub keys-held : length keys ≡ maxTypes
-  pub index-held : length index ≡ slots
-  pub key : (i : ℕ) → i < n → get_or keys i 0 ≡ (figureOf heap (get_or (map (type_at xs) types) i y-unit)).key
+  pub keys_held : length keys ≡ max_types
+  pub index_held : length index ≡ slots
+  pub key : (i : ℕ) → i < n → get_or keys i 0 ≡ (figure_of heap (get_or (map (type_at xs) types) i y_unit)).key
   pub taken : (i : ℕ) → i < n → 0 < get_or index (slot_of (get_or keys i 0)) 0

@@ -3,13 +3,13 @@
 // is told by the key that the part has with its own parts put in; whether it is, by comparing, once a part. An alias that is not found costs nothing but
 // time: the part is then compared node by node.
 ghost use Rattle.std.specs.Prelude.{◌≡◌, map, ℕ, ◌+◌, ◌≤◌, ◌<◌, length, get_or};
-ghost use Rattle.rules.specs.Limits.{maxTypes};
+ghost use Rattle.rules.specs.Limits.{max_types};
 ghost use Rattle.calls.specs.Entries.{type_at};
 ghost use Rattle.program.specs.Parts.{TermField};
-ghost use Rattle.types.specs.Layout.{typingBytes};
+ghost use Rattle.types.specs.Layout.{typing_bytes};
 ghost use Rattle.types.specs.Figures.{Figured};
 ghost use Rattle.types.specs.Codes.{Readable};
-ghost use Rattle.types.specs.Numbering.{withAlias, Traceable};
+ghost use Rattle.types.specs.Numbering.{with_alias, Traceable};
 
 use crate::codes::Code;
 use crate::numbering::SLOT_COUNT;
@@ -19,8 +19,8 @@ use rules::MAX_TYPES;
 
 // The alias of entry `i`, entry `j` standing for its outermost free variable: with the figures, unless another is there.
 fn put(ws: &mut [u8], i: u16, j: u16, alias: u16)
-    requires { (typingBytes ≤ length ws.old) × (i < maxTypes) × (j < maxTypes) }
-    ensures { ws.new ≡ withAlias ws.old i j alias }
+    requires { (typing_bytes ≤ length ws.old) × (i < max_types) × (j < max_types) }
+    ensures { ws.new ≡ with_alias ws.old i j alias }
 {
     if figures::stand_of(ws, i) == 0 {
         figures::put_alias(ws, i, j, alias);
@@ -106,7 +106,7 @@ fn trace(
     free: u32,
 ) -> Code
     requires traceable { Traceable p.now types.now ws.old keys.now index.now }
-    requires part_in_bounds { (part < length types.now) × (j < length types.now) × (free + part ≤ 512) × (maxTypes ≤ length met.old) }
+    requires part_in_bounds { (part < length types.now) × (j < length types.now) × (free + part ≤ 512) × (max_types ≤ length met.old) }
     ensures { Figured (map (type_at p.now) types.now) ws.new (length types.now) }
 {
     let i = figures::number_of(ws, part);
@@ -168,7 +168,7 @@ fn open_term(
     at: usize,
 )
     requires traceable { Traceable p.now types.now ws.old keys.now index.now }
-    requires term_field { TermField p.now at × (maxTypes ≤ length tried.old) × (maxTypes ≤ length met.old) }
+    requires term_field { TermField p.now at × (max_types ≤ length tried.old) × (max_types ≤ length met.old) }
     ensures { Figured (map (type_at p.now) types.now) ws.new (length types.now) }
 {
     let kind = views::kind(p, at);
@@ -211,7 +211,7 @@ fn open_terms(p: &[u8], types: &[u16], terms: &[u16], ws: &mut [u8], keys: &[u32
 
 // The figures of the type entries, with aliases for the types that the terms roll and unroll.
 pub fn prepare(p: &[u8], types: &[u16], terms: &[u16], ws: &mut [u8])
-    requires readable { Readable p.now types.now × (typingBytes ≤ length ws.old) }
+    requires readable { Readable p.now types.now × (typing_bytes ≤ length ws.old) }
     requires by_index { (t : ℕ) → t < length terms.now → TermField p.now (get_or terms.now t 0) }
     ensures { Figured (map (type_at p.now) types.now) ws.new (length types.now) }
 {

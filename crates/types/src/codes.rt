@@ -1,7 +1,7 @@
 // Codes of types: a type as a few numbers, whose tree specs/Codes gives.
 ghost use Rattle.std.specs.Prelude.{◌≡◌};
 ghost use Rattle.octets.specs.Runs.{Decides};
-ghost use Rattle.types.specs.Codes.{entryForm, unitCode, entryCode, productCode, underCode};
+ghost use Rattle.types.specs.Codes.{entry_form, unit_code, entry_code, product_code, under_code};
 
 // The forms of codes: unit; the type entry `at`; the type entry `at` with its outermost free variable standing for the entry `stands`; the
 // product node `at`.
@@ -23,7 +23,7 @@ pub struct Code {
 }
 
 pub fn unit() -> Code
-    ensures { result ≡ unitCode }
+    ensures { result ≡ unit_code }
 {
     Code {
         form: UNIT,
@@ -34,7 +34,7 @@ pub fn unit() -> Code
 
 // A type entry, as it stands.
 pub fn entry(i: u16) -> Code
-    ensures { result ≡ entryCode i }
+    ensures { result ≡ entry_code i }
 {
     Code {
         form: ENTRY,
@@ -45,7 +45,7 @@ pub fn entry(i: u16) -> Code
 
 // The type entry `i`, its outermost free variable standing for the entry `j`.
 pub fn under(i: u16, j: u16) -> Code
-    ensures { result ≡ underCode i j }
+    ensures { result ≡ under_code i j }
 {
     Code {
         form: UNDER,
@@ -56,7 +56,7 @@ pub fn under(i: u16, j: u16) -> Code
 
 // The product node `n`.
 pub fn product(n: u16) -> Code
-    ensures { result ≡ productCode n }
+    ensures { result ≡ product_code n }
 {
     Code {
         form: PRODUCT,
@@ -80,7 +80,7 @@ pub fn identical(c: Code, d: Code) -> bool
 
 // Are both type entries as they stand?
 pub fn are_entries(c: Code, d: Code) -> bool
-    ensures { Decides result ((c.form ≡ entryForm) × (d.form ≡ entryForm)) }
+    ensures { Decides result ((c.form ≡ entry_form) × (d.form ≡ entry_form)) }
 {
     if c.form != ENTRY {
         return false;

@@ -1,7 +1,7 @@
 // Types compared as trees (section 3), without writing them out.
 ghost use Rattle.std.specs.Prelude.{◌≡◌, length};
 ghost use Rattle.rules.specs.Ty.{is_unit, same_ty};
-ghost use Rattle.types.specs.Codes.{treeIn, Sources, Known};
+ghost use Rattle.types.specs.Codes.{tree_in, Sources, Known};
 
 use crate::codes::Code;
 use crate::{codes, parts};
@@ -12,7 +12,7 @@ use program::kinds;
 pub fn is_unit(p: &[u8], types: &[u16], ws: &[u8], top: u32, c: Code) -> bool
     requires sources { Sources p.now types.now ws.now top }
     requires known { Known (length types.now) top c }
-    ensures { result ≡ is_unit (treeIn p.now types.now ws.now c) }
+    ensures { result ≡ is_unit (tree_in p.now types.now ws.now c) }
 {
     let kind = parts::kind_of(p, types, ws, top, c);
     if kind != kinds::TYPE_VARIABLE {
@@ -32,7 +32,7 @@ pub fn is_unit(p: &[u8], types: &[u16], ws: &[u8], top: u32, c: Code) -> bool
 fn same_nodes(p: &[u8], types: &[u16], ws: &[u8], top: u32, c: Code, d: Code) -> bool
     requires sources { Sources p.now types.now ws.now top }
     requires known { Known (length types.now) top c × Known (length types.now) top d }
-    ensures { result ≡ same_ty (treeIn p.now types.now ws.now c) (treeIn p.now types.now ws.now d) }
+    ensures { result ≡ same_ty (tree_in p.now types.now ws.now c) (tree_in p.now types.now ws.now d) }
 {
     let v = parts::settled(p, types, ws, top, c);
     let w = parts::settled(p, types, ws, top, d);
@@ -73,7 +73,7 @@ fn same_nodes(p: &[u8], types: &[u16], ws: &[u8], top: u32, c: Code, d: Code) ->
 pub fn same(p: &[u8], types: &[u16], ws: &[u8], top: u32, c: Code, d: Code) -> bool
     requires sources { Sources p.now types.now ws.now top }
     requires known { Known (length types.now) top c × Known (length types.now) top d }
-    ensures { result ≡ same_ty (treeIn p.now types.now ws.now c) (treeIn p.now types.now ws.now d) }
+    ensures { result ≡ same_ty (tree_in p.now types.now ws.now c) (tree_in p.now types.now ws.now d) }
 {
     if codes::identical(c, d) {
         return true;

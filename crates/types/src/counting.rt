@@ -2,12 +2,12 @@
 // counts, products keep theirs, and that of an unfolding follows from the counts of the entry and of what stands for its variable, and from how
 // often that variable stands in it. No tree is gone through.
 ghost use Rattle.std.specs.Prelude.{◌≡◌, ◌+◌, ◌*◌, ◌-◌, ◌≤◌, ◌<◌, min, length, get_or, leb};
-ghost use Rattle.rules.specs.Limits.{maxNodes, maxTypes};
+ghost use Rattle.rules.specs.Limits.{max_nodes, max_types};
 ghost use Rattle.rules.specs.Ty.{nodes};
 ghost use Rattle.calls.specs.Figures.{ceiling};
-ghost use Rattle.types.specs.Layout.{typingBytes};
-ghost use Rattle.types.specs.Figures.{outerAt};
-ghost use Rattle.types.specs.Codes.{treeIn, Sources, Known};
+ghost use Rattle.types.specs.Layout.{typing_bytes};
+ghost use Rattle.types.specs.Figures.{outer_at};
+ghost use Rattle.types.specs.Codes.{tree_in, Sources, Known};
 ghost use Rattle.types.specs.Counts.{Counted};
 
 use crate::codes::Code;
@@ -30,10 +30,10 @@ pub fn capped(n: u32) -> u16
 
 // The nodes of entry `at` with its outermost free variable standing for entry `stands`.
 fn under_count(counts: &[u16], ws: &[u8], at: u16, stands: u16) -> u16
-    requires typing_bytes_in_bounds { (typingBytes ≤ length ws.now) × (at < maxTypes) × (outerAt ws.now at ≤ ceiling) }
+    requires typing_bytes_in_bounds { (typing_bytes ≤ length ws.now) × (at < max_types) × (outer_at ws.now at ≤ ceiling) }
     requires at_in_bounds { (at < length counts.now) × (get_or counts.now at 0 ≤ ceiling) }
     requires stands_in_bounds { (stands < length counts.now) × (1 ≤ get_or counts.now stands 0) × (get_or counts.now stands 0 ≤ ceiling) }
-    ensures { result ≡ min ceiling (get_or counts.now at 0 + outerAt ws.now at * (get_or counts.now stands 0 - 1)) }
+    ensures { result ≡ min ceiling (get_or counts.now at 0 + outer_at ws.now at * (get_or counts.now stands 0 - 1)) }
 {
     let own = octets::wide32(counts[octets::wide_index(at)]);
     let times = octets::wide32(figures::outer_of(ws, at));
@@ -46,7 +46,7 @@ pub fn node_count(p: &[u8], types: &[u16], counts: &[u16], ws: &[u8], top: u32, 
     requires sources { Sources p.now types.now ws.now top }
     requires known { Known (length types.now) top c }
     requires counted { Counted p.now types.now counts.now }
-    ensures { result ≡ min ceiling (nodes (treeIn p.now types.now ws.now c)) }
+    ensures { result ≡ min ceiling (nodes (tree_in p.now types.now ws.now c)) }
 {
     let form = c.form;
     if form == codes::UNIT {
@@ -66,7 +66,7 @@ pub fn within_limit(p: &[u8], types: &[u16], counts: &[u16], ws: &[u8], top: u32
     requires sources { Sources p.now types.now ws.now top }
     requires known { Known (length types.now) top c }
     requires counted { Counted p.now types.now counts.now }
-    ensures { result ≡ leb (nodes (treeIn p.now types.now ws.now c)) maxNodes }
+    ensures { result ≡ leb (nodes (tree_in p.now types.now ws.now c)) max_nodes }
 {
     node_count(p, types, counts, ws, top, c) <= MOST_NODES
 }

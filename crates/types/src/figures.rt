@@ -1,9 +1,9 @@
 // What is kept of each type entry, in lent bytes behind the product nodes. Only this module knows the layout (specs/Layout).
 ghost use Rattle.std.specs.Prelude.{◌≡◌, ◌+◌, ◌*◌, ◌≤◌, ◌<◌, length};
-ghost use Rattle.rules.specs.Limits.{maxTypes};
-ghost use Rattle.types.specs.Layout.{figureBytes, figuresFrom, typingBytes};
-ghost use Rattle.types.specs.Figures.{number_at, freeAt, outerAt, standAt, aliasAt};
-ghost use Rattle.types.specs.Numbering.{putFigures, putAlias};
+ghost use Rattle.rules.specs.Limits.{max_types};
+ghost use Rattle.types.specs.Layout.{figure_bytes, figures_from, typing_bytes};
+ghost use Rattle.types.specs.Figures.{number_at, free_at, outer_at, stand_at, alias_at};
+ghost use Rattle.types.specs.Numbering.{put_figures, put_alias};
 
 use crate::nodes::NODE_BYTES;
 use rules::{MAX_TERMS, MAX_TYPES};
@@ -16,15 +16,15 @@ pub const FIGURES_END: usize = FIGURES_FROM + FIGURE_BYTES * MAX_TYPES;
 
 // Where the figures of entry `i` begin.
 fn place(i: u16) -> usize
-    requires { i < maxTypes }
-    ensures { (result ≡ figuresFrom + figureBytes * i) × (result + figureBytes ≤ typingBytes) }
+    requires { i < max_types }
+    ensures { (result ≡ figures_from + figure_bytes * i) × (result + figure_bytes ≤ typing_bytes) }
 {
     FIGURES_FROM + FIGURE_BYTES * octets::wide_index(i)
 }
 
 // The number that the entry shares with those that are equal to it as trees.
 pub fn number_of(ws: &[u8], i: u16) -> u16
-    requires { (typingBytes ≤ length ws.now) × (i < maxTypes) }
+    requires { (typing_bytes ≤ length ws.now) × (i < max_types) }
     ensures { result ≡ number_at ws.now i }
 {
     octets::read16(ws, place(i))
@@ -32,40 +32,40 @@ pub fn number_of(ws: &[u8], i: u16) -> u16
 
 // How many recursive types must still enclose the entry.
 pub fn free_of(ws: &[u8], i: u16) -> u16
-    requires { (typingBytes ≤ length ws.now) × (i < maxTypes) }
-    ensures { result ≡ freeAt ws.now i }
+    requires { (typing_bytes ≤ length ws.now) × (i < max_types) }
+    ensures { result ≡ free_at ws.now i }
 {
     octets::read16(ws, place(i) + 2)
 }
 
 // How often its outermost free variable stands in it.
 pub fn outer_of(ws: &[u8], i: u16) -> u16
-    requires { (typingBytes ≤ length ws.now) × (i < maxTypes) }
-    ensures { result ≡ outerAt ws.now i }
+    requires { (typing_bytes ≤ length ws.now) × (i < max_types) }
+    ensures { result ≡ outer_at ws.now i }
 {
     octets::read16(ws, place(i) + 4)
 }
 
 // One more than the entry that stands for that variable in the entry's alias; 0 if it has none.
 pub fn stand_of(ws: &[u8], i: u16) -> u16
-    requires { (typingBytes ≤ length ws.now) × (i < maxTypes) }
-    ensures { result ≡ standAt ws.now i }
+    requires { (typing_bytes ≤ length ws.now) × (i < max_types) }
+    ensures { result ≡ stand_at ws.now i }
 {
     octets::read16(ws, place(i) + 6)
 }
 
 // The entry that it is then equal to.
 pub fn alias_of(ws: &[u8], i: u16) -> u16
-    requires { (typingBytes ≤ length ws.now) × (i < maxTypes) }
-    ensures { result ≡ aliasAt ws.now i }
+    requires { (typing_bytes ≤ length ws.now) × (i < max_types) }
+    ensures { result ≡ alias_at ws.now i }
 {
     octets::read16(ws, place(i) + 8)
 }
 
 // The alias of entry `i`, entry `j` standing for its outermost free variable.
 pub fn put_alias(ws: &mut [u8], i: u16, j: u16, alias: u16)
-    requires { (typingBytes ≤ length ws.old) × (i < maxTypes) × (j < maxTypes) }
-    ensures { ws.new ≡ putAlias ws.old i j alias }
+    requires { (typing_bytes ≤ length ws.old) × (i < max_types) × (j < max_types) }
+    ensures { ws.new ≡ put_alias ws.old i j alias }
 {
     let at = place(i);
     octets::write16(ws, at + 6, j + 1);
@@ -74,8 +74,8 @@ pub fn put_alias(ws: &mut [u8], i: u16, j: u16, alias: u16)
 
 // The figures of an entry, without an alias.
 pub fn put(ws: &mut [u8], i: u16, number: u16, free: u16, outer: u16)
-    requires { (typingBytes ≤ length ws.old) × (i < maxTypes) }
-    ensures { ws.new ≡ putFigures ws.old i number free outer }
+    requires { (typing_bytes ≤ length ws.old) × (i < max_types) }
+    ensures { ws.new ≡ put_figures ws.old i number free outer }
 {
     let at = place(i);
     octets::write16(ws, at, number);

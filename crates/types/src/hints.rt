@@ -3,13 +3,13 @@
 // function left or what two products on one slot overwrote. A product that is not found costs nothing but time.
 ghost use Rattle.std.specs.Prelude.{◌≡◌, true, ◌+◌, ◌*◌, ◌≤◌, ◌<◌, length};
 ghost use Rattle.rules.specs.Ty.{prod};
-ghost use Rattle.types.specs.Layout.{hintBytes, hintsFrom, typingBytes};
-ghost use Rattle.types.specs.Codes.{treeIn, Sources, Known};
+ghost use Rattle.types.specs.Layout.{hint_bytes, hints_from, typing_bytes};
+ghost use Rattle.types.specs.Codes.{tree_in, Sources, Known};
 ghost use Rattle.types.specs.Growth.{Noted, Hinted};
 ghost use Rattle.calls.specs.Entries.{type_at};
-ghost use Rattle.calls.specs.Named.{typesOfType, below};
+ghost use Rattle.calls.specs.Named.{types_of_type, below};
 ghost use Rattle.program.specs.Parts.{TypeField};
-ghost use Rattle.rules.specs.Limits.{maxTypes};
+ghost use Rattle.rules.specs.Limits.{max_types};
 
 use crate::codes::Code;
 use crate::further::FURTHER_END;
@@ -38,7 +38,7 @@ fn mixed(c: Code) -> usize
 
 // Where the hint at the product of two codes stands.
 fn place(left: Code, right: Code) -> usize
-    ensures { (hintsFrom ≤ result) × (result + hintBytes ≤ typingBytes) }
+    ensures { (hints_from ≤ result) × (result + hint_bytes ≤ typing_bytes) }
 {
     let slot = (mixed(left) + RIGHT * mixed(right)) % HINT_SLOTS;
     FURTHER_END + HINT_BYTES * slot
@@ -67,8 +67,8 @@ fn is_known(n: usize, top: u32, c: Code) -> bool
 fn is_pair(p: &[u8], types: &[u16], ws: &[u8], top: u32, c: Code, left: Code, right: Code) -> bool
     requires sources { Sources p.now types.now ws.now top }
     requires known { Known (length types.now) top c }
-    ensures { result ≡ true → treeIn p.now types.now ws.now c
-        ≡ prod (treeIn p.now types.now ws.now left) (treeIn p.now types.now ws.now right) }
+    ensures { result ≡ true → tree_in p.now types.now ws.now c
+        ≡ prod (tree_in p.now types.now ws.now left) (tree_in p.now types.now ws.now right) }
 {
     let d = parts::settled(p, types, ws, top, c);
     let kind = parts::kind_of(p, types, ws, top, d);
@@ -101,7 +101,7 @@ pub fn hinted(p: &[u8], types: &[u16], ws: &[u8], top: u32, left: Code, right: C
 
 // The code of the product of two types whose codes are settled is kept as a hint.
 pub fn put(ws: &mut [u8], left: Code, right: Code, c: Code)
-    requires { typingBytes ≤ length ws.old }
+    requires { typing_bytes ≤ length ws.old }
     ensures { Noted ws.old ws.new }
 {
     nodes::put_code(ws, place(left, right), c);
@@ -121,8 +121,8 @@ pub fn offer(p: &[u8], types: &[u16], ws: &mut [u8], left: Code, right: Code, c:
 
 // A hint at the type entry `own`, if its field at `at` is a product's.
 pub fn put_entry(p: &[u8], at: usize, ws: &mut [u8], own: u16)
-    requires type_field { TypeField p.now at × (typingBytes ≤ length ws.old) }
-    requires at_value { below maxTypes (typesOfType (type_at p.now at)) ≡ true }
+    requires type_field { TypeField p.now at × (typing_bytes ≤ length ws.old) }
+    requires at_value { below max_types (types_of_type (type_at p.now at)) ≡ true }
     ensures { Noted ws.old ws.new }
 {
     let kind = views::kind(p, at);

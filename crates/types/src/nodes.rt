@@ -1,7 +1,7 @@
 // Product nodes in lent bytes. Only this module knows a node's layout (specs/Codes).
 ghost use Rattle.std.specs.Prelude.{◌≡◌, ◌+◌, ◌*◌, ◌≤◌, length};
-ghost use Rattle.types.specs.Codes.{code_at, left_at, rightAt, countAt, Room};
-ghost use Rattle.types.specs.Growth.{putCode, putNode};
+ghost use Rattle.types.specs.Codes.{code_at, left_at, right_at, count_at, Room};
+ghost use Rattle.types.specs.Growth.{put_code, put_node};
 
 use crate::codes::Code;
 
@@ -31,7 +31,7 @@ pub fn left_of(ws: &[u8], n: u16) -> Code
 
 pub fn right_of(ws: &[u8], n: u16) -> Code
     requires { Room ws.now (n + 1) }
-    ensures { result ≡ rightAt ws.now n }
+    ensures { result ≡ right_at ws.now n }
 {
     code_at(ws, NODE_BYTES * octets::wide_index(n) + 6)
 }
@@ -39,14 +39,14 @@ pub fn right_of(ws: &[u8], n: u16) -> Code
 // How many nodes the product has as a tree.
 pub fn count_of(ws: &[u8], n: u16) -> u16
     requires { Room ws.now (n + 1) }
-    ensures { result ≡ countAt ws.now n }
+    ensures { result ≡ count_at ws.now n }
 {
     octets::read16(ws, NODE_BYTES * octets::wide_index(n) + 12)
 }
 
 pub fn put_code(ws: &mut [u8], at: usize, c: Code)
     requires { at + 6 ≤ length ws.old }
-    ensures { ws.new ≡ putCode ws.old at c }
+    ensures { ws.new ≡ put_code ws.old at c }
 {
     octets::write16(ws, at, c.form);
     octets::write16(ws, at + 2, c.at);
@@ -55,7 +55,7 @@ pub fn put_code(ws: &mut [u8], at: usize, c: Code)
 
 pub fn put_node(ws: &mut [u8], n: u16, left: Code, right: Code, count: u16)
     requires { Room ws.old (n + 1) }
-    ensures { ws.new ≡ putNode ws.old n left right count }
+    ensures { ws.new ≡ put_node ws.old n left right count }
 {
     let at = NODE_BYTES * octets::wide_index(n);
     put_code(ws, at, left);

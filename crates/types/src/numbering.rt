@@ -2,13 +2,13 @@
 // its variable: entries have one key exactly if they are equal as trees, so an entry gets the number of a lower one that has its key, or else its
 // own. Where a key is looked for first is told by its slot, so that keys are not compared one by one, unless two fall on one slot.
 ghost use Rattle.std.specs.Prelude.{◌≡◌, true, ℕ, ◌+◌, ◌≤◌, ◌<◌, max, length, get_or};
-ghost use Rattle.rules.specs.Limits.{maxTypes};
+ghost use Rattle.rules.specs.Limits.{max_types};
 ghost use Rattle.calls.specs.Entries.{type_at};
-ghost use Rattle.calls.specs.Named.{typesOfType, below};
+ghost use Rattle.calls.specs.Named.{types_of_type, below};
 ghost use Rattle.program.specs.Parts.{TypeField};
-ghost use Rattle.types.specs.Layout.{typingBytes};
+ghost use Rattle.types.specs.Layout.{typing_bytes};
 ghost use Rattle.types.specs.Codes.{Readable};
-ghost use Rattle.types.specs.Numbering.{slots, slot_of, packed, share, twoOf, recursiveOf, boundOf, figureOf, numberFrom, Finds, Numbered};
+ghost use Rattle.types.specs.Numbering.{slots, slot_of, packed, share, two_of, recursive_of, bound_of, figure_of, number_from, Finds, Numbered};
 
 use crate::{counting, figures, further, hints};
 use program::{kinds, views};
@@ -40,7 +40,7 @@ pub fn packed(kind: u8, a: u16, b: u16) -> u32
 
 // How often the outermost free variable of a whole with `free` free ones stands in its part.
 fn share(ws: &[u8], free: u16, a: u16) -> u32
-    requires { (typingBytes ≤ length ws.now) × (a < maxTypes) }
+    requires { (typing_bytes ≤ length ws.now) × (a < max_types) }
     ensures { (result ≡ share ws.now free a) × (result < 65536) }
 {
     if figures::free_of(ws, a) == free {
@@ -60,8 +60,8 @@ fn greater(a: u16, b: u16) -> u16
 
 // Of a product or a sum.
 fn two(ws: &[u8], kind: u8, a: u16, b: u16) -> Figure
-    requires { (typingBytes ≤ length ws.now) × (kind ≤ 4) × (a < maxTypes) × (b < maxTypes) }
-    ensures { result ≡ twoOf ws.now kind a b }
+    requires { (typing_bytes ≤ length ws.now) × (kind ≤ 4) × (a < max_types) × (b < max_types) }
+    ensures { result ≡ two_of ws.now kind a b }
 {
     let key = packed(kind, figures::number_of(ws, a), figures::number_of(ws, b));
     let free = greater(figures::free_of(ws, a), figures::free_of(ws, b));
@@ -71,8 +71,8 @@ fn two(ws: &[u8], kind: u8, a: u16, b: u16) -> Figure
 
 // Of a recursive type. Its variable is free in the part alone.
 fn recursive(ws: &[u8], a: u16) -> Figure
-    requires { (typingBytes ≤ length ws.now) × (a < maxTypes) }
-    ensures { result ≡ recursiveOf ws.now a }
+    requires { (typing_bytes ≤ length ws.now) × (a < max_types) }
+    ensures { result ≡ recursive_of ws.now a }
 {
     let key = packed(kinds::RECURSIVE, figures::number_of(ws, a), 0);
     let free = figures::free_of(ws, a);
@@ -93,7 +93,7 @@ fn recursive(ws: &[u8], a: u16) -> Figure
 
 // Of a variable, which is free itself.
 fn bound(k: u8) -> Figure
-    ensures { result ≡ boundOf k }
+    ensures { result ≡ bound_of k }
 {
     let n = octets::wide16(k);
     let key = packed(kinds::TYPE_VARIABLE, n, 0);
@@ -106,9 +106,9 @@ fn bound(k: u8) -> Figure
 
 // Of the type at `at`, from those of the types that it names.
 fn figures_of(p: &[u8], at: usize, ws: &[u8]) -> Figure
-    requires type_field { TypeField p.now at × (typingBytes ≤ length ws.now) }
-    requires at_value { below maxTypes (typesOfType (type_at p.now at)) ≡ true }
-    ensures { result ≡ figureOf ws.now (type_at p.now at) }
+    requires type_field { TypeField p.now at × (typing_bytes ≤ length ws.now) }
+    requires at_value { below max_types (types_of_type (type_at p.now at)) ≡ true }
+    ensures { result ≡ figure_of ws.now (type_at p.now at) }
 {
     let kind = views::kind(p, at);
     if kind == kinds::UNIT_TYPE {
@@ -164,8 +164,8 @@ pub fn find(keys: &[u32], index: &[u16], n: usize, key: u32) -> usize
 
 // The number of entry `i`, whose key entry `k` has too, if it is lower.
 fn number(ws: &[u8], i: u16, k: usize) -> u16
-    requires { (typingBytes ≤ length ws.now) × (i < maxTypes) × (k ≤ i) }
-    ensures { result ≡ numberFrom ws.now i k }
+    requires { (typing_bytes ≤ length ws.now) × (i < max_types) × (k ≤ i) }
+    ensures { result ≡ number_from ws.now i k }
 {
     let lower = k as u16;
     if lower < i {
@@ -194,8 +194,8 @@ fn enter(p: &[u8], types: &[u16], ws: &mut [u8], keys: &mut [u32], index: &mut [
 
 // The figures of the type entries, in keys and slots that are lent.
 pub fn number_types(p: &[u8], types: &[u16], ws: &mut [u8], keys: &mut [u32], index: &mut [u16])
-    requires readable { Readable p.now types.now × (typingBytes ≤ length ws.old) }
-    requires keys_len { (length keys.old ≡ maxTypes) × (length index.old ≡ slots) }
+    requires readable { Readable p.now types.now × (typing_bytes ≤ length ws.old) }
+    requires keys_len { (length keys.old ≡ max_types) × (length index.old ≡ slots) }
     ensures { Numbered p.now types.now ws.new keys.new index.new (length types.now) }
 {
     further::forget(ws);

@@ -1,12 +1,12 @@
 // The outermost node of a type, one part at a time: where only a kind is asked, no part is read. A code is settled first, so that its
-// node is read off the entry or product that it names (specs/Shapes, plainShape).
+// node is read off the entry or product that it names (specs/Shapes, plain_shape).
 ghost use Rattle.std.specs.Prelude.{◌≡◌, ◌≤◌, ◌<◌, length};
-ghost use Rattle.rules.specs.Limits.{maxTypes};
-ghost use Rattle.program.specs.Kinds.{unitTypeKind, recursiveKind, typeVariableKind};
-ghost use Rattle.types.specs.Layout.{typingBytes};
+ghost use Rattle.rules.specs.Limits.{max_types};
+ghost use Rattle.program.specs.Kinds.{unit_type_kind, recursive_kind, type_variable_kind};
+ghost use Rattle.types.specs.Layout.{typing_bytes};
 ghost use Rattle.types.specs.Figures.{number_at};
-ghost use Rattle.types.specs.Codes.{underForm, Sources, Known};
-ghost use Rattle.types.specs.Shapes.{part, plainShape, Settled};
+ghost use Rattle.types.specs.Codes.{under_form, Sources, Known};
+ghost use Rattle.types.specs.Shapes.{part, plain_shape, Settled};
 
 use crate::codes::Code;
 use crate::{codes, figures, further, nodes};
@@ -16,7 +16,7 @@ use program::kinds;
 // for what stands, or is the variable, it is an entry's. Further aliases are looked for only where there is a first.
 fn settled_under(p: &[u8], types: &[u16], ws: &[u8], top: u32, c: Code, i: u16) -> Code
     requires sources { Sources p.now types.now ws.now top }
-    requires known { Known (length types.now) top c × (c.form ≡ underForm) × (i ≡ number_at ws.now c.at) }
+    requires known { Known (length types.now) top c × (c.form ≡ under_form) × (i ≡ number_at ws.now c.at) }
     ensures { Settled p.now types.now ws.now top c result }
 {
     if figures::free_of(ws, i) == 0 {
@@ -61,7 +61,7 @@ pub fn settled(p: &[u8], types: &[u16], ws: &[u8], top: u32, c: Code) -> Code
 pub fn kind_of(p: &[u8], types: &[u16], ws: &[u8], top: u32, c: Code) -> u8
     requires sources { Sources p.now types.now ws.now top }
     requires known { Known (length types.now) top c }
-    ensures { result ≡ (plainShape p.now types.now ws.now c).kind }
+    ensures { result ≡ (plain_shape p.now types.now ws.now c).kind }
 {
     let form = c.form;
     if form == codes::UNIT {
@@ -79,8 +79,8 @@ pub fn kind_of(p: &[u8], types: &[u16], ws: &[u8], top: u32, c: Code) -> u8
 pub fn variable_of(p: &[u8], types: &[u16], ws: &[u8], top: u32, c: Code) -> u8
     requires sources { Sources p.now types.now ws.now top }
     requires known { Known (length types.now) top c }
-    requires c_value { (plainShape p.now types.now ws.now c).kind ≡ typeVariableKind }
-    ensures { result ≡ (plainShape p.now types.now ws.now c).variable }
+    requires c_value { (plain_shape p.now types.now ws.now c).kind ≡ type_variable_kind }
+    ensures { result ≡ (plain_shape p.now types.now ws.now c).variable }
 {
     let i = octets::wide_index(c.at);
     let at = octets::wide_index(types[i]);
@@ -90,7 +90,7 @@ pub fn variable_of(p: &[u8], types: &[u16], ws: &[u8], top: u32, c: Code) -> u8
 // The part `i` of the entry that the code is of, which is `up` higher under a recursive entry. Where the variable that stands for an entry does
 // not occur in it, it is an entry as it stands: the outermost variable occurs exactly where as many are free.
 fn part(ws: &[u8], c: Code, i: u16, up: u32) -> Code
-    requires { (typingBytes ≤ length ws.now) × (c.form ≡ underForm → c.at < maxTypes) × (i < maxTypes) × (up ≤ 1) }
+    requires { (typing_bytes ≤ length ws.now) × (c.form ≡ under_form → c.at < max_types) × (i < max_types) × (up ≤ 1) }
     ensures { result ≡ part ws.now c i up }
 {
     let form = c.form;
@@ -109,8 +109,8 @@ fn part(ws: &[u8], c: Code, i: u16, up: u32) -> Code
 pub fn first_of(p: &[u8], types: &[u16], ws: &[u8], top: u32, c: Code, kind: u8) -> Code
     requires sources { Sources p.now types.now ws.now top }
     requires known { Known (length types.now) top c }
-    requires kind_value { (kind ≡ (plainShape p.now types.now ws.now c).kind) × (¬ (kind ≡ unitTypeKind)) × (kind < typeVariableKind) }
-    ensures { result ≡ (plainShape p.now types.now ws.now c).first }
+    requires kind_value { (kind ≡ (plain_shape p.now types.now ws.now c).kind) × (¬ (kind ≡ unit_type_kind)) × (kind < type_variable_kind) }
+    ensures { result ≡ (plain_shape p.now types.now ws.now c).first }
 {
     let form = c.form;
     if form == codes::PRODUCT {
@@ -128,8 +128,8 @@ pub fn first_of(p: &[u8], types: &[u16], ws: &[u8], top: u32, c: Code, kind: u8)
 pub fn second_of(p: &[u8], types: &[u16], ws: &[u8], top: u32, c: Code, kind: u8) -> Code
     requires sources { Sources p.now types.now ws.now top }
     requires known { Known (length types.now) top c }
-    requires kind_value { (kind ≡ (plainShape p.now types.now ws.now c).kind) × (¬ (kind ≡ unitTypeKind)) × (kind < recursiveKind) }
-    ensures { result ≡ (plainShape p.now types.now ws.now c).second }
+    requires kind_value { (kind ≡ (plain_shape p.now types.now ws.now c).kind) × (¬ (kind ≡ unit_type_kind)) × (kind < recursive_kind) }
+    ensures { result ≡ (plain_shape p.now types.now ws.now c).second }
 {
     let form = c.form;
     if form == codes::PRODUCT {

@@ -1,7 +1,7 @@
 // The types of pairs: no entry of the program need name them. A product that a type entry, an unfolding or an earlier pair has already is found by a
 // hint and gets its code, so that equal products are told equal without going through them; else it is a new product node.
 ghost use Rattle.std.specs.Prelude.{◌+◌, ◌<◌, length};
-ghost use Rattle.rules.specs.Limits.{maxTerms};
+ghost use Rattle.rules.specs.Limits.{max_terms};
 ghost use Rattle.types.specs.Codes.{Room, Sources, Known};
 ghost use Rattle.types.specs.Counts.{Counted};
 ghost use Rattle.types.specs.Growth.{Made};
@@ -32,7 +32,7 @@ pub fn product(
     requires sources { Sources p.now types.now ws.old top }
     requires known { Known (length types.now) top left × Known (length types.now) top right }
     requires counted { Counted p.now types.now counts.now }
-    requires room { Room ws.old (top + 1) × (top < maxTerms) }
+    requires room { Room ws.old (top + 1) × (top < max_terms) }
     ensures { Made p.now types.now ws.old ws.new top left right result }
 {
     let n = counting::node_count(p, types, counts, ws, top, left);

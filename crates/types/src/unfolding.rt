@@ -1,7 +1,7 @@
 // What a recursive type entry unfolds to (section 3; T-ROLL and T-UNROLL).
 ghost use Rattle.std.specs.Prelude.{◌≡◌, ◌≤◌, ◌<◌, length, get_or};
 ghost use Rattle.calls.specs.Entries.{type_at};
-ghost use Rattle.types.specs.Layout.{typingBytes};
+ghost use Rattle.types.specs.Layout.{typing_bytes};
 ghost use Rattle.types.specs.Codes.{Readable};
 ghost use Rattle.types.specs.Unfolding.{body_of};
 
@@ -17,7 +17,7 @@ pub enum Body {
 }
 
 pub fn unfolded(p: &[u8], types: &[u16], ws: &[u8], i: u16) -> Body
-    requires readable { Readable p.now types.now × (typingBytes ≤ length ws.now) }
+    requires readable { Readable p.now types.now × (typing_bytes ≤ length ws.now) }
     requires i_in_bounds { i < length types.now }
     ensures { result ≡ body_of ws.now (type_at p.now (get_or types.now i 0)) i }
 {

@@ -6,22 +6,22 @@ use mathlib.Core.Bool.{Bool, true, false}
 use mathlib.Core.List.{List, ◌++◌}
 use lib.ListN.{length}
 use package.Rattle.rules.specs.Ty.{Ty}
-use package.Rattle.rules.specs.Term.{Term, usedIn}
+use package.Rattle.rules.specs.Term.{Term, used_in}
 use package.Rattle.rules.specs.Check.{Naming, Site, Checked, good, bad, ◌>>=◌, ◌>>◌, need}
 use package.Rattle.types.specs.declared.codes.Code.{Code}
-use package.Rattle.types.specs.Codes.{treeIn, Known, Sources}
+use package.Rattle.types.specs.Codes.{tree_in, Known, Sources}
 use package.Rattle.types.specs.Growth.{Formed}
 use package.Rattle.types.proofs.Growing.{agree_refl, agree_trans, agree-down, tree-kept}
 use package.Rattle.types.proofs.Outer.{known_up}
 use package.Rattle.typing.specs.Contexts.{UsedBy, Owed}
-use package.Rattle.typing.specs.Outcomes.{faultOf, statusOf}
-use package.Rattle.typing.specs.Ready.{contextIn, Ready, Kept, Inferred, Widened, PartKnown, After}
+use package.Rattle.typing.specs.Outcomes.{fault_of, status_of}
+use package.Rattle.typing.specs.Ready.{context_in, Ready, Kept, Inferred, Widened, PartKnown, After}
 use package.Rattle.typing.proofs.Contexts.{context-same}
 use package.Rattle.typing.proofs.Naming.{variable-same}
 use package.Rattle.varsets.specs.Sets.{has}
 use package.Rattle.typing.specs.Waiting.{added}
-use package.Rattle.typing.proofs.Deciding.{typed-inj, typed-refused}
-use package.Rattle.typing.proofs.Waiting.{waited-none, waited-then, added_then, waited-more}
+use package.Rattle.typing.proofs.Deciding.{typed_inj, typed-refused}
+use package.Rattle.typing.proofs.Waiting.{waited_none, waited-then, added_then, waited-more}
 use Rattle.typing.specs.declared.outcomes.Scope.{Scope}
 use Rattle.typing.specs.declared.outcomes.Found.{Found}
 use Rattle.typing.specs.declared.outcomes.Fault.{Fault}
@@ -34,42 +34,42 @@ use Rattle.typing.specs.declared.outcomes.Out.{Out}
 -- What an outcome says
 
 -- a refusal stands
-pub fault-then : {A B : Type 0} (w : Fault) (k : A → Checked B) → (faultOf w >>= k) ≡ faultOf w
-unfolding faultOf ◌>>=◌
-fault-then (Differ t) k = refl
-fault-then (Unscoped t) k = refl
-fault-then (Misused t) k = refl
+pub fault_then : {A B : Type 0} (w : Fault) (k : A → Checked B) → (fault_of w >>= k) ≡ fault_of w
+unfolding fault_of ◌>>=◌
+fault_then (Differ t) k = refl
+fault_then (Unscoped t) k = refl
+fault_then (Misused t) k = refl
 
 -- an answer that is a type, and one that is a refusal
 pub good-then : {A B : Type 0} {m : Checked A} {a : A} (k : A → Checked B) → m ≡ good a → (m >>= k) ≡ k a
 unfolding ◌>>=◌
 good-then k e = ap (λ m. m >>= k) e
 
-pub bad-then : {A B : Type 0} {m : Checked A} (w : Fault) (k : A → Checked B) → m ≡ faultOf w → (m >>= k) ≡ faultOf w
-bad-then w k e = ap (λ m. m >>= k) e ∙ fault-then w k
+pub bad-then : {A B : Type 0} {m : Checked A} (w : Fault) (k : A → Checked B) → m ≡ fault_of w → (m >>= k) ≡ fault_of w
+bad-then w k e = ap (λ m. m >>= k) e ∙ fault_then w k
 
 -- the end of an outcome: its status means `res`, as `Inferred` says of all but the namings
 pub record Ends (T : Term) (p types heap : List ℕ) (top : ℕ) (s : Status) (res : Checked Ty) : Type 0 where
   pub known : (f : Found) → s ≡ Typed f → Known (length types) top f.code
   pub uses : (f : Found) → s ≡ Typed f → UsedBy f.uses T
-  pub answer : statusOf (treeIn p types heap) s ≡ res
+  pub answer : status_of (tree_in p types heap) s ≡ res
 
 module _ {T : Term} {p types heap : List ℕ} {top : ℕ} {s : Status} {res : Checked Ty} where
-  pub ends-refused : {w : Fault} → s ≡ Refused w → res ≡ faultOf w → Ends T p types heap top s res
-  unfolding statusOf
+  pub ends-refused : {w : Fault} → s ≡ Refused w → res ≡ fault_of w → Ends T p types heap top s res
+  unfolding status_of
   ends-refused e a = record {
     known = λ f q. absurd (typed-refused (sym q ∙ e));
     uses = λ f q. absurd (typed-refused (sym q ∙ e));
-    answer = ap (statusOf (treeIn p types heap)) e ∙ sym a;
+    answer = ap (status_of (tree_in p types heap)) e ∙ sym a;
   }
 
-  pub ends-typed : {f : Found} → s ≡ Typed f → Known (length types) top f.code → UsedBy f.uses T → res ≡ good (treeIn p types heap f.code)
+  pub ends-typed : {f : Found} → s ≡ Typed f → Known (length types) top f.code → UsedBy f.uses T → res ≡ good (tree_in p types heap f.code)
       → Ends T p types heap top s res
-  unfolding statusOf
+  unfolding status_of
   ends-typed e k n a = record {
-    known = λ g q. subst (λ (g : Found). Known (length types) top g.code) (typed-inj (sym e ∙ q)) k;
-    uses = λ g q. subst (λ (g : Found). UsedBy g.uses T) (typed-inj (sym e ∙ q)) n;
-    answer = ap (statusOf (treeIn p types heap)) e ∙ sym a;
+    known = λ g q. subst (λ (g : Found). Known (length types) top g.code) (typed_inj (sym e ∙ q)) k;
+    uses = λ g q. subst (λ (g : Found). UsedBy g.uses T) (typed_inj (sym e ∙ q)) n;
+    answer = ap (status_of (tree_in p types heap)) e ∙ sym a;
   }
 
 pub inferred : {size : ℕ} {T : Term} {W : List Naming} {p types heap heap' : List ℕ} {m : ℕ} {vars vars' : List ℕ} {top : ℕ} {out : Out} {res : Checked Ty}
@@ -93,7 +93,7 @@ module _ {p types : List ℕ} where
     few = omega arith;
     below = λ j h. refl;
     lengths = refl;
-    waited = waited-none size vars;
+    waited = waited_none size vars;
   }
 
   pub kept_then : {a b : ℕ} (size : ℕ) {heap heap₁ heap₂ : List ℕ} {m m' : ℕ} {vars vars₁ vars₂ : List ℕ} {top top₁ top₂ : ℕ}
@@ -130,7 +130,7 @@ module _ {p types : List ℕ} where
     few = G.most;
     below = λ j h. refl;
     lengths = refl;
-    waited = waited-none 1 vars;
+    waited = waited_none 1 vars;
   }
 
   pub kept-opened : {heap vars vars' : List ℕ} {sc : Scope} {top : ℕ} {c : Code} {r : Scope} → Widened p types heap vars vars' sc top c r
@@ -147,25 +147,25 @@ module _ {p types : List ℕ} where
 
   module _ {size : ℕ} {heap heap' : List ℕ} {m : ℕ} {vars vars' : List ℕ} {top top' : ℕ} (S : Sources p types heap top)
       (K : Kept size p types heap heap' m vars vars' top top') where
-    pub tree-later : {c : Code} → Known (length types) top c → treeIn p types heap c ≡ treeIn p types heap' c
-    tree-later k = tree-kept S.products K.agree k
+    pub tree_later : {c : Code} → Known (length types) top c → tree_in p types heap c ≡ tree_in p types heap' c
+    tree_later k = tree-kept S.products K.agree k
 
-    pub known-later : {c : Code} → Known (length types) top c → Known (length types) top' c
-    known-later k = known_up K.grows k
+    pub known_later : {c : Code} → Known (length types) top c → Known (length types) top' c
+    known_later k = known_up K.grows k
 
 ----------------------------------------------------------------
 -- Refusals, tests and parts
 
 pub stopped : (size : ℕ) {T : Term} {W : List Naming} {p types heap : List ℕ} (m : ℕ) (vars : List ℕ) {top : ℕ} {r : Out} {w : Fault} {res : Checked Ty}
     → Sources p types heap top
-    → r.status ≡ Refused w → r.top ≡ top → res ≡ faultOf w → Inferred size T W p types heap heap m vars vars top r res
+    → r.status ≡ Refused w → r.top ≡ top → res ≡ fault_of w → Inferred size T W p types heap heap m vars vars top r res
 stopped size {p = p} {types} {heap} m vars {top} S e q a =
     inferred (subst (λ x. Kept size p types heap heap m vars vars top x) (sym q) (kept-still size m vars S)) (ends-refused e a) (refusing e)
 
 module _ {A : Type 0} (b : Bool) (n : ℕ) (place : Site) (next : Checked A) where
-  pub need-yes : b ≡ true → (need b n place >> next) ≡ next
+  pub need_yes : b ≡ true → (need b n place >> next) ≡ next
   unfolding need ◌>>◌
-  need-yes e = ap (λ b. need b n place >> next) e
+  need_yes e = ap (λ b. need b n place >> next) e
 
   pub need-no : b ≡ false → (need b n place >> next) ≡ bad n place
   unfolding need ◌>>◌
@@ -173,13 +173,13 @@ module _ {A : Type 0} (b : Bool) (n : ℕ) (place : Site) (next : Checked A) whe
 
 module _ {size : ℕ} {E : Term} {W : List Naming} {p types heap heap₁ : List ℕ} {m : ℕ} {vars vars₁ : List ℕ} {top : ℕ} {r : Out} {part : Checked Ty}
     (d : Inferred size E W p types heap heap₁ m vars vars₁ top r part) where
-  pub answered : {f : Found} → r.status ≡ Typed f → part ≡ good (treeIn p types heap₁ f.code)
-  unfolding statusOf
-  answered e = sym d.answer ∙ ap (statusOf (treeIn p types heap₁)) e
+  pub answered : {f : Found} → r.status ≡ Typed f → part ≡ good (tree_in p types heap₁ f.code)
+  unfolding status_of
+  answered e = sym d.answer ∙ ap (status_of (tree_in p types heap₁)) e
 
-  pub refused : {w : Fault} → r.status ≡ Refused w → part ≡ faultOf w
-  unfolding statusOf
-  refused e = sym d.answer ∙ ap (statusOf (treeIn p types heap₁)) e
+  pub refused : {w : Fault} → r.status ≡ Refused w → part ≡ fault_of w
+  unfolding status_of
+  refused e = sym d.answer ∙ ap (status_of (tree_in p types heap₁)) e
 
   pub told : PartKnown p types heap₁ r
   told = record { sources = d.kept.sources; known = d.known }
@@ -195,7 +195,7 @@ module _ {size : ℕ} {E : Term} {W : List Naming} {p types heap heap₁ : List 
   part-refused size' {w = w} next e a s = inferred (kept_more size' d.kept s) (ends-refused e (a ∙ bad-then w next (refused e))) (refusing e)
 
   -- a term around it uses the same variables, and has the same namings
-  pub around : (size' : ℕ) {T : Term} {W' : List Naming} {res : Checked Ty} → ((i : ℕ) → usedIn i T ≡ usedIn i E) → W' ≡ W → size ≤ size' → res ≡ part
+  pub around : (size' : ℕ) {T : Term} {W' : List Naming} {res : Checked Ty} → ((i : ℕ) → used_in i T ≡ used_in i E) → W' ≡ W → size ≤ size' → res ≡ part
       → Inferred size' T W' p types heap heap₁ m vars vars₁ top r res
   around size' n x s e = record {
     kept = kept_more size' d.kept s;
@@ -221,7 +221,7 @@ module _ {size : ℕ} {E : Term} {W : List Naming} {p types heap heap₁ : List 
   pub part-tested : (size' : ℕ) {T : Term} {out : Out} {Next : Found → Status → Type 0} {res : Checked Ty} (next : Ty → Checked Ty)
       → After r out Next → res ≡ (part >>= next) → size ≤ size'
       → ((f : Found) → Known (length types) r.top f.code → UsedBy f.uses E → Next f out.status
-      → Ends T p types heap₁ r.top out.status (next (treeIn p types heap₁ f.code)))
+      → Ends T p types heap₁ r.top out.status (next (tree_in p types heap₁ f.code)))
       → Inferred size' T W p types heap heap₁ m vars vars₁ top out res
   part-tested size' {T} {out} {res = res} next A e s go = inferred
       (subst (λ x. Kept size' p types heap heap₁ m vars vars₁ top x) (sym A.same) (kept_more size' d.kept s))
@@ -262,13 +262,13 @@ module _ {size : ℕ} {p types terms functions nodes heap vars : List ℕ} {sc :
   }
 
   module _ {a : ℕ} {heap' vars' : List ℕ} {top' : ℕ} (K : Kept a p types heap heap' sc.n vars vars' top top') where
-    pub context-later : contextIn p types heap' vars' sc ≡ contextIn p types heap vars sc
-    context-later = context-same _ _ sc.q sc.lo (has sc.marks) (has sc.marks) sc.n
-        (λ i l. ap (treeIn p types heap') (sym (variable-same vars vars' sc.n K.below i l))
-        ∙ sym (tree-later rd.scoped.sources K (rd.scoped.known i l))) λ i l. refl
+    pub context_later : context_in p types heap' vars' sc ≡ context_in p types heap vars sc
+    context_later = context-same _ _ sc.q sc.lo (has sc.marks) (has sc.marks) sc.n
+        (λ i l. ap (tree_in p types heap') (sym (variable-same vars vars' sc.n K.below i l))
+        ∙ sym (tree_later rd.scoped.sources K (rd.scoped.known i l))) λ i l. refl
 
-    pub ready-later : (size' : ℕ) → a + size' ≤ size → Ready size' p types terms functions nodes heap' vars' sc top'
-    ready-later size' le = record {
+    pub ready_later : (size' : ℕ) → a + size' ≤ size → Ready size' p types terms functions nodes heap' vars' sc top'
+    ready_later size' le = record {
       entries = rd.entries;
       scoped = record {
         sources = K.sources;
@@ -277,8 +277,8 @@ module _ {size : ℕ} {p types terms functions nodes heap vars : List ℕ} {sc :
         low = rd.scoped.low;
         few = rd.scoped.few;
         known = λ i l. subst (Known (length types) top') (variable-same vars vars' sc.n K.below i l)
-            (known-later rd.scoped.sources K (rd.scoped.known i l));
-        owed = subst (Owed sc.owed) (sym context-later) rd.scoped.owed;
+            (known_later rd.scoped.sources K (rd.scoped.known i l));
+        owed = subst (Owed sc.owed) (sym context_later) rd.scoped.owed;
         unmarked = rd.scoped.unmarked;
       };
       room = omega (arith, rd.room, K.agree.lengths);

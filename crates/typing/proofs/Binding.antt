@@ -6,30 +6,30 @@ use mathlib.Core.Bool.{true, false, ◌&&◌}
 use mathlib.Core.List.{List, ◌∷◌, ◌++◌}
 use lib.ListN.{length}
 use lib.Dec.{leb}
-use package.Rattle.rules.specs.Limits.{maxVariables}
+use package.Rattle.rules.specs.Limits.{max_variables}
 use package.Rattle.rules.specs.Ty.{Ty}
-use package.Rattle.rules.specs.Term.{Term, tlet, tletp, usedIn}
+use package.Rattle.rules.specs.Term.{Term, tlet, tletp, used_in}
 use package.Rattle.rules.specs.Typing.{dynamic, Context, mark}
-use package.Rattle.rules.specs.Check.{term, Checked, good, ◌>>=◌, ◌>>◌, need, asProd, spent, waitsIn, unhelped, unless, needNone, room, infer}
-use package.Rattle.rules.proofs.Typing.Waiting.{waits-let, waits-letp}
+use package.Rattle.rules.specs.Check.{term, Checked, good, ◌>>=◌, ◌>>◌, need, as_prod, spent, waits_in, unhelped, unless, need_none, room, infer}
+use package.Rattle.rules.proofs.Typing.Waiting.{waits_let, waits_letp}
 use package.Rattle.program.specs.Parts.{first, second}
-use package.Rattle.program.specs.Kinds.{productKind, letKind, letPairKind}
+use package.Rattle.program.specs.Kinds.{product_kind, let_kind, let_pair_kind}
 use package.Rattle.types.specs.declared.shapes.Shape.{Shape}
-use package.Rattle.types.specs.Codes.{treeIn, Known}
+use package.Rattle.types.specs.Codes.{tree_in, Known}
 use package.Rattle.types.specs.Shapes.{Shaped}
 use package.Rattle.types.proofs.Asked.{a-product, no-product}
-use package.Rattle.typing.specs.Waiting.{countIn, added, Waited, Settleable}
-use package.Rattle.typing.specs.Sizes.{termsIn}
-use package.Rattle.typing.specs.Outcomes.{faultOf}
-use package.Rattle.typing.specs.Ready.{termIn, contextIn, typingOf, typeIn, Ready, Here, Kept}
+use package.Rattle.typing.specs.Waiting.{count_in, added, Waited, Settleable}
+use package.Rattle.typing.specs.Sizes.{terms_in}
+use package.Rattle.typing.specs.Outcomes.{fault_of}
+use package.Rattle.typing.specs.Ready.{term_in, context_in, typing_of, type_in, Ready, Here, Kept}
 use package.Rattle.typing.specs.Ready.{Inferred, Widened, MarkedScope, AfterBody, ClosesOne, ClosesTwo}
 use package.Rattle.typing.specs.Asked.{Infers}
-use package.Rattle.typing.proofs.Answers.{ends-refused, inferred, refusing, kept_then, kept_more, kept-opened, tree-later, known-later}
-use package.Rattle.typing.proofs.Answers.{stopped, need-yes, need-no, answered, part-refused, earlier, says, good-then}
-use package.Rattle.typing.proofs.Answers.{context-later, ready-later}
-use package.Rattle.typing.proofs.Trees.{tree-let, parts-let, tree-letp, parts-letp}
+use package.Rattle.typing.proofs.Answers.{ends-refused, inferred, refusing, kept_then, kept_more, kept-opened, tree_later, known_later}
+use package.Rattle.typing.proofs.Answers.{stopped, need_yes, need-no, answered, part-refused, earlier, says, good-then}
+use package.Rattle.typing.proofs.Answers.{context_later, ready_later}
+use package.Rattle.typing.proofs.Trees.{tree_let, parts_let, tree_letp, parts_letp}
 use package.Rattle.typing.proofs.Waiting.{waited-then, added_then, added-still, added-after}
-use package.Rattle.typing.proofs.Closing.{as_many, fits, over, spent-is, lent-context, lent-ready, in_scope, let-settleable, let-ends}
+use package.Rattle.typing.proofs.Closing.{as_many, fits, over, spent_is, lent-context, lent-ready, in_scope, let_settleable, let_ends}
 use Rattle.typing.specs.declared.outcomes.Scope.{Scope}
 use Rattle.typing.specs.declared.outcomes.Found.{Found}
 use Rattle.typing.specs.declared.outcomes.Fault.{Fault}
@@ -42,270 +42,270 @@ use Rattle.typing.specs.declared.outcomes.Out.{Out}
 -- let
 
 module _ {p types terms functions nodes heap vars : List ℕ} {sc : Scope} {top t at : ℕ}
-    (rd : Ready (termsIn (termIn p types terms t)) p types terms functions nodes heap vars sc top)
-    (H : Here p terms t at letKind) where
+    (rd : Ready (terms_in (term_in p types terms t)) p types terms functions nodes heap vars sc top)
+    (H : Here p terms t at let_kind) where
   abbrev goal : Checked Ty
-  goal = typeIn p types terms functions heap vars sc t
+  goal = type_in p types terms functions heap vars sc t
 
   abbrev Δ : Context
-  Δ = contextIn p types heap vars sc
+  Δ = context_in p types heap vars sc
 
   -- the rule, over the parts
-  rule-let : (e b : ℕ) → e ≡ first p at → b ≡ second p at → goal
-      ≡ (need (leb (1 + length Δ) maxVariables) 7 (term t) >> (typingOf p types terms functions (mark (λ i. true) Δ) (termIn p types terms e) >>= λ c.
-      typingOf p types terms functions (dynamic false c ∷ Δ) (termIn p types terms b) >>= λ τ.
-      needNone (unless (spent (length Δ) c (termIn p types terms b)) t ++ unhelped Δ (termIn p types terms e) (termIn p types terms b)) >> good τ))
+  rule_let : (e b : ℕ) → e ≡ first p at → b ≡ second p at → goal
+      ≡ (need (leb (1 + length Δ) max_variables) 7 (term t) >> (typing_of p types terms functions (mark (λ i. true) Δ) (term_in p types terms e) >>= λ c.
+      typing_of p types terms functions (dynamic false c ∷ Δ) (term_in p types terms b) >>= λ τ.
+      need_none (unless (spent (length Δ) c (term_in p types terms b)) t ++ unhelped Δ (term_in p types terms e) (term_in p types terms b)) >> good τ))
   unfolding infer room
-  rule-let e b q q' = ap (typingOf p types terms functions Δ)
-      (tree-let rd.entries H ∙ ap₂ (tlet t) (ap (termIn p types terms) (sym q)) (ap (termIn p types terms) (sym q')))
+  rule_let e b q q' = ap (typing_of p types terms functions Δ)
+      (tree_let rd.entries H ∙ ap₂ (tlet t) (ap (term_in p types terms) (sym q)) (ap (term_in p types terms) (sym q')))
 
-  pub let-full : {r : Out} → sc.n ≡ maxVariables → r.status ≡ Refused (Unscoped t) → r.top ≡ top
+  pub let_full : {r : Out} → sc.n ≡ max_variables → r.status ≡ Refused (Unscoped t) → r.top ≡ top
       → Infers p types terms functions heap heap vars vars sc top t r
-  unfolding faultOf
-  let-full x s z = stopped _ sc.n vars rd.scoped.sources s z
-      (rule-let _ _ refl refl ∙ need-no _ _ _ _ (over 1 sc.n (as_many p types heap vars sc) (omega arith)))
+  unfolding fault_of
+  let_full x s z = stopped _ sc.n vars rd.scoped.sources s z
+      (rule_let _ _ refl refl ∙ need-no _ _ _ _ (over 1 sc.n (as_many p types heap vars sc) (omega arith)))
 
-  module _ (free : ¬ (sc.n ≡ maxVariables)) {e b : ℕ} (q : e ≡ first p at) (q' : b ≡ second p at) where
+  module _ (free : ¬ (sc.n ≡ max_variables)) {e b : ℕ} (q : e ≡ first p at) (q' : b ≡ second p at) where
     abbrev E : Term
-    E = termIn p types terms e
+    E = term_in p types terms e
 
     abbrev B : Term
-    B = termIn p types terms b
+    B = term_in p types terms b
 
     abbrev T : Term
-    T = termIn p types terms t
+    T = term_in p types terms t
 
-    pub let-free : sc.n < maxVariables
-    let-free = omega (arith, rd.scoped.few)
+    pub let_free : sc.n < max_variables
+    let_free = omega (arith, rd.scoped.few)
 
-    let-tree : T ≡ tlet t E B
-    let-tree = tree-let rd.entries H ∙ ap₂ (tlet t) (ap (termIn p types terms) (sym q)) (ap (termIn p types terms) (sym q'))
+    let_tree : T ≡ tlet t E B
+    let_tree = tree_let rd.entries H ∙ ap₂ (tlet t) (ap (term_in p types terms) (sym q)) (ap (term_in p types terms) (sym q'))
 
-    size-let : suc (termsIn E + termsIn B) ≡ termsIn T
-    unfolding termsIn
-    size-let = sym (ap termsIn let-tree)
+    size_let : suc (terms_in E + terms_in B) ≡ terms_in T
+    unfolding terms_in
+    size_let = sym (ap terms_in let_tree)
 
-    rule : goal ≡ (typingOf p types terms functions (mark (λ i. true) Δ) E >>= λ c.
-        typingOf p types terms functions (dynamic false c ∷ Δ) B >>= λ τ. needNone (unless (spent (length Δ) c B) t ++ unhelped Δ E B) >> good τ)
-    rule = rule-let e b q q' ∙ need-yes _ _ _ _ (fits 1 sc.n (as_many p types heap vars sc) (omega (arith, let-free)))
+    rule : goal ≡ (typing_of p types terms functions (mark (λ i. true) Δ) E >>= λ c.
+        typing_of p types terms functions (dynamic false c ∷ Δ) B >>= λ τ. need_none (unless (spent (length Δ) c B) t ++ unhelped Δ E B) >> good τ)
+    rule = rule_let e b q q' ∙ need_yes _ _ _ _ (fits 1 sc.n (as_many p types heap vars sc) (omega (arith, let_free)))
 
-    pub let-bound : (e < t) × (e < length terms)
-    let-bound = rw q (parts-let rd.entries H).0
+    pub let_bound : (e < t) × (e < length terms)
+    let_bound = rw q (parts_let rd.entries H).0
 
-    pub let-body : (b < t) × (b < length terms)
-    let-body = rw q' (parts-let rd.entries H).1
+    pub let_body : (b < t) × (b < length terms)
+    let_body = rw q' (parts_let rd.entries H).1
 
     module _ {lent : Scope} (M : MarkedScope sc lent) where
-      pub let-ready : Ready (termsIn E) p types terms functions nodes heap vars lent top
-      let-ready = lent-ready rd M (termsIn E) (omega (arith, size-let))
+      pub let_ready : Ready (terms_in E) p types terms functions nodes heap vars lent top
+      let_ready = lent-ready rd M (terms_in E) (omega (arith, size_let))
 
       module _ {heap₁ vars₁ : List ℕ} {o : Out} (d₀ : Infers p types terms functions heap heap₁ vars vars₁ lent top e o) where
         -- the bound term, by the let's scope
-        d : Inferred (termsIn E) E (waitsIn (mark (λ i. true) Δ) E) p types heap heap₁ sc.n vars vars₁ top o
-            (typingOf p types terms functions (mark (λ i. true) Δ) E)
-        d = in_scope M.n (says d₀ (ap (λ Γ. typingOf p types terms functions Γ E) (lent-context rd M)) (ap (λ Γ. waitsIn Γ E) (lent-context rd M)))
+        d : Inferred (terms_in E) E (waits_in (mark (λ i. true) Δ) E) p types heap heap₁ sc.n vars vars₁ top o
+            (typing_of p types terms functions (mark (λ i. true) Δ) E)
+        d = in_scope M.n (says d₀ (ap (λ Γ. typing_of p types terms functions Γ E) (lent-context rd M)) (ap (λ Γ. waits_in Γ E) (lent-context rd M)))
 
-        pub let-refused : {w : Fault} → o.status ≡ Refused w → Infers p types terms functions heap heap₁ vars vars₁ sc top t o
-        let-refused x = part-refused d _ _ x rule (omega (arith, size-let))
+        pub let_refused : {w : Fault} → o.status ≡ Refused w → Infers p types terms functions heap heap₁ vars vars₁ sc top t o
+        let_refused x = part-refused d _ _ x rule (omega (arith, size_let))
 
-        pub let-later : Ready (termsIn B) p types terms functions nodes heap₁ vars₁ sc o.top
-        let-later = ready-later rd d.kept _ (omega (arith, size-let))
+        pub let_later : Ready (terms_in B) p types terms functions nodes heap₁ vars₁ sc o.top
+        let_later = ready_later rd d.kept _ (omega (arith, size_let))
 
         module _ {f : Found} (x : o.status ≡ Typed f) {vars₂ : List ℕ} {inner : Scope} (O : Widened p types heap₁ vars₁ vars₂ sc o.top f.code inner)
             {heap₂ vars₃ : List ℕ} {o₂ : Out} (d₂ : Infers p types terms functions heap₁ heap₂ vars₂ vars₃ inner o.top b o₂) where
           abbrev τ : Ty
-          τ = treeIn p types heap₁ f.code
+          τ = tree_in p types heap₁ f.code
 
-          body-context : contextIn p types heap₁ vars₂ inner ≡ dynamic false τ ∷ Δ
-          body-context = O.context ∙ ap (λ Γ. dynamic false τ ∷ Γ) (context-later rd d.kept)
+          body-context : context_in p types heap₁ vars₂ inner ≡ dynamic false τ ∷ Δ
+          body-context = O.context ∙ ap (λ Γ. dynamic false τ ∷ Γ) (context_later rd d.kept)
 
-          pub let-known : Known (length types) o₂.top f.code
-          let-known = known-later d.kept.sources d₂.kept (d.known f x)
+          pub let_known : Known (length types) o₂.top f.code
+          let_known = known_later d.kept.sources d₂.kept (d.known f x)
 
           -- the body, from the start
-          whole-let : Inferred (termsIn E + termsIn B) B (waitsIn (mark (λ i. true) Δ) E ++ waitsIn (dynamic false τ ∷ Δ) B)
-              p types heap heap₂ sc.n vars vars₃ top o₂ (typingOf p types terms functions (dynamic false τ ∷ Δ) B)
-          whole-let = earlier (says d₂ (ap (λ Γ. typingOf p types terms functions Γ B) body-context) (ap (λ Γ. waitsIn Γ B) body-context)) _
-              (kept_then (termsIn E) d.kept (kept-opened O) (omega arith) (omega arith))
+          whole_let : Inferred (terms_in E + terms_in B) B (waits_in (mark (λ i. true) Δ) E ++ waits_in (dynamic false τ ∷ Δ) B)
+              p types heap heap₂ sc.n vars vars₃ top o₂ (typing_of p types terms functions (dynamic false τ ∷ Δ) B)
+          whole_let = earlier (says d₂ (ap (λ Γ. typing_of p types terms functions Γ B) body-context) (ap (λ Γ. waits_in Γ B) body-context)) _
+              (kept_then (terms_in E) d.kept (kept-opened O) (omega arith) (omega arith))
               (added-after d.kept.waited O.waited (d.waits f x)) (omega (arith, O.one_more)) (omega arith)
 
           -- what came to wait in the body
-          body-waited : Waited (termsIn B) vars₁ vars₃
-          body-waited = waited-then O.waited d₂.kept.waited (termsIn B) (omega arith)
+          body-waited : Waited (terms_in B) vars₁ vars₃
+          body-waited = waited-then O.waited d₂.kept.waited (terms_in B) (omega arith)
 
-          body-waits : (g : Found) → o₂.status ≡ Typed g → added vars₁ vars₃ ≡ waitsIn (dynamic false τ ∷ Δ) B
-          body-waits g y = added_then O.waited d₂.kept.waited (added-still O.waited) (d₂.waits g y) ∙ ap (λ Γ. waitsIn Γ B) body-context
+          body-waits : (g : Found) → o₂.status ≡ Typed g → added vars₁ vars₃ ≡ waits_in (dynamic false τ ∷ Δ) B
+          body-waits g y = added_then O.waited d₂.kept.waited (added-still O.waited) (d₂.waits g y) ∙ ap (λ Γ. waits_in Γ B) body-context
 
           abbrev Closed : ℕ → ℕ → List ℕ → Found → Status → Type 0
           Closed from to vars₄ = ClosesOne p types heap₂ vars₃ vars₄ sc f.uses f.code t from to
 
-          let-closed : {vars₄ : List ℕ} {out : Out} → AfterBody vars₃ vars₄ o₂ out (Closed (countIn vars) (countIn vars₁) vars₄)
+          let_closed : {vars₄ : List ℕ} {out : Out} → AfterBody vars₃ vars₄ o₂ out (Closed (count_in vars) (count_in vars₁) vars₄)
               → Infers p types terms functions heap heap₂ vars vars₄ sc top t out
-          let-closed A = says (let-ends E B T rd size-let (λ i. ap (usedIn i) let-tree) d.kept.waited (d.waits f x) body-waited whole-let body-waits
+          let_closed A = says (let_ends E B T rd size_let (λ i. ap (used_in i) let_tree) d.kept.waited (d.waits f x) body-waited whole_let body-waits
               (d.uses f x) A
-              (λ g N. spent-is p types heap₂ f.code sc.n g.uses B let-free (as_many p types heap vars sc)
-              (tree-later d.kept.sources d₂.kept (d.known f x)) N)
+              (λ g N. spent_is p types heap₂ f.code sc.n g.uses B let_free (as_many p types heap vars sc)
+              (tree_later d.kept.sources d₂.kept (d.known f x)) N)
               (rule ∙ good-then _ (answered d x)))
-              refl (sym (ap (waitsIn Δ) let-tree ∙ waits-let τ Δ t E B))
+              refl (sym (ap (waits_in Δ) let_tree ∙ waits_let τ Δ t E B))
 
           -- the let's namings begin at `from` and end at `to`
-          module _ {from to : ℕ} (qf : from ≡ countIn vars) (qt : to ≡ countIn vars₁) where
-            pub let-can-settle : Settleable sc vars₃ from to
-            let-can-settle = rw (qf, qt)
-                (let-settleable E B T rd size-let (λ i. ap (usedIn i) let-tree) d.kept.waited (d.waits f x) body-waited whole-let body-waits)
+          module _ {from to : ℕ} (qf : from ≡ count_in vars) (qt : to ≡ count_in vars₁) where
+            pub let_can_settle : Settleable sc vars₃ from to
+            let_can_settle = rw (qf, qt)
+                (let_settleable E B T rd size_let (λ i. ap (used_in i) let_tree) d.kept.waited (d.waits f x) body-waited whole_let body-waits)
 
-            pub let-done : {vars₄ : List ℕ} {out : Out}
+            pub let_done : {vars₄ : List ℕ} {out : Out}
                 → AfterBody vars₃ vars₄ o₂ out (ClosesOne p types heap₂ vars₃ vars₄ sc f.uses f.code t from to)
                 → Infers p types terms functions heap heap₂ vars vars₄ sc top t out
-            let-done {vars₄} {out} A = let-closed (subst (λ to. AfterBody vars₃ vars₄ o₂ out (Closed (countIn vars) to vars₄)) qt
+            let_done {vars₄} {out} A = let_closed (subst (λ to. AfterBody vars₃ vars₄ o₂ out (Closed (count_in vars) to vars₄)) qt
                 (subst (λ from. AfterBody vars₃ vars₄ o₂ out (Closed from to vars₄)) qf A))
 
 ----------------------------------------------------------------
 -- let pair
 
 module _ {p types terms functions nodes heap vars : List ℕ} {sc : Scope} {top t at : ℕ}
-    (rd : Ready (termsIn (termIn p types terms t)) p types terms functions nodes heap vars sc top)
-    (H : Here p terms t at letPairKind) where
+    (rd : Ready (terms_in (term_in p types terms t)) p types terms functions nodes heap vars sc top)
+    (H : Here p terms t at let_pair_kind) where
   abbrev goal₂ : Checked Ty
-  goal₂ = typeIn p types terms functions heap vars sc t
+  goal₂ = type_in p types terms functions heap vars sc t
 
   abbrev Δ₂ : Context
-  Δ₂ = contextIn p types heap vars sc
+  Δ₂ = context_in p types heap vars sc
 
   -- the rule, over the parts
-  rule-letp : (e b : ℕ) → e ≡ first p at → b ≡ second p at → goal₂
-      ≡ (need (leb (2 + length Δ₂) maxVariables) 7 (term t) >> (typingOf p types terms functions (mark (λ i. true) Δ₂) (termIn p types terms e) >>= λ τ.
-      asProd (term t) τ λ c d. typingOf p types terms functions (dynamic false d ∷ dynamic false c ∷ Δ₂) (termIn p types terms b) >>= λ τ.
-      needNone (unless (spent (length Δ₂) c (termIn p types terms b) && spent (suc (length Δ₂)) d (termIn p types terms b)) t
-      ++ unhelped Δ₂ (termIn p types terms e) (termIn p types terms b)) >> good τ))
+  rule_letp : (e b : ℕ) → e ≡ first p at → b ≡ second p at → goal₂
+      ≡ (need (leb (2 + length Δ₂) max_variables) 7 (term t) >> (typing_of p types terms functions (mark (λ i. true) Δ₂) (term_in p types terms e) >>= λ τ.
+      as_prod (term t) τ λ c d. typing_of p types terms functions (dynamic false d ∷ dynamic false c ∷ Δ₂) (term_in p types terms b) >>= λ τ.
+      need_none (unless (spent (length Δ₂) c (term_in p types terms b) && spent (suc (length Δ₂)) d (term_in p types terms b)) t
+      ++ unhelped Δ₂ (term_in p types terms e) (term_in p types terms b)) >> good τ))
   unfolding infer room
-  rule-letp e b q q' = ap (typingOf p types terms functions Δ₂)
-      (tree-letp rd.entries H ∙ ap₂ (tletp t) (ap (termIn p types terms) (sym q)) (ap (termIn p types terms) (sym q')))
+  rule_letp e b q q' = ap (typing_of p types terms functions Δ₂)
+      (tree_letp rd.entries H ∙ ap₂ (tletp t) (ap (term_in p types terms) (sym q)) (ap (term_in p types terms) (sym q')))
 
-  pub letp-full : {r : Out} → maxVariables < sc.n + 2 → r.status ≡ Refused (Unscoped t) → r.top ≡ top
+  pub letp_full : {r : Out} → max_variables < sc.n + 2 → r.status ≡ Refused (Unscoped t) → r.top ≡ top
       → Infers p types terms functions heap heap vars vars sc top t r
-  unfolding faultOf
-  letp-full x s z = stopped _ sc.n vars rd.scoped.sources s z
-      (rule-letp _ _ refl refl ∙ need-no _ _ _ _ (over 2 sc.n (as_many p types heap vars sc) (omega arith)))
+  unfolding fault_of
+  letp_full x s z = stopped _ sc.n vars rd.scoped.sources s z
+      (rule_letp _ _ refl refl ∙ need-no _ _ _ _ (over 2 sc.n (as_many p types heap vars sc) (omega arith)))
 
-  module _ (free : sc.n + 2 ≤ maxVariables) {e b : ℕ} (q : e ≡ first p at) (q' : b ≡ second p at) where
+  module _ (free : sc.n + 2 ≤ max_variables) {e b : ℕ} (q : e ≡ first p at) (q' : b ≡ second p at) where
     abbrev E₂ : Term
-    E₂ = termIn p types terms e
+    E₂ = term_in p types terms e
 
     abbrev B₂ : Term
-    B₂ = termIn p types terms b
+    B₂ = term_in p types terms b
 
     abbrev T₂ : Term
-    T₂ = termIn p types terms t
+    T₂ = term_in p types terms t
 
-    letp-tree : T₂ ≡ tletp t E₂ B₂
-    letp-tree = tree-letp rd.entries H ∙ ap₂ (tletp t) (ap (termIn p types terms) (sym q)) (ap (termIn p types terms) (sym q'))
+    letp_tree : T₂ ≡ tletp t E₂ B₂
+    letp_tree = tree_letp rd.entries H ∙ ap₂ (tletp t) (ap (term_in p types terms) (sym q)) (ap (term_in p types terms) (sym q'))
 
-    size-letp : suc (termsIn E₂ + termsIn B₂) ≡ termsIn T₂
-    unfolding termsIn
-    size-letp = sym (ap termsIn letp-tree)
+    size_letp : suc (terms_in E₂ + terms_in B₂) ≡ terms_in T₂
+    unfolding terms_in
+    size_letp = sym (ap terms_in letp_tree)
 
-    rule₂ : goal₂ ≡ (typingOf p types terms functions (mark (λ i. true) Δ₂) E₂ >>= λ τ.
-        asProd (term t) τ λ c d. typingOf p types terms functions (dynamic false d ∷ dynamic false c ∷ Δ₂) B₂ >>= λ τ.
-        needNone (unless (spent (length Δ₂) c B₂ && spent (suc (length Δ₂)) d B₂) t ++ unhelped Δ₂ E₂ B₂) >> good τ)
-    rule₂ = rule-letp e b q q' ∙ need-yes _ _ _ _ (fits 2 sc.n (as_many p types heap vars sc) (omega arith))
+    rule₂ : goal₂ ≡ (typing_of p types terms functions (mark (λ i. true) Δ₂) E₂ >>= λ τ.
+        as_prod (term t) τ λ c d. typing_of p types terms functions (dynamic false d ∷ dynamic false c ∷ Δ₂) B₂ >>= λ τ.
+        need_none (unless (spent (length Δ₂) c B₂ && spent (suc (length Δ₂)) d B₂) t ++ unhelped Δ₂ E₂ B₂) >> good τ)
+    rule₂ = rule_letp e b q q' ∙ need_yes _ _ _ _ (fits 2 sc.n (as_many p types heap vars sc) (omega arith))
 
-    pub letp-bound : (e < t) × (e < length terms)
-    letp-bound = rw q (parts-letp rd.entries H).0
+    pub letp_bound : (e < t) × (e < length terms)
+    letp_bound = rw q (parts_letp rd.entries H).0
 
-    pub letp-body : (b < t) × (b < length terms)
-    letp-body = rw q' (parts-letp rd.entries H).1
+    pub letp_body : (b < t) × (b < length terms)
+    letp_body = rw q' (parts_letp rd.entries H).1
 
     module _ {lent : Scope} (M : MarkedScope sc lent) where
-      pub letp-ready : Ready (termsIn E₂) p types terms functions nodes heap vars lent top
-      letp-ready = lent-ready rd M (termsIn E₂) (omega (arith, size-letp))
+      pub letp_ready : Ready (terms_in E₂) p types terms functions nodes heap vars lent top
+      letp_ready = lent-ready rd M (terms_in E₂) (omega (arith, size_letp))
 
       module _ {heap₁ vars₁ : List ℕ} {o : Out} (d₀ : Infers p types terms functions heap heap₁ vars vars₁ lent top e o) where
         -- the bound term, by the let's scope
-        d₁ : Inferred (termsIn E₂) E₂ (waitsIn (mark (λ i. true) Δ₂) E₂) p types heap heap₁ sc.n vars vars₁ top o
-            (typingOf p types terms functions (mark (λ i. true) Δ₂) E₂)
+        d₁ : Inferred (terms_in E₂) E₂ (waits_in (mark (λ i. true) Δ₂) E₂) p types heap heap₁ sc.n vars vars₁ top o
+            (typing_of p types terms functions (mark (λ i. true) Δ₂) E₂)
         d₁ = in_scope M.n
-            (says d₀ (ap (λ Γ. typingOf p types terms functions Γ E₂) (lent-context rd M)) (ap (λ Γ. waitsIn Γ E₂) (lent-context rd M)))
+            (says d₀ (ap (λ Γ. typing_of p types terms functions Γ E₂) (lent-context rd M)) (ap (λ Γ. waits_in Γ E₂) (lent-context rd M)))
 
-        pub letp-refused : {w : Fault} → o.status ≡ Refused w → Infers p types terms functions heap heap₁ vars vars₁ sc top t o
-        letp-refused x = part-refused d₁ _ _ x rule₂ (omega (arith, size-letp))
+        pub letp_refused : {w : Fault} → o.status ≡ Refused w → Infers p types terms functions heap heap₁ vars vars₁ sc top t o
+        letp_refused x = part-refused d₁ _ _ x rule₂ (omega (arith, size_letp))
 
-        pub letp-later : Ready (termsIn B₂) p types terms functions nodes heap₁ vars₁ sc o.top
-        letp-later = ready-later rd d₁.kept _ (omega (arith, size-letp))
+        pub letp_later : Ready (terms_in B₂) p types terms functions nodes heap₁ vars₁ sc o.top
+        letp_later = ready_later rd d₁.kept _ (omega (arith, size_letp))
 
         module _ {f : Found} (x : o.status ≡ Typed f) {s : Shape} (S : Shaped p types heap₁ o.top f.code s) where
-          pub letp-no : {r : Out} → ¬ (s.kind ≡ productKind) → r.status ≡ Refused (Differ t) → r.top ≡ o.top
+          pub letp_no : {r : Out} → ¬ (s.kind ≡ product_kind) → r.status ≡ Refused (Differ t) → r.top ≡ o.top
               → Infers p types terms functions heap heap₁ vars vars₁ sc top t r
-          unfolding faultOf
-          letp-no n y z = inferred
-              (subst (λ u. Kept (termsIn T₂) p types heap heap₁ sc.n vars vars₁ top u) (sym z) (kept_more _ d₁.kept (omega (arith, size-letp))))
+          unfolding fault_of
+          letp_no n y z = inferred
+              (subst (λ u. Kept (terms_in T₂) p types heap heap₁ sc.n vars vars₁ top u) (sym z) (kept_more _ d₁.kept (omega (arith, size_letp))))
               (ends-refused y (rule₂ ∙ good-then _ (answered d₁ x) ∙ no-product S (term t) _ n)) (refusing y)
 
-          module _ (product : s.kind ≡ productKind) {vars₂ : List ℕ} {inner : Scope} (O : Widened p types heap₁ vars₁ vars₂ sc o.top s.first inner) where
+          module _ (product : s.kind ≡ product_kind) {vars₂ : List ℕ} {inner : Scope} (O : Widened p types heap₁ vars₁ vars₂ sc o.top s.first inner) where
             -- the second variable can be bound
-            pub letp-second : inner.n < maxVariables
-            letp-second = omega (arith, O.one_more)
+            pub letp_second : inner.n < max_variables
+            letp_second = omega (arith, O.one_more)
 
             module _ {vars₃ : List ℕ} {inner₂ : Scope} (O₂ : Widened p types heap₁ vars₂ vars₃ inner o.top s.second inner₂)
                 {heap₂ vars₄ : List ℕ} {o₂ : Out} (d₂ : Infers p types terms functions heap₁ heap₂ vars₃ vars₄ inner₂ o.top b o₂) where
               abbrev α : Ty
-              α = treeIn p types heap₁ s.first
+              α = tree_in p types heap₁ s.first
 
               abbrev β : Ty
-              β = treeIn p types heap₁ s.second
+              β = tree_in p types heap₁ s.second
 
-              body-context₂ : contextIn p types heap₁ vars₃ inner₂ ≡ dynamic false β ∷ dynamic false α ∷ Δ₂
-              body-context₂ = O₂.context ∙ ap (λ Γ. dynamic false β ∷ Γ) (O.context ∙ ap (λ Γ. dynamic false α ∷ Γ) (context-later rd d₁.kept))
+              body_context₂ : context_in p types heap₁ vars₃ inner₂ ≡ dynamic false β ∷ dynamic false α ∷ Δ₂
+              body_context₂ = O₂.context ∙ ap (λ Γ. dynamic false β ∷ Γ) (O.context ∙ ap (λ Γ. dynamic false α ∷ Γ) (context_later rd d₁.kept))
 
-              pub letp-first-known : Known (length types) o₂.top s.first
-              letp-first-known = known-later d₁.kept.sources d₂.kept S.first
+              pub letp_first_known : Known (length types) o₂.top s.first
+              letp_first_known = known_later d₁.kept.sources d₂.kept S.first
 
-              pub letp-second-known : Known (length types) o₂.top s.second
-              letp-second-known = known-later d₁.kept.sources d₂.kept S.second
+              pub letp_second_known : Known (length types) o₂.top s.second
+              letp_second_known = known_later d₁.kept.sources d₂.kept S.second
 
               -- both variables are bound
               both-bound : Waited 0 vars₁ vars₃
               both-bound = waited-then O.waited O₂.waited 0 (omega arith)
 
               -- the body, from the start
-              whole-letp : Inferred (termsIn E₂ + termsIn B₂) B₂ (waitsIn (mark (λ i. true) Δ₂) E₂ ++ waitsIn (dynamic false β ∷ dynamic false α ∷ Δ₂) B₂)
-                  p types heap heap₂ sc.n vars vars₄ top o₂ (typingOf p types terms functions (dynamic false β ∷ dynamic false α ∷ Δ₂) B₂)
-              whole-letp = earlier (says d₂ (ap (λ Γ. typingOf p types terms functions Γ B₂) body-context₂) (ap (λ Γ. waitsIn Γ B₂) body-context₂)) _
-                  (kept_then (termsIn E₂) (kept_then (termsIn E₂) d₁.kept (kept-opened O) (omega arith) (omega arith)) (kept-opened O₂)
+              whole_letp : Inferred (terms_in E₂ + terms_in B₂) B₂ (waits_in (mark (λ i. true) Δ₂) E₂ ++ waits_in (dynamic false β ∷ dynamic false α ∷ Δ₂) B₂)
+                  p types heap heap₂ sc.n vars vars₄ top o₂ (typing_of p types terms functions (dynamic false β ∷ dynamic false α ∷ Δ₂) B₂)
+              whole_letp = earlier (says d₂ (ap (λ Γ. typing_of p types terms functions Γ B₂) body_context₂) (ap (λ Γ. waits_in Γ B₂) body_context₂)) _
+                  (kept_then (terms_in E₂) (kept_then (terms_in E₂) d₁.kept (kept-opened O) (omega arith) (omega arith)) (kept-opened O₂)
                   (omega (arith, O.one_more)) (omega arith))
                   (added-after d₁.kept.waited both-bound (d₁.waits f x)) (omega (arith, O.one_more, O₂.one_more)) (omega arith)
 
               -- what came to wait in the body
-              body-waited₂ : Waited (termsIn B₂) vars₁ vars₄
-              body-waited₂ = waited-then both-bound d₂.kept.waited (termsIn B₂) (omega arith)
+              body_waited₂ : Waited (terms_in B₂) vars₁ vars₄
+              body_waited₂ = waited-then both-bound d₂.kept.waited (terms_in B₂) (omega arith)
 
-              body-waits₂ : (g : Found) → o₂.status ≡ Typed g → added vars₁ vars₄ ≡ waitsIn (dynamic false β ∷ dynamic false α ∷ Δ₂) B₂
-              body-waits₂ g y = added_then both-bound d₂.kept.waited (added-still both-bound) (d₂.waits g y) ∙ ap (λ Γ. waitsIn Γ B₂) body-context₂
+              body_waits₂ : (g : Found) → o₂.status ≡ Typed g → added vars₁ vars₄ ≡ waits_in (dynamic false β ∷ dynamic false α ∷ Δ₂) B₂
+              body_waits₂ g y = added_then both-bound d₂.kept.waited (added-still both-bound) (d₂.waits g y) ∙ ap (λ Γ. waits_in Γ B₂) body_context₂
 
               abbrev Closed₂ : ℕ → ℕ → List ℕ → Found → Status → Type 0
               Closed₂ from to vars₅ = ClosesTwo p types heap₂ vars₄ vars₅ sc f.uses s.first s.second t from to
 
-              letp-closed : {vars₅ : List ℕ} {out : Out} → AfterBody vars₄ vars₅ o₂ out (Closed₂ (countIn vars) (countIn vars₁) vars₅)
+              letp_closed : {vars₅ : List ℕ} {out : Out} → AfterBody vars₄ vars₅ o₂ out (Closed₂ (count_in vars) (count_in vars₁) vars₅)
                   → Infers p types terms functions heap heap₂ vars vars₅ sc top t out
-              letp-closed A = says (let-ends E₂ B₂ T₂ rd size-letp (λ i. ap (usedIn i) letp-tree) d₁.kept.waited (d₁.waits f x) body-waited₂ whole-letp
-                  body-waits₂ (d₁.uses f x) A
+              letp_closed A = says (let_ends E₂ B₂ T₂ rd size_letp (λ i. ap (used_in i) letp_tree) d₁.kept.waited (d₁.waits f x) body_waited₂ whole_letp
+                  body_waits₂ (d₁.uses f x) A
                   (λ g N. ap₂ ◌&&◌
-                  (spent-is p types heap₂ s.first sc.n g.uses B₂ (omega arith) (as_many p types heap vars sc)
-                  (tree-later d₁.kept.sources d₂.kept S.first) N)
-                  (spent-is p types heap₂ s.second (sc.n + 1) g.uses B₂ (omega arith) (omega (arith, as_many p types heap vars sc))
-                  (tree-later d₁.kept.sources d₂.kept S.second) N))
+                  (spent_is p types heap₂ s.first sc.n g.uses B₂ (omega arith) (as_many p types heap vars sc)
+                  (tree_later d₁.kept.sources d₂.kept S.first) N)
+                  (spent_is p types heap₂ s.second (sc.n + 1) g.uses B₂ (omega arith) (omega (arith, as_many p types heap vars sc))
+                  (tree_later d₁.kept.sources d₂.kept S.second) N))
                   (rule₂ ∙ good-then _ (answered d₁ x) ∙ a-product S (term t) _ product))
-                  refl (sym (ap (waitsIn Δ₂) letp-tree ∙ waits-letp α β Δ₂ t E₂ B₂))
+                  refl (sym (ap (waits_in Δ₂) letp_tree ∙ waits_letp α β Δ₂ t E₂ B₂))
 
               -- the let's namings begin at `from` and end at `to`
-              module _ {from to : ℕ} (qf : from ≡ countIn vars) (qt : to ≡ countIn vars₁) where
-                pub letp-can-settle : Settleable sc vars₄ from to
-                letp-can-settle = rw (qf, qt)
-                    (let-settleable E₂ B₂ T₂ rd size-letp (λ i. ap (usedIn i) letp-tree) d₁.kept.waited (d₁.waits f x) body-waited₂ whole-letp
-                    body-waits₂)
+              module _ {from to : ℕ} (qf : from ≡ count_in vars) (qt : to ≡ count_in vars₁) where
+                pub letp_can_settle : Settleable sc vars₄ from to
+                letp_can_settle = rw (qf, qt)
+                    (let_settleable E₂ B₂ T₂ rd size_letp (λ i. ap (used_in i) letp_tree) d₁.kept.waited (d₁.waits f x) body_waited₂ whole_letp
+                    body_waits₂)
 
-                pub letp-done : {vars₅ : List ℕ} {out : Out}
+                pub letp_done : {vars₅ : List ℕ} {out : Out}
                     → AfterBody vars₄ vars₅ o₂ out (ClosesTwo p types heap₂ vars₄ vars₅ sc f.uses s.first s.second t from to)
                     → Infers p types terms functions heap heap₂ vars vars₅ sc top t out
-                letp-done {vars₅} {out} A = letp-closed (subst (λ to. AfterBody vars₄ vars₅ o₂ out (Closed₂ (countIn vars) to vars₅)) qt
+                letp_done {vars₅} {out} A = letp_closed (subst (λ to. AfterBody vars₄ vars₅ o₂ out (Closed₂ (count_in vars) to vars₅)) qt
                     (subst (λ from. AfterBody vars₄ vars₅ o₂ out (Closed₂ from to vars₅)) qf A))

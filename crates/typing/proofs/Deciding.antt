@@ -7,12 +7,12 @@ use mathlib.Core.List.{List}
 use package.Rattle.octets.specs.Runs.{Decides}
 use package.Rattle.rules.specs.Ty.{same_ty}
 use package.Rattle.types.specs.declared.codes.Code.{Code}
-use package.Rattle.types.specs.Codes.{treeIn}
+use package.Rattle.types.specs.Codes.{tree_in}
 use package.Rattle.types.specs.declared.products.Pairing.{Pairing}
 use package.Rattle.types.specs.Growth.{Made}
 use package.Rattle.varsets.specs.declared.Uses.{Uses}
 use package.Rattle.varsets.specs.Sets.{Holds, has, joined, AgreeOn}
-use package.Rattle.typing.specs.Ready.{After, AfterBody, Joins, Picks, spentBy, Closes, Meets, Paired, Pairs}
+use package.Rattle.typing.specs.Ready.{After, AfterBody, Joins, Picks, spent_by, Closes, Meets, Paired, Pairs}
 use package.Rattle.typing.specs.Waiting.{Settles}
 use Rattle.typing.specs.declared.outcomes.Scope.{Scope}
 use Rattle.typing.specs.declared.namings.Lowest.{Lowest}
@@ -23,8 +23,8 @@ use Rattle.typing.specs.declared.outcomes.Status.{Status}
 use Rattle.typing.specs.declared.outcomes.Status.TheVariants.{Typed, Refused}
 use Rattle.typing.specs.declared.outcomes.Out.{Out}
 
-pub typed-inj : {f g : Found} → Typed f ≡ Typed g → f ≡ g
-typed-inj p = cc
+pub typed_inj : {f g : Found} → Typed f ≡ Typed g → f ≡ g
+typed_inj p = cc
 
 pub typed-refused : {f : Found} {w : Fault} → Typed f ≡ Refused w → ⊥
 typed-refused p = let z : ◌≡◌ {A = ℕ} 0 1 = cc in omega arith
@@ -37,7 +37,7 @@ module _ {out r : Out} {Next : Found → Status → Type 0} where
   after-typed s e n = record {
     same = e;
     refused = λ w q. absurd (typed-refused (sym s ∙ q));
-    typed = λ g q. subst (λ g. Next g r.status) (typed-inj (sym s ∙ q)) n;
+    typed = λ g q. subst (λ g. Next g r.status) (typed_inj (sym s ∙ q)) n;
   }
 
   pub after-refused : {w : Fault} → out.status ≡ Refused w → r ≡ out → After out r Next
@@ -48,11 +48,11 @@ module _ {out r : Out} {Next : Found → Status → Type 0} where
   }
 
 module _ {b : Bool} {Yes No : Status → Type 0} {s : Status} where
-  pub picks-yes : b ≡ true → Yes s → Picks b Yes No s
-  picks-yes e y = record { yes = λ q. y; no = λ q. absurd (false≢true (sym q ∙ e)) }
+  pub picks_yes : b ≡ true → Yes s → Picks b Yes No s
+  picks_yes e y = record { yes = λ q. y; no = λ q. absurd (false≢true (sym q ∙ e)) }
 
-  pub picks-no : b ≡ false → No s → Picks b Yes No s
-  picks-no e n = record { yes = λ q. absurd (false≢true (sym e ∙ q)); no = λ q. n }
+  pub picks_no : b ≡ false → No s → Picks b Yes No s
+  picks_no e n = record { yes = λ q. absurd (false≢true (sym e ∙ q)); no = λ q. n }
 
 pub joins : {f g : Found} {u : Uses} {s : Status} → s ≡ Typed g → g.code ≡ f.code → Holds g.uses (joined (has u) (has f.uses)) → Joins f u s
 joins {g = g} s e h = record { found = g; is = s; code = e; uses = h }
@@ -73,9 +73,9 @@ module _ (a b : Bool) {r : Bool} (e : r ≡ a) where
   pub both-second : {r' : Bool} → r ≡ true → r' ≡ b → r' ≡ (a && b)
   both-second t q = q ∙ sym (ap (λ a. a && b) (sym e ∙ t))
 
-decided-not : {A : Type 0} (r : Bool) → Decides r A → r ≡ false → A → ⊥
-decided-not true d e = absurd (false≢true (sym e))
-decided-not false d e = d
+decided_not : {A : Type 0} (r : Bool) → Decides r A → r ≡ false → A → ⊥
+decided_not true d e = absurd (false≢true (sym e))
+decided_not false d e = d
 
 decided : {A : Type 0} (r : Bool) → Decides r A → r ≡ true → A
 decided true d e = d
@@ -85,9 +85,9 @@ decided false d e = absurd (false≢true e)
 -- Both branches of a case
 
 module _ {p types heap : List ℕ} {l : Found} {u : Uses} {i : ℕ} {d : Code} {owed : Uses} {t : ℕ} {f : Found} {s : Status} {same : Bool}
-    (q : same ≡ same_ty (treeIn p types heap l.code) (treeIn p types heap f.code)) where
-  pub meets-differ : same ≡ false → s ≡ Refused (Differ t) → Meets p types heap l u i d owed t f s
-  meets-differ e n = record {
+    (q : same ≡ same_ty (tree_in p types heap l.code) (tree_in p types heap f.code)) where
+  pub meets_differ : same ≡ false → s ≡ Refused (Differ t) → Meets p types heap l u i d owed t f s
+  meets_differ e n = record {
     differ = λ x. n;
     unused = λ x y. absurd (false≢true (sym e ∙ q ∙ x));
     apart = λ x y. absurd (false≢true (sym e ∙ q ∙ x));
@@ -95,28 +95,28 @@ module _ {p types heap : List ℕ} {l : Found} {u : Uses} {i : ℕ} {d : Code} {
   }
 
   module _ (e : same ≡ true) where
-    pub meets-unused : {b : Bool} → b ≡ spentBy p types heap d i f.uses → b ≡ false → s ≡ Refused (Misused t) → Meets p types heap l u i d owed t f s
-    meets-unused g h n = record {
+    pub meets_unused : {b : Bool} → b ≡ spent_by p types heap d i f.uses → b ≡ false → s ≡ Refused (Misused t) → Meets p types heap l u i d owed t f s
+    meets_unused g h n = record {
       differ = λ x. absurd (false≢true (sym x ∙ sym q ∙ e));
       unused = λ x y. n;
       apart = λ x y. n;
       both = λ x y z. absurd (false≢true (sym h ∙ g ∙ y));
     }
 
-    pub meets-apart : {b : Bool} → b ≡ spentBy p types heap d i f.uses → b ≡ true → (r : Bool) → Decides r (AgreeOn l.uses f.uses owed) → r ≡ false
+    pub meets_apart : {b : Bool} → b ≡ spent_by p types heap d i f.uses → b ≡ true → (r : Bool) → Decides r (AgreeOn l.uses f.uses owed) → r ≡ false
         → s ≡ Refused (Misused t) → Meets p types heap l u i d owed t f s
-    meets-apart g h r D k n = record {
+    meets_apart g h r D k n = record {
       differ = λ x. absurd (false≢true (sym x ∙ sym q ∙ e));
       unused = λ x y. absurd (false≢true (sym y ∙ sym g ∙ h));
       apart = λ x y. n;
-      both = λ x y z. absurd (decided-not r D k z);
+      both = λ x y z. absurd (decided_not r D k z);
     }
 
     -- the uses of both branches
-    pub meets-both : {b : Bool} → b ≡ spentBy p types heap d i f.uses → b ≡ true → (r : Bool) → Decides r (AgreeOn l.uses f.uses owed) → r ≡ true
+    pub meets_both : {b : Bool} → b ≡ spent_by p types heap d i f.uses → b ≡ true → (r : Bool) → Decides r (AgreeOn l.uses f.uses owed) → r ≡ true
         → {v : Uses} → Holds v (joined (has l.uses) (has f.uses)) → Joins (record { code = l.code; uses = v }) u s
         → Meets p types heap l u i d owed t f s
-    meets-both g h r D k H J = record {
+    meets_both g h r D k H J = record {
       differ = λ x. absurd (false≢true (sym x ∙ sym q ∙ e));
       unused = λ x y. absurd (false≢true (sym y ∙ sym g ∙ h));
       apart = λ x y. absurd (y (decided r D k));
@@ -149,7 +149,7 @@ module _ {vars vars' : List ℕ} {out r : Out} {Next : Found → Status → Type
   body_typed s e n = record {
     same = e;
     refused = λ w q. absurd (typed-refused (sym s ∙ q));
-    typed = λ g q. subst (λ g. Next g r.status) (typed-inj (sym s ∙ q)) n;
+    typed = λ g q. subst (λ g. Next g r.status) (typed_inj (sym s ∙ q)) n;
   }
 
   pub body_refused : {w : Fault} → out.status ≡ Refused w → r ≡ out → vars' ≡ vars → AfterBody vars vars' out r Next
@@ -166,7 +166,7 @@ module _ {p types heap heap' : List ℕ} {l f : Found} {t : ℕ} {out r : Out} w
   paired : out.status ≡ Typed f → Paired p types heap heap' l f out.top t r → Pairs p types heap heap' l t out r
   paired s P = record {
     refused = λ w q. absurd (typed-refused (sym s ∙ q));
-    typed = λ g q. subst (λ g. Paired p types heap heap' l g out.top t r) (typed-inj (sym s ∙ q)) P;
+    typed = λ g q. subst (λ g. Paired p types heap heap' l g out.top t r) (typed_inj (sym s ∙ q)) P;
   }
 
   module _ {m : Pairing} (s : out.status ≡ Typed f) (M : Made p types heap heap' out.top l.code f.code m) where
@@ -174,9 +174,9 @@ module _ {p types heap heap' : List ℕ} {l f : Found} {t : ℕ} {out r : Out} w
         → Pairs p types heap heap' l t out r
     pairs_made k e J = paired s (record { pairing = m; made = M; yes = λ x. (e, J); no = λ x. absurd (false≢true (sym x ∙ k)) })
 
-    pub pairs-large : m.fits ≡ false → r.top ≡ out.top → r.status ≡ Refused (Differ t) → Pairs p types heap heap' l t out r
-    pairs-large k e q = paired s (record { pairing = m; made = M; yes = λ x. absurd (false≢true (sym k ∙ x)); no = λ x. (e, q) })
+    pub pairs_large : m.fits ≡ false → r.top ≡ out.top → r.status ≡ Refused (Differ t) → Pairs p types heap heap' l t out r
+    pairs_large k e q = paired s (record { pairing = m; made = M; yes = λ x. absurd (false≢true (sym k ∙ x)); no = λ x. (e, q) })
 
-pub pairs-refused : {p types heap : List ℕ} {l : Found} {t : ℕ} {out r : Out} {w : Fault} → out.status ≡ Refused w → r ≡ out
+pub pairs_refused : {p types heap : List ℕ} {l : Found} {t : ℕ} {out r : Out} {w : Fault} → out.status ≡ Refused w → r ≡ out
     → Pairs p types heap heap l t out r
-pairs-refused s e = record { refused = λ w q. (refl, e); typed = λ f q. absurd (typed-refused (sym q ∙ s)) }
+pairs_refused s e = record { refused = λ w q. (refl, e); typed = λ f q. absurd (typed-refused (sym q ∙ s)) }

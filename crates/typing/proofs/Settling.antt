@@ -12,11 +12,11 @@ use package.Rattle.octets.specs.Numbers.{get16, put16}
 use package.Rattle.octets.proofs.Puts.{length-put16, put16-other, get16-put16}
 use package.Rattle.rules.specs.Typing.{Vars}
 use package.Rattle.rules.proofs.Basics.{and-false}
-use package.Rattle.rules.specs.Check.{Naming, term, bad, onward, late, unless, lowest, needNone}
+use package.Rattle.rules.specs.Check.{Naming, term, bad, onward, late, unless, lowest, need_none}
 use package.Rattle.varsets.specs.declared.Uses.{Uses}
 use package.Rattle.varsets.specs.Sets.{has}
-use package.Rattle.typing.specs.Waiting.{cell_at, noVariable, namingIn, namings, met, lower, toldBy, markedIn, helpsIn, settledOne, Settled, Settles}
-use package.Rattle.typing.proofs.Waiting.{get16-at, naming-same, namings-both}
+use package.Rattle.typing.specs.Waiting.{cell_at, no_variable, naming_in, namings, met, lower, told_by, marked_in, helps_in, settled_one, Settled, Settles}
+use package.Rattle.typing.proofs.Waiting.{get16-at, naming_same, namings-both}
 use Rattle.typing.specs.declared.outcomes.Scope.{Scope}
 use Rattle.typing.specs.declared.namings.Lowest.{Lowest}
 
@@ -56,18 +56,18 @@ cons≢nil p = let z : ◌≡◌ {A = ℕ} 0 1 = cc in omega arith
 ----------------------------------------------------------------
 -- The lowest place
 
-lower-told : (k : ℕ) (K : List ℕ) → toldBy (lower (record { some = true; place = k }) K) ≡ bad 8 (term (lowest k K))
-unfolding lower met toldBy lowest
+lower-told : (k : ℕ) (K : List ℕ) → told_by (lower (record { some = true; place = k }) K) ≡ bad 8 (term (lowest k K))
+unfolding lower met told_by lowest
 lower-told k [] = refl
 lower-told k (j ∷ K) = lower-told (cond (leb j k) j k) K
 
 -- 8 at the lowest place, the let's own among them
-pub told_is : (s : Bool) (t : ℕ) (K : List ℕ) → toldBy (lower (record { some = not s; place = t }) K) ≡ needNone (unless s t ++ K)
-unfolding needNone unless lower met toldBy
+pub told_is : (s : Bool) (t : ℕ) (K : List ℕ) → told_by (lower (record { some = not s; place = t }) K) ≡ need_none (unless s t ++ K)
+unfolding need_none unless lower met told_by
 told_is false t K = lower-told t K
 told_is true t K = go K
   where
-    go : (K : List ℕ) → toldBy (lower (record { some = false; place = t }) K) ≡ needNone K
+    go : (K : List ℕ) → told_by (lower (record { some = false; place = t }) K) ≡ need_none K
     go [] = refl
     go (k ∷ K) = lower-told k K
 
@@ -90,102 +90,102 @@ met-first l k a = ap (λ (p : ℕ). record { some = true; place = p }) (sym (ap 
 -- One naming
 
 module _ (sc : Scope) where
-  pub outside-marked : (v : ℕ) → sc.n ≤ v → false ≡ markedIn sc v
+  pub outside-marked : (v : ℕ) → sc.n ≤ v → false ≡ marked_in sc v
   outside-marked v l = sym (ap (λ b. leb sc.q v && (b && has sc.marks v)) (le-ltb v sc.n l) ∙ and-false (leb sc.q v))
 
-  pub ancilla-marked : (v : ℕ) → v < sc.q → false ≡ markedIn sc v
+  pub ancilla-marked : (v : ℕ) → v < sc.q → false ≡ marked_in sc v
   ancilla-marked v l = sym (rw (lt-leb sc.q v l))
 
-  pub scope-marked : (v : ℕ) → v < sc.n → sc.q ≤ v → has sc.marks v ≡ markedIn sc v
+  pub scope-marked : (v : ℕ) → v < sc.n → sc.q ≤ v → has sc.marks v ≡ marked_in sc v
   scope-marked v n h = sym (rw (le-leb sc.q v h, lt-ltb v sc.n n))
 
 module _ (sc : Scope) (u : Uses) where
   abbrev H : Vars
-  H = helpsIn sc u
+  H = helps_in sc u
 
   abbrev M : Vars
-  M = markedIn sc
+  M = marked_in sc
 
   pub out-of-scope : (v : ℕ) → sc.n ≤ v → false ≡ H v
   out-of-scope v l = sym (ap (λ b. (leb sc.q v && (leb sc.lo v && b)) && has u v) (le-ltb v sc.n l)
       ∙ ap (λ b. (leb sc.q v && b) && has u v) (and-false (leb sc.lo v)) ∙ ap (λ b. b && has u v) (and-false (leb sc.q v)))
 
-  pub ancilla-helped : (v : ℕ) → v < sc.q → false ≡ H v
-  ancilla-helped v l = sym (rw (lt-leb sc.q v l))
+  pub ancilla_helped : (v : ℕ) → v < sc.q → false ≡ H v
+  ancilla_helped v l = sym (rw (lt-leb sc.q v l))
 
-  pub barred-helped : (v : ℕ) → sc.q ≤ v → v < sc.lo → false ≡ H v
-  barred-helped v h l = sym (rw (le-leb sc.q v h, lt-leb sc.lo v l))
+  pub barred_helped : (v : ℕ) → sc.q ≤ v → v < sc.lo → false ≡ H v
+  barred_helped v h l = sym (rw (le-leb sc.q v h, lt-leb sc.lo v l))
 
-  pub dynamic-helped : (v : ℕ) → v < sc.n → sc.q ≤ v → sc.lo ≤ v → has u v ≡ H v
-  dynamic-helped v n h l = sym (rw (le-leb sc.q v h, le-leb sc.lo v l, lt-ltb v sc.n n))
+  pub dynamic_helped : (v : ℕ) → v < sc.n → sc.q ≤ v → sc.lo ≤ v → has u v ≡ H v
+  dynamic_helped v n h l = sym (rw (le-leb sc.q v h, le-leb sc.lo v l, lt-ltb v sc.n n))
 
   module _ (vars : List ℕ) (j : ℕ) (l : Lowest) where
     abbrev x : Naming
-    x = namingIn vars j
+    x = naming_in vars j
 
     one_of : (j + 1) - j ≡ 1
     one_of = omega arith
 
     -- the one naming is settled, and all else is as it was
-    alone-settled : settledOne H x ≡ x → Settled H vars vars j (j + 1)
+    alone-settled : settled_one H x ≡ x → Settled H vars vars j (j + 1)
     alone-settled e = record {
-      within = λ k a b. let z : k ≡ j = omega arith in ap (namingIn vars) z ∙ sym (ap (λ k. settledOne H (namingIn vars k)) z ∙ e);
+      within = λ k a b. let z : k ≡ j = omega arith in ap (naming_in vars) z ∙ sym (ap (λ k. settled_one H (naming_in vars k)) z ∙ e);
       low = λ k a. refl;
       high = λ k a. refl;
       lengths = refl;
     }
 
     -- what is refused of it
-    late_of : (b : Bool) → eqb x.variable noVariable ≡ b → late H M (namings vars j (j + 1 - j)) ≡ late H M (cond b [] (x ∷ []))
+    late_of : (b : Bool) → eqb x.variable no_variable ≡ b → late H M (namings vars j (j + 1 - j)) ≡ late H M (cond b [] (x ∷ []))
     unfolding namings
     late_of b e = ap (λ n. late H M (namings vars j n)) one_of ∙ ap (λ b. late H M (cond b [] (x ∷ []))) e
 
-    pub one-dead : x.variable ≡ noVariable → Settles sc u vars vars j (j + 1) l l
+    pub one_dead : x.variable ≡ no_variable → Settles sc u vars vars j (j + 1) l l
     unfolding late lower
-    one-dead e = record {
+    one_dead e = record {
       settled = alone-settled (ap (λ (v : ℕ). record { variable = v; place = x.place }) (stays (H x.variable)));
-      lowest = sym (ap (lower l) (late_of true (eq-eqb x.variable noVariable e)));
+      lowest = sym (ap (lower l) (late_of true (eq-eqb x.variable no_variable e)));
     }
       where
-        stays : (b : Bool) → cond b noVariable x.variable ≡ x.variable
+        stays : (b : Bool) → cond b no_variable x.variable ≡ x.variable
         stays true = sym e
         stays false = refl
 
-    module _ (live : ¬ (x.variable ≡ noVariable)) where
-      not_dead : eqb x.variable noVariable ≡ false
-      not_dead = ne_eqb x.variable noVariable live
+    module _ (live : ¬ (x.variable ≡ no_variable)) where
+      not_dead : eqb x.variable no_variable ≡ false
+      not_dead = ne_eqb x.variable no_variable live
 
-      pub one-helped : {vars' : List ℕ} → cell_at j + 2 ≤ length vars → H x.variable ≡ true → vars' ≡ put16 vars (cell_at j) noVariable
+      pub one_helped : {vars' : List ℕ} → cell_at j + 2 ≤ length vars → H x.variable ≡ true → vars' ≡ put16 vars (cell_at j) no_variable
           → Settles sc u vars vars' j (j + 1) l l
       unfolding late lower
-      one-helped {vars'} room h e = record {
+      one_helped {vars'} room h e = record {
         settled = record {
-          within = λ k a b. let z : k ≡ j = omega arith in ap (namingIn vars') z ∙ now-none ∙ sym (ap (λ k. settledOne H (namingIn vars k)) z);
+          within = λ k a b. let z : k ≡ j = omega arith in ap (naming_in vars') z ∙ now_none ∙ sym (ap (λ k. settled_one H (naming_in vars k)) z);
           low = λ k a. outside k (λ z. omega arith) (λ z. omega arith);
           high = λ k a. outside k (λ z. omega arith) (λ z. omega arith);
-          lengths = sym (ap length e ∙ length-put16 vars (cell_at j) noVariable);
+          lengths = sym (ap length e ∙ length-put16 vars (cell_at j) no_variable);
         };
         lowest = sym (ap (lower l) (late_of false not_dead ∙ ap (λ b. cond (M x.variable || b) [] (x.place ∷ [])) h
-            ∙ ap (λ b. cond b [] (x.place ∷ [])) (or-true (M x.variable))));
+            ∙ ap (λ b. cond b [] (x.place ∷ [])) (or_true (M x.variable))));
       }
         where
-          or-true : (b : Bool) → (b || true) ≡ true
-          or-true true = refl
-          or-true false = refl
+          or_true : (b : Bool) → (b || true) ≡ true
+          or_true true = refl
+          or_true false = refl
 
           outside : (k : ℕ) → ¬ (k ≡ cell_at j) → ¬ (k ≡ cell_at j + 1) → get_or vars k 0 ≡ get_or vars' k 0
-          outside k a b = sym (ap (λ v. get_or v k 0) e ∙ put16-other vars (cell_at j) noVariable k a b)
+          outside k a b = sym (ap (λ v. get_or v k 0) e ∙ put16-other vars (cell_at j) no_variable k a b)
 
-          now-none : namingIn vars' j ≡ settledOne H x
-          now-none = ap₂ (λ (v p : ℕ). record { variable = v; place = p })
-              (ap (λ v. get16 v (cell_at j)) e ∙ get16-put16 vars (cell_at j) noVariable room (omega arith)
-              ∙ sym (ap (λ b. cond b noVariable x.variable) h))
+          now_none : naming_in vars' j ≡ settled_one H x
+          now_none = ap₂ (λ (v p : ℕ). record { variable = v; place = p })
+              (ap (λ v. get16 v (cell_at j)) e ∙ get16-put16 vars (cell_at j) no_variable room (omega arith)
+              ∙ sym (ap (λ b. cond b no_variable x.variable) h))
               (sym (get16-at vars vars' (cell_at j + 2) (outside (cell_at j + 2) (λ z. omega arith) (λ z. omega arith))
               (outside (cell_at j + 2 + 1) (λ z. omega arith) (λ z. omega arith))))
 
       module _ (h : H x.variable ≡ false) where
-        same-one : settledOne H x ≡ x
-        same-one = ap (λ (b : Bool). record { variable = cond b noVariable x.variable; place = x.place }) h
+        same-one : settled_one H x ≡ x
+        same-one = ap (λ (b : Bool). record { variable = cond b no_variable x.variable; place = x.place }) h
 
         pub one-waits-on : M x.variable ≡ true → Settles sc u vars vars j (j + 1) l l
         unfolding late lower
@@ -206,12 +206,12 @@ module _ (sc : Scope) (u : Uses) where
       is : v ≡ x.variable
       is = qv ∙ ap (get16 vars) qa
 
-      pub read-dead : v ≡ noVariable → Settles sc u vars vars j (j + 1) l l
-      read-dead e = one-dead (sym is ∙ e)
+      pub read_dead : v ≡ no_variable → Settles sc u vars vars j (j + 1) l l
+      read_dead e = one_dead (sym is ∙ e)
 
-      module _ (live : ¬ (v ≡ noVariable)) {b : Bool} (h : b ≡ H v) where
-        pub read-helped : {vars' : List ℕ} → at + 2 ≤ length vars → b ≡ true → vars' ≡ put16 vars at noVariable → Settles sc u vars vars' j (j + 1) l l
-        read-helped room y e = one-helped (λ z. live (is ∙ z)) (omega arith) (ap H (sym is) ∙ sym h ∙ y) (e ∙ ap (λ at. put16 vars at noVariable) qa)
+      module _ (live : ¬ (v ≡ no_variable)) {b : Bool} (h : b ≡ H v) where
+        pub read_helped : {vars' : List ℕ} → at + 2 ≤ length vars → b ≡ true → vars' ≡ put16 vars at no_variable → Settles sc u vars vars' j (j + 1) l l
+        read_helped room y e = one_helped (λ z. live (is ∙ z)) (omega arith) (ap H (sym is) ∙ sym h ∙ y) (e ∙ ap (λ at. put16 vars at no_variable) qa)
 
         module _ (y : b ≡ false) {m : Bool} (k : m ≡ M v) where
           pub read-waits : m ≡ true → Settles sc u vars vars j (j + 1) l l
@@ -225,15 +225,15 @@ module _ (sc : Scope) (u : Uses) where
 -- One after another
 
 module _ {sc : Scope} {u : Uses} where
-  pub settles-none : {vars : List ℕ} {from : ℕ} {l : Lowest} → Settles sc u vars vars from from l l
+  pub settles_none : {vars : List ℕ} {from : ℕ} {l : Lowest} → Settles sc u vars vars from from l l
   unfolding namings late lower
-  settles-none {vars} {from} {l} = record {
+  settles_none {vars} {from} {l} = record {
     settled = record { within = λ j a b. absurd (omega arith); low = λ j a. refl; high = λ j a. refl; lengths = refl };
-    lowest = sym (ap (λ n. lower l (late (helpsIn sc u) (markedIn sc) (namings vars from n))) (let z : from - from ≡ 0 = omega arith in z));
+    lowest = sym (ap (λ n. lower l (late (helps_in sc u) (marked_in sc) (namings vars from n))) (let z : from - from ≡ 0 = omega arith in z));
   }
 
-  pub settles-to : {vars vars' : List ℕ} {from j to : ℕ} {l r : Lowest} → j ≡ to → Settles sc u vars vars' from j l r → Settles sc u vars vars' from to l r
-  settles-to {vars} {vars'} {from} {l = l} {r} e S = subst (λ j. Settles sc u vars vars' from j l r) e S
+  pub settles_to : {vars vars' : List ℕ} {from j to : ℕ} {l r : Lowest} → j ≡ to → Settles sc u vars vars' from j l r → Settles sc u vars vars' from to l r
+  settles_to {vars} {vars'} {from} {l = l} {r} e S = subst (λ j. Settles sc u vars vars' from j l r) e S
 
   -- what is settled, and one more
   pub settles-then : {vars vars₁ vars₂ : List ℕ} {from j : ℕ} {l m r : Lowest} → from ≤ j → Settles sc u vars vars₁ from j l m
@@ -247,7 +247,7 @@ module _ {sc : Scope} {u : Uses} where
       lengths = S.settled.lengths ∙ N.settled.lengths;
     };
     lowest = N.lowest ∙ ap₂ (λ m W. lower m (late H M W)) S.lowest
-        (ap (namings vars₁ j) (let z : j + 1 - j ≡ 1 = omega arith in z) ∙ ap (λ x. consOne x) (same-cell j (omega arith))
+        (ap (namings vars₁ j) (let z : j + 1 - j ≡ 1 = omega arith in z) ∙ ap (λ x. cons_one x) (same-cell j (omega arith))
         ∙ sym (ap (namings vars j) (let z : j + 1 - j ≡ 1 = omega arith in z)))
         ∙ sym (lower-both l (late H M (namings vars from (j - from))) (late H M (namings vars j (j + 1 - j))))
         ∙ ap (lower l) (sym (late-both H M (namings vars from (j - from)) (namings vars j (j + 1 - j)))
@@ -255,57 +255,57 @@ module _ {sc : Scope} {u : Uses} where
   }
     where
       H : Vars
-      H = helpsIn sc u
+      H = helps_in sc u
 
       M : Vars
-      M = markedIn sc
+      M = marked_in sc
 
-      consOne : Naming → List Naming
-      consOne x = cond (eqb x.variable noVariable) [] (x ∷ [])
+      cons_one : Naming → List Naming
+      cons_one x = cond (eqb x.variable no_variable) [] (x ∷ [])
 
       -- a naming that is not settled yet
-      same-cell : (k : ℕ) → j ≤ k → namingIn vars₁ k ≡ namingIn vars k
-      same-cell k a = sym (naming-same vars vars₁ k λ i b c. S.settled.high i (omega arith))
+      same-cell : (k : ℕ) → j ≤ k → naming_in vars₁ k ≡ naming_in vars k
+      same-cell k a = sym (naming_same vars vars₁ k λ i b c. S.settled.high i (omega arith))
 
       whole : namings vars from (j + 1 - from) ≡ (namings vars from (j - from) ++ namings vars j (j + 1 - j))
       whole = ap (namings vars from) (let z : j + 1 - from ≡ (j - from) + (j + 1 - j) = omega arith in z)
           ∙ namings-both vars from (j - from) (j + 1 - j)
           ∙ ap (λ i. namings vars from (j - from) ++ namings vars i (j + 1 - j)) (let z : from + (j - from) ≡ j = omega arith in z)
 
-      go : (k : ℕ) → from ≤ k → Dec (k < j) → k < j + 1 → namingIn vars₂ k ≡ settledOne H (namingIn vars k)
-      go k a (yes c) b = sym (naming-same vars₁ vars₂ k λ i d e. N.settled.low i (omega arith)) ∙ S.settled.within k a c
-      go k a (no c) b = N.settled.within k (omega arith) b ∙ ap (settledOne H) (same-cell k (omega arith))
+      go : (k : ℕ) → from ≤ k → Dec (k < j) → k < j + 1 → naming_in vars₂ k ≡ settled_one H (naming_in vars k)
+      go k a (yes c) b = sym (naming_same vars₁ vars₂ k λ i d e. N.settled.low i (omega arith)) ∙ S.settled.within k a c
+      go k a (no c) b = N.settled.within k (omega arith) b ∙ ap (settled_one H) (same-cell k (omega arith))
 
 -- one naming: a let helps it or not, and a let further out could or not
-live-one : (x : Naming) (W W' : List Naming) (K : List ℕ) (h m : Bool) → eqb x.variable noVariable ≡ false → cond (m || h) K (x.place ∷ K) ≡ []
+live_one : (x : Naming) (W W' : List Naming) (K : List ℕ) (h m : Bool) → eqb x.variable no_variable ≡ false → cond (m || h) K (x.place ∷ K) ≡ []
     → (K ≡ [] → W' ≡ W)
-    → cond (eqb (cond h noVariable x.variable) noVariable) W' (record { variable = cond h noVariable x.variable; place = x.place } ∷ W')
+    → cond (eqb (cond h no_variable x.variable) no_variable) W' (record { variable = cond h no_variable x.variable; place = x.place } ∷ W')
     ≡ cond (m && not h) (x ∷ W) W
-live-one x W W' K true true q e r = ap (λ b. cond b W' (record { variable = noVariable; place = x.place } ∷ W')) (eq-eqb noVariable noVariable refl) ∙ r e
-live-one x W W' K true false q e r = ap (λ b. cond b W' (record { variable = noVariable; place = x.place } ∷ W')) (eq-eqb noVariable noVariable refl) ∙ r e
-live-one x W W' K false true q e r = ap (λ b. cond b W' (x ∷ W')) q ∙ ap (λ N. x ∷ N) (r e)
-live-one x W W' K false false q e r = absurd (cons≢nil e)
+live_one x W W' K true true q e r = ap (λ b. cond b W' (record { variable = no_variable; place = x.place } ∷ W')) (eq-eqb no_variable no_variable refl) ∙ r e
+live_one x W W' K true false q e r = ap (λ b. cond b W' (record { variable = no_variable; place = x.place } ∷ W')) (eq-eqb no_variable no_variable refl) ∙ r e
+live_one x W W' K false true q e r = ap (λ b. cond b W' (x ∷ W')) q ∙ ap (λ N. x ∷ N) (r e)
+live_one x W W' K false false q e r = absurd (cons≢nil e)
 
 -- one that a let helped before stays as it is
-dead-one : (x : Naming) (W W' : List Naming) (h : Bool) → eqb x.variable noVariable ≡ true → W' ≡ W
-    → cond (eqb (cond h noVariable x.variable) noVariable) W' (record { variable = cond h noVariable x.variable; place = x.place } ∷ W') ≡ W
-dead-one x W W' true q e = ap (λ b. cond b W' (record { variable = noVariable; place = x.place } ∷ W')) (eq-eqb noVariable noVariable refl) ∙ e
-dead-one x W W' false q e = ap (λ b. cond b W' (x ∷ W')) q ∙ e
+dead_one : (x : Naming) (W W' : List Naming) (h : Bool) → eqb x.variable no_variable ≡ true → W' ≡ W
+    → cond (eqb (cond h no_variable x.variable) no_variable) W' (record { variable = cond h no_variable x.variable; place = x.place } ∷ W') ≡ W
+dead_one x W W' true q e = ap (λ b. cond b W' (record { variable = no_variable; place = x.place } ∷ W')) (eq-eqb no_variable no_variable refl) ∙ e
+dead_one x W W' false q e = ap (λ b. cond b W' (x ∷ W')) q ∙ e
 
 -- what goes on waiting, if nothing is refused
 pub settled-onward : (H M : Vars) (vars vars' : List ℕ) (from n : ℕ)
-    → ((j : ℕ) → from ≤ j → j < from + n → namingIn vars' j ≡ settledOne H (namingIn vars j))
+    → ((j : ℕ) → from ≤ j → j < from + n → naming_in vars' j ≡ settled_one H (naming_in vars j))
     → late H M (namings vars from n) ≡ [] → namings vars' from n ≡ onward H M (namings vars from n)
 unfolding namings late onward
 settled-onward H M vars vars' from zero s e = refl
 settled-onward H M vars vars' from (suc n) s e =
-    ap (λ (x : Naming). cond (eqb x.variable noVariable) (namings vars' (suc from) n) (x ∷ namings vars' (suc from) n)) (s from (omega arith) (omega arith))
-    ∙ go (namingIn vars from) (eqb (namingIn vars from).variable noVariable) refl e
+    ap (λ (x : Naming). cond (eqb x.variable no_variable) (namings vars' (suc from) n) (x ∷ namings vars' (suc from) n)) (s from (omega arith) (omega arith))
+    ∙ go (naming_in vars from) (eqb (naming_in vars from).variable no_variable) refl e
     (λ e. settled-onward H M vars vars' (suc from) n (λ j a b. s j (omega arith) (omega arith)) e)
   where
-    go : (x : Naming) (b : Bool) → eqb x.variable noVariable ≡ b → late H M (cond b (namings vars (suc from) n) (x ∷ namings vars (suc from) n)) ≡ []
+    go : (x : Naming) (b : Bool) → eqb x.variable no_variable ≡ b → late H M (cond b (namings vars (suc from) n) (x ∷ namings vars (suc from) n)) ≡ []
         → (late H M (namings vars (suc from) n) ≡ [] → namings vars' (suc from) n ≡ onward H M (namings vars (suc from) n))
-        → cond (eqb (settledOne H x).variable noVariable) (namings vars' (suc from) n) (settledOne H x ∷ namings vars' (suc from) n)
+        → cond (eqb (settled_one H x).variable no_variable) (namings vars' (suc from) n) (settled_one H x ∷ namings vars' (suc from) n)
         ≡ onward H M (cond b (namings vars (suc from) n) (x ∷ namings vars (suc from) n))
-    go x true q e r = dead-one x _ _ (H x.variable) q (r e)
-    go x false q e r = live-one x _ _ _ (H x.variable) (M x.variable) q e r
+    go x true q e r = dead_one x _ _ (H x.variable) q (r e)
+    go x false q e r = live_one x _ _ _ (H x.variable) (M x.variable) q e r

@@ -15,30 +15,30 @@ use package.Rattle.rules.specs.Term.{Term, nth}
 use package.Rattle.rules.proofs.Basics.{given, none≢some, some_inj, not-true, and_both, eqb_yes, eqb_no, eqb-differs}
 use package.Rattle.calls.specs.Answer.{accepted}
 use package.Rattle.calls.specs.Fields.{Layout}
-use package.Rattle.calls.specs.Entries.{type_of, TermEntry, n-var, n-unit, n-inl, n-inr, n-roll, n-unroll, n-pair, n-let, n-letp, n-case, n-call, termTrees}
-use package.Rattle.calls.specs.Entries.{termTree, termOf, FunctionEntry, Entries}
-use package.Rattle.calls.specs.Named.{typesOfTerm, termsOfTerm, functionsOfTerm, typesOfFunction, below, member, fresh, testTypes, testTerms, testFunctions}
-use package.Rattle.calls.specs.Named.{testEntries}
-use package.Rattle.calls.proofs.Answer.{accepted-inj, unbind, required}
+use package.Rattle.calls.specs.Entries.{type_of, TermEntry, n_var, n_unit, n_inl, n_inr, n_roll, n_unroll, n_pair, n_let, n_letp, n_case, n_call, term_trees}
+use package.Rattle.calls.specs.Entries.{term_tree, term_of, FunctionEntry, Entries}
+use package.Rattle.calls.specs.Named.{types_of_term, terms_of_term, functions_of_term, types_of_function, below, member, fresh, test_types, test_terms, test_functions}
+use package.Rattle.calls.specs.Named.{test_entries}
+use package.Rattle.calls.proofs.Answer.{accepted_inj, unbind, required}
 use package.Rattle.calls.proofs.Entries.{below-head, member-middle}
 use package.Rattle.calls.proofs.Trees.{entries-good, good-lower, term-unfolds}
 use package.Rattle.calls.specs.Tested.{Good}
-use package.Rattle.typing.specs.Sizes.{termsIn, termsInAll}
+use package.Rattle.typing.specs.Sizes.{terms_in, terms_in_all}
 
 ----------------------------------------------------------------
 -- Members
 
-or-false : (a b : Bool) → (a || b) ≡ false → b ≡ false
-or-false true b e = absurd (let z : ◌≡◌ {A = ℕ} 0 1 = cc in omega arith)
-or-false false b e = e
+or_false : (a b : Bool) → (a || b) ≡ false → b ≡ false
+or_false true b e = absurd (let z : ◌≡◌ {A = ℕ} 0 1 = cc in omega arith)
+or_false false b e = e
 
 -- what is not below is no member
-not-member : (k j : ℕ) (is : List ℕ) → below k is ≡ true → k ≤ j → member j is ≡ false
+not_member : (k j : ℕ) (is : List ℕ) → below k is ≡ true → k ≤ j → member j is ≡ false
 unfolding member
-not-member k j [] e l = refl
-not-member k j (i ∷ is) e l =
+not_member k j [] e l = refl
+not_member k j (i ∷ is) e l =
     given (below-head k i is e) λ (h, e₁).
-    ap₂ ◌||◌ (eqb-differs j i λ p. let z : j ≡ i = p in omega arith) (not-member k j is e₁ l)
+    ap₂ ◌||◌ (eqb-differs j i λ p. let z : j ≡ i = p in omega arith) (not_member k j is e₁ l)
 
 below_both : (k : ℕ) (is js : List ℕ) → below k is ≡ true → below k js ≡ true → below k (is ++ js) ≡ true
 unfolding below
@@ -113,7 +113,7 @@ module _ (size : ℕ → ℕ) where
   weight-next k ts used b b' f s w =
       let all : weight (ts ++ used) k + sizes ts ≡ weight used k = weight-all ts used k b f in
       let here : cond (member k (ts ++ used)) 0 (size k) ≡ size k =
-      ap (λ b. cond b 0 (size k)) (not-member k k (ts ++ used) (below_both k ts used b b') (omega arith)) in
+      ap (λ b. cond b 0 (size k)) (not_member k k (ts ++ used) (below_both k ts used b b') (omega arith)) in
       omega arith
 
 ----------------------------------------------------------------
@@ -124,24 +124,24 @@ unfolding sizes
 sizes-two size [] t = omega arith
 sizes-two size (x ∷ ts) t = omega (arith, sizes-two size ts t)
 
-all-sizes : (go : ℕ → Term) (ts : List ℕ) → termsInAll (termTrees go ts) ≡ sizes (λ j. termsIn (go j)) ts
-unfolding sizes termsInAll termTrees
+all-sizes : (go : ℕ → Term) (ts : List ℕ) → terms_in_all (term_trees go ts) ≡ sizes (λ j. terms_in (go j)) ts
+unfolding sizes terms_in_all term_trees
 all-sizes go [] = refl
-all-sizes go (t ∷ ts) = ap (λ n. termsIn (go t) + n) (all-sizes go ts)
+all-sizes go (t ∷ ts) = ap (λ n. terms_in (go t) + n) (all-sizes go ts)
 
-tree-size : (ty : ℕ → Ty) (go : ℕ → Term) (k : ℕ) (t : TermEntry) → termsIn (termTree ty go k t) ≡ suc (sizes (λ j. termsIn (go j)) (termsOfTerm t))
-unfolding sizes termsIn termTree termsOfTerm
-tree-size ty go k (n-var i) = refl
-tree-size ty go k n-unit = refl
-tree-size ty go k (n-inl c e) = omega arith
-tree-size ty go k (n-inr c e) = omega arith
-tree-size ty go k (n-roll c e) = omega arith
-tree-size ty go k (n-unroll c e) = omega arith
-tree-size ty go k (n-pair e e') = omega arith
-tree-size ty go k (n-let e b) = omega arith
-tree-size ty go k (n-letp e b) = omega arith
-tree-size ty go k (n-case e b b') = omega arith
-tree-size ty go k (n-call g ts e) = omega (arith, all-sizes go ts, sizes-two (λ j. termsIn (go j)) ts e)
+tree-size : (ty : ℕ → Ty) (go : ℕ → Term) (k : ℕ) (t : TermEntry) → terms_in (term_tree ty go k t) ≡ suc (sizes (λ j. terms_in (go j)) (terms_of_term t))
+unfolding sizes terms_in term_tree terms_of_term
+tree-size ty go k (n_var i) = refl
+tree-size ty go k n_unit = refl
+tree-size ty go k (n_inl c e) = omega arith
+tree-size ty go k (n_inr c e) = omega arith
+tree-size ty go k (n_roll c e) = omega arith
+tree-size ty go k (n_unroll c e) = omega arith
+tree-size ty go k (n_pair e e') = omega arith
+tree-size ty go k (n_let e b) = omega arith
+tree-size ty go k (n_letp e b) = omega arith
+tree-size ty go k (n_case e b b') = omega arith
+tree-size ty go k (n_call g ts e) = omega (arith, all-sizes go ts, sizes-two (λ j. terms_in (go j)) ts e)
 
 ----------------------------------------------------------------
 -- The tests on entries
@@ -149,60 +149,60 @@ tree-size ty go k (n-call g ts e) = omega (arith, all-sizes go ts, sizes-two (λ
 module _ (L : Layout) (E : Entries) where
   -- the terms of the tree of an entry
   abbrev size : ℕ → ℕ
-  size k = termsIn (termOf E.types E.terms k)
+  size k = terms_in (term_of E.types E.terms k)
 
-  good-size : Good E → (k : ℕ) → size k ≡ suc (sizes size (termsOfTerm (get_or E.terms k n-unit)))
-  good-size G k = ap termsIn (term-unfolds E.types E.terms (good-lower G) k)
-      ∙ tree-size (type_of E.types) (termOf E.types E.terms) k (get_or E.terms k n-unit)
+  good-size : Good E → (k : ℕ) → size k ≡ suc (sizes size (terms_of_term (get_or E.terms k n_unit)))
+  good-size G k = ap terms_in (term-unfolds E.types E.terms (good-lower G) k)
+      ∙ tree-size (type_of E.types) (term_of E.types E.terms) k (get_or E.terms k n_unit)
 
   -- the entries from `k` on, `used` being the terms that those below use
-  weight-from : Good E → (k : ℕ) (used : List ℕ) (ts : List TermEntry) {all : List ℕ} → testTerms L E k used ts ≡ accepted all
-      → ((i : ℕ) → get_or ts i n-unit ≡ get_or E.terms (k + i) n-unit) → below k used ≡ true → weight size used k ≡ k
+  weight_from : Good E → (k : ℕ) (used : List ℕ) (ts : List TermEntry) {all : List ℕ} → test_terms L E k used ts ≡ accepted all
+      → ((i : ℕ) → get_or ts i n_unit ≡ get_or E.terms (k + i) n_unit) → below k used ≡ true → weight size used k ≡ k
       → (weight size all (k + length ts) ≡ k + length ts)
-  unfolding testTerms
-  weight-from G k used [] {all} e s b w = subst (λ n. weight size all n ≡ n) (let z : k ≡ k + 0 = omega arith in z)
-      (subst (λ a. weight size a k ≡ k) (accepted-inj e) w)
-  weight-from G k used (t ∷ ts) {all} e s b w =
+  unfolding test_terms
+  weight_from G k used [] {all} e s b w = subst (λ n. weight size all n ≡ n) (let z : k ≡ k + 0 = omega arith in z)
+      (subst (λ a. weight size a k ≡ k) (accepted_inj e) w)
+  weight_from G k used (t ∷ ts) {all} e s b w =
       given (unbind _ _ e) λ (u, p, e₁). given (unbind _ _ e₁) λ (u', p', e₂).
       given (here (s 0)) λ (n, ls).
-      given (and_both (below (length E.types) (typesOfTerm t) && below k (termsOfTerm t) && below (length E.functions) (functionsOfTerm t))
-      (fresh used (termsOfTerm t))
+      given (and_both (below (length E.types) (types_of_term t) && below k (terms_of_term t) && below (length E.functions) (functions_of_term t))
+      (fresh used (terms_of_term t))
       (required _ 4 _ p)) λ (x, f).
       subst (λ n. weight size all n ≡ n) (let z : suc k + length ts ≡ k + suc (length ts) = omega arith in z)
-      (weight-from G (suc k) (termsOfTerm t ++ used) ts e₂
-      (λ i. s (suc i) ∙ ap (λ n. get_or E.terms n n-unit) (let z : k + suc i ≡ suc k + i = omega arith in z))
-      (below_up k (termsOfTerm t ++ used) (below_both k (termsOfTerm t) used ls b))
-      (weight-next size k (termsOfTerm t) used ls b f n w))
+      (weight_from G (suc k) (terms_of_term t ++ used) ts e₂
+      (λ i. s (suc i) ∙ ap (λ n. get_or E.terms n n_unit) (let z : k + suc i ≡ suc k + i = omega arith in z))
+      (below_up k (terms_of_term t ++ used) (below_both k (terms_of_term t) used ls b))
+      (weight-next size k (terms_of_term t) used ls b f n w))
     where
-      here : t ≡ get_or E.terms (k + 0) n-unit → (size k ≡ suc (sizes size (termsOfTerm t))) × (below k (termsOfTerm t) ≡ true)
-      here q = subst (λ t. (size k ≡ suc (sizes size (termsOfTerm t))) × (below k (termsOfTerm t) ≡ true))
-          (ap (λ n. get_or E.terms n n-unit) (let z : k ≡ k + 0 = omega arith in z) ∙ sym q) (good-size G k, good-lower G k)
+      here : t ≡ get_or E.terms (k + 0) n_unit → (size k ≡ suc (sizes size (terms_of_term t))) × (below k (terms_of_term t) ≡ true)
+      here q = subst (λ t. (size k ≡ suc (sizes size (terms_of_term t))) × (below k (terms_of_term t) ≡ true))
+          (ap (λ n. get_or E.terms n n_unit) (let z : k ≡ k + 0 = omega arith in z) ∙ sym q) (good-size G k, good-lower G k)
 
   -- bodies are not used in terms
-  bodies-fresh : (g : ℕ) (used : List ℕ) (hs : List FunctionEntry) {all : List ℕ} → testFunctions L E g used hs ≡ accepted all
+  bodies-fresh : (g : ℕ) (used : List ℕ) (hs : List FunctionEntry) {all : List ℕ} → test_functions L E g used hs ≡ accepted all
       → (i : ℕ) (h : FunctionEntry) → nth hs i ≡ some h → member h.body used ≡ false
-  unfolding testFunctions nth fresh member
+  unfolding test_functions nth fresh member
   bodies-fresh g used [] e i h q = absurd (none≢some q)
   bodies-fresh g used (x ∷ hs) e zero h q =
       given (unbind _ _ e) λ (u, p, e₁).
-      given (and_both (below (length E.types) (typesOfFunction x) && below (length E.terms) (x.body ∷ [])) (fresh used (x.body ∷ []))
+      given (and_both (below (length E.types) (types_of_function x) && below (length E.terms) (x.body ∷ [])) (fresh used (x.body ∷ []))
       (required _ 4 _ p)) λ (y, f).
       subst (λ h. member h.body used ≡ false) (some_inj q) (not-true (and_both (not (member x.body used)) true f).0)
   bodies-fresh g used (x ∷ hs) e (suc i) h q =
       given (unbind _ _ e) λ (u, p, e₁). given (unbind _ _ e₁) λ (u', p', e₂).
-      or-false (eqb h.body x.body) (member h.body used) (bodies-fresh (suc g) (x.body ∷ used) hs e₂ i h q)
+      or_false (eqb h.body x.body) (member h.body used) (bodies-fresh (suc g) (x.body ∷ used) hs e₂ i h q)
 
   -- a function has at most as many terms as there are term entries
-  pub body-size : testEntries L E ≡ accepted tt → (g : ℕ) (h : FunctionEntry) → nth E.functions g ≡ some h
-      → termsIn (termOf E.types E.terms h.body) ≤ length E.terms
-  unfolding testEntries weight below
+  pub body-size : test_entries L E ≡ accepted tt → (g : ℕ) (h : FunctionEntry) → nth E.functions g ≡ some h
+      → terms_in (term_of E.types E.terms h.body) ≤ length E.terms
+  unfolding test_entries weight below
   body-size e g h q =
       given (entries-good L E e) λ G.
-      given (unbind (testTypes L 0 E.types) _ e) λ (u, p, e₁).
-      given (unbind (testTerms L E 0 [] E.terms) _ e₁) λ (inTerms, p₂, e₂).
-      given (unbind (testFunctions L E 0 inTerms E.functions) _ e₂) λ (inAll, p₃, e₃).
-      given (weight-from G 0 [] E.terms p₂ (λ i. ap (λ n. get_or E.terms n n-unit) (let z : i ≡ 0 + i = omega arith in z)) refl refl) λ w.
-      given (weight-one size h.body inTerms (length E.terms) (G.function g h q).body-there (bodies-fresh 0 inTerms E.functions p₃ g h q)) λ v.
+      given (unbind (test_types L 0 E.types) _ e) λ (u, p, e₁).
+      given (unbind (test_terms L E 0 [] E.terms) _ e₁) λ (inTerms, p₂, e₂).
+      given (unbind (test_functions L E 0 inTerms E.functions) _ e₂) λ (inAll, p₃, e₃).
+      given (weight_from G 0 [] E.terms p₂ (λ i. ap (λ n. get_or E.terms n n_unit) (let z : i ≡ 0 + i = omega arith in z)) refl refl) λ w.
+      given (weight-one size h.body inTerms (length E.terms) (G.function g h q).body_there (bodies-fresh 0 inTerms E.functions p₃ g h q)) λ v.
       let whole : weight size inTerms (length E.terms) ≡ length E.terms =
       subst (λ n. weight size inTerms n ≡ n) (let z : 0 + length E.terms ≡ length E.terms = omega arith in z) w in
       omega arith

@@ -11,22 +11,22 @@ use lib.Seq.{take-suc, take_all}
 use package.Rattle.rules.specs.Ty.{Ty}
 use package.Rattle.rules.specs.Term.{look}
 use package.Rattle.rules.specs.Typing.{Binding, static, dynamic, barred, Context, Vars}
-use package.Rattle.rules.specs.Check.{mustUse, statics}
+use package.Rattle.rules.specs.Check.{must_use, statics}
 use package.Rattle.rules.proofs.Basics.{some_inj}
-use package.Rattle.rules.proofs.Scope.{look-newest, look_skip}
-use package.Rattle.rules.specs.Limits.{maxVariables}
-use package.Rattle.calls.specs.Entries.{TypeEntry, type_at, type_of, functionAt}
-use package.Rattle.calls.specs.Fields.{parametersAt}
+use package.Rattle.rules.proofs.Scope.{look_newest, look_skip}
+use package.Rattle.rules.specs.Limits.{max_variables}
+use package.Rattle.calls.specs.Entries.{TypeEntry, type_at, type_of, function_at}
+use package.Rattle.calls.specs.Fields.{parameters_at}
 use package.Rattle.types.specs.declared.codes.Code.{Code}
-use package.Rattle.types.specs.Codes.{entryCode, treeIn, Sources}
+use package.Rattle.types.specs.Codes.{entry_code, tree_in, Sources}
 use package.Rattle.varsets.specs.declared.Uses.{Uses}
 use package.Rattle.varsets.specs.Sets.{Holds, has, nobody}
 use package.Rattle.typing.specs.declared.outcomes.Scope.{Scope}
-use package.Rattle.typing.specs.Contexts.{standing, contextAt, mustUseAt, Owed}
-use package.Rattle.typing.specs.Ready.{variableAt, contextIn, Scoped, Widened}
-use package.Rattle.typing.specs.Waiting.{scopeBytes, countIn}
+use package.Rattle.typing.specs.Contexts.{standing, context_at, must_use_at, Owed}
+use package.Rattle.typing.specs.Ready.{variable_at, context_in, Scoped, Widened}
+use package.Rattle.typing.specs.Waiting.{scope_bytes, count_in}
 use package.Rattle.typing.specs.Checked.{Signed, Bound, Started}
-use package.Rattle.typing.proofs.Contexts.{stands-static, stands_by, length-context, look-context, look-outside}
+use package.Rattle.typing.proofs.Contexts.{stands-static, stands_by, length-context, look_context, look_outside}
 use package.Rattle.typing.proofs.Parameters.{row-ancilla, row-dynamic}
 use package.Rattle.typing.proofs.Ending.{entry-tree}
 use package.Rattle.program.proofs.Lists.{ancillae-count}
@@ -40,23 +40,23 @@ unfolding statics
 statics-last [] c Δ = refl
 statics-last (x ∷ cs) c Δ = statics-last cs c (static x ∷ Δ)
 
-statics-are : (T : ℕ → Ty) (q : ℕ) (M : Vars) (cs : List Ty) (d : Ty) (n : ℕ) → n ≤ q → n ≤ length cs → ((i : ℕ) → i < n → T i ≡ get_or cs i d)
-    → contextAt T q 0 M n ≡ statics (take n cs) []
-unfolding contextAt statics
-statics-are T q M cs d zero l h s = refl
-statics-are T q M cs d (suc n) l h s =
+statics_are : (T : ℕ → Ty) (q : ℕ) (M : Vars) (cs : List Ty) (d : Ty) (n : ℕ) → n ≤ q → n ≤ length cs → ((i : ℕ) → i < n → T i ≡ get_or cs i d)
+    → context_at T q 0 M n ≡ statics (take n cs) []
+unfolding context_at statics
+statics_are T q M cs d zero l h s = refl
+statics_are T q M cs d (suc n) l h s =
     ap₂ ◌∷◌ (stands-static q 0 M n (T n) (omega arith) ∙ ap static (s n (omega arith)))
-    (statics-are T q M cs d n (omega arith) (omega arith) (λ i x. s i (omega arith)))
+    (statics_are T q M cs d n (omega arith) (omega arith) (λ i x. s i (omega arith)))
     ∙ sym (ap (λ cs. statics cs []) (take-suc cs n d (omega arith)) ∙ statics-last (take n cs) (get_or cs n d) [])
 
 -- ancillae need not be used
-none-owed : (T : ℕ → Ty) (n : ℕ) (M : Vars) (u : Uses) → Holds u nobody → Owed u (contextAt T n 0 M n)
-unfolding mustUseAt mustUse
-none-owed T n M u h = record { each = λ i l. h.each i l ∙ sym (go i (dec_lt i n)) }
+none_owed : (T : ℕ → Ty) (n : ℕ) (M : Vars) (u : Uses) → Holds u nobody → Owed u (context_at T n 0 M n)
+unfolding must_use_at must_use
+none_owed T n M u h = record { each = λ i l. h.each i l ∙ sym (go i (dec_lt i n)) }
   where
-    go : (i : ℕ) → Dec (i < n) → mustUseAt (contextAt T n 0 M n) i ≡ false
-    go i (yes l) = rw (look-context T n 0 M n i l, stands-static n 0 M i (T i) l, mustUseAt)
-    go i (no l) = rw (look-outside T n 0 M n i (omega arith), mustUseAt)
+    go : (i : ℕ) → Dec (i < n) → must_use_at (context_at T n 0 M n) i ≡ false
+    go i (yes l) = rw (look_context T n 0 M n i l, stands-static n 0 M i (T i) l, must_use_at)
+    go i (no l) = rw (look_outside T n 0 M n i (omega arith), must_use_at)
 
 ----------------------------------------------------------------
 -- What a context says of the types of its variables
@@ -71,43 +71,43 @@ unfolding bound
 bound-standing q lo M i τ = stands_by q lo M i τ (λ x. bound x ≡ τ) (λ x. refl) (λ x y. refl) (λ x y. refl)
 
 -- the type of variable `i`
-abbrev typeAtVar : List ℕ → List ℕ → List ℕ → List ℕ → ℕ → Ty
-typeAtVar xs types heap vars i = treeIn xs types heap (variableAt vars i)
+abbrev type_at_var : List ℕ → List ℕ → List ℕ → List ℕ → ℕ → Ty
+type_at_var xs types heap vars i = tree_in xs types heap (variable_at vars i)
 
 -- a variable of the code's type is bound
 module _ {xs types heap vars vars' : List ℕ} {sc r : Scope} {top : ℕ} {c : Code} (O : Widened xs types heap vars vars' sc top c r) where
-  seen : (i : ℕ) → i < r.n → some (standing r.q r.lo (has r.marks) i (typeAtVar xs types heap vars' i)) ≡ look
-      (dynamic false (treeIn xs types heap c) ∷ contextIn xs types heap vars sc) i
-  seen i l = sym (look-context (typeAtVar xs types heap vars') r.q r.lo (has r.marks) r.n i l) ∙ ap (λ Δ. look Δ i) O.context
+  seen : (i : ℕ) → i < r.n → some (standing r.q r.lo (has r.marks) i (type_at_var xs types heap vars' i)) ≡ look
+      (dynamic false (tree_in xs types heap c) ∷ context_in xs types heap vars sc) i
+  seen i l = sym (look_context (type_at_var xs types heap vars') r.q r.lo (has r.marks) r.n i l) ∙ ap (λ Δ. look Δ i) O.context
 
-  size : length (contextIn xs types heap vars sc) ≡ sc.n
-  size = length-context (typeAtVar xs types heap vars) sc.q sc.lo (has sc.marks) sc.n
+  size : length (context_in xs types heap vars sc) ≡ sc.n
+  size = length-context (type_at_var xs types heap vars) sc.q sc.lo (has sc.marks) sc.n
 
   -- the types of the others are as they were
-  older : (i : ℕ) → i < sc.n → typeAtVar xs types heap vars' i ≡ typeAtVar xs types heap vars i
+  older : (i : ℕ) → i < sc.n → type_at_var xs types heap vars' i ≡ type_at_var xs types heap vars i
   older i l =
-      sym (bound-standing r.q r.lo (has r.marks) i (typeAtVar xs types heap vars' i))
+      sym (bound-standing r.q r.lo (has r.marks) i (type_at_var xs types heap vars' i))
       ∙ ap bound (some_inj (seen i (omega (arith, O.one_more))
-      ∙ look_skip (contextIn xs types heap vars sc) (dynamic false (treeIn xs types heap c)) i (omega (arith, size))
-      ∙ look-context (typeAtVar xs types heap vars) sc.q sc.lo (has sc.marks) sc.n i l))
-      ∙ bound-standing sc.q sc.lo (has sc.marks) i (typeAtVar xs types heap vars i)
+      ∙ look_skip (context_in xs types heap vars sc) (dynamic false (tree_in xs types heap c)) i (omega (arith, size))
+      ∙ look_context (type_at_var xs types heap vars) sc.q sc.lo (has sc.marks) sc.n i l))
+      ∙ bound-standing sc.q sc.lo (has sc.marks) i (type_at_var xs types heap vars i)
 
-  newest : typeAtVar xs types heap vars' sc.n ≡ treeIn xs types heap c
+  newest : type_at_var xs types heap vars' sc.n ≡ tree_in xs types heap c
   unfolding bound
   newest =
-      sym (bound-standing r.q r.lo (has r.marks) sc.n (typeAtVar xs types heap vars' sc.n))
+      sym (bound-standing r.q r.lo (has r.marks) sc.n (type_at_var xs types heap vars' sc.n))
       ∙ ap bound (some_inj (seen sc.n (omega (arith, O.one_more))
-      ∙ ap (look (dynamic false (treeIn xs types heap c) ∷ contextIn xs types heap vars sc)) (sym size)
-      ∙ look-newest (dynamic false (treeIn xs types heap c)) (contextIn xs types heap vars sc)))
+      ∙ ap (look (dynamic false (tree_in xs types heap c) ∷ context_in xs types heap vars sc)) (sym size)
+      ∙ look_newest (dynamic false (tree_in xs types heap c)) (context_in xs types heap vars sc)))
 
 ----------------------------------------------------------------
 -- Parameters bound in order
 
-pub none-bound : {xs types heap vars row : List ℕ} → scopeBytes ≤ length vars → countIn vars ≡ 0 → Bound xs types heap vars row 0
-none-bound l z = record { slots = l; known = λ i h. absurd (omega arith); tree = λ i h. absurd (omega arith); none-wait = z }
+pub none_bound : {xs types heap vars row : List ℕ} → scope_bytes ≤ length vars → count_in vars ≡ 0 → Bound xs types heap vars row 0
+none_bound l z = record { slots = l; known = λ i h. absurd (omega arith); tree = λ i h. absurd (omega arith); none_wait = z }
 
 -- the scope of ancillae alone, of which there are as many as `n` says
-pub ancillae-scoped : {xs types heap vars row : List ℕ} {n : ℕ} {u : Uses} → Sources xs types heap 0 → Bound xs types heap vars row n → n ≤ maxVariables → Holds u nobody
+pub ancillae-scoped : {xs types heap vars row : List ℕ} {n : ℕ} {u : Uses} → Sources xs types heap 0 → Bound xs types heap vars row n → n ≤ max_variables → Holds u nobody
     → Scoped xs types heap vars (record { q = n; lo = 0; n = n; owed = u; marks = u }) 0
 ancillae-scoped {n = n} {u = u} S B l h = record {
   sources = S;
@@ -116,51 +116,51 @@ ancillae-scoped {n = n} {u = u} S B l h = record {
   low = omega arith;
   few = l;
   known = B.known;
-  owed = none-owed _ n (has u) u h;
+  owed = none_owed _ n (has u) u h;
   unmarked = λ i a b. h.each i b;
 }
 
 -- one parameter more
 pub one-bound : {xs types heap vars vars' row : List ℕ} {n i : ℕ} {u : Uses} {c : Code} {r : Scope}
-    → Widened xs types heap vars vars' (record { q = n; lo = 0; n = n; owed = u; marks = u }) 0 c r → i ≡ n → c ≡ entryCode (get_or row i 0)
+    → Widened xs types heap vars vars' (record { q = n; lo = 0; n = n; owed = u; marks = u }) 0 c r → i ≡ n → c ≡ entry_code (get_or row i 0)
     → Bound xs types heap vars row n → Bound xs types heap vars' row (n + 1)
 one-bound {xs} {types} {heap} {vars} {vars'} {row} {n} {i} O s e B = record {
   slots = omega (arith, B.slots, O.lengths);
   known = λ j l. O.scoped.known j (omega (arith, O.one_more));
   tree = λ j l. go j l (dec_lt j n);
-  none-wait = omega (arith, B.none-wait, O.waited.few);
+  none_wait = omega (arith, B.none_wait, O.waited.few);
 }
   where
-    go : (j : ℕ) → j < n + 1 → Dec (j < n) → typeAtVar xs types heap vars' j ≡ type_of (map (type_at xs) types) (get_or row j 0)
+    go : (j : ℕ) → j < n + 1 → Dec (j < n) → type_at_var xs types heap vars' j ≡ type_of (map (type_at xs) types) (get_or row j 0)
     go j l (yes h) = older O j h ∙ B.tree j h
     go j l (no h) = let k : j ≡ n = omega arith in
-        ap (typeAtVar xs types heap vars') k ∙ newest O ∙ entry-tree xs types heap e ∙ ap (λ j. type_of (map (type_at xs) types) (get_or row j 0)) (s ∙ sym k)
+        ap (type_at_var xs types heap vars') k ∙ newest O ∙ entry-tree xs types heap e ∙ ap (λ j. type_of (map (type_at xs) types) (get_or row j 0)) (s ∙ sym k)
 
 -- the scope of all parameters
 pub all-bound : {xs types heap vars vars' row : List ℕ} {at n i : ℕ} {u : Uses} {c : Code} {r : Scope} → Signed xs types at row
-    → Bound xs types heap vars row n → n ≡ parametersAt xs at - 1 → i ≡ n → c ≡ entryCode (get_or row i 0)
+    → Bound xs types heap vars row n → n ≡ parameters_at xs at - 1 → i ≡ n → c ≡ entry_code (get_or row i 0)
     → Widened xs types heap vars vars' (record { q = n; lo = 0; n = n; owed = u; marks = u }) 0 c r → Started xs types heap vars' at r
 all-bound {xs} {types} {heap} {vars} {vars'} {row} {at} {n} {i} {u} {c} S B m s e O = record {
   scoped = O.scoped;
-  none-wait = omega (arith, B.none-wait, O.waited.few);
+  none_wait = omega (arith, B.none_wait, O.waited.few);
   context = O.context ∙ ap₂ (λ c Δ. dynamic false c ∷ Δ) last firsts;
 }
   where
     ys : List TypeEntry
     ys = map (type_at xs) types
 
-    last : treeIn xs types heap c ≡ type_of ys (functionAt xs at).dynamic
+    last : tree_in xs types heap c ≡ type_of ys (function_at xs at).dynamic
     last = entry-tree xs types heap e ∙ ap (type_of ys) (ap (λ i. get_or row i 0) (s ∙ m) ∙ row-dynamic S.formed S.signature)
 
-    firsts : contextAt (typeAtVar xs types heap vars) n 0 (has u) n ≡ statics (map (type_of ys) (functionAt xs at).ancillae) []
+    firsts : context_at (type_at_var xs types heap vars) n 0 (has u) n ≡ statics (map (type_of ys) (function_at xs at).ancillae) []
     firsts =
-        let k : length cs ≡ n = length-map (functionAt xs at).ancillae (type_of ys) ∙ ancillae-count xs at ∙ sym m in
-        statics-are (typeAtVar xs types heap vars) n (has u) cs (type_of ys 0) n (omega arith) (omega arith) ancilla
+        let k : length cs ≡ n = length-map (function_at xs at).ancillae (type_of ys) ∙ ancillae-count xs at ∙ sym m in
+        statics_are (type_at_var xs types heap vars) n (has u) cs (type_of ys 0) n (omega arith) (omega arith) ancilla
         ∙ ap (λ cs. statics cs []) (take_all n cs (omega arith))
       where
         cs : List Ty
-        cs = map (type_of ys) (functionAt xs at).ancillae
+        cs = map (type_of ys) (function_at xs at).ancillae
 
-        ancilla : (j : ℕ) → j < n → typeAtVar xs types heap vars j ≡ get_or cs j (type_of ys 0)
+        ancilla : (j : ℕ) → j < n → type_at_var xs types heap vars j ≡ get_or cs j (type_of ys 0)
         ancilla j l = B.tree j l ∙ ap (type_of ys) (row-ancilla S.formed S.signature j (omega arith))
-            ∙ sym (get_or-map (type_of ys) (functionAt xs at).ancillae j 0)
+            ∙ sym (get_or-map (type_of ys) (function_at xs at).ancillae j 0)

@@ -7,18 +7,18 @@ use package.Rattle.rules.proofs.Basics.{and_both}
 use mathlib.Core.List.{List, [], ◌∷◌, ◌++◌, map}
 use lib.ListN.{length, get_or, length-map}
 use package.Rattle.rules.specs.Term.{var, tunit, tinl, tinr, tpair, tlet, tletp, tcase, tcall, troll, tunroll}
-use package.Rattle.rules.proofs.Lists.{get-map}
-use package.Rattle.calls.specs.Fields.{kind_at, length_at, termLengths}
-use package.Rattle.calls.specs.Entries.{type_at, type_of, TermEntry, n-unit, termAt, termTrees, termTree, callAncillae, references, entries_at, functionAt}
-use package.Rattle.calls.specs.Named.{closed, plain, typesOfTerm, termsOfTerm, functionsOfTerm, below, allPlain}
-use package.Rattle.calls.proofs.Entries.{below-head, plain-iff}
+use package.Rattle.rules.proofs.Lists.{get_map}
+use package.Rattle.calls.specs.Fields.{kind_at, length_at, term_lengths}
+use package.Rattle.calls.specs.Entries.{type_at, type_of, TermEntry, n_unit, term_at, term_trees, term_tree, call_ancillae, references, entries_at, function_at}
+use package.Rattle.calls.specs.Named.{closed, plain, types_of_term, terms_of_term, functions_of_term, below, all_plain}
+use package.Rattle.calls.proofs.Entries.{below-head, plain_iff}
 use package.Rattle.calls.proofs.Trees.{good-lower, term-unfolds}
 use package.Rattle.program.specs.Parts.{variable, first, second, third, listed, TermField}
-use package.Rattle.program.proofs.Rooms.{term-kind, term-kind-room, var-room, two-room, case-room, call-sized, call-room}
-use package.Rattle.program.proofs.Shapes.{term-var, term-unit, term-inl, term-inr, term-pair, term-let, term-letp, term-case, term-call, term-roll, term-unroll}
+use package.Rattle.program.proofs.Rooms.{term-kind, term-kind-room, var-room, two-room, case_room, call-sized, call-room}
+use package.Rattle.program.proofs.Shapes.{term-var, term-unit, term_inl, term_inr, term-pair, term_let, term_letp, term_case, term-call, term-roll, term_unroll}
 use package.Rattle.program.proofs.Lists.{below_last, below_each}
-use package.Rattle.program.specs.Kinds.{variableKind, unit_kind, pairKind, letKind, letPairKind, callKind, rollKind, unrollKind, inlKind, inrKind, caseKind}
-use package.Rattle.typing.specs.Ready.{termIn, Entered, Here}
+use package.Rattle.program.specs.Kinds.{variable_kind, unit_kind, pair_kind, let_kind, let_pair_kind, call_kind, roll_kind, unroll_kind, inl_kind, inr_kind, case_kind}
+use package.Rattle.typing.specs.Ready.{term_in, Entered, Here}
 
 -- the kind that was read
 pub here : {p terms : List ℕ} {t at kind k : ℕ} → t < length terms → at ≡ get_or terms t 0 → kind ≡ kind_at p at → kind ≡ k → Here p terms t at k
@@ -44,39 +44,39 @@ module _ {p types terms functions nodes : List ℕ} (E : Entered p types terms f
     field-here : TermField p at
     field-here = subst (TermField p) (sym H.place) (E.formed.terms t H.there)
 
-    module _ {x : TermEntry} (e : termAt p at ≡ x) where
-      entry-is : get_or (map (termAt p) terms) t n-unit ≡ x
-      entry-is = get-map (termAt p) terms t n-unit H.there ∙ ap (termAt p) (sym H.place) ∙ e
+    module _ {x : TermEntry} (e : term_at p at ≡ x) where
+      entry_is : get_or (map (term_at p) terms) t n_unit ≡ x
+      entry_is = get_map (term_at p) terms t n_unit H.there ∙ ap (term_at p) (sym H.place) ∙ e
 
-      tree_is : termIn p types terms t ≡ termTree (type_of (map (type_at p) types)) (termIn p types terms) t x
+      tree_is : term_in p types terms t ≡ term_tree (type_of (map (type_at p) types)) (term_in p types terms) t x
       unfolding entries_at
       tree_is =
-          term-unfolds (map (type_at p) types) (map (termAt p) terms) (good-lower E.tested) t
-          ∙ ap (termTree (type_of (map (type_at p) types)) (termIn p types terms) t) entry-is
+          term-unfolds (map (type_at p) types) (map (term_at p) terms) (good-lower E.tested) t
+          ∙ ap (term_tree (type_of (map (type_at p) types)) (term_in p types terms) t) entry_is
 
-      lower-is : below t (termsOfTerm x) ≡ true
+      lower_is : below t (terms_of_term x) ≡ true
       unfolding entries_at
-      lower-is = subst (λ x. below t (termsOfTerm x) ≡ true) entry-is (good-lower E.tested t)
+      lower_is = subst (λ x. below t (terms_of_term x) ≡ true) entry_is (good-lower E.tested t)
 
-      types_are : below (length types) (typesOfTerm x) ≡ true
+      types_are : below (length types) (types_of_term x) ≡ true
       unfolding entries_at
       types_are =
-          subst (λ n. below n (typesOfTerm x) ≡ true) (length-map types (type_at p))
-          (subst (λ x. below (length (map (type_at p) types)) (typesOfTerm x) ≡ true) entry-is
-          (E.tested.term t (subst (λ n. t < n) (sym (length-map terms (termAt p))) H.there)).types-there)
+          subst (λ n. below n (types_of_term x) ≡ true) (length-map types (type_at p))
+          (subst (λ x. below (length (map (type_at p) types)) (types_of_term x) ≡ true) entry_is
+          (E.tested.term t (subst (λ n. t < n) (sym (length-map terms (term_at p))) H.there)).types_there)
 
-      plain-are : allPlain (map (type_at p) types) (typesOfTerm x) ≡ true
+      plain_are : all_plain (map (type_at p) types) (types_of_term x) ≡ true
       unfolding entries_at
-      plain-are =
-          subst (λ x. allPlain (map (type_at p) types) (typesOfTerm x) ≡ true) entry-is
-          (E.tested.term t (subst (λ n. t < n) (sym (length-map terms (termAt p))) H.there)).types-plain
+      plain_are =
+          subst (λ x. all_plain (map (type_at p) types) (types_of_term x) ≡ true) entry_is
+          (E.tested.term t (subst (λ n. t < n) (sym (length-map terms (term_at p))) H.there)).types_plain
 
-      functions-are : below (length functions) (functionsOfTerm x) ≡ true
+      functions_are : below (length functions) (functions_of_term x) ≡ true
       unfolding entries_at
-      functions-are =
-          subst (λ n. below n (functionsOfTerm x) ≡ true) (length-map functions (functionAt p))
-          (subst (λ x. below (length (map (functionAt p) functions)) (functionsOfTerm x) ≡ true) entry-is
-          (E.tested.term t (subst (λ n. t < n) (sym (length-map terms (termAt p))) H.there)).functions-there)
+      functions_are =
+          subst (λ n. below n (functions_of_term x) ≡ true) (length-map functions (function_at p))
+          (subst (λ x. below (length (map (function_at p) functions)) (functions_of_term x) ≡ true) entry_is
+          (E.tested.term t (subst (λ n. t < n) (sym (length-map terms (term_at p))) H.there)).functions_there)
 
   -- a part: a lower entry, and so one that is there
   abbrev pub Part : ℕ → ℕ → Type 0
@@ -85,32 +85,32 @@ module _ {p types terms functions nodes : List ℕ} (E : Entered p types terms f
   ----------------------------------------------------------------
   -- Variables and unit
 
-  module _ {t at : ℕ} (H : Here p terms t at variableKind) where
-    pub tree-var : termIn p types terms t ≡ var t (variable p at)
-    unfolding termTree
+  module _ {t at : ℕ} (H : Here p terms t at variable_kind) where
+    pub tree-var : term_in p types terms t ≡ var t (variable p at)
+    unfolding term_tree
     tree-var = tree_is H (term-var p at H.form)
 
     pub read-var : at + 5 ≤ length p
     read-var = var-room (field-here H) H.form
 
-  pub tree-unit : {t at : ℕ} → Here p terms t at unit_kind → termIn p types terms t ≡ tunit t
-  unfolding termTree
+  pub tree-unit : {t at : ℕ} → Here p terms t at unit_kind → term_in p types terms t ≡ tunit t
+  unfolding term_tree
   tree-unit {t} {at} H = tree_is H (term-unit p at H.form)
 
   ----------------------------------------------------------------
   -- A type and a term
 
-  module _ {t at kind : ℕ} (H : Here p terms t at kind) {x : TermEntry} (e : termAt p at ≡ x) (q : typesOfTerm x ≡ first p at ∷ [])
-      (q' : termsOfTerm x ≡ second p at ∷ []) where
+  module _ {t at kind : ℕ} (H : Here p terms t at kind) {x : TermEntry} (e : term_at p at ≡ x) (q : types_of_term x ≡ first p at ∷ [])
+      (q' : terms_of_term x ≡ second p at ∷ []) where
     closed-type : closed 0 (type_of (map (type_at p) types) (first p at)) ≡ true
-    unfolding allPlain
+    unfolding all_plain
     closed-type =
-        ((plain-iff (map (type_at p) types) (first p at)).0
-        (and_both (plain (map (type_at p) types) (first p at)) true (subst (λ is. allPlain (map (type_at p) types) is ≡ true) q (plain-are H e))).0).0
+        ((plain_iff (map (type_at p) types) (first p at)).0
+        (and_both (plain (map (type_at p) types) (first p at)) true (subst (λ is. all_plain (map (type_at p) types) is ≡ true) q (plain_are H e))).0).0
 
     single : at + 8 ≤ length p → Single p types terms t at
     single room =
-        let l : second p at < t = (below-head t (second p at) [] (subst (λ is. below t is ≡ true) q' (lower-is H e))).0 in
+        let l : second p at < t = (below-head t (second p at) [] (subst (λ is. below t is ≡ true) q' (lower_is H e))).0 in
         record {
           room = room;
           type = (below-head (length types) (first p at) [] (subst (λ is. below (length types) is ≡ true) q (types_are H e))).0;
@@ -119,52 +119,52 @@ module _ {p types terms functions nodes : List ℕ} (E : Entered p types terms f
           there = omega (arith, H.there);
         }
 
-  module _ {t at : ℕ} (H : Here p terms t at inlKind) where
-    pub tree-inl : termIn p types terms t ≡ tinl t (type_of (map (type_at p) types) (first p at)) (termIn p types terms (second p at))
-    unfolding termTree
-    tree-inl = tree_is H (term-inl p at H.form)
+  module _ {t at : ℕ} (H : Here p terms t at inl_kind) where
+    pub tree_inl : term_in p types terms t ≡ tinl t (type_of (map (type_at p) types) (first p at)) (term_in p types terms (second p at))
+    unfolding term_tree
+    tree_inl = tree_is H (term_inl p at H.form)
 
-    pub single-inl : Single p types terms t at
-    unfolding typesOfTerm termsOfTerm termLengths
-    single-inl = single H (term-inl p at H.form) refl refl (two-room (field-here H) H.form refl)
+    pub single_inl : Single p types terms t at
+    unfolding types_of_term terms_of_term term_lengths
+    single_inl = single H (term_inl p at H.form) refl refl (two-room (field-here H) H.form refl)
 
-  module _ {t at : ℕ} (H : Here p terms t at inrKind) where
-    pub tree-inr : termIn p types terms t ≡ tinr t (type_of (map (type_at p) types) (first p at)) (termIn p types terms (second p at))
-    unfolding termTree
-    tree-inr = tree_is H (term-inr p at H.form)
+  module _ {t at : ℕ} (H : Here p terms t at inr_kind) where
+    pub tree_inr : term_in p types terms t ≡ tinr t (type_of (map (type_at p) types) (first p at)) (term_in p types terms (second p at))
+    unfolding term_tree
+    tree_inr = tree_is H (term_inr p at H.form)
 
-    pub single-inr : Single p types terms t at
-    unfolding typesOfTerm termsOfTerm termLengths
-    single-inr = single H (term-inr p at H.form) refl refl (two-room (field-here H) H.form refl)
+    pub single_inr : Single p types terms t at
+    unfolding types_of_term terms_of_term term_lengths
+    single_inr = single H (term_inr p at H.form) refl refl (two-room (field-here H) H.form refl)
 
-  module _ {t at : ℕ} (H : Here p terms t at rollKind) where
-    pub tree-roll : termIn p types terms t ≡ troll t (type_of (map (type_at p) types) (first p at)) (termIn p types terms (second p at))
-    unfolding termTree
+  module _ {t at : ℕ} (H : Here p terms t at roll_kind) where
+    pub tree-roll : term_in p types terms t ≡ troll t (type_of (map (type_at p) types) (first p at)) (term_in p types terms (second p at))
+    unfolding term_tree
     tree-roll = tree_is H (term-roll p at H.form)
 
     pub single-roll : Single p types terms t at
-    unfolding typesOfTerm termsOfTerm termLengths
+    unfolding types_of_term terms_of_term term_lengths
     single-roll = single H (term-roll p at H.form) refl refl (two-room (field-here H) H.form refl)
 
-  module _ {t at : ℕ} (H : Here p terms t at unrollKind) where
+  module _ {t at : ℕ} (H : Here p terms t at unroll_kind) where
     ten : 10 ≤ kind_at p at
     ten = omega (arith, H.form)
 
-    pub tree-unroll : termIn p types terms t ≡ tunroll t (type_of (map (type_at p) types) (first p at)) (termIn p types terms (second p at))
-    unfolding termTree
-    tree-unroll = tree_is H (term-unroll p at ten)
+    pub tree_unroll : term_in p types terms t ≡ tunroll t (type_of (map (type_at p) types) (first p at)) (term_in p types terms (second p at))
+    unfolding term_tree
+    tree_unroll = tree_is H (term_unroll p at ten)
 
-    pub single-unroll : Single p types terms t at
-    unfolding typesOfTerm termsOfTerm termLengths
-    single-unroll = single H (term-unroll p at ten) refl refl (two-room (field-here H) H.form refl)
+    pub single_unroll : Single p types terms t at
+    unfolding types_of_term terms_of_term term_lengths
+    single_unroll = single H (term_unroll p at ten) refl refl (two-room (field-here H) H.form refl)
 
   ----------------------------------------------------------------
   -- Two terms
 
-  module _ {t at kind : ℕ} (H : Here p terms t at kind) {x : TermEntry} (e : termAt p at ≡ x) {is : List ℕ}
-      (q : termsOfTerm x ≡ first p at ∷ second p at ∷ is) where
+  module _ {t at kind : ℕ} (H : Here p terms t at kind) {x : TermEntry} (e : term_at p at ≡ x) {is : List ℕ}
+      (q : terms_of_term x ≡ first p at ∷ second p at ∷ is) where
     lower-two : below t (first p at ∷ second p at ∷ is) ≡ true
-    lower-two = subst (λ is. below t is ≡ true) q (lower-is H e)
+    lower-two = subst (λ is. below t is ≡ true) q (lower_is H e)
 
     two-parts : Part t (first p at) × Part t (second p at)
     two-parts =
@@ -172,90 +172,90 @@ module _ {p types terms functions nodes : List ℕ} (E : Entered p types terms f
         let l' : second p at < t = (below-head t (second p at) is (below-head t (first p at) _ lower-two).1).0 in
         ((l, omega (arith, H.there)), (l', omega (arith, H.there)))
 
-  module _ {t at : ℕ} (H : Here p terms t at pairKind) where
-    pub tree-pair : termIn p types terms t ≡ tpair t (termIn p types terms (first p at)) (termIn p types terms (second p at))
-    unfolding termTree
+  module _ {t at : ℕ} (H : Here p terms t at pair_kind) where
+    pub tree-pair : term_in p types terms t ≡ tpair t (term_in p types terms (first p at)) (term_in p types terms (second p at))
+    unfolding term_tree
     tree-pair = tree_is H (term-pair p at H.form)
 
     pub parts-pair : Part t (first p at) × Part t (second p at)
-    unfolding termsOfTerm
+    unfolding terms_of_term
     parts-pair = two-parts H (term-pair p at H.form) refl
 
     pub read-pair : at + 8 ≤ length p
-    unfolding termLengths
+    unfolding term_lengths
     read-pair = two-room (field-here H) H.form refl
 
-  module _ {t at : ℕ} (H : Here p terms t at letKind) where
-    pub tree-let : termIn p types terms t ≡ tlet t (termIn p types terms (first p at)) (termIn p types terms (second p at))
-    unfolding termTree
-    tree-let = tree_is H (term-let p at H.form)
+  module _ {t at : ℕ} (H : Here p terms t at let_kind) where
+    pub tree_let : term_in p types terms t ≡ tlet t (term_in p types terms (first p at)) (term_in p types terms (second p at))
+    unfolding term_tree
+    tree_let = tree_is H (term_let p at H.form)
 
-    pub parts-let : Part t (first p at) × Part t (second p at)
-    unfolding termsOfTerm
-    parts-let = two-parts H (term-let p at H.form) refl
+    pub parts_let : Part t (first p at) × Part t (second p at)
+    unfolding terms_of_term
+    parts_let = two-parts H (term_let p at H.form) refl
 
-    pub read-let : at + 8 ≤ length p
-    unfolding termLengths
-    read-let = two-room (field-here H) H.form refl
+    pub read_let : at + 8 ≤ length p
+    unfolding term_lengths
+    read_let = two-room (field-here H) H.form refl
 
-  module _ {t at : ℕ} (H : Here p terms t at letPairKind) where
-    pub tree-letp : termIn p types terms t ≡ tletp t (termIn p types terms (first p at)) (termIn p types terms (second p at))
-    unfolding termTree
-    tree-letp = tree_is H (term-letp p at H.form)
+  module _ {t at : ℕ} (H : Here p terms t at let_pair_kind) where
+    pub tree_letp : term_in p types terms t ≡ tletp t (term_in p types terms (first p at)) (term_in p types terms (second p at))
+    unfolding term_tree
+    tree_letp = tree_is H (term_letp p at H.form)
 
-    pub parts-letp : Part t (first p at) × Part t (second p at)
-    unfolding termsOfTerm
-    parts-letp = two-parts H (term-letp p at H.form) refl
+    pub parts_letp : Part t (first p at) × Part t (second p at)
+    unfolding terms_of_term
+    parts_letp = two-parts H (term_letp p at H.form) refl
 
-    pub read-letp : at + 8 ≤ length p
-    unfolding termLengths
-    read-letp = two-room (field-here H) H.form refl
+    pub read_letp : at + 8 ≤ length p
+    unfolding term_lengths
+    read_letp = two-room (field-here H) H.form refl
 
   ----------------------------------------------------------------
   -- Case
 
-  module _ {t at : ℕ} (H : Here p terms t at caseKind) where
-    pub tree-case : termIn p types terms t ≡ tcase t (termIn p types terms (first p at)) (termIn p types terms (second p at))
-        (termIn p types terms (third p at))
-    unfolding termTree
-    tree-case = tree_is H (term-case p at H.form)
+  module _ {t at : ℕ} (H : Here p terms t at case_kind) where
+    pub tree_case : term_in p types terms t ≡ tcase t (term_in p types terms (first p at)) (term_in p types terms (second p at))
+        (term_in p types terms (third p at))
+    unfolding term_tree
+    tree_case = tree_is H (term_case p at H.form)
 
-    pub parts-case : Part t (first p at) × Part t (second p at) × Part t (third p at)
-    unfolding termsOfTerm
-    parts-case =
-        let low : below t (first p at ∷ second p at ∷ third p at ∷ []) ≡ true = lower-is H (term-case p at H.form) in
-        let two = two-parts H (term-case p at H.form) refl in
+    pub parts_case : Part t (first p at) × Part t (second p at) × Part t (third p at)
+    unfolding terms_of_term
+    parts_case =
+        let low : below t (first p at ∷ second p at ∷ third p at ∷ []) ≡ true = lower_is H (term_case p at H.form) in
+        let two = two-parts H (term_case p at H.form) refl in
         let l : third p at < t = (below-head t (third p at) [] (below-head t (second p at) _ (below-head t (first p at) _ low).1).1).0 in
         (two.0, two.1, (l, omega (arith, H.there)))
 
-    pub read-case : at + 10 ≤ length p
-    read-case = case-room (field-here H) H.form
+    pub read_case : at + 10 ≤ length p
+    read_case = case_room (field-here H) H.form
 
   ----------------------------------------------------------------
   -- Calls
 
-  module _ {t at : ℕ} (H : Here p terms t at callKind) where
-    pub tree-call : termIn p types terms t
-        ≡ tcall t (first p at) (termTrees (termIn p types terms) (references p (at + 6) (callAncillae (length_at p at))))
-        (termIn p types terms (listed p at (callAncillae (length_at p at))))
-    unfolding termTree
+  module _ {t at : ℕ} (H : Here p terms t at call_kind) where
+    pub tree-call : term_in p types terms t
+        ≡ tcall t (first p at) (term_trees (term_in p types terms) (references p (at + 6) (call_ancillae (length_at p at))))
+        (term_in p types terms (listed p at (call_ancillae (length_at p at))))
+    unfolding term_tree
     tree-call = tree_is H (term-call p at H.form)
 
     pub called-there : first p at < length functions
-    unfolding functionsOfTerm
-    called-there = (below-head (length functions) (first p at) [] (functions-are H (term-call p at H.form))).0
+    unfolding functions_of_term
+    called-there = (below-head (length functions) (first p at) [] (functions_are H (term-call p at H.form))).0
 
-    pub read-call : (at + 8 + 2 * callAncillae (length_at p at) ≤ length p) × (5 ≤ length_at p at)
+    pub read-call : (at + 8 + 2 * call_ancillae (length_at p at) ≤ length p) × (5 ≤ length_at p at)
     read-call = (call-room (field-here H) H.form, call-sized (field-here H) H.form)
 
-    lower_call : below t (references p (at + 6) (callAncillae (length_at p at)) ++ (listed p at (callAncillae (length_at p at)) ∷ [])) ≡ true
-    unfolding termsOfTerm
-    lower_call = lower-is H (term-call p at H.form)
+    lower_call : below t (references p (at + 6) (call_ancillae (length_at p at)) ++ (listed p at (call_ancillae (length_at p at)) ∷ [])) ≡ true
+    unfolding terms_of_term
+    lower_call = lower_is H (term-call p at H.form)
 
     -- an ancilla argument, and the dynamic one
-    pub part-argument : {k : ℕ} → k < callAncillae (length_at p at) → Part t (listed p at k)
+    pub part-argument : {k : ℕ} → k < call_ancillae (length_at p at) → Part t (listed p at k)
     part-argument {k} h = let l : listed p at k < t = below_each t p (at + 6) _ _ lower_call k h in (l, omega (arith, H.there))
 
-    pub part-dynamic : Part t (listed p at (callAncillae (length_at p at)))
-    part-dynamic = let l : listed p at (callAncillae (length_at p at)) < t =
-        below_last t p (at + 6) (callAncillae (length_at p at)) _ lower_call in (l, omega (arith, H.there))
+    pub part-dynamic : Part t (listed p at (call_ancillae (length_at p at)))
+    part-dynamic = let l : listed p at (call_ancillae (length_at p at)) < t =
+        below_last t p (at + 6) (call_ancillae (length_at p at)) _ lower_call in (l, omega (arith, H.there))

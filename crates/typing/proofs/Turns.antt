@@ -6,16 +6,16 @@ use mathlib.Core.Path.{◌≡◌, refl, sym, ap, ◌∙◌}
 use mathlib.Core.List.{List, ◌∷◌, map}
 use lib.ListN.{length, get_or, drop, length-map, get_or-map, drop_of_length-le}
 use lib.Seq.{drop-cons}
-use package.Rattle.rules.specs.Limits.{maxVariables, maxNodes}
-use package.Rattle.rules.specs.Check.{Checked, good, bad, ◌>>◌, checkFuns, check}
+use package.Rattle.rules.specs.Limits.{max_variables, max_nodes}
+use package.Rattle.rules.specs.Check.{Checked, good, bad, ◌>>◌, check_funs, check}
 use package.Rattle.calls.specs.Answer.{Answer, accepted, refused}
 use package.Rattle.calls.specs.Fields.{Layout}
-use package.Rattle.calls.specs.Entries.{type_at, termAt, functionAt, functionOf, entries_at, program_of}
+use package.Rattle.calls.specs.Entries.{type_at, term_at, function_at, function_of, entries_at, program_of}
 use package.Rattle.calls.specs.Load.{typed}
 use package.Rattle.calls.proofs.Answer.{refused≢accepted}
 use package.Rattle.program.specs.Places.{places_of}
-use package.Rattle.program.specs.Programs.{programIn, functionIn}
-use package.Rattle.typing.specs.Checked.{Typeable, functionAnswer, typingAnswer}
+use package.Rattle.program.specs.Programs.{program_in, function_in}
+use package.Rattle.typing.specs.Checked.{Typeable, function_answer, typing_answer}
 
 ----------------------------------------------------------------
 -- Answers one after another
@@ -38,49 +38,49 @@ no_more e = omega arith
 -- From a function on
 
 -- the answer for the functions from entry `g` on
-abbrev pub fromFunction : List ℕ → List ℕ → List ℕ → List ℕ → ℕ → Answer (Unit {0})
-fromFunction xs types terms functions g =
-    typed (places_of types terms functions) (checkFuns maxVariables maxNodes (programIn xs types terms functions) g
-    (drop g (programIn xs types terms functions)))
+abbrev pub from_function : List ℕ → List ℕ → List ℕ → List ℕ → ℕ → Answer (Unit {0})
+from_function xs types terms functions g =
+    typed (places_of types terms functions) (check_funs max_variables max_nodes (program_in xs types terms functions) g
+    (drop g (program_in xs types terms functions)))
 
 module _ (xs types terms functions : List ℕ) where
-  pub from_first : typingAnswer xs types terms functions ≡ fromFunction xs types terms functions 0
+  pub from_first : typing_answer xs types terms functions ≡ from_function xs types terms functions 0
   unfolding check
   from_first = refl
 
-  as_many : length (programIn xs types terms functions) ≡ length functions
+  as_many : length (program_in xs types terms functions) ≡ length functions
   unfolding program_of entries_at
-  as_many = length-map (map (functionAt xs) functions) (functionOf (map (type_at xs) types) (map (termAt xs) terms)) ∙ length-map functions (functionAt xs)
+  as_many = length-map (map (function_at xs) functions) (function_of (map (type_at xs) types) (map (term_at xs) terms)) ∙ length-map functions (function_at xs)
 
   next : (g : ℕ) → g < length functions
-      → drop g (programIn xs types terms functions) ≡ functionIn xs types terms (get_or functions g 0) ∷ drop (suc g) (programIn xs types terms functions)
+      → drop g (program_in xs types terms functions) ≡ function_in xs types terms (get_or functions g 0) ∷ drop (suc g) (program_in xs types terms functions)
   unfolding program_of entries_at
-  next g l = drop-cons (programIn xs types terms functions) g (functionIn xs types terms 0) (omega (arith, as_many))
-      ∙ ap (λ h. h ∷ drop (suc g) (programIn xs types terms functions))
-      (get_or-map (functionOf (map (type_at xs) types) (map (termAt xs) terms)) (map (functionAt xs) functions) g (functionAt xs 0)
-      ∙ ap (functionOf (map (type_at xs) types) (map (termAt xs) terms)) (get_or-map (functionAt xs) functions g 0))
+  next g l = drop-cons (program_in xs types terms functions) g (function_in xs types terms 0) (omega (arith, as_many))
+      ∙ ap (λ h. h ∷ drop (suc g) (program_in xs types terms functions))
+      (get_or-map (function_of (map (type_at xs) types) (map (term_at xs) terms)) (map (function_at xs) functions) g (function_at xs 0)
+      ∙ ap (function_of (map (type_at xs) types) (map (term_at xs) terms)) (get_or-map (function_at xs) functions g 0))
 
   module _ (g : ℕ) (l : g < length functions) where
-    pub function-typed : functionAnswer xs types terms functions g ≡ accepted tt
-        → fromFunction xs types terms functions g ≡ fromFunction xs types terms functions (g + 1)
-    unfolding checkFuns
+    pub function-typed : function_answer xs types terms functions g ≡ accepted tt
+        → from_function xs types terms functions g ≡ from_function xs types terms functions (g + 1)
+    unfolding check_funs
     function-typed e =
-        ap (λ hs. typed (places_of types terms functions) (checkFuns maxVariables maxNodes (programIn xs types terms functions) g hs)) (next g l)
+        ap (λ hs. typed (places_of types terms functions) (check_funs max_variables max_nodes (program_in xs types terms functions) g hs)) (next g l)
         ∙ after (places_of types terms functions) _ _ e
-        ∙ ap (fromFunction xs types terms functions) (sym (add-one g))
+        ∙ ap (from_function xs types terms functions) (sym (add-one g))
 
-    pub function-refused : {n at : ℕ} → functionAnswer xs types terms functions g ≡ refused n at → fromFunction xs types terms functions g ≡ refused n at
-    unfolding checkFuns
+    pub function-refused : {n at : ℕ} → function_answer xs types terms functions g ≡ refused n at → from_function xs types terms functions g ≡ refused n at
+    unfolding check_funs
     function-refused e =
-        ap (λ hs. typed (places_of types terms functions) (checkFuns maxVariables maxNodes (programIn xs types terms functions) g hs)) (next g l)
+        ap (λ hs. typed (places_of types terms functions) (check_funs max_variables max_nodes (program_in xs types terms functions) g hs)) (next g l)
         ∙ before (places_of types terms functions) _ _ e
 
-  pub from_last : (g : ℕ) → length functions ≤ g → fromFunction xs types terms functions g ≡ accepted tt
-  unfolding checkFuns typed
-  from_last g l = ap (λ hs. typed (places_of types terms functions) (checkFuns maxVariables maxNodes (programIn xs types terms functions) g hs))
-      (drop_of_length-le (programIn xs types terms functions) {i = g} (omega (arith, as_many)))
+  pub from_last : (g : ℕ) → length functions ≤ g → from_function xs types terms functions g ≡ accepted tt
+  unfolding check_funs typed
+  from_last g l = ap (λ hs. typed (places_of types terms functions) (check_funs max_variables max_nodes (program_in xs types terms functions) g hs))
+      (drop_of_length-le (program_in xs types terms functions) {i = g} (omega (arith, as_many)))
 
 -- the bytes for product nodes matter by their length alone
-pub typeable-kept : {xs types terms functions nodes heap heap' : List ℕ} → length heap' ≡ length heap → Typeable xs types terms functions nodes heap
+pub typeable_kept : {xs types terms functions nodes heap heap' : List ℕ} → length heap' ≡ length heap → Typeable xs types terms functions nodes heap
     → Typeable xs types terms functions nodes heap'
-typeable-kept e Y = record { read = Y.read; tested = Y.tested; held = Y.held; counted = Y.counted; room = omega (arith, Y.room) }
+typeable_kept e Y = record { read = Y.read; tested = Y.tested; held = Y.held; counted = Y.counted; room = omega (arith, Y.room) }

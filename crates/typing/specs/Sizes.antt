@@ -5,19 +5,19 @@ use package.Rattle.rules.specs.Term.{Term, Terms, var, tunit, tinl, tinr, tpair,
 
 unfoldable mutual
   -- the term itself is counted
-  pub termsIn : Term → ℕ
-  termsIn (var k i) = 1
-  termsIn (tunit k) = 1
-  termsIn (tinl k c e) = suc (termsIn e)
-  termsIn (tinr k c e) = suc (termsIn e)
-  termsIn (tpair k e e') = suc (termsIn e + termsIn e')
-  termsIn (tlet k e b) = suc (termsIn e + termsIn b)
-  termsIn (tletp k e b) = suc (termsIn e + termsIn b)
-  termsIn (tcase k e b b') = suc (termsIn e + (termsIn b + termsIn b'))
-  termsIn (tcall k g ts e) = suc (termsInAll ts + termsIn e)
-  termsIn (troll k c e) = suc (termsIn e)
-  termsIn (tunroll k c e) = suc (termsIn e)
+  pub terms_in : Term → ℕ
+  terms_in (var k i) = 1
+  terms_in (tunit k) = 1
+  terms_in (tinl k c e) = suc (terms_in e)
+  terms_in (tinr k c e) = suc (terms_in e)
+  terms_in (tpair k e e') = suc (terms_in e + terms_in e')
+  terms_in (tlet k e b) = suc (terms_in e + terms_in b)
+  terms_in (tletp k e b) = suc (terms_in e + terms_in b)
+  terms_in (tcase k e b b') = suc (terms_in e + (terms_in b + terms_in b'))
+  terms_in (tcall k g ts e) = suc (terms_in_all ts + terms_in e)
+  terms_in (troll k c e) = suc (terms_in e)
+  terms_in (tunroll k c e) = suc (terms_in e)
 
-  pub termsInAll : Terms → ℕ
-  termsInAll end = 0
-  termsInAll (more t ts) = termsIn t + termsInAll ts
+  pub terms_in_all : Terms → ℕ
+  terms_in_all end = 0
+  terms_in_all (more t ts) = terms_in t + terms_in_all ts

@@ -1,6 +1,6 @@
 // Terms that bind variables: let, let pair and case. The variables are bound in the scope's lent bytes, and bytes of older ones stay. Laws:
 // proofs/Binding, Branching.
-ghost use Rattle.program.specs.Kinds.{letKind, letPairKind, caseKind};
+ghost use Rattle.program.specs.Kinds.{let_kind, let_pair_kind, case_kind};
 ghost use Rattle.typing.specs.Asked.{ReadyAt, ReadyBranches, Infers, InfersBranches};
 
 use crate::namings::SCOPE_BYTES;
@@ -30,7 +30,7 @@ pub fn let_one(
     t: u16,
     at: usize,
 ) -> Out
-    requires { ReadyAt p.now types.now terms.now funs.now sigs.now nodes.now ws.old vars.old sc top t at letKind }
+    requires { ReadyAt p.now types.now terms.now funs.now sigs.now nodes.now ws.old vars.old sc top t at let_kind }
     ensures { Infers p.now types.now terms.now funs.now
         ws.old ws.new vars.old vars.new sc top t result }
 {
@@ -73,7 +73,7 @@ pub fn let_two(
     t: u16,
     at: usize,
 ) -> Out
-    requires { ReadyAt p.now types.now terms.now funs.now sigs.now nodes.now ws.old vars.old sc top t at letPairKind }
+    requires { ReadyAt p.now types.now terms.now funs.now sigs.now nodes.now ws.old vars.old sc top t at let_pair_kind }
     ensures { Infers p.now types.now terms.now funs.now
         ws.old ws.new vars.old vars.new sc top t result }
 {
@@ -124,7 +124,7 @@ pub fn choose(
     t: u16,
     at: usize,
 ) -> Out
-    requires { ReadyAt p.now types.now terms.now funs.now sigs.now nodes.now ws.old vars.old sc top t at caseKind }
+    requires { ReadyAt p.now types.now terms.now funs.now sigs.now nodes.now ws.old vars.old sc top t at case_kind }
     ensures { Infers p.now types.now terms.now funs.now
         ws.old ws.new vars.old vars.new sc top t result }
 {

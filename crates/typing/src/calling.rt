@@ -1,6 +1,6 @@
 // Calls: the ancilla arguments, then the dynamic one. The types of the called function's parameters come from the table of signatures; how
 // many it has, and its result, which the table has no place for, from its field. Laws: proofs/Called, Passing.
-ghost use Rattle.program.specs.Kinds.{callKind};
+ghost use Rattle.program.specs.Kinds.{call_kind};
 ghost use Rattle.typing.specs.Asked.{ReadyAt, ReadyArguments, Infers, InfersArguments};
 
 use crate::namings::SCOPE_BYTES;
@@ -84,7 +84,7 @@ pub fn call(
     t: u16,
     at: usize,
 ) -> Out
-    requires { ReadyAt p.now types.now terms.now funs.now sigs.now nodes.now ws.old vars.old sc top t at callKind }
+    requires { ReadyAt p.now types.now terms.now funs.now sigs.now nodes.now ws.old vars.old sc top t at call_kind }
     ensures { Infers p.now types.now terms.now funs.now
         ws.old ws.new vars.old vars.new sc top t result }
 {

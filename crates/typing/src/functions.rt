@@ -2,14 +2,14 @@
 // parameters' types come from the table of signatures, which was filled when the functions were read; product nodes of one function are
 // not needed by the next, so each function has all the room for them.
 ghost use Rattle.std.specs.Prelude.{◌≡◌, map, ◌-◌, ◌≤◌, ◌<◌, length, get_or};
-ghost use Rattle.calls.specs.Fields.{parametersAt};
+ghost use Rattle.calls.specs.Fields.{parameters_at};
 ghost use Rattle.calls.specs.Entries.{type_at};
 ghost use Rattle.program.specs.Signatures.{SignaturesAre};
 ghost use Rattle.types.specs.Figures.{Figured};
-ghost use Rattle.types.specs.Codes.{treeIn, Sources, Known};
+ghost use Rattle.types.specs.Codes.{tree_in, Sources, Known};
 ghost use Rattle.varsets.specs.Sets.{has};
-ghost use Rattle.typing.specs.Waiting.{scopeBytes, countIn};
-ghost use Rattle.typing.specs.Checked.{verdictOf, Typeable, Signed, Bound, Started, typingAnswer, functionAnswer, endAnswer, faultAnswer};
+ghost use Rattle.typing.specs.Waiting.{scope_bytes, count_in};
+ghost use Rattle.typing.specs.Checked.{verdict_of, Typeable, Signed, Bound, Started, typing_answer, function_answer, end_answer, fault_answer};
 
 use crate::namings::SCOPE_BYTES;
 use crate::outcomes::{Fault, Scope, Status};
@@ -40,7 +40,7 @@ fn bind_ancillae(
 )
     requires sources { Sources p.now types.now ws.now 0 }
     requires signed { Signed p.now types.now at row }
-    requires q_bound { (q < parametersAt p.now at) × (scopeBytes ≤ length vars.old) × (countIn vars.old ≡ 0) }
+    requires q_bound { (q < parameters_at p.now at) × (scope_bytes ≤ length vars.old) × (count_in vars.old ≡ 0) }
     ensures { Bound p.now types.now ws.now vars.new row q }
 {
     let none = Uses::none();
@@ -71,7 +71,7 @@ fn bind_parameters(
 ) -> Scope
     requires sources { Sources p.now types.now ws.now 0 }
     requires signed { Signed p.now types.now at row }
-    requires scope_bytes_in_bounds { (scopeBytes ≤ length vars.old) × (countIn vars.old ≡ 0) }
+    requires scope_bytes_in_bounds { (scope_bytes ≤ length vars.old) × (count_in vars.old ≡ 0) }
     ensures { Started p.now types.now ws.now vars.new at result }
 {
     let last = program::views::function_parameters(p, at) - 1;
@@ -103,8 +103,8 @@ fn finish(
     requires sources { Sources p.now types.now ws.now top }
     requires known { Known (length types.now) top code }
     requires signed { Signed p.now types.now at row }
-    ensures { verdictOf result ≡ endAnswer p.now types.now at
-        (treeIn p.now types.now ws.now code) (has used (parametersAt p.now at - 1)) }
+    ensures { verdict_of result ≡ end_answer p.now types.now at
+        (tree_in p.now types.now ws.now code) (has used (parameters_at p.now at - 1)) }
 {
     let result = codes::entry(program::views::function_result(p, at));
     if compare::same(p, types, ws, top, code, result) {
@@ -134,7 +134,7 @@ fn place(terms: &[u16], t: u32) -> usize
 
 // A refusal at a term, placed at the term's field.
 fn refusal(terms: &[u16], why: Fault) -> Verdict
-    ensures { verdictOf result ≡ faultAnswer terms.now why }
+    ensures { verdict_of result ≡ fault_answer terms.now why }
 {
     match why {
         Fault::Differ(t) => Verdict::Differ(place(terms, t)),
@@ -157,10 +157,10 @@ fn check_function(
 ) -> Verdict
     requires typeable { Typeable p.now types.now terms.now functions.now nodes.now ws.old }
     requires figured { Figured (map (type_at p.now) types.now) ws.old (length types.now) }
-    requires g_in_bounds { (g < length functions.now) × SignaturesAre p.now functions.now table.now × (scopeBytes ≤ length vars.old) }
-    ensures { (verdictOf result ≡ functionAnswer p.now types.now terms.now functions.now g)
+    requires g_in_bounds { (g < length functions.now) × SignaturesAre p.now functions.now table.now × (scope_bytes ≤ length vars.old) }
+    ensures { (verdict_of result ≡ function_answer p.now types.now terms.now functions.now g)
         × Figured (map (type_at p.now) types.now) ws.new (length types.now)
-        × (scopeBytes ≤ length vars.new) }
+        × (scope_bytes ≤ length vars.new) }
 {
     let row = table[g];
     let at = octets::wide_index(functions[g]);
@@ -191,7 +191,7 @@ fn check_all(
     requires typeable { Typeable p.now types.now terms.now functions.now nodes.now ws.old }
     requires figured { Figured (map (type_at p.now) types.now) ws.old (length types.now) }
     requires signatures_are { SignaturesAre p.now functions.now table.now }
-    ensures { verdictOf result ≡ typingAnswer p.now types.now terms.now functions.now }
+    ensures { verdict_of result ≡ typing_answer p.now types.now terms.now functions.now }
 {
     let mut vars = [0u8; SCOPE_BYTES];
     let mut g = 0;
@@ -222,7 +222,7 @@ pub fn check_functions(
 ) -> Verdict
     requires typeable { Typeable p.now types.now terms.now functions.now nodes.now ws.old }
     requires signatures_are { SignaturesAre p.now functions.now table.now }
-    ensures { verdictOf result ≡ typingAnswer p.now types.now terms.now functions.now }
+    ensures { verdict_of result ≡ typing_answer p.now types.now terms.now functions.now }
 {
     types::aliases::prepare(p, types, terms, ws);
     check_all(p, types, terms, functions, table, nodes, ws)

@@ -1,6 +1,6 @@
 // The type of a term, by the rules' `infer`. `infer` hands the term to the function of its kind; each of these types the term's parts in the
 // written order and makes each test as soon as the parts that it needs are typed. Laws of each kind: proofs/Steps, Unary, Pairing.
-ghost use Rattle.program.specs.Kinds.{pairKind};
+ghost use Rattle.program.specs.Kinds.{pair_kind};
 ghost use Rattle.typing.specs.Asked.{ReadyFor, ReadyAt, ReadyUnary, Infers};
 
 use crate::namings::SCOPE_BYTES;
@@ -63,7 +63,7 @@ fn pair(
     t: u16,
     at: usize,
 ) -> Out
-    requires { ReadyAt p.now types.now terms.now funs.now sigs.now nodes.now ws.old vars.old sc top t at pairKind }
+    requires { ReadyAt p.now types.now terms.now funs.now sigs.now nodes.now ws.old vars.old sc top t at pair_kind }
     ensures { Infers p.now types.now terms.now funs.now
         ws.old ws.new vars.old vars.new sc top t result }
 {

@@ -2,8 +2,8 @@
 // later, has to use it. They stand in a scope's lent bytes, behind the variables' types: only this module knows their layout. Each let
 // settles those of its bound term, which are the ones from the count before it on, up to the count after it. Laws: proofs/Waiting, Settling.
 ghost use Rattle.std.specs.Prelude.{◌≡◌, ◌+◌, ◌*◌, ◌≤◌, ◌<◌, length};
-ghost use Rattle.rules.specs.Limits.{maxTerms, maxVariables};
-ghost use Rattle.typing.specs.Waiting.{scopeBytes, cell_at, countIn, Waits, met, markedIn, helpsIn, Settleable, Settles};
+ghost use Rattle.rules.specs.Limits.{max_terms, max_variables};
+ghost use Rattle.typing.specs.Waiting.{scope_bytes, cell_at, count_in, Waits, met, marked_in, helps_in, Settleable, Settles};
 
 use crate::outcomes::Scope;
 use crate::variables::VARIABLE_BYTES;
@@ -46,31 +46,31 @@ impl Lowest {
 
 // Where naming j begins.
 fn cell(j: u16) -> usize
-    requires { j < maxTerms }
-    ensures { (result ≡ cell_at j) × (result + 4 ≤ scopeBytes) }
+    requires { j < max_terms }
+    ensures { (result ≡ cell_at j) × (result + 4 ≤ scope_bytes) }
 {
     NAMINGS_AT + NAMING_BYTES * octets::wide_index(j)
 }
 
 // No naming waits: what stands behind the count is not looked at.
 pub fn begin(vars: &mut [u8; SCOPE_BYTES])
-    requires { scopeBytes ≤ length vars.old }
-    ensures { (countIn vars.new ≡ 0) × (length vars.new ≡ length vars.old) }
+    requires { scope_bytes ≤ length vars.old }
+    ensures { (count_in vars.new ≡ 0) × (length vars.new ≡ length vars.old) }
 {
     octets::write16(vars, COUNT_AT, 0);
 }
 
 // How many namings there are.
 pub fn count(vars: &[u8; SCOPE_BYTES]) -> u16
-    requires { scopeBytes ≤ length vars.now }
-    ensures { result ≡ countIn vars.now }
+    requires { scope_bytes ≤ length vars.now }
+    ensures { result ≡ count_in vars.now }
 {
     octets::read16(vars, COUNT_AT)
 }
 
 // Variable i is named by term t.
 pub fn wait(vars: &mut [u8; SCOPE_BYTES], i: u8, t: u16)
-    requires { (scopeBytes ≤ length vars.old) × (countIn vars.old < maxTerms) }
+    requires { (scope_bytes ≤ length vars.old) × (count_in vars.old < max_terms) }
     ensures { Waits vars.old vars.new i t }
 {
     let n = count(vars);
@@ -82,8 +82,8 @@ pub fn wait(vars: &mut [u8; SCOPE_BYTES], i: u8, t: u16)
 
 // Does a let in the scope, whose body uses `uses`, help a naming of the variable? Not one that is barred where the let stands.
 fn helped(sc: Scope, uses: Uses, variable: u16) -> bool
-    requires { sc.n ≤ maxVariables }
-    ensures { result ≡ helpsIn sc uses variable }
+    requires { sc.n ≤ max_variables }
+    ensures { result ≡ helps_in sc uses variable }
 {
     if octets::wide16(sc.n) <= variable {
         return false;
@@ -100,8 +100,8 @@ fn helped(sc: Scope, uses: Uses, variable: u16) -> bool
 
 // Could a let further out help it?
 fn waits_on(sc: Scope, variable: u16) -> bool
-    requires { sc.n ≤ maxVariables }
-    ensures { result ≡ markedIn sc variable }
+    requires { sc.n ≤ max_variables }
+    ensures { result ≡ marked_in sc variable }
 {
     if octets::wide16(sc.n) <= variable {
         return false;

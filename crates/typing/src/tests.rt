@@ -1,9 +1,9 @@
 // The tests that typing makes once a part is typed (section 4: "as soon as the parts it needs are typed"). A refusal of the part stands.
 ghost use Rattle.std.specs.Prelude.{◌≡◌, ◌&&◌, ◌+◌, ◌<◌, length};
-ghost use Rattle.rules.specs.Limits.{maxVariables, maxTerms};
+ghost use Rattle.rules.specs.Limits.{max_variables, max_terms};
 ghost use Rattle.types.specs.Codes.{Room, Known, Sources};
 ghost use Rattle.types.specs.Counts.{Counted};
-ghost use Rattle.typing.specs.Ready.{PartKnown, After, AfterBody, Joins, Expects, spentBy, Closes, ClosesOne, ClosesTwo, Meets, Pairs};
+ghost use Rattle.typing.specs.Ready.{PartKnown, After, AfterBody, Joins, Expects, spent_by, Closes, ClosesOne, ClosesTwo, Meets, Pairs};
 ghost use Rattle.typing.specs.Waiting.{Settleable};
 
 use crate::namings::{Lowest, SCOPE_BYTES};
@@ -39,8 +39,8 @@ pub fn expect(p: &[u8], types: &[u16], ws: &[u8], out: Out, want: Code, answer: 
 // Is variable i, of the code's type, used? If its type is exactly unit, it need not be.
 pub fn spent(p: &[u8], types: &[u16], ws: &[u8], top: u32, c: Code, i: u8, uses: Uses) -> bool
     requires sources { Sources p.now types.now ws.now top }
-    requires known { Known (length types.now) top c × (i < maxVariables) }
-    ensures { result ≡ spentBy p.now types.now ws.now c i uses }
+    requires known { Known (length types.now) top c × (i < max_variables) }
+    ensures { result ≡ spent_by p.now types.now ws.now c i uses }
 {
     if types::compare::is_unit(p, types, ws, top, c) {
         return true;
@@ -60,9 +60,9 @@ fn spent_both(
     uses: Uses,
 ) -> bool
     requires sources { Sources p.now types.now ws.now top }
-    requires known { Known (length types.now) top c × Known (length types.now) top d × (i + 1 < maxVariables) }
-    ensures { result ≡ (spentBy p.now types.now ws.now c i uses
-        && spentBy p.now types.now ws.now d (i + 1) uses) }
+    requires known { Known (length types.now) top c × Known (length types.now) top d × (i + 1 < max_variables) }
+    ensures { result ≡ (spent_by p.now types.now ws.now c i uses
+        && spent_by p.now types.now ws.now d (i + 1) uses) }
 {
     if spent(p, types, ws, top, c, i, uses) {
         return spent(p, types, ws, top, d, i + 1, uses);
@@ -124,7 +124,7 @@ pub fn close_one(
     to: u16,
 ) -> Out
     requires part_known { PartKnown p.now types.now ws.now out }
-    requires known { Known (length types.now) out.top c × (sc.n < maxVariables) }
+    requires known { Known (length types.now) out.top c × (sc.n < max_variables) }
     requires settleable { Settleable sc vars.old from to }
     ensures { AfterBody vars.old vars.new out result
         (ClosesOne p.now types.now ws.now vars.old vars.new sc uses c t from to) }
@@ -156,7 +156,7 @@ pub fn close_two(
     to: u16,
 ) -> Out
     requires part_known { PartKnown p.now types.now ws.now out }
-    requires known { Known (length types.now) out.top c × Known (length types.now) out.top d × (sc.n + 1 < maxVariables) }
+    requires known { Known (length types.now) out.top c × Known (length types.now) out.top d × (sc.n + 1 < max_variables) }
     requires settleable { Settleable sc vars.old from to }
     ensures { AfterBody vars.old vars.new out result
         (ClosesTwo p.now types.now ws.now vars.old vars.new sc uses c d t from to) }
@@ -186,7 +186,7 @@ pub fn meet(
     t: u16,
 ) -> Out
     requires part_known { PartKnown p.now types.now ws.now out }
-    requires known { Known (length types.now) out.top left.code × Known (length types.now) out.top d × (i < maxVariables) }
+    requires known { Known (length types.now) out.top left.code × Known (length types.now) out.top d × (i < max_variables) }
     ensures { After out result (Meets p.now types.now ws.now left uses i d owed t) }
 {
     let status = out.status;
@@ -224,7 +224,7 @@ pub fn pair_up(
     requires part_known { PartKnown p.now types.now ws.old out }
     requires known { Known (length types.now) out.top left.code }
     requires counted { Counted p.now types.now nodes.now }
-    requires room { Room ws.old (out.top + 1) × (out.top < maxTerms) }
+    requires room { Room ws.old (out.top + 1) × (out.top < max_terms) }
     ensures { Pairs p.now types.now ws.old ws.new left t out result }
 {
     let status = out.status;

@@ -1,9 +1,9 @@
 // The types of the variables in scope, as codes in lent bytes, six bytes each: only this module knows their layout.
 ghost use Rattle.std.specs.Prelude.{◌≡◌, ◌*◌, ◌≤◌, ◌<◌, length};
-ghost use Rattle.rules.specs.Limits.{maxTerms, maxVariables};
+ghost use Rattle.rules.specs.Limits.{max_terms, max_variables};
 ghost use Rattle.types.specs.Codes.{Known};
-ghost use Rattle.typing.specs.Ready.{variableAt, Scoped, Reads, Seen, Widened, MarkedScope};
-ghost use Rattle.typing.specs.Waiting.{variableBytes, scopeBytes, countIn};
+ghost use Rattle.typing.specs.Ready.{variable_at, Scoped, Reads, Seen, Widened, MarkedScope};
+ghost use Rattle.typing.specs.Waiting.{variable_bytes, scope_bytes, count_in};
 
 use crate::namings::SCOPE_BYTES;
 use crate::outcomes::{Found, Out, Scope, Status};
@@ -14,22 +14,22 @@ use varsets::Uses;
 pub const VARIABLE_BYTES: usize = 6;
 
 fn slot(i: u8) -> usize
-    requires { i < maxVariables }
-    ensures { (result ≡ variableBytes * i) × (result < variableBytes * maxVariables) }
+    requires { i < max_variables }
+    ensures { (result ≡ variable_bytes * i) × (result < variable_bytes * max_variables) }
 {
     VARIABLE_BYTES * octets::wide_index(octets::wide16(i))
 }
 
 fn code_of(vars: &[u8; SCOPE_BYTES], i: u8) -> Code
-    requires { (i < maxVariables) × (variableBytes * maxVariables ≤ length vars.now) }
-    ensures { result ≡ variableAt vars.now i }
+    requires { (i < max_variables) × (variable_bytes * max_variables ≤ length vars.now) }
+    ensures { result ≡ variable_at vars.now i }
 {
     types::nodes::code_at(vars, slot(i))
 }
 
 // A variable that may be named.
 fn named(vars: &[u8; SCOPE_BYTES], top: u32, i: u8) -> Out
-    requires { (i < maxVariables) × (variableBytes * maxVariables ≤ length vars.now) }
+    requires { (i < max_variables) × (variable_bytes * max_variables ≤ length vars.now) }
     ensures { Reads vars.now top i result }
 {
     let code = code_of(vars, i);
@@ -42,7 +42,7 @@ fn named(vars: &[u8; SCOPE_BYTES], top: u32, i: u8) -> Out
 
 // Variable i as a term: its type, unless it is not in scope, or barred. A barred one whose naming a let could help waits.
 pub fn variable(vars: &mut [u8; SCOPE_BYTES], sc: Scope, top: u32, t: u16, i: u8) -> Out
-    requires { (sc.n ≤ maxVariables) × (scopeBytes ≤ length vars.old) × (countIn vars.old < maxTerms) }
+    requires { (sc.n ≤ max_variables) × (scope_bytes ≤ length vars.old) × (count_in vars.old < max_terms) }
     ensures { Seen vars.old vars.new sc top t i result }
 {
     if sc.n <= i {
@@ -64,7 +64,7 @@ pub fn variable(vars: &mut [u8; SCOPE_BYTES], sc: Scope, top: u32, t: u16, i: u8
 
 // The scope of the bound term of a let: a let could help every dynamic variable.
 pub fn marked(sc: Scope) -> Scope
-    requires { (sc.lo ≤ sc.n) × (sc.n < maxVariables) }
+    requires { (sc.lo ≤ sc.n) × (sc.n < max_variables) }
     ensures { MarkedScope sc result }
 {
     let older = sc.marks;
@@ -91,7 +91,7 @@ pub fn bind(
     c: Code,
 ) -> Scope
     requires scoped { Scoped p.now types.now ws.now vars.old sc top }
-    requires known { Known (length types.now) top c × (sc.n < maxVariables) }
+    requires known { Known (length types.now) top c × (sc.n < max_variables) }
     ensures { Widened p.now types.now ws.now vars.old vars.new sc top c result }
 {
     let n = sc.n;

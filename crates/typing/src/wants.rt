@@ -4,8 +4,8 @@ ghost use Rattle.std.specs.Prelude.{◌≡◌, false, map, ◌≤◌, ◌<◌, l
 ghost use Rattle.std.proofs.Math.Bool.{true};
 ghost use Rattle.calls.specs.Entries.{type_at, type_of};
 ghost use Rattle.calls.specs.Named.{closed};
-ghost use Rattle.program.specs.Kinds.{inlKind, inrKind, rollKind, unrollKind};
-ghost use Rattle.types.specs.Codes.{unitCode, Sources};
+ghost use Rattle.program.specs.Kinds.{inl_kind, inr_kind, roll_kind, unroll_kind};
+ghost use Rattle.types.specs.Codes.{unit_code, Sources};
 ghost use Rattle.types.specs.Counts.{Counted};
 ghost use Rattle.typing.specs.Wants.{unary, Wants};
 
@@ -41,7 +41,7 @@ pub fn is_unary(kind: u8) -> bool
 
 // The type that a term names is not as its kind asks.
 fn unmet() -> Wanted
-    ensures { result ≡ record { met = false; part = unitCode; whole = unitCode } }
+    ensures { result ≡ record { met = false; part = unit_code; whole = unit_code } }
 {
     let none = codes::unit();
     Wanted {
@@ -54,7 +54,7 @@ fn unmet() -> Wanted
 // Of inl or inr, which names the type entry `i`.
 fn injection(p: &[u8], types: &[u16], ws: &[u8], top: u32, i: u16, kind: u8) -> Wanted
     requires sources { Sources p.now types.now ws.now top × (i < length types.now) }
-    requires inl_kind_le_kind { (inlKind ≤ kind) × (kind ≤ inrKind) }
+    requires inl_kind_le_kind { (inl_kind ≤ kind) × (kind ≤ inr_kind) }
     ensures { Wants p.now types.now ws.now top i kind result }
 {
     let whole = codes::entry(i);
@@ -91,7 +91,7 @@ fn folding(
 ) -> Wanted
     requires sources { Sources p.now types.now ws.now top × (i < length types.now) }
     requires counted { Counted p.now types.now nodes.now × (closed 0 (type_of (map (type_at p.now) types.now) i) ≡ true) }
-    requires roll_kind_le_kind { (rollKind ≤ kind) × (kind ≤ unrollKind) }
+    requires roll_kind_le_kind { (roll_kind ≤ kind) × (kind ≤ unroll_kind) }
     ensures { Wants p.now types.now ws.now top i kind result }
 {
     let whole = codes::entry(i);

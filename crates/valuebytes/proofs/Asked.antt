@@ -9,96 +9,96 @@ use lib.ListN.{length, get_or, set, replicate, length-map, length-set, length-re
 use package.Rattle.rules.specs.Val.{size}
 use package.Rattle.rules.specs.Ty.{Ty}
 use package.Rattle.rules.proofs.Basics.{given}
-use package.Rattle.rules.specs.Limits.{maxValueBytes}
+use package.Rattle.rules.specs.Limits.{max_value_bytes}
 use package.Rattle.calls.specs.Answer.{accepted}
 use package.Rattle.calls.specs.Fields.{Layout, layout}
 use package.Rattle.calls.specs.Entries.{type_at, type_of}
-use package.Rattle.calls.specs.Named.{plain, testTypes}
+use package.Rattle.calls.specs.Named.{plain, test_types}
 use package.Rattle.calls.specs.Values.{value, has_ty}
-use package.Rattle.calls.proofs.Entries.{lower, plain-iff}
+use package.Rattle.calls.proofs.Entries.{lower, plain_iff}
 use package.Rattle.calls.specs.Tested.{closed}
 use package.Rattle.program.proofs.Inside.{formed}
 use package.Rattle.valuebytes.specs.declared.typed.Step.{Step}
 use package.Rattle.valuebytes.specs.declared.typed.Step.TheVariants as step
 use package.Rattle.valuebytes.specs.Ends.{first_of, is_value}
-use package.Rattle.valuebytes.specs.Scopes.{plugs, typeUnder}
-use package.Rattle.valuebytes.specs.Typing.{entriesOf, TypesRead, room, Bound, valueHas, nextIf, next_of}
+use package.Rattle.valuebytes.specs.Scopes.{plugs, type_under}
+use package.Rattle.valuebytes.specs.Typing.{entries_of, TypesRead, room, Bound, value_has, next_if, next_of}
 use package.Rattle.valuebytes.specs.Stack.{Stack}
-use package.Rattle.valuebytes.proofs.Whole.{whole, first-whole}
-use package.Rattle.valuebytes.proofs.Plugs.{plugs-none}
-use package.Rattle.valuebytes.proofs.Cells.{scope-none}
+use package.Rattle.valuebytes.proofs.Whole.{whole, first_whole}
+use package.Rattle.valuebytes.proofs.Plugs.{plugs_none}
+use package.Rattle.valuebytes.proofs.Cells.{scope_none}
 
 -- the types of a program whose fields were read, and that name lower ones
-pub table : (xs : List ℕ) (L : Layout) → layout xs ≡ accepted L → testTypes L 0 (entriesOf xs L.types) ≡ accepted tt → TypesRead xs L.types
-table xs L e t = record { field = (formed xs e).types; lower = lower L (entriesOf xs L.types) t }
+pub table : (xs : List ℕ) (L : Layout) → layout xs ≡ accepted L → test_types L 0 (entries_of xs L.types) ≡ accepted tt → TypesRead xs L.types
+table xs L e t = record { field = (formed xs e).types; lower = lower L (entries_of xs L.types) t }
 
 ----------------------------------------------------------------
 -- Under no cell
 
-module _ (xs os : List ℕ) (T : TypesRead xs os) (i : ℕ) (l : i < length os) (p : plain (entriesOf xs os) i ≡ true) where
-  closed-entry : closed 0 (type_of (entriesOf xs os) i) ≡ true
-  closed-entry = ((plain-iff (entriesOf xs os) i).0 p).0
+module _ (xs os : List ℕ) (T : TypesRead xs os) (i : ℕ) (l : i < length os) (p : plain (entries_of xs os) i ≡ true) where
+  closed-entry : closed 0 (type_of (entries_of xs os) i) ≡ true
+  closed-entry = ((plain_iff (entries_of xs os) i).0 p).0
 
   -- the entry alone is written to both tables, which are zero
   module _ (binders outer : List ℕ) {entries cells : List ℕ} (we : entries ≡ set (replicate room 0) 0 i) (wc : cells ≡ set (replicate room 0) 0 0) where
     at-entries : get_or entries 0 0 ≡ i
-    unfolding maxValueBytes
+    unfolding max_value_bytes
     at-entries = ap (λ l. get_or l 0 0) we
 
     at_cells : get_or cells 0 0 ≡ 0
-    unfolding maxValueBytes
+    unfolding max_value_bytes
     at_cells = ap (λ l. get_or l 0 0) wc
 
     pub stack-start : length binders ≡ room → length outer ≡ room → Stack xs os binders outer entries cells 0 1
     stack-start b o = record {
       table = T;
-      cells-to = record { cell = λ e p l. absurd (omega arith) };
+      cells_to = record { cell = λ e p l. absurd (omega arith) };
       bound = λ k h. first k h;
-      long-binders = b;
-      long-outer = o;
-      long-entries = ap length we ∙ length-set {A = ℕ} (replicate room 0) 0 i ∙ length-replicate {A = ℕ} room 0;
-      long-cells = ap length wc ∙ length-set {A = ℕ} (replicate room 0) 0 0 ∙ length-replicate {A = ℕ} room 0;
+      long_binders = b;
+      long_outer = o;
+      long_entries = ap length we ∙ length-set {A = ℕ} (replicate room 0) 0 i ∙ length-replicate {A = ℕ} room 0;
+      long_cells = ap length wc ∙ length-set {A = ℕ} (replicate room 0) 0 0 ∙ length-replicate {A = ℕ} room 0;
     }
       where
         here : Bound xs os binders outer 0 0 i
         here = record {
           known = l;
           within = omega arith;
-          closes = subst (λ σ. closed (length σ) (type_of (entriesOf xs os) i) ≡ true) (sym (scope-none (entriesOf xs os) binders outer)) closed-entry;
+          closes = subst (λ σ. closed (length σ) (type_of (entries_of xs os) i) ≡ true) (sym (scope_none (entries_of xs os) binders outer)) closed-entry;
         }
 
         first : (k : ℕ) → k < 1 → Bound xs os binders outer 0 (get_or cells k 0) (get_or entries k 0)
         first zero h = subst (λ e. Bound xs os binders outer 0 e (get_or entries 0 0)) (sym at_cells) (subst (Bound xs os binders outer 0 0) (sym at-entries) here)
         first (suc k) h = absurd (omega arith)
 
-    pub type-start : typeUnder (entriesOf xs os) binders outer (get_or cells 0 0) (get_or entries 0 0) ≡ type_of (entriesOf xs os) i
-    unfolding typeUnder
+    pub type-start : type_under (entries_of xs os) binders outer (get_or cells 0 0) (get_or entries 0 0) ≡ type_of (entries_of xs os) i
+    unfolding type_under
     type-start =
-        ap₂ (λ e i. typeUnder (entriesOf xs os) binders outer e i) at_cells at-entries
-        ∙ ap (λ σ. plugs 0 σ (type_of (entriesOf xs os) i)) (scope-none (entriesOf xs os) binders outer)
-        ∙ plugs-none 0 (type_of (entriesOf xs os) i) closed-entry
+        ap₂ (λ e i. type_under (entries_of xs os) binders outer e i) at_cells at-entries
+        ∙ ap (λ σ. plugs 0 σ (type_of (entries_of xs os) i)) (scope_none (entries_of xs os) binders outer)
+        ∙ plugs_none 0 (type_of (entries_of xs os) i) closed-entry
 
 ----------------------------------------------------------------
 -- All of the bytes
 
 module _ (s : List ℕ) (e : is_value s ≡ true) (c : Ty) where
-  all-by : (P : Step → Bool → Type 0) → ((b : Bool) (n : ℕ) → P (nextIf b n) b) → P (next_of 0 (first_of s) c) (valueHas (value s) c)
-  unfolding next_of valueHas
-  all-by P f = given (whole s e) λ (v, w).
-      subst (λ o. P (next_of 0 (first_of s) c) (valueHas o c)) (sym w.is)
-      (subst (λ r. P (next_of 0 r c) (has_ty v c)) (sym (first-whole w))
-      (subst (λ b. P (nextIf (b && has_ty v c) (0 + size v)) (has_ty v c)) (sym w.small) (f (has_ty v c) (0 + size v))))
+  all_by : (P : Step → Bool → Type 0) → ((b : Bool) (n : ℕ) → P (next_if b n) b) → P (next_of 0 (first_of s) c) (value_has (value s) c)
+  unfolding next_of value_has
+  all_by P f = given (whole s e) λ (v, w).
+      subst (λ o. P (next_of 0 (first_of s) c) (value_has o c)) (sym w.is)
+      (subst (λ r. P (next_of 0 r c) (has_ty v c)) (sym (first_whole w))
+      (subst (λ b. P (next_if (b && has_ty v c) (0 + size v)) (has_ty v c)) (sym w.small) (f (has_ty v c) (0 + size v))))
 
-  pub all_yes : (n : ℕ) → step.Next n ≡ next_of 0 (first_of s) c → true ≡ valueHas (value s) c
-  all_yes n = all-by (λ r b. step.Next n ≡ r → true ≡ b) go
+  pub all_yes : (n : ℕ) → step.Next n ≡ next_of 0 (first_of s) c → true ≡ value_has (value s) c
+  all_yes n = all_by (λ r b. step.Next n ≡ r → true ≡ b) go
     where
-      go : (b : Bool) (m : ℕ) → step.Next n ≡ nextIf b m → true ≡ b
+      go : (b : Bool) (m : ℕ) → step.Next n ≡ next_if b m → true ≡ b
       go true m q = refl
       go false m q = absurd (let z : ◌≡◌ {A = ℕ} 0 1 = cc in omega arith)
 
-  pub all-no : step.Other ≡ next_of 0 (first_of s) c → false ≡ valueHas (value s) c
-  all-no = all-by (λ r b. step.Other ≡ r → false ≡ b) go
+  pub all-no : step.Other ≡ next_of 0 (first_of s) c → false ≡ value_has (value s) c
+  all-no = all_by (λ r b. step.Other ≡ r → false ≡ b) go
     where
-      go : (b : Bool) (m : ℕ) → step.Other ≡ nextIf b m → false ≡ b
+      go : (b : Bool) (m : ℕ) → step.Other ≡ next_if b m → false ≡ b
       go true m q = absurd (let z : ◌≡◌ {A = ℕ} 0 1 = cc in omega arith)
       go false m q = refl

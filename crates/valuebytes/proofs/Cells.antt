@@ -13,17 +13,17 @@ use package.Rattle.calls.specs.Fields.{kind_at}
 use package.Rattle.calls.specs.Entries.{TypeEntry, type_of}
 use package.Rattle.calls.specs.Tested.{closed}
 use package.Rattle.program.specs.Parts.{variable}
-use package.Rattle.program.specs.Kinds.{recursiveKind, typeVariableKind}
+use package.Rattle.program.specs.Kinds.{recursive_kind, type_variable_kind}
 use package.Rattle.valuebytes.specs.declared.typed.Scoped.{Scoped}
-use package.Rattle.valuebytes.specs.Scopes.{plugs, outward, scopeBelow, scope_of, typeUnder}
-use package.Rattle.valuebytes.specs.Typing.{entriesOf, TypesRead, Cell, Cells, Bound, Resolved}
+use package.Rattle.valuebytes.specs.Scopes.{plugs, outward, scope_below, scope_of, type_under}
+use package.Rattle.valuebytes.specs.Typing.{entries_of, TypesRead, Cell, Cells, Bound, Resolved}
 use package.Rattle.valuebytes.proofs.Plugs.{plugs-var}
 use package.Rattle.valuebytes.proofs.Scopes.{Kept, kept_at, scope_kept, scope-unfolds}
 use package.Rattle.valuebytes.proofs.Trees.{tree-var}
 
-pub scope-none : (ys : List TypeEntry) (binders outer : List ℕ) → scope_of ys binders outer 0 ≡ []
-unfolding scope_of scopeBelow
-scope-none ys binders outer = refl
+pub scope_none : (ys : List TypeEntry) (binders outer : List ℕ) → scope_of ys binders outer 0 ≡ []
+unfolding scope_of scope_below
+scope_none ys binders outer = refl
 
 pub outward-start : (outer : List ℕ) (cell : ℕ) → cell ≡ outward 0 outer cell
 unfolding outward
@@ -39,10 +39,10 @@ outward-turn n outer cell e i p q = ap (λ i. get_or outer i 0) (q ∙ p) ∙ ap
 
 module _ (xs os binders outer : List ℕ) (cell : ℕ) (C : Cells xs os binders outer cell) where
   abbrev scope : ℕ → List Ty
-  scope e = scope_of (entriesOf xs os) binders outer e
+  scope e = scope_of (entries_of xs os) binders outer e
 
-  unfolds : (e : ℕ) → 0 < e → e ≤ cell → scope e ≡ typeUnder (entriesOf xs os) binders outer (get_or outer e 0) (get_or binders e 0) ∷ scope (get_or outer e 0)
-  unfolds = scope-unfolds (entriesOf xs os) binders outer cell λ e p l. (C.cell e p l).lower
+  unfolds : (e : ℕ) → 0 < e → e ≤ cell → scope e ≡ type_under (entries_of xs os) binders outer (get_or outer e 0) (get_or binders e 0) ∷ scope (get_or outer e 0)
+  unfolds = scope-unfolds (entries_of xs os) binders outer cell λ e p l. (C.cell e p l).lower
 
   -- cell `e`, with `n` cells still to be skipped, names what variable `k` does from `cell`
   pub record Skipping (k e n : ℕ) : Type 0 where
@@ -51,13 +51,13 @@ module _ (xs os binders outer : List ℕ) (cell : ℕ) (C : Cells xs os binders 
     pub named : get_or (scope cell) k one ≡ get_or (scope e) n one
 
   in_scope : (e n : ℕ) → n < length (scope e) → 0 < e
-  in_scope zero n h = absurd (omega (arith, ap length (scope-none (entriesOf xs os) binders outer)))
+  in_scope zero n h = absurd (omega (arith, ap length (scope_none (entries_of xs os) binders outer)))
   in_scope (suc e) n h = omega arith
 
   -- one cell is skipped
-  pub skip-turn : (k e n : ℕ) → Skipping k e n → 0 < n → Skipping k (get_or outer e 0) (n - 1)
-  skip-turn k e zero S pos = absurd (omega arith)
-  skip-turn k e (suc n) S pos =
+  pub skip_turn : (k e n : ℕ) → Skipping k e n → 0 < n → Skipping k (get_or outer e 0) (n - 1)
+  skip_turn k e zero S pos = absurd (omega arith)
+  skip_turn k e (suc n) S pos =
       let p : 0 < e = in_scope e (suc n) S.deep in
       let m : suc n - 1 ≡ n = omega arith in
       let low : get_or outer e 0 < e = (C.cell e p S.within).lower in
@@ -75,16 +75,16 @@ module _ (xs os binders outer : List ℕ) (cell : ℕ) (C : Cells xs os binders 
       let m : k ≡ k - 0 = omega arith in
       record { within = omega arith; deep = omega arith; named = ap (λ n. get_or (scope cell) n one) m }
   skipping k deep (suc n) h = subst (λ m. Skipping k (get_or outer (outward n outer cell) 0) m) (let z : k - n - 1 ≡ k - suc n = omega arith in z)
-      (skip-turn k (outward n outer cell) (k - n) (skipping k deep n (omega arith)) (omega arith))
+      (skip_turn k (outward n outer cell) (k - n) (skipping k deep n (omega arith)) (omega arith))
 
   -- every cell on the way is within
   pub outward-within : (k : ℕ) → k < length (scope cell) → (n : ℕ) → n ≤ k → (0 < outward n outer cell) × (outward n outer cell ≤ cell)
   outward-within k deep n h = let S = skipping k deep n h in (in_scope _ (k - n) S.deep, S.within)
 
   -- what variable `k` names
-  pub outward-named : (k : ℕ) → k < length (scope cell)
-      → get_or (scope cell) k one ≡ typeUnder (entriesOf xs os) binders outer (get_or outer (outward k outer cell) 0) (get_or binders (outward k outer cell) 0)
-  outward-named k deep =
+  pub outward_named : (k : ℕ) → k < length (scope cell)
+      → get_or (scope cell) k one ≡ type_under (entries_of xs os) binders outer (get_or outer (outward k outer cell) 0) (get_or binders (outward k outer cell) 0)
+  outward_named k deep =
       let S = skipping k deep k (omega arith) in
       let w = outward-within k deep k (omega arith) in
       S.named ∙ ap (λ n. get_or (scope (outward k outer cell)) n one) (let z : k - k ≡ 0 = omega arith in z)
@@ -101,51 +101,51 @@ module _ (xs os binders outer : List ℕ) (t : Scoped) (T : TypesRead xs os) (C 
   pub variable-within : (k : ℕ) → k ≡ variable xs (get_or os t.entry 0) → 4 ≤ kind_at xs (get_or os t.entry 0)
       → (n : ℕ) → n ≤ k → (0 < outward n outer t.cell) × (outward n outer t.cell ≤ t.cell)
   variable-within k e h n l =
-      let deep : variable xs (get_or os t.entry 0) < length (scope_of (entriesOf xs os) binders outer t.cell) = variable-deep xs os binders outer t.cell C t.entry T B h in
+      let deep : variable xs (get_or os t.entry 0) < length (scope_of (entries_of xs os) binders outer t.cell) = variable-deep xs os binders outer t.cell C t.entry T B h in
       outward-within xs os binders outer t.cell C k (omega arith) n l
 
-  pub resolved-shown : kind_at xs (get_or os t.entry 0) < typeVariableKind → Resolved xs os binders outer t t
+  pub resolved-shown : kind_at xs (get_or os t.entry 0) < type_variable_kind → Resolved xs os binders outer t t
   resolved-shown h = record { bound = B; shown = h; same = refl }
 
   -- the entry and the outer cell of the cell that a variable names
   pub resolved : 4 ≤ kind_at xs (get_or os t.entry 0) → (e : ℕ) → e ≡ outward (variable xs (get_or os t.entry 0)) outer t.cell
       → Resolved xs os binders outer t (record { entry = get_or binders e 0; cell = get_or outer e 0 })
-  unfolding typeUnder
+  unfolding type_under
   resolved h e p =
-      let σ = scope_of (entriesOf xs os) binders outer t.cell in
+      let σ = scope_of (entries_of xs os) binders outer t.cell in
       let k = variable xs (get_or os t.entry 0) in
       let deep = variable-deep xs os binders outer t.cell C t.entry T B h in
       let w : (0 < e) × (e ≤ t.cell) = subst (λ e. (0 < e) × (e ≤ t.cell)) (sym p) (outward-within xs os binders outer t.cell C k deep k (omega arith)) in
       let c = C.cell e w.0 w.1 in
       let low : get_or outer e 0 < e = c.lower in
-      let kind : kind_at xs (get_or os (get_or binders e 0) 0) ≡ recursiveKind = c.recursive in
+      let kind : kind_at xs (get_or os (get_or binders e 0) 0) ≡ recursive_kind = c.recursive in
       record {
         bound = record { known = c.known; within = omega arith; closes = c.closes };
         shown = omega arith;
-        same = sym (ap (plugs 0 σ) (tree-var xs os T t.entry B.known h) ∙ plugs-var σ k ∙ outward-named xs os binders outer t.cell C k deep
-            ∙ ap (λ e. typeUnder (entriesOf xs os) binders outer (get_or outer e 0) (get_or binders e 0)) (sym p));
+        same = sym (ap (plugs 0 σ) (tree-var xs os T t.entry B.known h) ∙ plugs-var σ k ∙ outward_named xs os binders outer t.cell C k deep
+            ∙ ap (λ e. type_under (entries_of xs os) binders outer (get_or outer e 0) (get_or binders e 0)) (sym p));
       }
 
 ----------------------------------------------------------------
 -- Cells that are kept
 
 module _ (xs os binders outer binders' outer' : List ℕ) (top : ℕ) (C : Cells xs os binders outer top) (kb : Kept top binders binders') (ko : Kept top outer outer') where
-  same-scope : (e : ℕ) → e ≤ top → scope_of (entriesOf xs os) binders' outer' e ≡ scope_of (entriesOf xs os) binders outer e
-  same-scope = scope_kept (entriesOf xs os) binders outer top (λ e p l. (C.cell e p l).lower) binders' outer' kb ko
+  same-scope : (e : ℕ) → e ≤ top → scope_of (entries_of xs os) binders' outer' e ≡ scope_of (entries_of xs os) binders outer e
+  same-scope = scope_kept (entries_of xs os) binders outer top (λ e p l. (C.cell e p l).lower) binders' outer' kb ko
 
-  pub under-kept : (e i : ℕ) → e ≤ top → typeUnder (entriesOf xs os) binders' outer' e i ≡ typeUnder (entriesOf xs os) binders outer e i
-  unfolding typeUnder
-  under-kept e i l = ap (λ σ. plugs 0 σ (type_of (entriesOf xs os) i)) (same-scope e l)
+  pub under-kept : (e i : ℕ) → e ≤ top → type_under (entries_of xs os) binders' outer' e i ≡ type_under (entries_of xs os) binders outer e i
+  unfolding type_under
+  under-kept e i l = ap (λ σ. plugs 0 σ (type_of (entries_of xs os) i)) (same-scope e l)
 
   pub bound-kept : (e i : ℕ) → Bound xs os binders outer top e i → Bound xs os binders' outer' top e i
   bound-kept e i B = record {
     known = B.known;
     within = B.within;
-    closes = subst (λ σ. closed (length σ) (type_of (entriesOf xs os) i) ≡ true) (sym (same-scope e B.within)) B.closes;
+    closes = subst (λ σ. closed (length σ) (type_of (entries_of xs os) i) ≡ true) (sym (same-scope e B.within)) B.closes;
   }
 
-  pub cells-kept : Cells xs os binders' outer' top
-  cells-kept = record {
+  pub cells_kept : Cells xs os binders' outer' top
+  cells_kept = record {
     cell = λ e p l.
         let c = C.cell e p l in
         let b : get_or binders e 0 ≡ get_or binders' e 0 = sym (kept_at top binders binders' kb e l) in
@@ -154,10 +154,10 @@ module _ (xs os binders outer binders' outer' : List ℕ) (top : ℕ) (C : Cells
         record {
           lower = subst (λ n. n < e) o low;
           known = subst (λ n. n < length os) b c.known;
-          recursive = subst (λ n. kind_at xs (get_or os n 0) ≡ recursiveKind) b c.recursive;
-          closes = subst (λ n. closed (length (scope_of (entriesOf xs os) binders' outer' n)) (type_of (entriesOf xs os) (get_or binders' e 0)) ≡ true) o
-              (subst (λ σ. closed (length σ) (type_of (entriesOf xs os) (get_or binders' e 0)) ≡ true) (sym (same-scope (get_or outer e 0) (omega arith)))
-              (subst (λ n. closed (length (scope_of (entriesOf xs os) binders outer (get_or outer e 0))) (type_of (entriesOf xs os) n) ≡ true) b c.closes));
+          recursive = subst (λ n. kind_at xs (get_or os n 0) ≡ recursive_kind) b c.recursive;
+          closes = subst (λ n. closed (length (scope_of (entries_of xs os) binders' outer' n)) (type_of (entries_of xs os) (get_or binders' e 0)) ≡ true) o
+              (subst (λ σ. closed (length σ) (type_of (entries_of xs os) (get_or binders' e 0)) ≡ true) (sym (same-scope (get_or outer e 0) (omega arith)))
+              (subst (λ n. closed (length (scope_of (entries_of xs os) binders outer (get_or outer e 0))) (type_of (entries_of xs os) n) ≡ true) b c.closes));
         };
   }
 
@@ -172,36 +172,36 @@ module _ (xs os binders outer : List ℕ) (top cell entry : ℕ) (C : Cells xs o
   abbrev outer⁺ : List ℕ
   outer⁺ = set outer (top + 1) cell
 
-  binders-push : Kept top binders binders⁺
-  binders-push = take-set-le (suc top) binders (top + 1) entry (omega arith)
+  binders_push : Kept top binders binders⁺
+  binders_push = take-set-le (suc top) binders (top + 1) entry (omega arith)
 
   outer-push : Kept top outer outer⁺
   outer-push = take-set-le (suc top) outer (top + 1) cell (omega arith)
 
-  new-binder : get_or binders⁺ (top + 1) 0 ≡ entry
-  new-binder = get_or-set_same binders (top + 1) entry 0 long
+  new_binder : get_or binders⁺ (top + 1) 0 ≡ entry
+  new_binder = get_or-set_same binders (top + 1) entry 0 long
 
   new-outer : get_or outer⁺ (top + 1) 0 ≡ cell
   new-outer = get_or-set_same outer (top + 1) cell 0 long'
 
   old : Cells xs os binders⁺ outer⁺ top
-  old = cells-kept xs os binders outer binders⁺ outer⁺ top C binders-push outer-push
+  old = cells_kept xs os binders outer binders⁺ outer⁺ top C binders_push outer-push
 
   bound⁺ : Bound xs os binders⁺ outer⁺ top cell entry
-  bound⁺ = bound-kept xs os binders outer binders⁺ outer⁺ top C binders-push outer-push cell entry B
+  bound⁺ = bound-kept xs os binders outer binders⁺ outer⁺ top C binders_push outer-push cell entry B
 
-  pub cells-push : kind_at xs (get_or os entry 0) ≡ recursiveKind → Cells xs os binders⁺ outer⁺ (top + 1)
-  cells-push k = record { cell = λ e p l. go e p l (dec_lt top e) }
+  pub cells_push : kind_at xs (get_or os entry 0) ≡ recursive_kind → Cells xs os binders⁺ outer⁺ (top + 1)
+  cells_push k = record { cell = λ e p l. go e p l (dec_lt top e) }
     where
       last : Cell xs os binders⁺ outer⁺ (top + 1)
       last =
           let w : cell ≤ top = B.within in
           record {
             lower = subst (λ n. n < top + 1) (sym new-outer) (omega arith);
-            known = subst (λ n. n < length os) (sym new-binder) B.known;
-            recursive = subst (λ n. kind_at xs (get_or os n 0) ≡ recursiveKind) (sym new-binder) k;
-            closes = subst (λ n. closed (length (scope_of (entriesOf xs os) binders⁺ outer⁺ n)) (type_of (entriesOf xs os) (get_or binders⁺ (top + 1) 0)) ≡ true) (sym new-outer)
-                (subst (λ n. closed (length (scope_of (entriesOf xs os) binders⁺ outer⁺ cell)) (type_of (entriesOf xs os) n) ≡ true) (sym new-binder) bound⁺.closes);
+            known = subst (λ n. n < length os) (sym new_binder) B.known;
+            recursive = subst (λ n. kind_at xs (get_or os n 0) ≡ recursive_kind) (sym new_binder) k;
+            closes = subst (λ n. closed (length (scope_of (entries_of xs os) binders⁺ outer⁺ n)) (type_of (entries_of xs os) (get_or binders⁺ (top + 1) 0)) ≡ true) (sym new-outer)
+                (subst (λ n. closed (length (scope_of (entries_of xs os) binders⁺ outer⁺ cell)) (type_of (entries_of xs os) n) ≡ true) (sym new_binder) bound⁺.closes);
           }
 
       go : (e : ℕ) → 0 < e → e ≤ top + 1 → Dec (top < e) → Cell xs os binders⁺ outer⁺ e
@@ -209,11 +209,11 @@ module _ (xs os binders outer : List ℕ) (top cell entry : ℕ) (C : Cells xs o
       go e p l (yes h) = subst (λ e. Cell xs os binders⁺ outer⁺ e) (let z : top + 1 ≡ e = omega arith in z) last
 
   -- the new cell's scope
-  pub scope-push : kind_at xs (get_or os entry 0) ≡ recursiveKind
-      → scope_of (entriesOf xs os) binders⁺ outer⁺ (top + 1) ≡ typeUnder (entriesOf xs os) binders outer cell entry ∷ scope_of (entriesOf xs os) binders outer cell
+  pub scope-push : kind_at xs (get_or os entry 0) ≡ recursive_kind
+      → scope_of (entries_of xs os) binders⁺ outer⁺ (top + 1) ≡ type_under (entries_of xs os) binders outer cell entry ∷ scope_of (entries_of xs os) binders outer cell
   scope-push k =
-      scope-unfolds (entriesOf xs os) binders⁺ outer⁺ (top + 1) (λ e p l. ((cells-push k).cell e p l).lower) (top + 1) (omega arith) (omega arith)
-      ∙ ap (λ e. typeUnder (entriesOf xs os) binders⁺ outer⁺ e (get_or binders⁺ (top + 1) 0) ∷ scope_of (entriesOf xs os) binders⁺ outer⁺ e) new-outer
-      ∙ ap (λ i. typeUnder (entriesOf xs os) binders⁺ outer⁺ cell i ∷ scope_of (entriesOf xs os) binders⁺ outer⁺ cell) new-binder
-      ∙ ap (λ c. c ∷ scope_of (entriesOf xs os) binders⁺ outer⁺ cell) (under-kept xs os binders outer binders⁺ outer⁺ top C binders-push outer-push cell entry B.within)
-      ∙ ap (λ σ. typeUnder (entriesOf xs os) binders outer cell entry ∷ σ) (same-scope xs os binders outer binders⁺ outer⁺ top C binders-push outer-push cell B.within)
+      scope-unfolds (entries_of xs os) binders⁺ outer⁺ (top + 1) (λ e p l. ((cells_push k).cell e p l).lower) (top + 1) (omega arith) (omega arith)
+      ∙ ap (λ e. type_under (entries_of xs os) binders⁺ outer⁺ e (get_or binders⁺ (top + 1) 0) ∷ scope_of (entries_of xs os) binders⁺ outer⁺ e) new-outer
+      ∙ ap (λ i. type_under (entries_of xs os) binders⁺ outer⁺ cell i ∷ scope_of (entries_of xs os) binders⁺ outer⁺ cell) new_binder
+      ∙ ap (λ c. c ∷ scope_of (entries_of xs os) binders⁺ outer⁺ cell) (under-kept xs os binders outer binders⁺ outer⁺ top C binders_push outer-push cell entry B.within)
+      ∙ ap (λ σ. type_under (entries_of xs os) binders outer cell entry ∷ σ) (same-scope xs os binders outer binders⁺ outer⁺ top C binders_push outer-push cell B.within)

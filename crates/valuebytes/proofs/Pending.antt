@@ -38,10 +38,10 @@ bytes_of (suc (suc (suc zero)) ∷ xs) (suc n) = more 1 (bytes_of xs (suc (suc n
 bytes_of (suc (suc (suc (suc zero))) ∷ xs) (suc n) = more 1 (bytes_of xs (suc n))
 bytes_of (suc (suc (suc (suc (suc b)))) ∷ xs) (suc n) = none
 
-pub bytes-none : (xs : List ℕ) → bytes_of xs 0 ≡ some 0
+pub bytes_none : (xs : List ℕ) → bytes_of xs 0 ≡ some 0
 unfolding bytes_of
-bytes-none [] = refl
-bytes-none (x ∷ xs) = refl
+bytes_none [] = refl
+bytes_none (x ∷ xs) = refl
 
 ----------------------------------------------------------------
 -- Reading
@@ -58,8 +58,8 @@ unfolding behind then more
 behind-under c a s (got v xs) n = more-more a (size v) (size (c v)) (bytes_of xs n) (sym (s v))
 behind-under c a s malformed n = refl
 
-pub read-shorter : (k : ℕ) (xs : List ℕ) {v : Val} {ys : List ℕ} → read k xs ≡ got v ys → length xs ≡ size v + length ys
-read-shorter k xs {v} {ys} e = ap length (read-sound k xs e) ∙ length-encode-append v ys
+pub read_shorter : (k : ℕ) (xs : List ℕ) {v : Val} {ys : List ℕ} → read k xs ≡ got v ys → length xs ≡ size v + length ys
+read_shorter k xs {v} {ys} e = ap length (read-sound k xs e) ∙ length-encode-append v ys
 
 -- the two values of a pair; `rest` is the law for the second
 behind-pair : (k : ℕ) (xs : List ℕ) (n : ℕ) → length xs ≤ k → ((ys : List ℕ) → length ys ≤ k → bytes_of ys (suc n) ≡ behind (read k ys) n)
@@ -67,7 +67,7 @@ behind-pair : (k : ℕ) (xs : List ℕ) (n : ℕ) → length xs ≤ k → ((ys :
 unfolding behind then more size
 behind-pair k xs n h rest (got v ys) e =
     more-more 1 (size v) (suc (size v)) (bytes_of ys (suc n)) (omega arith)
-    ∙ ap (more (suc (size v))) (rest ys (omega (arith, read-shorter k xs e)))
+    ∙ ap (more (suc (size v))) (rest ys (omega (arith, read_shorter k xs e)))
     ∙ behind-under (pair v) (suc (size v)) (λ w. omega arith) (read k ys) n
 behind-pair k xs n h rest malformed e = refl
 
@@ -89,13 +89,13 @@ unfoldable pub size_of : Read → Option ℕ
 size_of (got v xs) = some (size v)
 size_of malformed = none
 
-behind-none : (r : Read) → behind r 0 ≡ size_of r
+behind_none : (r : Read) → behind r 0 ≡ size_of r
 unfolding behind size_of more
-behind-none (got v xs) = rw (bytes-none xs) (ap some (let z : size v + 0 ≡ size v = omega arith in z))
-behind-none malformed = refl
+behind_none (got v xs) = rw (bytes_none xs) (ap some (let z : size v + 0 ≡ size v = omega arith in z))
+behind_none malformed = refl
 
 pub bytes-first : (xs : List ℕ) → bytes_of xs 1 ≡ size_of (first_of xs)
-bytes-first xs = bytes_read (length xs) xs 0 (le_refl _) ∙ behind-none (first_of xs)
+bytes-first xs = bytes_read (length xs) xs 0 (le_refl _) ∙ behind_none (first_of xs)
 
 ----------------------------------------------------------------
 -- One byte more
@@ -118,21 +118,21 @@ bytes-over (suc (suc (suc zero))) xs n h = absurd (omega arith)
 bytes-over (suc (suc (suc (suc zero)))) xs n h = absurd (omega arith)
 bytes-over (suc (suc (suc (suc (suc k))))) xs n h = refl
 
-pub more-some : (a : ℕ) (x : Option ℕ) {m : ℕ} → more a x ≡ some m → a ≤ m
+pub more_some : (a : ℕ) (x : Option ℕ) {m : ℕ} → more a x ≡ some m → a ≤ m
 unfolding more
-more-some a none e = absurd (none≢some e)
-more-some a (some n) {m} e = let z : a + n ≡ m = some_inj e in omega arith
+more_some a none e = absurd (none≢some e)
+more_some a (some n) {m} e = let z : a + n ≡ m = some_inj e in omega arith
 
 -- values have bytes
-pub bytes-some : (xs : List ℕ) (n : ℕ) {m : ℕ} → bytes_of xs (suc n) ≡ some m → 0 < m
+pub bytes_some : (xs : List ℕ) (n : ℕ) {m : ℕ} → bytes_of xs (suc n) ≡ some m → 0 < m
 unfolding bytes_of
-bytes-some [] n e = absurd (none≢some e)
-bytes-some (zero ∷ xs) n e = more-some 1 (bytes_of xs n) e
-bytes-some (suc zero ∷ xs) n e = more-some 1 (bytes_of xs (suc n)) e
-bytes-some (suc (suc zero) ∷ xs) n e = more-some 1 (bytes_of xs (suc n)) e
-bytes-some (suc (suc (suc zero)) ∷ xs) n e = more-some 1 (bytes_of xs (suc (suc n))) e
-bytes-some (suc (suc (suc (suc zero))) ∷ xs) n e = more-some 1 (bytes_of xs (suc n)) e
-bytes-some (suc (suc (suc (suc (suc b)))) ∷ xs) n e = absurd (none≢some e)
+bytes_some [] n e = absurd (none≢some e)
+bytes_some (zero ∷ xs) n e = more_some 1 (bytes_of xs n) e
+bytes_some (suc zero ∷ xs) n e = more_some 1 (bytes_of xs (suc n)) e
+bytes_some (suc (suc zero) ∷ xs) n e = more_some 1 (bytes_of xs (suc n)) e
+bytes_some (suc (suc (suc zero)) ∷ xs) n e = more_some 1 (bytes_of xs (suc (suc n))) e
+bytes_some (suc (suc (suc (suc zero))) ∷ xs) n e = more_some 1 (bytes_of xs (suc n)) e
+bytes_some (suc (suc (suc (suc (suc b)))) ∷ xs) n e = absurd (none≢some e)
 
 ----------------------------------------------------------------
 -- The count, as the code has it

@@ -7,14 +7,14 @@ use lib.ListN.{get_or, take}
 use lib.Seq.{get_or-take}
 use package.Rattle.calls.specs.Entries.{TypeEntry, type_of}
 use package.Rattle.calls.specs.Tested.{closed}
-use package.Rattle.valuebytes.specs.Scopes.{plugs, scopeBelow, scope_of, typeUnder}
+use package.Rattle.valuebytes.specs.Scopes.{plugs, scope_below, scope_of, type_under}
 use package.Rattle.valuebytes.proofs.Plugs.{AllClosed, closed-plugs}
 
 ----------------------------------------------------------------
 -- Closed
 
-scope-closed-below : (n : ℕ) (ys : List TypeEntry) (binders outer : List ℕ) (e : ℕ) → AllClosed (scopeBelow n ys binders outer e)
-unfolding scopeBelow closed
+scope-closed-below : (n : ℕ) (ys : List TypeEntry) (binders outer : List ℕ) (e : ℕ) → AllClosed (scope_below n ys binders outer e)
+unfolding scope_below closed
 scope-closed-below zero ys binders outer e k = refl
 scope-closed-below (suc n) ys binders outer zero k = refl
 scope-closed-below (suc n) ys binders outer (suc e) zero = closed-plugs _ (scope-closed-below n ys binders outer (get_or outer (suc e) 0)) 0 (type_of ys (get_or binders (suc e) 0))
@@ -38,8 +38,8 @@ kept_at top l l' k e h =
 module _ (ys : List TypeEntry) (binders outer : List ℕ) (top : ℕ) (low : (e : ℕ) → 0 < e → e ≤ top → get_or outer e 0 < e) where
   -- neither the bound of the recursion nor what stands behind `top` matters
   scope-agrees : (binders' outer' : List ℕ) → Kept top binders binders' → Kept top outer outer' → (n m e : ℕ) → e ≤ n → e ≤ m → e ≤ top
-      → scopeBelow n ys binders' outer' e ≡ scopeBelow m ys binders outer e
-  unfolding scopeBelow
+      → scope_below n ys binders' outer' e ≡ scope_below m ys binders outer e
+  unfolding scope_below
   scope-agrees binders' outer' kb ko zero zero e h h' l = refl
   scope-agrees binders' outer' kb ko zero (suc m) zero h h' l = refl
   scope-agrees binders' outer' kb ko zero (suc m) (suc e) h h' l = absurd (omega arith)
@@ -48,7 +48,7 @@ module _ (ys : List TypeEntry) (binders outer : List ℕ) (top : ℕ) (low : (e 
   scope-agrees binders' outer' kb ko (suc n) (suc m) zero h h' l = refl
   scope-agrees binders' outer' kb ko (suc n) (suc m) (suc e) h h' l =
       let p : get_or outer (suc e) 0 < suc e = low (suc e) (omega arith) l in
-      ap₂ (λ b o. plugs 0 (scopeBelow n ys binders' outer' o) (type_of ys b) ∷ scopeBelow n ys binders' outer' o)
+      ap₂ (λ b o. plugs 0 (scope_below n ys binders' outer' o) (type_of ys b) ∷ scope_below n ys binders' outer' o)
       (kept_at top binders binders' kb (suc e) l) (kept_at top outer outer' ko (suc e) l)
       ∙ ap (λ σ. plugs 0 σ (type_of ys (get_or binders (suc e) 0)) ∷ σ)
       (scope-agrees binders' outer' kb ko n m (get_or outer (suc e) 0) (omega arith) (omega arith) (omega arith))
@@ -60,8 +60,8 @@ module _ (ys : List TypeEntry) (binders outer : List ℕ) (top : ℕ) (low : (e 
 
   -- the scope of a cell, from that of its outer cell
   pub scope-unfolds : (e : ℕ) → 0 < e → e ≤ top
-      → scope_of ys binders outer e ≡ typeUnder ys binders outer (get_or outer e 0) (get_or binders e 0) ∷ scope_of ys binders outer (get_or outer e 0)
-  unfolding scope_of scopeBelow typeUnder
+      → scope_of ys binders outer e ≡ type_under ys binders outer (get_or outer e 0) (get_or binders e 0) ∷ scope_of ys binders outer (get_or outer e 0)
+  unfolding scope_of scope_below type_under
   scope-unfolds zero pos l = absurd (omega arith)
   scope-unfolds (suc e) pos l =
       let p : get_or outer (suc e) 0 < suc e = low (suc e) pos l in

@@ -8,11 +8,11 @@ use mathlib.Core.List.{List, [], ◌∷◌, ◌++◌, append-nil}
 use lib.ListN.{length, get_or, take, drop, length-drop}
 use lib.Seq.{take_all, take_at, drop_at, drop-drop}
 use lib.Dec.{eqb}
-use package.Rattle.rules.specs.Limits.{maxValueBytes, fits}
+use package.Rattle.rules.specs.Limits.{max_value_bytes, fits}
 use package.Rattle.rules.specs.Val.{Val, unit, inl, inr, pair, roll, size, encode}
 use package.Rattle.rules.proofs.Basics.{given, eqb_yes, eqb-sound}
 use package.Rattle.rules.proofs.Val.{length-encode}
-use package.Rattle.rules.proofs.Typing.Tests.{leb_yes, leb-sound, bool-ext}
+use package.Rattle.rules.proofs.Typing.Tests.{leb_yes, leb-sound, bool_ext}
 use package.Rattle.calls.specs.Values.{Read, got, malformed, value}
 use package.Rattle.calls.proofs.Values.{read-encode, read-sound, value-encode, value-sound, size-positive, length-encode-append, got-value}
 use package.Rattle.valuebytes.specs.declared.scan.End.{End}
@@ -33,15 +33,15 @@ pub record Ended (at e : ℕ) (r : Read) : Type 0 where
 malformed≢at : {e : ℕ} → end.At e ≡ end.Malformed → ⊥
 malformed≢at p = let z : ◌≡◌ {A = ℕ} 0 1 = cc in omega arith
 
-at-inj : {a b : ℕ} → end.At a ≡ end.At b → a ≡ b
-at-inj p = cc
+at_inj : {a b : ℕ} → end.At a ≡ end.At b → a ≡ b
+at_inj p = cc
 
 pub ended : (at e : ℕ) (r : Read) → end.At e ≡ end_of at r → Ended at e r
 unfolding end_of
 ended at e (got v xs) p = go (fits v) refl p
   where
     go : (b : Bool) → fits v ≡ b → end.At e ≡ elim b as (λ b. End) [ true ↦ end.At (at + size v) | false ↦ end.Malformed ] → Ended at e (got v xs)
-    go true f p = record { value = v; rest = xs; is = refl; small = f; place = at-inj p }
+    go true f p = record { value = v; rest = xs; is = refl; small = f; place = at_inj p }
     go false f p = absurd (malformed≢at p)
 ended at e malformed p = absurd (malformed≢at p)
 
@@ -72,15 +72,15 @@ whole xs e = go (value xs) refl e
 pub whole_of : {xs : List ℕ} {v : Val} → xs ≡ encode v → fits v ≡ true → Whole xs v
 whole_of {xs} {v} e f = record { is = ap value e ∙ value-encode v f; bytes = e; small = f }
 
-pub is-value : {xs : List ℕ} {v : Val} → Whole xs v → is_value xs ≡ true
-is-value w = ap is_some w.is
+pub is_value_lem : {xs : List ℕ} {v : Val} → Whole xs v → is_value xs ≡ true
+is_value_lem w = ap is_some w.is
 
 -- the first value of bytes that begin with it
-pub first-is : (xs : List ℕ) {v : Val} {ys : List ℕ} → xs ≡ encode v ++ ys → first_of xs ≡ got v ys
-first-is xs {v} {ys} e = ap first_of e ∙ read-encode v _ ys (omega (arith, length-encode-append v ys))
+pub first_is : (xs : List ℕ) {v : Val} {ys : List ℕ} → xs ≡ encode v ++ ys → first_of xs ≡ got v ys
+first_is xs {v} {ys} e = ap first_of e ∙ read-encode v _ ys (omega (arith, length-encode-append v ys))
 
-pub first-whole : {xs : List ℕ} {v : Val} → Whole xs v → first_of xs ≡ got v []
-first-whole {xs} {v} w = first-is xs (w.bytes ∙ sym (append-nil (encode v)))
+pub first_whole : {xs : List ℕ} {v : Val} → Whole xs v → first_of xs ≡ got v []
+first_whole {xs} {v} w = first_is xs (w.bytes ∙ sym (append-nil (encode v)))
 
 length_none : (xs : List ℕ) → length xs ≡ 0 → xs ≡ []
 length_none [] e = refl
@@ -90,12 +90,12 @@ length_none (x ∷ xs) e = absurd (let z : suc (length xs) ≡ 0 = e in omega ar
 pub value-at : (xs : List ℕ) (e : ℕ) → end.At e ≡ end_of 0 (first_of xs) → eqb e (length xs) ≡ is_value xs
 value-at xs e p = given (ended 0 e (first_of xs) p) λ d.
     let long : length xs ≡ size d.value + length d.rest = ap length (read-sound (length xs) xs d.is) ∙ length-encode-append d.value d.rest in
-    bool-ext (eqb e (length xs)) (is_value xs)
+    bool_ext (eqb e (length xs)) (is_value xs)
     (λ q.
     let none_left : length d.rest ≡ 0 = omega (arith, eqb-sound e (length xs) q, d.place, long) in
-    is-value (whole_of (read-sound (length xs) xs d.is ∙ ap (λ r. encode d.value ++ r) (length_none d.rest none_left) ∙ append-nil (encode d.value)) d.small))
+    is_value_lem (whole_of (read-sound (length xs) xs d.is ∙ ap (λ r. encode d.value ++ r) (length_none d.rest none_left) ∙ append-nil (encode d.value)) d.small))
     (λ q. given (whole xs q) λ (v, w).
-    let same : size v ≡ size d.value = ap size (got-value (sym (first-whole w) ∙ d.is)) in
+    let same : size v ≡ size d.value = ap size (got-value (sym (first_whole w) ∙ d.is)) in
     let z : e ≡ length xs = omega (arith, same, d.place, ap length w.bytes, length-encode v) in
     subst (λ n. eqb e n ≡ true) z (eqb_yes e))
 
@@ -103,14 +103,14 @@ pub value_not : (xs : List ℕ) → end.Malformed ≡ end_of 0 (first_of xs) →
 value_not xs p = go (is_value xs) refl
   where
     go : (b : Bool) → is_value xs ≡ b → false ≡ b
-    go true q = given (whole xs q) λ (v, w). absurd (unended 0 (first_of xs) p (first-whole w) w.small)
+    go true q = given (whole xs q) λ (v, w). absurd (unended 0 (first_of xs) p (first_whole w) w.small)
     go false q = refl
 
 ----------------------------------------------------------------
 -- What is behind a value
 
-pub rest-is : (l : List ℕ) (at e : ℕ) (d : Ended at e (first_of (drop at l))) → drop e l ≡ d.rest
-rest-is l at e d =
+pub rest_is : (l : List ℕ) (at e : ℕ) (d : Ended at e (first_of (drop at l))) → drop e l ≡ d.rest
+rest_is l at e d =
     ap (λ n. drop n l) d.place ∙ sym (drop-drop (size d.value) at l)
     ∙ ap (drop (size d.value)) (read-sound (length (drop at l)) (drop at l) d.is)
     ∙ drop_at (encode d.value) d.rest (size d.value) (length-encode d.value)
@@ -130,9 +130,9 @@ pub record Pair (xs : List ℕ) : Type 0 where
   pub second : Val
   pub whole : Whole xs (pair first second)
 
-pub is-pair : (xs : List ℕ) → is_value xs ≡ true → get_or xs 0 0 ≡ 3 → Pair xs
+pub is_pair : (xs : List ℕ) → is_value xs ≡ true → get_or xs 0 0 ≡ 3 → Pair xs
 unfolding encode
-is-pair xs e t = given (whole xs e) λ (v, w). go v w (sym (ap (λ xs. get_or xs 0 0) w.bytes) ∙ t)
+is_pair xs e t = given (whole xs e) λ (v, w). go v w (sym (ap (λ xs. get_or xs 0 0) w.bytes) ∙ t)
   where
     go : (v : Val) → Whole xs v → get_or (encode v) 0 0 ≡ 3 → Pair xs
     go unit w t = absurd (omega arith)
@@ -144,34 +144,34 @@ is-pair xs e t = given (whole xs e) λ (v, w). go v w (sym (ap (λ xs. get_or xs
 -- a part of a value within the limit is within it
 pub smaller : (v w : Val) → size v ≤ size w → fits w ≡ true → fits v ≡ true
 unfolding fits
-smaller v w h f = leb_yes (size v) maxValueBytes (omega (arith, leb-sound (size w) maxValueBytes f))
+smaller v w h f = leb_yes (size v) max_value_bytes (omega (arith, leb-sound (size w) max_value_bytes f))
 
 module _ (xs : List ℕ) (e : is_value xs ≡ true) (t : get_or xs 0 0 ≡ 3) where
   -- where the first component ends
-  pub pair_end : (m : ℕ) → end.At m ≡ end_of 1 (first_of (drop 1 xs)) → m ≡ 1 + size (is-pair xs e t).first
+  pub pair_end : (m : ℕ) → end.At m ≡ end_of 1 (first_of (drop 1 xs)) → m ≡ 1 + size (is_pair xs e t).first
   unfolding encode
-  pair_end m p = given (ended 1 m (first_of (drop 1 xs)) p) λ d. d.place ∙ ap (λ v. 1 + size v) (got-value (sym d.is ∙ first-component))
+  pair_end m p = given (ended 1 m (first_of (drop 1 xs)) p) λ d. d.place ∙ ap (λ v. 1 + size v) (got-value (sym d.is ∙ first_component))
     where
-      first-component : first_of (drop 1 xs) ≡ got (is-pair xs e t).first (encode (is-pair xs e t).second)
-      first-component = first-is (drop 1 xs) (ap (drop 1) (is-pair xs e t).whole.bytes)
+      first_component : first_of (drop 1 xs) ≡ got (is_pair xs e t).first (encode (is_pair xs e t).second)
+      first_component = first_is (drop 1 xs) (ap (drop 1) (is_pair xs e t).whole.bytes)
 
   pub pair-unended : end.Malformed ≡ end_of 1 (first_of (drop 1 xs)) → ⊥
   unfolding encode size
   pair-unended p =
-      let P = is-pair xs e t in
-      unended 1 (first_of (drop 1 xs)) p (first-is (drop 1 xs) {v = P.first} {ys = encode P.second} (ap (drop 1) P.whole.bytes))
+      let P = is_pair xs e t in
+      unended 1 (first_of (drop 1 xs)) p (first_is (drop 1 xs) {v = P.first} {ys = encode P.second} (ap (drop 1) P.whole.bytes))
       (smaller P.first (pair P.first P.second) (omega arith) P.whole.small)
 
   pub pair-within : (m : ℕ) → end.At m ≡ end_of 1 (first_of (drop 1 xs)) → (1 ≤ m) × (m ≤ length xs)
   unfolding size
   pair-within m p =
-      let P = is-pair xs e t in
+      let P = is_pair xs e t in
       (omega (arith, pair_end m p), omega (arith, pair_end m p, ap length P.whole.bytes, length-encode (pair P.first P.second)))
 
   pub part-first : (m : ℕ) (b : Bool) → end.At m ≡ end_of 1 (first_of (drop 1 xs)) → b ≡ false → take (m - 1) (drop 1 xs) ≡ part_of b (value xs)
   unfolding encode part_of
   part-first m b p f =
-      let P = is-pair xs e t in
+      let P = is_pair xs e t in
       ap (λ n. take n (drop 1 xs)) (let z : m - 1 ≡ size P.first = omega (arith, pair_end m p) in z)
       ∙ ap (λ l. take (size P.first) (drop 1 l)) P.whole.bytes
       ∙ take_at (encode P.first) (encode P.second) (size P.first) (length-encode P.first)
@@ -181,7 +181,7 @@ module _ (xs : List ℕ) (e : is_value xs ≡ true) (t : get_or xs 0 0 ≡ 3) wh
       → take (length xs - m) (drop m xs) ≡ part_of b (value xs)
   unfolding encode part_of
   part-second m b p f =
-      let P = is-pair xs e t in
+      let P = is_pair xs e t in
       take_all (length xs - m) (drop m xs) (omega (arith, length-drop m xs))
       ∙ ap (λ n. drop n xs) (let z : m ≡ suc (size P.first) = omega (arith, pair_end m p) in z)
       ∙ ap (drop (suc (size P.first))) P.whole.bytes

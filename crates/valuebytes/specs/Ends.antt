@@ -4,7 +4,7 @@ use Rattle.std.proofs.Math.Option.{Option, none, some}
 use package.Rattle.rules.specs.Limits.{fits}
 use package.Rattle.rules.specs.Val.{Val, unit, inl, inr, pair, roll, size, encode}
 use package.Rattle.calls.specs.Values.{Read, got, malformed, read, value, ancillae}
-use package.Rattle.calls.specs.Book.{orUnit, orNone}
+use package.Rattle.calls.specs.Book.{or_unit, or_none}
 use package.Rattle.valuebytes.specs.declared.scan.End.{End}
 use package.Rattle.valuebytes.specs.declared.scan.End.TheVariants as end
 use package.Rattle.valuebytes.specs.declared.scan.Counted.{Counted}
@@ -42,11 +42,11 @@ abbrev pub is_value : List ℕ → Bool
 is_value xs = is_some (value xs)
 
 -- the value, and the values, that bytes are; what stands for bytes that section 4 refuses is the plain book's
-abbrev pub valueIn : List ℕ → Val
-valueIn xs = orUnit (value xs)
+abbrev pub value_in : List ℕ → Val
+value_in xs = or_unit (value xs)
 
-abbrev pub valuesIn : List ℕ → List Val
-valuesIn xs = orNone (ancillae xs)
+abbrev pub values_in : List ℕ → List Val
+values_in xs = or_none (ancillae xs)
 
 unfoldable pub counted : Option (List Val) → Counted
 counted none = count.Malformed

@@ -25,17 +25,17 @@ outward zero outer e = e
 outward (suc k) outer e = get_or outer (outward k outer e) 0
 
 -- the types that the cells from cell `e` outward stand for, the nearest first; a cell's outer cell is lower
-unfoldable pub scopeBelow : ℕ → List TypeEntry → List ℕ → List ℕ → ℕ → List Ty
+unfoldable pub scope_below : ℕ → List TypeEntry → List ℕ → List ℕ → ℕ → List Ty
 unfolding plugs
-scopeBelow zero ys binders outer e = []
-scopeBelow (suc n) ys binders outer zero = []
-scopeBelow (suc n) ys binders outer (suc e) =
-    plugs 0 (scopeBelow n ys binders outer (get_or outer (suc e) 0)) (type_of ys (get_or binders (suc e) 0))
-    ∷ scopeBelow n ys binders outer (get_or outer (suc e) 0)
+scope_below zero ys binders outer e = []
+scope_below (suc n) ys binders outer zero = []
+scope_below (suc n) ys binders outer (suc e) =
+    plugs 0 (scope_below n ys binders outer (get_or outer (suc e) 0)) (type_of ys (get_or binders (suc e) 0))
+    ∷ scope_below n ys binders outer (get_or outer (suc e) 0)
 
 unfoldable pub scope_of : List TypeEntry → List ℕ → List ℕ → ℕ → List Ty
-scope_of ys binders outer e = scopeBelow e ys binders outer e
+scope_of ys binders outer e = scope_below e ys binders outer e
 
 -- the type that entry `i` is under cell `e`
-unfoldable pub typeUnder : List TypeEntry → List ℕ → List ℕ → ℕ → ℕ → Ty
-typeUnder ys binders outer e i = plugs 0 (scope_of ys binders outer e) (type_of ys i)
+unfoldable pub type_under : List TypeEntry → List ℕ → List ℕ → ℕ → ℕ → Ty
+type_under ys binders outer e i = plugs 0 (scope_of ys binders outer e) (type_of ys i)

@@ -1,46 +1,46 @@
 -- What the test whether a value is of a type is given, and what it answers (section 4, row Call: refusal 11).
 use Rattle.std.specs.Prelude.{ℕ, ◌+◌, ◌≤◌, ◌<◌, ◌≡◌, Bool, true, false, ◌&&◌, List, map, length, get_or}
 use Rattle.std.proofs.Math.Option.{Option, none, some}
-use package.Rattle.rules.specs.Limits.{maxValueBytes, fits}
+use package.Rattle.rules.specs.Limits.{max_value_bytes, fits}
 use package.Rattle.rules.specs.Val.{Val, size}
 use package.Rattle.rules.specs.Ty.{Ty}
 use package.Rattle.calls.specs.Fields.{kind_at}
-use package.Rattle.calls.specs.Entries.{TypeEntry, y-unit, type_at, type_of}
-use package.Rattle.calls.specs.Named.{typesOfType, below}
+use package.Rattle.calls.specs.Entries.{TypeEntry, y_unit, type_at, type_of}
+use package.Rattle.calls.specs.Named.{types_of_type, below}
 use package.Rattle.calls.specs.Values.{Read, got, malformed, value, has_ty}
 use package.Rattle.calls.specs.Tested.{closed}
 use package.Rattle.program.specs.Parts.{TypeField}
-use package.Rattle.program.specs.Kinds.{typeVariableKind, recursiveKind}
+use package.Rattle.program.specs.Kinds.{type_variable_kind, recursive_kind}
 use package.Rattle.valuebytes.specs.declared.typed.Scoped.{Scoped}
 use package.Rattle.valuebytes.specs.declared.typed.Step.{Step}
 use package.Rattle.valuebytes.specs.declared.typed.Step.TheVariants as step
-use package.Rattle.valuebytes.specs.Scopes.{scope_of, typeUnder}
+use package.Rattle.valuebytes.specs.Scopes.{scope_of, type_under}
 
 ----------------------------------------------------------------
 -- The program's types
 
 -- the entries whose fields are at the offsets `os` of the program `xs`
-abbrev pub entriesOf : List ℕ → List ℕ → List TypeEntry
-entriesOf xs os = map (type_at xs) os
+abbrev pub entries_of : List ℕ → List ℕ → List TypeEntry
+entries_of xs os = map (type_at xs) os
 
 -- type entries that were read, and name lower ones
 pub record TypesRead (xs os : List ℕ) : Type 0 where
   pub field : (i : ℕ) → i < length os → TypeField xs (get_or os i 0)
-  pub lower : (i : ℕ) → below i (typesOfType (get_or (entriesOf xs os) i y-unit)) ≡ true
+  pub lower : (i : ℕ) → below i (types_of_type (get_or (entries_of xs os) i y_unit)) ≡ true
 
 ----------------------------------------------------------------
 -- Cells
 
 -- room for cells, and for pending types: one at the start, and one more for each byte of a value
 abbrev pub room : ℕ
-room = maxValueBytes + 1
+room = max_value_bytes + 1
 
 -- cell `e` has a recursive entry that is closed under lower cells
 pub record Cell (xs os binders outer : List ℕ) (e : ℕ) : Type 0 where
   pub lower : get_or outer e 0 < e
   pub known : get_or binders e 0 < length os
-  pub recursive : kind_at xs (get_or os (get_or binders e 0) 0) ≡ recursiveKind
-  pub closes : closed (length (scope_of (entriesOf xs os) binders outer (get_or outer e 0))) (type_of (entriesOf xs os) (get_or binders e 0)) ≡ true
+  pub recursive : kind_at xs (get_or os (get_or binders e 0) 0) ≡ recursive_kind
+  pub closes : closed (length (scope_of (entries_of xs os) binders outer (get_or outer e 0))) (type_of (entries_of xs os) (get_or binders e 0)) ≡ true
 
 -- cells 1 to `top`
 pub record Cells (xs os binders outer : List ℕ) (top : ℕ) : Type 0 where
@@ -50,27 +50,27 @@ pub record Cells (xs os binders outer : List ℕ) (top : ℕ) : Type 0 where
 pub record Bound (xs os binders outer : List ℕ) (top e i : ℕ) : Type 0 where
   pub known : i < length os
   pub within : e ≤ top
-  pub closes : closed (length (scope_of (entriesOf xs os) binders outer e)) (type_of (entriesOf xs os) i) ≡ true
+  pub closes : closed (length (scope_of (entries_of xs os) binders outer e)) (type_of (entries_of xs os) i) ≡ true
 
 -- the same type, by an entry that is no variable
 pub record Resolved (xs os binders outer : List ℕ) (t r : Scoped) : Type 0 where
   pub bound : Bound xs os binders outer t.cell r.cell r.entry
-  pub shown : kind_at xs (get_or os r.entry 0) < typeVariableKind
-  pub same : typeUnder (entriesOf xs os) binders outer r.cell r.entry ≡ typeUnder (entriesOf xs os) binders outer t.cell t.entry
+  pub shown : kind_at xs (get_or os r.entry 0) < type_variable_kind
+  pub same : type_under (entries_of xs os) binders outer r.cell r.entry ≡ type_under (entries_of xs os) binders outer t.cell t.entry
 
 ----------------------------------------------------------------
 -- The test
 
 -- Is it a value, and of the type?
-unfoldable pub valueHas : Option Val → Ty → Bool
-valueHas none c = false
-valueHas (some v) c = has_ty v c
+unfoldable pub value_has : Option Val → Ty → Bool
+value_has none c = false
+value_has (some v) c = has_ty v c
 
-abbrev pub nextIf : Bool → ℕ → Step
-nextIf true n = step.Next n
-nextIf false n = step.Other
+abbrev pub next_if : Bool → ℕ → Step
+next_if true n = step.Next n
+next_if false n = step.Other
 
 -- where the next value starts, if what was read from place `at` is within the limit and of the type
 unfoldable pub next_of : ℕ → Read → Ty → Step
-next_of at (got v xs) c = nextIf (fits v && has_ty v c) (at + size v)
+next_of at (got v xs) c = next_if (fits v && has_ty v c) (at + size v)
 next_of at malformed c = step.Other

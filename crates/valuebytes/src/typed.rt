@@ -8,10 +8,10 @@ ghost use Rattle.calls.specs.Entries.{type_at, type_of};
 ghost use Rattle.calls.specs.Named.{plain};
 ghost use Rattle.calls.specs.Values.{value};
 ghost use Rattle.program.specs.Parts.{variable, TypeField};
-ghost use Rattle.program.specs.Kinds.{productKind};
+ghost use Rattle.program.specs.Kinds.{product_kind};
 ghost use Rattle.valuebytes.specs.Ends.{first_of, is_value};
-ghost use Rattle.valuebytes.specs.Scopes.{outward, typeUnder};
-ghost use Rattle.valuebytes.specs.Typing.{entriesOf, TypesRead, room, Cells, Bound, Resolved, valueHas, next_of};
+ghost use Rattle.valuebytes.specs.Scopes.{outward, type_under};
+ghost use Rattle.valuebytes.specs.Typing.{entries_of, TypesRead, room, Cells, Bound, Resolved, value_has, next_of};
 ghost use Rattle.valuebytes.specs.Stack.{parts_of, Stack, TurnLeaves};
 
 use crate::scan;
@@ -215,7 +215,7 @@ fn walk(
     at: usize,
 ) -> Step
     requires { Stack program.now types.now binders.old outer.old entries.old cells.old 0 1 }
-    ensures { result ≡ next_of at (first_of (drop at s.now)) (typeUnder (entriesOf program.now types.now) binders.old outer.old (get_or cells.old 0 0) (get_or entries.old 0 0)) }
+    ensures { result ≡ next_of at (first_of (drop at s.now)) (type_under (entries_of program.now types.now) binders.old outer.old (get_or cells.old 0 0) (get_or entries.old 0 0)) }
 {
     let mut top: u16 = 0;
     let mut n: usize = 1;
@@ -251,8 +251,8 @@ fn walk(
 // Is the value at a place of bytes, as ancillae are, of the type that an entry is? Of the type, it says where the next value starts.
 pub fn has_type_at(program: &[u8], types: &[u16], entry: u16, s: &[u8], at: usize) -> Step
     requires types_read { TypesRead program.now types.now }
-    requires in_bounds { (entry < length types.now) × (plain (entriesOf program.now types.now) entry ≡ true) }
-    ensures { result ≡ next_of at (first_of (drop at s.now)) (type_of (entriesOf program.now types.now) entry) }
+    requires in_bounds { (entry < length types.now) × (plain (entries_of program.now types.now) entry ≡ true) }
+    ensures { result ≡ next_of at (first_of (drop at s.now)) (type_of (entries_of program.now types.now) entry) }
 {
     let mut binders = [0u16; ROOM];
     let mut outer = [0u16; ROOM];
@@ -274,9 +274,9 @@ pub fn has_type_at(program: &[u8], types: &[u16], entry: u16, s: &[u8], at: usiz
 // Is the value that the bytes are of the type that an entry is?
 fn is_of(program: &[u8], types: &[u16], entry: u16, s: &[u8]) -> bool
     requires types_read { TypesRead program.now types.now }
-    requires in_bounds { (entry < length types.now) × (plain (entriesOf program.now types.now) entry ≡ true) }
+    requires in_bounds { (entry < length types.now) × (plain (entries_of program.now types.now) entry ≡ true) }
     requires s_value { is_value s.now ≡ true }
-    ensures { result ≡ valueHas (value s.now) (type_of (entriesOf program.now types.now) entry) }
+    ensures { result ≡ value_has (value s.now) (type_of (entries_of program.now types.now) entry) }
 {
     match has_type_at(program, types, entry, s, 0) {
         Step::Next(_) => true,
@@ -287,10 +287,10 @@ fn is_of(program: &[u8], types: &[u16], entry: u16, s: &[u8]) -> bool
 // The same by a product, whose components are tested each in its part of the bytes.
 fn are_of(program: &[u8], types: &[u16], entry: u16, s: &[u8]) -> bool
     requires types_read { TypesRead program.now types.now }
-    requires in_bounds { (entry < length types.now) × (plain (entriesOf program.now types.now) entry ≡ true) }
+    requires in_bounds { (entry < length types.now) × (plain (entries_of program.now types.now) entry ≡ true) }
     requires s_value { is_value s.now ≡ true }
-    requires value { kind_at program.now (get_or types.now entry 0) ≡ productKind }
-    ensures { result ≡ valueHas (value s.now) (type_of (entriesOf program.now types.now) entry) }
+    requires value { kind_at program.now (get_or types.now entry 0) ≡ product_kind }
+    ensures { result ≡ value_has (value s.now) (type_of (entries_of program.now types.now) entry) }
 {
     if s[0] != 3 {
         return false;
@@ -310,9 +310,9 @@ fn are_of(program: &[u8], types: &[u16], entry: u16, s: &[u8]) -> bool
 // Is the value that the bytes are of the type that an entry is?
 pub fn has_type(program: &[u8], types: &[u16], entry: u16, s: &[u8]) -> bool
     requires types_read { TypesRead program.now types.now }
-    requires in_bounds { (entry < length types.now) × (plain (entriesOf program.now types.now) entry ≡ true) }
+    requires in_bounds { (entry < length types.now) × (plain (entries_of program.now types.now) entry ≡ true) }
     requires s_value { is_value s.now ≡ true }
-    ensures { result ≡ valueHas (value s.now) (type_of (entriesOf program.now types.now) entry) }
+    ensures { result ≡ value_has (value s.now) (type_of (entries_of program.now types.now) entry) }
 {
     let kind = views::kind(program, field(types, entry));
     if kind == kinds::PRODUCT {

@@ -8,7 +8,7 @@ use mathlib.Core.Bool.{true}
 use mathlib.Core.List.{List}
 use package.Rattle.rules.specs.Limits.{fits}
 use package.Rattle.rules.specs.Val.{unit, inl, inr, pair, roll, size}
-use package.Rattle.valuegraph.specs.Nodes.{kind_at, left_at, rightAt, putNode, Agree, fingerprint, ofKind, valueWithin, value_at, Right, Heap, NodeReady, Grown}
+use package.Rattle.valuegraph.specs.Nodes.{kind_at, left_at, right_at, put_node, Agree, fingerprint, of_kind, value_within, value_at, Right, Heap, NodeReady, Grown}
 use package.Rattle.valuegraph.proofs.Places.{length-put, agree-put, kind-put, print-put, len-put, left-put, right-put}
 use package.Rattle.valuegraph.proofs.Places.{agree-kind, agree-print, agree-len, agree_left, agree_right}
 use package.Rattle.valuegraph.proofs.Shapes.{unit-parts}
@@ -18,8 +18,8 @@ use package.Rattle.valuegraph.proofs.Shapes.{unit-parts}
 
 module _ (heap : List ℕ) (top : ℕ) (h : Heap heap top) where
   -- a depth that is enough is as good as another
-  enough : (d d' n : ℕ) → n < top → n < d → n < d' → valueWithin d heap n ≡ valueWithin d' heap n
-  unfolding valueWithin
+  enough : (d d' n : ℕ) → n < top → n < d → n < d' → value_within d heap n ≡ value_within d' heap n
+  unfolding value_within
   enough zero d' n t p q = absurd (omega arith)
   enough (suc d) zero n t p q = absurd (omega arith)
   enough (suc d) (suc d') n t p q =
@@ -27,52 +27,52 @@ module _ (heap : List ℕ) (top : ℕ) (h : Heap heap top) where
       (λ z. unit-parts _ _ _ _ _ z)
       (λ lr. cc (
         enough d d' (left_at heap n) (omega arith) (omega arith) (omega arith),
-        enough d d' (rightAt heap n) (omega arith) (omega arith) (omega arith),
+        enough d d' (right_at heap n) (omega arith) (omega arith) (omega arith),
       ))
       (h.node n t).parts
 
-  pub lower : (n : ℕ) → n < top → ¬ (kind_at heap n ≡ 0) → (left_at heap n < n) × (rightAt heap n < n)
+  pub lower : (n : ℕ) → n < top → ¬ (kind_at heap n ≡ 0) → (left_at heap n < n) × (right_at heap n < n)
   lower n t z = ⊎_elim (λ e. absurd (z e)) (λ lr. lr) (h.node n t).parts
 
   -- a node that is no unit
   pub value-parts : (n : ℕ) → n < top → ¬ (kind_at heap n ≡ 0)
-      → value_at heap n ≡ ofKind (kind_at heap n) (value_at heap (left_at heap n)) (value_at heap (rightAt heap n))
-  unfolding valueWithin value_at
+      → value_at heap n ≡ of_kind (kind_at heap n) (value_at heap (left_at heap n)) (value_at heap (right_at heap n))
+  unfolding value_within value_at
   value-parts n t z =
       let lr = lower n t z in
       cc (
         enough n (suc (left_at heap n)) (left_at heap n) (omega arith) (omega arith) (omega arith),
-        enough n (suc (rightAt heap n)) (rightAt heap n) (omega arith) (omega arith) (omega arith),
+        enough n (suc (right_at heap n)) (right_at heap n) (omega arith) (omega arith) (omega arith),
       )
 
   pub value-unit : (n : ℕ) → kind_at heap n ≡ 0 → value_at heap n ≡ unit
-  unfolding value_at valueWithin ofKind
+  unfolding value_at value_within of_kind
   value-unit n e = rw e
 
   module _ (n : ℕ) (t : n < top) where
-    pub value-inl : kind_at heap n ≡ 1 → (value_at heap n ≡ inl (value_at heap (left_at heap n))) × (left_at heap n < n)
-    unfolding ofKind
-    value-inl e = (value-parts n t (λ z. omega arith) ∙ rw e, (lower n t (λ z. omega arith)).0)
+    pub value_inl : kind_at heap n ≡ 1 → (value_at heap n ≡ inl (value_at heap (left_at heap n))) × (left_at heap n < n)
+    unfolding of_kind
+    value_inl e = (value-parts n t (λ z. omega arith) ∙ rw e, (lower n t (λ z. omega arith)).0)
 
-    pub value-inr : kind_at heap n ≡ 2 → (value_at heap n ≡ inr (value_at heap (left_at heap n))) × (left_at heap n < n)
-    unfolding ofKind
-    value-inr e = (value-parts n t (λ z. omega arith) ∙ rw e, (lower n t (λ z. omega arith)).0)
+    pub value_inr : kind_at heap n ≡ 2 → (value_at heap n ≡ inr (value_at heap (left_at heap n))) × (left_at heap n < n)
+    unfolding of_kind
+    value_inr e = (value-parts n t (λ z. omega arith) ∙ rw e, (lower n t (λ z. omega arith)).0)
 
     pub value-pair : kind_at heap n ≡ 3
-        → (value_at heap n ≡ pair (value_at heap (left_at heap n)) (value_at heap (rightAt heap n))) × (left_at heap n < n) × (rightAt heap n < n)
-    unfolding ofKind
+        → (value_at heap n ≡ pair (value_at heap (left_at heap n)) (value_at heap (right_at heap n))) × (left_at heap n < n) × (right_at heap n < n)
+    unfolding of_kind
     value-pair e = (value-parts n t (λ z. omega arith) ∙ rw e, (lower n t (λ z. omega arith)).0, (lower n t (λ z. omega arith)).1)
 
     pub value-roll : kind_at heap n ≡ 4 → (value_at heap n ≡ roll (value_at heap (left_at heap n))) × (left_at heap n < n)
-    unfolding ofKind
+    unfolding of_kind
     value-roll e = (value-parts n t (λ z. omega arith) ∙ rw e, (lower n t (λ z. omega arith)).0)
 
 ----------------------------------------------------------------
 -- Heaps that agree
 
 module _ (heap heap' : List ℕ) (top : ℕ) (h : Heap heap top) (p : Agree top heap heap') where
-  within-kept : (d n : ℕ) → n < top → valueWithin d heap n ≡ valueWithin d heap' n
-  unfolding valueWithin
+  within-kept : (d n : ℕ) → n < top → value_within d heap n ≡ value_within d heap' n
+  unfolding value_within
   within-kept zero n t = refl
   within-kept (suc d) n t =
       ⊎_elim
@@ -82,7 +82,7 @@ module _ (heap heap' : List ℕ) (top : ℕ) (h : Heap heap top) (p : Agree top 
         agree_left p n t,
         agree_right p n t,
         within-kept d (left_at heap n) (omega arith),
-        within-kept d (rightAt heap n) (omega arith),
+        within-kept d (right_at heap n) (omega arith),
       ))
       (h.node n t).parts
 
@@ -103,29 +103,29 @@ module _ (heap heap' : List ℕ) (top : ℕ) (h : Heap heap top) (p : Agree top 
       }
 
   -- and a heap stays one
-  pub heap-kept : Heap heap' top
-  heap-kept = record { held = omega (arith, h.held, p.lengths); node = node_kept }
+  pub heap_kept : Heap heap' top
+  heap_kept = record { held = omega (arith, h.held, p.lengths); node = node_kept }
 
-pub heap-empty : (heap : List ℕ) → Heap heap 0
-heap-empty heap = record { held = omega arith; node = λ n t. absurd (omega arith) }
+pub heap_empty : (heap : List ℕ) → Heap heap 0
+heap_empty heap = record { held = omega arith; node = λ n t. absurd (omega arith) }
 
-pub heap-down : {heap : List ℕ} {top : ℕ} (low : ℕ) → low ≤ top → Heap heap top → Heap heap low
-heap-down low le h = record { held = omega (arith, h.held); node = λ n t. h.node n (omega arith) }
+pub heap_down : {heap : List ℕ} {top : ℕ} (low : ℕ) → low ≤ top → Heap heap top → Heap heap low
+heap_down low le h = record { held = omega (arith, h.held); node = λ n t. h.node n (omega arith) }
 
 ----------------------------------------------------------------
 -- A new node
 
-module _ (heap : List ℕ) (top k p n a b : ℕ) (w : NodeReady heap top k p n a b) (f : fits (ofKind k (value_at heap a) (value_at heap b)) ≡ true)
+module _ (heap : List ℕ) (top k p n a b : ℕ) (w : NodeReady heap top k p n a b) (f : fits (of_kind k (value_at heap a) (value_at heap b)) ≡ true)
     (n16 : n < 2 ^ 16) (a32 : a < 2 ^ 32) (b32 : b < 2 ^ 32) where
   new : List ℕ
-  new = putNode heap top k p n a b
+  new = put_node heap top k p n a b
 
   new-agree : Agree top heap new
   unfolding new
   new-agree = agree-put heap top k p n a b
 
-  new-value : value_at new top ≡ ofKind k (value_at heap a) (value_at heap b)
-  unfolding new value_at valueWithin
+  new-value : value_at new top ≡ of_kind k (value_at heap a) (value_at heap b)
+  unfolding new value_at value_within
   new-value =
       rw (kind-put heap top k p n a b w.room, left-put heap top k p n a b w.room a32, right-put heap top k p n a b w.room b32)
       (⊎_elim
@@ -152,7 +152,7 @@ module _ (heap : List ℕ) (top k p n a b : ℕ) (w : NodeReady heap top k p n a
         fit = rw new-value f;
       }
 
-  pub grown : Grown heap (putNode heap top k p n a b) top (ofKind k (value_at heap a) (value_at heap b))
+  pub grown : Grown heap (put_node heap top k p n a b) top (of_kind k (value_at heap a) (value_at heap b))
   unfolding new
   grown =
       record {
@@ -161,11 +161,11 @@ module _ (heap : List ℕ) (top k p n a b : ℕ) (w : NodeReady heap top k p n a
           node = λ m t. ⊎_elim
               (λ e. subst (λ (m : ℕ). Right new m) (sym e) new-node)
               (λ lt. node_kept heap new top w.right new-agree m lt)
-              (at-or-below m (omega arith));
+              (at_or_below m (omega arith));
         };
         agree = new-agree;
         value = new-value;
       }
     where
-      at-or-below : (m : ℕ) → m ≤ top → (m ≡ top) ⊎ (m < top)
-      at-or-below m le = eq-or-lt_of_le le
+      at_or_below : (m : ℕ) → m ≤ top → (m ≡ top) ⊎ (m < top)
+      at_or_below m le = eq-or-lt_of_le le

@@ -13,14 +13,14 @@ use package.Rattle.rules.specs.Limits.{fits}
 use package.Rattle.rules.specs.Val.{Val, unit, inl, inr, pair, roll, size, encode}
 use package.Rattle.rules.proofs.Basics.{given}
 use package.Rattle.rules.proofs.Val.{length-encode}
-use package.Rattle.calls.specs.Values.{got, read, encodeAll}
+use package.Rattle.calls.specs.Values.{got, read, encode_all}
 use package.Rattle.calls.proofs.Values.{read-encode, size-positive, length-encode-append}
-use package.Rattle.valuegraph.specs.Nodes.{length_at, ofKind, Single, value_at, Grown, Made}
-use package.Rattle.valuegraph.specs.Loads.{firstBelow, secondBelow, overLast, PlaceReady, LoadReady, node_of, BeginWith, LoadedFrom}
+use package.Rattle.valuegraph.specs.Nodes.{length_at, of_kind, Single, value_at, Grown, Made}
+use package.Rattle.valuegraph.specs.Loads.{first_below, second_below, over_last, PlaceReady, LoadReady, node_of, BeginWith, LoadedFrom}
 use package.Rattle.valuegraph.proofs.Places.{agree_refl, agree_trans, agree-down}
 use package.Rattle.valuegraph.proofs.Shapes.{single-part, kind-single, encode-single, encode-pair}
 use package.Rattle.valuegraph.proofs.Heaps.{value-kept}
-use package.Rattle.valuegraph.proofs.Making.{fits-true}
+use package.Rattle.valuegraph.proofs.Making.{fits_true}
 
 ----------------------------------------------------------------
 -- A value at every byte
@@ -34,28 +34,28 @@ opened (inr v ∷ vs) = v ∷ vs
 opened (pair v w ∷ vs) = v ∷ w ∷ vs
 opened (roll v ∷ vs) = v ∷ vs
 
-drop-opened : (vs : List Val) → drop 1 (encodeAll vs) ≡ encodeAll (opened vs)
-unfolding encodeAll encode opened
+drop-opened : (vs : List Val) → drop 1 (encode_all vs) ≡ encode_all (opened vs)
+unfolding encode_all encode opened
 drop-opened [] = refl
 drop-opened (unit ∷ vs) = refl
 drop-opened (inl v ∷ vs) = refl
 drop-opened (inr v ∷ vs) = refl
-drop-opened (pair v w ∷ vs) = append_assoc (encode v) (encode w) (encodeAll vs)
+drop-opened (pair v w ∷ vs) = append_assoc (encode v) (encode w) (encode_all vs)
 drop-opened (roll v ∷ vs) = refl
 
 -- from any byte on, the bytes are values
-values-from : (i : ℕ) (vs : List Val) → (ws : List Val) × (drop i (encodeAll vs) ≡ encodeAll ws)
-values-from zero vs = (vs, refl)
-values-from (suc i) vs = given (values-from i (opened vs)) λ (ws, e).
-    (ws, ap (λ n. drop n (encodeAll vs)) (let z : suc i ≡ 1 + i = omega arith in z) ∙ sym (drop-drop i 1 (encodeAll vs)) ∙ ap (drop i) (drop-opened vs) ∙ e)
+values_from : (i : ℕ) (vs : List Val) → (ws : List Val) × (drop i (encode_all vs) ≡ encode_all ws)
+values_from zero vs = (vs, refl)
+values_from (suc i) vs = given (values_from i (opened vs)) λ (ws, e).
+    (ws, ap (λ n. drop n (encode_all vs)) (let z : suc i ≡ 1 + i = omega arith in z) ∙ sym (drop-drop i 1 (encode_all vs)) ∙ ap (drop i) (drop-opened vs) ∙ e)
 
-value-here : (xs : List ℕ) (vs : List Val) → xs ≡ encodeAll vs → (i : ℕ) → i < length xs → (v : Val) × (ys : List ℕ) × (drop i xs ≡ encode v ++ ys)
-unfolding encodeAll
-value-here xs vs e i l = given (values-from i vs) λ (ws, q). go ws (ap (drop i) e ∙ q)
+value-here : (xs : List ℕ) (vs : List Val) → xs ≡ encode_all vs → (i : ℕ) → i < length xs → (v : Val) × (ys : List ℕ) × (drop i xs ≡ encode v ++ ys)
+unfolding encode_all
+value-here xs vs e i l = given (values_from i vs) λ (ws, q). go ws (ap (drop i) e ∙ q)
   where
-    go : (ws : List Val) → drop i xs ≡ encodeAll ws → (v : Val) × (ys : List ℕ) × (drop i xs ≡ encode v ++ ys)
+    go : (ws : List Val) → drop i xs ≡ encode_all ws → (v : Val) × (ys : List ℕ) × (drop i xs ≡ encode v ++ ys)
     go [] q = absurd (omega (arith, ap length q, length-drop i xs))
-    go (v ∷ ws) q = (v, encodeAll ws, q)
+    go (v ∷ ws) q = (v, encode_all ws, q)
 
 -- bytes begin with one value only
 one_value : (v v' : Val) (ys ys' : List ℕ) → encode v ++ ys ≡ encode v' ++ ys' → (v ≡ v') × (ys ≡ ys')
@@ -64,11 +64,11 @@ one_value v v' ys ys' e =
     sym (read-encode v (size v + size v') ys (omega arith)) ∙ ap (read (size v + size v')) e ∙ read-encode v' (size v + size v') ys' (omega arith) in
     (cc, cc)
 
-begin-of : (xs : List ℕ) (v : Val) (ys : List ℕ) → xs ≡ encode v ++ ys → BeginWith xs v
-begin-of xs v ys e = e ∙ ap (λ r. encode v ++ r) (sym (ap (drop (size v)) e ∙ drop_at (encode v) ys (size v) (length-encode v)))
+begin_of : (xs : List ℕ) (v : Val) (ys : List ℕ) → xs ≡ encode v ++ ys → BeginWith xs v
+begin_of xs v ys e = e ∙ ap (λ r. encode v ++ r) (sym (ap (drop (size v)) e ∙ drop_at (encode v) ys (size v) (length-encode v)))
 
-begin-length : (xs : List ℕ) (v : Val) → BeginWith xs v → length xs ≡ size v + length (drop (size v) xs)
-begin-length xs v b = ap length b ∙ length-encode-append v (drop (size v) xs)
+begin_length : (xs : List ℕ) (v : Val) → BeginWith xs v → length xs ≡ size v + length (drop (size v) xs)
+begin_length xs v b = ap length b ∙ length-encode-append v (drop (size v) xs)
 
 -- what stands behind a byte at which a value begins
 record Behind (k : ℕ) (rest : List ℕ) : Type 0 where
@@ -98,21 +98,21 @@ behind {k} {rest} u ys e = go u e
 -- One node more
 
 module _ {heap : List ℕ} {top k : ℕ} (w : PlaceReady heap top k) where
-  pub place-unit : {heap' : List ℕ} → k ≡ 0 → Grown heap heap' top unit → Grown heap heap' top (overLast heap top k)
-  unfolding ofKind
+  pub place-unit : {heap' : List ℕ} → k ≡ 0 → Grown heap heap' top unit → Grown heap heap' top (over_last heap top k)
+  unfolding of_kind
   place-unit z g = rw z g
 
   -- what is within the limit is made
-  made-fit : {heap' : List ℕ} {v : Val} {ok : Bool} → v ≡ overLast heap top k → Made heap heap' top v ok → Grown heap heap' top (overLast heap top k)
+  made-fit : {heap' : List ℕ} {v : Val} {ok : Bool} → v ≡ over_last heap top k → Made heap heap' top v ok → Grown heap heap' top (over_last heap top k)
   made-fit {heap'} {v} e m = subst (λ (u : Val). Grown heap heap' top u) e (m.new (m.answer ∙ ap fits e ∙ w.fit))
 
-  pub place-pair : {heap' : List ℕ} {n : ℕ} {ok : Bool} → k ≡ 3 → n ≡ length_at heap (firstBelow top)
-      → Made heap heap' top (pair (value_at heap (firstBelow top)) (value_at heap (firstBelow top - n))) ok → Grown heap heap' top (overLast heap top k)
-  unfolding ofKind
+  pub place-pair : {heap' : List ℕ} {n : ℕ} {ok : Bool} → k ≡ 3 → n ≡ length_at heap (first_below top)
+      → Made heap heap' top (pair (value_at heap (first_below top)) (value_at heap (first_below top - n))) ok → Grown heap heap' top (over_last heap top k)
+  unfolding of_kind
   place-pair three e m = made-fit (rw (three, e)) m
 
   pub place-single : {heap' : List ℕ} {ok : Bool} → Single k
-      → Made heap heap' top (ofKind k (value_at heap (firstBelow top)) (value_at heap (firstBelow top))) ok → Grown heap heap' top (overLast heap top k)
+      → Made heap heap' top (of_kind k (value_at heap (first_below top)) (value_at heap (first_below top))) ok → Grown heap heap' top (over_last heap top k)
   place-single s m = made-fit (single-part k _ _ _ s) m
 
 ----------------------------------------------------------------
@@ -142,10 +142,10 @@ module _ {heap₀ heap : List ℕ} {top : ℕ} {xs : List ℕ} {i free : ℕ} (t
   rest = drop (i + 1) xs
 
   abbrev first : Val
-  first = value_at heap (firstBelow free)
+  first = value_at heap (first_below free)
 
   abbrev second : Val
-  second = value_at heap (secondBelow heap free)
+  second = value_at heap (second_below heap free)
 
   cut : drop i xs ≡ byte ∷ rest
   cut = drop-cons xs i 0 (omega (arith, T.inside)) ∙ ap (λ n. byte ∷ drop n xs) (sym (add-one i))
@@ -157,13 +157,13 @@ module _ {heap₀ heap : List ℕ} {top : ℕ} {xs : List ℕ} {i free : ℕ} (t
     first-there : i + 1 < length xs
     first-there = given (here.first some) λ (v, ys, e). omega (arith, ap length e, length-encode-append v ys, size-positive v, length-drop (i + 1) xs)
 
-    first-begin : BeginWith rest first
-    first-begin =
-        let z : node_of top xs (i + 1) ≡ firstBelow free = omega (arith, T.nodes, first-there) in
+    first_begin : BeginWith rest first
+    first_begin =
+        let z : node_of top xs (i + 1) ≡ first_below free = omega (arith, T.nodes, first-there) in
         subst (λ (n : ℕ). BeginWith rest (value_at heap n)) z (T.begins (i + 1) (omega arith) first-there)
 
-    first-size : length_at heap (firstBelow free) ≡ size first
-    first-size = (T.right.node (firstBelow free) (omega (arith, T.nodes, first-there))).len
+    first-size : length_at heap (first_below free) ≡ size first
+    first-size = (T.right.node (first_below free) (omega (arith, T.nodes, first-there))).len
 
   module _ (three : byte ≡ 3) where
     some : ¬ (byte ≡ 0)
@@ -171,32 +171,32 @@ module _ {heap₀ heap : List ℕ} {top : ℕ} {xs : List ℕ} {i free : ℕ} (t
 
     -- the second value begins behind the first
     second_at : (w : Val) × (ys : List ℕ) × (drop (size first) rest ≡ encode w ++ ys)
-    second_at = given (here.second three) λ (v, w, ys, e). (w, ys, (one_value first v (drop (size first) rest) (encode w ++ ys) (sym (first-begin some) ∙ e)).1)
+    second_at = given (here.second three) λ (v, w, ys, e). (w, ys, (one_value first v (drop (size first) rest) (encode w ++ ys) (sym (first_begin some) ∙ e)).1)
 
     second-there : i + 1 + size first < length xs
     second-there = given second_at λ (w, ys, e).
         omega (arith, ap length e, length-encode-append w ys, size-positive w, length-drop (size first) rest, length-drop (i + 1) xs)
 
-    second-begin : BeginWith (drop (i + 1 + size first) xs) second
-    second-begin =
-        let z : node_of top xs (i + 1 + size first) ≡ secondBelow heap free = omega (arith, T.nodes, second-there, first-size some) in
+    second_begin : BeginWith (drop (i + 1 + size first) xs) second
+    second_begin =
+        let z : node_of top xs (i + 1 + size first) ≡ second_below heap free = omega (arith, T.nodes, second-there, first-size some) in
         subst (λ (n : ℕ). BeginWith (drop (i + 1 + size first) xs) (value_at heap n)) z (T.begins (i + 1 + size first) (omega arith) second-there)
 
-    pair-begin : BeginWith (drop i xs) (ofKind 3 first second)
-    pair-begin = begin-of (drop i xs) (ofKind 3 first second) (drop (size second) (drop (i + 1 + size first) xs)) (
-        cut ∙ ap (λ r. byte ∷ r) (first-begin some ∙ ap (λ r. encode first ++ r) (drop-drop (size first) (i + 1) xs ∙ second-begin)
+    pair_begin : BeginWith (drop i xs) (of_kind 3 first second)
+    pair_begin = begin_of (drop i xs) (of_kind 3 first second) (drop (size second) (drop (i + 1 + size first) xs)) (
+        cut ∙ ap (λ r. byte ∷ r) (first_begin some ∙ ap (λ r. encode first ++ r) (drop-drop (size first) (i + 1) xs ∙ second_begin)
         ∙ sym (append_assoc (encode first) (encode second) (drop (size second) (drop (i + 1 + size first) xs))))
         ∙ rw (three, encode-pair first second))
 
-  new-begin : BeginWith (drop i xs) (overLast heap free byte)
-  unfolding ofKind encode
-  new-begin = by (ℕ_discrete byte 0) (ℕ_discrete byte 3)
+  new_begin : BeginWith (drop i xs) (over_last heap free byte)
+  unfolding of_kind encode
+  new_begin = by (ℕ_discrete byte 0) (ℕ_discrete byte 3)
     where
-      by : Dec (byte ≡ 0) → Dec (byte ≡ 3) → BeginWith (drop i xs) (overLast heap free byte)
-      by (yes z) three = begin-of (drop i xs) (overLast heap free byte) rest (cut ∙ rw z)
-      by (no some) (yes three) = rw three (pair-begin three)
-      by (no some) (no nt) = begin-of (drop i xs) (overLast heap free byte) (drop (size first) rest) (
-          cut ∙ ap (λ r. byte ∷ r) (first-begin some)
+      by : Dec (byte ≡ 0) → Dec (byte ≡ 3) → BeginWith (drop i xs) (over_last heap free byte)
+      by (yes z) three = begin_of (drop i xs) (over_last heap free byte) rest (cut ∙ rw z)
+      by (no some) (yes three) = rw three (pair_begin three)
+      by (no some) (no nt) = begin_of (drop i xs) (over_last heap free byte) (drop (size first) rest) (
+          cut ∙ ap (λ r. byte ∷ r) (first_begin some)
           ∙ ap (λ l. l ++ drop (size first) rest) (sym (encode-single byte first second (kind-single byte some here.kind nt))))
 
   pub turn-ready : PlaceReady heap free byte
@@ -206,13 +206,13 @@ module _ {heap₀ heap : List ℕ} {top : ℕ} {xs : List ℕ} {i free : ℕ} (t
     kind = here.kind;
     first = λ some. omega (arith, T.nodes, first-there some);
     second = λ three. omega (arith, T.nodes, second-there three, first-size (λ z. omega (arith, three)));
-    fit = fits-true _ (omega (arith, L.short, begin-length (drop i xs) (overLast heap free byte) new-begin, length-drop i xs));
+    fit = fits_true _ (omega (arith, L.short, begin_length (drop i xs) (over_last heap free byte) new_begin, length-drop i xs));
   }
 
   pub turn_small : free + 1 ≤ top + length xs
   turn_small = omega (arith, T.nodes, T.inside)
 
-  pub turn-next : {heap' : List ℕ} → Grown heap heap' free (overLast heap free byte) → LoadedFrom heap₀ heap' top xs i (free + 1)
+  pub turn-next : {heap' : List ℕ} → Grown heap heap' free (over_last heap free byte) → LoadedFrom heap₀ heap' top xs i (free + 1)
   turn-next {heap'} g = record {
     inside = omega (arith, T.inside);
     nodes = omega (arith, T.nodes, T.inside);
@@ -229,10 +229,10 @@ module _ {heap₀ heap : List ℕ} {top : ℕ} {xs : List ℕ} {i free : ℕ} (t
           let z : i ≡ j = omega arith in
           let y : free ≡ node_of top xs i = omega (arith, T.nodes, T.inside) in
           subst (λ (j : ℕ). BeginWith (drop j xs) (value_at heap' (node_of top xs j))) z
-          (subst (λ (n : ℕ). BeginWith (drop i xs) (value_at heap' n)) y (rw g.value new-begin))
+          (subst (λ (n : ℕ). BeginWith (drop i xs) (value_at heap' n)) y (rw g.value new_begin))
 
-pub load-start : {heap : List ℕ} {top : ℕ} {xs : List ℕ} → LoadReady heap top xs → LoadedFrom heap heap top xs (length xs) top
-load-start {heap} {top} {xs} L = record {
+pub load_start : {heap : List ℕ} {top : ℕ} {xs : List ℕ} → LoadReady heap top xs → LoadedFrom heap heap top xs (length xs) top
+load_start {heap} {top} {xs} L = record {
   inside = omega arith;
   nodes = omega arith;
   right = L.right;
@@ -240,8 +240,8 @@ load-start {heap} {top} {xs} L = record {
   begins = λ j l h. absurd (omega arith);
 }
 
-pub load-done : {heap heap' : List ℕ} {top : ℕ} {xs : List ℕ} {i free : ℕ} → LoadedFrom heap heap' top xs i free → i ≤ 0 → LoadedFrom heap heap' top xs 0 free
-load-done {heap} {heap'} {top} {xs} {i} {free} T l = let z : i ≡ 0 = omega arith in subst (λ (i : ℕ). LoadedFrom heap heap' top xs i free) z T
+pub load_done : {heap heap' : List ℕ} {top : ℕ} {xs : List ℕ} {i free : ℕ} → LoadedFrom heap heap' top xs i free → i ≤ 0 → LoadedFrom heap heap' top xs 0 free
+load_done {heap} {heap'} {top} {xs} {i} {free} T l = let z : i ≡ 0 = omega arith in subst (λ (i : ℕ). LoadedFrom heap heap' top xs i free) z T
 
 ----------------------------------------------------------------
 -- For callers

@@ -7,14 +7,14 @@ use lib.ListN.{length, get_or, set, length-set}
 use lib.Seq.{get_or-set_same, get_or-set_other}
 use package.Rattle.octets.specs.Numbers.{get16, get32, put16, put32}
 use package.Rattle.octets.proofs.Puts.{length-put16, length-put32, set-low, put16-low, put32-low, get16-same, get32-same, get16-put16, get32-put32}
-use package.Rattle.valuegraph.specs.Nodes.{nodeBytes, kind_at, printAt, length_at, headAt, left_at, rightAt, putNode, Room, Agree}
+use package.Rattle.valuegraph.specs.Nodes.{node_bytes, kind_at, print_at, length_at, head_at, left_at, right_at, put_node, Room, Agree}
 
 ----------------------------------------------------------------
 -- Numbers in bytes
 
-put16-high : (xs : List ℕ) (i n j : ℕ) → i + 2 ≤ j → get_or (put16 xs i n) j 0 ≡ get_or xs j 0
+put16_high : (xs : List ℕ) (i n j : ℕ) → i + 2 ≤ j → get_or (put16 xs i n) j 0 ≡ get_or xs j 0
 unfolding put16
-put16-high xs i n j h =
+put16_high xs i n j h =
     get_or-set_other (set xs i (n / 256 % 256)) (i + 1) j (n % 256) 0 (λ e. omega arith) ∙ get_or-set_other xs i j (n / 256 % 256) 0 (λ e. omega arith)
 
 -- by its own four bytes
@@ -26,84 +26,84 @@ get32-within xs ys i h =
 ----------------------------------------------------------------
 -- A node that is put
 
-pub length-put : (heap : List ℕ) (n kind print len left right : ℕ) → length (putNode heap n kind print len left right) ≡ length heap
-unfolding putNode
+pub length-put : (heap : List ℕ) (n kind print len left right : ℕ) → length (put_node heap n kind print len left right) ≡ length heap
+unfolding put_node
 length-put heap n kind print len left right = simp (length-put32, length-put16, length-set)
 
 module _ (heap : List ℕ) (n kind print len left right : ℕ) where
   -- the node as it stands once its left part is put, then its first two bytes, then its length
   parted : List ℕ
-  parted = put32 heap (nodeBytes * n + 4) left
+  parted = put32 heap (node_bytes * n + 4) left
 
   begun : List ℕ
-  begun = set (set parted (nodeBytes * n) kind) (nodeBytes * n + 1) print
+  begun = set (set parted (node_bytes * n) kind) (node_bytes * n + 1) print
 
   headed : List ℕ
-  headed = put16 begun (nodeBytes * n + 2) len
+  headed = put16 begun (node_bytes * n + 2) len
 
   -- what is put later does not change them
-  begun_kept : (i : ℕ) → i < nodeBytes * n + 2 → get_or (putNode heap n kind print len left right) i 0 ≡ get_or begun i 0
-  unfolding putNode begun parted
+  begun_kept : (i : ℕ) → i < node_bytes * n + 2 → get_or (put_node heap n kind print len left right) i 0 ≡ get_or begun i 0
+  unfolding put_node begun parted
   begun_kept i h =
-      put32-low _ (nodeBytes * n + 8) right i (omega arith)
-      ∙ put16-low _ (nodeBytes * n + 2) len i h
+      put32-low _ (node_bytes * n + 8) right i (omega arith)
+      ∙ put16-low _ (node_bytes * n + 2) len i h
 
-  pub agree-put : Agree n heap (putNode heap n kind print len left right)
+  pub agree-put : Agree n heap (put_node heap n kind print len left right)
   unfolding begun parted
   agree-put =
       record {
         same = λ i h.
             sym
             (begun_kept i (omega arith)
-            ∙ set-low (set parted (nodeBytes * n) kind) (nodeBytes * n + 1) i print (omega arith)
-            ∙ set-low parted (nodeBytes * n) i kind (omega arith)
-            ∙ put32-low heap (nodeBytes * n + 4) left i (omega arith));
+            ∙ set-low (set parted (node_bytes * n) kind) (node_bytes * n + 1) i print (omega arith)
+            ∙ set-low parted (node_bytes * n) i kind (omega arith)
+            ∙ put32-low heap (node_bytes * n + 4) left i (omega arith));
         lengths = sym (length-put heap n kind print len left right);
       }
 
   module _ (room : Room heap (n + 1)) where
-    pub kind-put : kind_at (putNode heap n kind print len left right) n ≡ kind
+    pub kind-put : kind_at (put_node heap n kind print len left right) n ≡ kind
     unfolding kind_at begun parted
     kind-put =
-        begun_kept (nodeBytes * n) (omega arith)
-        ∙ set-low (set parted (nodeBytes * n) kind) (nodeBytes * n + 1) (nodeBytes * n) print (omega arith)
-        ∙ get_or-set_same parted (nodeBytes * n) kind 0 (simp length-put32 (omega arith))
+        begun_kept (node_bytes * n) (omega arith)
+        ∙ set-low (set parted (node_bytes * n) kind) (node_bytes * n + 1) (node_bytes * n) print (omega arith)
+        ∙ get_or-set_same parted (node_bytes * n) kind 0 (simp length-put32 (omega arith))
 
-    pub print-put : printAt (putNode heap n kind print len left right) n ≡ print
-    unfolding printAt begun parted
+    pub print-put : print_at (put_node heap n kind print len left right) n ≡ print
+    unfolding print_at begun parted
     print-put =
-        begun_kept (nodeBytes * n + 1) (omega arith)
-        ∙ get_or-set_same (set parted (nodeBytes * n) kind) (nodeBytes * n + 1) print 0 (simp (length-set, length-put32) (omega arith))
+        begun_kept (node_bytes * n + 1) (omega arith)
+        ∙ get_or-set_same (set parted (node_bytes * n) kind) (node_bytes * n + 1) print 0 (simp (length-set, length-put32) (omega arith))
 
-    pub len-put : len < 2 ^ 16 → length_at (putNode heap n kind print len left right) n ≡ len
-    unfolding length_at putNode headed begun parted
+    pub len-put : len < 2 ^ 16 → length_at (put_node heap n kind print len left right) n ≡ len
+    unfolding length_at put_node headed begun parted
     len-put small =
-        get16-same _ headed (nodeBytes * n + 2) (λ j h. put32-low _ (nodeBytes * n + 8) right j (omega arith))
-        ∙ get16-put16 _ (nodeBytes * n + 2) len (simp (length-set, length-put32) (omega arith)) small
+        get16-same _ headed (node_bytes * n + 2) (λ j h. put32-low _ (node_bytes * n + 8) right j (omega arith))
+        ∙ get16-put16 _ (node_bytes * n + 2) len (simp (length-set, length-put32) (omega arith)) small
 
     -- the bytes of the left part, which are put first
-    left-kept : (j : ℕ) → nodeBytes * n + 4 ≤ j → j < nodeBytes * n + 8 → get_or (putNode heap n kind print len left right) j 0 ≡ get_or parted j 0
-    unfolding putNode parted
+    left-kept : (j : ℕ) → node_bytes * n + 4 ≤ j → j < node_bytes * n + 8 → get_or (put_node heap n kind print len left right) j 0 ≡ get_or parted j 0
+    unfolding put_node parted
     left-kept j l h =
-        put32-low _ (nodeBytes * n + 8) right j h
-        ∙ put16-high _ (nodeBytes * n + 2) len j (omega arith)
-        ∙ get_or-set_other (set parted (nodeBytes * n) kind) (nodeBytes * n + 1) j print 0 (λ e. omega arith)
-        ∙ get_or-set_other parted (nodeBytes * n) j kind 0 (λ e. omega arith)
+        put32-low _ (node_bytes * n + 8) right j h
+        ∙ put16_high _ (node_bytes * n + 2) len j (omega arith)
+        ∙ get_or-set_other (set parted (node_bytes * n) kind) (node_bytes * n + 1) j print 0 (λ e. omega arith)
+        ∙ get_or-set_other parted (node_bytes * n) j kind 0 (λ e. omega arith)
 
-    pub left-put : left < 2 ^ 32 → left_at (putNode heap n kind print len left right) n ≡ left
+    pub left-put : left < 2 ^ 32 → left_at (put_node heap n kind print len left right) n ≡ left
     unfolding left_at parted
     left-put small =
-        get32-within _ parted (nodeBytes * n + 4) (λ j l h. left-kept j l (omega arith))
-        ∙ get32-put32 heap (nodeBytes * n + 4) left (omega arith) small
+        get32-within _ parted (node_bytes * n + 4) (λ j l h. left-kept j l (omega arith))
+        ∙ get32-put32 heap (node_bytes * n + 4) left (omega arith) small
 
-    pub right-put : right < 2 ^ 32 → rightAt (putNode heap n kind print len left right) n ≡ right
-    unfolding rightAt putNode
-    right-put small = get32-put32 _ (nodeBytes * n + 8) right (simp (length-put16, length-set, length-put32) (omega arith)) small
+    pub right-put : right < 2 ^ 32 → right_at (put_node heap n kind print len left right) n ≡ right
+    unfolding right_at put_node
+    right-put small = get32-put32 _ (node_bytes * n + 8) right (simp (length-put16, length-set, length-put32) (omega arith)) small
 
 -- kind, fingerprint and length make the head
-pub head-is : (heap : List ℕ) (n : ℕ) → headAt heap n ≡ (kind_at heap n * 256 + printAt heap n) * 65536 + length_at heap n
-unfolding headAt kind_at printAt length_at get32 get16
-head-is heap n = refl
+pub head_is : (heap : List ℕ) (n : ℕ) → head_at heap n ≡ (kind_at heap n * 256 + print_at heap n) * 65536 + length_at heap n
+unfolding head_at kind_at print_at length_at get32 get16
+head_is heap n = refl
 
 ----------------------------------------------------------------
 -- Heaps that agree
@@ -122,8 +122,8 @@ module _ {top : ℕ} {heap heap' : List ℕ} (p : Agree top heap heap') (n : ℕ
   unfolding kind_at
   agree-kind = p.same _ (omega arith)
 
-  pub agree-print : printAt heap n ≡ printAt heap' n
-  unfolding printAt
+  pub agree-print : print_at heap n ≡ print_at heap' n
+  unfolding print_at
   agree-print = p.same _ (omega arith)
 
   pub agree-len : length_at heap n ≡ length_at heap' n
@@ -134,6 +134,6 @@ module _ {top : ℕ} {heap heap' : List ℕ} (p : Agree top heap heap') (n : ℕ
   unfolding left_at
   agree_left = get32-same _ _ _ (λ j h. p.same j (omega arith))
 
-  pub agree_right : rightAt heap n ≡ rightAt heap' n
-  unfolding rightAt
+  pub agree_right : right_at heap n ≡ right_at heap' n
+  unfolding right_at
   agree_right = get32-same _ _ _ (λ j h. p.same j (omega arith))

@@ -9,14 +9,14 @@ use package.Rattle.octets.proofs.Pastes.{pasted-behind, pasted-before, set-paste
 use package.Rattle.rules.specs.Val.{size, encode}
 use package.Rattle.rules.proofs.Val.{length-encode}
 use package.Rattle.calls.proofs.Values.{size-positive}
-use package.Rattle.valuegraph.specs.Nodes.{kind_at, length_at, left_at, rightAt, Room, ofKind, value_at, Heap}
+use package.Rattle.valuegraph.specs.Nodes.{kind_at, length_at, left_at, right_at, Room, of_kind, value_at, Heap}
 use package.Rattle.valuegraph.specs.Stores.{StoreReady, StoreDone}
 use package.Rattle.valuegraph.proofs.Shapes.{kind-single, size-single, size-pair, encode-single, encode-pair}
-use package.Rattle.valuegraph.proofs.Heaps.{lower, value-parts, value-unit, heap-down}
+use package.Rattle.valuegraph.proofs.Heaps.{lower, value-parts, value-unit, heap_down}
 
 -- a byte, and a run behind it
-pasted-cons : (xs : List ℕ) (at k : ℕ) (ys : List ℕ) → at < length xs → pasted (set xs at k) (at + 1) ys ≡ pasted xs at (k ∷ ys)
-pasted-cons xs at k ys h = ap (λ l. pasted l (at + 1) ys) (set-pasted xs at k h) ∙ pasted-behind xs at (k ∷ []) (omega arith) ys
+pasted_cons : (xs : List ℕ) (at k : ℕ) (ys : List ℕ) → at < length xs → pasted (set xs at k) (at + 1) ys ≡ pasted xs at (k ∷ ys)
+pasted_cons xs at k ys h = ap (λ l. pasted l (at + 1) ys) (set-pasted xs at k h) ∙ pasted-behind xs at (k ∷ []) (omega arith) ys
 
 ----------------------------------------------------------------
 -- What is still to be stored
@@ -32,8 +32,8 @@ pub record Storing (heap : List ℕ) (n : ℕ) (out₀ : List ℕ) (at x : ℕ) 
 pub length-read : {heap : List ℕ} {n : ℕ} {out : List ℕ} {at : ℕ} → StoreReady heap n out at → length_at heap n ≡ size (value_at heap n)
 length-read {n = n} w = (w.right.node n (omega arith)).len
 
-pub store-start : {heap : List ℕ} {n : ℕ} {out : List ℕ} {at : ℕ} → StoreReady heap n out at → Storing heap n out at n out at
-store-start w = record { ready = w; down = omega arith; lengths = refl; rest = refl }
+pub store_start : {heap : List ℕ} {n : ℕ} {out : List ℕ} {at : ℕ} → StoreReady heap n out at → Storing heap n out at n out at
+store_start w = record { ready = w; down = omega arith; lengths = refl; rest = refl }
 
 module _ {heap : List ℕ} {n : ℕ} {out₀ : List ℕ} {at x : ℕ} {out : List ℕ} {place : ℕ} (s : Storing heap n out₀ at x out place) where
   pub node-room : Room heap (x + 1)
@@ -55,48 +55,48 @@ module _ {heap : List ℕ} {n : ℕ} {out₀ : List ℕ} {at x : ℕ} {out : Lis
   heap_x : Heap heap (x + 1)
   heap_x = w.storing.ready.right
 
-  pub store-unit : {end : ℕ} → k ≡ 0 → end ≡ at + size (value_at heap n) → StoreDone heap n out₀ (set out place k) at end
+  pub store_unit : {end : ℕ} → k ≡ 0 → end ≡ at + size (value_at heap n) → StoreDone heap n out₀ (set out place k) at end
   unfolding encode
-  store-unit z e = record {
+  store_unit z e = record {
     bytes = set-pasted out place k (here w.storing)
         ∙ ap (pasted out place) (rw z (sym (ap encode (value-unit heap (x + 1) heap_x x (sym w.kind ∙ z))))) ∙ w.storing.rest;
     behind = e;
   }
 
   module _ (some : ¬ (k ≡ 0)) where
-    lower-x : (left_at heap x < x) × (rightAt heap x < x)
+    lower-x : (left_at heap x < x) × (right_at heap x < x)
     lower-x = lower heap (x + 1) heap_x x (omega arith) (λ z. some (w.kind ∙ z))
 
-    pub parts-rooms : Room heap (left_at heap x + 1) × Room heap (rightAt heap x + 1)
-    parts-rooms = (omega (arith, lower-x, heap_x.held), omega (arith, lower-x, heap_x.held))
+    pub parts_rooms : Room heap (left_at heap x + 1) × Room heap (right_at heap x + 1)
+    parts_rooms = (omega (arith, lower-x, heap_x.held), omega (arith, lower-x, heap_x.held))
 
-    whole : value_at heap x ≡ ofKind k (value_at heap (left_at heap x)) (value_at heap (rightAt heap x))
+    whole : value_at heap x ≡ of_kind k (value_at heap (left_at heap x)) (value_at heap (right_at heap x))
     whole = rw w.kind (value-parts heap (x + 1) heap_x x (omega arith) (λ z. some (w.kind ∙ z)))
 
     -- what follows the kind is still to be stored
-    rest-behind : {ys : List ℕ} → encode (value_at heap x) ≡ k ∷ ys → pasted written (place + 1) ys ≡ pasted out₀ at (encode (value_at heap n))
+    rest_behind : {ys : List ℕ} → encode (value_at heap x) ≡ k ∷ ys → pasted written (place + 1) ys ≡ pasted out₀ at (encode (value_at heap n))
     unfolding written
-    rest-behind {ys} e = pasted-cons out place k ys (here w.storing) ∙ ap (pasted out place) (sym e) ∙ w.storing.rest
+    rest_behind {ys} e = pasted_cons out place k ys (here w.storing) ∙ ap (pasted out place) (sym e) ∙ w.storing.rest
 
     -- a lower node, to be stored next
     on : {m : ℕ} {out' : List ℕ} {place' : ℕ} → m < x → length out' ≡ length out → place' + size (value_at heap m) ≤ length out
         → pasted out' place' (encode (value_at heap m)) ≡ pasted out₀ at (encode (value_at heap n)) → Storing heap n out₀ at m out' place'
     on {m} l e r q = record {
-      ready = record { right = heap-down (m + 1) (omega arith) heap_x; room = omega arith };
+      ready = record { right = heap_down (m + 1) (omega arith) heap_x; room = omega arith };
       down = omega (arith, w.storing.down);
       lengths = e ∙ w.storing.lengths;
       rest = q;
     }
 
     -- inl, inr and roll
-    pub store-one : {l : ℕ} → ¬ (k ≡ 3) → l ≡ left_at heap x → Storing heap n out₀ at l (set out place k) (place + 1) × (l < x)
+    pub store_one : {l : ℕ} → ¬ (k ≡ 3) → l ≡ left_at heap x → Storing heap n out₀ at l (set out place k) (place + 1) × (l < x)
     unfolding written
-    store-one {l} nt e =
+    store_one {l} nt e =
         let single = kind-single k some (rw w.kind (heap_x.node x (omega arith)).kind) nt in
         let v = value_at heap (left_at heap x) in
-        let u = value_at heap (rightAt heap x) in
+        let u = value_at heap (right_at heap x) in
         let long : size (value_at heap x) ≡ size v + 1 = ap size whole ∙ size-single k v u single in
-        let behind = rest-behind (ap encode whole ∙ encode-single k v u single) in
+        let behind = rest_behind (ap encode whole ∙ encode-single k v u single) in
         rw e (on lower-x.0 (simp length-set) (omega (arith, w.storing.ready.room, long)) behind, lower-x.0)
 
 -- a pair whose parts were read, and the place behind the left one
@@ -104,7 +104,7 @@ pub record PairRead (heap : List ℕ) (n : ℕ) (out₀ : List ℕ) (at x : ℕ)
   pub node : KindRead heap n out₀ at x out place k
   pub three : k ≡ 3
   pub left : l ≡ left_at heap x
-  pub right : r ≡ rightAt heap x
+  pub right : r ≡ right_at heap x
   pub next : behind ≡ place + 1 + length_at heap l
 
 module _ {heap : List ℕ} {n : ℕ} {out₀ : List ℕ} {at x : ℕ} {out : List ℕ} {place k l r behind : ℕ}
@@ -115,23 +115,23 @@ module _ {heap : List ℕ} {n : ℕ} {out₀ : List ℕ} {at x : ℕ} {out : Lis
   lowers : (l < x) × (r < x)
   lowers = let low = lower-x p.node some in (omega (arith, low, p.left), omega (arith, low, p.right))
 
-  heap-here : Heap heap (x + 1)
-  heap-here = heap_x p.node
+  heap_here : Heap heap (x + 1)
+  heap_here = heap_x p.node
 
-  whole_pair : value_at heap x ≡ ofKind 3 (value_at heap l) (value_at heap r)
+  whole_pair : value_at heap x ≡ of_kind 3 (value_at heap l) (value_at heap r)
   whole_pair = rw (← p.three, p.left, p.right) (whole p.node some)
 
   long : size (value_at heap x) ≡ size (value_at heap l) + size (value_at heap r) + 1
   long = ap size whole_pair ∙ size-pair (value_at heap l) (value_at heap r)
 
   both : pasted (written p.node) (place + 1) (encode (value_at heap l) ++ encode (value_at heap r)) ≡ pasted out₀ at (encode (value_at heap n))
-  both = rest-behind p.node some (ap encode whole_pair ∙ rw p.three (encode-pair (value_at heap l) (value_at heap r)))
+  both = rest_behind p.node some (ap encode whole_pair ∙ rw p.three (encode-pair (value_at heap l) (value_at heap r)))
 
   pub lower-parts : (l < n) × (r < n)
   lower-parts = (omega (arith, lowers, p.node.storing.down), omega (arith, lowers, p.node.storing.down))
 
   place-behind : behind ≡ place + 1 + length (encode (value_at heap l))
-  place-behind = omega (arith, p.next, (heap-here.node l (omega (arith, lowers))).len, length-encode (value_at heap l))
+  place-behind = omega (arith, p.next, (heap_here.node l (omega (arith, lowers))).len, length-encode (value_at heap l))
 
   space : place + 1 + length (encode (value_at heap l)) + length (encode (value_at heap r)) ≤ length (written p.node)
   unfolding written
@@ -139,12 +139,12 @@ module _ {heap : List ℕ} {n : ℕ} {out₀ : List ℕ} {at x : ℕ} {out : Lis
 
   pub left-ready : StoreReady heap l (set out place k) (place + 1)
   unfolding written
-  left-ready = record { right = heap-down (l + 1) (omega (arith, lowers)) heap-here; room = omega (arith, space, length-encode (value_at heap l)) }
+  left-ready = record { right = heap_down (l + 1) (omega (arith, lowers)) heap_here; room = omega (arith, space, length-encode (value_at heap l)) }
 
   pub right-ready : StoreReady heap r (set out place k) behind
   unfolding written
   right-ready = record {
-    right = heap-down (r + 1) (omega (arith, lowers)) heap-here;
+    right = heap_down (r + 1) (omega (arith, lowers)) heap_here;
     room = omega (arith, space, place-behind, length-encode (value_at heap r));
   }
 

@@ -2,30 +2,30 @@
 -- first, so that the node of a byte has the value that begins at that byte.
 use Rattle.std.specs.Prelude.{ℕ, ◌+◌, ◌-◌, ◌<◌, ◌≤◌, ◌^◌, ◌≡◌, true, List, ◌++◌, length, drop}
 use package.Rattle.rules.specs.Val.{Val, size, encode}
-use package.Rattle.rules.specs.Limits.{fits, maxValueBytes}
-use package.Rattle.calls.specs.Values.{encodeAll}
-use package.Rattle.valuegraph.specs.Nodes.{length_at, Room, Agree, ofKind, value_at, Heap}
+use package.Rattle.rules.specs.Limits.{fits, max_value_bytes}
+use package.Rattle.calls.specs.Values.{encode_all}
+use package.Rattle.valuegraph.specs.Nodes.{length_at, Room, Agree, of_kind, value_at, Heap}
 
 ----------------------------------------------------------------
 -- One node more, over those of the bytes behind its own
 
 -- The first part of such a value is at the node before, and the second below all the nodes of the first.
-abbrev pub firstBelow : ℕ → ℕ
-firstBelow top = top - 1
+abbrev pub first_below : ℕ → ℕ
+first_below top = top - 1
 
-abbrev pub secondBelow : List ℕ → ℕ → ℕ
-secondBelow heap top = firstBelow top - length_at heap (firstBelow top)
+abbrev pub second_below : List ℕ → ℕ → ℕ
+second_below heap top = first_below top - length_at heap (first_below top)
 
-abbrev pub overLast : List ℕ → ℕ → ℕ → Val
-overLast heap top k = ofKind k (value_at heap (firstBelow top)) (value_at heap (secondBelow heap top))
+abbrev pub over_last : List ℕ → ℕ → ℕ → Val
+over_last heap top k = of_kind k (value_at heap (first_below top)) (value_at heap (second_below heap top))
 
 pub record PlaceReady (heap : List ℕ) (top k : ℕ) : Type 0 where
   pub right : Heap heap top
   pub room : Room heap (top + 1)
   pub kind : k ≤ 4
   pub first : ¬ (k ≡ 0) → 0 < top
-  pub second : k ≡ 3 → length_at heap (firstBelow top) ≤ firstBelow top
-  pub fit : fits (overLast heap top k) ≡ true
+  pub second : k ≡ 3 → length_at heap (first_below top) ≤ first_below top
+  pub fit : fits (over_last heap top k) ≡ true
 
 ----------------------------------------------------------------
 -- Values one after another
@@ -34,8 +34,8 @@ pub record PlaceReady (heap : List ℕ) (top k : ℕ) : Type 0 where
 pub record LoadReady (heap : List ℕ) (top : ℕ) (xs : List ℕ) : Type 0 where
   pub right : Heap heap top
   pub values : List Val
-  pub whole : xs ≡ encodeAll values
-  pub short : length xs ≤ maxValueBytes
+  pub whole : xs ≡ encode_all values
+  pub short : length xs ≤ max_value_bytes
   pub room : Room heap (top + length xs)
   pub small : top + length xs < 2 ^ 32
 

@@ -9,115 +9,115 @@ use package.Rattle.rules.specs.Limits.{fits}
 ----------------------------------------------------------------
 -- The layout: kind, fingerprint, the value's length (2 bytes), left part and right part (4 bytes each)
 
-abbrev pub nodeBytes : ℕ
-nodeBytes = 12
+abbrev pub node_bytes : ℕ
+node_bytes = 12
 
 unfoldable pub kind_at : List ℕ → ℕ → ℕ
-kind_at heap n = get_or heap (nodeBytes * n) 0
+kind_at heap n = get_or heap (node_bytes * n) 0
 
-unfoldable pub printAt : List ℕ → ℕ → ℕ
-printAt heap n = get_or heap (nodeBytes * n + 1) 0
+unfoldable pub print_at : List ℕ → ℕ → ℕ
+print_at heap n = get_or heap (node_bytes * n + 1) 0
 
 unfoldable pub length_at : List ℕ → ℕ → ℕ
-length_at heap n = get16 heap (nodeBytes * n + 2)
+length_at heap n = get16 heap (node_bytes * n + 2)
 
 -- kind, fingerprint and length, as one number
-unfoldable pub headAt : List ℕ → ℕ → ℕ
-headAt heap n = get32 heap (nodeBytes * n)
+unfoldable pub head_at : List ℕ → ℕ → ℕ
+head_at heap n = get32 heap (node_bytes * n)
 
 unfoldable pub left_at : List ℕ → ℕ → ℕ
-left_at heap n = get32 heap (nodeBytes * n + 4)
+left_at heap n = get32 heap (node_bytes * n + 4)
 
-unfoldable pub rightAt : List ℕ → ℕ → ℕ
-rightAt heap n = get32 heap (nodeBytes * n + 8)
+unfoldable pub right_at : List ℕ → ℕ → ℕ
+right_at heap n = get32 heap (node_bytes * n + 8)
 
 -- the left part of a pair, or the right one
 unfoldable pub part_at : List ℕ → ℕ → Bool → ℕ
 part_at heap n true = left_at heap n
-part_at heap n false = rightAt heap n
+part_at heap n false = right_at heap n
 
 -- Is the left part of a pair shorter than the right one?
-unfoldable pub leftShorter : List ℕ → ℕ → Bool
-leftShorter heap n = ltb (length_at heap (left_at heap n)) (length_at heap (rightAt heap n))
+unfoldable pub left_shorter : List ℕ → ℕ → Bool
+left_shorter heap n = ltb (length_at heap (left_at heap n)) (length_at heap (right_at heap n))
 
 -- a node is put, the left part first
-unfoldable pub putNode : List ℕ → ℕ → ℕ → ℕ → ℕ → ℕ → ℕ → List ℕ
-putNode heap n kind print len left right =
-    put32 (put16 (set (set (put32 heap (nodeBytes * n + 4) left) (nodeBytes * n) kind) (nodeBytes * n + 1) print)
-    (nodeBytes * n + 2) len) (nodeBytes * n + 8) right
+unfoldable pub put_node : List ℕ → ℕ → ℕ → ℕ → ℕ → ℕ → ℕ → List ℕ
+put_node heap n kind print len left right =
+    put32 (put16 (set (set (put32 heap (node_bytes * n + 4) left) (node_bytes * n) kind) (node_bytes * n + 1) print)
+    (node_bytes * n + 2) len) (node_bytes * n + 8) right
 
 -- the bytes hold so many nodes
 abbrev pub Room : List ℕ → ℕ → Type 0
-Room heap n = nodeBytes * n ≤ length heap
+Room heap n = node_bytes * n ≤ length heap
 
 -- two heaps, of one length, agree on the nodes below `top`
 pub record Agree (top : ℕ) (heap heap' : List ℕ) : Type 0 where
-  pub same : (i : ℕ) → i < nodeBytes * top → get_or heap i 0 ≡ get_or heap' i 0
+  pub same : (i : ℕ) → i < node_bytes * top → get_or heap i 0 ≡ get_or heap' i 0
   pub lengths : length heap ≡ length heap'
 
 ----------------------------------------------------------------
 -- Fingerprints: a byte that is a function of the value, by which most values that differ are told apart without a walk
 
-unfoldable pub unitPrint : ℕ
-unitPrint = 17
+unfoldable pub unit_print : ℕ
+unit_print = 17
 
 -- Every factor is odd, so that no two bytes have the same product with it modulo 256: values that differ in one place have different
 -- fingerprints.
-unfoldable pub kindFactor : ℕ
-kindFactor = 59
+unfoldable pub kind_factor : ℕ
+kind_factor = 59
 
-unfoldable pub leftFactor : ℕ
-leftFactor = 141
+unfoldable pub left_factor : ℕ
+left_factor = 141
 
-unfoldable pub rightFactor : ℕ
-rightFactor = 101
+unfoldable pub right_factor : ℕ
+right_factor = 101
 
 -- a kind and the fingerprints of two parts, mixed
 unfoldable pub mixed : ℕ → ℕ → ℕ → ℕ
-mixed kind left right = (kindFactor * kind + leftFactor * left + rightFactor * right) % 256
+mixed kind left right = (kind_factor * kind + left_factor * left + right_factor * right) % 256
 
 unfoldable pub fingerprint : Val → ℕ
-fingerprint unit = unitPrint
+fingerprint unit = unit_print
 fingerprint (inl v) = mixed 1 (fingerprint v) 0
 fingerprint (inr v) = mixed 2 (fingerprint v) 0
 fingerprint (pair v w) = mixed 3 (fingerprint v) (fingerprint w)
 fingerprint (roll v) = mixed 4 (fingerprint v) 0
 
 -- Do two nodes agree in kind, fingerprint and length? Nodes of equal values do (proofs/Equal).
-unfoldable pub alikeAt : List ℕ → ℕ → ℕ → Bool
-alikeAt heap a b = eqb (headAt heap a) (headAt heap b)
+unfoldable pub alike_at : List ℕ → ℕ → ℕ → Bool
+alike_at heap a b = eqb (head_at heap a) (head_at heap b)
 
 ----------------------------------------------------------------
 -- Values at nodes
 
 -- the value of a kind, over its parts: the kinds are those of the value bytes
-unfoldable pub ofKind : ℕ → Val → Val → Val
-ofKind zero v w = unit
-ofKind (suc zero) v w = inl v
-ofKind (suc (suc zero)) v w = inr v
-ofKind (suc (suc (suc zero))) v w = pair v w
-ofKind (suc (suc (suc (suc n)))) v w = roll v
+unfoldable pub of_kind : ℕ → Val → Val → Val
+of_kind zero v w = unit
+of_kind (suc zero) v w = inl v
+of_kind (suc (suc zero)) v w = inr v
+of_kind (suc (suc (suc zero))) v w = pair v w
+of_kind (suc (suc (suc (suc n)))) v w = roll v
 
 -- a kind with one part
 abbrev pub Single : ℕ → Type 0
 Single kind = (kind ≡ 1) ⊎ ((kind ≡ 2) ⊎ (kind ≡ 4))
 
 -- `depth` bounds how far down the parts are followed
-unfoldable pub valueWithin : ℕ → List ℕ → ℕ → Val
-valueWithin zero heap n = unit
-valueWithin (suc depth) heap n =
-    ofKind (kind_at heap n) (valueWithin depth heap (left_at heap n)) (valueWithin depth heap (rightAt heap n))
+unfoldable pub value_within : ℕ → List ℕ → ℕ → Val
+value_within zero heap n = unit
+value_within (suc depth) heap n =
+    of_kind (kind_at heap n) (value_within depth heap (left_at heap n)) (value_within depth heap (right_at heap n))
 
 -- the value at a node: parts are lower nodes, so the node's number bounds the depth
 unfoldable pub value_at : List ℕ → ℕ → Val
-value_at heap n = valueWithin (suc n) heap n
+value_at heap n = value_within (suc n) heap n
 
 -- The node is a unit or names lower nodes; its fingerprint and its length are its value's; and its value is within the limit on values
 -- (section 1).
 pub record Right (heap : List ℕ) (n : ℕ) : Type 0 where
-  pub parts : (kind_at heap n ≡ 0) ⊎ ((left_at heap n < n) × (rightAt heap n < n))
+  pub parts : (kind_at heap n ≡ 0) ⊎ ((left_at heap n < n) × (right_at heap n < n))
   pub kind : kind_at heap n ≤ 4
-  pub print : printAt heap n ≡ fingerprint (value_at heap n)
+  pub print : print_at heap n ≡ fingerprint (value_at heap n)
   pub len : length_at heap n ≡ size (value_at heap n)
   pub fit : fits (value_at heap n) ≡ true
 
@@ -136,8 +136,8 @@ pub record NodeReady (heap : List ℕ) (top k p n a b : ℕ) : Type 0 where
   pub room : Room heap (top + 1)
   pub parts : (k ≡ 0) ⊎ ((a < top) × (b < top))
   pub kind : k ≤ 4
-  pub print : p ≡ fingerprint (ofKind k (value_at heap a) (value_at heap b))
-  pub len : n ≡ size (ofKind k (value_at heap a) (value_at heap b))
+  pub print : p ≡ fingerprint (of_kind k (value_at heap a) (value_at heap b))
+  pub len : n ≡ size (of_kind k (value_at heap a) (value_at heap b))
 
 -- The node at `top` is new and has the value; all below is as it was.
 pub record Grown (heap heap' : List ℕ) (top : ℕ) (v : Val) : Type 0 where
@@ -158,4 +158,4 @@ pub record Made (heap heap' : List ℕ) (top : ℕ) (v : Val) (ok : Bool) : Type
 pub record Celled (heap heap' : List ℕ) (top left right : ℕ) : Type 0 where
   pub grown : Grown heap heap' top unit
   pub left_is : left_at heap' top ≡ left
-  pub right_is : rightAt heap' top ≡ right
+  pub right_is : right_at heap' top ≡ right

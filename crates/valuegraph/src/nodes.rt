@@ -2,9 +2,9 @@
 ghost use Rattle.std.specs.Prelude.{◌≡◌, ◌+◌, ◌*◌, ◌<◌, ◌≤◌, true};
 ghost use Rattle.rules.specs.Limits.{fits};
 ghost use Rattle.rules.specs.Val.{unit, pair, same};
-ghost use Rattle.valuegraph.specs.Nodes.{kind_at, printAt, length_at, headAt, left_at, rightAt, part_at, leftShorter, putNode, Room};
-ghost use Rattle.valuegraph.specs.Nodes.{mixed, alikeAt, ofKind, Single, value_at, Heap, NodeReady, Grown, Made, Celled};
-ghost use Rattle.valuegraph.specs.Loads.{PlaceReady, overLast, LoadReady, LoadedFrom};
+ghost use Rattle.valuegraph.specs.Nodes.{kind_at, print_at, length_at, head_at, left_at, right_at, part_at, left_shorter, put_node, Room};
+ghost use Rattle.valuegraph.specs.Nodes.{mixed, alike_at, of_kind, Single, value_at, Heap, NodeReady, Grown, Made, Celled};
+ghost use Rattle.valuegraph.specs.Loads.{PlaceReady, over_last, LoadReady, LoadedFrom};
 ghost use Rattle.valuegraph.specs.Stores.{StoreReady, StoreDone};
 
 const NODE_BYTES: usize = 12;
@@ -43,7 +43,7 @@ pub fn kind_of(ws: &[u8], n: u32) -> u8
 // The fingerprint of a node's value.
 fn print_of(ws: &[u8], n: u32) -> u8
     requires { Room ws.now (n + 1) }
-    ensures { result ≡ printAt ws.now n }
+    ensures { result ≡ print_at ws.now n }
 {
     let i = n as usize;
     ws[NODE_BYTES * i + 1]
@@ -52,7 +52,7 @@ fn print_of(ws: &[u8], n: u32) -> u8
 // Kind, fingerprint and length, as one number.
 fn head_of(ws: &[u8], n: u32) -> u32
     requires { Room ws.now (n + 1) }
-    ensures { result ≡ headAt ws.now n }
+    ensures { result ≡ head_at ws.now n }
 {
     let i = n as usize;
     octets::read32(ws, NODE_BYTES * i)
@@ -79,7 +79,7 @@ pub fn left_of(ws: &[u8], n: u32) -> u32
 // The node that is the right part of a pair.
 pub fn right_of(ws: &[u8], n: u32) -> u32
     requires { Room ws.now (n + 1) }
-    ensures { result ≡ rightAt ws.now n }
+    ensures { result ≡ right_at ws.now n }
 {
     let i = n as usize;
     octets::read32(ws, NODE_BYTES * i + 8)
@@ -99,8 +99,8 @@ fn part_of(ws: &[u8], n: u32, left: bool) -> u32
 // Is the left part of a pair shorter than the right one?
 fn left_shorter(ws: &[u8], n: u32) -> bool
     requires room { Room ws.now (n + 1) }
-    requires room_2 { Room ws.now (left_at ws.now n + 1) × Room ws.now (rightAt ws.now n + 1) }
-    ensures { result ≡ leftShorter ws.now n }
+    requires room_2 { Room ws.now (left_at ws.now n + 1) × Room ws.now (right_at ws.now n + 1) }
+    ensures { result ≡ left_shorter ws.now n }
 {
     let length = length_of(ws, left_of(ws, n));
     let other = length_of(ws, right_of(ws, n));
@@ -121,7 +121,7 @@ fn mix(kind: u8, left: u8, right: u8) -> u8
 // The left part comes first: it is read most often, and so written it is one store and not four, which a read soon after would wait for.
 fn put_node(ws: &mut [u8], n: u32, kind: u8, print: u8, len: u16, left: u32, right: u32)
     requires { Room ws.old (n + 1) }
-    ensures { ws.new ≡ putNode ws.old n kind print len left right }
+    ensures { ws.new ≡ put_node ws.old n kind print len left right }
 {
     let i = n as usize;
     octets::write32(ws, NODE_BYTES * i + 4, left);
@@ -134,8 +134,8 @@ fn put_node(ws: &mut [u8], n: u32, kind: u8, print: u8, len: u16, left: u32, rig
 // A node of a kind, a fingerprint and a length, over two nodes. (Of a unit the parts mean nothing; of a single part it is named twice.)
 fn append(ws: &mut [u8], top: u32, kind: u8, print: u8, len: u16, left: u32, right: u32)
     requires node_ready { NodeReady ws.old top kind print len left right }
-    requires right_value { fits (ofKind kind (value_at ws.old left) (value_at ws.old right)) ≡ true }
-    ensures { Grown ws.old ws.new top (ofKind kind (value_at ws.old left) (value_at ws.old right)) }
+    requires right_value { fits (of_kind kind (value_at ws.old left) (value_at ws.old right)) ≡ true }
+    ensures { Grown ws.old ws.new top (of_kind kind (value_at ws.old left) (value_at ws.old right)) }
 {
     put_node(ws, top, kind, print, len, left, right);
 }
@@ -151,7 +151,7 @@ fn append_short(
     right: u32,
 ) -> bool
     requires { NodeReady ws.old top kind print len left right }
-    ensures { Made ws.old ws.new top (ofKind kind (value_at ws.old left) (value_at ws.old right)) result }
+    ensures { Made ws.old ws.new top (of_kind kind (value_at ws.old left) (value_at ws.old right)) result }
 {
     if MAX_VALUE_BYTES < len {
         return false;
@@ -183,7 +183,7 @@ pub fn single(ws: &mut [u8], top: u32, kind: u8, part: u32) -> bool
     requires heap { Heap ws.old top }
     requires room { Room ws.old (top + 1) }
     requires part_lt_top { (part < top) × Single kind }
-    ensures { Made ws.old ws.new top (ofKind kind (value_at ws.old part) (value_at ws.old part)) result }
+    ensures { Made ws.old ws.new top (of_kind kind (value_at ws.old part) (value_at ws.old part)) result }
 {
     let n = octets::wide32(length_of(ws, part));
     let print = mix(kind, print_of(ws, part), 0);
@@ -207,7 +207,7 @@ pub fn pair(ws: &mut [u8], top: u32, left: u32, right: u32) -> bool
 pub fn alike(ws: &[u8], a: u32, b: u32) -> bool
     requires room { Room ws.now (a + 1) }
     requires room_2 { Room ws.now (b + 1) }
-    ensures { result ≡ alikeAt ws.now a b }
+    ensures { result ≡ alike_at ws.now a b }
 {
     let head = head_of(ws, a);
     let other = head_of(ws, b);
@@ -251,7 +251,7 @@ pub fn same(ws: &[u8], top: u32, a: u32, b: u32) -> bool
 // The node of a byte that begins a value, at `top`, over the nodes of the bytes behind it.
 fn place(ws: &mut [u8], top: u32, kind: u8)
     requires { PlaceReady ws.old top kind }
-    ensures { Grown ws.old ws.new top (overLast ws.old top kind) }
+    ensures { Grown ws.old ws.new top (over_last ws.old top kind) }
 {
     if kind == UNIT {
         unit(ws, top);

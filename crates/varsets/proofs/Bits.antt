@@ -27,23 +27,23 @@ digit zero h = clear
 digit (suc zero) h = one
 digit (suc (suc n)) h = absurd (omega arith)
 
-max-digits : {a b : ℕ} → Digit a → Digit b → (max a b < 2) × (eqb (max a b) 1 ≡ (eqb a 1 || eqb b 1))
-max-digits clear clear = (omega arith, refl)
-max-digits clear one = (omega arith, refl)
-max-digits one clear = (omega arith, refl)
-max-digits one one = (omega arith, refl)
+max_digits : {a b : ℕ} → Digit a → Digit b → (max a b < 2) × (eqb (max a b) 1 ≡ (eqb a 1 || eqb b 1))
+max_digits clear clear = (omega arith, refl)
+max_digits clear one = (omega arith, refl)
+max_digits one clear = (omega arith, refl)
+max_digits one one = (omega arith, refl)
 
-min-digits : {a b : ℕ} → Digit a → Digit b → (min a b < 2) × (eqb (min a b) 1 ≡ (eqb a 1 && eqb b 1))
-min-digits clear clear = (omega arith, refl)
-min-digits clear one = (omega arith, refl)
-min-digits one clear = (omega arith, refl)
-min-digits one one = (omega arith, refl)
+min_digits : {a b : ℕ} → Digit a → Digit b → (min a b < 2) × (eqb (min a b) 1 ≡ (eqb a 1 && eqb b 1))
+min_digits clear clear = (omega arith, refl)
+min_digits clear one = (omega arith, refl)
+min_digits one clear = (omega arith, refl)
+min_digits one one = (omega arith, refl)
 
-differ-digits : {a b : ℕ} → Digit a → Digit b → (differ a b < 2) × (eqb (differ a b) 1 ≡ not (beq (eqb a 1) (eqb b 1)))
-differ-digits clear clear = (omega arith, refl)
-differ-digits clear one = (omega arith, refl)
-differ-digits one clear = (omega arith, refl)
-differ-digits one one = (omega arith, refl)
+differ_digits : {a b : ℕ} → Digit a → Digit b → (differ a b < 2) × (eqb (differ a b) 1 ≡ not (beq (eqb a 1) (eqb b 1)))
+differ_digits clear clear = (omega arith, refl)
+differ_digits clear one = (omega arith, refl)
+differ_digits one clear = (omega arith, refl)
+differ_digits one one = (omega arith, refl)
 
 low_digit : (n : ℕ) → Digit (n % 2)
 low_digit n = digit (n % 2) (omega arith)
@@ -55,21 +55,21 @@ pub bit-or : (a b i : ℕ) → bit (bit_or a b) i ≡ (bit a i || bit b i)
 bit-or a b i = ap (λ n. eqb (n % 2) 1) (or_shr a b i) ∙ low (a / 2 ^ i) (b / 2 ^ i)
   where
     low : (x y : ℕ) → eqb (bit_or x y % 2) 1 ≡ (eqb (x % 2) 1 || eqb (y % 2) 1)
-    low x y = let h = max-digits (low_digit x) (low_digit y) in
+    low x y = let h = max_digits (low_digit x) (low_digit y) in
         ap (λ n. eqb n 1) (let z : bit_or x y % 2 ≡ max (x % 2) (y % 2) = omega (arith, or_step x y, h.0) in z) ∙ h.1
 
 pub bit-and : (a b i : ℕ) → bit (bit_and a b) i ≡ (bit a i && bit b i)
 bit-and a b i = ap (λ n. eqb (n % 2) 1) (and_shr a b i) ∙ low (a / 2 ^ i) (b / 2 ^ i)
   where
     low : (x y : ℕ) → eqb (bit_and x y % 2) 1 ≡ (eqb (x % 2) 1 && eqb (y % 2) 1)
-    low x y = let h = min-digits (low_digit x) (low_digit y) in
+    low x y = let h = min_digits (low_digit x) (low_digit y) in
         ap (λ n. eqb n 1) (let z : bit_and x y % 2 ≡ min (x % 2) (y % 2) = omega (arith, and_step x y, h.0) in z) ∙ h.1
 
 pub bit-xor : (a b i : ℕ) → bit (bit_xor a b) i ≡ not (beq (bit a i) (bit b i))
 bit-xor a b i = ap (λ n. eqb (n % 2) 1) (xor_shr a b i) ∙ low (a / 2 ^ i) (b / 2 ^ i)
   where
     low : (x y : ℕ) → eqb (bit_xor x y % 2) 1 ≡ not (beq (eqb (x % 2) 1) (eqb (y % 2) 1))
-    low x y = let h = differ-digits (low_digit x) (low_digit y) in
+    low x y = let h = differ_digits (low_digit x) (low_digit y) in
         ap (λ n. eqb n 1) (let z : bit_xor x y % 2 ≡ differ (x % 2) (y % 2) = omega (arith, xor_step x y, h.0) in z) ∙ h.1
 
 ----------------------------------------------------------------
@@ -113,13 +113,13 @@ bit-power i j = go (dec_lt i j) (dec_lt j i)
         ap (λ k. bit (2 ^ i) k) e ∙ ap (λ n. eqb (n % 2) 1) (ap (λ n. n / 2 ^ i) (let z : 2 ^ i ≡ 1 * 2 ^ i = omega arith in z) ∙ shl-shr 1 i) ∙ sym (eq-eqb j i e)
 
 -- the number below a power of two has all bits below it
-pub bit-ones : (n i : ℕ) → bit (2 ^ n - 1) i ≡ ltb i n
-bit-ones zero i = bit-zero i ∙ sym (le-ltb i 0 (omega arith))
-bit-ones (suc n) zero =
+pub bit_ones : (n i : ℕ) → bit (2 ^ n - 1) i ≡ ltb i n
+bit_ones zero i = bit-zero i ∙ sym (le-ltb i 0 (omega arith))
+bit_ones (suc n) zero =
     ap (λ m. eqb (m % 2) 1) (let z : (2 ^ suc n - 1) / 2 ^ 0 ≡ 2 ^ suc n - 1 = omega arith in z)
     ∙ ap (λ m. eqb m 1) (let z : (2 ^ suc n - 1) % 2 ≡ 1 = omega (arith, two-pow-succ n, pow_pos n) in z) ∙ sym (lt-ltb 0 (suc n) (omega arith))
-bit-ones (suc n) (suc i) =
-    sym (bit-half (2 ^ suc n - 1) i) ∙ ap (λ m. bit m i) (let z : (2 ^ suc n - 1) / 2 ≡ 2 ^ n - 1 = omega (arith, two-pow-succ n, pow_pos n) in z) ∙ bit-ones n i ∙ shifted (dec_lt i n)
+bit_ones (suc n) (suc i) =
+    sym (bit-half (2 ^ suc n - 1) i) ∙ ap (λ m. bit m i) (let z : (2 ^ suc n - 1) / 2 ≡ 2 ^ n - 1 = omega (arith, two-pow-succ n, pow_pos n) in z) ∙ bit_ones n i ∙ shifted (dec_lt i n)
   where
     shifted : Dec (i < n) → ltb i n ≡ ltb (suc i) (suc n)
     shifted (yes l) = lt-ltb i n l ∙ sym (lt-ltb (suc i) (suc n) (omega arith))

@@ -9,23 +9,23 @@ use lib.Dec.{eqb, ltb, leb}
 use lib.Pow.{pow-lt, shr-shr, shr_le, high}
 use borrow.Author.Tests.{eqb-true, eqb-false, lt-ltb, le-ltb, le-leb, lt-leb}
 use package.Rattle.octets.specs.Runs.{Decides}
-use package.Rattle.rules.specs.Limits.{maxVariables}
+use package.Rattle.rules.specs.Limits.{max_variables}
 use package.Rattle.rules.specs.Term.{inside}
-use package.Rattle.varsets.specs.Sets.{has, Holds, below, AllInside, low_half, high_half, ofHalves}
+use package.Rattle.varsets.specs.Sets.{has, Holds, below, AllInside, low_half, high_half, of_halves}
 use package.Rattle.varsets.proofs.Bits.{bit, bit-zero, all-clear}
 use Rattle.varsets.specs.declared.Uses.{Uses}
 
 ----------------------------------------------------------------
 -- Numbers that no variable of a set has
 
-pub all-below : (u : Uses) (n : ℕ) → maxVariables ≤ n → Holds u (below n (has u))
+pub all-below : (u : Uses) (n : ℕ) → max_variables ≤ n → Holds u (below n (has u))
 all-below u n h = record { each = λ i l. sym (ap (λ b. has u i && b) (lt-ltb i n (omega arith)) ∙ unchanged (has u i)) }
   where
     unchanged : (b : Bool) → (b && true) ≡ b
     unchanged true = refl
     unchanged false = refl
 
-pub all-ancillae : (u : Uses) (q n : ℕ) → maxVariables ≤ q → AllInside u q n
+pub all-ancillae : (u : Uses) (q n : ℕ) → max_variables ≤ q → AllInside u q n
 all-ancillae u q n h i l e = ap (λ b. b || leb n i) (lt-ltb i q (omega arith))
 
 ----------------------------------------------------------------
@@ -48,8 +48,8 @@ module _ (q n : ℕ) where
   outside : (i : ℕ) → q ≤ i → i < n → inside q n i ≡ false
   outside i l h = ap₂ ◌||◌ (le-ltb i q l) (lt-leb n i h)
 
-  true-differs : {b : Bool} → b ≡ true → b ≡ false → ⊥
-  true-differs e f = let z : ◌≡◌ {A = ℕ} 0 1 = cc in omega arith
+  true_differs : {b : Bool} → b ≡ true → b ≡ false → ⊥
+  true_differs e f = let z : ◌≡◌ {A = ℕ} 0 1 = cc in omega arith
 
   -- a variable that has to be inside is not below `n` from number `q` on
   none_left : (i : ℕ) (b : Bool) → q ≤ i → (b ≡ true → inside q n i ≡ true) → (b && ltb i n) ≡ false
@@ -57,36 +57,36 @@ module _ (q n : ℕ) where
   none_left i true l f = go (dec_lt i n)
     where
       go : Dec (i < n) → ltb i n ≡ false
-      go (yes x) = absurd (true-differs (f refl) (outside i l x))
+      go (yes x) = absurd (true_differs (f refl) (outside i l x))
       go (no x) = le-ltb i n (omega arith)
 
   -- a variable of the set that is not inside is left
   one_left : (i : ℕ) → q ≤ i → i < n → (b : Bool) → b ≡ true → (b && ltb i n) ≡ true
   one_left i l x b e = ap₂ ◌&&◌ e (lt-ltb i n x)
 
-  pub inside-decides : (u s : Uses) → s.bits < 2 ^ maxVariables → Holds s (below n (has u)) → Decides (eqb (s.bits / 2 ^ q) 0) (AllInside u q n)
+  pub inside-decides : (u s : Uses) → s.bits < 2 ^ max_variables → Holds s (below n (has u)) → Decides (eqb (s.bits / 2 ^ q) 0) (AllInside u q n)
   unfolding has
   inside-decides u s h S = go (eqb (s.bits / 2 ^ q) 0) refl
     where
       -- nothing left: each variable is inside
-      each-inside : (i : ℕ) → i < maxVariables → s.bits / 2 ^ q ≡ 0 → has u i ≡ true → Dec (i < q) → Dec (i < n) → inside q n i ≡ true
+      each-inside : (i : ℕ) → i < max_variables → s.bits / 2 ^ q ≡ 0 → has u i ≡ true → Dec (i < q) → Dec (i < n) → inside q n i ≡ true
       each-inside i l e m (yes x) d = ap (λ b. b || leb n i) (lt-ltb i q x)
       each-inside i l e m (no x) (no y) = ap₂ ◌||◌ (le-ltb i q (omega arith)) (le-leb n i (omega arith))
-      each-inside i l e m (no x) (yes y) = absurd (true-differs (S.each i l ∙ one_left i (omega arith) y (has u i) m)
+      each-inside i l e m (no x) (yes y) = absurd (true_differs (S.each i l ∙ one_left i (omega arith) y (has u i) m)
           (ap (bit s.bits) (let z : i ≡ q + (i - q) = omega arith in z)
           ∙ sym (bit_shifted s.bits q (i - q)) ∙ ap (λ m. bit m (i - q)) e ∙ bit-zero (i - q)))
 
-      clear : AllInside u q n → (j : ℕ) → Dec (q + j < maxVariables) → bit s.bits (q + j) ≡ false
+      clear : AllInside u q n → (j : ℕ) → Dec (q + j < max_variables) → bit s.bits (q + j) ≡ false
       clear A j (yes x) = S.each (q + j) x ∙ none_left (q + j) (has u (q + j)) (omega arith) (A (q + j) x)
-      clear A j (no x) = bit_high s.bits maxVariables (q + j) h (omega arith)
+      clear A j (no x) = bit_high s.bits max_variables (q + j) h (omega arith)
 
       go : (b : Bool) → eqb (s.bits / 2 ^ q) 0 ≡ b → Decides b (AllInside u q n)
       go true e = λ i l m. each-inside i l (eqb-true _ 0 e) m (dec_lt i q) (dec_lt i n)
-      go false e = λ A. eqb-false _ 0 e (all-clear maxVariables (s.bits / 2 ^ q) (let z : s.bits / 2 ^ q ≤ s.bits = shr_le s.bits q in omega arith)
-          λ j l. bit_shifted s.bits q j ∙ clear A j (dec_lt (q + j) maxVariables))
+      go false e = λ A. eqb-false _ 0 e (all-clear max_variables (s.bits / 2 ^ q) (let z : s.bits / 2 ^ q ≤ s.bits = shr_le s.bits q in omega arith)
+          λ j l. bit_shifted s.bits q j ∙ clear A j (dec_lt (q + j) max_variables))
 
 ----------------------------------------------------------------
 -- Halves
 
-pub halves-whole : (u : Uses) → ofHalves (low_half u) (high_half u) ≡ u
-halves-whole u = ap (λ n. record { bits = n }) (let z : 65536 * (u.bits / 65536) + u.bits % 65536 ≡ u.bits = omega arith in z)
+pub halves_whole : (u : Uses) → of_halves (low_half u) (high_half u) ≡ u
+halves_whole u = ap (λ n. record { bits = n }) (let z : 65536 * (u.bits / 65536) + u.bits % 65536 ≡ u.bits = omega arith in z)

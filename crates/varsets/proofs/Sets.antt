@@ -10,39 +10,39 @@ use lib.Pow.{pow_pos, shl_exact}
 use borrow.Author.Tests.{eqb-true, eqb-false, lt-ltb, le-ltb}
 use package.Rattle.varsets.specs.Sets.{has, Holds, nobody, alone, firsts, ranged, joined, below, AgreeOn}
 use package.Rattle.octets.specs.Runs.{Decides}
-use package.Rattle.rules.specs.Limits.{maxVariables}
-use package.Rattle.varsets.proofs.Bits.{bit, bit-or, bit-and, bit-xor, bit-zero, bit-power, bit-ones, all-clear}
+use package.Rattle.rules.specs.Limits.{max_variables}
+use package.Rattle.varsets.proofs.Bits.{bit, bit-or, bit-and, bit-xor, bit-zero, bit-power, bit_ones, all-clear}
 use Rattle.varsets.specs.declared.Uses.{Uses}
 
-pub holds-none : Holds (record { bits = 0 }) nobody
+pub holds_none : Holds (record { bits = 0 }) nobody
 unfolding has
-holds-none = record { each = λ i l. bit-zero i }
+holds_none = record { each = λ i l. bit-zero i }
 
 -- a power of two that a number holds
-power : (i : ℕ) → i < maxVariables → 1 * 2 ^ i % 4294967296 ≡ 2 ^ i
+power : (i : ℕ) → i < max_variables → 1 * 2 ^ i % 4294967296 ≡ 2 ^ i
 power i l = shl_exact {a = 1} 1 i 32 (omega arith) (omega arith) ∙ (let z : 1 * 2 ^ i ≡ 2 ^ i = omega arith in z)
 
-pub power-some : (i : ℕ) → i < maxVariables → 1 ≤ 1 * 2 ^ i % 4294967296
-power-some i l = omega (arith, power i l, pow_pos i)
+pub power_some : (i : ℕ) → i < max_variables → 1 ≤ 1 * 2 ^ i % 4294967296
+power_some i l = omega (arith, power i l, pow_pos i)
 
-pub holds-only : (i : ℕ) → i < maxVariables → Holds (record { bits = 1 * 2 ^ i % 4294967296 }) (alone i)
+pub holds-only : (i : ℕ) → i < max_variables → Holds (record { bits = 1 * 2 ^ i % 4294967296 }) (alone i)
 unfolding has
 holds-only i l = record {
   each = λ j h. ap (λ n. bit n j) (power i l) ∙ bit-power i j;
 }
 
-pub holds-first : (n : ℕ) → n < maxVariables → Holds (record { bits = 1 * 2 ^ n % 4294967296 - 1 }) (firsts n)
+pub holds-first : (n : ℕ) → n < max_variables → Holds (record { bits = 1 * 2 ^ n % 4294967296 - 1 }) (firsts n)
 unfolding has
-holds-first n l = record { each = λ i h. ap (λ m. bit (m - 1) i) (power n l) ∙ bit-ones n i }
+holds-first n l = record { each = λ i h. ap (λ m. bit (m - 1) i) (power n l) ∙ bit_ones n i }
 
 -- of the first `n` and the first `low`, no more than `n`, one set has the variables between
-pub holds-between : (low n : ℕ) → low ≤ n → n < maxVariables
+pub holds-between : (low n : ℕ) → low ≤ n → n < max_variables
     → Holds (record { bits = bit_xor (1 * 2 ^ n % 4294967296 - 1) (1 * 2 ^ low % 4294967296 - 1) }) (ranged low n)
 unfolding has
 holds-between low n l h = record {
   each = λ i k. bit-xor _ _ i
-      ∙ ap₂ (λ a b. not (beq a b)) (ap (λ m. bit (m - 1) i) (power n h) ∙ bit-ones n i)
-      (ap (λ m. bit (m - 1) i) (power low (omega arith)) ∙ bit-ones low i)
+      ∙ ap₂ (λ a b. not (beq a b)) (ap (λ m. bit (m - 1) i) (power n h) ∙ bit_ones n i)
+      (ap (λ m. bit (m - 1) i) (power low (omega arith)) ∙ bit_ones low i)
       ∙ go i (dec_lt i low) (dec_lt i n);
 }
   where
@@ -52,42 +52,42 @@ holds-between low n l h = record {
     go i (no a) (yes b) = rw (le-ltb i low (omega arith), lt-ltb i n b)
     go i (no a) (no b) = rw (le-ltb i low (omega arith), le-ltb i n (omega arith))
 
-pub holds-below : (u : Uses) (n : ℕ) → n < maxVariables → Holds (record { bits = bit_and u.bits (1 * 2 ^ n % 4294967296 - 1) }) (below n (has u))
+pub holds-below : (u : Uses) (n : ℕ) → n < max_variables → Holds (record { bits = bit_and u.bits (1 * 2 ^ n % 4294967296 - 1) }) (below n (has u))
 unfolding has
 holds-below u n l = record {
   each = λ i h.
-      bit-and u.bits (1 * 2 ^ n % 4294967296 - 1) i ∙ ap (λ b. bit u.bits i && b) (ap (λ m. bit (m - 1) i) (power n l) ∙ bit-ones n i);
+      bit-and u.bits (1 * 2 ^ n % 4294967296 - 1) i ∙ ap (λ b. bit u.bits i && b) (ap (λ m. bit (m - 1) i) (power n l) ∙ bit_ones n i);
 }
 
-pub holds-union : (u v : Uses) → Holds (record { bits = bit_or u.bits v.bits }) (joined (has u) (has v))
+pub holds_union : (u v : Uses) → Holds (record { bits = bit_or u.bits v.bits }) (joined (has u) (has v))
 unfolding has
-holds-union u v = record { each = λ i l. bit-or u.bits v.bits i }
+holds_union u v = record { each = λ i l. bit-or u.bits v.bits i }
 
 ----------------------------------------------------------------
 -- Agreement
 
 -- bits that do not differ are the same
-not-differ : (a b : Bool) → not (beq a b) ≡ false → a ≡ b
-not-differ true true e = refl
-not-differ true false e = e
-not-differ false true e = sym e
-not-differ false false e = refl
+not_differ : (a b : Bool) → not (beq a b) ≡ false → a ≡ b
+not_differ true true e = refl
+not_differ true false e = e
+not_differ false true e = sym e
+not_differ false false e = refl
 
-same-not-differ : (a b : Bool) → a ≡ b → not (beq a b) ≡ false
-same-not-differ true true e = refl
-same-not-differ true false e = e
-same-not-differ false true e = sym e
-same-not-differ false false e = refl
+same_not_differ : (a b : Bool) → a ≡ b → not (beq a b) ≡ false
+same_not_differ true true e = refl
+same_not_differ true false e = e
+same_not_differ false true e = sym e
+same_not_differ false false e = refl
 
-and-clear : (a b : Bool) → (a && b) ≡ false → b ≡ true → a ≡ false
-and-clear true true h e = h
-and-clear true false h e = sym e
-and-clear false b h e = refl
+and_clear : (a b : Bool) → (a && b) ≡ false → b ≡ true → a ≡ false
+and_clear true true h e = h
+and_clear true false h e = sym e
+and_clear false b h e = refl
 
-clear-and : (a b : Bool) → (b ≡ true → a ≡ false) → (a && b) ≡ false
-clear-and true true h = h refl
-clear-and true false h = refl
-clear-and false b h = refl
+clear_and : (a b : Bool) → (b ≡ true → a ≡ false) → (a && b) ≡ false
+clear_and true true h = h refl
+clear_and true false h = refl
+clear_and false b h = refl
 
 pub agree_decides : (u v among : Uses) → among.bits < 2 ^ 32 → Decides (eqb (bit_and (bit_xor u.bits v.bits) among.bits) 0) (AgreeOn u v among)
 unfolding has
@@ -96,10 +96,10 @@ agree_decides u v among h = go (eqb rest 0) refl
     rest : ℕ
     rest = bit_and (bit_xor u.bits v.bits) among.bits
 
-    bit-rest : (i : ℕ) → bit rest i ≡ (not (beq (bit u.bits i) (bit v.bits i)) && bit among.bits i)
-    bit-rest i = bit-and (bit_xor u.bits v.bits) among.bits i ∙ ap (λ x. x && bit among.bits i) (bit-xor u.bits v.bits i)
+    bit_rest : (i : ℕ) → bit rest i ≡ (not (beq (bit u.bits i) (bit v.bits i)) && bit among.bits i)
+    bit_rest i = bit-and (bit_xor u.bits v.bits) among.bits i ∙ ap (λ x. x && bit among.bits i) (bit-xor u.bits v.bits i)
 
     go : (b : Bool) → eqb rest 0 ≡ b → Decides b (AgreeOn u v among)
-    go true e = λ i l m. not-differ _ _ (and-clear _ (bit among.bits i) (sym (bit-rest i) ∙ ap (λ n. bit n i) (eqb-true rest 0 e) ∙ bit-zero i) m)
+    go true e = λ i l m. not_differ _ _ (and_clear _ (bit among.bits i) (sym (bit_rest i) ∙ ap (λ n. bit n i) (eqb-true rest 0 e) ∙ bit-zero i) m)
     go false e = λ A. eqb-false rest 0 e (all-clear 32 rest (let z : rest ≤ among.bits = and_le_r (bit_xor u.bits v.bits) among.bits in omega arith)
-        λ i l. bit-rest i ∙ clear-and _ (bit among.bits i) λ m. same-not-differ _ _ (A i l m))
+        λ i l. bit_rest i ∙ clear_and _ (bit among.bits i) λ m. same_not_differ _ _ (A i l m))

@@ -1,9 +1,9 @@
 // Sets of variables by value, of which a term's uses are one: bit i is variable i. Only decoded sees the bits, which keeps sets as numbers: in a
 // table, and in the rows of cases by halves. A larger scope changes this crate and that one.
 ghost use Rattle.std.specs.Prelude.{◌≡◌, ◌≤◌, ◌<◌};
-ghost use Rattle.varsets.specs.Sets.{Holds, nobody, alone, firsts, ranged, joined, below, has, AgreeOn, AllInside, low_half, high_half, ofHalves};
+ghost use Rattle.varsets.specs.Sets.{Holds, nobody, alone, firsts, ranged, joined, below, has, AgreeOn, AllInside, low_half, high_half, of_halves};
 ghost use Rattle.octets.specs.Runs.{Decides};
-ghost use Rattle.rules.specs.Limits.{maxVariables};
+ghost use Rattle.rules.specs.Limits.{max_variables};
 
 // Variables that a set has room for, and numbers of 16 bits, of which two make a set.
 const ROOM: usize = rules::MAX_VARIABLES;
@@ -24,7 +24,7 @@ impl Uses {
 
     // Variable i alone.
     pub fn only(i: u8) -> Self
-        requires { i < maxVariables }
+        requires { i < max_variables }
         ensures { Holds result (alone i) }
     {
         Self { bits: 1 << i }
@@ -32,7 +32,7 @@ impl Uses {
 
     // The first n variables.
     pub fn first(n: u8) -> Self
-        requires { n < maxVariables }
+        requires { n < max_variables }
         ensures { Holds result (firsts n) }
     {
         let power: u32 = 1 << n;
@@ -41,7 +41,7 @@ impl Uses {
 
     // The variables from number `low` on and below n: those of which one of two sets of first ones has and the other does not.
     pub fn between(low: u8, n: u8) -> Self
-        requires { (low ≤ n) × (n < maxVariables) }
+        requires { (low ≤ n) × (n < max_variables) }
         ensures { Holds result (ranged low n) }
     {
         let start: u32 = 1 << low;
@@ -61,7 +61,7 @@ impl Uses {
 
     // Those of the set that are among the first n variables.
     pub fn among_first(self, n: u8) -> Uses
-        requires { n < maxVariables }
+        requires { n < max_variables }
         ensures { Holds result (below n (has self)) }
     {
         let power: u32 = 1 << n;
@@ -72,7 +72,7 @@ impl Uses {
 
     // Is variable i in the set?
     pub fn contains(self, i: u8) -> bool
-        requires { i < maxVariables }
+        requires { i < max_variables }
         ensures { result ≡ has self i }
     {
         (self.bits >> i) % 2 == 1
@@ -120,7 +120,7 @@ impl Uses {
     }
 
     pub fn of_halves(low: u16, high: u16) -> Self
-        ensures { result ≡ ofHalves low high }
+        ensures { result ≡ of_halves low high }
     {
         Self {
             bits: HALF_RANGE * octets::wide32(high) + octets::wide32(low),

@@ -6,28 +6,28 @@ use mathlib.Core.Bool.{Bool, true, cond, ◌&&◌, ◌||◌}
 use mathlib.Core.Logic.{⊎_elim}
 use mathlib.Core.List.{List, []}
 use lib.Dec.{eqb}
-use package.Rattle.rules.specs.Limits.{maxTerms}
-use package.Rattle.program.specs.Kinds.{variableKind, unit_kind, inlKind, inrKind, pairKind, caseKind, callKind, rollKind, unrollKind}
+use package.Rattle.rules.specs.Limits.{max_terms}
+use package.Rattle.program.specs.Kinds.{variable_kind, unit_kind, inl_kind, inr_kind, pair_kind, case_kind, call_kind, roll_kind, unroll_kind}
 use package.Rattle.rules.specs.Val.{Val}
 use package.Rattle.rules.specs.Term.{Term, look}
-use package.Rattle.rules.specs.Yield.{mayBe, mayYield}
-use package.Rattle.calls.specs.Entries.{TypeEntry, type_of, TermEntry, termTree}
-use package.Rattle.valuegraph.specs.Nodes.{kind_at, left_at, rightAt, Room, valueWithin, value_at}
-use package.Rattle.valuegraph.proofs.Heaps.{lower, value-inl, value-inr, value-pair, value-roll}
+use package.Rattle.rules.specs.Yield.{may_be, may_yield}
+use package.Rattle.calls.specs.Entries.{TypeEntry, type_of, TermEntry, term_tree}
+use package.Rattle.valuegraph.specs.Nodes.{kind_at, left_at, right_at, Room, value_within, value_at}
+use package.Rattle.valuegraph.proofs.Heaps.{lower, value_inl, value_inr, value-pair, value-roll}
 use package.Rattle.scopes.specs.Slots.{machine_of}
-use package.Rattle.decoded.specs.Rows.{kindIn, firstIn, secondIn, thirdIn, entryIn, treeIn}
+use package.Rattle.decoded.specs.Rows.{kind_in, first_in, second_in, third_in, entry_in, tree_in}
 use package.Rattle.decoded.proofs.Trees as rows
-use package.Rattle.yields.specs.Yields.{ancillaeIn, Asks, Judges, YieldsIn, MayYield, Wraps, Binds}
-use package.Rattle.yields.proofs.Shapes.{unit-only, inl-only, inr-only, pair-only, roll-only}
-use package.Rattle.yields.proofs.Judging.{judged, judged-no, judged-yes, judged-as, first-no, first-yes, both-second, both_first, either_second, either_first}
+use package.Rattle.yields.specs.Yields.{ancillae_in, Asks, Judges, YieldsIn, MayYield, Wraps, Binds}
+use package.Rattle.yields.proofs.Shapes.{unit-only, inl_only, inr_only, pair-only, roll-only}
+use package.Rattle.yields.proofs.Judging.{judged, judged-no, judged_yes, judged_as, first-no, first_yes, both-second, both_first, either_second, either_first}
 
 module _ {code heap st : List ℕ} {scope t node : ℕ} (Y : Asks code heap st scope t node) (exact : Bool) where
   abbrev top : ℕ
   top = (machine_of st).top
 
   -- a row is one of the table's
-  pub row_read : t < maxTerms
-  row_read = omega (arith, Y.term, Y.rows.few-terms)
+  pub row_read : t < max_terms
+  row_read = omega (arith, Y.term, Y.rows.few_terms)
 
   pub node-read : Room heap (node + 1)
   node-read = omega (arith, Y.graph.held, Y.value)
@@ -43,95 +43,95 @@ module _ {code heap st : List ℕ} {scope t node : ℕ} (Y : Asks code heap st s
   Part e x r = YieldsIn code heap st scope e x exact r
 
   abbrev asked : Term → Val → Bool
-  asked = mayYield (ancillaeIn heap st scope)
+  asked = may_yield (ancillae_in heap st scope)
 
   -- by the term's tree
-  by-tree : {x : TermEntry} → entryIn code t ≡ x → {r : ℕ}
-      → ((ys : List TypeEntry) → Judges exact r (asked (termTree (type_of ys) (treeIn code ys) t x) (value_at heap node))) → Answer r
-  by-tree e h = record { judges = λ ys. judged-as (h ys) (ap (λ s. asked s (value_at heap node)) (sym (rows.tree_is Y.rows t Y.term e ys))) }
+  by_tree : {x : TermEntry} → entry_in code t ≡ x → {r : ℕ}
+      → ((ys : List TypeEntry) → Judges exact r (asked (term_tree (type_of ys) (tree_in code ys) t x) (value_at heap node))) → Answer r
+  by_tree e h = record { judges = λ ys. judged_as (h ys) (ap (λ s. asked s (value_at heap node)) (sym (rows.tree_is Y.rows t Y.term e ys))) }
 
   ----------------------------------------------------------------
   -- Terms without parts; call and unroll
 
-  pub variable-answer : {i : ℕ} → kindIn code t ≡ variableKind → i ≡ firstIn code t → {r : ℕ}
-      → Judges exact r (mayBe (look (ancillaeIn heap st scope) i) (value_at heap node)) → Answer r
-  unfolding mayYield termTree
-  variable-answer f e h = by-tree (rows.entry-var code t f) λ ys. judged-as h (rw e refl)
+  pub variable-answer : {i : ℕ} → kind_in code t ≡ variable_kind → i ≡ first_in code t → {r : ℕ}
+      → Judges exact r (may_be (look (ancillae_in heap st scope) i) (value_at heap node)) → Answer r
+  unfolding may_yield term_tree
+  variable-answer f e h = by_tree (rows.entry-var code t f) λ ys. judged_as h (rw e refl)
 
-  pub unit-answer : {k r : ℕ} → kindIn code t ≡ unit_kind → k ≡ kind_at heap node → r ≡ cond (eqb k 0) 2 0 → Answer r
-  unfolding termTree value_at valueWithin
-  unit-answer {k = k} f e q = by-tree (rows.entry-unit code t f) λ ys. judged {yes = eqb k 0} q (rw e (unit-only (ancillaeIn heap st scope) t _ _ (kind_at heap node)))
+  pub unit-answer : {k r : ℕ} → kind_in code t ≡ unit_kind → k ≡ kind_at heap node → r ≡ cond (eqb k 0) 2 0 → Answer r
+  unfolding term_tree value_at value_within
+  unit-answer {k = k} f e q = by_tree (rows.entry-unit code t f) λ ys. judged {yes = eqb k 0} q (rw e (unit-only (ancillae_in heap st scope) t _ _ (kind_at heap node)))
 
-  pub call-answer : kindIn code t ≡ callKind → Answer 2
-  unfolding mayYield termTree
-  call-answer f = by-tree (rows.entry-call code t f (Y.rows.few t Y.term f)) λ ys. judged-yes refl
+  pub call-answer : kind_in code t ≡ call_kind → Answer 2
+  unfolding may_yield term_tree
+  call-answer f = by_tree (rows.entry-call code t f (Y.rows.few t Y.term f)) λ ys. judged_yes refl
 
-  pub unroll-answer : kindIn code t ≡ unrollKind → Answer 2
-  unfolding mayYield termTree
-  unroll-answer f = by-tree (rows.entry-unroll code t f) λ ys. judged-yes refl
+  pub unroll_answer : kind_in code t ≡ unroll_kind → Answer 2
+  unfolding may_yield term_tree
+  unroll_answer f = by_tree (rows.entry_unroll code t f) λ ys. judged_yes refl
 
-  pub no_kind : {k : ℕ} {A : Type 0} → k ≡ kindIn code t → rows.NoKind k → A
+  pub no_kind : {k : ℕ} {A : Type 0} → k ≡ kind_in code t → rows.NoKind k → A
   no_kind {k} e o = absurd (rows.none_left k (rw e (Y.rows.known t Y.term)) o)
 
   ----------------------------------------------------------------
   -- inl, inr, roll
 
-  module _ {kind : ℕ} (w : Wraps (kindIn code t) kind) where
+  module _ {kind : ℕ} (w : Wraps (kind_in code t) kind) where
     -- by the three forms
-    by-wrap : {C : Type 0} → (kindIn code t ≡ inlKind → kind ≡ 1 → C) → (kindIn code t ≡ inrKind → kind ≡ 2 → C) → (kindIn code t ≡ rollKind → kind ≡ 4 → C) → C
-    by-wrap f g h = ⊎_elim (λ (x, y). f x y) (λ w. ⊎_elim (λ (x, y). g x y) (λ (x, y). h x y) w) w
+    by_wrap : {C : Type 0} → (kind_in code t ≡ inl_kind → kind ≡ 1 → C) → (kind_in code t ≡ inr_kind → kind ≡ 2 → C) → (kind_in code t ≡ roll_kind → kind ≡ 4 → C) → C
+    by_wrap f g h = ⊎_elim (λ (x, y). f x y) (λ w. ⊎_elim (λ (x, y). g x y) (λ (x, y). h x y) w) w
 
-    pub part-fails : {n : ℕ} → n ≡ kind_at heap node → ¬ (n ≡ kind) → Answer 0
-    unfolding termTree value_at valueWithin
-    part-fails e d =
-        by-wrap
-        (λ f k. by-tree (rows.entry-inl code t f) λ ys. judged-no (sym (inl-only _ t _ _ _ _ (kind_at heap node) (λ z. d (e ∙ z ∙ sym k)))))
-        (λ f k. by-tree (rows.entry-inr code t f) λ ys. judged-no (sym (inr-only _ t _ _ _ _ (kind_at heap node) (λ z. d (e ∙ z ∙ sym k)))))
-        (λ f k. by-tree (rows.entry-roll code t f) λ ys. judged-no
+    pub part_fails : {n : ℕ} → n ≡ kind_at heap node → ¬ (n ≡ kind) → Answer 0
+    unfolding term_tree value_at value_within
+    part_fails e d =
+        by_wrap
+        (λ f k. by_tree (rows.entry_inl code t f) λ ys. judged-no (sym (inl_only _ t _ _ _ _ (kind_at heap node) (λ z. d (e ∙ z ∙ sym k)))))
+        (λ f k. by_tree (rows.entry_inr code t f) λ ys. judged-no (sym (inr_only _ t _ _ _ _ (kind_at heap node) (λ z. d (e ∙ z ∙ sym k)))))
+        (λ f k. by_tree (rows.entry-roll code t f) λ ys. judged-no
         (sym (roll-only _ t _ _ _ _ (kind_at heap node) (λ z. d (e ∙ z ∙ sym k)) (Y.graph.node node Y.value).kind)))
 
-    module _ {n e x : ℕ} (en : n ≡ kind_at heap node) (one : n ≡ kind) (ee : e ≡ secondIn code t) (ex : x ≡ left_at heap node) where
+    module _ {n e x : ℕ} (en : n ≡ kind_at heap node) (one : n ≡ kind) (ee : e ≡ second_in code t) (ex : x ≡ left_at heap node) where
       pub part-asks : (e < t) × Asks code heap st scope e x
       part-asks =
-          let le : e < t = rw ee (by-wrap (λ f k. rows.part-inl Y.rows t Y.term f) (λ f k. rows.part-inr Y.rows t Y.term f)
+          let le : e < t = rw ee (by_wrap (λ f k. rows.part_inl Y.rows t Y.term f) (λ f k. rows.part_inr Y.rows t Y.term f)
           (λ f k. rows.part-roll Y.rows t Y.term f)) in
-          let lx = (lower heap top Y.graph node Y.value (λ z. by-wrap (λ f k. omega arith) (λ f k. omega arith) (λ f k. omega arith))).0 in
+          let lx = (lower heap top Y.graph node Y.value (λ z. by_wrap (λ f k. omega arith) (λ f k. omega arith) (λ f k. omega arith))).0 in
           (le, asks e x le (omega (arith, Y.value)))
 
       pub part-yields : {r : ℕ} → Part e x r → Answer r
-      unfolding mayYield termTree
+      unfolding may_yield term_tree
       part-yields M =
-          by-wrap
-          (λ f k. by-tree (rows.entry-inl code t f) λ ys. judged-as (M.judges ys)
-          (rw (ee, ex, (value-inl heap top Y.graph node Y.value (sym en ∙ one ∙ k)).0) refl))
-          (λ f k. by-tree (rows.entry-inr code t f) λ ys. judged-as (M.judges ys)
-          (rw (ee, ex, (value-inr heap top Y.graph node Y.value (sym en ∙ one ∙ k)).0) refl))
-          (λ f k. by-tree (rows.entry-roll code t f) λ ys. judged-as (M.judges ys)
+          by_wrap
+          (λ f k. by_tree (rows.entry_inl code t f) λ ys. judged_as (M.judges ys)
+          (rw (ee, ex, (value_inl heap top Y.graph node Y.value (sym en ∙ one ∙ k)).0) refl))
+          (λ f k. by_tree (rows.entry_inr code t f) λ ys. judged_as (M.judges ys)
+          (rw (ee, ex, (value_inr heap top Y.graph node Y.value (sym en ∙ one ∙ k)).0) refl))
+          (λ f k. by_tree (rows.entry-roll code t f) λ ys. judged_as (M.judges ys)
           (rw (ee, ex, (value-roll heap top Y.graph node Y.value (sym en ∙ one ∙ k)).0) refl))
 
   ----------------------------------------------------------------
   -- A pair
 
-  module _ (f : kindIn code t ≡ pairKind) where
-    pub pair-fails : {n : ℕ} → n ≡ kind_at heap node → ¬ (n ≡ 3) → Answer 0
-    unfolding termTree value_at valueWithin
-    pair-fails e d = by-tree (rows.entry-pair code t f) λ ys. judged-no (sym (pair-only _ t _ _ _ _ (kind_at heap node) (λ z. d (e ∙ z))))
+  module _ (f : kind_in code t ≡ pair_kind) where
+    pub pair_fails : {n : ℕ} → n ≡ kind_at heap node → ¬ (n ≡ 3) → Answer 0
+    unfolding term_tree value_at value_within
+    pair_fails e d = by_tree (rows.entry-pair code t f) λ ys. judged-no (sym (pair-only _ t _ _ _ _ (kind_at heap node) (λ z. d (e ∙ z))))
 
-    module _ {n e x : ℕ} (en : n ≡ kind_at heap node) (three : n ≡ 3) (ee : e ≡ firstIn code t) (ex : x ≡ left_at heap node) where
+    module _ {n e x : ℕ} (en : n ≡ kind_at heap node) (three : n ≡ 3) (ee : e ≡ first_in code t) (ex : x ≡ left_at heap node) where
       pub left-asks : (e < t) × Asks code heap st scope e x
       left-asks =
           let le : e < t = rw ee (rows.parts-pair Y.rows t Y.term f).0 in
           let lx = (value-pair heap top Y.graph node Y.value (sym en ∙ three)).1 in
           (le, asks e x le (omega (arith, Y.value)))
 
-      pub left-fails : {m : ℕ} → Part e x m → m ≡ 0 → Answer 0
-      unfolding mayYield termTree
-      left-fails M z =
-          by-tree (rows.entry-pair code t f) λ ys.
+      pub left_fails : {m : ℕ} → Part e x m → m ≡ 0 → Answer 0
+      unfolding may_yield term_tree
+      left_fails M z =
+          by_tree (rows.entry-pair code t f) λ ys.
           rw (value-pair heap top Y.graph node Y.value (sym en ∙ three)).0
-          (first-no (rw (ee, ex) at (M.judges ys)) (asked (treeIn code ys (secondIn code t)) (value_at heap (rightAt heap node))) z)
+          (first-no (rw (ee, ex) at (M.judges ys)) (asked (tree_in code ys (second_in code t)) (value_at heap (right_at heap node))) z)
 
-      module _ {e' x' : ℕ} (ee' : e' ≡ secondIn code t) (ex' : x' ≡ rightAt heap node) where
+      module _ {e' x' : ℕ} (ee' : e' ≡ second_in code t) (ex' : x' ≡ right_at heap node) where
         pub right-asks : (e' < t) × Asks code heap st scope e' x'
         right-asks =
             let le : e' < t = rw ee' (rows.parts-pair Y.rows t Y.term f).1 in
@@ -139,13 +139,13 @@ module _ {code heap st : List ℕ} {scope t node : ℕ} (Y : Asks code heap st s
             (le, asks e' x' le (omega (arith, Y.value)))
 
         abbrev right-asked : List TypeEntry → Bool
-        right-asked ys = asked (treeIn code ys (secondIn code t)) (value_at heap (rightAt heap node))
+        right-asked ys = asked (tree_in code ys (second_in code t)) (value_at heap (right_at heap node))
 
         -- the lower answer of both
         both-judged : {m m' r : ℕ} → Part e x m → Part e' x' m' → ((b c : Bool) → Judges exact m b → Judges exact m' c → Judges exact r (b && c)) → Answer r
-        unfolding mayYield termTree
+        unfolding may_yield term_tree
         both-judged M M' join =
-            by-tree (rows.entry-pair code t f) λ ys.
+            by_tree (rows.entry-pair code t f) λ ys.
             rw (value-pair heap top Y.graph node Y.value (sym en ∙ three)).0
             (join _ (right-asked ys) (rw (ee, ex) at (M.judges ys)) (rw (ee', ex') at (M'.judges ys)))
 
@@ -158,42 +158,42 @@ module _ {code heap st : List ℕ} {scope t node : ℕ} (Y : Asks code heap st s
   ----------------------------------------------------------------
   -- let, let pair
 
-  module _ (w : Binds (kindIn code t)) {e : ℕ} (ee : e ≡ secondIn code t) where
+  module _ (w : Binds (kind_in code t)) {e : ℕ} (ee : e ≡ second_in code t) where
     pub body-asks : (e < t) × Asks code heap st scope e node
     body-asks =
-        let le : e < t = rw ee (⊎_elim (λ f. (rows.parts-let Y.rows t Y.term f).1) (λ f. (rows.parts-letp Y.rows t Y.term f).1) w) in
+        let le : e < t = rw ee (⊎_elim (λ f. (rows.parts_let Y.rows t Y.term f).1) (λ f. (rows.parts_letp Y.rows t Y.term f).1) w) in
         (le, asks e node le Y.value)
 
     pub body-yields : {r : ℕ} → Part e node r → Answer r
-    unfolding mayYield termTree
+    unfolding may_yield term_tree
     body-yields M =
         ⊎_elim
-        (λ f. by-tree (rows.entry-let code t f) λ ys. judged-as (M.judges ys) (rw ee refl))
-        (λ f. by-tree (rows.entry-letp code t f) λ ys. judged-as (M.judges ys) (rw ee refl))
+        (λ f. by_tree (rows.entry_let code t f) λ ys. judged_as (M.judges ys) (rw ee refl))
+        (λ f. by_tree (rows.entry_letp code t f) λ ys. judged_as (M.judges ys) (rw ee refl))
         w
 
   ----------------------------------------------------------------
   -- case
 
-  module _ (f : kindIn code t ≡ caseKind) {e : ℕ} (ee : e ≡ secondIn code t) where
+  module _ (f : kind_in code t ≡ case_kind) {e : ℕ} (ee : e ≡ second_in code t) where
     pub left-branch : (e < t) × Asks code heap st scope e node
-    left-branch = let le : e < t = rw ee (rows.parts-case Y.rows t Y.term f).1 in (le, asks e node le Y.value)
+    left-branch = let le : e < t = rw ee (rows.parts_case Y.rows t Y.term f).1 in (le, asks e node le Y.value)
 
     pub left-yields : {m : ℕ} → Part e node m → m ≡ 2 → Answer 2
-    unfolding mayYield termTree
-    left-yields M o = by-tree (rows.entry_case code t f) λ ys. first-yes (rw ee at (M.judges ys))
-        (asked (treeIn code ys (thirdIn code t)) (value_at heap node)) o
+    unfolding may_yield term_tree
+    left-yields M o = by_tree (rows.entry_case code t f) λ ys. first_yes (rw ee at (M.judges ys))
+        (asked (tree_in code ys (third_in code t)) (value_at heap node)) o
 
-    module _ {e' : ℕ} (ee' : e' ≡ thirdIn code t) where
+    module _ {e' : ℕ} (ee' : e' ≡ third_in code t) where
       pub right-branch : (e' < t) × Asks code heap st scope e' node
-      right-branch = let le : e' < t = rw ee' (rows.parts-case Y.rows t Y.term f).2 in (le, asks e' node le Y.value)
+      right-branch = let le : e' < t = rw ee' (rows.parts_case Y.rows t Y.term f).2 in (le, asks e' node le Y.value)
 
       -- the higher answer of either
       either-judged : {m m' r : ℕ} → Part e node m → Part e' node m' → ((b c : Bool) → Judges exact m b → Judges exact m' c → Judges exact r (b || c)) → Answer r
-      unfolding mayYield termTree
+      unfolding may_yield term_tree
       either-judged M M' join =
-          by-tree (rows.entry_case code t f) λ ys.
-          join (asked (treeIn code ys (secondIn code t)) (value_at heap node)) (asked (treeIn code ys (thirdIn code t)) (value_at heap node))
+          by_tree (rows.entry_case code t f) λ ys.
+          join (asked (tree_in code ys (second_in code t)) (value_at heap node)) (asked (tree_in code ys (third_in code t)) (value_at heap node))
           (rw ee at (M.judges ys)) (rw ee' at (M'.judges ys))
 
       pub right-higher : {m m' : ℕ} → Part e node m → Part e' node m' → m < m' → Answer m'
@@ -206,8 +206,8 @@ module _ {code heap st : List ℕ} {scope t node : ℕ} (Y : Asks code heap st s
 -- At a glance, then exactly
 
 -- the glance is not perhaps
-pub glance-tells : {code heap st : List ℕ} {scope t node r : ℕ} {exact : Bool} → YieldsIn code heap st scope t node exact r → ¬ (r ≡ 1) → MayYield code heap st scope t node (eqb r 2)
-glance-tells {r = r} M d = record { answer = λ ys. told r (M.judges ys) d }
+pub glance_tells : {code heap st : List ℕ} {scope t node r : ℕ} {exact : Bool} → YieldsIn code heap st scope t node exact r → ¬ (r ≡ 1) → MayYield code heap st scope t node (eqb r 2)
+glance_tells {r = r} M d = record { answer = λ ys. told r (M.judges ys) d }
   where
     told : (r : ℕ) {exact b : Bool} → Judges exact r b → ¬ (r ≡ 1) → eqb r 2 ≡ b
     told zero J d = sym (J.never refl)
@@ -216,4 +216,4 @@ glance-tells {r = r} M d = record { answer = λ ys. told r (M.judges ys) d }
     told (suc (suc (suc r))) J d = absurd (omega (arith, J.most))
 
 pub exact-tells : {code heap st : List ℕ} {scope t node r : ℕ} → YieldsIn code heap st scope t node true r → MayYield code heap st scope t node (eqb r 2)
-exact-tells M = glance-tells M (λ e. (M.judges []).exactly refl e)
+exact-tells M = glance_tells M (λ e. (M.judges []).exactly refl e)

@@ -3,14 +3,14 @@
 // terms, so the recursion ends. An ancilla's value is compared in two ways: at a glance, by what nodes hold, which never calls equal values
 // unequal, and exactly. A term is asked at a glance first: no value is walked where that says no, or yes without a comparison.
 ghost use Rattle.std.specs.Prelude.{◌≡◌, cond, ◌<◌, ◌≤◌};
-ghost use Rattle.program.specs.Kinds.{pairKind, caseKind};
+ghost use Rattle.program.specs.Kinds.{pair_kind, case_kind};
 ghost use Rattle.rules.specs.Val.{same};
 ghost use Rattle.rules.specs.Term.{look};
-ghost use Rattle.rules.specs.Yield.{mayBe};
+ghost use Rattle.rules.specs.Yield.{may_be};
 ghost use Rattle.valuegraph.specs.Nodes.{value_at, Heap};
 ghost use Rattle.scopes.specs.Slots.{unknown, machine_of};
-ghost use Rattle.decoded.specs.Rows.{kindIn};
-ghost use Rattle.yields.specs.Yields.{ancillaeIn, AncillaeIn, Judges, Asks, MayYield, YieldsIn, Wraps, Binds};
+ghost use Rattle.decoded.specs.Rows.{kind_in};
+ghost use Rattle.yields.specs.Yields.{ancillae_in, AncillaeIn, Judges, Asks, MayYield, YieldsIn, Wraps, Binds};
 
 use decoded::rows::CODE;
 use decoded::{kinds, rows};
@@ -30,7 +30,7 @@ fn yield_variable(ws: &[u8], st: &[u32; STATE], scope: u64, i: u16, node: u32, e
     requires heap { Heap ws.now (machine_of st.now).top }
     requires ancillae_in { AncillaeIn st.now scope }
     requires node_bound { (node < (machine_of st.now).top) × ((machine_of st.now).top ≤ unknown) }
-    ensures { Judges exact result (mayBe (look (ancillaeIn ws.now st.now scope) i) (value_at ws.now node)) }
+    ensures { Judges exact result (may_be (look (ancillae_in ws.now st.now scope) i) (value_at ws.now node)) }
 {
     let v = octets::wide_index(i);
     if v < state::ancillae_in(scope) {
@@ -110,7 +110,7 @@ fn yield_part(
     kind: u8,
 ) -> u8
     requires asks { Asks code.now ws.now st.now scope t node }
-    requires wraps { Wraps (kindIn code.now t) kind }
+    requires wraps { Wraps (kind_in code.now t) kind }
     ensures { YieldsIn code.now ws.now st.now scope t node exact result }
 {
     let found = nodes::kind_of(ws, node);
@@ -134,7 +134,7 @@ fn yield_pair(
     exact: bool,
 ) -> u8
     requires asks { Asks code.now ws.now st.now scope t node }
-    requires t_value { kindIn code.now t ≡ pairKind }
+    requires t_value { kind_in code.now t ≡ pair_kind }
     ensures { YieldsIn code.now ws.now st.now scope t node exact result }
 {
     let found = nodes::kind_of(ws, node);
@@ -168,7 +168,7 @@ fn yield_body(
     exact: bool,
 ) -> u8
     requires asks { Asks code.now ws.now st.now scope t node }
-    requires binds { Binds (kindIn code.now t) }
+    requires binds { Binds (kind_in code.now t) }
     ensures { YieldsIn code.now ws.now st.now scope t node exact result }
 {
     let body = rows::second_of(code, t);
@@ -187,7 +187,7 @@ fn yield_case(
     exact: bool,
 ) -> u8
     requires asks { Asks code.now ws.now st.now scope t node }
-    requires t_value { kindIn code.now t ≡ caseKind }
+    requires t_value { kind_in code.now t ≡ case_kind }
     ensures { YieldsIn code.now ws.now st.now scope t node exact result }
 {
     let left = rows::second_of(code, t);

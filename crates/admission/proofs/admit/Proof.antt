@@ -1,6 +1,6 @@
 use native.Mathlib.Omega.{arith}
 use mathlib.Core.Path.{sym, ◌∙◌}
-use Rattle.admission.proofs.Answers.{index-there, index-beyond, callable-at, row-there, row_at, no-function, bad-values, wrong_type, all-given}
+use Rattle.admission.proofs.Answers.{index-there, index-beyond, callable-at, row-there, row_at, no-function, bad-values, wrong_type, all_given}
 use borrow.Author.Rules.{rules}
 use Rattle.admission.proofs.admit.Statement.{statement}
 use Rattle.admission.proofs.admit.Tie as tie
@@ -52,7 +52,7 @@ returns-2 c =
     let at_field = at-values-right.before in
     let at-if1 = at_field.before in
     let at-wide-index = at-if1.before in
-    all-given _ _ _ _ _ _ _ (index-there at-wide-index.wide-index.ensures.0 at-if1.if1.false) at_field.field.ensures
+    all_given _ _ _ _ _ _ _ (index-there at-wide-index.wide-index.ensures.0 at-if1.if1.false) at_field.field.ensures
     (sym at-values-right.values-right.ensures ∙ at-if2.if2.true) at-values-typed.values-typed.ensures at-if3.if3.true
 
 returns-3 : tie.Need-returns-3

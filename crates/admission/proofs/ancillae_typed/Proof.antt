@@ -3,13 +3,13 @@ use lib.ListN.{length}
 use borrow.Author.Rules.{rules}
 use Rattle.admission.proofs.Typed.{
   Walking,
-  walked-done,
+  walked_done,
   walking_start,
-  walking-index,
-  walking-asked,
-  walking-other,
-  walking-behind,
-  walking-next,
+  walking_index,
+  walking_asked,
+  walking_other,
+  walking_behind,
+  walking_next,
 }
 use Rattle.admission.proofs.ancillae_typed.Statement.{statement}
 use Rattle.admission.proofs.ancillae_typed.Tie as tie
@@ -26,13 +26,13 @@ loop-holds c =
     walking_start start.requires.1.0 start.requires.1.1.0 start.requires.1.1.1
 
 mul-has-type-at : tie.Need-overflow-mul-has-type-at invariant-loop decreases-loop
-mul-has-type-at c = let h = walking-index c.before.loop.invariant c.loop-test.true in search rules
+mul-has-type-at c = let h = walking_index c.before.loop.invariant c.loop-test.true in search rules
 
 array-read-has-type-at : tie.Need-array-read-has-type-at invariant-loop decreases-loop
-array-read-has-type-at c = walking-index c.before.loop.invariant c.loop-test.true
+array-read-has-type-at c = walking_index c.before.loop.invariant c.loop-test.true
 
 has-type-at-requires : tie.Need-has-type-at-requires invariant-loop decreases-loop
-has-type-at-requires c κs = (c.before.before.before.before.before.requires.0, walking-asked c.before.loop.invariant c.loop-test.true)
+has-type-at-requires c κs = (c.before.before.before.before.before.requires.0, walking_asked c.before.loop.invariant c.loop-test.true)
 
 enum-known-step : tie.Need-enum-known-step invariant-loop decreases-loop
 enum-known-step c = search rules
@@ -46,13 +46,13 @@ returns c =
     let at-has-type-at = at-enum-told.before.before in
     let at-loop-test = at-has-type-at.before in
     let at-loop = at-loop-test.before in
-    walking-other at-loop.loop.invariant at-loop-test.loop-test.true at-has-type-at.has-type-at.ensures at-enum-told.enum_told.given.1
+    walking_other at-loop.loop.invariant at-loop-test.loop-test.true at-has-type-at.has-type-at.ensures at-enum-told.enum_told.given.1
 
 add-k : tie.Need-overflow-add-k invariant-loop decreases-loop
 add-k c =
     let at-loop-test = c.before.before.before.before in
     let at-loop = at-loop-test.before in
-    let h = walking-index at-loop.loop.invariant at-loop-test.loop-test.true in search rules
+    let h = walking_index at-loop.loop.invariant at-loop-test.loop-test.true in search rules
 
 loop-less : tie.Need-loop-smaller invariant-loop decreases-loop
 loop-less c =
@@ -60,7 +60,7 @@ loop-less c =
     let at-has-type-at = at-step.before.before in
     let at-loop-test = at-has-type-at.before in
     let at-loop = at-loop-test.before in
-    let h = walking-behind at-loop.loop.invariant at-loop-test.loop-test.true at-has-type-at.has-type-at.ensures at-step.step.given.1 in
+    let h = walking_behind at-loop.loop.invariant at-loop-test.loop-test.true at-has-type-at.has-type-at.ensures at-step.step.given.1 in
     search rules
 
 loop-again : tie.Need-loop-preserved invariant-loop decreases-loop
@@ -69,10 +69,10 @@ loop-again c =
     let at-has-type-at = at-step.before.before in
     let at-loop-test = at-has-type-at.before in
     let at-loop = at-loop-test.before in
-    walking-next at-loop.loop.invariant at-loop-test.loop-test.true at-has-type-at.has-type-at.ensures at-step.step.given.1
+    walking_next at-loop.loop.invariant at-loop-test.loop-test.true at-has-type-at.has-type-at.ensures at-step.step.given.1
 
 returns-2 : tie.Need-returns-2 invariant-loop decreases-loop
-returns-2 c = walked-done c.before.loop.invariant.walked c.loop-test.false
+returns-2 c = walked_done c.before.loop.invariant.walked c.loop-test.false
 
 pub ancillae-typed-spec : {M : Type 1} → statement M
 ancillae-typed-spec =

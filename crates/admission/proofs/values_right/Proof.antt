@@ -2,7 +2,7 @@ use Prim.Native.Nat.{◌-◌}
 use native.Mathlib.Omega.{arith}
 use mathlib.Core.Path.{sym, ap, ◌∙◌}
 use Rattle.admission.proofs.Parameters.{parameters-room}
-use Rattle.admission.proofs.Right.{right-none, right-not, right-number}
+use Rattle.admission.proofs.Right.{right_none, right_not, right-number}
 use borrow.Author.Rules.{rules}
 use Rattle.admission.proofs.values_right.Statement.{statement}
 use Rattle.admission.proofs.values_right.Tie as tie
@@ -18,7 +18,7 @@ enum_told : tie.Need-enum-told
 enum_told c = search rules
 
 returns : tie.Need-returns
-returns c = right-none _ _ _ _ (sym c.enum_told.given.1 ∙ c.before.before.count-values.ensures)
+returns c = right_none _ _ _ _ (sym c.enum_told.given.1 ∙ c.before.before.count-values.ensures)
 
 one-value-requires : tie.Need-one-value-requires
 one-value-requires c κs = search rules
@@ -39,7 +39,7 @@ returns-2 c =
     at-if1.if1.true (ap (λ n. n - 1) c.function-parameters.ensures.0 ∙ sym (ancillae-count _ _))
 
 returns-3 : tie.Need-returns-3
-returns-3 c = right-not _ _ _ _ c.before.one_value.ensures c.if1.false
+returns-3 c = right_not _ _ _ _ c.before.one_value.ensures c.if1.false
 
 pub values-right-spec : {M : Type 1} → statement M
 values-right-spec =

@@ -2,7 +2,7 @@ use mathlib.Core.Path.{sym, subst}
 use mathlib.Core.List.{[]}
 use Rattle.admission.proofs.Parameters.{Asked, side-asked}
 use Rattle.admission.proofs.Right.{right-value}
-use Rattle.admission.proofs.Typed.{as_many, typed-not, typed-all}
+use Rattle.admission.proofs.Typed.{as_many, typed_not, typed-all}
 use Rattle.admission.proofs.values_typed.Statement.{statement}
 use Rattle.admission.proofs.values_typed.Tie as tie
 
@@ -35,7 +35,7 @@ returns c =
     let at-if1 = at_Side.before in
     let at-ancillae-typed = at-if1.before in
     let start = at-ancillae-typed.before.before.before.before.before in
-    typed-all _ _ _ _ _ start.requires.1.1.0 _ at-ancillae-typed.ancillae-typed.ensures at-if1.if1.true _ at_Side.side.ensures
+    typed-all _ _ _ _ _ start.requires.1.1.0 _ at-ancillae-typed.ancillae_typed.ensures at-if1.if1.true _ at_Side.side.ensures
     at-has-type.has-type.ensures
 
 returns-2 : tie.Need-returns-2
@@ -43,7 +43,7 @@ returns-2 c =
     let at-if1 = c in
     let at-ancillae-typed = at-if1.before in
     let start = at-ancillae-typed.before.before.before.before.before in
-    typed-not _ _ _ _ _ start.requires.1.1.0 _ at-ancillae-typed.ancillae-typed.ensures at-if1.if1.false
+    typed_not _ _ _ _ _ start.requires.1.1.0 _ at-ancillae-typed.ancillae_typed.ensures at-if1.if1.false
 
 pub values-typed-spec : {M : Type 1} → statement M
 values-typed-spec =

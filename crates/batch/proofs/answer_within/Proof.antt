@@ -1,6 +1,6 @@
 use native.Mathlib.Omega.{arith}
-use Rattle.calltext.specs.Left.{programLeft, ancillaeLeft, valueLeft}
-use Rattle.batch.proofs.Lending.{replies-as}
+use Rattle.calltext.specs.Left.{program_left, ancillae_left, value_left}
+use Rattle.batch.proofs.Lending.{replies_as}
 use borrow.Author.Rules.{rules}
 use Rattle.batch.proofs.answer_within.Statement.{statement}
 use Rattle.batch.proofs.answer_within.Tie as tie
@@ -34,12 +34,12 @@ same-length-6 : tie.Need-same-length-6
 same-length-6 c = search rules
 
 returns : tie.Need-returns
-unfolding programLeft ancillaeLeft valueLeft
+unfolding program_left ancillae_left value_left
 returns c =
     let at-reply = c.before.before.before.before.before.before.before.before in
     let at-parse = at-reply.before.before.before.before.before.before.before.before.before.before.before.before.before in
     let parsed = at-parse.parse.ensures in
-    (replies-as at-reply.reply.ensures parsed.said parsed.left.value, (parsed.left.program, parsed.left.ancillae))
+    (replies_as at-reply.reply.ensures parsed.said parsed.left.value, (parsed.left.program, parsed.left.ancillae))
 
 pub answer-within-spec : {M : Type 1} → statement M
 answer-within-spec =

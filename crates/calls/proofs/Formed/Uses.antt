@@ -15,16 +15,16 @@ use package.Rattle.calls.proofs.Entries.{below-head}
 -- Counting
 
 -- whether a number is the first one
-unfoldable one-if : Bool → ℕ
-one-if b = cond b 1 0
+unfoldable one_if : Bool → ℕ
+one_if b = cond b 1 0
 
-times-head : (i j : ℕ) (js : List ℕ) → times i (j ∷ js) ≡ one-if (eqb i j) + times i js
-unfolding times one-if
-times-head i j js = by-test (eqb i j)
+times-head : (i j : ℕ) (js : List ℕ) → times i (j ∷ js) ≡ one_if (eqb i j) + times i js
+unfolding times one_if
+times-head i j js = by_test (eqb i j)
   where
-    by-test : (b : Bool) → cond b (suc (times i js)) (times i js) ≡ cond b 1 0 + times i js
-    by-test true = omega arith
-    by-test false = omega arith
+    by_test : (b : Bool) → cond b (suc (times i js)) (times i js) ≡ cond b 1 0 + times i js
+    by_test true = omega arith
+    by_test false = omega arith
 
 pub times-append : (i : ℕ) (is js : List ℕ) → times i (is ++ js) ≡ times i is + times i js
 unfolding times
@@ -39,11 +39,11 @@ times-first i js = rw (eqb_yes i)
 pub member-times : (i : ℕ) (js : List ℕ) → (member i js ≡ true) ↔ (1 ≤ times i js)
 unfolding member times
 member-times i [] = (λ e. absurd (false≢true e), λ l. absurd (omega arith))
-member-times i (j ∷ js) = by-test (eqb i j) (member-times i js)
+member-times i (j ∷ js) = by_test (eqb i j) (member-times i js)
   where
-    by-test : (b : Bool) → (member i js ≡ true) ↔ (1 ≤ times i js) → ((b || member i js) ≡ true) ↔ (1 ≤ cond b (suc (times i js)) (times i js))
-    by-test true h = (λ e. omega arith, λ l. refl)
-    by-test false h = h
+    by_test : (b : Bool) → (member i js ≡ true) ↔ (1 ≤ times i js) → ((b || member i js) ≡ true) ↔ (1 ≤ cond b (suc (times i js)) (times i js))
+    by_test true h = (λ e. omega arith, λ l. refl)
+    by_test false h = h
 
 -- a number past all is not there
 pub times-past : (n i : ℕ) (js : List ℕ) → below n js ≡ true → n ≤ i → times i js ≡ 0
@@ -65,27 +65,27 @@ Once ts used = (i : ℕ) → times i ts + times i used ≤ 1
 absent : (t : ℕ) (used : List ℕ) → member t used ≡ false → times t used ≡ 0
 unfolding member times
 absent t [] e = refl
-absent t (j ∷ js) e = by-test (eqb t j) (absent t js) e
+absent t (j ∷ js) e = by_test (eqb t j) (absent t js) e
   where
-    by-test : (b : Bool) → (member t js ≡ false → times t js ≡ 0) → (b || member t js) ≡ false → cond b (suc (times t js)) (times t js) ≡ 0
-    by-test true h e = absurd (false≢true (sym e))
-    by-test false h e = h e
+    by_test : (b : Bool) → (member t js ≡ false → times t js ≡ 0) → (b || member t js) ≡ false → cond b (suc (times t js)) (times t js) ≡ 0
+    by_test true h e = absurd (false≢true (sym e))
+    by_test false h e = h e
 
-present-not : (t : ℕ) (used : List ℕ) → times t used ≡ 0 → not (member t used) ≡ true
-present-not t used z = by-test (member t used) refl
+present_not : (t : ℕ) (used : List ℕ) → times t used ≡ 0 → not (member t used) ≡ true
+present_not t used z = by_test (member t used) refl
   where
-    by-test : (b : Bool) → member t used ≡ b → not b ≡ true
-    by-test true p = absurd (omega (arith, (member-times t used).0 p))
-    by-test false p = refl
+    by_test : (b : Bool) → member t used ≡ b → not b ≡ true
+    by_test true p = absurd (omega (arith, (member-times t used).0 p))
+    by_test false p = refl
 
 -- one more number, that was not there
 still-once : (t : ℕ) (used : List ℕ) (j : ℕ) → times t used ≡ 0 → times j used ≤ 1 → times j (t ∷ used) ≤ 1
 unfolding times
-still-once t used j z l = by-test (eqb j t) refl
+still-once t used j z l = by_test (eqb j t) refl
   where
-    by-test : (b : Bool) → eqb j t ≡ b → cond b (suc (times j used)) (times j used) ≤ 1
-    by-test true p = omega (arith, ap (λ k. times k used) (eqb-sound j t p))
-    by-test false p = l
+    by_test : (b : Bool) → eqb j t ≡ b → cond b (suc (times j used)) (times j used) ≤ 1
+    by_test true p = omega (arith, ap (λ k. times k used) (eqb-sound j t p))
+    by_test false p = l
 
 pub fresh-once : (used ts : List ℕ) → fresh used ts ≡ true → ((i : ℕ) → times i used ≤ 1) → Once ts used
 unfolding fresh times
@@ -97,7 +97,7 @@ pub once-fresh : (used ts : List ℕ) → Once ts used → fresh used ts ≡ tru
 unfolding fresh
 once-fresh used [] h = refl
 once-fresh used (t ∷ ts) h =
-    rw (present-not t used (omega (arith, h t, times-first t ts)), once-fresh (t ∷ used) ts λ i. omega (arith, h i, moved i t ts used))
+    rw (present_not t used (omega (arith, h t, times-first t ts)), once-fresh (t ∷ used) ts λ i. omega (arith, h i, moved i t ts used))
 
 ----------------------------------------------------------------
 -- What all the entries name

@@ -10,44 +10,44 @@ use mathlib.Core.List.{List, [], ◌∷◌, ◌++◌, append_assoc}
 use lib.ListN.{length, take, replicate, length-append, length-take, length-replicate, replicate-append-replicate}
 use lib.Seq.{take-append-add}
 use package.Rattle.octets.specs.Numbers.{AreBytes}
-use package.Rattle.rules.specs.Limits.{fits, maxConversions}
+use package.Rattle.rules.specs.Limits.{fits, max_conversions}
 use package.Rattle.rules.specs.Val.{Val, size, encode}
 use package.Rattle.rules.proofs.Basics.{given, some_inj}
 use package.Rattle.rules.proofs.Val.{length-encode}
-use package.Rattle.calls.specs.Values.{value, encodeAll}
-use package.Rattle.calls.specs.Fields.{fieldHead}
-use package.Rattle.calls.specs.Journal.{Entry, Journal, field, heldTag, entryTag, entryBody, entryFields, fields, writeOut, opened, readEntries, readJournal}
+use package.Rattle.calls.specs.Values.{value, encode_all}
+use package.Rattle.calls.specs.Fields.{field_head}
+use package.Rattle.calls.specs.Journal.{Entry, Journal, field, held_tag, entry_tag, entry_body, entry_fields, fields, write_out, opened, read_entries, read_journal}
 use package.Rattle.calls.specs.Book.{resized}
-use package.Rattle.calls.specs.Claims.{lastField}
+use package.Rattle.calls.specs.Claims.{last_field}
 use package.Rattle.calls.proofs.Values.{value-encode, value-sound}
-use package.Rattle.calls.proofs.Journal.Fields.{there, was-there, fits_below, length-field, opened-field, opened-sound, opened-bytes}
-use package.Rattle.calls.proofs.Journal.Entries.{WritableEntries, entryFields-snoc, length-entryFields-snoc, readEntries-written, readEntries-sound}
+use package.Rattle.calls.proofs.Journal.Fields.{there, was_there, fits_below, length-field, opened-field, opened-sound, opened-bytes}
+use package.Rattle.calls.proofs.Journal.Entries.{WritableEntries, entry_fields_snoc, length-entry_fields_snoc, read_entries-written, read_entries-sound}
 
 -- a journal that can be written
 pub record Writable (J : Journal) : Type 0 where
   pub held_fits : fits J.held ≡ true
-  pub entries-writable : WritableEntries J.entries
-  pub entries-few : length J.entries ≤ maxConversions
+  pub entries_writable : WritableEntries J.entries
+  pub entries_few : length J.entries ≤ max_conversions
 
 ----------------------------------------------------------------
 -- Fields
 
-pub length_fields : (J : Journal) → length (fields J) ≡ fieldHead + size J.held + length (entryFields J.entries)
+pub length_fields : (J : Journal) → length (fields J) ≡ field_head + size J.held + length (entry_fields J.entries)
 unfolding fields
 length_fields J =
-    length-append (field heldTag (encode J.held)) (entryFields J.entries)
-    ∙ omega (arith, length-field heldTag (encode J.held), length-encode J.held)
+    length-append (field held_tag (encode J.held)) (entry_fields J.entries)
+    ∙ omega (arith, length-field held_tag (encode J.held), length-encode J.held)
 
 -- a newest entry's field stands behind the others
 pub fields_snoc : (v : Val) (es : List Entry) (e : Entry)
-    → fields (record { held = v; entries = es ++ (e ∷ []) }) ≡ field heldTag (encode v) ++ entryFields es ++ field entryTag (entryBody e)
+    → fields (record { held = v; entries = es ++ (e ∷ []) }) ≡ field held_tag (encode v) ++ entry_fields es ++ field entry_tag (entry_body e)
 unfolding fields
 fields_snoc v es e =
-    ap (λ xs. field heldTag (encode v) ++ xs) (entryFields-snoc es e) ∙ sym (append_assoc (field heldTag (encode v)) (entryFields es) (field entryTag (entryBody e)))
+    ap (λ xs. field held_tag (encode v) ++ xs) (entry_fields_snoc es e) ∙ sym (append_assoc (field held_tag (encode v)) (entry_fields es) (field entry_tag (entry_body e)))
 
-pub length-fields-snoc : (v : Val) (es : List Entry) (e : Entry)
-    → length (fields (record { held = v; entries = es ++ (e ∷ []) })) ≡ 12 + size v + length (entryFields es) + length (encodeAll e.ancillae)
-length-fields-snoc v es e = length_fields (record { held = v; entries = es ++ (e ∷ []) }) ∙ omega (arith, length-entryFields-snoc es e)
+pub length-fields_snoc : (v : Val) (es : List Entry) (e : Entry)
+    → length (fields (record { held = v; entries = es ++ (e ∷ []) })) ≡ 12 + size v + length (entry_fields es) + length (encode_all e.ancillae)
+length-fields_snoc v es e = length_fields (record { held = v; entries = es ++ (e ∷ []) }) ∙ omega (arith, length-entry_fields_snoc es e)
 
 ----------------------------------------------------------------
 -- In a buffer
@@ -71,46 +71,46 @@ take-filled n m xs h =
     within : n ≡ length xs + (n - length xs)
     within = omega arith
 
-pub length-writeOut : (n : ℕ) (J : Journal) → length (fields J) ≤ n → length (writeOut n J) ≡ n
-unfolding writeOut
-length-writeOut n J h = length-filled (fields J) (n - length (fields J)) ∙ omega arith
+pub length-write_out : (n : ℕ) (J : Journal) → length (fields J) ≤ n → length (write_out n J) ≡ n
+unfolding write_out
+length-write_out n J h = length-filled (fields J) (n - length (fields J)) ∙ omega arith
 
 -- a longer buffer has more zeros behind
-pub written-longer : (n m : ℕ) (J : Journal) → length (fields J) ≤ n → n ≤ m → writeOut m J ≡ writeOut n J ++ replicate (m - n) 0
-unfolding writeOut
+pub written-longer : (n m : ℕ) (J : Journal) → length (fields J) ≤ n → n ≤ m → write_out m J ≡ write_out n J ++ replicate (m - n) 0
+unfolding write_out
 written-longer n m J h k = sym (more-zeros (fields J) (n - length (fields J)) (m - n) (m - length (fields J)) (omega arith))
 
 pub resized-length : (n : ℕ) (xs : List ℕ) → length (resized n xs) ≡ n
 unfolding resized
 resized-length n xs = length-filled (take n xs) (n - length xs) ∙ omega (arith, length-take n xs)
 
-pub resized-written : (n m : ℕ) (J : Journal) → length (fields J) ≤ n → length (fields J) ≤ m → resized n (writeOut m J) ≡ writeOut n J
-unfolding resized writeOut
+pub resized-written : (n m : ℕ) (J : Journal) → length (fields J) ≤ n → length (fields J) ≤ m → resized n (write_out m J) ≡ write_out n J
+unfolding resized write_out
 resized-written n m J h k =
-    ap₂ (λ xs j. xs ++ replicate (n - j) 0) (take-filled n (m - length (fields J)) (fields J) h) (length-writeOut m J k)
+    ap₂ (λ xs j. xs ++ replicate (n - j) 0) (take-filled n (m - length (fields J)) (fields J) h) (length-write_out m J k)
     ∙ more-zeros (fields J) (min (n - length (fields J)) (m - length (fields J))) (n - m) (n - length (fields J)) (omega arith)
 
 ----------------------------------------------------------------
 -- Written, then read
 
-pub read-written : (n : ℕ) (J : Journal) → Writable J → length (fields J) ≤ n → readJournal (writeOut n J) ≡ some J
-unfolding readJournal writeOut fields
+pub read-written : (n : ℕ) (J : Journal) → Writable J → length (fields J) ≤ n → read_journal (write_out n J) ≡ some J
+unfolding read_journal write_out fields
 read-written n J w h =
-    rw (append_assoc (field heldTag (encode J.held)) (entryFields J.entries) (replicate (n - length (fields J)) 0))
-    (there _ (opened-field heldTag (encode J.held) _ (omega (arith, length-encode J.held, fits_below J.held w.held_fits)))
+    rw (append_assoc (field held_tag (encode J.held)) (entry_fields J.entries) (replicate (n - length (fields J)) 0))
+    (there _ (opened-field held_tag (encode J.held) _ (omega (arith, length-encode J.held, fits_below J.held w.held_fits)))
     (there _ (value-encode J.held w.held_fits)
-    (there _ (readEntries-written (suc maxConversions) (n - length (fields J)) w.entries-writable (omega (arith, w.entries-few))) refl)))
+    (there _ (read_entries-written (suc max_conversions) (n - length (fields J)) w.entries_writable (omega (arith, w.entries_few))) refl)))
 
-pub lastField-written : (n : ℕ) (J : Journal) → Writable J → length (fields J) ≤ n → lastField (writeOut n J) ≡ length (fields J)
-unfolding lastField
-lastField-written n J w h = rw (read-written n J w h, lastField)
+pub last_field-written : (n : ℕ) (J : Journal) → Writable J → length (fields J) ≤ n → last_field (write_out n J) ≡ length (fields J)
+unfolding last_field
+last_field-written n J w h = rw (read-written n J w h, last_field)
 
 ----------------------------------------------------------------
 -- Read, then written
 
 -- fields and zeros are what is written out to the end
-filled-out : (k : ℕ) (xs : List ℕ) (J : Journal) → xs ≡ fields J ++ replicate k 0 → (xs ≡ writeOut (length xs) J) × (length (fields J) ≤ length xs)
-unfolding writeOut
+filled-out : (k : ℕ) (xs : List ℕ) (J : Journal) → xs ≡ fields J ++ replicate k 0 → (xs ≡ write_out (length xs) J) × (length (fields J) ≤ length xs)
+unfolding write_out
 filled-out k xs J e = (e ∙ ap (λ j. fields J ++ replicate j 0) behind, omega (arith, long))
   where
     long : length xs ≡ length (fields J) + k
@@ -119,15 +119,15 @@ filled-out k xs J e = (e ∙ ap (λ j. fields J ++ replicate j 0) behind, omega 
     behind : k ≡ length xs - length (fields J)
     behind = omega (arith, long)
 
-pub written_read : (xs : List ℕ) {J : Journal} → AreBytes xs → readJournal xs ≡ some J
-    → (xs ≡ writeOut (length xs) J) × Writable J × (length (fields J) ≤ length xs)
-unfolding readJournal fields
+pub written_read : (xs : List ℕ) {J : Journal} → AreBytes xs → read_journal xs ≡ some J
+    → (xs ≡ write_out (length xs) J) × Writable J × (length (fields J) ≤ length xs)
+unfolding read_journal fields
 written_read xs h e =
-    given (was-there (opened heldTag xs) _ e) λ (f, first, next). given (was-there (value f.body) _ next) λ (v, held, further).
-    given (was-there (readEntries (suc maxConversions) f.rest) _ further) λ (es, rest, last).
-    given (opened-sound heldTag xs h first) λ whole. given (opened-bytes heldTag xs f.body f.rest h whole) λ (in_Body, behind).
-    given (value-sound f.body held) λ (same, fitting). given (readEntries-sound (suc maxConversions) f.rest behind rest) λ i.
+    given (was_there (opened held_tag xs) _ e) λ (f, first, next). given (was_there (value f.body) _ next) λ (v, held, further).
+    given (was_there (read_entries (suc max_conversions) f.rest) _ further) λ (es, rest, last).
+    given (opened-sound held_tag xs h first) λ whole. given (opened-bytes held_tag xs f.body f.rest h whole) λ (in_Body, behind).
+    given (value-sound f.body held) λ (same, fitting). given (read_entries-sound (suc max_conversions) f.rest behind rest) λ i.
     given (filled-out i.zeros xs (record { held = v; entries = es })
-    (whole ∙ ap₂ (λ b r. field heldTag b ++ r) same i.bytes ∙ sym (append_assoc (field heldTag (encode v)) (entryFields es) (replicate i.zeros 0)))) λ (out, within).
-    subst (λ J. (xs ≡ writeOut (length xs) J) × Writable J × (length (fields J) ≤ length xs)) (some_inj last)
-    (out, record { held_fits = fitting; entries-writable = i.writable; entries-few = omega (arith, i.fewer) }, within)
+    (whole ∙ ap₂ (λ b r. field held_tag b ++ r) same i.bytes ∙ sym (append_assoc (field held_tag (encode v)) (entry_fields es) (replicate i.zeros 0)))) λ (out, within).
+    subst (λ J. (xs ≡ write_out (length xs) J) × Writable J × (length (fields J) ≤ length xs)) (some_inj last)
+    (out, record { held_fits = fitting; entries_writable = i.writable; entries_few = omega (arith, i.fewer) }, within)

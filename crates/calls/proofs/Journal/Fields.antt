@@ -11,13 +11,13 @@ use lib.Dec.{leb, eqb}
 use lib.Seq.{length-take-le, take_at, drop_at}
 use package.Rattle.octets.specs.Numbers.{get16, get32, bytes16, bytes32, AreBytes}
 use package.Rattle.octets.proofs.Numbers.{bytes_left, bytes-right, get16-bytes16, get32-bytes32, get32-behind, get16-below, get32-below, bytes16-get16, bytes32-get32}
-use package.Rattle.rules.specs.Limits.{fits, maxValueBytes, maxAncillaBytes}
+use package.Rattle.rules.specs.Limits.{fits, max_value_bytes, max_ancilla_bytes}
 use package.Rattle.rules.specs.Val.{Val, size}
 use package.Rattle.rules.proofs.Basics.{given, none≢some, some_inj, eqb_yes, eqb-sound}
 use package.Rattle.rules.proofs.Typing.Tests.{leb_yes, leb-sound}
-use package.Rattle.calls.specs.Values.{encodeAll, ancillae}
-use package.Rattle.calls.specs.Fields.{fieldHead}
-use package.Rattle.calls.specs.Journal.{Entry, entryHead, field, entryBody, ◌>>=◌, provided, Opened, opened, read_entry}
+use package.Rattle.calls.specs.Values.{encode_all, ancillae}
+use package.Rattle.calls.specs.Fields.{field_head}
+use package.Rattle.calls.specs.Journal.{Entry, entry_head, field, entry_body, ◌>>=◌, provided, Opened, opened, read_entry}
 use package.Rattle.calls.proofs.Values.{ancillae-encode, ancillae-sound}
 
 ----------------------------------------------------------------
@@ -30,44 +30,44 @@ module _ {A B : Type 0} where
   there k p q = ap (λ x. x >>= k) p ∙ q
 
   -- an answer that is there: what was there before
-  pub was-there : (x : Option A) (k : A → Option B) {b : B} → (x >>= k) ≡ some b → (a : A) × (x ≡ some a) × (k a ≡ some b)
+  pub was_there : (x : Option A) (k : A → Option B) {b : B} → (x >>= k) ≡ some b → (a : A) × (x ≡ some a) × (k a ≡ some b)
   unfolding ◌>>=◌
-  was-there none k e = absurd (none≢some e)
-  was-there (some a) k e = (a, refl, e)
+  was_there none k e = absurd (none≢some e)
+  was_there (some a) k e = (a, refl, e)
 
-pub provided-true : {b : Bool} → b ≡ true → provided b ≡ some tt
+pub provided_true : {b : Bool} → b ≡ true → provided b ≡ some tt
 unfolding provided
-provided-true e = ap provided e
+provided_true e = ap provided e
 
-pub provided-some : (b : Bool) {u : Unit {0}} → provided b ≡ some u → b ≡ true
+pub provided_some : (b : Bool) {u : Unit {0}} → provided b ≡ some u → b ≡ true
 unfolding provided
-provided-some true e = refl
-provided-some false e = absurd (none≢some e)
+provided_some true e = refl
+provided_some false e = absurd (none≢some e)
 
 ----------------------------------------------------------------
 -- Limits
 
 -- the bytes of a value fit a field
 pub fits_below : (v : Val) → fits v ≡ true → size v < 65536
-unfolding fits maxValueBytes
-fits_below v e = omega (arith, leb-sound (size v) maxValueBytes e)
+unfolding fits max_value_bytes
+fits_below v e = omega (arith, leb-sound (size v) max_value_bytes e)
 
 -- the body of an entry fits a field
-pub ancillae-below : {n : ℕ} → n ≤ maxAncillaBytes → entryHead + n < 65536
-unfolding maxAncillaBytes
+pub ancillae-below : {n : ℕ} → n ≤ max_ancilla_bytes → entry_head + n < 65536
+unfolding max_ancilla_bytes
 ancillae-below h = omega arith
 
 ----------------------------------------------------------------
 -- A field
 
-pub length-field : (tag : ℕ) (body : List ℕ) → length (field tag body) ≡ fieldHead + length body
+pub length-field : (tag : ℕ) (body : List ℕ) → length (field tag body) ≡ field_head + length body
 unfolding field bytes16
 length-field tag body = omega arith
 
 pub opened-field : (tag : ℕ) (body rest : List ℕ) → length body < 65536 → opened tag (field tag body ++ rest) ≡ some (record { body = body; rest = rest })
 unfolding field opened bytes16
 opened-field tag body rest h =
-    there _ (provided-true (eqb_yes tag)) (there _ (provided-true (leb_yes _ (length (body ++ rest)) whole))
+    there _ (provided_true (eqb_yes tag)) (there _ (provided_true (leb_yes _ (length (body ++ rest)) whole))
     (ap₂ (λ b r. some (record { body = b; rest = r })) (take_at body rest _ (sym number)) (drop_at body rest _ (sym number))))
   where
     number : get16 (bytes16 (length body) ++ []) 0 ≡ length body
@@ -88,9 +88,9 @@ opened-sound tag [] h e = absurd (none≢some e)
 opened-sound tag (t ∷ []) h e = absurd (none≢some e)
 opened-sound tag (t ∷ a ∷ []) h e = absurd (none≢some e)
 opened-sound tag (t ∷ a ∷ b ∷ xs) h e =
-    given (was-there (provided (eqb t tag)) _ e) λ (u, tagged, next). given (was-there (provided (leb (get16 (a ∷ b ∷ []) 0) (length xs))) _ next) λ (u', whole, last).
-    ap (λ t. t ∷ a ∷ b ∷ xs) (eqb-sound t tag (provided-some (eqb t tag) tagged))
-    ∙ sym (cut_field tag a b xs (h 1) (h 2) (leb-sound (get16 (a ∷ b ∷ []) 0) (length xs) (provided-some (leb (get16 (a ∷ b ∷ []) 0) (length xs)) whole)))
+    given (was_there (provided (eqb t tag)) _ e) λ (u, tagged, next). given (was_there (provided (leb (get16 (a ∷ b ∷ []) 0) (length xs))) _ next) λ (u', whole, last).
+    ap (λ t. t ∷ a ∷ b ∷ xs) (eqb-sound t tag (provided_some (eqb t tag) tagged))
+    ∙ sym (cut_field tag a b xs (h 1) (h 2) (leb-sound (get16 (a ∷ b ∷ []) 0) (length xs) (provided_some (leb (get16 (a ∷ b ∷ []) 0) (length xs)) whole)))
     ∙ ap (λ f. field tag f.body ++ f.rest) (some_inj last)
 
 -- of bytes, a field's body and what stands behind it are bytes
@@ -106,44 +106,44 @@ opened-bytes tag xs body rest h e = (bytes_left body rest behind, bytes-right bo
 
 -- an entry that a field can hold
 pub record WritableEntry (e : Entry) : Type 0 where
-  pub function-below : e.function < 65536
-  pub steps-below : e.steps < 65536 * 65536
-  pub ancillae-within : length (encodeAll e.ancillae) ≤ maxAncillaBytes
+  pub function_below : e.function < 65536
+  pub steps_below : e.steps < 65536 * 65536
+  pub ancillae_within : length (encode_all e.ancillae) ≤ max_ancilla_bytes
 
-pub length-entryBody : (e : Entry) → length (entryBody e) ≡ entryHead + length (encodeAll e.ancillae)
-unfolding entryBody bytes16 bytes32
-length-entryBody e = omega arith
+pub length-entry_body : (e : Entry) → length (entry_body e) ≡ entry_head + length (encode_all e.ancillae)
+unfolding entry_body bytes16 bytes32
+length-entry_body e = omega arith
 
-pub entry-fits : (e : Entry) → WritableEntry e → length (entryBody e) < 65536
-entry-fits e w = omega (arith, length-entryBody e, ancillae-below w.ancillae-within)
+pub entry-fits : (e : Entry) → WritableEntry e → length (entry_body e) < 65536
+entry-fits e w = omega (arith, length-entry_body e, ancillae-below w.ancillae_within)
 
-pub readEntry-body : (e : Entry) → WritableEntry e → read_entry (entryBody e) ≡ some e
-unfolding read_entry entryBody bytes16 bytes32
-readEntry-body e w =
-    there _ (provided-true (leb_yes entryHead (length (entryBody e)) (omega (arith, length-entryBody e)))) (there _ (ancillae-encode e.ancillae w.ancillae-within)
+pub read_entry-body : (e : Entry) → WritableEntry e → read_entry (entry_body e) ≡ some e
+unfolding read_entry entry_body bytes16 bytes32
+read_entry-body e w =
+    there _ (provided_true (leb_yes entry_head (length (entry_body e)) (omega (arith, length-entry_body e)))) (there _ (ancillae-encode e.ancillae w.ancillae_within)
     (ap₂ (λ f s. some (record { function = f; steps = s; ancillae = e.ancillae }))
-    (get16-bytes16 e.function (bytes32 e.steps ++ encodeAll e.ancillae) w.function-below)
-    (get32-behind (bytes16 e.function) (bytes32 e.steps ++ encodeAll e.ancillae) 0
-    ∙ get32-bytes32 e.steps (encodeAll e.ancillae) w.steps-below)))
+    (get16-bytes16 e.function (bytes32 e.steps ++ encode_all e.ancillae) w.function_below)
+    (get32-behind (bytes16 e.function) (bytes32 e.steps ++ encode_all e.ancillae) 0
+    ∙ get32-bytes32 e.steps (encode_all e.ancillae) w.steps_below)))
 
 -- a function, steps, and the rest
-head-whole : (xs : List ℕ) → AreBytes xs → entryHead ≤ length xs → bytes16 (get16 xs 0) ++ bytes32 (get32 xs 2) ++ drop entryHead xs ≡ xs
+head_whole : (xs : List ℕ) → AreBytes xs → entry_head ≤ length xs → bytes16 (get16 xs 0) ++ bytes32 (get32 xs 2) ++ drop entry_head xs ≡ xs
 unfolding get16 get32
-head-whole [] h l = absurd (omega arith)
-head-whole (a ∷ []) h l = absurd (omega arith)
-head-whole (a ∷ b ∷ []) h l = absurd (omega arith)
-head-whole (a ∷ b ∷ c ∷ []) h l = absurd (omega arith)
-head-whole (a ∷ b ∷ c ∷ d ∷ []) h l = absurd (omega arith)
-head-whole (a ∷ b ∷ c ∷ d ∷ e ∷ []) h l = absurd (omega arith)
-head-whole (a ∷ b ∷ c ∷ d ∷ e ∷ f ∷ xs) h l =
+head_whole [] h l = absurd (omega arith)
+head_whole (a ∷ []) h l = absurd (omega arith)
+head_whole (a ∷ b ∷ []) h l = absurd (omega arith)
+head_whole (a ∷ b ∷ c ∷ []) h l = absurd (omega arith)
+head_whole (a ∷ b ∷ c ∷ d ∷ []) h l = absurd (omega arith)
+head_whole (a ∷ b ∷ c ∷ d ∷ e ∷ []) h l = absurd (omega arith)
+head_whole (a ∷ b ∷ c ∷ d ∷ e ∷ f ∷ xs) h l =
     ap₂ (λ x y. x ++ y ++ xs) (bytes16-get16 a b [] (h 0) (h 1)) (bytes32-get32 c d e f [] (h 2) (h 3) (h 4) (h 5))
 
-pub readEntry-sound : (xs : List ℕ) {e : Entry} → AreBytes xs → read_entry xs ≡ some e → (xs ≡ entryBody e) × WritableEntry e
-unfolding read_entry entryBody
-readEntry-sound xs h e =
-    given (was-there (provided (leb entryHead (length xs))) _ e) λ (u, long, next). given (was-there (ancillae (drop entryHead xs)) _ next) λ (vs, anc, last).
-    given (ancillae-sound (drop entryHead xs) anc) λ (same, within).
-    subst (λ e. (xs ≡ entryBody e) × WritableEntry e) (some_inj last) (
-      sym (head-whole xs h (leb-sound entryHead (length xs) (provided-some (leb entryHead (length xs)) long))) ∙ ap (λ ys. bytes16 (get16 xs 0) ++ bytes32 (get32 xs 2) ++ ys) same,
-      record { function-below = get16-below xs 0 h; steps-below = get32-below xs 2 h; ancillae-within = rw same at within },
+pub read_entry-sound : (xs : List ℕ) {e : Entry} → AreBytes xs → read_entry xs ≡ some e → (xs ≡ entry_body e) × WritableEntry e
+unfolding read_entry entry_body
+read_entry-sound xs h e =
+    given (was_there (provided (leb entry_head (length xs))) _ e) λ (u, long, next). given (was_there (ancillae (drop entry_head xs)) _ next) λ (vs, anc, last).
+    given (ancillae-sound (drop entry_head xs) anc) λ (same, within).
+    subst (λ e. (xs ≡ entry_body e) × WritableEntry e) (some_inj last) (
+      sym (head_whole xs h (leb-sound entry_head (length xs) (provided_some (leb entry_head (length xs)) long))) ∙ ap (λ ys. bytes16 (get16 xs 0) ++ bytes32 (get32 xs 2) ++ ys) same,
+      record { function_below = get16-below xs 0 h; steps_below = get32-below xs 2 h; ancillae_within = rw same at within },
     )

@@ -1,6 +1,6 @@
 use mathlib.Core.Path.{sym, ap, ◌∙◌}
-use Rattle.answers.specs.Answers.{checkAnswer}
-use Rattle.exports.specs.Told.{checkTold}
+use Rattle.answers.specs.Answers.{check_answer}
+use Rattle.exports.specs.Told.{check_told}
 use Rattle.exports.proofs.Numbers.{refused-told}
 use borrow.Author.Rules.{rules}
 use Rattle.exports.proofs.check_told.Statement.{statement}
@@ -19,12 +19,12 @@ place-requires : tie.Need-place-requires
 place-requires c κs = search rules
 
 returns : tie.Need-returns
-unfolding checkTold
-returns c = sym (ap (λ a. checkTold (checkAnswer a)) c.enum_told.given.1)
+unfolding check_told
+returns c = sym (ap (λ a. check_told (check_answer a)) c.enum_told.given.1)
 
 returns-2 : tie.Need-returns-2
-unfolding checkTold
-returns-2 c = refused-told c.before.number.ensures c.place.ensures ∙ sym (ap (λ a. checkTold (checkAnswer a)) c.before.before.before.answer.given.1)
+unfolding check_told
+returns-2 c = refused-told c.before.number.ensures c.place.ensures ∙ sym (ap (λ a. check_told (check_answer a)) c.before.before.before.answer.given.1)
 
 pub check-told-spec : {M : Type 1} → statement M
 check-told-spec =

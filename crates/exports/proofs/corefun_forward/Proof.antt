@@ -1,5 +1,5 @@
 use mathlib.Core.Path.{ap, ◌∙◌}
-use Rattle.exports.specs.Told.{runTold}
+use Rattle.exports.specs.Told.{run_told}
 use borrow.Author.Rules.{rules}
 use Rattle.exports.proofs.corefun_forward.Statement.{statement}
 use Rattle.exports.proofs.corefun_forward.Tie as tie
@@ -19,7 +19,7 @@ same-length-2 c = search rules
 returns : tie.Need-returns
 returns c =
     let at_forward = c.before.before.before.before.before in
-    (c.run-told.ensures ∙ ap runTold at_forward.forward.ensures.0, at_forward.forward.ensures.1)
+    (c.run-told.ensures ∙ ap run_told at_forward.forward.ensures.0, at_forward.forward.ensures.1)
 
 pub corefun-forward-spec : {M : Type 1} → statement M
 corefun-forward-spec =

@@ -1,5 +1,5 @@
 use mathlib.Core.Path.{ap, ◌∙◌}
-use Rattle.exports.specs.Told.{runTold}
+use Rattle.exports.specs.Told.{run_told}
 use borrow.Author.Rules.{rules}
 use Rattle.exports.proofs.corefun_nurse.Statement.{statement}
 use Rattle.exports.proofs.corefun_nurse.Tie as tie
@@ -16,7 +16,7 @@ same_length c = search rules
 returns : tie.Need-returns
 returns c =
     let at-nurse = c.before.before.before in
-    (c.nurse-told.ensures ∙ ap runTold at-nurse.nurse.ensures.0, at-nurse.nurse.ensures.1)
+    (c.nurse-told.ensures ∙ ap run_told at-nurse.nurse.ensures.0, at-nurse.nurse.ensures.1)
 
 pub corefun-nurse-spec : {M : Type 1} → statement M
 corefun-nurse-spec = tie.close (tie.spec nurse-requires nurse-told-requires same_length returns)

@@ -1,5 +1,5 @@
 use mathlib.Core.Path.{ap, ◌∙◌}
-use Rattle.exports.specs.Told.{checkTold}
+use Rattle.exports.specs.Told.{check_told}
 use borrow.Author.Rules.{rules}
 use Rattle.exports.proofs.corefun_open.Statement.{statement}
 use Rattle.exports.proofs.corefun_open.Tie as tie
@@ -19,7 +19,7 @@ same-length-2 c = search rules
 returns : tie.Need-returns
 returns c =
     let at_before = c.before.before.before.before in
-    (c.check-told.ensures ∙ ap checkTold at_before.before.«open».ensures.0, at_before.before.«open».ensures.1)
+    (c.check-told.ensures ∙ ap check_told at_before.before.«open».ensures.0, at_before.before.«open».ensures.1)
 
 pub corefun-open-spec : {M : Type 1} → statement M
 corefun-open-spec =

@@ -1,6 +1,6 @@
 use mathlib.Core.Path.{ap, ◌∙◌}
-use Rattle.exports.specs.Told.{replayTold}
-use Rattle.exports.proofs.Scripts.{booked-as}
+use Rattle.exports.specs.Told.{replay_told}
+use Rattle.exports.proofs.Scripts.{booked_as}
 use borrow.Author.Rules.{rules}
 use Rattle.exports.proofs.corefun_replay.Statement.{statement}
 use Rattle.exports.proofs.corefun_replay.Tie as tie
@@ -24,8 +24,8 @@ returns : tie.Need-returns
 returns c =
     let at-replay = c.before.before.before.before.before.before.before in
     let played = at-replay.replay.ensures in (
-      c.replay-told.ensures ∙ ap replayTold played.0.answer,
-      (played.0.kept, (played.0.told, (played.0.clear, booked-as _ _ _ _ _ _ _ _ played.0.answer played.1))),
+      c.replay-told.ensures ∙ ap replay_told played.0.answer,
+      (played.0.kept, (played.0.told, (played.0.clear, booked_as _ _ _ _ _ _ _ _ played.0.answer played.1))),
     )
 
 pub corefun-replay-spec : {M : Type 1} → statement M

@@ -1,5 +1,5 @@
 use mathlib.Core.Path.{ap, ◌∙◌}
-use Rattle.exports.specs.Told.{lengthTold}
+use Rattle.exports.specs.Told.{length_told}
 use borrow.Author.Rules.{rules}
 use Rattle.exports.proofs.corefun_workshop.Statement.{statement}
 use Rattle.exports.proofs.corefun_workshop.Tie as tie
@@ -16,7 +16,7 @@ same_length c = search rules
 returns : tie.Need-returns
 returns c =
     let at-workshop = c.before.before.before in
-    (c.write-told.ensures ∙ ap lengthTold at-workshop.workshop.ensures.0, at-workshop.workshop.ensures.1)
+    (c.write-told.ensures ∙ ap length_told at-workshop.workshop.ensures.0, at-workshop.workshop.ensures.1)
 
 pub corefun-workshop-spec : {M : Type 1} → statement M
 corefun-workshop-spec = tie.close (tie.spec workshop-requires write-told-requires same_length returns)

@@ -1,6 +1,6 @@
 use mathlib.Core.Path.{sym, ap, ◌∙◌}
-use Rattle.answers.specs.Answers.{nurseAnswer}
-use Rattle.exports.specs.Told.{runTold}
+use Rattle.answers.specs.Answers.{nurse_answer}
+use Rattle.exports.specs.Told.{run_told}
 use Rattle.exports.proofs.Numbers.{refused-told}
 use borrow.Author.Rules.{rules}
 use Rattle.exports.proofs.nurse_told.Statement.{statement}
@@ -25,14 +25,14 @@ place-requires : tie.Need-place-requires
 place-requires c κs = search rules
 
 returns : tie.Need-returns
-unfolding runTold
-returns c = sym (ap (λ a. runTold (nurseAnswer a)) c.before.before.before.answer.given.1)
+unfolding run_told
+returns c = sym (ap (λ a. run_told (nurse_answer a)) c.before.before.before.answer.given.1)
 
 returns-2 : tie.Need-returns-2
-unfolding runTold
+unfolding run_told
 returns-2 c =
     refused-told c.before.number.ensures c.place.ensures
-    ∙ sym (ap (λ a. runTold (nurseAnswer a)) c.before.before.before.answer2.given.1)
+    ∙ sym (ap (λ a. run_told (nurse_answer a)) c.before.before.before.answer2.given.1)
 
 pub nurse-told-spec : {M : Type 1} → statement M
 nurse-told-spec =

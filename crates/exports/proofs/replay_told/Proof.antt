@@ -1,6 +1,6 @@
 use mathlib.Core.Path.{sym, ap, ◌∙◌}
-use Rattle.replay.specs.Playing.{replyOf}
-use Rattle.exports.specs.Told.{replayTold}
+use Rattle.replay.specs.Playing.{reply_of}
+use Rattle.exports.specs.Told.{replay_told}
 use Rattle.exports.proofs.Numbers.{unopened-told}
 use borrow.Author.Rules.{rules}
 use Rattle.exports.proofs.replay_told.Statement.{statement}
@@ -31,28 +31,28 @@ enum-known-answer-5 : tie.Need-enum-known-answer-5
 enum-known-answer-5 c = search rules
 
 returns : tie.Need-returns
-unfolding replayTold
-returns c = sym (ap (λ a. replayTold (replyOf a)) c.before.answer.given.1)
+unfolding replay_told
+returns c = sym (ap (λ a. replay_told (reply_of a)) c.before.answer.given.1)
 
 returns-2 : tie.Need-returns-2
-unfolding replayTold
-returns-2 c = sym (ap (λ a. replayTold (replyOf a)) c.before.answer2.given.1)
+unfolding replay_told
+returns-2 c = sym (ap (λ a. replay_told (reply_of a)) c.before.answer2.given.1)
 
 returns-3 : tie.Need-returns-3
-unfolding replayTold
-returns-3 c = sym (ap (λ a. replayTold (replyOf a)) c.before.answer3.given.1)
+unfolding replay_told
+returns-3 c = sym (ap (λ a. replay_told (reply_of a)) c.before.answer3.given.1)
 
 returns-4 : tie.Need-returns-4
-unfolding replayTold
-returns-4 c = sym (ap (λ a. replayTold (replyOf a)) c.enum_told.given.1)
+unfolding replay_told
+returns-4 c = sym (ap (λ a. replay_told (reply_of a)) c.enum_told.given.1)
 
 returns-5 : tie.Need-returns-5
-unfolding replayTold
-returns-5 c = unopened-told c.before.number.ensures c.place.ensures ∙ sym (ap (λ a. replayTold (replyOf a)) c.before.before.before.answer4.given.1)
+unfolding replay_told
+returns-5 c = unopened-told c.before.number.ensures c.place.ensures ∙ sym (ap (λ a. replay_told (reply_of a)) c.before.before.before.answer4.given.1)
 
 returns-6 : tie.Need-returns-6
-unfolding replayTold
-returns-6 c = sym (ap (λ a. replayTold (replyOf a)) c.before.answer5.given.1)
+unfolding replay_told
+returns-6 c = sym (ap (λ a. replay_told (reply_of a)) c.before.answer5.given.1)
 
 pub replay-told-spec : {M : Type 1} → statement M
 replay-told-spec =

@@ -1,6 +1,6 @@
 use mathlib.Core.Path.{sym, ap, ◌∙◌}
-use Rattle.answers.specs.Answers.{runAnswer}
-use Rattle.exports.specs.Told.{runTold}
+use Rattle.answers.specs.Answers.{run_answer}
+use Rattle.exports.specs.Told.{run_told}
 use Rattle.exports.proofs.Numbers.{refused-told}
 use borrow.Author.Rules.{rules}
 use Rattle.exports.proofs.run_told.Statement.{statement}
@@ -25,12 +25,12 @@ place-requires : tie.Need-place-requires
 place-requires c κs = search rules
 
 returns : tie.Need-returns
-unfolding runTold
-returns c = sym (ap (λ a. runTold (runAnswer a)) c.before.before.before.answer.given.1)
+unfolding run_told
+returns c = sym (ap (λ a. run_told (run_answer a)) c.before.before.before.answer.given.1)
 
 returns-2 : tie.Need-returns-2
-unfolding runTold
-returns-2 c = refused-told c.before.number.ensures c.place.ensures ∙ sym (ap (λ a. runTold (runAnswer a)) c.before.before.before.answer2.given.1)
+unfolding run_told
+returns-2 c = refused-told c.before.number.ensures c.place.ensures ∙ sym (ap (λ a. run_told (run_answer a)) c.before.before.before.answer2.given.1)
 
 pub run-told-spec : {M : Type 1} → statement M
 run-told-spec =

@@ -1,6 +1,6 @@
 use mathlib.Core.Path.{sym, ap, ◌∙◌}
-use Rattle.answers.specs.Answers.{writeAnswer}
-use Rattle.exports.specs.Told.{lengthTold}
+use Rattle.answers.specs.Answers.{write_answer}
+use Rattle.exports.specs.Told.{length_told}
 use Rattle.exports.proofs.Numbers.{refused-told}
 use borrow.Author.Rules.{rules}
 use Rattle.exports.proofs.write_told.Statement.{statement}
@@ -19,14 +19,14 @@ place-requires : tie.Need-place-requires
 place-requires c κs = search rules
 
 returns : tie.Need-returns
-unfolding lengthTold
-returns c = sym (ap (λ a. lengthTold (writeAnswer a)) c.before.answer.given.1)
+unfolding length_told
+returns c = sym (ap (λ a. length_told (write_answer a)) c.before.answer.given.1)
 
 returns-2 : tie.Need-returns-2
-unfolding lengthTold
+unfolding length_told
 returns-2 c =
     refused-told c.before.number.ensures c.place.ensures
-    ∙ sym (ap (λ a. lengthTold (writeAnswer a)) c.before.before.before.answer2.given.1)
+    ∙ sym (ap (λ a. length_told (write_answer a)) c.before.before.before.answer2.given.1)
 
 pub write-told-spec : {M : Type 1} → statement M
 write-told-spec =

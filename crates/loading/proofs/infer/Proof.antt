@@ -1,6 +1,6 @@
 use native.Mathlib.Omega.{arith}
 use mathlib.Core.Path.{ap}
-use Rattle.typing.specs.Checked.{verdictOf}
+use Rattle.typing.specs.Checked.{verdict_of}
 use Rattle.loading.proofs.Loading.{infer-typed, infer-refused}
 use borrow.Author.Rules.{rules}
 use Rattle.loading.proofs.infer.Statement.{statement}
@@ -41,7 +41,7 @@ returns-2 c =
     let at-check-functions = at-v.before.before.before.before in
     let start = at-check-functions.before.before.before.before.before.before.before in
     infer-refused start.requires.0 at-check-functions.check-functions.result at-check-functions.check-functions.ensures _
-    (ap verdictOf at-v.v.given.1) (omega arith)
+    (ap verdict_of at-v.v.given.1) (omega arith)
 
 same-length-3 : tie.Need-same-length-3
 same-length-3 c = search rules
@@ -52,7 +52,7 @@ returns-3 c =
     let at-check-functions = at-v2.before.before.before.before in
     let start = at-check-functions.before.before.before.before.before.before.before in
     infer-refused start.requires.0 at-check-functions.check-functions.result at-check-functions.check-functions.ensures _
-    (ap verdictOf at-v2.v2.given.1) (omega arith)
+    (ap verdict_of at-v2.v2.given.1) (omega arith)
 
 same-length-4 : tie.Need-same-length-4
 same-length-4 c = search rules
@@ -63,7 +63,7 @@ returns-4 c =
     let at-check-functions = at-v3.before.before.before.before in
     let start = at-check-functions.before.before.before.before.before.before.before in
     infer-refused start.requires.0 at-check-functions.check-functions.result at-check-functions.check-functions.ensures _
-    (ap verdictOf at-v3.v3.given.1) (omega arith)
+    (ap verdict_of at-v3.v3.given.1) (omega arith)
 
 pub infer-spec : {M : Type 1} → statement M
 infer-spec =

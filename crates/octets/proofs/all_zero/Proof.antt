@@ -2,7 +2,7 @@ use Prim.Native.Nat.{◌-◌, ◌≤◌}
 use native.Mathlib.Omega.{arith}
 use lib.ListN.{length}
 use borrow.Author.Rules.{rules}
-use Rattle.octets.proofs.Zeros.{Seen, seen_none, seen_more, seen_all, seen-some}
+use Rattle.octets.proofs.Zeros.{Seen, seen_none, seen_more, seen_all, seen_some}
 use Rattle.octets.proofs.all_zero.Statement.{statement}
 use Rattle.octets.proofs.all_zero.Tie as tie
 
@@ -31,7 +31,7 @@ returns : tie.Need-returns invariant-loop decreases-loop
 returns c = seen_all _ _ _ (omega arith) c.before.before.loop.invariant.1 c.if1.true
 
 returns-2 : tie.Need-returns-2 invariant-loop decreases-loop
-returns-2 c = seen-some _ _ _ (omega arith) c.before.before.loop.invariant.1 (omega arith)
+returns-2 c = seen_some _ _ _ (omega arith) c.before.before.loop.invariant.1 (omega arith)
 
 pub all-zero-spec : {M : Type 1} → statement M
 all-zero-spec =

@@ -1,5 +1,5 @@
 use borrow.Author.Rules.{rules}
-use Rattle.octets.proofs.Zeros.{provided-true}
+use Rattle.octets.proofs.Zeros.{provided_true}
 use Rattle.octets.proofs.clear_block.Statement.{statement}
 use Rattle.octets.proofs.clear_block.Tie as tie
 
@@ -10,7 +10,7 @@ same_length : tie.Need-same-length
 same_length c = search rules
 
 returns : tie.Need-returns
-returns c = provided-true _ c.before.all-zero.ensures c.if1.true
+returns c = provided_true _ c.before.all-zero.ensures c.if1.true
 
 write-zeros-requires : tie.Need-write-zeros-requires
 write-zeros-requires c κs = search rules

@@ -1,5 +1,5 @@
 use borrow.Author.Rules.{rules}
-use Rattle.readers.proofs.Reading.{workshop-short, workshop-listed}
+use Rattle.readers.proofs.Reading.{workshop_short, workshop-listed}
 use Rattle.readers.proofs.show_fields.Statement.{statement}
 use Rattle.readers.proofs.show_fields.Tie as tie
 
@@ -10,7 +10,7 @@ returns : tie.Need-returns
 returns c =
     let at_fields = c.before in
     let start = at_fields.before.before.before in
-    workshop-short start.args.journal.now start.args.output.now start.requires at_fields.standing-fields.ensures c.if1.true
+    workshop_short start.args.journal.now start.args.output.now start.requires at_fields.standing-fields.ensures c.if1.true
 
 copy-requires : tie.Need-copy-requires
 copy-requires c κs = search rules

@@ -1,6 +1,6 @@
 use borrow.Author.Rules.{rules}
 use native.Mathlib.Omega.{arith}
-use Rattle.readers.proofs.Reading.{nurse-short, nurse-shown, length-narrow, count-narrow}
+use Rattle.readers.proofs.Reading.{nurse_short, nurse-shown, length-narrow, count-narrow}
 use Rattle.readers.proofs.show_held.Statement.{statement}
 use Rattle.readers.proofs.show_held.Tie as tie
 
@@ -11,7 +11,7 @@ returns : tie.Need-returns
 returns c =
     let at_held = c.before in
     let start = at_held.before.before.before in
-    nurse-short start.args.journal.now start.args.output.now start.requires at_held.held-value.ensures c.if1.true
+    nurse_short start.args.journal.now start.args.output.now start.requires at_held.held-value.ensures c.if1.true
 
 copy-requires : tie.Need-copy-requires
 copy-requires c κs = search rules

@@ -4,12 +4,12 @@ use Rattle.std.specs.Prelude.{ℕ, zero, suc, ◌+◌, ◌*◌, ◌-◌, ◌≤�
 use Rattle.std.proofs.Math.Option.{Option, none, some}
 use package.Rattle.octets.specs.Runs.{pasted}
 use package.Rattle.calls.specs.Answer.{Answer, accepted, refused}
-use package.Rattle.calls.specs.Conversions.{openCall}
-use package.Rattle.calls.specs.Book.{Call, buffer, Told, isOpen, holds, refuses, Left, resized, call}
-use package.Rattle.calls.specs.Claims.{lastField}
-use package.Rattle.replay.specs.Scripts.{pick, openTag, stepAt, given_of, call_of, Script, parseFrom}
-use package.Rattle.replay.specs.Lines.{lineLength, line}
-use package.Rattle.replay.specs.Playing.{Reply, played, malformed, tooWide, shortAnswers, unopened, cut, replyOf, hindrance, Result, ends}
+use package.Rattle.calls.specs.Conversions.{open_call}
+use package.Rattle.calls.specs.Book.{Call, buffer, Told, is_open, holds, refuses, Left, resized, call}
+use package.Rattle.calls.specs.Claims.{last_field}
+use package.Rattle.replay.specs.Scripts.{pick, open_tag, step_at, given_of, call_of, Script, parse_from}
+use package.Rattle.replay.specs.Lines.{line_length, line}
+use package.Rattle.replay.specs.Playing.{Reply, played, malformed, too_wide, short_answers, unopened, cut, reply_of, hindrance, Result, ends}
 use package.Rattle.replay.specs.declared.scripts.Part.{Part}
 use package.Rattle.replay.specs.declared.scripts.Step.{Step}
 use package.Rattle.replay.specs.declared.scripts.Step.TheVariants as steps
@@ -22,13 +22,13 @@ pub data Next : Type 0 where
   on : ℕ → Next
 
 abbrev pub next_of : Move → Next
-next_of (moves.Stop r) = halts (replyOf r)
+next_of (moves.Stop r) = halts (reply_of r)
 next_of (moves.To at) = on at
 
 -- what reading a script answers: why it is not played, if so
-abbrev pub stopOf : Move → Option Reply
-stopOf (moves.Stop r) = some (replyOf r)
-stopOf (moves.To count) = none
+abbrev pub stop_of : Move → Option Reply
+stop_of (moves.Stop r) = some (reply_of r)
+stop_of (moves.To count) = none
 
 -- what hinders a script (`hindrance`)
 abbrev pub hinders : ℕ → ℕ → Script → Option Reply
@@ -39,7 +39,7 @@ hinders width room s = hindrance width room s.calls s.broken
 
 -- the workspace after a call: all zero, but unchanged after refusal 1 (section 4)
 unfoldable pub swept : Told → List ℕ → List ℕ
-swept isOpen ws = replicate (length ws) 0
+swept is_open ws = replicate (length ws) 0
 swept (holds l s) ws = replicate (length ws) 0
 swept (refuses n p) ws = cond (eqb n 1) ws (replicate (length ws) 0)
 
@@ -50,11 +50,11 @@ leaves program c journal = call program c (resized (buffer c) journal)
 -- Is there room for the call at `at`, with a buffer of `n` bytes, in a journal's buffer of `width` bytes, and for its line in `room` bytes?
 unfoldable pub room_for : ℕ → ℕ → ℕ → ℕ → ℕ → ℕ → Next
 room_for n at next count width room =
-    pick (ltb width n) (halts (tooWide at)) (pick (ltb room (lineLength * count + lineLength)) (halts shortAnswers) (on next))
+    pick (ltb width n) (halts (too_wide at)) (pick (ltb room (line_length * count + line_length)) (halts short_answers) (on next))
 
 -- Does the call's buffer leave the journal's fields whole?
 unfoldable pub tested : ℕ → ℕ → ℕ → List ℕ → Next
-tested n at next journal = pick (ltb n (lastField journal)) (halts (cut at)) (on next)
+tested n at next journal = pick (ltb n (last_field journal)) (halts (cut at)) (on next)
 
 -- what comes next, and the buffers
 pub record PlayedTurn : Type 0 where
@@ -73,7 +73,7 @@ makes (halts r) program c count journal answers workspace = unplayed r journal a
 makes (on next) program c count journal answers workspace = record {
   next = on next;
   journal = resized (length journal) (leaves program c journal).journal;
-  answers = pasted answers (lineLength * count) (line (leaves program c journal).told);
+  answers = pasted answers (line_length * count) (line (leaves program c journal).told);
   workspace = swept (leaves program c journal).told workspace;
 }
 
@@ -93,7 +93,7 @@ unfoldable pub play : ℕ → List ℕ → List ℕ → ℕ → ℕ → List ℕ
 unfolding turn_of
 play zero program script at count journal answers workspace = ends (malformed at) journal answers workspace
 play (suc left) program script at count journal answers workspace =
-    let t = turn_of program script (stepAt script at) at count journal answers workspace in
+    let t = turn_of program script (step_at script at) at count journal answers workspace in
     elim t.next [
       | halts r ↦ ends r t.journal t.answers t.workspace
       | on next ↦ play left program script next (count + 1) t.journal t.answers t.workspace
@@ -107,29 +107,29 @@ unfoldable pub follows : Answer (Unit {0}) → List ℕ → List ℕ → Part �
 unfolding line play
 follows (refused n p) program script part journal answers workspace = ends (unopened n p) journal answers workspace
 follows (accepted a) program script part journal answers workspace =
-    play (length script) program script part.next 1 (resized (length journal) (take part.n journal)) (pasted answers 0 (line isOpen)) workspace
+    play (length script) program script part.next 1 (resized (length journal) (take part.n journal)) (pasted answers 0 (line is_open)) workspace
 
 -- the first open, and the calls behind it
-unfoldable pub opensTo : Answer (List ℕ) → List ℕ → List ℕ → ℕ → List ℕ → List ℕ → List ℕ → Result
+unfoldable pub opens_to : Answer (List ℕ) → List ℕ → List ℕ → ℕ → List ℕ → List ℕ → List ℕ → Result
 unfolding swept line play
-opensTo (refused n p) program script next journal answers workspace = ends (unopened n p) journal answers (swept (refuses n p) workspace)
-opensTo (accepted xs) program script next journal answers workspace =
-    play (length script) program script next 1 (resized (length journal) xs) (pasted answers 0 (line isOpen)) (swept isOpen workspace)
+opens_to (refused n p) program script next journal answers workspace = ends (unopened n p) journal answers (swept (refuses n p) workspace)
+opens_to (accepted xs) program script next journal answers workspace =
+    play (length script) program script next 1 (resized (length journal) xs) (pasted answers 0 (line is_open)) (swept is_open workspace)
 
 -- the first call: an open
 unfoldable pub begins : List ℕ → List ℕ → Part → List ℕ → List ℕ → List ℕ → Result
-unfolding opensTo
+unfolding opens_to
 begins program script p journal answers workspace =
-    pick (eqb p.kind openTag)
-    (opensTo (openCall program (given_of script p) (length workspace) p.n) program script p.next journal answers workspace)
+    pick (eqb p.kind open_tag)
+    (opens_to (open_call program (given_of script p) (length workspace) p.n) program script p.next journal answers workspace)
     (ends (malformed 0) journal answers workspace)
 
 -- what stands at the start
-unfoldable pub beginsAt : Step → List ℕ → List ℕ → List ℕ → List ℕ → List ℕ → Result
+unfoldable pub begins_at : Step → List ℕ → List ℕ → List ℕ → List ℕ → List ℕ → Result
 unfolding begins
-beginsAt steps.End program script journal answers workspace = ends (malformed 0) journal answers workspace
-beginsAt steps.Malformed program script journal answers workspace = ends (malformed 0) journal answers workspace
-beginsAt (steps.Play p) program script journal answers workspace = begins program script p journal answers workspace
+begins_at steps.End program script journal answers workspace = ends (malformed 0) journal answers workspace
+begins_at steps.Malformed program script journal answers workspace = ends (malformed 0) journal answers workspace
+begins_at (steps.Play p) program script journal answers workspace = begins program script p journal answers workspace
 
 ----------------------------------------------------------------
 -- What the functions ask and promise
@@ -138,8 +138,8 @@ beginsAt (steps.Play p) program script journal answers workspace = begins progra
 pub record Ahead (script : List ℕ) (width room at count : ℕ) : Type 0 where
   pub inside : at ≤ length script
   pub few : count ≤ at
-  pub line : lineLength * count ≤ room
-  pub free : hinders width (room - lineLength * count) (parseFrom (suc (length script) - count) 0 script at) ≡ none
+  pub line : line_length * count ≤ room
+  pub free : hinders width (room - line_length * count) (parse_from (suc (length script) - count) 0 script at) ≡ none
 
 -- a call was made, its line is `l`
 pub record Made (program : List ℕ) (c : Call) (journal workspace l journal' workspace' : List ℕ) : Type 0 where
@@ -149,7 +149,7 @@ pub record Made (program : List ℕ) (c : Call) (journal workspace l journal' wo
 
 -- a turn was played
 pub record PlayMeans (m : Move) (t : PlayedTurn) (journal' answers' workspace' : List ℕ) : Type 0 where
-  pub next-is : next_of m ≡ t.next
+  pub next_is : next_of m ≡ t.next
   pub kept : journal' ≡ t.journal
   pub told : answers' ≡ t.answers
   pub clear : workspace' ≡ t.workspace

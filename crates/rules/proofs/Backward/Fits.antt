@@ -11,11 +11,11 @@ use lib.ListN.{length}
 use lib.Dec.{eqb}
 use package.Rattle.rules.specs.Val.{Val, unit, inl, inr, pair, roll, same}
 use package.Rattle.rules.specs.Term.{Term, var, tunit, tinl, tinr, tpair, tlet, tletp, tcase, tcall, troll, tunroll, entry, Fun, Program, nth}
-use package.Rattle.rules.specs.Term.{scope, byAncilla}
-use package.Rattle.rules.specs.Yield.{mayYield}
+use package.Rattle.rules.specs.Term.{scope, by_ancilla}
+use package.Rattle.rules.specs.Yield.{may_yield}
 use package.Rattle.rules.specs.Run.{ok, Run, ◌>>=◌, give, refuse}
-use package.Rattle.rules.specs.Machine.{State, bindOr, meet, leave, filled, forward, branchBack, caseBack, backwardStep, backward, runBackward}
-use package.Rattle.rules.proofs.Numbers.{Ends, answers, refuses, sticks, ends-after, ends-enter, ends-test, ends_some, ends-sum, ends-pair, ends-roll}
+use package.Rattle.rules.specs.Machine.{State, bind_or, meet, leave, filled, forward, branch_back, case_back, backward_step, backward, run_backward}
+use package.Rattle.rules.proofs.Numbers.{Ends, answers, refuses, sticks, ends-after, ends_enter, ends-test, ends_some, ends-sum, ends-pair, ends-roll}
 use package.Rattle.rules.proofs.Numbers.{ends-unit, ends-map, ends-wider, answer-ends, EndsForward, each-ends, forward-ends}
 
 module _ (fits : Val → Bool) where
@@ -34,18 +34,18 @@ module _ (fits : Val → Bool) where
   Gains (m ∷ σ) [] = ⊥
   Gains (m ∷ σ) (m' ∷ σ') = Gain m m' × Gains σ σ'
 
-  gain-none : (m : Option Val) → Gain m m
-  gain-none none = tt
-  gain-none (some w) = refl
+  gain_none : (m : Option Val) → Gain m m
+  gain_none none = tt
+  gain_none (some w) = refl
 
   gain-both : (m m' m'' : Option Val) → Gain m m' → Gain m' m'' → Gain m m''
   gain-both none none m'' x y = y
   gain-both none (some v) m'' x y = subst (Gain none) y x
   gain-both (some w) m' m'' x y = subst (λ m. Gain m m'') (sym x) y
 
-  gains-none : (σ : State) → Gains σ σ
-  gains-none [] = tt
-  gains-none (m ∷ σ) = (gain-none m, gains-none σ)
+  gains_none : (σ : State) → Gains σ σ
+  gains_none [] = tt
+  gains_none (m ∷ σ) = (gain_none m, gains_none σ)
 
   gains-both : (σ σ' σ'' : State) → Gains σ σ' → Gains σ' σ'' → Gains σ σ''
   gains-both [] [] σ'' x y = y
@@ -57,10 +57,10 @@ module _ (fits : Val → Bool) where
   ----------------------------------------------------------------
   -- Variables are met, and leave
 
-  bind-ends : (k : ℕ) (m : Option Val) (v : Val) (g : ℕ) → fits v ≡ true → Ends (Gain m) (bindOr k m v g)
-  unfolding bindOr
-  bind-ends k none v g ft = answers ft
-  bind-ends k (some w) v g ft = ends-test (same w v) 16 k g (give (some w)) (omega arith) λ e. answers refl
+  bind_ends : (k : ℕ) (m : Option Val) (v : Val) (g : ℕ) → fits v ≡ true → Ends (Gain m) (bind_or k m v g)
+  unfolding bind_or
+  bind_ends k none v g ft = answers ft
+  bind_ends k (some w) v g ft = ends-test (same w v) 16 k g (give (some w)) (omega arith) λ e. answers refl
 
   meet-ends : (k : ℕ) (σ : State) (i : ℕ) (v : Val) (g : ℕ) → fits v ≡ true → Ends (Gains σ) (meet k σ i v g)
   unfolding meet
@@ -68,9 +68,9 @@ module _ (fits : Val → Bool) where
   meet-ends k (m ∷ σ) i v g ft = go (eqb i (length σ)) (meet-ends k σ i v g ft)
     where
       go : (b : Bool) → Ends (Gains σ) (meet k σ i v g)
-          → Ends (Gains (m ∷ σ)) (cond b (bindOr k m v >>= λ m'. give (m' ∷ σ)) (meet k σ i v >>= λ σ'. give (m ∷ σ')) g)
-      go true s = ends-after _ (bind-ends k m v g ft) λ m' g x. answers (x, gains-none σ)
-      go false s = ends-after _ s λ σ' g x. answers (gain-none m, x)
+          → Ends (Gains (m ∷ σ)) (cond b (bind_or k m v >>= λ m'. give (m' ∷ σ)) (meet k σ i v >>= λ σ'. give (m ∷ σ')) g)
+      go true s = ends-after _ (bind_ends k m v g ft) λ m' g x. answers (x, gains_none σ)
+      go false s = ends-after _ s λ σ' g x. answers (gain_none m, x)
 
   -- the value that a variable leaves with: unit, if it was never met, or one that fits
   abbrev Leaves : Val → Type 0
@@ -104,28 +104,28 @@ module _ (fits : Val → Bool) where
       onward : (σ₁ : State) (t : Term) (v : Val) (g : ℕ) → Gains σ σ₁ → Ends (Gains σ) (go a σ₁ t v g)
       onward σ₁ t v g x = ends-map (λ σ' y. gains-both σ σ₁ σ' x y) (B a σ₁ t v g)
 
-      branch-ends : (b : Term) (v w : Val) (g : ℕ) → Ends (Gains σ) (branchBack go a σ b v w g)
-      unfolding branchBack
+      branch-ends : (b : Term) (v w : Val) (g : ℕ) → Ends (Gains σ) (branch_back go a σ b v w g)
+      unfolding branch_back
       branch-ends b v w g = ends-after _ (B a (some w ∷ σ) b v g) λ σ₁ g x. bound-ends w σ σ₁ g x
 
-      case-ends : (e b b' : Term) (v : Val) (c y : Bool) (g : ℕ) → Ends (Gains σ) (caseBack fw go a σ e b b' v c y g)
-      unfolding caseBack
-      case-ends e b b' v true y g = ends-after _ (ends-wider (λ c k l. omega arith) (S a (filled σ) e g)) λ s g u.
+      case_ends : (e b b' : Term) (v : Val) (c y : Bool) (g : ℕ) → Ends (Gains σ) (case_back fw go a σ e b b' v c y g)
+      unfolding case_back
+      case_ends e b b' v true y g = ends-after _ (ends-wider (λ c k l. omega arith) (S a (filled σ) e g)) λ s g u.
           ends-sum s _ _ g (λ w. branch-ends b v w g) λ w. branch-ends b' v w g
-      case-ends e b b' v false y g = ends-after _ (B a (none ∷ σ) (cond y b b') v g) λ σ₁ g x. leave_ends σ σ₁ _ g x λ w σ₂ l y'.
+      case_ends e b b' v false y g = ends-after _ (B a (none ∷ σ) (cond y b b') v g) λ σ₁ g x. leave_ends σ σ₁ _ g x λ w σ₂ l y'.
           onward σ₂ e (cond y (inl w) (inr w)) g y'
 
-      step-ends : (t : Term) (v : Val) → fits v ≡ true → (g : ℕ) → Ends (Gains σ) (backwardStep fits P fw go a σ t v g)
-      unfolding backwardStep
+      step-ends : (t : Term) (v : Val) → fits v ≡ true → (g : ℕ) → Ends (Gains σ) (backward_step fits P fw go a σ t v g)
+      unfolding backward_step
       step-ends (var k i) v ft g = meet-ends k σ i v g ft
-      step-ends (tunit k) v ft g = ends-unit v (give σ) g (answers (gains-none σ))
+      step-ends (tunit k) v ft g = ends-unit v (give σ) g (answers (gains_none σ))
       step-ends (tinl k c e) v ft g = ends-sum v _ _ g (λ w. B a σ e w g) λ w. refuses {c = 16} (omega arith)
       step-ends (tinr k c e) v ft g = ends-sum v _ _ g (λ w. refuses {c = 16} (omega arith)) λ w. B a σ e w g
       step-ends (tpair k e e') v ft g = ends-pair v _ g λ w w'. ends-after _ (B a σ e w g) λ σ₁ g x. onward σ₁ e' w' g x
       step-ends (tlet k e b) v ft g = ends-after _ (B a (none ∷ σ) b v g) λ σ₁ g x. leave_ends σ σ₁ _ g x λ w σ₂ l y. onward σ₂ e w g y
       step-ends (tletp k e b) v ft g = ends-after _ (B a (none ∷ none ∷ σ) b v g) λ σ₁ g x. leave_ends (none ∷ σ) σ₁ _ g x λ w' σ₂ l y.
           leave_ends σ σ₂ _ g y λ w σ₃ l z. onward σ₃ e (pair w w') g z
-      step-ends (tcase k e b b') v ft g = case-ends e b b' v (byAncilla (length a) (length σ) e) (mayYield a b v) g
+      step-ends (tcase k e b b') v ft g = case_ends e b b' v (by_ancilla (length a) (length σ) e) (may_yield a b v) g
       step-ends (tcall k j ts e) v ft g = ends_some (nth P j) _ g λ h.
           ends-after _ (ends-wider (λ c k l. omega arith) (each-ends fits P fw S a (filled σ) ts g)) λ vs g u.
           ends-after _ (B (scope vs []) (none ∷ map some (scope vs [])) h.body v g) λ σ₁ g x.
@@ -135,21 +135,21 @@ module _ (fits : Val → Bool) where
 
     pub backward-ends : (r : ℕ) → EndsBackward (backward fits P r)
     unfolding backward
-    backward-ends zero a σ t v g = ends-enter (entry t) g (refuse 13 (entry t)) (omega arith) λ g. refuses {c = 13} (omega arith)
-    backward-ends (suc r) a σ t v g = ends-enter (entry t) g _ (omega arith) λ g. ends-test (fits v) 14 (entry t) g _ (omega arith) λ ft.
+    backward-ends zero a σ t v g = ends_enter (entry t) g (refuse 13 (entry t)) (omega arith) λ g. refuses {c = 13} (omega arith)
+    backward-ends (suc r) a σ t v g = ends_enter (entry t) g _ (omega arith) λ g. ends-test (fits v) 14 (entry t) g _ (omega arith) λ ft.
         step-ends (forward fits P r) (forward-ends fits P r) (backward fits P r) (backward-ends r) a σ t v ft g
 
     ----------------------------------------------------------------
     -- Functions
 
-    run-leaves : (r : ℕ) (h : Fun) (vs : List Val) (w : Val) (f : ℕ) → Ends Leaves (runBackward fits P r h vs w f)
-    unfolding runBackward
+    run-leaves : (r : ℕ) (h : Fun) (vs : List Val) (w : Val) (f : ℕ) → Ends Leaves (run_backward fits P r h vs w f)
+    unfolding run_backward
     run-leaves r h vs w f = ends-after _ (backward-ends r (scope vs []) (none ∷ map some (scope vs [])) h.body w f) λ σ g x.
         leave_ends (map some (scope vs [])) σ _ g x λ v σ' l y. answers l
 
     module _ (u : fits unit ≡ true) where
-      pub run-backward-ends : (r : ℕ) (h : Fun) (vs : List Val) (w : Val) (f : ℕ) → Ends (λ v. fits v ≡ true) (runBackward fits P r h vs w f)
+      pub run-backward-ends : (r : ℕ) (h : Fun) (vs : List Val) (w : Val) (f : ℕ) → Ends (λ v. fits v ≡ true) (run_backward fits P r h vs w f)
       run-backward-ends r h vs w f = ends-map (λ v l. ⊎_elim (λ e. subst (λ v. fits v ≡ true) e u) (λ ft. ft) l) (run-leaves r h vs w f)
 
-      pub run-back-fits : (r : ℕ) (h : Fun) (vs : List Val) (v w : Val) (f g : ℕ) → runBackward fits P r h vs w f ≡ ok v g → fits v ≡ true
+      pub run-back-fits : (r : ℕ) (h : Fun) (vs : List Val) (v w : Val) (f g : ℕ) → run_backward fits P r h vs w f ≡ ok v g → fits v ≡ true
       run-back-fits r h vs v w f g p = answer-ends (run-backward-ends r h vs w f) p

@@ -12,18 +12,18 @@ use package.Rattle.rules.specs.Val.{Val, unit, same}
 use package.Rattle.rules.specs.Ty.{Ty}
 use package.Rattle.rules.specs.Term.{Term, look, scope}
 use package.Rattle.rules.specs.Run.{Run, ◌>>=◌, give, test}
-use package.Rattle.rules.specs.Machine.{State, known, bindOr, meet, leave}
+use package.Rattle.rules.specs.Machine.{State, known, bind_or, meet, leave}
 use package.Rattle.rules.proofs.OfType.{OfType, OfTypes}
 use package.Rattle.rules.proofs.Basics.{given, none≢some, some_inj}
 use package.Rattle.rules.proofs.Directed.{Spent, lend, nothing}
 use package.Rattle.rules.proofs.Known.{Knows, known-new, knows-push, Mono, Bound, After, mono-pop, bound-pop, determined, knows-new}
-use package.Rattle.rules.proofs.Known.{mono-set, mono-push, knows-full, Lent, lent_nothing, lent-push, lent-grow, lent-more}
-use package.Rattle.rules.proofs.Outcome.{Good, yields, good-last, good-val-last}
+use package.Rattle.rules.proofs.Known.{mono-set, mono-push, knows-full, Lent, lent_nothing, lent-push, lent_grow, lent-more}
+use package.Rattle.rules.proofs.Outcome.{Good, yields, good-last, good_val_last}
 use package.Rattle.rules.proofs.Preserve.{types-length, scope-ty}
 use package.Rattle.rules.proofs.Scope.{length-scope}
 use package.Rattle.rules.proofs.State.{Fit, Agree, agree-full, agree-length}
 use package.Rattle.rules.proofs.Val.{same_refl}
-use package.Rattle.rules.proofs.Yield.{Under, under-refl, under-push}
+use package.Rattle.rules.proofs.Yield.{Under, under_refl, under-push}
 
 module _ (fits fits' : Val → Bool) where
   pub leave-good : {Y : Type 0} {Q : Y → Type 0} {f n r r' : ℕ} (k : Val → State → Run Y) (σ : State) (w : Val) (ρ : List Val) → Agree σ (w ∷ ρ)
@@ -35,10 +35,10 @@ module _ (fits fits' : Val → Bool) where
   leave-good {Q = Q} {f} {n} {r} {r'} k (none ∷ σ) w ρ h (right e) s = subst (λ w. Good fits fits' Q f n r r' (k w σ f)) (sym e) (s none σ refl h.1)
   leave-good {Q = Q} {f} {n} {r} {r'} k (some v ∷ σ) w ρ h d s = subst (λ w. Good fits fits' Q f n r r' (k w σ f)) (sym h.0) (s (some v) σ refl h.1)
 
-  bindOr-good : {f r r' : ℕ} (k : ℕ) (m : Option Val) (v : Val) → Fit m v → Good fits fits' (λ m'. some v ≡ m') f 0 r r' (bindOr k m v f)
-  unfolding bindOr test
-  bindOr-good {f} k none v h = yields {g = f} refl (omega arith)
-  bindOr-good {f} {r} {r'} k (some w) v h = subst (λ w. Good fits fits' (λ m'. some v ≡ m') f 0 r r' (test (same w v) 16 k (give (some w)) f)) (sym h)
+  bind_or-good : {f r r' : ℕ} (k : ℕ) (m : Option Val) (v : Val) → Fit m v → Good fits fits' (λ m'. some v ≡ m') f 0 r r' (bind_or k m v f)
+  unfolding bind_or test
+  bind_or-good {f} k none v h = yields {g = f} refl (omega arith)
+  bind_or-good {f} {r} {r'} k (some w) v h = subst (λ w. Good fits fits' (λ m'. some v ≡ m') f 0 r r' (test (same w v) 16 k (give (some w)) f)) (sym h)
       (rw (same_refl v) (yields {g = f} refl (omega arith)))
 
   pub meet-good : {f r r' : ℕ} (k : ℕ) (σ : State) (i : ℕ) (v : Val) (ρ : List Val) → Agree σ ρ → look ρ i ≡ some v
@@ -53,10 +53,10 @@ module _ (fits fits' : Val → Bool) where
       go : (b : Bool) → eqb i (length σ) ≡ b → cond b (some u) (look ρ i) ≡ some v
           → (look ρ i ≡ some v → Good fits fits' (λ σ'. Agree σ' ρ × Mono σ σ' × Knows σ' i) f 0 r r' (meet k σ i v f))
           → Good fits fits' (λ σ'. Agree σ' (u ∷ ρ) × Mono (m ∷ σ) σ' × Knows σ' i) f 0 r r'
-          (cond b (bindOr k m v >>= λ m'. give (m' ∷ σ)) (meet k σ i v >>= λ σ'. give (m ∷ σ')) f)
+          (cond b (bind_or k m v >>= λ m'. give (m' ∷ σ)) (meet k σ i v >>= λ σ'. give (m ∷ σ')) f)
       go true e q s =
           let x : u ≡ v = some_inj q in
-          good-val-last fits fits' _ (bindOr-good k m v (subst (Fit m) x h.0)) λ g.
+          good_val_last fits fits' _ (bind_or-good k m v (subst (Fit m) x h.0)) λ g.
           yields {g = g} ((sym x, h.1), mono-set m v σ, knows-new v σ i (eqb→eq i (length σ) (rw e tt))) (omega arith)
       go false e q s = good-last fits fits' _ (s q) λ σ₁ g (ag, mo, kn).
           yields {g = g} ((h.0, ag), mono-push m σ σ₁ (agree-length σ ρ h.1 ∙ sym (agree-length σ₁ ρ ag)) mo, knows-push m σ₁ i kn) (omega arith)
@@ -104,13 +104,13 @@ module _ {a : List Val} {q : ℕ} {M : ℕ → Bool} {Γ : List Ty} {ρ : List V
     parameters = R.parameters;
   }
 
-  pub ready-grow : (σ' : State) → Ready a q M Γ ρ σ → Agree σ' ρ → Mono σ σ' → Ready a q M Γ ρ σ'
-  ready-grow σ' R ag mo = record {
+  pub ready_grow : (σ' : State) → Ready a q M Γ ρ σ → Agree σ' ρ → Mono σ σ' → Ready a q M Γ ρ σ'
+  ready_grow σ' R ag mo = record {
     env = R.env;
     under = R.under;
     agree = ag;
     anc = λ i l. mo i (R.anc i l);
-    lent = lent-grow M Γ σ σ' mo R.lent;
+    lent = lent_grow M Γ σ σ' mo R.lent;
     le = R.le;
     parameters = R.parameters;
   }
@@ -122,7 +122,7 @@ module _ {a : List Val} {q : ℕ} {M : ℕ → Bool} {Γ : List Ty} {ρ : List V
     under = R.under;
     agree = ag;
     anc = λ i l. mo i (R.anc i l);
-    lent = lent-more M q Γ b σ' (λ i l. mo i (R.anc i l)) bd (lent-grow M Γ σ σ' mo R.lent);
+    lent = lent-more M q Γ b σ' (λ i l. mo i (R.anc i l)) bd (lent_grow M Γ σ σ' mo R.lent);
     le = R.le;
     parameters = R.parameters;
   }
@@ -134,7 +134,7 @@ ready_call vs cs v c h h' =
     let l₂ : length vs ≡ length cs = types-length vs cs h in
     record {
       env = (h', scope-ty vs cs [] [] h tt);
-      under = under-push (scope vs []) (scope vs []) v (under-refl (scope vs []));
+      under = under-push (scope vs []) (scope vs []) v (under_refl (scope vs []));
       agree = (tt, agree-full (scope vs []));
       anc = λ i l. knows-push none _ i (knows-full (scope vs []) i (omega arith));
       lent = lent_nothing (c ∷ scope cs []) (none ∷ map some (scope vs []));

@@ -9,12 +9,12 @@ use mathlib.Core.Logic.{⊎_elim}
 use lib.ListN.{length}
 use package.Rattle.rules.specs.Ty.{Ty}
 use package.Rattle.rules.specs.Term.{Term, Fun, Program, look, scope}
-use package.Rattle.rules.specs.Typing.{Binding, static, dynamic, barred, Context, ∅, only, ◌∶◌, Types, Declares, t-fun1, t-fun2}
+use package.Rattle.rules.specs.Typing.{Binding, static, dynamic, barred, Context, ∅, only, ◌∶◌, Types, Declares, t_fun1, t_fun2}
 use package.Rattle.rules.specs.Check.{statics}
 use package.Rattle.rules.proofs.Basics.{none≢some}
 use package.Rattle.rules.proofs.Directed.{Spent}
 use package.Rattle.rules.proofs.Typing.Uses.{uses, uses-newest}
-use package.Rattle.rules.proofs.Typing.Contexts.{look-cases, types}
+use package.Rattle.rules.proofs.Typing.Contexts.{look_cases, types}
 
 -- the binding is an ancilla parameter's
 abbrev pub IsStatic : Binding → Type 0
@@ -38,15 +38,15 @@ unfolding statics scope
 types-statics [] Δ = refl
 types-statics (c ∷ cs) Δ = types-statics cs (static c ∷ Δ)
 
-look-statics : (cs : List Ty) (Δ : Context) → ((i : ℕ) (x : Binding) → look Δ i ≡ some x → IsStatic x)
+look_statics : (cs : List Ty) (Δ : Context) → ((i : ℕ) (x : Binding) → look Δ i ≡ some x → IsStatic x)
     → (i : ℕ) (x : Binding) → look (statics cs Δ) i ≡ some x → IsStatic x
 unfolding statics
-look-statics [] Δ h = h
-look-statics (c ∷ cs) Δ h = look-statics cs (static c ∷ Δ) λ i x p. ⊎_elim (λ (e, y). subst IsStatic y tt) (h i x) (look-cases Δ (static c) i p)
+look_statics [] Δ h = h
+look_statics (c ∷ cs) Δ h = look_statics cs (static c ∷ Δ) λ i x p. ⊎_elim (λ (e, y). subst IsStatic y tt) (h i x) (look_cases Δ (static c) i p)
 
-pub look-parameters : (cs : List Ty) (i : ℕ) (x : Binding) → look (statics cs []) i ≡ some x → IsStatic x
+pub look_parameters : (cs : List Ty) (i : ℕ) (x : Binding) → look (statics cs []) i ≡ some x → IsStatic x
 unfolding look
-look-parameters cs = look-statics cs [] λ i x p. absurd (none≢some p)
+look_parameters cs = look_statics cs [] λ i x p. absurd (none≢some p)
 
 module _ (variables most : ℕ) (P : Program) where
   ----------------------------------------------------------------
@@ -60,16 +60,16 @@ module _ (variables most : ℕ) (P : Program) where
   pub body_typed : {Δ : Context} {cs : List Ty} {τ τ' : Ty} {b : Term} → Declares variables most P Δ cs τ τ' b
       → Types variables most P (dynamic false τ ∷ statics cs Δ) (only (length (statics cs Δ))) (b ∶ τ')
   unfolding statics
-  body_typed (t-fun1 d) = body_typed d
-  body_typed (t-fun2 d) = d
+  body_typed (t_fun1 d) = body_typed d
+  body_typed (t_fun2 d) = d
 
   pub declared : (Δ : Context) (cs : List Ty) {τ τ' : Ty} {b : Term}
       → Types variables most P (dynamic false τ ∷ statics cs Δ) (only (length (statics cs Δ))) (b ∶ τ')
       → Declares variables most P Δ cs τ τ' b
   unfolding statics
-  declared Δ [] d = t-fun2 d
-  declared Δ (c ∷ cs) d = t-fun1 (declared (static c ∷ Δ) cs d)
+  declared Δ [] d = t_fun2 d
+  declared Δ (c ∷ cs) d = t_fun1 (declared (static c ∷ Δ) cs d)
 
   -- a body uses the dynamic parameter, or need not
-  pub parameter-spent : (h : Fun) → Declared h → Spent (length h.ancillae) h.dynamic h.body
-  parameter-spent h w = subst (λ n. Spent n h.dynamic h.body) (length-parameters h.ancillae) (uses-newest ∅ (uses variables most P (body_typed w)))
+  pub parameter_spent : (h : Fun) → Declared h → Spent (length h.ancillae) h.dynamic h.body
+  parameter_spent h w = subst (λ n. Spent n h.dynamic h.body) (length-parameters h.ancillae) (uses-newest ∅ (uses variables most P (body_typed w)))

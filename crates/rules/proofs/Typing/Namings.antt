@@ -10,11 +10,11 @@ use mathlib.Core.Logic.{⊎_elim}
 use lib.ListN.{length}
 use lib.Dec.{eqb}
 use package.Rattle.rules.specs.Ty.{Ty}
-use package.Rattle.rules.specs.Term.{Term, look, usedIn}
-use package.Rattle.rules.specs.Typing.{Binding, static, dynamic, barred, Context, barOne, bar, Vars, markOne, mark}
-use package.Rattle.rules.specs.Check.{Naming, isDynamic, marked, dynamics, marks, helps, onward, late, unless}
+use package.Rattle.rules.specs.Term.{Term, look, used_in}
+use package.Rattle.rules.specs.Typing.{Binding, static, dynamic, barred, Context, bar_one, bar, Vars, mark_one, mark}
+use package.Rattle.rules.specs.Check.{Naming, is_dynamic, marked, dynamics, marks, helps, onward, late, unless}
 use package.Rattle.rules.proofs.Basics.{given, and_both, or_left, or_right}
-use package.Rattle.rules.proofs.Typing.Contexts.{look-cases, look-old, markO, look-mark}
+use package.Rattle.rules.proofs.Typing.Contexts.{look_cases, look_old, mark_o, look_mark}
 
 ----------------------------------------------------------------
 -- Contexts with fewer marks
@@ -37,17 +37,17 @@ Fewer [] (y ∷ Δ) = ⊥
 Fewer (x ∷ Δ₀) [] = ⊥
 Fewer (x ∷ Δ₀) (y ∷ Δ) = Less x y × Fewer Δ₀ Δ
 
-less-refl : (x : Binding) → Less x x
-less-refl (static c) = refl
-less-refl (dynamic m c) = (λ e. e, refl)
-less-refl (barred m c) = (λ e. e, refl)
+less_refl : (x : Binding) → Less x x
+less_refl (static c) = refl
+less_refl (dynamic m c) = (λ e. e, refl)
+less_refl (barred m c) = (λ e. e, refl)
 
-pub fewer-refl : (Δ : Context) → Fewer Δ Δ
-fewer-refl [] = tt
-fewer-refl (x ∷ Δ) = (less-refl x, fewer-refl Δ)
+pub fewer_refl : (Δ : Context) → Fewer Δ Δ
+fewer_refl [] = tt
+fewer_refl (x ∷ Δ) = (less_refl x, fewer_refl Δ)
 
 pub fewer-push : (c : Ty) (Δ₀ Δ : Context) → Fewer Δ₀ Δ → Fewer (dynamic false c ∷ Δ₀) (dynamic false c ∷ Δ)
-fewer-push c Δ₀ Δ h = (less-refl (dynamic false c), h)
+fewer-push c Δ₀ Δ h = (less_refl (dynamic false c), h)
 
 pub fewer-length : (Δ₀ Δ : Context) → Fewer Δ₀ Δ → length Δ₀ ≡ length Δ
 fewer-length [] [] h = refl
@@ -57,13 +57,13 @@ fewer-length (x ∷ Δ₀) (y ∷ Δ) h = ap suc (fewer-length Δ₀ Δ h.1)
 
 -- the context of a bound term by the rules has fewer marks than by the function, which marks all
 pub fewer-mark : (N : Vars) (Δ₀ Δ : Context) → Fewer Δ₀ Δ → Fewer (mark N Δ₀) (mark (λ i. true) Δ)
-unfolding mark markOne
+unfolding mark mark_one
 fewer-mark N [] [] h = tt
 fewer-mark N [] (y ∷ Δ) h = absurd h
 fewer-mark N (x ∷ Δ₀) [] h = absurd h
 fewer-mark N (x ∷ Δ₀) (y ∷ Δ) h = (go x y h.0, fewer-mark N Δ₀ Δ h.1)
   where
-    go : (x y : Binding) → Less x y → Less (markOne (N (length Δ₀)) x) (markOne true y)
+    go : (x y : Binding) → Less x y → Less (mark_one (N (length Δ₀)) x) (mark_one true y)
     go (static c) (static d) l = l
     go (static c) (dynamic n d) l = absurd l
     go (static c) (barred n d) l = absurd l
@@ -75,13 +75,13 @@ fewer-mark N (x ∷ Δ₀) (y ∷ Δ) h = (go x y h.0, fewer-mark N Δ₀ Δ h.1
     go (barred m c) (barred n d) l = l
 
 pub fewer-bar : (Δ₀ Δ : Context) → Fewer Δ₀ Δ → Fewer (bar Δ₀) (bar Δ)
-unfolding bar barOne
+unfolding bar bar_one
 fewer-bar [] [] h = tt
 fewer-bar [] (y ∷ Δ) h = absurd h
 fewer-bar (x ∷ Δ₀) [] h = absurd h
 fewer-bar (x ∷ Δ₀) (y ∷ Δ) h = (go x y h.0, fewer-bar Δ₀ Δ h.1)
   where
-    go : (x y : Binding) → Less x y → Less (barOne x) (barOne y)
+    go : (x y : Binding) → Less x y → Less (bar_one x) (bar_one y)
     go (static c) (static d) l = l
     go (static c) (dynamic n d) l = absurd l
     go (static c) (barred n d) l = absurd l
@@ -99,14 +99,14 @@ LessO none (some y) = ⊥
 LessO (some x) none = ⊥
 LessO (some x) (some y) = Less x y
 
-pub fewer-look : (Δ₀ Δ : Context) (i : ℕ) → Fewer Δ₀ Δ → LessO (look Δ₀ i) (look Δ i)
+pub fewer_look : (Δ₀ Δ : Context) (i : ℕ) → Fewer Δ₀ Δ → LessO (look Δ₀ i) (look Δ i)
 unfolding look
-fewer-look [] [] i h = tt
-fewer-look [] (y ∷ Δ) i h = absurd h
-fewer-look (x ∷ Δ₀) [] i h = absurd h
-fewer-look (x ∷ Δ₀) (y ∷ Δ) i h =
+fewer_look [] [] i h = tt
+fewer_look [] (y ∷ Δ) i h = absurd h
+fewer_look (x ∷ Δ₀) [] i h = absurd h
+fewer_look (x ∷ Δ₀) (y ∷ Δ) i h =
     subst (λ n. LessO (cond (eqb i n) (some x) (look Δ₀ i)) (cond (eqb i (length Δ)) (some y) (look Δ i))) (sym (fewer-length Δ₀ Δ h.1))
-    (go (eqb i (length Δ)) (fewer-look Δ₀ Δ i h.1))
+    (go (eqb i (length Δ)) (fewer_look Δ₀ Δ i h.1))
   where
     go : (b : Bool) → LessO (look Δ₀ i) (look Δ i) → LessO (cond b (some x) (look Δ₀ i)) (cond b (some y) (look Δ i))
     go true l = h.0
@@ -114,7 +114,7 @@ fewer-look (x ∷ Δ₀) (y ∷ Δ) i h =
 
 module _ (Δ₀ Δ : Context) (h : Fewer Δ₀ Δ) (i : ℕ) where
   pub fewer-static : {c : Ty} → look Δ i ≡ some (static c) → look Δ₀ i ≡ some (static c)
-  fewer-static {c} p = go (look Δ₀ i) refl (subst (LessO (look Δ₀ i)) p (fewer-look Δ₀ Δ i h))
+  fewer-static {c} p = go (look Δ₀ i) refl (subst (LessO (look Δ₀ i)) p (fewer_look Δ₀ Δ i h))
     where
       go : (o : Option Binding) → look Δ₀ i ≡ o → LessO (look Δ₀ i) (some (static c)) → look Δ₀ i ≡ some (static c)
       go none e l = absurd (subst (λ o. LessO o (some (static c))) e l)
@@ -123,7 +123,7 @@ module _ (Δ₀ Δ : Context) (h : Fewer Δ₀ Δ) (i : ℕ) where
       go (some (barred n d)) e l = absurd (subst (λ o. LessO o (some (static c))) e l)
 
   pub fewer-dynamic : {m : Bool} {c : Ty} → look Δ i ≡ some (dynamic m c) → (n : Bool) × (look Δ₀ i ≡ some (dynamic n c))
-  fewer-dynamic {m} {c} p = go (look Δ₀ i) refl (subst (LessO (look Δ₀ i)) p (fewer-look Δ₀ Δ i h))
+  fewer-dynamic {m} {c} p = go (look Δ₀ i) refl (subst (LessO (look Δ₀ i)) p (fewer_look Δ₀ Δ i h))
     where
       go : (o : Option Binding) → look Δ₀ i ≡ o → LessO (look Δ₀ i) (some (dynamic m c)) → (n : Bool) × (look Δ₀ i ≡ some (dynamic n c))
       go none e l = absurd (subst (λ o. LessO o (some (dynamic m c))) e l)
@@ -133,7 +133,7 @@ module _ (Δ₀ Δ : Context) (h : Fewer Δ₀ Δ) (i : ℕ) where
 
   pub fewer-barred : {m : Bool} {c : Ty} → look Δ i ≡ some (barred m c) → marked (look Δ₀ i) ≡ true → look Δ₀ i ≡ some (barred true c)
   unfolding marked
-  fewer-barred {m} {c} p x = go (look Δ₀ i) refl (subst (LessO (look Δ₀ i)) p (fewer-look Δ₀ Δ i h))
+  fewer-barred {m} {c} p x = go (look Δ₀ i) refl (subst (LessO (look Δ₀ i)) p (fewer_look Δ₀ Δ i h))
     where
       go : (o : Option Binding) → look Δ₀ i ≡ o → LessO (look Δ₀ i) (some (barred m c)) → look Δ₀ i ≡ some (barred true c)
       go none e l = absurd (subst (λ o. LessO o (some (barred m c))) e l)
@@ -142,8 +142,8 @@ module _ (Δ₀ Δ : Context) (h : Fewer Δ₀ Δ) (i : ℕ) where
       go (some (barred n d)) e l = e ∙ ap (λ d. some (barred n d)) (subst (λ o. LessO o (some (barred m c))) e l).1
           ∙ ap (λ n. some (barred n c)) (sym (ap marked e) ∙ x)
 
-  pub fewer-named : {c : Ty} → look Δ₀ i ≡ some (static c) → look Δ i ≡ some (static c)
-  fewer-named {c} p = go (look Δ i) refl (subst (λ o. LessO o (look Δ i)) p (fewer-look Δ₀ Δ i h))
+  pub fewer_named : {c : Ty} → look Δ₀ i ≡ some (static c) → look Δ i ≡ some (static c)
+  fewer_named {c} p = go (look Δ i) refl (subst (λ o. LessO o (look Δ i)) p (fewer_look Δ₀ Δ i h))
     where
       go : (o : Option Binding) → look Δ i ≡ o → LessO (some (static c)) (look Δ i) → look Δ i ≡ some (static c)
       go none e l = absurd (subst (LessO (some (static c))) e l)
@@ -152,7 +152,7 @@ module _ (Δ₀ Δ : Context) (h : Fewer Δ₀ Δ) (i : ℕ) where
       go (some (barred n d)) e l = absurd (subst (LessO (some (static c))) e l)
 
   pub more-dynamic : {m : Bool} {c : Ty} → look Δ₀ i ≡ some (dynamic m c) → (n : Bool) × (look Δ i ≡ some (dynamic n c))
-  more-dynamic {m} {c} p = go (look Δ i) refl (subst (λ o. LessO o (look Δ i)) p (fewer-look Δ₀ Δ i h))
+  more-dynamic {m} {c} p = go (look Δ i) refl (subst (λ o. LessO o (look Δ i)) p (fewer_look Δ₀ Δ i h))
     where
       go : (o : Option Binding) → look Δ i ≡ o → LessO (some (dynamic m c)) (look Δ i) → (n : Bool) × (look Δ i ≡ some (dynamic n c))
       go none e l = absurd (subst (LessO (some (dynamic m c))) e l)
@@ -161,7 +161,7 @@ module _ (Δ₀ Δ : Context) (h : Fewer Δ₀ Δ) (i : ℕ) where
       go (some (barred n d)) e l = absurd (subst (LessO (some (dynamic m c))) e l)
 
   pub more-barred : {c : Ty} → look Δ₀ i ≡ some (barred true c) → look Δ i ≡ some (barred true c)
-  more-barred {c} p = go (look Δ i) refl (subst (λ o. LessO o (look Δ i)) p (fewer-look Δ₀ Δ i h))
+  more-barred {c} p = go (look Δ i) refl (subst (λ o. LessO o (look Δ i)) p (fewer_look Δ₀ Δ i h))
     where
       go : (o : Option Binding) → look Δ i ≡ o → LessO (some (barred true c)) (look Δ i) → look Δ i ≡ some (barred true c)
       go none e l = absurd (subst (LessO (some (barred true c))) e l)
@@ -193,48 +193,48 @@ allows-map : (Δ Δ' : Context) → ((i : ℕ) → marked (look Δ i) ≡ true �
 allows-map Δ Δ' s [] x = tt
 allows-map Δ Δ' s (n ∷ W) x = (s n.variable x.0, allows-map Δ Δ' s W x.1)
 
-marked-some : (o : Option Binding) → marked o ≡ true → (x : Binding) × (o ≡ some x)
+marked_some : (o : Option Binding) → marked o ≡ true → (x : Binding) × (o ≡ some x)
 unfolding marked
-marked-some none e = absurd (false≢true e)
-marked-some (some x) e = (x, refl)
+marked_some none e = absurd (false≢true e)
+marked_some (some x) e = (x, refl)
 
 -- a new variable is not marked
 pub allows-pop : (c : Ty) (Δ : Context) (W : List Naming) → Allows (dynamic false c ∷ Δ) W → Allows Δ W
 unfolding marked
-allows-pop c Δ = allows-map (dynamic false c ∷ Δ) Δ λ i x. given (marked-some (look (dynamic false c ∷ Δ) i) x) λ (y, p).
+allows-pop c Δ = allows-map (dynamic false c ∷ Δ) Δ λ i x. given (marked_some (look (dynamic false c ∷ Δ) i) x) λ (y, p).
     ⊎_elim (λ (e, q). absurd (false≢true (ap (λ y. marked (some y)) q ∙ sym (ap marked p) ∙ x)))
-    (λ q. ap marked (q ∙ sym p) ∙ x) (look-cases Δ (dynamic false c) i p)
+    (λ q. ap marked (q ∙ sym p) ∙ x) (look_cases Δ (dynamic false c) i p)
 
 pub allows-push : (c : Ty) (Δ : Context) (W : List Naming) → Allows Δ W → Allows (dynamic false c ∷ Δ) W
-allows-push c Δ = allows-map Δ (dynamic false c ∷ Δ) λ i x. given (marked-some (look Δ i) x) λ (y, p). ap marked (look-kept i p) ∙ sym (ap marked p) ∙ x
+allows-push c Δ = allows-map Δ (dynamic false c ∷ Δ) λ i x. given (marked_some (look Δ i) x) λ (y, p). ap marked (look_kept i p) ∙ sym (ap marked p) ∙ x
   where
-    look-kept : (i : ℕ) {y : Binding} → look Δ i ≡ some y → look (dynamic false c ∷ Δ) i ≡ some y
-    look-kept i p = look-old Δ (dynamic false c) i p
+    look_kept : (i : ℕ) {y : Binding} → look Δ i ≡ some y → look (dynamic false c ∷ Δ) i ≡ some y
+    look_kept i p = look_old Δ (dynamic false c) i p
 
 -- an ancilla argument sees the marks
 pub marked-bar : (Δ : Context) (i : ℕ) → marked (look (bar Δ) i) ≡ marked (look Δ i)
-unfolding bar look marked barOne
+unfolding bar look marked bar_one
 marked-bar [] i = refl
-marked-bar (x ∷ Δ) i = ap (λ n. marked (cond (eqb i n) (some (barOne x)) (look (bar Δ) i))) (bar-length Δ) ∙ go (eqb i (length Δ)) (marked-bar Δ i)
+marked-bar (x ∷ Δ) i = ap (λ n. marked (cond (eqb i n) (some (bar_one x)) (look (bar Δ) i))) (bar-length Δ) ∙ go (eqb i (length Δ)) (marked-bar Δ i)
   where
     bar-length : (Δ : Context) → length (bar Δ) ≡ length Δ
     bar-length [] = refl
     bar-length (y ∷ Δ) = ap suc (bar-length Δ)
 
-    one : (x : Binding) → marked (some (barOne x)) ≡ marked (some x)
+    one : (x : Binding) → marked (some (bar_one x)) ≡ marked (some x)
     one (static c) = refl
     one (dynamic m c) = refl
     one (barred m c) = refl
 
-    go : (b : Bool) → marked (look (bar Δ) i) ≡ marked (look Δ i) → marked (cond b (some (barOne x)) (look (bar Δ) i)) ≡ marked (cond b (some x) (look Δ i))
+    go : (b : Bool) → marked (look (bar Δ) i) ≡ marked (look Δ i) → marked (cond b (some (bar_one x)) (look (bar Δ) i)) ≡ marked (cond b (some x) (look Δ i))
     go true r = one x
     go false r = r
 
 pub allows-bar : (Δ : Context) (W : List Naming) → Allows Δ W → Allows (bar Δ) W
 allows-bar Δ = allows-map Δ (bar Δ) λ i x. marked-bar Δ i ∙ x
 
-pub allows-unbar : (Δ : Context) (W : List Naming) → Allows (bar Δ) W → Allows Δ W
-allows-unbar Δ = allows-map (bar Δ) Δ λ i x. sym (marked-bar Δ i) ∙ x
+pub allows_unbar : (Δ : Context) (W : List Naming) → Allows (bar Δ) W → Allows Δ W
+allows_unbar Δ = allows-map (bar Δ) Δ λ i x. sym (marked-bar Δ i) ∙ x
 
 ----------------------------------------------------------------
 -- How namings are settled
@@ -256,9 +256,9 @@ onward-allowed Δ b (x ∷ W) = go (marks Δ x.variable) refl (helps (dynamics �
 
 -- One naming, by what its variable is bound to; `u` tells whether the body uses the variable. It is not refused, and if it goes on waiting
 -- the context with fewer marks allows it: then the let's marks allow it there.
-one-settled : (o₀ o : Option Binding) (u : Bool) → LessO o₀ o → (marked o || (isDynamic o && u)) ≡ true
-    → ((marked o && not (isDynamic o && u)) ≡ true → marked o₀ ≡ true) → marked (markO u o₀) ≡ true
-unfolding marked isDynamic markOne
+one-settled : (o₀ o : Option Binding) (u : Bool) → LessO o₀ o → (marked o || (is_dynamic o && u)) ≡ true
+    → ((marked o && not (is_dynamic o && u)) ≡ true → marked o₀ ≡ true) → marked (mark_o u o₀) ≡ true
+unfolding marked is_dynamic mark_one
 one-settled none none u l x s = absurd (false≢true x)
 one-settled none (some y) u l x s = absurd l
 one-settled (some y) none u l x s = absurd l
@@ -276,9 +276,9 @@ one-settled (some (barred m c)) (some (barred true d)) u l x s = s refl
 one-settled (some (barred m c)) (some (barred false d)) u l x s = absurd (false≢true x)
 
 -- and the other way round
-one-settles : (o₀ o : Option Binding) (u : Bool) → LessO o₀ o → marked (markO u o₀) ≡ true
-    → ((marked o || (isDynamic o && u)) ≡ true) × ((marked o && not (isDynamic o && u)) ≡ true → marked o₀ ≡ true)
-unfolding marked isDynamic markOne
+one-settles : (o₀ o : Option Binding) (u : Bool) → LessO o₀ o → marked (mark_o u o₀) ≡ true
+    → ((marked o || (is_dynamic o && u)) ≡ true) × ((marked o && not (is_dynamic o && u)) ≡ true → marked o₀ ≡ true)
+unfolding marked is_dynamic mark_one
 one-settles none none u l x = absurd (false≢true x)
 one-settles none (some y) u l x = absurd l
 one-settles (some y) none u l x = absurd l
@@ -296,7 +296,7 @@ one-settles (some (barred m c)) (some (barred n d)) u l x = (or_left false (l.0 
 
 module _ (Δ₀ Δ : Context) (h : Fewer Δ₀ Δ) (b : Term) where
   abbrev N : Vars
-  N = λ i. usedIn i b
+  N = λ i. used_in i b
 
   abbrev kept : List Naming → List Naming
   kept W = onward (helps (dynamics Δ) b) (marks Δ) W
@@ -305,13 +305,13 @@ module _ (Δ₀ Δ : Context) (h : Fewer Δ₀ Δ) (b : Term) where
   refused W = late (helps (dynamics Δ) b) (marks Δ) W
 
   -- the let's marks, and those of the context with fewer, of one variable
-  marked-there : (i : ℕ) → marks (mark N Δ₀) i ≡ marked (markO (usedIn i b) (look Δ₀ i))
-  marked-there i = ap marked (look-mark N Δ₀ i)
+  marked-there : (i : ℕ) → marks (mark N Δ₀) i ≡ marked (mark_o (used_in i b) (look Δ₀ i))
+  marked-there i = ap marked (look_mark N Δ₀ i)
 
   -- not refused, and allowed if it goes on waiting: then the let's marks allow it
   one-there : (i : ℕ) → (marks Δ i || helps (dynamics Δ) b i) ≡ true → ((marks Δ i && not (helps (dynamics Δ) b i)) ≡ true → marks Δ₀ i ≡ true)
       → marks (mark N Δ₀) i ≡ true
-  one-there i e s = marked-there i ∙ one-settled (look Δ₀ i) (look Δ i) (usedIn i b) (fewer-look Δ₀ Δ i h) e s
+  one-there i e s = marked-there i ∙ one-settled (look Δ₀ i) (look Δ i) (used_in i b) (fewer_look Δ₀ Δ i h) e s
 
   -- nothing is refused, and what goes on waiting is allowed: then the marks of the let allow all
   pub settled : (W : List Naming) → refused W ≡ [] → Allows Δ₀ (kept W) → Allows (mark N Δ₀) W
@@ -332,7 +332,7 @@ module _ (Δ₀ Δ : Context) (h : Fewer Δ₀ Δ) (b : Term) where
   pub settles : (W : List Naming) → Allows (mark N Δ₀) W → (refused W ≡ []) × Allows Δ₀ (kept W)
   unfolding late onward
   settles [] x = (refl, tt)
-  settles (n ∷ W) x = given (one-settles (look Δ₀ n.variable) (look Δ n.variable) (usedIn n.variable b) (fewer-look Δ₀ Δ n.variable h)
+  settles (n ∷ W) x = given (one-settles (look Δ₀ n.variable) (look Δ n.variable) (used_in n.variable b) (fewer_look Δ₀ Δ n.variable h)
       (sym (marked-there n.variable) ∙ x.0)) λ (y, z).
       given (settles W x.1) λ (l, r). (
         ap (λ c. cond c (refused W) (n.place ∷ refused W)) y ∙ l,

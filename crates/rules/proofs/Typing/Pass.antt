@@ -7,7 +7,7 @@ use mathlib.Core.Option.{Option, none, some}
 use package.Rattle.rules.specs.Ty.{Ty, one, prod, sum, mu, tyvar}
 use package.Rattle.rules.specs.Term.{Fun}
 use package.Rattle.rules.specs.Typing.{Binding, static, dynamic, barred}
-use package.Rattle.rules.specs.Check.{Site, Checked, good, bad, ◌>>=◌, ◌>>◌, need, as_sum, asProd, asMu, asFun, visible, needNone}
+use package.Rattle.rules.specs.Check.{Site, Checked, good, bad, ◌>>=◌, ◌>>◌, need, as_sum, as_prod, as_mu, as_fun, visible, need_none}
 
 -- accepted with `Q`, or refused
 pub data Pass {X : Type 0} (Q : X → Type 0) : Checked X → Type 0 where
@@ -25,10 +25,10 @@ pass-map s (pass q) = pass (s _ q)
 pass-map s fail = fail
 
 module _ {X Y : Type 0} {Q : X → Type 0} {Q' : Y → Type 0} where
-  pub pass-bind : {m : Checked X} (k : X → Checked Y) → Pass Q m → ((x : X) → Q x → Pass Q' (k x)) → Pass Q' (m >>= k)
+  pub pass_bind : {m : Checked X} (k : X → Checked Y) → Pass Q m → ((x : X) → Q x → Pass Q' (k x)) → Pass Q' (m >>= k)
   unfolding ◌>>=◌
-  pass-bind k (pass q) s = s _ q
-  pass-bind k fail s = fail
+  pass_bind k (pass q) s = s _ q
+  pass_bind k fail s = fail
 
 pub pass-need : {Q : Unit {0} → Type 0} (b : Bool) (n : ℕ) (p : Site) → (b ≡ true → Q tt) → Pass Q (need b n p)
 unfolding need
@@ -53,24 +53,24 @@ module _ {Y : Type 0} {Q : Y → Type 0} where
   pass-sum p (mu a) k s = fail
   pass-sum p (tyvar n) k s = fail
 
-  pub pass-prod : (p : Site) (c : Ty) (k : Ty → Ty → Checked Y) → ((a b : Ty) → prod a b ≡ c → Pass Q (k a b)) → Pass Q (asProd p c k)
-  unfolding asProd
+  pub pass-prod : (p : Site) (c : Ty) (k : Ty → Ty → Checked Y) → ((a b : Ty) → prod a b ≡ c → Pass Q (k a b)) → Pass Q (as_prod p c k)
+  unfolding as_prod
   pass-prod p one k s = fail
   pass-prod p (prod a b) k s = s a b refl
   pass-prod p (sum a b) k s = fail
   pass-prod p (mu a) k s = fail
   pass-prod p (tyvar n) k s = fail
 
-  pub pass-mu : (p : Site) (c : Ty) (k : Ty → Checked Y) → ((a : Ty) → mu a ≡ c → Pass Q (k a)) → Pass Q (asMu p c k)
-  unfolding asMu
+  pub pass-mu : (p : Site) (c : Ty) (k : Ty → Checked Y) → ((a : Ty) → mu a ≡ c → Pass Q (k a)) → Pass Q (as_mu p c k)
+  unfolding as_mu
   pass-mu p one k s = fail
   pass-mu p (prod a b) k s = fail
   pass-mu p (sum a b) k s = fail
   pass-mu p (mu a) k s = s a refl
   pass-mu p (tyvar n) k s = fail
 
-  pub pass-fun : (p : Site) (o : Option Fun) (k : Fun → Checked Y) → ((h : Fun) → o ≡ some h → Pass Q (k h)) → Pass Q (asFun p o k)
-  unfolding asFun
+  pub pass-fun : (p : Site) (o : Option Fun) (k : Fun → Checked Y) → ((h : Fun) → o ≡ some h → Pass Q (k h)) → Pass Q (as_fun p o k)
+  unfolding as_fun
   pass-fun p none k s = fail
   pass-fun p (some h) k s = s h refl
 
@@ -84,7 +84,7 @@ pass-visible p (some (barred true c)) s d b = pass (b c refl)
 pass-visible p (some (barred false c)) s d b = fail
 
 -- no place for 8, then the rest
-pub pass-none : {Y : Type 0} {Q : Y → Type 0} (ks : List ℕ) (k : Checked Y) → (ks ≡ [] → Pass Q k) → Pass Q (needNone ks >> k)
-unfolding needNone ◌>>◌
-pass-none [] k s = s refl
-pass-none (j ∷ ks) k s = fail
+pub pass_none : {Y : Type 0} {Q : Y → Type 0} (ks : List ℕ) (k : Checked Y) → (ks ≡ [] → Pass Q k) → Pass Q (need_none ks >> k)
+unfolding need_none ◌>>◌
+pass_none [] k s = s refl
+pass_none (j ∷ ks) k s = fail

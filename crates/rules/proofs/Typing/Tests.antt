@@ -8,58 +8,58 @@ use mathlib.Core.Logic.{⊎_elim}
 use lib.ListN.{length}
 use lib.Dec.{leb, leb→le, le→leb}
 use package.Rattle.rules.specs.Ty.{Ty, one, prod, sum, mu, tyvar, is_unit, same_ty}
-use package.Rattle.rules.specs.Term.{Term, look, usedIn}
+use package.Rattle.rules.specs.Term.{Term, look, used_in}
 use package.Rattle.rules.specs.Typing.{Binding, static, dynamic, barred, Context}
-use package.Rattle.rules.specs.Check.{mustUse, sameUse}
+use package.Rattle.rules.specs.Check.{must_use, same_use}
 use package.Rattle.rules.proofs.Basics.{given, none≢some, and_both, T_true, eqb_yes, eqb-sound}
-use package.Rattle.rules.proofs.Scope.{look-newest}
-use package.Rattle.rules.proofs.Typing.Contexts.{look-cases, Dynamic, dynamic-old}
+use package.Rattle.rules.proofs.Scope.{look_newest}
+use package.Rattle.rules.proofs.Typing.Contexts.{look_cases, Dynamic, dynamic-old}
 
 ----------------------------------------------------------------
 -- Types
 
-pub sameTy-refl : (a : Ty) → same_ty a a ≡ true
+pub same_ty_refl : (a : Ty) → same_ty a a ≡ true
 unfolding same_ty
-sameTy-refl one = refl
-sameTy-refl (prod a b) = rw (sameTy-refl a, sameTy-refl b)
-sameTy-refl (sum a b) = rw (sameTy-refl a, sameTy-refl b)
-sameTy-refl (mu a) = sameTy-refl a
-sameTy-refl (tyvar n) = eqb_yes n
+same_ty_refl one = refl
+same_ty_refl (prod a b) = rw (same_ty_refl a, same_ty_refl b)
+same_ty_refl (sum a b) = rw (same_ty_refl a, same_ty_refl b)
+same_ty_refl (mu a) = same_ty_refl a
+same_ty_refl (tyvar n) = eqb_yes n
 
-pub sameTy-eq : (a b : Ty) → same_ty a b ≡ true → a ≡ b
+pub same_ty_eq : (a b : Ty) → same_ty a b ≡ true → a ≡ b
 unfolding same_ty
-sameTy-eq one one h = refl
-sameTy-eq one (prod c d) h = absurd (false≢true h)
-sameTy-eq one (sum c d) h = absurd (false≢true h)
-sameTy-eq one (mu c) h = absurd (false≢true h)
-sameTy-eq one (tyvar m) h = absurd (false≢true h)
-sameTy-eq (prod a b) one h = absurd (false≢true h)
-sameTy-eq (prod a b) (prod c d) h = given (and_both (same_ty a c) (same_ty b d) h) λ (x, y). ap₂ prod (sameTy-eq a c x) (sameTy-eq b d y)
-sameTy-eq (prod a b) (sum c d) h = absurd (false≢true h)
-sameTy-eq (prod a b) (mu c) h = absurd (false≢true h)
-sameTy-eq (prod a b) (tyvar m) h = absurd (false≢true h)
-sameTy-eq (sum a b) one h = absurd (false≢true h)
-sameTy-eq (sum a b) (prod c d) h = absurd (false≢true h)
-sameTy-eq (sum a b) (sum c d) h = given (and_both (same_ty a c) (same_ty b d) h) λ (x, y). ap₂ sum (sameTy-eq a c x) (sameTy-eq b d y)
-sameTy-eq (sum a b) (mu c) h = absurd (false≢true h)
-sameTy-eq (sum a b) (tyvar m) h = absurd (false≢true h)
-sameTy-eq (mu a) one h = absurd (false≢true h)
-sameTy-eq (mu a) (prod c d) h = absurd (false≢true h)
-sameTy-eq (mu a) (sum c d) h = absurd (false≢true h)
-sameTy-eq (mu a) (mu c) h = ap mu (sameTy-eq a c h)
-sameTy-eq (mu a) (tyvar m) h = absurd (false≢true h)
-sameTy-eq (tyvar n) one h = absurd (false≢true h)
-sameTy-eq (tyvar n) (prod c d) h = absurd (false≢true h)
-sameTy-eq (tyvar n) (sum c d) h = absurd (false≢true h)
-sameTy-eq (tyvar n) (mu c) h = absurd (false≢true h)
-sameTy-eq (tyvar n) (tyvar m) h = ap tyvar (eqb-sound n m h)
+same_ty_eq one one h = refl
+same_ty_eq one (prod c d) h = absurd (false≢true h)
+same_ty_eq one (sum c d) h = absurd (false≢true h)
+same_ty_eq one (mu c) h = absurd (false≢true h)
+same_ty_eq one (tyvar m) h = absurd (false≢true h)
+same_ty_eq (prod a b) one h = absurd (false≢true h)
+same_ty_eq (prod a b) (prod c d) h = given (and_both (same_ty a c) (same_ty b d) h) λ (x, y). ap₂ prod (same_ty_eq a c x) (same_ty_eq b d y)
+same_ty_eq (prod a b) (sum c d) h = absurd (false≢true h)
+same_ty_eq (prod a b) (mu c) h = absurd (false≢true h)
+same_ty_eq (prod a b) (tyvar m) h = absurd (false≢true h)
+same_ty_eq (sum a b) one h = absurd (false≢true h)
+same_ty_eq (sum a b) (prod c d) h = absurd (false≢true h)
+same_ty_eq (sum a b) (sum c d) h = given (and_both (same_ty a c) (same_ty b d) h) λ (x, y). ap₂ sum (same_ty_eq a c x) (same_ty_eq b d y)
+same_ty_eq (sum a b) (mu c) h = absurd (false≢true h)
+same_ty_eq (sum a b) (tyvar m) h = absurd (false≢true h)
+same_ty_eq (mu a) one h = absurd (false≢true h)
+same_ty_eq (mu a) (prod c d) h = absurd (false≢true h)
+same_ty_eq (mu a) (sum c d) h = absurd (false≢true h)
+same_ty_eq (mu a) (mu c) h = ap mu (same_ty_eq a c h)
+same_ty_eq (mu a) (tyvar m) h = absurd (false≢true h)
+same_ty_eq (tyvar n) one h = absurd (false≢true h)
+same_ty_eq (tyvar n) (prod c d) h = absurd (false≢true h)
+same_ty_eq (tyvar n) (sum c d) h = absurd (false≢true h)
+same_ty_eq (tyvar n) (mu c) h = absurd (false≢true h)
+same_ty_eq (tyvar n) (tyvar m) h = ap tyvar (eqb-sound n m h)
 
-pub isUnit-eq : (a : Ty) → is_unit a ≡ true → a ≡ one
-isUnit-eq one h = refl
-isUnit-eq (prod a b) h = absurd (false≢true h)
-isUnit-eq (sum a b) h = absurd (false≢true h)
-isUnit-eq (mu a) h = absurd (false≢true h)
-isUnit-eq (tyvar n) h = absurd (false≢true h)
+pub is_unit_eq : (a : Ty) → is_unit a ≡ true → a ≡ one
+is_unit_eq one h = refl
+is_unit_eq (prod a b) h = absurd (false≢true h)
+is_unit_eq (sum a b) h = absurd (false≢true h)
+is_unit_eq (mu a) h = absurd (false≢true h)
+is_unit_eq (tyvar n) h = absurd (false≢true h)
 
 ----------------------------------------------------------------
 -- Limits
@@ -74,46 +74,46 @@ leb-sound m n e = leb→le m n (rw e tt)
 -- Uses
 
 -- Booleans that are true together are equal
-pub bool-ext : (b b' : Bool) → (b ≡ true → b' ≡ true) → (b' ≡ true → b ≡ true) → b ≡ b'
-bool-ext true b' s s' = sym (s refl)
-bool-ext false true s s' = s' refl
-bool-ext false false s s' = refl
+pub bool_ext : (b b' : Bool) → (b ≡ true → b' ≡ true) → (b' ≡ true → b ≡ true) → b ≡ b'
+bool_ext true b' s s' = sym (s refl)
+bool_ext false true s s' = s' refl
+bool_ext false false s s' = refl
 
-beq-refl : (b : Bool) → beq b b ≡ true
-beq-refl true = refl
-beq-refl false = refl
+beq_refl : (b : Bool) → beq b b ≡ true
+beq_refl true = refl
+beq_refl false = refl
 
-beq-eq : (x y : Bool) → beq x y ≡ true → x ≡ y
-beq-eq true true h = refl
-beq-eq true false h = absurd (false≢true h)
-beq-eq false true h = absurd (false≢true h)
-beq-eq false false h = refl
+beq_eq : (x y : Bool) → beq x y ≡ true → x ≡ y
+beq_eq true true h = refl
+beq_eq true false h = absurd (false≢true h)
+beq_eq false true h = absurd (false≢true h)
+beq_eq false false h = refl
 
 -- both branches name the same dynamic variables that are not unit
 abbrev pub AgreeIn : Context → Term → Term → Type 0
-AgreeIn Δ b b' = (i : ℕ) (c : Ty) → Dynamic Δ i c → is_unit c ≡ false → usedIn i b ≡ usedIn i b'
+AgreeIn Δ b b' = (i : ℕ) (c : Ty) → Dynamic Δ i c → is_unit c ≡ false → used_in i b ≡ used_in i b'
 
-pub sameUse-yes : (Δ : Context) (b b' : Term) → AgreeIn Δ b b' → sameUse Δ b b' ≡ true
-unfolding sameUse mustUse
-sameUse-yes [] b b' h = refl
-sameUse-yes (x ∷ Δ) b b' h = rw (newest x (look-newest x Δ), sameUse-yes Δ b b' λ i c p u. h i c (dynamic-old Δ x i p) u)
+pub same_use_yes : (Δ : Context) (b b' : Term) → AgreeIn Δ b b' → same_use Δ b b' ≡ true
+unfolding same_use must_use
+same_use_yes [] b b' h = refl
+same_use_yes (x ∷ Δ) b b' h = rw (newest x (look_newest x Δ), same_use_yes Δ b b' λ i c p u. h i c (dynamic-old Δ x i p) u)
   where
-    newest : (y : Binding) → look (x ∷ Δ) (length Δ) ≡ some y → (not (mustUse y) || beq (usedIn (length Δ) b) (usedIn (length Δ) b')) ≡ true
+    newest : (y : Binding) → look (x ∷ Δ) (length Δ) ≡ some y → (not (must_use y) || beq (used_in (length Δ) b) (used_in (length Δ) b')) ≡ true
     newest (static c) p = refl
     newest (dynamic m c) p = decided (is_unit c) refl
       where
-        decided : (u : Bool) → is_unit c ≡ u → (not (not u) || beq (usedIn (length Δ) b) (usedIn (length Δ) b')) ≡ true
+        decided : (u : Bool) → is_unit c ≡ u → (not (not u) || beq (used_in (length Δ) b) (used_in (length Δ) b')) ≡ true
         decided true e = refl
-        decided false e = rw (h (length Δ) c (m, p) e, beq-refl (usedIn (length Δ) b'))
+        decided false e = rw (h (length Δ) c (m, p) e, beq_refl (used_in (length Δ) b'))
     newest (barred m c) p = refl
 
-pub sameUse-sound : (Δ : Context) (b b' : Term) → sameUse Δ b b' ≡ true → AgreeIn Δ b b'
-unfolding sameUse mustUse look
-sameUse-sound [] b b' h i c p u = absurd (none≢some p.1)
-sameUse-sound (x ∷ Δ) b b' h i c p u = given (and_both _ (sameUse Δ b b') h) λ (now, then).
-    ⊎_elim (λ (e, y). subst (λ i. usedIn i b ≡ usedIn i b') (sym e) (newest p.0 x y now))
-    (λ q. sameUse-sound Δ b b' then i c (p.0, q) u) (look-cases Δ x i p.1)
+pub same_use-sound : (Δ : Context) (b b' : Term) → same_use Δ b b' ≡ true → AgreeIn Δ b b'
+unfolding same_use must_use look
+same_use-sound [] b b' h i c p u = absurd (none≢some p.1)
+same_use-sound (x ∷ Δ) b b' h i c p u = given (and_both _ (same_use Δ b b') h) λ (now, then).
+    ⊎_elim (λ (e, y). subst (λ i. used_in i b ≡ used_in i b') (sym e) (newest p.0 x y now))
+    (λ q. same_use-sound Δ b b' then i c (p.0, q) u) (look_cases Δ x i p.1)
   where
-    newest : (m : Bool) (y : Binding) → y ≡ dynamic m c → (not (mustUse y) || beq (usedIn (length Δ) b) (usedIn (length Δ) b')) ≡ true
-        → usedIn (length Δ) b ≡ usedIn (length Δ) b'
-    newest m y e now = beq-eq _ _ (rw (e, u) at now)
+    newest : (m : Bool) (y : Binding) → y ≡ dynamic m c → (not (must_use y) || beq (used_in (length Δ) b) (used_in (length Δ) b')) ≡ true
+        → used_in (length Δ) b ≡ used_in (length Δ) b'
+    newest m y e now = beq_eq _ _ (rw (e, u) at now)

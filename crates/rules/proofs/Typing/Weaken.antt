@@ -11,11 +11,11 @@ use lib.ListN.{length}
 use lib.Dec.{eqb}
 use package.Rattle.rules.specs.Ty.{Ty, one}
 use package.Rattle.rules.specs.Term.{Term, Program}
-use package.Rattle.rules.specs.Typing.{Binding, Context, Vars, only, ◌∪◌, ◌∶◌, Types, t-unit-elm}
+use package.Rattle.rules.specs.Typing.{Binding, Context, Vars, only, ◌∪◌, ◌∶◌, Types, t_unit_elm}
 use package.Rattle.rules.proofs.Basics.{given, or_left, or_right, or_elim, eqb_yes, eqb-sound}
-use package.Rattle.rules.proofs.Scope.{look-lt}
+use package.Rattle.rules.proofs.Scope.{look_lt}
 use package.Rattle.rules.proofs.Typing.Contexts.{Dynamic, dynamic-old}
-use package.Rattle.rules.proofs.Typing.Tests.{bool-ext}
+use package.Rattle.rules.proofs.Typing.Tests.{bool_ext}
 
 -- variable `i` is dynamic and of type unit
 abbrev pub IsUnitVar : Context → ℕ → Type 0
@@ -57,18 +57,18 @@ module _ (variables most : ℕ) (P : Program) {Δ : Context} {t : Term} {τ : Ty
     where
       go : (b : Bool) → W n ≡ b → (U' : Vars) × UpToBelow n Δ U' W × Types variables most P Δ U' (t ∶ τ)
       go true y = ⊎_elim (λ x. (U, lower (λ y. x) h, d))
-          (λ (l, p). (U ∪ only n, lower (λ y. or_right (U n) (eqb_yes n)) (raise y h), t-unit-elm n p.1 d)) (h.extra n y)
+          (λ (l, p). (U ∪ only n, lower (λ y. or_right (U n) (eqb_yes n)) (raise y h), t_unit_elm n p.1 d)) (h.extra n y)
       go false y = (U, lower (λ x. absurd (false≢true (sym y ∙ x))) h, d)
 
   weaken-below : (n : ℕ) (U W : Vars) → UpToBelow n Δ U W → Types variables most P Δ U (t ∶ τ) → Types variables most P Δ W (t ∶ τ)
-  weaken-below zero U W h d = subst (λ W. Types variables most P Δ W (t ∶ τ)) (fun_ext λ i. bool-ext (U i) (W i) (h.keeps i)
+  weaken-below zero U W h d = subst (λ W. Types variables most P Δ W (t ∶ τ)) (fun_ext λ i. bool_ext (U i) (W i) (h.keeps i)
       (λ x. ⊎_elim (λ y. y) (λ (l, p). absurd (omega (arith, l))) (h.extra i x))) d
   weaken-below (suc n) U W h d = given (narrow n U W h d) λ (U', h', d'). weaken-below n U' W h' d'
 
   pub weaken : {U W : Vars} → UpToUnits Δ U W → Types variables most P Δ U (t ∶ τ) → Types variables most P Δ W (t ∶ τ)
   weaken {U} {W} h = weaken-below (length Δ) U W (record {
     keeps = h.keeps;
-    extra = λ i x. ⊎_elim left (λ p. right (look-lt Δ i p.1, p)) (h.extra i x);
+    extra = λ i x. ⊎_elim left (λ p. right (look_lt Δ i p.1, p)) (h.extra i x);
   })
 
 ----------------------------------------------------------------
@@ -79,14 +79,14 @@ module _ {Δ : Context} where
   pub same_set : {U W : Vars} → ((i : ℕ) → U i ≡ true → W i ≡ true) → ((i : ℕ) → W i ≡ true → U i ≡ true) → UpToUnits Δ U W
   same_set s s' = record { keeps = s; extra = λ i x. left (s' i x) }
 
-  pub up-trans : {U W X : Vars} → UpToUnits Δ U W → UpToUnits Δ W X → UpToUnits Δ U X
-  up-trans h h' = record { keeps = λ i x. h'.keeps i (h.keeps i x); extra = λ i x. ⊎_elim (h.extra i) right (h'.extra i x) }
+  pub up_trans : {U W X : Vars} → UpToUnits Δ U W → UpToUnits Δ W X → UpToUnits Δ U X
+  up_trans h h' = record { keeps = λ i x. h'.keeps i (h.keeps i x); extra = λ i x. ⊎_elim (h.extra i) right (h'.extra i x) }
 
-  pub up-union : {U W : Vars} (X : Vars) → UpToUnits Δ U W → UpToUnits Δ (U ∪ X) (W ∪ X)
-  up-union {U} {W} X h = record {
+  pub up_union : {U W : Vars} (X : Vars) → UpToUnits Δ U W → UpToUnits Δ (U ∪ X) (W ∪ X)
+  up_union {U} {W} X h = record {
     keeps = λ i. or_elim (U i) (X i) (λ x. or_left (X i) (h.keeps i x)) (or_right (W i));
     extra = λ i. or_elim (W i) (X i) (λ x. ⊎_elim (λ y. left (or_left (X i) y)) right (h.extra i x)) (λ x. left (or_right (U i) x));
   }
 
-  pub up-bound : {U W : Vars} (x : Binding) → UpToUnits Δ U W → UpToUnits (x ∷ Δ) U W
-  up-bound x h = record { keeps = h.keeps; extra = λ i y. ⊎_elim left (λ p. right (dynamic-old Δ x i p)) (h.extra i y) }
+  pub up_bound : {U W : Vars} (x : Binding) → UpToUnits Δ U W → UpToUnits (x ∷ Δ) U W
+  up_bound x h = record { keeps = h.keeps; extra = λ i y. ⊎_elim left (λ p. right (dynamic-old Δ x i p)) (h.extra i y) }

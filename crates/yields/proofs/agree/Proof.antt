@@ -1,7 +1,7 @@
 use native.Mathlib.Omega.{arith}
 use mathlib.Core.Path.{refl, sym, ◌∙◌}
 use borrow.Author.Rules.{rules}
-use Rattle.valuegraph.proofs.Equal.{alike-false}
+use Rattle.valuegraph.proofs.Equal.{alike_false}
 use Rattle.yields.proofs.Judging.{judged, judged-no, glanced}
 use Rattle.yields.proofs.agree.Statement.{statement}
 use Rattle.yields.proofs.agree.Tie as tie
@@ -30,7 +30,7 @@ returns-3 : tie.Need-returns-3
 returns-3 c =
     let at-alike = c.before in
     let start = at-alike.before.before.before in
-    judged-no (alike-false start.requires.0 start.requires.1.0 start.requires.1.1 (sym at-alike.alike.ensures ∙ c.if2.false))
+    judged-no (alike_false start.requires.0 start.requires.1.0 start.requires.1.1 (sym at-alike.alike.ensures ∙ c.if2.false))
 
 pub agree-spec : {M : Type 1} → statement M
 agree-spec =

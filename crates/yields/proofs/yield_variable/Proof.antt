@@ -4,7 +4,7 @@ use mathlib.Core.Path.{ap₂, ◌∙◌}
 use lib.ListN.{get_or}
 use borrow.Author.Rules.{rules}
 use Rattle.valuegraph.specs.Nodes.{value_at}
-use Rattle.scopes.specs.Slots.{slots_of, scopeIn}
+use Rattle.scopes.specs.Slots.{slots_of, scope_in}
 use Rattle.yields.proofs.Ancillae.{yields_own, yields-any}
 use Rattle.yields.proofs.yield_variable.Statement.{statement}
 use Rattle.yields.proofs.yield_variable.Tie as tie
@@ -39,7 +39,7 @@ returns c =
     let q = c.before.before.before.before.ancillae-in.ensures in
     let v = c.before.before.before.before.before.wide-index.ensures.0 in
     let a = c.before.before.before.before.before.before.before.args in
-    yields_own a.ws.now (slots_of a.st.now) (scopeIn a.scope).base (scopeIn a.scope).q a.i (value_at a.ws.now a.node)
+    yields_own a.ws.now (slots_of a.st.now) (scope_in a.scope).base (scope_in a.scope).q a.i (value_at a.ws.now a.node)
     (omega arith)
     (c.before.at.ensures ∙ ap₂ (λ base i. get_or (slots_of a.st.now) (base + i) 0) b v) c.agree.ensures
 
@@ -48,7 +48,7 @@ returns-2 c =
     let q = c.before.ancillae-in.ensures in
     let v = c.before.before.wide-index.ensures.0 in
     let a = c.before.before.before.before.args in
-    yields-any a.ws.now (slots_of a.st.now) (scopeIn a.scope).base (scopeIn a.scope).q a.i (value_at a.ws.now a.node) (omega arith)
+    yields-any a.ws.now (slots_of a.st.now) (scope_in a.scope).base (scope_in a.scope).q a.i (value_at a.ws.now a.node) (omega arith)
 
 pub yield-variable-spec : {M : Type 1} → statement M
 yield-variable-spec =

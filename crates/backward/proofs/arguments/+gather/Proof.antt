@@ -2,13 +2,13 @@ use Prim.Native.Nat.{◌+◌, ◌-◌}
 use native.Mathlib.Omega.{arith}
 use mathlib.Core.Path.{refl, ap, ◌∙◌}
 use borrow.Author.Rules.{rules}
-use Rattle.rules.specs.Limits.{maxHeight, maxParameters}
-use Rattle.forward.proofs.Answers.{is-value, is-refused}
+use Rattle.rules.specs.Limits.{max_height, max_parameters}
+use Rattle.forward.proofs.Answers.{is_value_lem, is_refused}
 use Rattle.forward.proofs.Bounds.{argument-read}
 use Rattle.forward.proofs.Runs.{later}
 use Rattle.forward.proofs.Placing.{few-count, place-room, place-ready, place-less, place-next}
-use Rattle.backward.proofs.Stops.{is-done, is_carried}
-use Rattle.backward.proofs.Gathering.{gather-end, gather-refused, gather-placed}
+use Rattle.backward.proofs.Stops.{is_done, is_carried}
+use Rattle.backward.proofs.Gathering.{gather_end, gather_refused, gather_placed}
 use Prim.Native.Nat.{ℕ, ◌<◌}
 use borrow.Fn.Kinds.{In}
 use borrow.Fn.PlainCycle.{Measures, is, falls, and}
@@ -48,7 +48,7 @@ gather-uses t = (
 gather-returns : (t : ℕ) → gather-lts.Need-returns (gather-uses t) (gather-at t) gather.Post
 gather-returns t c =
     let start = c.before.before in
-    record { lengths = refl; gathers = gather-end start.requires.1.0.ready start.requires.1.1 c.if1.true (is-done refl) }
+    record { lengths = refl; gathers = gather_end start.requires.1.0.ready start.requires.1.1 c.if1.true (is_done refl) }
 
 gather-argument-of-requires : (t : ℕ) → gather-lts.Need-argument-of-requires (gather-uses t) (gather-at t) gather.Post
 gather-argument-of-requires t c κs =
@@ -75,9 +75,9 @@ gather-returns-2 t c =
     let start = at-if1.before.before in
     record {
       lengths = at-eval.eval.ensures.lengths;
-      gathers = gather-refused start.pre.1.0.ready start.pre.1.1 at-if1.if1.left _
-          at-argument-of.argument-of.ensures at-eval.eval.ensures.ran (is-refused at-if2.if2.taken)
-          (is_carried _ (is-refused at-if2.if2.taken));
+      gathers = gather_refused start.pre.1.0.ready start.pre.1.1 at-if1.if1.left _
+          at-argument-of.argument-of.ensures at-eval.eval.ensures.ran (is_refused at-if2.if2.taken)
+          (is_carried _ (is_refused at-if2.if2.taken));
     }
 
 gather-add-next : (t : ℕ) → gather-lts.Need-overflow-add-next (gather-uses t) (gather-at t) gather.Post
@@ -102,7 +102,7 @@ gather-end-of-requires : (t : ℕ) → gather-lts.Need-end-of-requires (gather-u
 gather-end-of-requires t c κs = search rules
 
 gather-add-bind : (t : ℕ) → gather-lts.Need-overflow-add-bind (gather-uses t) (gather-at t) gather.Post
-unfolding maxHeight maxParameters
+unfolding max_height max_parameters
 gather-add-bind t c =
     let start = c.before.before.before.before.before.before.before.before.before.before.before.before.before.before.before.before in
     let e = c.end_of_lem.ensures in omega (arith, place-room start.requires.1.0.ready start.requires.1.1)
@@ -134,8 +134,8 @@ gather-returns-3 t c =
     let start = at-if1.before.before in
     record {
       lengths = at-bind.bind.ensures.lengths ∙ at-gather.gather.ensures.lengths ∙ at-eval.eval.ensures.lengths;
-      gathers = gather-placed start.requires.1.0.ready start.requires.1.1 at-if1.if1.false _ at-argument-of.argument-of.ensures
-          at-eval.eval.ensures.ran (is-value at-if2.if2.false) at-gather.gather.ensures.gathers
+      gathers = gather_placed start.requires.1.0.ready start.requires.1.1 at-if1.if1.false _ at-argument-of.argument-of.ensures
+          at-eval.eval.ensures.ran (is_value_lem at-if2.if2.false) at-gather.gather.ensures.gathers
           (ap (λ e. e + start.args.k) c.before.end_of_lem.ensures) at-bind.bind.ensures.slots at-bind.bind.ensures.machine;
     }
 

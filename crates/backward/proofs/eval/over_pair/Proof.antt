@@ -4,7 +4,7 @@ use mathlib.Core.Path.{refl, ap, ◌∙◌}
 use borrow.Author.Rules.{rules}
 use Rattle.scopes.specs.Slots.{Machine}
 use Rattle.backward.proofs.Entering.{node-room, next-node}
-use Rattle.backward.proofs.Arriving.{made-prepared, made-node, made-done, made-long}
+use Rattle.backward.proofs.Arriving.{made-prepared, made-node, made_done, made-long}
 use Rattle.backward.proofs.LastPart.{leads-over, leads-on}
 use Rattle.backward.proofs.eval.over_pair.Statement.{statement}
 use Rattle.backward.proofs.eval.over_pair.Tie as tie
@@ -49,7 +49,7 @@ returns c =
       there = made-node start.requires.0.prepared at_top.top.ensures at_pair.pair.ensures at-made.if1.true
           at-grow.grow.ensures.slots at-grow.grow.ensures.machine;
       spends = omega (arith, ap (λ (m : Machine). m.fuel) at-grow.grow.ensures.machine);
-      becomes = λ D. made-done start.requires.0.prepared at_top.top.ensures at_pair.pair.ensures at-made.if1.true
+      becomes = λ D. made_done start.requires.0.prepared at_top.top.ensures at_pair.pair.ensures at-made.if1.true
           at-grow.grow.ensures.slots at-grow.grow.ensures.machine D;
     })
 

@@ -4,7 +4,7 @@ use mathlib.Core.Path.{refl}
 use borrow.Author.Rules.{rules}
 use Rattle.backward.proofs.Frames.{row-there}
 use Rattle.backward.proofs.Steps.{roll-single}
-use Rattle.backward.proofs.Stepping.{unrolled-prepared, unrolled-gone}
+use Rattle.backward.proofs.Stepping.{unrolled_prepared, unrolled_gone}
 use Rattle.backward.proofs.LastPart.{leads-through}
 use Rattle.backward.proofs.eval.unroll.Statement.{statement}
 use Rattle.backward.proofs.eval.unroll.Tie as tie
@@ -23,7 +23,7 @@ over-requires c κs =
     let start = at_second.before.before in (
       record {
         full = start.requires.0.full;
-        prepared = unrolled-prepared start.requires.0.prepared start.requires.1.0 start.requires.1.1 at_second.second-of.ensures;
+        prepared = unrolled_prepared start.requires.0.prepared start.requires.1.0 start.requires.1.1 at_second.second-of.ensures;
       },
       (start.requires.1.0, roll-single),
     )
@@ -37,7 +37,7 @@ returns c =
     let at_second = at-over.before.before.before in
     let start = at_second.before.before in
     leads-through refl (omega arith)
-    (λ _ _ _ _ D. unrolled-gone start.requires.0.prepared start.requires.1.0 start.requires.1.1 at_second.second-of.ensures D)
+    (λ _ _ _ _ D. unrolled_gone start.requires.0.prepared start.requires.1.0 start.requires.1.1 at_second.second-of.ensures D)
     at-over.over.ensures
 
 pub unroll-spec : {M : Type 1} → statement M

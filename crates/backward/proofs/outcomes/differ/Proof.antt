@@ -1,7 +1,7 @@
 use mathlib.Core.Path.{ap, ◌∙◌}
 use Rattle.backward.specs.Outcomes.{Refused}
 use Rattle.backward.proofs.Stops.{number-stuck}
-use Rattle.backward.proofs.Leaves.{mismatch-left, mismatch-right, mismatch-none}
+use Rattle.backward.proofs.Leaves.{mismatch-left, mismatch-right, mismatch_none}
 use borrow.Author.Rules.{rules}
 use Rattle.backward.proofs.outcomes.differ.Statement.{statement}
 use Rattle.backward.proofs.outcomes.differ.Tie as tie
@@ -22,7 +22,7 @@ refuse-requires : tie.Need-refuse-requires
 refuse-requires c κs = search rules
 
 returns-3 : tie.Need-returns-3
-returns-3 c = c.refuse.ensures.0 ∙ ap Refused (number-stuck _ ∙ mismatch-none _ _ _ c.before.before.if1.false c.before.if2.false)
+returns-3 c = c.refuse.ensures.0 ∙ ap Refused (number-stuck _ ∙ mismatch_none _ _ _ c.before.before.if1.false c.before.if2.false)
 
 pub differ-spec : {M : Type 1} → statement M
 differ-spec =

@@ -1,7 +1,7 @@
 use mathlib.Core.Path.{ap, ◌∙◌}
 use lib.ListN.{get_or}
 use borrow.Author.Rules.{rules}
-use Rattle.scopes.specs.Slots.{slots_of, nodeOr}
+use Rattle.scopes.specs.Slots.{slots_of, node_or}
 use Rattle.scopes.specs.Bindings.{seen}
 use Rattle.backward.proofs.outcomes.leave.Statement.{statement}
 use Rattle.backward.proofs.outcomes.leave.Tie as tie
@@ -18,8 +18,8 @@ returns : tie.Need-returns
 returns c =
     let start = c.before.before.before in
     let a = start.args in
-    c.node_of.ensures ∙ ap (λ i. nodeOr (seen a.ws.now a.b (get_or (slots_of a.st.now) i 0))) c.before.end_of_lem.ensures
-    ∙ ap nodeOr start.requires.told
+    c.node_of.ensures ∙ ap (λ i. node_or (seen a.ws.now a.b (get_or (slots_of a.st.now) i 0))) c.before.end_of_lem.ensures
+    ∙ ap node_or start.requires.told
 
 pub leave_spec : {M : Type 1} → statement M
 leave_spec = tie.close (tie.spec end-of-requires node-of-requires returns)

@@ -1,8 +1,8 @@
 use mathlib.Core.Path.{sym, ap, ◌∙◌}
 use borrow.Author.Rules.{rules}
-use Rattle.backward.specs.Outcomes.{statusOf}
+use Rattle.backward.specs.Outcomes.{status_of}
 use Rattle.backward.specs.declared.outcomes.Out.{Out}
-use Rattle.backward.proofs.Leaves.{agrees-out, differs-out, meetable-same}
+use Rattle.backward.proofs.Leaves.{agrees-out, differs-out, meetable_same}
 use Rattle.backward.proofs.outcomes.variable.Statement.{statement}
 use Rattle.backward.proofs.outcomes.variable.Tie as tie
 
@@ -13,7 +13,7 @@ meet-requires : tie.Need-meet-requires
 meet-requires c κs =
     let first = c.before.before.first_of.ensures in
     let start = c.before.before.before.before in
-    (meetable-same first start.requires.1.0, start.requires.1.1)
+    (meetable_same first start.requires.1.0, start.requires.1.1)
 
 same_length : tie.Need-same-length
 same_length c = search rules
@@ -33,12 +33,12 @@ same-length-2 c = search rules
 
 returns-2 : tie.Need-returns-2
 returns-2 c =
-    let none = c.no-input.ensures in
+    let none = c.no_input.ensures in
     let met = c.before.before.before.before.before.meet.ensures in
     let first = c.before.before.before.before.before.before.before.before.first_of.ensures in
     let start = c.before.before.before.before.before.before.before.before.before.before in
     rw none.1 (differs-out met first start.args.t c.before.if1.false
-    (ap (λ (o : Out). statusOf o.stop) (sym none.1) ∙ none.0))
+    (ap (λ (o : Out). status_of o.stop) (sym none.1) ∙ none.0))
 
 pub variable-spec : {M : Type 1} → statement M
 variable-spec =

@@ -24,7 +24,7 @@ returns c =
       lengths = marked.lengths;
       slots = marked.slots ∙ ap (λ at. set (slots_of a.st.now) at unknown) end;
       machine = marked.machine;
-      scope-is = c.wider.ensures;
+      scope_is = c.wider.ensures;
     }
 
 pub widen_spec : {M : Type 1} → statement M

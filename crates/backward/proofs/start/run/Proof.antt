@@ -1,9 +1,9 @@
 use native.Mathlib.Omega.{arith}
 use mathlib.Core.Path.{sym}
 use borrow.Author.Rules.{rules}
-use Rattle.backward.proofs.Starting.{start-reads, begin-space, begin-few, begin-inner, begin-leaves, input-there, input-missing}
+use Rattle.backward.proofs.Starting.{start-reads, begin_space, begin_few, begin_inner, begin_leaves, input_there, input_missing}
 use Rattle.backward.proofs.Opening.{widen-ready, widened, widened-node, ran-under}
-use Rattle.backward.proofs.LastPart.{unpacked-run}
+use Rattle.backward.proofs.LastPart.{unpacked_run}
 use Rattle.backward.proofs.start.run.Statement.{statement}
 use Rattle.backward.proofs.start.run.Tie as tie
 
@@ -14,7 +14,7 @@ none-requires : tie.Need-none-requires
 none-requires c κs = search rules
 
 scope-requires : tie.Need-scope-requires
-scope-requires c κs = let few = begin-space c.before.before.before.requires in (omega arith, omega arith, omega arith)
+scope-requires c κs = let few = begin_space c.before.before.before.requires in (omega arith, omega arith, omega arith)
 
 widen-requires : tie.Need-widen-requires
 widen-requires c κs =
@@ -22,7 +22,7 @@ widen-requires c κs =
     let none = c.before.before.none.ensures in
     let body = c.before.before.before.body_of.ensures in
     let start = c.before.before.before.before.before in
-    widen-ready (begin-inner start.requires scope body none) (begin-few start.requires scope body)
+    widen-ready (begin_inner start.requires scope body none) (begin_few start.requires scope body)
 
 back-requires : tie.Need-back-requires
 back-requires c κs =
@@ -31,8 +31,8 @@ back-requires c κs =
     let none = c.before.before.before.before.before.none.ensures in
     let body = c.before.before.before.before.before.before.body_of.ensures in
     let start = c.before.before.before.before.before.before.before.before in
-    let inner = begin-inner start.requires scope body none in
-    let few = begin-few start.requires scope body in
+    let inner = begin_inner start.requires scope body none in
+    let few = begin_few start.requires scope body in
     (widened inner few widen, widened-node inner few widen start.requires.starts.value)
 
 unpacked-requires : tie.Need-unpacked-requires
@@ -50,9 +50,9 @@ returns c =
     let none = at-widen.before.before.before.none.ensures in
     let body = at-widen.before.before.before.before.body_of.ensures in
     let start = at-widen.before.before.before.before.before.before in
-    let ran = ran-under (begin-inner start.requires scope body none) (begin-few start.requires scope body) at-widen.widen.ensures
-    start.requires.starts.value (unpacked-run at-unpacked.unpacked.ensures at_back.back.ensures) in
-    record { lengths = ran.lengths; returns = input-missing start.requires scope body ran.gone c.if1.true }
+    let ran = ran-under (begin_inner start.requires scope body none) (begin_few start.requires scope body) at-widen.widen.ensures
+    start.requires.starts.value (unpacked_run at-unpacked.unpacked.ensures at_back.back.ensures) in
+    record { lengths = ran.lengths; returns = input_missing start.requires scope body ran.gone c.if1.true }
 
 leave-requires : tie.Need-leave-requires
 leave-requires c κs =
@@ -64,9 +64,9 @@ leave-requires c κs =
     let none = at-widen.before.before.before.none.ensures in
     let body = at-widen.before.before.before.before.body_of.ensures in
     let start = at-widen.before.before.before.before.before.before in
-    let ran = ran-under (begin-inner start.requires scope body none) (begin-few start.requires scope body) at-widen.widen.ensures
-    start.requires.starts.value (unpacked-run at-unpacked.unpacked.ensures at_back.back.ensures) in
-    begin-leaves start.requires scope body ran.gone stop.false
+    let ran = ran-under (begin_inner start.requires scope body none) (begin_few start.requires scope body) at-widen.widen.ensures
+    start.requires.starts.value (unpacked_run at-unpacked.unpacked.ensures at_back.back.ensures) in
+    begin_leaves start.requires scope body ran.gone stop.false
 
 same-length-2 : tie.Need-same-length-2
 same-length-2 c = search rules
@@ -81,9 +81,9 @@ returns-2 c =
     let none = at-widen.before.before.before.none.ensures in
     let body = at-widen.before.before.before.before.body_of.ensures in
     let start = at-widen.before.before.before.before.before.before in
-    let ran = ran-under (begin-inner start.requires scope body none) (begin-few start.requires scope body) at-widen.widen.ensures
-    start.requires.starts.value (unpacked-run at-unpacked.unpacked.ensures at_back.back.ensures) in
-    record { lengths = ran.lengths; returns = input-there start.requires scope body ran.gone stop.false c.leave.ensures (sym stop.false) }
+    let ran = ran-under (begin_inner start.requires scope body none) (begin_few start.requires scope body) at-widen.widen.ensures
+    start.requires.starts.value (unpacked_run at-unpacked.unpacked.ensures at_back.back.ensures) in
+    record { lengths = ran.lengths; returns = input_there start.requires scope body ran.gone stop.false c.leave.ensures (sym stop.false) }
 
 pub run_spec : {M : Type 1} → statement M
 run_spec =

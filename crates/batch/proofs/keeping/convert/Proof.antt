@@ -3,11 +3,11 @@ use mathlib.Core.Path.{sym, ap, ◌∙◌}
 use lib.ListN.{take}
 use lib.Seq.{length-take-le}
 use Rattle.calls.specs.Answer.{cleared}
-use Rattle.calls.specs.Book.{afterTurned}
+use Rattle.calls.specs.Book.{after_turned}
 use Rattle.calltext.proofs.Writing.{wrote_as}
-use Rattle.batch.specs.Capped.{mostWorkspace}
-use Rattle.batch.specs.Answering.{turnText}
-use Rattle.batch.proofs.Capping.{lent-within, convert-lent}
+use Rattle.batch.specs.Capped.{most_workspace}
+use Rattle.batch.specs.Answering.{turn_text}
+use Rattle.batch.proofs.Capping.{lent-within, convert_lent}
 use Rattle.batch.proofs.Lending.{on-front}
 use borrow.Author.Rules.{rules}
 use Rattle.batch.proofs.keeping.convert.Statement.{statement}
@@ -23,12 +23,12 @@ slice-aggregate-convert-lent-2 : tie.Need-slice-aggregate-convert-lent-2
 slice-aggregate-convert-lent-2 c = let s = c.before.before.before.before.before.before.before.before in sym (length-take-le s.args.call.ancillae s.args.ancillae.now s.requires.0.1)
 
 slice-relend-prefix-convert-lent : tie.Need-slice-relend-prefix-convert-lent
-unfolding mostWorkspace
-slice-relend-prefix-convert-lent c = let s = c.before.before.before.before.before.before.before.before in lent-within mostWorkspace s.args.call.workspace c.before.before.least.ensures s.args.workspace.now s.requires.1.0
+unfolding most_workspace
+slice-relend-prefix-convert-lent c = let s = c.before.before.before.before.before.before.before.before in lent-within most_workspace s.args.call.workspace c.before.before.least.ensures s.args.workspace.now s.requires.1.0
 
 slice-aggregate-convert-lent-3 : tie.Need-slice-aggregate-convert-lent-3
-unfolding mostWorkspace
-slice-aggregate-convert-lent-3 c = let s = c.before.before.before.before.before.before.before.before.before in sym (length-take-le c.before.before.before.least.result s.args.workspace.now (lent-within mostWorkspace s.args.call.workspace c.before.before.before.least.ensures s.args.workspace.now s.requires.1.0))
+unfolding most_workspace
+slice-aggregate-convert-lent-3 c = let s = c.before.before.before.before.before.before.before.before.before in sym (length-take-le c.before.before.before.least.result s.args.workspace.now (lent-within most_workspace s.args.call.workspace c.before.before.before.least.ensures s.args.workspace.now s.requires.1.0))
 
 slice-relend-prefix-convert-lent-2 : tie.Need-slice-relend-prefix-convert-lent-2
 slice-relend-prefix-convert-lent-2 c = c.before.before.before.before.before.before.before.before.before.requires.0.2
@@ -49,15 +49,15 @@ same-length-3 : tie.Need-same-length-3
 same-length-3 c = search rules
 
 returns : tie.Need-returns
-unfolding mostWorkspace
+unfolding most_workspace
 returns c = let s = c.before.before.before.before.before.before.before.before.before.before.before.before.before.before.before.before.before.before in
     let a = s.args in
     let l = c.before.before.before.before.before.before.before.before.before.before.before.before.least in
-    let made = c.before.before.before.before.before.before.convert-lent in
-    let same = convert-lent a.call.workspace l.ensures a.workspace.now s.requires.1.0 (take a.call.program a.program.now) a.call.fuel a.call.function (take a.call.ancillae a.ancillae.now) (take a.call.journal a.journal.now) (search rules) in (
-      wrote_as made.ensures.0 (ap turnText same),
+    let made = c.before.before.before.before.before.before.convert_lent in
+    let same = convert_lent a.call.workspace l.ensures a.workspace.now s.requires.1.0 (take a.call.program a.program.now) a.call.fuel a.call.function (take a.call.ancillae a.ancillae.now) (take a.call.journal a.journal.now) (search rules) in (
+      wrote_as made.ensures.0 (ap turn_text same),
       (
-        on-front (sym (length-take-le a.call.journal a.journal.now s.requires.0.2)) a.journal.now _ (made.ensures.1.0 ∙ ap (λ x. (afterTurned (take a.call.journal a.journal.now) x).journal) same),
+        on-front (sym (length-take-le a.call.journal a.journal.now s.requires.0.2)) a.journal.now _ (made.ensures.1.0 ∙ ap (λ x. (after_turned (take a.call.journal a.journal.now) x).journal) same),
         on-front l.ensures a.workspace.now _ (made.ensures.1.1 ∙ ap (λ x. cleared x (take l.result a.workspace.now)) same),
       ),
     )

@@ -1,5 +1,5 @@
 use lib.ListN.{length}
-use Rattle.calls.specs.Conversions.{convertCall}
+use Rattle.calls.specs.Conversions.{convert_call}
 use Rattle.calltext.proofs.Writing.{wrote_as}
 use Rattle.batch.proofs.Telling.{tells-turn}
 use borrow.Author.Rules.{rules}
@@ -29,7 +29,7 @@ returns c =
     let a = start.args in
     let made = at-convert.convert in (
       wrote_as at-held-line.held-line.ensures (tells-turn made.result
-          (convertCall a.program.now a.function a.ancillae.now a.fuel (length a.workspace.now) a.journal.now) a.journal.now
+          (convert_call a.program.now a.function a.ancillae.now a.fuel (length a.workspace.now) a.journal.now) a.journal.now
           made.ensures.0 made.ensures.1.0),
       (made.ensures.1.0, made.ensures.1.1),
     )

@@ -3,10 +3,10 @@ use mathlib.Core.Path.{sym, ap, ◌∙◌}
 use lib.ListN.{length, take}
 use lib.Seq.{length-take-le}
 use Rattle.calls.specs.Answer.{cleared}
-use Rattle.calls.specs.Book.{afterOpen}
+use Rattle.calls.specs.Book.{after_open}
 use Rattle.calltext.proofs.Writing.{wrote_as}
-use Rattle.batch.specs.Capped.{mostWorkspace}
-use Rattle.batch.specs.Answering.{openText}
+use Rattle.batch.specs.Capped.{most_workspace}
+use Rattle.batch.specs.Answering.{open_text}
 use Rattle.batch.proofs.Capping.{lent-within, open_lent}
 use Rattle.batch.proofs.Lending.{on-front}
 use borrow.Author.Rules.{rules}
@@ -29,21 +29,21 @@ slice-aggregate-open-lent-2 c =
     sym (length-take-le s.args.call.held s.args.held.now s.requires.0.1)
 
 slice-relend-prefix-open-lent : tie.Need-slice-relend-prefix-open-lent
-unfolding mostWorkspace
+unfolding most_workspace
 slice-relend-prefix-open-lent c =
     let at_least_lem = c.before.before in
     let at_before = at_least_lem.before.before.before.before.before in
     let s = at_before.before in
-    lent-within mostWorkspace s.args.call.workspace at_least_lem.least.ensures s.args.workspace.now s.requires.1.0
+    lent-within most_workspace s.args.call.workspace at_least_lem.least.ensures s.args.workspace.now s.requires.1.0
 
 slice-aggregate-open-lent-3 : tie.Need-slice-aggregate-open-lent-3
-unfolding mostWorkspace
+unfolding most_workspace
 slice-aggregate-open-lent-3 c =
     let at_least_lem = c.before.before.before in
     let at_before = at_least_lem.before.before.before.before.before in
     let s = at_before.before in
     sym (length-take-le at_least_lem.least.result s.args.workspace.now
-    (lent-within mostWorkspace s.args.call.workspace at_least_lem.least.ensures s.args.workspace.now s.requires.1.0))
+    (lent-within most_workspace s.args.call.workspace at_least_lem.least.ensures s.args.workspace.now s.requires.1.0))
 
 slice-relend-prefix-open-lent-2 : tie.Need-slice-relend-prefix-open-lent-2
 slice-relend-prefix-open-lent-2 c = c.before.before.before.before.before.before.before.before.before.requires.0.2
@@ -70,7 +70,7 @@ same-length-3 : tie.Need-same-length-3
 same-length-3 c = search rules
 
 returns : tie.Need-returns
-unfolding mostWorkspace
+unfolding most_workspace
 returns c =
     let at-open-lent = c.before.before.before.before.before.before in
     let at_least_lem = at-open-lent.before.before.before.before.before.before in
@@ -81,10 +81,10 @@ returns c =
     let made = at-open-lent.open_lent in
     let same = open_lent a.call.workspace l.ensures a.workspace.now s.requires.1.0 (take a.call.program a.program.now)
     (take a.call.held a.held.now) (length (take a.call.journal a.journal.now)) in (
-      wrote_as made.ensures.0 (ap openText same),
+      wrote_as made.ensures.0 (ap open_text same),
       (
         on-front (sym (length-take-le a.call.journal a.journal.now s.requires.0.2))
-            a.journal.now _ (made.ensures.1.0 ∙ ap (λ x. (afterOpen (take a.call.journal a.journal.now) x).journal) same),
+            a.journal.now _ (made.ensures.1.0 ∙ ap (λ x. (after_open (take a.call.journal a.journal.now) x).journal) same),
         on-front l.ensures
             a.workspace.now _ (made.ensures.1.1 ∙ ap (λ x. cleared x (take l.result a.workspace.now)) same),
       ),

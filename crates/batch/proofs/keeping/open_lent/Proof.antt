@@ -1,7 +1,7 @@
 use lib.ListN.{length}
-use Rattle.calls.specs.Conversions.{openCall}
+use Rattle.calls.specs.Conversions.{open_call}
 use Rattle.calltext.proofs.Writing.{wrote_as}
-use Rattle.batch.proofs.Telling.{tells-open}
+use Rattle.batch.proofs.Telling.{tells_open}
 use borrow.Author.Rules.{rules}
 use Rattle.batch.proofs.keeping.open_lent.Statement.{statement}
 use Rattle.batch.proofs.keeping.open_lent.Tie as tie
@@ -28,8 +28,8 @@ returns c =
     let start = at_before.before.before.before.before.before.before.before.before.before in
     let a = start.args in
     let made = at_before.before.«open» in (
-      wrote_as at-opened-line.opened-line.ensures (tells-open made.result
-          (openCall a.program.now a.held.now (length a.workspace.now) (length a.journal.now)) a.journal.now made.ensures.0
+      wrote_as at-opened-line.opened-line.ensures (tells_open made.result
+          (open_call a.program.now a.held.now (length a.workspace.now) (length a.journal.now)) a.journal.now made.ensures.0
           made.ensures.1.0),
       (made.ensures.1.0, made.ensures.1.1),
     )

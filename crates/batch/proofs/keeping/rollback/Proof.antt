@@ -3,11 +3,11 @@ use mathlib.Core.Path.{sym, ap, ◌∙◌}
 use lib.ListN.{take}
 use lib.Seq.{length-take-le}
 use Rattle.calls.specs.Answer.{cleared}
-use Rattle.calls.specs.Book.{afterTurned}
+use Rattle.calls.specs.Book.{after_turned}
 use Rattle.calltext.proofs.Writing.{wrote_as}
-use Rattle.batch.specs.Capped.{mostWorkspace}
-use Rattle.batch.specs.Answering.{turnText}
-use Rattle.batch.proofs.Capping.{lent-within, rollback-lent}
+use Rattle.batch.specs.Capped.{most_workspace}
+use Rattle.batch.specs.Answering.{turn_text}
+use Rattle.batch.proofs.Capping.{lent-within, rollback_lent}
 use Rattle.batch.proofs.Lending.{on-front}
 use borrow.Author.Rules.{rules}
 use Rattle.batch.proofs.keeping.rollback.Statement.{statement}
@@ -20,12 +20,12 @@ slice-aggregate-rollback-lent : tie.Need-slice-aggregate-rollback-lent
 slice-aggregate-rollback-lent c = let s = c.before.before.before.before.before.before in sym (length-take-le s.args.call.program s.args.program.now s.requires.0.0)
 
 slice-relend-prefix-rollback-lent : tie.Need-slice-relend-prefix-rollback-lent
-unfolding mostWorkspace
-slice-relend-prefix-rollback-lent c = let s = c.before.before.before.before.before.before in lent-within mostWorkspace s.args.call.workspace c.before.least.ensures s.args.workspace.now s.requires.1.0
+unfolding most_workspace
+slice-relend-prefix-rollback-lent c = let s = c.before.before.before.before.before.before in lent-within most_workspace s.args.call.workspace c.before.least.ensures s.args.workspace.now s.requires.1.0
 
 slice-aggregate-rollback-lent-2 : tie.Need-slice-aggregate-rollback-lent-2
-unfolding mostWorkspace
-slice-aggregate-rollback-lent-2 c = let s = c.before.before.before.before.before.before.before in sym (length-take-le c.before.before.least.result s.args.workspace.now (lent-within mostWorkspace s.args.call.workspace c.before.before.least.ensures s.args.workspace.now s.requires.1.0))
+unfolding most_workspace
+slice-aggregate-rollback-lent-2 c = let s = c.before.before.before.before.before.before.before in sym (length-take-le c.before.before.least.result s.args.workspace.now (lent-within most_workspace s.args.call.workspace c.before.before.least.ensures s.args.workspace.now s.requires.1.0))
 
 slice-relend-prefix-rollback-lent-2 : tie.Need-slice-relend-prefix-rollback-lent-2
 slice-relend-prefix-rollback-lent-2 c = c.before.before.before.before.before.before.before.requires.0.1
@@ -46,15 +46,15 @@ same-length-3 : tie.Need-same-length-3
 same-length-3 c = search rules
 
 returns : tie.Need-returns
-unfolding mostWorkspace
+unfolding most_workspace
 returns c = let s = c.before.before.before.before.before.before.before.before.before.before.before.before.before.before.before.before in
     let a = s.args in
     let l = c.before.before.before.before.before.before.before.before.before.before.before.least in
-    let made = c.before.before.before.before.before.before.rollback-lent in
-    let same = rollback-lent a.call.workspace l.ensures a.workspace.now s.requires.1.0 (take a.call.program a.program.now) a.call.fuel (take a.call.journal a.journal.now) (search rules) in (
-      wrote_as made.ensures.0 (ap turnText same),
+    let made = c.before.before.before.before.before.before.rollback_lent in
+    let same = rollback_lent a.call.workspace l.ensures a.workspace.now s.requires.1.0 (take a.call.program a.program.now) a.call.fuel (take a.call.journal a.journal.now) (search rules) in (
+      wrote_as made.ensures.0 (ap turn_text same),
       (
-        on-front (sym (length-take-le a.call.journal a.journal.now s.requires.0.1)) a.journal.now _ (made.ensures.1.0 ∙ ap (λ x. (afterTurned (take a.call.journal a.journal.now) x).journal) same),
+        on-front (sym (length-take-le a.call.journal a.journal.now s.requires.0.1)) a.journal.now _ (made.ensures.1.0 ∙ ap (λ x. (after_turned (take a.call.journal a.journal.now) x).journal) same),
         on-front l.ensures a.workspace.now _ (made.ensures.1.1 ∙ ap (λ x. cleared x (take l.result a.workspace.now)) same),
       ),
     )

@@ -1,5 +1,5 @@
 use lib.ListN.{length}
-use Rattle.calls.specs.Conversions.{rollbackCall}
+use Rattle.calls.specs.Conversions.{rollback_call}
 use Rattle.calltext.proofs.Writing.{wrote_as}
 use Rattle.batch.proofs.Telling.{tells-turn}
 use borrow.Author.Rules.{rules}
@@ -29,7 +29,7 @@ returns c =
     let a = start.args in
     let made = at-rollback.rollback in (
       wrote_as at-held-line.held-line.ensures (tells-turn made.result
-          (rollbackCall a.program.now a.fuel (length a.workspace.now) a.journal.now) a.journal.now made.ensures.0
+          (rollback_call a.program.now a.fuel (length a.workspace.now) a.journal.now) a.journal.now made.ensures.0
           made.ensures.1.0),
       (made.ensures.1.0, made.ensures.1.1),
     )

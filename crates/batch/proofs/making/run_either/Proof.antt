@@ -1,7 +1,7 @@
 use mathlib.Core.Path.{sym, ap}
 use lib.ListN.{length}
-use Rattle.engine.specs.Runs.{runCall}
-use Rattle.batch.proofs.Telling.{means-as}
+use Rattle.engine.specs.Runs.{run_call}
+use Rattle.batch.proofs.Telling.{means_as}
 use borrow.Author.Rules.{rules}
 use Rattle.batch.proofs.making.run_either.Statement.{statement}
 use Rattle.batch.proofs.making.run_either.Tie as tie
@@ -16,14 +16,14 @@ same-length-2 : tie.Need-same-length-2
 same-length-2 c = search rules
 
 returns : tie.Need-returns
-unfolding runCall
+unfolding run_call
 returns c =
     let at-backward = c.before.before.before.before in
     let at-if1 = at-backward.before.before.before in
     let start = at-if1.before.before.before.before.before.before in
     let a = start.args in
-    means-as
-    (record { answer = at-backward.backward.ensures.0; fills = at-backward.backward.ensures.1.0; clear = at-backward.backward.ensures.1.1 }) (ap (λ b. runCall b a.program.now a.function a.ancillae.now a.value.now a.fuel (length a.workspace.now) (length a.output.now)) (sym at-if1.if1.true))
+    means_as
+    (record { answer = at-backward.backward.ensures.0; fills = at-backward.backward.ensures.1.0; clear = at-backward.backward.ensures.1.1 }) (ap (λ b. run_call b a.program.now a.function a.ancillae.now a.value.now a.fuel (length a.workspace.now) (length a.output.now)) (sym at-if1.if1.true))
 
 forward-requires : tie.Need-forward-requires
 forward-requires c κs = search rules
@@ -35,15 +35,15 @@ same-length-4 : tie.Need-same-length-4
 same-length-4 c = search rules
 
 returns-2 : tie.Need-returns-2
-unfolding runCall
+unfolding run_call
 returns-2 c =
     let at_forward = c.before.before.before.before in
     let at-if1 = at_forward.before.before.before in
     let start = at-if1.before.before.before.before.before.before in
     let a = start.args in
-    means-as
+    means_as
     (record { answer = at_forward.forward.ensures.0; fills = at_forward.forward.ensures.1.0; clear = at_forward.forward.ensures.1.1 })
-    (ap (λ b. runCall b a.program.now a.function a.ancillae.now a.value.now a.fuel (length a.workspace.now)
+    (ap (λ b. run_call b a.program.now a.function a.ancillae.now a.value.now a.fuel (length a.workspace.now)
     (length a.output.now)) (sym at-if1.if1.false))
 
 pub run-either-spec : {M : Type 1} → statement M

@@ -1,6 +1,6 @@
 use native.Mathlib.Omega.{arith}
 use lib.ListN.{length}
-use Rattle.engine.specs.Runs.{runCall}
+use Rattle.engine.specs.Runs.{run_call}
 use Rattle.calltext.proofs.Writing.{wrote_as}
 use Rattle.batch.proofs.Capping.{run-within}
 use Rattle.batch.proofs.Telling.{tells-run, length-within}
@@ -18,7 +18,7 @@ run-line-requires c κs =
     let s = at_before.before in
     let a = s.args in
     let fits = length-within at-run-either.run-either.result
-    (runCall a.backward a.program.now a.function a.ancillae.now a.value.now a.fuel (length a.workspace.now)
+    (run_call a.backward a.program.now a.function a.ancillae.now a.value.now a.fuel (length a.workspace.now)
     (length a.output.now)) (length a.output.now) at-run-either.run-either.ensures.answer
     (λ y e. run-within a.backward (length a.workspace.now) (length a.output.now) a.fuel a.function a.program.now
     a.ancillae.now a.value.now y e) in
@@ -42,7 +42,7 @@ returns c =
     let a = start.args in
     let ran = at-run-either.run-either in (
       wrote_as at-run-line.run-line.ensures (tells-run ran.result
-          (runCall a.backward a.program.now a.function a.ancillae.now a.value.now a.fuel (length a.workspace.now)
+          (run_call a.backward a.program.now a.function a.ancillae.now a.value.now a.fuel (length a.workspace.now)
           (length a.output.now)) a.output.now ran.ensures.answer ran.ensures.fills),
       (ran.ensures.fills, ran.ensures.clear),
     )

@@ -4,8 +4,8 @@ use lib.ListN.{take}
 use lib.Seq.{length-take-le}
 use Rattle.calls.specs.Answer.{overwritten}
 use Rattle.calltext.proofs.Writing.{wrote_as}
-use Rattle.journal.proofs.Ends.{are-bytes}
-use Rattle.batch.specs.Capped.{mostOutput}
+use Rattle.journal.proofs.Ends.{are_bytes}
+use Rattle.batch.specs.Capped.{most_output}
 use Rattle.batch.proofs.Capping.{capped-most, lent-within, lent_length, text-lent, bytes-lent}
 use Rattle.batch.proofs.Lending.{on-front}
 use borrow.Author.Rules.{rules}
@@ -21,30 +21,30 @@ slice-aggregate-read-lent c =
     sym (length-take-le start.args.call.journal start.args.journal.now start.requires.0)
 
 slice-relend-prefix-read-lent : tie.Need-slice-relend-prefix-read-lent
-unfolding mostOutput
+unfolding most_output
 slice-relend-prefix-read-lent c =
     let at_least_lem = c.before in
     let start = at_least_lem.before.before.before.before in
-    lent-within mostOutput start.args.call.output at_least_lem.least.ensures start.args.output.now start.requires.1.0
+    lent-within most_output start.args.call.output at_least_lem.least.ensures start.args.output.now start.requires.1.0
 
 slice-aggregate-read-lent-2 : tie.Need-slice-aggregate-read-lent-2
-unfolding mostOutput
+unfolding most_output
 slice-aggregate-read-lent-2 c =
     let at_least_lem = c.before.before in
     let start = at_least_lem.before.before.before.before in
     sym (length-take-le at_least_lem.least.result start.args.output.now
-    (lent-within mostOutput start.args.call.output at_least_lem.least.ensures start.args.output.now start.requires.1.0))
+    (lent-within most_output start.args.call.output at_least_lem.least.ensures start.args.output.now start.requires.1.0))
 
 read-lent-requires : tie.Need-read-lent-requires
-unfolding mostOutput
+unfolding most_output
 read-lent-requires c κs =
     let at_least_lem = c.before.before.before in
     let start = at_least_lem.before.before.before.before in
     let a = start.args in
     omega (
       arith,
-      lent_length mostOutput a.call.output at_least_lem.least.ensures a.output.now start.requires.1.0,
-      capped-most mostOutput a.call.output,
+      lent_length most_output a.call.output at_least_lem.least.ensures a.output.now start.requires.1.0,
+      capped-most most_output a.call.output,
       start.requires.1.1,
     )
 
@@ -55,13 +55,13 @@ same-length-2 : tie.Need-same-length-2
 same-length-2 c = search rules
 
 returns : tie.Need-returns
-unfolding mostOutput
+unfolding most_output
 returns c =
     let at-read-lent = c.before.before.before.before in
     let at_least_lem = at-read-lent.before.before.before.before in
     let start = at_least_lem.before.before.before.before in
     let a = start.args in
-    let bytes = are-bytes a.journal.now at_least_lem.before.before.before.shared-slice-known.given in
+    let bytes = are_bytes a.journal.now at_least_lem.before.before.before.shared-slice-known.given in
     let made = at-read-lent.read-lent in
     let l = at_least_lem.least in (
       wrote_as made.ensures.0

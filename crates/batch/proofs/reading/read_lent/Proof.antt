@@ -1,9 +1,9 @@
 use native.Mathlib.Omega.{arith}
 use mathlib.Core.Path.{sym}
 use Rattle.calltext.proofs.Writing.{wrote_as}
-use Rattle.batch.specs.Answering.{readText, readBytes}
+use Rattle.batch.specs.Answering.{read_text, read_bytes}
 use Rattle.messages.proofs.Outputs.{seen-within, written-within}
-use Rattle.batch.proofs.Telling.{tells-nurse, tells-write, read_as}
+use Rattle.batch.proofs.Telling.{tells-nurse, tells_write, read_as}
 use borrow.Author.Rules.{rules}
 use Rattle.batch.proofs.reading.read_lent.Statement.{statement}
 use Rattle.batch.proofs.reading.read_lent.Tie as tie
@@ -26,7 +26,7 @@ same-length-2 : tie.Need-same-length-2
 same-length-2 c = search rules
 
 returns : tie.Need-returns
-unfolding readText readBytes
+unfolding read_text read_bytes
 returns c =
     let at-write-line = c.before.before in
     let at-workshop = at-write-line.before.before.before.before.before in
@@ -34,7 +34,7 @@ returns c =
     let a = at-if1.before.before.before.before.args in
     let made = at-workshop.workshop in
     read_as a.journal.now a.output.now (sym at-if1.if1.true)
-    (wrote_as at-write-line.write-line.ensures (tells-write made.result _ _ made.ensures.0 made.ensures.1), made.ensures.1)
+    (wrote_as at-write-line.write-line.ensures (tells_write made.result _ _ made.ensures.0 made.ensures.1), made.ensures.1)
 
 nurse-requires : tie.Need-nurse-requires
 nurse-requires c κs = search rules
@@ -54,7 +54,7 @@ same-length-4 : tie.Need-same-length-4
 same-length-4 c = search rules
 
 returns-2 : tie.Need-returns-2
-unfolding readText readBytes
+unfolding read_text read_bytes
 returns-2 c =
     let at-nurse-line = c.before.before in
     let at-nurse = at-nurse-line.before.before.before.before.before in

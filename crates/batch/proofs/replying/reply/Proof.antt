@@ -4,9 +4,9 @@ use mathlib.Core.Path.{◌≡◌, refl, sym, ap, subst}
 use mathlib.Core.List.{List}
 use Rattle.calltext.specs.Parsed.{line_of, Within}
 use Rattle.calltext.specs.declared.calls.Parsed.{Parsed}
-use Rattle.batch.specs.Answering.{answerTo}
-use Rattle.batch.specs.Lent.{workspaceAfter, outputAfter, journalAfter, Replies}
-use Rattle.batch.proofs.Lending.{replies-as}
+use Rattle.batch.specs.Answering.{answer_to}
+use Rattle.batch.specs.Lent.{workspace_after, output_after, journal_after, Replies}
+use Rattle.batch.proofs.Lending.{replies_as}
 use borrow.Author.Rules.{rules}
 use Rattle.batch.proofs.replying.reply.Statement.{statement}
 use Rattle.batch.proofs.replying.reply.Tie as tie
@@ -19,7 +19,7 @@ within s e = let a = s.args in subst (λ q. Within q a.program.now a.ancillae.no
 replied : (s : tie.Start) {q : Parsed} {end : ℕ} {v v' ws ws' o o' out out' : List ℕ} → s.args.parsed ≡ q
     → Replies (line_of q s.args.program.now s.args.ancillae.now s.args.value.now) end v v' ws ws' o o' out out'
     → Replies (line_of s.args.parsed s.args.program.now s.args.ancillae.now s.args.value.now) end v v' ws ws' o o' out out'
-replied s e h = let a = s.args in replies-as h (ap (λ q. line_of q a.program.now a.ancillae.now a.value.now) (sym e)) refl
+replied s e h = let a = s.args in replies_as h (ap (λ q. line_of q a.program.now a.ancillae.now a.value.now) (sym e)) refl
 
 enum-known-parsed : tie.Need-enum-known-parsed
 enum-known-parsed c = search rules
@@ -118,7 +118,7 @@ same-length-2 : tie.Need-same-length-2
 same-length-2 c = search rules
 
 returns : tie.Need-returns
-unfolding answerTo workspaceAfter outputAfter journalAfter
+unfolding answer_to workspace_after output_after journal_after
 returns c =
     let at-check = c.before.before.before.before in
     let at-parsed = at-check.before.before.before.before in
@@ -139,7 +139,7 @@ same-length-6 : tie.Need-same-length-6
 same-length-6 c = search rules
 
 returns-2 : tie.Need-returns-2
-unfolding answerTo workspaceAfter outputAfter journalAfter
+unfolding answer_to workspace_after output_after journal_after
 returns-2 c =
     let at-run = c.before.before.before.before.before.before in
     let at-parsed2 = at-run.before.before.before.before.before.before in
@@ -157,7 +157,7 @@ same-length-9 : tie.Need-same-length-9
 same-length-9 c = search rules
 
 returns-3 : tie.Need-returns-3
-unfolding answerTo workspaceAfter outputAfter journalAfter
+unfolding answer_to workspace_after output_after journal_after
 returns-3 c =
     let at_open = c.before.before.before.before.before.before in
     let at-parsed3 = at_open.before.before.before.before.before in
@@ -175,7 +175,7 @@ same-length-12 : tie.Need-same-length-12
 same-length-12 c = search rules
 
 returns-4 : tie.Need-returns-4
-unfolding answerTo workspaceAfter outputAfter journalAfter
+unfolding answer_to workspace_after output_after journal_after
 returns-4 c =
     let at-convert = c.before.before.before.before.before.before in
     let at-parsed4 = at-convert.before.before.before.before.before in
@@ -193,7 +193,7 @@ same-length-15 : tie.Need-same-length-15
 same-length-15 c = search rules
 
 returns-5 : tie.Need-returns-5
-unfolding answerTo workspaceAfter outputAfter journalAfter
+unfolding answer_to workspace_after output_after journal_after
 returns-5 c =
     let at-rollback = c.before.before.before.before.before.before in
     let at-parsed5 = at-rollback.before.before.before.before.before in
@@ -211,7 +211,7 @@ same-length-18 : tie.Need-same-length-18
 same-length-18 c = search rules
 
 returns-6 : tie.Need-returns-6
-unfolding answerTo workspaceAfter outputAfter journalAfter
+unfolding answer_to workspace_after output_after journal_after
 returns-6 c =
     let at_read = c.before.before.before.before in
     let at-parsed6 = at_read.before.before.before.before.before in
@@ -223,7 +223,7 @@ same-length-19 : tie.Need-same-length-19
 same-length-19 c = search rules
 
 returns-7 : tie.Need-returns-7
-unfolding answerTo workspaceAfter outputAfter journalAfter
+unfolding answer_to workspace_after output_after journal_after
 returns-7 c =
     let at-put = c.before.before in
     let at-enum-told = at-put.before.before.before in
@@ -235,7 +235,7 @@ same-length-20 : tie.Need-same-length-20
 same-length-20 c = search rules
 
 returns-8 : tie.Need-returns-8
-unfolding answerTo workspaceAfter outputAfter journalAfter
+unfolding answer_to workspace_after output_after journal_after
 returns-8 c =
     let at-put2 = c.before.before in
     let at-enum-told2 = at-put2.before.before.before in
@@ -247,7 +247,7 @@ same-length-21 : tie.Need-same-length-21
 same-length-21 c = search rules
 
 returns-9 : tie.Need-returns-9
-unfolding answerTo workspaceAfter outputAfter journalAfter
+unfolding answer_to workspace_after output_after journal_after
 returns-9 c =
     let at-word-error = c.before.before in
     let at-parsed7 = at-word-error.before.before.before.before in
@@ -259,7 +259,7 @@ same-length-22 : tie.Need-same-length-22
 same-length-22 c = search rules
 
 returns-10 : tie.Need-returns-10
-unfolding answerTo workspaceAfter outputAfter journalAfter
+unfolding answer_to workspace_after output_after journal_after
 returns-10 c =
     let at-word-error2 = c.before.before in
     let at-parsed8 = at-word-error2.before.before.before.before in

@@ -1,7 +1,7 @@
 use native.Mathlib.Omega.{arith}
 use Rattle.calltext.proofs.Writing.{wrote-both}
-use Rattle.calltext.proofs.Figures.{at-most-twenty}
-use Rattle.batch.specs.Answering.{wordError}
+use Rattle.calltext.proofs.Figures.{at-most_twenty}
+use Rattle.batch.specs.Answering.{word_error}
 use borrow.Author.Rules.{rules}
 use Rattle.batch.proofs.replying.word_error.Statement.{statement}
 use Rattle.batch.proofs.replying.word_error.Tie as tie
@@ -16,7 +16,7 @@ put-number-requires : tie.Need-put-number-requires
 put-number-requires c κs =
     let at-put = c.before.before.before in
     let start = at-put.before.before.before.before.before in
-    omega (arith, at-put.put.ensures.ends, at-put.put.ensures.kept, start.requires, at-most-twenty start.args.k (search rules))
+    omega (arith, at-put.put.ensures.ends, at-put.put.ensures.kept, start.requires, at-most_twenty start.args.k (search rules))
 
 put-requires-2 : tie.Need-put-requires-2
 put-requires-2 c κs =
@@ -30,14 +30,14 @@ put-requires-2 c κs =
       at-put-number.put-number.ensures.ends,
       at-put-number.put-number.ensures.kept,
       start.requires,
-      at-most-twenty start.args.k (search rules),
+      at-most_twenty start.args.k (search rules),
     )
 
 same_length : tie.Need-same-length
 same_length c = search rules
 
 returns : tie.Need-returns
-unfolding wordError
+unfolding word_error
 returns c =
     let at-put2 = c.before.before in
     let at-put-number = at-put2.before.before.before.before in

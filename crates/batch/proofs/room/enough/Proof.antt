@@ -1,6 +1,6 @@
 use mathlib.Core.Path.{sym, ◌∙◌}
 use borrow.Author.Tests.{not-true, not-false}
-use Rattle.batch.specs.Capped.{mostWorkspace, mostOutput}
+use Rattle.batch.specs.Capped.{most_workspace, most_output}
 use Rattle.batch.proofs.Lending.{short-program, short-ancillae, short-value, short-workspace, short-output, last-test}
 use borrow.Author.Rules.{rules}
 use Rattle.batch.proofs.room.enough.Statement.{statement}
@@ -49,7 +49,7 @@ returns-3 c =
     (sym at-fits-digits3.fits-digits3.ensures ∙ not-true at-fits-digits3.fits-digits3.result c.if3.true)
 
 returns-4 : tie.Need-returns-4
-unfolding mostWorkspace
+unfolding most_workspace
 returns-4 c =
     let at-if3 = c.before in
     let at-fits-digits3 = at-if3.before in
@@ -65,7 +65,7 @@ returns-4 c =
     (sym at-fits-digits3.fits-digits3.ensures ∙ not-false at-fits-digits3.fits-digits3.result at-if3.if3.false) c.if4.true
 
 returns-5 : tie.Need-returns-5
-unfolding mostWorkspace mostOutput
+unfolding most_workspace most_output
 returns-5 c =
     let at-if4 = c.before in
     let at-if3 = at-if4.before in
@@ -86,7 +86,7 @@ fits-answer-requires : tie.Need-fits-answer-requires
 fits-answer-requires c κs = search rules
 
 returns-6 : tie.Need-returns-6
-unfolding mostWorkspace mostOutput
+unfolding most_workspace most_output
 returns-6 c =
     let at-if5 = c.before in
     let at-if4 = at-if5.before in

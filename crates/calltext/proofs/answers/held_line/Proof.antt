@@ -1,7 +1,7 @@
 use native.Mathlib.Omega.{arith}
-use Rattle.calltext.specs.Answers.{heldLine}
+use Rattle.calltext.specs.Answers.{held_line}
 use Rattle.calltext.proofs.Writing.{wrote-both}
-use Rattle.calltext.proofs.Digits.{hex-length}
+use Rattle.calltext.proofs.Digits.{hex_length}
 use borrow.Author.Rules.{rules}
 use Rattle.calltext.proofs.answers.held_line.Statement.{statement}
 use Rattle.calltext.proofs.answers.held_line.Tie as tie
@@ -27,14 +27,14 @@ put-requires c κs =
       at-encode.encode.ensures.ends,
       at-encode.encode.ensures.kept,
       start.requires,
-      hex-length start.args.journal.now,
+      hex_length start.args.journal.now,
     )
 
 same_length : tie.Need-same-length
 same_length c = search rules
 
 returns : tie.Need-returns
-unfolding heldLine
+unfolding held_line
 returns c =
     let at-put = c.before.before in
     let at-encode = at-put.before.before.before.before.before in

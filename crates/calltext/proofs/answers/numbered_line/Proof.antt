@@ -1,8 +1,8 @@
 use native.Mathlib.Omega.{arith}
-use Rattle.calltext.specs.Answers.{numberedLine}
+use Rattle.calltext.specs.Answers.{numbered_line}
 use Rattle.calltext.proofs.Writing.{wrote-five}
-use Rattle.calltext.proofs.Figures.{at-most-twenty}
-use Rattle.calltext.proofs.Digits.{hex-length}
+use Rattle.calltext.proofs.Figures.{at-most_twenty}
+use Rattle.calltext.proofs.Digits.{hex_length}
 use borrow.Author.Rules.{rules}
 use Rattle.calltext.proofs.answers.numbered_line.Statement.{statement}
 use Rattle.calltext.proofs.answers.numbered_line.Tie as tie
@@ -28,7 +28,7 @@ put-requires-2 c κs =
       at-encode.encode.ensures.ends,
       at-encode.encode.ensures.kept,
       start.requires,
-      hex-length start.args.bytes.now,
+      hex_length start.args.bytes.now,
     )
 
 put-number-requires : tie.Need-put-number-requires
@@ -46,8 +46,8 @@ put-number-requires c κs =
       at-put2.put2.ensures.ends,
       at-put2.put2.ensures.kept,
       start.requires,
-      hex-length start.args.bytes.now,
-      at-most-twenty start.args.number
+      hex_length start.args.bytes.now,
+      at-most_twenty start.args.number
           (search rules),
     )
 
@@ -72,8 +72,8 @@ put-requires-3 c κs =
       at-put-number.put-number.ensures.ends,
       at-put-number.put-number.ensures.kept,
       start.requires,
-      hex-length start.args.bytes.now,
-      at-most-twenty start.args.number (search rules),
+      hex_length start.args.bytes.now,
+      at-most_twenty start.args.number (search rules),
     )
 
 same_length : tie.Need-same-length
@@ -88,7 +88,7 @@ same_length c =
     w.kept
 
 returns : tie.Need-returns
-unfolding numberedLine
+unfolding numbered_line
 returns c =
     let at-put3 = c.before.before in
     let at-put-number = at-put3.before.before.before.before.before in

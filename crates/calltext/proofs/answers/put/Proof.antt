@@ -2,7 +2,7 @@ use Prim.Native.Nat.{◌+◌}
 use mathlib.Core.Path.{sym, subst}
 use lib.ListN.{length}
 use Rattle.calltext.specs.Wrote.{Wrote}
-use Rattle.calltext.proofs.Writing.{wrote-copy}
+use Rattle.calltext.proofs.Writing.{wrote_copy}
 use borrow.Author.Rules.{rules}
 use Rattle.calltext.proofs.answers.put.Statement.{statement}
 use Rattle.calltext.proofs.answers.put.Tie as tie
@@ -22,7 +22,7 @@ returns c =
     let start = at_copy.before.before.before.before in
     let s = start.args in
     subst (λ l. Wrote s.out.now l s.at (s.at + length s.text.now) s.text.now) (sym at_copy.copy.ensures)
-    (wrote-copy s.out.now s.at s.text.now start.requires)
+    (wrote_copy s.out.now s.at s.text.now start.requires)
 
 pub put_spec : {M : Type 1} → statement M
 put_spec = tie.close (tie.spec copy-requires add-result same_length returns)

@@ -1,7 +1,7 @@
 use native.Mathlib.Omega.{arith}
-use Rattle.calltext.specs.Answers.{twoNumbers}
+use Rattle.calltext.specs.Answers.{two_numbers}
 use Rattle.calltext.proofs.Writing.{wrote-five}
-use Rattle.calltext.proofs.Figures.{at-most-twenty}
+use Rattle.calltext.proofs.Figures.{at-most_twenty}
 use borrow.Author.Rules.{rules}
 use Rattle.calltext.proofs.answers.two_numbers.Statement.{statement}
 use Rattle.calltext.proofs.answers.two_numbers.Tie as tie
@@ -13,7 +13,7 @@ put-number-requires : tie.Need-put-number-requires
 put-number-requires c κs =
     let at-put = c.before.before.before in
     let start = at-put.before.before.before.before.before.before in
-    omega (arith, at-put.put.ensures.ends, at-put.put.ensures.kept, start.requires, at-most-twenty start.args.first (search rules))
+    omega (arith, at-put.put.ensures.ends, at-put.put.ensures.kept, start.requires, at-most_twenty start.args.first (search rules))
 
 put-requires-2 : tie.Need-put-requires-2
 put-requires-2 c κs =
@@ -27,7 +27,7 @@ put-requires-2 c κs =
       at-put-number.put-number.ensures.ends,
       at-put-number.put-number.ensures.kept,
       start.requires,
-      at-most-twenty start.args.first (search rules),
+      at-most_twenty start.args.first (search rules),
     )
 
 put-number-requires-2 : tie.Need-put-number-requires-2
@@ -45,8 +45,8 @@ put-number-requires-2 c κs =
       at-put2.put2.ensures.ends,
       at-put2.put2.ensures.kept,
       start.requires,
-      at-most-twenty start.args.first (search rules),
-      at-most-twenty start.args.second (search rules),
+      at-most_twenty start.args.first (search rules),
+      at-most_twenty start.args.second (search rules),
     )
 
 put-requires-3 : tie.Need-put-requires-3
@@ -67,8 +67,8 @@ put-requires-3 c κs =
       at-put-number2.put-number2.ensures.ends,
       at-put-number2.put-number2.ensures.kept,
       start.requires,
-      at-most-twenty start.args.first (search rules),
-      at-most-twenty start.args.second (search rules),
+      at-most_twenty start.args.first (search rules),
+      at-most_twenty start.args.second (search rules),
     )
 
 same_length : tie.Need-same-length
@@ -83,7 +83,7 @@ same_length c =
     w.kept
 
 returns : tie.Need-returns
-unfolding twoNumbers
+unfolding two_numbers
 returns c =
     let at-put3 = c.before.before in
     let at-put-number2 = at-put3.before.before.before.before in
@@ -100,8 +100,8 @@ returns c =
         at-put2.put2.ensures.ends,
         at-put-number2.put-number2.ensures.ends,
         at-put3.put3.ensures.ends,
-        at-most-twenty start.args.first (search rules),
-        at-most-twenty start.args.second (search rules),
+        at-most_twenty start.args.first (search rules),
+        at-most_twenty start.args.second (search rules),
       ),
     )
 

@@ -1,7 +1,7 @@
 use native.Mathlib.Omega.{arith}
 use Rattle.calltext.specs.Answers.{word_line}
 use Rattle.calltext.proofs.Writing.{wrote-both}
-use Rattle.calltext.proofs.Digits.{hex-length}
+use Rattle.calltext.proofs.Digits.{hex_length}
 use borrow.Author.Rules.{rules}
 use Rattle.calltext.proofs.answers.word_line.Statement.{statement}
 use Rattle.calltext.proofs.answers.word_line.Tie as tie
@@ -27,7 +27,7 @@ put-requires-2 c κs =
       at-encode.encode.ensures.ends,
       at-encode.encode.ensures.kept,
       start.requires,
-      hex-length start.args.bytes.now,
+      hex_length start.args.bytes.now,
     )
 
 same_length : tie.Need-same-length

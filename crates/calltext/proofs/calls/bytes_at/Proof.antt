@@ -1,7 +1,7 @@
 use native.Mathlib.Omega.{arith}
 use mathlib.Core.Path.{ap}
 use lib.ListN.{length}
-use Rattle.calltext.proofs.Saying.{word-shorter}
+use Rattle.calltext.proofs.Saying.{word_shorter}
 use borrow.Author.Rules.{rules}
 use Rattle.calltext.proofs.calls.bytes_at.Statement.{statement}
 use Rattle.calltext.proofs.calls.bytes_at.Tie as tie
@@ -13,7 +13,7 @@ decode-requires : tie.Need-decode-requires
 decode-requires c κs =
     let at-word = c.before in
     let start = at-word.before.before.before in
-    omega (arith, start.requires, ap length at-word.word.ensures, word-shorter start.args.k start.args.line.now)
+    omega (arith, start.requires, ap length at-word.word.ensures, word_shorter start.args.k start.args.line.now)
 
 same_length : tie.Need-same-length
 same_length c = search rules

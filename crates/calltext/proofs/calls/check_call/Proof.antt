@@ -1,7 +1,7 @@
 use mathlib.Core.Path.{refl, sym, ◌∙◌}
-use Rattle.calltext.specs.Calls.{readCheck}
+use Rattle.calltext.specs.Calls.{read_check}
 use Rattle.calltext.proofs.Saying.{told-number, told-no-number, told-bytes, told-no-bytes, bytes-within, counted, miscounted, parses, unread}
-use Rattle.calltext.proofs.Arguments.{pair-1, pair-2, pair-all}
+use Rattle.calltext.proofs.Arguments.{pair_1, pair_2, pair-all}
 use borrow.Author.Rules.{rules}
 use Rattle.calltext.proofs.calls.check_call.Statement.{statement}
 use Rattle.calltext.proofs.calls.check_call.Tie as tie
@@ -22,12 +22,12 @@ enum_told : tie.Need-enum-told
 enum_told c = search rules
 
 returns-2 : tie.Need-returns-2
-unfolding readCheck
+unfolding read_check
 returns-2 c =
     let at-number-at = c.before.before in
     let at-if1 = at-number-at.before in
     let counts = sym at-if1.before.count-spaces.ensures ∙ at-if1.if1.false in
-    λ anc v. parses (pair-1 _ _ (told-no-number at-number-at.number_at.ensures c.enum_told.given.1) ∙ counted _ _ _ counts) tt
+    λ anc v. parses (pair_1 _ _ (told-no-number at-number-at.number_at.ensures c.enum_told.given.1) ∙ counted _ _ _ counts) tt
     (unread _ λ k. refl)
 
 bytes-at-requires : tie.Need-bytes-at-requires
@@ -43,14 +43,14 @@ same_length : tie.Need-same-length
 same_length c = search rules
 
 returns-3 : tie.Need-returns-3
-unfolding readCheck
+unfolding read_check
 returns-3 c =
     let at-bytes-at = c.before.before.before.before in
     let at-workspace = at-bytes-at.before.before.before in
     let at-number-at = at-workspace.before.before in
     let at-if1 = at-number-at.before in
     let counts = sym at-if1.before.count-spaces.ensures ∙ at-if1.if1.false in
-    λ anc v. parses (pair-2 _ _ (told-number at-number-at.number_at.ensures at-workspace.workspace.given.1)
+    λ anc v. parses (pair_2 _ _ (told-number at-number-at.number_at.ensures at-workspace.workspace.given.1)
     (told-no-bytes at-bytes-at.bytes-at.ensures c.enum-told2.given.1) ∙ counted _ _ _ counts) tt
     (record { program = at-bytes-at.bytes-at.ensures.left; ancillae = refl; value = refl })
 
@@ -58,7 +58,7 @@ same-length-2 : tie.Need-same-length-2
 same-length-2 c = search rules
 
 returns-4 : tie.Need-returns-4
-unfolding readCheck
+unfolding read_check
 returns-4 c =
     let at_n = c.before in
     let at-bytes-at = at_n.before.before.before.before in

@@ -1,8 +1,8 @@
 use native.Mathlib.Omega.{arith}
 use mathlib.Core.Path.{refl, sym, ◌∙◌}
-use Rattle.rules.specs.Limits.{maxFuel}
+use Rattle.rules.specs.Limits.{max_fuel}
 use Rattle.calltext.proofs.Saying.{told-number, told-no-number, told-bytes, told-no-bytes, number-within, bytes-within, counted, miscounted, parses, unread}
-use Rattle.calltext.proofs.Arguments.{convert-1, convert-2, convert-3, convert-4, convert-5, convert-6, convert-all}
+use Rattle.calltext.proofs.Arguments.{convert_1, convert_2, convert_3, convert_4, convert_5, convert_6, convert_all}
 use borrow.Author.Rules.{rules}
 use Rattle.calltext.proofs.calls.convert_call.Statement.{statement}
 use Rattle.calltext.proofs.calls.convert_call.Tie as tie
@@ -28,7 +28,7 @@ returns-2 c =
     let at-number-at = c.before.before in
     let at-if1 = at-number-at.before in
     let at-count-spaces = at-if1.before in
-    parses (convert-1 _ (told-no-number at-number-at.number_at.ensures c.enum_told.given.1) ∙ counted _ _ _
+    parses (convert_1 _ (told-no-number at-number-at.number_at.ensures c.enum_told.given.1) ∙ counted _ _ _
     (sym at-count-spaces.count-spaces.ensures ∙ at-if1.if1.false)) tt (unread _ λ k. refl)
 
 number-at-requires-2 : tie.Need-number-at-requires-2
@@ -41,14 +41,14 @@ enum-told-2 : tie.Need-enum-told-2
 enum-told-2 c = search rules
 
 returns-3 : tie.Need-returns-3
-unfolding maxFuel
+unfolding max_fuel
 returns-3 c =
     let at-number-at2 = c.before.before in
     let at-workspace = at-number-at2.before.before in
     let at-number-at = at-workspace.before.before in
     let at-if1 = at-number-at.before in
     let at-count-spaces = at-if1.before in
-    parses (convert-2 _ (told-number at-number-at.number_at.ensures at-workspace.workspace.given.1)
+    parses (convert_2 _ (told-number at-number-at.number_at.ensures at-workspace.workspace.given.1)
     (told-no-number at-number-at2.number-at2.ensures c.enum-told2.given.1) ∙ counted _ _ _
     (sym at-count-spaces.count-spaces.ensures ∙ at-if1.if1.false)) tt (unread _ λ k. refl)
 
@@ -62,7 +62,7 @@ enum-told-3 : tie.Need-enum-told-3
 enum-told-3 c = search rules
 
 returns-4 : tie.Need-returns-4
-unfolding maxFuel
+unfolding max_fuel
 returns-4 c =
     let at-number-at3 = c.before.before in
     let at_fuel = at-number-at3.before.before in
@@ -71,7 +71,7 @@ returns-4 c =
     let at-number-at = at-workspace.before.before in
     let at-if1 = at-number-at.before in
     let at-count-spaces = at-if1.before in
-    parses (convert-3 _ (told-number at-number-at.number_at.ensures at-workspace.workspace.given.1)
+    parses (convert_3 _ (told-number at-number-at.number_at.ensures at-workspace.workspace.given.1)
     (told-number at-number-at2.number-at2.ensures at_fuel.fuel.given.1)
     (told-no-number at-number-at3.number-at3.ensures c.enum-told3.given.1) ∙ counted _ _ _
     (sym at-count-spaces.count-spaces.ensures ∙ at-if1.if1.false)) tt (unread _ λ k. refl)
@@ -89,7 +89,7 @@ same_length : tie.Need-same-length
 same_length c = search rules
 
 returns-5 : tie.Need-returns-5
-unfolding maxFuel
+unfolding max_fuel
 returns-5 c =
     let at-bytes-at = c.before.before.before.before in
     let at-function = at-bytes-at.before.before.before in
@@ -100,7 +100,7 @@ returns-5 c =
     let at-number-at = at-workspace.before.before in
     let at-if1 = at-number-at.before in
     let at-count-spaces = at-if1.before in
-    parses (convert-4 _ (told-number at-number-at.number_at.ensures at-workspace.workspace.given.1)
+    parses (convert_4 _ (told-number at-number-at.number_at.ensures at-workspace.workspace.given.1)
     (told-number at-number-at2.number-at2.ensures at_fuel.fuel.given.1)
     (told-number at-number-at3.number-at3.ensures at-function.function.given.1)
     (told-no-bytes at-bytes-at.bytes-at.ensures c.enum-told4.given.1) ∙ counted _ _ _
@@ -123,7 +123,7 @@ same-length-3 : tie.Need-same-length-3
 same-length-3 c = search rules
 
 returns-6 : tie.Need-returns-6
-unfolding maxFuel
+unfolding max_fuel
 returns-6 c =
     let at-bytes-at2 = c.before.before.before.before in
     let at_p = at-bytes-at2.before.before.before in
@@ -136,7 +136,7 @@ returns-6 c =
     let at-number-at = at-workspace.before.before in
     let at-if1 = at-number-at.before in
     let at-count-spaces = at-if1.before in
-    parses (convert-5 _ (told-number at-number-at.number_at.ensures at-workspace.workspace.given.1)
+    parses (convert_5 _ (told-number at-number-at.number_at.ensures at-workspace.workspace.given.1)
     (told-number at-number-at2.number-at2.ensures at_fuel.fuel.given.1)
     (told-number at-number-at3.number-at3.ensures at-function.function.given.1)
     (told-bytes at-bytes-at.bytes-at.ensures at_p.p.given.1) (told-no-bytes at-bytes-at2.bytes-at2.ensures c.enum-told5.given.1)
@@ -164,7 +164,7 @@ same-length-6 : tie.Need-same-length-6
 same-length-6 c = search rules
 
 returns-7 : tie.Need-returns-7
-unfolding maxFuel
+unfolding max_fuel
 returns-7 c =
     let at-bytes-at3 = c.before.before.before.before in
     let at_a = at-bytes-at3.before.before.before in
@@ -179,7 +179,7 @@ returns-7 c =
     let at-number-at = at-workspace.before.before in
     let at-if1 = at-number-at.before in
     let at-count-spaces = at-if1.before in
-    parses (convert-6 _ (told-number at-number-at.number_at.ensures at-workspace.workspace.given.1)
+    parses (convert_6 _ (told-number at-number-at.number_at.ensures at-workspace.workspace.given.1)
     (told-number at-number-at2.number-at2.ensures at_fuel.fuel.given.1)
     (told-number at-number-at3.number-at3.ensures at-function.function.given.1)
     (told-bytes at-bytes-at.bytes-at.ensures at_p.p.given.1) (told-bytes at-bytes-at2.bytes-at2.ensures at_a.a.given.1)
@@ -209,7 +209,7 @@ same-length-9 : tie.Need-same-length-9
 same-length-9 c = search rules
 
 returns-8 : tie.Need-returns-8
-unfolding maxFuel
+unfolding max_fuel
 returns-8 c =
     let at_j = c.before in
     let at-bytes-at3 = at_j.before.before.before.before in
@@ -225,7 +225,7 @@ returns-8 c =
     let at-number-at = at-workspace.before.before in
     let at-if1 = at-number-at.before in
     let at-count-spaces = at-if1.before in
-    parses (convert-all _ (told-number at-number-at.number_at.ensures at-workspace.workspace.given.1)
+    parses (convert_all _ (told-number at-number-at.number_at.ensures at-workspace.workspace.given.1)
     (told-number at-number-at2.number-at2.ensures at_fuel.fuel.given.1)
     (told-number at-number-at3.number-at3.ensures at-function.function.given.1)
     (told-bytes at-bytes-at.bytes-at.ensures at_p.p.given.1) (told-bytes at-bytes-at2.bytes-at2.ensures at_a.a.given.1)

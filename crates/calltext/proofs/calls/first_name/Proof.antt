@@ -1,5 +1,5 @@
 use mathlib.Core.Path.{ap, ◌∙◌}
-use Rattle.calltext.specs.Calls.{nameOf}
+use Rattle.calltext.specs.Calls.{name_of}
 use borrow.Author.Rules.{rules}
 use Rattle.calltext.proofs.calls.first_name.Statement.{statement}
 use Rattle.calltext.proofs.calls.first_name.Tie as tie
@@ -11,7 +11,7 @@ name-of-requires : tie.Need-name-of-requires
 name-of-requires c κs = search rules
 
 returns : tie.Need-returns
-returns c = c.name_of.ensures ∙ ap nameOf c.before.word.ensures
+returns c = c.name_of.ensures ∙ ap name_of c.before.word.ensures
 
 pub first-name-spec : {M : Type 1} → statement M
 first-name-spec = tie.close (tie.spec word-requires name-of-requires returns)

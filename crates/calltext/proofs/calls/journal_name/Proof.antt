@@ -1,5 +1,5 @@
 use mathlib.Core.Path.{◌∙◌}
-use Rattle.calltext.proofs.Saying.{same_if, name-open, name-convert, name-rollback, name-nurse, name-workshop, name-other}
+use Rattle.calltext.proofs.Saying.{same_if, name_open, name_convert, name_rollback, name_nurse, name_workshop, name_other}
 use borrow.Author.Rules.{rules}
 use Rattle.calltext.proofs.calls.journal_name.Statement.{statement}
 use Rattle.calltext.proofs.calls.journal_name.Tie as tie
@@ -13,7 +13,7 @@ equal-requires c κs = search rules
 returns : tie.Need-returns
 returns c =
     let at-equal = c.before in
-    name-open _ (same_if _ _ _ at-equal.equal.ensures ∙ c.if1.true)
+    name_open _ (same_if _ _ _ at-equal.equal.ensures ∙ c.if1.true)
 
 slice-aggregate-equal-2 : tie.Need-slice-aggregate-equal-2
 slice-aggregate-equal-2 c = search rules
@@ -26,7 +26,7 @@ returns-2 c =
     let at-equal2 = c.before in
     let at-if1 = at-equal2.before.before in
     let at-equal = at-if1.before in
-    name-convert _ (same_if _ _ _ at-equal.equal.ensures ∙ at-if1.if1.false)
+    name_convert _ (same_if _ _ _ at-equal.equal.ensures ∙ at-if1.if1.false)
     (same_if _ _ _ at-equal2.equal2.ensures ∙ c.if2.true)
 
 slice-aggregate-equal-3 : tie.Need-slice-aggregate-equal-3
@@ -42,7 +42,7 @@ returns-3 c =
     let at-equal2 = at-if2.before in
     let at-if1 = at-equal2.before.before in
     let at-equal = at-if1.before in
-    name-rollback _ (same_if _ _ _ at-equal.equal.ensures ∙ at-if1.if1.false)
+    name_rollback _ (same_if _ _ _ at-equal.equal.ensures ∙ at-if1.if1.false)
     (same_if _ _ _ at-equal2.equal2.ensures ∙ at-if2.if2.false)
     (same_if _ _ _ at-equal3.equal3.ensures ∙ c.if3.true)
 
@@ -61,7 +61,7 @@ returns-4 c =
     let at-equal2 = at-if2.before in
     let at-if1 = at-equal2.before.before in
     let at-equal = at-if1.before in
-    name-nurse _ (same_if _ _ _ at-equal.equal.ensures ∙ at-if1.if1.false)
+    name_nurse _ (same_if _ _ _ at-equal.equal.ensures ∙ at-if1.if1.false)
     (same_if _ _ _ at-equal2.equal2.ensures ∙ at-if2.if2.false)
     (same_if _ _ _ at-equal3.equal3.ensures ∙ at-if3.if3.false)
     (same_if _ _ _ at-equal4.equal4.ensures ∙ c.if4.true)
@@ -83,7 +83,7 @@ returns-5 c =
     let at-equal2 = at-if2.before in
     let at-if1 = at-equal2.before.before in
     let at-equal = at-if1.before in
-    name-workshop _ (same_if _ _ _ at-equal.equal.ensures ∙ at-if1.if1.false)
+    name_workshop _ (same_if _ _ _ at-equal.equal.ensures ∙ at-if1.if1.false)
     (same_if _ _ _ at-equal2.equal2.ensures ∙ at-if2.if2.false)
     (same_if _ _ _ at-equal3.equal3.ensures ∙ at-if3.if3.false)
     (same_if _ _ _ at-equal4.equal4.ensures ∙ at-if4.if4.false)
@@ -100,7 +100,7 @@ returns-6 c =
     let at-equal2 = at-if2.before in
     let at-if1 = at-equal2.before.before in
     let at-equal = at-if1.before in
-    name-other _ (same_if _ _ _ at-equal.equal.ensures ∙ at-if1.if1.false)
+    name_other _ (same_if _ _ _ at-equal.equal.ensures ∙ at-if1.if1.false)
     (same_if _ _ _ at-equal2.equal2.ensures ∙ at-if2.if2.false)
     (same_if _ _ _ at-equal3.equal3.ensures ∙ at-if3.if3.false)
     (same_if _ _ _ at-equal4.equal4.ensures ∙ at-if4.if4.false)

@@ -1,5 +1,5 @@
 use mathlib.Core.Path.{◌∙◌}
-use Rattle.calltext.proofs.Saying.{same_if, name-check, name-forward, name-backward, name-journal}
+use Rattle.calltext.proofs.Saying.{same_if, name_check, name_forward, name_backward, name_journal}
 use borrow.Author.Rules.{rules}
 use Rattle.calltext.proofs.calls.name_of.Statement.{statement}
 use Rattle.calltext.proofs.calls.name_of.Tie as tie
@@ -13,7 +13,7 @@ equal-requires c κs = search rules
 returns : tie.Need-returns
 returns c =
     let at-equal = c.before in
-    name-check _ (same_if _ _ _ at-equal.equal.ensures ∙ c.if1.true)
+    name_check _ (same_if _ _ _ at-equal.equal.ensures ∙ c.if1.true)
 
 slice-aggregate-equal-2 : tie.Need-slice-aggregate-equal-2
 slice-aggregate-equal-2 c = search rules
@@ -26,7 +26,7 @@ returns-2 c =
     let at-equal2 = c.before in
     let at-if1 = at-equal2.before.before in
     let at-equal = at-if1.before in
-    name-forward _ (same_if _ _ _ at-equal.equal.ensures ∙ at-if1.if1.false)
+    name_forward _ (same_if _ _ _ at-equal.equal.ensures ∙ at-if1.if1.false)
     (same_if _ _ _ at-equal2.equal2.ensures ∙ c.if2.true)
 
 slice-aggregate-equal-3 : tie.Need-slice-aggregate-equal-3
@@ -42,7 +42,7 @@ returns-3 c =
     let at-equal2 = at-if2.before in
     let at-if1 = at-equal2.before.before in
     let at-equal = at-if1.before in
-    name-backward _ (same_if _ _ _ at-equal.equal.ensures ∙ at-if1.if1.false)
+    name_backward _ (same_if _ _ _ at-equal.equal.ensures ∙ at-if1.if1.false)
     (same_if _ _ _ at-equal2.equal2.ensures ∙ at-if2.if2.false)
     (same_if _ _ _ at-equal3.equal3.ensures ∙ c.if3.true)
 
@@ -57,7 +57,7 @@ returns-4 c =
     let at-equal2 = at-if2.before in
     let at-if1 = at-equal2.before.before in
     let at-equal = at-if1.before in
-    c.journal-name.ensures ∙ name-journal _ (same_if _ _ _ at-equal.equal.ensures ∙ at-if1.if1.false)
+    c.journal-name.ensures ∙ name_journal _ (same_if _ _ _ at-equal.equal.ensures ∙ at-if1.if1.false)
     (same_if _ _ _ at-equal2.equal2.ensures ∙ at-if2.if2.false)
     (same_if _ _ _ at-equal3.equal3.ensures ∙ at-if3.if3.false)
 

@@ -1,6 +1,6 @@
 use mathlib.Core.Path.{refl, sym, ◌∙◌}
 use Rattle.calltext.proofs.Saying.{told-number, told-no-number, told-bytes, told-no-bytes, bytes-within, counted, miscounted, parses, unread}
-use Rattle.calltext.proofs.Arguments.{open-1, open-2, open-3, open-4, open-all}
+use Rattle.calltext.proofs.Arguments.{open_1, open_2, open_3, open_4, open_all}
 use borrow.Author.Rules.{rules}
 use Rattle.calltext.proofs.calls.open_call.Statement.{statement}
 use Rattle.calltext.proofs.calls.open_call.Tie as tie
@@ -26,7 +26,7 @@ returns-2 c =
     let at-number-at = c.before.before in
     let at-if1 = at-number-at.before in
     let at-count-spaces = at-if1.before in
-    parses (open-1 _ (told-no-number at-number-at.number_at.ensures c.enum_told.given.1) ∙ counted _ _ _
+    parses (open_1 _ (told-no-number at-number-at.number_at.ensures c.enum_told.given.1) ∙ counted _ _ _
     (sym at-count-spaces.count-spaces.ensures ∙ at-if1.if1.false)) tt (unread _ λ k. refl)
 
 bytes-at-requires : tie.Need-bytes-at-requires
@@ -48,7 +48,7 @@ returns-3 c =
     let at-number-at = at-workspace.before.before in
     let at-if1 = at-number-at.before in
     let at-count-spaces = at-if1.before in
-    parses (open-2 _ (told-number at-number-at.number_at.ensures at-workspace.workspace.given.1)
+    parses (open_2 _ (told-number at-number-at.number_at.ensures at-workspace.workspace.given.1)
     (told-no-bytes at-bytes-at.bytes-at.ensures c.enum-told2.given.1) ∙ counted _ _ _
     (sym at-count-spaces.count-spaces.ensures ∙ at-if1.if1.false)) tt
     (record { program = at-bytes-at.bytes-at.ensures.left; ancillae = refl; value = refl })
@@ -77,7 +77,7 @@ returns-4 c =
     let at-number-at = at-workspace.before.before in
     let at-if1 = at-number-at.before in
     let at-count-spaces = at-if1.before in
-    parses (open-3 _ (told-number at-number-at.number_at.ensures at-workspace.workspace.given.1)
+    parses (open_3 _ (told-number at-number-at.number_at.ensures at-workspace.workspace.given.1)
     (told-bytes at-bytes-at.bytes-at.ensures at_p.p.given.1) (told-no-bytes at-bytes-at2.bytes-at2.ensures c.enum-told3.given.1)
     ∙ counted _ _ _ (sym at-count-spaces.count-spaces.ensures ∙ at-if1.if1.false)) tt
     (record { program = at-bytes-at.bytes-at.ensures.left; ancillae = at-bytes-at2.bytes-at2.ensures.left; value = refl })
@@ -111,7 +111,7 @@ returns-5 c =
     let at-number-at = at-workspace.before.before in
     let at-if1 = at-number-at.before in
     let at-count-spaces = at-if1.before in
-    parses (open-4 _ (told-number at-number-at.number_at.ensures at-workspace.workspace.given.1)
+    parses (open_4 _ (told-number at-number-at.number_at.ensures at-workspace.workspace.given.1)
     (told-bytes at-bytes-at.bytes-at.ensures at_p.p.given.1) (told-bytes at-bytes-at2.bytes-at2.ensures at-h.h.given.1)
     (told-no-bytes at-bytes-at3.bytes-at3.ensures c.enum-told4.given.1) ∙ counted _ _ _
     (sym at-count-spaces.count-spaces.ensures ∙ at-if1.if1.false)) tt
@@ -138,7 +138,7 @@ returns-6 c =
     let at-number-at = at-workspace.before.before in
     let at-if1 = at-number-at.before in
     let at-count-spaces = at-if1.before in
-    parses (open-all _ (told-number at-number-at.number_at.ensures at-workspace.workspace.given.1)
+    parses (open_all _ (told-number at-number-at.number_at.ensures at-workspace.workspace.given.1)
     (told-bytes at-bytes-at.bytes-at.ensures at_p.p.given.1) (told-bytes at-bytes-at2.bytes-at2.ensures at-h.h.given.1)
     (told-bytes at-bytes-at3.bytes-at3.ensures at_j.j.given.1) ∙ counted _ _ _
     (sym at-count-spaces.count-spaces.ensures ∙ at-if1.if1.false)) (

@@ -1,7 +1,7 @@
 use mathlib.Core.Path.{refl, sym, ◌∙◌}
-use Rattle.calltext.specs.Calls.{readReader}
+use Rattle.calltext.specs.Calls.{read_reader}
 use Rattle.calltext.proofs.Saying.{told-number, told-no-number, told-bytes, told-no-bytes, bytes-within, counted, miscounted, parses, unread}
-use Rattle.calltext.proofs.Arguments.{pair-1, pair-2, pair-all}
+use Rattle.calltext.proofs.Arguments.{pair_1, pair_2, pair-all}
 use borrow.Author.Rules.{rules}
 use Rattle.calltext.proofs.calls.reader_call.Statement.{statement}
 use Rattle.calltext.proofs.calls.reader_call.Tie as tie
@@ -22,12 +22,12 @@ enum_told : tie.Need-enum-told
 enum_told c = search rules
 
 returns-2 : tie.Need-returns-2
-unfolding readReader
+unfolding read_reader
 returns-2 c =
     let at-number-at = c.before.before in
     let at-if1 = at-number-at.before in
     let counts = sym at-if1.before.count-spaces.ensures ∙ at-if1.if1.false in
-    λ p anc. parses (pair-1 _ _ (told-no-number at-number-at.number_at.ensures c.enum_told.given.1) ∙ counted _ _ _ counts) tt
+    λ p anc. parses (pair_1 _ _ (told-no-number at-number-at.number_at.ensures c.enum_told.given.1) ∙ counted _ _ _ counts) tt
     (unread _ λ k. refl)
 
 bytes-at-requires : tie.Need-bytes-at-requires
@@ -43,14 +43,14 @@ same_length : tie.Need-same-length
 same_length c = search rules
 
 returns-3 : tie.Need-returns-3
-unfolding readReader
+unfolding read_reader
 returns-3 c =
     let at-bytes-at = c.before.before.before.before in
     let at-output = at-bytes-at.before.before.before in
     let at-number-at = at-output.before.before in
     let at-if1 = at-number-at.before in
     let counts = sym at-if1.before.count-spaces.ensures ∙ at-if1.if1.false in
-    λ p anc. parses (pair-2 _ _ (told-number at-number-at.number_at.ensures at-output.output.given.1)
+    λ p anc. parses (pair_2 _ _ (told-number at-number-at.number_at.ensures at-output.output.given.1)
     (told-no-bytes at-bytes-at.bytes-at.ensures c.enum-told2.given.1) ∙ counted _ _ _ counts) tt
     (record { program = refl; ancillae = refl; value = at-bytes-at.bytes-at.ensures.left })
 
@@ -58,7 +58,7 @@ same-length-2 : tie.Need-same-length-2
 same-length-2 c = search rules
 
 returns-4 : tie.Need-returns-4
-unfolding readReader
+unfolding read_reader
 returns-4 c =
     let at_j = c.before in
     let at-bytes-at = at_j.before.before.before.before in

@@ -1,8 +1,8 @@
 use native.Mathlib.Omega.{arith}
 use mathlib.Core.Path.{refl, sym, ◌∙◌}
-use Rattle.rules.specs.Limits.{maxFuel}
+use Rattle.rules.specs.Limits.{max_fuel}
 use Rattle.calltext.proofs.Saying.{told-number, told-no-number, told-bytes, told-no-bytes, number-within, bytes-within, counted, miscounted, parses, unread}
-use Rattle.calltext.proofs.Arguments.{rollback-1, rollback-2, rollback-3, rollback-4, rollback-all}
+use Rattle.calltext.proofs.Arguments.{rollback_1, rollback_2, rollback_3, rollback_4, rollback_all}
 use borrow.Author.Rules.{rules}
 use Rattle.calltext.proofs.calls.rollback_call.Statement.{statement}
 use Rattle.calltext.proofs.calls.rollback_call.Tie as tie
@@ -28,7 +28,7 @@ returns-2 c =
     let at-number-at = c.before.before in
     let at-if1 = at-number-at.before in
     let at-count-spaces = at-if1.before in
-    λ anc. parses (rollback-1 _ (told-no-number at-number-at.number_at.ensures c.enum_told.given.1) ∙ counted _ _ _
+    λ anc. parses (rollback_1 _ (told-no-number at-number-at.number_at.ensures c.enum_told.given.1) ∙ counted _ _ _
     (sym at-count-spaces.count-spaces.ensures ∙ at-if1.if1.false)) tt (unread _ λ k. refl)
 
 number-at-requires-2 : tie.Need-number-at-requires-2
@@ -41,14 +41,14 @@ enum-told-2 : tie.Need-enum-told-2
 enum-told-2 c = search rules
 
 returns-3 : tie.Need-returns-3
-unfolding maxFuel
+unfolding max_fuel
 returns-3 c =
     let at-number-at2 = c.before.before in
     let at-workspace = at-number-at2.before.before in
     let at-number-at = at-workspace.before.before in
     let at-if1 = at-number-at.before in
     let at-count-spaces = at-if1.before in
-    λ anc. parses (rollback-2 _ (told-number at-number-at.number_at.ensures at-workspace.workspace.given.1)
+    λ anc. parses (rollback_2 _ (told-number at-number-at.number_at.ensures at-workspace.workspace.given.1)
     (told-no-number at-number-at2.number-at2.ensures c.enum-told2.given.1) ∙ counted _ _ _
     (sym at-count-spaces.count-spaces.ensures ∙ at-if1.if1.false)) tt (unread _ λ k. refl)
 
@@ -65,7 +65,7 @@ same_length : tie.Need-same-length
 same_length c = search rules
 
 returns-4 : tie.Need-returns-4
-unfolding maxFuel
+unfolding max_fuel
 returns-4 c =
     let at-bytes-at = c.before.before.before.before in
     let at_fuel = at-bytes-at.before.before.before in
@@ -74,7 +74,7 @@ returns-4 c =
     let at-number-at = at-workspace.before.before in
     let at-if1 = at-number-at.before in
     let at-count-spaces = at-if1.before in
-    λ anc. parses (rollback-3 _ (told-number at-number-at.number_at.ensures at-workspace.workspace.given.1)
+    λ anc. parses (rollback_3 _ (told-number at-number-at.number_at.ensures at-workspace.workspace.given.1)
     (told-number at-number-at2.number-at2.ensures at_fuel.fuel.given.1)
     (told-no-bytes at-bytes-at.bytes-at.ensures c.enum-told3.given.1) ∙ counted _ _ _
     (sym at-count-spaces.count-spaces.ensures ∙ at-if1.if1.false)) tt
@@ -96,7 +96,7 @@ same-length-3 : tie.Need-same-length-3
 same-length-3 c = search rules
 
 returns-5 : tie.Need-returns-5
-unfolding maxFuel
+unfolding max_fuel
 returns-5 c =
     let at-bytes-at2 = c.before.before.before.before in
     let at_p = at-bytes-at2.before.before.before in
@@ -107,7 +107,7 @@ returns-5 c =
     let at-number-at = at-workspace.before.before in
     let at-if1 = at-number-at.before in
     let at-count-spaces = at-if1.before in
-    λ anc. parses (rollback-4 _ (told-number at-number-at.number_at.ensures at-workspace.workspace.given.1)
+    λ anc. parses (rollback_4 _ (told-number at-number-at.number_at.ensures at-workspace.workspace.given.1)
     (told-number at-number-at2.number-at2.ensures at_fuel.fuel.given.1) (told-bytes at-bytes-at.bytes-at.ensures at_p.p.given.1)
     (told-no-bytes at-bytes-at2.bytes-at2.ensures c.enum-told4.given.1) ∙ counted _ _ _
     (sym at-count-spaces.count-spaces.ensures ∙ at-if1.if1.false)) tt
@@ -126,7 +126,7 @@ same-length-5 : tie.Need-same-length-5
 same-length-5 c = search rules
 
 returns-6 : tie.Need-returns-6
-unfolding maxFuel
+unfolding max_fuel
 returns-6 c =
     let at_j = c.before in
     let at-bytes-at2 = at_j.before.before.before.before in
@@ -138,7 +138,7 @@ returns-6 c =
     let at-number-at = at-workspace.before.before in
     let at-if1 = at-number-at.before in
     let at-count-spaces = at-if1.before in
-    λ anc. parses (rollback-all _ (told-number at-number-at.number_at.ensures at-workspace.workspace.given.1)
+    λ anc. parses (rollback_all _ (told-number at-number-at.number_at.ensures at-workspace.workspace.given.1)
     (told-number at-number-at2.number-at2.ensures at_fuel.fuel.given.1) (told-bytes at-bytes-at.bytes-at.ensures at_p.p.given.1)
     (told-bytes at-bytes-at2.bytes-at2.ensures at_j.j.given.1) ∙ counted _ _ _
     (sym at-count-spaces.count-spaces.ensures ∙ at-if1.if1.false))

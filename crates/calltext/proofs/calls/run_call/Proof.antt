@@ -1,8 +1,8 @@
 use native.Mathlib.Omega.{arith}
 use mathlib.Core.Path.{refl, sym, ◌∙◌}
-use Rattle.rules.specs.Limits.{maxFuel}
+use Rattle.rules.specs.Limits.{max_fuel}
 use Rattle.calltext.proofs.Saying.{told-number, told-no-number, told-bytes, told-no-bytes, number-within, bytes-within, counted, miscounted, parses, unread}
-use Rattle.calltext.proofs.Arguments.{run-1, run-2, run-3, run-4, run-5, run-6, run-7, run-all}
+use Rattle.calltext.proofs.Arguments.{run_1, run_2, run_3, run_4, run_5, run_6, run_7, run-all}
 use borrow.Author.Rules.{rules}
 use Rattle.calltext.proofs.calls.run_call.Statement.{statement}
 use Rattle.calltext.proofs.calls.run_call.Tie as tie
@@ -27,7 +27,7 @@ returns-2 c =
     let at-number-at = c.before.before in
     let at-if1 = at-number-at.before in
     let counts = sym at-if1.before.count-spaces.ensures ∙ at-if1.if1.false in
-    parses (run-1 _ _ (told-no-number at-number-at.number_at.ensures c.enum_told.given.1) ∙ counted _ _ _ counts) tt (unread _ λ k. refl)
+    parses (run_1 _ _ (told-no-number at-number-at.number_at.ensures c.enum_told.given.1) ∙ counted _ _ _ counts) tt (unread _ λ k. refl)
 
 number-at-requires-2 : tie.Need-number-at-requires-2
 number-at-requires-2 c κs = search rules
@@ -45,7 +45,7 @@ returns-3 c =
     let at-number-at = at-workspace.before.before in
     let at-if1 = at-number-at.before in
     let counts = sym at-if1.before.count-spaces.ensures ∙ at-if1.if1.false in
-    parses (run-2 _ _ (told-number at-number-at.number_at.ensures at-workspace.workspace.given.1)
+    parses (run_2 _ _ (told-number at-number-at.number_at.ensures at-workspace.workspace.given.1)
     (told-no-number at-number-at2.number-at2.ensures c.enum-told2.given.1) ∙ counted _ _ _ counts) tt (unread _ λ k. refl)
 
 number-at-requires-3 : tie.Need-number-at-requires-3
@@ -58,7 +58,7 @@ enum-told-3 : tie.Need-enum-told-3
 enum-told-3 c = search rules
 
 returns-4 : tie.Need-returns-4
-unfolding maxFuel
+unfolding max_fuel
 returns-4 c =
     let at-number-at3 = c.before.before in
     let at-output = at-number-at3.before.before in
@@ -67,7 +67,7 @@ returns-4 c =
     let at-number-at = at-workspace.before.before in
     let at-if1 = at-number-at.before in
     let counts = sym at-if1.before.count-spaces.ensures ∙ at-if1.if1.false in
-    parses (run-3 _ _ (told-number at-number-at.number_at.ensures at-workspace.workspace.given.1)
+    parses (run_3 _ _ (told-number at-number-at.number_at.ensures at-workspace.workspace.given.1)
     (told-number at-number-at2.number-at2.ensures at-output.output.given.1)
     (told-no-number at-number-at3.number-at3.ensures c.enum-told3.given.1) ∙ counted _ _ _ counts) tt (unread _ λ k. refl)
 
@@ -81,7 +81,7 @@ enum-told-4 : tie.Need-enum-told-4
 enum-told-4 c = search rules
 
 returns-5 : tie.Need-returns-5
-unfolding maxFuel
+unfolding max_fuel
 returns-5 c =
     let at-number-at4 = c.before.before in
     let at_fuel = at-number-at4.before.before in
@@ -92,7 +92,7 @@ returns-5 c =
     let at-number-at = at-workspace.before.before in
     let at-if1 = at-number-at.before in
     let counts = sym at-if1.before.count-spaces.ensures ∙ at-if1.if1.false in
-    parses (run-4 _ _ (told-number at-number-at.number_at.ensures at-workspace.workspace.given.1)
+    parses (run_4 _ _ (told-number at-number-at.number_at.ensures at-workspace.workspace.given.1)
     (told-number at-number-at2.number-at2.ensures at-output.output.given.1)
     (told-number at-number-at3.number-at3.ensures at_fuel.fuel.given.1)
     (told-no-number at-number-at4.number-at4.ensures c.enum-told4.given.1) ∙ counted _ _ _ counts) tt (unread _ λ k. refl)
@@ -110,7 +110,7 @@ same_length : tie.Need-same-length
 same_length c = search rules
 
 returns-6 : tie.Need-returns-6
-unfolding maxFuel
+unfolding max_fuel
 returns-6 c =
     let at-bytes-at = c.before.before.before.before in
     let at-function = at-bytes-at.before.before.before in
@@ -123,7 +123,7 @@ returns-6 c =
     let at-number-at = at-workspace.before.before in
     let at-if1 = at-number-at.before in
     let counts = sym at-if1.before.count-spaces.ensures ∙ at-if1.if1.false in
-    parses (run-5 _ _ (told-number at-number-at.number_at.ensures at-workspace.workspace.given.1)
+    parses (run_5 _ _ (told-number at-number-at.number_at.ensures at-workspace.workspace.given.1)
     (told-number at-number-at2.number-at2.ensures at-output.output.given.1)
     (told-number at-number-at3.number-at3.ensures at_fuel.fuel.given.1)
     (told-number at-number-at4.number-at4.ensures at-function.function.given.1)
@@ -159,7 +159,7 @@ same-length-3 : tie.Need-same-length-3
 same-length-3 c = search rules
 
 returns-7 : tie.Need-returns-7
-unfolding maxFuel
+unfolding max_fuel
 returns-7 c =
     let at-bytes-at2 = c.before.before.before.before in
     let at_p = at-bytes-at2.before.before.before in
@@ -174,7 +174,7 @@ returns-7 c =
     let at-number-at = at-workspace.before.before in
     let at-if1 = at-number-at.before in
     let counts = sym at-if1.before.count-spaces.ensures ∙ at-if1.if1.false in
-    parses (run-6 _ _ (told-number at-number-at.number_at.ensures at-workspace.workspace.given.1)
+    parses (run_6 _ _ (told-number at-number-at.number_at.ensures at-workspace.workspace.given.1)
     (told-number at-number-at2.number-at2.ensures at-output.output.given.1)
     (told-number at-number-at3.number-at3.ensures at_fuel.fuel.given.1)
     (told-number at-number-at4.number-at4.ensures at-function.function.given.1)
@@ -215,7 +215,7 @@ same-length-6 : tie.Need-same-length-6
 same-length-6 c = search rules
 
 returns-8 : tie.Need-returns-8
-unfolding maxFuel
+unfolding max_fuel
 returns-8 c =
     let at-bytes-at3 = c.before.before.before.before in
     let at_a = at-bytes-at3.before.before.before in
@@ -232,7 +232,7 @@ returns-8 c =
     let at-number-at = at-workspace.before.before in
     let at-if1 = at-number-at.before in
     let counts = sym at-if1.before.count-spaces.ensures ∙ at-if1.if1.false in
-    parses (run-7 _ _ (told-number at-number-at.number_at.ensures at-workspace.workspace.given.1)
+    parses (run_7 _ _ (told-number at-number-at.number_at.ensures at-workspace.workspace.given.1)
     (told-number at-number-at2.number-at2.ensures at-output.output.given.1)
     (told-number at-number-at3.number-at3.ensures at_fuel.fuel.given.1)
     (told-number at-number-at4.number-at4.ensures at-function.function.given.1)
@@ -262,7 +262,7 @@ same-length-9 : tie.Need-same-length-9
 same-length-9 c = search rules
 
 returns-9 : tie.Need-returns-9
-unfolding maxFuel
+unfolding max_fuel
 returns-9 c =
     let at-v = c.before in
     let at-bytes-at3 = at-v.before.before.before.before in

@@ -4,7 +4,7 @@ use native.Mathlib.Omega.{arith}
 use mathlib.Core.Path.{ap}
 use lib.ListN.{length}
 use Rattle.calltext.proofs.Writing.{wrote-byte, wrote-both, wrote_as}
-use Rattle.calltext.proofs.Figures.{one-digit, more-digits, longer-by-one}
+use Rattle.calltext.proofs.Figures.{one-digit, more_digits, longer_by_one}
 use Prim.Native.Nat.{ℕ, ◌<◌}
 use borrow.Fn.Kinds.{In}
 use borrow.Fn.PlainCycle.{Measures, is, falls, and}
@@ -76,7 +76,7 @@ put-number-put-number-requires : (t : ℕ) → put-number-lts.Need-put-number-re
 put-number-put-number-requires t c κs =
     let at-if1 = c.before in
     let start = at-if1.before.before in
-    (omega (arith, start.requires.0), omega (arith, start.requires.1, longer-by-one _ at-if1.if1.false))
+    (omega (arith, start.requires.0), omega (arith, start.requires.1, longer_by_one _ at-if1.if1.false))
 
 put-number-cast-out-2 : (t : ℕ) → put-number-lts.Need-overflow-cast-out-2 (
   put-number-below t,
@@ -101,7 +101,7 @@ put-number-slice-write-out-2 t c =
     omega (
       arith,
       start.requires.1,
-      longer-by-one _ at-if1.if1.false,
+      longer_by_one _ at-if1.if1.false,
       at-put-number.put-number.ensures.ends,
       at-put-number.put-number.ensures.kept,
     )
@@ -117,7 +117,7 @@ put-number-add-result-2 t c =
     omega (
       arith,
       start.requires.1,
-      longer-by-one _ at-if1.if1.false,
+      longer_by_one _ at-if1.if1.false,
       at-put-number.put-number.ensures.ends,
       at-put-number.put-number.ensures.kept,
     )
@@ -140,10 +140,10 @@ put-number-returns-2 t c =
     (wrote-byte _ _ _ (omega (
       arith,
       start.requires.1,
-      longer-by-one _ at-if1.if1.false,
+      longer_by_one _ at-if1.if1.false,
       at-put-number.put-number.ensures.ends,
       at-put-number.put-number.ensures.kept,
-    )))) (more-digits _ at-if1.if1.false)
+    )))) (more_digits _ at-if1.if1.false)
 
 pub +put-number-spec : {M : Type 1} → statement M
 +put-number-spec = close μ-put-number λ t. put-number-lts.spec (

@@ -3,7 +3,7 @@ use Prim.Native.Nat.{◌-◌, ◌≤◌, ◌<◌}
 use mathlib.Core.Path.{◌≡◌}
 use lib.ListN.{length, drop}
 use Rattle.calltext.specs.Decimal.{carried, number_in}
-use Rattle.calltext.proofs.Figures.{no-digits, some-digits, stops-low, stops-high, stops-large, carries, carried-all}
+use Rattle.calltext.proofs.Figures.{no_digits, some_digits, stops-low, stops_high, stops_large, carries, carried-all}
 use Rattle.calltext.proofs.decimal.read_number.Statement.{statement}
 use Rattle.calltext.proofs.decimal.read_number.Tie as tie
 
@@ -14,10 +14,10 @@ abbrev decreases-loop : tie.decreases-loop
 decreases-loop word most i₀ n₀ i n = length word - i
 
 returns : tie.Need-returns invariant-loop decreases-loop
-returns c = record { said = no-digits _ _ c.if1.true; within = search rules }
+returns c = record { said = no_digits _ _ c.if1.true; within = search rules }
 
 loop-holds : tie.Need-loop-init invariant-loop decreases-loop
-loop-holds c = (c.before.requires, search rules, search rules, some-digits _ _ c.if1.false)
+loop-holds c = (c.before.requires, search rules, search rules, some_digits _ _ c.if1.false)
 
 shared-slice-read-b : tie.Need-shared-slice-read-b invariant-loop decreases-loop
 shared-slice-read-b c = search rules
@@ -34,7 +34,7 @@ returns-3 c =
     let at-loop-test = at-if2.before.before in
     let at-loop = at-loop-test.before in
     record {
-      said = stops-high _ _ _ _ at-loop.loop.invariant.3 at-loop-test.loop-test.true at-if2.if2.false
+      said = stops_high _ _ _ _ at-loop.loop.invariant.3 at-loop-test.loop-test.true at-if2.if2.false
           c.if3.true;
       within = search rules;
     }
@@ -55,7 +55,7 @@ returns-4 c =
     let at-loop-test = at-if2.before.before in
     let at-loop = at-loop-test.before in
     record {
-      said = stops-large _ _ _ _ at-loop.loop.invariant.3 at-loop-test.loop-test.true at-if2.if2.false at-if3.if3.false
+      said = stops_large _ _ _ _ at-loop.loop.invariant.3 at-loop-test.loop-test.true at-if2.if2.false at-if3.if3.false
           c.if4.true;
       within = search rules;
     }

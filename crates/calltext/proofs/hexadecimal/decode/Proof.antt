@@ -1,11 +1,11 @@
-use Rattle.calltext.proofs.Digits.{empty-word, sign_word, single-word, longer-word}
+use Rattle.calltext.proofs.Digits.{empty_word, sign_word, single_word, longer_word}
 use mathlib.Core.Path.{◌∙◌}
 use borrow.Author.Rules.{rules}
 use Rattle.calltext.proofs.hexadecimal.decode.Statement.{statement}
 use Rattle.calltext.proofs.hexadecimal.decode.Tie as tie
 
 returns : tie.Need-returns
-returns c = empty-word _ _ c.if1.true
+returns c = empty_word _ _ c.if1.true
 
 shared-slice-read-if3 : tie.Need-shared-slice-read-if3
 shared-slice-read-if3 c = search rules
@@ -14,7 +14,7 @@ returns-2 : tie.Need-returns-2
 returns-2 c = sign_word _ _ c.before.before.if2.true c.if3.true
 
 returns-3 : tie.Need-returns-3
-returns-3 c = single-word _ _ c.before.before.if2.true c.if3.false
+returns-3 c = single_word _ _ c.before.before.if2.true c.if3.false
 
 pairs-requires : tie.Need-pairs-requires
 pairs-requires c κs = search rules
@@ -28,7 +28,7 @@ returns-4 c =
     let at-if2 = at-pairs.before.before in
     let at-if1 = at-if2.before in
     let d = at-pairs.pairs.ensures in
-    record { said = d.said ∙ longer-word _ at-if1.if1.false at-if2.if2.false; within = d.within; left = d.left }
+    record { said = d.said ∙ longer_word _ at-if1.if1.false at-if2.if2.false; within = d.within; left = d.left }
 
 pub decode-spec : {M : Type 1} → statement M
 decode-spec =

@@ -1,26 +1,26 @@
 use borrow.Author.Tests.{lt-ltb, le-ltb, le-leb, lt-leb}
-use Rattle.calltext.specs.Hexadecimal.{digitOf}
+use Rattle.calltext.specs.Hexadecimal.{digit_of}
 use borrow.Author.Rules.{rules}
 use Rattle.calltext.proofs.hexadecimal.digit.Statement.{statement}
 use Rattle.calltext.proofs.hexadecimal.digit.Tie as tie
 
 returns : tie.Need-returns
-unfolding digitOf
+unfolding digit_of
 returns c = simp (lt-ltb _ _ c.if1.true)
 
 returns-2 : tie.Need-returns-2
-unfolding digitOf
+unfolding digit_of
 returns-2 c = simp (le-ltb _ _ c.before.if1.false, le-leb _ _ c.if2.true)
 
 returns-3 : tie.Need-returns-3
-unfolding digitOf
+unfolding digit_of
 returns-3 c = simp (le-ltb _ _ c.before.before.if1.false, lt-leb _ _ c.before.if2.false, lt-ltb _ _ c.if3.true)
 
 sub-result : tie.Need-overflow-sub-result
 sub-result c = search rules
 
 returns-4 : tie.Need-returns-4
-unfolding digitOf
+unfolding digit_of
 returns-4 c =
     let at-if3 = c.before in
     let at-if2 = at-if3.before in
@@ -28,7 +28,7 @@ returns-4 c =
     simp (le-ltb _ _ at-if1.if1.false, lt-leb _ _ at-if2.if2.false, le-ltb _ _ at-if3.if3.false, le-leb _ _ c.if4.true)
 
 returns-5 : tie.Need-returns-5
-unfolding digitOf
+unfolding digit_of
 returns-5 c =
     let at-if4 = c.before in
     let at-if3 = at-if4.before in
@@ -47,7 +47,7 @@ sub-result-2 : tie.Need-overflow-sub-result-2
 sub-result-2 c = search rules
 
 returns-6 : tie.Need-returns-6
-unfolding digitOf
+unfolding digit_of
 returns-6 c =
     let at-if5 = c.before in
     let at-if4 = at-if5.before in
@@ -65,7 +65,7 @@ returns-6 c =
     )
 
 returns-7 : tie.Need-returns-7
-unfolding digitOf
+unfolding digit_of
 returns-7 c =
     let at-if5 = c.before in
     let at-if4 = at-if5.before in

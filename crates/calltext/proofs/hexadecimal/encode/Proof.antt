@@ -5,14 +5,14 @@ use native.Mathlib.Omega.{arith}
 use mathlib.Core.Path.{◌≡◌}
 use lib.ListN.{length, take, length-set}
 use Rattle.calltext.specs.Wrote.{Wrote}
-use Rattle.calltext.specs.Hexadecimal.{digitsOf}
+use Rattle.calltext.specs.Hexadecimal.{digits_of}
 use Rattle.calltext.proofs.Writing.{wrote-byte, wrote_as}
-use Rattle.calltext.proofs.Digits.{encode-start, encode-more, no_bytes, all-bytes}
+use Rattle.calltext.proofs.Digits.{encode-start, encode-more, no_bytes_lem, all-bytes}
 use Rattle.calltext.proofs.hexadecimal.encode.Statement.{statement}
 use Rattle.calltext.proofs.hexadecimal.encode.Tie as tie
 
 abbrev invariant-loop : tie.invariant-loop
-invariant-loop bytes out₀ at i₀ end₀ out i end = (at + 2 * length bytes < length out₀) × (length bytes ≡ 0 → ⊥) × (i ≤ length bytes) × (end ≡ at + 2 * i) × Wrote out₀ out at end (digitsOf (take i bytes))
+invariant-loop bytes out₀ at i₀ end₀ out i end = (at + 2 * length bytes < length out₀) × (length bytes ≡ 0 → ⊥) × (i ≤ length bytes) × (end ≡ at + 2 * i) × Wrote out₀ out at end (digits_of (take i bytes))
 
 abbrev decreases-loop : tie.decreases-loop
 decreases-loop bytes out₀ at i₀ end₀ out i end = length bytes - i
@@ -27,7 +27,7 @@ same_length : tie.Need-same-length invariant-loop decreases-loop
 same_length c = simp length-set
 
 returns : tie.Need-returns invariant-loop decreases-loop
-returns c = wrote_as (wrote-byte _ _ 45 (search rules)) (no_bytes _ c.if1.true)
+returns c = wrote_as (wrote-byte _ _ 45 (search rules)) (no_bytes_lem _ c.if1.true)
 
 loop-holds : tie.Need-loop-init invariant-loop decreases-loop
 loop-holds c = (c.before.before.before.requires, c.if1.false, search rules, search rules, encode-start c.before.before.before.args.bytes.now _ _)

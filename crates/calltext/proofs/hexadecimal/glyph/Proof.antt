@@ -1,5 +1,5 @@
 use borrow.Author.Tests.{lt-ltb, le-ltb}
-use Rattle.calltext.specs.Hexadecimal.{glyphOf}
+use Rattle.calltext.specs.Hexadecimal.{glyph_of}
 use borrow.Author.Rules.{rules}
 use Rattle.calltext.proofs.hexadecimal.glyph.Statement.{statement}
 use Rattle.calltext.proofs.hexadecimal.glyph.Tie as tie
@@ -11,11 +11,11 @@ add-result-2 : tie.Need-overflow-add-result-2
 add-result-2 c = search rules
 
 returns : tie.Need-returns
-unfolding glyphOf
+unfolding glyph_of
 returns c = simp (lt-ltb _ _ c.if1.true)
 
 returns-2 : tie.Need-returns-2
-unfolding glyphOf
+unfolding glyph_of
 returns-2 c = simp (le-ltb _ _ c.if1.false)
 
 pub glyph-spec : {M : Type 1} → statement M

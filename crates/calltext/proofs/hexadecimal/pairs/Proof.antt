@@ -5,7 +5,7 @@ use native.Mathlib.Omega.{arith}
 use mathlib.Core.Path.{◌≡◌, refl}
 use mathlib.Core.List.{List}
 use lib.ListN.{length, length-set}
-use Rattle.calltext.proofs.Digits.{Decoding, decoding, stops-odd, stops-high, stops-low, decodes-more, decoded}
+use Rattle.calltext.proofs.Digits.{Decoding, decoding, stops-odd, stops_high, stops-low, decodes-more, decoded}
 use Rattle.calltext.proofs.hexadecimal.pairs.Statement.{statement}
 use Rattle.calltext.proofs.hexadecimal.pairs.Tie as tie
 
@@ -52,7 +52,7 @@ returns-2 c =
     let at-if1 = at-digit.before.before in
     let at-loop = at-if1.before.before in
     let v = at-loop.loop.invariant in
-    stops-high _ _ _ _ _ v.2 (room v.0 v.1 v.2) _ at-digit.digit.ensures at-if1.if1.false c.if2.true
+    stops_high _ _ _ _ _ v.2 (room v.0 v.1 v.2) _ at-digit.digit.ensures at-if1.if1.false c.if2.true
 
 same-length-3 : tie.Need-same-length-3 invariant-loop decreases-loop
 same-length-3 c = c.before.before.before.before.before.before.before.before.loop.invariant.1

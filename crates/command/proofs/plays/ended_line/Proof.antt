@@ -1,7 +1,7 @@
 use mathlib.Core.Path.{sym, ap}
 use Rattle.calltext.proofs.Writing.{wrote_as}
-use Rattle.replay.specs.Playing.{replyOf}
-use Rattle.command.specs.Plays.{endedText}
+use Rattle.replay.specs.Playing.{reply_of}
+use Rattle.command.specs.Plays.{ended_text}
 use borrow.Author.Rules.{rules}
 use Rattle.command.proofs.plays.ended_line.Statement.{statement}
 use Rattle.command.proofs.plays.ended_line.Tie as tie
@@ -73,55 +73,55 @@ same_length : tie.Need-same-length
 same_length c = search rules
 
 returns : tie.Need-returns
-unfolding endedText
+unfolding ended_text
 returns c =
     let at-put-between = c.before.before in
     let at-answer = at-put-between.before.before.before.before.before in
-    wrote_as at-put-between.put-between.ensures (sym (ap (λ a. endedText (replyOf a)) at-answer.answer.given.1))
+    wrote_as at-put-between.put-between.ensures (sym (ap (λ a. ended_text (reply_of a)) at-answer.answer.given.1))
 
 same-length-2 : tie.Need-same-length-2
 same-length-2 c = search rules
 
 returns-2 : tie.Need-returns-2
-unfolding endedText
+unfolding ended_text
 returns-2 c =
     let at-put-between2 = c.before.before in
     let at-answer2 = at-put-between2.before.before.before.before.before in
-    wrote_as at-put-between2.put-between2.ensures (sym (ap (λ a. endedText (replyOf a)) at-answer2.answer2.given.1))
+    wrote_as at-put-between2.put-between2.ensures (sym (ap (λ a. ended_text (reply_of a)) at-answer2.answer2.given.1))
 
 same-length-3 : tie.Need-same-length-3
 same-length-3 c = search rules
 
 returns-3 : tie.Need-returns-3
-unfolding endedText
+unfolding ended_text
 returns-3 c =
     let at-put-between3 = c.before.before in
     let at-answer3 = at-put-between3.before.before.before.before.before in
-    wrote_as at-put-between3.put-between3.ensures (sym (ap (λ a. endedText (replyOf a)) at-answer3.answer3.given.1))
+    wrote_as at-put-between3.put-between3.ensures (sym (ap (λ a. ended_text (reply_of a)) at-answer3.answer3.given.1))
 
 same-length-4 : tie.Need-same-length-4
 same-length-4 c = search rules
 
 returns-4 : tie.Need-returns-4
-unfolding endedText
-returns-4 c = wrote_as c.before.before.put.ensures (sym (ap (λ a. endedText (replyOf a)) c.before.before.before.before.before.enum_told.given.1))
+unfolding ended_text
+returns-4 c = wrote_as c.before.before.put.ensures (sym (ap (λ a. ended_text (reply_of a)) c.before.before.before.before.before.enum_told.given.1))
 
 same-length-5 : tie.Need-same-length-5
 same-length-5 c = search rules
 
 returns-5 : tie.Need-returns-5
-unfolding endedText
-returns-5 c = wrote_as c.before.before.unopened.ensures (sym (ap (λ a. endedText (replyOf a)) c.before.before.before.before.before.answer4.given.1))
+unfolding ended_text
+returns-5 c = wrote_as c.before.before.unopened.ensures (sym (ap (λ a. ended_text (reply_of a)) c.before.before.before.before.before.answer4.given.1))
 
 same-length-6 : tie.Need-same-length-6
 same-length-6 c = search rules
 
 returns-6 : tie.Need-returns-6
-unfolding endedText
+unfolding ended_text
 returns-6 c =
     let at-put-between4 = c.before.before in
     let at-answer5 = at-put-between4.before.before.before.before.before in
-    wrote_as at-put-between4.put-between4.ensures (sym (ap (λ a. endedText (replyOf a)) at-answer5.answer5.given.1))
+    wrote_as at-put-between4.put-between4.ensures (sym (ap (λ a. ended_text (reply_of a)) at-answer5.answer5.given.1))
 
 pub ended-line-spec : {M : Type 1} → statement M
 ended-line-spec =

@@ -1,5 +1,5 @@
 use Rattle.calltext.proofs.Writing.{wrote_as}
-use Rattle.command.proofs.Telling.{told-open, told-held, told-refused, told_none}
+use Rattle.command.proofs.Telling.{told_open, told-held, told-refused, told_none}
 use borrow.Author.Rules.{rules}
 use Rattle.command.proofs.plays.told_line.Statement.{statement}
 use Rattle.command.proofs.plays.told_line.Tie as tie
@@ -27,7 +27,7 @@ returns c =
     let at-put = c.before.before in
     let at-if1 = at-put.before.before.before in
     let start = at-if1.before.before.before.before.before.before in
-    wrote_as at-put.put.ensures (told-open start.args.line.now at-if1.if1.true)
+    wrote_as at-put.put.ensures (told_open start.args.line.now at-if1.if1.true)
 
 cast-held : tie.Need-overflow-cast-held
 cast-held c = search rules

@@ -1,4 +1,4 @@
-use Rattle.command.specs.Plays.{unopenedText}
+use Rattle.command.specs.Plays.{unopened_text}
 use Rattle.command.proofs.Behind.{wrote-behind, wrote-within, both-within}
 use borrow.Author.Rules.{rules}
 use Rattle.command.proofs.plays.unopened.Statement.{statement}
@@ -29,7 +29,7 @@ same_length : tie.Need-same-length
 same_length c = search rules
 
 returns : tie.Need-returns
-unfolding unopenedText
+unfolding unopened_text
 returns c =
     let at-refusal = c.before.before in
     let at-put = at-refusal.before.before.before.before in

@@ -1,7 +1,7 @@
 use native.Mathlib.Omega.{arith}
 use Rattle.calltext.proofs.Writing.{wrote_as}
 use Rattle.messages.proofs.Outputs.{seen-within}
-use Rattle.command.proofs.ReadBack.{nurse-reported}
+use Rattle.command.proofs.ReadBack.{nurse_reported}
 use borrow.Author.Rules.{rules}
 use Rattle.command.proofs.readings.nurse.Statement.{statement}
 use Rattle.command.proofs.readings.nurse.Tie as tie
@@ -27,7 +27,7 @@ returns : tie.Need-returns
 returns c =
     let at-nurse-report = c.before.before in
     let at-nurse = at-nurse-report.before.before.before.before.before in (
-      wrote_as at-nurse-report.nurse-report.ensures (nurse-reported at-nurse.nurse.result _ _
+      wrote_as at-nurse-report.nurse-report.ensures (nurse_reported at-nurse.nurse.result _ _
           at-nurse.nurse.ensures.0 at-nurse.nurse.ensures.1),
       at-nurse.nurse.ensures.1,
     )

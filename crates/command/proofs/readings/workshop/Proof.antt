@@ -1,7 +1,7 @@
 use native.Mathlib.Omega.{arith}
 use Rattle.calltext.proofs.Writing.{wrote_as}
 use Rattle.messages.proofs.Outputs.{written-within}
-use Rattle.command.proofs.ReadBack.{workshop-reported}
+use Rattle.command.proofs.ReadBack.{workshop_reported}
 use borrow.Author.Rules.{rules}
 use Rattle.command.proofs.readings.workshop.Statement.{statement}
 use Rattle.command.proofs.readings.workshop.Tie as tie
@@ -28,7 +28,7 @@ returns : tie.Need-returns
 returns c =
     let at-write-report = c.before.before in
     let at-workshop = at-write-report.before.before.before.before.before in (
-      wrote_as at-write-report.write-report.ensures (workshop-reported at-workshop.workshop.result _ _
+      wrote_as at-write-report.write-report.ensures (workshop_reported at-workshop.workshop.result _ _
           at-workshop.workshop.ensures.0 at-workshop.workshop.ensures.1),
       at-workshop.workshop.ensures.1,
     )

@@ -1,5 +1,5 @@
 use Rattle.calltext.proofs.Writing.{wrote-five}
-use Rattle.command.specs.Reports.{heldText}
+use Rattle.command.specs.Reports.{held_text}
 use borrow.Author.Rules.{rules}
 use Rattle.command.proofs.reports.held.Statement.{statement}
 use Rattle.command.proofs.reports.held.Tie as tie
@@ -32,7 +32,7 @@ same_length : tie.Need-same-length
 same_length c = search rules
 
 returns : tie.Need-returns
-unfolding heldText
+unfolding held_text
 returns c =
     let at-put3 = c.before.before in
     let at-put-figure2 = at-put3.before.before.before.before.before in

@@ -1,9 +1,9 @@
 use native.Mathlib.Omega.{arith}
 use mathlib.Core.Path.{sym, ap}
-use Rattle.answers.specs.Answers.{writeAnswer}
+use Rattle.answers.specs.Answers.{write_answer}
 use Rattle.calltext.proofs.Writing.{wrote_as}
-use Rattle.messages.specs.Replies.{writeText, writtenLength}
-use Rattle.command.specs.Reports.{wroteReport}
+use Rattle.messages.specs.Replies.{write_text, written_length}
+use Rattle.command.specs.Reports.{wrote_report}
 use borrow.Author.Rules.{rules}
 use Rattle.command.proofs.reports.write_report.Statement.{statement}
 use Rattle.command.proofs.reports.write_report.Tie as tie
@@ -15,7 +15,7 @@ write-line-requires : tie.Need-write-line-requires
 write-line-requires c κs =
     let at-answer = c.before.before in
     let start = at-answer.before.before.before.before in
-    (omega (arith, start.requires.0, ap writtenLength at-answer.answer.given.1), (omega (arith, start.requires.1), omega (arith, start.requires.1)))
+    (omega (arith, start.requires.0, ap written_length at-answer.answer.given.1), (omega (arith, start.requires.1), omega (arith, start.requires.1)))
 
 enum-known-answer-2 : tie.Need-enum-known-answer-2
 enum-known-answer-2 c = search rules
@@ -27,23 +27,23 @@ same_length : tie.Need-same-length
 same_length c = search rules
 
 returns : tie.Need-returns
-unfolding writeText wroteReport
+unfolding write_text wrote_report
 returns c =
     let at-write-line = c.before.before in
     let at-answer = at-write-line.before.before.before in
     let start = at-answer.before.before.before.before in
-    wrote_as at-write-line.write-line.ensures (sym (ap (λ a. wroteReport (writeAnswer a) start.args.output.now) at-answer.answer.given.1))
+    wrote_as at-write-line.write-line.ensures (sym (ap (λ a. wrote_report (write_answer a) start.args.output.now) at-answer.answer.given.1))
 
 same-length-2 : tie.Need-same-length-2
 same-length-2 c = search rules
 
 returns-2 : tie.Need-returns-2
-unfolding wroteReport
+unfolding wrote_report
 returns-2 c =
     let at-refusal = c.before.before in
     let at-answer2 = at-refusal.before.before.before in
     let start = at-answer2.before.before.before.before in
-    wrote_as at-refusal.refusal.ensures (sym (ap (λ a. wroteReport (writeAnswer a) start.args.output.now) at-answer2.answer2.given.1))
+    wrote_as at-refusal.refusal.ensures (sym (ap (λ a. wrote_report (write_answer a) start.args.output.now) at-answer2.answer2.given.1))
 
 pub write-report-spec : {M : Type 1} → statement M
 write-report-spec =

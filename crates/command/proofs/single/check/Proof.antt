@@ -1,6 +1,6 @@
 use mathlib.Core.Path.{ap}
 use Rattle.calltext.proofs.Writing.{wrote_as}
-use Rattle.command.specs.Reports.{checkReport}
+use Rattle.command.specs.Reports.{check_report}
 use borrow.Author.Rules.{rules}
 use Rattle.command.proofs.single.check.Statement.{statement}
 use Rattle.command.proofs.single.check.Tie as tie
@@ -21,7 +21,7 @@ returns : tie.Need-returns
 returns c =
     let at-check-report = c.before.before in
     let at-check = at-check-report.before.before.before.before in
-    (wrote_as at-check-report.check-report.ensures (ap checkReport at-check.check.ensures.0), at-check.check.ensures.1)
+    (wrote_as at-check-report.check-report.ensures (ap check_report at-check.check.ensures.0), at-check.check.ensures.1)
 
 pub check-spec : {M : Type 1} → statement M
 check-spec =

@@ -1,7 +1,7 @@
 use native.Mathlib.Omega.{arith}
-use Rattle.rules.specs.Limits.{maxValueBytes}
+use Rattle.rules.specs.Limits.{max_value_bytes}
 use Rattle.calltext.proofs.Writing.{wrote_as}
-use Rattle.command.proofs.Reporting.{within, run-reported}
+use Rattle.command.proofs.Reporting.{within, run_reported}
 use borrow.Author.Rules.{rules}
 use Rattle.command.proofs.single.forward.Statement.{statement}
 use Rattle.command.proofs.single.forward.Tie as tie
@@ -16,7 +16,7 @@ slice-aggregate-run-report : tie.Need-slice-aggregate-run-report
 slice-aggregate-run-report c = search rules
 
 run-report-requires : tie.Need-run-report-requires
-unfolding maxValueBytes
+unfolding max_value_bytes
 run-report-requires c κs =
     let at_forward = c.before.before.before.before.before in
     let start = at_forward.before.before.before.before.before.before.before.before in (
@@ -32,11 +32,11 @@ same-length-2 : tie.Need-same-length-2
 same-length-2 c = search rules
 
 returns : tie.Need-returns
-unfolding maxValueBytes
+unfolding max_value_bytes
 returns c =
     let at-run-report = c.before.before in
     let at_forward = at-run-report.before.before.before.before.before.before in (
-      wrote_as at-run-report.run-report.ensures (run-reported at_forward.forward.result _ _ at_forward.forward.ensures.0
+      wrote_as at-run-report.run-report.ensures (run_reported at_forward.forward.result _ _ at_forward.forward.ensures.0
           at_forward.forward.ensures.1.0),
       at_forward.forward.ensures.1.1,
     )

@@ -1,7 +1,7 @@
 use mathlib.Core.Path.{refl}
-use Rattle.rules.specs.Limits.{maxValueBytes, maxConversions}
-use Rattle.journal.proofs.Stands.{surveyed-as}
-use Rattle.conversions.proofs.Converts.{convert-malformed, convert-many}
+use Rattle.rules.specs.Limits.{max_value_bytes, max_conversions}
+use Rattle.journal.proofs.Stands.{surveyed_as}
+use Rattle.conversions.proofs.Converts.{convert_malformed, convert_many}
 use borrow.Author.Rules.{rules}
 use Rattle.conversions.proofs.converting.convert.Statement.{statement}
 use Rattle.conversions.proofs.converting.convert.Tie as tie
@@ -19,30 +19,30 @@ same_length : tie.Need-same-length
 same_length c = search rules
 
 returns : tie.Need-returns
-returns c = convert-malformed _ _ _ _ _ c.before.before.survey.ensures c.enum_told.given.1
+returns c = convert_malformed _ _ _ _ _ c.before.before.survey.ensures c.enum_told.given.1
 
 same-length-2 : tie.Need-same-length-2
 same-length-2 c = search rules
 
 returns-2 : tie.Need-returns-2
-unfolding maxConversions
+unfolding max_conversions
 returns-2 c =
     let at-if1 = c in
     let at-survey2 = at-if1.before.before.before in
     let at-survey = at-survey2.before.before in
-    convert-many _ _ _ _ _ (surveyed-as at-survey.survey.ensures at-survey2.survey2.given.1) at-if1.if1.true
+    convert_many _ _ _ _ _ (surveyed_as at-survey.survey.ensures at-survey2.survey2.given.1) at-if1.if1.true
 
 slice-aggregate-convert-held : tie.Need-slice-aggregate-convert-held
 slice-aggregate-convert-held c = search rules
 
 convert-held-requires : tie.Need-convert-held-requires
-unfolding maxConversions maxValueBytes
+unfolding max_conversions max_value_bytes
 convert-held-requires c κs =
     let at-if1 = c.before.before.before in
     let at-survey2 = at-if1.before.before.before in
     let at-survey = at-survey2.before.before in
     let start = at-survey.before.before.before.before.before.before.before.before.before in
-    ((start.requires.0, start.requires.1), (surveyed-as at-survey.survey.ensures at-survey2.survey2.given.1, (at-if1.if1.false, refl)))
+    ((start.requires.0, start.requires.1), (surveyed_as at-survey.survey.ensures at-survey2.survey2.given.1, (at-if1.if1.false, refl)))
 
 same-length-3 : tie.Need-same-length-3
 same-length-3 c = search rules

@@ -1,4 +1,4 @@
-use Rattle.conversions.proofs.Converts.{convert-keeps, convert-ran, convert-refused}
+use Rattle.conversions.proofs.Converts.{convert_keeps, convert_ran, convert_refused}
 use borrow.Author.Rules.{rules}
 use Rattle.conversions.proofs.converting.convert_held.Statement.{statement}
 use Rattle.conversions.proofs.converting.convert_held.Tie as tie
@@ -19,7 +19,7 @@ keep-front-requires c κs =
     let at-held-value = at-run.before.before.before in
     let start = at-held-value.before.before.before.before.before.before.before.before.before.before in (
       start.requires.1.0,
-      convert-keeps _ _ _ _ _ start.requires.1.0 start.requires.1.1.0 at-held-value.held-value.ensures _ _
+      convert_keeps _ _ _ _ _ start.requires.1.0 start.requires.1.1.0 at-held-value.held-value.ensures _ _
           start.requires.1.1.1 at-run.run.ensures at-ran.ran.given.1,
     )
 
@@ -42,7 +42,7 @@ returns c =
     let at-run = at-ran.before.before.before.before.before.before in
     let at-held-value = at-run.before.before.before in
     let start = at-held-value.before.before.before.before.before.before.before.before.before.before in
-    convert-ran _ _ _ _ _ start.requires.1.0 start.requires.1.1.0 at-held-value.held-value.ensures _ _ start.requires.1.1.1
+    convert_ran _ _ _ _ _ start.requires.1.0 start.requires.1.1.0 at-held-value.held-value.ensures _ _ start.requires.1.1.1
     at-run.run.ensures at-ran.ran.given.1 at-keep-front.keep-front.ensures
 
 same-length-4 : tie.Need-same-length-4
@@ -60,7 +60,7 @@ returns-2 c =
     let at-run = at-ran2.before.before.before.before.before.before in
     let at-held-value = at-run.before.before.before in
     let start = at-held-value.before.before.before.before.before.before.before.before.before.before in
-    convert-refused _ _ _ _ _ start.requires.1.0 start.requires.1.1.0 at-held-value.held-value.ensures _ _ start.requires.1.1.1
+    convert_refused _ _ _ _ _ start.requires.1.0 start.requires.1.1.0 at-held-value.held-value.ensures _ _ start.requires.1.1.1
     at-run.run.ensures at-ran2.ran2.given.1
 
 pub convert-held-spec : {M : Type 1} → statement M

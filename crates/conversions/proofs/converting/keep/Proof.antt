@@ -1,4 +1,4 @@
-use Rattle.conversions.proofs.Converts.{convert-room, convert-kept, convert-unfit}
+use Rattle.conversions.proofs.Converts.{convert_room, convert_kept, convert_unfit}
 use borrow.Author.Rules.{rules}
 use Rattle.conversions.proofs.converting.keep.Statement.{statement}
 use Rattle.conversions.proofs.converting.keep.Tie as tie
@@ -18,7 +18,7 @@ write-convert-requires c κs =
       start.requires.0,
       (
         start.requires.1.0,
-        convert-room start.args.journal.now start.args.held.now start.args.ancillae.now
+        convert_room start.args.journal.now start.args.held.now start.args.ancillae.now
             at-fits-convert.fits-convert.ensures at-if1.if1.true start.args.function at-wide32.wide32.result,
       ),
     )
@@ -33,7 +33,7 @@ returns c =
     let at-if1 = at-wide32.before in
     let at-fits-convert = at-if1.before in
     let start = at-fits-convert.before.before.before.before.before in
-    convert-kept start.args.journal.now start.args.held.now start.args.ancillae.now at-fits-convert.fits-convert.ensures
+    convert_kept start.args.journal.now start.args.held.now start.args.ancillae.now at-fits-convert.fits-convert.ensures
     at-if1.if1.true start.requires.1.0.0 start.args.done start.requires.1.1 start.args.function at-wide32.wide32.ensures.0
     at-write-convert.write-convert.ensures
 
@@ -44,7 +44,7 @@ returns-2 : tie.Need-returns-2
 returns-2 c =
     let at-fits-convert = c.before in
     let start = at-fits-convert.before.before.before.before.before in
-    convert-unfit start.args.journal.now start.args.held.now start.args.ancillae.now at-fits-convert.fits-convert.ensures
+    convert_unfit start.args.journal.now start.args.held.now start.args.ancillae.now at-fits-convert.fits-convert.ensures
     c.if1.false start.args.done.steps start.args.function
 
 pub keep_spec : {M : Type 1} → statement M

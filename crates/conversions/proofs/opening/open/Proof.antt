@@ -1,5 +1,5 @@
 use mathlib.Core.Path.{sym, ◌∙◌}
-use Rattle.conversions.proofs.Opens.{no_record, open-fits, open_full, open_done}
+use Rattle.conversions.proofs.Opens.{no_record, open_fits, open_full, open_done}
 use borrow.Author.Rules.{rules}
 use Rattle.conversions.proofs.opening.open.Statement.{statement}
 use Rattle.conversions.proofs.opening.open.Tie as tie
@@ -18,7 +18,7 @@ write-open-requires c κs =
     let at-one-value = at-if1.before in
     let start = at-one-value.before.before.before in (
       sym at-one-value.one_value.ensures ∙ at-if1.if1.true,
-      open-fits start.args.held.now start.args.journal.now
+      open_fits start.args.held.now start.args.journal.now
           at-one-value.one_value.ensures at-if1.if1.true at-fits-open.fits-open.ensures at-if2.if2.true,
     )
 

@@ -1,6 +1,6 @@
 use mathlib.Core.Path.{refl}
 use native.Mathlib.Omega.{arith}
-use Rattle.rules.specs.Limits.{maxParameters}
+use Rattle.rules.specs.Limits.{max_parameters}
 use Rattle.requests.proofs.Beginning.{enough-types}
 use Rattle.requests.proofs.Rows.{fronts, kept-enough}
 use Rattle.conversions.specs.Turns.{convert_of}
@@ -19,10 +19,10 @@ slice-aggregate-load-3 : tie.Need-slice-aggregate-load-3
 slice-aggregate-load-3 c = search rules
 
 load-requires : tie.Need-load-requires
-unfolding maxParameters
+unfolding max_parameters
 load-requires c κs =
     let start = c.before.before.before.before.before.before.before.before.before in
-    (record { forTypes = omega arith; forTerms = omega arith; forFunctions = omega arith }, (enough-types _ _ start.requires, refl))
+    (record { for_types = omega arith; for_terms = omega arith; for_functions = omega arith }, (enough-types _ _ start.requires, refl))
 
 enum-known-loaded : tie.Need-enum-known-loaded
 enum-known-loaded c = search rules

@@ -1,4 +1,4 @@
-use Rattle.conversions.proofs.Loads.{open-ready, open-refused}
+use Rattle.conversions.proofs.Loads.{open_ready, open_refused}
 use borrow.Author.Rules.{rules}
 use Rattle.conversions.proofs.programs.open.Statement.{statement}
 use Rattle.conversions.proofs.programs.open.Tie as tie
@@ -26,13 +26,13 @@ returns c =
     let at_before = c.before in
     let at-enum-told = at_before.before.before.before in
     let at-check-program = at-enum-told.before.before.before.before in
-    open-ready at-check-program.check-program.ensures _ at-enum-told.enum_told.given.1 at_before.before.«open».ensures
+    open_ready at-check-program.check-program.ensures _ at-enum-told.enum_told.given.1 at_before.before.«open».ensures
 
 same-length-3 : tie.Need-same-length-3
 same-length-3 c = search rules
 
 returns-2 : tie.Need-returns-2
-returns-2 c = open-refused c.before.before.before.before.before.check-program.ensures _ c.before.checked.given.1
+returns-2 c = open_refused c.before.before.before.before.before.check-program.ensures _ c.before.checked.given.1
 
 pub open_spec : {M : Type 1} → statement M
 open_spec =

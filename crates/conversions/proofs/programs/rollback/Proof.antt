@@ -1,9 +1,9 @@
 use mathlib.Core.Path.{refl}
 use native.Mathlib.Omega.{arith}
-use Rattle.rules.specs.Limits.{maxParameters}
+use Rattle.rules.specs.Limits.{max_parameters}
 use Rattle.requests.proofs.Beginning.{enough-types}
 use Rattle.requests.proofs.Rows.{fronts, kept-enough}
-use Rattle.conversions.specs.Turns.{rollbackOf}
+use Rattle.conversions.specs.Turns.{rollback_of}
 use Rattle.conversions.proofs.Loads.{turn-ready, turn-refused}
 use borrow.Author.Rules.{rules}
 use Rattle.conversions.proofs.programs.rollback.Statement.{statement}
@@ -19,10 +19,10 @@ slice-aggregate-load-3 : tie.Need-slice-aggregate-load-3
 slice-aggregate-load-3 c = search rules
 
 load-requires : tie.Need-load-requires
-unfolding maxParameters
+unfolding max_parameters
 load-requires c κs =
     let start = c.before.before.before.before.before.before.before.before in
-    (record { forTypes = omega arith; forTerms = omega arith; forFunctions = omega arith }, (enough-types _ _ start.requires, refl))
+    (record { for_types = omega arith; for_terms = omega arith; for_functions = omega arith }, (enough-types _ _ start.requires, refl))
 
 enum-known-loaded : tie.Need-enum-known-loaded
 enum-known-loaded c = search rules
@@ -59,7 +59,7 @@ returns c =
     let at_load = at-loaded.before.before.before.before.before.before.before in
     let start = at_load.before.before.before.before.before.before.before.before.before in
     let args = start.args in
-    turn-ready at_load.load.ensures (λ P. rollbackOf P args.fuel args.journal.now) at-loaded.loaded.given.1
+    turn-ready at_load.load.ensures (λ P. rollback_of P args.fuel args.journal.now) at-loaded.loaded.given.1
     at-rollback-fronts.rollback-fronts.ensures
 
 same-length-3 : tie.Need-same-length-3
@@ -71,7 +71,7 @@ returns-2 c =
     let at_load = at-loaded2.before.before.before.before.before.before.before in
     let start = at_load.before.before.before.before.before.before.before.before.before in
     let args = start.args in
-    turn-refused at_load.load.ensures (λ P. rollbackOf P args.fuel args.journal.now) at-loaded2.loaded2.given.1
+    turn-refused at_load.load.ensures (λ P. rollback_of P args.fuel args.journal.now) at-loaded2.loaded2.given.1
 
 pub rollback-spec : {M : Type 1} → statement M
 rollback-spec =

@@ -1,6 +1,6 @@
 use native.Mathlib.Omega.{arith}
-use Rattle.rules.specs.Limits.{maxValueBytes}
-use Rattle.conversions.proofs.Rollbacks.{unread, stands, none-stands, some-count}
+use Rattle.rules.specs.Limits.{max_value_bytes}
+use Rattle.conversions.proofs.Rollbacks.{unread, stands, none_stands, some_count}
 use borrow.Author.Rules.{rules}
 use Rattle.conversions.proofs.returning.rollback.Statement.{statement}
 use Rattle.conversions.proofs.returning.rollback.Tie as tie
@@ -33,13 +33,13 @@ returns-2 c =
     let at-survey2 = at-if1.before.before in
     let at-survey = at-survey2.before.before in
     let start = at-survey.before.before.before.before.before.before.before.before in
-    none-stands start.args.journal.now at-survey.survey.ensures _ _ at-survey2.survey2.given.1 at-if1.if1.true
+    none_stands start.args.journal.now at-survey.survey.ensures _ _ at-survey2.survey2.given.1 at-if1.if1.true
 
 slice-aggregate-roll-newest : tie.Need-slice-aggregate-roll-newest
 slice-aggregate-roll-newest c = search rules
 
 roll-newest-requires : tie.Need-roll-newest-requires
-unfolding maxValueBytes
+unfolding max_value_bytes
 roll-newest-requires c κs =
     let at-if1 = c.before.before.before in
     let at-survey2 = at-if1.before.before in
@@ -50,7 +50,7 @@ roll-newest-requires c κs =
         start.requires.1,
         (
           stands start.args.journal.now at-survey.survey.ensures at-survey2.survey2.given.1,
-          some-count
+          some_count
               at-if1.if1.false,
           omega arith,
         ),

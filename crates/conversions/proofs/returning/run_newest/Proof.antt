@@ -1,4 +1,4 @@
-use Rattle.conversions.proofs.Rollbacks.{taken_back}
+use Rattle.conversions.proofs.Rollbacks.{taken_back_lem}
 use borrow.Author.Rules.{rules}
 use Rattle.conversions.proofs.returning.run_newest.Statement.{statement}
 use Rattle.conversions.proofs.returning.run_newest.Tie as tie
@@ -28,7 +28,7 @@ returns c =
     let at-newest-ancillae = at-held-value.before in
     let at-newest-function = at-newest-ancillae.before in
     let start = at-newest-function.before.before.before.before.before.before.before.before in
-    taken_back start.args.pl start.args.journal.now start.requires.1.1.0 start.requires.1.1.1 _ _
+    taken_back_lem start.args.pl start.args.journal.now start.requires.1.1.0 start.requires.1.1.1 _ _
     at-newest-function.newest-function.ensures at-newest-ancillae.newest-ancillae.ensures at-held-value.held-value.ensures
     start.requires.1.1.2 at-run.run.ensures
 

@@ -1,6 +1,6 @@
 use native.Mathlib.Omega.{arith}
 use mathlib.Core.Path.{ap}
-use Rattle.corefun.specs.Bounds.{heldIn}
+use Rattle.corefun.specs.Bounds.{held_in}
 use borrow.Author.Rules.{rules}
 use Rattle.corefun.proofs.files.load_named.Statement.{statement}
 use Rattle.corefun.proofs.files.load_named.Tie as tie
@@ -36,7 +36,7 @@ same_length : tie.Need-same-length
 same_length c = search rules
 
 returns-2 : tie.Need-returns-2
-returns-2 c = omega (arith, c.before.before.before.before.before.before.read_whole.ensures, ap heldIn c.before.before.held.given.1)
+returns-2 c = omega (arith, c.before.before.before.before.before.before.read_whole.ensures, ap held_in c.before.before.held.given.1)
 
 same-length-2 : tie.Need-same-length-2
 same-length-2 c = search rules

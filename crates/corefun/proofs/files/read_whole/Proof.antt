@@ -3,7 +3,7 @@ use native.Mathlib.Omega.{arith}
 use mathlib.Core.Path.{◌≡◌, refl, ap, ◌∙◌}
 use lib.ListN.{length}
 use borrow.Author.Rules.{rules}
-use Rattle.corefun.specs.Bounds.{heldIn}
+use Rattle.corefun.specs.Bounds.{held_in}
 use Rattle.corefun.proofs.files.read_whole.Statement.{statement}
 use Rattle.corefun.proofs.files.read_whole.Tie as tie
 
@@ -44,7 +44,7 @@ loop-less c =
       at-read-behind.read_behind.auto.1.0,
       c.if1.false,
       at-read-behind.read_behind.ensures,
-      ap heldIn at_next.next.given.1,
+      ap held_in at_next.next.given.1,
       at-loop-test.loop-test.true,
     )
 
@@ -53,7 +53,7 @@ loop-again c =
     let at_next = c.before.before in
     let at-read-behind = at_next.before.before.before.before in
     let at-loop = at-read-behind.before.before.before in (
-      omega (arith, at-read-behind.read_behind.ensures, ap heldIn at_next.next.given.1),
+      omega (arith, at-read-behind.read_behind.ensures, ap held_in at_next.next.given.1),
       at-read-behind.read_behind.auto.1.0
           ∙ at-loop.loop.invariant.1,
     )

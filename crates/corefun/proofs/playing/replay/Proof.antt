@@ -1,5 +1,5 @@
 use mathlib.Core.Path.{ap}
-use Rattle.corefun.specs.Bounds.{heldIn}
+use Rattle.corefun.specs.Bounds.{held_in}
 use Rattle.corefun.proofs.Parts.{counted, counted-within}
 use borrow.Author.Rules.{rules}
 use Rattle.corefun.proofs.playing.replay.Statement.{statement}
@@ -24,13 +24,13 @@ returns : tie.Need-returns
 returns c = search rules
 
 slice-reshare-prefix-replay-loaded : tie.Need-slice-reshare-prefix-replay-loaded
-slice-reshare-prefix-replay-loaded c = counted-within (ap heldIn c.before.p.given.1) c.before.before.before.before.before.before.before.load.ensures
+slice-reshare-prefix-replay-loaded c = counted-within (ap held_in c.before.p.given.1) c.before.before.before.before.before.before.before.load.ensures
 
 slice-aggregate-replay-loaded : tie.Need-slice-aggregate-replay-loaded
 slice-aggregate-replay-loaded c =
     let at_p = c.before.before in
     let at_load = at_p.before.before.before.before.before.before in
-    counted _ (ap heldIn at_p.p.given.1) at_load.load.ensures
+    counted _ (ap held_in at_p.p.given.1) at_load.load.ensures
 
 replay-loaded-requires : tie.Need-replay-loaded-requires
 replay-loaded-requires c κs = search rules

@@ -1,5 +1,5 @@
 use mathlib.Core.Path.{ap}
-use Rattle.corefun.specs.Bounds.{heldIn}
+use Rattle.corefun.specs.Bounds.{held_in}
 use Rattle.corefun.proofs.Parts.{counted, counted-within}
 use borrow.Author.Rules.{rules}
 use Rattle.corefun.proofs.playing.replay_loaded.Statement.{statement}
@@ -30,13 +30,13 @@ slice-reshare-prefix-replay-given : tie.Need-slice-reshare-prefix-replay-given
 slice-reshare-prefix-replay-given c =
     let at-s = c.before in
     let at-load-all = at-s.before.before.before.before.before.before in
-    counted-within (ap heldIn at-s.s.given.1) at-load-all.load-all.ensures
+    counted-within (ap held_in at-s.s.given.1) at-load-all.load-all.ensures
 
 slice-aggregate-replay-given : tie.Need-slice-aggregate-replay-given
 slice-aggregate-replay-given c =
     let at-s = c.before.before in
     let at-load-all = at-s.before.before.before.before.before.before in
-    counted _ (ap heldIn at-s.s.given.1) at-load-all.load-all.ensures
+    counted _ (ap held_in at-s.s.given.1) at-load-all.load-all.ensures
 
 replay-given-requires : tie.Need-replay-given-requires
 replay-given-requires c κs = search rules

@@ -1,5 +1,5 @@
 use mathlib.Core.Path.{ap}
-use Rattle.corefun.specs.Bounds.{heldIn}
+use Rattle.corefun.specs.Bounds.{held_in}
 use Rattle.corefun.proofs.Parts.{counted, counted-within}
 use borrow.Author.Rules.{rules}
 use Rattle.corefun.proofs.reading.read.Statement.{statement}
@@ -30,13 +30,13 @@ slice-reshare-prefix-report-reading : tie.Need-slice-reshare-prefix-report-readi
 slice-reshare-prefix-report-reading c =
     let at_n = c.before in
     let at-load-all = at_n.before.before.before.before.before.before in
-    counted-within (ap heldIn at_n.n.given.1) at-load-all.load-all.ensures
+    counted-within (ap held_in at_n.n.given.1) at-load-all.load-all.ensures
 
 slice-aggregate-report-reading : tie.Need-slice-aggregate-report-reading
 slice-aggregate-report-reading c =
     let at_n = c.before.before in
     let at-load-all = at_n.before.before.before.before.before.before in
-    counted _ (ap heldIn at_n.n.given.1) at-load-all.load-all.ensures
+    counted _ (ap held_in at_n.n.given.1) at-load-all.load-all.ensures
 
 report-reading-requires : tie.Need-report-reading-requires
 report-reading-requires c κs = search rules

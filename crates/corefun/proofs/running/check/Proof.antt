@@ -1,5 +1,5 @@
 use mathlib.Core.Path.{ap}
-use Rattle.corefun.specs.Bounds.{heldIn}
+use Rattle.corefun.specs.Bounds.{held_in}
 use Rattle.corefun.proofs.Parts.{counted, counted-within}
 use borrow.Author.Rules.{rules}
 use Rattle.corefun.proofs.running.check.Statement.{statement}
@@ -24,13 +24,13 @@ returns : tie.Need-returns
 returns c = search rules
 
 slice-reshare-prefix-report-check : tie.Need-slice-reshare-prefix-report-check
-slice-reshare-prefix-report-check c = counted-within (ap heldIn c.before.p.given.1) c.before.before.before.before.before.before.before.load.ensures
+slice-reshare-prefix-report-check c = counted-within (ap held_in c.before.p.given.1) c.before.before.before.before.before.before.before.load.ensures
 
 slice-aggregate-report-check : tie.Need-slice-aggregate-report-check
 slice-aggregate-report-check c =
     let at_p = c.before.before in
     let at_load = at_p.before.before.before.before.before.before in
-    counted _ (ap heldIn at_p.p.given.1) at_load.load.ensures
+    counted _ (ap held_in at_p.p.given.1) at_load.load.ensures
 
 report-check-requires : tie.Need-report-check-requires
 report-check-requires c κs = search rules

@@ -1,4 +1,4 @@
-use Rattle.rules.specs.Limits.{maxValueBytes}
+use Rattle.rules.specs.Limits.{max_value_bytes}
 use Rattle.command.proofs.Behind.{wrote-within}
 use borrow.Author.Rules.{rules}
 use Rattle.corefun.proofs.running.report_run.Statement.{statement}
@@ -8,7 +8,7 @@ slice-aggregate-backward : tie.Need-slice-aggregate-backward
 slice-aggregate-backward c = search rules
 
 backward-requires : tie.Need-backward-requires
-unfolding maxValueBytes
+unfolding max_value_bytes
 backward-requires c κs = search rules
 
 slice-aggregate-print : tie.Need-slice-aggregate-print
@@ -27,7 +27,7 @@ slice-aggregate-forward : tie.Need-slice-aggregate-forward
 slice-aggregate-forward c = search rules
 
 forward-requires : tie.Need-forward-requires
-unfolding maxValueBytes
+unfolding max_value_bytes
 forward-requires c κs = search rules
 
 slice-aggregate-print-2 : tie.Need-slice-aggregate-print-2

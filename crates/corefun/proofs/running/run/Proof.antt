@@ -1,5 +1,5 @@
 use mathlib.Core.Path.{ap}
-use Rattle.corefun.specs.Bounds.{heldIn}
+use Rattle.corefun.specs.Bounds.{held_in}
 use Rattle.corefun.proofs.Parts.{counted, counted-within}
 use borrow.Author.Rules.{rules}
 use Rattle.corefun.proofs.running.run.Statement.{statement}
@@ -24,13 +24,13 @@ returns : tie.Need-returns
 returns c = search rules
 
 slice-reshare-prefix-run-loaded : tie.Need-slice-reshare-prefix-run-loaded
-slice-reshare-prefix-run-loaded c = counted-within (ap heldIn c.before.p.given.1) c.before.before.before.before.before.before.before.load.ensures
+slice-reshare-prefix-run-loaded c = counted-within (ap held_in c.before.p.given.1) c.before.before.before.before.before.before.before.load.ensures
 
 slice-aggregate-run-loaded : tie.Need-slice-aggregate-run-loaded
 slice-aggregate-run-loaded c =
     let at_p = c.before.before in
     let at_load = at_p.before.before.before.before.before.before in
-    counted _ (ap heldIn at_p.p.given.1) at_load.load.ensures
+    counted _ (ap held_in at_p.p.given.1) at_load.load.ensures
 
 run-loaded-requires : tie.Need-run-loaded-requires
 run-loaded-requires c κs = search rules

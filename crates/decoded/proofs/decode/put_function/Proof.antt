@@ -1,7 +1,7 @@
 use native.Mathlib.Omega.{arith}
 use mathlib.Core.Path.{sym, ◌∙◌}
 use borrow.Author.Rules.{rules}
-use Rattle.rules.specs.Limits.{maxParameters}
+use Rattle.rules.specs.Limits.{max_parameters}
 use Rattle.program.proofs.Rooms.{function-room}
 use Rattle.decoded.proofs.Decoding as law
 use Rattle.decoded.proofs.decode.put_function.Statement.{statement}
@@ -29,14 +29,14 @@ add-put-listed : tie.Need-overflow-add-put-listed
 add-put-listed c = let h = function-room c.before.before.before.before.before.before.before.requires.1.1 in search rules
 
 put-listed-requires : tie.Need-put-listed-requires
-unfolding maxParameters
+unfolding max_parameters
 put-listed-requires c κs = let start = c.before.before.before.before.before.before.before in
     let e = c.before.before.before.before.before.function-parameters.ensures.0 in
     let h = function-room start.requires.1.1 in
     (c.before.put-heads.ensures.lengths ∙ start.requires.0, (omega arith, omega (arith, start.requires.1.1.few), omega arith))
 
 returns : tie.Need-returns
-unfolding maxParameters
+unfolding max_parameters
 returns c =
     let at-put-heads = c.before.before in
     let at-function-result = at-put-heads.before.before in

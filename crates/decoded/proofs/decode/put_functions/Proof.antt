@@ -4,7 +4,7 @@ use mathlib.Core.Path.{◌≡◌, refl, sym, subst, ◌∙◌}
 use lib.ListN.{length, get_or}
 use borrow.Author.Rules.{rules}
 use Rattle.decoded.specs.Decoding.{FunctionRows}
-use Rattle.decoded.proofs.Decoding.{no-functions, functions_more, functions-whole, function-asked}
+use Rattle.decoded.proofs.Decoding.{no-functions, functions_more, functions_whole, function-asked}
 use Rattle.decoded.proofs.decode.put_functions.Statement.{statement}
 use Rattle.decoded.proofs.decode.put_functions.Tie as tie
 
@@ -43,7 +43,7 @@ loop-again : tie.Need-loop-preserved invariant-loop decreases-loop
 loop-again c = (omega arith, functions_more c.before.before.before.before.before.loop.invariant.1 c.before.wide-index.ensures.0 c.put_function.ensures)
 
 returns : tie.Need-returns invariant-loop decreases-loop
-returns c = functions-whole c.before.loop.invariant.1 (omega arith)
+returns c = functions_whole c.before.loop.invariant.1 (omega arith)
 
 pub put-functions-spec : {M : Type 1} → statement M
 put-functions-spec =

@@ -4,7 +4,7 @@ use mathlib.Core.Path.{◌≡◌, refl, sym}
 use lib.ListN.{length, length-set}
 use borrow.Author.Rules.{rules}
 use Rattle.decoded.specs.Decoding.{Listed}
-use Rattle.decoded.proofs.Puts.{none-listed, listed-whole, listed_more}
+use Rattle.decoded.proofs.Puts.{none_listed, listed_whole, listed_more}
 use Rattle.decoded.proofs.decode.put_listed.Statement.{statement}
 use Rattle.decoded.proofs.decode.put_listed.Tie as tie
 
@@ -15,7 +15,7 @@ abbrev decreases-loop : tie.decreases-loop
 decreases-loop code₀ row p from n k₀ code k = n - k
 
 loop-holds : tie.Need-loop-init invariant-loop decreases-loop
-loop-holds c = (omega arith, refl, none-listed _ _ _ _)
+loop-holds c = (omega arith, refl, none_listed _ _ _ _)
 
 mul-read16 : tie.Need-overflow-mul-read16 invariant-loop decreases-loop
 mul-read16 c = search rules
@@ -51,7 +51,7 @@ loop-again : tie.Need-loop-preserved invariant-loop decreases-loop
 loop-again c = (omega arith, simp length-set (omega arith), listed_more c.before.before.loop.invariant.2 refl (omega arith) c.read16.ensures refl)
 
 returns : tie.Need-returns invariant-loop decreases-loop
-returns c = listed-whole c.before.loop.invariant.2 (omega arith)
+returns c = listed_whole c.before.loop.invariant.2 (omega arith)
 
 pub put-listed-spec : {M : Type 1} → statement M
 put-listed-spec =

@@ -1,7 +1,7 @@
 use native.Mathlib.Omega.{arith}
 use mathlib.Core.Path.{sym, subst, ◌∙◌}
 use borrow.Author.Rules.{rules}
-use Rattle.program.proofs.Rooms.{term-kind, term-kind-room, var-room, case-room}
+use Rattle.program.proofs.Rooms.{term-kind, term-kind-room, var-room, case_room}
 use Rattle.decoded.proofs.Trees.{Two}
 use Rattle.decoded.proofs.Decoding as law
 use Rattle.decoded.proofs.decode.put_term.Statement.{statement}
@@ -31,21 +31,21 @@ first-requires c κs =
     let at-match = c.before in
     let at-kind = at-match.before in
     let start = at-kind.before.before in
-    omega (arith, case-room start.requires.1.1.field (sym at-kind.kind.ensures ∙ at-match.match.keys3))
+    omega (arith, case_room start.requires.1.1.field (sym at-kind.kind.ensures ∙ at-match.match.keys3))
 
 second-requires : tie.Need-second-requires
 second-requires c κs =
     let at-match = c.before.before in
     let at-kind = at-match.before in
     let start = at-kind.before.before in
-    omega (arith, case-room start.requires.1.1.field (sym at-kind.kind.ensures ∙ at-match.match.keys3))
+    omega (arith, case_room start.requires.1.1.field (sym at-kind.kind.ensures ∙ at-match.match.keys3))
 
 third-requires : tie.Need-third-requires
 third-requires c κs =
     let at-match = c.before.before.before in
     let at-kind = at-match.before in
     let start = at-kind.before.before in
-    case-room start.requires.1.1.field (sym at-kind.kind.ensures ∙ at-match.match.keys3)
+    case_room start.requires.1.1.field (sym at-kind.kind.ensures ∙ at-match.match.keys3)
 
 put-heads-requires-3 : tie.Need-put-heads-requires-3
 put-heads-requires-3 c κs = search rules
@@ -103,7 +103,7 @@ returns-3 c =
     let at_first = at_second.before in
     let at-match = at_first.before.before in
     let at-kind = at-match.before in
-    law.put-case at-put-heads3.put-heads3.ensures (sym at-kind.kind.ensures ∙ at-match.match.keys3) at_first.first.ensures
+    law.put_case at-put-heads3.put-heads3.ensures (sym at-kind.kind.ensures ∙ at-match.match.keys3) at_first.first.ensures
     at_second.second.ensures at-third.third.ensures
 
 returns-4 : tie.Need-returns-4

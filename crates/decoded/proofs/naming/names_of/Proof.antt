@@ -46,7 +46,7 @@ union-of-requires c κs =
     let same = c.before.before.wide-index.ensures.0 in (
       omega arith,
       sets.parts_below
-          (sets.parts-case start.args.code.now start.args.t (omega arith) (sym c.before.kind-of.ensures ∙ c.match.keys3))
+          (sets.parts_case start.args.code.now start.args.t (omega arith) (sym c.before.kind-of.ensures ∙ c.match.keys3))
           start.requires.1 start.requires.0,
     )
 
@@ -111,7 +111,7 @@ returns c =
     let at-match = c.before.before in
     let at-kind-of = at-match.before in
     let start = at-kind-of.before.before in
-    sets.named-variable start.args.code.now start.args.t start.args.sets.now (sym at-kind-of.kind-of.ensures ∙ at-match.match.keys1)
+    sets.named_variable start.args.code.now start.args.t start.args.sets.now (sym at-kind-of.kind-of.ensures ∙ at-match.match.keys1)
     c.before.first_of.ensures c.only.ensures
 
 returns-2 : tie.Need-returns-2
@@ -119,7 +119,7 @@ returns-2 c =
     let at-match = c.before in
     let at-kind-of = at-match.before in
     let start = at-kind-of.before.before in
-    sets.named-unit start.args.code.now start.args.t start.args.sets.now (sym at-kind-of.kind-of.ensures ∙ at-match.match.keys2)
+    sets.named_unit start.args.code.now start.args.t start.args.sets.now (sym at-kind-of.kind-of.ensures ∙ at-match.match.keys2)
     c.none.ensures
 
 returns-3 : tie.Need-returns-3
@@ -128,8 +128,8 @@ returns-3 c =
     let at-kind-of = at-match.before in
     let start = at-kind-of.before.before in
     let same = at-kind-of.before.wide-index.ensures.0 in
-    sets.parts-named
-    (sets.parts-case start.args.code.now start.args.t (omega arith) (sym at-kind-of.kind-of.ensures ∙ at-match.match.keys3))
+    sets.parts_named
+    (sets.parts_case start.args.code.now start.args.t (omega arith) (sym at-kind-of.kind-of.ensures ∙ at-match.match.keys3))
     start.args.sets.now c.union-of.ensures
 
 returns-4 : tie.Need-returns-4
@@ -140,7 +140,7 @@ returns-4 c =
     let start = at-kind-of.before.before in
     let same = at-kind-of.before.wide-index.ensures.0 in
     let count = at-wide-index2.wide-index2.ensures.0 ∙ at-wide-index2.before.third_of.ensures in
-    sets.parts-named
+    sets.parts_named
     (sets.parts-call start.args.code.now start.args.t (omega arith) (omega arith) start.requires.1
     (sym at-kind-of.kind-of.ensures ∙ at-match.match.keys4))
     start.args.sets.now c.union-of2.ensures
@@ -151,7 +151,7 @@ returns-5 c =
     let at-kind-of = at-if2.before.before.before in
     let start = at-kind-of.before.before in
     let same = at-kind-of.before.wide-index.ensures.0 in
-    sets.parts-named
+    sets.parts_named
     (sets.parts-two start.args.code.now start.args.t (omega arith) at-kind-of.kind-of.ensures at-if2.before.if1.false at-if2.if2.true)
     start.args.sets.now c.union-of3.ensures
 
@@ -162,7 +162,7 @@ returns-6 c =
     let at-kind-of = at-match.before in
     let start = at-kind-of.before.before in
     let same = at-kind-of.before.wide-index.ensures.0 in
-    sets.parts-named
+    sets.parts_named
     (sets.parts-one start.args.code.now start.args.t (omega arith) start.requires.1 at-kind-of.kind-of.ensures at-match.match.rest
     (λ l h. ⊎_elim (λ x. let z = x.taken in omega arith) (λ (a, x). let z = x.left in omega arith) at-if1.if1.branch))
     start.args.sets.now c.union-of4.ensures

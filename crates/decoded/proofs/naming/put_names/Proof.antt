@@ -3,7 +3,7 @@ use native.Mathlib.Omega.{arith}
 use mathlib.Core.Path.{refl, subst, ◌∙◌}
 use borrow.Author.Rules.{rules}
 use Rattle.decoded.specs.Naming.{RowsNamed}
-use Rattle.decoded.proofs.Sets.{SetsOf, no-sets, none_named, asked-now, sets_more, named_more}
+use Rattle.decoded.proofs.Sets.{SetsOf, no_sets, none_named, asked-now, sets_more, named_more}
 use Rattle.decoded.proofs.naming.put_names.Statement.{statement}
 use Rattle.decoded.proofs.naming.put_names.Tie as tie
 
@@ -14,7 +14,7 @@ abbrev decreases-loop : tie.decreases-loop
 decreases-loop code₀ n sets₀ t₀ code sets t = n - t
 
 loop-holds : tie.Need-loop-init invariant-loop decreases-loop
-loop-holds c = (omega arith, none_named _ _, no-sets _ _ _ refl)
+loop-holds c = (omega arith, none_named _ _, no_sets _ _ _ refl)
 
 names-of-requires : tie.Need-names-of-requires invariant-loop decreases-loop
 names-of-requires c κs =

@@ -1,7 +1,7 @@
 use native.Mathlib.Omega.{arith}
 use mathlib.Core.Path.{sym, ap, ◌∙◌}
 use borrow.Author.Rules.{rules}
-use Rattle.decoded.specs.Naming.{setIn}
+use Rattle.decoded.specs.Naming.{set_in}
 use Rattle.decoded.proofs.Sets.{scrutinee-number, part-there, no-scrutinee, scrutinee-put}
 use Rattle.decoded.proofs.naming.put_scrutinee.Statement.{statement}
 use Rattle.decoded.proofs.naming.put_scrutinee.Tie as tie
@@ -72,7 +72,7 @@ returns-2 c =
     let few = start.requires.1.0 in
     let same = at-wide-index.wide-index.ensures.0 in
     scrutinee-put (omega arith) (omega arith) (sym at-kind-of.kind-of.ensures ∙ at-if1.if1.false)
-    (at-set-of.set-of.ensures ∙ ap (setIn _) (scrutinee-number _ _ (omega arith))) at-low-half.low_half_lem.ensures c.high_half_lem.ensures
+    (at-set-of.set-of.ensures ∙ ap (set_in _) (scrutinee-number _ _ (omega arith))) at-low-half.low_half_lem.ensures c.high_half_lem.ensures
 
 pub put-scrutinee-spec : {M : Type 1} → statement M
 put-scrutinee-spec =

@@ -2,7 +2,7 @@ use Prim.Native.Nat.{◌-◌, ◌≤◌}
 use native.Mathlib.Omega.{arith}
 use mathlib.Core.Path.{subst}
 use borrow.Author.Rules.{rules}
-use Rattle.decoded.proofs.Sets.{United, united-none, united-more, number-below}
+use Rattle.decoded.proofs.Sets.{United, united_none, united-more, number-below}
 use Rattle.decoded.proofs.naming.union_of.Statement.{statement}
 use Rattle.decoded.proofs.naming.union_of.Tie as tie
 
@@ -16,7 +16,7 @@ none-requires : tie.Need-none-requires invariant-loop decreases-loop
 none-requires c κs = search rules
 
 loop-holds : tie.Need-loop-init invariant-loop decreases-loop
-loop-holds c = (omega arith, united-none _ _ _ c.none.ensures)
+loop-holds c = (omega arith, united_none _ _ _ c.none.ensures)
 
 add-set-of : tie.Need-overflow-add-set-of invariant-loop decreases-loop
 add-set-of c = search rules

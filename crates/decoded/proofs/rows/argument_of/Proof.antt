@@ -1,5 +1,5 @@
 use borrow.Author.Rules.{rules}
-use package.Rattle.decoded.specs.Rows.{argumentIn}
+use package.Rattle.decoded.specs.Rows.{argument_in}
 use Rattle.decoded.proofs.rows.argument_of.Statement.{statement}
 use Rattle.decoded.proofs.rows.argument_of.Tie as tie
 
@@ -22,7 +22,7 @@ element-copy-out-result : tie.Need-element-copy-out-result
 element-copy-out-result c = search rules
 
 returns : tie.Need-returns
-unfolding argumentIn
+unfolding argument_in
 returns c = cc
 
 pub argument-of-spec : {M : Type 1} → statement M

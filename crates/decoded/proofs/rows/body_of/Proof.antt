@@ -1,5 +1,5 @@
 use borrow.Author.Rules.{rules}
-use package.Rattle.decoded.specs.Rows.{bodyIn, firstIn}
+use package.Rattle.decoded.specs.Rows.{body_in, first_in}
 use Rattle.decoded.proofs.rows.body_of.Statement.{statement}
 use Rattle.decoded.proofs.rows.body_of.Tie as tie
 
@@ -22,7 +22,7 @@ element-copy-out-result : tie.Need-element-copy-out-result
 element-copy-out-result c = search rules
 
 returns : tie.Need-returns
-unfolding bodyIn firstIn
+unfolding body_in first_in
 returns c = cc
 
 pub body-of-spec : {M : Type 1} → statement M

@@ -1,5 +1,5 @@
 use borrow.Author.Rules.{rules}
-use package.Rattle.decoded.specs.Rows.{firstIn}
+use package.Rattle.decoded.specs.Rows.{first_in}
 use Rattle.decoded.proofs.rows.first_of.Statement.{statement}
 use Rattle.decoded.proofs.rows.first_of.Tie as tie
 
@@ -19,7 +19,7 @@ element-copy-out-result : tie.Need-element-copy-out-result
 element-copy-out-result c = search rules
 
 returns : tie.Need-returns
-unfolding firstIn
+unfolding first_in
 returns c = cc
 
 pub first-of-spec : {M : Type 1} → statement M

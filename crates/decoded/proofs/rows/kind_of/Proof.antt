@@ -1,5 +1,5 @@
 use borrow.Author.Rules.{rules}
-use package.Rattle.decoded.specs.Rows.{kindIn}
+use package.Rattle.decoded.specs.Rows.{kind_in}
 use Rattle.decoded.proofs.rows.kind_of.Statement.{statement}
 use Rattle.decoded.proofs.rows.kind_of.Tie as tie
 
@@ -16,7 +16,7 @@ element-copy-out-result : tie.Need-element-copy-out-result
 element-copy-out-result c = search rules
 
 returns : tie.Need-returns
-unfolding kindIn
+unfolding kind_in
 returns c = cc
 
 pub kind-of-spec : {M : Type 1} → statement M

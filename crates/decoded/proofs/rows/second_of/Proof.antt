@@ -1,5 +1,5 @@
 use borrow.Author.Rules.{rules}
-use package.Rattle.decoded.specs.Rows.{secondIn}
+use package.Rattle.decoded.specs.Rows.{second_in}
 use Rattle.decoded.proofs.rows.second_of.Statement.{statement}
 use Rattle.decoded.proofs.rows.second_of.Tie as tie
 
@@ -19,7 +19,7 @@ element-copy-out-result : tie.Need-element-copy-out-result
 element-copy-out-result c = search rules
 
 returns : tie.Need-returns
-unfolding secondIn
+unfolding second_in
 returns c = cc
 
 pub second-of-spec : {M : Type 1} → statement M

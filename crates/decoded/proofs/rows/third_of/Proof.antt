@@ -1,5 +1,5 @@
 use borrow.Author.Rules.{rules}
-use package.Rattle.decoded.specs.Rows.{thirdIn}
+use package.Rattle.decoded.specs.Rows.{third_in}
 use Rattle.decoded.proofs.rows.third_of.Statement.{statement}
 use Rattle.decoded.proofs.rows.third_of.Tie as tie
 
@@ -19,7 +19,7 @@ element-copy-out-result : tie.Need-element-copy-out-result
 element-copy-out-result c = search rules
 
 returns : tie.Need-returns
-unfolding thirdIn
+unfolding third_in
 returns c = cc
 
 pub third-of-spec : {M : Type 1} → statement M

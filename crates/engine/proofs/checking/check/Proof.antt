@@ -1,7 +1,7 @@
 use mathlib.Core.Path.{sym, ap, ◌∙◌}
 use lib.ListN.{replicate}
 use Rattle.engine.proofs.Beginning.{enough-room}
-use Rattle.engine.proofs.Checks.{check-enough, check-clears, check-short, check-keeps}
+use Rattle.engine.proofs.Checks.{check-enough, check_clears, check-short, check-keeps}
 use borrow.Author.Rules.{rules}
 use Rattle.engine.proofs.checking.check.Statement.{statement}
 use Rattle.engine.proofs.checking.check.Tie as tie
@@ -25,7 +25,7 @@ returns c =
     let enough = sym checked.before.before.before.enough.ensures ∙ checked.before.before.if1.true in (
       check-enough start.args.program.now start.args.workspace.now enough checked.check-program.ensures,
       c.before.before.clear.ensures ∙ ap (λ n. replicate n 0) checked.check-program.auto.1.0
-          ∙ check-clears start.args.program.now start.args.workspace.now enough checked.check-program.ensures,
+          ∙ check_clears start.args.program.now start.args.workspace.now enough checked.check-program.ensures,
     )
 
 returns-2 : tie.Need-returns-2

@@ -2,7 +2,7 @@ use mathlib.Core.Path.{sym, ap, ◌∙◌}
 use lib.ListN.{replicate}
 use Rattle.conversions.specs.Turns.{convert_of}
 use Rattle.engine.proofs.Beginning.{enough-le}
-use Rattle.engine.proofs.Turns.{convert-whole, turn-enough, turn-short}
+use Rattle.engine.proofs.Turns.{convert_whole, turn-enough, turn-short}
 use borrow.Author.Rules.{rules}
 use Rattle.engine.proofs.keeping.convert.Statement.{statement}
 use Rattle.engine.proofs.keeping.convert.Tie as tie
@@ -31,7 +31,7 @@ returns c =
     let place-start = at-enough.before.before.before.before.before in
     let start = place-start.args in
     turn-enough (λ P. convert_of P start.fuel start.function start.ancillae.now start.journal.now) start.fuel start.program.now
-    start.workspace.now start.journal.now (convert-whole _ _ _ _ _ _) (sym at-enough.enough.ensures ∙ at-if1.if1.true)
+    start.workspace.now start.journal.now (convert_whole _ _ _ _ _ _) (sym at-enough.enough.ensures ∙ at-if1.if1.true)
     at-convert.convert.ensures (at_clear.clear.ensures ∙ ap (λ n. replicate n 0) at-convert.convert.auto.1.1.1.1.0)
 
 returns-2 : tie.Need-returns-2
@@ -40,7 +40,7 @@ returns-2 c =
     let place-start = at-enough.before.before.before.before.before in
     let start = place-start.args in
     turn-short (λ P. convert_of P start.fuel start.function start.ancillae.now start.journal.now) start.fuel start.program.now
-    start.workspace.now start.journal.now (convert-whole _ _ _ _ _ _) (sym at-enough.enough.ensures ∙ c.if1.false)
+    start.workspace.now start.journal.now (convert_whole _ _ _ _ _ _) (sym at-enough.enough.ensures ∙ c.if1.false)
 
 pub convert-spec : {M : Type 1} → statement M
 convert-spec =

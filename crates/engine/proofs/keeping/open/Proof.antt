@@ -1,7 +1,7 @@
 use mathlib.Core.Path.{sym, ap, ◌∙◌}
 use lib.ListN.{replicate}
 use Rattle.engine.proofs.Beginning.{enough-room}
-use Rattle.engine.proofs.Turns.{open-enough, open-short}
+use Rattle.engine.proofs.Turns.{open_enough, open_short}
 use borrow.Author.Rules.{rules}
 use Rattle.engine.proofs.keeping.open.Statement.{statement}
 use Rattle.engine.proofs.keeping.open.Tie as tie
@@ -30,14 +30,14 @@ returns c =
     let place-start = at-enough.before.before.before.before.before in
     let start = place-start.args in
     let opened = at_before.before.«open» in
-    open-enough start.«record».now start.program.now start.workspace.now start.journal.now
+    open_enough start.«record».now start.program.now start.workspace.now start.journal.now
     (sym at-enough.enough.ensures ∙ at-if1.if1.true) opened.ensures
     (at_clear.clear.ensures ∙ ap (λ n. replicate n 0) opened.auto.1.1.0)
 
 returns-2 : tie.Need-returns-2
 returns-2 c =
     let start = c.before.before.before.before.before.before.args in
-    open-short start.«record».now start.program.now start.workspace.now start.journal.now (sym c.before.enough.ensures ∙ c.if1.false)
+    open_short start.«record».now start.program.now start.workspace.now start.journal.now (sym c.before.enough.ensures ∙ c.if1.false)
 
 pub open_spec : {M : Type 1} → statement M
 open_spec =

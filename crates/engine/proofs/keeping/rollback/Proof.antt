@@ -1,8 +1,8 @@
 use mathlib.Core.Path.{sym, ap, ◌∙◌}
 use lib.ListN.{replicate}
-use Rattle.conversions.specs.Turns.{rollbackOf}
+use Rattle.conversions.specs.Turns.{rollback_of}
 use Rattle.engine.proofs.Beginning.{enough-le}
-use Rattle.engine.proofs.Turns.{rollback-whole, turn-enough, turn-short}
+use Rattle.engine.proofs.Turns.{rollback_whole, turn-enough, turn-short}
 use borrow.Author.Rules.{rules}
 use Rattle.engine.proofs.keeping.rollback.Statement.{statement}
 use Rattle.engine.proofs.keeping.rollback.Tie as tie
@@ -30,14 +30,14 @@ returns c =
     let at-enough = at-if1.before in
     let place-start = at-enough.before.before.before.before in
     let start = place-start.args in
-    turn-enough (λ P. rollbackOf P start.fuel start.journal.now) start.fuel start.program.now start.workspace.now
-    start.journal.now (rollback-whole _ _ _ _) (sym at-enough.enough.ensures ∙ at-if1.if1.true) at-rollback.rollback.ensures
+    turn-enough (λ P. rollback_of P start.fuel start.journal.now) start.fuel start.program.now start.workspace.now
+    start.journal.now (rollback_whole _ _ _ _) (sym at-enough.enough.ensures ∙ at-if1.if1.true) at-rollback.rollback.ensures
     (at_clear.clear.ensures ∙ ap (λ n. replicate n 0) at-rollback.rollback.auto.1.1.0)
 
 returns-2 : tie.Need-returns-2
 returns-2 c = let start = c.before.before.before.before.before.args in
-    turn-short (λ P. rollbackOf P start.fuel start.journal.now) start.fuel start.program.now start.workspace.now start.journal.now
-    (rollback-whole _ _ _ _) (sym c.before.enough.ensures ∙ c.if1.false)
+    turn-short (λ P. rollback_of P start.fuel start.journal.now) start.fuel start.program.now start.workspace.now start.journal.now
+    (rollback_whole _ _ _ _) (sym c.before.enough.ensures ∙ c.if1.false)
 
 pub rollback-spec : {M : Type 1} → statement M
 rollback-spec =

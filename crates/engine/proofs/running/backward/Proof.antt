@@ -1,4 +1,4 @@
-use Rattle.engine.specs.Runs.{runCall}
+use Rattle.engine.specs.Runs.{run_call}
 use borrow.Author.Rules.{rules}
 use Rattle.engine.proofs.running.backward.Statement.{statement}
 use Rattle.engine.proofs.running.backward.Tie as tie
@@ -13,7 +13,7 @@ same-length-2 : tie.Need-same-length-2
 same-length-2 c = search rules
 
 returns : tie.Need-returns
-unfolding runCall
+unfolding run_call
 returns c =
     let at_call = c.before.before.before.before in
     (at_call.call.ensures.answer, (at_call.call.ensures.fills, at_call.call.ensures.clear))

@@ -3,20 +3,20 @@ use native.Mathlib.Omega.{arith}
 use mathlib.Core.Path.{◌≡◌, ◌∙◌}
 use mathlib.Core.Bool.{true}
 use Rattle.calls.specs.Entries.{references}
-use Rattle.entries.specs.Marks.{allPlainIn}
-use Rattle.entries.proofs.Turns.{below_at, plain-none, plain-yes, plain-open, plain-large, plain_more, plain-all, plain-stops}
+use Rattle.entries.specs.Marks.{all_plain_in}
+use Rattle.entries.proofs.Turns.{below_at, plain_none, plain_yes, plain_open, plain_large, plain_more, plain-all, plain-stops}
 use borrow.Author.Rules.{rules}
 use Rattle.entries.proofs.testing.all_plain.Statement.{statement}
 use Rattle.entries.proofs.testing.all_plain.Tie as tie
 
 abbrev invariant-loop : tie.invariant-loop
-invariant-loop p from n nodes free i₀ i = (i ≤ n) × (allPlainIn nodes free (references p from i) ≡ true)
+invariant-loop p from n nodes free i₀ i = (i ≤ n) × (all_plain_in nodes free (references p from i) ≡ true)
 
 abbrev decreases-loop : tie.decreases-loop
 decreases-loop p from n nodes free i₀ i = n - i
 
 loop-holds : tie.Need-loop-init invariant-loop decreases-loop
-loop-holds c = (omega arith, plain-none _ _ _ _)
+loop-holds c = (omega arith, plain_none _ _ _ _)
 
 mul-read16 : tie.Need-overflow-mul-read16 invariant-loop decreases-loop
 mul-read16 c = omega arith
@@ -52,7 +52,7 @@ returns c =
     let at-read16 = at-wide-index.before in
     let at-loop = at-read16.before.before in
     plain-stops _ _ _ _ at-loop.loop.i _ _ (at-wide-index.wide-index.ensures.0 ∙ at-read16.read16.ensures) (omega arith)
-    (plain-open _ _ _ c.if1.true)
+    (plain_open _ _ _ c.if1.true)
 
 mul-if2 : tie.Need-overflow-mul-if2 invariant-loop decreases-loop
 mul-if2 c = search rules
@@ -76,7 +76,7 @@ returns-2 c =
     let at-read16 = at-wide-index.before in
     let at-loop = at-read16.before.before in
     plain-stops _ _ _ _ at-loop.loop.i _ _ (at-wide-index.wide-index.ensures.0 ∙ at-read16.read16.ensures) (omega arith)
-    (plain-large _ _ _ c.if2.true)
+    (plain_large _ _ _ c.if2.true)
 
 add-i : tie.Need-overflow-add-i invariant-loop decreases-loop
 add-i c = omega arith
@@ -92,7 +92,7 @@ loop-again c =
     let at-loop = at-read16.before.before in (
       omega arith,
       plain_more _ _ _ _ at-loop.loop.i _ (at-wide-index.wide-index.ensures.0 ∙ at-read16.read16.ensures) at-loop.loop.invariant.1
-          (plain-yes _ _ _ at-if1.if1.false c.if2.false),
+          (plain_yes _ _ _ at-if1.if1.false c.if2.false),
     )
 
 returns-3 : tie.Need-returns-3 invariant-loop decreases-loop

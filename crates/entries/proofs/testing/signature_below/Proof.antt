@@ -4,7 +4,7 @@ use borrow.Author.Tests.{not-true, not-false}
 use Rattle.calls.specs.Named.{below}
 use Rattle.program.proofs.Rooms.{function-room}
 use Rattle.entries.proofs.Turns.{below-append}
-use Rattle.entries.proofs.Functions.{signature-stops, signature-rest}
+use Rattle.entries.proofs.Functions.{signature-stops, signature_rest}
 use Rattle.entries.proofs.testing.signature_below.Statement.{statement}
 use Rattle.entries.proofs.testing.signature_below.Tie as tie
 
@@ -36,7 +36,7 @@ returns-2 c =
     let at-if1 = at-function-parameters.before in
     let at-all-below = at-if1.before in
     let start = at-all-below.before.before in
-    c.all-below2.ensures ∙ signature-rest start.requires (below start.args.limit) (below-append start.args.limit) _
+    c.all-below2.ensures ∙ signature_rest start.requires (below start.args.limit) (below-append start.args.limit) _
     at-all-below.all-below.result at-function-parameters.function-parameters.ensures.0 at-all-below.all-below.ensures
     (not-false at-all-below.all-below.result at-if1.if1.false)
 

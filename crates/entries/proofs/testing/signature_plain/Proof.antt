@@ -1,10 +1,10 @@
 use native.Mathlib.Omega.{arith}
 use mathlib.Core.Path.{◌∙◌}
 use borrow.Author.Tests.{not-true, not-false}
-use Rattle.entries.specs.Marks.{allPlainIn}
+use Rattle.entries.specs.Marks.{all_plain_in}
 use Rattle.program.proofs.Rooms.{function-room}
 use Rattle.entries.proofs.Turns.{plain-append}
-use Rattle.entries.proofs.Functions.{signature-stops, signature-rest, result-below, parameters-below}
+use Rattle.entries.proofs.Functions.{signature-stops, signature_rest, result-below, parameters-below}
 use Rattle.entries.proofs.testing.signature_plain.Statement.{statement}
 use Rattle.entries.proofs.testing.signature_plain.Tie as tie
 
@@ -26,7 +26,7 @@ returns : tie.Need-returns
 returns c =
     let at-all-plain = c.before in
     let start = at-all-plain.before.before.before.before in
-    signature-stops start.requires.0 (allPlainIn start.args.nodes.now start.args.free.now)
+    signature-stops start.requires.0 (all_plain_in start.args.nodes.now start.args.free.now)
     (plain-append start.args.nodes.now start.args.free.now) at-all-plain.all_plain.result at-all-plain.all_plain.ensures
     (not-true at-all-plain.all_plain.result c.if1.true)
 
@@ -53,7 +53,7 @@ returns-2 c =
     let at-if1 = at-function-parameters.before in
     let at-all-plain = at-if1.before in
     let start = at-all-plain.before.before.before.before in
-    c.all-plain2.ensures ∙ signature-rest start.requires.0 (allPlainIn start.args.nodes.now start.args.free.now)
+    c.all-plain2.ensures ∙ signature_rest start.requires.0 (all_plain_in start.args.nodes.now start.args.free.now)
     (plain-append start.args.nodes.now start.args.free.now) _ at-all-plain.all_plain.result
     at-function-parameters.function-parameters.ensures.0 at-all-plain.all_plain.ensures
     (not-false at-all-plain.all_plain.result at-if1.if1.false)

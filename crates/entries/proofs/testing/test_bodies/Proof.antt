@@ -1,4 +1,4 @@
-use Rattle.entries.proofs.Whole.{ends-sound, ends-bad-reference, ends-bad-type}
+use Rattle.entries.proofs.Whole.{ends-sound, ends-bad_reference, ends-bad-type}
 use borrow.Author.Rules.{rules}
 use Rattle.entries.proofs.testing.test_bodies.Statement.{statement}
 use Rattle.entries.proofs.testing.test_bodies.Tie as tie
@@ -32,7 +32,7 @@ same-length-2 : tie.Need-same-length-2
 same-length-2 c = search rules
 
 returns-2 : tie.Need-returns-2
-returns-2 c = λ us M. ends-bad-reference _ _ _ _ (c.before.before.before.before.before.test-functions.ensures us M) _ c.before.v.given.1
+returns-2 c = λ us M. ends-bad_reference _ _ _ _ (c.before.before.before.before.before.test-functions.ensures us M) _ c.before.v.given.1
 
 same-length-3 : tie.Need-same-length-3
 same-length-3 c = search rules

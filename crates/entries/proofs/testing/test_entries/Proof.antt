@@ -1,6 +1,6 @@
 use native.Mathlib.Omega.{arith}
 use Rattle.entries.proofs.Tallies.{no-counts-sized}
-use Rattle.entries.proofs.Whole.{placed-formed, types-few, types-sound, entries-sound, entries-bad-reference, entries-bad-type}
+use Rattle.entries.proofs.Whole.{placed-formed, types-few, types-sound, entries-sound, entries-bad_reference, entries-bad-type}
 use borrow.Author.Rules.{rules}
 use Rattle.entries.proofs.testing.test_entries.Statement.{statement}
 use Rattle.entries.proofs.testing.test_entries.Tie as tie
@@ -50,7 +50,7 @@ returns-2 : tie.Need-returns-2
 returns-2 c =
     let at-v = c.before in
     let at-test-types = at-v.before.before.before.before.before.before in
-    entries-bad-reference _ _ _ _ _ _ _ at-test-types.test-types.ensures _ at-v.v.given.1
+    entries-bad_reference _ _ _ _ _ _ _ at-test-types.test-types.ensures _ at-v.v.given.1
 
 same-length-3 : tie.Need-same-length-3
 same-length-3 c = search rules

@@ -3,7 +3,7 @@ use mathlib.Core.Path.{sym, ◌∙◌}
 use borrow.Author.Tests.{not-true, not-false}
 use Rattle.program.proofs.Rooms.{function-room}
 use Rattle.calls.proofs.Entries.{below_wider}
-use Rattle.entries.proofs.Functions.{body-decided, body-noted, type-absent, body-absent, used-before, type-not-plain, function-sound}
+use Rattle.entries.proofs.Functions.{body-decided, body-noted, type-absent, body-absent, used-before, type_not_plain, function-sound}
 use borrow.Author.Rules.{rules}
 use Rattle.entries.proofs.testing.test_function.Statement.{statement}
 use Rattle.entries.proofs.testing.test_function.Tie as tie
@@ -101,7 +101,7 @@ returns-4 c =
     let at-signature-below = at-if1.before in
     let at-function-parameters = at-signature-below.before in
     let start = at-function-parameters.before.before.before.before.before in
-    type-not-plain _ _ _ _ _ _ _ _ (sym at-signature-below.signature-below.ensures ∙ not-false at-signature-below.signature-below.result
+    type_not_plain _ _ _ _ _ _ _ _ (sym at-signature-below.signature-below.ensures ∙ not-false at-signature-below.signature-below.result
     at-if1.if1.false) (body-decided start.requires.0 _ _ _ _ at-function-parameters.function-parameters.ensures.0
     at-all-below.all-below.ensures (not-false at-all-below.all-below.result at-if2.if2.false))
     (body-noted start.requires.0 _ _ _ _ _ at-function-parameters.function-parameters.ensures.0 at-use-terms.use-terms.ensures

@@ -3,14 +3,14 @@ use native.Mathlib.Omega.{arith}
 use mathlib.Core.Path.{◌≡◌, refl, subst, sym, ◌∙◌}
 use lib.ListN.{length}
 use Rattle.program.specs.Parts.{FunctionField}
-use Rattle.entries.proofs.Verdicts.{Going, going_start, going_more, going-bad-reference, going-bad-type, going_end, measured-room}
-use Rattle.entries.proofs.Functions.{functionsFromEntry, functions-step, functions-over}
+use Rattle.entries.proofs.Verdicts.{Going, going_start, going_more, going-bad_reference, going-bad-type, going_end, measured-room}
+use Rattle.entries.proofs.Functions.{functions_from_entry, functions-step, functions-over}
 use borrow.Author.Rules.{rules}
 use Rattle.entries.proofs.testing.test_functions.Statement.{statement}
 use Rattle.entries.proofs.testing.test_functions.Tie as tie
 
 abbrev invariant-loop : tie.invariant-loop
-invariant-loop p types terms functions nodes free used₀ g₀ used g = (g ≤ length functions) × (length used ≡ length used₀) × Going (functionsFromEntry p types terms functions nodes free 0) (functionsFromEntry p types terms functions nodes free g) used₀ used
+invariant-loop p types terms functions nodes free used₀ g₀ used g = (g ≤ length functions) × (length used ≡ length used₀) × Going (functions_from_entry p types terms functions nodes free 0) (functions_from_entry p types terms functions nodes free g) used₀ used
 
 abbrev decreases-loop : tie.decreases-loop
 decreases-loop p types terms functions nodes free used₀ g₀ used g = length functions - g
@@ -59,7 +59,7 @@ loop-again c =
       omega arith,
       at-test-function.test-function.auto.1.1.1.1.1.1.0 ∙ at-loop.loop.invariant.1,
       going_more _ _
-          (functionsFromEntry start.args.p.now start.args.types.now start.args.terms.now start.args.functions.now
+          (functions_from_entry start.args.p.now start.args.types.now start.args.terms.now start.args.functions.now
           start.args.nodes.now start.args.free.now (at-loop.loop.g + 1)) _ _ _ _ _
           (functions-step start.args.p.now start.args.types.now start.args.terms.now start.args.functions.now start.args.nodes.now
           start.args.free.now start.requires.measured at-loop.loop.g _ (omega arith) at-wide-index.wide-index.ensures.0)
@@ -82,7 +82,7 @@ returns c =
     let at-wide-index = at-test-function.before.before in
     let at-loop = at-wide-index.before.before.before in
     let start = at-loop.before.before.before.before.before.before.before.before in
-    going-bad-reference _ _ (functionsFromEntry start.args.p.now start.args.types.now start.args.terms.now
+    going-bad_reference _ _ (functions_from_entry start.args.p.now start.args.types.now start.args.terms.now
     start.args.functions.now start.args.nodes.now start.args.free.now (at-loop.loop.g + 1)) _ _ _ _ _
     (functions-step start.args.p.now start.args.types.now start.args.terms.now start.args.functions.now start.args.nodes.now
     start.args.free.now start.requires.measured at-loop.loop.g _ (omega arith) at-wide-index.wide-index.ensures.0)
@@ -104,7 +104,7 @@ returns-2 c =
     let at-wide-index = at-test-function.before.before in
     let at-loop = at-wide-index.before.before.before in
     let start = at-loop.before.before.before.before.before.before.before.before in
-    going-bad-type _ _ (functionsFromEntry start.args.p.now start.args.types.now start.args.terms.now start.args.functions.now
+    going-bad-type _ _ (functions_from_entry start.args.p.now start.args.types.now start.args.terms.now start.args.functions.now
     start.args.nodes.now start.args.free.now (at-loop.loop.g + 1)) _ _ _ _ _
     (functions-step start.args.p.now start.args.types.now start.args.terms.now start.args.functions.now start.args.nodes.now
     start.args.free.now start.requires.measured at-loop.loop.g _ (omega arith) at-wide-index.wide-index.ensures.0)

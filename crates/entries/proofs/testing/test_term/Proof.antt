@@ -2,9 +2,9 @@ use native.Mathlib.Omega.{arith}
 use mathlib.Core.Path.{sym, ◌∙◌}
 use borrow.Author.Tests.{not-true, not-false}
 use Rattle.program.proofs.Rooms.{term-kind-room}
-use Rattle.program.proofs.Lists.{types-in-term, functions-in-term, terms-in-term}
+use Rattle.program.proofs.Lists.{types_in_term_lem, functions_in-term, terms_in-term}
 use Rattle.calls.proofs.Entries.{below_wider}
-use Rattle.entries.proofs.Terms.{types-decided, functions-decided, plain-decided, terms-decided, terms-noted, type-absent, term-not-lower, function-absent, used-before, type-not-plain, term-sound}
+use Rattle.entries.proofs.Terms.{types-decided, functions-decided, plain-decided, terms-decided, terms-noted, type-absent, term_not_lower, function-absent, used-before, type_not_plain, term-sound}
 use borrow.Author.Rules.{rules}
 use Rattle.entries.proofs.testing.test_term.Statement.{statement}
 use Rattle.entries.proofs.testing.test_term.Tie as tie
@@ -28,7 +28,7 @@ all-below-requires : tie.Need-all-below-requires
 all-below-requires c κs =
     let at-types-in-term = c.before.before.before in
     let start = at-types-in-term.before.before.before.before.before in
-    omega (arith, types-in-term start.requires.0, at-types-in-term.types-in-term.ensures)
+    omega (arith, types_in_term_lem start.requires.0, at-types-in-term.types-in-term.ensures)
 
 returns : tie.Need-returns
 returns c =
@@ -43,7 +43,7 @@ all-below-requires-2 c κs =
     let at-terms-in-term = c.before.before in
     let at-terms-from = at-terms-in-term.before in
     let start = at-terms-from.before.before.before.before.before.before.before in
-    omega (arith, terms-in-term start.requires.0, at-terms-from.terms-from.ensures, at-terms-in-term.terms-in-term.ensures)
+    omega (arith, terms_in-term start.requires.0, at-terms-from.terms-from.ensures, at-terms-in-term.terms_in-term.ensures)
 
 returns-2 : tie.Need-returns-2
 returns-2 c =
@@ -54,9 +54,9 @@ returns-2 c =
     let at-terms-from = at-terms-in-term.before in
     let at-types-in-term = at-terms-from.before.before in
     let start = at-types-in-term.before.before.before.before.before in
-    term-not-lower _ _ _ _ _ _ _ _ (types-decided start.requires.0 _ _ _ _ at-types-in-term.types-in-term.ensures
+    term_not_lower _ _ _ _ _ _ _ _ (types-decided start.requires.0 _ _ _ _ at-types-in-term.types-in-term.ensures
     at-all-below.all-below.ensures (not-false at-all-below.all-below.result at-if1.if1.false))
-    (terms-decided start.requires.0 _ _ _ _ _ at-terms-from.terms-from.ensures at-terms-in-term.terms-in-term.ensures
+    (terms-decided start.requires.0 _ _ _ _ _ at-terms-from.terms-from.ensures at-terms-in-term.terms_in-term.ensures
     at-all-below2.all-below2.ensures (not-true at-all-below2.all-below2.result c.if2.true))
 
 add-all-below-2 : tie.Need-overflow-add-all-below-2
@@ -66,7 +66,7 @@ all-below-requires-3 : tie.Need-all-below-requires-3
 all-below-requires-3 c κs =
     let at-functions-in-term = c.before.before.before.before.before.before in
     let start = at-functions-in-term.before.before.before.before.before.before in
-    omega (arith, functions-in-term start.requires.0, at-functions-in-term.functions-in-term.ensures)
+    omega (arith, functions_in-term start.requires.0, at-functions-in-term.functions_in-term.ensures)
 
 returns-3 : tie.Need-returns-3
 returns-3 c =
@@ -82,9 +82,9 @@ returns-3 c =
     let start = at-types-in-term.before.before.before.before.before in
     function-absent _ _ _ _ _ _ _ _ (types-decided start.requires.0 _ _ _ _ at-types-in-term.types-in-term.ensures
     at-all-below.all-below.ensures (not-false at-all-below.all-below.result at-if1.if1.false))
-    (terms-decided start.requires.0 _ _ _ _ _ at-terms-from.terms-from.ensures at-terms-in-term.terms-in-term.ensures
+    (terms-decided start.requires.0 _ _ _ _ _ at-terms-from.terms-from.ensures at-terms-in-term.terms_in-term.ensures
     at-all-below2.all-below2.ensures (not-false at-all-below2.all-below2.result at-if2.if2.false))
-    (functions-decided start.requires.0 _ _ _ _ at-functions-in-term.functions-in-term.ensures at-all-below3.all-below3.ensures
+    (functions-decided start.requires.0 _ _ _ _ at-functions-in-term.functions_in-term.ensures at-all-below3.all-below3.ensures
     (not-true at-all-below3.all-below3.result c.if3.true))
 
 use-terms-requires : tie.Need-use-terms-requires
@@ -94,7 +94,7 @@ use-terms-requires c κs =
     let at-terms-in-term = at-all-below2.before.before.before in
     let at-terms-from = at-terms-in-term.before in
     let start = at-terms-from.before.before.before.before.before.before.before in (
-      omega (arith, terms-in-term start.requires.0, at-terms-from.terms-from.ensures, at-terms-in-term.terms-in-term.ensures),
+      omega (arith, terms_in-term start.requires.0, at-terms-from.terms-from.ensures, at-terms-in-term.terms_in-term.ensures),
       below_wider
           start.args.k _ _ (omega arith) (sym at-all-below2.all-below2.ensures ∙ not-false at-all-below2.all-below2.result at-if2.if2.false),
     )
@@ -118,11 +118,11 @@ returns-4 c =
     let start = at-types-in-term.before.before.before.before.before in
     used-before _ _ _ _ _ _ _ _ _ (types-decided start.requires.0 _ _ _ _ at-types-in-term.types-in-term.ensures at-all-below.all-below.ensures
     (not-false at-all-below.all-below.result at-if1.if1.false))
-    (terms-decided start.requires.0 _ _ _ _ _ at-terms-from.terms-from.ensures at-terms-in-term.terms-in-term.ensures
+    (terms-decided start.requires.0 _ _ _ _ _ at-terms-from.terms-from.ensures at-terms-in-term.terms_in-term.ensures
     at-all-below2.all-below2.ensures (not-false at-all-below2.all-below2.result at-if2.if2.false))
-    (functions-decided start.requires.0 _ _ _ _ at-functions-in-term.functions-in-term.ensures at-all-below3.all-below3.ensures
+    (functions-decided start.requires.0 _ _ _ _ at-functions-in-term.functions_in-term.ensures at-all-below3.all-below3.ensures
     (not-false at-all-below3.all-below3.result at-if3.if3.false))
-    (terms-noted start.requires.0 _ _ _ _ _ _ at-terms-from.terms-from.ensures at-terms-in-term.terms-in-term.ensures
+    (terms-noted start.requires.0 _ _ _ _ _ _ at-terms-from.terms-from.ensures at-terms-in-term.terms_in-term.ensures
     at-use-terms.use-terms.ensures (not-true at-use-terms.use-terms.result c.if4.true))
 
 add-all-plain : tie.Need-overflow-add-all-plain
@@ -136,7 +136,7 @@ all-plain-requires c κs =
     let at-all-below = at-if1.before in
     let at-types-in-term = at-all-below.before.before.before.before in
     let start = at-types-in-term.before.before.before.before.before in (
-      omega (arith, types-in-term start.requires.0, at-types-in-term.types-in-term.ensures),
+      omega (arith, types_in_term_lem start.requires.0, at-types-in-term.types-in-term.ensures),
       (
         below_wider start.args.types _ _ (omega arith) (sym at-all-below.all-below.ensures ∙ not-false at-all-below.all-below.result
             at-if1.if1.false),
@@ -164,13 +164,13 @@ returns-5 c =
     let at-functions-in-term = at-terms-from.before in
     let at-types-in-term = at-functions-in-term.before in
     let start = at-types-in-term.before.before.before.before.before in
-    type-not-plain _ _ _ _ _ _ _ _ _ (types-decided start.requires.0 _ _ _ _ at-types-in-term.types-in-term.ensures
+    type_not_plain _ _ _ _ _ _ _ _ _ (types-decided start.requires.0 _ _ _ _ at-types-in-term.types-in-term.ensures
     at-all-below.all-below.ensures (not-false at-all-below.all-below.result at-if1.if1.false))
-    (terms-decided start.requires.0 _ _ _ _ _ at-terms-from.terms-from.ensures at-terms-in-term.terms-in-term.ensures
+    (terms-decided start.requires.0 _ _ _ _ _ at-terms-from.terms-from.ensures at-terms-in-term.terms_in-term.ensures
     at-all-below2.all-below2.ensures (not-false at-all-below2.all-below2.result at-if2.if2.false))
-    (functions-decided start.requires.0 _ _ _ _ at-functions-in-term.functions-in-term.ensures at-all-below3.all-below3.ensures
+    (functions-decided start.requires.0 _ _ _ _ at-functions-in-term.functions_in-term.ensures at-all-below3.all-below3.ensures
     (not-false at-all-below3.all-below3.result at-if3.if3.false))
-    (terms-noted start.requires.0 _ _ _ _ _ _ at-terms-from.terms-from.ensures at-terms-in-term.terms-in-term.ensures
+    (terms-noted start.requires.0 _ _ _ _ _ _ at-terms-from.terms-from.ensures at-terms-in-term.terms_in-term.ensures
     at-use-terms.use-terms.ensures (not-false at-use-terms.use-terms.result at-if4.if4.false))
     (plain-decided start.requires.0 _ _ _ _ _ at-types-in-term.types-in-term.ensures at-all-plain.all_plain.ensures
     (not-true at-all-plain.all_plain.result c.if5.true))
@@ -196,11 +196,11 @@ returns-6 c =
     let start = at-types-in-term.before.before.before.before.before in
     term-sound _ _ _ _ _ _ _ _ _ (types-decided start.requires.0 _ _ _ _ at-types-in-term.types-in-term.ensures at-all-below.all-below.ensures
     (not-false at-all-below.all-below.result at-if1.if1.false))
-    (terms-decided start.requires.0 _ _ _ _ _ at-terms-from.terms-from.ensures at-terms-in-term.terms-in-term.ensures
+    (terms-decided start.requires.0 _ _ _ _ _ at-terms-from.terms-from.ensures at-terms-in-term.terms_in-term.ensures
     at-all-below2.all-below2.ensures (not-false at-all-below2.all-below2.result at-if2.if2.false))
-    (functions-decided start.requires.0 _ _ _ _ at-functions-in-term.functions-in-term.ensures at-all-below3.all-below3.ensures
+    (functions-decided start.requires.0 _ _ _ _ at-functions-in-term.functions_in-term.ensures at-all-below3.all-below3.ensures
     (not-false at-all-below3.all-below3.result at-if3.if3.false))
-    (terms-noted start.requires.0 _ _ _ _ _ _ at-terms-from.terms-from.ensures at-terms-in-term.terms-in-term.ensures
+    (terms-noted start.requires.0 _ _ _ _ _ _ at-terms-from.terms-from.ensures at-terms-in-term.terms_in-term.ensures
     at-use-terms.use-terms.ensures (not-false at-use-terms.use-terms.result at-if4.if4.false))
     (plain-decided start.requires.0 _ _ _ _ _ at-types-in-term.types-in-term.ensures at-all-plain.all_plain.ensures
     (not-false at-all-plain.all_plain.result c.if5.false))

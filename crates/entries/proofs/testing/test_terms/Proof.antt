@@ -3,14 +3,14 @@ use native.Mathlib.Omega.{arith}
 use mathlib.Core.Path.{◌≡◌, refl, subst, sym, ◌∙◌}
 use lib.ListN.{length}
 use Rattle.program.specs.Parts.{TermField}
-use Rattle.entries.proofs.Verdicts.{Going, going_start, going_more, going-bad-reference, going-bad-type, going_end, measured-room}
-use Rattle.entries.proofs.Terms.{termsFromEntry, terms-step, terms-over}
+use Rattle.entries.proofs.Verdicts.{Going, going_start, going_more, going-bad_reference, going-bad-type, going_end, measured-room}
+use Rattle.entries.proofs.Terms.{terms_from_entry, terms-step, terms-over}
 use borrow.Author.Rules.{rules}
 use Rattle.entries.proofs.testing.test_terms.Statement.{statement}
 use Rattle.entries.proofs.testing.test_terms.Tie as tie
 
 abbrev invariant-loop : tie.invariant-loop
-invariant-loop p types terms functions nodes free used₀ k₀ used k = (k ≤ length terms) × (length used ≡ length used₀) × Going (termsFromEntry p types terms functions nodes free 0) (termsFromEntry p types terms functions nodes free k) used₀ used
+invariant-loop p types terms functions nodes free used₀ k₀ used k = (k ≤ length terms) × (length used ≡ length used₀) × Going (terms_from_entry p types terms functions nodes free 0) (terms_from_entry p types terms functions nodes free k) used₀ used
 
 abbrev decreases-loop : tie.decreases-loop
 decreases-loop p types terms functions nodes free used₀ k₀ used k = length terms - k
@@ -59,7 +59,7 @@ loop-again c =
       omega arith,
       at-test-term.test-term.auto.1.1.1.1.1.1.1.0 ∙ at-loop.loop.invariant.1,
       going_more _ _
-          (termsFromEntry start.args.p.now start.args.types.now start.args.terms.now start.args.functions.now start.args.nodes.now
+          (terms_from_entry start.args.p.now start.args.types.now start.args.terms.now start.args.functions.now start.args.nodes.now
           start.args.free.now (at-loop.loop.k + 1)) _ _ _ _ _
           (terms-step start.args.p.now start.args.types.now start.args.terms.now start.args.functions.now start.args.nodes.now
           start.args.free.now start.requires.measured at-loop.loop.k _ (omega arith) at-wide-index.wide-index.ensures.0)
@@ -82,7 +82,7 @@ returns c =
     let at-wide-index = at-test-term.before.before in
     let at-loop = at-wide-index.before.before.before in
     let start = at-loop.before.before.before.before.before.before.before.before in
-    going-bad-reference _ _ (termsFromEntry start.args.p.now start.args.types.now start.args.terms.now start.args.functions.now
+    going-bad_reference _ _ (terms_from_entry start.args.p.now start.args.types.now start.args.terms.now start.args.functions.now
     start.args.nodes.now start.args.free.now (at-loop.loop.k + 1)) _ _ _ _ _
     (terms-step start.args.p.now start.args.types.now start.args.terms.now start.args.functions.now start.args.nodes.now
     start.args.free.now start.requires.measured at-loop.loop.k _ (omega arith) at-wide-index.wide-index.ensures.0)
@@ -104,7 +104,7 @@ returns-2 c =
     let at-wide-index = at-test-term.before.before in
     let at-loop = at-wide-index.before.before.before in
     let start = at-loop.before.before.before.before.before.before.before.before in
-    going-bad-type _ _ (termsFromEntry start.args.p.now start.args.types.now start.args.terms.now start.args.functions.now
+    going-bad-type _ _ (terms_from_entry start.args.p.now start.args.types.now start.args.terms.now start.args.functions.now
     start.args.nodes.now start.args.free.now (at-loop.loop.k + 1)) _ _ _ _ _
     (terms-step start.args.p.now start.args.types.now start.args.terms.now start.args.functions.now start.args.nodes.now
     start.args.free.now start.requires.measured at-loop.loop.k _ (omega arith) at-wide-index.wide-index.ensures.0)

@@ -1,6 +1,6 @@
 use native.Mathlib.Omega.{arith}
 use Rattle.program.proofs.Rooms.{type-kind-room}
-use Rattle.program.proofs.Lists.{types-in-type}
+use Rattle.program.proofs.Lists.{types_in_type_lem}
 use Rattle.entries.proofs.Types.{type-answer}
 use borrow.Author.Rules.{rules}
 use Rattle.entries.proofs.testing.test_type.Statement.{statement}
@@ -13,7 +13,7 @@ add-all-below : tie.Need-overflow-add-all-below
 add-all-below c = omega (arith, type-kind-room c.before.before.requires)
 
 all-below-requires : tie.Need-all-below-requires
-all-below-requires c κs = omega (arith, types-in-type c.before.before.requires, c.types-in-type.ensures)
+all-below-requires c κs = omega (arith, types_in_type_lem c.before.before.requires, c.types-in-type.ensures)
 
 returns : tie.Need-returns
 returns c =

@@ -6,7 +6,7 @@ use borrow.Author.Tests.{not-true, not-false}
 use Rattle.program.specs.Parts.{TypeField}
 use Rattle.entries.proofs.Tallies.{counts-next}
 use Rattle.calls.proofs.Entries.{below_wider}
-use Rattle.entries.proofs.Types.{TypesSo, types-start, types_more, types-stop, types-end}
+use Rattle.entries.proofs.Types.{TypesSo, types-start, types_more, types_stop, types-end}
 use borrow.Author.Rules.{rules}
 use Rattle.entries.proofs.testing.test_types.Statement.{statement}
 use Rattle.entries.proofs.testing.test_types.Tie as tie
@@ -50,7 +50,7 @@ returns c =
     let at-test-type = c.before in
     let at-wide-index = at-test-type.before in
     let at-loop = at-wide-index.before.before.before in
-    types-stop _ _ at-loop.loop.i _ (omega arith) at-wide-index.wide-index.ensures.0 _ _ _ at-loop.loop.invariant.3
+    types_stop _ _ at-loop.loop.i _ (omega arith) at-wide-index.wide-index.ensures.0 _ _ _ at-loop.loop.invariant.3
     at-test-type.test_type.result at-test-type.test_type.ensures (not-true at-test-type.test_type.result c.if1.true)
 
 count-nodes-requires : tie.Need-count-nodes-requires invariant-loop decreases-loop

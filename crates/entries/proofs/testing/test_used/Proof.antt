@@ -1,7 +1,7 @@
 use Prim.Native.Nat.{◌-◌, ◌≤◌}
 use native.Mathlib.Omega.{arith}
 use lib.ListN.{length}
-use Rattle.entries.proofs.Unused.{UsedSo, used_start, used-more, used-stop, used-end}
+use Rattle.entries.proofs.Unused.{UsedSo, used_start, used-more, used_stop, used-end}
 use borrow.Author.Rules.{rules}
 use Rattle.entries.proofs.testing.test_used.Statement.{statement}
 use Rattle.entries.proofs.testing.test_used.Tie as tie
@@ -31,7 +31,7 @@ returns : tie.Need-returns invariant-loop decreases-loop
 returns c =
     let at-if1 = c.before.before in
     let at-loop = at-if1.before.before.before in
-    used-stop _ _ at-loop.loop.k (omega arith) (omega arith) at-loop.loop.invariant.1 _ c.wide-index.ensures.0 at-if1.if1.true
+    used_stop _ _ at-loop.loop.k (omega arith) (omega arith) at-loop.loop.invariant.1 _ c.wide-index.ensures.0 at-if1.if1.true
 
 add-k : tie.Need-overflow-add-k invariant-loop decreases-loop
 add-k c = omega arith

@@ -1,7 +1,7 @@
 use native.Mathlib.Omega.{arith}
 use mathlib.Core.List.{[]}
-use Rattle.rules.specs.Limits.{maxTerms}
-use Rattle.entries.proofs.Whole.{ends-sound, ends-bad-reference, ends-bad-type, marks-none, uses-ready}
+use Rattle.rules.specs.Limits.{max_terms}
+use Rattle.entries.proofs.Whole.{ends-sound, ends-bad_reference, ends-bad-type, marks_none, uses-ready}
 use borrow.Author.Rules.{rules}
 use Rattle.entries.proofs.testing.test_uses.Statement.{statement}
 use Rattle.entries.proofs.testing.test_uses.Tie as tie
@@ -37,14 +37,14 @@ returns c =
     let at-test-bodies = c.before in
     let at-enum-told = at-test-bodies.before.before in
     let at-test-terms = at-enum-told.before.before.before in
-    ends-sound _ _ _ _ (at-test-terms.test-terms.ensures [] (marks-none maxTerms)) at-enum-told.enum_told.given.1
+    ends-sound _ _ _ _ (at-test-terms.test-terms.ensures [] (marks_none max_terms)) at-enum-told.enum_told.given.1
     at-test-bodies.test-bodies.result at-test-bodies.test-bodies.ensures
 
 returns-2 : tie.Need-returns-2
-returns-2 c = ends-bad-reference _ _ _ _ (c.before.before.before.before.test-terms.ensures [] (marks-none maxTerms)) _ c.before.v.given.1
+returns-2 c = ends-bad_reference _ _ _ _ (c.before.before.before.before.test-terms.ensures [] (marks_none max_terms)) _ c.before.v.given.1
 
 returns-3 : tie.Need-returns-3
-returns-3 c = ends-bad-type _ _ _ _ (c.before.before.before.before.test-terms.ensures [] (marks-none maxTerms)) _ c.before.v2.given.1
+returns-3 c = ends-bad-type _ _ _ _ (c.before.before.before.before.test-terms.ensures [] (marks_none max_terms)) _ c.before.v2.given.1
 
 pub test-uses-spec : {M : Type 1} → statement M
 test-uses-spec =

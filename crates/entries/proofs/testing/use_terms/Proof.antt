@@ -3,7 +3,7 @@ use native.Mathlib.Omega.{arith}
 use mathlib.Core.Path.{◌≡◌, refl, ◌∙◌}
 use lib.ListN.{length, length-set}
 use Rattle.calls.specs.Entries.{references}
-use Rattle.entries.proofs.Turns.{Using, below_at, using-none, using-more, using-stops, using-all}
+use Rattle.entries.proofs.Turns.{Using, below_at, using_none, using_more, using_stops, using_all}
 use borrow.Author.Rules.{rules}
 use Rattle.entries.proofs.testing.use_terms.Statement.{statement}
 use Rattle.entries.proofs.testing.use_terms.Tie as tie
@@ -15,7 +15,7 @@ abbrev decreases-loop : tie.decreases-loop
 decreases-loop p from n used₀ i₀ used i = n - i
 
 loop-holds : tie.Need-loop-init invariant-loop decreases-loop
-loop-holds c = (omega arith, refl, using-none _ _ _)
+loop-holds c = (omega arith, refl, using_none _ _ _)
 
 mul-read16 : tie.Need-overflow-mul-read16 invariant-loop decreases-loop
 mul-read16 c = omega arith
@@ -52,7 +52,7 @@ returns c =
     let at-read16 = at-wide-index.before in
     let at-loop = at-read16.before.before in
     let start = at-loop.before.before.before in
-    using-stops _ _ _ _ at-loop.loop.i _ _ (at-wide-index.wide-index.ensures.0 ∙ at-read16.read16.ensures) (omega arith)
+    using_stops _ _ _ _ at-loop.loop.i _ _ (at-wide-index.wide-index.ensures.0 ∙ at-read16.read16.ensures) (omega arith)
     (omega (
       arith,
       below_at _ _ _ at-loop.loop.i _ (omega arith) start.requires.1,
@@ -89,7 +89,7 @@ loop-again c =
     let start = at-loop.before.before.before in (
       omega arith,
       simp length-set at-loop.loop.invariant.1,
-      using-more _ _ _ _ at-loop.loop.i _
+      using_more _ _ _ _ at-loop.loop.i _
           (at-wide-index.wide-index.ensures.0 ∙ at-read16.read16.ensures)
           (omega (
             arith,
@@ -104,7 +104,7 @@ same-length-2 : tie.Need-same-length-2 invariant-loop decreases-loop
 same-length-2 c = search rules
 
 returns-2 : tie.Need-returns-2 invariant-loop decreases-loop
-returns-2 c = using-all _ _ _ _ c.before.loop.i _ (omega arith) (omega arith) c.before.loop.invariant.2
+returns-2 c = using_all _ _ _ _ c.before.loop.i _ (omega arith) (omega arith) c.before.loop.invariant.2
 
 pub use-terms-spec : {M : Type 1} → statement M
 use-terms-spec =

@@ -1,11 +1,11 @@
 use borrow.Author.Rules.{rules}
-use Rattle.forward.proofs.Answers.{is-value, is-refused, is-first-match}
+use Rattle.forward.proofs.Answers.{is_value_lem, is_refused, is_first_match}
 use Rattle.forward.proofs.Leaves.{check-row, check-asks, check-refused, check-chooses, check-chosen, check-passes, check-yields}
 use Rattle.forward.proofs.outcomes.first_match.Statement.{statement}
 use Rattle.forward.proofs.outcomes.first_match.Tie as tie
 
 returns : tie.Need-returns
-returns c = check-refused c.before.before.requires (is-refused c.if1.true)
+returns c = check-refused c.before.before.requires (is_refused c.if1.true)
 
 ancillae-in-requires : tie.Need-ancillae-in-requires
 ancillae-in-requires c κs = search rules
@@ -25,7 +25,7 @@ returns-2 c =
     let at-ancillae = at_count.before in
     let at-if1 = at-ancillae.before in
     let start = at-if1.before.before in
-    check-chosen start.requires (is-value at-if1.if1.false)
+    check-chosen start.requires (is_value_lem at-if1.if1.false)
     (check-chooses start.requires at-ancillae.ancillae-in.ensures at_count.count-in.ensures at-chooses.chooses-by-ancilla.ensures) c.if2.true
 
 second-of-requires : tie.Need-second-of-requires
@@ -41,7 +41,7 @@ yields-requires c κs =
     let at-ancillae = at_count.before in
     let at-if1 = at-ancillae.before in
     let start = at-if1.before.before in
-    check-asks start.requires (is-value at-if1.if1.false)
+    check-asks start.requires (is_value_lem at-if1.if1.false)
     (check-chooses start.requires at-ancillae.ancillae-in.ensures at_count.count-in.ensures at-chooses.chooses-by-ancilla.ensures) at-if2.if2.false
     _ c.second-of.ensures
 
@@ -59,10 +59,10 @@ returns-3 c =
     let at-ancillae = at_count.before in
     let at-if1 = at-ancillae.before in
     let start = at-if1.before.before in
-    check-yields start.requires (is-value at-if1.if1.false)
+    check-yields start.requires (is_value_lem at-if1.if1.false)
     (check-chooses start.requires at-ancillae.ancillae-in.ensures at_count.count-in.ensures at-chooses.chooses-by-ancilla.ensures) at-if2.if2.false
     _ at-second-of.second-of.ensures at-yields.yields.ensures at-if3.if3.true
-    (is-first-match c.refuse.ensures)
+    (is_first_match c.refuse.ensures)
 
 returns-4 : tie.Need-returns-4
 returns-4 c =
@@ -74,7 +74,7 @@ returns-4 c =
     let at-ancillae = at_count.before in
     let at-if1 = at-ancillae.before in
     let start = at-if1.before.before in
-    check-passes start.requires (is-value at-if1.if1.false)
+    check-passes start.requires (is_value_lem at-if1.if1.false)
     (check-chooses start.requires at-ancillae.ancillae-in.ensures at_count.count-in.ensures at-chooses.chooses-by-ancilla.ensures) at-if2.if2.false
     _ at-second-of.second-of.ensures at-yields.yields.ensures c.if3.false
 

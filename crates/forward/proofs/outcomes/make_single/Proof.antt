@@ -1,7 +1,7 @@
 use borrow.Author.Rules.{rules}
 use mathlib.Core.Path.{◌∙◌}
 use Rattle.calls.proofs.Runs.Calls.{unit-fits}
-use Rattle.forward.proofs.Making.{makes-as, makes-new-as}
+use Rattle.forward.proofs.Making.{makes_as, makes-new_as}
 use Rattle.forward.proofs.outcomes.make_single.Statement.{statement}
 use Rattle.forward.proofs.outcomes.make_single.Tie as tie
 
@@ -30,7 +30,7 @@ returns c =
     record {
       lengths = c.finish.ensures.lengths;
       slots = c.finish.ensures.slots;
-      makes = makes-as c.finish.ensures.out
+      makes = makes_as c.finish.ensures.out
           start.requires.0.graph (rw at_top.top.ensures at at-single.single.ensures);
     }
 

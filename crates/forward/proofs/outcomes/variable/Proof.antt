@@ -1,7 +1,7 @@
 use borrow.Author.Rules.{rules}
 use native.Mathlib.Omega.{arith}
 use mathlib.Core.Path.{◌≡◌, sym, ◌∙◌}
-use Rattle.forward.proofs.Leaves.{finds-node, finds-none}
+use Rattle.forward.proofs.Leaves.{finds_node, finds_none}
 use Rattle.forward.proofs.Answers.{is_stuck}
 use Rattle.forward.proofs.outcomes.variable.Statement.{statement}
 use Rattle.forward.proofs.outcomes.variable.Tie as tie
@@ -34,7 +34,7 @@ returns c =
     let at-base-in = at-count-in.before in
     let start = at-base-in.before.before in
     let found = sym at-find.find.ensures ∙ at-node.node.given.1 in
-    finds-node _ start.requires (rw (at-base-in.base-in.ensures, at-count-in.count-in.ensures) at found)
+    finds_node _ start.requires (rw (at-base-in.base-in.ensures, at-count-in.count-in.ensures) at found)
 
 returns-2 : tie.Need-returns-2
 returns-2 c =
@@ -43,7 +43,7 @@ returns-2 c =
     let at-count-in = at-find.before in
     let at-base-in = at-count-in.before in
     let found = sym at-find.find.ensures ∙ at-enum-told.enum_told.given.1 in
-    finds-none (rw (at-base-in.base-in.ensures, at-count-in.count-in.ensures) at found) (is_stuck c.refuse.ensures)
+    finds_none (rw (at-base-in.base-in.ensures, at-count-in.count-in.ensures) at found) (is_stuck c.refuse.ensures)
 
 pub variable-spec : {M : Type 1} → statement M
 variable-spec =

@@ -1,7 +1,7 @@
 use Prim.Native.Nat.{◌+◌}
 use mathlib.Core.Path.{ap, ◌∙◌}
 use borrow.Author.Rules.{rules}
-use Rattle.calls.specs.Fields.{fieldHead}
+use Rattle.calls.specs.Fields.{field_head}
 use Rattle.journal.specs.declared.places.Field.TheVariants.{To}
 use Rattle.journal.proofs.Ends.{end_short, end-other, end-cut, end_whole}
 use borrow.Author.Rules.{rules}
@@ -54,7 +54,7 @@ returns-4 c =
     let at-if1 = at-if2.before.before in
     let start = at-if1.before.before in
     let e = at-wide-index.wide-index.ensures.0 ∙ at-read16.read16.ensures in
-    ap (λ n. To (start.args.at + fieldHead + n)) e ∙ end_whole _ _ _ at-if1.if1.false at-if2.if2.false (rw e at c.if3.false)
+    ap (λ n. To (start.args.at + field_head + n)) e ∙ end_whole _ _ _ at-if1.if1.false at-if2.if2.false (rw e at c.if3.false)
 
 pub field-end-spec : {M : Type 1} → statement M
 field-end-spec =

@@ -3,9 +3,9 @@ use native.Mathlib.Omega.{arith}
 use mathlib.Core.Path.{sym, ◌∙◌}
 use lib.ListN.{length}
 use borrow.Author.Rules.{rules}
-use Rattle.rules.specs.Limits.{maxConversions}
-use Rattle.journal.proofs.Ends.{are-bytes, is-further}
-use Rattle.journal.proofs.Walks.{Walk, walk_none, walk-starts, walk_ends, walk-zeros, walk-dirty, walk-stops, walk-full, walk_more}
+use Rattle.rules.specs.Limits.{max_conversions}
+use Rattle.journal.proofs.Ends.{are_bytes, is_further}
+use Rattle.journal.proofs.Walks.{Walk, walk_none, walk_starts, walk_ends, walk_zeros, walk_dirty, walk_stops, walk_full, walk_more}
 use borrow.Author.Rules.{rules}
 use Rattle.journal.proofs.form.survey.Statement.{statement}
 use Rattle.journal.proofs.form.survey.Tie as tie
@@ -30,7 +30,7 @@ returns c =
     let at-held-end = c.before.before in
     let at-shared-slice-known = at-held-end.before in
     let start = at-shared-slice-known.before in
-    walk_none _ (are-bytes start.args.journal.now at-shared-slice-known.shared-slice-known.given)
+    walk_none _ (are_bytes start.args.journal.now at-shared-slice-known.shared-slice-known.given)
     (sym c.enum_told.given.1 ∙ at-held-end.held-end.ensures)
 
 loop-holds : tie.Need-loop-init invariant-loop decreases-loop
@@ -39,7 +39,7 @@ loop-holds c =
     let at-held-end = at_head.before.before in
     let at-shared-slice-known = at-held-end.before in
     let start = at-shared-slice-known.before in
-    walk-starts _ _ (are-bytes start.args.journal.now at-shared-slice-known.shared-slice-known.given)
+    walk_starts _ _ (are_bytes start.args.journal.now at-shared-slice-known.shared-slice-known.given)
     (sym at_head.head.given.1 ∙ at-held-end.held-end.ensures)
 
 shared-slice-read-if1 : tie.Need-shared-slice-read-if1 invariant-loop decreases-loop
@@ -56,7 +56,7 @@ returns-2 c =
     let at-loop = at-loop-test.before in
     let at-shared-slice-known = at-loop.before.before.before.before.before in
     let start = at-shared-slice-known.before in
-    walk-zeros (are-bytes start.args.journal.now at-shared-slice-known.shared-slice-known.given) at-loop.loop.invariant
+    walk_zeros (are_bytes start.args.journal.now at-shared-slice-known.shared-slice-known.given) at-loop.loop.invariant
     at-loop-test.loop-test.true at-if1.if1.true _ at-zero-from.zero-from.ensures c.if2.true
 
 returns-3 : tie.Need-returns-3 invariant-loop decreases-loop
@@ -67,18 +67,18 @@ returns-3 c =
     let at-loop = at-loop-test.before in
     let at-shared-slice-known = at-loop.before.before.before.before.before in
     let start = at-shared-slice-known.before in
-    walk-dirty (are-bytes start.args.journal.now at-shared-slice-known.shared-slice-known.given) at-loop.loop.invariant
+    walk_dirty (are_bytes start.args.journal.now at-shared-slice-known.shared-slice-known.given) at-loop.loop.invariant
     at-loop-test.loop-test.true at-if1.if1.true _ at-zero-from.zero-from.ensures c.if2.false
 
 returns-4 : tie.Need-returns-4 invariant-loop decreases-loop
-unfolding maxConversions
+unfolding max_conversions
 returns-4 c =
     let at-if1 = c.before in
     let at-loop-test = at-if1.before.before in
     let at-loop = at-loop-test.before in
     let at-shared-slice-known = at-loop.before.before.before.before.before in
     let start = at-shared-slice-known.before in
-    walk-full (are-bytes start.args.journal.now at-shared-slice-known.shared-slice-known.given) at-loop.loop.invariant
+    walk_full (are_bytes start.args.journal.now at-shared-slice-known.shared-slice-known.given) at-loop.loop.invariant
     at-loop-test.loop-test.true at-if1.if1.false c.if3.true
 
 entry-end-requires : tie.Need-entry-end-requires invariant-loop decreases-loop
@@ -98,17 +98,17 @@ returns-5 c =
     let at-loop = at-loop-test.before in
     let at-shared-slice-known = at-loop.before.before.before.before.before in
     let start = at-shared-slice-known.before in
-    walk-stops (are-bytes start.args.journal.now at-shared-slice-known.shared-slice-known.given) at-loop.loop.invariant
+    walk_stops (are_bytes start.args.journal.now at-shared-slice-known.shared-slice-known.given) at-loop.loop.invariant
     at-loop-test.loop-test.true at-if1.if1.false (sym c.enum-told2.given.1 ∙ at-entry-end.entry-end.ensures)
 
 add-count : tie.Need-overflow-add-count invariant-loop decreases-loop
 add-count c = search rules
 
 loop-less : tie.Need-loop-smaller invariant-loop decreases-loop
-loop-less c = let h = is-further _ _ _ (sym c.before.entry.given.1 ∙ c.before.before.before.entry-end.ensures) in omega (arith, h)
+loop-less c = let h = is_further _ _ _ (sym c.before.entry.given.1 ∙ c.before.before.before.entry-end.ensures) in omega (arith, h)
 
 loop-again : tie.Need-loop-preserved invariant-loop decreases-loop
-unfolding maxConversions
+unfolding max_conversions
 loop-again c =
     let at_entry_lem = c.before in
     let at-entry-end = at_entry_lem.before.before in
@@ -118,7 +118,7 @@ loop-again c =
     let at-loop = at-loop-test.before in
     let at-shared-slice-known = at-loop.before.before.before.before.before in
     let start = at-shared-slice-known.before in
-    walk_more (are-bytes start.args.journal.now at-shared-slice-known.shared-slice-known.given) at-loop.loop.invariant
+    walk_more (are_bytes start.args.journal.now at-shared-slice-known.shared-slice-known.given) at-loop.loop.invariant
     at-loop-test.loop-test.true at-if1.if1.false _ at-if3.if3.false (sym at_entry_lem.entry.given.1 ∙ at-entry-end.entry-end.ensures)
 
 returns-6 : tie.Need-returns-6 invariant-loop decreases-loop
@@ -126,7 +126,7 @@ returns-6 c =
     let at-loop = c.before in
     let at-shared-slice-known = at-loop.before.before.before.before.before in
     let start = at-shared-slice-known.before in
-    walk_ends (are-bytes start.args.journal.now at-shared-slice-known.shared-slice-known.given) at-loop.loop.invariant c.loop-test.false
+    walk_ends (are_bytes start.args.journal.now at-shared-slice-known.shared-slice-known.given) at-loop.loop.invariant c.loop-test.false
 
 pub survey-spec : {M : Type 1} → statement M
 survey-spec =

@@ -2,14 +2,14 @@ use Prim.Native.Nat.{◌-◌}
 use mathlib.Core.Path.{◌≡◌, refl, sym, ◌∙◌}
 use lib.ListN.{length, drop}
 use borrow.Author.Rules.{rules}
-use Rattle.calls.specs.Journal.{allZero}
+use Rattle.calls.specs.Journal.{all_zero}
 use Rattle.journal.proofs.Zeros.{zero-stops, zero_more, zero-ends}
 use borrow.Author.Rules.{rules}
 use Rattle.journal.proofs.form.zero_from.Statement.{statement}
 use Rattle.journal.proofs.form.zero_from.Tie as tie
 
 abbrev invariant-loop : tie.invariant-loop
-invariant-loop journal at i₀ i = allZero (drop at journal) ≡ allZero (drop i journal)
+invariant-loop journal at i₀ i = all_zero (drop at journal) ≡ all_zero (drop i journal)
 
 abbrev decreases-loop : tie.decreases-loop
 decreases-loop journal at i₀ i = length journal - i

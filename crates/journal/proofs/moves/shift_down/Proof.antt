@@ -4,7 +4,7 @@ use mathlib.Core.Path.{◌≡◌, refl, ◌∙◌}
 use lib.ListN.{length, length-set}
 use lib.Seq.{paste, paste-zero}
 use borrow.Author.Rules.{rules}
-use Rattle.journal.proofs.Pastes.{run, down-more, down-done}
+use Rattle.journal.proofs.Pastes.{run, down-more, down_done}
 use Rattle.journal.proofs.moves.shift_down.Statement.{statement}
 use Rattle.journal.proofs.moves.shift_down.Tie as tie
 
@@ -45,7 +45,7 @@ same_length c = search rules
 
 returns : tie.Need-returns invariant-loop decreases-loop
 returns c = let a = c.before.before in
-    c.before.loop.invariant.1 ∙ down-done a.args.s.now a.args.from a.args.to a.args.n a.requires.1 (omega arith) c.before.loop.i (omega arith)
+    c.before.loop.invariant.1 ∙ down_done a.args.s.now a.args.from a.args.to a.args.n a.requires.1 (omega arith) c.before.loop.i (omega arith)
 
 pub shift-down-spec : {M : Type 1} → statement M
 shift-down-spec =

@@ -1,5 +1,5 @@
 use borrow.Author.Rules.{rules}
-use Rattle.journal.proofs.Stands.{standing, ranges, newest-room, ancillae-are}
+use Rattle.journal.proofs.Stands.{standing, ranges, newest-room, ancillae_are}
 use borrow.Author.Rules.{rules}
 use Rattle.journal.proofs.parts.newest_ancillae.Statement.{statement}
 use Rattle.journal.proofs.parts.newest_ancillae.Tie as tie
@@ -21,7 +21,7 @@ part-result-end c = let h = ranges (standing _ _ c.before.requires.0) in
     let r = newest-room (standing _ _ c.before.requires.0) c.before.requires.1 in search rules
 
 returns : tie.Need-returns
-returns c = ancillae-are (standing _ _ c.before.before.requires.0) c.before.before.requires.1
+returns c = ancillae_are (standing _ _ c.before.before.requires.0) c.before.before.requires.1
 
 pub newest-ancillae-spec : {M : Type 1} → statement M
 newest-ancillae-spec =

@@ -1,5 +1,5 @@
 use borrow.Author.Rules.{rules}
-use Rattle.journal.proofs.Stands.{standing, ranges, entries-are}
+use Rattle.journal.proofs.Stands.{standing, ranges, entries_are}
 use borrow.Author.Rules.{rules}
 use Rattle.journal.proofs.parts.standing_fields.Statement.{statement}
 use Rattle.journal.proofs.parts.standing_fields.Tie as tie
@@ -14,7 +14,7 @@ part-result-end : tie.Need-slice-bounds-result-end
 part-result-end c = let h = ranges (standing _ _ c.requires) in search rules
 
 returns : tie.Need-returns
-returns c = entries-are (standing _ _ c.before.requires)
+returns c = entries_are (standing _ _ c.before.requires)
 
 pub standing-fields-spec : {M : Type 1} → statement M
 standing-fields-spec = tie.close (tie.spec sub-result part-result-start part-result-end returns)

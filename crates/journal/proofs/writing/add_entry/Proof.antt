@@ -3,8 +3,8 @@ use mathlib.Core.Path.{ap, ◌∙◌}
 use borrow.Author.Rules.{rules}
 use Rattle.octets.specs.Numbers.{put16, put32}
 use Rattle.octets.specs.Runs.{pasted}
-use Rattle.calls.specs.Journal.{entryBytes, entryTag}
-use Rattle.calls.specs.Fields.{fieldHead}
+use Rattle.calls.specs.Journal.{entry_bytes, entry_tag}
+use Rattle.calls.specs.Fields.{field_head}
 use Rattle.journal.proofs.Writes.{put-entry}
 use borrow.Author.Rules.{rules}
 use Rattle.journal.proofs.writing.add_entry.Statement.{statement}
@@ -38,7 +38,7 @@ same_length : tie.Need-same-length
 same_length c = search rules
 
 returns : tie.Need-returns
-unfolding entryTag
+unfolding entry_tag
 returns c =
     let at_copy = c.before.before in
     let at-write32 = at_copy.before.before.before.before in
@@ -47,9 +47,9 @@ returns c =
     let at_before = at-put-head.before.before.before in
     let a = at_before.before in
     let x = a.args in
-    at_copy.copy.ensures ∙ ap (λ s. pasted s (x.at + entryBytes) x.ancillae.now)
+    at_copy.copy.ensures ∙ ap (λ s. pasted s (x.at + entry_bytes) x.ancillae.now)
     (at-write32.write32.ensures ∙ ap (λ s. put32 s (x.at + 5) x.steps)
-    (at-write16.write16.ensures ∙ ap (λ s. put16 s (x.at + fieldHead) x.function) at-put-head.put-head.ensures)) ∙ put-entry
+    (at-write16.write16.ensures ∙ ap (λ s. put16 s (x.at + field_head) x.function) at-put-head.put-head.ensures)) ∙ put-entry
     x.journal.now x.at x.function x.steps x.ancillae.now a.requires.0
 
 pub add-entry-spec : {M : Type 1} → statement M

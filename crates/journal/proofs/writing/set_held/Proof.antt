@@ -4,7 +4,7 @@ use mathlib.Core.Path.{ap, ◌∙◌}
 use borrow.Author.Rules.{rules}
 use Rattle.octets.specs.Runs.{pasted}
 use Rattle.journal.proofs.Pastes.{run, length_run}
-use Rattle.calls.specs.Journal.{field, heldTag}
+use Rattle.calls.specs.Journal.{field, held_tag}
 use Rattle.journal.proofs.Writes.{put-before}
 use borrow.Author.Rules.{rules}
 use Rattle.journal.proofs.writing.set_held.Statement.{statement}
@@ -32,8 +32,8 @@ returns c =
     let at_before = at-shift.before.before.before in
     let a = at_before.before in
     let n = length_run a.args.journal.now a.args.from (a.args.to - a.args.from) (omega (arith, a.requires.0.0, a.requires.0.1)) in
-    at-put-held.put-held.ensures ∙ ap (λ s. pasted s 0 (field heldTag a.args.held.now)) at-shift.shift.ensures ∙ put-before
-    a.args.journal.now heldTag a.args.held.now (run a.args.journal.now a.args.from (a.args.to - a.args.from))
+    at-put-held.put-held.ensures ∙ ap (λ s. pasted s 0 (field held_tag a.args.held.now)) at-shift.shift.ensures ∙ put-before
+    a.args.journal.now held_tag a.args.held.now (run a.args.journal.now a.args.from (a.args.to - a.args.from))
     (omega (arith, n, a.requires.1.0))
 
 pub set-held-spec : {M : Type 1} → statement M

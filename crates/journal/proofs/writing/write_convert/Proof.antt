@@ -1,6 +1,6 @@
 use native.Mathlib.Omega.{arith}
 use borrow.Author.Rules.{rules}
-use Rattle.journal.proofs.Turns.{convert-room, convert-written}
+use Rattle.journal.proofs.Turns.{convert_room, convert_written}
 use borrow.Author.Rules.{rules}
 use Rattle.journal.proofs.writing.write_convert.Statement.{statement}
 use Rattle.journal.proofs.writing.write_convert.Tie as tie
@@ -8,7 +8,7 @@ use Rattle.journal.proofs.writing.write_convert.Tie as tie
 set-held-requires : tie.Need-set-held-requires
 set-held-requires c κs =
     let start = c.before.before.before.before in
-    let r = convert-room start.args.pl start.args.journal.now start.args.held.now start.args.ancillae.now start.requires.0
+    let r = convert_room start.args.pl start.args.journal.now start.args.held.now start.args.ancillae.now start.requires.0
     start.requires.1.0.0 start.requires.1.0.1 start.args.function start.args.steps start.requires.1.1 in
     ((r.ordered, r.inside), (omega (arith, r.whole), r.short))
 
@@ -18,14 +18,14 @@ add_at c = search rules
 sub_at : tie.Need-overflow-sub-at
 sub_at c =
     let start = c.before.before.before.before.before.before.before in
-    let r = convert-room start.args.pl start.args.journal.now start.args.held.now start.args.ancillae.now start.requires.0
+    let r = convert_room start.args.pl start.args.journal.now start.args.held.now start.args.ancillae.now start.requires.0
     start.requires.1.0.0 start.requires.1.0.1 start.args.function start.args.steps start.requires.1.1 in
     r.ordered
 
 add-at-2 : tie.Need-overflow-add-at-2
 add-at-2 c =
     let start = c.before.before.before.before.before.before.before in
-    let r = convert-room start.args.pl start.args.journal.now start.args.held.now start.args.ancillae.now start.requires.0
+    let r = convert_room start.args.pl start.args.journal.now start.args.held.now start.args.ancillae.now start.requires.0
     start.requires.1.0.0 start.requires.1.0.1 start.args.function start.args.steps start.requires.1.1 in
     search rules
 
@@ -33,21 +33,21 @@ add-entry-requires : tie.Need-add-entry-requires
 add-entry-requires c κs =
     let at-set-held = c.before.before.before in
     let start = at-set-held.before.before.before.before.before in
-    let r = convert-room start.args.pl start.args.journal.now start.args.held.now start.args.ancillae.now start.requires.0
+    let r = convert_room start.args.pl start.args.journal.now start.args.held.now start.args.ancillae.now start.requires.0
     start.requires.1.0.0 start.requires.1.0.1 start.args.function start.args.steps start.requires.1.1 in
     (omega (arith, at-set-held.set-held.auto.0, r.whole), r.few)
 
 add-clear-from : tie.Need-overflow-add-clear-from
 add-clear-from c =
     let start = c.before.before.before.before.before.before.before.before.before.before.before.before in
-    let r = convert-room start.args.pl start.args.journal.now start.args.held.now start.args.ancillae.now start.requires.0
+    let r = convert_room start.args.pl start.args.journal.now start.args.held.now start.args.ancillae.now start.requires.0
     start.requires.1.0.0 start.requires.1.0.1 start.args.function start.args.steps start.requires.1.1 in
     search rules
 
 add-clear-from-2 : tie.Need-overflow-add-clear-from-2
 add-clear-from-2 c =
     let start = c.before.before.before.before.before.before.before.before.before.before.before.before in
-    let r = convert-room start.args.pl start.args.journal.now start.args.held.now start.args.ancillae.now start.requires.0
+    let r = convert_room start.args.pl start.args.journal.now start.args.held.now start.args.ancillae.now start.requires.0
     start.requires.1.0.0 start.requires.1.0.1 start.args.function start.args.steps start.requires.1.1 in
     search rules
 
@@ -56,7 +56,7 @@ clear-from-requires c κs =
     let at-add-entry = c.before.before.before in
     let at-set-held = at-add-entry.before.before.before.before in
     let start = at-set-held.before.before.before.before.before in
-    let r = convert-room start.args.pl start.args.journal.now start.args.held.now start.args.ancillae.now start.requires.0
+    let r = convert_room start.args.pl start.args.journal.now start.args.held.now start.args.ancillae.now start.requires.0
     start.requires.1.0.0 start.requires.1.0.1 start.args.function start.args.steps start.requires.1.1 in
     omega (arith, at-add-entry.add-entry.auto.0, at-set-held.set-held.auto.0, r.whole)
 
@@ -69,7 +69,7 @@ returns c =
     let at-add-entry = at-clear-from.before.before.before.before in
     let at-set-held = at-add-entry.before.before.before.before in
     let start = at-set-held.before.before.before.before.before in
-    convert-written start.args.pl start.args.journal.now start.args.held.now start.args.ancillae.now start.requires.0
+    convert_written start.args.pl start.args.journal.now start.args.held.now start.args.ancillae.now start.requires.0
     start.requires.1.0.0 start.requires.1.0.1 start.args.function start.args.steps start.requires.1.1 _ _ _ at-set-held.set-held.ensures
     at-add-entry.add-entry.ensures at-clear-from.clear-from.ensures
 

@@ -1,6 +1,6 @@
 use native.Mathlib.Omega.{arith}
 use borrow.Author.Rules.{rules}
-use Rattle.journal.proofs.Turns.{rollback-room, rollback-written}
+use Rattle.journal.proofs.Turns.{rollback_room, rollback_written}
 use borrow.Author.Rules.{rules}
 use Rattle.journal.proofs.writing.write_rollback.Statement.{statement}
 use Rattle.journal.proofs.writing.write_rollback.Tie as tie
@@ -8,7 +8,7 @@ use Rattle.journal.proofs.writing.write_rollback.Tie as tie
 set-held-requires : tie.Need-set-held-requires
 set-held-requires c κs =
     let start = c.before.before.before in
-    let r = rollback-room start.args.pl start.args.journal.now start.args.held.now start.requires.0 start.requires.1.0
+    let r = rollback_room start.args.pl start.args.journal.now start.args.held.now start.requires.0 start.requires.1.0
     start.requires.1.1 in
     ((r.ordered, r.inside), (r.whole, r.short))
 
@@ -18,14 +18,14 @@ add-clear-from c = search rules
 sub-clear-from : tie.Need-overflow-sub-clear-from
 sub-clear-from c =
     let start = c.before.before.before.before.before.before.before in
-    let r = rollback-room start.args.pl start.args.journal.now start.args.held.now start.requires.0 start.requires.1.0
+    let r = rollback_room start.args.pl start.args.journal.now start.args.held.now start.requires.0 start.requires.1.0
     start.requires.1.1 in
     r.ordered
 
 add-clear-from-2 : tie.Need-overflow-add-clear-from-2
 add-clear-from-2 c =
     let start = c.before.before.before.before.before.before.before in
-    let r = rollback-room start.args.pl start.args.journal.now start.args.held.now start.requires.0 start.requires.1.0
+    let r = rollback_room start.args.pl start.args.journal.now start.args.held.now start.requires.0 start.requires.1.0
     start.requires.1.1 in
     search rules
 
@@ -33,7 +33,7 @@ clear-from-requires : tie.Need-clear-from-requires
 clear-from-requires c κs =
     let at-set-held = c.before.before.before in
     let start = at-set-held.before.before.before.before in
-    let r = rollback-room start.args.pl start.args.journal.now start.args.held.now start.requires.0 start.requires.1.0
+    let r = rollback_room start.args.pl start.args.journal.now start.args.held.now start.requires.0 start.requires.1.0
     start.requires.1.1 in
     omega (arith, at-set-held.set-held.auto.0, r.whole)
 
@@ -45,7 +45,7 @@ returns c =
     let at-clear-from = c.before.before in
     let at-set-held = at-clear-from.before.before.before.before in
     let start = at-set-held.before.before.before.before in
-    rollback-written start.args.pl start.args.journal.now start.args.held.now start.requires.0 start.requires.1.0 start.requires.1.1 _ _
+    rollback_written start.args.pl start.args.journal.now start.args.held.now start.requires.0 start.requires.1.0 start.requires.1.1 _ _
     at-set-held.set-held.ensures at-clear-from.clear-from.ensures
 
 pub write-rollback-spec : {M : Type 1} → statement M

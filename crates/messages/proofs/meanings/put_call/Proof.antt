@@ -1,6 +1,6 @@
 use mathlib.Core.Path.{sym, ap}
 use Rattle.calltext.proofs.Writing.{wrote_as}
-use Rattle.messages.specs.Meanings.{callMeaning}
+use Rattle.messages.specs.Meanings.{call_meaning}
 use Rattle.messages.proofs.Short.{call-last}
 use borrow.Author.Rules.{rules}
 use Rattle.messages.proofs.meanings.put_call.Statement.{statement}
@@ -16,8 +16,8 @@ same_length : tie.Need-same-length
 same_length c = search rules
 
 returns : tie.Need-returns
-unfolding callMeaning
-returns c = wrote_as c.before.before.put.ensures (sym (ap callMeaning c.before.before.before.before.before.if1.true))
+unfolding call_meaning
+returns c = wrote_as c.before.before.put.ensures (sym (ap call_meaning c.before.before.before.before.before.if1.true))
 
 slice-aggregate-put-2 : tie.Need-slice-aggregate-put-2
 slice-aggregate-put-2 c = search rules
@@ -29,8 +29,8 @@ same-length-2 : tie.Need-same-length-2
 same-length-2 c = search rules
 
 returns-2 : tie.Need-returns-2
-unfolding callMeaning
-returns-2 c = wrote_as c.before.before.put2.ensures (sym (ap callMeaning c.before.before.before.before.before.if2.true))
+unfolding call_meaning
+returns-2 c = wrote_as c.before.before.put2.ensures (sym (ap call_meaning c.before.before.before.before.before.if2.true))
 
 slice-aggregate-put-3 : tie.Need-slice-aggregate-put-3
 slice-aggregate-put-3 c = search rules
@@ -42,7 +42,7 @@ same-length-3 : tie.Need-same-length-3
 same-length-3 c = search rules
 
 returns-3 : tie.Need-returns-3
-unfolding callMeaning
+unfolding call_meaning
 returns-3 c =
     let at-put3 = c.before.before in
     let at-if2 = at-put3.before.before.before in

@@ -1,7 +1,7 @@
 use mathlib.Core.Path.{sym, ap}
 use Rattle.calltext.proofs.Writing.{wrote_as}
-use Rattle.messages.specs.Meanings.{keepingMeaning}
-use Rattle.messages.proofs.Short.{keeping-last}
+use Rattle.messages.specs.Meanings.{keeping_meaning}
+use Rattle.messages.proofs.Short.{keeping_last}
 use borrow.Author.Rules.{rules}
 use Rattle.messages.proofs.meanings.put_keeping.Statement.{statement}
 use Rattle.messages.proofs.meanings.put_keeping.Tie as tie
@@ -16,8 +16,8 @@ same_length : tie.Need-same-length
 same_length c = search rules
 
 returns : tie.Need-returns
-unfolding keepingMeaning
-returns c = wrote_as c.before.before.put.ensures (sym (ap keepingMeaning c.before.before.before.before.before.if1.true))
+unfolding keeping_meaning
+returns c = wrote_as c.before.before.put.ensures (sym (ap keeping_meaning c.before.before.before.before.before.if1.true))
 
 slice-aggregate-put-2 : tie.Need-slice-aggregate-put-2
 slice-aggregate-put-2 c = search rules
@@ -29,8 +29,8 @@ same-length-2 : tie.Need-same-length-2
 same-length-2 c = search rules
 
 returns-2 : tie.Need-returns-2
-unfolding keepingMeaning
-returns-2 c = wrote_as c.before.before.put2.ensures (sym (ap keepingMeaning c.before.before.before.before.before.if2.true))
+unfolding keeping_meaning
+returns-2 c = wrote_as c.before.before.put2.ensures (sym (ap keeping_meaning c.before.before.before.before.before.if2.true))
 
 slice-aggregate-put-3 : tie.Need-slice-aggregate-put-3
 slice-aggregate-put-3 c = search rules
@@ -42,8 +42,8 @@ same-length-3 : tie.Need-same-length-3
 same-length-3 c = search rules
 
 returns-3 : tie.Need-returns-3
-unfolding keepingMeaning
-returns-3 c = wrote_as c.before.before.put3.ensures (sym (ap keepingMeaning c.before.before.before.before.before.if3.true))
+unfolding keeping_meaning
+returns-3 c = wrote_as c.before.before.put3.ensures (sym (ap keeping_meaning c.before.before.before.before.before.if3.true))
 
 slice-aggregate-put-4 : tie.Need-slice-aggregate-put-4
 slice-aggregate-put-4 c = search rules
@@ -55,13 +55,13 @@ same-length-4 : tie.Need-same-length-4
 same-length-4 c = search rules
 
 returns-4 : tie.Need-returns-4
-unfolding keepingMeaning
+unfolding keeping_meaning
 returns-4 c =
     let at-put4 = c.before.before in
     let at-if3 = at-put4.before.before.before in
     let at-if2 = at-if3.before in
     let at-if1 = at-if2.before in
-    wrote_as at-put4.put4.ensures (sym (keeping-last _ at-if1.if1.false at-if2.if2.false at-if3.if3.false))
+    wrote_as at-put4.put4.ensures (sym (keeping_last _ at-if1.if1.false at-if2.if2.false at-if3.if3.false))
 
 pub put-keeping-spec : {M : Type 1} → statement M
 put-keeping-spec =

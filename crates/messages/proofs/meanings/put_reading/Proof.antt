@@ -1,7 +1,7 @@
 use mathlib.Core.Path.{sym, ap}
 use Rattle.calltext.proofs.Writing.{wrote_as}
-use Rattle.messages.specs.Meanings.{readingMeaning}
-use Rattle.messages.proofs.Short.{reading-last}
+use Rattle.messages.specs.Meanings.{reading_meaning}
+use Rattle.messages.proofs.Short.{reading_last}
 use borrow.Author.Rules.{rules}
 use Rattle.messages.proofs.meanings.put_reading.Statement.{statement}
 use Rattle.messages.proofs.meanings.put_reading.Tie as tie
@@ -16,8 +16,8 @@ same_length : tie.Need-same-length
 same_length c = search rules
 
 returns : tie.Need-returns
-unfolding readingMeaning
-returns c = wrote_as c.before.before.put.ensures (sym (ap readingMeaning c.before.before.before.before.before.if1.true))
+unfolding reading_meaning
+returns c = wrote_as c.before.before.put.ensures (sym (ap reading_meaning c.before.before.before.before.before.if1.true))
 
 slice-aggregate-put-2 : tie.Need-slice-aggregate-put-2
 slice-aggregate-put-2 c = search rules
@@ -29,8 +29,8 @@ same-length-2 : tie.Need-same-length-2
 same-length-2 c = search rules
 
 returns-2 : tie.Need-returns-2
-unfolding readingMeaning
-returns-2 c = wrote_as c.before.before.put2.ensures (sym (ap readingMeaning c.before.before.before.before.before.if2.true))
+unfolding reading_meaning
+returns-2 c = wrote_as c.before.before.put2.ensures (sym (ap reading_meaning c.before.before.before.before.before.if2.true))
 
 slice-aggregate-put-3 : tie.Need-slice-aggregate-put-3
 slice-aggregate-put-3 c = search rules
@@ -42,8 +42,8 @@ same-length-3 : tie.Need-same-length-3
 same-length-3 c = search rules
 
 returns-3 : tie.Need-returns-3
-unfolding readingMeaning
-returns-3 c = wrote_as c.before.before.put3.ensures (sym (ap readingMeaning c.before.before.before.before.before.if3.true))
+unfolding reading_meaning
+returns-3 c = wrote_as c.before.before.put3.ensures (sym (ap reading_meaning c.before.before.before.before.before.if3.true))
 
 slice-aggregate-put-4 : tie.Need-slice-aggregate-put-4
 slice-aggregate-put-4 c = search rules
@@ -55,8 +55,8 @@ same-length-4 : tie.Need-same-length-4
 same-length-4 c = search rules
 
 returns-4 : tie.Need-returns-4
-unfolding readingMeaning
-returns-4 c = wrote_as c.before.before.put4.ensures (sym (ap readingMeaning c.before.before.before.before.before.if4.true))
+unfolding reading_meaning
+returns-4 c = wrote_as c.before.before.put4.ensures (sym (ap reading_meaning c.before.before.before.before.before.if4.true))
 
 slice-aggregate-put-5 : tie.Need-slice-aggregate-put-5
 slice-aggregate-put-5 c = search rules
@@ -68,14 +68,14 @@ same-length-5 : tie.Need-same-length-5
 same-length-5 c = search rules
 
 returns-5 : tie.Need-returns-5
-unfolding readingMeaning
+unfolding reading_meaning
 returns-5 c =
     let at-put5 = c.before.before in
     let at-if4 = at-put5.before.before.before in
     let at-if3 = at-if4.before in
     let at-if2 = at-if3.before in
     let at-if1 = at-if2.before in
-    wrote_as at-put5.put5.ensures (sym (reading-last _ at-if1.if1.false at-if2.if2.false at-if3.if3.false at-if4.if4.false))
+    wrote_as at-put5.put5.ensures (sym (reading_last _ at-if1.if1.false at-if2.if2.false at-if3.if3.false at-if4.if4.false))
 
 pub put-reading-spec : {M : Type 1} → statement M
 put-reading-spec =

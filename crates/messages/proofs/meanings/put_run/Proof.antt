@@ -1,6 +1,6 @@
 use mathlib.Core.Path.{sym, ap}
 use Rattle.calltext.proofs.Writing.{wrote_as}
-use Rattle.messages.specs.Meanings.{runMeaning}
+use Rattle.messages.specs.Meanings.{run_meaning}
 use Rattle.messages.proofs.Short.{run-last}
 use borrow.Author.Rules.{rules}
 use Rattle.messages.proofs.meanings.put_run.Statement.{statement}
@@ -16,8 +16,8 @@ same_length : tie.Need-same-length
 same_length c = search rules
 
 returns : tie.Need-returns
-unfolding runMeaning
-returns c = wrote_as c.before.before.put.ensures (sym (ap runMeaning c.before.before.before.before.before.if1.true))
+unfolding run_meaning
+returns c = wrote_as c.before.before.put.ensures (sym (ap run_meaning c.before.before.before.before.before.if1.true))
 
 slice-aggregate-put-2 : tie.Need-slice-aggregate-put-2
 slice-aggregate-put-2 c = search rules
@@ -29,8 +29,8 @@ same-length-2 : tie.Need-same-length-2
 same-length-2 c = search rules
 
 returns-2 : tie.Need-returns-2
-unfolding runMeaning
-returns-2 c = wrote_as c.before.before.put2.ensures (sym (ap runMeaning c.before.before.before.before.before.if2.true))
+unfolding run_meaning
+returns-2 c = wrote_as c.before.before.put2.ensures (sym (ap run_meaning c.before.before.before.before.before.if2.true))
 
 slice-aggregate-put-3 : tie.Need-slice-aggregate-put-3
 slice-aggregate-put-3 c = search rules
@@ -42,8 +42,8 @@ same-length-3 : tie.Need-same-length-3
 same-length-3 c = search rules
 
 returns-3 : tie.Need-returns-3
-unfolding runMeaning
-returns-3 c = wrote_as c.before.before.put3.ensures (sym (ap runMeaning c.before.before.before.before.before.if3.true))
+unfolding run_meaning
+returns-3 c = wrote_as c.before.before.put3.ensures (sym (ap run_meaning c.before.before.before.before.before.if3.true))
 
 slice-aggregate-put-4 : tie.Need-slice-aggregate-put-4
 slice-aggregate-put-4 c = search rules
@@ -55,8 +55,8 @@ same-length-4 : tie.Need-same-length-4
 same-length-4 c = search rules
 
 returns-4 : tie.Need-returns-4
-unfolding runMeaning
-returns-4 c = wrote_as c.before.before.put4.ensures (sym (ap runMeaning c.before.before.before.before.before.if4.true))
+unfolding run_meaning
+returns-4 c = wrote_as c.before.before.put4.ensures (sym (ap run_meaning c.before.before.before.before.before.if4.true))
 
 slice-aggregate-put-5 : tie.Need-slice-aggregate-put-5
 slice-aggregate-put-5 c = search rules
@@ -68,7 +68,7 @@ same-length-5 : tie.Need-same-length-5
 same-length-5 c = search rules
 
 returns-5 : tie.Need-returns-5
-unfolding runMeaning
+unfolding run_meaning
 returns-5 c =
     let at-put5 = c.before.before in
     let at-if4 = at-put5.before.before.before in

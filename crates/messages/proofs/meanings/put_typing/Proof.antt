@@ -1,7 +1,7 @@
 use mathlib.Core.Path.{sym, ap}
 use Rattle.calltext.proofs.Writing.{wrote_as}
-use Rattle.messages.specs.Meanings.{typingMeaning}
-use Rattle.messages.proofs.Short.{typing-last}
+use Rattle.messages.specs.Meanings.{typing_meaning}
+use Rattle.messages.proofs.Short.{typing_last}
 use borrow.Author.Rules.{rules}
 use Rattle.messages.proofs.meanings.put_typing.Statement.{statement}
 use Rattle.messages.proofs.meanings.put_typing.Tie as tie
@@ -16,8 +16,8 @@ same_length : tie.Need-same-length
 same_length c = search rules
 
 returns : tie.Need-returns
-unfolding typingMeaning
-returns c = wrote_as c.before.before.put.ensures (sym (ap typingMeaning c.before.before.before.before.before.if1.true))
+unfolding typing_meaning
+returns c = wrote_as c.before.before.put.ensures (sym (ap typing_meaning c.before.before.before.before.before.if1.true))
 
 slice-aggregate-put-2 : tie.Need-slice-aggregate-put-2
 slice-aggregate-put-2 c = search rules
@@ -29,8 +29,8 @@ same-length-2 : tie.Need-same-length-2
 same-length-2 c = search rules
 
 returns-2 : tie.Need-returns-2
-unfolding typingMeaning
-returns-2 c = wrote_as c.before.before.put2.ensures (sym (ap typingMeaning c.before.before.before.before.before.if2.true))
+unfolding typing_meaning
+returns-2 c = wrote_as c.before.before.put2.ensures (sym (ap typing_meaning c.before.before.before.before.before.if2.true))
 
 slice-aggregate-put-3 : tie.Need-slice-aggregate-put-3
 slice-aggregate-put-3 c = search rules
@@ -42,12 +42,12 @@ same-length-3 : tie.Need-same-length-3
 same-length-3 c = search rules
 
 returns-3 : tie.Need-returns-3
-unfolding typingMeaning
+unfolding typing_meaning
 returns-3 c =
     let at-put3 = c.before.before in
     let at-if2 = at-put3.before.before.before in
     let at-if1 = at-if2.before in
-    wrote_as at-put3.put3.ensures (sym (typing-last _ at-if1.if1.false at-if2.if2.false))
+    wrote_as at-put3.put3.ensures (sym (typing_last _ at-if1.if1.false at-if2.if2.false))
 
 pub put-typing-spec : {M : Type 1} → statement M
 put-typing-spec =

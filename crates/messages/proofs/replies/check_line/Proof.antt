@@ -1,7 +1,7 @@
 use mathlib.Core.Path.{sym, ap}
-use Rattle.answers.specs.Answers.{checkAnswer}
+use Rattle.answers.specs.Answers.{check_answer}
 use Rattle.calltext.proofs.Writing.{wrote_as}
-use Rattle.messages.specs.Replies.{checkText}
+use Rattle.messages.specs.Replies.{check_text}
 use borrow.Author.Rules.{rules}
 use Rattle.messages.proofs.replies.check_line.Statement.{statement}
 use Rattle.messages.proofs.replies.check_line.Tie as tie
@@ -25,18 +25,18 @@ same_length : tie.Need-same-length
 same_length c = search rules
 
 returns : tie.Need-returns
-unfolding checkText
-returns c = wrote_as c.before.before.put.ensures (sym (ap (λ a. checkText (checkAnswer a)) c.before.before.before.before.before.enum_told.given.1))
+unfolding check_text
+returns c = wrote_as c.before.before.put.ensures (sym (ap (λ a. check_text (check_answer a)) c.before.before.before.before.before.enum_told.given.1))
 
 same-length-2 : tie.Need-same-length-2
 same-length-2 c = search rules
 
 returns-2 : tie.Need-returns-2
-unfolding checkText
+unfolding check_text
 returns-2 c =
     let at-refusal-line = c.before.before in
     let at-answer = at-refusal-line.before.before.before in
-    wrote_as at-refusal-line.refusal-line.ensures (sym (ap (λ a. checkText (checkAnswer a)) at-answer.answer.given.1))
+    wrote_as at-refusal-line.refusal-line.ensures (sym (ap (λ a. check_text (check_answer a)) at-answer.answer.given.1))
 
 pub check-line-spec : {M : Type 1} → statement M
 check-line-spec =

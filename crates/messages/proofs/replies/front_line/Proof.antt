@@ -2,7 +2,7 @@ use native.Mathlib.Omega.{arith}
 use mathlib.Core.Path.{sym, ap}
 use lib.ListN.{take, length-take}
 use lib.Seq.{length-take-le}
-use Rattle.calltext.specs.Answers.{numberedLine}
+use Rattle.calltext.specs.Answers.{numbered_line}
 use Rattle.calltext.proofs.Writing.{wrote_as}
 use borrow.Author.Rules.{rules}
 use Rattle.messages.proofs.replies.front_line.Statement.{statement}
@@ -29,7 +29,7 @@ returns c =
     let at-numbered-line = c.before.before in
     let at-wide-index = at-numbered-line.before.before.before in
     let a = at-wide-index.before.before.before.before.args in
-    wrote_as at-numbered-line.numbered-line.ensures (ap (λ k. numberedLine a.word.now (take k a.output.now) a.number)
+    wrote_as at-numbered-line.numbered-line.ensures (ap (λ k. numbered_line a.word.now (take k a.output.now) a.number)
     at-wide-index.wide-index.ensures.0)
 
 pub front-line-spec : {M : Type 1} → statement M

@@ -1,7 +1,7 @@
 use mathlib.Core.Path.{sym, ap}
-use Rattle.answers.specs.Answers.{runAnswer}
+use Rattle.answers.specs.Answers.{run_answer}
 use Rattle.calltext.proofs.Writing.{wrote_as}
-use Rattle.messages.specs.Replies.{heldText}
+use Rattle.messages.specs.Replies.{held_text}
 use borrow.Author.Rules.{rules}
 use Rattle.messages.proofs.replies.held_line.Statement.{statement}
 use Rattle.messages.proofs.replies.held_line.Tie as tie
@@ -22,17 +22,17 @@ same_length : tie.Need-same-length
 same_length c = search rules
 
 returns : tie.Need-returns
-unfolding heldText
+unfolding held_text
 returns c = let j = c.before.before.before.before.before.before.before.before.before.args.journal.now in
-    wrote_as c.before.before.turned-line.ensures (sym (ap (λ a. heldText (runAnswer a) j) c.before.before.before.before.before.answer.given.1))
+    wrote_as c.before.before.turned-line.ensures (sym (ap (λ a. held_text (run_answer a) j) c.before.before.before.before.before.answer.given.1))
 
 same-length-2 : tie.Need-same-length-2
 same-length-2 c = search rules
 
 returns-2 : tie.Need-returns-2
-unfolding heldText
+unfolding held_text
 returns-2 c = let j = c.before.before.before.before.before.before.before.before.before.args.journal.now in
-    wrote_as c.before.before.refusal-line.ensures (sym (ap (λ a. heldText (runAnswer a) j) c.before.before.before.before.before.answer2.given.1))
+    wrote_as c.before.before.refusal-line.ensures (sym (ap (λ a. held_text (run_answer a) j) c.before.before.before.before.before.answer2.given.1))
 
 pub held-line-spec : {M : Type 1} → statement M
 held-line-spec =

@@ -1,8 +1,8 @@
 use native.Mathlib.Omega.{arith}
 use mathlib.Core.Path.{sym, ap}
-use Rattle.answers.specs.Answers.{nurseAnswer}
+use Rattle.answers.specs.Answers.{nurse_answer}
 use Rattle.calltext.proofs.Writing.{wrote_as}
-use Rattle.messages.specs.Replies.{nurseText, seenLength}
+use Rattle.messages.specs.Replies.{nurse_text, seen_length}
 use borrow.Author.Rules.{rules}
 use Rattle.messages.proofs.replies.nurse_line.Statement.{statement}
 use Rattle.messages.proofs.replies.nurse_line.Tie as tie
@@ -17,7 +17,7 @@ front-line-requires : tie.Need-front-line-requires
 front-line-requires c κs =
     let at-answer = c.before.before.before in
     let start = at-answer.before.before.before.before in
-    (omega (arith, start.requires.0, ap seenLength at-answer.answer.given.1), omega (arith, start.requires.1.0))
+    (omega (arith, start.requires.0, ap seen_length at-answer.answer.given.1), omega (arith, start.requires.1.0))
 
 enum-known-answer-2 : tie.Need-enum-known-answer-2
 enum-known-answer-2 c = search rules
@@ -29,23 +29,23 @@ same_length : tie.Need-same-length
 same_length c = search rules
 
 returns : tie.Need-returns
-unfolding nurseText
+unfolding nurse_text
 returns c =
     let at-front-line = c.before.before in
     let at-answer = at-front-line.before.before.before.before in
     let output = at-answer.before.before.before.before.args.output.now in
-    wrote_as at-front-line.front-line.ensures (sym (ap (λ a. nurseText (nurseAnswer a) output) at-answer.answer.given.1))
+    wrote_as at-front-line.front-line.ensures (sym (ap (λ a. nurse_text (nurse_answer a) output) at-answer.answer.given.1))
 
 same-length-2 : tie.Need-same-length-2
 same-length-2 c = search rules
 
 returns-2 : tie.Need-returns-2
-unfolding nurseText
+unfolding nurse_text
 returns-2 c =
     let at-refusal-line = c.before.before in
     let at-answer2 = at-refusal-line.before.before.before in
     let output = at-answer2.before.before.before.before.args.output.now in
-    wrote_as at-refusal-line.refusal-line.ensures (sym (ap (λ a. nurseText (nurseAnswer a) output) at-answer2.answer2.given.1))
+    wrote_as at-refusal-line.refusal-line.ensures (sym (ap (λ a. nurse_text (nurse_answer a) output) at-answer2.answer2.given.1))
 
 pub nurse-line-spec : {M : Type 1} → statement M
 nurse-line-spec =

@@ -1,7 +1,7 @@
 use mathlib.Core.Path.{sym, ap}
-use Rattle.answers.specs.Answers.{checkAnswer}
+use Rattle.answers.specs.Answers.{check_answer}
 use Rattle.calltext.proofs.Writing.{wrote_as}
-use Rattle.messages.specs.Replies.{openedText}
+use Rattle.messages.specs.Replies.{opened_text}
 use borrow.Author.Rules.{rules}
 use Rattle.messages.proofs.replies.opened_line.Statement.{statement}
 use Rattle.messages.proofs.replies.opened_line.Tie as tie
@@ -25,23 +25,23 @@ same_length : tie.Need-same-length
 same_length c = search rules
 
 returns : tie.Need-returns
-unfolding openedText
+unfolding opened_text
 returns c =
     let at-word-line = c.before.before in
     let at-enum-told = at-word-line.before.before.before in
     let journal = at-enum-told.before.before.before.before.args.journal.now in
-    wrote_as at-word-line.word_line.ensures (sym (ap (λ a. openedText (checkAnswer a) journal) at-enum-told.enum_told.given.1))
+    wrote_as at-word-line.word_line.ensures (sym (ap (λ a. opened_text (check_answer a) journal) at-enum-told.enum_told.given.1))
 
 same-length-2 : tie.Need-same-length-2
 same-length-2 c = search rules
 
 returns-2 : tie.Need-returns-2
-unfolding openedText
+unfolding opened_text
 returns-2 c =
     let at-refusal-line = c.before.before in
     let at-answer = at-refusal-line.before.before.before in
     let journal = at-answer.before.before.before.before.args.journal.now in
-    wrote_as at-refusal-line.refusal-line.ensures (sym (ap (λ a. openedText (checkAnswer a) journal) at-answer.answer.given.1))
+    wrote_as at-refusal-line.refusal-line.ensures (sym (ap (λ a. opened_text (check_answer a) journal) at-answer.answer.given.1))
 
 pub opened-line-spec : {M : Type 1} → statement M
 opened-line-spec =

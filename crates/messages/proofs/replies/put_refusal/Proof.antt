@@ -1,7 +1,7 @@
 use native.Mathlib.Omega.{arith}
 use mathlib.Core.Path.{ap₂}
 use Rattle.calltext.specs.Text.{text}
-use Rattle.calltext.specs.Answers.{twoNumbers}
+use Rattle.calltext.specs.Answers.{two_numbers}
 use Rattle.calltext.proofs.Writing.{wrote_as}
 use borrow.Author.Rules.{rules}
 use Rattle.messages.proofs.replies.put_refusal.Statement.{statement}
@@ -29,7 +29,7 @@ returns c =
     let at-number = at_place.before in
     let a = at-number.before.before.before.before.args in
     let told = at-two-numbers.two-numbers.ensures in
-    let same = ap₂ (λ m n. twoNumbers (text "refused ") m a.between.now n a.behind.now) at-number.number.ensures
+    let same = ap₂ (λ m n. two_numbers (text "refused ") m a.between.now n a.behind.now) at-number.number.ensures
     at_place.place.ensures in
     (wrote_as told.0 same, omega (arith, told.1))
 

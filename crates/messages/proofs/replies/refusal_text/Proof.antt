@@ -1,8 +1,8 @@
 use native.Mathlib.Omega.{arith}
 use mathlib.Core.Path.{ap}
 use Rattle.calltext.proofs.Writing.{wrote_as, wrote-both}
-use Rattle.messages.specs.Meanings.{meaningOf}
-use Rattle.messages.specs.Replies.{refusalText}
+use Rattle.messages.specs.Meanings.{meaning_of}
+use Rattle.messages.specs.Replies.{refusal_text}
 use Rattle.messages.proofs.Short.{meaning-short}
 use borrow.Author.Rules.{rules}
 use Rattle.messages.proofs.replies.refusal_text.Statement.{statement}
@@ -40,14 +40,14 @@ same_length : tie.Need-same-length
 same_length c = search rules
 
 returns : tie.Need-returns
-unfolding refusalText
+unfolding refusal_text
 returns c =
     let at-put = c.before.before in
     let at-put-meaning = at-put.before.before.before.before.before in
     let at-number = at-put-meaning.before.before in
     let at-put-where = at-number.before.before.before in
     wrote-both (wrote-both at-put-where.put-where.ensures.0
-    (wrote_as at-put-meaning.put-meaning.ensures (ap meaningOf at-number.number.ensures))) at-put.put.ensures
+    (wrote_as at-put-meaning.put-meaning.ensures (ap meaning_of at-number.number.ensures))) at-put.put.ensures
 
 pub refusal-text-spec : {M : Type 1} → statement M
 refusal-text-spec =

@@ -1,8 +1,8 @@
 use native.Mathlib.Omega.{arith}
 use mathlib.Core.Path.{sym, ap}
-use Rattle.answers.specs.Answers.{runAnswer}
+use Rattle.answers.specs.Answers.{run_answer}
 use Rattle.calltext.proofs.Writing.{wrote_as}
-use Rattle.messages.specs.Replies.{runText, length_of}
+use Rattle.messages.specs.Replies.{run_text, length_of}
 use borrow.Author.Rules.{rules}
 use Rattle.messages.proofs.replies.run_line.Statement.{statement}
 use Rattle.messages.proofs.replies.run_line.Tie as tie
@@ -29,23 +29,23 @@ same_length : tie.Need-same-length
 same_length c = search rules
 
 returns : tie.Need-returns
-unfolding runText
+unfolding run_text
 returns c =
     let at-front-line = c.before.before in
     let at-answer = at-front-line.before.before.before.before in
     let output = at-answer.before.before.before.before.args.output.now in
-    wrote_as at-front-line.front-line.ensures (sym (ap (λ a. runText (runAnswer a) output) at-answer.answer.given.1))
+    wrote_as at-front-line.front-line.ensures (sym (ap (λ a. run_text (run_answer a) output) at-answer.answer.given.1))
 
 same-length-2 : tie.Need-same-length-2
 same-length-2 c = search rules
 
 returns-2 : tie.Need-returns-2
-unfolding runText
+unfolding run_text
 returns-2 c =
     let at-refusal-line = c.before.before in
     let at-answer2 = at-refusal-line.before.before.before in
     let output = at-answer2.before.before.before.before.args.output.now in
-    wrote_as at-refusal-line.refusal-line.ensures (sym (ap (λ a. runText (runAnswer a) output) at-answer2.answer2.given.1))
+    wrote_as at-refusal-line.refusal-line.ensures (sym (ap (λ a. run_text (run_answer a) output) at-answer2.answer2.given.1))
 
 pub run-line-spec : {M : Type 1} → statement M
 run-line-spec =

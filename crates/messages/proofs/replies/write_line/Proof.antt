@@ -2,9 +2,9 @@ use native.Mathlib.Omega.{arith}
 use mathlib.Core.Path.{sym, ap}
 use lib.ListN.{length-take}
 use lib.Seq.{length-take-le}
-use Rattle.answers.specs.Answers.{writeAnswer}
+use Rattle.answers.specs.Answers.{write_answer}
 use Rattle.calltext.proofs.Writing.{wrote_as}
-use Rattle.messages.specs.Replies.{writeText, writtenLength}
+use Rattle.messages.specs.Replies.{write_text, written_length}
 use borrow.Author.Rules.{rules}
 use Rattle.messages.proofs.replies.write_line.Statement.{statement}
 use Rattle.messages.proofs.replies.write_line.Tie as tie
@@ -19,7 +19,7 @@ slice-aggregate-word-line-2 : tie.Need-slice-aggregate-word-line-2
 slice-aggregate-word-line-2 c =
     let at-answer = c.before.before.before in
     let start = at-answer.before.before.before.before in
-    sym (length-take-le _ start.args.output.now (omega (arith, start.requires.0, ap writtenLength at-answer.answer.given.1)))
+    sym (length-take-le _ start.args.output.now (omega (arith, start.requires.0, ap written_length at-answer.answer.given.1)))
 
 word-line-requires : tie.Need-word-line-requires
 word-line-requires c κs =
@@ -37,23 +37,23 @@ same_length : tie.Need-same-length
 same_length c = search rules
 
 returns : tie.Need-returns
-unfolding writeText
+unfolding write_text
 returns c =
     let at-word-line = c.before.before in
     let at-answer = at-word-line.before.before.before.before.before in
     let output = at-answer.before.before.before.before.args.output.now in
-    wrote_as at-word-line.word_line.ensures (sym (ap (λ a. writeText (writeAnswer a) output) at-answer.answer.given.1))
+    wrote_as at-word-line.word_line.ensures (sym (ap (λ a. write_text (write_answer a) output) at-answer.answer.given.1))
 
 same-length-2 : tie.Need-same-length-2
 same-length-2 c = search rules
 
 returns-2 : tie.Need-returns-2
-unfolding writeText
+unfolding write_text
 returns-2 c =
     let at-refusal-line = c.before.before in
     let at-answer2 = at-refusal-line.before.before.before in
     let output = at-answer2.before.before.before.before.args.output.now in
-    wrote_as at-refusal-line.refusal-line.ensures (sym (ap (λ a. writeText (writeAnswer a) output) at-answer2.answer2.given.1))
+    wrote_as at-refusal-line.refusal-line.ensures (sym (ap (λ a. write_text (write_answer a) output) at-answer2.answer2.given.1))
 
 pub write-line-spec : {M : Type 1} → statement M
 write-line-spec =

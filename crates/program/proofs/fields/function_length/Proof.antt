@@ -1,5 +1,5 @@
 use borrow.Author.Rules.{rules}
-use Rattle.calls.specs.Fields.{functionLength}
+use Rattle.calls.specs.Fields.{function_length}
 use Rattle.program.proofs.fields.function_length.Statement.{statement}
 use Rattle.program.proofs.fields.function_length.Tie as tie
 
@@ -13,7 +13,7 @@ add-result : tie.Need-overflow-add-result
 add-result c = search rules
 
 returns : tie.Need-returns
-unfolding functionLength
+unfolding function_length
 returns c = cc
 
 pub function-length-spec : {M : Type 1} → statement M

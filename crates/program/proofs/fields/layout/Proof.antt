@@ -2,10 +2,10 @@ use Prim.Native.Nat.{◌-◌}
 use native.Mathlib.Omega.{arith}
 use mathlib.Core.Path.{◌≡◌, refl, ◌∙◌}
 use lib.ListN.{length, take}
-use Rattle.rules.specs.Limits.{maxProgramBytes}
-use Rattle.program.proofs.Found.{none-formed, whole-formed, whole-tag, whole-next}
+use Rattle.rules.specs.Limits.{max_program_bytes}
+use Rattle.program.proofs.Found.{none_formed, whole_formed, whole_tag, whole_next}
 use Rattle.program.proofs.Placing.{buffers-kept}
-use Rattle.program.proofs.Reading.{next-after, next-inside, Reading, layout-over, reading-starts, reading-ends, reading-malformed, reading-over, reading-placeable, reading-more}
+use Rattle.program.proofs.Reading.{next-after, next-inside, Reading, layout-over, reading_starts, reading_ends, reading_malformed, reading_over, reading_placeable, reading_more}
 use Rattle.program.proofs.Signing.{Signing, signing-starts, signing-ends, signable, signing-more}
 use Rattle.program.proofs.fields.layout.Statement.{statement}
 use Rattle.program.proofs.fields.layout.Tie as tie
@@ -19,14 +19,14 @@ abbrev decreases-loop : tie.decreases-loop
 decreases-loop p types₀ terms₀ functions₀ table₀ counts₀ at₀ last₀ types terms functions table counts at last = length p - at
 
 returns : tie.Need-returns invariant-loop decreases-loop
-unfolding maxProgramBytes
+unfolding max_program_bytes
 returns c = (record { answer = layout-over _ c.if1.true; counted = tt; buffers = c.before.before.before.before.before.requires.0 }, tt)
 
 loop-holds : tie.Need-loop-init invariant-loop decreases-loop
-unfolding maxProgramBytes
+unfolding max_program_bytes
 loop-holds c =
     let start = c.before.before.before.before.before in
-    (reading-starts _ _ _ _ c.if1.false start.requires.0, refl, refl, refl, signing-starts _ start.requires.1)
+    (reading_starts _ _ _ _ c.if1.false start.requires.0, refl, refl, refl, signing-starts _ start.requires.1)
 
 read-field-requires : tie.Need-read-field-requires invariant-loop decreases-loop
 read-field-requires c κs = c.before.loop.invariant.0.inside
@@ -53,8 +53,8 @@ returns-2 c =
     let at-loop = at-loop-test.before in
     let turn = at-loop.loop.invariant.0 in (
       record {
-        answer = reading-malformed turn at-loop-test.loop-test.true
-            (none-formed _ _ _ (rw c.enum_told.given.1 at at-read-field.read-field.ensures));
+        answer = reading_malformed turn at-loop-test.loop-test.true
+            (none_formed _ _ _ (rw c.enum_told.given.1 at at-read-field.read-field.ensures));
         counted = tt;
         buffers = turn.buffers;
       },
@@ -67,8 +67,8 @@ place-requires c κs =
     let at-read-field = at_tag.before.before in
     let at-loop-test = at-read-field.before in
     let at-loop = at-loop-test.before in
-    reading-placeable at-loop.loop.invariant.0 at-loop-test.loop-test.true
-    (whole-formed _ _ _ _ _ (rw at_tag.tag.given.1 at at-read-field.read-field.ensures))
+    reading_placeable at-loop.loop.invariant.0 at-loop-test.loop-test.true
+    (whole_formed _ _ _ _ _ (rw at_tag.tag.given.1 at at-read-field.read-field.ensures))
 
 enum-known-more : tie.Need-enum-known-more invariant-loop decreases-loop
 enum-known-more c = c.match2.keys1
@@ -103,9 +103,9 @@ returns-3 c =
     let at-loop = at-loop-test.before in
     let turn = at-loop.loop.invariant.0 in
     let kept = at_place.place.auto.1.1.1 in
-    let formed = whole-formed _ _ _ _ _ (rw at_tag.tag.given.1 at at-read-field.read-field.ensures) in (
+    let formed = whole_formed _ _ _ _ _ (rw at_tag.tag.given.1 at at-read-field.read-field.ensures) in (
       record {
-        answer = reading-over turn at-loop-test.loop-test.true formed
+        answer = reading_over turn at-loop-test.loop-test.true formed
             (rw c.enum-told2.given.1 at at_place.place.ensures);
         counted = tt;
         buffers = buffers-kept turn.buffers kept.0 kept.1.0
@@ -123,8 +123,8 @@ sign-requires c κs =
     let at-loop = at-read-field.before.before in
     let turn = at-loop.loop.invariant.0 in
     let whole = rw at_tag.tag.given.1 at at-read-field.read-field.ensures in
-    signable _ turn.buffers turn.within (whole-formed _ _ _ _ _ whole) (rw at_more.more.given.1 at at_place.place.ensures)
-    (whole-tag _ _ _ _ _ whole)
+    signable _ turn.buffers turn.within (whole_formed _ _ _ _ _ whole) (rw at_more.more.given.1 at at_place.place.ensures)
+    (whole_tag _ _ _ _ _ whole)
 
 loop-less : tie.Need-loop-smaller invariant-loop decreases-loop
 loop-less c =
@@ -135,9 +135,9 @@ loop-less c =
     let whole = rw at_tag.tag.given.1 at at-read-field.read-field.ensures in
     omega (
       arith,
-      whole-next _ _ _ _ _ whole,
+      whole_next _ _ _ _ _ whole,
       next-after start.args.p.now at-loop.loop.at,
-      next-inside _ _ _ (whole-formed _ _ _ _ _ whole),
+      next-inside _ _ _ (whole_formed _ _ _ _ _ whole),
     )
 
 loop-again : tie.Need-loop-preserved invariant-loop decreases-loop
@@ -151,15 +151,15 @@ loop-again c =
     let turn = at-loop.loop.invariant in
     let kept = at_place.place.auto.1.1.1 in
     let whole = rw at_tag.tag.given.1 at at-read-field.read-field.ensures in (
-      reading-more turn.0 at-loop-test.loop-test.true (whole-formed _ _ _ _ _ whole)
+      reading_more turn.0 at-loop-test.loop-test.true (whole_formed _ _ _ _ _ whole)
           (rw at_more.more.given.1 at at_place.place.ensures) (buffers-kept turn.0.buffers kept.0 kept.1.0 kept.1.1.0)
-          (whole-tag _ _ _ _ _ whole) (whole-next _ _ _ _ _ whole),
+          (whole_tag _ _ _ _ _ whole) (whole_next _ _ _ _ _ whole),
       kept.0 ∙ turn.1,
       kept.1.0 ∙ turn.2,
       kept.1.1.0 ∙ turn.3,
       signing-more _
-          turn.0.buffers turn.0.within (whole-formed _ _ _ _ _ whole) (rw at_more.more.given.1 at at_place.place.ensures)
-          (whole-tag _ _ _ _ _ whole) c.sign.ensures turn.4,
+          turn.0.buffers turn.0.within (whole_formed _ _ _ _ _ whole) (rw at_more.more.given.1 at at_place.place.ensures)
+          (whole_tag _ _ _ _ _ whole) c.sign.ensures turn.4,
     )
 
 same-length-7 : tie.Need-same-length-7 invariant-loop decreases-loop
@@ -173,7 +173,7 @@ same-length-9 c = c.before.loop.invariant.3
 
 returns-4 : tie.Need-returns-4 invariant-loop decreases-loop
 returns-4 c = let turn = c.before.loop.invariant.0 in
-    (record { answer = reading-ends turn c.loop-test.false; counted = turn.within; buffers = turn.buffers }, signing-ends c.before.loop.invariant.4)
+    (record { answer = reading_ends turn c.loop-test.false; counted = turn.within; buffers = turn.buffers }, signing-ends c.before.loop.invariant.4)
 
 pub layout-spec : {M : Type 1} → statement M
 layout-spec =

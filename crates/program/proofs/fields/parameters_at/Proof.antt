@@ -1,5 +1,5 @@
 use borrow.Author.Rules.{rules}
-use Rattle.calls.specs.Fields.{parametersAt}
+use Rattle.calls.specs.Fields.{parameters_at}
 use Rattle.program.proofs.fields.parameters_at.Statement.{statement}
 use Rattle.program.proofs.fields.parameters_at.Tie as tie
 
@@ -10,7 +10,7 @@ byte-at-requires : tie.Need-byte-at-requires
 byte-at-requires c κs = search rules
 
 returns : tie.Need-returns
-unfolding parametersAt
+unfolding parameters_at
 returns c = c.byte_at.ensures
 
 pub parameters-at-spec : {M : Type 1} → statement M

@@ -1,9 +1,9 @@
 use native.Mathlib.Omega.{arith}
 use mathlib.Core.Path.{◌∙◌, sym, ap}
 use borrow.Author.Rules.{rules}
-use Rattle.rules.specs.Limits.{maxProgramBytes}
-use Rattle.program.specs.Places.{parametersWithin}
-use Rattle.program.proofs.Formed.{denied, not-denied}
+use Rattle.rules.specs.Limits.{max_program_bytes}
+use Rattle.program.specs.Places.{parameters_within}
+use Rattle.program.proofs.Formed.{denied, not_denied}
 use Rattle.program.proofs.Placing.{type-placed, term-placed, function-placed, nothing_placed, type-full, term-full, function-full, function-refused}
 use Rattle.program.proofs.fields.place.Statement.{statement}
 use Rattle.program.proofs.fields.place.Tie as tie
@@ -12,7 +12,7 @@ tag-at-requires : tie.Need-tag-at-requires
 tag-at-requires c κs = search rules
 
 cast-offset : tie.Need-overflow-cast-offset
-unfolding maxProgramBytes
+unfolding max_program_bytes
 cast-offset c = omega arith
 
 mul-types : tie.Need-overflow-mul-types
@@ -82,7 +82,7 @@ returns-5 c =
     let start = at_before.before.before.before.before.before.before in
     let tagged = at_before.before in
     function-refused _ _ _ _ _ _ start.requires (sym tagged.tag_at.ensures ∙ at-if5.if5.true)
-    (denied (at-parameters-within.parameters-within.ensures ∙ ap parametersWithin at-parameters-at.parameters-at.ensures) c.if6.true)
+    (denied (at-parameters-within.parameters-within.ensures ∙ ap parameters_within at-parameters-at.parameters-at.ensures) c.if6.true)
 
 mul-functions : tie.Need-overflow-mul-functions
 mul-functions c = search rules
@@ -106,7 +106,7 @@ returns-6 c =
     let start = at_before.before.before.before.before.before.before in
     let tagged = at_before.before in
     function-placed _ _ _ _ _ _ start.requires (sym tagged.tag_at.ensures ∙ at-if5.if5.true)
-    (not-denied (at-parameters-within.parameters-within.ensures ∙ ap parametersWithin at-parameters-at.parameters-at.ensures)
+    (not_denied (at-parameters-within.parameters-within.ensures ∙ ap parameters_within at-parameters-at.parameters-at.ensures)
     at-if6.if6.false) (omega arith)
 
 returns-7 : tie.Need-returns-7

@@ -1,6 +1,6 @@
 use native.Mathlib.Omega.{arith}
 use borrow.Author.Rules.{rules}
-use Rattle.calls.specs.Fields.{termLengths}
+use Rattle.calls.specs.Fields.{term_lengths}
 use Rattle.program.proofs.Formed.{term-beyond}
 use Rattle.program.proofs.fields.term_bytes.Statement.{statement}
 use Rattle.program.proofs.fields.term_bytes.Tie as tie
@@ -18,7 +18,7 @@ array-read-result : tie.Need-array-read-result
 array-read-result c = search rules
 
 returns : tie.Need-returns
-unfolding termLengths
+unfolding term_lengths
 returns c = cc
 
 returns-2 : tie.Need-returns-2

@@ -1,7 +1,7 @@
 use native.Mathlib.Omega.{arith}
 use mathlib.Core.Path.{◌∙◌}
 use borrow.Author.Rules.{rules}
-use Rattle.program.proofs.Formed.{term-empty, term-call, term-by-kind}
+use Rattle.program.proofs.Formed.{term-empty, term-call, term_by_kind}
 use Rattle.program.proofs.fields.term_length.Statement.{statement}
 use Rattle.program.proofs.fields.term_length.Tie as tie
 
@@ -18,7 +18,7 @@ term-bytes-requires : tie.Need-term-bytes-requires
 term-bytes-requires c κs = search rules
 
 returns-3 : tie.Need-returns-3
-returns-3 c = term-by-kind _ _ _ (omega arith) c.before.if2.false c.term-bytes.ensures
+returns-3 c = term_by_kind _ _ _ (omega arith) c.before.if2.false c.term-bytes.ensures
 
 pub term-length-spec : {M : Type 1} → statement M
 term-length-spec =

@@ -1,6 +1,6 @@
 use native.Mathlib.Omega.{arith}
 use borrow.Author.Rules.{rules}
-use Rattle.calls.specs.Fields.{typeLengths}
+use Rattle.calls.specs.Fields.{type_lengths}
 use Rattle.program.proofs.Formed.{type-beyond}
 use Rattle.program.proofs.fields.type_bytes.Statement.{statement}
 use Rattle.program.proofs.fields.type_bytes.Tie as tie
@@ -18,7 +18,7 @@ array-read-result : tie.Need-array-read-result
 array-read-result c = search rules
 
 returns : tie.Need-returns
-unfolding typeLengths
+unfolding type_lengths
 returns c = cc
 
 returns-2 : tie.Need-returns-2

@@ -38,7 +38,7 @@ use denote.Triple.Table.{entered, cited}
 use denote.Triple.Walked.{says, needs, Stays, stay_none, stay_none_slice, walk_of, Goes-none, Goes-none_slice, Walks, ends_at, walked, walk_Meets}
 use denote.Exit.{yes}
 use denote.Triple.Clauses.{ensured, lasts}
-use Rattle.program.specs.Found.{foundOf, fieldAt}
+use Rattle.program.specs.Found.{found_of, field_at}
 use Rattle.program.specs.declared.reader.FieldReader.{FieldReader}
 use Rattle.program.specs.declared.reader.Field.{Field}
 use Rattle.program.specs.contracts.reader.FieldReader as T
@@ -70,8 +70,8 @@ module _ (s : Bor (List ℕ)) (n k : ℕ) (r : FieldReader) (e : (r.program ≡ 
   stands : n ≤ length s.now → r.at ≤ length r.program.now
   stands inside = omega (arith, inside, e.1, ap (λ (x : Bor (List ℕ)). length x.now) e.0)
 
-  reads : (t : Field) → foundOf t r.at ≡ fieldAt r.program.now r.at k → foundOf t n ≡ fieldAt s.now n k
-  reads t f = sym (ap (foundOf t) e.1) ∙ (f ∙ (ap (λ (x : Bor (List ℕ)). fieldAt x.now r.at k) e.0 ∙ ap (λ (m : ℕ). fieldAt s.now m k) e.1))
+  reads : (t : Field) → found_of t r.at ≡ field_at r.program.now r.at k → found_of t n ≡ field_at s.now n k
+  reads t f = sym (ap (found_of t) e.1) ∙ (f ∙ (ap (λ (x : Bor (List ℕ)). field_at x.now r.at k) e.0 ∙ ap (λ (m : ℕ). field_at s.now m k) e.1))
 
 module _ {M : Type 1} {𝓤 : Ura M} (𝓛 : Logic 𝓤) (mem : Memory → SProp 𝓤) (run : Routine → Fun 𝓤) where
   -- the contracts that the proof cites
@@ -132,12 +132,12 @@ module _ {M : Type 1} {𝓤 : Ura M} (𝓛 : Logic 𝓤) (mem : Memory → SProp
       nothing ! $ owned ! u8 (Is u8) (uint_Makes 𝓛 w8) k _ (refl, k-fits) $ fjoin ! $ move ! (1 ∷ 0 ∷ []) $ fjoin ! $ move ! (1 ∷ 0 ∷ []) $ frame ! $ done !
 
   abbrev Told : FieldReader → Field → Type 0
-  Told r t = foundOf t r.at ≡ fieldAt r.program.now r.at k
+  Told r t = found_of t r.at ≡ field_at r.program.now r.at k
 
   field-said : (r : FieldReader) (t : Field) → ent 𝓤 (ensured 𝓛 field.ended (field.clauses 𝓛 mem run) (κ, tt) (r, (k, tt)) tt t) (fact 𝓤 (Told r t))
   field-said r t = ex_e 𝓤 _ (λ ws. snd∗ 𝓤 (sem 𝓛 (lasts field.ended (κ, tt) (r, (k, tt)) ws)) (fact 𝓤 (Told r t)))
 
-  exits : (t : Field) (u : Val) → foundOf t n ≡ fieldAt s.now n k → ent 𝓤 (⋆ 𝓛 (‵ ((S.the_row).own_val t (u ∷ [])) ∷ (‵ (flft κ q) ⊛ ‵ ftrue) ∷ ‵ Own ∷ [])) (Post u)
+  exits : (t : Field) (u : Val) → found_of t n ≡ field_at s.now n k → ent 𝓤 (⋆ 𝓛 (‵ ((S.the_row).own_val t (u ∷ [])) ∷ (‵ (flft κ q) ⊛ ‵ ftrue) ∷ ‵ Own ∷ [])) (Post u)
   exits t u e =
       qed 𝓛 (‵ ((S.the_row).own_val t (u ∷ [])) ∷ (‵ (flft κ q) ⊛ ‵ ftrue) ∷ ‵ Own ∷ []) ∵
       suffices ! _ (ends_at 𝓛 read-field.ended stayed (read-field.clauses 𝓛 mem run) (((κ, tt), (q, tt), tt, (s, (n, (k, tt))), vals), tt) u t (tt, (tt, (tt, tt))) (tt, (tt, (tt, tt)))) $ says ! e $

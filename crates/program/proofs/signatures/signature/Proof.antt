@@ -1,7 +1,7 @@
 use Prim.Native.Nat.{◌≤◌, ◌-◌}
 use native.Mathlib.Omega.{arith}
 use mathlib.Core.Path.{◌≡◌, ◌∙◌}
-use Rattle.rules.specs.Limits.{maxParameters}
+use Rattle.rules.specs.Limits.{max_parameters}
 use Rattle.program.proofs.Rooms.{function-room}
 use Rattle.program.proofs.Rows.{Filled, none_filled, one-filled, all-filled}
 use Rattle.program.proofs.signatures.signature.Statement.{statement}
@@ -17,18 +17,18 @@ function-parameters-requires : tie.Need-function-parameters-requires invariant-l
 function-parameters-requires c κs = omega (arith, function-room c.before.requires)
 
 loop-holds : tie.Need-loop-init invariant-loop decreases-loop
-unfolding maxParameters
+unfolding max_parameters
 loop-holds c = (omega arith, none_filled _ _)
 
 listed-requires : tie.Need-listed-requires invariant-loop decreases-loop
 listed-requires c κs = omega (arith, function-room c.before.before.before.before.requires, c.before.before.function-parameters.ensures.0)
 
 mul-row : tie.Need-overflow-mul-row invariant-loop decreases-loop
-unfolding maxParameters
+unfolding max_parameters
 mul-row c = omega arith
 
 array-write-row : tie.Need-array-write-row invariant-loop decreases-loop
-unfolding maxParameters
+unfolding max_parameters
 array-write-row c = omega arith
 
 add-k : tie.Need-overflow-add-k invariant-loop decreases-loop
@@ -38,7 +38,7 @@ loop-less : tie.Need-loop-smaller invariant-loop decreases-loop
 loop-less c = omega arith
 
 loop-again : tie.Need-loop-preserved invariant-loop decreases-loop
-unfolding maxParameters
+unfolding max_parameters
 loop-again c = (omega arith, one-filled (omega arith) c.listed.ensures c.before.before.loop.invariant.1)
 
 returns : tie.Need-returns invariant-loop decreases-loop

@@ -2,7 +2,7 @@ use Prim.Native.Nat.{◌-◌, ◌/◌}
 use native.Mathlib.Omega.{arith}
 use mathlib.Core.Path.{◌∙◌, ap}
 use package.Rattle.calls.specs.Fields.{length_at}
-use package.Rattle.calls.specs.Entries.{callAncillae}
+use package.Rattle.calls.specs.Entries.{call_ancillae}
 use borrow.Author.Rules.{rules}
 use Rattle.program.proofs.views.call_ancillae.Statement.{statement}
 use Rattle.program.proofs.views.call_ancillae.Tie as tie
@@ -21,7 +21,7 @@ unfolding length_at
 sub-result c = omega (arith, c.wide-index.ensures.0 ∙ c.before.read16.ensures)
 
 returns : tie.Need-returns
-unfolding length_at callAncillae
+unfolding length_at call_ancillae
 returns c = ap (λ n. (n - 5) / 2) (c.wide-index.ensures.0 ∙ c.before.read16.ensures)
 
 pub call-ancillae-spec : {M : Type 1} → statement M

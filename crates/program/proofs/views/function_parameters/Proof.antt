@@ -1,6 +1,6 @@
 use mathlib.Core.Path.{◌∙◌}
 use native.Mathlib.Omega.{arith}
-use package.Rattle.calls.specs.Fields.{parametersAt}
+use package.Rattle.calls.specs.Fields.{parameters_at}
 use borrow.Author.Rules.{rules}
 use Rattle.program.proofs.views.function_parameters.Statement.{statement}
 use Rattle.program.proofs.views.function_parameters.Tie as tie
@@ -18,7 +18,7 @@ wide-index-requires : tie.Need-wide-index-requires
 wide-index-requires c κs = search rules
 
 returns : tie.Need-returns
-unfolding parametersAt
+unfolding parameters_at
 returns c = (c.wide-index.ensures.0 ∙ c.before.wide16.ensures.0, omega arith)
 
 pub function-parameters-spec : {M : Type 1} → statement M

@@ -1,6 +1,6 @@
 use mathlib.Core.Path.{ap, ◌∙◌}
 use lib.ListN.{get_or}
-use Rattle.program.specs.Lists.{termFunctions}
+use Rattle.program.specs.Lists.{term_functions}
 use borrow.Author.Rules.{rules}
 use Rattle.program.proofs.views.functions_in_term.Statement.{statement}
 use Rattle.program.proofs.views.functions_in_term.Tie as tie
@@ -18,8 +18,8 @@ wide-index-requires : tie.Need-wide-index-requires
 wide-index-requires c κs = search rules
 
 returns : tie.Need-returns
-unfolding termFunctions
-returns c = c.wide-index.ensures.0 ∙ c.before.wide16.ensures.0 ∙ ap (λ k. get_or termFunctions k 0) c.before.before.term-kind.ensures.0
+unfolding term_functions
+returns c = c.wide-index.ensures.0 ∙ c.before.wide16.ensures.0 ∙ ap (λ k. get_or term_functions k 0) c.before.before.term-kind.ensures.0
 
 pub functions-in-term-spec : {M : Type 1} → statement M
 functions-in-term-spec =

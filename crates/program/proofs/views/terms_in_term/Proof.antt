@@ -2,9 +2,9 @@ use native.Mathlib.Omega.{arith}
 use mathlib.Core.Path.{sym, ap, ◌∙◌}
 use lib.ListN.{get_or}
 use Prim.Native.Nat.{◌+◌}
-use Rattle.program.specs.Lists.{termTerms}
+use Rattle.program.specs.Lists.{term_terms}
 use Rattle.program.proofs.Rooms.{term-kind-room, call-sized, call-room}
-use Rattle.program.proofs.Lists.{terms-in-call, terms-by-kind}
+use Rattle.program.proofs.Lists.{terms_in-call, terms_by_kind}
 use borrow.Author.Rules.{rules}
 use Rattle.program.proofs.views.terms_in_term.Statement.{statement}
 use Rattle.program.proofs.views.terms_in_term.Tie as tie
@@ -26,7 +26,7 @@ add-result c =
     omega (arith, call-room start.requires (sym at-term-kind.term-kind.ensures.0 ∙ at-if1.if1.true), c.call-ancillae.ensures)
 
 returns : tie.Need-returns
-returns c = ap (λ n. n + 1) c.call-ancillae.ensures ∙ terms-in-call _ _ (sym c.before.before.term-kind.ensures.0 ∙ c.before.if1.true)
+returns c = ap (λ n. n + 1) c.call-ancillae.ensures ∙ terms_in-call _ _ (sym c.before.before.term-kind.ensures.0 ∙ c.before.if1.true)
 
 array-read-wide16 : tie.Need-array-read-wide16
 array-read-wide16 c = search rules
@@ -38,12 +38,12 @@ wide-index-requires : tie.Need-wide-index-requires
 wide-index-requires c κs = search rules
 
 returns-2 : tie.Need-returns-2
-unfolding termTerms
+unfolding term_terms
 returns-2 c =
     let at-wide16 = c.before in
     let at-if1 = at-wide16.before in
     let at-term-kind = at-if1.before in
-    c.wide-index.ensures.0 ∙ at-wide16.wide16.ensures.0 ∙ ap (λ k. get_or termTerms k 0) at-term-kind.term-kind.ensures.0 ∙ terms-by-kind _ _
+    c.wide-index.ensures.0 ∙ at-wide16.wide16.ensures.0 ∙ ap (λ k. get_or term_terms k 0) at-term-kind.term-kind.ensures.0 ∙ terms_by_kind _ _
     (λ e. at-if1.if1.false (at-term-kind.term-kind.ensures.0 ∙ e))
 
 pub terms-in-term-spec : {M : Type 1} → statement M

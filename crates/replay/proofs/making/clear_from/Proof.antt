@@ -1,4 +1,4 @@
-use Rattle.journal.proofs.Writes.{cleared-from}
+use Rattle.journal.proofs.Writes.{cleared_from}
 use borrow.Author.Rules.{rules}
 use Rattle.replay.proofs.making.clear_from.Statement.{statement}
 use Rattle.replay.proofs.making.clear_from.Tie as tie
@@ -20,7 +20,7 @@ same_length c = search rules
 
 returns : tie.Need-returns
 returns c = let a = c.before.before.before.before.before in
-    cleared-from a.args.journal.now a.args.at c.before.before.clear.new.0 a.requires c.before.before.clear.ensures
+    cleared_from a.args.journal.now a.args.at c.before.before.clear.new.0 a.requires c.before.before.clear.ensures
 
 pub clear-from-spec : {M : Type 1} → statement M
 clear-from-spec =

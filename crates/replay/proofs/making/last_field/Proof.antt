@@ -1,5 +1,5 @@
 use mathlib.Core.Path.{sym, ◌∙◌}
-use Rattle.replay.proofs.Fronts.{last-missing, last-there}
+use Rattle.replay.proofs.Fronts.{last_missing, last-there}
 use borrow.Author.Rules.{rules}
 use Rattle.replay.proofs.making.last_field.Statement.{statement}
 use Rattle.replay.proofs.making.last_field.Tie as tie
@@ -14,7 +14,7 @@ enum-known-found : tie.Need-enum-known-found
 enum-known-found c = search rules
 
 returns : tie.Need-returns
-returns c = last-missing c.before.before.before.before.args.journal.now (sym c.enum_told.given.1 ∙ c.before.before.survey.ensures.answer)
+returns c = last_missing c.before.before.before.before.args.journal.now (sym c.enum_told.given.1 ∙ c.before.before.survey.ensures.answer)
 
 returns-2 : tie.Need-returns-2
 returns-2 c =

@@ -1,6 +1,6 @@
 use mathlib.Core.Path.{sym}
 use lib.Seq.{length-take-le}
-use Rattle.replay.proofs.Fronts.{rollback-made}
+use Rattle.replay.proofs.Fronts.{rollback_made}
 use borrow.Author.Rules.{rules}
 use Rattle.replay.proofs.making.make_rollback.Statement.{statement}
 use Rattle.replay.proofs.making.make_rollback.Tie as tie
@@ -33,7 +33,7 @@ returns c =
     let at_before = at-rollback.before.before.before.before.before in
     let a = at_before.before in
     let o = at-rollback.rollback in
-    rollback-made a.args.program.now a.args.journal.now a.args.workspace.now o.new.1.1.1.0 _ _ _ a.args.fuel a.args.n
+    rollback_made a.args.program.now a.args.journal.now a.args.workspace.now o.new.1.1.1.0 _ _ _ a.args.fuel a.args.n
     o.result a.requires o.auto.1.1.1.0 o.ensures.0 o.ensures.1.0 o.ensures.1.1 c.turn-line.ensures
     at-clear-from.clear-from.ensures
 

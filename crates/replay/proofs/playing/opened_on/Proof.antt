@@ -1,5 +1,5 @@
-use Rattle.replay.proofs.Beginnings.{follow-refused, follow-accepted}
-use Rattle.replay.proofs.Parsed.{ahead-as}
+use Rattle.replay.proofs.Beginnings.{follow_refused, follow_accepted}
+use Rattle.replay.proofs.Parsed.{ahead_as}
 use native.Mathlib.Omega.{arith}
 use borrow.Author.Rules.{rules}
 use Rattle.replay.proofs.playing.opened_on.Statement.{statement}
@@ -29,12 +29,12 @@ play-on-requires c κs =
     let at_copy = c.before.before.before.before.before in
     let at-clear-from = at_copy.before.before.before.before.before.before in
     let start = at-clear-from.before.before.before.before.before.before.before.before.before in
-    ahead-as _ at-clear-from.clear-from.auto.0 at_copy.copy.auto.0 start.requires.1
+    ahead_as _ at-clear-from.clear-from.auto.0 at_copy.copy.auto.0 start.requires.1
 
 returns : tie.Need-returns
 returns c =
     let a = c.before.before.before.before.before.before.before.before.args in
-    follow-refused a.program.now a.script.now a.part a.journal.now a.answers.now a.workspace.now _ _
+    follow_refused a.program.now a.script.now a.part a.journal.now a.answers.now a.workspace.now _ _
     c.before.answer.given.1
 
 same_length : tie.Need-same-length
@@ -55,7 +55,7 @@ returns-2 c =
     let at-enum-told = at-clear-from.before.before in
     let start = at-enum-told.before.before.before.before.before.before.before in
     let a = start.args in
-    follow-accepted a.program.now a.script.now a.part a.journal.now a.answers.now a.workspace.now _ _ _ _ _ _ _ _
+    follow_accepted a.program.now a.script.now a.part a.journal.now a.answers.now a.workspace.now _ _ _ _ _ _ _ _
     at-enum-told.enum_told.given.1 start.requires.0 at-clear-from.clear-from.ensures at-open-line.open-line.ensures
     at_copy.copy.ensures at-play-on.play-on.ensures
 

@@ -29,17 +29,17 @@ enum-known-moved c = search rules
 same_length : tie.Need-same-length invariant-loop decreases-loop
 same_length c =
     c.before.before.before.before.before.before.before.before.before.turn_at.auto.1.1.1.1.0
-    ∙ c.before.before.before.before.before.before.before.before.before.before.before.before.before.before.loop.invariant.workspace-long
+    ∙ c.before.before.before.before.before.before.before.before.before.before.before.before.before.before.loop.invariant.workspace_long
 
 same-length-2 : tie.Need-same-length-2 invariant-loop decreases-loop
 same-length-2 c =
     c.before.before.before.before.before.before.before.before.before.turn_at.auto.1.1.1.1.1.0
-    ∙ c.before.before.before.before.before.before.before.before.before.before.before.before.before.before.loop.invariant.journal-long
+    ∙ c.before.before.before.before.before.before.before.before.before.before.before.before.before.before.loop.invariant.journal_long
 
 same-length-3 : tie.Need-same-length-3 invariant-loop decreases-loop
 same-length-3 c =
     c.before.before.before.before.before.before.before.before.before.turn_at.auto.1.1.1.1.1.1.0
-    ∙ c.before.before.before.before.before.before.before.before.before.before.before.before.before.before.loop.invariant.answers-long
+    ∙ c.before.before.before.before.before.before.before.before.before.before.before.before.before.before.loop.invariant.answers_long
 
 returns : tie.Need-returns invariant-loop decreases-loop
 returns c =
@@ -81,13 +81,13 @@ loop-again c =
     c.before.before.before.before.before.before.before.before.before.turn_at.auto.1.1.1.1.0
 
 same-length-4 : tie.Need-same-length-4 invariant-loop decreases-loop
-same-length-4 c = c.before.loop.invariant.workspace-long
+same-length-4 c = c.before.loop.invariant.workspace_long
 
 same-length-5 : tie.Need-same-length-5 invariant-loop decreases-loop
-same-length-5 c = c.before.loop.invariant.journal-long
+same-length-5 c = c.before.loop.invariant.journal_long
 
 same-length-6 : tie.Need-same-length-6 invariant-loop decreases-loop
-same-length-6 c = c.before.loop.invariant.answers-long
+same-length-6 c = c.before.loop.invariant.answers_long
 
 returns-2 : tie.Need-returns-2 invariant-loop decreases-loop
 returns-2 c =

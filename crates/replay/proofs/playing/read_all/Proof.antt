@@ -1,6 +1,6 @@
 use mathlib.Core.Path.{sym, ap, ◌∙◌}
 use Rattle.replay.specs.Inner.Steps.{next_of}
-use Rattle.replay.proofs.Scans.{Reading, reading-starts, reading-ends, reading-over, reading-breaks, reading-stops, reading-further, reading-inside, reading-goes}
+use Rattle.replay.proofs.Scans.{Reading, reading_starts, reading_ends, reading_over, reading_breaks, reading_stops, reading_further, reading_inside, reading_goes}
 use native.Mathlib.Omega.{arith}
 use Prim.Native.Nat.{◌-◌}
 use lib.ListN.{length}
@@ -15,7 +15,7 @@ abbrev decreases-loop : tie.decreases-loop
 decreases-loop script width room at₀ count₀ at count = length script - at
 
 loop-holds : tie.Need-loop-init invariant-loop decreases-loop
-loop-holds c = reading-starts c.before.args.script.now c.before.args.width c.before.args.room
+loop-holds c = reading_starts c.before.args.script.now c.before.args.width c.before.args.room
 
 step-at-requires : tie.Need-step-at-requires invariant-loop decreases-loop
 step-at-requires c κs = c.before.loop.invariant.inside
@@ -26,7 +26,7 @@ enum_told c = search rules
 returns : tie.Need-returns invariant-loop decreases-loop
 returns c =
     let a = c.before.before.before.before.before.before.args in
-    reading-ends a.script.now a.width a.room _ _ c.before.before.before.before.loop.invariant
+    reading_ends a.script.now a.width a.room _ _ c.before.before.before.before.loop.invariant
     (sym c.enum_told.given.1 ∙ c.before.before.step-at.ensures)
 
 enum-told-2 : tie.Need-enum-told-2 invariant-loop decreases-loop
@@ -35,7 +35,7 @@ enum-told-2 c = search rules
 returns-2 : tie.Need-returns-2 invariant-loop decreases-loop
 returns-2 c =
     let a = c.before.before.before.before.before.before.args in
-    reading-breaks a.script.now a.width a.room _ _ c.before.before.before.before.loop.invariant
+    reading_breaks a.script.now a.width a.room _ _ c.before.before.before.before.loop.invariant
     (sym c.enum-told2.given.1 ∙ c.before.before.step-at.ensures)
 
 enum-known-step : tie.Need-enum-known-step invariant-loop decreases-loop
@@ -50,7 +50,7 @@ enum-known-fit c = search rules
 returns-3 : tie.Need-returns-3 invariant-loop decreases-loop
 returns-3 c =
     let a = c.before.before.before.before.before.before.before.before.before.before.before.args in
-    reading-stops a.script.now a.width a.room _ _ c.before.before.before.before.before.before.before.before.before.loop.invariant _
+    reading_stops a.script.now a.width a.room _ _ c.before.before.before.before.before.before.before.before.before.loop.invariant _
     _ (sym c.before.before.before.before.before.step.given.1 ∙ c.before.before.before.before.before.before.before.step-at.ensures)
     (sym (ap next_of c.before.fit.given.1) ∙ c.before.before.before.fits2.ensures)
 
@@ -60,11 +60,11 @@ enum-known-fit-2 c = search rules
 add-count : tie.Need-overflow-add-count invariant-loop decreases-loop
 add-count c =
     let a = c.before.before.before.before.before.before.before.before.before.before.before.args in
-    let f = reading-further a.script.now a.width a.room _ _
+    let f = reading_further a.script.now a.width a.room _ _
     c.before.before.before.before.before.before.before.before.before.loop.invariant _ _
     (sym c.before.before.before.before.before.step.given.1 ∙ c.before.before.before.before.before.before.before.step-at.ensures)
     (sym (ap next_of c.before.fit2.given.1) ∙ c.before.before.before.fits2.ensures) in
-    let i = reading-inside a.script.now a.width a.room _ _
+    let i = reading_inside a.script.now a.width a.room _ _
     c.before.before.before.before.before.before.before.before.before.loop.invariant _ _
     (sym c.before.before.before.before.before.step.given.1 ∙ c.before.before.before.before.before.before.before.step-at.ensures)
     (sym (ap next_of c.before.fit2.given.1) ∙ c.before.before.before.fits2.ensures) in
@@ -73,11 +73,11 @@ add-count c =
 loop-less : tie.Need-loop-smaller invariant-loop decreases-loop
 loop-less c =
     let a = c.before.before.before.before.before.before.before.before.before.before.before.args in
-    let f = reading-further a.script.now a.width a.room _ _
+    let f = reading_further a.script.now a.width a.room _ _
     c.before.before.before.before.before.before.before.before.before.loop.invariant _ _
     (sym c.before.before.before.before.before.step.given.1 ∙ c.before.before.before.before.before.before.before.step-at.ensures)
     (sym (ap next_of c.before.fit2.given.1) ∙ c.before.before.before.fits2.ensures) in
-    let i = reading-inside a.script.now a.width a.room _ _
+    let i = reading_inside a.script.now a.width a.room _ _
     c.before.before.before.before.before.before.before.before.before.loop.invariant _ _
     (sym c.before.before.before.before.before.step.given.1 ∙ c.before.before.before.before.before.before.before.step-at.ensures)
     (sym (ap next_of c.before.fit2.given.1) ∙ c.before.before.before.fits2.ensures) in
@@ -86,14 +86,14 @@ loop-less c =
 loop-again : tie.Need-loop-preserved invariant-loop decreases-loop
 loop-again c =
     let a = c.before.before.before.before.before.before.before.before.before.before.before.args in
-    reading-goes a.script.now a.width a.room _ _ c.before.before.before.before.before.before.before.before.before.loop.invariant _ _
+    reading_goes a.script.now a.width a.room _ _ c.before.before.before.before.before.before.before.before.before.loop.invariant _ _
     (sym c.before.before.before.before.before.step.given.1 ∙ c.before.before.before.before.before.before.before.step-at.ensures)
     (sym (ap next_of c.before.fit2.given.1) ∙ c.before.before.before.fits2.ensures)
 
 returns-4 : tie.Need-returns-4 invariant-loop decreases-loop
 returns-4 c =
     let a = c.before.before.before.args in
-    reading-over a.script.now a.width a.room _ _ c.before.loop.invariant c.loop-test.false
+    reading_over a.script.now a.width a.room _ _ c.before.loop.invariant c.loop-test.false
 
 pub read-all-spec : {M : Type 1} → statement M
 read-all-spec =

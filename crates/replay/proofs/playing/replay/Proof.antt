@@ -1,9 +1,9 @@
 use mathlib.Core.Path.{sym, ap, ◌∙◌}
 use Rattle.replay.proofs.Parsed.{ahead-starts}
-use Rattle.replay.proofs.Played.{replay-stops, replay-goes}
-use Rattle.replay.proofs.Demand.{replay-booked}
-use Rattle.replay.specs.Inner.Steps.{stopOf}
-use Rattle.journal.proofs.Ends.{are-bytes}
+use Rattle.replay.proofs.Played.{replay_stops, replay_goes}
+use Rattle.replay.proofs.Demand.{replay_booked}
+use Rattle.replay.specs.Inner.Steps.{stop_of}
+use Rattle.journal.proofs.Ends.{are_bytes}
 use borrow.Author.Rules.{rules}
 use Rattle.replay.proofs.playing.replay.Statement.{statement}
 use Rattle.replay.proofs.playing.replay.Tie as tie
@@ -20,15 +20,15 @@ enum_told c = search rules
 start-requires : tie.Need-start-requires
 start-requires c κs =
     ahead-starts c.before.before.before.before.before.before.before.before.before.before.before.args.script.now _ _
-    (sym (ap stopOf c.before.before.before.enum_told.given.1) ∙ c.before.before.before.before.before.read_all.ensures)
+    (sym (ap stop_of c.before.before.before.enum_told.given.1) ∙ c.before.before.before.before.before.read_all.ensures)
 
 returns : tie.Need-returns
 returns c =
     let a = c.before.before.before.before.before.before.before.before.before.args in
-    let bytes = are-bytes a.script.now c.before.before.before.before.before.before.before.shared-slice-known2.given in
-    let m = replay-stops a.program.now a.script.now a.journal.now a.answers.now a.workspace.now bytes _
-    (sym (ap stopOf c.before.read.given.1) ∙ c.before.before.before.read_all.ensures) in
-    (m, replay-booked a.program.now a.script.now a.journal.now a.answers.now a.workspace.now bytes _ _ _ _ m)
+    let bytes = are_bytes a.script.now c.before.before.before.before.before.before.before.shared-slice-known2.given in
+    let m = replay_stops a.program.now a.script.now a.journal.now a.answers.now a.workspace.now bytes _
+    (sym (ap stop_of c.before.read.given.1) ∙ c.before.before.before.read_all.ensures) in
+    (m, replay_booked a.program.now a.script.now a.journal.now a.answers.now a.workspace.now bytes _ _ _ _ m)
 
 same_length : tie.Need-same-length
 same_length c = search rules
@@ -47,10 +47,10 @@ returns-2 c =
     let at-shared-slice-known2 = at-read-all.before.before.before.before in
     let place-start = at-shared-slice-known2.before.before in
     let a = place-start.args in
-    let bytes = are-bytes a.script.now at-shared-slice-known2.shared-slice-known2.given in
-    let m = replay-goes a.program.now a.script.now a.journal.now a.answers.now a.workspace.now bytes _ _ _ _
-    (sym (ap stopOf at-enum-told.enum_told.given.1) ∙ at-read-all.read_all.ensures) at-start.start.ensures in
-    (m, replay-booked a.program.now a.script.now a.journal.now a.answers.now a.workspace.now bytes _ _ _ _ m)
+    let bytes = are_bytes a.script.now at-shared-slice-known2.shared-slice-known2.given in
+    let m = replay_goes a.program.now a.script.now a.journal.now a.answers.now a.workspace.now bytes _ _ _ _
+    (sym (ap stop_of at-enum-told.enum_told.given.1) ∙ at-read-all.read_all.ensures) at-start.start.ensures in
+    (m, replay_booked a.program.now a.script.now a.journal.now a.answers.now a.workspace.now bytes _ _ _ _ m)
 
 pub replay-spec : {M : Type 1} → statement M
 replay-spec =

@@ -1,5 +1,5 @@
 use mathlib.Core.Path.{sym, ◌∙◌}
-use Rattle.replay.proofs.Turns.{turn-ends, turn-breaks, turn-plays}
+use Rattle.replay.proofs.Turns.{turn-ends, turn_breaks, turn-plays}
 use Rattle.replay.proofs.Parts.{within}
 use Rattle.replay.proofs.Parsed.{ahead-narrow, ahead-line}
 use borrow.Author.Rules.{rules}
@@ -37,7 +37,7 @@ returns c =
 returns-2 : tie.Need-returns-2
 returns-2 c =
     let a = c.before.before.before.before.before.before.before.before.args in
-    turn-breaks a.program.now a.script.now a.at a.count a.journal.now a.answers.now a.workspace.now _
+    turn_breaks a.program.now a.script.now a.at a.count a.journal.now a.answers.now a.workspace.now _
     (sym c.enum-told2.given.1 ∙ c.before.before.step-at.ensures)
 
 same_length : tie.Need-same-length

@@ -1,6 +1,6 @@
 use borrow.Author.Tests.{lt-ltb, le-ltb}
 use mathlib.Core.Path.{◌∙◌}
-use Rattle.replay.specs.Scripts.{convertAt}
+use Rattle.replay.specs.Scripts.{convert_at}
 use borrow.Author.Rules.{rules}
 use Rattle.replay.proofs.scripts.convert_at.Statement.{statement}
 use Rattle.replay.proofs.scripts.convert_at.Tie as tie
@@ -9,7 +9,7 @@ sub-if1 : tie.Need-overflow-sub-if1
 sub-if1 c = search rules
 
 returns : tie.Need-returns
-unfolding convertAt
+unfolding convert_at
 returns c = simp (lt-ltb _ _ c.if1.true)
 
 add-read32 : tie.Need-overflow-add-read32
@@ -40,7 +40,7 @@ given-at-requires : tie.Need-given-at-requires
 given-at-requires c κs = search rules
 
 returns-2 : tie.Need-returns-2
-unfolding convertAt
+unfolding convert_at
 returns-2 c =
     let at-read162 = c.before in
     let at-read16 = at-read162.before in

@@ -1,6 +1,6 @@
 use borrow.Author.Tests.{lt-ltb, le-ltb}
 use mathlib.Core.Path.{◌∙◌}
-use Rattle.replay.specs.Scripts.{givenAt}
+use Rattle.replay.specs.Scripts.{given_at}
 use borrow.Author.Rules.{rules}
 use Rattle.replay.proofs.scripts.given_at.Statement.{statement}
 use Rattle.replay.proofs.scripts.given_at.Tie as tie
@@ -18,14 +18,14 @@ sub-if1 : tie.Need-overflow-sub-if1
 sub-if1 c = search rules
 
 returns : tie.Need-returns
-unfolding givenAt
+unfolding given_at
 returns c = simp (lt-ltb _ _ (rw (c.before.wide-index.ensures.0 ∙ c.before.before.read16.ensures) at c.if1.true))
 
 add-t10 : tie.Need-overflow-add-t10
 add-t10 c = search rules
 
 returns-2 : tie.Need-returns-2
-unfolding givenAt
+unfolding given_at
 returns-2 c =
     let at-wide-index = c.before in
     let at-read16 = at-wide-index.before in

@@ -1,5 +1,5 @@
 use borrow.Author.Tests.{lt-ltb, le-ltb}
-use Rattle.replay.specs.Scripts.{rollbackAt}
+use Rattle.replay.specs.Scripts.{rollback_at}
 use borrow.Author.Rules.{rules}
 use Rattle.replay.proofs.scripts.rollback_at.Statement.{statement}
 use Rattle.replay.proofs.scripts.rollback_at.Tie as tie
@@ -8,7 +8,7 @@ sub-if1 : tie.Need-overflow-sub-if1
 sub-if1 c = search rules
 
 returns : tie.Need-returns
-unfolding rollbackAt
+unfolding rollback_at
 returns c = simp (lt-ltb _ _ c.if1.true)
 
 add-read32 : tie.Need-overflow-add-read32
@@ -30,7 +30,7 @@ add-end : tie.Need-overflow-add-end
 add-end c = search rules
 
 returns-2 : tie.Need-returns-2
-unfolding rollbackAt
+unfolding rollback_at
 returns-2 c = simp (c.before.read32.ensures, c.read16.ensures, le-ltb _ _ c.before.before.if1.false)
 
 pub rollback-at-spec : {M : Type 1} → statement M

@@ -1,6 +1,6 @@
 use borrow.Author.Tests.{eq-eqb, ne_eqb}
 use mathlib.Core.Path.{◌∙◌}
-use Rattle.replay.specs.Scripts.{stepAt}
+use Rattle.replay.specs.Scripts.{step_at}
 use borrow.Author.Rules.{rules}
 use Rattle.replay.proofs.scripts.step_at.Statement.{statement}
 use Rattle.replay.proofs.scripts.step_at.Tie as tie
@@ -9,7 +9,7 @@ sub-if1 : tie.Need-overflow-sub-if1
 sub-if1 c = search rules
 
 returns : tie.Need-returns
-unfolding stepAt
+unfolding step_at
 returns c = simp (eq-eqb _ _ c.if1.true)
 
 shared-slice-read-kind : tie.Need-shared-slice-read-kind
@@ -19,14 +19,14 @@ open-at-requires : tie.Need-open-at-requires
 open-at-requires c κs = search rules
 
 returns-2 : tie.Need-returns-2
-unfolding stepAt
+unfolding step_at
 returns-2 c = c.open_at.ensures ∙ simp (ne_eqb _ _ c.before.before.before.if1.false, eq-eqb _ _ c.before.if2.true)
 
 convert-at-requires : tie.Need-convert-at-requires
 convert-at-requires c κs = search rules
 
 returns-3 : tie.Need-returns-3
-unfolding stepAt
+unfolding step_at
 returns-3 c =
     let at-if3 = c.before in
     let at-if2 = at-if3.before in
@@ -37,7 +37,7 @@ rollback-at-requires : tie.Need-rollback-at-requires
 rollback-at-requires c κs = search rules
 
 returns-4 : tie.Need-returns-4
-unfolding stepAt
+unfolding step_at
 returns-4 c =
     let at-if4 = c.before in
     let at-if3 = at-if4.before in
@@ -52,7 +52,7 @@ returns-4 c =
     )
 
 returns-5 : tie.Need-returns-5
-unfolding stepAt
+unfolding step_at
 returns-5 c =
     let at-if3 = c.before in
     let at-if2 = at-if3.before in

@@ -1,7 +1,7 @@
 use mathlib.Core.Path.{sym, ap, ◌∙◌}
-use Rattle.answers.specs.Answers.{runAnswer}
+use Rattle.answers.specs.Answers.{run_answer}
 use Rattle.replay.specs.Lines.{line}
-use Rattle.replay.specs.Inner.Told.{runLine}
+use Rattle.replay.specs.Inner.Told.{run_line}
 use Rattle.replay.proofs.Lines.{refused-line}
 use borrow.Author.Rules.{rules}
 use Rattle.replay.proofs.told.turn_line.Statement.{statement}
@@ -32,17 +32,17 @@ line-of-requires-2 : tie.Need-line-of-requires-2
 line-of-requires-2 c κs = search rules
 
 returns : tie.Need-returns
-unfolding runLine line
-returns c = c.Line-of.ensures ∙ sym (ap (λ a. runLine (runAnswer a)) c.before.before.before.before.answer.given.1)
+unfolding run_line line
+returns c = c.Line-of.ensures ∙ sym (ap (λ a. run_line (run_answer a)) c.before.before.before.before.answer.given.1)
 
 returns-2 : tie.Need-returns-2
-unfolding runLine line
+unfolding run_line line
 returns-2 c =
     let at_place = c.before in
     let at-number = at_place.before in
     let at-answer2 = at-number.before.before in
     c.line-of2.ensures ∙ refused-line 0x43 at-number.number.ensures at_place.place.ensures ∙ sym
-    (ap (λ a. runLine (runAnswer a)) at-answer2.answer2.given.1)
+    (ap (λ a. run_line (run_answer a)) at-answer2.answer2.given.1)
 
 pub turn-line-spec : {M : Type 1} → statement M
 turn-line-spec =

@@ -1,6 +1,6 @@
 use mathlib.Core.Path.{refl}
 use native.Mathlib.Omega.{arith}
-use Rattle.rules.specs.Limits.{maxParameters}
+use Rattle.rules.specs.Limits.{max_parameters}
 use Rattle.requests.proofs.Checks.{check-ready, check-refused}
 use borrow.Author.Rules.{rules}
 use Rattle.requests.proofs.checking.check_program.Statement.{statement}
@@ -16,10 +16,10 @@ slice-aggregate-load-3 : tie.Need-slice-aggregate-load-3
 slice-aggregate-load-3 c = search rules
 
 load-requires : tie.Need-load-requires
-unfolding maxParameters
+unfolding max_parameters
 load-requires c κs =
     let start = c.before.before.before.before.before.before.before in
-    (record { forTypes = omega arith; forTerms = omega arith; forFunctions = omega arith }, (start.requires, refl))
+    (record { for_types = omega arith; for_terms = omega arith; for_functions = omega arith }, (start.requires, refl))
 
 enum_told : tie.Need-enum-told
 enum_told c = search rules

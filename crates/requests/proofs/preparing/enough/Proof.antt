@@ -1,7 +1,7 @@
 use mathlib.Core.Path.{ap}
 use lib.Dec.{leb}
-use Rattle.rules.specs.Limits.{workspaceBase, workspacePerFuel}
-use Rattle.calls.specs.Runs.{workspaceFor}
+use Rattle.rules.specs.Limits.{workspace_base, workspace_per_fuel}
+use Rattle.calls.specs.Runs.{workspace_for}
 use borrow.Author.Rules.{rules}
 use Rattle.requests.proofs.preparing.enough.Statement.{statement}
 use Rattle.requests.proofs.preparing.enough.Tie as tie
@@ -16,8 +16,8 @@ add-result : tie.Need-overflow-add-result
 add-result c = search rules
 
 returns : tie.Need-returns
-unfolding workspaceFor workspaceBase workspacePerFuel
-returns c = ap (λ k. leb (workspaceFor k) c.before.args.n) c.wide-index.ensures.0
+unfolding workspace_for workspace_base workspace_per_fuel
+returns c = ap (λ k. leb (workspace_for k) c.before.args.n) c.wide-index.ensures.0
 
 pub enough-spec : {M : Type 1} → statement M
 enough-spec = tie.close (tie.spec wide-index-requires mul-result add-result returns)

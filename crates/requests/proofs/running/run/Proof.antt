@@ -1,4 +1,4 @@
-use Rattle.requests.proofs.Rows.{askable, allowed, not-called, ran-as}
+use Rattle.requests.proofs.Rows.{askable, allowed, not_called, ran_as}
 use borrow.Author.Rules.{rules}
 use Rattle.requests.proofs.running.run.Statement.{statement}
 use Rattle.requests.proofs.running.run.Tie as tie
@@ -31,14 +31,14 @@ returns c =
     let at-enum-told = at-run-function.before.before.before in
     let at-admit = at-enum-told.before.before in
     let start = at-admit.before.before.before.before.before.before.before.before.before in
-    ran-as start.requires.0 at-admit.admit.ensures _ _ at-enum-told.enum_told.given.1 at-run-function.run-function.ensures
+    ran_as start.requires.0 at-admit.admit.ensures _ _ at-enum-told.enum_told.given.1 at-run-function.run-function.ensures
 
 returns-2 : tie.Need-returns-2
 returns-2 c =
     let at-admitted = c.before in
     let at-admit = at-admitted.before.before in
     let start = at-admit.before.before.before.before.before.before.before.before.before in
-    not-called start.requires.0 at-admit.admit.ensures _ _ at-admitted.admitted.given.1
+    not_called start.requires.0 at-admit.admit.ensures _ _ at-admitted.admitted.given.1
 
 pub run_spec : {M : Type 1} → statement M
 run_spec =

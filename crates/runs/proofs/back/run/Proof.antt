@@ -1,8 +1,8 @@
 use native.Mathlib.Nat.{pos_of_ne-zero}
 use mathlib.Core.Path.{sym, ap, ◌∙◌}
 use Rattle.backward.specs.Outcomes.{Refused}
-use Rattle.backward.proofs.Stops.{is-done, is-stopped}
-use Rattle.runs.proofs.Backward.{gives, shaped, returns-value, returns-refused}
+use Rattle.backward.proofs.Stops.{is_done, is_stopped}
+use Rattle.runs.proofs.Backward.{gives, shaped, returns_value, returns_refused}
 use borrow.Author.Rules.{rules}
 use Rattle.runs.proofs.back.run.Statement.{statement}
 use Rattle.runs.proofs.back.run.Tie as tie
@@ -16,7 +16,7 @@ array-read-give c = search rules
 give-requires : tie.Need-give-requires
 give-requires c κs =
     let at-undo = c.before.before.before.before.before in
-    gives at-undo.undo.ensures (is-done c.before.before.if1.true)
+    gives at-undo.undo.ensures (is_done c.before.before.if1.true)
 
 same_length : tie.Need-same-length
 same_length c = search rules
@@ -28,7 +28,7 @@ returns : tie.Need-returns
 returns c =
     let at-if1 = c.before.before.before.before.before in
     let at-undo = at-if1.before.before.before in
-    returns-value at-undo.undo.ensures (is-done at-if1.if1.true) c.before.before.give.ensures
+    returns_value at-undo.undo.ensures (is_done at-if1.if1.true) c.before.before.give.ensures
 
 why-requires : tie.Need-why-requires
 why-requires c κs = pos_of_ne-zero c.if1.false
@@ -36,7 +36,7 @@ why-requires c κs = pos_of_ne-zero c.if1.false
 refuse-requires : tie.Need-refuse-requires
 refuse-requires c κs =
     let at-undo = c.before.before.before.before.before in
-    shaped at-undo.undo.ensures (is-stopped c.before.before.if1.false ∙ ap Refused (sym c.before.why.ensures))
+    shaped at-undo.undo.ensures (is_stopped c.before.before.if1.false ∙ ap Refused (sym c.before.why.ensures))
 
 same-length-3 : tie.Need-same-length-3
 same-length-3 c = search rules
@@ -49,7 +49,7 @@ returns-2 c =
     let at-why = c.before.before.before.before in
     let at-if1 = at-why.before in
     let at-undo = at-if1.before.before.before in
-    returns-refused at-undo.undo.ensures (is-stopped at-if1.if1.false ∙ ap Refused (sym at-why.why.ensures)) c.before.before.refuse.ensures
+    returns_refused at-undo.undo.ensures (is_stopped at-if1.if1.false ∙ ap Refused (sym at-why.why.ensures)) c.before.before.refuse.ensures
 
 pub run_spec : {M : Type 1} → statement M
 run_spec =

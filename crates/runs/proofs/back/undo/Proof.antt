@@ -2,17 +2,17 @@ use native.Mathlib.Omega.{arith}
 use mathlib.Core.Path.{refl, ◌∙◌}
 use lib.Dec.{lit≤}
 use borrow.Author.Rules.{rules}
-use Rattle.rules.specs.Limits.{maxHeight, maxParameters}
-use Rattle.runs.proofs.Starts.{decode-asks, beginning}
-use Rattle.runs.proofs.Backward.{value-slot, undo-ready, undo-told}
+use Rattle.rules.specs.Limits.{max_height, max_parameters}
+use Rattle.runs.proofs.Starts.{decode_asks, beginning}
+use Rattle.runs.proofs.Backward.{value-slot, undo_ready, undo_told}
 use Rattle.runs.proofs.back.undo.Statement.{statement}
 use Rattle.runs.proofs.back.undo.Tie as tie
 
 decode-requires : tie.Need-decode-requires
-decode-requires c κs = (refl, decode-asks c.before.before.before.before.before.before.before.requires)
+decode-requires c κs = (refl, decode_asks c.before.before.before.before.before.before.before.requires)
 
 begin-requires : tie.Need-begin-requires
-unfolding maxHeight maxParameters
+unfolding max_height max_parameters
 begin-requires c κs =
     let at-decode = c.before.before in
     let start = at-decode.before.before.before.before.before.before.before.before in
@@ -22,7 +22,7 @@ wide32-requires : tie.Need-wide32-requires
 wide32-requires c κs = search rules
 
 begin-requires-2 : tie.Need-begin-requires-2
-unfolding maxHeight maxParameters
+unfolding max_height max_parameters
 begin-requires-2 c κs = c.before.before.before.before.begin.ensures.lengths
 
 at-requires : tie.Need-at-requires
@@ -33,7 +33,7 @@ at-requires c κs =
     value-slot start.requires at-decode.decode.ensures at-begin.begin.ensures.begun
 
 run-requires : tie.Need-run-requires
-unfolding maxHeight maxParameters
+unfolding max_height max_parameters
 run-requires c κs =
     let at_at = c.before.before.before in
     let at-begin2 = at_at.before.before in
@@ -42,7 +42,7 @@ run-requires c κs =
     let at-decode = at-begin.before.before.before in
     let start = at-decode.before.before.before.before.before.before.before.before in
     let fuel = at-wide32.wide32.ensures in
-    undo-ready start.requires at-decode.decode.ensures at-begin.begin.ensures fuel.0 fuel.1 at-begin2.begin2.ensures refl
+    undo_ready start.requires at-decode.decode.ensures at-begin.begin.ensures fuel.0 fuel.1 at-begin2.begin2.ensures refl
     at_at.at.ensures
 
 top-requires : tie.Need-top-requires
@@ -58,7 +58,7 @@ same_length c =
     at-run.run.auto.1.0 ∙ at-begin.begin.auto.0
 
 returns : tie.Need-returns
-unfolding maxHeight maxParameters
+unfolding max_height max_parameters
 returns c =
     let at_fuel = c.before in
     let at_top = at_fuel.before.before in
@@ -70,7 +70,7 @@ returns c =
     let at-decode = at-begin.before.before.before in
     let start = at-decode.before.before.before.before.before.before.before.before in
     let fuel = at-wide32.wide32.ensures in
-    undo-told start.requires at-decode.decode.ensures at-begin.begin.ensures fuel.0 fuel.1 at-begin2.begin2.ensures refl
+    undo_told start.requires at-decode.decode.ensures at-begin.begin.ensures fuel.0 fuel.1 at-begin2.begin2.ensures refl
     at_at.at.ensures at-run.run.ensures at_top.top.ensures at_fuel.fuel.ensures
 
 pub undo-spec : {M : Type 1} → statement M

@@ -2,24 +2,24 @@ use native.Mathlib.Omega.{arith}
 use mathlib.Core.Path.{◌≡◌, refl, sym, ◌∙◌}
 use lib.ListN.{length}
 use borrow.Author.Rules.{rules}
-use Rattle.rules.specs.Limits.{maxAncillaBytes, maxValueBytes}
-use Rattle.valuegraph.proofs.Heaps.{heap-empty}
-use Rattle.scopes.specs.Slots.{stateCount, slots_of}
-use Rattle.runs.specs.Begun.{startNodes}
-use Rattle.runs.proofs.Loads.{Named, ancillae-ready, named_start, named-room, named-length, named-less, named-bind, named_small}
-use Rattle.runs.proofs.Loads.{named-next, named-done}
+use Rattle.rules.specs.Limits.{max_ancilla_bytes, max_value_bytes}
+use Rattle.valuegraph.proofs.Heaps.{heap_empty}
+use Rattle.scopes.specs.Slots.{state_count, slots_of}
+use Rattle.runs.specs.Begun.{start_nodes}
+use Rattle.runs.proofs.Loads.{Named, ancillae-ready, named_start, named_room, named_length, named_less, named_bind, named_small}
+use Rattle.runs.proofs.Loads.{named_next, named_done}
 use Rattle.runs.proofs.begin.load_ancillae.Statement.{statement}
 use Rattle.runs.proofs.begin.load_ancillae.Tie as tie
 
 abbrev invariant-loop : tie.invariant-loop
-invariant-loop ws st₀ bytes top node₀ count₀ st node count = (length st ≡ stateCount) × (length st ≡ length st₀) × Named ws (slots_of st₀) (slots_of st) bytes count node top
+invariant-loop ws st₀ bytes top node₀ count₀ st node count = (length st ≡ state_count) × (length st ≡ length st₀) × Named ws (slots_of st₀) (slots_of st) bytes count node top
 
 abbrev decreases-loop : tie.decreases-loop
 decreases-loop ws st₀ bytes top node₀ count₀ st node count = node
 
 unit-requires : tie.Need-unit-requires invariant-loop decreases-loop
-unfolding startNodes maxValueBytes maxAncillaBytes
-unit-requires c κs = (heap-empty _, omega (arith, c.before.before.before.requires.1.nodes-there))
+unfolding start_nodes max_value_bytes max_ancilla_bytes
+unit-requires c κs = (heap_empty _, omega (arith, c.before.before.before.requires.1.nodes_there))
 
 load-requires : tie.Need-load-requires invariant-loop decreases-loop
 load-requires c κs = ancillae-ready c.before.before.before.before.before.before.before.requires.1 c.before.before.before.unit.ensures
@@ -35,10 +35,10 @@ loop-holds c =
     (start.requires.0, refl, named_start start.requires.1 at_unit.unit.ensures at_load.load.ensures)
 
 bind-requires : tie.Need-bind-requires invariant-loop decreases-loop
-bind-requires c κs = (c.before.before.loop.invariant.0, named-bind c.before.before.loop.invariant.2 c.before.loop-test.true)
+bind-requires c κs = (c.before.before.loop.invariant.0, named_bind c.before.before.loop.invariant.2 c.before.loop-test.true)
 
 length-of-requires : tie.Need-length-of-requires invariant-loop decreases-loop
-length-of-requires c κs = named-room c.before.before.before.before.loop.invariant.2 c.before.before.before.loop-test.true
+length-of-requires c κs = named_room c.before.before.before.before.loop.invariant.2 c.before.before.before.loop-test.true
 
 wide32-requires : tie.Need-wide32-requires invariant-loop decreases-loop
 wide32-requires c κs = search rules
@@ -48,7 +48,7 @@ sub-node-2 c =
     let at-length-of = c.before in
     let at-loop-test = at-length-of.before.before.before.before in
     let at-loop = at-loop-test.before in
-    omega (arith, named-length at-loop.loop.invariant.2 at-loop-test.loop-test.true, c.wide32.ensures.0, at-length-of.length-of.ensures)
+    omega (arith, named_length at-loop.loop.invariant.2 at-loop-test.loop-test.true, c.wide32.ensures.0, at-length-of.length-of.ensures)
 
 add-count : tie.Need-overflow-add-count invariant-loop decreases-loop
 add-count c =
@@ -61,7 +61,7 @@ loop-less c =
     let at-length-of = c.before in
     let at-loop-test = at-length-of.before.before.before.before in
     let at-loop = at-loop-test.before in
-    named-less at-loop.loop.invariant.2 at-loop-test.loop-test.true _ (c.wide32.ensures.0 ∙ at-length-of.length-of.ensures)
+    named_less at-loop.loop.invariant.2 at-loop-test.loop-test.true _ (c.wide32.ensures.0 ∙ at-length-of.length-of.ensures)
 
 loop-again : tie.Need-loop-preserved invariant-loop decreases-loop
 loop-again c =
@@ -72,7 +72,7 @@ loop-again c =
     let b = at-bind.bind.ensures in (
       b.lengths ∙ at-loop.loop.invariant.0,
       b.lengths ∙ at-loop.loop.invariant.1,
-      named-next at-loop.loop.invariant.2 at-loop-test.loop-test.true
+      named_next at-loop.loop.invariant.2 at-loop-test.loop-test.true
           b.slots (c.wide32.ensures.0 ∙ at-length-of.length-of.ensures),
     )
 
@@ -86,7 +86,7 @@ returns c =
     let at_unit = at_load.before.before.before.before in
     record {
       lengths = at-loop.loop.invariant.1;
-      loaded = named-done at-loop.loop.invariant.2 c.loop-test.false
+      loaded = named_done at-loop.loop.invariant.2 c.loop-test.false
           (sym (at_load.load.auto.0 ∙ at_unit.unit.auto.0));
     }
 

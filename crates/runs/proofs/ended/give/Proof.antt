@@ -1,6 +1,6 @@
 use mathlib.Core.Path.{ap}
 use Prim.Native.Nat.{◌-◌}
-use Rattle.runs.proofs.Ends.{node-room, give-short, store-ready, give-done}
+use Rattle.runs.proofs.Ends.{node-room, give-short, store_ready, give_done}
 use borrow.Author.Rules.{rules}
 use Rattle.runs.proofs.ended.give.Statement.{statement}
 use Rattle.runs.proofs.ended.give.Tie as tie
@@ -20,7 +20,7 @@ store-requires c κs =
     let at-wide-index = at-if1.before in
     let at-length-of = at-wide-index.before in
     let start = at-length-of.before.before.before in
-    store-ready start.requires at-length-of.length-of.ensures _ at-wide-index.wide-index.ensures.0 at-if1.if1.false
+    store_ready start.requires at-length-of.length-of.ensures _ at-wide-index.wide-index.ensures.0 at-if1.if1.false
 
 wide32-requires : tie.Need-wide32-requires
 wide32-requires c κs = search rules
@@ -41,7 +41,7 @@ returns-2 c =
     let at-wide-index = at-if1.before in
     let at-length-of = at-wide-index.before in
     let start = at-length-of.before.before.before in
-    give-done start.requires at-length-of.length-of.ensures _ at-wide-index.wide-index.ensures.0 at-if1.if1.false at_store.store.ensures
+    give_done start.requires at-length-of.length-of.ensures _ at-wide-index.wide-index.ensures.0 at-if1.if1.false at_store.store.ensures
     (ap (λ n. n - start.args.left) c.wide32.ensures.0)
 
 pub give_spec : {M : Type 1} → statement M

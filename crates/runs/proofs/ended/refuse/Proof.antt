@@ -1,6 +1,6 @@
 use mathlib.Core.Path.{subst}
 use Rattle.runs.specs.Ended.{Shaped}
-use Rattle.runs.proofs.Ends.{refused-fuel, refused-height, refused-long, refused-match, refused-input}
+use Rattle.runs.proofs.Ends.{refused-fuel, refused-height, refused-long, refused_match, refused_input}
 use borrow.Author.Rules.{rules}
 use Rattle.runs.proofs.ended.refuse.Statement.{statement}
 use Rattle.runs.proofs.ended.refuse.Tie as tie
@@ -33,10 +33,10 @@ returns-3 : tie.Need-returns-3
 returns-3 c = refused-long _ _ c.before.why3.given.1
 
 returns-4 : tie.Need-returns-4
-returns-4 c = refused-match _ _ c.before.why4.given.1
+returns-4 c = refused_match _ _ c.before.why4.given.1
 
 returns-5 : tie.Need-returns-5
-returns-5 c = refused-input _ _ c.before.why5.given.1
+returns-5 c = refused_input _ _ c.before.why5.given.1
 
 returns-6 : tie.Need-returns-6
 returns-6 c = absurd (subst Shaped c.enum_told.given.1 c.before.before.requires)

@@ -1,21 +1,21 @@
 use native.Mathlib.Omega.{arith}
 use mathlib.Core.Path.{refl, sym, ◌∙◌}
 use borrow.Author.Rules.{rules}
-use Rattle.rules.specs.Limits.{maxHeight, maxParameters}
+use Rattle.rules.specs.Limits.{max_height, max_parameters}
 use Rattle.scopes.proofs.Lent.{slot_read}
 use Rattle.scopes.proofs.slots.at.Statement.{statement}
 use Rattle.scopes.proofs.slots.at.Tie as tie
 
 add-result : tie.Need-overflow-add-result
-unfolding maxHeight maxParameters
+unfolding max_height max_parameters
 add-result c = search rules
 
 mul-result : tie.Need-overflow-mul-result
-unfolding maxHeight maxParameters
+unfolding max_height max_parameters
 mul-result c = search rules
 
 element-copy-out-result : tie.Need-element-copy-out-result
-unfolding maxHeight maxParameters
+unfolding max_height max_parameters
 element-copy-out-result c = search rules
 
 returns : tie.Need-returns

@@ -4,19 +4,19 @@ use mathlib.Core.Path.{◌≡◌, sym, ap, ◌∙◌}
 use mathlib.Core.List.{List}
 use lib.ListN.{get_or}
 use borrow.Author.Rules.{rules}
-use Rattle.rules.specs.Limits.{maxHeight, maxParameters}
-use Rattle.scopes.specs.Slots.{slots_of, found, nodeOr, slot_at}
+use Rattle.rules.specs.Limits.{max_height, max_parameters}
+use Rattle.scopes.specs.Slots.{slots_of, found, node_or, slot_at}
 use Rattle.scopes.specs.declared.slots.Found.{Found}
 use Rattle.scopes.specs.declared.slots.Found.TheVariants.{Node}
-use Rattle.scopes.proofs.Marks.{slot-in, slot-out, node-or, node-none}
+use Rattle.scopes.proofs.Marks.{slot_in, slot-out, node_or_lem, node_none}
 use Rattle.scopes.proofs.slots.find.Statement.{statement}
 use Rattle.scopes.proofs.slots.find.Tie as tie
 
 -- a variable in scope, by what its slot's number says
-read-in : (heap slots : List ℕ) (base n : ℕ) {i v s x : ℕ} {f : Found} → v ≡ i → v < n → s ≡ get_or slots (base + v) 0 → f ≡ found heap s → nodeOr f ≡ x
+read-in : (heap slots : List ℕ) (base n : ℕ) {i v s x : ℕ} {f : Found} → v ≡ i → v < n → s ≡ get_or slots (base + v) 0 → f ≡ found heap s → node_or f ≡ x
     → Node x ≡ slot_at heap slots base n i
 read-in heap slots base n {i} e l q r z =
-    ap Node (sym z ∙ ap nodeOr (r ∙ ap (found heap) (q ∙ ap (λ i. get_or slots (base + i) 0) e))) ∙ sym (slot-in heap slots base n i (omega arith))
+    ap Node (sym z ∙ ap node_or (r ∙ ap (found heap) (q ∙ ap (λ i. get_or slots (base + i) 0) e))) ∙ sym (slot_in heap slots base n i (omega arith))
 
 wide-index-requires : tie.Need-wide-index-requires
 wide-index-requires c κs = search rules
@@ -31,7 +31,7 @@ top-requires : tie.Need-top-requires
 top-requires c κs = search rules
 
 add_at : tie.Need-overflow-add-at
-unfolding maxHeight maxParameters
+unfolding max_height max_parameters
 add_at c = search rules
 
 at-requires : tie.Need-at-requires
@@ -59,7 +59,7 @@ returns-2 c =
     let at-index = at.before.before.before in
     let a = at-index.before.before.args in
     read-in a.ws.now (slots_of a.st.now) a.base a.n at-index.wide-index.ensures.0 (omega arith) at.at.ensures known.known.ensures
-    (node-or c.before.node.given.1)
+    (node_or_lem c.before.node.given.1)
 
 returns-3 : tie.Need-returns-3
 returns-3 c =
@@ -68,7 +68,7 @@ returns-3 c =
     let at-index = at.before.before.before in
     let a = at-index.before.before.args in
     read-in a.ws.now (slots_of a.st.now) a.base a.n at-index.wide-index.ensures.0 (omega arith) at.at.ensures known.known.ensures
-    (node-none c.enum_told.given.1)
+    (node_none c.enum_told.given.1)
 
 pub find_spec : {M : Type 1} → statement M
 find_spec =

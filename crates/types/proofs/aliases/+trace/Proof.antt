@@ -4,7 +4,7 @@ use lib.ListN.{length-set}
 use native.Mathlib.Omega.{arith}
 use borrow.Author.Rules.{rules}
 use Rattle.types.proofs.Outer.{kind-there}
-use Rattle.types.proofs.Tracing.{still, figures-asked, own-there, kind-small, part-asked, first-there, first-falls, both-there, second-falls}
+use Rattle.types.proofs.Tracing.{still, figures-asked, own-there, kind-small, part-asked, first-there, first_falls, both-there, second_falls}
 use Prim.Native.Nat.{ℕ, ◌<◌}
 use borrow.Fn.Kinds.{In}
 use borrow.Fn.PlainCycle.{Measures, is, falls, and}
@@ -219,7 +219,7 @@ trace-trace-requires t c κs =
     let at-wide-index = at-wide-index2.before.before in
     let at-number-of = at-wide-index.before.before.before.before.before in
     let start = at-number-of.before.before.before.before.before.before.before.before in
-    let lower = first-falls start.requires.1.0 start.requires.1.1.0 at-number-of.number_of_lem.ensures at-wide-index.wide-index.ensures.0
+    let lower = first_falls start.requires.1.0 start.requires.1.1.0 at-number-of.number_of_lem.ensures at-wide-index.wide-index.ensures.0
     at-wide-index2.wide-index2.ensures.0 at-kind.kind.ensures at-if3.if3.false at-if2.if2.false c.first.ensures in (
       omega (arith, start.requires.0, lower.0),
       (start.requires.1.0, (lower.1, start.requires.1.1.1, omega (arith, start.requires.1.1.2, lower.0), search rules)),
@@ -285,7 +285,7 @@ trace-trace-requires-2 t c κs =
     let at-wide-index = at-wide-index2.before.before in
     let at-number-of = at-wide-index.before.before.before.before.before in
     let start = at-number-of.before.before.before.before.before.before.before.before in
-    let lower = first-falls start.requires.1.0 start.requires.1.1.0 at-number-of.number_of_lem.ensures at-wide-index.wide-index.ensures.0
+    let lower = first_falls start.requires.1.0 start.requires.1.1.0 at-number-of.number_of_lem.ensures at-wide-index.wide-index.ensures.0
     at-wide-index2.wide-index2.ensures.0 at-kind.kind.ensures at-if3.if3.false at-if2.if2.false c.first2.ensures in (
       omega (arith, start.requires.0, lower.0),
       (start.requires.1.0, (lower.1, start.requires.1.1.1, omega (arith, start.requires.1.1.2, lower.0), search rules)),
@@ -316,7 +316,7 @@ trace-trace-requires-3 t c κs =
     let at-wide-index = at-wide-index2.before.before in
     let at-number-of = at-wide-index.before.before.before.before.before in
     let start = at-number-of.before.before.before.before.before.before.before.before in
-    let lower = second-falls start.requires.1.0 start.requires.1.1.0 at-number-of.number_of_lem.ensures at-wide-index.wide-index.ensures.0
+    let lower = second_falls start.requires.1.0 start.requires.1.1.0 at-number-of.number_of_lem.ensures at-wide-index.wide-index.ensures.0
     at-wide-index2.wide-index2.ensures.0 at-kind.kind.ensures at-if3.if3.false at-if2.if2.false at-if5.if5.false
     c.second.ensures in
     let set = length-set start.args.met.now at-wide-index4.wide-index4.result (start.args.j + 1) in (

@@ -1,5 +1,5 @@
 use mathlib.Core.Path.{refl}
-use Rattle.types.proofs.Tracing.{find-asked, sources-then, codes-known, found_below, number-there, number-own, alias-figured}
+use Rattle.types.proofs.Tracing.{find_asked, sources-then, codes_known, found_below, number-there, number-own, alias-figured}
 use borrow.Author.Rules.{rules}
 use Rattle.types.proofs.aliases.keep.Statement.{statement}
 use Rattle.types.proofs.aliases.keep.Tie as tie
@@ -10,7 +10,7 @@ under-requires c κs = search rules
 find-requires : tie.Need-find-requires
 find-requires c κs =
     let start = c.before.before.before.before.before.before in
-    find-asked start.requires.0
+    find_asked start.requires.0
 
 returns : tie.Need-returns
 returns c = search rules
@@ -33,7 +33,7 @@ same-requires c κs =
     let at_under = at-find.before in
     let start = at_under.before.before.before.before.before.before in (
       sources-then start.requires.0,
-      codes-known start.requires.0 start.requires.1.0 start.requires.1.1
+      codes_known start.requires.0 start.requires.1.0 start.requires.1.1
           (number-there start.requires.0 (found_below at-find.find.ensures at-if1.if1.false) refl at-number-of.number_of_lem.ensures)
           at_under.under.ensures at_entry_lem.entry.ensures,
     )

@@ -2,7 +2,7 @@ use native.Mathlib.Omega.{arith}
 use mathlib.Core.Path.{sym}
 use Rattle.program.proofs.Rooms.{term-kind-room}
 use Rattle.types.proofs.Outer.{kind-there, mu-there}
-use Rattle.types.proofs.Tracing.{number-there, rolls-room, body-asked}
+use Rattle.types.proofs.Tracing.{number-there, rolls_room, body-asked}
 use borrow.Author.Rules.{rules}
 use Rattle.types.proofs.aliases.open_term.Statement.{statement}
 use Rattle.types.proofs.aliases.open_term.Tie as tie
@@ -19,7 +19,7 @@ first-requires : tie.Need-first-requires
 first-requires c κs =
     let at-kind = c.before in
     let start = at-kind.before.before.before.before.before.before.before.before in
-    rolls-room start.requires.1.0 at-kind.kind.ensures c.if1.false
+    rolls_room start.requires.1.0 at-kind.kind.ensures c.if1.false
 
 wide-index-requires : tie.Need-wide-index-requires
 wide-index-requires c κs = search rules

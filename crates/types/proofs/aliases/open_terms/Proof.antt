@@ -4,7 +4,7 @@ use mathlib.Core.Path.{◌≡◌, refl, sym, subst, ◌∙◌}
 use mathlib.Core.List.{map}
 use lib.ListN.{length}
 use borrow.Author.Rules.{rules}
-use Rattle.rules.specs.Limits.{maxTypes}
+use Rattle.rules.specs.Limits.{max_types}
 use Rattle.calls.specs.Entries.{type_at}
 use Rattle.program.specs.Parts.{TermField}
 use Rattle.types.specs.Figures.{Figured}
@@ -14,7 +14,7 @@ use Rattle.types.proofs.aliases.open_terms.Tie as tie
 
 abbrev invariant-loop : tie.invariant-loop
 invariant-loop p types terms ws₀ keys index tried₀ met₀ t₀ ws tried met t =
-    (t ≤ length terms) × ((length ws ≡ length ws₀) × (length tried ≡ maxTypes) × (length met ≡ maxTypes)) × Figured (map (type_at p) types) ws (length types)
+    (t ≤ length terms) × ((length ws ≡ length ws₀) × (length tried ≡ max_types) × (length met ≡ max_types)) × Figured (map (type_at p) types) ws (length types)
 
 abbrev decreases-loop : tie.decreases-loop
 decreases-loop p types terms ws₀ keys index tried₀ met₀ t₀ ws tried met t = length terms - t
@@ -68,11 +68,11 @@ loop-again c =
     let at-loop = at-open-term.before.before.before.before.before.before.before in (
       omega arith,
       (
-        at-open-term.open-term.auto.1.1.0 ∙ at-loop.loop.invariant.1.0,
-        at-open-term.open-term.auto.1.1.1.1.1.0 ∙ at-loop.loop.invariant.1.1,
-        at-open-term.open-term.auto.1.1.1.1.1.1.0 ∙ at-loop.loop.invariant.1.2,
+        at-open-term.open_term.auto.1.1.0 ∙ at-loop.loop.invariant.1.0,
+        at-open-term.open_term.auto.1.1.1.1.1.0 ∙ at-loop.loop.invariant.1.1,
+        at-open-term.open_term.auto.1.1.1.1.1.1.0 ∙ at-loop.loop.invariant.1.2,
       ),
-      at-open-term.open-term.ensures,
+      at-open-term.open_term.ensures,
     )
 
 same_length : tie.Need-same-length invariant-loop decreases-loop

@@ -1,4 +1,4 @@
-use Rattle.types.proofs.Recalling.{first-with, further-with}
+use Rattle.types.proofs.Recalling.{first_with, further_with}
 use borrow.Author.Rules.{rules}
 use Rattle.types.proofs.aliases.put.Statement.{statement}
 use Rattle.types.proofs.aliases.put.Tie as tie
@@ -18,7 +18,7 @@ returns c =
     let at-if1 = at-put-alias.before.before in
     let at-stand-of = at-if1.before in
     let start = at-stand-of.before.before.before in
-    first-with start.args.ws.now start.args.i start.args.j start.args.alias
+    first_with start.args.ws.now start.args.i start.args.j start.args.alias
     at-stand-of.Stand-of.ensures at-if1.if1.true at-put-alias.put-alias.ensures
 
 put-requires : tie.Need-put-requires
@@ -33,7 +33,7 @@ returns-2 c =
     let at-if1 = at-put.before.before in
     let at-stand-of = at-if1.before in
     let start = at-stand-of.before.before.before in
-    further-with start.args.ws.now start.args.i start.args.j start.args.alias
+    further_with start.args.ws.now start.args.i start.args.j start.args.alias
     at-stand-of.Stand-of.ensures at-if1.if1.false at-put.put.ensures
 
 pub put_spec : {M : Type 1} → statement M

@@ -1,4 +1,4 @@
-use Rattle.types.proofs.Trees.{other-form, other_place, by-stands}
+use Rattle.types.proofs.Trees.{other-form, other_place, by_stands}
 use Rattle.types.proofs.codes.identical.Statement.{statement}
 use Rattle.types.proofs.codes.identical.Tie as tie
 
@@ -17,7 +17,7 @@ returns-3 c =
     let at-if2 = c.before.before in
     let at-if1 = at-if2.before.before.before in
     let start = at-if1.before.before.before in
-    by-stands start.args.c start.args.d at-if1.if1.false at-if2.if2.false
+    by_stands start.args.c start.args.d at-if1.if1.false at-if2.if2.false
 
 pub identical-spec : {M : Type 1} → statement M
 identical-spec = tie.close (tie.spec returns returns-2 returns-3)

@@ -1,11 +1,11 @@
 use Rattle.types.proofs.Trees.{decided, refuted}
 use Rattle.types.proofs.Alike.{one_code, other-numbers, parted, twice-parted, fewer-first, known-first, fewer-second}
-use Rattle.types.proofs.Alike.{known-second, other-kinds, units, variables, recursives, firsts-differ, seconds}
+use Rattle.types.proofs.Alike.{known-second, other_kinds, units, variables, recursives, firsts_differ, seconds}
 use native.Mathlib.Omega.{arith}
 use mathlib.Core.Path.{sym, ◌∙◌}
 use borrow.Author.Rules.{rules}
 use Rattle.rules.specs.Ty.{nodes}
-use Rattle.types.specs.Codes.{treeIn}
+use Rattle.types.specs.Codes.{tree_in}
 use Prim.Native.Nat.{ℕ, ◌<◌}
 use borrow.Fn.Kinds.{In}
 use borrow.Fn.PlainCycle.{Measures, is, falls, and}
@@ -23,7 +23,7 @@ use Rattle.types.proofs.compare.+same_nodes.{statement}
 use Rattle.types.proofs.compare.+same_nodes.Tie.{close}
 
 abbrev μ-same : Measures 3 same-kinds.ps ℕ
-μ-same κs a = nodes (treeIn a.0.now a.1.0.now a.1.1.0.now a.1.1.1.1.0)
+μ-same κs a = nodes (tree_in a.0.now a.1.0.now a.1.1.0.now a.1.1.1.1.0)
 
 abbrev same_at : ℕ → In 3 same-kinds.ps
 same_at t = and 3 same-kinds.ps (is 3 same-kinds.ps μ-same t) same.Pre
@@ -105,7 +105,7 @@ same-returns-3 t c =
     let at-kind-of = at-kind-of2.before in
     let at-settled2 = at-kind-of.before.before.before.before.before in
     let at-settled = at-settled2.before in
-    other-kinds at-settled.settled.ensures at-settled2.settled2.ensures at-kind-of.kind-of.ensures at-kind-of2.kind-of2.ensures c.if3.true
+    other_kinds at-settled.settled.ensures at-settled2.settled2.ensures at-kind-of.kind-of.ensures at-kind-of2.kind-of2.ensures c.if3.true
 
 same-returns-4 : (t : ℕ) → same-lts.Need-returns-4 (same-uses t) (same_at t) same.Post
 same-returns-4 t c =
@@ -282,7 +282,7 @@ same-returns-8 t c =
     let at-kind-of = at-kind-of2.before in
     let at-settled2 = at-kind-of.before.before.before.before.before in
     let at-settled = at-settled2.before in
-    firsts-differ at-settled.settled.ensures at-settled2.settled2.ensures at-kind-of.kind-of.ensures at-kind-of2.kind-of2.ensures at-if3.if3.false
+    firsts_differ at-settled.settled.ensures at-settled2.settled2.ensures at-kind-of.kind-of.ensures at-kind-of2.kind-of2.ensures at-if3.if3.false
     at-first-of.first_of.ensures at-first-of2.first-of2.ensures at_same.same-nodes.ensures at-if4.if4.false
     (twice-parted at-settled.settled.ensures at-kind-of.kind-of.ensures at-if5.if5.false at-if6.if6.false) c.if7.false
 

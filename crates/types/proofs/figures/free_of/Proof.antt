@@ -1,7 +1,7 @@
 use Prim.Native.Nat.{◌+◌}
 use mathlib.Core.Path.{ap, ◌∙◌}
 use Rattle.octets.specs.Numbers.{get16}
-use Rattle.types.specs.Figures.{freeAt}
+use Rattle.types.specs.Figures.{free_at}
 use borrow.Author.Rules.{rules}
 use Rattle.types.proofs.figures.free_of.Statement.{statement}
 use Rattle.types.proofs.figures.free_of.Tie as tie
@@ -16,7 +16,7 @@ read16-requires : tie.Need-read16-requires
 read16-requires c κs = search rules
 
 returns : tie.Need-returns
-unfolding freeAt
+unfolding free_at
 returns c =
     let at_place = c.before in
     let start = at_place.before.before in

@@ -1,4 +1,4 @@
-use Rattle.types.specs.Numbering.{putFigures}
+use Rattle.types.specs.Numbering.{put_figures}
 use borrow.Author.Rules.{rules}
 use Rattle.types.proofs.figures.put.Statement.{statement}
 use Rattle.types.proofs.figures.put.Tie as tie
@@ -31,7 +31,7 @@ same_length : tie.Need-same-length
 same_length c = search rules
 
 returns : tie.Need-returns
-unfolding putFigures
+unfolding put_figures
 returns c =
     let at_place = c.before.before.before.before.before.before.before.before.before.before.before.before.before.before.before.before in
     let from = at_place.place.ensures.0 in

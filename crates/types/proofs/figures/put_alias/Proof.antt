@@ -1,4 +1,4 @@
-use Rattle.types.specs.Numbering.{putAlias}
+use Rattle.types.specs.Numbering.{put_alias}
 use borrow.Author.Rules.{rules}
 use Rattle.types.proofs.figures.put_alias.Statement.{statement}
 use Rattle.types.proofs.figures.put_alias.Tie as tie
@@ -25,7 +25,7 @@ same_length : tie.Need-same-length
 same_length c = search rules
 
 returns : tie.Need-returns
-unfolding putAlias
+unfolding put_alias
 returns c =
     let at_place = c.before.before.before.before.before.before.before.before in
     let from = at_place.place.ensures.0 in

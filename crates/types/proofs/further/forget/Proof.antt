@@ -2,17 +2,17 @@ use Prim.Native.Nat.{◌-◌, ◌≤◌}
 use native.Mathlib.Omega.{arith}
 use mathlib.Core.Path.{◌≡◌, refl, ap, ◌∙◌}
 use lib.ListN.{length}
-use Rattle.types.specs.Layout.{furtherSlots}
+use Rattle.types.specs.Layout.{further_slots}
 use Rattle.types.specs.Numbering.{forgotten}
 use Rattle.types.proofs.Recalling.{length-forgotten, forgotten-more}
 use Rattle.types.proofs.further.forget.Statement.{statement}
 use Rattle.types.proofs.further.forget.Tie as tie
 
 abbrev invariant-loop : tie.invariant-loop
-invariant-loop ws₀ s₀ ws s = (s ≤ furtherSlots) × (ws ≡ forgotten s ws₀)
+invariant-loop ws₀ s₀ ws s = (s ≤ further_slots) × (ws ≡ forgotten s ws₀)
 
 abbrev decreases-loop : tie.decreases-loop
-decreases-loop ws₀ s₀ ws s = furtherSlots - s
+decreases-loop ws₀ s₀ ws s = further_slots - s
 
 loop-holds : tie.Need-loop-init invariant-loop decreases-loop
 unfolding forgotten
@@ -66,7 +66,7 @@ returns : tie.Need-returns invariant-loop decreases-loop
 returns c =
     let at-loop = c.before in
     let start = at-loop.before.before in
-    let all : at-loop.loop.s ≡ furtherSlots = omega (arith, c.loop-test.false, at-loop.loop.invariant.0) in
+    let all : at-loop.loop.s ≡ further_slots = omega (arith, c.loop-test.false, at-loop.loop.invariant.0) in
     at-loop.loop.invariant.1 ∙ ap (λ s. forgotten s start.args.ws.now) all
 
 pub forget-spec : {M : Type 1} → statement M

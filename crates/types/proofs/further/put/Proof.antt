@@ -1,4 +1,4 @@
-use Rattle.types.specs.Numbering.{putFurther}
+use Rattle.types.specs.Numbering.{put_further}
 use borrow.Author.Rules.{rules}
 use Rattle.types.proofs.further.put.Statement.{statement}
 use Rattle.types.proofs.further.put.Tie as tie
@@ -22,7 +22,7 @@ same_length : tie.Need-same-length
 same_length c = search rules
 
 returns : tie.Need-returns
-unfolding putFurther
+unfolding put_further
 returns c =
     let at_pair = c.before.before.before.before.before.before.before in
     let pair = at_pair.pair.ensures in

@@ -1,4 +1,4 @@
-use Rattle.types.proofs.Recalling.{recalled-there, recalled-none}
+use Rattle.types.proofs.Recalling.{recalled_there, recalled_none}
 use borrow.Author.Rules.{rules}
 use Rattle.types.proofs.further.recall.Statement.{statement}
 use Rattle.types.proofs.further.recall.Tie as tie
@@ -29,7 +29,7 @@ returns c =
     let at-read16 = at_pair.before in
     let at_place = at-read16.before in
     let start = at_place.before.before in
-    recalled-there start.args.ws.now start.args.i start.args.j at_place.place.ensures.0
+    recalled_there start.args.ws.now start.args.i start.args.j at_place.place.ensures.0
     at-read16.read16.ensures at_pair.pair.ensures at-if1.if1.true at-read162.read162.ensures c.entry.ensures
 
 under-requires : tie.Need-under-requires
@@ -42,7 +42,7 @@ returns-2 c =
     let at-read16 = at_pair.before in
     let at_place = at-read16.before in
     let start = at_place.before.before in
-    recalled-none start.args.ws.now start.args.i start.args.j at_place.place.ensures.0
+    recalled_none start.args.ws.now start.args.i start.args.j at_place.place.ensures.0
     at-read16.read16.ensures at_pair.pair.ensures at-if1.if1.false c.under.ensures
 
 pub recall-spec : {M : Type 1} → statement M

@@ -1,4 +1,4 @@
-use Rattle.types.proofs.Hinting.{hint-right, hint-none}
+use Rattle.types.proofs.Hinting.{hint_right, hint_none}
 use borrow.Author.Rules.{rules}
 use Rattle.types.proofs.hints.hinted.Statement.{statement}
 use Rattle.types.proofs.hints.hinted.Tie as tie
@@ -23,7 +23,7 @@ returns c =
     let at-is-pair = c.before in
     let at-if1 = at-is-pair.before in
     let at-is-known = at-if1.before in
-    hint-right (at-is-known.is_Known.ensures at-if1.if1.true) (at-is-pair.is-pair.ensures c.if2.true)
+    hint_right (at-is-known.is_Known.ensures at-if1.if1.true) (at-is-pair.is_pair.ensures c.if2.true)
 
 unit-requires : tie.Need-unit-requires
 unit-requires c κs = search rules
@@ -31,7 +31,7 @@ unit-requires c κs = search rules
 returns-2 : tie.Need-returns-2
 returns-2 c =
     let start = c.before.before.before.before.before.before.before.before in
-    hint-none start.args.p.now start.args.types.now start.args.ws.now start.args.top start.args.left start.args.right
+    hint_none start.args.p.now start.args.types.now start.args.ws.now start.args.top start.args.left start.args.right
     c.unit.ensures
 
 pub hinted-spec : {M : Type 1} → statement M

@@ -2,7 +2,7 @@ use native.Mathlib.Omega.{arith}
 use mathlib.Core.Path.{refl}
 use Rattle.program.proofs.Rooms.{type-kind-room}
 use Rattle.types.proofs.Entries.{pair-room, two-asked}
-use Rattle.types.proofs.Hinting.{noted-none}
+use Rattle.types.proofs.Hinting.{noted_none}
 use borrow.Author.Rules.{rules}
 use Rattle.types.proofs.hints.put_entry.Statement.{statement}
 use Rattle.types.proofs.hints.put_entry.Tie as tie
@@ -64,7 +64,7 @@ returns : tie.Need-returns
 returns c = search rules
 
 returns-2 : tie.Need-returns-2
-returns-2 c = noted-none _
+returns-2 c = noted_none _
 
 pub put-entry-spec : {M : Type 1} → statement M
 put-entry-spec =

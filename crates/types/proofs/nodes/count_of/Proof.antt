@@ -1,7 +1,7 @@
 use mathlib.Core.Path.{ap, ◌∙◌}
 use Prim.Native.Nat.{◌+◌, ◌*◌}
 use Rattle.octets.specs.Numbers.{get16}
-use Rattle.types.specs.Codes.{countAt}
+use Rattle.types.specs.Codes.{count_at}
 use borrow.Author.Rules.{rules}
 use Rattle.types.proofs.nodes.count_of.Statement.{statement}
 use Rattle.types.proofs.nodes.count_of.Tie as tie
@@ -19,7 +19,7 @@ read16-requires : tie.Need-read16-requires
 read16-requires c κs = search rules
 
 returns : tie.Need-returns
-unfolding countAt
+unfolding count_at
 returns c = c.read16.ensures ∙ ap (λ n. get16 c.before.before.before.args.ws.now (14 * n + 12)) c.before.wide-index.ensures.0
 
 pub count-of-spec : {M : Type 1} → statement M

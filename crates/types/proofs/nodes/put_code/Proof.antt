@@ -1,4 +1,4 @@
-use Rattle.types.specs.Growth.{putCode}
+use Rattle.types.specs.Growth.{put_code}
 use borrow.Author.Rules.{rules}
 use Rattle.types.proofs.nodes.put_code.Statement.{statement}
 use Rattle.types.proofs.nodes.put_code.Tie as tie
@@ -22,7 +22,7 @@ same_length : tie.Need-same-length
 same_length c = search rules
 
 returns : tie.Need-returns
-unfolding putCode
+unfolding put_code
 returns c = cc
 
 pub put-code-spec : {M : Type 1} → statement M

@@ -1,4 +1,4 @@
-use Rattle.types.specs.Growth.{putNode}
+use Rattle.types.specs.Growth.{put_node}
 use borrow.Author.Rules.{rules}
 use Rattle.types.proofs.nodes.put_node.Statement.{statement}
 use Rattle.types.proofs.nodes.put_node.Tie as tie
@@ -28,7 +28,7 @@ same_length : tie.Need-same-length
 same_length c = search rules
 
 returns : tie.Need-returns
-unfolding putNode
+unfolding put_node
 returns c = cc c.before.before.before.before.before.before.before.before.before.before.before.before.wide-index.ensures.0
 
 pub put-node-spec : {M : Type 1} → statement M

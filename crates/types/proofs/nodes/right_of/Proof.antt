@@ -1,6 +1,6 @@
 use mathlib.Core.Path.{ap, ◌∙◌}
 use Prim.Native.Nat.{◌+◌, ◌*◌}
-use Rattle.types.specs.Codes.{code_at, rightAt}
+use Rattle.types.specs.Codes.{code_at, right_at}
 use borrow.Author.Rules.{rules}
 use Rattle.types.proofs.nodes.right_of.Statement.{statement}
 use Rattle.types.proofs.nodes.right_of.Tie as tie
@@ -18,7 +18,7 @@ code-at-requires : tie.Need-code-at-requires
 code-at-requires c κs = search rules
 
 returns : tie.Need-returns
-unfolding rightAt
+unfolding right_at
 returns c = c.code-at.ensures ∙ ap (λ n. code_at c.before.before.before.args.ws.now (14 * n + 6)) c.before.wide-index.ensures.0
 
 pub right-of-spec : {M : Type 1} → statement M

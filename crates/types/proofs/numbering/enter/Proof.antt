@@ -50,7 +50,7 @@ slice-write-keys c =
     let at-put = c.before.before.before.before.before.before in
     let at-find = at-put.before.before.before.before in
     let start = at-find.before.before.before.before.before.before.before.before.before.before.before.before in
-    omega (arith, start.requires.1.keys-held, start.requires.0.0.few)
+    omega (arith, start.requires.1.keys_held, start.requires.0.0.few)
 
 slot-requires : tie.Need-slot-requires
 slot-requires c κs = search rules
@@ -70,7 +70,7 @@ slice-write-index c =
     let at-put = c.before.before.before.before.before.before.before in
     let at-find = at-put.before.before.before.before in
     let start = at-find.before.before.before.before.before.before.before.before.before.before.before.before in
-    omega (arith, start.requires.1.index-held, c.slot.ensures.1)
+    omega (arith, start.requires.1.index_held, c.slot.ensures.1)
 
 same_length : tie.Need-same-length
 same_length c = search rules

@@ -1,7 +1,7 @@
 use native.Mathlib.Omega.{arith}
 use mathlib.Core.Path.{sym, ◌∙◌}
 use Rattle.program.proofs.Rooms.{type-kind-room, mu-room, tyvar-room}
-use Rattle.types.proofs.Entries.{unit-figure, pair-room, two-asked, two-figure, recursive-asked, recursive-figure, variable-kind, bound-figure}
+use Rattle.types.proofs.Entries.{unit_figure, pair-room, two-asked, two_figure, recursive-asked, recursive_figure, variable-kind, bound_figure}
 use borrow.Author.Rules.{rules}
 use Rattle.types.proofs.numbering.figures_of.Statement.{statement}
 use Rattle.types.proofs.numbering.figures_of.Tie as tie
@@ -15,7 +15,7 @@ returns : tie.Need-returns
 returns c =
     let at-kind = c.before in
     let start = at-kind.before.before.before in
-    unit-figure start.args.ws.now start.args.p.now start.args.at at-kind.kind.ensures c.if1.true
+    unit_figure start.args.ws.now start.args.p.now start.args.at at-kind.kind.ensures c.if1.true
 
 first-requires : tie.Need-first-requires
 first-requires c κs =
@@ -50,7 +50,7 @@ returns-2 c =
     let at-if1 = at-if2.before in
     let at-kind = at-if1.before in
     let start = at-kind.before.before.before in
-    two-figure start.args.ws.now start.args.p.now start.args.at at-kind.kind.ensures at-if1.if1.false at-if2.if2.true
+    two_figure start.args.ws.now start.args.p.now start.args.at at-kind.kind.ensures at-if1.if1.false at-if2.if2.true
     at_first.first.ensures at_second.second.ensures c.two.ensures
 
 first-requires-2 : tie.Need-first-requires-2
@@ -72,7 +72,7 @@ returns-3 c =
     let at-if3 = at-first2.before in
     let at-kind = at-if3.before.before.before in
     let start = at-kind.before.before.before in
-    recursive-figure start.args.ws.now start.args.p.now start.args.at at-kind.kind.ensures at-if3.if3.true
+    recursive_figure start.args.ws.now start.args.p.now start.args.at at-kind.kind.ensures at-if3.if3.true
     at-first2.first2.ensures c.recursive.ensures
 
 variable-requires : tie.Need-variable-requires
@@ -92,7 +92,7 @@ returns-4 c =
     let at-if2 = at-if3.before in
     let at-kind = at-if2.before.before in
     let start = at-kind.before.before.before in
-    bound-figure start.args.ws.now start.args.p.now start.args.at
+    bound_figure start.args.ws.now start.args.p.now start.args.at
     (variable-kind start.requires.0.0 at-kind.kind.ensures at-if2.if2.false at-if3.if3.false)
     at-variable.variable.ensures c.bound.ensures
 

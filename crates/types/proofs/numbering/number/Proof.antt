@@ -1,5 +1,5 @@
 use mathlib.Core.Path.{◌∙◌}
-use Rattle.types.proofs.Entries.{number-lower, number-own}
+use Rattle.types.proofs.Entries.{number_lower, number-own}
 use borrow.Author.Rules.{rules}
 use Rattle.types.proofs.numbering.number.Statement.{statement}
 use Rattle.types.proofs.numbering.number.Tie as tie
@@ -14,7 +14,7 @@ returns : tie.Need-returns
 returns c =
     let at-if1 = c.before in
     let start = at-if1.before.before in
-    c.number_of_lem.ensures ∙ number-lower start.args.ws.now start.args.i start.args.k at-if1.if1.true
+    c.number_of_lem.ensures ∙ number_lower start.args.ws.now start.args.i start.args.k at-if1.if1.true
 
 returns-2 : tie.Need-returns-2
 returns-2 c =

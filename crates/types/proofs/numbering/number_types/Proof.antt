@@ -3,8 +3,8 @@ use native.Mathlib.Omega.{arith}
 use mathlib.Core.Path.{◌≡◌, refl, subst, ◌∙◌}
 use lib.ListN.{length}
 use Rattle.types.specs.Numbering.{Numbered}
-use Rattle.types.proofs.Entering.{none-numbered}
-use Rattle.types.proofs.Recalling.{none-further}
+use Rattle.types.proofs.Entering.{none_numbered}
+use Rattle.types.proofs.Recalling.{none_further}
 use Rattle.types.proofs.numbering.number_types.Statement.{statement}
 use Rattle.types.proofs.numbering.number_types.Tie as tie
 
@@ -26,8 +26,8 @@ loop-holds c =
     let start = at_forget.before.before.before.before.before.before.before in (
       omega arith,
       (refl, refl, refl),
-      none-numbered (omega (arith, at_forget.forget.auto, start.requires.0.1)) start.requires.1.0 start.requires.1.1
-          (none-further start.args.ws.now start.requires.0.1 at_forget.forget.ensures),
+      none_numbered (omega (arith, at_forget.forget.auto, start.requires.0.1)) start.requires.1.0 start.requires.1.1
+          (none_further start.args.ws.now start.requires.0.1 at_forget.forget.ensures),
     )
 
 enter-requires : tie.Need-enter-requires invariant-loop decreases-loop

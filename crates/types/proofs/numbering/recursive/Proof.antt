@@ -1,5 +1,5 @@
 use native.Mathlib.Omega.{arith}
-use Rattle.types.proofs.Entries.{recursive-shut, recursive-open}
+use Rattle.types.proofs.Entries.{recursive-shut, recursive_open}
 use borrow.Author.Rules.{rules}
 use Rattle.types.proofs.numbering.recursive.Statement.{statement}
 use Rattle.types.proofs.numbering.recursive.Tie as tie
@@ -35,7 +35,7 @@ returns-2 c =
     let at_packed = at-free-of.before in
     let at-number-of = at_packed.before in
     let start = at-number-of.before.before in
-    recursive-open start.args.ws.now start.args.a at-number-of.number_of_lem.ensures at_packed.packed.ensures at-free-of.Free-of.ensures
+    recursive_open start.args.ws.now start.args.a at-number-of.number_of_lem.ensures at_packed.packed.ensures at-free-of.Free-of.ensures
     at-if1.if1.false
     c.outer-of.ensures (omega arith)
 

@@ -2,7 +2,7 @@ use Prim.Native.Nat.{ℕ, ◌-◌, ◌≤◌, ◌<◌}
 use native.Mathlib.Omega.{arith}
 use mathlib.Core.Path.{◌≡◌}
 use lib.ListN.{get_or}
-use Rattle.types.proofs.Entries.{scan-more}
+use Rattle.types.proofs.Entries.{scan_more}
 use borrow.Author.Rules.{rules}
 use Rattle.types.proofs.numbering.scan.Statement.{statement}
 use Rattle.types.proofs.numbering.scan.Tie as tie
@@ -35,7 +35,7 @@ loop-again : tie.Need-loop-preserved invariant-loop decreases-loop
 loop-again c =
     let at-loop = c.before.before.before in
     let start = at-loop.before in
-    (omega arith, scan-more start.args.keys.now start.args.key at-loop.loop.invariant.1 c.if1.false)
+    (omega arith, scan_more start.args.keys.now start.args.key at-loop.loop.invariant.1 c.if1.false)
 
 returns-2 : tie.Need-returns-2 invariant-loop decreases-loop
 returns-2 c =

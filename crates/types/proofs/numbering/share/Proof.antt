@@ -1,6 +1,6 @@
 use native.Mathlib.Omega.{arith}
 use mathlib.Core.Path.{sym, ◌∙◌}
-use Rattle.types.proofs.Entries.{share-here, share-none}
+use Rattle.types.proofs.Entries.{share-here, share_none}
 use borrow.Author.Rules.{rules}
 use Rattle.types.proofs.numbering.share.Statement.{statement}
 use Rattle.types.proofs.numbering.share.Tie as tie
@@ -29,7 +29,7 @@ returns-2 : tie.Need-returns-2
 returns-2 c =
     let at-free-of = c.before in
     let start = at-free-of.before.before in
-    (share-none start.args.ws.now start.args.free start.args.a (λ e. c.if1.false (at-free-of.Free-of.ensures ∙ e)), omega arith)
+    (share_none start.args.ws.now start.args.free start.args.a (λ e. c.if1.false (at-free-of.Free-of.ensures ∙ e)), omega arith)
 
 pub share-spec : {M : Type 1} → statement M
 share-spec =

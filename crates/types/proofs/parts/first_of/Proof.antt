@@ -1,7 +1,7 @@
 use Prim.Native.Nat.{◌<◌}
 use native.Mathlib.Omega.{arith}
 use mathlib.Core.Path.{refl, sym, subst}
-use Rattle.rules.specs.Limits.{maxTypes}
+use Rattle.rules.specs.Limits.{max_types}
 use Rattle.types.proofs.Outer.{product-there}
 use Rattle.types.proofs.Plain.{no-unit-form, no-product-form, first-product, offset-there, first_field, first-inside, part-asked, first-mu, first_two}
 use borrow.Author.Rules.{rules}
@@ -55,7 +55,7 @@ part-requires c κs =
     let at-if1 = at-wide-index.before in
     let start = at-if1.before.before.before.before in
     part-asked start.requires.0 start.args.c start.requires.1.0
-    (subst (λ n. n < maxTypes) (sym at_first.first.ensures) (first-inside start.requires.0 start.args.c start.requires.1.0 (no-unit-form start.requires.0 start.args.c start.requires.1.0 start.requires.1.1.0 start.requires.1.1.1)
+    (subst (λ n. n < max_types) (sym at_first.first.ensures) (first-inside start.requires.0 start.args.c start.requires.1.0 (no-unit-form start.requires.0 start.args.c start.requires.1.0 start.requires.1.1.0 start.requires.1.1.1)
     (no-product-form start.requires.0 start.args.c start.requires.1.0 at-if1.if1.false) at-wide-index.wide-index.ensures.0
     at-wide-index2.wide-index2.ensures.0
     start.requires.1.1.0 start.requires.1.1.1 start.requires.1.1.2)) 1 (omega arith)
@@ -82,7 +82,7 @@ part-requires-2 c κs =
     let at-if1 = at-wide-index.before in
     let start = at-if1.before.before.before.before in
     part-asked start.requires.0 start.args.c start.requires.1.0
-    (subst (λ n. n < maxTypes) (sym at_first.first.ensures) (first-inside start.requires.0 start.args.c start.requires.1.0 (no-unit-form start.requires.0 start.args.c start.requires.1.0 start.requires.1.1.0 start.requires.1.1.1)
+    (subst (λ n. n < max_types) (sym at_first.first.ensures) (first-inside start.requires.0 start.args.c start.requires.1.0 (no-unit-form start.requires.0 start.args.c start.requires.1.0 start.requires.1.1.0 start.requires.1.1.1)
     (no-product-form start.requires.0 start.args.c start.requires.1.0 at-if1.if1.false) at-wide-index.wide-index.ensures.0
     at-wide-index2.wide-index2.ensures.0
     start.requires.1.1.0 start.requires.1.1.1 start.requires.1.1.2)) 0 (omega arith)

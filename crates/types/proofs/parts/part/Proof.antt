@@ -1,5 +1,5 @@
 use mathlib.Core.Path.{◌∙◌}
-use Rattle.types.proofs.Outer.{part-open, part-closed, part-plain}
+use Rattle.types.proofs.Outer.{part_open, part-closed, part-plain}
 use borrow.Author.Rules.{rules}
 use Rattle.types.proofs.parts.part.Statement.{statement}
 use Rattle.types.proofs.parts.part.Tie as tie
@@ -34,7 +34,7 @@ returns c =
     let at-free-of = at-wide32.before in
     let at-if1 = at-free-of.before in
     let start = at-if1.before.before in
-    part-open start.args.ws.now start.args.c start.args.i start.args.up at-if1.if1.true
+    part_open start.args.ws.now start.args.c start.args.i start.args.up at-if1.if1.true
     (at-wide32.wide32.ensures.0 ∙ at-free-of.Free-of.ensures) (at-wide322.wide322.ensures.0 ∙ at-free-of2.free-of2.ensures)
     at-if2.if2.true c.under.ensures
 

@@ -1,7 +1,7 @@
 use native.Mathlib.Omega.{arith}
 use mathlib.Core.Path.{sym, ◌∙◌}
 use Rattle.types.proofs.Outer.{kind-there}
-use Rattle.types.proofs.Plain.{under-there, stands-there, closed-settled, alias-settled, variable-settled, under-settled, recalled-settled}
+use Rattle.types.proofs.Plain.{under-there, stands-there, closed-settled, alias-settled, variable-settled, under-settled, recalled_settled}
 use borrow.Author.Rules.{rules}
 use Rattle.types.proofs.parts.settled_under.Statement.{statement}
 use Rattle.types.proofs.parts.settled_under.Tie as tie
@@ -134,7 +134,7 @@ returns-5 c =
     let at-if1 = at-number-of.before in
     let at-free-of = at-if1.before in
     let start = at-free-of.before.before.before.before in
-    recalled-settled start.requires.0 start.args.c start.requires.1.0 start.requires.1.1 start.requires.1.2 at-number-of.number_of_lem.ensures
+    recalled_settled start.requires.0 start.args.c start.requires.1.0 start.requires.1.1 start.requires.1.2 at-number-of.number_of_lem.ensures
     at-wide-index.wide-index.ensures.0 at-wide-index2.wide-index2.ensures.0 at-kind.kind.ensures
     (λ z. at-if1.if1.false (at-free-of.Free-of.ensures ∙ z)) at-if3.if3.false c.recall.ensures
 

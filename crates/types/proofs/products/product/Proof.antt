@@ -1,7 +1,7 @@
 use native.Mathlib.Omega.{arith}
 use mathlib.Core.Path.{refl}
 use Rattle.calls.specs.Figures.{ceiling}
-use Rattle.types.proofs.Hinting.{made-large, made_found, made-new}
+use Rattle.types.proofs.Hinting.{made_large, made_found, made-new}
 use borrow.Author.Rules.{rules}
 use Rattle.types.proofs.products.product.Statement.{statement}
 use Rattle.types.proofs.products.product.Tie as tie
@@ -36,7 +36,7 @@ returns c =
     let at-node-count2 = at-if1.before in
     let at-node-count = at-node-count2.before.before in
     let start = at-node-count.before.before.before.before.before.before in
-    made-large start.requires.0 start.args.left start.args.right
+    made_large start.requires.0 start.args.left start.args.right
     at-node-count.node-count.ensures at-node-count2.node-count2.ensures refl at-if1.if1.true
 
 settled-requires : tie.Need-settled-requires

@@ -5,8 +5,8 @@ use Prim.Native.Nat.{ℕ}
 use native.Mathlib.Omega.{arith}
 use mathlib.Core.Path.{◌∙◌}
 use borrow.Author.Rules.{rules}
-use own.Passing.{args_end, args-left, args_read, args-ready, args-part, args-refused, args-later, args-next, args-want, args-differ, args-done, args_row}
-use own.Passing.{args-parameter}
+use own.Passing.{args_end, args-left, args_read, args-ready, args-part, args-refused, args_later, args-next, args_want, args_differ, args_done, args_row}
+use own.Passing.{args_parameter}
 use own.Asking.{ready_for, ready-arguments}
 use own.calling.arguments.Reads as arguments
 use own.+arms_choose_let_one_let_two_arguments_call_infer_pair_unary as cycle
@@ -180,11 +180,11 @@ module _ (t : ℕ) where
       let at_entry_lem = c.before in
       let at-status = arguments-before-entry at_entry_lem in
       let (at-infer, at_Listed, at-else1, start) = arguments-before-status at-status in
-      let parameter = args-parameter start.pre.1.ready start.pre.1.calls at-else1.if1.left start.pre.1.signed in (
+      let parameter = args_parameter start.pre.1.ready start.pre.1.calls at-else1.if1.left start.pre.1.signed in (
         at-infer.infer.ensures.kept.sources,
         (
           at-infer.infer.ensures.known _ at-status.status.given.1,
-          args-want start.pre.1.ready
+          args_want start.pre.1.ready
               start.pre.1.calls at-else1.if1.left at_Listed.listed.ensures at-infer.infer.ensures at-status.status.given.1
               parameter at_entry_lem.entry.ensures,
         ),
@@ -208,7 +208,7 @@ module _ (t : ℕ) where
       let (at-infer, at_Listed, at-else1, start) = arguments-before-status at-status in (
         omega (arith, start.pre.0, args-left start.pre.1.ready start.pre.1.calls at-else1.if1.left),
         ready-arguments
-            start.pre.1.signed (args-later start.pre.1.ready start.pre.1.calls at-else1.if1.left at_Listed.listed.ensures
+            start.pre.1.signed (args_later start.pre.1.ready start.pre.1.calls at-else1.if1.left at_Listed.listed.ensures
             at-infer.infer.ensures) (args-next start.pre.1.ready start.pre.1.calls at-else1.if1.left at_Listed.listed.ensures
             at-infer.infer.ensures),
       )
@@ -225,8 +225,8 @@ module _ (t : ℕ) where
       let at-arguments = c.before.before in
       let (at-then2, at_same, at_entry_lem, at-status) = arguments-before-arguments at-arguments in
       let (at-infer, at_Listed, at-else1, start) = arguments-before-status at-status in
-      let parameter = args-parameter start.pre.1.ready start.pre.1.calls at-else1.if1.left start.pre.1.signed in
-      args-done start.pre.1.ready start.pre.1.calls at-else1.if1.left at_Listed.listed.ensures at-infer.infer.ensures
+      let parameter = args_parameter start.pre.1.ready start.pre.1.calls at-else1.if1.left start.pre.1.signed in
+      args_done start.pre.1.ready start.pre.1.calls at-else1.if1.left at_Listed.listed.ensures at-infer.infer.ensures
       at-status.status.given.1 parameter at_entry_lem.entry.ensures at_same.same.ensures at-then2.if2.taken
       at-arguments.arguments.ensures
 
@@ -246,8 +246,8 @@ module _ (t : ℕ) where
   returns-3 c =
       let (at-else2, at_same, at_entry_lem, at-status) = arguments-before-differ c in
       let (at-infer, at_Listed, at-else1, start) = arguments-before-status at-status in
-      let parameter = args-parameter start.pre.1.ready start.pre.1.calls at-else1.if1.left start.pre.1.signed in
-      args-differ start.pre.1.ready start.pre.1.calls at-else1.if1.left at_Listed.listed.ensures at-infer.infer.ensures
+      let parameter = args_parameter start.pre.1.ready start.pre.1.calls at-else1.if1.left start.pre.1.signed in
+      args_differ start.pre.1.ready start.pre.1.calls at-else1.if1.left at_Listed.listed.ensures at-infer.infer.ensures
       at-status.status.given.1 parameter at_entry_lem.entry.ensures at_same.same.ensures at-else2.if2.left c.differ.ensures.0
       c.differ.ensures.1
 

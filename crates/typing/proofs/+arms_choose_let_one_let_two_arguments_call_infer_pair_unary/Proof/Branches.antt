@@ -6,8 +6,8 @@ use native.Mathlib.Omega.{arith}
 use mathlib.Core.Path.{◌∙◌}
 use borrow.Author.Rules.{rules}
 use own.Answers.{told, ready-opened}
-use own.Trees.{read-case}
-use own.Branching.{left-part, right-part, left-ready, left-refused, left-known, right-later, right-known, left-unused, meet_left, meet-bound, branches-done}
+use own.Trees.{read_case}
+use own.Branching.{left-part, right-part, left-ready, left-refused, left-known, right_later, right-known, left-unused, meet_left, meet-bound, branches_done}
 use own.Asking.{ready_for}
 use own.binds.arms.Reads as arms
 use own.+arms_choose_let_one_let_two_arguments_call_infer_pair_unary as cycle
@@ -129,12 +129,12 @@ module _ (t : ℕ) where
   pub second-requires : lts.Need-second-requires (arms-uses t) (arms_at t) arms.Post
   second-requires c κs =
       let start = c.before.before.before.before.before in
-      omega (arith, read-case start.requires.1.ready.entries start.requires.1.here)
+      omega (arith, read_case start.requires.1.ready.entries start.requires.1.here)
 
   pub third-requires : lts.Need-third-requires (arms-uses t) (arms_at t) arms.Post
   third-requires c κs =
       let start = arms-before-second c in
-      read-case start.pre.1.ready.entries start.pre.1.here
+      read_case start.pre.1.ready.entries start.pre.1.here
 
   pub bind-requires : lts.Need-bind-requires (arms-uses t) (arms_at t) arms.Post
   bind-requires c κs =
@@ -172,7 +172,7 @@ module _ (t : ℕ) where
       let at-then1 = c.before.before in
       let (_, at-status) = arms-before-then1 at-then1 in
       let (at-infer, at-bind, at-third, at_second, start) = arms-before-status at-status in (
-        (right-later start.pre.1 at_second.second.ensures at-third.third.ensures at-bind.bind.ensures
+        (right_later start.pre.1 at_second.second.ensures at-third.third.ensures at-bind.bind.ensures
             at-infer.infer.ensures).scoped,
         (
           right-known start.pre.1 at_second.second.ensures at-third.third.ensures
@@ -189,7 +189,7 @@ module _ (t : ℕ) where
       let right = right-part start.pre.1 at_second.second.ensures at-third.third.ensures in (
         omega (arith, start.pre.0, right.0),
         ready_for start.pre.1.signed (ready-opened
-            (right-later start.pre.1 at_second.second.ensures at-third.third.ensures at-bind.bind.ensures at-infer.infer.ensures)
+            (right_later start.pre.1 at_second.second.ensures at-third.third.ensures at-bind.bind.ensures at-infer.infer.ensures)
             at-bind2.bind2.ensures) right.1,
       )
 
@@ -220,7 +220,7 @@ module _ (t : ℕ) where
   returns c =
       let (at-infer2, at-bind2, at-then1, at-spent, at-status) = arms-before-meet c in
       let (at-infer, at-bind, at-third, at_second, start) = arms-before-status at-status in
-      branches-done start.pre.1 at_second.second.ensures at-third.third.ensures at-bind.bind.ensures at-infer.infer.ensures
+      branches_done start.pre.1 at_second.second.ensures at-third.third.ensures at-bind.bind.ensures at-infer.infer.ensures
       at-status.status.given.1 at-spent.spent.ensures at-then1.if1.taken at-bind2.bind2.ensures at-infer2.infer2.ensures
       c.meet.ensures
 

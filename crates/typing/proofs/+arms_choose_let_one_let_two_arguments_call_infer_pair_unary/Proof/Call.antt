@@ -5,12 +5,12 @@ use Prim.Native.Nat.{ℕ, ◌-◌}
 use native.Mathlib.Omega.{arith}
 use mathlib.Core.Path.{◌∙◌, ap}
 use borrow.Author.Rules.{rules}
-use own.Answers.{known-later, told}
-use own.Steps.{demand-done}
+use own.Answers.{known_later, told}
+use own.Steps.{demand_done}
 use own.Trees.{read-call}
-use own.Called.{read-function, some-parameters}
-use own.Passing.{call-function, call-differ, call-calls, call-few, call-read, call-barred, call-refused, call-ready, call-part, call-want, call-done}
-use own.Passing.{call-row, call-parameter, call-parts}
+use own.Called.{read-function, some_parameters}
+use own.Passing.{call-function, call_differ, call-calls, call-few, call-read, call-barred, call-refused, call-ready, call-part, call_want, call_done}
+use own.Passing.{call-row, call_parameter, call-parts}
 use own.Asking.{ready_for, ready-arguments}
 use own.calling.call.Reads as call
 use own.+arms_choose_let_one_let_two_arguments_call_infer_pair_unary as cycle
@@ -219,7 +219,7 @@ module _ (t : ℕ) where
       omega (
         arith,
         c.function-parameters.ensures.0,
-        (some-parameters start.pre.1.ready.entries
+        (some_parameters start.pre.1.ready.entries
             (call-function start.pre.1.ready start.pre.1.here callee) at_offset.wide-index2.ensures.0).0,
       )
 
@@ -234,7 +234,7 @@ module _ (t : ℕ) where
       let own = ap (λ n. n - 1) at-parameters.function-parameters.ensures.0 in
       let parts = call-parts start.pre.1.ready start.pre.1.here callee at_offset.wide-index2.ensures.0
       at-ancillae.call-ancillae.ensures own in
-      call-differ parts at_other.if1.taken c.differ.ensures.0 c.differ.ensures.1
+      call_differ parts at_other.if1.taken c.differ.ensures.0 c.differ.ensures.1
 
   pub none-requires : lts.Need-none-requires (call-uses t) (call_at t) call.Post
   none-requires c κs = search rules
@@ -346,12 +346,12 @@ module _ (t : ℕ) where
       let own = ap (λ n. n - 1) at-parameters.function-parameters.ensures.0 in
       let parts = call-parts start.pre.1.ready start.pre.1.here callee at_offset.wide-index2.ensures.0
       at-ancillae.call-ancillae.ensures own in
-      let parameter = call-parameter parts at_same.if1.left start.pre.1.signed in
+      let parameter = call_parameter parts at_same.if1.left start.pre.1.signed in
       let ready = call-ready parts at_same.if1.left at_none.none.ensures at-arguments.arguments.ensures at-argued.enum_told.given.1
       at_Listed.listed.ensures in
-      let want = call-want parts at_same.if1.left at_none.none.ensures at-arguments.arguments.ensures at-argued.enum_told.given.1
+      let want = call_want parts at_same.if1.left at_none.none.ensures at-arguments.arguments.ensures at-argued.enum_told.given.1
       at_Listed.listed.ensures parameter at-result.function-result.ensures at-want.entry.ensures at-answer.entry2.ensures in
-      (told at-infer.infer.ensures, known-later ready.scoped.sources at-infer.infer.ensures.kept want.0)
+      (told at-infer.infer.ensures, known_later ready.scoped.sources at-infer.infer.ensures.kept want.0)
 
   pub enum-told-2 : lts.Need-enum-told-2 (call-uses t) (call_at t) call.Post
   enum-told-2 c = search rules
@@ -369,14 +369,14 @@ module _ (t : ℕ) where
       let own = ap (λ n. n - 1) at-parameters.function-parameters.ensures.0 in
       let parts = call-parts start.pre.1.ready start.pre.1.here callee at_offset.wide-index2.ensures.0
       at-ancillae.call-ancillae.ensures own in
-      let parameter = call-parameter parts at_same.if1.left start.pre.1.signed in
+      let parameter = call_parameter parts at_same.if1.left start.pre.1.signed in
       let ready = call-ready parts at_same.if1.left at_none.none.ensures at-arguments.arguments.ensures at-argued.enum_told.given.1
       at_Listed.listed.ensures in
-      let want = call-want parts at_same.if1.left at_none.none.ensures at-arguments.arguments.ensures at-argued.enum_told.given.1
+      let want = call_want parts at_same.if1.left at_none.none.ensures at-arguments.arguments.ensures at-argued.enum_told.given.1
       at_Listed.listed.ensures parameter at-result.function-result.ensures at-want.entry.ensures at-answer.entry2.ensures in
-      call-done parts at_same.if1.left at_none.none.ensures at-arguments.arguments.ensures at-argued.enum_told.given.1
+      call_done parts at_same.if1.left at_none.none.ensures at-arguments.arguments.ensures at-argued.enum_told.given.1
       at_Listed.listed.ensures parameter at-result.function-result.ensures at-want.entry.ensures at-answer.entry2.ensures
-      (demand-done at-infer.infer.ensures ready.scoped.sources want.0 want.1 c.expect.ensures)
+      (demand_done at-infer.infer.ensures ready.scoped.sources want.0 want.1 c.expect.ensures)
 
   pub same-length-2 : lts.Need-same-length-2 (call-uses t) (call_at t) call.Post
   same-length-2 c =

@@ -5,9 +5,9 @@ use Prim.Native.Nat.{ℕ}
 use native.Mathlib.Omega.{arith}
 use mathlib.Core.Path.{◌∙◌}
 use borrow.Author.Rules.{rules}
-use own.Trees.{read-case}
-use own.Branching.{case_full, case-free, case-ready, case-part, case-refused, case-later, case-named, case-no, case-done}
-use own.Asking.{ready_for, ready-branches}
+use own.Trees.{read_case}
+use own.Branching.{case_full, case_free, case_ready, case_part, case_refused, case_later, case_named, case_no, case_done}
+use own.Asking.{ready_for, ready_branches}
 use own.binds.choose.Reads as choose
 use own.+arms_choose_let_one_let_two_arguments_call_infer_pair_unary as cycle
 use cycle.Lts-binds-choose as lts
@@ -130,15 +130,15 @@ module _ (t : ℕ) where
   pub first-requires : lts.Need-first-requires (choose-uses t) (choose-at t) choose.Post
   first-requires c κs =
       let start = choose-before-else1 c in
-      omega (arith, read-case start.pre.1.ready.entries start.pre.1.here)
+      omega (arith, read_case start.pre.1.ready.entries start.pre.1.here)
 
   pub infer-requires : lts.Need-infer-requires (choose-uses t) (choose-at t) choose.Post
   infer-requires c κs =
       let at_first = c.before.before in
       let (at-else1, start) = choose-before-first at_first in
-      let part = case-part start.pre.1.ready start.pre.1.here at-else1.if1.left at_first.first.ensures in (
+      let part = case_part start.pre.1.ready start.pre.1.here at-else1.if1.left at_first.first.ensures in (
         omega (arith, start.pre.0, part.0),
-        ready_for start.pre.1.signed (case-ready start.pre.1.ready start.pre.1.here
+        ready_for start.pre.1.signed (case_ready start.pre.1.ready start.pre.1.here
             at-else1.if1.left at_first.first.ensures) part.1,
       )
 
@@ -162,7 +162,7 @@ module _ (t : ℕ) where
   pub returns-2 : lts.Need-returns-2 (choose-uses t) (choose-at t) choose.Post
   returns-2 c =
       let (at-then2, at-shape-of, at-status, at-infer, at_first, at-else1, start) = choose-before-differ c in
-      case-no start.pre.1.ready start.pre.1.here at-else1.if1.left at_first.first.ensures at-infer.infer.ensures
+      case_no start.pre.1.ready start.pre.1.here at-else1.if1.left at_first.first.ensures at-infer.infer.ensures
       at-status.status.given.1 at-shape-of.shape_of.ensures at-then2.if2.taken c.differ.ensures.0 c.differ.ensures.1
 
   pub arms-requires : lts.Need-arms-requires (choose-uses t) (choose-at t) choose.Post
@@ -170,11 +170,11 @@ module _ (t : ℕ) where
       let at-else2 = c.before.before in
       let (at-shape-of, at-status, at-infer, at_first, at-else1, start) = choose-before-else2 at-else2 in (
         omega (arith, start.pre.0),
-        ready-branches start.pre.1.signed (case-later start.pre.1.ready start.pre.1.here
+        ready_branches start.pre.1.signed (case_later start.pre.1.ready start.pre.1.here
             at-else1.if1.left at_first.first.ensures at-infer.infer.ensures) start.pre.1.here
-            (case-free start.pre.1.ready start.pre.1.here at-else1.if1.left at_first.first.ensures)
+            (case_free start.pre.1.ready start.pre.1.here at-else1.if1.left at_first.first.ensures)
             at-shape-of.shape_of.ensures.first at-shape-of.shape_of.ensures.second
-            (case-named start.pre.1.ready start.pre.1.here at-else1.if1.left at_first.first.ensures at-infer.infer.ensures
+            (case_named start.pre.1.ready start.pre.1.here at-else1.if1.left at_first.first.ensures at-infer.infer.ensures
             at-status.status.given.1 at-shape-of.shape_of.ensures),
       )
 
@@ -191,7 +191,7 @@ module _ (t : ℕ) where
   returns-3 c =
       let at-arms = c.before.before in
       let (at-else2, at-shape-of, at-status, at-infer, at_first, at-else1, start) = choose-before-arms at-arms in
-      case-done start.pre.1.ready start.pre.1.here at-else1.if1.left at_first.first.ensures at-infer.infer.ensures
+      case_done start.pre.1.ready start.pre.1.here at-else1.if1.left at_first.first.ensures at-infer.infer.ensures
       at-status.status.given.1 at-shape-of.shape_of.ensures at-else2.if2.left at-arms.arms.ensures
 
   pub same-length-3 : lts.Need-same-length-3 (choose-uses t) (choose-at t) choose.Post
@@ -202,5 +202,5 @@ module _ (t : ℕ) where
   pub returns-4 : lts.Need-returns-4 (choose-uses t) (choose-at t) choose.Post
   returns-4 c =
       let (at-infer, at_first, at-else1, start) = choose-before-enum-told c in
-      case-refused start.pre.1.ready start.pre.1.here at-else1.if1.left at_first.first.ensures at-infer.infer.ensures
+      case_refused start.pre.1.ready start.pre.1.here at-else1.if1.left at_first.first.ensures at-infer.infer.ensures
       c.enum_told.given.1

@@ -6,7 +6,7 @@ use native.Mathlib.Omega.{arith}
 use mathlib.Core.Path.{refl}
 use borrow.Author.Rules.{rules}
 use own.Trees.{here, kind-there, kind-known, read-var}
-use own.Steps.{var-done, unit-done}
+use own.Steps.{var_done, unit_done}
 use own.Kinds.{the_rest}
 use own.Asking.{one-waits, ready_at, ready-unary}
 use own.infer.infer.Reads as infer
@@ -152,13 +152,13 @@ module _ (t : ℕ) where
   returns c =
       let at-variable2 = c in
       let (at-variable, at-kind, at_offset, start) = infer-before-variable2 at-variable2 in
-      var-done start.pre.1.ready (here start.pre.1.there at_offset.offset.ensures at-kind.kind.ensures
+      var_done start.pre.1.ready (here start.pre.1.there at_offset.offset.ensures at-kind.kind.ensures
       at-variable2.before.before.before.match.keys1) at-variable.variable.ensures at-variable2.variable2.ensures
 
   pub returns-2 : lts.Need-returns-2 (infer-uses t) (infer-at t) infer.Post
   returns-2 c =
       let (at-kind, at_offset, start) = infer-before-unit c in
-      unit-done start.pre.1.ready (here start.pre.1.there at_offset.offset.ensures at-kind.kind.ensures c.before.match.keys2)
+      unit_done start.pre.1.ready (here start.pre.1.there at_offset.offset.ensures at-kind.kind.ensures c.before.match.keys2)
       c.unit.ensures
 
   pub same_length : lts.Need-same-length (infer-uses t) (infer-at t) infer.Post

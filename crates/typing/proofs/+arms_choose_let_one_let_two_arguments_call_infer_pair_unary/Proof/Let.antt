@@ -6,8 +6,8 @@ use native.Mathlib.Omega.{arith}
 use mathlib.Core.Path.{◌∙◌}
 use borrow.Author.Rules.{rules}
 use own.Answers.{told, ready-opened}
-use own.Trees.{read-let}
-use own.Binding.{let-full, let-free, let-ready, let-bound, let-body, let-refused, let-later, let-known, let-can-settle, let-done}
+use own.Trees.{read_let}
+use own.Binding.{let_full, let_free, let_ready, let_bound, let_body, let_refused, let_later, let_known, let_can_settle, let_done}
 use own.Asking.{ready_for}
 use own.binds.let_one.Reads as let-one
 use own.+arms_choose_let_one_let_two_arguments_call_infer_pair_unary as cycle
@@ -135,17 +135,17 @@ module _ (t : ℕ) where
   pub returns : lts.Need-returns (let-one-uses t) (let-one-at t) let-one.Post
   returns c =
       let (at-then1, start) = let-one-before-unscoped c in
-      let-full start.pre.1.ready start.pre.1.here at-then1.if1.taken c.unscoped.ensures.0 c.unscoped.ensures.1
+      let_full start.pre.1.ready start.pre.1.here at-then1.if1.taken c.unscoped.ensures.0 c.unscoped.ensures.1
 
   pub first-requires : lts.Need-first-requires (let-one-uses t) (let-one-at t) let-one.Post
   first-requires c κs =
       let start = let-one-before-else1 c in
-      omega (arith, read-let start.pre.1.ready.entries start.pre.1.here)
+      omega (arith, read_let start.pre.1.ready.entries start.pre.1.here)
 
   pub second-requires : lts.Need-second-requires (let-one-uses t) (let-one-at t) let-one.Post
   second-requires c κs =
       let (_, start) = let-one-before-first c in
-      read-let start.pre.1.ready.entries start.pre.1.here
+      read_let start.pre.1.ready.entries start.pre.1.here
 
   pub count-requires : lts.Need-count-requires (let-one-uses t) (let-one-at t) let-one.Post
   count-requires c κs =
@@ -156,17 +156,17 @@ module _ (t : ℕ) where
   marked-requires c κs =
       let (at_second, at_first, at-else1, start) = let-one-before-count c in (
         start.pre.1.ready.scoped.low,
-        let-free start.pre.1.ready start.pre.1.here at-else1.if1.left at_first.first.ensures at_second.second.ensures,
+        let_free start.pre.1.ready start.pre.1.here at-else1.if1.left at_first.first.ensures at_second.second.ensures,
       )
 
   pub infer-requires : lts.Need-infer-requires (let-one-uses t) (let-one-at t) let-one.Post
   infer-requires c κs =
       let at-marked = c.before.before in
       let (_, at_second, at_first, at-else1, start) = let-one-before-marked at-marked in
-      let bound = let-bound start.pre.1.ready start.pre.1.here at-else1.if1.left at_first.first.ensures
+      let bound = let_bound start.pre.1.ready start.pre.1.here at-else1.if1.left at_first.first.ensures
       at_second.second.ensures in (
         omega (arith, start.pre.0, bound.0),
-        ready_for start.pre.1.signed (let-ready start.pre.1.ready start.pre.1.here
+        ready_for start.pre.1.signed (let_ready start.pre.1.ready start.pre.1.here
             at-else1.if1.left at_first.first.ensures at_second.second.ensures at-marked.marked.ensures) bound.1,
       )
 
@@ -177,18 +177,18 @@ module _ (t : ℕ) where
   count-requires-2 c κs =
       let at-infer = let-one-before-status c.before.before in
       let (at-marked, _, at_second, at_first, at-else1, start) = let-one-before-infer at-infer in
-      (let-later start.pre.1.ready start.pre.1.here at-else1.if1.left at_first.first.ensures at_second.second.ensures
+      (let_later start.pre.1.ready start.pre.1.here at-else1.if1.left at_first.first.ensures at_second.second.ensures
       at-marked.marked.ensures at-infer.infer.ensures).scoped.slots
 
   pub bind-requires : lts.Need-bind-requires (let-one-uses t) (let-one-at t) let-one.Post
   bind-requires c κs =
       let (at-status, at-infer) = let-one-before-count2 c.before.before in
       let (at-marked, _, at_second, at_first, at-else1, start) = let-one-before-infer at-infer in (
-        (let-later start.pre.1.ready start.pre.1.here at-else1.if1.left at_first.first.ensures at_second.second.ensures
+        (let_later start.pre.1.ready start.pre.1.here at-else1.if1.left at_first.first.ensures at_second.second.ensures
             at-marked.marked.ensures at-infer.infer.ensures).scoped,
         (
           at-infer.infer.ensures.known _ at-status.status.given.1,
-          let-free start.pre.1.ready
+          let_free start.pre.1.ready
               start.pre.1.here at-else1.if1.left at_first.first.ensures at_second.second.ensures,
         ),
       )
@@ -198,11 +198,11 @@ module _ (t : ℕ) where
       let at-bind = c.before.before in
       let (_, _, at-infer) = let-one-before-bind at-bind in
       let (at-marked, _, at_second, at_first, at-else1, start) = let-one-before-infer at-infer in
-      let body = let-body start.pre.1.ready start.pre.1.here at-else1.if1.left at_first.first.ensures at_second.second.ensures
+      let body = let_body start.pre.1.ready start.pre.1.here at-else1.if1.left at_first.first.ensures at_second.second.ensures
       in (
         omega (arith, start.pre.0, body.0),
         ready_for start.pre.1.signed (ready-opened
-            (let-later start.pre.1.ready start.pre.1.here at-else1.if1.left at_first.first.ensures at_second.second.ensures
+            (let_later start.pre.1.ready start.pre.1.here at-else1.if1.left at_first.first.ensures at_second.second.ensures
             at-marked.marked.ensures at-infer.infer.ensures) at-bind.bind.ensures) body.1,
       )
 
@@ -214,13 +214,13 @@ module _ (t : ℕ) where
         told at-infer2.infer2.ensures,
         (
           (
-            let-known start.pre.1.ready start.pre.1.here at-else1.if1.left at_first.first.ensures
+            let_known start.pre.1.ready start.pre.1.here at-else1.if1.left at_first.first.ensures
                 at_second.second.ensures at-marked.marked.ensures at-infer.infer.ensures at-status.status.given.1
                 at-bind.bind.ensures at-infer2.infer2.ensures,
-            let-free start.pre.1.ready start.pre.1.here at-else1.if1.left at_first.first.ensures
+            let_free start.pre.1.ready start.pre.1.here at-else1.if1.left at_first.first.ensures
                 at_second.second.ensures,
           ),
-          let-can-settle start.pre.1.ready start.pre.1.here at-else1.if1.left at_first.first.ensures
+          let_can_settle start.pre.1.ready start.pre.1.here at-else1.if1.left at_first.first.ensures
               at_second.second.ensures at-marked.marked.ensures at-infer.infer.ensures at-status.status.given.1
               at-bind.bind.ensures at-infer2.infer2.ensures at_count.count.ensures at-count2.count2.ensures,
         ),
@@ -239,7 +239,7 @@ module _ (t : ℕ) where
       let at-close-one = c in
       let (at-infer2, at-bind, at-count2, at-status, at-infer) = let-one-before-close-one at-close-one in
       let (at-marked, at_count, at_second, at_first, at-else1, start) = let-one-before-infer at-infer in
-      let-done start.pre.1.ready start.pre.1.here at-else1.if1.left at_first.first.ensures at_second.second.ensures
+      let_done start.pre.1.ready start.pre.1.here at-else1.if1.left at_first.first.ensures at_second.second.ensures
       at-marked.marked.ensures at-infer.infer.ensures at-status.status.given.1 at-bind.bind.ensures at-infer2.infer2.ensures
       at_count.count.ensures at-count2.count2.ensures at-close-one.close-one.ensures
 
@@ -252,5 +252,5 @@ module _ (t : ℕ) where
   returns-3 c =
       let at-infer = let-one-before-enum-told c in
       let (at-marked, _, at_second, at_first, at-else1, start) = let-one-before-infer at-infer in
-      let-refused start.pre.1.ready start.pre.1.here at-else1.if1.left at_first.first.ensures at_second.second.ensures
+      let_refused start.pre.1.ready start.pre.1.here at-else1.if1.left at_first.first.ensures at_second.second.ensures
       at-marked.marked.ensures at-infer.infer.ensures c.enum_told.given.1

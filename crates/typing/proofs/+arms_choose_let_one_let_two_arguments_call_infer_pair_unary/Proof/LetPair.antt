@@ -6,9 +6,9 @@ use native.Mathlib.Omega.{arith}
 use mathlib.Core.Path.{◌∙◌}
 use borrow.Author.Rules.{rules}
 use own.Answers.{told, ready-opened}
-use own.Trees.{read-letp}
-use own.Binding.{letp-full, letp-ready, letp-bound, letp-body, letp-refused, letp-later, letp-no, letp-second, letp-first-known, letp-second-known}
-use own.Binding.{letp-can-settle, letp-done}
+use own.Trees.{read_letp}
+use own.Binding.{letp_full, letp_ready, letp_bound, letp_body, letp_refused, letp_later, letp_no, letp_second, letp_first_known, letp_second_known}
+use own.Binding.{letp_can_settle, letp_done}
 use own.Asking.{ready_for}
 use own.binds.let_two.Reads as let-two
 use own.+arms_choose_let_one_let_two_arguments_call_infer_pair_unary as cycle
@@ -180,17 +180,17 @@ module _ (t : ℕ) where
   pub returns : lts.Need-returns (let-two-uses t) (let-two-at t) let-two.Post
   returns c =
       let (at-then1, start) = let-two-before-unscoped c in
-      letp-full start.pre.1.ready start.pre.1.here at-then1.if1.taken c.unscoped.ensures.0 c.unscoped.ensures.1
+      letp_full start.pre.1.ready start.pre.1.here at-then1.if1.taken c.unscoped.ensures.0 c.unscoped.ensures.1
 
   pub first-requires : lts.Need-first-requires (let-two-uses t) (let-two-at t) let-two.Post
   first-requires c κs =
       let start = let-two-before-else1 c in
-      omega (arith, read-letp start.pre.1.ready.entries start.pre.1.here)
+      omega (arith, read_letp start.pre.1.ready.entries start.pre.1.here)
 
   pub second-requires : lts.Need-second-requires (let-two-uses t) (let-two-at t) let-two.Post
   second-requires c κs =
       let (_, start) = let-two-before-first c in
-      read-letp start.pre.1.ready.entries start.pre.1.here
+      read_letp start.pre.1.ready.entries start.pre.1.here
 
   pub count-requires : lts.Need-count-requires (let-two-uses t) (let-two-at t) let-two.Post
   count-requires c κs =
@@ -206,10 +206,10 @@ module _ (t : ℕ) where
   infer-requires c κs =
       let at-marked = c.before.before in
       let (_, at_second, at_first, at-else1, start) = let-two-before-marked at-marked in
-      let bound = letp-bound start.pre.1.ready start.pre.1.here at-else1.if1.left at_first.first.ensures
+      let bound = letp_bound start.pre.1.ready start.pre.1.here at-else1.if1.left at_first.first.ensures
       at_second.second.ensures in (
         omega (arith, start.pre.0, bound.0),
-        ready_for start.pre.1.signed (letp-ready start.pre.1.ready start.pre.1.here
+        ready_for start.pre.1.signed (letp_ready start.pre.1.ready start.pre.1.here
             at-else1.if1.left at_first.first.ensures at_second.second.ensures at-marked.marked.ensures) bound.1,
       )
 
@@ -235,7 +235,7 @@ module _ (t : ℕ) where
       let (at-then2, at-shape-of, at-status) = let-two-before-differ c in
       let at-infer = let-two-before-status at-status in
       let (at-marked, _, at_second, at_first, at-else1, start) = let-two-before-infer at-infer in
-      letp-no start.pre.1.ready start.pre.1.here at-else1.if1.left at_first.first.ensures at_second.second.ensures
+      letp_no start.pre.1.ready start.pre.1.here at-else1.if1.left at_first.first.ensures at_second.second.ensures
       at-marked.marked.ensures at-infer.infer.ensures at-status.status.given.1 at-shape-of.shape_of.ensures
       at-then2.if2.taken c.differ.ensures.0 c.differ.ensures.1
 
@@ -244,7 +244,7 @@ module _ (t : ℕ) where
       let (_, at-status) = let-two-before-else2 c.before in
       let at-infer = let-two-before-status at-status in
       let (at-marked, _, at_second, at_first, at-else1, start) = let-two-before-infer at-infer in
-      (letp-later start.pre.1.ready start.pre.1.here at-else1.if1.left at_first.first.ensures at_second.second.ensures
+      (letp_later start.pre.1.ready start.pre.1.here at-else1.if1.left at_first.first.ensures at_second.second.ensures
       at-marked.marked.ensures at-infer.infer.ensures).scoped.slots
 
   pub bind-requires : lts.Need-bind-requires (let-two-uses t) (let-two-at t) let-two.Post
@@ -252,7 +252,7 @@ module _ (t : ℕ) where
       let (_, at-shape-of, at-status) = let-two-before-count2 c.before.before in
       let at-infer = let-two-before-status at-status in
       let (at-marked, _, at_second, at_first, at-else1, start) = let-two-before-infer at-infer in (
-        (letp-later start.pre.1.ready start.pre.1.here at-else1.if1.left at_first.first.ensures at_second.second.ensures
+        (letp_later start.pre.1.ready start.pre.1.here at-else1.if1.left at_first.first.ensures at_second.second.ensures
             at-marked.marked.ensures at-infer.infer.ensures).scoped,
         (at-shape-of.shape_of.ensures.first, omega (arith, at-else1.if1.left)),
       )
@@ -266,7 +266,7 @@ module _ (t : ℕ) where
         at-bind.bind.ensures.scoped,
         (
           at-shape-of.shape_of.ensures.second,
-          letp-second start.pre.1.ready start.pre.1.here at-else1.if1.left at_first.first.ensures
+          letp_second start.pre.1.ready start.pre.1.here at-else1.if1.left at_first.first.ensures
               at_second.second.ensures at-marked.marked.ensures at-infer.infer.ensures at-status.status.given.1
               at-shape-of.shape_of.ensures at-else2.if2.left at-bind.bind.ensures,
         ),
@@ -278,11 +278,11 @@ module _ (t : ℕ) where
       let (at-bind, _, _, _, at-status) = let-two-before-bind2 at-bind2 in
       let at-infer = let-two-before-status at-status in
       let (at-marked, _, at_second, at_first, at-else1, start) = let-two-before-infer at-infer in
-      let body = letp-body start.pre.1.ready start.pre.1.here at-else1.if1.left at_first.first.ensures at_second.second.ensures
+      let body = letp_body start.pre.1.ready start.pre.1.here at-else1.if1.left at_first.first.ensures at_second.second.ensures
       in (
         omega (arith, start.pre.0, body.0),
         ready_for start.pre.1.signed (ready-opened
-            (ready-opened (letp-later start.pre.1.ready start.pre.1.here at-else1.if1.left at_first.first.ensures
+            (ready-opened (letp_later start.pre.1.ready start.pre.1.here at-else1.if1.left at_first.first.ensures
             at_second.second.ensures at-marked.marked.ensures at-infer.infer.ensures) at-bind.bind.ensures) at-bind2.bind2.ensures)
             body.1,
       )
@@ -296,15 +296,15 @@ module _ (t : ℕ) where
         told at-infer2.infer2.ensures,
         (
           (
-            letp-first-known start.pre.1.ready start.pre.1.here at-else1.if1.left at_first.first.ensures
+            letp_first_known start.pre.1.ready start.pre.1.here at-else1.if1.left at_first.first.ensures
                 at_second.second.ensures at-marked.marked.ensures at-infer.infer.ensures at-status.status.given.1
                 at-shape-of.shape_of.ensures at-else2.if2.left at-bind.bind.ensures at-bind2.bind2.ensures at-infer2.infer2.ensures,
-            letp-second-known start.pre.1.ready start.pre.1.here at-else1.if1.left at_first.first.ensures
+            letp_second_known start.pre.1.ready start.pre.1.here at-else1.if1.left at_first.first.ensures
                 at_second.second.ensures at-marked.marked.ensures at-infer.infer.ensures at-status.status.given.1
                 at-shape-of.shape_of.ensures at-else2.if2.left at-bind.bind.ensures at-bind2.bind2.ensures at-infer2.infer2.ensures,
             omega (arith, at-else1.if1.left),
           ),
-          letp-can-settle start.pre.1.ready start.pre.1.here at-else1.if1.left at_first.first.ensures
+          letp_can_settle start.pre.1.ready start.pre.1.here at-else1.if1.left at_first.first.ensures
               at_second.second.ensures at-marked.marked.ensures at-infer.infer.ensures at-status.status.given.1
               at-shape-of.shape_of.ensures at-else2.if2.left at-bind.bind.ensures at-bind2.bind2.ensures at-infer2.infer2.ensures
               at_count.count.ensures at-count2.count2.ensures,
@@ -325,7 +325,7 @@ module _ (t : ℕ) where
       let (at-infer2, at-bind2, at-bind, at-count2, at-else2, at-shape-of, at-status) = let-two-before-close-two at-close-two in
       let at-infer = let-two-before-status at-status in
       let (at-marked, at_count, at_second, at_first, at-else1, start) = let-two-before-infer at-infer in
-      letp-done start.pre.1.ready start.pre.1.here at-else1.if1.left at_first.first.ensures at_second.second.ensures
+      letp_done start.pre.1.ready start.pre.1.here at-else1.if1.left at_first.first.ensures at_second.second.ensures
       at-marked.marked.ensures at-infer.infer.ensures at-status.status.given.1 at-shape-of.shape_of.ensures at-else2.if2.left
       at-bind.bind.ensures at-bind2.bind2.ensures at-infer2.infer2.ensures at_count.count.ensures at-count2.count2.ensures
       at-close-two.close-two.ensures
@@ -337,5 +337,5 @@ module _ (t : ℕ) where
   returns-4 c =
       let at-infer = let-two-before-enum-told c in
       let (at-marked, _, at_second, at_first, at-else1, start) = let-two-before-infer at-infer in
-      letp-refused start.pre.1.ready start.pre.1.here at-else1.if1.left at_first.first.ensures at_second.second.ensures
+      letp_refused start.pre.1.ready start.pre.1.here at-else1.if1.left at_first.first.ensures at_second.second.ensures
       at-marked.marked.ensures at-infer.infer.ensures c.enum_told.given.1

@@ -7,7 +7,7 @@ use mathlib.Core.Path.{◌∙◌}
 use borrow.Author.Rules.{rules}
 use own.Answers.{told}
 use own.Trees.{read-pair}
-use own.Pairing.{pair-ready, pair_left, pair-right, pair-refused, pair-later, pair-up-left, pair-room, pair-done}
+use own.Pairing.{pair-ready, pair_left, pair-right, pair-refused, pair_later, pair_up_left, pair-room, pair_done}
 use own.Asking.{ready_for}
 use own.infer.pair.Reads as pair
 use own.+arms_choose_let_one_let_two_arguments_call_infer_pair_unary as cycle
@@ -110,7 +110,7 @@ module _ (t : ℕ) where
       let (at-infer, at_second, at_first, start) = pair-before-status at-status in
       let right = pair-right start.pre.1.ready start.pre.1.here at_first.first.ensures at_second.second.ensures in (
         omega (arith, start.pre.0, right.0),
-        ready_for start.pre.1.signed (pair-later start.pre.1.ready start.pre.1.here
+        ready_for start.pre.1.signed (pair_later start.pre.1.ready start.pre.1.here
             at_first.first.ensures at_second.second.ensures at-infer.infer.ensures) right.1,
       )
 
@@ -120,7 +120,7 @@ module _ (t : ℕ) where
       let (at-status, at-infer, at_second, at_first, start) = pair-before-infer2 at-infer2 in (
         told at-infer2.infer2.ensures,
         (
-          pair-up-left start.pre.1.ready start.pre.1.here at_first.first.ensures
+          pair_up_left start.pre.1.ready start.pre.1.here at_first.first.ensures
               at_second.second.ensures at-infer.infer.ensures at-status.status.given.1 at-infer2.infer2.ensures,
           (
             start.pre.1.ready.entries.counted,
@@ -143,7 +143,7 @@ module _ (t : ℕ) where
   returns c =
       let at-pair-up = c.before.before in
       let (at-infer2, at-status, at-infer, at_second, at_first, start) = pair-before-pair-up at-pair-up in
-      pair-done start.pre.1.ready start.pre.1.here at_first.first.ensures at_second.second.ensures at-infer.infer.ensures
+      pair_done start.pre.1.ready start.pre.1.here at_first.first.ensures at_second.second.ensures at-infer.infer.ensures
       at-status.status.given.1 at-infer2.infer2.ensures at-pair-up.pair-up.ensures
 
   pub same-length-2 : lts.Need-same-length-2 (pair-uses t) (pair_at t) pair.Post

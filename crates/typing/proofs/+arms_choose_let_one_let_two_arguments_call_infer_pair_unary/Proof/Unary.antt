@@ -5,10 +5,10 @@ use Prim.Native.Nat.{ℕ}
 use native.Mathlib.Omega.{arith}
 use mathlib.Core.Path.{refl, sym, ◌∙◌}
 use borrow.Author.Rules.{rules}
-use own.Answers.{known-later, told}
+use own.Answers.{known_later, told}
 use own.Trees.{here, kind-there}
-use own.Steps.{demand-done}
-use own.Unary.{unary-field, unary-part, unary-ready, unary-no, unary-done}
+use own.Steps.{demand_done}
+use own.Unary.{unary-field, unary-part, unary-ready, unary-no, unary_done}
 use own.Asking.{ready_for, ready-unary}
 use own.infer.unary.Reads as unary
 use own.+arms_choose_let_one_let_two_arguments_call_infer_pair_unary as cycle
@@ -209,7 +209,7 @@ module _ (t : ℕ) where
       let at-unary = c.before.before.before in
       let (_, _, _, _, at_second, _, at-on-entering, at_first, start) = unary-before-unary at-unary in
       let ready = unary-ready start.pre.1.ready start.pre.1.here start.pre.1.single at_first.first.ensures at_second.second.ensures in
-      (told at-unary.unary.ensures, known-later ready.scoped.sources at-unary.unary.ensures.kept at-on-entering.on-entering.ensures.part)
+      (told at-unary.unary.ensures, known_later ready.scoped.sources at-unary.unary.ensures.kept at-on-entering.on-entering.ensures.part)
 
   pub same_length : lts.Need-same-length (unary-uses t) (unary-at t) unary.Post
   same_length c =
@@ -221,8 +221,8 @@ module _ (t : ℕ) where
       let (at-unary, _, _, _, _, at_second, at-then1, at-on-entering, at_first, start) = unary-before-expect c in
       let ready = unary-ready start.pre.1.ready start.pre.1.here start.pre.1.single at_first.first.ensures at_second.second.ensures in
       let wants = at-on-entering.on-entering.ensures in
-      unary-done start.pre.1.ready start.pre.1.here start.pre.1.single at_first.first.ensures at_second.second.ensures wants at-then1.if1.taken
-      (demand-done at-unary.unary.ensures ready.scoped.sources wants.part wants.whole c.expect.ensures)
+      unary_done start.pre.1.ready start.pre.1.here start.pre.1.single at_first.first.ensures at_second.second.ensures wants at-then1.if1.taken
+      (demand_done at-unary.unary.ensures ready.scoped.sources wants.part wants.whole c.expect.ensures)
 
   pub infer-requires : lts.Need-infer-requires (unary-uses t) (unary-at t) unary.Post
   infer-requires c κs =
@@ -237,7 +237,7 @@ module _ (t : ℕ) where
       let at-infer = c.before.before.before in
       let (_, _, _, _, at_second, _, at-on-entering, at_first, start) = unary-before-infer at-infer in
       let ready = unary-ready start.pre.1.ready start.pre.1.here start.pre.1.single at_first.first.ensures at_second.second.ensures in
-      (told at-infer.infer.ensures, known-later ready.scoped.sources at-infer.infer.ensures.kept at-on-entering.on-entering.ensures.part)
+      (told at-infer.infer.ensures, known_later ready.scoped.sources at-infer.infer.ensures.kept at-on-entering.on-entering.ensures.part)
 
   pub same-length-2 : lts.Need-same-length-2 (unary-uses t) (unary-at t) unary.Post
   same-length-2 c =
@@ -249,8 +249,8 @@ module _ (t : ℕ) where
       let (at-infer, _, _, _, _, at_second, at-then1, at-on-entering, at_first, start) = unary-before-expect2 c in
       let ready = unary-ready start.pre.1.ready start.pre.1.here start.pre.1.single at_first.first.ensures at_second.second.ensures in
       let wants = at-on-entering.on-entering.ensures in
-      unary-done start.pre.1.ready start.pre.1.here start.pre.1.single at_first.first.ensures at_second.second.ensures wants at-then1.if1.taken
-      (demand-done at-infer.infer.ensures ready.scoped.sources wants.part wants.whole c.expect2.ensures)
+      unary_done start.pre.1.ready start.pre.1.here start.pre.1.single at_first.first.ensures at_second.second.ensures wants at-then1.if1.taken
+      (demand_done at-infer.infer.ensures ready.scoped.sources wants.part wants.whole c.expect2.ensures)
 
   pub differ-requires : lts.Need-differ-requires (unary-uses t) (unary-at t) unary.Post
   differ-requires c κs = search rules

@@ -3,10 +3,10 @@ use Prim.Native.Nat.{◌-◌, ◌≤◌}
 use mathlib.Core.Path.{◌≡◌, refl, sym, subst, ◌∙◌}
 use lib.ListN.{length}
 use borrow.Author.Rules.{rules}
-use Rattle.rules.specs.Limits.{maxParameters}
+use Rattle.rules.specs.Limits.{max_parameters}
 use Rattle.typing.specs.Checked.{Bound}
-use Rattle.typing.proofs.Starts.{none-bound, one-bound, ancillae-scoped}
-use Rattle.typing.proofs.Ending.{parameter-known}
+use Rattle.typing.proofs.Starts.{none_bound, one-bound, ancillae-scoped}
+use Rattle.typing.proofs.Ending.{parameter_known}
 use Rattle.typing.proofs.functions.bind_ancillae.Statement.{statement}
 use Rattle.typing.proofs.functions.bind_ancillae.Tie as tie
 
@@ -22,7 +22,7 @@ none-requires c κs = search rules
 loop-holds : tie.Need-loop-init invariant-loop decreases-loop
 loop-holds c =
     let start = c.before.before.before.before in
-    (omega arith, refl, none-bound start.requires.1.1.1 start.requires.1.1.2)
+    (omega arith, refl, none_bound start.requires.1.1.1 start.requires.1.1.2)
 
 wide16-requires : tie.Need-wide16-requires invariant-loop decreases-loop
 wide16-requires c κs = search rules
@@ -34,25 +34,25 @@ mul-entry : tie.Need-overflow-mul-entry invariant-loop decreases-loop
 mul-entry c = search rules
 
 array-read-entry : tie.Need-array-read-entry invariant-loop decreases-loop
-unfolding maxParameters
+unfolding max_parameters
 array-read-entry c = omega (arith, c.before.before.before.before.before.before.before.before.requires.1.0.formed.few)
 
 entry-requires : tie.Need-entry-requires invariant-loop decreases-loop
 entry-requires c κs = search rules
 
 bind-requires : tie.Need-bind-requires invariant-loop decreases-loop
-unfolding maxParameters
+unfolding max_parameters
 bind-requires c κs =
     let at_entry_lem = c.before in
     let at-loop = at_entry_lem.before.before.before.before in
     let at_none = at-loop.before in
     let start = at_none.before.before.before.before in (
       ancillae-scoped start.requires.0 at-loop.loop.invariant.2 (omega (arith, start.requires.1.0.formed.few)) at_none.none.ensures,
-      (parameter-known start.requires.1.0 0 (omega arith) at_entry_lem.entry.ensures, omega (arith, start.requires.1.0.formed.few)),
+      (parameter_known start.requires.1.0 0 (omega arith) at_entry_lem.entry.ensures, omega (arith, start.requires.1.0.formed.few)),
     )
 
 add-i : tie.Need-overflow-add-i invariant-loop decreases-loop
-unfolding maxParameters
+unfolding max_parameters
 add-i c =
     let start = c.before.before.before.before.before.before.before.before.before.before.before in
     omega (arith, start.requires.1.0.formed.few)

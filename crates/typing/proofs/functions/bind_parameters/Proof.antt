@@ -1,9 +1,9 @@
 use native.Mathlib.Omega.{arith}
 use mathlib.Core.Path.{refl}
-use Rattle.rules.specs.Limits.{maxParameters}
+use Rattle.rules.specs.Limits.{max_parameters}
 use Rattle.program.proofs.Rooms.{function-room}
 use Rattle.typing.proofs.Starts.{ancillae-scoped, all-bound}
-use Rattle.typing.proofs.Ending.{parameter-known}
+use Rattle.typing.proofs.Ending.{parameter_known}
 use borrow.Author.Rules.{rules}
 use Rattle.typing.proofs.functions.bind_parameters.Statement.{statement}
 use Rattle.typing.proofs.functions.bind_parameters.Tie as tie
@@ -29,14 +29,14 @@ mul-entry : tie.Need-overflow-mul-entry
 mul-entry c = search rules
 
 array-read-entry : tie.Need-array-read-entry
-unfolding maxParameters
+unfolding max_parameters
 array-read-entry c = omega (arith, c.before.before.before.before.before.before.before.requires.1.0.formed.few)
 
 entry-requires : tie.Need-entry-requires
 entry-requires c κs = search rules
 
 bind-requires : tie.Need-bind-requires
-unfolding maxParameters
+unfolding max_parameters
 bind-requires c κs =
     let at_entry_lem = c.before in
     let at_none = at_entry_lem.before in
@@ -45,7 +45,7 @@ bind-requires c κs =
       ancillae-scoped start.requires.0 at-bind-ancillae.bind-ancillae.ensures (omega (arith, start.requires.1.0.formed.few))
           at_none.none.ensures,
       (
-        parameter-known start.requires.1.0 0 (omega (arith, start.requires.1.0.formed.some)) at_entry_lem.entry.ensures,
+        parameter_known start.requires.1.0 0 (omega (arith, start.requires.1.0.formed.some)) at_entry_lem.entry.ensures,
         omega (arith, start.requires.1.0.formed.few),
       ),
     )

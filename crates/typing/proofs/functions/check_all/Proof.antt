@@ -6,15 +6,15 @@ use lib.ListN.{length}
 use borrow.Author.Rules.{rules}
 use Rattle.calls.specs.Entries.{type_at}
 use Rattle.types.specs.Figures.{Figured}
-use Rattle.typing.specs.Waiting.{scopeBytes}
-use Rattle.typing.specs.Checked.{verdictOf, typingAnswer}
-use Rattle.typing.proofs.Turns.{fromFunction, from_first, from_last, no_more, function-typed, function-refused, typeable-kept}
+use Rattle.typing.specs.Waiting.{scope_bytes}
+use Rattle.typing.specs.Checked.{verdict_of, typing_answer}
+use Rattle.typing.proofs.Turns.{from_function, from_first, from_last, no_more, function-typed, function-refused, typeable_kept}
 use Rattle.typing.proofs.functions.check_all.Statement.{statement}
 use Rattle.typing.proofs.functions.check_all.Tie as tie
 
 abbrev invariant-loop : tie.invariant-loop
-invariant-loop p types terms functions table nodes ws₀ vars₀ g₀ ws vars g = (g ≤ length functions) × (length ws ≡ length ws₀) × (scopeBytes ≤ length vars)
-    × Figured (map (type_at p) types) ws (length types) × (typingAnswer p types terms functions ≡ fromFunction p types terms functions g)
+invariant-loop p types terms functions table nodes ws₀ vars₀ g₀ ws vars g = (g ≤ length functions) × (length ws ≡ length ws₀) × (scope_bytes ≤ length vars)
+    × Figured (map (type_at p) types) ws (length types) × (typing_answer p types terms functions ≡ from_function p types terms functions g)
 
 abbrev decreases-loop : tie.decreases-loop
 decreases-loop p types terms functions table nodes ws₀ vars₀ g₀ ws vars g = length functions - g
@@ -29,7 +29,7 @@ check-function-requires c κs =
     let at-loop-test = c.before.before in
     let at-loop = at-loop-test.before in
     let start = at-loop.before.before.before.before.before.before in (
-      typeable-kept at-loop.loop.invariant.1 start.requires.0,
+      typeable_kept at-loop.loop.invariant.1 start.requires.0,
       (at-loop.loop.invariant.3, (at-loop-test.loop-test.true, start.requires.1.1, at-loop.loop.invariant.2)),
     )
 
@@ -52,7 +52,7 @@ loop-again c =
       at-check-function.check-function.ensures.2,
       at-check-function.check-function.ensures.1,
       at-loop.loop.invariant.4 ∙ function-typed _ _ _ _ _ at-loop-test.loop-test.true
-          (sym at-check-function.check-function.ensures.0 ∙ ap verdictOf c.enum_told.given.1),
+          (sym at-check-function.check-function.ensures.0 ∙ ap verdict_of c.enum_told.given.1),
     )
 
 enum-known-v : tie.Need-enum-known-v invariant-loop decreases-loop
@@ -71,7 +71,7 @@ returns c =
     let at-loop-test = at-check-function.before.before.before in
     let at-loop = at-loop-test.before in
     sym (at-loop.loop.invariant.4 ∙ function-refused _ _ _ _ _ at-loop-test.loop-test.true
-    (sym at-check-function.check-function.ensures.0 ∙ ap verdictOf at-v.v.given.1))
+    (sym at-check-function.check-function.ensures.0 ∙ ap verdict_of at-v.v.given.1))
 
 enum-known-v-2 : tie.Need-enum-known-v-2 invariant-loop decreases-loop
 enum-known-v-2 c = search rules
@@ -89,7 +89,7 @@ returns-2 c =
     let at-loop-test = at-check-function.before.before.before in
     let at-loop = at-loop-test.before in
     sym (at-loop.loop.invariant.4 ∙ function-refused _ _ _ _ _ at-loop-test.loop-test.true
-    (sym at-check-function.check-function.ensures.0 ∙ ap verdictOf at-v2.v2.given.1))
+    (sym at-check-function.check-function.ensures.0 ∙ ap verdict_of at-v2.v2.given.1))
 
 enum-known-v-3 : tie.Need-enum-known-v-3 invariant-loop decreases-loop
 enum-known-v-3 c = search rules
@@ -107,7 +107,7 @@ returns-3 c =
     let at-loop-test = at-check-function.before.before.before in
     let at-loop = at-loop-test.before in
     sym (at-loop.loop.invariant.4 ∙ function-refused _ _ _ _ _ at-loop-test.loop-test.true
-    (sym at-check-function.check-function.ensures.0 ∙ ap verdictOf at-v3.v3.given.1))
+    (sym at-check-function.check-function.ensures.0 ∙ ap verdict_of at-v3.v3.given.1))
 
 same-length-4 : tie.Need-same-length-4 invariant-loop decreases-loop
 same-length-4 c =

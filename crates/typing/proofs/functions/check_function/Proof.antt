@@ -3,7 +3,7 @@ use native.Mathlib.Omega.{arith}
 use Rattle.program.proofs.Rooms.{function-room}
 use Rattle.program.proofs.Rows.{function-fields}
 use Rattle.typing.proofs.Asking.{ready_for}
-use Rattle.typing.proofs.Checks.{sources, field, signed, body-there, ready, typed-answer, refused-answer}
+use Rattle.typing.proofs.Checks.{sources, field, signed, body_there, ready, typed-answer, refused-answer}
 use borrow.Author.Rules.{rules}
 use Rattle.typing.proofs.functions.check_function.Statement.{statement}
 use Rattle.typing.proofs.functions.check_function.Tie as tie
@@ -54,7 +54,7 @@ infer-requires c κs =
     let at-wide-index = at-function-body.before in
     let start = at-wide-index.before.before.before.before.before.before.before.before in
     ready_for start.requires.1.1.1 (ready start.requires.0 start.requires.1.1.0 at-wide-index.wide-index.ensures.0 at-bind-parameters.bind-parameters.ensures
-    at-function-body.function-body.ensures) (body-there start.requires.0 start.requires.1.1.0 at-wide-index.wide-index.ensures.0 at-function-body.function-body.ensures)
+    at-function-body.function-body.ensures) (body_there start.requires.0 start.requires.1.1.0 at-wide-index.wide-index.ensures.0 at-function-body.function-body.ensures)
 
 enum-known-status : tie.Need-enum-known-status
 enum-known-status c = search rules

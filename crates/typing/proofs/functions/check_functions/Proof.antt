@@ -1,6 +1,6 @@
 use mathlib.Core.Path.{◌∙◌}
 use Rattle.typing.proofs.Checks.{readable-types, term-fields}
-use Rattle.typing.proofs.Turns.{typeable-kept}
+use Rattle.typing.proofs.Turns.{typeable_kept}
 use Rattle.typing.proofs.functions.check_functions.Statement.{statement}
 use Rattle.typing.proofs.functions.check_functions.Tie as tie
 
@@ -13,7 +13,7 @@ check-all-requires : tie.Need-check-all-requires
 check-all-requires c κs =
     let at-prepare = c.before.before.before in
     let start = at-prepare.before.before.before.before.before.before.before in (
-      typeable-kept at-prepare.prepare.auto.1.1.1.0 start.requires.0,
+      typeable_kept at-prepare.prepare.auto.1.1.1.0 start.requires.0,
       (at-prepare.prepare.ensures, start.requires.1),
     )
 

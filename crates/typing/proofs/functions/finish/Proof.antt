@@ -1,7 +1,7 @@
 use native.Mathlib.Omega.{arith}
-use Rattle.rules.specs.Limits.{maxParameters}
+use Rattle.rules.specs.Limits.{max_parameters}
 use Rattle.program.proofs.Rooms.{function-room}
-use Rattle.typing.proofs.Ending.{result-known, parameter-known, result-differs, dynamic-unit, dynamic-used, dynamic-unused}
+use Rattle.typing.proofs.Ending.{result-known, parameter_known, result-differs, dynamic-unit, dynamic-used, dynamic-unused}
 use borrow.Author.Rules.{rules}
 use Rattle.typing.proofs.functions.finish.Statement.{statement}
 use Rattle.typing.proofs.functions.finish.Tie as tie
@@ -29,7 +29,7 @@ mul-entry : tie.Need-overflow-mul-entry
 mul-entry c = search rules
 
 array-read-entry : tie.Need-array-read-entry
-unfolding maxParameters
+unfolding max_parameters
 array-read-entry c = omega (arith, c.before.before.before.before.before.before.before.before.requires.1.1.formed.few)
 
 entry-requires-2 : tie.Need-entry-requires-2
@@ -39,7 +39,7 @@ is-unit-requires : tie.Need-is-unit-requires
 is-unit-requires c κs =
     let at-entry2 = c in
     let start = at-entry2.before.before.before.before.before.before.before.before.before in
-    (start.requires.0, parameter-known start.requires.1.1 _ (omega (arith, start.requires.1.1.formed.some)) at-entry2.entry2.ensures)
+    (start.requires.0, parameter_known start.requires.1.1 _ (omega (arith, start.requires.1.1.formed.some)) at-entry2.entry2.ensures)
 
 returns : tie.Need-returns
 returns c =
@@ -55,11 +55,11 @@ returns c =
     at-if1.if1.true (omega arith) at-entry2.entry2.ensures at-is-unit.is-unit.ensures _ at-if2.if2.true
 
 cast-contains : tie.Need-overflow-cast-contains
-unfolding maxParameters
+unfolding max_parameters
 cast-contains c = search rules
 
 contains-requires : tie.Need-contains-requires
-unfolding maxParameters
+unfolding max_parameters
 contains-requires c κs =
     let start = c.before.before.before.before.before.before.before.before.before.before.before in
     omega (arith, start.requires.1.1.formed.few)

@@ -1,6 +1,6 @@
 use mathlib.Core.Path.{sym, ap, ◌∙◌}
 use Rattle.calls.specs.Answer.{refused}
-use Rattle.typing.specs.Checked.{faultAnswer}
+use Rattle.typing.specs.Checked.{fault_answer}
 use borrow.Author.Rules.{rules}
 use Rattle.typing.proofs.functions.refusal.Statement.{statement}
 use Rattle.typing.proofs.functions.refusal.Tie as tie
@@ -28,21 +28,21 @@ returns c =
     let at_place = c in
     let at-why = at_place.before.before in
     let start = at-why.before.before.before in
-    ap (refused 6) at_place.place.ensures ∙ sym (ap (faultAnswer start.args.terms.now) at-why.why.given.1)
+    ap (refused 6) at_place.place.ensures ∙ sym (ap (fault_answer start.args.terms.now) at-why.why.given.1)
 
 returns-2 : tie.Need-returns-2
 returns-2 c =
     let at-place2 = c in
     let at-why2 = at-place2.before.before in
     let start = at-why2.before.before.before in
-    ap (refused 7) at-place2.place2.ensures ∙ sym (ap (faultAnswer start.args.terms.now) at-why2.why2.given.1)
+    ap (refused 7) at-place2.place2.ensures ∙ sym (ap (fault_answer start.args.terms.now) at-why2.why2.given.1)
 
 returns-3 : tie.Need-returns-3
 returns-3 c =
     let at-place3 = c in
     let at-why3 = at-place3.before.before in
     let start = at-why3.before.before.before in
-    ap (refused 8) at-place3.place3.ensures ∙ sym (ap (faultAnswer start.args.terms.now) at-why3.why3.given.1)
+    ap (refused 8) at-place3.place3.ensures ∙ sym (ap (fault_answer start.args.terms.now) at-why3.why3.given.1)
 
 pub refusal-spec : {M : Type 1} → statement M
 refusal-spec =

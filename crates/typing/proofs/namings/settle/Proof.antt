@@ -4,7 +4,7 @@ use mathlib.Core.Path.{◌≡◌, refl, sym, ◌∙◌}
 use lib.ListN.{length}
 use borrow.Author.Rules.{rules}
 use Rattle.typing.specs.Waiting.{Settles}
-use Rattle.typing.proofs.Settling.{settles-none, settles-to, settles-then}
+use Rattle.typing.proofs.Settling.{settles_none, settles_to, settles-then}
 use Rattle.typing.proofs.namings.settle.Statement.{statement}
 use Rattle.typing.proofs.namings.settle.Tie as tie
 
@@ -16,7 +16,7 @@ abbrev decreases-loop : tie.decreases-loop
 decreases-loop vars₀ sc uses from to j₀ lowest₀ vars j lowest = to - j
 
 loop-holds : tie.Need-loop-init invariant-loop decreases-loop
-loop-holds c = (omega arith, omega (arith, c.requires.order), refl, settles-none)
+loop-holds c = (omega arith, omega (arith, c.requires.order), refl, settles_none)
 
 settle-one-requires : tie.Need-settle-one-requires invariant-loop decreases-loop
 settle-one-requires c κs =
@@ -50,7 +50,7 @@ returns : tie.Need-returns invariant-loop decreases-loop
 returns c =
     let at-loop = c.before in
     let start = at-loop.before in
-    settles-to (let z : at-loop.loop.j ≡ start.args.to = omega (arith, at-loop.loop.invariant.1) in z) at-loop.loop.invariant.3
+    settles_to (let z : at-loop.loop.j ≡ start.args.to = omega (arith, at-loop.loop.invariant.1) in z) at-loop.loop.invariant.3
 
 pub settle-spec : {M : Type 1} → statement M
 settle-spec =

@@ -1,5 +1,5 @@
 use native.Mathlib.Omega.{arith}
-use Rattle.typing.proofs.Settling.{read-dead, read-helped, read-waits, read-refused}
+use Rattle.typing.proofs.Settling.{read_dead, read_helped, read-waits, read-refused}
 use borrow.Author.Rules.{rules}
 use Rattle.typing.proofs.namings.settle_one.Statement.{statement}
 use Rattle.typing.proofs.namings.settle_one.Tie as tie
@@ -15,7 +15,7 @@ returns c =
     let at-read16 = c.before in
     let at-cell = at-read16.before.before.before in
     let start = at-cell.before in
-    read-dead _ _ _ _ _ at-read16.read16.ensures at-cell.cell.ensures.0 c.if1.true
+    read_dead _ _ _ _ _ at-read16.read16.ensures at-cell.cell.ensures.0 c.if1.true
 
 helped-requires : tie.Need-helped-requires
 helped-requires c κs = search rules
@@ -32,7 +32,7 @@ returns-2 c =
     let at-read16 = at-if1.before in
     let at-cell = at-read16.before.before.before in
     let start = at-cell.before in
-    read-helped _ _ _ _ _ at-read16.read16.ensures at-cell.cell.ensures.0 at-if1.if1.false at-helped.helped.ensures
+    read_helped _ _ _ _ _ at-read16.read16.ensures at-cell.cell.ensures.0 at-if1.if1.false at-helped.helped.ensures
     (omega (arith, at-cell.cell.ensures.1, start.requires.slots)) at-if2.if2.true at-write16.write16.ensures
 
 waits-on-requires : tie.Need-waits-on-requires

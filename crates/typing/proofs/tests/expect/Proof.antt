@@ -1,5 +1,5 @@
 use mathlib.Core.Path.{refl, sym, ◌∙◌}
-use Rattle.typing.proofs.Deciding.{after-typed, after-refused, picks-yes, picks-no}
+use Rattle.typing.proofs.Deciding.{after-typed, after-refused, picks_yes, picks_no}
 use borrow.Author.Rules.{rules}
 use Rattle.typing.proofs.tests.expect.Statement.{statement}
 use Rattle.typing.proofs.tests.expect.Tie as tie
@@ -18,7 +18,7 @@ returns c =
     let at-if1 = c.before in
     let at_same = at-if1.before in
     let at-status = at_same.before.before in
-    after-typed at-status.status.given.1 refl (picks-yes (sym at_same.same.ensures ∙ at-if1.if1.true) refl)
+    after-typed at-status.status.given.1 refl (picks_yes (sym at_same.same.ensures ∙ at-if1.if1.true) refl)
 
 differ-requires : tie.Need-differ-requires
 differ-requires c κs = search rules
@@ -32,7 +32,7 @@ returns-2 c =
     let at-if1 = at-differ.before in
     let at_same = at-if1.before in
     let at-status = at_same.before.before in
-    after-typed at-status.status.given.1 at-differ.differ.ensures.1 (picks-no (sym at_same.same.ensures ∙ at-if1.if1.false)
+    after-typed at-status.status.given.1 at-differ.differ.ensures.1 (picks_no (sym at_same.same.ensures ∙ at-if1.if1.false)
     at-differ.differ.ensures.0)
 
 returns-3 : tie.Need-returns-3

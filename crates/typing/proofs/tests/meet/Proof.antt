@@ -1,5 +1,5 @@
 use mathlib.Core.Path.{refl}
-use Rattle.typing.proofs.Deciding.{after-typed, after-refused, meets-both, meets-apart, meets-unused, meets-differ}
+use Rattle.typing.proofs.Deciding.{after-typed, after-refused, meets_both, meets_apart, meets_unused, meets_differ}
 use borrow.Author.Rules.{rules}
 use Rattle.typing.proofs.tests.meet.Statement.{statement}
 use Rattle.typing.proofs.tests.meet.Tie as tie
@@ -36,7 +36,7 @@ returns c =
     let at-if1 = at-spent.before in
     let at_same = at-if1.before in
     let at-status = at_same.before.before in
-    after-typed at-status.status.given.1 at_join.join.ensures.0 (meets-both at_same.same.ensures at-if1.if1.true
+    after-typed at-status.status.given.1 at_join.join.ensures.0 (meets_both at_same.same.ensures at-if1.if1.true
     at-spent.spent.ensures at-if2.if2.true _ at-agree-on.agree_on.ensures at-if3.if3.true at-union.union.ensures
     at_join.join.ensures.1)
 
@@ -53,7 +53,7 @@ returns-2 c =
     let at-if1 = at-spent.before in
     let at_same = at-if1.before in
     let at-status = at_same.before.before in
-    after-typed at-status.status.given.1 at-misused.misused.ensures.1 (meets-apart at_same.same.ensures at-if1.if1.true
+    after-typed at-status.status.given.1 at-misused.misused.ensures.1 (meets_apart at_same.same.ensures at-if1.if1.true
     at-spent.spent.ensures at-if2.if2.true _ at-agree-on.agree_on.ensures at-if3.if3.false at-misused.misused.ensures.0)
 
 misused-requires-2 : tie.Need-misused-requires-2
@@ -67,7 +67,7 @@ returns-3 c =
     let at-if1 = at-spent.before in
     let at_same = at-if1.before in
     let at-status = at_same.before.before in
-    after-typed at-status.status.given.1 at-misused2.misused2.ensures.1 (meets-unused at_same.same.ensures at-if1.if1.true
+    after-typed at-status.status.given.1 at-misused2.misused2.ensures.1 (meets_unused at_same.same.ensures at-if1.if1.true
     at-spent.spent.ensures at-if2.if2.false at-misused2.misused2.ensures.0)
 
 differ-requires : tie.Need-differ-requires
@@ -82,7 +82,7 @@ returns-4 c =
     let at-if1 = at-differ.before in
     let at_same = at-if1.before in
     let at-status = at_same.before.before in
-    after-typed at-status.status.given.1 at-differ.differ.ensures.1 (meets-differ at_same.same.ensures at-if1.if1.false
+    after-typed at-status.status.given.1 at-differ.differ.ensures.1 (meets_differ at_same.same.ensures at-if1.if1.false
     at-differ.differ.ensures.0)
 
 returns-5 : tie.Need-returns-5

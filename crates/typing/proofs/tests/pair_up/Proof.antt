@@ -1,6 +1,6 @@
 use native.Mathlib.Omega.{arith}
 use mathlib.Core.Path.{refl}
-use Rattle.typing.proofs.Deciding.{pairs_made, pairs-large, pairs-refused}
+use Rattle.typing.proofs.Deciding.{pairs_made, pairs_large, pairs_refused}
 use borrow.Author.Rules.{rules}
 use Rattle.typing.proofs.tests.pair_up.Statement.{statement}
 use Rattle.typing.proofs.tests.pair_up.Tie as tie
@@ -47,10 +47,10 @@ returns-2 c =
     let at-if1 = c.before in
     let at-product = at-if1.before.before.before in
     let at-status = at-product.before.before.before.before in
-    pairs-large at-status.status.given.1 at-product.product.ensures at-if1.if1.false c.differ.ensures.1 c.differ.ensures.0
+    pairs_large at-status.status.given.1 at-product.product.ensures at-if1.if1.false c.differ.ensures.1 c.differ.ensures.0
 
 returns-3 : tie.Need-returns-3
-returns-3 c = pairs-refused c.enum_told.given.1 refl
+returns-3 c = pairs_refused c.enum_told.given.1 refl
 
 pub pair-up-spec : {M : Type 1} → statement M
 pair-up-spec =

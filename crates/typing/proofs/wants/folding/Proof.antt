@@ -1,4 +1,4 @@
-use Rattle.typing.proofs.Wanting.{body-known, no-folding, roll-wants, unroll-wants}
+use Rattle.typing.proofs.Wanting.{body-known, no_folding, roll_wants, unroll_wants}
 use borrow.Author.Rules.{rules}
 use Rattle.typing.proofs.wants.folding.Statement.{statement}
 use Rattle.typing.proofs.wants.folding.Tie as tie
@@ -20,7 +20,7 @@ returns c =
     let at-unfolded = at_body.before.before in
     let at_entry_lem = at-unfolded.before in
     let start = at_entry_lem.before.before.before.before in
-    roll-wants start.requires.0.0 start.requires.0.1 start.requires.1.0.1 at-unfolded.unfolded.ensures at_body.body.given.1
+    roll_wants start.requires.0.0 start.requires.0.1 start.requires.1.0.1 at-unfolded.unfolded.ensures at_body.body.given.1
     at_entry_lem.entry.ensures c.if1.true
 
 within-limit-requires : tie.Need-within-limit-requires
@@ -46,7 +46,7 @@ returns-2 c =
     let at-unfolded = at_body.before.before in
     let at_entry_lem = at-unfolded.before in
     let start = at_entry_lem.before.before.before.before in
-    unroll-wants start.requires.0.0 start.requires.0.1 start.requires.1.0.1 at-unfolded.unfolded.ensures at_body.body.given.1
+    unroll_wants start.requires.0.0 start.requires.0.1 start.requires.1.0.1 at-unfolded.unfolded.ensures at_body.body.given.1
     at_entry_lem.entry.ensures at-if1.if1.false start.requires.1.1.0 start.requires.1.1.1 c.within-limit.ensures
 
 returns-3 : tie.Need-returns-3
@@ -54,7 +54,7 @@ returns-3 c =
     let at-enum-told = c.before in
     let at-unfolded = at-enum-told.before.before in
     let start = at-unfolded.before.before.before.before.before in
-    no-folding start.requires.0.0 start.requires.0.1 start.requires.1.0.1 at-unfolded.unfolded.ensures start.requires.1.1.0 start.requires.1.1.1
+    no_folding start.requires.0.0 start.requires.0.1 start.requires.1.0.1 at-unfolded.unfolded.ensures start.requires.1.1.0 start.requires.1.1.1
     at-enum-told.enum_told.given.1 c.unmet.ensures
 
 pub folding-spec : {M : Type 1} → statement M

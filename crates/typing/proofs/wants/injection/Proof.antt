@@ -1,4 +1,4 @@
-use Rattle.typing.proofs.Wanting.{whole-known, no-injection, left-injection, right-injection}
+use Rattle.typing.proofs.Wanting.{whole_known, no_injection, left_injection, right_injection}
 use borrow.Author.Rules.{rules}
 use Rattle.typing.proofs.wants.injection.Statement.{statement}
 use Rattle.typing.proofs.wants.injection.Tie as tie
@@ -9,7 +9,7 @@ entry-requires c κs = search rules
 shape-of-requires : tie.Need-shape-of-requires
 shape-of-requires c κs =
     let start = c.before.before.before.before in
-    (start.requires.0.0, whole-known start.requires.0.1 c.entry.ensures)
+    (start.requires.0.0, whole_known start.requires.0.1 c.entry.ensures)
 
 unmet-requires : tie.Need-unmet-requires
 unmet-requires c κs = search rules
@@ -20,7 +20,7 @@ returns c =
     let at-shape-of = at-if1.before in
     let at_entry_lem = at-shape-of.before in
     let start = at_entry_lem.before.before.before.before in
-    no-injection start.requires.0.1 at_entry_lem.entry.ensures at-shape-of.shape_of.ensures start.requires.1.0 start.requires.1.1
+    no_injection start.requires.0.1 at_entry_lem.entry.ensures at-shape-of.shape_of.ensures start.requires.1.0 start.requires.1.1
     at-if1.if1.true c.unmet.ensures
 
 returns-2 : tie.Need-returns-2
@@ -30,7 +30,7 @@ returns-2 c =
     let at-shape-of = at-if1.before in
     let at_entry_lem = at-shape-of.before in
     let start = at_entry_lem.before.before.before.before in
-    left-injection start.requires.0.1 at_entry_lem.entry.ensures at-shape-of.shape_of.ensures at-if1.if1.false at-if2.if2.true
+    left_injection start.requires.0.1 at_entry_lem.entry.ensures at-shape-of.shape_of.ensures at-if1.if1.false at-if2.if2.true
 
 returns-3 : tie.Need-returns-3
 returns-3 c =
@@ -39,7 +39,7 @@ returns-3 c =
     let at-shape-of = at-if1.before in
     let at_entry_lem = at-shape-of.before in
     let start = at_entry_lem.before.before.before.before in
-    right-injection start.requires.0.1 at_entry_lem.entry.ensures at-shape-of.shape_of.ensures at-if1.if1.false at-if2.if2.false
+    right_injection start.requires.0.1 at_entry_lem.entry.ensures at-shape-of.shape_of.ensures at-if1.if1.false at-if2.if2.false
     start.requires.1.0 start.requires.1.1
 
 pub injection-spec : {M : Type 1} → statement M

@@ -1,5 +1,5 @@
 use native.Mathlib.Omega.{arith}
-use Rattle.typing.proofs.Wanting.{below-roll, from-roll}
+use Rattle.typing.proofs.Wanting.{below-roll, from_roll}
 use borrow.Author.Rules.{rules}
 use Rattle.typing.proofs.wants.on_entering.Statement.{statement}
 use Rattle.typing.proofs.wants.on_entering.Tie as tie
@@ -15,7 +15,7 @@ returns c = search rules
 folding-requires : tie.Need-folding-requires
 folding-requires c κs =
     let start = c.before.before.before.before in
-    (start.requires.0, (start.requires.1.0, (omega (arith, c.if1.false), from-roll start.requires.1.1 (omega (arith, c.if1.false)))))
+    (start.requires.0, (start.requires.1.0, (omega (arith, c.if1.false), from_roll start.requires.1.1 (omega (arith, c.if1.false)))))
 
 returns-2 : tie.Need-returns-2
 returns-2 c = search rules

@@ -2,11 +2,11 @@ use native.Mathlib.Omega.{arith}
 use mathlib.Core.Path.{◌≡◌}
 use lib.ListN.{get_or}
 use borrow.Author.Rules.{rules}
-use Rattle.rules.specs.Limits.{maxValueBytes}
+use Rattle.rules.specs.Limits.{max_value_bytes}
 use Rattle.calls.specs.Entries.{type_at}
 use Rattle.valuebytes.specs.declared.typed.Parts.{Parts}
 use Rattle.valuebytes.specs.Stack.{parts_of}
-use Rattle.valuebytes.proofs.Advancing.{last-bound, last-cells, field-there, found, turned-wrong, turned-nothing, turned-one, turned_two, turned-body}
+use Rattle.valuebytes.proofs.Advancing.{last-bound, last_cells, field-there, found, turned-wrong, turned_nothing, turned-one, turned_two, turned-body}
 use Rattle.valuebytes.proofs.typed.advance.Statement.{statement}
 use Rattle.valuebytes.proofs.typed.advance.Tie as tie
 
@@ -19,26 +19,26 @@ found_at : (m : tie.After-parts-of) {p : Parts} → m.parts-of.result ≡ p
 found_at m e = found (start_of m).args.program.now (start_of m).args.b m.parts-of.ensures m.before.field.ensures.0 e
 
 mul-t20 : tie.Need-overflow-mul-t20
-unfolding maxValueBytes
+unfolding max_value_bytes
 mul-t20 c = search rules
 
 element-copy-out-t23 : tie.Need-element-copy-out-t23
-unfolding maxValueBytes
+unfolding max_value_bytes
 element-copy-out-t23 c = search rules
 
 mul-t24 : tie.Need-overflow-mul-t24
-unfolding maxValueBytes
+unfolding max_value_bytes
 mul-t24 c = search rules
 
 element-copy-out-t27 : tie.Need-element-copy-out-t27
-unfolding maxValueBytes
+unfolding max_value_bytes
 element-copy-out-t27 c = search rules
 
 resolve-requires : tie.Need-resolve-requires
 resolve-requires c κs =
     let start = c.before.before.before.before.before.before in
     let S = start.requires.0 in
-    (S.table, (last-cells S, (last-bound S, omega (arith, start.requires.1.0, (S.bound start.args.n (omega arith)).within))))
+    (S.table, (last_cells S, (last-bound S, omega (arith, start.requires.1.0, (S.bound start.args.n (omega arith)).within))))
 
 field-requires : tie.Need-field-requires
 field-requires c κs = search rules
@@ -59,7 +59,7 @@ put-requires : tie.Need-put-requires
 put-requires c κs = search rules
 
 add-t34 : tie.Need-overflow-add-t34
-unfolding maxValueBytes
+unfolding max_value_bytes
 add-t34 c = search rules
 
 enum-known-parts-2 : tie.Need-enum-known-parts-2
@@ -69,21 +69,21 @@ put-requires-2 : tie.Need-put-requires-2
 put-requires-2 c κs = search rules
 
 add-put : tie.Need-overflow-add-put
-unfolding maxValueBytes
+unfolding max_value_bytes
 add-put c = search rules
 
 put-requires-3 : tie.Need-put-requires-3
 put-requires-3 c κs = search rules
 
 add-t40 : tie.Need-overflow-add-t40
-unfolding maxValueBytes
+unfolding max_value_bytes
 add-t40 c = omega (arith, (start_of c.before.before.before.before.before.before.before.before.before).requires.1.1)
 
 enum-known-parts-3 : tie.Need-enum-known-parts-3
 enum-known-parts-3 c = search rules
 
 add-next : tie.Need-overflow-add-next
-unfolding maxValueBytes
+unfolding max_value_bytes
 add-next c = search rules
 
 wide-index-requires : tie.Need-wide-index-requires
@@ -96,7 +96,7 @@ put-requires-5 : tie.Need-put-requires-5
 put-requires-5 c κs = search rules
 
 add-t44 : tie.Need-overflow-add-t44
-unfolding maxValueBytes
+unfolding max_value_bytes
 add-t44 c = omega (arith, (start_of c.before.before.before.before.before.before.before.before.before.before).requires.1.1)
 
 enum-told-2 : tie.Need-enum-told-2
@@ -105,7 +105,7 @@ enum-told-2 c = search rules
 returns : tie.Need-returns
 returns c =
     let m = c.before.before in
-    turned-nothing (start_of m).requires.0 m.before.before.resolve.ensures _ (found_at m c.enum_told.given.1)
+    turned_nothing (start_of m).requires.0 m.before.before.resolve.ensures _ (found_at m c.enum_told.given.1)
 
 returns-2 : tie.Need-returns-2
 returns-2 c =

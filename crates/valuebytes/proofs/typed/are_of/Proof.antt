@@ -6,8 +6,8 @@ use lib.ListN.{length, get_or}
 use Rattle.calls.specs.Named.{plain}
 use Rattle.program.specs.Parts.{first, second}
 use Rattle.program.proofs.Rooms.{prod-room}
-use Rattle.valuebytes.specs.Typing.{entriesOf}
-use Rattle.valuebytes.proofs.Components.{filled, first-value, second-value, parts-plain, no-pair, pair-no, pair-yes}
+use Rattle.valuebytes.specs.Typing.{entries_of}
+use Rattle.valuebytes.proofs.Components.{filled, first-value, second-value, parts-plain, no-pair, pair-no, pair_yes}
 use Rattle.valuebytes.proofs.typed.are_of.Statement.{statement}
 use Rattle.valuebytes.proofs.typed.are_of.Tie as tie
 
@@ -18,19 +18,19 @@ start_of m = m.before.before.before.before.before.before.before.before
 abbrev field_of : tie.After-second → ℕ
 field_of m = get_or (start_of m).args.types.now (start_of m).args.entry 0
 
-first-is : (m : tie.After-second) → m.before.first.result ≡ first (start_of m).args.program.now (field_of m)
-first-is m = m.before.first.ensures ∙ ap (first (start_of m).args.program.now) m.before.before.field.ensures.0
+first_is : (m : tie.After-second) → m.before.first.result ≡ first (start_of m).args.program.now (field_of m)
+first_is m = m.before.first.ensures ∙ ap (first (start_of m).args.program.now) m.before.before.field.ensures.0
 
 second_is : (m : tie.After-second) → m.second.result ≡ second (start_of m).args.program.now (field_of m)
 second_is m = m.second.ensures ∙ ap (second (start_of m).args.program.now) m.before.before.field.ensures.0
 
 -- an entry that is known, and plain
 abbrev Asked : tie.After-second → ℕ → Type 0
-Asked m i = (i < length (start_of m).args.types.now) × (plain (entriesOf (start_of m).args.program.now (start_of m).args.types.now) i ≡ true)
+Asked m i = (i < length (start_of m).args.types.now) × (plain (entries_of (start_of m).args.program.now (start_of m).args.types.now) i ≡ true)
 
 first-asked : (m : tie.After-second) → Asked m m.before.first.result
 first-asked m = let p = (start_of m).requires in
-    subst (Asked m) (sym (first-is m)) (parts-plain _ _ p.0 _ p.1.0.0 p.1.1.1 p.1.0.1).0
+    subst (Asked m) (sym (first_is m)) (parts-plain _ _ p.0 _ p.1.0.0 p.1.1.1 p.1.0.1).0
 
 second-asked : (m : tie.After-second) → Asked m m.second.result
 second-asked m = let p = (start_of m).requires in
@@ -80,7 +80,7 @@ returns-2 c =
     let at_before = at-is-of.before in
     let m = at_before.before in
     let p = (start_of m).requires in
-    pair-yes _ _ p.0 _ p.1.0.0 p.1.1.1 _ p.1.1.0 m.before.before.before.if1.false (first-is m) (second_is m) _
+    pair_yes _ _ p.0 _ p.1.0.0 p.1.1.1 _ p.1.1.0 m.before.before.before.if1.false (first_is m) (second_is m) _
     at_before.component.ensures at-is-of.is-of.ensures at-if2.if2.true _ at-component2.component2.ensures c.is-of2.ensures
 
 returns-3 : tie.Need-returns-3
@@ -89,7 +89,7 @@ returns-3 c =
     let at_before = at-is-of.before in
     let m = at_before.before in
     let p = (start_of m).requires in
-    pair-no _ _ p.0 _ p.1.0.0 p.1.1.1 _ p.1.1.0 m.before.before.before.if1.false (first-is m) (second_is m) _
+    pair-no _ _ p.0 _ p.1.0.0 p.1.1.1 _ p.1.1.0 m.before.before.before.if1.false (first_is m) (second_is m) _
     at_before.component.ensures at-is-of.is-of.ensures c.if2.false
 
 pub are-of-spec : {M : Type 1} → statement M

@@ -2,7 +2,7 @@ use Prim.Native.Nat.{◌-◌, ◌≤◌}
 use native.Mathlib.Omega.{arith}
 use mathlib.Core.Path.{◌≡◌, ap, ◌∙◌}
 use borrow.Author.Rules.{rules}
-use Rattle.rules.specs.Limits.{maxValueBytes}
+use Rattle.rules.specs.Limits.{max_value_bytes}
 use Rattle.valuebytes.specs.Scopes.{outward}
 use Rattle.valuebytes.proofs.Cells.{outward-start, outward-turn}
 use Rattle.valuebytes.proofs.typed.enclosing.Statement.{statement}
@@ -24,7 +24,7 @@ mul-e : tie.Need-overflow-mul-e invariant-loop decreases-loop
 mul-e c = search rules
 
 element-copy-out-e : tie.Need-element-copy-out-e invariant-loop decreases-loop
-unfolding maxValueBytes
+unfolding max_value_bytes
 element-copy-out-e c =
     let l = c.before.before in
     omega (arith, c.wide-index.ensures.0, l.loop.invariant.1, l.before.requires l.loop.n c.before.loop-test.true)

@@ -2,7 +2,7 @@ use Prim.Native.Nat.{ℕ}
 use mathlib.Core.Path.{ap, ◌∙◌}
 use lib.ListN.{drop, length-replicate}
 use borrow.Author.Rules.{rules}
-use Rattle.rules.specs.Limits.{maxValueBytes}
+use Rattle.rules.specs.Limits.{max_value_bytes}
 use Rattle.valuebytes.specs.Ends.{first_of}
 use Rattle.valuebytes.specs.Typing.{room, next_of}
 use Rattle.valuebytes.proofs.Asked.{stack-start, type-start}
@@ -13,14 +13,14 @@ put-requires : tie.Need-put-requires
 put-requires c κs = search rules
 
 walk-requires : tie.Need-walk-requires
-unfolding maxValueBytes
+unfolding max_value_bytes
 walk-requires c κs =
     let p = c.before.before.before.before.before.before.before.before.before.before.requires in
     let w = c.before.before.before.before.put.ensures in
     stack-start _ _ p.0 _ p.1.0 p.1.1 _ _ w.0 w.1 (length-replicate {A = ℕ} room 0) (length-replicate {A = ℕ} room 0)
 
 returns : tie.Need-returns
-unfolding maxValueBytes
+unfolding max_value_bytes
 returns c =
     let a = c.before.before.before.before.before.before.before.before.before.before.before in
     let p = a.requires in

@@ -1,5 +1,5 @@
 use Rattle.program.proofs.Rooms.{type-kind-room, prod-room, sum_room, mu-room}
-use Rattle.valuebytes.proofs.Promised.{unit-yes, unit-no, pair-yes, pair-no, left-yes, right-yes, sum-no, roll-yes, roll-no, variable-no}
+use Rattle.valuebytes.proofs.Promised.{unit_yes, unit-no, pair_yes, pair-no, left_yes, right_yes, sum-no, roll_yes, roll-no, variable-no}
 use native.Mathlib.Omega.{arith}
 use mathlib.Core.Path.{sym, ◌∙◌}
 use Rattle.valuebytes.proofs.typed.parts_of.Statement.{statement}
@@ -9,7 +9,7 @@ kind-requires : tie.Need-kind-requires
 kind-requires c κs = type-kind-room c.before.requires
 
 returns : tie.Need-returns
-returns c = unit-yes _ _ _ (sym c.before.before.kind.ensures ∙ c.before.match.keys1) c.if1.true
+returns c = unit_yes _ _ _ (sym c.before.before.kind.ensures ∙ c.before.match.keys1) c.if1.true
 
 first-requires : tie.Need-first-requires
 first-requires c κs = omega (arith, prod-room c.before.before.before.before.requires (sym c.before.before.kind.ensures ∙ c.before.match.keys2))
@@ -23,13 +23,13 @@ returns-2 c =
     let at-if2 = at_first.before in
     let at-match = at-if2.before in
     let at-kind = at-match.before in
-    pair-yes _ _ _ (sym at-kind.kind.ensures ∙ at-match.match.keys2) at-if2.if2.true at_first.first.ensures c.second.ensures
+    pair_yes _ _ _ (sym at-kind.kind.ensures ∙ at-match.match.keys2) at-if2.if2.true at_first.first.ensures c.second.ensures
 
 first-requires-2 : tie.Need-first-requires-2
 first-requires-2 c κs = omega (arith, sum_room c.before.before.before.before.requires (sym c.before.before.kind.ensures ∙ c.before.match.keys3))
 
 returns-3 : tie.Need-returns-3
-returns-3 c = left-yes _ _ _ (sym c.before.before.before.kind.ensures ∙ c.before.before.match.keys3) c.before.if3.true c.first2.ensures
+returns-3 c = left_yes _ _ _ (sym c.before.before.before.kind.ensures ∙ c.before.before.match.keys3) c.before.if3.true c.first2.ensures
 
 second-requires-2 : tie.Need-second-requires-2
 second-requires-2 c κs = sum_room c.before.before.before.before.before.requires (sym c.before.before.before.kind.ensures ∙ c.before.before.match.keys3)
@@ -39,13 +39,13 @@ returns-4 c =
     let at-if4 = c.before in
     let at-match = at-if4.before.before in
     let at-kind = at-match.before in
-    right-yes _ _ _ (sym at-kind.kind.ensures ∙ at-match.match.keys3) at-if4.if4.true c.second2.ensures
+    right_yes _ _ _ (sym at-kind.kind.ensures ∙ at-match.match.keys3) at-if4.if4.true c.second2.ensures
 
 first-requires-3 : tie.Need-first-requires-3
 first-requires-3 c κs = mu-room c.before.before.before.before.requires (sym c.before.before.kind.ensures ∙ c.before.match.keys4)
 
 returns-5 : tie.Need-returns-5
-returns-5 c = roll-yes _ _ _ (sym c.before.before.before.kind.ensures ∙ c.before.before.match.keys4) c.before.if5.true c.first3.ensures
+returns-5 c = roll_yes _ _ _ (sym c.before.before.before.kind.ensures ∙ c.before.before.match.keys4) c.before.if5.true c.first3.ensures
 
 returns-6 : tie.Need-returns-6
 returns-6 c = unit-no _ _ _ (sym c.before.before.kind.ensures ∙ c.before.match.keys1) c.if1.false

@@ -1,22 +1,22 @@
 use borrow.Author.Rules.{rules}
-use Rattle.rules.specs.Limits.{maxValueBytes}
+use Rattle.rules.specs.Limits.{max_value_bytes}
 use Rattle.valuebytes.proofs.typed.put.Statement.{statement}
 use Rattle.valuebytes.proofs.typed.put.Tie as tie
 
 mul-entries : tie.Need-overflow-mul-entries
-unfolding maxValueBytes
+unfolding max_value_bytes
 mul-entries c = search rules
 
 element-write-entries : tie.Need-element-write-entries
-unfolding maxValueBytes
+unfolding max_value_bytes
 element-write-entries c = search rules
 
 mul-cells : tie.Need-overflow-mul-cells
-unfolding maxValueBytes
+unfolding max_value_bytes
 mul-cells c = search rules
 
 element-write-cells : tie.Need-element-write-cells
-unfolding maxValueBytes
+unfolding max_value_bytes
 element-write-cells c = search rules
 
 returns : tie.Need-returns

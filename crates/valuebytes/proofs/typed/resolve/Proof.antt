@@ -2,7 +2,7 @@ use Prim.Native.Nat.{ℕ, ◌≤◌}
 use native.Mathlib.Omega.{arith}
 use mathlib.Core.Path.{◌≡◌, ap, ◌∙◌}
 use lib.ListN.{get_or}
-use Rattle.rules.specs.Limits.{maxValueBytes}
+use Rattle.rules.specs.Limits.{max_value_bytes}
 use Rattle.calls.specs.Fields.{kind_at}
 use Rattle.program.specs.Parts.{variable}
 use Rattle.program.proofs.Rooms.{type-kind, type-kind-room, tyvar-room}
@@ -30,11 +30,11 @@ abbrev start-from : tie.After-wide-index → tie.Start
 start-from c = start_of c.before.before
 
 -- what the views of the field say of the entry
-kind-is : (c : tie.After-kind) → c.kind.result ≡ kind-at c.before.before.before.before
-kind-is c = c.kind.ensures ∙ ap (kind_at c.before.before.before.before.args.program.now) c.before.field.ensures.0
+kind_is : (c : tie.After-kind) → c.kind.result ≡ kind-at c.before.before.before.before
+kind_is c = c.kind.ensures ∙ ap (kind_at c.before.before.before.before.args.program.now) c.before.field.ensures.0
 
 is-variable : (c : tie.Else1) → 4 ≤ kind-at c.before.before.before.before.before
-is-variable c = omega (arith, kind-is c.before, c.if1.false)
+is-variable c = omega (arith, kind_is c.before, c.if1.false)
 
 variable-is : (c : tie.After-variable) → c.variable.result ≡ variable-at (start_of c)
 variable-is c = c.variable.ensures ∙ ap (variable (start_of c).args.program.now) c.before.before.before.field.ensures.0
@@ -71,7 +71,7 @@ kind-requires c κs =
 returns : tie.Need-returns
 returns c =
     let p = c.before.before.before.before.before.requires in
-    resolved-shown _ _ _ _ _ p.0 p.1.0 p.1.1.0 (omega (arith, kind-is c.before, c.if1.true))
+    resolved-shown _ _ _ _ _ p.0 p.1.0 p.1.1.0 (omega (arith, kind_is c.before, c.if1.true))
 
 variable-requires : tie.Need-variable-requires
 variable-requires c κs =
@@ -89,14 +89,14 @@ mul-t14 : tie.Need-overflow-mul-t14
 mul-t14 c = search rules
 
 element-copy-out-t13 : tie.Need-element-copy-out-t13
-unfolding maxValueBytes
+unfolding max_value_bytes
 element-copy-out-t13 c = omega (arith, cell-within c, c.before.before.before.before.before.before.before.before.requires.1.1.1)
 
 mul-t17 : tie.Need-overflow-mul-t17
 mul-t17 c = search rules
 
 element-copy-out-t20 : tie.Need-element-copy-out-t20
-unfolding maxValueBytes
+unfolding max_value_bytes
 element-copy-out-t20 c = omega (arith, cell-within c.before, c.before.before.before.before.before.before.before.before.before.requires.1.1.1)
 
 returns-2 : tie.Need-returns-2

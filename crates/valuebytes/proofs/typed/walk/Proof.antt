@@ -2,17 +2,17 @@ use Prim.Native.Nat.{◌-◌}
 use native.Mathlib.Omega.{arith}
 use lib.ListN.{length, get_or}
 use borrow.Author.Rules.{rules}
-use Rattle.rules.specs.Limits.{maxValueBytes}
-use Rattle.valuebytes.specs.Scopes.{typeUnder}
-use Rattle.valuebytes.specs.Typing.{entriesOf}
+use Rattle.rules.specs.Limits.{max_value_bytes}
+use Rattle.valuebytes.specs.Scopes.{type_under}
+use Rattle.valuebytes.specs.Typing.{entries_of}
 use Rattle.valuebytes.proofs.Advancing.{turned_on, turned-off}
-use Rattle.valuebytes.proofs.Walking.{Walking, walking_start, stack⁺, walking-short, walking-long, walking-off, walking_on, walking-done}
+use Rattle.valuebytes.proofs.Walking.{Walking, walking_start, stack⁺, walking_short, walking_long, walking_off, walking_on, walking_done}
 use Rattle.valuebytes.proofs.typed.walk.Statement.{statement}
 use Rattle.valuebytes.proofs.typed.walk.Tie as tie
 
 abbrev invariant-loop : tie.invariant-loop
 invariant-loop program types binders₀ outer₀ entries₀ cells₀ s at top₀ n₀ i₀ binders outer entries cells top n i =
-    Walking program types binders outer entries cells s at i top n (typeUnder (entriesOf program types) binders₀ outer₀ (get_or cells₀ 0 0) (get_or entries₀ 0 0))
+    Walking program types binders outer entries cells s at i top n (type_under (entries_of program types) binders₀ outer₀ (get_or cells₀ 0 0) (get_or entries₀ 0 0))
 
 abbrev decreases-loop : tie.decreases-loop
 decreases-loop program types binders₀ outer₀ entries₀ cells₀ s at top₀ n₀ i₀ binders outer entries cells top n i =
@@ -22,14 +22,14 @@ loop-holds : tie.Need-loop-init invariant-loop decreases-loop
 loop-holds c = walking_start _ _ c.before.before.before.requires
 
 returns : tie.Need-returns invariant-loop decreases-loop
-returns c = walking-short c.before.before.loop.invariant c.before.loop-test.true c.if1.true
+returns c = walking_short c.before.before.loop.invariant c.before.loop-test.true c.if1.true
 
 sub-if2 : tie.Need-overflow-sub-if2 invariant-loop decreases-loop
 sub-if2 c = omega (arith, c.before.before.loop.invariant.from)
 
 returns-2 : tie.Need-returns-2 invariant-loop decreases-loop
-unfolding maxValueBytes
-returns-2 c = walking-long c.before.before.before.loop.invariant c.before.before.loop-test.true c.if2.true
+unfolding max_value_bytes
+returns-2 c = walking_long c.before.before.before.loop.invariant c.before.before.loop-test.true c.if2.true
 
 sub-advance : tie.Need-overflow-sub-advance invariant-loop decreases-loop
 sub-advance c = omega (arith, c.before.before.before.before.before.before.loop-test.true)
@@ -38,13 +38,13 @@ shared-slice-read-advance : tie.Need-shared-slice-read-advance invariant-loop de
 shared-slice-read-advance c = omega (arith, c.before.before.before.before.before.before.if1.false)
 
 advance-requires : tie.Need-advance-requires invariant-loop decreases-loop
-unfolding maxValueBytes
+unfolding max_value_bytes
 advance-requires c κs =
     let two = c.before.before.before.before.before in
     let one = two.before in
     let W = one.before.before.loop.invariant in (
       stack⁺ W one.before.loop-test.true,
-      (omega (arith, W.few-cells, two.if2.false), omega (arith, W.few-pending, two.if2.false, one.before.loop-test.true)),
+      (omega (arith, W.few_cells, two.if2.false), omega (arith, W.few_pending, two.if2.false, one.before.loop-test.true)),
     )
 
 enum-known-turned : tie.Need-enum-known-turned invariant-loop decreases-loop
@@ -57,7 +57,7 @@ returns-3 : tie.Need-returns-3 invariant-loop decreases-loop
 returns-3 c =
     let a = c.before.before in
     let one = a.before.before.before.before.before.before.before in
-    walking-off one.before.before.loop.invariant one.before.loop-test.true one.if1.false (turned-off a.advance.ensures c.enum_told.given.1)
+    walking_off one.before.before.loop.invariant one.before.loop-test.true one.if1.false (turned-off a.advance.ensures c.enum_told.given.1)
 
 add-i : tie.Need-overflow-add-i invariant-loop decreases-loop
 add-i c = omega (arith, c.before.before.before.before.before.before.before.before.before.before.if1.false)
@@ -66,7 +66,7 @@ loop-less : tie.Need-loop-smaller invariant-loop decreases-loop
 loop-less c = omega (arith, c.before.before.before.before.before.before.before.before.before.before.if1.false)
 
 loop-again : tie.Need-loop-preserved invariant-loop decreases-loop
-unfolding maxValueBytes
+unfolding max_value_bytes
 loop-again c =
     let at-turned = c.before in
     let at_before = at-turned.before in
@@ -77,7 +77,7 @@ loop-again c =
     (turned_on a.advance.ensures at-turned.turned.given.1)
 
 returns-4 : tie.Need-returns-4 invariant-loop decreases-loop
-returns-4 c = walking-done c.before.loop.invariant c.loop-test.false
+returns-4 c = walking_done c.before.loop.invariant c.loop-test.false
 
 pub walk-spec : {M : Type 1} → statement M
 walk-spec =

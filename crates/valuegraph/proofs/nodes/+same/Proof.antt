@@ -6,8 +6,8 @@ use mathlib.Core.Path.{sym, ◌∙◌}
 use borrow.Author.Tests.{not-true, not-false}
 use borrow.Fn.Kinds.{In}
 use borrow.Fn.PlainCycle.{Measures, is, falls, and}
-use Rattle.valuegraph.proofs.Equal.{Comparing, Alike, PartRead, compare-start, compare-rooms, compare-done, compare-apart, both-units}
-use Rattle.valuegraph.proofs.Equal.{compare-one, parts-rooms, part-below, part-differs, compare-other}
+use Rattle.valuegraph.proofs.Equal.{Comparing, Alike, PartRead, compare_start, compare_rooms, compare_done, compare_apart, both-units}
+use Rattle.valuegraph.proofs.Equal.{compare_one, parts_rooms, part-below, part-differs, compare_other}
 use Rattle.valuegraph.proofs.nodes.same.Reads as same
 use Rattle.valuegraph.proofs.nodes.same.Kinds as same-kinds
 use Rattle.valuegraph.proofs.nodes.+same.Lts-same as same-lts
@@ -81,28 +81,28 @@ part_at t c =
 same-loop-holds : (t : ℕ) → same-lts.Need-loop-init (same-uses t) (same_at t) same.Post same-Inv-loop same-μ-loop
 same-loop-holds t c =
     let start = c.before in
-    compare-start start.requires.1.0 start.requires.1.1
+    compare_start start.requires.1.0 start.requires.1.1
 
 same-alike-requires : (t : ℕ) → same-lts.Need-alike-requires (same-uses t) (same_at t) same.Post same-Inv-loop same-μ-loop
-same-alike-requires t c κs = omega (arith, compare-rooms c.before.loop.invariant)
+same-alike-requires t c κs = omega (arith, compare_rooms c.before.loop.invariant)
 
 same-returns : (t : ℕ) → same-lts.Need-returns (same-uses t) (same_at t) same.Post same-Inv-loop same-μ-loop
 same-returns t c =
     let at-alike = c.before in
     let at-loop = at-alike.before.before in
-    compare-apart at-loop.loop.invariant at-alike.alike.ensures (not-true _ c.if1.true)
+    compare_apart at-loop.loop.invariant at-alike.alike.ensures (not-true _ c.if1.true)
 
 same-kind-of-requires : (t : ℕ) → same-lts.Need-kind-of-requires (same-uses t) (same_at t) same.Post same-Inv-loop same-μ-loop
-same-kind-of-requires t c κs = omega (arith, compare-rooms c.before.before.before.loop.invariant)
+same-kind-of-requires t c κs = omega (arith, compare_rooms c.before.before.before.loop.invariant)
 
 same-returns-2 : (t : ℕ) → same-lts.Need-returns-2 (same-uses t) (same_at t) same.Post same-Inv-loop same-μ-loop
 same-returns-2 t c = both-units (alike_at t c.before) c.if2.true
 
 same-left-of-requires : (t : ℕ) → same-lts.Need-left-of-requires (same-uses t) (same_at t) same.Post same-Inv-loop same-μ-loop
-same-left-of-requires t c κs = omega (arith, compare-rooms (alike_at t c.before.before).comparing)
+same-left-of-requires t c κs = omega (arith, compare_rooms (alike_at t c.before.before).comparing)
 
 same-left-of-requires-2 : (t : ℕ) → same-lts.Need-left-of-requires-2 (same-uses t) (same_at t) same.Post same-Inv-loop same-μ-loop
-same-left-of-requires-2 t c κs = omega (arith, compare-rooms (alike_at t c.before.before.before).comparing)
+same-left-of-requires-2 t c κs = omega (arith, compare_rooms (alike_at t c.before.before.before).comparing)
 
 same-loop-less : (t : ℕ) → same-lts.Need-loop-smaller (same-uses t) (same_at t) same.Post same-Inv-loop same-μ-loop
 same-loop-less t c =
@@ -110,7 +110,7 @@ same-loop-less t c =
     let at-if3 = at-left-of.before in
     let at-if2 = at-if3.before in
     let at-kind-of = at-if2.before in
-    (compare-one (alike_at t at-kind-of) at-if2.if2.false at-if3.if3.true at-left-of.left-of.ensures c.left-of2.ensures).1
+    (compare_one (alike_at t at-kind-of) at-if2.if2.false at-if3.if3.true at-left-of.left-of.ensures c.left-of2.ensures).1
 
 same-loop-again : (t : ℕ) → same-lts.Need-loop-preserved (same-uses t) (same_at t) same.Post same-Inv-loop same-μ-loop
 same-loop-again t c =
@@ -118,20 +118,20 @@ same-loop-again t c =
     let at-if3 = at-left-of.before in
     let at-if2 = at-if3.before in
     let at-kind-of = at-if2.before in
-    (compare-one (alike_at t at-kind-of) at-if2.if2.false at-if3.if3.true at-left-of.left-of.ensures c.left-of2.ensures).0
+    (compare_one (alike_at t at-kind-of) at-if2.if2.false at-if3.if3.true at-left-of.left-of.ensures c.left-of2.ensures).0
 
 same-left-shorter-requires : (t : ℕ) → same-lts.Need-left-shorter-requires (same-uses t) (same_at t) same.Post same-Inv-loop same-μ-loop
 same-left-shorter-requires t c κs =
     let at-if2 = c.before in
     let at-kind-of = at-if2.before in
     let w = alike_at t at-kind-of in
-    ((compare-rooms w.comparing).0, parts-rooms w at-if2.if2.false)
+    ((compare_rooms w.comparing).0, parts_rooms w at-if2.if2.false)
 
 same-part-of-requires : (t : ℕ) → same-lts.Need-part-of-requires (same-uses t) (same_at t) same.Post same-Inv-loop same-μ-loop
-same-part-of-requires t c κs = omega (arith, compare-rooms (alike_at t c.before.before.before).comparing)
+same-part-of-requires t c κs = omega (arith, compare_rooms (alike_at t c.before.before.before).comparing)
 
 same-part-of-requires-2 : (t : ℕ) → same-lts.Need-part-of-requires-2 (same-uses t) (same_at t) same.Post same-Inv-loop same-μ-loop
-same-part-of-requires-2 t c κs = omega (arith, compare-rooms (alike_at t c.before.before.before.before).comparing)
+same-part-of-requires-2 t c κs = omega (arith, compare_rooms (alike_at t c.before.before.before.before).comparing)
 
 same-same-requires : (t : ℕ) → same-lts.Need-same-requires (same-uses t) (same_at t) same.Post same-Inv-loop same-μ-loop
 same-same-requires t c κs =
@@ -146,10 +146,10 @@ same-returns-3 t c =
     part-differs (part_at t at-part-of2) at_same.same.ensures (not-true _ c.if4.true)
 
 same-part-of-requires-3 : (t : ℕ) → same-lts.Need-part-of-requires-3 (same-uses t) (same_at t) same.Post same-Inv-loop same-μ-loop
-same-part-of-requires-3 t c κs = omega (arith, compare-rooms (part_at t c.before.before).node.comparing)
+same-part-of-requires-3 t c κs = omega (arith, compare_rooms (part_at t c.before.before).node.comparing)
 
 same-part-of-requires-4 : (t : ℕ) → same-lts.Need-part-of-requires-4 (same-uses t) (same_at t) same.Post same-Inv-loop same-μ-loop
-same-part-of-requires-4 t c κs = omega (arith, compare-rooms (part_at t c.before.before.before).node.comparing)
+same-part-of-requires-4 t c κs = omega (arith, compare_rooms (part_at t c.before.before.before).node.comparing)
 
 same-loop-less-2 : (t : ℕ) → same-lts.Need-loop-smaller-2 (same-uses t) (same_at t) same.Post same-Inv-loop same-μ-loop
 same-loop-less-2 t c =
@@ -157,7 +157,7 @@ same-loop-less-2 t c =
     let at-if4 = at-part-of3.before in
     let at_same = at-if4.before in
     let at-part-of2 = at_same.before in
-    (compare-other (part_at t at-part-of2) at_same.same.ensures (not-false _ at-if4.if4.false) at-part-of3.part-of3.ensures c.part-of4.ensures).1
+    (compare_other (part_at t at-part-of2) at_same.same.ensures (not-false _ at-if4.if4.false) at-part-of3.part-of3.ensures c.part-of4.ensures).1
 
 same-loop-again-2 : (t : ℕ) → same-lts.Need-loop-preserved-2 (same-uses t) (same_at t) same.Post same-Inv-loop same-μ-loop
 same-loop-again-2 t c =
@@ -165,10 +165,10 @@ same-loop-again-2 t c =
     let at-if4 = at-part-of3.before in
     let at_same = at-if4.before in
     let at-part-of2 = at_same.before in
-    (compare-other (part_at t at-part-of2) at_same.same.ensures (not-false _ at-if4.if4.false) at-part-of3.part-of3.ensures c.part-of4.ensures).0
+    (compare_other (part_at t at-part-of2) at_same.same.ensures (not-false _ at-if4.if4.false) at-part-of3.part-of3.ensures c.part-of4.ensures).0
 
 same-returns-4 : (t : ℕ) → same-lts.Need-returns-4 (same-uses t) (same_at t) same.Post same-Inv-loop same-μ-loop
-same-returns-4 t c = compare-done c.before.loop.invariant c.loop-test.false
+same-returns-4 t c = compare_done c.before.loop.invariant c.loop-test.false
 
 pub +same-spec : {M : Type 1} → statement M
 +same-spec = close μ-same λ t. same-lts.spec (same-uses t)

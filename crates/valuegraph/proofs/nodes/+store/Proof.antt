@@ -7,7 +7,7 @@ use lib.ListN.{length-set}
 use borrow.Author.Rules.{rules}
 use borrow.Fn.Kinds.{In}
 use borrow.Fn.PlainCycle.{Measures, is, falls, and}
-use Rattle.valuegraph.proofs.Storing.{Storing, KindRead, PairRead, length-read, store-start, node-room, here, store-unit, parts-rooms, store-one}
+use Rattle.valuegraph.proofs.Storing.{Storing, KindRead, PairRead, length-read, store_start, node-room, here, store_unit, parts_rooms, store_one}
 use Rattle.valuegraph.proofs.Storing.{behind-inside, lower-parts, left-ready, right-ready, then-right, then-left}
 use Rattle.valuegraph.proofs.nodes.store.Reads as store
 use Rattle.valuegraph.proofs.nodes.store.Kinds as store-kinds
@@ -93,7 +93,7 @@ store-add-end t c =
     omega (arith, start.requires.1.room, length-read start.requires.1, c.wide-index.ensures.0, at-length-of.length-of.ensures)
 
 store-loop-holds : (t : ℕ) → store-lts.Need-loop-init (store-uses t) (store_at t) store.Post store-Inv-loop store-μ-loop
-store-loop-holds t c = store-start c.before.before.before.before.requires.1
+store-loop-holds t c = store_start c.before.before.before.before.requires.1
 
 store-kind-of-requires : (t : ℕ) → store-lts.Need-kind-of-requires (store-uses t) (store_at t) store.Post store-Inv-loop store-μ-loop
 store-kind-of-requires t c κs = node-room c.loop.invariant
@@ -110,7 +110,7 @@ store-returns t c =
     let at-wide-index = at-kind-of.before.before in
     let at-length-of = at-wide-index.before in
     let start = at-length-of.before.before.before in
-    store-unit (kind-at t at-kind-of) c.if1.true
+    store_unit (kind-at t at-kind-of) c.if1.true
     (ap (◌+◌ _) (at-wide-index.wide-index.ensures.0 ∙ at-length-of.length-of.ensures ∙ length-read start.requires.1))
 
 store-left-of-requires : (t : ℕ) → store-lts.Need-left-of-requires (store-uses t) (store_at t) store.Post store-Inv-loop store-μ-loop
@@ -124,14 +124,14 @@ store-loop-less t c =
     let at-left-of = c.before in
     let at-if1 = at-left-of.before in
     let at-kind-of = at-if1.before in
-    (store-one (kind-at t at-kind-of) at-if1.if1.false c.if2.true at-left-of.left-of.ensures).1
+    (store_one (kind-at t at-kind-of) at-if1.if1.false c.if2.true at-left-of.left-of.ensures).1
 
 store-loop-again : (t : ℕ) → store-lts.Need-loop-preserved (store-uses t) (store_at t) store.Post store-Inv-loop store-μ-loop
 store-loop-again t c =
     let at-left-of = c.before in
     let at-if1 = at-left-of.before in
     let at-kind-of = at-if1.before in
-    (store-one (kind-at t at-kind-of) at-if1.if1.false c.if2.true at-left-of.left-of.ensures).0
+    (store_one (kind-at t at-kind-of) at-if1.if1.false c.if2.true at-left-of.left-of.ensures).0
 
 store-right-of-requires : (t : ℕ) → store-lts.Need-right-of-requires (store-uses t) (store_at t) store.Post store-Inv-loop store-μ-loop
 store-right-of-requires t c κs = node-room c.before.before.before.before.loop.invariant
@@ -141,7 +141,7 @@ store-length-of-requires-2 t c κs =
     let at-left-of = c.before.before in
     let at-if1 = at-left-of.before in
     let at-kind-of = at-if1.before in
-    omega (arith, parts-rooms (kind-at t at-kind-of) at-if1.if1.false, at-left-of.left-of.ensures)
+    omega (arith, parts_rooms (kind-at t at-kind-of) at-if1.if1.false, at-left-of.left-of.ensures)
 
 store-wide-index-requires-2 : (t : ℕ) → store-lts.Need-wide-index-requires-2 (store-uses t) (store_at t) store.Post store-Inv-loop store-μ-loop
 store-wide-index-requires-2 t c κs = search rules
@@ -154,7 +154,7 @@ store-left-shorter-requires t c κs =
     let at-if1 = c.before.before.before.before.before in
     let at-kind-of = at-if1.before in
     let at-loop = at-kind-of.before in
-    (node-room at-loop.loop.invariant, parts-rooms (kind-at t at-kind-of) at-if1.if1.false)
+    (node-room at-loop.loop.invariant, parts_rooms (kind-at t at-kind-of) at-if1.if1.false)
 
 store-store-requires : (t : ℕ) → store-lts.Need-store-requires (store-uses t) (store_at t) store.Post store-Inv-loop store-μ-loop
 store-store-requires t c κs =

@@ -1,6 +1,6 @@
 use mathlib.Core.Path.{ap₂}
 use lib.Dec.{eqb}
-use Rattle.valuegraph.specs.Nodes.{alikeAt}
+use Rattle.valuegraph.specs.Nodes.{alike_at}
 use borrow.Author.Rules.{rules}
 use Rattle.valuegraph.proofs.nodes.alike.Statement.{statement}
 use Rattle.valuegraph.proofs.nodes.alike.Tie as tie
@@ -12,7 +12,7 @@ head-of-requires-2 : tie.Need-head-of-requires-2
 head-of-requires-2 c κs = search rules
 
 returns : tie.Need-returns
-unfolding alikeAt
+unfolding alike_at
 returns c = ap₂ eqb c.before.head_of.ensures c.head-of2.ensures
 
 pub alike_spec : {M : Type 1} → statement M

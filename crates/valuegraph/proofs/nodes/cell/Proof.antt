@@ -1,6 +1,6 @@
 use native.Mathlib.Omega.{arith}
 use borrow.Author.Rules.{rules}
-use Rattle.valuegraph.specs.Nodes.{unitPrint, ofKind}
+use Rattle.valuegraph.specs.Nodes.{unit_print, of_kind}
 use Rattle.valuegraph.proofs.Heaps.{grown}
 use Rattle.valuegraph.proofs.Making.{unit-fits, unit-ready}
 use Rattle.valuegraph.proofs.Places.{left-put, right-put}
@@ -14,7 +14,7 @@ same_length : tie.Need-same-length
 same_length c = search rules
 
 returns : tie.Need-returns
-unfolding unitPrint ofKind
+unfolding unit_print of_kind
 returns c =
     let at_before = c.before in
     let at-put-node = at_before.before in

@@ -1,4 +1,4 @@
-use Rattle.valuegraph.specs.Nodes.{headAt}
+use Rattle.valuegraph.specs.Nodes.{head_at}
 use borrow.Author.Rules.{rules}
 use Rattle.valuegraph.proofs.nodes.head_of.Statement.{statement}
 use Rattle.valuegraph.proofs.nodes.head_of.Tie as tie
@@ -10,7 +10,7 @@ read32-requires : tie.Need-read32-requires
 read32-requires c κs = search rules
 
 returns : tie.Need-returns
-unfolding headAt
+unfolding head_at
 returns c = c.read32.ensures
 
 pub head-of-spec : {M : Type 1} → statement M

@@ -1,6 +1,6 @@
 use mathlib.Core.Path.{ap, ap₂, ◌∙◌}
 use lib.Dec.{ltb}
-use Rattle.valuegraph.specs.Nodes.{length_at, leftShorter}
+use Rattle.valuegraph.specs.Nodes.{length_at, left_shorter}
 use borrow.Author.Rules.{rules}
 use Rattle.valuegraph.proofs.nodes.left_shorter.Statement.{statement}
 use Rattle.valuegraph.proofs.nodes.left_shorter.Tie as tie
@@ -18,7 +18,7 @@ length-of-requires-2 : tie.Need-length-of-requires-2
 length-of-requires-2 c κs = search rules
 
 returns : tie.Need-returns
-unfolding leftShorter
+unfolding left_shorter
 returns c =
     let at-right-of = c.before in
     let at-length-of = at-right-of.before in

@@ -3,7 +3,7 @@ use native.Mathlib.Omega.{arith}
 use mathlib.Core.Path.{sym}
 use borrow.Author.Rules.{rules}
 use Rattle.valuegraph.specs.Loads.{LoadedFrom}
-use Rattle.valuegraph.proofs.Loading.{load-start, turn, turn-ready, turn_small, turn-next, load-done}
+use Rattle.valuegraph.proofs.Loading.{load_start, turn, turn-ready, turn_small, turn-next, load_done}
 use Rattle.valuegraph.proofs.nodes.load.Statement.{statement}
 use Rattle.valuegraph.proofs.nodes.load.Tie as tie
 
@@ -14,7 +14,7 @@ abbrev decreases-loop : tie.decreases-loop
 decreases-loop ws₀ top s i₀ free₀ ws i free = i
 
 loop-holds : tie.Need-loop-init invariant-loop decreases-loop
-loop-holds c = load-start c.before.before.requires
+loop-holds c = load_start c.before.before.requires
 
 sub-i : tie.Need-overflow-sub-i invariant-loop decreases-loop
 sub-i c = search rules
@@ -54,7 +54,7 @@ same_length : tie.Need-same-length invariant-loop decreases-loop
 same_length c = sym c.before.loop.invariant.agree.lengths
 
 returns : tie.Need-returns invariant-loop decreases-loop
-returns c = load-done c.before.loop.invariant c.loop-test.false
+returns c = load_done c.before.loop.invariant c.loop-test.false
 
 pub load_spec : {M : Type 1} → statement M
 load_spec =

@@ -1,4 +1,4 @@
-use Rattle.valuegraph.specs.Nodes.{kindFactor, leftFactor, rightFactor, mixed}
+use Rattle.valuegraph.specs.Nodes.{kind_factor, left_factor, right_factor, mixed}
 use borrow.Author.Rules.{rules}
 use Rattle.valuegraph.proofs.nodes.mix.Statement.{statement}
 use Rattle.valuegraph.proofs.nodes.mix.Tie as tie
@@ -31,7 +31,7 @@ cast-result : tie.Need-overflow-cast-result
 cast-result c = search rules
 
 returns : tie.Need-returns
-unfolding kindFactor leftFactor rightFactor mixed
+unfolding kind_factor left_factor right_factor mixed
 returns c =
     let at-wide162 = c.before in
     let at-wide16 = at-wide162.before in

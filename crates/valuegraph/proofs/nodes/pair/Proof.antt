@@ -1,5 +1,5 @@
 use mathlib.Core.Path.{◌∙◌}
-use Rattle.valuegraph.specs.Nodes.{ofKind}
+use Rattle.valuegraph.specs.Nodes.{of_kind}
 use Rattle.valuegraph.proofs.Making.{pair-ready}
 use borrow.Author.Rules.{rules}
 use Rattle.valuegraph.proofs.nodes.pair.Statement.{statement}
@@ -50,7 +50,7 @@ same_length : tie.Need-same-length
 same_length c = search rules
 
 returns : tie.Need-returns
-unfolding ofKind
+unfolding of_kind
 returns c = c.before.before.append-short.ensures
 
 pub pair_spec : {M : Type 1} → statement M

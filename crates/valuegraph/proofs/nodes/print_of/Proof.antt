@@ -1,5 +1,5 @@
 use mathlib.Core.Path.{refl}
-use Rattle.valuegraph.specs.Nodes.{printAt}
+use Rattle.valuegraph.specs.Nodes.{print_at}
 use borrow.Author.Rules.{rules}
 use Rattle.valuegraph.proofs.nodes.print_of.Statement.{statement}
 use Rattle.valuegraph.proofs.nodes.print_of.Tie as tie
@@ -14,7 +14,7 @@ shared-slice-read-result : tie.Need-shared-slice-read-result
 shared-slice-read-result c = search rules
 
 returns : tie.Need-returns
-unfolding printAt
+unfolding print_at
 returns c = refl
 
 pub print-of-spec : {M : Type 1} → statement M

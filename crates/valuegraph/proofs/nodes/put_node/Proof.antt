@@ -3,7 +3,7 @@ use native.Mathlib.Omega.{arith}
 use mathlib.Core.Path.{ap, ◌∙◌}
 use lib.ListN.{set, length-set}
 use Rattle.octets.specs.Numbers.{put16, put32}
-use Rattle.valuegraph.specs.Nodes.{nodeBytes, putNode}
+use Rattle.valuegraph.specs.Nodes.{node_bytes, put_node}
 use borrow.Author.Rules.{rules}
 use Rattle.valuegraph.proofs.nodes.put_node.Statement.{statement}
 use Rattle.valuegraph.proofs.nodes.put_node.Tie as tie
@@ -59,14 +59,14 @@ same_length c =
     omega (arith, right, left, simp length-set at c.before.before.before.before.before.before.write16.auto.0)
 
 returns : tie.Need-returns
-unfolding putNode
+unfolding put_node
 returns c =
     let right = c.before.before.write322.ensures in
     let length = c.before.before.before.before.before.before.write16.ensures in
     let left = c.before.before.before.before.before.before.before.before.before.before.write32.ensures in
     let a = c.before.before.before.before.before.before.before.before.before.before.before.before.before.args in
-    right ∙ ap (λ heap. put32 heap (nodeBytes * a.n + 8) a.right)
-    (length ∙ ap (λ heap. put16 (set (set heap (nodeBytes * a.n) a.kind) (nodeBytes * a.n + 1) a.print) (nodeBytes * a.n + 2) a.len) left)
+    right ∙ ap (λ heap. put32 heap (node_bytes * a.n + 8) a.right)
+    (length ∙ ap (λ heap. put16 (set (set heap (node_bytes * a.n) a.kind) (node_bytes * a.n + 1) a.print) (node_bytes * a.n + 2) a.len) left)
 
 pub put-node-spec : {M : Type 1} → statement M
 put-node-spec =

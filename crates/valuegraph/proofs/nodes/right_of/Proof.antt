@@ -1,5 +1,5 @@
 use borrow.Author.Rules.{rules}
-use Rattle.valuegraph.specs.Nodes.{rightAt}
+use Rattle.valuegraph.specs.Nodes.{right_at}
 use Rattle.valuegraph.proofs.nodes.right_of.Statement.{statement}
 use Rattle.valuegraph.proofs.nodes.right_of.Tie as tie
 
@@ -13,7 +13,7 @@ read32-requires : tie.Need-read32-requires
 read32-requires c κs = search rules
 
 returns : tie.Need-returns
-unfolding rightAt
+unfolding right_at
 returns c = c.read32.ensures
 
 pub right-of-spec : {M : Type 1} → statement M

@@ -1,5 +1,5 @@
 use native.Mathlib.Omega.{arith}
-use Rattle.varsets.proofs.Sets.{power-some, holds-below}
+use Rattle.varsets.proofs.Sets.{power_some, holds-below}
 use borrow.Author.Rules.{rules}
 use Rattle.varsets.proofs.Uses.among_first.Statement.{statement}
 use Rattle.varsets.proofs.Uses.among_first.Tie as tie
@@ -8,7 +8,7 @@ shl-power : tie.Need-overflow-shl-power
 shl-power c = search rules
 
 sub-t4 : tie.Need-overflow-sub-t4
-sub-t4 c = power-some c.args.n (omega arith)
+sub-t4 c = power_some c.args.n (omega arith)
 
 returns : tie.Need-returns
 returns c = holds-below c.before.args.self c.before.args.n (omega arith)

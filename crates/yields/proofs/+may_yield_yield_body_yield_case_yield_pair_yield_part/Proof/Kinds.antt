@@ -151,7 +151,7 @@ may-yield-returns-11 t c =
     let start = c.before.before.before in
     let at-kind-of = c.before.kind-of in
     let at-match = c.match in
-    forms.unroll-answer start.requires.1 start.args.exact (sym at-kind-of.ensures ∙ at-match.keys11)
+    forms.unroll_answer start.requires.1 start.args.exact (sym at-kind-of.ensures ∙ at-match.keys11)
 
 pub may-yield-returns-12 : (t : ℕ) → may-yield-lts.Need-returns-12 (may-yield-uses t) (may-yield-at t) may-yield.Post
 may-yield-returns-12 t c =

@@ -100,7 +100,7 @@ yield-pair-returns t c =
     let start = c.before.before.before in
     let at-kind-of = c.before.kind-of in
     let at-if1 = c.if1 in
-    forms.pair-fails start.requires.1.0 start.args.exact start.requires.1.1 at-kind-of.ensures at-if1.true
+    forms.pair_fails start.requires.1.0 start.args.exact start.requires.1.1 at-kind-of.ensures at-if1.true
 
 pub yield-pair-first-of-requires : (t : ℕ) → yield-pair-lts.Need-first-of-requires (yield-pair-uses t) (yield-pair-at t) yield-pair.Post
 yield-pair-first-of-requires t c κs =
@@ -131,7 +131,7 @@ yield-pair-returns-2 t c =
     let at-left-of = c.before.before.left-of in
     let at-may-yield = c.before.may-yield in
     let at-if2 = c.if2 in
-    forms.left-fails start.requires.1.0 start.args.exact start.requires.1.1 at-kind-of.ensures at-if1.false at-first-of.ensures
+    forms.left_fails start.requires.1.0 start.args.exact start.requires.1.1 at-kind-of.ensures at-if1.false at-first-of.ensures
     at-left-of.ensures at-may-yield.ensures at-if2.true
 
 pub yield-pair-second-of-requires : (t : ℕ) → yield-pair-lts.Need-second-of-requires (yield-pair-uses t) (yield-pair-at t) yield-pair.Post
@@ -198,7 +198,7 @@ yield-part-returns t c =
     let start = c.before.before.before in
     let at-kind-of = c.before.kind-of in
     let at-if1 = c.if1 in
-    forms.part-fails start.requires.1.0 start.args.exact start.requires.1.1 at-kind-of.ensures at-if1.true
+    forms.part_fails start.requires.1.0 start.args.exact start.requires.1.1 at-kind-of.ensures at-if1.true
 
 pub yield-part-second-of-requires : (t : ℕ) → yield-part-lts.Need-second-of-requires (yield-part-uses t) (yield-part-at t) yield-part.Post
 yield-part-second-of-requires t c κs =

@@ -7,7 +7,7 @@ use mathlib.Core.Path.{refl, ◌∙◌}
 use native.Mathlib.Nat.{pos_of_ne-zero}
 use borrow.Author.Rules.{rules}
 use borrow.Author.Tests.{not-true, not-false}
-use own.LastPart.{Going-start, going-spent, going-high, going-entered, going-node, Going-less, going-over, going-falls, Going-on}
+use own.LastPart.{Going-start, going-spent, going_high, going_entered, going-node, Going-less, going-over, going_falls, Going-on}
 use own.eval.back.Reads as back
 use own.eval.+back_branch_call_choose_chosen_let_one_let_two_matched_pair_step as cycle
 use cycle.Lts-back as lts
@@ -186,7 +186,7 @@ module _ (t : ℕ) where
   pub returns : lts.Need-returns (back-uses t) (back_at t) back.Post back-Inv-loop back-μ-loop
   returns c =
       let (at-refuse, at-then2, at-then1, at_fuel, at-loop, start) = before-packed c in
-      going-high at-loop.loop.inv start.pre.1.0 at_fuel.fuel.ensures at-then1.if1.taken at-then2.if2.taken at-refuse.refuse.ensures.0
+      going_high at-loop.loop.inv start.pre.1.0 at_fuel.fuel.ensures at-then1.if1.taken at-then2.if2.taken at-refuse.refuse.ensures.0
       c.packed.ensures
 
   pub spend-requires : lts.Need-spend-requires (back-uses t) (back_at t) back.Post back-Inv-loop back-μ-loop
@@ -207,7 +207,7 @@ module _ (t : ℕ) where
               at-spend.spend.ensures,
         ),
         (
-          going-entered at-loop.loop.inv at_fuel.fuel.ensures at-then1.if1.taken at-else2.if2.left
+          going_entered at-loop.loop.inv at_fuel.fuel.ensures at-then1.if1.taken at-else2.if2.left
               at-spend.spend.ensures,
           going-node at-loop.loop.inv at_fuel.fuel.ensures at-then1.if1.taken at-else2.if2.left
               at-spend.spend.ensures,
@@ -236,7 +236,7 @@ module _ (t : ℕ) where
   pub loop-less : lts.Need-loop-smaller (back-uses t) (back_at t) back.Post back-Inv-loop back-μ-loop
   loop-less c =
       let (at-else3, at-step, at-spend, at-else2, at-then1, at_fuel, at-loop, _) = before-known c in
-      going-falls at-loop.loop.inv at_fuel.fuel.ensures at-then1.if1.taken at-else2.if2.left at-spend.spend.ensures
+      going_falls at-loop.loop.inv at_fuel.fuel.ensures at-then1.if1.taken at-else2.if2.left at-spend.spend.ensures
       at-step.step.ensures (not-false _ at-else3.if3.left)
 
   pub loop-again : lts.Need-loop-preserved (back-uses t) (back_at t) back.Post back-Inv-loop back-μ-loop

@@ -9,8 +9,8 @@ use own.eval.branch.Reads as branch
 use own.eval.+back_branch_call_choose_chosen_let_one_let_two_matched_pair_step as cycle
 use cycle.Lts-branch as lts
 use cycle.Proof.Claims.{branch-at, branch-uses}
-use own.Bound.{entered-cell, entered-there, entered-prepared, entered-node, entered-stopped, entered-leaves, entered-left}
-use own.LastPart.{unpacked-run}
+use own.Bound.{entered_cell, entered_there, entered_prepared, entered_node, entered_stopped, entered_leaves, entered_left}
+use own.LastPart.{unpacked_run}
 
 module _ (t : ℕ) where
   ----------------------------------------------------------------
@@ -57,12 +57,12 @@ module _ (t : ℕ) where
   pub entered-requires : lts.Need-entered-requires (branch-uses t) (branch-at t) branch.Post
   entered-requires c κs =
       let start = c.before.before.before in
-      (entered-cell start.requires.1.0, entered-there start.requires.1.0)
+      (entered_cell start.requires.1.0, entered_there start.requires.1.0)
 
   pub wider-requires : lts.Need-wider-requires (branch-uses t) (branch-at t) branch.Post
   wider-requires c κs =
       let start = before-entered c.before.before in
-      (omega (arith, entered-there start.pre.1.0), omega (arith, start.pre.1.0.few))
+      (omega (arith, entered_there start.pre.1.0), omega (arith, start.pre.1.0.few))
 
   pub back-requires : lts.Need-back-requires (branch-uses t) (branch-at t) branch.Post
   back-requires c κs =
@@ -70,8 +70,8 @@ module _ (t : ℕ) where
       let (at-entered, start) = before-wider at-wider in (
         omega (arith, start.pre.0, ap (λ (m : Machine). m.fuel) at-entered.entered.ensures.machine),
         (
-          entered-prepared start.pre.1.0 start.pre.1.1.0 at-entered.entered.ensures at-wider.wider.result at-wider.wider.ensures,
-          entered-node start.pre.1.0 start.pre.1.1.0 at-entered.entered.ensures start.pre.1.1.1,
+          entered_prepared start.pre.1.0 start.pre.1.1.0 at-entered.entered.ensures at-wider.wider.result at-wider.wider.ensures,
+          entered_node start.pre.1.0 start.pre.1.1.0 at-entered.entered.ensures start.pre.1.1.1,
         ),
       )
 
@@ -87,18 +87,18 @@ module _ (t : ℕ) where
   returns c =
       let at-unpacked = c.before.before.before in
       let (at_back, at-wider, at-entered, start) = before-unpacked at-unpacked in
-      entered-stopped start.pre.1.0 start.pre.1.1.0 at-entered.entered.ensures start.pre.1.1.1
+      entered_stopped start.pre.1.0 start.pre.1.1.0 at-entered.entered.ensures start.pre.1.1.1
       at-wider.wider.result at-wider.wider.ensures
-      (unpacked-run at-unpacked.unpacked.ensures at_back.back.ensures) c.if1.true
+      (unpacked_run at-unpacked.unpacked.ensures at_back.back.ensures) c.if1.true
 
   pub outer-requires : lts.Need-outer-requires (branch-uses t) (branch-at t) branch.Post
   outer-requires c κs =
       let at-else = c.before.before in
       let at-unpacked = at-else.before.before.before in
       let (at_back, at-wider, at-entered, start) = before-unpacked at-unpacked in
-      entered-leaves start.pre.1.0 start.pre.1.1.0 at-entered.entered.ensures start.pre.1.1.1
+      entered_leaves start.pre.1.0 start.pre.1.1.0 at-entered.entered.ensures start.pre.1.1.1
       at-wider.wider.result at-wider.wider.ensures
-      (unpacked-run at-unpacked.unpacked.ensures at_back.back.ensures) at-else.if1.false
+      (unpacked_run at-unpacked.unpacked.ensures at_back.back.ensures) at-else.if1.false
 
   pub same-length-2 : lts.Need-same-length-2 (branch-uses t) (branch-at t) branch.Post
   same-length-2 c =
@@ -112,6 +112,6 @@ module _ (t : ℕ) where
       let at-else = at-outer.before.before.before in
       let at-unpacked = at-else.before.before.before in
       let (at_back, at-wider, at-entered, start) = before-unpacked at-unpacked in
-      entered-left start.pre.1.0 start.pre.1.1.0 at-entered.entered.ensures start.pre.1.1.1
+      entered_left start.pre.1.0 start.pre.1.1.0 at-entered.entered.ensures start.pre.1.1.1
       at-wider.wider.result at-wider.wider.ensures
-      (unpacked-run at-unpacked.unpacked.ensures at_back.back.ensures) at-else.if1.false at-outer.outer.ensures
+      (unpacked_run at-unpacked.unpacked.ensures at_back.back.ensures) at-else.if1.false at-outer.outer.ensures

@@ -7,12 +7,12 @@ use mathlib.Core.Path.{ap, ◌∙◌}
 use borrow.Author.Rules.{rules}
 use Rattle.scopes.specs.Slots.{Machine}
 use Rattle.forward.proofs.Bounds.{argument-read, body-read}
-use Rattle.forward.proofs.Placing.{all-to-place}
+use Rattle.forward.proofs.Placing.{all_to_place}
 use own.Frames.{row-there}
 use own.Gathering.{scope-ready}
 use own.Calling.{all-arguments}
-use own.Called.{called-refused, called-space, called-widens, called-widened, called-ran, called_stops, called-leaves, called-dynamic, called-input, called-done}
-use own.LastPart.{leads-over, leads-on, unpacked-run}
+use own.Called.{called-refused, called-space, called_widens, called-widened, called-ran, called_stops, called-leaves, called-dynamic, called_input, called_done}
+use own.LastPart.{leads-over, leads-on, unpacked_run}
 use own.eval.call.Reads as call
 use own.eval.+back_branch_call_choose_chosen_let_one_let_two_matched_pair_step as cycle
 use cycle.Lts-call as lts
@@ -280,7 +280,7 @@ module _ (t : ℕ) where
       let at_wide = c.before.before in
       let (at-third, start) = before-wide at_wide in (
         record { full = start.pre.1.0.full; ready = scope-ready start.pre.1.0.prepared },
-        all-to-place start.pre.1.1.1 (at_wide.wide-index.ensures.0 ∙ at-third.third_of.ensures),
+        all_to_place start.pre.1.1.1 (at_wide.wide-index.ensures.0 ∙ at-third.third_of.ensures),
       )
 
   pub ended-requires : lts.Need-ended-requires (call-uses t) (call_at t) call.Post
@@ -294,7 +294,7 @@ module _ (t : ℕ) where
   pub returns : lts.Need-returns (call-uses t) (call_at t) call.Post
   returns c =
       let (at-then1, at-gather, at_wide, at-third, start) = before-ended c in
-      let calls = all-to-place start.pre.1.1.1 (at_wide.wide-index.ensures.0 ∙ at-third.third_of.ensures) in
+      let calls = all_to_place start.pre.1.1.1 (at_wide.wide-index.ensures.0 ∙ at-third.third_of.ensures) in
       leads-over c.ended.ensures at-gather.gather.ensures.lengths
       (called-refused start.pre.1.0.prepared start.pre.1.1.0 calls at-gather.gather.ensures.gathers at-then1.if1.taken)
 
@@ -317,7 +317,7 @@ module _ (t : ℕ) where
   pub scope-requires : lts.Need-scope-requires (call-uses t) (call_at t) call.Post
   scope-requires c κs =
       let (_, at_body, at_first, at-else1, at-gather, at_wide, at-third, start) = before-end c in
-      let calls = all-to-place start.pre.1.1.1 (at_wide.wide-index.ensures.0 ∙ at-third.third_of.ensures) in
+      let calls = all_to_place start.pre.1.1.1 (at_wide.wide-index.ensures.0 ∙ at-third.third_of.ensures) in
       let few = called-space start.pre.1.0.prepared start.pre.1.1.0 calls at-gather.gather.ensures.gathers at-else1.if1.left
       at_first.first_of.ensures at_body.body_of.ensures in
       let end = c.end_of_lem.ensures in
@@ -332,8 +332,8 @@ module _ (t : ℕ) where
   widen-requires c κs =
       let at-scope = c.before in
       let (at-end, at_none, at_body, at_first, at-else1, at-gather, at_wide, at-third, start) = before-scope at-scope in
-      let calls = all-to-place start.pre.1.1.1 (at_wide.wide-index.ensures.0 ∙ at-third.third_of.ensures) in
-      called-widens start.pre.1.0 start.pre.1.1.0 calls at-gather.gather.ensures.gathers at-else1.if1.left
+      let calls = all_to_place start.pre.1.1.1 (at_wide.wide-index.ensures.0 ∙ at-third.third_of.ensures) in
+      called_widens start.pre.1.0 start.pre.1.1.0 calls at-gather.gather.ensures.gathers at-else1.if1.left
       at_first.first_of.ensures at_body.body_of.ensures at-end.end_of_lem.ensures at-scope.scope.ensures at-gather.gather.ensures.lengths
       at_none.none.ensures
 
@@ -341,7 +341,7 @@ module _ (t : ℕ) where
   back-requires c κs =
       let at-widen = c.before.before in
       let (at-scope, at-end, at_none, at_body, at_first, at-else1, at-gather, at_wide, at-third, start) = before-widen at-widen in
-      let calls = all-to-place start.pre.1.1.1 (at_wide.wide-index.ensures.0 ∙ at-third.third_of.ensures) in (
+      let calls = all_to_place start.pre.1.1.1 (at_wide.wide-index.ensures.0 ∙ at-third.third_of.ensures) in (
         omega (arith, start.pre.0, at-gather.gather.ensures.gathers.moves.spends, ap (λ (m : Machine). m.fuel) at-widen.widen.ensures.machine),
         called-widened start.pre.1.0 start.pre.1.1.0 calls at-gather.gather.ensures.gathers at-else1.if1.left
             at_first.first_of.ensures at_body.body_of.ensures at-end.end_of_lem.ensures at-scope.scope.ensures at-gather.gather.ensures.lengths
@@ -377,11 +377,11 @@ module _ (t : ℕ) where
         at-third,
         start,
       ) = before-ended2 c in
-      let calls = all-to-place start.pre.1.1.1 (at_wide.wide-index.ensures.0 ∙ at-third.third_of.ensures) in
+      let calls = all_to_place start.pre.1.1.1 (at_wide.wide-index.ensures.0 ∙ at-third.third_of.ensures) in
       let ran = called-ran start.pre.1.0 start.pre.1.1.0 calls at-gather.gather.ensures.gathers at-else1.if1.left
       at_first.first_of.ensures at_body.body_of.ensures at-end.end_of_lem.ensures at-scope.scope.ensures
       at-gather.gather.ensures.lengths at_none.none.ensures at-widen.widen.ensures
-      (unpacked-run at-unpacked.unpacked.ensures at_back.back.ensures) in
+      (unpacked_run at-unpacked.unpacked.ensures at_back.back.ensures) in
       leads-over c.ended2.ensures (ran.lengths ∙ at-gather.gather.ensures.lengths)
       (called_stops start.pre.1.0.prepared start.pre.1.1.0 calls at-gather.gather.ensures.gathers at-else1.if1.left
       at_first.first_of.ensures at_body.body_of.ensures at-end.end_of_lem.ensures at-scope.scope.ensures ran.gone
@@ -391,18 +391,18 @@ module _ (t : ℕ) where
   leave-requires c κs =
       let at-else2 = c.before.before in
       let (at-unpacked, at_back, at-widen, at-scope, at-end, at_none, at_body, at_first, at-else1, at-gather, at_wide, at-third, start) = before-else2 at-else2 in
-      let calls = all-to-place start.pre.1.1.1 (at_wide.wide-index.ensures.0 ∙ at-third.third_of.ensures) in
+      let calls = all_to_place start.pre.1.1.1 (at_wide.wide-index.ensures.0 ∙ at-third.third_of.ensures) in
       let ran = called-ran start.pre.1.0 start.pre.1.1.0 calls at-gather.gather.ensures.gathers at-else1.if1.left
       at_first.first_of.ensures at_body.body_of.ensures at-end.end_of_lem.ensures at-scope.scope.ensures at-gather.gather.ensures.lengths
       at_none.none.ensures at-widen.widen.ensures
-      (unpacked-run at-unpacked.unpacked.ensures at_back.back.ensures) in
+      (unpacked_run at-unpacked.unpacked.ensures at_back.back.ensures) in
       called-leaves start.pre.1.0.prepared start.pre.1.1.0 calls at-gather.gather.ensures.gathers at-else1.if1.left
       at_first.first_of.ensures at_body.body_of.ensures at-end.end_of_lem.ensures at-scope.scope.ensures ran.gone at-else2.if2.false
 
   pub argument-of-requires : lts.Need-argument-of-requires (call-uses t) (call_at t) call.Post
   argument-of-requires c κs =
       let (_, _, _, _, _, _, _, _, _, _, _, at_wide, at-third, start) = before_leave c in
-      let calls = all-to-place start.pre.1.1.1 (at_wide.wide-index.ensures.0 ∙ at-third.third_of.ensures) in
+      let calls = all_to_place start.pre.1.1.1 (at_wide.wide-index.ensures.0 ∙ at-third.third_of.ensures) in
       argument-read (scope-ready start.pre.1.0.prepared) (all-arguments calls)
 
   pub goes-on-requires : lts.Need-goes-on-requires (call-uses t) (call_at t) call.Post
@@ -433,11 +433,11 @@ module _ (t : ℕ) where
         at-third,
         start,
       ) = before-goes-on c in
-      let calls = all-to-place start.pre.1.1.1 (at_wide.wide-index.ensures.0 ∙ at-third.third_of.ensures) in
+      let calls = all_to_place start.pre.1.1.1 (at_wide.wide-index.ensures.0 ∙ at-third.third_of.ensures) in
       let ran = called-ran start.pre.1.0 start.pre.1.1.0 calls at-gather.gather.ensures.gathers at-else1.if1.left
       at_first.first_of.ensures at_body.body_of.ensures at-end.end_of_lem.ensures at-scope.scope.ensures
       at-gather.gather.ensures.lengths at_none.none.ensures at-widen.widen.ensures
-      (unpacked-run at-unpacked.unpacked.ensures at_back.back.ensures) in
+      (unpacked_run at-unpacked.unpacked.ensures at_back.back.ensures) in
       leads-on c.goes_on.ensures (ran.lengths ∙ at-gather.gather.ensures.lengths)
       (record {
         prepared = record {
@@ -447,12 +447,12 @@ module _ (t : ℕ) where
               at_first.first_of.ensures at_body.body_of.ensures at-end.end_of_lem.ensures at-scope.scope.ensures ran.gone at-else2.if2.left
               at-argument.argument-of.ensures;
         };
-        there = called-input start.pre.1.0.prepared start.pre.1.1.0 calls
+        there = called_input start.pre.1.0.prepared start.pre.1.1.0 calls
             at-gather.gather.ensures.gathers at-else1.if1.left at_first.first_of.ensures at_body.body_of.ensures at-end.end_of_lem.ensures
             at-scope.scope.ensures ran.gone at-else2.if2.left at-argument.argument-of.ensures at-leave.leave.ensures;
         spends = omega
             (arith, at-gather.gather.ensures.gathers.moves.spends, ran.gone.ran.moves.spends);
-        becomes = λ D. called-done
+        becomes = λ D. called_done
             start.pre.1.0.prepared start.pre.1.1.0 calls at-gather.gather.ensures.gathers at-else1.if1.left
             at_first.first_of.ensures at_body.body_of.ensures at-end.end_of_lem.ensures at-scope.scope.ensures ran.gone at-else2.if2.left
             at-argument.argument-of.ensures at-leave.leave.ensures D;

@@ -7,7 +7,7 @@ use own.eval.choose.Reads as choose
 use own.eval.+back_branch_call_choose_chosen_let_one_let_two_matched_pair_step as cycle
 use cycle.Lts-choose as lts
 use cycle.Proof.Claims.{choose-at, choose-uses}
-use own.Scoping.{case-that}
+use own.Scoping.{case_that}
 
 module _ (t : ℕ) where
   ----------------------------------------------------------------
@@ -61,7 +61,7 @@ module _ (t : ℕ) where
           start.pre.1.0,
           (
             start.pre.1.1.0,
-            case-that start.pre.1.1.1 at-ancillae.ancillae-in.ensures at_count.count-in.ensures
+            case_that start.pre.1.1.1 at-ancillae.ancillae-in.ensures at_count.count-in.ensures
                 at-chooses.chooses-by-ancilla.ensures at-then.if1.true,
           ),
         ),
@@ -83,7 +83,7 @@ module _ (t : ℕ) where
           start.pre.1.0,
           (
             start.pre.1.1.0,
-            case-that start.pre.1.1.1 at-ancillae.ancillae-in.ensures at_count.count-in.ensures
+            case_that start.pre.1.1.1 at-ancillae.ancillae-in.ensures at_count.count-in.ensures
                 at-chooses.chooses-by-ancilla.ensures at-else.if1.false,
           ),
         ),

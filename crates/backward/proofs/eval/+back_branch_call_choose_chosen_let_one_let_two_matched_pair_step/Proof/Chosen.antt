@@ -10,7 +10,7 @@ use own.eval.chosen.Reads as chosen
 use own.eval.+back_branch_call_choose_chosen_let_one_let_two_matched_pair_step as cycle
 use cycle.Lts-chosen as lts
 use cycle.Proof.Claims.{Chosen-at, chosen-uses}
-use Rattle.forward.proofs.Answers.{is-value, is-refused}
+use Rattle.forward.proofs.Answers.{is_value_lem, is_refused}
 use own.Frames.{row-there}
 use own.Stops.{is_Carried, number-stuck}
 use own.Chosen.{chosen-sum, chosen-few, chosen-stopped, chosen-stuck, chosen-room, chosen-node, left-part, left-prepared, left-gone}
@@ -121,14 +121,14 @@ module _ (t : ℕ) where
       let (at_first, start) = before-eval at-eval in
       leads-over c.ended.ensures at-eval.eval.ensures.lengths
       (chosen-stopped start.pre.1 at_first.first_of.ensures at-eval.eval.ensures.ran
-      (is-refused at-then.if1.true) (is_Carried _ (is-refused at-then.if1.true)))
+      (is_refused at-then.if1.true) (is_Carried _ (is_refused at-then.if1.true)))
 
   pub kind-of-requires : lts.Need-kind-of-requires (chosen-uses t) (Chosen-at t) chosen.Post
   kind-of-requires c κs =
       let at-else = c.before in
       let (at-eval, at_first, start) = before-else1 at-else in
       chosen-room start.pre.1 at_first.first_of.ensures at-eval.eval.ensures.ran
-      (is-value at-else.if1.false)
+      (is_value_lem at-else.if1.false)
 
   pub left-of-requires : lts.Need-left-of-requires (chosen-uses t) (Chosen-at t) chosen.Post
   left-of-requires c κs =
@@ -136,7 +136,7 @@ module _ (t : ℕ) where
       let at-else = at-kind.before.before in
       let (at-eval, at_first, start) = before-else1 at-else in
       chosen-room start.pre.1 at_first.first_of.ensures at-eval.eval.ensures.ran
-      (is-value at-else.if1.false)
+      (is_value_lem at-else.if1.false)
 
   pub second-of-requires : lts.Need-second-of-requires (chosen-uses t) (Chosen-at t) chosen.Post
   second-of-requires c κs =
@@ -156,14 +156,14 @@ module _ (t : ℕ) where
             few = chosen-few start.pre.1;
             prepared = left-prepared start.pre.1
                 at_first.first_of.ensures at-eval.eval.ensures.ran
-                (is-value at-else.if1.left) at_part.left-of.ensures kind at_read.second-of.ensures;
+                (is_value_lem at-else.if1.left) at_part.left-of.ensures kind at_read.second-of.ensures;
           },
           (
             left-part start.pre.1
                 at_first.first_of.ensures at-eval.eval.ensures.ran
-                (is-value at-else.if1.left) at_part.left-of.ensures kind at_read.second-of.ensures,
+                (is_value_lem at-else.if1.left) at_part.left-of.ensures kind at_read.second-of.ensures,
             chosen-node start.pre.1 at_first.first_of.ensures at-eval.eval.ensures.ran
-                (is-value at-else.if1.left),
+                (is_value_lem at-else.if1.left),
           ),
         ),
       )
@@ -188,7 +188,7 @@ module _ (t : ℕ) where
       let kind : nodeKind _ _ ≡ _ = sym at-kind.kind-of.ensures ∙ at-then.if2.true in
       leads-over c.ended2.ensures (at-branch.branch.ensures.lengths ∙ at-eval.eval.ensures.lengths)
       (left-gone start.pre.1 at_first.first_of.ensures at-eval.eval.ensures.ran
-      (is-value at-else.if1.left) at_part.left-of.ensures kind at_read.second-of.ensures at-branch.branch.ensures.gone)
+      (is_value_lem at-else.if1.left) at_part.left-of.ensures kind at_read.second-of.ensures at-branch.branch.ensures.gone)
 
   pub third-of-requires : lts.Need-third-of-requires (chosen-uses t) (Chosen-at t) chosen.Post
   third-of-requires c κs =
@@ -208,14 +208,14 @@ module _ (t : ℕ) where
             few = chosen-few start.pre.1;
             prepared = right-prepared start.pre.1
                 at_first.first_of.ensures at-eval.eval.ensures.ran
-                (is-value at-else.if1.left) at_part.left-of.ensures kind at_read.third_of.ensures;
+                (is_value_lem at-else.if1.left) at_part.left-of.ensures kind at_read.third_of.ensures;
           },
           (
             right-part start.pre.1
                 at_first.first_of.ensures at-eval.eval.ensures.ran
-                (is-value at-else.if1.left) at_part.left-of.ensures kind at_read.third_of.ensures,
+                (is_value_lem at-else.if1.left) at_part.left-of.ensures kind at_read.third_of.ensures,
             chosen-node start.pre.1 at_first.first_of.ensures at-eval.eval.ensures.ran
-                (is-value at-else.if1.left),
+                (is_value_lem at-else.if1.left),
           ),
         ),
       )
@@ -240,7 +240,7 @@ module _ (t : ℕ) where
       let kind : nodeKind _ _ ≡ _ = sym at-kind.kind-of.ensures ∙ at-then.if3.true in
       leads-over c.ended3.ensures (at-branch.branch2.ensures.lengths ∙ at-eval.eval.ensures.lengths)
       (right-gone start.pre.1 at_first.first_of.ensures at-eval.eval.ensures.ran
-      (is-value at-else.if1.left) at_part.left-of.ensures kind at_read.third_of.ensures at-branch.branch2.ensures.gone)
+      (is_value_lem at-else.if1.left) at_part.left-of.ensures kind at_read.third_of.ensures at-branch.branch2.ensures.gone)
 
   pub refuse-requires : lts.Need-refuse-requires (chosen-uses t) (Chosen-at t) chosen.Post
   refuse-requires c κs = search rules
@@ -261,5 +261,5 @@ module _ (t : ℕ) where
       let (at_part, at-kind, at-else, at-eval, at_first, start) = before-else2 at-else2 in
       leads-over c.ended4.ensures at-eval.eval.ensures.lengths
       (chosen-stuck start.pre.1 at_first.first_of.ensures at-eval.eval.ensures.ran
-      (is-value at-else.if1.left) (λ e. at-else2.if2.false (at-kind.kind-of.ensures ∙ e)) (λ e. at-else3.if3.false (at-kind.kind-of.ensures ∙ e))
+      (is_value_lem at-else.if1.left) (λ e. at-else2.if2.false (at-kind.kind-of.ensures ∙ e)) (λ e. at-else3.if3.false (at-kind.kind-of.ensures ∙ e))
       (at-refuse.refuse.ensures.0 ∙ ap Refused (number-stuck _)))

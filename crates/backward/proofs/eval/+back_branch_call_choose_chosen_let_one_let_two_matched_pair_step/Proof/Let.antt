@@ -7,9 +7,9 @@ use mathlib.Core.Path.{refl, ap, ◌∙◌}
 use borrow.Author.Rules.{rules}
 use Rattle.scopes.specs.Slots.{Machine}
 use own.Frames.{row-there}
-use own.Scoping.{let-widens, let-widened, let-ran, let-stopped, let-leaves, let-cell, let-outer, let-node, let-gone}
+use own.Scoping.{let_widens, let_widened, let_ran, let_stopped, let_leaves, let_cell, let_outer, let_node, let_gone}
 use own.Leaving.{left_behind}
-use own.LastPart.{leads-over, leads-on, unpacked-run}
+use own.LastPart.{leads-over, leads-on, unpacked_run}
 use own.eval.let_one.Reads as let-one
 use own.eval.+back_branch_call_choose_chosen_let_one_let_two_matched_pair_step as cycle
 use cycle.Lts-let_one as lts
@@ -140,14 +140,14 @@ module _ (t : ℕ) where
   widen-requires c κs =
       let at_second = c.before in
       let (at_first, start) = before-second at_second in
-      let-widens start.pre.1.0 start.pre.1.1.0 at_first.first_of.ensures at_second.second-of.ensures start.pre.1.1.1
+      let_widens start.pre.1.0 start.pre.1.1.0 at_first.first_of.ensures at_second.second-of.ensures start.pre.1.1.1
 
   pub back-requires : lts.Need-back-requires (let-one-uses t) (let-one-at t) let-one.Post
   back-requires c κs =
       let at-widen = c.before.before in
       let (at_second, at_first, start) = before-widen at-widen in (
         omega (arith, start.pre.0, ap (λ (m : Machine). m.fuel) at-widen.widen.ensures.machine),
-        let-widened start.pre.1.0 start.pre.1.1.0 at_first.first_of.ensures at_second.second-of.ensures start.pre.1.1.1
+        let_widened start.pre.1.0 start.pre.1.1.0 at_first.first_of.ensures at_second.second-of.ensures start.pre.1.1.1
             at-widen.widen.ensures,
       )
 
@@ -165,27 +165,27 @@ module _ (t : ℕ) where
   pub returns : lts.Need-returns (let-one-uses t) (let-one-at t) let-one.Post
   returns c =
       let (at-then1, at-unpacked, at_back, at-widen, at_second, at_first, start) = before-ended c in
-      let ran = let-ran start.pre.1.0 start.pre.1.1.0 at_first.first_of.ensures at_second.second-of.ensures start.pre.1.1.1
-      at-widen.widen.ensures (unpacked-run at-unpacked.unpacked.ensures at_back.back.ensures) in
+      let ran = let_ran start.pre.1.0 start.pre.1.1.0 at_first.first_of.ensures at_second.second-of.ensures start.pre.1.1.1
+      at-widen.widen.ensures (unpacked_run at-unpacked.unpacked.ensures at_back.back.ensures) in
       leads-over c.ended.ensures ran.lengths
-      (let-stopped start.pre.1.0.prepared start.pre.1.1.0 start.pre.1.1.1 at_first.first_of.ensures at_second.second-of.ensures
+      (let_stopped start.pre.1.0.prepared start.pre.1.1.0 start.pre.1.1.1 at_first.first_of.ensures at_second.second-of.ensures
       ran.gone at-then1.if1.taken)
 
   pub leave-requires : lts.Need-leave-requires (let-one-uses t) (let-one-at t) let-one.Post
   leave-requires c κs =
       let at-else1 = c.before.before in
       let (at-unpacked, at_back, at-widen, at_second, at_first, start) = before-else1 at-else1 in
-      let ran = let-ran start.pre.1.0 start.pre.1.1.0 at_first.first_of.ensures at_second.second-of.ensures start.pre.1.1.1
-      at-widen.widen.ensures (unpacked-run at-unpacked.unpacked.ensures at_back.back.ensures) in
-      let-leaves start.pre.1.0.prepared start.pre.1.1.0 start.pre.1.1.1 at_first.first_of.ensures at_second.second-of.ensures
+      let ran = let_ran start.pre.1.0 start.pre.1.1.0 at_first.first_of.ensures at_second.second-of.ensures start.pre.1.1.1
+      at-widen.widen.ensures (unpacked_run at-unpacked.unpacked.ensures at_back.back.ensures) in
+      let_leaves start.pre.1.0.prepared start.pre.1.1.0 start.pre.1.1.1 at_first.first_of.ensures at_second.second-of.ensures
       ran.gone at-else1.if1.false
 
   pub outer-requires : lts.Need-outer-requires (let-one-uses t) (let-one-at t) let-one.Post
   outer-requires c κs =
       let (at-else1, at-unpacked, at_back, at-widen, at_second, at_first, start) = before_leave c.before.before in
-      let ran = let-ran start.pre.1.0 start.pre.1.1.0 at_first.first_of.ensures at_second.second-of.ensures start.pre.1.1.1
-      at-widen.widen.ensures (unpacked-run at-unpacked.unpacked.ensures at_back.back.ensures) in
-      let-cell start.pre.1.0.prepared start.pre.1.1.0 start.pre.1.1.1 at_first.first_of.ensures at_second.second-of.ensures
+      let ran = let_ran start.pre.1.0 start.pre.1.1.0 at_first.first_of.ensures at_second.second-of.ensures start.pre.1.1.1
+      at-widen.widen.ensures (unpacked_run at-unpacked.unpacked.ensures at_back.back.ensures) in
+      let_cell start.pre.1.0.prepared start.pre.1.1.0 start.pre.1.1.1 at_first.first_of.ensures at_second.second-of.ensures
       ran.gone at-else1.if1.left (ran.lengths ∙ start.pre.1.0.full) refl
 
   pub goes-on-requires : lts.Need-goes-on-requires (let-one-uses t) (let-one-at t) let-one.Post
@@ -199,18 +199,18 @@ module _ (t : ℕ) where
   pub returns-2 : lts.Need-returns-2 (let-one-uses t) (let-one-at t) let-one.Post
   returns-2 c =
       let (at-outer, at-leave, at-else1, at-unpacked, at_back, at-widen, at_second, at_first, start) = before-goes-on c in
-      let ran = let-ran start.pre.1.0 start.pre.1.1.0 at_first.first_of.ensures at_second.second-of.ensures start.pre.1.1.1
-      at-widen.widen.ensures (unpacked-run at-unpacked.unpacked.ensures at_back.back.ensures) in
+      let ran = let_ran start.pre.1.0 start.pre.1.1.0 at_first.first_of.ensures at_second.second-of.ensures start.pre.1.1.1
+      at-widen.widen.ensures (unpacked_run at-unpacked.unpacked.ensures at_back.back.ensures) in
       leads-on c.goes_on.ensures (at-outer.outer.ensures.moved.lengths ∙ ran.lengths)
       (record {
         prepared = record {
           full = at-outer.outer.ensures.moved.lengths ∙ ran.lengths ∙ start.pre.1.0.full;
-          prepared = let-outer start.pre.1.0.prepared start.pre.1.1.0 start.pre.1.1.1 at_first.first_of.ensures
+          prepared = let_outer start.pre.1.0.prepared start.pre.1.1.0 start.pre.1.1.1 at_first.first_of.ensures
               at_second.second-of.ensures ran.gone at-else1.if1.left (left_behind at-outer.outer.ensures);
         };
-        there = let-node start.pre.1.0.prepared start.pre.1.1.0 start.pre.1.1.1 at_first.first_of.ensures
+        there = let_node start.pre.1.0.prepared start.pre.1.1.0 start.pre.1.1.1 at_first.first_of.ensures
             at_second.second-of.ensures ran.gone at-else1.if1.left (left_behind at-outer.outer.ensures) at-leave.leave.ensures;
         spends = omega (arith, ran.gone.ran.moves.spends, ap (λ (m : Machine). m.fuel) at-outer.outer.ensures.moved.machine);
-        becomes = λ D. let-gone start.pre.1.0.prepared start.pre.1.1.0 start.pre.1.1.1 at_first.first_of.ensures
+        becomes = λ D. let_gone start.pre.1.0.prepared start.pre.1.1.0 start.pre.1.1.1 at_first.first_of.ensures
             at_second.second-of.ensures ran.gone at-else1.if1.left (left_behind at-outer.outer.ensures) at-leave.leave.ensures D;
       })

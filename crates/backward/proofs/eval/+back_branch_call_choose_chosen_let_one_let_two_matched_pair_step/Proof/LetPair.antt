@@ -8,9 +8,9 @@ use borrow.Author.Rules.{rules}
 use Rattle.scopes.specs.Slots.{Machine}
 use own.Frames.{row-there}
 use own.Opening.{marked}
-use own.Scoping.{letp-ready, letp-widens, letp-widened, letp-ran, letp-stopped, letp-leaves, letp-leaves-first, letp-cell, letp-outer, letp-both, letp-gone}
+use own.Scoping.{letp_ready, letp_widens, letp_widened, letp_ran, letp_stopped, letp_leaves, letp_leaves_first, letp_cell, letp_outer, letp_both, letp_gone}
 use own.Leaving.{left_behind}
-use own.LastPart.{leads-over, leads-through, unpacked-run}
+use own.LastPart.{leads-over, leads-through, unpacked_run}
 use own.eval.let_two.Reads as let-two
 use own.eval.+back_branch_call_choose_chosen_let_one_let_two_matched_pair_step as cycle
 use cycle.Lts-let_two as lts
@@ -159,13 +159,13 @@ module _ (t : ℕ) where
   widen-requires c κs =
       let at_second = c.before in
       let (at_first, start) = before-second at_second in
-      letp-ready start.pre.1.0 start.pre.1.1.0 at_first.first_of.ensures at_second.second-of.ensures start.pre.1.1.1
+      letp_ready start.pre.1.0 start.pre.1.1.0 at_first.first_of.ensures at_second.second-of.ensures start.pre.1.1.1
 
   pub widen-requires-2 : lts.Need-widen-requires-2 (let-two-uses t) (let-two-at t) let-two.Post
   widen-requires-2 c κs =
       let at-widen = c.before in
       let (at_second, at_first, start) = before-widen at-widen in
-      letp-widens start.pre.1.0 start.pre.1.1.0 at_first.first_of.ensures at_second.second-of.ensures start.pre.1.1.1
+      letp_widens start.pre.1.0 start.pre.1.1.0 at_first.first_of.ensures at_second.second-of.ensures start.pre.1.1.1
       at-widen.widen.ensures
 
   pub back-requires : lts.Need-back-requires (let-two-uses t) (let-two-at t) let-two.Post
@@ -178,7 +178,7 @@ module _ (t : ℕ) where
           ap (λ (m : Machine). m.fuel) at-widen.widen.ensures.machine,
           ap (λ (m : Machine). m.fuel) at-widen2.widen2.ensures.machine,
         ),
-        letp-widened start.pre.1.0 start.pre.1.1.0 at_first.first_of.ensures at_second.second-of.ensures start.pre.1.1.1
+        letp_widened start.pre.1.0 start.pre.1.1.0 at_first.first_of.ensures at_second.second-of.ensures start.pre.1.1.1
             at-widen.widen.ensures at-widen2.widen2.ensures,
       )
 
@@ -196,36 +196,36 @@ module _ (t : ℕ) where
   pub returns : lts.Need-returns (let-two-uses t) (let-two-at t) let-two.Post
   returns c =
       let (at-then1, at-unpacked, at_back, at-widen2, at-widen, at_second, at_first, start) = before-ended c in
-      let ran = letp-ran start.pre.1.0 start.pre.1.1.0 at_first.first_of.ensures at_second.second-of.ensures start.pre.1.1.1
-      at-widen.widen.ensures at-widen2.widen2.ensures (unpacked-run at-unpacked.unpacked.ensures at_back.back.ensures) in
+      let ran = letp_ran start.pre.1.0 start.pre.1.1.0 at_first.first_of.ensures at_second.second-of.ensures start.pre.1.1.1
+      at-widen.widen.ensures at-widen2.widen2.ensures (unpacked_run at-unpacked.unpacked.ensures at_back.back.ensures) in
       leads-over c.ended.ensures (ran.lengths ∙ at-widen.widen.ensures.lengths)
-      (letp-stopped start.pre.1.0.prepared start.pre.1.1.0 start.pre.1.1.1 at_first.first_of.ensures at_second.second-of.ensures
-      (marked at-widen.widen.ensures) at-widen.widen.ensures.scope-is ran.gone at-then1.if1.taken)
+      (letp_stopped start.pre.1.0.prepared start.pre.1.1.0 start.pre.1.1.1 at_first.first_of.ensures at_second.second-of.ensures
+      (marked at-widen.widen.ensures) at-widen.widen.ensures.scope_is ran.gone at-then1.if1.taken)
 
   pub leave-requires : lts.Need-leave-requires (let-two-uses t) (let-two-at t) let-two.Post
   leave-requires c κs =
       let at-else1 = c.before.before in
       let (at-unpacked, at_back, at-widen2, at-widen, at_second, at_first, start) = before-else1 at-else1 in
-      let ran = letp-ran start.pre.1.0 start.pre.1.1.0 at_first.first_of.ensures at_second.second-of.ensures start.pre.1.1.1
-      at-widen.widen.ensures at-widen2.widen2.ensures (unpacked-run at-unpacked.unpacked.ensures at_back.back.ensures) in
-      letp-leaves start.pre.1.0.prepared start.pre.1.1.0 start.pre.1.1.1 at_first.first_of.ensures at_second.second-of.ensures
-      (marked at-widen.widen.ensures) at-widen.widen.ensures.scope-is ran.gone at-else1.if1.false
+      let ran = letp_ran start.pre.1.0 start.pre.1.1.0 at_first.first_of.ensures at_second.second-of.ensures start.pre.1.1.1
+      at-widen.widen.ensures at-widen2.widen2.ensures (unpacked_run at-unpacked.unpacked.ensures at_back.back.ensures) in
+      letp_leaves start.pre.1.0.prepared start.pre.1.1.0 start.pre.1.1.1 at_first.first_of.ensures at_second.second-of.ensures
+      (marked at-widen.widen.ensures) at-widen.widen.ensures.scope_is ran.gone at-else1.if1.false
 
   pub leave-requires-2 : lts.Need-leave-requires-2 (let-two-uses t) (let-two-at t) let-two.Post
   leave-requires-2 c κs =
       let (at-else1, at-unpacked, at_back, at-widen2, at-widen, at_second, at_first, start) = before_leave c.before.before in
-      let ran = letp-ran start.pre.1.0 start.pre.1.1.0 at_first.first_of.ensures at_second.second-of.ensures start.pre.1.1.1
-      at-widen.widen.ensures at-widen2.widen2.ensures (unpacked-run at-unpacked.unpacked.ensures at_back.back.ensures) in
-      letp-leaves-first start.pre.1.0.prepared start.pre.1.1.0 start.pre.1.1.1 at_first.first_of.ensures at_second.second-of.ensures
-      (marked at-widen.widen.ensures) at-widen.widen.ensures.scope-is ran.gone at-else1.if1.left
+      let ran = letp_ran start.pre.1.0 start.pre.1.1.0 at_first.first_of.ensures at_second.second-of.ensures start.pre.1.1.1
+      at-widen.widen.ensures at-widen2.widen2.ensures (unpacked_run at-unpacked.unpacked.ensures at_back.back.ensures) in
+      letp_leaves_first start.pre.1.0.prepared start.pre.1.1.0 start.pre.1.1.1 at_first.first_of.ensures at_second.second-of.ensures
+      (marked at-widen.widen.ensures) at-widen.widen.ensures.scope_is ran.gone at-else1.if1.left
 
   pub outer-requires : lts.Need-outer-requires (let-two-uses t) (let-two-at t) let-two.Post
   outer-requires c κs =
       let (_, at-else1, at-unpacked, at_back, at-widen2, at-widen, at_second, at_first, start) = before-leave2 c.before.before in
-      let ran = letp-ran start.pre.1.0 start.pre.1.1.0 at_first.first_of.ensures at_second.second-of.ensures start.pre.1.1.1
-      at-widen.widen.ensures at-widen2.widen2.ensures (unpacked-run at-unpacked.unpacked.ensures at_back.back.ensures) in
-      letp-cell start.pre.1.0.prepared start.pre.1.1.0 start.pre.1.1.1 at_first.first_of.ensures at_second.second-of.ensures
-      (marked at-widen.widen.ensures) at-widen.widen.ensures.scope-is ran.gone at-else1.if1.left
+      let ran = letp_ran start.pre.1.0 start.pre.1.1.0 at_first.first_of.ensures at_second.second-of.ensures start.pre.1.1.1
+      at-widen.widen.ensures at-widen2.widen2.ensures (unpacked_run at-unpacked.unpacked.ensures at_back.back.ensures) in
+      letp_cell start.pre.1.0.prepared start.pre.1.1.0 start.pre.1.1.1 at_first.first_of.ensures at_second.second-of.ensures
+      (marked at-widen.widen.ensures) at-widen.widen.ensures.scope_is ran.gone at-else1.if1.left
       (ran.lengths ∙ at-widen.widen.ensures.lengths ∙ start.pre.1.0.full) refl
 
   pub over-pair-requires : lts.Need-over-pair-requires (let-two-uses t) (let-two-at t) let-two.Post
@@ -233,18 +233,18 @@ module _ (t : ℕ) where
       let at_before = c.before.before.before in
       let at-outer = at_before.before in
       let (at-leave2, at-leave, at-else1, at-unpacked, at_back, at-widen2, at-widen, at_second, at_first, start) = before-outer at-outer in
-      let ran = letp-ran start.pre.1.0 start.pre.1.1.0 at_first.first_of.ensures at_second.second-of.ensures start.pre.1.1.1
-      at-widen.widen.ensures at-widen2.widen2.ensures (unpacked-run at-unpacked.unpacked.ensures at_back.back.ensures) in (
+      let ran = letp_ran start.pre.1.0 start.pre.1.1.0 at_first.first_of.ensures at_second.second-of.ensures start.pre.1.1.1
+      at-widen.widen.ensures at-widen2.widen2.ensures (unpacked_run at-unpacked.unpacked.ensures at_back.back.ensures) in (
         record {
           full = at-outer.outer.ensures.moved.lengths ∙ ran.lengths ∙ at-widen.widen.ensures.lengths
               ∙ start.pre.1.0.full;
-          prepared = letp-outer start.pre.1.0.prepared start.pre.1.1.0 start.pre.1.1.1
-              at_first.first_of.ensures at_second.second-of.ensures (marked at-widen.widen.ensures) at-widen.widen.ensures.scope-is
+          prepared = letp_outer start.pre.1.0.prepared start.pre.1.1.0 start.pre.1.1.1
+              at_first.first_of.ensures at_second.second-of.ensures (marked at-widen.widen.ensures) at-widen.widen.ensures.scope_is
               ran.gone at-else1.if1.left (left_behind at-outer.outer.ensures);
         },
-        letp-both start.pre.1.0.prepared start.pre.1.1.0
+        letp_both start.pre.1.0.prepared start.pre.1.1.0
             start.pre.1.1.1 at_first.first_of.ensures at_second.second-of.ensures (marked at-widen.widen.ensures)
-            at-widen.widen.ensures.scope-is ran.gone at-else1.if1.left (left_behind at-outer.outer.ensures) at-leave2.leave2.ensures
+            at-widen.widen.ensures.scope_is ran.gone at-else1.if1.left (left_behind at-outer.outer.ensures) at-leave2.leave2.ensures
             at-leave.leave.ensures,
       )
 
@@ -257,8 +257,8 @@ module _ (t : ℕ) where
   returns-2 c =
       let at-over-pair = c.before.before in
       let (at-outer, at-leave2, at-leave, at-else1, at-unpacked, at_back, at-widen2, at-widen, at_second, at_first, start) = before-over-pair at-over-pair in
-      let ran = letp-ran start.pre.1.0 start.pre.1.1.0 at_first.first_of.ensures at_second.second-of.ensures start.pre.1.1.1
-      at-widen.widen.ensures at-widen2.widen2.ensures (unpacked-run at-unpacked.unpacked.ensures at_back.back.ensures) in
+      let ran = letp_ran start.pre.1.0 start.pre.1.1.0 at_first.first_of.ensures at_second.second-of.ensures start.pre.1.1.1
+      at-widen.widen.ensures at-widen2.widen2.ensures (unpacked_run at-unpacked.unpacked.ensures at_back.back.ensures) in
       leads-through (at-outer.outer.ensures.moved.lengths ∙ ran.lengths ∙ at-widen.widen.ensures.lengths)
       (omega (
         arith,
@@ -266,7 +266,7 @@ module _ (t : ℕ) where
         ap (λ (m : Machine). m.fuel) at-widen.widen.ensures.machine,
         ap (λ (m : Machine). m.fuel) at-outer.outer.ensures.moved.machine,
       ))
-      (λ _ _ _ _ D. letp-gone start.pre.1.0.prepared start.pre.1.1.0 start.pre.1.1.1 at_first.first_of.ensures at_second.second-of.ensures
-      (marked at-widen.widen.ensures) at-widen.widen.ensures.scope-is ran.gone at-else1.if1.left (left_behind at-outer.outer.ensures)
+      (λ _ _ _ _ D. letp_gone start.pre.1.0.prepared start.pre.1.1.0 start.pre.1.1.1 at_first.first_of.ensures at_second.second-of.ensures
+      (marked at-widen.widen.ensures) at-widen.widen.ensures.scope_is ran.gone at-else1.if1.left (left_behind at-outer.outer.ensures)
       at-leave2.leave2.ensures at-leave.leave.ensures D)
       at-over-pair.over-pair.ensures

@@ -6,11 +6,11 @@ use native.Mathlib.Omega.{arith}
 use mathlib.Core.Path.{refl, ap, ◌∙◌}
 use borrow.Author.Rules.{rules}
 use Rattle.scopes.specs.Slots.{Machine}
-use own.Frames.{row-there, few-ancillae, view-yields}
+use own.Frames.{row-there, few-ancillae, view_yields}
 use own.Matched.{side-single}
-use own.Scoping.{case-asked, case-widens, case-widened, case-ran, case-stopped, case-leaves, case-cell, case-outer, case-node, case-gone}
+use own.Scoping.{case_asked, case_widens, case_widened, case_ran, case_stopped, case_leaves, case_cell, case_outer, case_node, case_gone}
 use own.Leaving.{left_behind}
-use own.LastPart.{leads-over, leads-through, unpacked-run}
+use own.LastPart.{leads-over, leads-through, unpacked_run}
 use own.eval.matched.Reads as matched
 use own.eval.+back_branch_call_choose_chosen_let_one_let_two_matched_pair_step as cycle
 use cycle.Lts-matched as lts
@@ -163,7 +163,7 @@ module _ (t : ℕ) where
   yields-requires c κs =
       let at_second = c.before.before in
       let (_, start) = before-second at_second in
-      case-asked start.pre.1.0 start.pre.1.1.0 start.pre.1.1.1.kind at_second.second-of.ensures
+      case_asked start.pre.1.0 start.pre.1.1.0 start.pre.1.1.1.kind at_second.second-of.ensures
 
   pub branch-of-requires : lts.Need-branch-of-requires (matched-uses t) (matched-at t) matched.Post
   branch-of-requires c κs =
@@ -182,17 +182,17 @@ module _ (t : ℕ) where
   widen-requires c κs =
       let at_Side = c.before in
       let (at-branch, at-yields, at_second, at_first, start) = before_side at_Side in
-      let yields = view-yields at-yields.yields.ensures (few-ancillae start.pre.1.0.prepared) in
-      case-widens start.pre.1.0 start.pre.1.1.0 start.pre.1.1.1 at_second.second-of.ensures _ yields
+      let yields = view_yields at-yields.yields.ensures (few-ancillae start.pre.1.0.prepared) in
+      case_widens start.pre.1.0 start.pre.1.1.0 start.pre.1.1.1 at_second.second-of.ensures _ yields
       at_first.first_of.ensures at-branch.branch-of.ensures at_Side.side-of.ensures
 
   pub back-requires : lts.Need-back-requires (matched-uses t) (matched-at t) matched.Post
   back-requires c κs =
       let at-widen = c.before.before in
       let (at_Side, at-branch, at-yields, at_second, at_first, start) = before-widen at-widen in
-      let yields = view-yields at-yields.yields.ensures (few-ancillae start.pre.1.0.prepared) in (
+      let yields = view_yields at-yields.yields.ensures (few-ancillae start.pre.1.0.prepared) in (
         omega (arith, start.pre.0, ap (λ (m : Machine). m.fuel) at-widen.widen.ensures.machine),
-        case-widened start.pre.1.0 start.pre.1.1.0 start.pre.1.1.1 at_second.second-of.ensures _ yields
+        case_widened start.pre.1.0 start.pre.1.1.0 start.pre.1.1.1 at_second.second-of.ensures _ yields
             at_first.first_of.ensures at-branch.branch-of.ensures at_Side.side-of.ensures at-widen.widen.ensures,
       )
 
@@ -210,12 +210,12 @@ module _ (t : ℕ) where
   pub returns : lts.Need-returns (matched-uses t) (matched-at t) matched.Post
   returns c =
       let (at-then1, at-unpacked, at_back, at-widen, at_Side, at-branch, at-yields, at_second, at_first, start) = before-ended c in
-      let yields = view-yields at-yields.yields.ensures (few-ancillae start.pre.1.0.prepared) in
-      let ran = case-ran start.pre.1.0 start.pre.1.1.0 start.pre.1.1.1 at_second.second-of.ensures _ yields
+      let yields = view_yields at-yields.yields.ensures (few-ancillae start.pre.1.0.prepared) in
+      let ran = case_ran start.pre.1.0 start.pre.1.1.0 start.pre.1.1.1 at_second.second-of.ensures _ yields
       at_first.first_of.ensures at-branch.branch-of.ensures at_Side.side-of.ensures at-widen.widen.ensures
-      (unpacked-run at-unpacked.unpacked.ensures at_back.back.ensures) in
+      (unpacked_run at-unpacked.unpacked.ensures at_back.back.ensures) in
       leads-over c.ended.ensures ran.lengths
-      (case-stopped start.pre.1.0.prepared start.pre.1.1.0
+      (case_stopped start.pre.1.0.prepared start.pre.1.1.0
       start.pre.1.1.1.kind start.pre.1.1.1.chooses at_second.second-of.ensures _ yields
       at_first.first_of.ensures at-branch.branch-of.ensures at_Side.side-of.ensures ran.gone at-then1.if1.taken)
 
@@ -223,22 +223,22 @@ module _ (t : ℕ) where
   leave-requires c κs =
       let at-else1 = c.before.before in
       let (at-unpacked, at_back, at-widen, at_Side, at-branch, at-yields, at_second, at_first, start) = before-else1 at-else1 in
-      let yields = view-yields at-yields.yields.ensures (few-ancillae start.pre.1.0.prepared) in
-      let ran = case-ran start.pre.1.0 start.pre.1.1.0 start.pre.1.1.1 at_second.second-of.ensures _ yields
+      let yields = view_yields at-yields.yields.ensures (few-ancillae start.pre.1.0.prepared) in
+      let ran = case_ran start.pre.1.0 start.pre.1.1.0 start.pre.1.1.1 at_second.second-of.ensures _ yields
       at_first.first_of.ensures at-branch.branch-of.ensures at_Side.side-of.ensures at-widen.widen.ensures
-      (unpacked-run at-unpacked.unpacked.ensures at_back.back.ensures) in
-      case-leaves start.pre.1.0.prepared start.pre.1.1.0
+      (unpacked_run at-unpacked.unpacked.ensures at_back.back.ensures) in
+      case_leaves start.pre.1.0.prepared start.pre.1.1.0
       start.pre.1.1.1.kind start.pre.1.1.1.chooses at_second.second-of.ensures _ yields
       at_first.first_of.ensures at-branch.branch-of.ensures at_Side.side-of.ensures ran.gone at-else1.if1.false
 
   pub outer-requires : lts.Need-outer-requires (matched-uses t) (matched-at t) matched.Post
   outer-requires c κs =
       let (at-else1, at-unpacked, at_back, at-widen, at_Side, at-branch, at-yields, at_second, at_first, start) = before_leave c.before.before in
-      let yields = view-yields at-yields.yields.ensures (few-ancillae start.pre.1.0.prepared) in
-      let ran = case-ran start.pre.1.0 start.pre.1.1.0 start.pre.1.1.1 at_second.second-of.ensures _ yields
+      let yields = view_yields at-yields.yields.ensures (few-ancillae start.pre.1.0.prepared) in
+      let ran = case_ran start.pre.1.0 start.pre.1.1.0 start.pre.1.1.1 at_second.second-of.ensures _ yields
       at_first.first_of.ensures at-branch.branch-of.ensures at_Side.side-of.ensures at-widen.widen.ensures
-      (unpacked-run at-unpacked.unpacked.ensures at_back.back.ensures) in
-      case-cell start.pre.1.0.prepared start.pre.1.1.0
+      (unpacked_run at-unpacked.unpacked.ensures at_back.back.ensures) in
+      case_cell start.pre.1.0.prepared start.pre.1.1.0
       start.pre.1.1.1.kind start.pre.1.1.1.chooses at_second.second-of.ensures _ yields
       at_first.first_of.ensures at-branch.branch-of.ensures at_Side.side-of.ensures ran.gone at-else1.if1.left
       (ran.lengths ∙ start.pre.1.0.full) refl
@@ -248,19 +248,19 @@ module _ (t : ℕ) where
       let at_before = c.before.before.before in
       let at-outer = at_before.before in
       let (at-leave, at-else1, at-unpacked, at_back, at-widen, at_Side, at-branch, at-yields, at_second, at_first, start) = before-outer at-outer in
-      let yields = view-yields at-yields.yields.ensures (few-ancillae start.pre.1.0.prepared) in
-      let ran = case-ran start.pre.1.0 start.pre.1.1.0 start.pre.1.1.1 at_second.second-of.ensures _ yields
+      let yields = view_yields at-yields.yields.ensures (few-ancillae start.pre.1.0.prepared) in
+      let ran = case_ran start.pre.1.0 start.pre.1.1.0 start.pre.1.1.1 at_second.second-of.ensures _ yields
       at_first.first_of.ensures at-branch.branch-of.ensures at_Side.side-of.ensures at-widen.widen.ensures
-      (unpacked-run at-unpacked.unpacked.ensures at_back.back.ensures) in (
+      (unpacked_run at-unpacked.unpacked.ensures at_back.back.ensures) in (
         record {
           full = at-outer.outer.ensures.moved.lengths ∙ ran.lengths ∙ start.pre.1.0.full;
-          prepared = case-outer
+          prepared = case_outer
               start.pre.1.0.prepared start.pre.1.1.0
               start.pre.1.1.1.kind start.pre.1.1.1.chooses at_second.second-of.ensures _ yields at_first.first_of.ensures
               at-branch.branch-of.ensures at_Side.side-of.ensures ran.gone at-else1.if1.left (left_behind at-outer.outer.ensures);
         },
         (
-          case-node start.pre.1.0.prepared start.pre.1.1.0
+          case_node start.pre.1.0.prepared start.pre.1.1.0
               start.pre.1.1.1.kind start.pre.1.1.1.chooses at_second.second-of.ensures _ yields
               at_first.first_of.ensures at-branch.branch-of.ensures at_Side.side-of.ensures ran.gone at-else1.if1.left
               (left_behind at-outer.outer.ensures) at-leave.leave.ensures,
@@ -277,13 +277,13 @@ module _ (t : ℕ) where
   returns-2 c =
       let at-over = c.before.before in
       let (at-outer, at-leave, at-else1, at-unpacked, at_back, at-widen, at_Side, at-branch, at-yields, at_second, at_first, start) = before-over at-over in
-      let yields = view-yields at-yields.yields.ensures (few-ancillae start.pre.1.0.prepared) in
-      let ran = case-ran start.pre.1.0 start.pre.1.1.0 start.pre.1.1.1 at_second.second-of.ensures _ yields
+      let yields = view_yields at-yields.yields.ensures (few-ancillae start.pre.1.0.prepared) in
+      let ran = case_ran start.pre.1.0 start.pre.1.1.0 start.pre.1.1.1 at_second.second-of.ensures _ yields
       at_first.first_of.ensures at-branch.branch-of.ensures at_Side.side-of.ensures at-widen.widen.ensures
-      (unpacked-run at-unpacked.unpacked.ensures at_back.back.ensures) in
+      (unpacked_run at-unpacked.unpacked.ensures at_back.back.ensures) in
       leads-through (at-outer.outer.ensures.moved.lengths ∙ ran.lengths)
       (omega (arith, ran.gone.ran.moves.spends, ap (λ (m : Machine). m.fuel) at-outer.outer.ensures.moved.machine))
-      (λ _ _ _ _ D. case-gone start.pre.1.0.prepared start.pre.1.1.0
+      (λ _ _ _ _ D. case_gone start.pre.1.0.prepared start.pre.1.1.0
       start.pre.1.1.1.kind start.pre.1.1.1.chooses at_second.second-of.ensures _ yields
       at_first.first_of.ensures at-branch.branch-of.ensures at_Side.side-of.ensures ran.gone at-else1.if1.left
       (left_behind at-outer.outer.ensures) at-leave.leave.ensures D)

@@ -8,7 +8,7 @@ use borrow.Author.Rules.{rules}
 use own.Frames.{row-there}
 use own.Steps.{node-there}
 use own.Stepping.{paired-stuck, paired-nodes, paired-first, paired-stopped, paired-second, paired-node, paired-gone}
-use own.LastPart.{leads-over, leads-on, unpacked-run}
+use own.LastPart.{leads-over, leads-on, unpacked_run}
 use own.eval.pair.Reads as pair
 use own.eval.+back_branch_call_choose_chosen_let_one_let_two_matched_pair_step as cycle
 use cycle.Lts-pair as lts
@@ -233,7 +233,7 @@ module _ (t : ℕ) where
   pub returns-2 : lts.Need-returns-2 (pair-uses t) (pair_at t) pair.Post
   returns-2 c =
       let (at-then2, at-unpacked, at_back, at_right, at_left, at_second, at_first, at-else1, at-kind, start) = before-ended2 c in
-      let ran = unpacked-run at-unpacked.unpacked.ensures at_back.back.ensures in
+      let ran = unpacked_run at-unpacked.unpacked.ensures at_back.back.ensures in
       leads-over c.ended2.ensures ran.lengths
       (paired-stopped start.pre.1.0.prepared start.pre.1.1.0 start.pre.1.1.1 at-kind.kind-of.ensures at-else1.if1.left
       at_left.left-of.ensures at_right.right_of.ensures at_first.first_of.ensures at_second.second-of.ensures ran.gone
@@ -250,7 +250,7 @@ module _ (t : ℕ) where
   pub returns-3 : lts.Need-returns-3 (pair-uses t) (pair_at t) pair.Post
   returns-3 c =
       let (at-else2, at-unpacked, at_back, at_right, at_left, at_second, at_first, at-else1, at-kind, start) = before-goes-on c in
-      let ran = unpacked-run at-unpacked.unpacked.ensures at_back.back.ensures in
+      let ran = unpacked_run at-unpacked.unpacked.ensures at_back.back.ensures in
       leads-on c.goes_on.ensures ran.lengths
       (record {
         prepared = record {

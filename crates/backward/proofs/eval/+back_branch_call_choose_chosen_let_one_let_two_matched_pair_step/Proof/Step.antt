@@ -8,7 +8,7 @@ use mathlib.Core.Logic.{inl as left, inr as right}
 use borrow.Author.Rules.{rules}
 use own.Frames.{row-there}
 use own.Steps.{node-there}
-use own.Arriving.{variable-meetable, variable-step, unit-step, no_kind}
+use own.Arriving.{variable_meetable, variable-step, unit-step, no_kind}
 use own.LastPart.{leaf-leads}
 use own.eval.step.Reads as step
 use own.eval.+back_branch_call_choose_chosen_let_one_let_two_matched_pair_step as cycle
@@ -201,7 +201,7 @@ module _ (t : ℕ) where
       let at-arm = c.before.before in
       let (at-kind, start) = before-arm1 at-arm in (
         row-there start.pre.1.0.prepared,
-        (variable-meetable start.pre.1.0 (sym at-kind.kind-of.ensures ∙ at-arm.match.keys1) start.pre.1.1, start.pre.1.1),
+        (variable_meetable start.pre.1.0 (sym at-kind.kind-of.ensures ∙ at-arm.match.keys1) start.pre.1.1, start.pre.1.1),
       )
 
   pub ended-requires : lts.Need-ended-requires (step-uses t) (step-at t) step.Post

@@ -6,10 +6,10 @@ use native.Mathlib.Omega.{arith}
 use mathlib.Core.Path.{ap, ◌∙◌}
 use mathlib.Core.Logic.{inl as left}
 use borrow.Author.Rules.{rules}
-use own.Answers.{is-value, is-refused}
+use own.Answers.{is_value_lem, is_refused}
 use own.Bounds.{row_read, scope-there, body-read}
-use own.Placing.{few-count, all-to-place}
-use own.Calling.{call-refused, call-ready, call-done}
+use own.Placing.{few-count, all_to_place}
+use own.Calling.{call-refused, call-ready, call_done}
 use own.Lending.{called-ready, called-ran}
 use own.eval.call.Reads as call
 use own.eval.+call_choose_eval_let_one_let_two_pair_place_under_unroll_wrap as cycle
@@ -129,7 +129,7 @@ module _ (t : ℕ) where
         omega (arith, start.pre.0),
         (
           start.pre.1.0,
-          (all-to-place start.pre.1.1
+          (all_to_place start.pre.1.1
               (at-wide-index.wide-index.ensures.0 ∙ at-third-of.third_of.ensures)),
         ),
       )
@@ -144,8 +144,8 @@ module _ (t : ℕ) where
       let (at_place, at-wide-index, at-third-of, start) = before-then1 c in
       record {
         lengths = at_place.place.ensures.lengths;
-        ran = call-refused start.pre.1.0.ready (all-to-place start.pre.1.1 (at-wide-index.wide-index.ensures.0 ∙ at-third-of.third_of.ensures))
-            at_place.place.ensures.places (is-refused c.if1.true);
+        ran = call-refused start.pre.1.0.ready (all_to_place start.pre.1.1 (at-wide-index.wide-index.ensures.0 ∙ at-third-of.third_of.ensures))
+            at_place.place.ensures.places (is_refused c.if1.true);
       }
 
   pub first-of-requires : lts.Need-first-of-requires (call-uses t) (call_at t) call.Post
@@ -165,12 +165,12 @@ module _ (t : ℕ) where
   add-scope c =
       let at-wide-index = c.before.before.before.before.before.before.before.before.before in
       let (at-third-of, start) = before-wide-index at-wide-index in
-      omega (arith, few-count start.pre.1.0.ready (all-to-place start.pre.1.1 (at-wide-index.wide-index.ensures.0 ∙ at-third-of.third_of.ensures)))
+      omega (arith, few-count start.pre.1.0.ready (all_to_place start.pre.1.1 (at-wide-index.wide-index.ensures.0 ∙ at-third-of.third_of.ensures)))
 
   pub scope-requires : lts.Need-scope-requires (call-uses t) (call_at t) call.Post
   scope-requires c κs =
       let (_, _, _, _, at-wide-index, at-third-of, start) = before-end-of c in
-      let few = few-count start.pre.1.0.ready (all-to-place start.pre.1.1
+      let few = few-count start.pre.1.0.ready (all_to_place start.pre.1.1
       (at-wide-index.wide-index.ensures.0 ∙ at-third-of.third_of.ensures)) in
       let e = c.end_of_lem.ensures in
       (omega (arith, scope-there start.pre.1.0.ready), omega arith, omega arith)
@@ -190,8 +190,8 @@ module _ (t : ℕ) where
             (at_place.place.ensures.lengths ∙ start.pre.1.0.full)
             (at-scope.scope.ensures ∙ ap (λ b. record { base = b; q = at-wide-index.wide-index.result; n = at-wide-index.wide-index.result + 1 })
             at_end_of.end_of_lem.ensures) (call-ready start.pre.1.0.ready
-            (all-to-place start.pre.1.1 (at-wide-index.wide-index.ensures.0 ∙ at-third-of.third_of.ensures)) at_place.place.ensures.places
-            (is-value at-else1.if1.left) _ _ at-first-of.first_of.ensures at-body-of.body_of.ensures),
+            (all_to_place start.pre.1.1 (at-wide-index.wide-index.ensures.0 ∙ at-third-of.third_of.ensures)) at_place.place.ensures.places
+            (is_value_lem at-else1.if1.left) _ _ at-first-of.first_of.ensures at-body-of.body_of.ensures),
       )
 
   pub same-length-2 : lts.Need-same-length-2 (call-uses t) (call_at t) call.Post
@@ -206,8 +206,8 @@ module _ (t : ℕ) where
       let (at-scope, at_end_of, at-body-of, at-first-of, at-else1, at_place, at-wide-index, at-third-of, start) = before-eval at-eval in
       record {
         lengths = at-eval.eval.ensures.lengths ∙ at_place.place.ensures.lengths;
-        ran = call-done start.pre.1.0.ready (all-to-place start.pre.1.1 (at-wide-index.wide-index.ensures.0 ∙ at-third-of.third_of.ensures))
-            at_place.place.ensures.places (is-value at-else1.if1.left) _ _ at-first-of.first_of.ensures at-body-of.body_of.ensures
+        ran = call_done start.pre.1.0.ready (all_to_place start.pre.1.1 (at-wide-index.wide-index.ensures.0 ∙ at-third-of.third_of.ensures))
+            at_place.place.ensures.places (is_value_lem at-else1.if1.left) _ _ at-first-of.first_of.ensures at-body-of.body_of.ensures
             (called-ran _ (at-scope.scope.ensures ∙ ap (λ b. record { base = b; q = at-wide-index.wide-index.result; n = at-wide-index.wide-index.result + 1 })
             at_end_of.end_of_lem.ensures) at-eval.eval.ensures);
       }

@@ -6,13 +6,13 @@ use native.Mathlib.Omega.{arith}
 use mathlib.Core.Path.{refl, sym, ◌∙◌}
 use mathlib.Core.Logic.{inl as left, inr as right}
 use borrow.Author.Rules.{rules}
-use Rattle.valuegraph.proofs.Heaps.{value-inl, value-inr}
-use own.Answers.{is-value, is-refused, is_stuck}
+use Rattle.valuegraph.proofs.Heaps.{value_inl, value_inr}
+use own.Answers.{is_value_lem, is_refused, is_stuck}
 use own.Runs.{later}
 use own.Bounds.{row_read, lower-part}
 use own.Leaves.{node-there}
-use own.Binds.{case-first, case-second, case-third, case-refused, case-stuck, case-left, case-right}
-use own.Lending.{later-in, as-ready, case-check}
+use own.Binds.{case_first, case_second, case_third, case_refused, case_stuck, case_left, case_right}
+use own.Lending.{later_in, as_ready, case_check}
 use own.eval.choose.Reads as choose
 use own.eval.+call_choose_eval_let_one_let_two_pair_place_under_unroll_wrap as cycle
 use cycle.Lts-choose as lts
@@ -183,7 +183,7 @@ module _ (t : ℕ) where
   eval-requires c κs =
       let at-first-of = c.before.before in
       let start = before-first-of at-first-of in
-      (omega (arith, start.pre.0), as-ready start.pre.1.0 (case-first start.pre.1.0.ready start.pre.1.1 _ at-first-of.first_of.ensures))
+      (omega (arith, start.pre.0), as_ready start.pre.1.0 (case_first start.pre.1.0.ready start.pre.1.1 _ at-first-of.first_of.ensures))
 
   pub same_length : lts.Need-same-length (choose-uses t) (choose-at t) choose.Post
   same_length c =
@@ -195,21 +195,21 @@ module _ (t : ℕ) where
       let (at-eval, at-first-of, start) = before-then1 c in
       record {
         lengths = at-eval.eval.ensures.lengths;
-        ran = case-refused start.pre.1.0.ready start.pre.1.1 _
-            at-first-of.first_of.ensures at-eval.eval.ensures.ran (is-refused c.if1.true);
+        ran = case_refused start.pre.1.0.ready start.pre.1.1 _
+            at-first-of.first_of.ensures at-eval.eval.ensures.ran (is_refused c.if1.true);
       }
 
   pub kind-of-requires : lts.Need-kind-of-requires (choose-uses t) (choose-at t) choose.Post
   kind-of-requires c κs =
       let at-else1 = c.before in
       let (at-eval, _, _) = before-else1 at-else1 in
-      node-there at-eval.eval.ensures.ran.graph (at-eval.eval.ensures.ran.node _ (is-value at-else1.if1.false))
+      node-there at-eval.eval.ensures.ran.graph (at-eval.eval.ensures.ran.node _ (is_value_lem at-else1.if1.false))
 
   pub left-of-requires : lts.Need-left-of-requires (choose-uses t) (choose-at t) choose.Post
   left-of-requires c κs =
       let at-else1 = c.before.before.before in
       let (at-eval, _, _) = before-else1 at-else1 in
-      node-there at-eval.eval.ensures.ran.graph (at-eval.eval.ensures.ran.node _ (is-value at-else1.if1.false))
+      node-there at-eval.eval.ensures.ran.graph (at-eval.eval.ensures.ran.node _ (is_value_lem at-else1.if1.false))
 
   pub second-of-requires : lts.Need-second-of-requires (choose-uses t) (choose-at t) choose.Post
   second-of-requires c κs =
@@ -223,11 +223,11 @@ module _ (t : ℕ) where
       let (at-then2, at-left-of, at-kind-of, at-else1, at-eval, _, start) = before-second-of at-second-of in (
         omega (arith, start.pre.0, at-eval.eval.ensures.ran.spends),
         (
-          as-ready (later-in start.pre.1.0 at-eval.eval.ensures)
-              (case-second (later start.pre.1.0.ready at-eval.eval.ensures.ran) start.pre.1.1 _ at-second-of.second-of.ensures),
-          lower-part at-left-of.left-of.ensures (value-inl _ _ at-eval.eval.ensures.ran.graph.right _
-              (at-eval.eval.ensures.ran.node _ (is-value at-else1.if1.left)) (sym at-kind-of.kind-of.ensures ∙ at-then2.if2.taken)).1
-              (at-eval.eval.ensures.ran.node _ (is-value at-else1.if1.left)),
+          as_ready (later_in start.pre.1.0 at-eval.eval.ensures)
+              (case_second (later start.pre.1.0.ready at-eval.eval.ensures.ran) start.pre.1.1 _ at-second-of.second-of.ensures),
+          lower-part at-left-of.left-of.ensures (value_inl _ _ at-eval.eval.ensures.ran.graph.right _
+              (at-eval.eval.ensures.ran.node _ (is_value_lem at-else1.if1.left)) (sym at-kind-of.kind-of.ensures ∙ at-then2.if2.taken)).1
+              (at-eval.eval.ensures.ran.node _ (is_value_lem at-else1.if1.left)),
         ),
       )
 
@@ -244,8 +244,8 @@ module _ (t : ℕ) where
       let (at-second-of, at-then2, at-left-of, at-kind-of, at-else1, at-eval, at-first-of, start) = before-under at_under in
       record {
         lengths = at_under.under.ensures.lengths ∙ at-eval.eval.ensures.lengths;
-        ran = case-left start.pre.1.0.ready
-            start.pre.1.1 _ at-first-of.first_of.ensures at-eval.eval.ensures.ran (is-value at-else1.if1.left) _
+        ran = case_left start.pre.1.0.ready
+            start.pre.1.1 _ at-first-of.first_of.ensures at-eval.eval.ensures.ran (is_value_lem at-else1.if1.left) _
             at-left-of.left-of.ensures _ at_under.under.ensures.ran (sym at-kind-of.kind-of.ensures ∙ at-then2.if2.taken)
             at-second-of.second-of.ensures;
       }
@@ -262,12 +262,12 @@ module _ (t : ℕ) where
       let (at-then3, _, at-left-of, at-kind-of, at-else1, at-eval, _, start) = before-third-of at-third-of in (
         omega (arith, start.pre.0, at-eval.eval.ensures.ran.spends),
         (
-          as-ready (later-in start.pre.1.0 at-eval.eval.ensures)
-              (case-third (later start.pre.1.0.ready at-eval.eval.ensures.ran) start.pre.1.1 _ at-third-of.third_of.ensures),
+          as_ready (later_in start.pre.1.0 at-eval.eval.ensures)
+              (case_third (later start.pre.1.0.ready at-eval.eval.ensures.ran) start.pre.1.1 _ at-third-of.third_of.ensures),
           lower-part
-              at-left-of.left-of.ensures (value-inr _ _ at-eval.eval.ensures.ran.graph.right _
-              (at-eval.eval.ensures.ran.node _ (is-value at-else1.if1.left)) (sym at-kind-of.kind-of.ensures ∙ at-then3.if3.taken)).1
-              (at-eval.eval.ensures.ran.node _ (is-value at-else1.if1.left)),
+              at-left-of.left-of.ensures (value_inr _ _ at-eval.eval.ensures.ran.graph.right _
+              (at-eval.eval.ensures.ran.node _ (is_value_lem at-else1.if1.left)) (sym at-kind-of.kind-of.ensures ∙ at-then3.if3.taken)).1
+              (at-eval.eval.ensures.ran.node _ (is_value_lem at-else1.if1.left)),
         ),
       )
 
@@ -275,7 +275,7 @@ module _ (t : ℕ) where
   first-match-requires c κs =
       let at-under2 = c.before.before.before.before in
       let (_, _, _, _, _, _, at-eval, _, start) = before-under2 at-under2 in
-      case-check start.pre.1.0 start.pre.1.1 at-eval.eval.ensures at-under2.under2.ensures
+      case_check start.pre.1.0 start.pre.1.1 at-eval.eval.ensures at-under2.under2.ensures
 
   pub same-length-3 : lts.Need-same-length-3 (choose-uses t) (choose-at t) choose.Post
   same-length-3 c =
@@ -288,8 +288,8 @@ module _ (t : ℕ) where
       let (at-under2, at-third-of, at-then3, _, at-left-of, at-kind-of, at-else1, at-eval, at-first-of, start) = before-first-match c in
       record {
         lengths = at-under2.under2.ensures.lengths ∙ at-eval.eval.ensures.lengths;
-        ran = case-right start.pre.1.0.ready
-            start.pre.1.1 _ at-first-of.first_of.ensures at-eval.eval.ensures.ran (is-value at-else1.if1.left) _
+        ran = case_right start.pre.1.0.ready
+            start.pre.1.1 _ at-first-of.first_of.ensures at-eval.eval.ensures.ran (is_value_lem at-else1.if1.left) _
             at-left-of.left-of.ensures _ at-under2.under2.ensures.ran (sym at-kind-of.kind-of.ensures ∙ at-then3.if3.taken)
             at-third-of.third_of.ensures _ c.first-match.ensures;
       }
@@ -307,8 +307,8 @@ module _ (t : ℕ) where
       let (at-else3, at-else2, _, at-kind-of, at-else1, at-eval, at-first-of, start) = before-refuse c in
       record {
         lengths = at-eval.eval.ensures.lengths;
-        ran = case-stuck start.pre.1.0.ready start.pre.1.1 _
-            at-first-of.first_of.ensures at-eval.eval.ensures.ran (is-value at-else1.if1.left)
+        ran = case_stuck start.pre.1.0.ready start.pre.1.1 _
+            at-first-of.first_of.ensures at-eval.eval.ensures.ran (is_value_lem at-else1.if1.left)
             (λ e. at-else2.if2.left (at-kind-of.kind-of.ensures ∙ e)) (λ e. at-else3.if3.left (at-kind-of.kind-of.ensures ∙ e)) _
             (is_stuck c.refuse.ensures) refl;
       }

@@ -5,10 +5,10 @@ use native.Mathlib.Omega.{arith}
 use mathlib.Core.Path.{refl, sym, ◌∙◌}
 use mathlib.Core.Logic.{inl as left, inr as right}
 use borrow.Author.Rules.{rules}
-use own.Answers.{is-fuel, is-height}
-use own.Bounds.{row_read, find-ready}
-use own.Steps.{term-spent, term-high}
-use own.Lending.{spent-ready, spent-done, spent-fuel, variable-step, make-ready}
+use own.Answers.{is_fuel, is_height}
+use own.Bounds.{row_read, find_ready}
+use own.Steps.{term-spent, term_high}
+use own.Lending.{spent-ready, spent_done, spent-fuel, variable-step, make_ready}
 use own.eval.eval.Reads as eval
 use own.eval.+call_choose_eval_let_one_let_two_pair_place_under_unroll_wrap as cycle
 use cycle.Lts-eval as lts
@@ -28,7 +28,7 @@ module _ (t : ℕ) where
       let (at-then1, at_fuel, start) = before-refuse t c in
       record {
         lengths = refl;
-        ran = term-spent start.pre.1.ready _ (is-fuel c.refuse.ensures) refl (sym at_fuel.fuel.ensures ∙ at-then1.if1.taken);
+        ran = term-spent start.pre.1.ready _ (is_fuel c.refuse.ensures) refl (sym at_fuel.fuel.ensures ∙ at-then1.if1.taken);
       }
 
   pub refuse-requires-2 : lts.Need-refuse-requires-2 (eval-uses t) (eval-at t) eval.Post
@@ -39,8 +39,8 @@ module _ (t : ℕ) where
       let (at-then2, at-else1, at_fuel, start) = before-refuse2 t c in
       record {
         lengths = refl;
-        ran = term-high start.pre.1.ready (λ e. at-else1.if1.left (at_fuel.fuel.ensures ∙ e)) _
-            (is-height c.refuse2.ensures) refl at-then2.if2.taken;
+        ran = term_high start.pre.1.ready (λ e. at-else1.if1.left (at_fuel.fuel.ensures ∙ e)) _
+            (is_height c.refuse2.ensures) refl at-then2.if2.taken;
       }
 
   pub spend-requires : lts.Need-spend-requires (eval-uses t) (eval-at t) eval.Post
@@ -63,13 +63,13 @@ module _ (t : ℕ) where
   variable-requires c κs =
       let at-spend = c.before.before.before.before.before in
       let (at-else2, at-else1, at_fuel, start) = before-spend t at-spend in
-      find-ready (spent-ready start.pre.1 (λ e. at-else1.if1.left (at_fuel.fuel.ensures ∙ e)) at-else2.if2.left at-spend.spend.ensures)
+      find_ready (spent-ready start.pre.1 (λ e. at-else1.if1.left (at_fuel.fuel.ensures ∙ e)) at-else2.if2.left at-spend.spend.ensures)
 
   pub make-unit-requires : lts.Need-make-unit-requires (eval-uses t) (eval-at t) eval.Post
   make-unit-requires c κs =
       let at-spend = c.before.before.before.before in
       let (at-else2, at-else1, at_fuel, start) = before-spend t at-spend in
-      make-ready (spent-ready start.pre.1 (λ e. at-else1.if1.left (at_fuel.fuel.ensures ∙ e)) at-else2.if2.left at-spend.spend.ensures)
+      make_ready (spent-ready start.pre.1 (λ e. at-else1.if1.left (at_fuel.fuel.ensures ∙ e)) at-else2.if2.left at-spend.spend.ensures)
 
   pub wrap-requires : lts.Need-wrap-requires (eval-uses t) (eval-at t) eval.Post
   wrap-requires c κs =
@@ -242,6 +242,6 @@ module _ (t : ℕ) where
   pub returns-3 : lts.Need-returns-3 (eval-uses t) (eval-at t) eval.Post
   returns-3 c =
       let (at-first-of, at-arm1, at-kind-of, at-spend, at-else2, at-else1, at_fuel, start) = before-variable t c in
-      spent-done start.pre.1 (λ e. at-else1.if1.left (at_fuel.fuel.ensures ∙ e)) at-else2.if2.left at-spend.spend.ensures
+      spent_done start.pre.1 (λ e. at-else1.if1.left (at_fuel.fuel.ensures ∙ e)) at-else2.if2.left at-spend.spend.ensures
       (variable-step (spent-ready start.pre.1 (λ e. at-else1.if1.left (at_fuel.fuel.ensures ∙ e)) at-else2.if2.left at-spend.spend.ensures)
       (sym at-kind-of.kind-of.ensures ∙ at-arm1.match.keys1) at-first-of.first_of.ensures c.variable.ensures)

@@ -4,7 +4,7 @@ use Prim.Native.Nat.{ℕ}
 use mathlib.Core.Path.{sym, ◌∙◌}
 use mathlib.Core.Logic.{inl as left}
 use Rattle.decoded.proofs.Trees.{none_left}
-use own.Lending.{spent-ready, spent-done, unit-step}
+use own.Lending.{spent-ready, spent_done, unit-step}
 use own.eval.eval.Reads as eval
 use own.eval.+call_choose_eval_let_one_let_two_pair_place_under_unroll_wrap as cycle
 use cycle.Lts-eval as lts
@@ -22,7 +22,7 @@ module _ (t : ℕ) where
   returns-4 c =
       let at-make-unit = c.before.before in
       let (at-arm2, at-kind-of, at-spend, at-else2, at-else1, at_fuel, start) = before-make-unit t at-make-unit in
-      spent-done start.pre.1 (λ e. at-else1.if1.left (at_fuel.fuel.ensures ∙ e)) at-else2.if2.left at-spend.spend.ensures
+      spent_done start.pre.1 (λ e. at-else1.if1.left (at_fuel.fuel.ensures ∙ e)) at-else2.if2.left at-spend.spend.ensures
       (unit-step (spent-ready start.pre.1 (λ e. at-else1.if1.left (at_fuel.fuel.ensures ∙ e)) at-else2.if2.left at-spend.spend.ensures)
       (sym at-kind-of.kind-of.ensures ∙ at-arm2.match.keys2) at-make-unit.make-unit.ensures)
 
@@ -35,7 +35,7 @@ module _ (t : ℕ) where
   returns-5 c =
       let at-wrap = c.before.before in
       let (_, _, at-spend, at-else2, at-else1, at_fuel, start) = before-wrap t at-wrap in
-      spent-done start.pre.1 (λ e. at-else1.if1.left (at_fuel.fuel.ensures ∙ e)) at-else2.if2.left at-spend.spend.ensures at-wrap.wrap.ensures
+      spent_done start.pre.1 (λ e. at-else1.if1.left (at_fuel.fuel.ensures ∙ e)) at-else2.if2.left at-spend.spend.ensures at-wrap.wrap.ensures
 
   pub same-length-4 : lts.Need-same-length-4 (eval-uses t) (eval-at t) eval.Post
   same-length-4 c =
@@ -46,7 +46,7 @@ module _ (t : ℕ) where
   returns-6 c =
       let at-wrap2 = c.before.before in
       let (_, _, at-spend, at-else2, at-else1, at_fuel, start) = before-wrap2 t at-wrap2 in
-      spent-done start.pre.1 (λ e. at-else1.if1.left (at_fuel.fuel.ensures ∙ e)) at-else2.if2.left at-spend.spend.ensures at-wrap2.wrap2.ensures
+      spent_done start.pre.1 (λ e. at-else1.if1.left (at_fuel.fuel.ensures ∙ e)) at-else2.if2.left at-spend.spend.ensures at-wrap2.wrap2.ensures
 
   pub same-length-5 : lts.Need-same-length-5 (eval-uses t) (eval-at t) eval.Post
   same-length-5 c =
@@ -57,7 +57,7 @@ module _ (t : ℕ) where
   returns-7 c =
       let at_pair = c.before.before in
       let (_, _, at-spend, at-else2, at-else1, at_fuel, start) = before-pair t at_pair in
-      spent-done start.pre.1 (λ e. at-else1.if1.left (at_fuel.fuel.ensures ∙ e)) at-else2.if2.left at-spend.spend.ensures at_pair.pair.ensures
+      spent_done start.pre.1 (λ e. at-else1.if1.left (at_fuel.fuel.ensures ∙ e)) at-else2.if2.left at-spend.spend.ensures at_pair.pair.ensures
 
   pub same-length-6 : lts.Need-same-length-6 (eval-uses t) (eval-at t) eval.Post
   same-length-6 c =
@@ -69,7 +69,7 @@ module _ (t : ℕ) where
       let at_before = c.before in
       let at-let-one = at_before.before in
       let (_, _, at-spend, at-else2, at-else1, at_fuel, start) = before-let-one t at-let-one in
-      spent-done start.pre.1 (λ e. at-else1.if1.left (at_fuel.fuel.ensures ∙ e)) at-else2.if2.left at-spend.spend.ensures
+      spent_done start.pre.1 (λ e. at-else1.if1.left (at_fuel.fuel.ensures ∙ e)) at-else2.if2.left at-spend.spend.ensures
       at-let-one.let-one.ensures
 
   pub same-length-7 : lts.Need-same-length-7 (eval-uses t) (eval-at t) eval.Post
@@ -82,7 +82,7 @@ module _ (t : ℕ) where
       let at_before = c.before in
       let at-let-two = at_before.before in
       let (_, _, at-spend, at-else2, at-else1, at_fuel, start) = before-let-two t at-let-two in
-      spent-done start.pre.1 (λ e. at-else1.if1.left (at_fuel.fuel.ensures ∙ e)) at-else2.if2.left at-spend.spend.ensures
+      spent_done start.pre.1 (λ e. at-else1.if1.left (at_fuel.fuel.ensures ∙ e)) at-else2.if2.left at-spend.spend.ensures
       at-let-two.let-two.ensures
 
   pub same-length-8 : lts.Need-same-length-8 (eval-uses t) (eval-at t) eval.Post
@@ -95,7 +95,7 @@ module _ (t : ℕ) where
       let at_before = c.before in
       let at-choose = at_before.before in
       let (_, _, at-spend, at-else2, at-else1, at_fuel, start) = before-choose t at-choose in
-      spent-done start.pre.1 (λ e. at-else1.if1.left (at_fuel.fuel.ensures ∙ e)) at-else2.if2.left at-spend.spend.ensures
+      spent_done start.pre.1 (λ e. at-else1.if1.left (at_fuel.fuel.ensures ∙ e)) at-else2.if2.left at-spend.spend.ensures
       at-choose.choose.ensures
 
   pub same-length-9 : lts.Need-same-length-9 (eval-uses t) (eval-at t) eval.Post
@@ -107,7 +107,7 @@ module _ (t : ℕ) where
   returns-11 c =
       let at_call = c.before.before in
       let (_, _, at-spend, at-else2, at-else1, at_fuel, start) = before-call t at_call in
-      spent-done start.pre.1 (λ e. at-else1.if1.left (at_fuel.fuel.ensures ∙ e)) at-else2.if2.left at-spend.spend.ensures at_call.call.ensures
+      spent_done start.pre.1 (λ e. at-else1.if1.left (at_fuel.fuel.ensures ∙ e)) at-else2.if2.left at-spend.spend.ensures at_call.call.ensures
 
   pub same-length-10 : lts.Need-same-length-10 (eval-uses t) (eval-at t) eval.Post
   same-length-10 c =
@@ -118,7 +118,7 @@ module _ (t : ℕ) where
   returns-12 c =
       let at-wrap3 = c.before.before in
       let (_, _, at-spend, at-else2, at-else1, at_fuel, start) = before-wrap3 t at-wrap3 in
-      spent-done start.pre.1 (λ e. at-else1.if1.left (at_fuel.fuel.ensures ∙ e)) at-else2.if2.left at-spend.spend.ensures at-wrap3.wrap3.ensures
+      spent_done start.pre.1 (λ e. at-else1.if1.left (at_fuel.fuel.ensures ∙ e)) at-else2.if2.left at-spend.spend.ensures at-wrap3.wrap3.ensures
 
   pub same-length-11 : lts.Need-same-length-11 (eval-uses t) (eval-at t) eval.Post
   same-length-11 c =
@@ -130,7 +130,7 @@ module _ (t : ℕ) where
       let at_before = c.before in
       let at-unroll = at_before.before in
       let (_, _, at-spend, at-else2, at-else1, at_fuel, start) = before-unroll t at-unroll in
-      spent-done start.pre.1 (λ e. at-else1.if1.left (at_fuel.fuel.ensures ∙ e)) at-else2.if2.left at-spend.spend.ensures
+      spent_done start.pre.1 (λ e. at-else1.if1.left (at_fuel.fuel.ensures ∙ e)) at-else2.if2.left at-spend.spend.ensures
       at-unroll.unroll.ensures
 
   pub returns-14 : lts.Need-returns-14 (eval-uses t) (eval-at t) eval.Post

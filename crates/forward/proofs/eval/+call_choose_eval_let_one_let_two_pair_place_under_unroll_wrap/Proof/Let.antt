@@ -5,11 +5,11 @@ use Prim.Native.Nat.{ℕ}
 use native.Mathlib.Omega.{arith}
 use mathlib.Core.Path.{refl, ◌∙◌}
 use mathlib.Core.Logic.{inl as left}
-use own.Answers.{is-value, is-refused}
+use own.Answers.{is_value_lem, is_refused}
 use own.Runs.{later}
 use own.Bounds.{row_read}
-use own.Binds.{let-first, let-second, let-refused, let-done}
-use own.Lending.{later-in, as-ready}
+use own.Binds.{let_first, let_second, let_refused, let_done}
+use own.Lending.{later_in, as_ready}
 use own.eval.let_one.Reads as let-one
 use own.eval.+call_choose_eval_let_one_let_two_pair_place_under_unroll_wrap as cycle
 use cycle.Lts-let_one as lts
@@ -90,7 +90,7 @@ module _ (t : ℕ) where
   eval-requires c κs =
       let at-first-of = c.before.before in
       let start = before-first-of at-first-of in
-      (omega (arith, start.pre.0), as-ready start.pre.1.0 (let-first start.pre.1.0.ready start.pre.1.1 _ at-first-of.first_of.ensures))
+      (omega (arith, start.pre.0), as_ready start.pre.1.0 (let_first start.pre.1.0.ready start.pre.1.1 _ at-first-of.first_of.ensures))
 
   pub same_length : lts.Need-same-length (let-one-uses t) (let-one-at t) let-one.Post
   same_length c =
@@ -102,8 +102,8 @@ module _ (t : ℕ) where
       let (at-eval, at-first-of, start) = before-then1 c in
       record {
         lengths = at-eval.eval.ensures.lengths;
-        ran = let-refused start.pre.1.0.ready start.pre.1.1 _ _ at-first-of.first_of.ensures refl at-eval.eval.ensures.ran
-            (is-refused c.if1.true);
+        ran = let_refused start.pre.1.0.ready start.pre.1.1 _ _ at-first-of.first_of.ensures refl at-eval.eval.ensures.ran
+            (is_refused c.if1.true);
       }
 
   pub second-of-requires : lts.Need-second-of-requires (let-one-uses t) (let-one-at t) let-one.Post
@@ -122,9 +122,9 @@ module _ (t : ℕ) where
       let (at-else1, at-eval, _, start) = before-second-of at-second-of in (
         omega (arith, start.pre.0, at-eval.eval.ensures.ran.spends),
         (
-          as-ready (later-in start.pre.1.0 at-eval.eval.ensures)
-              (let-second (later start.pre.1.0.ready at-eval.eval.ensures.ran) start.pre.1.1 _ at-second-of.second-of.ensures),
-          (at-eval.eval.ensures.ran.node _ (is-value at-else1.if1.left)),
+          as_ready (later_in start.pre.1.0 at-eval.eval.ensures)
+              (let_second (later start.pre.1.0.ready at-eval.eval.ensures.ran) start.pre.1.1 _ at-second-of.second-of.ensures),
+          (at-eval.eval.ensures.ran.node _ (is_value_lem at-else1.if1.left)),
         ),
       )
 
@@ -141,7 +141,7 @@ module _ (t : ℕ) where
       let (at-second-of, at-else1, at-eval, at-first-of, start) = before-under at_under in
       record {
         lengths = at_under.under.ensures.lengths ∙ at-eval.eval.ensures.lengths;
-        ran = let-done start.pre.1.0.ready
+        ran = let_done start.pre.1.0.ready
             start.pre.1.1 _ _ at-first-of.first_of.ensures at-second-of.second-of.ensures at-eval.eval.ensures.ran
-            (is-value at-else1.if1.left) at_under.under.ensures.ran;
+            (is_value_lem at-else1.if1.left) at_under.under.ensures.ran;
       }

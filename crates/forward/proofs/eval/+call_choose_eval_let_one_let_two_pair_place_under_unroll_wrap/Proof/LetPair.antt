@@ -7,14 +7,14 @@ use mathlib.Core.Path.{refl, sym, ap, ◌∙◌}
 use mathlib.Core.Logic.{inl as left, inr as right}
 use borrow.Author.Rules.{rules}
 use Rattle.valuegraph.proofs.Heaps.{value-pair}
-use Rattle.rules.specs.Limits.{maxHeight, maxParameters}
+use Rattle.rules.specs.Limits.{max_height, max_parameters}
 use Rattle.scopes.specs.Slots.{Machine}
-use own.Answers.{is-value, is-refused, is_stuck}
+use own.Answers.{is_value_lem, is_refused, is_stuck}
 use own.Runs.{later}
 use own.Bounds.{row_read, lower-part}
 use own.Leaves.{node-there}
-use own.Binds.{bind-room, letp-first, letp-second, letp-refused, letp-stuck, letp-done}
-use own.Lending.{later-in, as-ready, under-ready, twice-done}
+use own.Binds.{bind_room, letp_first, letp_second, letp_refused, letp_stuck, letp_done}
+use own.Lending.{later_in, as_ready, under-ready, twice_done}
 use own.eval.let_two.Reads as let-two
 use own.eval.+call_choose_eval_let_one_let_two_pair_place_under_unroll_wrap as cycle
 use cycle.Lts-let_two as lts
@@ -176,7 +176,7 @@ module _ (t : ℕ) where
   eval-requires c κs =
       let at-first-of = c.before.before in
       let start = before-first-of at-first-of in
-      (omega (arith, start.pre.0), as-ready start.pre.1.0 (letp-first start.pre.1.0.ready start.pre.1.1 _ at-first-of.first_of.ensures))
+      (omega (arith, start.pre.0), as_ready start.pre.1.0 (letp_first start.pre.1.0.ready start.pre.1.1 _ at-first-of.first_of.ensures))
 
   pub same_length : lts.Need-same-length (let-two-uses t) (let-two-at t) let-two.Post
   same_length c =
@@ -188,15 +188,15 @@ module _ (t : ℕ) where
       let (at-eval, at-first-of, start) = before-then1 c in
       record {
         lengths = at-eval.eval.ensures.lengths;
-        ran = letp-refused start.pre.1.0.ready start.pre.1.1 _ _ at-first-of.first_of.ensures refl at-eval.eval.ensures.ran
-            (is-refused c.if1.true);
+        ran = letp_refused start.pre.1.0.ready start.pre.1.1 _ _ at-first-of.first_of.ensures refl at-eval.eval.ensures.ran
+            (is_refused c.if1.true);
       }
 
   pub kind-of-requires : lts.Need-kind-of-requires (let-two-uses t) (let-two-at t) let-two.Post
   kind-of-requires c κs =
       let at-else1 = c.before in
       let (at-eval, _, _) = before-else1 at-else1 in
-      node-there at-eval.eval.ensures.ran.graph (at-eval.eval.ensures.ran.node _ (is-value at-else1.if1.false))
+      node-there at-eval.eval.ensures.ran.graph (at-eval.eval.ensures.ran.node _ (is_value_lem at-else1.if1.false))
 
   pub refuse-requires : lts.Need-refuse-requires (let-two-uses t) (let-two-at t) let-two.Post
   refuse-requires c κs = search rules
@@ -211,8 +211,8 @@ module _ (t : ℕ) where
       let (at-then2, at-kind-of, at-else1, at-eval, at-first-of, start) = before-refuse c in
       record {
         lengths = at-eval.eval.ensures.lengths;
-        ran = letp-stuck start.pre.1.0.ready start.pre.1.1 _ _
-            at-first-of.first_of.ensures refl at-eval.eval.ensures.ran (is-value at-else1.if1.left)
+        ran = letp_stuck start.pre.1.0.ready start.pre.1.1 _ _
+            at-first-of.first_of.ensures refl at-eval.eval.ensures.ran (is_value_lem at-else1.if1.left)
             (λ e. at-then2.if2.taken (at-kind-of.kind-of.ensures ∙ e)) _ (is_stuck c.refuse.ensures) refl;
       }
 
@@ -220,13 +220,13 @@ module _ (t : ℕ) where
   left-of-requires c κs =
       let at-else1 = c.before.before.before.before in
       let (at-eval, _, _) = before-else1 at-else1 in
-      node-there at-eval.eval.ensures.ran.graph (at-eval.eval.ensures.ran.node _ (is-value at-else1.if1.false))
+      node-there at-eval.eval.ensures.ran.graph (at-eval.eval.ensures.ran.node _ (is_value_lem at-else1.if1.false))
 
   pub right-of-requires : lts.Need-right-of-requires (let-two-uses t) (let-two-at t) let-two.Post
   right-of-requires c κs =
       let at-else1 = c.before.before.before.before.before.before in
       let (at-eval, _, _) = before-else1 at-else1 in
-      node-there at-eval.eval.ensures.ran.graph (at-eval.eval.ensures.ran.node _ (is-value at-else1.if1.false))
+      node-there at-eval.eval.ensures.ran.graph (at-eval.eval.ensures.ran.node _ (is_value_lem at-else1.if1.false))
 
   pub end-of-requires : lts.Need-end-of-requires (let-two-uses t) (let-two-at t) let-two.Post
   end-of-requires c κs = search rules
@@ -236,7 +236,7 @@ module _ (t : ℕ) where
       let (_, _, _, _, _, at-eval, _, start) = before-end-of c in (
         at-eval.eval.ensures.lengths ∙ start.pre.1.0.full,
         rw c.end_of_lem.ensures
-            (bind-room (letp-second (later start.pre.1.0.ready at-eval.eval.ensures.ran) start.pre.1.1 _ refl)),
+            (bind_room (letp_second (later start.pre.1.0.ready at-eval.eval.ensures.ran) start.pre.1.1 _ refl)),
       )
 
   pub second-of-requires : lts.Need-second-of-requires (let-two-uses t) (let-two-at t) let-two.Post
@@ -245,7 +245,7 @@ module _ (t : ℕ) where
       row_read start.pre.1.0.ready
 
   pub wider-requires : lts.Need-wider-requires (let-two-uses t) (let-two-at t) let-two.Post
-  unfolding maxHeight maxParameters
+  unfolding max_height max_parameters
   wider-requires c κs =
       let (_, _, _, _, _, _, _, _, _, start) = before-second-of c.before.before in (
         omega (arith, start.pre.1.0.ready.variables, start.pre.1.0.ready.full),
@@ -258,16 +258,16 @@ module _ (t : ℕ) where
       let (at-second-of, at-bind, at_end_of, at-right-of, at-left-of, at-else2, at-kind-of, at-else1, at-eval, _, start) = before-wider c in (
         omega (arith, start.pre.0, at-eval.eval.ensures.ran.spends, ap (λ (m : Machine). m.fuel) at-bind.bind.ensures.machine),
         (
-          under-ready _ (as-ready (later-in start.pre.1.0 at-eval.eval.ensures)
-              (letp-second (later start.pre.1.0.ready at-eval.eval.ensures.ran) start.pre.1.1 _ at-second-of.second-of.ensures))
+          under-ready _ (as_ready (later_in start.pre.1.0 at-eval.eval.ensures)
+              (letp_second (later start.pre.1.0.ready at-eval.eval.ensures.ran) start.pre.1.1 _ at-second-of.second-of.ensures))
               (lower-part at-left-of.left-of.ensures (value-pair _ _ at-eval.eval.ensures.ran.graph.right _
-              (at-eval.eval.ensures.ran.node _ (is-value at-else1.if1.left)) (sym at-kind-of.kind-of.ensures ∙ at-else2.if2.left)).1
-              (at-eval.eval.ensures.ran.node _ (is-value at-else1.if1.left))) at-bind.bind.ensures at_end_of.end_of_lem.ensures
+              (at-eval.eval.ensures.ran.node _ (is_value_lem at-else1.if1.left)) (sym at-kind-of.kind-of.ensures ∙ at-else2.if2.left)).1
+              (at-eval.eval.ensures.ran.node _ (is_value_lem at-else1.if1.left))) at-bind.bind.ensures at_end_of.end_of_lem.ensures
               c.wider.ensures,
           rw (ap (λ (m : Machine). m.top) at-bind.bind.ensures.machine)
               (lower-part at-right-of.right_of.ensures (value-pair _ _ at-eval.eval.ensures.ran.graph.right _
-              (at-eval.eval.ensures.ran.node _ (is-value at-else1.if1.left)) (sym at-kind-of.kind-of.ensures ∙ at-else2.if2.left)).2
-              (at-eval.eval.ensures.ran.node _ (is-value at-else1.if1.left))),
+              (at-eval.eval.ensures.ran.node _ (is_value_lem at-else1.if1.left)) (sym at-kind-of.kind-of.ensures ∙ at-else2.if2.left)).2
+              (at-eval.eval.ensures.ran.node _ (is_value_lem at-else1.if1.left))),
         ),
       )
 
@@ -297,14 +297,14 @@ module _ (t : ℕ) where
       ) = before-under at_under in
       record {
         lengths = at_under.under.ensures.lengths ∙ at-bind.bind.ensures.lengths ∙ at-eval.eval.ensures.lengths;
-        ran = letp-done
+        ran = letp_done
             start.pre.1.0.ready start.pre.1.1 _ _ at-first-of.first_of.ensures at-second-of.second-of.ensures
-            at-eval.eval.ensures.ran (is-value at-else1.if1.left) (sym at-kind-of.kind-of.ensures ∙ at-else2.if2.left) _ _
+            at-eval.eval.ensures.ran (is_value_lem at-else1.if1.left) (sym at-kind-of.kind-of.ensures ∙ at-else2.if2.left) _ _
             at-left-of.left-of.ensures at-right-of.right_of.ensures
-            (twice-done _ (as-ready (later-in start.pre.1.0 at-eval.eval.ensures)
-            (letp-second (later start.pre.1.0.ready at-eval.eval.ensures.ran) start.pre.1.1 _ at-second-of.second-of.ensures))
+            (twice_done _ (as_ready (later_in start.pre.1.0 at-eval.eval.ensures)
+            (letp_second (later start.pre.1.0.ready at-eval.eval.ensures.ran) start.pre.1.1 _ at-second-of.second-of.ensures))
             (lower-part at-left-of.left-of.ensures (value-pair _ _ at-eval.eval.ensures.ran.graph.right _
-            (at-eval.eval.ensures.ran.node _ (is-value at-else1.if1.left)) (sym at-kind-of.kind-of.ensures ∙ at-else2.if2.left)).1
-            (at-eval.eval.ensures.ran.node _ (is-value at-else1.if1.left))) at-bind.bind.ensures at_end_of.end_of_lem.ensures
+            (at-eval.eval.ensures.ran.node _ (is_value_lem at-else1.if1.left)) (sym at-kind-of.kind-of.ensures ∙ at-else2.if2.left)).1
+            (at-eval.eval.ensures.ran.node _ (is_value_lem at-else1.if1.left))) at-bind.bind.ensures at_end_of.end_of_lem.ensures
             at-wider.wider.ensures at_under.under.ensures);
       }

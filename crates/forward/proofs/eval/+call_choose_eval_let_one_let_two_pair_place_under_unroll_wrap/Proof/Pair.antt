@@ -5,11 +5,11 @@ use Prim.Native.Nat.{ℕ}
 use native.Mathlib.Omega.{arith}
 use mathlib.Core.Path.{refl, ◌∙◌}
 use mathlib.Core.Logic.{inl as left}
-use own.Answers.{is-value, is-refused}
+use own.Answers.{is_value_lem, is_refused}
 use own.Runs.{later}
-use own.Bounds.{row_read, lt-le}
-use own.Steps.{pair-first, pair-second, pair-refused, pair-refused-2, pair-done}
-use own.Lending.{with-slots, later-in, as-ready, make-ready}
+use own.Bounds.{row_read, lt_le}
+use own.Steps.{pair-first, pair-second, pair-refused, pair-refused_2, pair_done}
+use own.Lending.{with_slots, later_in, as_ready, make_ready}
 use own.eval.pair.Reads as pair
 use own.eval.+call_choose_eval_let_one_let_two_pair_place_under_unroll_wrap as cycle
 use cycle.Lts-pair as lts
@@ -117,7 +117,7 @@ module _ (t : ℕ) where
   eval-requires c κs =
       let at-first-of = c.before.before in
       let start = before-first-of at-first-of in
-      (omega (arith, start.pre.0), as-ready start.pre.1.0 (pair-first start.pre.1.0.ready start.pre.1.1 _ at-first-of.first_of.ensures))
+      (omega (arith, start.pre.0), as_ready start.pre.1.0 (pair-first start.pre.1.0.ready start.pre.1.1 _ at-first-of.first_of.ensures))
 
   pub same_length : lts.Need-same-length (pair-uses t) (pair_at t) pair.Post
   same_length c =
@@ -130,7 +130,7 @@ module _ (t : ℕ) where
       record {
         lengths = at-eval.eval.ensures.lengths;
         ran = pair-refused start.pre.1.0.ready start.pre.1.1 _ _ at-first-of.first_of.ensures refl at-eval.eval.ensures.ran
-            (is-refused c.if1.true);
+            (is_refused c.if1.true);
       }
 
   pub second-of-requires : lts.Need-second-of-requires (pair-uses t) (pair_at t) pair.Post
@@ -148,7 +148,7 @@ module _ (t : ℕ) where
       let at-second-of = c.before.before in
       let (_, at-eval, _, start) = before-second-of at-second-of in (
         omega (arith, start.pre.0, at-eval.eval.ensures.ran.spends),
-        as-ready (later-in start.pre.1.0 at-eval.eval.ensures)
+        as_ready (later_in start.pre.1.0 at-eval.eval.ensures)
             (pair-second (later start.pre.1.0.ready at-eval.eval.ensures.ran) start.pre.1.1 _ at-second-of.second-of.ensures),
       )
 
@@ -163,20 +163,20 @@ module _ (t : ℕ) where
       let (at-eval2, at-second-of, at-else1, at-eval, at-first-of, start) = before-then2 c in
       record {
         lengths = at-eval2.eval2.ensures.lengths ∙ at-eval.eval.ensures.lengths;
-        ran = pair-refused-2 start.pre.1.0.ready
+        ran = pair-refused_2 start.pre.1.0.ready
             start.pre.1.1 _ _ at-first-of.first_of.ensures at-second-of.second-of.ensures at-eval.eval.ensures.ran
-            (is-value at-else1.if1.left) at-eval2.eval2.ensures.ran (is-refused c.if2.true);
+            (is_value_lem at-else1.if1.left) at-eval2.eval2.ensures.ran (is_refused c.if2.true);
       }
 
   pub make-pair-requires : lts.Need-make-pair-requires (pair-uses t) (pair_at t) pair.Post
   make-pair-requires c κs =
       let at-else2 = c.before.before in
       let (at-eval2, _, at-else1, at-eval, _, start) = before-else2 at-else2 in (
-        make-ready (later-in (later-in start.pre.1.0 at-eval.eval.ensures) at-eval2.eval2.ensures),
+        make_ready (later_in (later_in start.pre.1.0 at-eval.eval.ensures) at-eval2.eval2.ensures),
         (
-          lt-le (at-eval.eval.ensures.ran.node _ (is-value at-else1.if1.left)) at-eval2.eval2.ensures.ran.grows,
+          lt_le (at-eval.eval.ensures.ran.node _ (is_value_lem at-else1.if1.left)) at-eval2.eval2.ensures.ran.grows,
           at-eval2.eval2.ensures.ran.node _
-              (is-value at-else2.if2.false),
+              (is_value_lem at-else2.if2.false),
         ),
       )
 
@@ -194,7 +194,7 @@ module _ (t : ℕ) where
       record {
         lengths = at-make-pair.make-pair.ensures.lengths ∙ at-eval2.eval2.ensures.lengths ∙
             at-eval.eval.ensures.lengths;
-        ran = with-slots (pair-done start.pre.1.0.ready start.pre.1.1 _ _ at-first-of.first_of.ensures
-            at-second-of.second-of.ensures at-eval.eval.ensures.ran (is-value at-else1.if1.left) at-eval2.eval2.ensures.ran
-            (is-value at-else2.if2.left) at-make-pair.make-pair.ensures.makes) at-make-pair.make-pair.ensures.slots;
+        ran = with_slots (pair_done start.pre.1.0.ready start.pre.1.1 _ _ at-first-of.first_of.ensures
+            at-second-of.second-of.ensures at-eval.eval.ensures.ran (is_value_lem at-else1.if1.left) at-eval2.eval2.ensures.ran
+            (is_value_lem at-else2.if2.left) at-make-pair.make-pair.ensures.makes) at-make-pair.make-pair.ensures.slots;
       }

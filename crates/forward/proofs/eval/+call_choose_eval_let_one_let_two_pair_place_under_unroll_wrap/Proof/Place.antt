@@ -6,11 +6,11 @@ use native.Mathlib.Omega.{arith}
 use mathlib.Core.Path.{refl, ◌∙◌}
 use mathlib.Core.Logic.{inl as left}
 use borrow.Author.Rules.{rules}
-use Rattle.rules.specs.Limits.{maxHeight, maxParameters}
-use own.Answers.{is-value, is-refused}
+use Rattle.rules.specs.Limits.{max_height, max_parameters}
+use own.Answers.{is_value_lem, is_refused}
 use own.Bounds.{argument-read}
 use own.Placing.{few-count, place-room, place-less, place-next, place-ready, place-refused, place-last, place-more}
-use own.Lending.{later-in, as-ready, placed_at_lem, placed-out}
+use own.Lending.{later_in, as_ready, placed_at_lem, placed-out}
 use own.eval.place.Reads as place
 use own.eval.+call_choose_eval_let_one_let_two_pair_place_under_unroll_wrap as cycle
 use cycle.Lts-place as lts
@@ -128,7 +128,7 @@ module _ (t : ℕ) where
       let at-argument-of = c.before.before in
       let start = before-argument-of at-argument-of in (
         omega (arith, start.pre.0, few-count start.pre.1.0.ready start.pre.1.1, start.pre.1.1.next),
-        as-ready start.pre.1.0
+        as_ready start.pre.1.0
             (place-ready start.pre.1.0.ready start.pre.1.1 _ at-argument-of.argument-of.ensures),
       )
 
@@ -143,14 +143,14 @@ module _ (t : ℕ) where
       record {
         lengths = at-eval.eval.ensures.lengths;
         places = place-refused start.pre.1.0.ready start.pre.1.1 _ at-argument-of.argument-of.ensures at-eval.eval.ensures.ran
-            (is-refused c.if1.true);
+            (is_refused c.if1.true);
       }
 
   pub end-of-requires : lts.Need-end-of-requires (place-uses t) (place_at t) place.Post
   end-of-requires c κs = search rules
 
   pub add_at : lts.Need-overflow-add-at (place-uses t) (place_at t) place.Post
-  unfolding maxHeight maxParameters
+  unfolding max_height max_parameters
   add_at c =
       let (_, _, _, start) = before-end-of c in
       let e = c.end_of_lem.ensures in omega (arith, place-room start.pre.1.0.ready start.pre.1.1)
@@ -177,7 +177,7 @@ module _ (t : ℕ) where
         lengths = c.bind.ensures.lengths ∙ at-eval.eval.ensures.lengths;
         places = placed-out at-eval.eval.result c.bind.ensures
             (place-last start.pre.1.0.ready start.pre.1.1 _ at-argument-of.argument-of.ensures at-eval.eval.ensures.ran
-            (is-value at-else1.if1.left) at-then2.if2.taken _
+            (is_value_lem at-else1.if1.left) at-then2.if2.taken _
             (placed_at_lem start.args.scope start.args.k c.bind.ensures at_end_of.end_of_lem.ensures refl));
       }
 
@@ -191,7 +191,7 @@ module _ (t : ℕ) where
       let at-else2 = c.before.before in
       let (_, _, at-eval, _, start) = before-else2 at-else2 in (
         omega (arith, start.pre.0, few-count start.pre.1.0.ready start.pre.1.1, start.pre.1.1.next, at-eval.eval.ensures.ran.spends),
-        (later-in start.pre.1.0 at-eval.eval.ensures, place-next start.pre.1.0.ready start.pre.1.1 at-else2.if2.false),
+        (later_in start.pre.1.0 at-eval.eval.ensures, place-next start.pre.1.0.ready start.pre.1.1 at-else2.if2.false),
       )
 
   pub bind-requires-2 : lts.Need-bind-requires-2 (place-uses t) (place_at t) place.Post
@@ -217,6 +217,6 @@ module _ (t : ℕ) where
         lengths = c.bind2.ensures.lengths ∙ at_place.place.ensures.lengths ∙ at-eval.eval.ensures.lengths;
         places = placed-out
             at_place.place.result c.bind2.ensures (place-more start.pre.1.0.ready start.pre.1.1 _ at-argument-of.argument-of.ensures
-            at-eval.eval.ensures.ran (is-value at-else1.if1.left) (place-less start.pre.1.0.ready start.pre.1.1 at-else2.if2.left)
+            at-eval.eval.ensures.ran (is_value_lem at-else1.if1.left) (place-less start.pre.1.0.ready start.pre.1.1 at-else2.if2.left)
             at_place.place.ensures.places _ (placed_at_lem start.args.scope start.args.k c.bind2.ensures at_end_of.end_of_lem.ensures refl));
       }

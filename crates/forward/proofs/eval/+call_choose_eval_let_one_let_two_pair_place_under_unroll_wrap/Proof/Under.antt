@@ -5,10 +5,10 @@ use Prim.Native.Nat.{ℕ}
 use native.Mathlib.Omega.{arith}
 use mathlib.Core.Path.{ap}
 use borrow.Author.Rules.{rules}
-use Rattle.rules.specs.Limits.{maxHeight, maxParameters}
+use Rattle.rules.specs.Limits.{max_height, max_parameters}
 use Rattle.scopes.specs.Slots.{Machine}
-use own.Binds.{bind-room}
-use own.Lending.{under-ready, under-done}
+use own.Binds.{bind_room}
+use own.Lending.{under-ready, under_done}
 use own.eval.under.Reads as under
 use own.eval.+call_choose_eval_let_one_let_two_pair_place_under_unroll_wrap as cycle
 use cycle.Lts-under as lts
@@ -63,10 +63,10 @@ module _ (t : ℕ) where
   pub bind-requires : lts.Need-bind-requires (under-uses t) (Under-at t) under.Post
   bind-requires c κs =
       let start = before-end-of c in
-      (start.pre.1.0.full, rw c.end_of_lem.ensures (bind-room start.pre.1.0.ready))
+      (start.pre.1.0.full, rw c.end_of_lem.ensures (bind_room start.pre.1.0.ready))
 
   pub wider-requires : lts.Need-wider-requires (under-uses t) (Under-at t) under.Post
-  unfolding maxHeight maxParameters
+  unfolding max_height max_parameters
   wider-requires c κs =
       let (_, start) = before-bind c.before.before in (
         omega (arith, start.pre.1.0.ready.variables, start.pre.1.0.ready.full),
@@ -91,4 +91,4 @@ module _ (t : ℕ) where
   returns c =
       let at-eval = c.before.before in
       let (at-wider, at-bind, at_end_of, start) = before-eval at-eval in
-      under-done _ start.pre.1.0 start.pre.1.1 at-bind.bind.ensures at_end_of.end_of_lem.ensures at-wider.wider.ensures at-eval.eval.ensures
+      under_done _ start.pre.1.0 start.pre.1.1 at-bind.bind.ensures at_end_of.end_of_lem.ensures at-wider.wider.ensures at-eval.eval.ensures

@@ -4,11 +4,11 @@ use Rattle.forward.proofs as own
 use Prim.Native.Nat.{ℕ}
 use native.Mathlib.Omega.{arith}
 use mathlib.Core.Logic.{inl as left}
-use own.Answers.{is-value, is-refused}
+use own.Answers.{is_value_lem, is_refused}
 use own.Bounds.{row_read}
 use own.Leaves.{node-there}
-use own.Steps.{unroll-ready, unroll-refused, unroll-done}
-use own.Lending.{as-ready}
+use own.Steps.{unroll_ready, unroll_refused, unroll_done}
+use own.Lending.{as_ready}
 use borrow.Fn.PlainCycle.{is}
 use own.eval.unroll.Reads as unroll
 use own.eval.+call_choose_eval_let_one_let_two_pair_place_under_unroll_wrap as cycle
@@ -81,7 +81,7 @@ module _ (t : ℕ) where
   eval-requires c κs =
       let at-second-of = c.before.before in
       let start = before-second-of at-second-of in
-      (omega (arith, start.pre.0), as-ready start.pre.1.0 (unroll-ready start.pre.1.0.ready start.pre.1.1 _ at-second-of.second-of.ensures))
+      (omega (arith, start.pre.0), as_ready start.pre.1.0 (unroll_ready start.pre.1.0.ready start.pre.1.1 _ at-second-of.second-of.ensures))
 
   pub same_length : lts.Need-same-length (unroll-uses t) (unroll-at t) unroll.Post
   same_length c =
@@ -93,15 +93,15 @@ module _ (t : ℕ) where
       let (at-eval, at-second-of, start) = before-then1 c in
       record {
         lengths = at-eval.eval.ensures.lengths;
-        ran = unroll-refused start.pre.1.0.ready start.pre.1.1 _ at-second-of.second-of.ensures at-eval.eval.ensures.ran
-            (is-refused c.if1.true);
+        ran = unroll_refused start.pre.1.0.ready start.pre.1.1 _ at-second-of.second-of.ensures at-eval.eval.ensures.ran
+            (is_refused c.if1.true);
       }
 
   pub unrolled-requires : lts.Need-unrolled-requires (unroll-uses t) (unroll-at t) unroll.Post
   unrolled-requires c κs =
       let at-else1 = c.before in
       let (at-eval, _, _) = before-else1 at-else1 in
-      node-there at-eval.eval.ensures.ran.graph (at-eval.eval.ensures.ran.node _ (is-value at-else1.if1.false))
+      node-there at-eval.eval.ensures.ran.graph (at-eval.eval.ensures.ran.node _ (is_value_lem at-else1.if1.false))
 
   pub same-length-2 : lts.Need-same-length-2 (unroll-uses t) (unroll-at t) unroll.Post
   same-length-2 c =
@@ -113,8 +113,8 @@ module _ (t : ℕ) where
       let (at-else1, at-eval, at-second-of, start) = before-unrolled c in
       record {
         lengths = at-eval.eval.ensures.lengths;
-        ran = unroll-done start.pre.1.0.ready start.pre.1.1 _
-            at-second-of.second-of.ensures at-eval.eval.ensures.ran (is-value at-else1.if1.left)
-            (c.unrolled.ensures.is _ at-eval.eval.ensures.ran.graph (at-eval.eval.ensures.ran.node _ (is-value at-else1.if1.left))
+        ran = unroll_done start.pre.1.0.ready start.pre.1.1 _
+            at-second-of.second-of.ensures at-eval.eval.ensures.ran (is_value_lem at-else1.if1.left)
+            (c.unrolled.ensures.is _ at-eval.eval.ensures.ran.graph (at-eval.eval.ensures.ran.node _ (is_value_lem at-else1.if1.left))
             (omega (arith, start.pre.1.0.ready.small, at-eval.eval.ensures.ran.owes)));
       }

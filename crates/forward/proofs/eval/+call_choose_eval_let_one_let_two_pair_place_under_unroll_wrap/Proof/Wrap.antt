@@ -5,10 +5,10 @@ use Prim.Native.Nat.{ℕ}
 use native.Mathlib.Omega.{arith}
 use mathlib.Core.Path.{◌∙◌}
 use mathlib.Core.Logic.{inl as left}
-use own.Answers.{is-value, is-refused}
+use own.Answers.{is_value_lem, is_refused}
 use own.Bounds.{row_read}
-use own.Steps.{wrap-ready, wrap-refused, wrap-single, wrap-done}
-use own.Lending.{with-slots, later-in, as-ready, make-ready}
+use own.Steps.{wrap_ready, wrap_refused, wrap_single, wrap_done}
+use own.Lending.{with_slots, later_in, as_ready, make_ready}
 use own.eval.wrap.Reads as wrap
 use own.eval.+call_choose_eval_let_one_let_two_pair_place_under_unroll_wrap as cycle
 use cycle.Lts-wrap as lts
@@ -80,7 +80,7 @@ module _ (t : ℕ) where
   eval-requires c κs =
       let at-second-of = c.before.before in
       let start = before-second-of at-second-of in
-      (omega (arith, start.pre.0), as-ready start.pre.1.0 (wrap-ready start.pre.1.0.ready _ start.pre.1.1 _ at-second-of.second-of.ensures))
+      (omega (arith, start.pre.0), as_ready start.pre.1.0 (wrap_ready start.pre.1.0.ready _ start.pre.1.1 _ at-second-of.second-of.ensures))
 
   pub same_length : lts.Need-same-length (wrap-uses t) (wrap-at t) wrap.Post
   same_length c =
@@ -92,16 +92,16 @@ module _ (t : ℕ) where
       let (at-eval, at-second-of, start) = before-then1 c in
       record {
         lengths = at-eval.eval.ensures.lengths;
-        ran = wrap-refused start.pre.1.0.ready _ start.pre.1.1 _ at-second-of.second-of.ensures at-eval.eval.ensures.ran
-            (is-refused c.if1.true);
+        ran = wrap_refused start.pre.1.0.ready _ start.pre.1.1 _ at-second-of.second-of.ensures at-eval.eval.ensures.ran
+            (is_refused c.if1.true);
       }
 
   pub make-single-requires : lts.Need-make-single-requires (wrap-uses t) (wrap-at t) wrap.Post
   make-single-requires c κs =
       let at-else1 = c.before.before in
       let (at-eval, _, start) = before-else1 at-else1 in (
-        make-ready (later-in start.pre.1.0 at-eval.eval.ensures),
-        ((at-eval.eval.ensures.ran.node _ (is-value at-else1.if1.false)), wrap-single start.pre.1.0.ready _ start.pre.1.1),
+        make_ready (later_in start.pre.1.0 at-eval.eval.ensures),
+        ((at-eval.eval.ensures.ran.node _ (is_value_lem at-else1.if1.false)), wrap_single start.pre.1.0.ready _ start.pre.1.1),
       )
 
   pub same-length-2 : lts.Need-same-length-2 (wrap-uses t) (wrap-at t) wrap.Post
@@ -116,6 +116,6 @@ module _ (t : ℕ) where
       let (at-else1, at-eval, at-second-of, start) = before-make-single at-make-single in
       record {
         lengths = at-make-single.make-single.ensures.lengths ∙ at-eval.eval.ensures.lengths;
-        ran = with-slots (wrap-done start.pre.1.0.ready _ start.pre.1.1 _ at-second-of.second-of.ensures at-eval.eval.ensures.ran
-            (is-value at-else1.if1.left) at-make-single.make-single.ensures.makes) at-make-single.make-single.ensures.slots;
+        ran = with_slots (wrap_done start.pre.1.0.ready _ start.pre.1.1 _ at-second-of.second-of.ensures at-eval.eval.ensures.ran
+            (is_value_lem at-else1.if1.left) at-make-single.make-single.ensures.makes) at-make-single.make-single.ensures.slots;
       }

@@ -41,7 +41,7 @@ use denote.Triple.Table.{entered, cited}
 use denote.Triple.Walked.{says, needs, Stays, stay_none, walk_of, Goes-none, Walks, ends_at, walked, walk_Meets}
 use denote.Exit.{yes}
 use denote.Triple.Clauses.{ensured, lasts}
-use Rattle.program.specs.Found.{foundOf, fieldAt}
+use Rattle.program.specs.Found.{found_of, field_at}
 use Rattle.program.specs.declared.reader.FieldReader.{FieldReader}
 use Rattle.program.specs.declared.reader.Field.{Field}
 use Rattle.program.specs.contracts.reader.FieldReader as T
@@ -67,7 +67,7 @@ stayed = (stay_none B yes, (stay_none (λ _. u8) yes, tt))
 module _ {M : Type 1} {𝓤 : Ura M} (𝓛 : Logic 𝓤) (mem : Memory → SProp 𝓤) (run : Routine → Fun 𝓤) where
   -- the contract that the proof cites
   abbrev FieldAt : Contract 𝓤
-  FieldAt = triple_of 𝓛 field_at.signature (field_at.spec 𝓛 mem run)
+  FieldAt = triple_of 𝓛 field_at_lem.signature (field_at_lem.spec 𝓛 mem run)
 
 module _ {M : Type 1} {𝓤 : Ura M} (𝓛 : Logic 𝓤) (mem : Memory → SProp 𝓤) (run : Routine → Fun 𝓤) (κ : Lft) (q : Share) (d : FieldReader) (k : ℕ) (k-fits : k < 2 ^ 8) (inside : d.at ≤ length d.program.now) where
   open 𝓛 use {H}
@@ -84,7 +84,7 @@ module _ {M : Type 1} {𝓤 : Ura M} (𝓛 : Logic 𝓤) (mem : Memory → SProp
 
   -- what both contracts say of the result
   abbrev Found : Field → Type 0
-  Found r = foundOf r d.at ≡ fieldAt d.program.now d.at k
+  Found r = found_of r d.at ≡ field_at d.program.now d.at k
 
   abbrev Post : Val → SProp 𝓤
   Post = (walk_of 𝓛 field.ended stayed (field.clauses 𝓛 mem run)).post (((κ, tt), (q, tt), tt, (d, (k, tt)), vals), tt)
@@ -103,13 +103,13 @@ module _ {M : Type 1} {𝓤 : Ura M} (𝓛 : Logic 𝓤) (mem : Memory → SProp
   vd = (d.program, (d.at, tt))
 
   -- what the callee is passed
-  abbrev passed : Vals field_at.signature (κ, tt)
+  abbrev passed : Vals field_at_lem.signature (κ, tt)
   passed = (v ∷ [], (vint w64 d.at ∷ [], (vint w8 k ∷ [], tt)))
 
   abbrev to : (FieldAt 𝓛 mem run).Ghost
   to = (((κ, tt), (q, tt), tt, (d.program, (d.at, (k, tt))), passed), tt)
 
-  asked : ent 𝓤 (on_entry 𝓛 field_at.signature (κ, tt) (q, tt) (d.program, (d.at, (k, tt))) passed) ((FieldAt 𝓛 mem run).pre to)
+  asked : ent 𝓤 (on_entry 𝓛 field_at_lem.signature (κ, tt) (q, tt) (d.program, (d.at, (k, tt))) passed) ((FieldAt 𝓛 mem run).pre to)
   asked = qed 𝓛 ((‵ (flft κ q) ⊛ ‵ ftrue) ∷ ‵ (owns (ShrSlice (named 0) κ u8 ∷ usize ∷ u8 ∷ []) (d.program, (d.at, (k, tt))) passed) ∷ []) ∵ says ! inside $ frame ! $ done !
 
   -- what the struct owns gives what the callee asks, and is kept
@@ -123,8 +123,8 @@ module _ {M : Type 1} {𝓤 : Ura M} (𝓛 : Logic 𝓤) (mem : Memory → SProp
       move ! (1 ∷ 0 ∷ []) $ fjoin ! $ move ! (2 ∷ 0 ∷ []) $ use2 𝓛 (raw ((FieldAt 𝓛 mem run).pre to)) asked $ frame ! $ done !)
 
   -- of the callee's `ensured`, the clause alone: it has no `&mut`, so what is said of last values is dropped
-  said : (r : Field) → ent 𝓤 (ensured 𝓛 field_at.ended (field_at.clauses 𝓛 mem run) (κ, tt) (d.program, (d.at, (k, tt))) tt r) (fact 𝓤 (Found r))
-  said r = ex_e 𝓤 _ (λ ws. snd∗ 𝓤 (sem 𝓛 (lasts field_at.ended (κ, tt) (d.program, (d.at, (k, tt))) ws)) (fact 𝓤 (Found r)))
+  said : (r : Field) → ent 𝓤 (ensured 𝓛 field_at_lem.ended (field_at_lem.clauses 𝓛 mem run) (κ, tt) (d.program, (d.at, (k, tt))) tt r) (fact 𝓤 (Found r))
+  said r = ex_e 𝓤 _ (λ ws. snd∗ 𝓤 (sem 𝓛 (lasts field_at_lem.ended (κ, tt) (d.program, (d.at, (k, tt))) ws)) (fact 𝓤 (Found r)))
 
   exits : (r : Field) (u : Val) → Found r → ent 𝓤 (⋆ 𝓛 (‵ ((S.the_row).own_val r (u ∷ [])) ∷ (‵ (flft κ q) ⊛ ‵ ftrue) ∷ ‵ Own ∷ [])) (Post u)
   exits r u e =
@@ -142,7 +142,7 @@ module _ {M : Type 1} {𝓤 : Ura M} (𝓛 : Logic 𝓤) (mem : Memory → SProp
         assigns ! (of_opd ! (load ! (from ! (fld ! refl (stop !))) (look_in ! 6 (sub ! 1 refl (whole !))))) (from ! (stop !)) (init ! 0 refl (tt, wt.1.1.0)) $
         move ! (10 ∷ []) $ use1 𝓛 (raw ((FieldAt 𝓛 mem run).pre to) ⊛ ‵ Own) (apart wt.1.1.0.fits) $ split ! $
         calls_at ! fm (FieldAt 𝓛 mem run) known to (and_then ! (load ! (from ! (stop !)) (look ! 4 refl)) (and_then ! (load ! (from ! (stop !)) (look ! 2 refl)) (and_then ! (load ! (from ! (stop !)) (look ! 6 refl)) (no_more !)))) (λ u.
-        use1 𝓛 (later (some (λ (r : Field). ((‵ (flft κ q) ⊛ ‵ ftrue) ⊛ ‵ ((S.the_row).own_val r (u ∷ []))) ⊛ raw (ensured 𝓛 field_at.ended (field_at.clauses 𝓛 mem run) (κ, tt) (d.program, (d.at, (k, tt))) tt r)))) (id⊢ 𝓤 _) $ await ! tt $ pick ! (λ r.
+        use1 𝓛 (later (some (λ (r : Field). ((‵ (flft κ q) ⊛ ‵ ftrue) ⊛ ‵ ((S.the_row).own_val r (u ∷ []))) ⊛ raw (ensured 𝓛 field_at_lem.ended (field_at_lem.clauses 𝓛 mem run) (κ, tt) (d.program, (d.at, (k, tt))) tt r)))) (id⊢ 𝓤 _) $ await ! tt $ pick ! (λ r.
         split ! $ move ! (1 ∷ []) $ use1 𝓛 (raw (fact 𝓤 (Found r))) (said r) $ heard ! (Found r) (λ e. split ! $ move ! (1 ∷ []) $
         -- [the result; the token; what the struct owns; _4; …; _3; …; _2; …; _1; …; room for _0; …]
         peeks ! S.the_row (Is S.the_row) (shows 𝓛 S.the_row) r (u ∷ []) (λ is.

@@ -1,6 +1,6 @@
 use borrow.Author.Rules.{rules}
-use Rattle.scopes.specs.Slots.{unknown, scopeIn}
-use Rattle.scopes.proofs.Meeting.{entered-it}
+use Rattle.scopes.specs.Slots.{unknown, scope_in}
+use Rattle.scopes.proofs.Meeting.{entered_it}
 use Rattle.scopes.proofs.bindings.Bindings.entered.Statement.{statement}
 use Rattle.scopes.proofs.bindings.Bindings.entered.Tie as tie
 
@@ -36,7 +36,7 @@ returns c =
     let counted = made.before.before.before in
     let at_top = counted.before in
     let start = at_top.before.before.before in
-    entered-it (scopeIn start.args.scope) counted.count-in.ensures at_top.top.ensures end.end_of_lem.ensures made.with_cell.ensures
+    entered_it (scope_in start.args.scope) counted.count-in.ensures at_top.top.ensures end.end_of_lem.ensures made.with_cell.ensures
     c.bind.ensures
 
 pub entered-spec : {M : Type 1} → statement M

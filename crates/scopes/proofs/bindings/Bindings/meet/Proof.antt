@@ -1,6 +1,6 @@
 use borrow.Author.Rules.{rules}
-use Rattle.scopes.specs.Slots.{unknown, scopeIn}
-use Rattle.scopes.proofs.Meeting.{looks, old-low, met-compared, met-bound}
+use Rattle.scopes.specs.Slots.{unknown, scope_in}
+use Rattle.scopes.proofs.Meeting.{looks, old-low, met_compared, met-bound}
 use Rattle.scopes.proofs.bindings.Bindings.meet.Statement.{statement}
 use Rattle.scopes.proofs.bindings.Bindings.meet.Tie as tie
 
@@ -67,7 +67,7 @@ returns c =
     let start = at.before.before.before.before.before.before.before.before in
     let a = start.args in
     let old = c.before.before.before.old.given.1 in
-    met-compared a.ws.now a.st.now a.self (scopeIn a.scope) a.i a.node start.requires.0 base v at.at.ensures
+    met_compared a.ws.now a.st.now a.self (scope_in a.scope) a.i a.node start.requires.0 base v at.at.ensures
     seen-it.seen.ensures old c.same.ensures
 
 same-length-2 : tie.Need-same-length-2
@@ -85,7 +85,7 @@ returns-2 c =
     let top = at.before.before.before.before.before.top.ensures in
     let start = at.before.before.before.before.before.before.before.before in
     let a = start.args in
-    met-bound a.ws.now a.st.now a.self (scopeIn a.scope) a.i a.node start.requires.0 base v at.at.ensures
+    met-bound a.ws.now a.st.now a.self (scope_in a.scope) a.i a.node start.requires.0 base v at.at.ensures
     seen-it.seen.ensures top told.enum_told.given.1 made.with_cell.ensures c.bind.ensures
 
 pub meet-spec : {M : Type 1} → statement M
