@@ -2,6 +2,7 @@
 // words.
 
 // the calls, made in the lengths that a line names
+#![tactic(auto)]
 mod making;
 // the calls on a journal
 mod keeping;

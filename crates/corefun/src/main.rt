@@ -1,6 +1,7 @@
 // The command line: programs in files, values as hexadecimal arguments, calls on standard input. What is pure stands in the crates
 // below; here are arguments, files and the buffers that are lent. Answers go to standard output; where no call is made, standard output
 // stays empty and standard error says why (docs/DECISIONS.md, "Command line").
+#![tactic(auto)]
 mod arguments;
 mod files;
 mod input;

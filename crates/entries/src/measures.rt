@@ -62,7 +62,7 @@ fn nodes_of(p: &[u8], at: usize, nodes: &[u16]) -> u16
 }
 
 // How many counts of nodes a check has made so far.
-#[derive(Drop)]
+#[derive(Clone, Copy)]
 pub struct Tally {
     pub counted: u16,
 }

@@ -2,6 +2,7 @@
 // newest conversion, and how open, convert and rollback write them anew. The calls that use these stand in the crates above.
 
 // where the fields of a journal stand
+#![tactic(auto)]
 pub mod places;
 // the test of the form (18), in one pass
 pub mod form;

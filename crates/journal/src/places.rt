@@ -23,7 +23,7 @@ pub const MOST_ENTRIES: usize = MAX_CONVERSIONS * (ENTRY_BYTES + MAX_ANCILLA_BYT
 
 // The ends of the held value's field and of the last field, how many conversions stand, and where the newest one's field starts
 // (where none stands, the end of the last field).
-#[derive(Drop)]
+#[derive(Clone, Copy)]
 pub struct Places {
     pub held: usize,
     pub count: usize,

@@ -164,7 +164,7 @@ pub fn well_formed(p: &[u8], at: usize, last: u8) -> bool
 }
 
 // How many entries of each tag were read: so many offsets stand at the front of each buffer.
-#[derive(Drop)]
+#[derive(Clone, Copy)]
 pub struct Counts {
     pub types: usize,
     pub terms: usize,

@@ -1,4 +1,5 @@
 // Programs as bytes: reading their fields and entries, against calls/specs/Fields and Entries.
+#![tactic(auto)]
 pub mod fields;
 pub mod kinds;
 pub mod reader;

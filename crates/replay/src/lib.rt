@@ -2,6 +2,7 @@
 // is a promise of one call.
 
 // reading a script
+#![tactic(auto)]
 pub mod scripts;
 // the lines that answer its calls
 pub mod told;

@@ -89,13 +89,13 @@ module _ {X : Type 0} (d : ℕ) where
   pub answer-grows : {x : Res X} {y : Res X} {w : X} {g : ℕ} → Grows x y → x ≡ ok w g → y ≡ ok w (g + d)
   answer-grows {y = y} s p = go (subst (λ x. Grows x y) p s)
     where
-      go : {y : Res X} {w : X} {g : ℕ} → Grows (ok w g) y → y ≡ ok w (g + d)
+      go : {w : X} {g : ℕ} {y : Res X} → Grows (ok w g) y → y ≡ ok w (g + d)
       go grows_ok = refl
 
   pub refusal-grows : {x : Res X} {y : Res X} {c k : ℕ} → Grows x y → x ≡ stop c k → 15 ≤ c → y ≡ stop c k
   refusal-grows {y = y} s p l = go (subst (λ x. Grows x y) p s) l
     where
-      go : {y : Res X} {c k : ℕ} → Grows (stop c k) y → 15 ≤ c → y ≡ stop c k
+      go : {c k : ℕ} {y : Res X} → Grows (stop c k) y → 15 ≤ c → y ≡ stop c k
       go grows_stop l = refl
       go (limited x z) l = absurd (omega arith)
 

@@ -2,6 +2,7 @@
 
 // Programs (section 1).
 
+#![tactic(auto)]
 pub const MAX_TYPES: usize = 256;
 
 pub const MAX_TERMS: usize = 1024;

@@ -13,7 +13,7 @@ use crate::{slots, state};
 const CELLS: u32 = 262144;
 
 // The newest cell, 0 for the empty state.
-#[derive(Drop)]
+#[derive(Clone, Copy)]
 pub struct Bindings {
     pub head: u32,
 }

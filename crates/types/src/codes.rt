@@ -15,7 +15,7 @@ pub const UNDER: u16 = 2;
 pub const PRODUCT: u16 = 3;
 
 // What a form does not name is 0.
-#[derive(Drop)]
+#[derive(Clone, Copy)]
 pub struct Code {
     pub form: u16,
     pub at: u16,

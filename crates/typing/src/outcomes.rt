@@ -8,7 +8,7 @@ use varsets::Uses;
 
 // The variables in scope, n of them: the first q are ancilla parameters, those from q on and below lo are barred; `owed` are those that
 // must be used, `marks` those whose namings a let could help (document 02, F-2). Their types, and the namings that wait, stand in lent bytes.
-#[derive(Drop)]
+#[derive(Clone, Copy)]
 pub struct Scope {
     pub q: u8,
     pub lo: u8,
@@ -18,7 +18,7 @@ pub struct Scope {
 }
 
 // The type of a term, and the variables that it uses.
-#[derive(Drop)]
+#[derive(Clone, Copy)]
 pub struct Found {
     pub code: Code,
     pub uses: Uses,
@@ -26,14 +26,14 @@ pub struct Found {
 
 // Refusals 6 to 8 (section 4), each with its term. The term's number is as wide as the widest part of `Found`, so that both variants of a
 // status lie alike in memory: an outcome is then copied in the widths in which it was written.
-#[derive(Drop)]
+#[derive(Clone, Copy)]
 pub enum Fault {
     Differ(u32),
     Unscoped(u32),
     Misused(u32),
 }
 
-#[derive(Drop)]
+#[derive(Clone, Copy)]
 pub enum Status {
     Typed(Found),
     Refused(Fault),

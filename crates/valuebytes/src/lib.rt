@@ -2,6 +2,7 @@
 // is of a type. Nothing here copies a value: a part of one is a part of the caller's slice.
 
 // where values end, and the parts of a pair
+#![tactic(auto)]
 pub mod scan;
 // whether a value is of a type
 pub mod typed;

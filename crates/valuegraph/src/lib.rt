@@ -1,2 +1,3 @@
 // Values in lent bytes.
+#![tactic(auto)]
 pub mod nodes; // nodes.rt: the value graph

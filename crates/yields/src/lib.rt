@@ -2,6 +2,7 @@
 // the value graph; the lent numbers `st` hold the ancilla parameters' nodes, the first variables of the scope (specs/Yields). Terms name lower
 // terms, so the recursion ends. An ancilla's value is compared in two ways: at a glance, by what nodes hold, which never calls equal values
 // unequal, and exactly. A term is asked at a glance first: no value is walked where that says no, or yes without a comparison.
+#![tactic(auto)]
 ghost use Rattle.std.specs.Prelude.{◌≡◌, cond, ◌<◌, ◌≤◌};
 ghost use Rattle.program.specs.Kinds.{pair_kind, case_kind};
 ghost use Rattle.rules.specs.Val.{same};
