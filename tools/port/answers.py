@@ -374,7 +374,7 @@ def write_answers(fn, uses, answers, other, module, crate_folder):
 
 def turn_invariants(fn, invariants, module):
     lines = []
-    loops = {norm(l[0][0]): l for l in fn.d["loops"]}
+    loops = {norm(l[0][0]): (l, fn.d["changed"][i]) for i, l in enumerate(fn.d["loops"])}
     for comments, name, sort, code in invariants:
         text = "\n".join(l for l in code if not l.startswith("unfolding"))
         unfolding = [l for l in code if l.startswith("unfolding")]
@@ -383,20 +383,17 @@ def turn_invariants(fn, invariants, module):
         if not m or loop not in loops:
             lines += ["", f"-- FIXME {name} : {sort}", text]
             continue
-        (_, new), names = loops[loop]
+        ((_, new), names), changed = loops[loop]
         args, body = m.group(1).split(), text[m.end():].strip()
-        n = len(names)
+        n, now = len(names), [v for v, c in zip(names, changed) if c]
         table = {}
-        if len(args) >= 2 * n:
-            extra = args[: len(args) - 2 * n]
-            for a, v in zip(args[len(extra): len(extra) + n], names):
-                table[a] = "l.initial." + v
-            for a, v in zip(args[len(extra) + n:], names):
-                table[a] = "l." + v
-            for e in extra:
-                table[e] = "FIXME_extra_" + e
-        else:
-            table = {a: "FIXME_" + a for a in args}
+        extra = args[: len(args) - n - len(now)]
+        for a, v, c in zip(args[len(extra): len(extra) + n], names, changed):
+            table[a] = ("l.initial." if c else "l.") + v
+        for a, v in zip(args[len(extra) + n:], now):
+            table[a] = "l." + v
+        for e in extra:
+            table[e] = "FIXME_extra_" + e
         table.pop("_", None)
 
         def turn(m):

@@ -1,6 +1,7 @@
 // Numbers and runs of bytes in byte slices: numbers of two and four bytes, the high byte first; fill, copy, compare.
 // The contracts cite specs/Numbers and specs/Runs and are final: laws about those definitions are in proofs/.
 #![tactic(auto)]
+
 ghost use Rattle.std.specs.Prelude.{◌≡◌, ◌+◌, ◌≤◌, ◌<◌, length, replicate};
 ghost use Rattle.octets.specs.Numbers.{get16, get32, put16, put32};
 ghost use Rattle.octets.specs.Runs.{pasted, Decides};
