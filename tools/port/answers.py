@@ -90,6 +90,7 @@ class Function:
         self.key, self.d, self.contracts = key, data, contracts
         self.places = {p[0]: p for p in data["places"]}
         self.parent = {p[0]: p[1] for p in data["places"]}
+        self.order = {p[0]: i for i, p in enumerate(data["places"])}
         self.needs = {norm(a): (b, data["asked_at"][i] if i < len(data["asked_at"]) else None) for i, (a, b) in enumerate(data["needs"])}
         self.name = None
         self.fixmes = 0
@@ -101,38 +102,56 @@ class Function:
     def step(self, place):
         return self.places[place][2]
 
+    def ancestors(self, place):
+        while place is not None:
+            yield place
+            place = self.parent.get(place)
+
     def render(self, place, segs):
-        """The path `segs` from the record at `place`, in today's names; ('place', P) where it is a place itself."""
+        """The path `segs` from the record at `place`, in today's names; ('place', P) where it is a place itself. A step is found by
+        its name among those above, since the places between two steps are others than they were."""
         segs = list(segs)
         while segs and segs[0] == "before":
-            up = self.parent.get(place)
-            if up is None:
-                return "FIXME_before_start"
-            place, segs = up, segs[1:]
+            segs = segs[1:]
         if not segs:
             return ("place", place)
+        head, rest = segs[0], segs[1:]
+        if head == "requires":
+            return self.clause_path(self.clauses(self.name, 0), rest, "requires", "c")
+        if head in ("args", "ranges", "type_inv"):
+            return "c." + ".".join(segs)
+        short = lambda s: re.sub(r"-(\d+)$", r"\1", norm(s))
+        for up in self.ancestors(place):
+            if short(self.step(up)[0]) == short(head):
+                return self.at_step(up, rest)
+        return "FIXME_" + place + "_" + "_".join(segs)
+
+    def at_step(self, place, rest):
         old, new = self.step(place)
         callee = self.places[place][3]
-        head, rest = segs[0], segs[1:]
-        if old == "":
-            if head == "requires":
-                return self.clause_path(self.clauses(self.name, 0), rest, "requires", "c")
-            return "c." + ".".join([head] + rest)
-        if norm(head) != norm(old):
-            if head in ("type-inv", "type_inv"):
-                return "c." + ".".join(segs)
-            return "FIXME_" + place + "_" + "_".join(segs)
         base = "c." + new
         if not rest:
             return ("step", place, base)
+        arm = self.d["arms"][self.order[place]] if self.order[place] < len(self.d["arms"]) else None
+        if arm:
+            best = None
+            for name, step, fields in arm[2]:
+                if step == old and rest[: len(fields)] == fields and (best is None or len(fields) > len(best[1])):
+                    best = (name, fields)
+            if best and best[1]:
+                return ".".join(["c", arm[0], best[0]] + rest[len(best[1]):])
         kind, more = rest[0], rest[1:]
         if kind in ("ensures", "requires") and callee:
             return self.clause_path(self.clauses(callee, 1 if kind == "ensures" else 0), more, kind, base)
-        if kind == "new" and callee and more and more[0].isdigit():
-            params = self.d["params"].get(callee, [])
-            k = int(more[0])
-            if k < len(params):
-                return ".".join([base, "new", params[k]] + more[1:])
+        params = self.d["params"].get(callee, []) if callee else []
+        if kind == "new" and more and more[0].isdigit() and int(more[0]) < len(params):
+            return ".".join([base, "new", params[int(more[0])]] + more[1:])
+        if kind == "auto" and callee and more:
+            k, more = 0, list(more)
+            while more and more[0] == "1":
+                k, more = k + 1, more[1:]
+            if more and more[0] == "0" and k < len(params):
+                return ".".join([base, "auto", params[k]] + more[1:])
             return "FIXME_" + ".".join([base] + rest)
         return ".".join([base] + rest)
 
@@ -311,6 +330,8 @@ def convert(crate, rel, old_text, new_text, fn, module):
         if old not in fn.needs:
             if body.strip() != "search rules":
                 answers.append((comments, "FIXME_goal_" + old, unfolding, "", body))
+            continue
+        if re.match(r"enum-(known|told)", old) and re.fullmatch(r"\s*c(\.before)*\.match\d*\.keys\d+\s*", body):
             continue
         new, at = fn.needs[old]
         place = at[0] if at else "Start"

@@ -12,7 +12,7 @@ use package.Rattle.calls.specs.Fields.{parameters_at}
 use package.Rattle.calls.specs.Entries.{TypeEntry, FunctionEntry, function_at}
 use package.Rattle.calls.specs.Named.{plain, types_of_function, all_plain}
 use package.Rattle.calls.proofs.Entries.{below_at}
-use package.Rattle.program.specs.Parts.{FunctionField, result}
+use package.Rattle.program.specs.Parts.{FunctionField, result_of}
 use package.Rattle.program.specs.Signatures.{parameter_types, SignatureIs}
 use package.Rattle.program.proofs.Rooms.{function-room}
 use package.Rattle.program.proofs.Lists.{ancillae-count}
@@ -77,7 +77,7 @@ module _ {xs : List ℕ} {at : ℕ} (F : FunctionField xs at) where
   unfolding max_parameters
   dynamic-place e = omega (arith, F.few)
 
-  pub side-result : {r : ℕ} {b : Bool} → r ≡ result xs at → b ≡ true → r ≡ side_number b (function_at xs at)
+  pub side-result : {r : ℕ} {b : Bool} → r ≡ result_of xs at → b ≡ true → r ≡ side_number b (function_at xs at)
   unfolding side_number
   side-result {r} {b} e t = e ∙ sym (function-result xs at) ∙ ap (λ b. side_number b (function_at xs at)) (sym t)
 

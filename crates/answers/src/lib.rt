@@ -4,6 +4,7 @@
 // A refusal by its kind, in the order of section 4's table, 1 to 20, with its place: the offset of a field's first byte (2 to 8), or a
 // term entry (12 to 16); the others have none.
 #![tactic(auto)]
+
 #[derive(Drop)]
 pub enum Refusal {
     Workspace,

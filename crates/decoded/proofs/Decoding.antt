@@ -11,7 +11,7 @@ use package.Rattle.octets.specs.Numbers.{get16}
 use package.Rattle.rules.specs.Limits.{max_terms, max_functions, max_variables}
 use package.Rattle.calls.specs.Fields.{kind_at, length_at, parameters_at, term_lengths}
 use package.Rattle.calls.specs.Entries.{n_var, n_call, term_of_kind, call_ancillae, references, term_at, term_of, function_at}
-use package.Rattle.program.specs.Parts.{variable, first, second, third, listed as listed_at, result, body, TermField, FunctionField}
+use package.Rattle.program.specs.Parts.{variable, first, second, third, listed as listed_at, result_of, body, TermField, FunctionField}
 use package.Rattle.program.proofs.Shapes.{term-var, term-unit, term_case, term-call, term_by}
 use package.Rattle.program.proofs.Rooms.{term-kind, two-room}
 use package.Rattle.program.specs.Kinds.{variable_kind, unit_kind, case_kind, call_kind, term_kinds}
@@ -169,13 +169,13 @@ put-call {code₂ = code₂} {t} {f} {n} {p} {at} H L k ef en few = record {
 
 pub put_function : {code code₁ code₂ : List ℕ} {g n b c : ℕ} {p : List ℕ} {at : ℕ} → Heads code code₁ (function_rows + g) n b c 0
     → Listed code₁ code₂ (function_rows + g) p (at + 6) n
-    → FunctionField p at → n ≡ parameters_at p at → b ≡ body p at → c ≡ result p at → n ≤ room_for + 1 → FunctionPut code code₂ g p at
+    → FunctionField p at → n ≡ parameters_at p at → b ≡ body p at → c ≡ result_of p at → n ≤ room_for + 1 → FunctionPut code code₂ g p at
 unfolding function_in parameters_in body_in function_at
 put_function {code₂ = code₂} {g} {n} {b} {c} {p} {at} H L F en eb ec few = record {
   lengths = L.lengths ∙ H.lengths;
   row = record {
     entry = rw (kind-kept L ∙ H.kind_is, first-kept L ∙ H.first_is, second-kept L ∙ H.second_is, all)
-        (rw (eb, ec) (ap₂ (λ (ts : List ℕ) (t : ℕ). record { result = result p at; ancillae = ts; dynamic = t; body = body p at })
+        (rw (eb, ec) (ap₂ (λ (ts : List ℕ) (t : ℕ). record { result = result_of p at; ancillae = ts; dynamic = t; body = body p at })
         (listed_are L 0 (n - 1) (at + 6) (omega arith) (omega arith) ∙ ap (λ n. references p (at + 6) (n - 1)) en)
         (L.arguments (n - 1) (omega (arith, F.some)) ∙ ap (get16 p) last)));
     parameters = kind-kept L ∙ H.kind_is ∙ en;

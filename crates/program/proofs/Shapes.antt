@@ -7,7 +7,7 @@ use mathlib.Core.List.{List}
 use package.Rattle.octets.specs.Numbers.{get16}
 use package.Rattle.calls.specs.Fields.{call_kind, kind_at, length_at, parameters_at}
 use package.Rattle.calls.specs.Entries.{y_unit, y_prod, y_sum, y_mu, y_var, type_of_kind, type_at, n_var, n_unit, n_inl, n_inr, n_roll, n_unroll, n_pair, n_let, n_letp, n_case, n_call, term_of_kind, term_at, call_ancillae, references, function_at}
-use package.Rattle.program.specs.Parts.{variable, first, second, third, listed, result, body}
+use package.Rattle.program.specs.Parts.{variable, first, second, third, listed, result_of, body}
 use package.Rattle.program.specs.Kinds.{unit_type_kind, product_kind, sum_kind, recursive_kind, type_variable_kind, variable_kind, unit_kind, inl_kind, inr_kind, pair_kind, let_kind, let_pair_kind, case_kind, roll_kind}
 
 module _ (xs : List ℕ) (at : ℕ) where
@@ -96,7 +96,7 @@ module _ (xs : List ℕ) (at : ℕ) where
 -- Functions
 
 module _ (xs : List ℕ) (at : ℕ) where
-  pub function-result : (function_at xs at).result ≡ result xs at
+  pub function-result : (function_at xs at).result ≡ result_of xs at
   unfolding function_at
   function-result = refl
 

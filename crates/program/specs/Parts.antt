@@ -26,8 +26,8 @@ abbrev pub listed : List ℕ → ℕ → ℕ → ℕ
 listed xs at k = get16 xs (at + 6 + 2 * k)
 
 -- of a function
-abbrev pub result : List ℕ → ℕ → ℕ
-result xs at = get16 xs (at + 3)
+abbrev pub result_of : List ℕ → ℕ → ℕ
+result_of xs at = get16 xs (at + 3)
 
 abbrev pub body : List ℕ → ℕ → ℕ
 body xs at = get16 xs (at + 6 + 2 * parameters_at xs at)

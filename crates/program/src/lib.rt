@@ -1,5 +1,6 @@
 // Programs as bytes: reading their fields and entries, against calls/specs/Fields and Entries.
 #![tactic(auto)]
+
 pub mod fields;
 pub mod kinds;
 pub mod reader;

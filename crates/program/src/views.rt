@@ -4,7 +4,7 @@
 ghost use Rattle.std.specs.Prelude.{◌≡◌, ◌+◌, ◌*◌, ◌≤◌, ◌<◌, length};
 ghost use Rattle.calls.specs.Fields.{kind_at, length_at, parameters_at};
 ghost use Rattle.calls.specs.Entries.{call_ancillae};
-ghost use Rattle.program.specs.Parts.{variable, first, second, third, listed, result, body, TypeField, TermField};
+ghost use Rattle.program.specs.Parts.{variable, first, second, third, listed, result_of, body, TypeField, TermField};
 ghost use Rattle.program.specs.Kinds.{type_kinds, term_kinds};
 ghost use Rattle.program.specs.Lists.{types_in_type, types_in_term, functions_in_term, terms_in_term, terms_from};
 
@@ -14,7 +14,7 @@ use crate::kinds;
 
 pub fn kind(p: &[u8], at: usize) -> u8
     requires { at + 4 ≤ length p.now }
-    ensures* { λ r. ⌜ r ≡ kind_at p.now at ⌝ }
+    ensures { result ≡ kind_at p.now at }
 {
     p[at + 3]
 }
@@ -22,14 +22,14 @@ pub fn kind(p: &[u8], at: usize) -> u8
 // The same of a well-formed field: one of five kinds, one of eleven.
 pub fn type_kind(p: &[u8], at: usize) -> usize
     requires { TypeField p.now at }
-    ensures* { λ r. ⌜ (r ≡ kind_at p.now at) × (r < type_kinds) ⌝ }
+    ensures { (result ≡ kind_at p.now at) × (result < type_kinds) }
 {
     octets::wide_index(octets::wide16(kind(p, at)))
 }
 
 pub fn term_kind(p: &[u8], at: usize) -> usize
     requires { TermField p.now at }
-    ensures* { λ r. ⌜ (r ≡ kind_at p.now at) × (r < term_kinds) ⌝ }
+    ensures { (result ≡ kind_at p.now at) × (result < term_kinds) }
 {
     octets::wide_index(octets::wide16(kind(p, at)))
 }
@@ -37,7 +37,7 @@ pub fn term_kind(p: &[u8], at: usize) -> usize
 // The number of the variable that a type or a term is.
 pub fn variable(p: &[u8], at: usize) -> u8
     requires { at + 5 ≤ length p.now }
-    ensures* { λ r. ⌜ r ≡ variable p.now at ⌝ }
+    ensures { result ≡ variable p.now at }
 {
     p[at + 4]
 }
@@ -45,21 +45,21 @@ pub fn variable(p: &[u8], at: usize) -> u8
 // The references by position. Of a call the first is its function.
 pub fn first(p: &[u8], at: usize) -> u16
     requires { at + 6 ≤ length p.now }
-    ensures* { λ r. ⌜ r ≡ first p.now at ⌝ }
+    ensures { result ≡ first p.now at }
 {
     octets::read16(p, at + 4)
 }
 
 pub fn second(p: &[u8], at: usize) -> u16
     requires { at + 8 ≤ length p.now }
-    ensures* { λ r. ⌜ r ≡ second p.now at ⌝ }
+    ensures { result ≡ second p.now at }
 {
     octets::read16(p, at + 6)
 }
 
 pub fn third(p: &[u8], at: usize) -> u16
     requires { at + 10 ≤ length p.now }
-    ensures* { λ r. ⌜ r ≡ third p.now at ⌝ }
+    ensures { result ≡ third p.now at }
 {
     octets::read16(p, at + 8)
 }
@@ -68,7 +68,7 @@ pub fn third(p: &[u8], at: usize) -> u16
 
 pub fn listed(p: &[u8], at: usize, k: usize) -> u16
     requires { at + 8 + 2 * k ≤ length p.now }
-    ensures* { λ r. ⌜ r ≡ listed p.now at k ⌝ }
+    ensures { result ≡ listed p.now at k }
 {
     octets::read16(p, at + 6 + 2 * k)
 }
@@ -76,7 +76,7 @@ pub fn listed(p: &[u8], at: usize, k: usize) -> u16
 // How many ancilla terms a call has. Its dynamic term is the reference after so many.
 pub fn call_ancillae(p: &[u8], at: usize) -> usize
     requires { (at + 3 ≤ length p.now) × (5 ≤ length_at p.now at) }
-    ensures* { λ r. ⌜ r ≡ call_ancillae (length_at p.now at) ⌝ }
+    ensures { result ≡ call_ancillae (length_at p.now at) }
 {
     let n = octets::wide_index(octets::read16(p, at + 1));
     (n - 5) / 2
@@ -86,21 +86,21 @@ pub fn call_ancillae(p: &[u8], at: usize) -> usize
 
 pub fn function_result(p: &[u8], at: usize) -> u16
     requires { at + 5 ≤ length p.now }
-    ensures* { λ r. ⌜ r ≡ result p.now at ⌝ }
+    ensures { result ≡ result_of p.now at }
 {
     octets::read16(p, at + 3)
 }
 
 pub fn function_parameters(p: &[u8], at: usize) -> usize
     requires { at + 6 ≤ length p.now }
-    ensures* { λ r. ⌜ (r ≡ parameters_at p.now at) × (r < 256) ⌝ }
+    ensures { (result ≡ parameters_at p.now at) × (result < 256) }
 {
     octets::wide_index(octets::wide16(p[at + 5]))
 }
 
 pub fn function_body(p: &[u8], at: usize) -> u16
     requires { at + 8 + 2 * parameters_at p.now at ≤ length p.now }
-    ensures* { λ r. ⌜ r ≡ body p.now at ⌝ }
+    ensures { result ≡ body p.now at }
 {
     let n = function_parameters(p, at);
     octets::read16(p, at + 6 + 2 * n)
@@ -122,7 +122,7 @@ const CALL: usize = kinds::CALL as usize;
 
 pub fn types_in_type(p: &[u8], at: usize) -> usize
     requires { TypeField p.now at }
-    ensures* { λ r. ⌜ r ≡ types_in_type p.now at ⌝ }
+    ensures { result ≡ types_in_type p.now at }
 {
     let k = type_kind(p, at);
     TYPES_IN_TYPE[k]
@@ -130,7 +130,7 @@ pub fn types_in_type(p: &[u8], at: usize) -> usize
 
 pub fn types_in_term(p: &[u8], at: usize) -> usize
     requires { TermField p.now at }
-    ensures* { λ r. ⌜ r ≡ types_in_term p.now at ⌝ }
+    ensures { result ≡ types_in_term p.now at }
 {
     let k = term_kind(p, at);
     octets::wide_index(octets::wide16(TYPES_IN_TERM[k]))
@@ -138,7 +138,7 @@ pub fn types_in_term(p: &[u8], at: usize) -> usize
 
 pub fn functions_in_term(p: &[u8], at: usize) -> usize
     requires { TermField p.now at }
-    ensures* { λ r. ⌜ r ≡ functions_in_term p.now at ⌝ }
+    ensures { result ≡ functions_in_term p.now at }
 {
     let k = term_kind(p, at);
     octets::wide_index(octets::wide16(FUNCTIONS_IN_TERM[k]))
@@ -146,7 +146,7 @@ pub fn functions_in_term(p: &[u8], at: usize) -> usize
 
 pub fn terms_in_term(p: &[u8], at: usize) -> usize
     requires { TermField p.now at }
-    ensures* { λ r. ⌜ r ≡ terms_in_term p.now at ⌝ }
+    ensures { result ≡ terms_in_term p.now at }
 {
     let k = term_kind(p, at);
     if k == CALL {
@@ -158,7 +158,7 @@ pub fn terms_in_term(p: &[u8], at: usize) -> usize
 // Where a term's references to terms start.
 pub fn terms_from(p: &[u8], at: usize) -> usize
     requires { TermField p.now at }
-    ensures* { λ r. ⌜ r ≡ terms_from p.now at ⌝ }
+    ensures { result ≡ terms_from p.now at }
 {
     at + 4 + 2 * (types_in_term(p, at) + functions_in_term(p, at))
 }

@@ -13,7 +13,7 @@ use package.Rattle.calls.specs.Fields.{parameters_at}
 use package.Rattle.calls.specs.Entries.{type_at, type_of, term_at, term_trees, references, function_at, function_of, entries_at, program_of}
 use package.Rattle.calls.specs.Named.{types_of_function, below}
 use package.Rattle.calls.proofs.Entries.{below-head}
-use package.Rattle.program.specs.Parts.{listed, result, FunctionField}
+use package.Rattle.program.specs.Parts.{listed, result_of, FunctionField}
 use package.Rattle.program.specs.Signatures.{parameter_types, SignaturesAre}
 use package.Rattle.program.proofs.Rooms.{function-room}
 use package.Rattle.program.proofs.Rows.{parameter_at}
@@ -57,20 +57,20 @@ module _ {p types terms functions nodes : List ℕ} (E : Entered p types terms f
       (S.rows g there).each k ∙ ap (λ h. get_or (parameter_types (function_at p h)) k 0) (sym q) ∙ sym (parameter_at function-field k l)
 
   -- the types that it names are there
-  types_named_lem : below (length types) (result p h ∷ (references p (h + 6) (parameters_at p h - 1) ++ ((function_at p h).dynamic ∷ []))) ≡ true
+  types_named_lem : below (length types) (result_of p h ∷ (references p (h + 6) (parameters_at p h - 1) ++ ((function_at p h).dynamic ∷ []))) ≡ true
   unfolding entries_at types_of_function function_at
   types_named_lem = subst (λ n. below n (types_of_function (function_at p h)) ≡ true) (length-map types (type_at p))
       (E.tested.function g (function_at p h) entry-there).types_there
 
-  pub result-there : result p h < length types
-  result-there = (below-head (length types) (result p h) _ types_named_lem).0
+  pub result-there : result_of p h < length types
+  result-there = (below-head (length types) (result_of p h) _ types_named_lem).0
 
   pub parameter_there : (k : ℕ) → k < parameters_at p h - 1 → listed p h k < length types
-  parameter_there k l = below_each (length types) p (h + 6) (parameters_at p h - 1) _ (below-head (length types) (result p h) _ types_named_lem).1 k l
+  parameter_there k l = below_each (length types) p (h + 6) (parameters_at p h - 1) _ (below-head (length types) (result_of p h) _ types_named_lem).1 k l
 
   pub dynamic-there : listed p h (parameters_at p h - 1) < length types
   dynamic-there = rw (← function-dynamic p h function-field.some)
-      (below_last (length types) p (h + 6) (parameters_at p h - 1) _ (below-head (length types) (result p h) _ types_named_lem).1)
+      (below_last (length types) p (h + 6) (parameters_at p h - 1) _ (below-head (length types) (result_of p h) _ types_named_lem).1)
 
 ----------------------------------------------------------------
 -- Lists of references

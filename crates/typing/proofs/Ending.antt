@@ -9,7 +9,7 @@ use package.Rattle.rules.proofs.Basics.{or_right}
 use package.Rattle.calls.specs.Answer.{accepted, refused, ◌>>=◌, require}
 use package.Rattle.calls.specs.Fields.{parameters_at}
 use package.Rattle.calls.specs.Entries.{type_at, type_of, function_at}
-use package.Rattle.program.specs.Parts.{result}
+use package.Rattle.program.specs.Parts.{result_of}
 use package.Rattle.program.proofs.Shapes.{function-result}
 use package.Rattle.types.specs.declared.codes.Code.{Code}
 use package.Rattle.types.specs.Codes.{entry_code, tree_in, Known}
@@ -25,7 +25,7 @@ entry-tree xs types heap {n} e = ap (tree_in xs types heap) e ∙ tree-entry (ma
 
 module _ {xs types row : List ℕ} {at : ℕ} (S : Signed xs types at row) where
   -- the codes of the result and of a parameter
-  pub result-known : (top : ℕ) {n : ℕ} {c : Code} → n ≡ result xs at → c ≡ entry_code n → Known (length types) top c
+  pub result-known : (top : ℕ) {n : ℕ} {c : Code} → n ≡ result_of xs at → c ≡ entry_code n → Known (length types) top c
   result-known top s e = subst (Known (length types) top) (sym e) (entry_known _ (subst (λ k. k < length types) (sym s) (result-there S.formed S.there)))
 
   pub parameter_known : (top : ℕ) {i : ℕ} {c : Code} → i < parameters_at xs at → c ≡ entry_code (get_or row i 0) → Known (length types) top c
@@ -33,7 +33,7 @@ module _ {xs types row : List ℕ} {at : ℕ} (S : Signed xs types at row) where
 
   module _ (heap : List ℕ) (τ : Ty) where
     -- what the code compares with, and what it asks about
-    result_compared : {n : ℕ} {c : Code} {r : Bool} → n ≡ result xs at → c ≡ entry_code n → r ≡ same_ty τ (tree_in xs types heap c)
+    result_compared : {n : ℕ} {c : Code} {r : Bool} → n ≡ result_of xs at → c ≡ entry_code n → r ≡ same_ty τ (tree_in xs types heap c)
         → same_ty τ (type_of (map (type_at xs) types) (function_at xs at).result) ≡ r
     result_compared s e d = sym (d ∙ ap (same_ty τ) (entry-tree xs types heap e ∙ ap (type_of (map (type_at xs) types)) (s ∙ sym (function-result xs at))))
 
@@ -42,12 +42,12 @@ module _ {xs types row : List ℕ} {at : ℕ} (S : Signed xs types at row) where
     dynamic-asked s e d = sym (d ∙ ap is_unit (entry-tree xs types heap e
         ∙ ap (type_of (map (type_at xs) types)) (ap (λ i. get_or row i 0) s ∙ row-dynamic S.formed S.signature)))
 
-    pub result-differs : {n : ℕ} {c : Code} {r : Bool} (used : Bool) → n ≡ result xs at → c ≡ entry_code n → r ≡ same_ty τ (tree_in xs types heap c) → r ≡ false
+    pub result-differs : {n : ℕ} {c : Code} {r : Bool} (used : Bool) → n ≡ result_of xs at → c ≡ entry_code n → r ≡ same_ty τ (tree_in xs types heap c) → r ≡ false
         → refused 6 at ≡ end_answer xs types at τ used
     unfolding end_answer require ◌>>=◌
     result-differs used s e d f = rw (result_compared s e d ∙ f)
 
-    module _ {n i : ℕ} {c c' : Code} {r r' : Bool} (s : n ≡ result xs at) (e : c ≡ entry_code n) (d : r ≡ same_ty τ (tree_in xs types heap c)) (t : r ≡ true)
+    module _ {n i : ℕ} {c c' : Code} {r r' : Bool} (s : n ≡ result_of xs at) (e : c ≡ entry_code n) (d : r ≡ same_ty τ (tree_in xs types heap c)) (t : r ≡ true)
         (s' : i ≡ parameters_at xs at - 1) (e' : c' ≡ entry_code (get_or row i 0)) (d' : r' ≡ is_unit (tree_in xs types heap c')) where
       pub dynamic-unit : (used : Bool) → r' ≡ true → accepted tt ≡ end_answer xs types at τ used
       unfolding end_answer require ◌>>=◌

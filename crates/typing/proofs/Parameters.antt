@@ -11,7 +11,7 @@ use package.Rattle.calls.specs.Fields.{parameters_at}
 use package.Rattle.calls.specs.Entries.{function_at}
 use package.Rattle.calls.specs.Named.{types_of_function, below}
 use package.Rattle.calls.proofs.Entries.{below-head, below_at}
-use package.Rattle.program.specs.Parts.{FunctionField, result}
+use package.Rattle.program.specs.Parts.{FunctionField, result_of}
 use package.Rattle.program.specs.Signatures.{parameter_types, SignatureIs}
 use package.Rattle.program.proofs.Shapes.{function-result}
 use package.Rattle.program.proofs.Lists.{ancillae-count}
@@ -32,6 +32,6 @@ module _ {xs : List ℕ} {at : ℕ} (F : FunctionField xs at) where
           (below_at n (parameter_types (function_at xs at)) i (below-head n (function_at xs at).result _ b).1
           (omega (arith, F.some, ancillae-count xs at, length-append (function_at xs at).ancillae ((function_at xs at).dynamic ∷ []))))
 
-  pub result-there : {n : ℕ} → below n (types_of_function (function_at xs at)) ≡ true → result xs at < n
+  pub result-there : {n : ℕ} → below n (types_of_function (function_at xs at)) ≡ true → result_of xs at < n
   unfolding types_of_function
   result-there {n} b = subst (λ k. k < n) (function-result xs at) (below-head n (function_at xs at).result _ b).0

@@ -15,7 +15,7 @@ use package.Rattle.rules.specs.Check.{term, Checked, good, ◌>>=◌, ◌>>◌, 
 use package.Rattle.rules.proofs.Typing.Waiting.{waits-call}
 use package.Rattle.calls.specs.Fields.{length_at, parameters_at}
 use package.Rattle.calls.specs.Entries.{type_at, type_of, term_trees, call_ancillae, references, function_of}
-use package.Rattle.program.specs.Parts.{first, listed, result}
+use package.Rattle.program.specs.Parts.{first, listed, result_of}
 use package.Rattle.program.specs.Signatures.{SignaturesAre}
 use package.Rattle.program.proofs.Shapes.{function-result, function-ancillae, function-dynamic}
 use package.Rattle.program.specs.Programs.{program_in}
@@ -280,11 +280,11 @@ module _ {p types terms functions nodes heap vars : List ℕ} {sc : Scope} {top 
     unfolding function_of
     dynamic_is = ap ys (function-dynamic p h (some_parameters rd.entries (called-there rd.entries H) call-entry).0 ∙ ap (listed p h) (sym qo))
 
-    result_is : F.result ≡ ys (result p h)
+    result_is : F.result ≡ ys (result_of p h)
     unfolding function_of
     result_is = ap ys (function-result p h)
 
-    rule-shape : goal ≡ shape (types_from p types h 0 own) (ys (listed p h own)) (ys (result p h))
+    rule-shape : goal ≡ shape (types_from p types h 0 own) (ys (listed p h own)) (ys (result_of p h))
     unfolding infer as_fun shape
     rule-shape =
         ap (typing_of p types terms functions Γ) call-tree
@@ -300,11 +300,11 @@ module _ {p types terms functions nodes heap vars : List ℕ} {sc : Scope} {top 
 
     rule_call : goal ≡ (need (eqb n own) 6 (term t) >> (infer_arguments max_variables max_nodes (program_in p types terms functions) t (bar Γ)
         (terms_from p types terms at 0 n) (types_from p types h 0 own)
-        >> demanded (type_in p types terms functions heap vars sc e) (ys (listed p h own)) (ys (result p h)) t))
+        >> demanded (type_in p types terms functions heap vars sc e) (ys (listed p h own)) (ys (result_of p h)) t))
     unfolding shape
     rule_call = rule-shape ∙ ap₂ (λ i j. need (eqb i j) 6 (term t)
         >> (infer_arguments max_variables max_nodes (program_in p types terms functions) t (bar Γ) (terms_from p types terms at 0 n) (types_from p types h 0 own)
-        >> demanded (type_in p types terms functions heap vars sc e) (ys (listed p h own)) (ys (result p h)) t)) counted as_many
+        >> demanded (type_in p types terms functions heap vars sc e) (ys (listed p h own)) (ys (result_of p h)) t)) counted as_many
 
   pub call_differ : {r : Out} → ¬ (n ≡ own) → r.status ≡ Refused (Differ t) → r.top ≡ top
       → Infers p types terms functions heap heap vars vars sc top t r
@@ -387,7 +387,7 @@ module _ {p types terms functions nodes heap vars : List ℕ} {sc : Scope} {top 
           pub call-part : (e < t) × (e < length terms)
           call-part = rw (qe ∙ ap (listed p at) qn) (part-dynamic rd.entries H)
 
-          module _ {i j : ℕ} (qi : i ≡ listed p h n) (qj : j ≡ result p h) {want answer : Code} (w : want ≡ entry_code i) (w' : answer ≡ entry_code j) where
+          module _ {i j : ℕ} (qi : i ≡ listed p h n) (qj : j ≡ result_of p h) {want answer : Code} (w : want ≡ entry_code i) (w' : answer ≡ entry_code j) where
             pub call_want : Known (length types) o.top want × Known (length types) o.top answer
             call_want = (
               subst (Known (length types) o.top) (sym w)

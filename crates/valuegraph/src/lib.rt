@@ -1,3 +1,4 @@
 // Values in lent bytes.
 #![tactic(auto)]
+
 pub mod nodes; // nodes.rt: the value graph

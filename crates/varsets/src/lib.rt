@@ -1,6 +1,7 @@
 // Sets of variables by value, of which a term's uses are one: bit i is variable i. Only decoded sees the bits, which keeps sets as numbers: in a
 // table, and in the rows of cases by halves. A larger scope changes this crate and that one.
 #![tactic(auto)]
+
 ghost use Rattle.std.specs.Prelude.{◌≡◌, ◌≤◌, ◌<◌};
 ghost use Rattle.varsets.specs.Sets.{Holds, nobody, alone, firsts, ranged, joined, below, has, AgreeOn, AllInside, low_half, high_half, of_halves};
 ghost use Rattle.octets.specs.Runs.{Decides};
