@@ -140,6 +140,8 @@ class Function:
                     best = (name, fields)
             if best and best[1]:
                 return ".".join(["c", arm[0], best[0]] + rest[len(best[1]):])
+        renamed = dict(self.places[place][4]) if self.places[place][4] else {}
+        rest = [renamed.get(rest[0], rest[0])] + rest[1:]
         kind, more = rest[0], rest[1:]
         if kind in ("ensures", "requires") and callee:
             return self.clause_path(self.clauses(callee, 1 if kind == "ensures" else 0), more, kind, base)

@@ -1,0 +1,17 @@
+use mathlib.Core.Path.{sym, ◌∙◌}
+use borrow.Author.Rules.{rules}
+use Rattle.program.proofs.Found.{found_none, found_whole}
+use Rattle.program.proofs.Reading.{field-inside}
+use Rattle.program.proofs.reader.field_at.Goals as goal
+
+pub next_at-next-requires : goal.next_at-next-requires
+next_at-next-requires c =
+    field-inside _ _ _ (sym c.well_formed-2.ensures ∙ c.if-well_formed.true)
+
+pub returns-then-well_formed : goal.returns-then-well_formed
+returns-then-well_formed c =
+    found_whole _ _ _ _ _ (sym c.well_formed-2.ensures ∙ c.if-well_formed.true) c.tag_at-tag.ensures c.next_at-next.ensures
+
+pub returns : goal.returns
+returns c =
+    found_none _ _ _ (sym c.well_formed-2.ensures ∙ c.if-well_formed.false)

@@ -1,0 +1,17 @@
+use Prim.Native.Nat.{◌-◌, ◌/◌}
+use native.Mathlib.Omega.{arith}
+use mathlib.Core.Path.{◌∙◌, ap}
+use package.Rattle.calls.specs.Fields.{length_at}
+use package.Rattle.calls.specs.Entries.{call_ancillae}
+use borrow.Author.Rules.{rules}
+use Rattle.program.proofs.views.call_ancillae.Goals as goal
+
+pub overflow_sub-result : goal.overflow_sub-result
+unfolding length_at
+overflow_sub-result c =
+    omega (arith, c.wide_index-n.ensures.0 ∙ c.read16.ensures)
+
+pub returns : goal.returns
+unfolding length_at call_ancillae
+returns c =
+    ap (λ n. (n - 5) / 2) (c.wide_index-n.ensures.0 ∙ c.read16.ensures)

@@ -1,0 +1,6 @@
+use borrow.Author.Rules.{rules}
+use Rattle.program.proofs.views.function_body.Goals as goal
+
+pub returns : goal.returns
+returns c =
+    cc

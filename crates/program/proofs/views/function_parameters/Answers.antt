@@ -1,0 +1,10 @@
+use mathlib.Core.Path.{◌∙◌}
+use native.Mathlib.Omega.{arith}
+use package.Rattle.calls.specs.Fields.{parameters_at}
+use borrow.Author.Rules.{rules}
+use Rattle.program.proofs.views.function_parameters.Goals as goal
+
+pub returns : goal.returns
+unfolding parameters_at
+returns c =
+    (c.wide_index.ensures.0 ∙ c.wide16.ensures.0, omega arith)
