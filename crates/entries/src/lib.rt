@@ -1,4 +1,5 @@
 // The tests on a program's entries, against calls/specs/Named.
 #![tactic(auto)]
+
 pub mod measures;
 pub mod testing;

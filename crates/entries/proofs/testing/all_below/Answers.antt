@@ -1,0 +1,48 @@
+use Prim.Native.Nat.{◌-◌, ◌≤◌}
+use native.Mathlib.Omega.{arith}
+use mathlib.Core.Path.{◌≡◌, ◌∙◌}
+use mathlib.Core.Bool.{true}
+use Rattle.calls.specs.Entries.{references}
+use Rattle.calls.specs.Named.{below}
+use Rattle.entries.proofs.Turns.{below_none, below_more, below_all, below-stops}
+use borrow.Author.Rules.{rules}
+use Rattle.entries.proofs.testing.all_below.Goals as goal
+
+pub loop-i-init : goal.loop-i-init
+loop-i-init c =
+    (omega arith, below_none _ _ _)
+
+pub overflow_mul-i : goal.overflow_mul-i
+overflow_mul-i c =
+    omega arith
+
+pub overflow_add-from : goal.overflow_add-from
+overflow_add-from c =
+    omega arith
+
+pub read16-requires : goal.read16-requires
+read16-requires c =
+    omega arith
+
+pub returns-then-limit-t : goal.returns-then-limit-t
+returns-then-limit-t c =
+    below-stops _ _ _ c.loop-i.i _ (omega arith) (omega (arith, c.wide_index-t.ensures.0 ∙ c.read16.ensures))
+
+pub overflow_add-i : goal.overflow_add-i
+overflow_add-i c =
+    omega arith
+
+pub loop-i-smaller : goal.loop-i-smaller
+loop-i-smaller c =
+    omega arith
+
+pub loop-i-preserved : goal.loop-i-preserved
+loop-i-preserved c = (
+  omega arith,
+  below_more _ _ _ c.loop-i.i c.loop-i.invariant.1
+      (omega (arith, c.wide_index-t.ensures.0 ∙ c.read16.ensures)),
+)
+
+pub returns : goal.returns
+returns c =
+    below_all _ _ _ c.loop-i.i _ (omega arith) (omega arith) c.loop-i.invariant.1

@@ -1,0 +1,15 @@
+use Prim.Native.Nat.{◌-◌, ◌≤◌}
+use native.Mathlib.Omega.{arith}
+use mathlib.Core.Path.{◌≡◌, ◌∙◌}
+use mathlib.Core.Bool.{true}
+use Rattle.calls.specs.Entries.{references}
+use Rattle.entries.specs.Marks.{all_plain_in}
+use Rattle.entries.proofs.Turns.{below_at, plain_none, plain_yes, plain_open, plain_large, plain_more, plain-all, plain-stops}
+use borrow.Author.Rules.{rules}
+use Rattle.entries.proofs.testing.all_plain.Given as goal
+
+abbrev pub invariant-loop-i : goal.invariant-loop-i
+invariant-loop-i l = (l.i ≤ l.n) × (all_plain_in l.nodes l.free (references l.p l.from l.i) ≡ true)
+
+abbrev pub decreases-loop-i : goal.decreases-loop-i
+decreases-loop-i l = l.n - l.i
