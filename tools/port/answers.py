@@ -93,6 +93,9 @@ class Function:
         self.order = {p[0]: i for i, p in enumerate(data["places"])}
         self.needs = {norm(a): (b, data["asked_at"][i] if i < len(data["asked_at"]) else None) for i, (a, b) in enumerate(data["needs"])}
         self.name = None
+        self.helpers = {}
+        self.stem = ''
+        self.cycle = False
         self.fixmes = 0
 
     def clauses(self, callee, which):
@@ -120,7 +123,17 @@ class Function:
             return self.clause_path(self.clauses(self.name, 0), rest, "requires", "c")
         if head in ("args", "ranges", "type_inv"):
             return "c." + ".".join(segs)
-        short = lambda s: re.sub(r"-(\d+)$", r"\1", norm(s))
+        short = lambda s: re.sub(r"-(\d+)$", r"\1", re.sub(r"-lem$", "", norm(s).lower()))
+        for up in self.ancestors(place):
+            arm = self.d["arms"][self.order[up]] if self.order[up] < len(self.d["arms"]) else None
+            hits = [(len(fs), n, fs) for n, st, fs in (arm[2] if arm else []) if short(st) == short(head) and rest[: len(fs)] == fs]
+            if hits:
+                n, name, _ = max(hits)
+                more = rest[n:]
+                if n == 0:
+                    renamed = next((dict(self.places[u][4]) for u in self.ancestors(up) if short(self.step(u)[0]) == short(head) and self.places[u][4]), {})
+                    more = [renamed.get(more[0], more[0])] + more[1:] if more else more
+                return ".".join(["c", arm[0], name] + more)
         for up in self.ancestors(place):
             if short(self.step(up)[0]) == short(head):
                 return self.at_step(up, rest)
@@ -132,14 +145,6 @@ class Function:
         base = "c." + new
         if not rest:
             return ("step", place, base)
-        arm = self.d["arms"][self.order[place]] if self.order[place] < len(self.d["arms"]) else None
-        if arm:
-            best = None
-            for name, step, fields in arm[2]:
-                if step == old and rest[: len(fields)] == fields and (best is None or len(fields) > len(best[1])):
-                    best = (name, fields)
-            if best and best[1]:
-                return ".".join(["c", arm[0], best[0]] + rest[len(best[1]):])
         renamed = dict(self.places[place][4]) if self.places[place][4] else {}
         rest = [renamed.get(rest[0], rest[0])] + rest[1:]
         kind, more = rest[0], rest[1:]
@@ -175,6 +180,58 @@ class Function:
 
 PATH = re.compile(r"(?<![\w'·.-])(" + WORD + r")((?:\.(?:«[\w-]+»|[\w'·₀-₉-]+))+)")
 BARE = re.compile(r"(?<![\w'·.-])(" + WORD + r")(?![\w'·-]|\.[\w«])")
+
+
+def inline_helpers(text, helpers):
+    """Helpers over a place (their names are not in today's kit) are put in where they are called."""
+    for _ in range(40):
+        best = None
+        for name, (binders, body) in helpers.items():
+            for m in re.finditer(r"(?<![\w'·.-])" + re.escape(name) + r"(?![\w'·-])", text):
+                if best is None or m.start() < best[0].start():
+                    best = (m, name)
+        if not best:
+            return text
+        m, name = best
+        binders, body = helpers[name]
+        at, args = m.end(), []
+        for _ in binders:
+            a = re.match(r"\s*(\(|" + WORD + r"(?:\.[\w'·₀-₉«»-]+)*)", text[at:])
+            if not a:
+                break
+            if a.group(1) == "(":
+                start = at + a.end() - 1
+                depth, i = 0, start
+                while True:
+                    depth += {"(": 1, ")": -1}.get(text[i], 0)
+                    i += 1
+                    if depth == 0:
+                        break
+                args.append(text[start:i])
+                at = i
+            else:
+                args.append(a.group(1))
+                at += a.end()
+        table = dict(zip(binders, args))
+
+        def put(k):
+            v = table.get(k.group(1))
+            return k.group(0) if v is None else v
+
+        code = re.sub(r"(?<![\w'·.-])(" + WORD + r")(?![\w'·-])", put, body.strip())
+        rest = binders[len(args):]
+        if rest:
+            code = f"λ {' '.join(rest)}. {code}"
+        simple = re.fullmatch(WORD + r"(?:\.[\w'·₀-₉«»-]+)*", code)
+        follows = text[at:]
+        if not simple:
+            code = "(" + code + ")"
+        before = text[: m.start()]
+        # `(start_of m).args` is `m.args`
+        if simple and before.endswith("(") and follows.startswith(").") :
+            before, follows = before[:-1], follows[1:]
+        text = before + code + follows
+    return text
 
 
 def split_let(text):
@@ -223,7 +280,15 @@ def tuple_parts(text):
 def turn_body(fn, place, text, var="c"):
     alias = {var: (place, [])}
     lets = []
+    text = inline_helpers(text, fn.helpers)
     while True:
+        tup = re.match(r"\s*let \(([^()]*)\) = ([^()\s]+) (?:t )?(\S+) in\b", text)
+        if tup and tup.group(3).split(".")[0] in alias:
+            for n in tup.group(1).split(","):
+                if n.strip() not in ("", "_"):
+                    alias[n.strip()] = (place, [])
+            text = text[tup.end():]
+            continue
         s = split_let(text)
         if not s:
             break
@@ -245,7 +310,20 @@ def turn_body(fn, place, text, var="c"):
     return out, turn_text(fn, alias, text.strip()), alias
 
 
+INNER = re.compile(r"let\s+(" + WORD + r")\s*=\s*(" + WORD + r")((?:\.(?:«[\w-]+»|[\w'·₀-₉-]+))*)\s+in\s+")
+
+
 def turn_text(fn, alias, text):
+    alias = dict(alias)
+    while True:
+        m = next((m for m in INNER.finditer(text) if m.group(2) in alias), None)
+        if not m:
+            break
+        p, segs = alias[m.group(2)]
+        alias[m.group(1)] = (p, segs + [x for x in m.group(3).split(".") if x])
+        text = text[: m.start()] + text[m.end():]
+    # `(m.before.x).y` is `m.before.x.y`
+    text = re.sub(r"\((" + WORD + r"(?:\.[\w'·₀-₉«»-]+)*)\)(?=\.\w)", lambda m: m.group(1) if m.group(1).split(".")[0] in alias else m.group(0), text)
     def path(m):
         name, segs = m.group(1), [x for x in m.group(2).split(".") if x]
         if name not in alias:
@@ -289,6 +367,24 @@ def declarations(text):
     return uses, blocks
 
 
+def helper(block):
+    """(name, binders, body) of a declaration over a place of the walk."""
+    b = [l for l in block if not l.startswith("--")]
+    m = re.match(r"(?:pub )?(?:abbrev )?(?:pub )?(\S+) :", b[0]) if b else None
+    if not m or m.group(1).endswith(("-spec", "_spec")):
+        return None
+    name = m.group(1)
+    at = next((i for i, l in enumerate(b) if i and l.startswith(name + " ") and "=" in l), None)
+    if at is None:
+        return None
+    sig = "\n".join(b[:at])
+    if not re.search(r"(tie|lts)\.(Start|After|At|In|Then|Else)[\w-]*", sig) or re.search(r"(tie|lts)\.Need-", sig):
+        return None
+    text = "\n".join(b[at:])
+    m = re.match(re.escape(name) + r"((?: \S+)*?) =(?=\s)", text)
+    return name, m.group(1).split(), text[m.end():]
+
+
 def need_names(text):
     return re.findall(r"^(?:pub )?\S+ : tie\.Need-(\S+)", text, re.M)
 
@@ -298,6 +394,11 @@ def convert(crate, rel, old_text, new_text, fn, module):
     uses, blocks = declarations(new_text)
     answers, invariants, other = [], [], []
     k = 0
+    for b in list(blocks):
+        h = helper(b)
+        if h:
+            fn.helpers[h[0]] = h[1:]
+            blocks.remove(b)
     for b in blocks:
         i = 0
         while i < len(b) and b[i].startswith("--"):
@@ -338,7 +439,7 @@ def convert(crate, rel, old_text, new_text, fn, module):
         new, at = fn.needs[old]
         place = at[0] if at else "Start"
         lets, final, alias = turn_body(fn, place, body, args[0] if args else "c")
-        if final.strip() == "search rules" and not lets:
+        if final.strip() == "search rules" and not lets and not unfolding:
             continue
         answers.append((comments, new, unfolding, lets, final, args, old))
     return uses, answers, invariants, other
@@ -389,7 +490,7 @@ def write_answers(fn, uses, answers, other, module, crate_folder):
                 items.append((f"{new}-clause-{n}", parts[0]))
                 rest = parts[1] if len(parts) == 2 else "(" + ", ".join(parts[1:]) + ")"
         for n, text in items:
-            if text.strip() == "search rules" and len(names) > 1:
+            if text.strip() == "search rules" and len(names) > 1 and not unfolding:
                 continue
             lines += [""] + comments + [f"pub {n} : goal.{n}"] + unfolding + [f"{n} c =\n    {lets}{text.strip()}"]
     return "\n".join(lines) + "\n"

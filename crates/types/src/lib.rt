@@ -1,5 +1,6 @@
 // The types that typing gives a term, as codes that are compared as trees without writing them out (document 01, section 3).
 #![tactic(auto)]
+
 pub mod codes; // codes.rt: what a code is
 pub mod nodes; // nodes.rt: product nodes in lent bytes
 pub mod figures; // figures.rt: what is kept of each type entry, behind them

@@ -3,6 +3,7 @@
 
 // where values end, and the parts of a pair
 #![tactic(auto)]
+
 pub mod scan;
 // whether a value is of a type
 pub mod typed;

@@ -1,0 +1,8 @@
+use native.Mathlib.Omega.{arith}
+use borrow.Author.Rules.{rules}
+use Rattle.decoded.proofs.Puts.{heads}
+use Rattle.decoded.proofs.decode.put_heads.Goals as goal
+
+pub returns : goal.returns
+returns c =
+    heads _ _ _ _ _ _ (omega arith)

@@ -1,0 +1,9 @@
+use mathlib.Core.Path.{ap}
+use borrow.Author.Rules.{rules}
+use Rattle.decoded.specs.Naming.{set_in}
+use Rattle.decoded.proofs.naming.set_of.Goals as goal
+
+pub returns : goal.returns
+unfolding set_in
+returns c =
+    ap (λ t. set_in c.args.sets.now t) c.wide_index-at.ensures.0

@@ -1,0 +1,7 @@
+use Rattle.types.proofs.Counts.{limit-decided}
+use borrow.Author.Rules.{rules}
+use Rattle.types.proofs.counting.within_limit.Goals as goal
+
+pub returns : goal.returns
+returns c =
+    limit-decided _ c.node_count.ensures

@@ -1,0 +1,7 @@
+use Rattle.types.proofs.Recalling.{slot-place}
+use borrow.Author.Rules.{rules}
+use Rattle.types.proofs.further.place.Goals as goal
+
+pub returns : goal.returns
+returns c =
+    slot-place c.wide_index.ensures.0 c.wide_index-2.ensures.0

@@ -1,0 +1,8 @@
+use Rattle.types.specs.Growth.{put_node}
+use borrow.Author.Rules.{rules}
+use Rattle.types.proofs.nodes.put_node.Goals as goal
+
+pub returns : goal.returns
+unfolding put_node
+returns c =
+    cc c.wide_index-at.ensures.0

@@ -1,0 +1,10 @@
+use mathlib.Core.Path.{ap, ◌∙◌}
+use Prim.Native.Nat.{◌+◌, ◌*◌}
+use Rattle.types.specs.Codes.{code_at, right_at}
+use borrow.Author.Rules.{rules}
+use Rattle.types.proofs.nodes.right_of.Goals as goal
+
+pub returns : goal.returns
+unfolding right_at
+returns c =
+    c.code_at.ensures ∙ ap (λ n. code_at c.args.ws.now (14 * n + 6)) c.wide_index.ensures.0

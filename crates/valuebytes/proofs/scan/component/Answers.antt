@@ -1,0 +1,48 @@
+use Prim.Native.Nat.{◌≤◌}
+use lib.ListN.{length}
+use mathlib.Core.Path.{sym, ◌∙◌}
+use Rattle.valuebytes.proofs.Whole.{pair-unended, pair-within, part-first, part-second}
+use borrow.Author.Rules.{rules}
+use Rattle.valuebytes.proofs.scan.component.Goals as goal
+
+pub returns-in_default : goal.returns-in_default
+returns-in_default c =
+    absurd (pair-unended _ c.requires.0 c.requires.1 (sym c.in_default.is ∙ c.value_end-end.ensures))
+
+pub slice_bounds-result-count : goal.slice_bounds-result-count
+slice_bounds-result-count c =
+    let h = (pair-within _ c.requires.0 c.requires.1 _
+    (sym c.in-At.is ∙ c.value_end-end.ensures)) in
+    search rules
+
+pub slice_bounds-result-start : goal.slice_bounds-result-start
+slice_bounds-result-start c =
+    let h = (pair-within _ c.requires.0 c.requires.1 _
+    (sym c.in-At.is ∙ c.value_end-end.ensures)) in
+    search rules
+
+pub slice_bounds-result-count-else-second : goal.slice_bounds-result-count-else-second
+slice_bounds-result-count-else-second c =
+    let h = (pair-within _ c.requires.0 c.requires.1 _
+    (sym c.in-At.is ∙ c.value_end-end.ensures)) in
+    search rules
+
+pub slice_bounds-result-start-else-second : goal.slice_bounds-result-start-else-second
+slice_bounds-result-start-else-second c =
+    let h = (pair-within _ c.requires.0 c.requires.1 _
+    (sym c.in-At.is ∙ c.value_end-end.ensures)) in
+    search rules
+
+pub slice_bounds-result-end-else-second : goal.slice_bounds-result-end-else-second
+slice_bounds-result-end-else-second c =
+    let h = (pair-within _ c.requires.0 c.requires.1 _
+    (sym c.in-At.is ∙ c.value_end-end.ensures)) in
+    search rules
+
+pub returns-then-second : goal.returns-then-second
+returns-then-second c =
+    part-second _ c.requires.0 c.requires.1 _ _ (sym c.in-At.is ∙ c.value_end-end.ensures) c.if-second.true
+
+pub returns-else-second : goal.returns-else-second
+returns-else-second c =
+    part-first _ c.requires.0 c.requires.1 _ _ (sym c.in-At.is ∙ c.value_end-end.ensures) c.if-second.false

@@ -1,0 +1,8 @@
+use native.Mathlib.Omega.{arith}
+use borrow.Author.Rules.{rules}
+use Rattle.varsets.proofs.Inside.{all-below}
+use Rattle.varsets.proofs.Uses.those_below.Goals as goal
+
+pub returns : goal.returns
+returns c =
+    all-below c.args.self c.args.n (omega arith)
