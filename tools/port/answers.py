@@ -119,6 +119,12 @@ class Function:
         if not segs:
             return ("place", place)
         head, rest = segs[0], segs[1:]
+        if head == "requires" and self.cycle:
+            if rest[:1] == ["0"]:
+                return ".".join(["c", "decreases"] + rest[1:])
+            if rest[:1] != ["1"]:
+                return "FIXME_requires_" + "_".join(rest)
+            rest = rest[1:]
         if head == "requires":
             return self.clause_path(self.clauses(self.name, 0), rest, "requires", "c")
         if head in ("args", "ranges", "type_inv"):
@@ -186,14 +192,14 @@ def inline_helpers(text, helpers):
     """Helpers over a place (their names are not in today's kit) are put in where they are called."""
     for _ in range(40):
         best = None
-        for name, (binders, body) in helpers.items():
+        for name in helpers:
             for m in re.finditer(r"(?<![\w'·.-])" + re.escape(name) + r"(?![\w'·-])", text):
                 if best is None or m.start() < best[0].start():
                     best = (m, name)
         if not best:
             return text
         m, name = best
-        binders, body = helpers[name]
+        binders, body, sort = helpers[name]
         at, args = m.end(), []
         for _ in binders:
             a = re.match(r"\s*(\(|" + WORD + r"(?:\.[\w'·₀-₉«»-]+)*)", text[at:])
@@ -218,6 +224,8 @@ def inline_helpers(text, helpers):
             v = table.get(k.group(1))
             return k.group(0) if v is None else v
 
+        if sort and re.match(r"record\b|\(", body.strip()) and len(args) == len(binders):
+            body = f"let it : {sort.strip()} = {body.strip()} in it"
         code = re.sub(r"(?<![\w'·.-])(" + WORD + r")(?![\w'·-])", put, body.strip())
         rest = binders[len(args):]
         if rest:
@@ -353,6 +361,8 @@ def declarations(text):
     """The file's imports and its declarations: (lines of use, [(signature, name, unfolding, head, body)], other text)."""
     uses, blocks = [], []
     current = []
+    # an import over several lines stands on one
+    text = re.sub(r"^((?:pub )?use [^{\n]*\{)([^}]*)\}", lambda m: m.group(1) + " ".join(m.group(2).split()).rstrip(",") + "}", text, flags=re.M)
     for line in text.split("\n"):
         if re.match(r"(pub )?use ", line):
             uses.append(line)
@@ -382,7 +392,26 @@ def helper(block):
         return None
     text = "\n".join(b[at:])
     m = re.match(re.escape(name) + r"((?: \S+)*?) =(?=\s)", text)
-    return name, m.group(1).split(), text[m.end():]
+    return name, m.group(1).split(), text[m.end():], result_type(sig)
+
+
+def result_type(sig):
+    """The type behind a helper's argument that is a place, where it is no function."""
+    depth, after, start = 0, False, None
+    for m in re.finditer(r"[()\[\]{}]|→|\b(?:tie|lts)\.(?:Start|After|At|In|Then|Else)", sig):
+        w = m.group(0)
+        if w in "([{":
+            depth += 1
+        elif w in ")]}":
+            depth -= 1
+        elif w == "→":
+            if depth == 0 and after and start is None:
+                start = m.end()
+            elif depth == 0 and start is not None:
+                return None
+        else:
+            after = True
+    return sig[start:] if start is not None else None
 
 
 def need_names(text):
@@ -447,6 +476,9 @@ def convert(crate, rel, old_text, new_text, fn, module):
 
 def wanted_clauses(fn, new, old):
     """The names of the clauses that a goal has: of a callee's requires, or the function's own ensures."""
+    asked = {norm(k): v for k, v in fn.d["asked"].items()}
+    if old in asked or fn.cycle:
+        return asked.get(old, [None])
     if re.fullmatch(r"returns(-\d+)?", old):
         return fn.clauses(fn.name, 1)
     m = re.fullmatch(r"(.+)-requires(-\d+)?", old)
@@ -461,6 +493,34 @@ def wanted_clauses(fn, new, old):
     return [None]
 
 
+def clause_items(names, new, final):
+    """An answer clause by clause."""
+    items = [(new, final)]
+    if len(names) > 1:
+        items, rest = [], final
+        for i, n in enumerate(names):
+            if i == len(names) - 1:
+                items.append((f"{new}-clause-{n}", rest))
+                break
+            parts = tuple_parts(rest)
+            if parts is None and re.match(r"(omega|search|simp|grind|cc)\b", rest.strip()):
+                items += [(f"{new}-clause-{n2}", rest) for n2 in names[i:]]
+                break
+            if parts is None:
+                if i == 0:
+                    fields, path = [], "p"
+                    for j, n2 in enumerate(names):
+                        fields.append(f"{n2} = {path}.0" if j < len(names) - 1 else f"{n2} = {path}")
+                        path += ".1"
+                    items = [(new, f"let p = {rest} in record {{ {'; '.join(fields)} }}")]
+                else:
+                    items.append((f"FIXME_{new}", rest))
+                break
+            items.append((f"{new}-clause-{n}", parts[0]))
+            rest = parts[1] if len(parts) == 2 else "(" + ", ".join(parts[1:]) + ")"
+    return items
+
+
 def write_answers(fn, uses, answers, other, module, crate_folder):
     lines = list(uses)
     for o in other:
@@ -469,26 +529,7 @@ def write_answers(fn, uses, answers, other, module, crate_folder):
         comments, new, unfolding, lets, final = a[:5]
         old = a[6] if len(a) > 6 else ""
         names = wanted_clauses(fn, new, old) if old else [None]
-        items = [(new, final)]
-        if len(names) > 1:
-            items, rest = [], final
-            for i, n in enumerate(names):
-                if i == len(names) - 1:
-                    items.append((f"{new}-clause-{n}", rest))
-                    break
-                parts = tuple_parts(rest)
-                if parts is None:
-                    if i == 0:
-                        fields, path = [], "p"
-                        for j, n2 in enumerate(names):
-                            fields.append(f"{n2} = {path}.0" if j < len(names) - 1 else f"{n2} = {path}")
-                            path += ".1"
-                        items = [(new, f"let p = {rest} in record {{ {'; '.join(fields)} }}")]
-                    else:
-                        items.append((f"FIXME_{new}", rest))
-                    break
-                items.append((f"{new}-clause-{n}", parts[0]))
-                rest = parts[1] if len(parts) == 2 else "(" + ", ".join(parts[1:]) + ")"
+        items = clause_items(names, new, final)
         for n, text in items:
             if text.strip() == "search rules" and len(names) > 1 and not unfolding:
                 continue
@@ -530,6 +571,171 @@ def turn_invariants(fn, invariants, module):
     return "\n".join(lines) + "\n"
 
 
+def old_cycle_files(crate, old, folder, names):
+    """Before the kit's port.py the folder of a cycle had another name: the files with the same basenames and as many goals."""
+    at = os.path.dirname(os.path.relpath(folder, ROOT))
+    listed = subprocess.run(["git", "ls-tree", "-r", "--name-only", old, at + "/"], cwd=ROOT, capture_output=True, text=True).stdout.split("\n")
+    texts = {}
+    for p in listed:
+        rel = p[len(at) + 1:]
+        if rel.startswith("+") and p.endswith(".antt"):
+            texts.setdefault(rel.split("/")[0], {})["/".join(rel.split("/")[1:])] = p
+    good = [v for k, v in texts.items() if set(v) == set(names)]
+    if len(good) != 1:
+        same = "+" + os.path.basename(folder)[1:]
+        good = [v for k, v in texts.items() if k == same or k == os.path.basename(folder)] or good
+    return {k: subprocess.run(["git", "show", f"{old}:{p}"], cwd=ROOT, capture_output=True, text=True).stdout for k, p in good[0].items()}
+
+
+def parameters_of(name):
+    crate, *mods, f = name.split("::")
+    src = os.path.join(ROOT, "crates", crate, "src")
+    for top, _, files_ in os.walk(src):
+        for n in files_:
+            m = re.search(r"fn " + f + r"(?:<[^>]*>)?\(([^)]*)\)", read(os.path.join(top, n)))
+            if m:
+                return [a.split(":")[0].strip().replace("mut ", "").lstrip("&") for a in m.group(1).split(",") if a.strip()]
+    return []
+
+
+def convert_cycle(crate, rel, folder, functions, old):
+    """A cycle's folder: its walks become one Invariants.antt and one Answers.antt. `functions`: {name: Function}."""
+    paths = {}
+    for top, _, names in os.walk(folder):
+        for n in sorted(names):
+            p = os.path.join(top, n)
+            paths[os.path.relpath(p, folder)] = p
+    olds = old_cycle_files(crate, old, folder, paths)
+    module = f"Rattle.{crate}.proofs." + rel.replace("/", ".")
+    uses, answers, invariants, others = [], [], [], []
+    helpers, left = {}, 0
+    parsed = []
+    for name in sorted(paths, key=lambda n: (n != "Proof/Claims.antt", n)):
+        new_text = read(paths[name])
+        ali = {m.group(2): m.group(1) for m in re.finditer(r"^use \S+\.Lts-(\w+) as (\S+)$", new_text, re.M)}
+        file_uses, blocks = declarations(new_text)
+        old_names = re.findall(r"^\s*(?:pub )?\S+ : (?:\(t : ℕ\) → )?\S+?\.Need-(\S+)", olds[name], re.M)
+        uses += file_uses
+        k = 0
+        for b in blocks:
+            head = [l for l in b if not re.match(r"\s*--", l)]
+            if head and re.match(r"\s*module ", head[0]):
+                b = [l for l in b if l != head[0]]
+                head = head[1:]
+            if not head:
+                continue
+            pad = len(head[0]) - len(head[0].lstrip())
+            b = [l[pad:] if l[:pad].strip() == "" else l for l in b]
+            comments = [l for l in b if l.startswith("--")]
+            head = [l for l in b if not l.startswith("--")]
+            m = re.match(r"(?:pub )?(?:abbrev )?(?:pub )?(\S+) :(.*)", head[0])
+            if not m:
+                others.append(b)
+                continue
+            dname = m.group(1)
+            at = next((i for i, l in enumerate(head) if i and (l.startswith(dname + " ") or l.startswith(dname + " ="))), None)
+            if at is None:
+                others.append(b)
+                continue
+            sig = "\n".join(head[:at])
+            text = "\n".join(head[at:])
+            unfolding = [l for l in head[:at] if l.startswith("unfolding")]
+            eq = re.match(re.escape(dname) + r"((?: \S+)*?) =(?=\s)", text)
+            if not eq:
+                others.append(b)
+                continue
+            args, body = eq.group(1).split(), text[eq.end():]
+            need = re.search(r"(\S+?)\.Need-(\S+)", head[0])
+            if need:
+                parsed.append((comments, ali.get(need.group(1), need.group(1)), old_names[k] if k < len(old_names) else "?", unfolding, args, body))
+                k += 1
+            elif re.search(r"lts\.(invariant|decreases)|Measures ", sig):
+                invariants.append((comments, dname, sig, args, body, ali))
+            elif re.search(r"-(at|below|uses)$|_(at|below|uses)$", dname) and re.search(r"In \d+ |Claims", sig) or "statement" in sig:
+                continue
+            elif re.search(r"lts\.(Start|After|At|In|Then|Else)", sig):
+                helpers[dname] = (args, body, result_type(sig))
+            else:
+                others.append(b)
+    for fn in functions.values():
+        fn.helpers = helpers
+    lines = []
+    for comments, f, old_need, unfolding, args, body in parsed:
+        fn = functions.get(f)
+        key = norm(old_need)
+        key = re.sub(r"^(loop\d*)-holds", r"\1-init", re.sub(r"^(loop\d*)-less", r"\1-smaller", re.sub(r"^(loop\d*)-again", r"\1-preserved", key)))
+        if re.match(r"enum-(known|told)", key) and re.fullmatch(r"\s*c(\.before)*\.match\d*\.keys\d+\s*", body):
+            continue
+        if not fn or key not in fn.needs:
+            if body.strip() != "search rules":
+                lines += ["", f"-- FIXME goal {f} {key}"] + body.split("\n")
+            continue
+        new, at = fn.needs[key]
+        place = at[0] if at else "Start"
+        var = next((a for a in args if a not in ("t", "κs")), "c")
+        lets, final, _ = turn_body(fn, place, body, var)
+        if final.strip() == "search rules" and not lets and not unfolding:
+            continue
+        answers.append((fn, comments, fn.stem + new, unfolding, lets, final, key))
+    for fn, comments, new, unfolding, lets, final, key in answers:
+        for n, text in clause_items(wanted_clauses(fn, new, key), new, final):
+            if text.strip() == "search rules" and n != new and not unfolding:
+                continue
+            lines += [""] + comments + [f"pub {n} : goal.{n}"] + unfolding + [f"{n} t c =\n    {lets}{text.strip()}"]
+    keep = []
+    for u in uses:
+        if re.search(r"\.Lts-|\.Kinds as |\.Reads as |PlainCycle|Fn\.Kinds|\{statement\}|\{close\}|\.Tie|" + re.escape(os.path.basename(folder)) + r"(\.| as )", u):
+            continue
+        if u not in keep:
+            keep.append(u)
+    inv = invariants_of_cycle(functions, invariants)
+    for p in paths.values():
+        os.remove(p)
+    if os.path.isdir(os.path.join(folder, "Proof")):
+        os.rmdir(os.path.join(folder, "Proof"))
+    for o in others:
+        lines = [""] + o + lines
+    with open(os.path.join(folder, "Invariants.antt"), "w") as f:
+        f.write("\n".join(keep + [f"use {module}.Given as goal"]) + "\n" + inv)
+    with open(os.path.join(folder, "Answers.antt"), "w") as f:
+        f.write("\n".join(keep + [f"use {module}.Goals as goal"]) + "\n" + "\n".join(lines) + "\n")
+    return ("\n".join(lines) + inv).count("FIXME")
+
+
+def invariants_of_cycle(functions, invariants):
+    lines = []
+    for comments, dname, sig, args, body, ali in invariants:
+        body = body.strip()
+        if "Measures " in sig:
+            m = re.search(r"Measures \d+ (\S+?)[-_]kinds\.ps", sig)
+            f = next((g for g in functions if norm(g) == norm(m.group(1))), None) if m else None
+            if not f:
+                lines += ["", f"-- FIXME {dname} {sig}", body]
+                continue
+            fn = functions[f]
+            params = fn.parameters
+
+            def turn(m):
+                segs = m.group(1).split(".")[1:]
+                k = 0
+                while segs and segs[0] == "1":
+                    k, segs = k + 1, segs[1:]
+                if segs and segs[0] == "0":
+                    segs = segs[1:]
+                return ".".join(["l", params[k]] + segs)
+
+            body = re.sub(r"(?<![\w'.])" + re.escape(args[-1]) + r"((?:\.[\w'-]+)+)", turn, body)
+            lines += [""] + comments + [f"abbrev pub decreases-{f} : goal.decreases-{f}", f"decreases-{f} l = {body}"]
+            continue
+        m = re.search(r"(\S+?)\.(invariant|decreases)-(\S+)", sig)
+        f = ali.get(m.group(1), m.group(1))
+        fn = functions[f]
+        t = turn_invariants(fn, [(comments, dname, m.group(2) + "-" + m.group(3), [f"{dname} {' '.join(args)} = {body}"])], None)
+        t = re.sub(r"(invariant|decreases)-(loop)", lambda k: k.group(1) + "-" + fn.stem + k.group(2), t) if fn.stem else t
+        lines += t.rstrip().split("\n")
+    return "\n".join(lines) + "\n"
+
+
 def main(argv):
     crate, old = argv[0], (argv[1] if len(argv) > 1 else "0b30729")
     folder = os.path.join(ROOT, "crates", crate)
@@ -553,6 +759,8 @@ def main(argv):
         if not os.path.exists(path) or "+" in rel:
             continue
         text = read(path)
+        if "+" in rel:
+            continue
         if not re.search(r"\.Tie as tie$", text, re.M):
             continue
         fn = Function(key, data, contracts)
@@ -573,6 +781,23 @@ def main(argv):
             left += t.count("FIXME")
             with open(os.path.join(os.path.dirname(path), "Answers.antt"), "w") as f:
                 f.write(t)
+    cycles = collections.defaultdict(dict)
+    for key, data in names.items():
+        m = re.match(r"Rattle-\w+-proofs\.(.*\+[^.]*)\.Lts-(\w+)$", key)
+        if m:
+            fn = Function(key, data, contracts)
+            fn.cycle = True
+            rel = m.group(1).replace(".", "/")
+            hits = [c for c in contracts if c.split("::")[0] == crate and c.split("::")[-1] == m.group(2)]
+            inside = "::".join([crate] + rel.split("/")[:-1] + [m.group(2)])
+            fn.name = inside if inside in contracts else hits[0]
+            fn.parameters = data["params"].get(fn.name) or parameters_of(fn.name)
+            fn.stem = data.get("stem") or ""
+            cycles[rel][m.group(2)] = fn
+    for rel, functions in cycles.items():
+        folder_of = os.path.join(folder, "proofs", rel)
+        if os.path.exists(os.path.join(folder_of, "Proof.antt")):
+            left += convert_cycle(crate, rel, folder_of, functions, old)
     print(crate, "FIXMEs", left)
 
 

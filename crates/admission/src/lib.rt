@@ -1,6 +1,7 @@
 // What a call gives a run, admitted or refused (document 01, section 4, row Call): 9 no such function; then all of 10, value bytes
 // malformed, over the limit or wrong in number; then all of 11, a value not of its type. For programs that are loaded.
 #![tactic(auto)]
+
 ghost use Rattle.std.specs.Prelude.{◌≡◌, true, map, ◌<◌, length, get_or};
 ghost use Rattle.calls.specs.Entries.{type_of, function_at};
 ghost use Rattle.calls.specs.Values.{has_tys};

@@ -3,6 +3,7 @@
 
 // where the fields of a journal stand
 #![tactic(auto)]
+
 pub mod places;
 // the test of the form (18), in one pass
 pub mod form;

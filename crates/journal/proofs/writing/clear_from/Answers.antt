@@ -1,0 +1,8 @@
+use borrow.Author.Rules.{rules}
+use Rattle.journal.proofs.Writes.{cleared_from}
+use borrow.Author.Rules.{rules}
+use Rattle.journal.proofs.writing.clear_from.Goals as goal
+
+pub returns : goal.returns
+returns c =
+    cleared_from c.args.journal.now c.args.at c.clear.new.s c.requires c.clear.ensures
