@@ -152,7 +152,7 @@ class Function:
         if not rest:
             return ("step", place, base)
         renamed = dict(self.places[place][4]) if self.places[place][4] else {}
-        rest = [renamed.get(rest[0], rest[0])] + rest[1:]
+        rest = [renamed.get(rest[0], rest[0]).replace("type-inv", "type_inv")] + rest[1:]
         kind, more = rest[0], rest[1:]
         if kind in ("ensures", "requires") and callee:
             return self.clause_path(self.clauses(callee, 1 if kind == "ensures" else 0), more, kind, base)
@@ -314,7 +314,7 @@ def turn_body(fn, place, text, var="c"):
         text = rest
     out = ""
     for name, sort, value in lets:
-        out += f"let {name} {sort or ''}= {turn_text(fn, alias, value)} in\n    "
+        out += f"let {name} {turn_text(fn, alias, sort or '')}= {turn_text(fn, alias, value)} in\n    "
     return out, turn_text(fn, alias, text.strip()), alias
 
 
@@ -503,6 +503,9 @@ def clause_items(names, new, final):
                 items.append((f"{new}-clause-{n}", rest))
                 break
             parts = tuple_parts(rest)
+            rewritten = re.match(r"(rw (?:[^\s()]+|\([^()]*\)) )(\(.*\))$", rest.strip(), re.S)
+            if parts is None and rewritten and tuple_parts(rewritten.group(2)):
+                parts = [rewritten.group(1) + ("(" + x + ")" if " " in x else x) for x in tuple_parts(rewritten.group(2))]
             if parts is None and re.match(r"(omega|search|simp|grind|cc)\b", rest.strip()):
                 items += [(f"{new}-clause-{n2}", rest) for n2 in names[i:]]
                 break
@@ -709,6 +712,7 @@ def invariants_of_cycle(functions, invariants):
         if "Measures " in sig:
             m = re.search(r"Measures \d+ (\S+?)[-_]kinds\.ps", sig)
             f = next((g for g in functions if norm(g) == norm(m.group(1))), None) if m else None
+            f = list(functions)[0] if len(functions) == 1 else f
             if not f:
                 lines += ["", f"-- FIXME {dname} {sig}", body]
                 continue

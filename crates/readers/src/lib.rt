@@ -1,6 +1,7 @@
 // The two readers of a journal (document 02, F-1). Neither takes a program or a workspace, and neither asks anything of its caller. A
 // reader tests the whole form first, then the output's length, and writes only then: a refused call leaves the output as it was.
 #![tactic(auto)]
+
 ghost use Rattle.std.specs.Prelude.{◌≡◌, length};
 ghost use Rattle.calls.specs.Answer.{overwritten};
 ghost use Rattle.calls.specs.Readers.{held_bytes, nurse_call, workshop_call};

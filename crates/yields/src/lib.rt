@@ -3,6 +3,7 @@
 // terms, so the recursion ends. An ancilla's value is compared in two ways: at a glance, by what nodes hold, which never calls equal values
 // unequal, and exactly. A term is asked at a glance first: no value is walked where that says no, or yes without a comparison.
 #![tactic(auto)]
+
 ghost use Rattle.std.specs.Prelude.{◌≡◌, cond, ◌<◌, ◌≤◌};
 ghost use Rattle.program.specs.Kinds.{pair_kind, case_kind};
 ghost use Rattle.rules.specs.Val.{same};

@@ -1,0 +1,27 @@
+use borrow.Author.Rules.{rules}
+use Rattle.scopes.specs.Slots.{unknown, scope_in}
+use Rattle.scopes.proofs.Meeting.{looks, old-low, met_compared, met-bound}
+use Rattle.scopes.proofs.bindings.Bindings.meet.Goals as goal
+
+pub seen-requires : goal.seen-requires
+seen-requires c =
+    looks c.requires.meetable c.base_in.ensures c.wide_index.ensures.0 c.at.ensures c.top-top.ensures
+
+pub same-requires-clause-heap : goal.same-requires-clause-heap
+same-requires-clause-heap c =
+    rw c.top-top.ensures c.requires.meetable.cell.graph
+
+pub same-requires-clause-a_lt_top : goal.same-requires-clause-a_lt_top
+same-requires-clause-a_lt_top c =
+    (old-low c.requires.meetable c.base_in.ensures c.wide_index.ensures.0 c.at.ensures c.top-top.ensures c.seen.ensures c.in-Node.is, rw c.top-top.ensures c.requires.node_bound)
+
+pub returns-in-Node : goal.returns-in-Node
+returns-in-Node c =
+    met_compared c.args.ws.now c.args.st.now c.args.self (scope_in c.args.scope) c.args.i c.args.node c.requires.meetable c.base_in.ensures c.wide_index.ensures.0 c.at.ensures
+    c.seen.ensures c.in-Node.is c.same.ensures
+
+pub returns-in-Unknown : goal.returns-in-Unknown
+unfolding unknown
+returns-in-Unknown c =
+    met-bound c.args.ws.now c.args.st.now c.args.self (scope_in c.args.scope) c.args.i c.args.node c.requires.meetable c.base_in.ensures c.wide_index.ensures.0 c.at.ensures
+    c.seen.ensures c.top-top.ensures c.in-Unknown.is c.with_cell-state.ensures c.bind.ensures

@@ -1,0 +1,9 @@
+use native.Mathlib.Omega.{arith}
+use mathlib.Core.Path.{refl, sym, ◌∙◌}
+use borrow.Author.Rules.{rules}
+use Rattle.scopes.proofs.Lent.{machine-set}
+use Rattle.scopes.proofs.state.begin.Goals as goal
+
+pub returns : goal.returns
+returns c =
+    machine-set _ _ _ (omega (arith, c.requires))

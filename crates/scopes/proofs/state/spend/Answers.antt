@@ -1,0 +1,9 @@
+use native.Mathlib.Omega.{arith}
+use mathlib.Core.Path.{refl, sym, ◌∙◌}
+use borrow.Author.Rules.{rules}
+use Rattle.scopes.proofs.Lent.{fuel-set}
+use Rattle.scopes.proofs.state.spend.Goals as goal
+
+pub returns : goal.returns
+returns c =
+    fuel-set _ _ (omega (arith, c.requires.0))

@@ -1,0 +1,26 @@
+use Prim.Native.Nat.{◌+◌, ◌*◌}
+use Prim.Native.Nat.{ℕ, ◌<◌}
+use Prim.Native.Nat.{◌+◌}
+use native.Mathlib.Omega.{arith}
+use mathlib.Core.Path.{refl, sym, ◌∙◌}
+use mathlib.Core.Logic.{inl as left, inr as right}
+use borrow.Author.Rules.{rules}
+use Rattle.yields.proofs.Forms as forms
+use Prim.Native.Nat.{ℕ}
+use mathlib.Core.Logic.{inl as left}
+use Rattle.yields.proofs.+may_yield_yield_body_yield_case_yield_pair_yield_part.Given as goal
+
+abbrev pub decreases-may_yield : goal.decreases-may_yield
+decreases-may_yield l = 2 * l.t + 1
+
+abbrev pub decreases-yield_body : goal.decreases-yield_body
+decreases-yield_body l = 2 * l.t
+
+abbrev pub decreases-yield_case : goal.decreases-yield_case
+decreases-yield_case l = 2 * l.t
+
+abbrev pub decreases-yield_pair : goal.decreases-yield_pair
+decreases-yield_pair l = 2 * l.t
+
+abbrev pub decreases-yield_part : goal.decreases-yield_part
+decreases-yield_part l = 2 * l.t
