@@ -9,5 +9,5 @@ use Rattle.types.specs.Codes.{tree_in}
 use Prim.Native.Nat.{ℕ, ◌<◌}
 use Rattle.types.proofs.compare.+same_nodes.Given as goal
 
--- FIXME μ-same abbrev μ-same : Measures 3 same-kinds.ps ℕ
-nodes (tree_in a.0.now a.1.0.now a.1.1.0.now a.1.1.1.1.0)
+abbrev pub decreases-same_nodes : goal.decreases-same_nodes
+decreases-same_nodes l = nodes (tree_in l.p.now l.types.now l.ws.now l.c)

@@ -45,5 +45,5 @@ shape_of-ws c =
 
 pub returns : goal.returns
 returns c =
-    let all : at-loop.loop.s ≡ further_slots = omega (arith, c.loop-s-test.false, c.loop-s.invariant.0) in
+    let all : c.loop-s.s ≡ further_slots = omega (arith, c.loop-s-test.false, c.loop-s.invariant.0) in
     c.loop-s.invariant.1 ∙ ap (λ s. forgotten s c.args.ws.now) all

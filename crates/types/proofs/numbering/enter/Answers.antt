@@ -36,5 +36,5 @@ bounds-index-s c =
 pub returns : goal.returns
 returns c =
     numbered_more c.requires.readable.0 c.requires.readable.1 c.requires.numbered c.wide_index-at.ensures.0 c.figures_of-f.ensures
-    c.find-k.ensures c.number-own.ensures c.put.ensures (omega (arith, c.figures_of-f.type-inv)) (omega (arith, c.figures_of-f.type-inv)) c.slot-s.ensures.0
+    c.find-k.ensures c.number-own.ensures c.put.ensures (omega (arith, c.figures_of-f.type_inv)) (omega (arith, c.figures_of-f.type_inv)) c.slot-s.ensures.0
     c.slot-s.ensures.1 c.put_entry.ensures

@@ -51,6 +51,6 @@ returns c =
     made-new c.requires.sources c.args.left c.args.right
     c.node_count-n.ensures c.node_count-m.ensures refl c.if-count-gt-MOST_NODES.false
     c.settled-first.ensures c.settled-second.ensures c.requires.room.0
-    (record { form = omega (arith, c.settled-first.type-inv); at = omega (arith, c.settled-first.type-inv); stands = omega (arith, c.settled-first.type-inv) })
-    (record { form = omega (arith, c.settled-second.type-inv); at = omega (arith, c.settled-second.type-inv); stands = omega (arith, c.settled-second.type-inv) })
+    (record { form = omega (arith, c.settled-first.type_inv); at = omega (arith, c.settled-first.type_inv); stands = omega (arith, c.settled-first.type_inv) })
+    (record { form = omega (arith, c.settled-second.type_inv); at = omega (arith, c.settled-second.type_inv); stands = omega (arith, c.settled-second.type_inv) })
     c.requires.room.1 c.put_node.ensures c.put.ensures c.product-code.ensures
