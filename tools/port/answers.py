@@ -590,6 +590,21 @@ def old_cycle_files(crate, old, folder, names):
     return {k: subprocess.run(["git", "show", f"{old}:{p}"], cwd=ROOT, capture_output=True, text=True).stdout for k, p in good[0].items()}
 
 
+def merged(uses):
+    """One line an imported module."""
+    items, order = {}, []
+    for u in uses:
+        m = re.match(r"use ([^{}\s]+)\.\{([^}]*)\}$", u)
+        if not m:
+            order.append(u)
+            continue
+        if m.group(1) not in items:
+            items[m.group(1)] = []
+            order.append(m.group(1))
+        items[m.group(1)] += [x.strip() for x in m.group(2).split(",") if x.strip() not in items[m.group(1)]]
+    return [f"use {o}.{{{', '.join(items[o])}}}" if o in items else o for o in order]
+
+
 def parameters_of(name):
     crate, *mods, f = name.split("::")
     src = os.path.join(ROOT, "crates", crate, "src")
@@ -691,6 +706,8 @@ def convert_cycle(crate, rel, folder, functions, old):
             continue
         if u not in keep:
             keep.append(u)
+    keep = merged(keep)
+    others = [o for o in ([l for l in o if not re.match(r"mod |-- The functions meet", l)] for o in others) if o]
     inv = invariants_of_cycle(functions, invariants)
     for p in paths.values():
         os.remove(p)

@@ -1,18 +1,10 @@
-use Prim.Native.Nat.{◌+◌, ◌*◌}
-use Prim.Native.Nat.{ℕ, ◌<◌}
-use Prim.Native.Nat.{◌+◌}
+use Prim.Native.Nat.{◌+◌, ◌*◌, ℕ, ◌<◌}
 use native.Mathlib.Omega.{arith}
 use mathlib.Core.Path.{refl, sym, ◌∙◌}
 use mathlib.Core.Logic.{inl as left, inr as right}
 use borrow.Author.Rules.{rules}
 use Rattle.yields.proofs.Forms as forms
-use Prim.Native.Nat.{ℕ}
-use mathlib.Core.Logic.{inl as left}
 use Rattle.yields.proofs.+may_yield_yield_body_yield_case_yield_pair_yield_part.Goals as goal
--- The functions meet their contracts: the answers of Proof/, put together.
-mod Claims
-mod Kinds
-mod Parts
 
 pub may_yield-kind_of-requires : goal.may_yield-kind_of-requires
 may_yield-kind_of-requires t c =
