@@ -118,7 +118,7 @@ class Function:
             segs = segs[1:]
         if not segs:
             return ("place", place)
-        head, rest = segs[0], segs[1:]
+        head, rest = {"pre": "requires"}.get(segs[0], segs[0]), segs[1:]
         if head == "requires" and self.cycle:
             if rest[:1] == ["0"]:
                 return ".".join(["c", "decreases"] + rest[1:])
@@ -129,6 +129,10 @@ class Function:
             return self.clause_path(self.clauses(self.name, 0), rest, "requires", "c")
         if head in ("args", "ranges", "type_inv"):
             return "c." + ".".join(segs)
+        if rest:
+            if re.match(r"if\d*$|loop\d*-test|.*-test\d*$", norm(head)):
+                rest = [{"taken": "true", "left": "false"}.get(rest[0], rest[0])] + rest[1:]
+            rest = [{"inv": "invariant", "kept": "auto", "last": "new"}.get(rest[0], rest[0])] + rest[1:]
         short = lambda s: re.sub(r"-(\d+)$", r"\1", re.sub(r"-lem$", "", norm(s).lower()))
         for up in self.ancestors(place):
             arm = self.d["arms"][self.order[up]] if self.order[up] < len(self.d["arms"]) else None
@@ -290,7 +294,9 @@ def turn_body(fn, place, text, var="c"):
     lets = []
     text = inline_helpers(text, fn.helpers)
     while True:
-        tup = re.match(r"\s*let \(([^()]*)\) = ([^()\s]+) (?:t )?(\S+) in\b", text)
+        tup = INNER_TUPLE.match(text.lstrip())
+        if tup:
+            text = text.lstrip()
         if tup and tup.group(3).split(".")[0] in alias:
             for n in tup.group(1).split(","):
                 if n.strip() not in ("", "_"):
@@ -318,12 +324,22 @@ def turn_body(fn, place, text, var="c"):
     return out, turn_text(fn, alias, text.strip()), alias
 
 
+INNER_TUPLE = re.compile(r"let\s+\(?([^()=]*?)\)?\s*=\s*((?:\S*-)?before-\S+)\s+(?:t\s+)?(\S+)\s+in\s+")
 INNER = re.compile(r"let\s+(" + WORD + r")\s*=\s*(" + WORD + r")((?:\.(?:«[\w-]+»|[\w'·₀-₉-]+))*)\s+in\s+")
 
 
 def turn_text(fn, alias, text):
     alias = dict(alias)
+    text = re.sub(r"\((?:\S*-)?before-\S+\s+(?:t\s+)?(" + WORD + r"(?:\.[\w'·₀-₉«»-]+)*)\)", lambda m: m.group(1), text)
+    some = next(iter(alias.values()))[0]
     while True:
+        tup = next((m for m in INNER_TUPLE.finditer(text) if m.group(3).split(".")[0] in alias), None)
+        if tup:
+            for n in tup.group(1).split(","):
+                if n.strip() not in ("", "_"):
+                    alias[n.strip()] = (some, [])
+            text = text[: tup.start()] + text[tup.end():]
+            continue
         m = next((m for m in INNER.finditer(text) if m.group(2) in alias), None)
         if not m:
             break
@@ -503,7 +519,7 @@ def clause_items(names, new, final):
                 items.append((f"{new}-clause-{n}", rest))
                 break
             parts = tuple_parts(rest)
-            rewritten = re.match(r"(rw (?:[^\s()]+|\([^()]*\)) )(\(.*\))$", rest.strip(), re.S)
+            rewritten = re.match(r"(rw (?:[^\s()]+|\([^()]*\))\s+)(\(.*\))$", rest.strip(), re.S)
             if parts is None and rewritten and tuple_parts(rewritten.group(2)):
                 parts = [rewritten.group(1) + ("(" + x + ")" if " " in x else x) for x in tuple_parts(rewritten.group(2))]
             if parts is None and re.match(r"(omega|search|simp|grind|cc)\b", rest.strip()):
@@ -630,7 +646,7 @@ def convert_cycle(crate, rel, folder, functions, old):
     parsed = []
     for name in sorted(paths, key=lambda n: (n != "Proof/Claims.antt", n)):
         new_text = read(paths[name])
-        ali = {m.group(2): m.group(1) for m in re.finditer(r"^use \S+\.Lts-(\w+) as (\S+)$", new_text, re.M)}
+        ali = {m.group(2): m.group(1) for m in re.finditer(r"^use \S+\.Lts-([\w-]+) as (\S+)$", new_text, re.M)}
         file_uses, blocks = declarations(new_text)
         old_names = re.findall(r"^\s*(?:pub )?\S+ : (?:\(t : ℕ\) → )?\S+?\.Need-(\S+)", olds[name], re.M)
         uses += file_uses
@@ -669,6 +685,8 @@ def convert_cycle(crate, rel, folder, functions, old):
                 k += 1
             elif re.search(r"lts\.(invariant|decreases)|Measures ", sig):
                 invariants.append((comments, dname, sig, args, body, ali))
+            elif re.match(r"(\S*-)?before-", dname) or (re.search(r": Type 0$|: ℕ → Type 0$", sig) and re.search(r"\blts\.|-lts\.", body)):
+                continue
             elif re.search(r"-(at|below|uses)$|_(at|below|uses)$", dname) and re.search(r"In \d+ |Claims", sig) or "statement" in sig:
                 continue
             elif re.search(r"lts\.(Start|After|At|In|Then|Else)", sig):
@@ -702,7 +720,7 @@ def convert_cycle(crate, rel, folder, functions, old):
             lines += [""] + comments + [f"pub {n} : goal.{n}"] + unfolding + [f"{n} t c =\n    {lets}{text.strip()}"]
     keep = []
     for u in uses:
-        if re.search(r"\.Lts-|\.Kinds as |\.Reads as |PlainCycle|Fn\.Kinds|\{statement\}|\{close\}|\.Tie|" + re.escape(os.path.basename(folder)) + r"(\.| as )", u):
+        if re.search(r"\.Lts-|\.Kinds as |\.Reads as |PlainCycle|Fn\.Kinds|^use cycle\.|\.Proof\.Claims|\{statement\}|\{close\}|\.Tie|" + re.escape(os.path.basename(folder)) + r"(\.| as )", u):
             continue
         if u not in keep:
             keep.append(u)
@@ -729,6 +747,7 @@ def invariants_of_cycle(functions, invariants):
         if "Measures " in sig:
             m = re.search(r"Measures \d+ (\S+?)[-_]kinds\.ps", sig)
             f = next((g for g in functions if norm(g) == norm(m.group(1))), None) if m else None
+            f = f or next((g for g in functions if m and norm(g).split("-", 1)[-1] == norm(m.group(1))), None)
             f = list(functions)[0] if len(functions) == 1 else f
             if not f:
                 lines += ["", f"-- FIXME {dname} {sig}", body]
@@ -804,13 +823,14 @@ def main(argv):
                 f.write(t)
     cycles = collections.defaultdict(dict)
     for key, data in names.items():
-        m = re.match(r"Rattle-\w+-proofs\.(.*\+[^.]*)\.Lts-(\w+)$", key)
+        m = re.match(r"Rattle-\w+-proofs\.(.*\+[^.]*)\.Lts-([\w-]+)$", key)
         if m:
             fn = Function(key, data, contracts)
             fn.cycle = True
             rel = m.group(1).replace(".", "/")
-            hits = [c for c in contracts if c.split("::")[0] == crate and c.split("::")[-1] == m.group(2)]
-            inside = "::".join([crate] + rel.split("/")[:-1] + [m.group(2)])
+            last = m.group(2).split("-")
+            hits = [c for c in contracts if c.split("::")[0] == crate and c.split("::")[-len(last):] == last]
+            inside = "::".join([crate] + rel.split("/")[:-1] + last)
             fn.name = inside if inside in contracts else hits[0]
             fn.parameters = data["params"].get(fn.name) or parameters_of(fn.name)
             fn.stem = data.get("stem") or ""

@@ -18,7 +18,7 @@ pub mod Trees
 -- a part whose type is demanded, variables, unit
 pub mod Steps
 -- the kinds of terms with a type and one part
-pub mod Kinds
+pub mod UnaryKinds
 -- what such a term wants on entering
 pub mod Wanting
 -- terms with one part

@@ -19,7 +19,7 @@ use package.Rattle.typing.specs.Outcomes.{fault_of}
 use package.Rattle.typing.specs.Wants.{unary, asks, Wants}
 use package.Rattle.typing.specs.Ready.{term_in, context_in, type_in, demanded, Ready, Here, Inferred}
 use package.Rattle.typing.specs.Asked.{Infers}
-use package.Rattle.typing.proofs.Kinds.{four}
+use package.Rattle.typing.proofs.UnaryKinds.{four}
 use package.Rattle.typing.proofs.Answers.{stopped, around, ready-less}
 use package.Rattle.typing.proofs.Trees.{Single, tree_inl, tree_inr, tree-roll, tree_unroll}
 use package.Rattle.typing.proofs.Trees.{single_inl, single_inr, single-roll, single_unroll}

@@ -25,7 +25,7 @@ use package.Rattle.types.proofs.Outer.{unit-known, entry_known}
 use package.Rattle.types.proofs.Asked.{sum-tree, a_sum, no-sum}
 use package.Rattle.types.proofs.Unfold.{unfolds, recursive, not_recursive}
 use package.Rattle.typing.specs.Wants.{unary, asks, Wants}
-use package.Rattle.typing.proofs.Kinds.{four}
+use package.Rattle.typing.proofs.UnaryKinds.{four}
 use package.Rattle.typing.proofs.Answers.{need_yes, need-no}
 use Rattle.typing.specs.declared.wants.Wanted.{Wanted}
 

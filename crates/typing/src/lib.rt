@@ -1,6 +1,7 @@
 // Typing (document 01, section 4, row Typing): functions in order, and the type of a term, or the refusal 6, 7 or 8 that it meets, by the
 // rules' `check_funs` and `infer`.
 #![tactic(auto)]
+
 pub mod outcomes; // outcomes.rt: what typing a term answers, and scopes
 pub mod namings; // namings.rt: namings that wait, in lent bytes
 pub mod variables; // variables.rt: the types of variables in lent bytes

@@ -1,0 +1,13 @@
+use borrow.Author.Rules.{rules}
+use mathlib.Core.Path.{sym, ap, ◌∙◌}
+use Rattle.forward.proofs.Answers.{is_value_lem, is_refused}
+use Rattle.forward.specs.declared.outcomes.Status.TheVariants.{Refused}
+use Rattle.forward.proofs.outcomes.status_of.Goals as goal
+
+pub returns-then-answer-lt-STOPPED : goal.returns-then-answer-lt-STOPPED
+returns-then-answer-lt-STOPPED c =
+    sym (is_value_lem c.if-answer-lt-STOPPED.true)
+
+pub returns : goal.returns
+returns c =
+    ap Refused c.refusal_of.ensures ∙ sym (is_refused c.if-answer-lt-STOPPED.false)

@@ -1,0 +1,6 @@
+use borrow.Author.Rules.{rules}
+use Rattle.typing.proofs.leaves.offset.Goals as goal
+
+pub returns : goal.returns
+returns c =
+    cc

@@ -1,0 +1,7 @@
+use mathlib.Core.Path.{refl}
+use borrow.Author.Rules.{rules}
+use Rattle.typing.proofs.leaves.unit.Goals as goal
+
+pub returns : goal.returns
+returns c =
+    record { same = refl; found = _; is = refl; code = c.unit-code.ensures; uses = c.none-uses.ensures }

@@ -1,0 +1,14 @@
+use native.Mathlib.Omega.{arith}
+use Prim.Native.Nat.{◌-◌, ◌≤◌}
+use mathlib.Core.Path.{◌≡◌, refl, sym, ◌∙◌}
+use lib.ListN.{length}
+use borrow.Author.Rules.{rules}
+use Rattle.typing.specs.Waiting.{Settles}
+use Rattle.typing.proofs.Settling.{settles_none, settles_to, settles-then}
+use Rattle.typing.proofs.namings.settle.Given as goal
+
+abbrev pub invariant-loop-j : goal.invariant-loop-j
+invariant-loop-j l = (l.from ≤ l.j) × (l.j ≤ l.to) × (length l.vars ≡ length l.initial.vars) × Settles l.sc l.uses l.initial.vars l.vars l.from l.j l.initial.lowest l.lowest
+
+abbrev pub decreases-loop-j : goal.decreases-loop-j
+decreases-loop-j l = l.to - l.j

@@ -1,0 +1,8 @@
+use mathlib.Core.Path.{refl}
+use Rattle.typing.proofs.Deciding.{joins}
+use borrow.Author.Rules.{rules}
+use Rattle.typing.proofs.tests.join.Goals as goal
+
+pub returns : goal.returns
+returns c =
+    (refl, joins refl refl c.union-all.ensures)

@@ -1,0 +1,7 @@
+use mathlib.Core.Path.{refl}
+use borrow.Author.Rules.{rules}
+use Rattle.typing.proofs.variables.named.Goals as goal
+
+pub returns : goal.returns
+returns c =
+    record { same = refl; found = _; is = refl; code = c.code_of-code.ensures; uses = c.only-uses.ensures }
