@@ -2,6 +2,7 @@
 
 // bytes as hexadecimal digits
 #![tactic(auto)]
+
 pub mod hexadecimal;
 // numbers as decimal digits
 pub mod decimal;

@@ -16,29 +16,29 @@ use own.Pairing.{pair-ready, pair_left, pair-right, pair-refused, pair_later, pa
 use own.Unary.{unary-field, unary-part, unary-ready, unary-no, unary_done}
 use Rattle.typing.proofs.+arms_choose_let_one_let_two_arguments_call_infer_pair_unary.Given as goal
 
-abbrev pub decreases-arms : goal.decreases-arms
-decreases-arms l = 16 * l.t + 12
+abbrev pub decreases-binds::arms : goal.decreases-binds::arms
+decreases-binds::arms l = 16 * l.t + 12
 
-abbrev pub decreases-choose : goal.decreases-choose
-decreases-choose l = 16 * l.t + 13
+abbrev pub decreases-binds::choose : goal.decreases-binds::choose
+decreases-binds::choose l = 16 * l.t + 13
 
-abbrev pub decreases-let_one : goal.decreases-let_one
-decreases-let_one l = 16 * l.t + 13
+abbrev pub decreases-binds::let_one : goal.decreases-binds::let_one
+decreases-binds::let_one l = 16 * l.t + 13
 
-abbrev pub decreases-let_two : goal.decreases-let_two
-decreases-let_two l = 16 * l.t + 13
+abbrev pub decreases-binds::let_two : goal.decreases-binds::let_two
+decreases-binds::let_two l = 16 * l.t + 13
 
-abbrev pub decreases-arguments : goal.decreases-arguments
-decreases-arguments l = 16 * l.t + (l.count - l.k)
+abbrev pub decreases-calling::arguments : goal.decreases-calling::arguments
+decreases-calling::arguments l = 16 * l.t + (l.count - l.k)
 
-abbrev pub decreases-call : goal.decreases-call
-decreases-call l = 16 * l.t + 13
+abbrev pub decreases-calling::call : goal.decreases-calling::call
+decreases-calling::call l = 16 * l.t + 13
 
-abbrev pub decreases-infer : goal.decreases-infer
-decreases-infer l = 16 * l.t + 14
+abbrev pub decreases-infer::infer : goal.decreases-infer::infer
+decreases-infer::infer l = 16 * l.t + 14
 
-abbrev pub decreases-pair : goal.decreases-pair
-decreases-pair l = 16 * l.t + 13
+abbrev pub decreases-infer::pair : goal.decreases-infer::pair
+decreases-infer::pair l = 16 * l.t + 13
 
-abbrev pub decreases-unary : goal.decreases-unary
-decreases-unary l = 16 * l.t + 13
+abbrev pub decreases-infer::unary : goal.decreases-infer::unary
+decreases-infer::unary l = 16 * l.t + 13

@@ -1,0 +1,1043 @@
+use Prim.Native.Nat.{ℕ, ◌+◌, ◌*◌, ◌<◌}
+use lib.ListN.{get_or}
+use Rattle.backward.proofs as own
+use own.LastPart.{Going, Going-start, going-spent, going_high, going_entered, going-node, Going-less, going-over, going_falls, Going-on, unpacked_run, leads-over, leads-on, leads-through, leaf-leads}
+use native.Mathlib.Omega.{arith}
+use mathlib.Core.Path.{refl, ◌∙◌, ap, ◌≡◌, sym}
+use native.Mathlib.Nat.{pos_of_ne-zero}
+use borrow.Author.Rules.{rules}
+use borrow.Author.Tests.{not-true, not-false}
+use Rattle.scopes.specs.Slots.{Machine}
+use own.Bound.{entered_cell, entered_there, entered_prepared, entered_node, entered_stopped, entered_leaves, entered_left}
+use Rattle.forward.proofs.Bounds.{argument-read, body-read}
+use Rattle.forward.proofs.Placing.{all_to_place}
+use own.Frames.{row-there, few-ancillae, view_yields}
+use own.Gathering.{scope-ready}
+use own.Calling.{all-arguments}
+use own.Called.{called-refused, called-space, called_widens, called-widened, called-ran, called_stops, called-leaves, called-dynamic, called_input, called_done}
+use own.Scoping.{case_that, let_widens, let_widened, let_ran, let_stopped, let_leaves, let_cell, let_outer, let_node, let_gone, letp_ready, letp_widens, letp_widened, letp_ran, letp_stopped, letp_leaves, letp_leaves_first, letp_cell, letp_outer, letp_both, letp_gone, case_asked, case_widens, case_widened, case_ran, case_stopped, case_leaves, case_cell, case_outer, case_node, case_gone}
+use Rattle.valuegraph.specs.Nodes.{kind_at as nodeKind}
+use Rattle.backward.specs.Outcomes.{Refused}
+use Rattle.forward.proofs.Answers.{is_value_lem, is_refused}
+use own.Stops.{is_Carried, number-stuck}
+use own.Chosen.{chosen-sum, chosen-few, chosen-stopped, chosen-stuck, chosen-room, chosen-node, left-part, left-prepared, left-gone, right-part, right-prepared, right-gone}
+use own.Leaving.{left_behind}
+use own.Opening.{marked}
+use own.Matched.{side-single}
+use own.Steps.{node-there}
+use own.Stepping.{paired-stuck, paired-nodes, paired-first, paired-stopped, paired-second, paired-node, paired-gone}
+use mathlib.Core.Logic.{inl as left, inr as right}
+use own.Arriving.{variable_meetable, variable-step, unit-step, no_kind}
+use Rattle.backward.proofs.eval.+back_branch_call_choose_chosen_let_one_let_two_matched_pair_step.Goals as goal
+
+abbrev before_back : Back → Right × Left × Second × First × Else1 × Kind × Start
+before_back c =
+    let at_right = c.before.before.before in
+    let (at_left, at_second, at_first, at-else1, at-kind, start) = before-right at_right in
+    (at_right, at_left, at_second, at_first, at-else1, at-kind, start)
+
+abbrev before_leave : Leave → Else1 × Unpacked × Back × Widen × Side × Branch × Yields × Second × First × Start
+before_leave c =
+    let at-else1 = c.before.before.before in
+    let (at-unpacked, at_back, at-widen, at_Side, at-branch, at-yields, at_second, at_first, start) = before-else1 at-else1 in
+    (at-else1, at-unpacked, at_back, at-widen, at_Side, at-branch, at-yields, at_second, at_first, start)
+
+abbrev before_back : Back → Widen × Side × Branch × Yields × Second × First × Start
+before_back c =
+    let at-widen = c.before.before.before in
+    let (at_Side, at-branch, at-yields, at_second, at_first, start) = before-widen at-widen in
+    (at-widen, at_Side, at-branch, at-yields, at_second, at_first, start)
+
+abbrev before_side : Side → Branch × Yields × Second × First × Start
+before_side c =
+    let at-branch = c.before in
+    let (at-yields, at_second, at_first, start) = before-branch at-branch in
+    (at-branch, at-yields, at_second, at_first, start)
+
+abbrev before_leave : Leave → Else1 × Unpacked × Back × Widen2 × Widen × Second × First × Start
+before_leave c =
+    let at-else1 = c.before.before.before in
+    let (at-unpacked, at_back, at-widen2, at-widen, at_second, at_first, start) = before-else1 at-else1 in
+    (at-else1, at-unpacked, at_back, at-widen2, at-widen, at_second, at_first, start)
+
+abbrev before_back : Back → Widen2 × Widen × Second × First × Start
+before_back c =
+    let at-widen2 = c.before.before.before in
+    let (at-widen, at_second, at_first, start) = before-widen2 at-widen2 in
+    (at-widen2, at-widen, at_second, at_first, start)
+
+abbrev before_leave : Leave → Else1 × Unpacked × Back × Widen × Second × First × Start
+before_leave c =
+    let at-else1 = c.before.before.before in
+    let (at-unpacked, at_back, at-widen, at_second, at_first, start) = before-else1 at-else1 in
+    (at-else1, at-unpacked, at_back, at-widen, at_second, at_first, start)
+
+abbrev before_back : Back → Widen × Second × First × Start
+before_back c =
+    let at-widen = c.before.before.before in
+    let (at_second, at_first, start) = before-widen at-widen in
+    (at-widen, at_second, at_first, start)
+
+abbrev before_leave : Leave → Else2 × Unpacked × Back × Widen × Scope × End × None × Body × First × Else1 × Gather × Wide × Third × Start
+before_leave c =
+    let at-else2 = c.before.before.before in
+    let (at-unpacked, at_back, at-widen, at-scope, at-end, at_none, at_body, at_first, at-else1, at-gather, at_wide, at-third, start) = before-else2 at-else2 in
+    (at-else2, at-unpacked, at_back, at-widen, at-scope, at-end, at_none, at_body, at_first, at-else1, at-gather, at_wide, at-third, start)
+
+abbrev before_back : Back → Widen × Scope × End × None × Body × First × Else1 × Gather × Wide × Third × Start
+before_back c =
+    let at-widen = c.before.before.before in
+    let (at-scope, at-end, at_none, at_body, at_first, at-else1, at-gather, at_wide, at-third, start) = before-widen at-widen in
+    (at-widen, at-scope, at-end, at_none, at_body, at_first, at-else1, at-gather, at_wide, at-third, start)
+
+abbrev before_back : Back → Wider × Entered × Start
+before_back c =
+    let at-wider = c.before.before.before in
+    let (at-entered, start) = before-wider at-wider in
+    (at-wider, at-entered, start)
+
+-- The functions of backward evaluation meet their contracts: the answers of Proof/, put together.
+
+pub back-loop-known-init : goal.back-loop-known-init
+back-loop-known-init t c =
+    Going-start c.requires.prepared_in c.requires.node_bound
+
+pub back-shape_of-ws-then-height-eq0 : goal.back-shape_of-ws-then-height-eq0
+back-shape_of-ws-then-height-eq0 t c =
+    c.loop-known.invariant.workspace
+
+pub back-returns-then-height-eq0 : goal.back-returns-then-height-eq0
+back-returns-then-height-eq0 t c =
+    going_high c.loop-known.invariant c.requires.prepared_in c.fuel.ensures c.loop-known-test.true c.if-height-eq0.true c.refuse.ensures.0
+    c.packed.ensures
+
+pub back-spend-requires : goal.back-spend-requires
+back-spend-requires t c =
+    (c.loop-known.invariant.lengths ∙ c.requires.prepared_in.full, pos_of_ne-zero (λ e. c.loop-known-test.true (c.fuel.ensures ∙ e)))
+
+pub back-step-next-requires : goal.back-step-next-requires
+back-step-next-requires t c = (
+  omega (
+    arith,
+    c.decreases,
+    Going-less c.loop-known.invariant c.fuel.ensures c.loop-known-test.true c.if-height-eq0.false
+        c.spend.ensures,
+  ),
+  (
+    going_entered c.loop-known.invariant c.fuel.ensures c.loop-known-test.true c.if-height-eq0.false
+        c.spend.ensures,
+    going-node c.loop-known.invariant c.fuel.ensures c.loop-known-test.true c.if-height-eq0.false
+        c.spend.ensures,
+  ),
+)
+
+pub back-shape_of-ws-then-not-next : goal.back-shape_of-ws-then-not-next
+back-shape_of-ws-then-not-next t c =
+    c.step-next.auto.ws ∙ c.loop-known.invariant.workspace
+
+pub back-returns-then-not-next : goal.back-returns-then-not-next
+back-returns-then-not-next t c =
+    going-over c.loop-known.invariant c.fuel.ensures c.loop-known-test.true c.if-height-eq0.false c.spend.ensures c.step-next.ensures
+    c.requires.prepared_in (not-true _ c.if-not-next.true) c.packed-then-not-next.ensures
+
+pub back-overflow_sub-height : goal.back-overflow_sub-height
+back-overflow_sub-height t c =
+    omega (arith, c.if-height-eq0.false)
+
+pub back-loop-known-smaller : goal.back-loop-known-smaller
+back-loop-known-smaller t c =
+    going_falls c.loop-known.invariant c.fuel.ensures c.loop-known-test.true c.if-height-eq0.false c.spend.ensures
+    c.step-next.ensures (not-false _ c.if-not-next.false)
+
+pub back-loop-known-preserved : goal.back-loop-known-preserved
+back-loop-known-preserved t c =
+    Going-on c.loop-known.invariant c.fuel.ensures c.loop-known-test.true c.if-height-eq0.false c.spend.ensures c.step-next.ensures
+    c.step-next.auto.ws (not-false _ c.if-not-next.false)
+
+pub back-shape_of-ws : goal.back-shape_of-ws
+back-shape_of-ws t c =
+    c.loop-known.invariant.workspace
+
+pub back-returns : goal.back-returns
+back-returns t c =
+    going-spent c.loop-known.invariant c.requires.prepared_in c.fuel.ensures c.loop-known-test.false c.refuse-2.ensures.0
+    c.packed-2.ensures
+
+pub branch-entered-known-requires-clause-cell_ready : goal.branch-entered-known-requires-clause-cell_ready
+branch-entered-known-requires-clause-cell_ready t c =
+    entered_cell c.requires.prepared_bound
+
+pub branch-entered-known-requires-clause-scope_bound : goal.branch-entered-known-requires-clause-scope_bound
+branch-entered-known-requires-clause-scope_bound t c =
+    entered_there c.requires.prepared_bound
+
+pub branch-wider-wide-requires : goal.branch-wider-wide-requires
+branch-wider-wide-requires t c =
+    (omega (arith, entered_there c.requires.prepared_bound), omega (arith, c.requires.prepared_bound.few))
+
+pub branch-back-requires : goal.branch-back-requires
+branch-back-requires t c = (
+  omega (arith, c.decreases, ap (λ (m : Machine). m.fuel) c.entered-known.ensures.machine),
+  (
+    entered_prepared c.requires.prepared_bound c.requires.part_bound.0 c.entered-known.ensures c.wider-wide.result c.wider-wide.ensures,
+    entered_node c.requires.prepared_bound c.requires.part_bound.0 c.entered-known.ensures c.requires.part_bound.1,
+  ),
+)
+
+pub branch-shape_of-ws-then-r-ne0 : goal.branch-shape_of-ws-then-r-ne0
+branch-shape_of-ws-then-r-ne0 t c =
+    c.back.auto.ws ∙ c.entered-known.auto.ws
+
+pub branch-returns-then-r-ne0 : goal.branch-returns-then-r-ne0
+branch-returns-then-r-ne0 t c =
+    entered_stopped c.requires.prepared_bound c.requires.part_bound.0 c.entered-known.ensures c.requires.part_bound.1
+    c.wider-wide.result c.wider-wide.ensures
+    (unpacked_run c.unpacked-r.ensures c.back.ensures) c.if-r-ne0.true
+
+pub branch-outer-c-requires : goal.branch-outer-c-requires
+branch-outer-c-requires t c =
+    entered_leaves c.requires.prepared_bound c.requires.part_bound.0 c.entered-known.ensures c.requires.part_bound.1
+    c.wider-wide.result c.wider-wide.ensures
+    (unpacked_run c.unpacked-r.ensures c.back.ensures) c.if-r-ne0.false
+
+pub branch-shape_of-ws : goal.branch-shape_of-ws
+branch-shape_of-ws t c =
+    c.outer-c.auto.ws ∙ c.back.auto.ws ∙ c.entered-known.auto.ws
+
+pub branch-returns : goal.branch-returns
+branch-returns t c =
+    entered_left c.requires.prepared_bound c.requires.part_bound.0 c.entered-known.ensures c.requires.part_bound.1
+    c.wider-wide.result c.wider-wide.ensures
+    (unpacked_run c.unpacked-r.ensures c.back.ensures) c.if-r-ne0.false c.outer-c.ensures
+
+pub call-third_of-requires : goal.call-third_of-requires
+call-third_of-requires t c =
+    row-there c.requires.prepared_in.prepared
+
+pub call-gather-stop-requires-clause-ready_in : goal.call-gather-stop-requires-clause-ready_in
+call-gather-stop-requires-clause-ready_in t c =
+    record { full = c.requires.prepared_in.full; ready = scope-ready c.requires.prepared_in.prepared }
+
+pub call-gather-stop-requires-clause-calls : goal.call-gather-stop-requires-clause-calls
+call-gather-stop-requires-clause-calls t c =
+    all_to_place c.requires.node_bound.1 (c.wide_index-k.ensures.0 ∙ c.third_of.ensures)
+
+pub call-shape_of-ws-then-stop-ne0 : goal.call-shape_of-ws-then-stop-ne0
+call-shape_of-ws-then-stop-ne0 t c =
+    c.gather-stop.auto.ws
+
+pub call-returns-then-stop-ne0 : goal.call-returns-then-stop-ne0
+call-returns-then-stop-ne0 t c =
+    let calls = all_to_place c.requires.node_bound.1 (c.wide_index-k.ensures.0 ∙ c.third_of.ensures) in
+    leads-over c.ended.ensures c.gather-stop.ensures.lengths
+    (called-refused c.requires.prepared_in.prepared c.requires.node_bound.0 calls c.gather-stop.ensures.gathers c.if-stop-ne0.true)
+
+pub call-first_of-requires : goal.call-first_of-requires
+call-first_of-requires t c =
+    row-there c.requires.prepared_in.prepared
+
+pub call-body_of-body-requires : goal.call-body_of-body-requires
+call-body_of-body-requires t c =
+    body-read (scope-ready c.requires.prepared_in.prepared) _ c.requires.node_bound.1 c.first_of.ensures
+
+pub call-scope-callee-requires : goal.call-scope-callee-requires
+call-scope-callee-requires t c =
+    let calls = all_to_place c.requires.node_bound.1 (c.wide_index-k.ensures.0 ∙ c.third_of.ensures) in
+    let few = called-space c.requires.prepared_in.prepared c.requires.node_bound.0 calls c.gather-stop.ensures.gathers c.if-stop-ne0.false
+    c.first_of.ensures c.body_of-body.ensures in
+    (omega (arith, c.requires.prepared_in.prepared.space), omega arith, omega arith)
+
+pub call-overflow_sub-h : goal.call-overflow_sub-h
+call-overflow_sub-h t c =
+    omega (arith, c.requires.prepared_in.prepared.ready.tall)
+
+pub call-widen-wide-requires : goal.call-widen-wide-requires
+call-widen-wide-requires t c =
+    let calls = all_to_place c.requires.node_bound.1 (c.wide_index-k.ensures.0 ∙ c.third_of.ensures) in
+    called_widens c.requires.prepared_in c.requires.node_bound.0 calls c.gather-stop.ensures.gathers c.if-stop-ne0.false
+    c.first_of.ensures c.body_of-body.ensures c.end_of.ensures c.scope-callee.ensures c.gather-stop.ensures.lengths
+    c.none-args.ensures
+
+pub call-back-requires : goal.call-back-requires
+call-back-requires t c =
+    let calls = all_to_place c.requires.node_bound.1 (c.wide_index-k.ensures.0 ∙ c.third_of.ensures) in (
+      omega (arith, c.decreases, c.gather-stop.ensures.gathers.moves.spends, ap (λ (m : Machine). m.fuel) c.widen-wide.ensures.machine),
+      called-widened c.requires.prepared_in c.requires.node_bound.0 calls c.gather-stop.ensures.gathers c.if-stop-ne0.false
+          c.first_of.ensures c.body_of-body.ensures c.end_of.ensures c.scope-callee.ensures c.gather-stop.ensures.lengths
+          c.none-args.ensures c.widen-wide.ensures,
+    )
+
+pub call-shape_of-ws-then-r-ne0 : goal.call-shape_of-ws-then-r-ne0
+call-shape_of-ws-then-r-ne0 t c =
+    c.back.auto.ws ∙ c.gather-stop.auto.ws
+
+pub call-returns-then-r-ne0 : goal.call-returns-then-r-ne0
+call-returns-then-r-ne0 t c =
+    let calls = all_to_place c.requires.node_bound.1 (c.wide_index-k.ensures.0 ∙ c.third_of.ensures) in
+    let ran = called-ran c.requires.prepared_in c.requires.node_bound.0 calls c.gather-stop.ensures.gathers c.if-stop-ne0.false
+    c.first_of.ensures c.body_of-body.ensures c.end_of.ensures c.scope-callee.ensures
+    c.gather-stop.ensures.lengths c.none-args.ensures c.widen-wide.ensures
+    (unpacked_run c.unpacked-r.ensures c.back.ensures) in
+    leads-over c.ended-then-r-ne0.ensures (ran.lengths ∙ c.gather-stop.ensures.lengths)
+    (called_stops c.requires.prepared_in.prepared c.requires.node_bound.0 calls c.gather-stop.ensures.gathers c.if-stop-ne0.false
+    c.first_of.ensures c.body_of-body.ensures c.end_of.ensures c.scope-callee.ensures ran.gone
+    c.if-r-ne0.true)
+
+pub call-leave-x-requires : goal.call-leave-x-requires
+call-leave-x-requires t c =
+    let calls = all_to_place c.requires.node_bound.1 (c.wide_index-k.ensures.0 ∙ c.third_of.ensures) in
+    let ran = called-ran c.requires.prepared_in c.requires.node_bound.0 calls c.gather-stop.ensures.gathers c.if-stop-ne0.false
+    c.first_of.ensures c.body_of-body.ensures c.end_of.ensures c.scope-callee.ensures c.gather-stop.ensures.lengths
+    c.none-args.ensures c.widen-wide.ensures
+    (unpacked_run c.unpacked-r.ensures c.back.ensures) in
+    called-leaves c.requires.prepared_in.prepared c.requires.node_bound.0 calls c.gather-stop.ensures.gathers c.if-stop-ne0.false
+    c.first_of.ensures c.body_of-body.ensures c.end_of.ensures c.scope-callee.ensures ran.gone c.if-r-ne0.false
+
+pub call-argument_of-dynamic-requires : goal.call-argument_of-dynamic-requires
+call-argument_of-dynamic-requires t c =
+    let (_, _, _, _, _, _, _, _, _, _, _, at_wide, at-third, start) = before_leave c in
+    let calls = all_to_place start.pre.1.1.1 (at_wide.wide-index.ensures.0 ∙ at-third.third_of.ensures) in
+    argument-read (scope-ready start.pre.1.0.prepared) (all-arguments calls)
+
+pub call-shape_of-ws : goal.call-shape_of-ws
+call-shape_of-ws t c =
+    c.back.auto.ws ∙ c.gather-stop.auto.ws
+
+pub call-returns : goal.call-returns
+call-returns t c =
+    let calls = all_to_place c.requires.node_bound.1 (c.wide_index-k.ensures.0 ∙ c.third_of.ensures) in
+    let ran = called-ran c.requires.prepared_in c.requires.node_bound.0 calls c.gather-stop.ensures.gathers c.if-stop-ne0.false
+    c.first_of.ensures c.body_of-body.ensures c.end_of.ensures c.scope-callee.ensures
+    c.gather-stop.ensures.lengths c.none-args.ensures c.widen-wide.ensures
+    (unpacked_run c.unpacked-r.ensures c.back.ensures) in
+    leads-on c.goes_on.ensures (ran.lengths ∙ c.gather-stop.ensures.lengths)
+    (record {
+      prepared = record {
+        full = ran.lengths ∙ c.gather-stop.ensures.lengths ∙ c.requires.prepared_in.full;
+        prepared = called-dynamic
+            c.requires.prepared_in.prepared c.requires.node_bound.0 calls c.gather-stop.ensures.gathers c.if-stop-ne0.false
+            c.first_of.ensures c.body_of-body.ensures c.end_of.ensures c.scope-callee.ensures ran.gone c.if-r-ne0.false
+            c.argument_of-dynamic.ensures;
+      };
+      there = called_input c.requires.prepared_in.prepared c.requires.node_bound.0 calls
+          c.gather-stop.ensures.gathers c.if-stop-ne0.false c.first_of.ensures c.body_of-body.ensures c.end_of.ensures
+          c.scope-callee.ensures ran.gone c.if-r-ne0.false c.argument_of-dynamic.ensures c.leave-x.ensures;
+      spends = omega
+          (arith, c.gather-stop.ensures.gathers.moves.spends, ran.gone.ran.moves.spends);
+      becomes = λ D. called_done
+          c.requires.prepared_in.prepared c.requires.node_bound.0 calls c.gather-stop.ensures.gathers c.if-stop-ne0.false
+          c.first_of.ensures c.body_of-body.ensures c.end_of.ensures c.scope-callee.ensures ran.gone c.if-r-ne0.false
+          c.argument_of-dynamic.ensures c.leave-x.ensures D;
+    })
+
+pub choose-chooses_by_ancilla-requires-clause-rows : goal.choose-chooses_by_ancilla-requires-clause-rows
+choose-chooses_by_ancilla-requires-clause-rows t c =
+    c.requires.prepared_in.prepared.ready.machine.rows
+
+pub choose-chooses_by_ancilla-requires-clause-t_bound : goal.choose-chooses_by_ancilla-requires-clause-t_bound
+choose-chooses_by_ancilla-requires-clause-t_bound t c =
+    (c.requires.prepared_in.prepared.ready.term, c.requires.node_bound.1)
+
+pub choose-chosen-requires : goal.choose-chosen-requires
+choose-chosen-requires t c = (
+  omega (arith, c.decreases),
+  (
+    c.requires.prepared_in,
+    (
+      c.requires.node_bound.0,
+      case_that c.requires.node_bound.1 c.ancillae_in-q.ensures c.count_in-n.ensures
+          c.chooses_by_ancilla.ensures c.if-chooses_by_ancilla.true,
+    ),
+  ),
+)
+
+pub choose-shape_of-ws-then-chooses_by_ancilla : goal.choose-shape_of-ws-then-chooses_by_ancilla
+choose-shape_of-ws-then-chooses_by_ancilla t c =
+    c.chosen.auto.ws
+
+pub choose-returns-then-chooses_by_ancilla : goal.choose-returns-then-chooses_by_ancilla
+choose-returns-then-chooses_by_ancilla t c =
+    c.chosen.ensures
+
+pub choose-matched-requires : goal.choose-matched-requires
+choose-matched-requires t c = (
+  omega (arith, c.decreases),
+  (
+    c.requires.prepared_in,
+    (
+      c.requires.node_bound.0,
+      case_that c.requires.node_bound.1 c.ancillae_in-q.ensures c.count_in-n.ensures
+          c.chooses_by_ancilla.ensures c.if-chooses_by_ancilla.false,
+    ),
+  ),
+)
+
+pub choose-shape_of-ws : goal.choose-shape_of-ws
+choose-shape_of-ws t c =
+    c.matched.auto.ws
+
+pub choose-returns : goal.choose-returns
+choose-returns t c =
+    c.matched.ensures
+
+pub chosen-first_of-sum-requires : goal.chosen-first_of-sum-requires
+chosen-first_of-sum-requires t c =
+    row-there c.requires.prepared_in.prepared
+
+pub chosen-overflow_sub-h : goal.chosen-overflow_sub-h
+chosen-overflow_sub-h t c =
+    omega (arith, c.requires.prepared_in.prepared.ready.tall)
+
+pub chosen-eval-s-requires : goal.chosen-eval-s-requires
+chosen-eval-s-requires t c =
+    record {
+      full = c.requires.prepared_in.full;
+      ready = chosen-sum (c.requires.prepared_in, c.requires.node_bound) c.first_of-sum.ensures;
+    }
+
+pub chosen-shape_of-ws-then-s-ge-STOPPED : goal.chosen-shape_of-ws-then-s-ge-STOPPED
+chosen-shape_of-ws-then-s-ge-STOPPED t c =
+    c.eval-s.auto.ws
+
+pub chosen-returns-then-s-ge-STOPPED : goal.chosen-returns-then-s-ge-STOPPED
+chosen-returns-then-s-ge-STOPPED t c =
+    leads-over c.ended.ensures c.eval-s.ensures.lengths
+    (chosen-stopped (c.requires.prepared_in, c.requires.node_bound) c.first_of-sum.ensures c.eval-s.ensures.ran
+    (is_refused c.if-s-ge-STOPPED.true) (is_Carried _ (is_refused c.if-s-ge-STOPPED.true)))
+
+pub chosen-kind_of-kind-requires : goal.chosen-kind_of-kind-requires
+chosen-kind_of-kind-requires t c =
+    chosen-room (c.requires.prepared_in, c.requires.node_bound) c.first_of-sum.ensures c.eval-s.ensures.ran
+    (is_value_lem c.if-s-ge-STOPPED.false)
+
+pub chosen-left_of-part-requires : goal.chosen-left_of-part-requires
+chosen-left_of-part-requires t c =
+    chosen-room (c.requires.prepared_in, c.requires.node_bound) c.first_of-sum.ensures c.eval-s.ensures.ran
+    (is_value_lem c.if-s-ge-STOPPED.false)
+
+pub chosen-second_of-left-requires : goal.chosen-second_of-left-requires
+chosen-second_of-left-requires t c =
+    row-there c.requires.prepared_in.prepared
+
+pub chosen-branch-code-requires : goal.chosen-branch-code-requires
+chosen-branch-code-requires t c =
+    let kind : nodeKind _ _ ≡ _ = sym c.kind_of-kind.ensures ∙ c.if-kind-eq-INL.true in (
+      omega (arith, c.decreases, c.eval-s.ensures.ran.spends),
+      (
+        record {
+          full = c.eval-s.ensures.lengths ∙ c.requires.prepared_in.full;
+          few = chosen-few (c.requires.prepared_in, c.requires.node_bound);
+          prepared = left-prepared (c.requires.prepared_in, c.requires.node_bound)
+              c.first_of-sum.ensures c.eval-s.ensures.ran
+              (is_value_lem c.if-s-ge-STOPPED.false) c.left_of-part.ensures kind c.second_of-left.ensures;
+        },
+        (
+          left-part (c.requires.prepared_in, c.requires.node_bound)
+              c.first_of-sum.ensures c.eval-s.ensures.ran
+              (is_value_lem c.if-s-ge-STOPPED.false) c.left_of-part.ensures kind c.second_of-left.ensures,
+          chosen-node (c.requires.prepared_in, c.requires.node_bound) c.first_of-sum.ensures c.eval-s.ensures.ran
+              (is_value_lem c.if-s-ge-STOPPED.false),
+        ),
+      ),
+    )
+
+pub chosen-shape_of-ws-then-kind-eq-INL : goal.chosen-shape_of-ws-then-kind-eq-INL
+chosen-shape_of-ws-then-kind-eq-INL t c =
+    c.branch-code.auto.ws ∙ c.eval-s.auto.ws
+
+pub chosen-returns-then-kind-eq-INL : goal.chosen-returns-then-kind-eq-INL
+chosen-returns-then-kind-eq-INL t c =
+    let kind : nodeKind _ _ ≡ _ = sym c.kind_of-kind.ensures ∙ c.if-kind-eq-INL.true in
+    leads-over c.ended-then-kind-eq-INL.ensures (c.branch-code.ensures.lengths ∙ c.eval-s.ensures.lengths)
+    (left-gone (c.requires.prepared_in, c.requires.node_bound) c.first_of-sum.ensures c.eval-s.ensures.ran
+    (is_value_lem c.if-s-ge-STOPPED.false) c.left_of-part.ensures kind c.second_of-left.ensures c.branch-code.ensures.gone)
+
+pub chosen-third_of-right-requires : goal.chosen-third_of-right-requires
+chosen-third_of-right-requires t c =
+    row-there c.requires.prepared_in.prepared
+
+pub chosen-branch-code-requires-then-kind-eq-INR : goal.chosen-branch-code-requires-then-kind-eq-INR
+chosen-branch-code-requires-then-kind-eq-INR t c =
+    let kind : nodeKind _ _ ≡ _ = sym c.kind_of-kind.ensures ∙ c.if-kind-eq-INR.true in (
+      omega (arith, c.decreases, c.eval-s.ensures.ran.spends),
+      (
+        record {
+          full = c.eval-s.ensures.lengths ∙ c.requires.prepared_in.full;
+          few = chosen-few (c.requires.prepared_in, c.requires.node_bound);
+          prepared = right-prepared (c.requires.prepared_in, c.requires.node_bound)
+              c.first_of-sum.ensures c.eval-s.ensures.ran
+              (is_value_lem c.if-s-ge-STOPPED.false) c.left_of-part.ensures kind c.third_of-right.ensures;
+        },
+        (
+          right-part (c.requires.prepared_in, c.requires.node_bound)
+              c.first_of-sum.ensures c.eval-s.ensures.ran
+              (is_value_lem c.if-s-ge-STOPPED.false) c.left_of-part.ensures kind c.third_of-right.ensures,
+          chosen-node (c.requires.prepared_in, c.requires.node_bound) c.first_of-sum.ensures c.eval-s.ensures.ran
+              (is_value_lem c.if-s-ge-STOPPED.false),
+        ),
+      ),
+    )
+
+pub chosen-shape_of-ws-then-kind-eq-INR : goal.chosen-shape_of-ws-then-kind-eq-INR
+chosen-shape_of-ws-then-kind-eq-INR t c =
+    c.branch-code-then-kind-eq-INR.auto.ws ∙ c.eval-s.auto.ws
+
+pub chosen-returns-then-kind-eq-INR : goal.chosen-returns-then-kind-eq-INR
+chosen-returns-then-kind-eq-INR t c =
+    let kind : nodeKind _ _ ≡ _ = sym c.kind_of-kind.ensures ∙ c.if-kind-eq-INR.true in
+    leads-over c.ended-then-kind-eq-INR.ensures (c.branch-code-then-kind-eq-INR.ensures.lengths ∙ c.eval-s.ensures.lengths)
+    (right-gone (c.requires.prepared_in, c.requires.node_bound) c.first_of-sum.ensures c.eval-s.ensures.ran
+    (is_value_lem c.if-s-ge-STOPPED.false) c.left_of-part.ensures kind c.third_of-right.ensures c.branch-code-then-kind-eq-INR.ensures.gone)
+
+pub chosen-shape_of-ws : goal.chosen-shape_of-ws
+chosen-shape_of-ws t c =
+    c.eval-s.auto.ws
+
+pub chosen-returns : goal.chosen-returns
+chosen-returns t c =
+    leads-over c.ended-2.ensures c.eval-s.ensures.lengths
+    (chosen-stuck (c.requires.prepared_in, c.requires.node_bound) c.first_of-sum.ensures c.eval-s.ensures.ran
+    (is_value_lem c.if-s-ge-STOPPED.false) (λ e. c.if-kind-eq-INL.false (c.kind_of-kind.ensures ∙ e)) (λ e. c.if-kind-eq-INR.false (c.kind_of-kind.ensures ∙ e))
+    (c.refuse.ensures.0 ∙ ap Refused (number-stuck _)))
+
+pub let_one-first_of-bound-requires : goal.let_one-first_of-bound-requires
+let_one-first_of-bound-requires t c =
+    row-there c.requires.prepared_in.prepared
+
+pub let_one-second_of-body-requires : goal.let_one-second_of-body-requires
+let_one-second_of-body-requires t c =
+    row-there c.requires.prepared_in.prepared
+
+pub let_one-overflow_sub-h : goal.let_one-overflow_sub-h
+let_one-overflow_sub-h t c =
+    omega (arith, c.requires.prepared_in.prepared.ready.tall)
+
+pub let_one-widen-wide-requires : goal.let_one-widen-wide-requires
+let_one-widen-wide-requires t c =
+    let_widens c.requires.prepared_in c.requires.node_bound.0 c.first_of-bound.ensures c.second_of-body.ensures c.requires.node_bound.1
+
+pub let_one-back-requires : goal.let_one-back-requires
+let_one-back-requires t c = (
+  omega (arith, c.decreases, ap (λ (m : Machine). m.fuel) c.widen-wide.ensures.machine),
+  let_widened c.requires.prepared_in c.requires.node_bound.0 c.first_of-bound.ensures c.second_of-body.ensures c.requires.node_bound.1
+      c.widen-wide.ensures,
+)
+
+pub let_one-shape_of-ws-then-r-ne0 : goal.let_one-shape_of-ws-then-r-ne0
+let_one-shape_of-ws-then-r-ne0 t c =
+    c.back.auto.ws
+
+pub let_one-returns-then-r-ne0 : goal.let_one-returns-then-r-ne0
+let_one-returns-then-r-ne0 t c =
+    let ran = let_ran c.requires.prepared_in c.requires.node_bound.0 c.first_of-bound.ensures c.second_of-body.ensures c.requires.node_bound.1
+    c.widen-wide.ensures (unpacked_run c.unpacked-r.ensures c.back.ensures) in
+    leads-over c.ended.ensures ran.lengths
+    (let_stopped c.requires.prepared_in.prepared c.requires.node_bound.0 c.requires.node_bound.1 c.first_of-bound.ensures c.second_of-body.ensures
+    ran.gone c.if-r-ne0.true)
+
+pub let_one-leave-x-requires : goal.let_one-leave-x-requires
+let_one-leave-x-requires t c =
+    let ran = let_ran c.requires.prepared_in c.requires.node_bound.0 c.first_of-bound.ensures c.second_of-body.ensures c.requires.node_bound.1
+    c.widen-wide.ensures (unpacked_run c.unpacked-r.ensures c.back.ensures) in
+    let_leaves c.requires.prepared_in.prepared c.requires.node_bound.0 c.requires.node_bound.1 c.first_of-bound.ensures c.second_of-body.ensures
+    ran.gone c.if-r-ne0.false
+
+pub let_one-outer-c-requires : goal.let_one-outer-c-requires
+let_one-outer-c-requires t c =
+    let (at-else1, at-unpacked, at_back, at-widen, at_second, at_first, start) = before_leave FIXME_place_After-outer-arg2 in
+    let ran = let_ran start.pre.1.0 start.pre.1.1.0 at_first.first_of.ensures at_second.second-of.ensures start.pre.1.1.1
+    at-widen.widen.ensures (unpacked_run at-unpacked.unpacked.ensures at_back.back.ensures) in
+    let_cell start.pre.1.0.prepared start.pre.1.1.0 start.pre.1.1.1 at_first.first_of.ensures at_second.second-of.ensures
+    ran.gone at-else1.if1.left (ran.lengths ∙ start.pre.1.0.full) refl
+
+pub let_one-shape_of-ws : goal.let_one-shape_of-ws
+let_one-shape_of-ws t c =
+    c.outer-c.auto.ws ∙ c.back.auto.ws
+
+pub let_one-returns : goal.let_one-returns
+let_one-returns t c =
+    let ran = let_ran c.requires.prepared_in c.requires.node_bound.0 c.first_of-bound.ensures c.second_of-body.ensures c.requires.node_bound.1
+    c.widen-wide.ensures (unpacked_run c.unpacked-r.ensures c.back.ensures) in
+    leads-on c.goes_on.ensures (c.outer-c.ensures.moved.lengths ∙ ran.lengths)
+    (record {
+      prepared = record {
+        full = c.outer-c.ensures.moved.lengths ∙ ran.lengths ∙ c.requires.prepared_in.full;
+        prepared = let_outer c.requires.prepared_in.prepared c.requires.node_bound.0 c.requires.node_bound.1 c.first_of-bound.ensures
+            c.second_of-body.ensures ran.gone c.if-r-ne0.false (left_behind c.outer-c.ensures);
+      };
+      there = let_node c.requires.prepared_in.prepared c.requires.node_bound.0 c.requires.node_bound.1 c.first_of-bound.ensures
+          c.second_of-body.ensures ran.gone c.if-r-ne0.false (left_behind c.outer-c.ensures) c.leave-x.ensures;
+      spends = omega (arith, ran.gone.ran.moves.spends, ap (λ (m : Machine). m.fuel) c.outer-c.ensures.moved.machine);
+      becomes = λ D. let_gone c.requires.prepared_in.prepared c.requires.node_bound.0 c.requires.node_bound.1 c.first_of-bound.ensures
+          c.second_of-body.ensures ran.gone c.if-r-ne0.false (left_behind c.outer-c.ensures) c.leave-x.ensures D;
+    })
+
+pub let_two-first_of-bound-requires : goal.let_two-first_of-bound-requires
+let_two-first_of-bound-requires t c =
+    row-there c.requires.prepared_in.prepared
+
+pub let_two-second_of-body-requires : goal.let_two-second_of-body-requires
+let_two-second_of-body-requires t c =
+    row-there c.requires.prepared_in.prepared
+
+pub let_two-overflow_sub-h : goal.let_two-overflow_sub-h
+let_two-overflow_sub-h t c =
+    omega (arith, c.requires.prepared_in.prepared.ready.tall)
+
+pub let_two-widen-one-requires : goal.let_two-widen-one-requires
+let_two-widen-one-requires t c =
+    letp_ready c.requires.prepared_in c.requires.node_bound.0 c.first_of-bound.ensures c.second_of-body.ensures c.requires.node_bound.1
+
+pub let_two-widen-both-requires : goal.let_two-widen-both-requires
+let_two-widen-both-requires t c =
+    letp_widens c.requires.prepared_in c.requires.node_bound.0 c.first_of-bound.ensures c.second_of-body.ensures c.requires.node_bound.1
+    c.widen-one.ensures
+
+pub let_two-back-requires : goal.let_two-back-requires
+let_two-back-requires t c = (
+  omega (
+    arith,
+    c.decreases,
+    ap (λ (m : Machine). m.fuel) c.widen-one.ensures.machine,
+    ap (λ (m : Machine). m.fuel) c.widen-both.ensures.machine,
+  ),
+  letp_widened c.requires.prepared_in c.requires.node_bound.0 c.first_of-bound.ensures c.second_of-body.ensures c.requires.node_bound.1
+      c.widen-one.ensures c.widen-both.ensures,
+)
+
+pub let_two-shape_of-ws-then-r-ne0 : goal.let_two-shape_of-ws-then-r-ne0
+let_two-shape_of-ws-then-r-ne0 t c =
+    c.back.auto.ws
+
+pub let_two-returns-then-r-ne0 : goal.let_two-returns-then-r-ne0
+let_two-returns-then-r-ne0 t c =
+    let ran = letp_ran c.requires.prepared_in c.requires.node_bound.0 c.first_of-bound.ensures c.second_of-body.ensures c.requires.node_bound.1
+    c.widen-one.ensures c.widen-both.ensures (unpacked_run c.unpacked-r.ensures c.back.ensures) in
+    leads-over c.ended.ensures (ran.lengths ∙ c.widen-one.ensures.lengths)
+    (letp_stopped c.requires.prepared_in.prepared c.requires.node_bound.0 c.requires.node_bound.1 c.first_of-bound.ensures c.second_of-body.ensures
+    (marked c.widen-one.ensures) c.widen-one.ensures.scope_is ran.gone c.if-r-ne0.true)
+
+pub let_two-leave-y-requires : goal.let_two-leave-y-requires
+let_two-leave-y-requires t c =
+    let ran = letp_ran c.requires.prepared_in c.requires.node_bound.0 c.first_of-bound.ensures c.second_of-body.ensures c.requires.node_bound.1
+    c.widen-one.ensures c.widen-both.ensures (unpacked_run c.unpacked-r.ensures c.back.ensures) in
+    letp_leaves c.requires.prepared_in.prepared c.requires.node_bound.0 c.requires.node_bound.1 c.first_of-bound.ensures c.second_of-body.ensures
+    (marked c.widen-one.ensures) c.widen-one.ensures.scope_is ran.gone c.if-r-ne0.false
+
+pub let_two-leave-x-requires : goal.let_two-leave-x-requires
+let_two-leave-x-requires t c =
+    let (at-else1, at-unpacked, at_back, at-widen2, at-widen, at_second, at_first, start) = before_leave FIXME_place_After-leave in
+    let ran = letp_ran start.pre.1.0 start.pre.1.1.0 at_first.first_of.ensures at_second.second-of.ensures start.pre.1.1.1
+    at-widen.widen.ensures at-widen2.widen2.ensures (unpacked_run at-unpacked.unpacked.ensures at_back.back.ensures) in
+    letp_leaves_first start.pre.1.0.prepared start.pre.1.1.0 start.pre.1.1.1 at_first.first_of.ensures at_second.second-of.ensures
+    (marked at-widen.widen.ensures) at-widen.widen.ensures.scope_is ran.gone at-else1.if1.left
+
+pub let_two-outer-c-requires : goal.let_two-outer-c-requires
+let_two-outer-c-requires t c =
+    let ran = letp_ran c.requires.prepared_in c.requires.node_bound.0 c.first_of-bound.ensures c.second_of-body.ensures c.requires.node_bound.1
+    c.widen-one.ensures c.widen-both.ensures (unpacked_run c.unpacked-r.ensures c.back.ensures) in
+    letp_cell c.requires.prepared_in.prepared c.requires.node_bound.0 c.requires.node_bound.1 c.first_of-bound.ensures c.second_of-body.ensures
+    (marked c.widen-one.ensures) c.widen-one.ensures.scope_is ran.gone c.if-r-ne0.false
+    (ran.lengths ∙ c.widen-one.ensures.lengths ∙ c.requires.prepared_in.full) refl
+
+pub let_two-over_pair-requires-clause-prepared_in : goal.let_two-over_pair-requires-clause-prepared_in
+let_two-over_pair-requires-clause-prepared_in t c =
+    let ran = letp_ran c.requires.prepared_in c.requires.node_bound.0 c.first_of-bound.ensures c.second_of-body.ensures c.requires.node_bound.1
+    c.widen-one.ensures c.widen-both.ensures (unpacked_run c.unpacked-r.ensures c.back.ensures) in
+    record {
+      full = c.outer-c.ensures.moved.lengths ∙ ran.lengths ∙ c.widen-one.ensures.lengths
+          ∙ c.requires.prepared_in.full;
+      prepared = letp_outer c.requires.prepared_in.prepared c.requires.node_bound.0 c.requires.node_bound.1
+          c.first_of-bound.ensures c.second_of-body.ensures (marked c.widen-one.ensures) c.widen-one.ensures.scope_is
+          ran.gone c.if-r-ne0.false (left_behind c.outer-c.ensures);
+    }
+
+pub let_two-over_pair-requires-clause-left_bound : goal.let_two-over_pair-requires-clause-left_bound
+let_two-over_pair-requires-clause-left_bound t c =
+    let ran = letp_ran c.requires.prepared_in c.requires.node_bound.0 c.first_of-bound.ensures c.second_of-body.ensures c.requires.node_bound.1
+    c.widen-one.ensures c.widen-both.ensures (unpacked_run c.unpacked-r.ensures c.back.ensures) in
+    letp_both c.requires.prepared_in.prepared c.requires.node_bound.0
+    c.requires.node_bound.1 c.first_of-bound.ensures c.second_of-body.ensures (marked c.widen-one.ensures)
+    c.widen-one.ensures.scope_is ran.gone c.if-r-ne0.false (left_behind c.outer-c.ensures) c.leave-x.ensures
+    c.leave-y.ensures
+
+pub let_two-shape_of-ws : goal.let_two-shape_of-ws
+let_two-shape_of-ws t c =
+    c.over_pair.auto.ws ∙ c.outer-c.auto.ws ∙ c.back.auto.ws
+
+pub let_two-returns : goal.let_two-returns
+let_two-returns t c =
+    let ran = letp_ran c.requires.prepared_in c.requires.node_bound.0 c.first_of-bound.ensures c.second_of-body.ensures c.requires.node_bound.1
+    c.widen-one.ensures c.widen-both.ensures (unpacked_run c.unpacked-r.ensures c.back.ensures) in
+    leads-through (c.outer-c.ensures.moved.lengths ∙ ran.lengths ∙ c.widen-one.ensures.lengths)
+    (omega (
+      arith,
+      ran.gone.ran.moves.spends,
+      ap (λ (m : Machine). m.fuel) c.widen-one.ensures.machine,
+      ap (λ (m : Machine). m.fuel) c.outer-c.ensures.moved.machine,
+    ))
+    (λ _ _ _ _ D. letp_gone c.requires.prepared_in.prepared c.requires.node_bound.0 c.requires.node_bound.1 c.first_of-bound.ensures c.second_of-body.ensures
+    (marked c.widen-one.ensures) c.widen-one.ensures.scope_is ran.gone c.if-r-ne0.false (left_behind c.outer-c.ensures)
+    c.leave-x.ensures c.leave-y.ensures D)
+    c.over_pair.ensures
+
+pub matched-first_of-sum-requires : goal.matched-first_of-sum-requires
+matched-first_of-sum-requires t c =
+    row-there c.requires.prepared_in.prepared
+
+pub matched-second_of-first-requires : goal.matched-second_of-first-requires
+matched-second_of-first-requires t c =
+    row-there c.requires.prepared_in.prepared
+
+pub matched-yields-left-requires : goal.matched-yields-left-requires
+matched-yields-left-requires t c =
+    case_asked c.requires.prepared_in c.requires.node_bound.0 c.requires.node_bound.1.kind c.second_of-first.ensures
+
+pub matched-branch_of-branch-requires : goal.matched-branch_of-branch-requires
+matched-branch_of-branch-requires t c =
+    row-there c.requires.prepared_in.prepared
+
+pub matched-overflow_sub-h : goal.matched-overflow_sub-h
+matched-overflow_sub-h t c =
+    let (_, _, _, _, start) = before_side c in
+    omega (arith, start.pre.1.0.prepared.ready.tall)
+
+pub matched-widen-wide-requires : goal.matched-widen-wide-requires
+matched-widen-wide-requires t c =
+    let (at-branch, at-yields, at_second, at_first, start) = before_side FIXME_place_After-widen-arg in
+    let yields = view_yields at-yields.yields.ensures (few-ancillae start.pre.1.0.prepared) in
+    case_widens start.pre.1.0 start.pre.1.1.0 start.pre.1.1.1 at_second.second-of.ensures _ yields
+    at_first.first_of.ensures at-branch.branch-of.ensures c.side_of-side.ensures
+
+pub matched-back-requires : goal.matched-back-requires
+matched-back-requires t c =
+    let yields = view_yields c.yields-left.ensures (few-ancillae c.requires.prepared_in.prepared) in (
+      omega (arith, c.decreases, ap (λ (m : Machine). m.fuel) c.widen-wide.ensures.machine),
+      case_widened c.requires.prepared_in c.requires.node_bound.0 c.requires.node_bound.1 c.second_of-first.ensures _ yields
+          c.first_of-sum.ensures c.branch_of-branch.ensures c.side_of-side.ensures c.widen-wide.ensures,
+    )
+
+pub matched-shape_of-ws-then-r-ne0 : goal.matched-shape_of-ws-then-r-ne0
+matched-shape_of-ws-then-r-ne0 t c =
+    c.back.auto.ws
+
+pub matched-returns-then-r-ne0 : goal.matched-returns-then-r-ne0
+matched-returns-then-r-ne0 t c =
+    let yields = view_yields c.yields-left.ensures (few-ancillae c.requires.prepared_in.prepared) in
+    let ran = case_ran c.requires.prepared_in c.requires.node_bound.0 c.requires.node_bound.1 c.second_of-first.ensures _ yields
+    c.first_of-sum.ensures c.branch_of-branch.ensures c.side_of-side.ensures c.widen-wide.ensures
+    (unpacked_run c.unpacked-r.ensures c.back.ensures) in
+    leads-over c.ended.ensures ran.lengths
+    (case_stopped c.requires.prepared_in.prepared c.requires.node_bound.0
+    c.requires.node_bound.1.kind c.requires.node_bound.1.chooses c.second_of-first.ensures _ yields
+    c.first_of-sum.ensures c.branch_of-branch.ensures c.side_of-side.ensures ran.gone c.if-r-ne0.true)
+
+pub matched-leave-x-requires : goal.matched-leave-x-requires
+matched-leave-x-requires t c =
+    let yields = view_yields c.yields-left.ensures (few-ancillae c.requires.prepared_in.prepared) in
+    let ran = case_ran c.requires.prepared_in c.requires.node_bound.0 c.requires.node_bound.1 c.second_of-first.ensures _ yields
+    c.first_of-sum.ensures c.branch_of-branch.ensures c.side_of-side.ensures c.widen-wide.ensures
+    (unpacked_run c.unpacked-r.ensures c.back.ensures) in
+    case_leaves c.requires.prepared_in.prepared c.requires.node_bound.0
+    c.requires.node_bound.1.kind c.requires.node_bound.1.chooses c.second_of-first.ensures _ yields
+    c.first_of-sum.ensures c.branch_of-branch.ensures c.side_of-side.ensures ran.gone c.if-r-ne0.false
+
+pub matched-outer-c-requires : goal.matched-outer-c-requires
+matched-outer-c-requires t c =
+    let (at-else1, at-unpacked, at_back, at-widen, at_Side, at-branch, at-yields, at_second, at_first, start) = before_leave FIXME_place_After-outer-arg2 in
+    let yields = view_yields at-yields.yields.ensures (few-ancillae start.pre.1.0.prepared) in
+    let ran = case_ran start.pre.1.0 start.pre.1.1.0 start.pre.1.1.1 at_second.second-of.ensures _ yields
+    at_first.first_of.ensures at-branch.branch-of.ensures at_Side.side-of.ensures at-widen.widen.ensures
+    (unpacked_run at-unpacked.unpacked.ensures at_back.back.ensures) in
+    case_cell start.pre.1.0.prepared start.pre.1.1.0
+    start.pre.1.1.1.kind start.pre.1.1.1.chooses at_second.second-of.ensures _ yields
+    at_first.first_of.ensures at-branch.branch-of.ensures at_Side.side-of.ensures ran.gone at-else1.if1.left
+    (ran.lengths ∙ start.pre.1.0.full) refl
+
+pub matched-over-requires-clause-prepared_in : goal.matched-over-requires-clause-prepared_in
+matched-over-requires-clause-prepared_in t c =
+    let yields = view_yields c.yields-left.ensures (few-ancillae c.requires.prepared_in.prepared) in
+    let ran = case_ran c.requires.prepared_in c.requires.node_bound.0 c.requires.node_bound.1 c.second_of-first.ensures _ yields
+    c.first_of-sum.ensures c.branch_of-branch.ensures c.side_of-side.ensures c.widen-wide.ensures
+    (unpacked_run c.unpacked-r.ensures c.back.ensures) in
+    record {
+      full = c.outer-c.ensures.moved.lengths ∙ ran.lengths ∙ c.requires.prepared_in.full;
+      prepared = case_outer
+          c.requires.prepared_in.prepared c.requires.node_bound.0
+          c.requires.node_bound.1.kind c.requires.node_bound.1.chooses c.second_of-first.ensures _ yields c.first_of-sum.ensures
+          c.branch_of-branch.ensures c.side_of-side.ensures ran.gone c.if-r-ne0.false (left_behind c.outer-c.ensures);
+    }
+
+pub matched-over-requires-clause-part_bound : goal.matched-over-requires-clause-part_bound
+matched-over-requires-clause-part_bound t c =
+    let yields = view_yields c.yields-left.ensures (few-ancillae c.requires.prepared_in.prepared) in
+    let ran = case_ran c.requires.prepared_in c.requires.node_bound.0 c.requires.node_bound.1 c.second_of-first.ensures _ yields
+    c.first_of-sum.ensures c.branch_of-branch.ensures c.side_of-side.ensures c.widen-wide.ensures
+    (unpacked_run c.unpacked-r.ensures c.back.ensures) in (
+      case_node c.requires.prepared_in.prepared c.requires.node_bound.0
+          c.requires.node_bound.1.kind c.requires.node_bound.1.chooses c.second_of-first.ensures _ yields
+          c.first_of-sum.ensures c.branch_of-branch.ensures c.side_of-side.ensures ran.gone c.if-r-ne0.false
+          (left_behind c.outer-c.ensures) c.leave-x.ensures,
+      side-single c.yields-left.result c.side_of-side.ensures,
+    )
+
+pub matched-shape_of-ws : goal.matched-shape_of-ws
+matched-shape_of-ws t c =
+    c.over.auto.ws ∙ c.outer-c.auto.ws ∙ c.back.auto.ws
+
+pub matched-returns : goal.matched-returns
+matched-returns t c =
+    let yields = view_yields c.yields-left.ensures (few-ancillae c.requires.prepared_in.prepared) in
+    let ran = case_ran c.requires.prepared_in c.requires.node_bound.0 c.requires.node_bound.1 c.second_of-first.ensures _ yields
+    c.first_of-sum.ensures c.branch_of-branch.ensures c.side_of-side.ensures c.widen-wide.ensures
+    (unpacked_run c.unpacked-r.ensures c.back.ensures) in
+    leads-through (c.outer-c.ensures.moved.lengths ∙ ran.lengths)
+    (omega (arith, ran.gone.ran.moves.spends, ap (λ (m : Machine). m.fuel) c.outer-c.ensures.moved.machine))
+    (λ _ _ _ _ D. case_gone c.requires.prepared_in.prepared c.requires.node_bound.0
+    c.requires.node_bound.1.kind c.requires.node_bound.1.chooses c.second_of-first.ensures _ yields
+    c.first_of-sum.ensures c.branch_of-branch.ensures c.side_of-side.ensures ran.gone c.if-r-ne0.false
+    (left_behind c.outer-c.ensures) c.leave-x.ensures D)
+    c.over.ensures
+
+pub pair-kind_of-found-requires : goal.pair-kind_of-found-requires
+pair-kind_of-found-requires t c =
+    node-there c.requires.prepared_in.prepared.ready c.requires.node_bound.0
+
+pub pair-returns-then-found-ne-PAIR : goal.pair-returns-then-found-ne-PAIR
+pair-returns-then-found-ne-PAIR t c =
+    leads-over c.ended.ensures refl
+    (paired-stuck c.requires.prepared_in.prepared c.requires.node_bound.0 c.requires.node_bound.1 c.kind_of-found.ensures c.if-found-ne-PAIR.true
+    c.refuse.ensures.0)
+
+pub pair-first_of-first-requires : goal.pair-first_of-first-requires
+pair-first_of-first-requires t c =
+    row-there c.requires.prepared_in.prepared
+
+pub pair-second_of-second-requires : goal.pair-second_of-second-requires
+pair-second_of-second-requires t c =
+    row-there c.requires.prepared_in.prepared
+
+pub pair-left_of-x-requires : goal.pair-left_of-x-requires
+pair-left_of-x-requires t c =
+    node-there c.requires.prepared_in.prepared.ready c.requires.node_bound.0
+
+pub pair-right_of-y-requires : goal.pair-right_of-y-requires
+pair-right_of-y-requires t c =
+    node-there c.requires.prepared_in.prepared.ready c.requires.node_bound.0
+
+pub pair-overflow_sub-h : goal.pair-overflow_sub-h
+pair-overflow_sub-h t c =
+    omega (arith, c.requires.prepared_in.prepared.ready.tall)
+
+pub pair-back-requires : goal.pair-back-requires
+pair-back-requires t c = (
+  omega (arith, c.decreases),
+  (
+    record {
+      full = c.requires.prepared_in.full;
+      prepared = paired-first c.requires.prepared_in.prepared c.requires.node_bound.0 c.requires.node_bound.1 c.kind_of-found.ensures
+          c.if-found-ne-PAIR.false c.left_of-x.ensures c.right_of-y.ensures c.first_of-first.ensures
+          c.second_of-second.ensures;
+    },
+    (paired-nodes c.requires.prepared_in.prepared c.requires.node_bound.0 c.requires.node_bound.1 c.kind_of-found.ensures c.if-found-ne-PAIR.false
+        c.left_of-x.ensures c.right_of-y.ensures).0,
+  ),
+)
+
+pub pair-shape_of-ws-then-r-ne0 : goal.pair-shape_of-ws-then-r-ne0
+pair-shape_of-ws-then-r-ne0 t c =
+    c.back.auto.ws
+
+pub pair-returns-then-r-ne0 : goal.pair-returns-then-r-ne0
+pair-returns-then-r-ne0 t c =
+    let ran = unpacked_run c.unpacked-r.ensures c.back.ensures in
+    leads-over c.ended-then-r-ne0.ensures ran.lengths
+    (paired-stopped c.requires.prepared_in.prepared c.requires.node_bound.0 c.requires.node_bound.1 c.kind_of-found.ensures c.if-found-ne-PAIR.false
+    c.left_of-x.ensures c.right_of-y.ensures c.first_of-first.ensures c.second_of-second.ensures ran.gone
+    c.if-r-ne0.true)
+
+pub pair-shape_of-ws : goal.pair-shape_of-ws
+pair-shape_of-ws t c =
+    c.back.auto.ws
+
+pub pair-returns : goal.pair-returns
+pair-returns t c =
+    let ran = unpacked_run c.unpacked-r.ensures c.back.ensures in
+    leads-on c.goes_on.ensures ran.lengths
+    (record {
+      prepared = record {
+        full = ran.lengths ∙ c.requires.prepared_in.full;
+        prepared = paired-second c.requires.prepared_in.prepared c.requires.node_bound.0 c.requires.node_bound.1 c.kind_of-found.ensures
+            c.if-found-ne-PAIR.false c.left_of-x.ensures c.right_of-y.ensures c.first_of-first.ensures
+            c.second_of-second.ensures ran.gone c.if-r-ne0.false;
+      };
+      there = paired-node c.requires.prepared_in.prepared c.requires.node_bound.0 c.requires.node_bound.1 c.kind_of-found.ensures c.if-found-ne-PAIR.false
+          c.left_of-x.ensures c.right_of-y.ensures c.first_of-first.ensures c.second_of-second.ensures ran.gone
+          c.if-r-ne0.false;
+      spends = ran.gone.ran.moves.spends;
+      becomes = λ D. paired-gone c.requires.prepared_in.prepared c.requires.node_bound.0 c.requires.node_bound.1 c.kind_of-found.ensures
+          c.if-found-ne-PAIR.false c.left_of-x.ensures c.right_of-y.ensures c.first_of-first.ensures
+          c.second_of-second.ensures ran.gone c.if-r-ne0.false D;
+    })
+
+pub step-kind_of-requires : goal.step-kind_of-requires
+step-kind_of-requires t c =
+    row-there c.requires.prepared_in.prepared
+
+pub step-variable-requires-clause-t_lt_max_terms : goal.step-variable-requires-clause-t_lt_max_terms
+step-variable-requires-clause-t_lt_max_terms t c =
+    row-there c.requires.prepared_in.prepared
+
+pub step-variable-requires-clause-meetable : goal.step-variable-requires-clause-meetable
+step-variable-requires-clause-meetable t c =
+    variable_meetable c.requires.prepared_in (sym c.kind_of.ensures ∙ c.in-0.is) c.requires.node_bound
+
+pub step-variable-requires-clause-node_bound : goal.step-variable-requires-clause-node_bound
+step-variable-requires-clause-node_bound t c =
+    c.requires.node_bound
+
+pub step-unit-requires : goal.step-unit-requires
+step-unit-requires t c =
+    node-there c.requires.prepared_in.prepared.ready c.requires.node_bound
+
+pub step-unwrap-requires-clause-prepared_in : goal.step-unwrap-requires-clause-prepared_in
+step-unwrap-requires-clause-prepared_in t c =
+    c.requires.prepared_in
+
+pub step-unwrap-requires-clause-node_bound : goal.step-unwrap-requires-clause-node_bound
+step-unwrap-requires-clause-node_bound t c =
+    (c.requires.node_bound, left (sym c.kind_of.ensures ∙ c.in-2.is, refl))
+
+pub step-unwrap-requires-in-3-clause-prepared_in : goal.step-unwrap-requires-in-3-clause-prepared_in
+step-unwrap-requires-in-3-clause-prepared_in t c =
+    c.requires.prepared_in
+
+pub step-unwrap-requires-in-3-clause-node_bound : goal.step-unwrap-requires-in-3-clause-node_bound
+step-unwrap-requires-in-3-clause-node_bound t c =
+    (c.requires.node_bound, right (left (sym c.kind_of.ensures ∙ c.in-3.is, refl)))
+
+pub step-pair-requires : goal.step-pair-requires
+step-pair-requires t c =
+    (omega (arith, c.decreases), (c.requires.prepared_in, (c.requires.node_bound, sym c.kind_of.ensures ∙ c.in-4.is)))
+
+pub step-let_one-requires : goal.step-let_one-requires
+step-let_one-requires t c =
+    (omega (arith, c.decreases), (c.requires.prepared_in, (c.requires.node_bound, sym c.kind_of.ensures ∙ c.in-5.is)))
+
+pub step-let_two-requires : goal.step-let_two-requires
+step-let_two-requires t c =
+    (omega (arith, c.decreases), (c.requires.prepared_in, (c.requires.node_bound, sym c.kind_of.ensures ∙ c.in-6.is)))
+
+pub step-choose-requires : goal.step-choose-requires
+step-choose-requires t c =
+    (omega (arith, c.decreases), (c.requires.prepared_in, (c.requires.node_bound, sym c.kind_of.ensures ∙ c.in-7.is)))
+
+pub step-call-requires : goal.step-call-requires
+step-call-requires t c =
+    (omega (arith, c.decreases), (c.requires.prepared_in, (c.requires.node_bound, sym c.kind_of.ensures ∙ c.in-8.is)))
+
+pub step-unwrap-requires-in-9-clause-prepared_in : goal.step-unwrap-requires-in-9-clause-prepared_in
+step-unwrap-requires-in-9-clause-prepared_in t c =
+    c.requires.prepared_in
+
+pub step-unwrap-requires-in-9-clause-node_bound : goal.step-unwrap-requires-in-9-clause-node_bound
+step-unwrap-requires-in-9-clause-node_bound t c =
+    (c.requires.node_bound, right (right (sym c.kind_of.ensures ∙ c.in-9.is, refl)))
+
+pub step-unroll-requires-clause-prepared_in : goal.step-unroll-requires-clause-prepared_in
+step-unroll-requires-clause-prepared_in t c =
+    c.requires.prepared_in
+
+pub step-unroll-requires-clause-node_bound : goal.step-unroll-requires-clause-node_bound
+step-unroll-requires-clause-node_bound t c =
+    (c.requires.node_bound, sym c.kind_of.ensures ∙ c.in-10.is)
+
+pub step-shape_of-ws-in-0 : goal.step-shape_of-ws-in-0
+step-shape_of-ws-in-0 t c =
+    c.variable.auto.ws
+
+pub step-returns-in-0 : goal.step-returns-in-0
+step-returns-in-0 t c =
+    leaf-leads c.ended.ensures
+    (variable-step c.requires.prepared_in c.requires.node_bound (sym c.kind_of.ensures ∙ c.in-0.is) c.variable.ensures)
+
+pub step-returns-in-1 : goal.step-returns-in-1
+step-returns-in-1 t c =
+    leaf-leads c.ended-in-1.ensures
+    (unit-step c.requires.prepared_in c.requires.node_bound (sym c.kind_of.ensures ∙ c.in-1.is) c.unit.ensures)
+
+pub step-shape_of-ws-in-2 : goal.step-shape_of-ws-in-2
+step-shape_of-ws-in-2 t c =
+    c.unwrap.auto.ws
+
+pub step-returns-in-2 : goal.step-returns-in-2
+step-returns-in-2 t c =
+    c.unwrap.ensures
+
+pub step-shape_of-ws-in-3 : goal.step-shape_of-ws-in-3
+step-shape_of-ws-in-3 t c =
+    c.unwrap-in-3.auto.ws
+
+pub step-returns-in-3 : goal.step-returns-in-3
+step-returns-in-3 t c =
+    c.unwrap-in-3.ensures
+
+pub step-shape_of-ws-in-4 : goal.step-shape_of-ws-in-4
+step-shape_of-ws-in-4 t c =
+    c.pair.auto.ws
+
+pub step-returns-in-4 : goal.step-returns-in-4
+step-returns-in-4 t c =
+    c.pair.ensures
+
+pub step-shape_of-ws-in-5 : goal.step-shape_of-ws-in-5
+step-shape_of-ws-in-5 t c =
+    c.let_one.auto.ws
+
+pub step-returns-in-5 : goal.step-returns-in-5
+step-returns-in-5 t c =
+    c.let_one.ensures
+
+pub step-shape_of-ws-in-6 : goal.step-shape_of-ws-in-6
+step-shape_of-ws-in-6 t c =
+    c.let_two.auto.ws
+
+pub step-returns-in-6 : goal.step-returns-in-6
+step-returns-in-6 t c =
+    c.let_two.ensures
+
+pub step-shape_of-ws-in-7 : goal.step-shape_of-ws-in-7
+step-shape_of-ws-in-7 t c =
+    c.choose.auto.ws
+
+pub step-returns-in-7 : goal.step-returns-in-7
+step-returns-in-7 t c =
+    c.choose.ensures
+
+pub step-shape_of-ws-in-8 : goal.step-shape_of-ws-in-8
+step-shape_of-ws-in-8 t c =
+    c.call.auto.ws
+
+pub step-returns-in-8 : goal.step-returns-in-8
+step-returns-in-8 t c =
+    c.call.ensures
+
+pub step-shape_of-ws-in-9 : goal.step-shape_of-ws-in-9
+step-shape_of-ws-in-9 t c =
+    c.unwrap-in-9.auto.ws
+
+pub step-returns-in-9 : goal.step-returns-in-9
+step-returns-in-9 t c =
+    c.unwrap-in-9.ensures
+
+pub step-shape_of-ws-in-10 : goal.step-shape_of-ws-in-10
+step-shape_of-ws-in-10 t c =
+    c.unroll.auto.ws
+
+pub step-returns-in-10 : goal.step-returns-in-10
+step-returns-in-10 t c =
+    c.unroll.ensures
+
+pub step-returns-in_default : goal.step-returns-in_default
+step-returns-in_default t c =
+    no_kind c.requires.prepared_in.prepared c.requires.node_bound c.kind_of.ensures c.in_default.in_default-own.rest

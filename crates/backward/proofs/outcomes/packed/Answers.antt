@@ -1,0 +1,8 @@
+use native.Mathlib.Omega.{arith}
+use borrow.Author.Rules.{rules}
+use Rattle.backward.proofs.Stops.{packed-out}
+use Rattle.backward.proofs.outcomes.packed.Goals as goal
+
+pub returns : goal.returns
+returns c =
+    packed-out _ (omega arith)

@@ -1,0 +1,11 @@
+use mathlib.Core.Path.{refl}
+use Rattle.backward.proofs.Leaves.{choice_left, choice_right}
+use Rattle.backward.proofs.outcomes.side_of.Goals as goal
+
+pub returns-then-left : goal.returns-then-left
+returns-then-left c =
+    choice_left _ c.if-left.true refl
+
+pub returns : goal.returns
+returns c =
+    choice_right _ c.if-left.false refl
