@@ -5,17 +5,17 @@
 .PHONY: all test clean
 .NOTPARALLEL:
 
-proved := $(shell find crates -type f) crates.txt
+proved := $(shell find crates -name out -prune -o -type f -print) crates.txt
 tool := $(shell find tools/tulakkez bindings/rust tests/second -name target -prune -o -type f -print)
 
 all: target/bin/corefun target/bin/tulakkez
 
 target/bin/corefun: $(proved)
-	rt check corefun
+	bash -c '. tests/building.sh && program'
 	touch $@
 
 target/staticlib/libexports.a: $(proved)
-	rt staticlib exports
+	bash -c '. tests/building.sh && library'
 	touch $@
 
 target/bin/tulakkez: target/staticlib/libexports.a $(tool)
@@ -27,5 +27,5 @@ test: all
 	bash tests/run
 
 clean:
-	rm -rf target
+	rm -rf target crates/*/out
 	for crate in bindings/rust tests/engine tests/second tests/tulakkez tests/tulakkez/cut tools/tulakkez; do rm -rf $$crate/target; done

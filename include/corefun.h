@@ -1,4 +1,4 @@
-/* The CoreFun engine's calls for C: the static library that `rt staticlib exports` writes (target/staticlib/libexports.a).
+/* The CoreFun engine's calls for C: the static library that `make target/staticlib/libexports.a` writes.
  *
  * A slice is a pointer and a length in bytes; where the length is 0 the pointer may be NULL. What a call writes (workspace,
  * output, journal, answers) overlaps nothing else that it is given: where NDEBUG is not defined, an assertion says so. Nothing is kept between

@@ -18,8 +18,8 @@ clauses() {
 
 # imported FILE: the modules of specs that it names.
 imported() {
-    grep -oE 'use (package\.)?Rattle·[a-z]+(·specs)?\.specs\.[A-Za-z]+(\.[A-Z][A-Za-z]+)*' "$1" | grep -v 'specs\.declared' |
-        sed -E 's/.*Rattle·([a-z]+)(·specs)?\.specs\./\1 /; s/\./\//g; s/^([a-z]+) (.*)$/crates\/\1\/specs\/\2.antt/' || true
+    grep -oE 'use (package\.)?Rattle\.[a-z]+\.specs\.[A-Za-z]+(\.[A-Z][A-Za-z]+)*' "$1" | grep -v 'specs\.declared' |
+        sed -E 's/.*Rattle\.([a-z]+)\.specs\./\1 /; s/\./\//g; s/^([a-z]+) (.*)$/crates\/\1\/specs\/\2.antt/' || true
 }
 
 # reached FILE..: these and all that they reach by imports, but for the kit's libraries.

@@ -6,16 +6,9 @@ set -euo pipefail
 cd "$(dirname "$0")/.."
 
 . tests/counting.sh
+. tests/building.sh
 scratch=$(mktemp -d)
 trap 'rm -rf "$scratch"' EXIT
-
-# Written anew only where a source is younger, since it proves the crate again.
-library() {
-    local archive=target/staticlib/libexports.a
-    if [ ! -e "$archive" ] || [ -n "$(find crates crates.txt -newer "$archive" -print -quit)" ]; then
-        rt staticlib exports
-    fi
-}
 
 # The calls that both examples make, in the second evaluator's lines.
 plus_calls() {

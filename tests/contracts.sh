@@ -2,7 +2,7 @@
 # Lists every `pub fn` of every crate with its clauses, and fails on one
 #   - without an `ensures`,
 #   - with a result that no `ensures` names,
-#   - that strangers call (the crates below) with a `requires`, or with a `&mut` parameter whose exit no `ensures` names.
+#   - that strangers call (the crates below) with a `requires`, or with a `&mut` parameter of which no `ensures` names what it is afterwards.
 # Usage: tests/contracts.sh [REPOSITORY]. The last line is 'N passed, M failed', a function each; the exit status is 0 only if M is 0.
 set -euo pipefail
 cd "${1:-$(dirname "$0")/..}"
@@ -46,12 +46,12 @@ function judge(   parts, crate, name, result, changed) {
     sub(/[^a-z_A-Z0-9].*$/, "", name)
     bad = ""
     if (ensured == 0) complain("no ensures")
-    if (ensured > 0 && head ~ /\) -> / && promise !~ /λ [^_]/) complain("the result is not named")
+    if (ensured > 0 && head ~ /\) -> / && promise !~ /(^|[^a-z_.])result([^a-z_0-9]|$)|λ [^_]/) complain("the result is not named")
     if (crate in is_open) {
         if (required > 0) complain("it requires something")
         changed_parameters(head, changed)
         for (parameter in changed)
-            if (index(promise, "(" parameter " .exit)") == 0) complain("what " parameter " is afterwards is not named")
+            if (promise !~ ("(^|[^a-z_0-9.])" parameter "[.]new")) complain("what " parameter " is afterwards is not named")
     }
     printf "%-10s %-34s %-24s %8d %7d%s\n", crate, parts[4] (parts[5] == "" ? "" : "/" parts[5]), name, required, ensured, bad == "" ? "" : "   FAILED: " bad
     if (bad == "") passed++
@@ -70,8 +70,8 @@ FNR == 1 { inside = 0 }
 inside {
     line = $0
     sub(/^ */, "", line)
-    if (line ~ /^requires /) required++
-    else if (line ~ /^ensures /) ensured++
+    if (line ~ /^requires[* ]/) required++
+    else if (line ~ /^ensures[* ]/) ensured++
     if (required + ensured == 0) head = head " " line
     else if (ensured > 0) promise = promise " " line
     if (line == "{" || (required + ensured == 0 && line ~ /\{(.*\})?$/)) {

@@ -73,7 +73,7 @@ versions() {
 }
 
 # The crates of crates.txt, each with what it stands on; and the first two columns of the map.
-listed() { sed -nE 's/^([a-z]+): *(.*)$/\1: \2/p' crates.txt | sed -E 's/ +$//'; }
+listed() { sed -nE 's/^([a-z]+)( staticlib)?: *(.*)$/\1: \3/p' crates.txt | sed -E 's/ +$//'; }
 mapped() {
     sed -n '/^| crate | stands on/,/^$/p' docs/ARCHITECTURE.md | sed -nE 's/^\| ([a-z]+) \| *([a-z, ]*)\|.*/\1: \2/p' | grep -v '^crate:' | tr -d ',' | sed -E 's/ +$//'
 }
@@ -83,13 +83,13 @@ map() { diff <(mapped | LC_ALL=C sort) <(listed | LC_ALL=C sort); }
 names_in() {
     {
         find "crates/$1/src" -name '*.rt' -exec sed 's,//.*,,' {} + | grep -oE '(^|[^A-Za-z0-9_:])[a-z]+::' | grep -oE '[a-z]+'
-        find "crates/$1" -name must-fail -prune -o -type f -print0 | xargs -0 grep -ohE 'Rattle·[a-z]+' | sed 's/Rattle·//'
+        find "crates/$1" -name must-fail -prune -o -type f -print0 | xargs -0 grep -ohE 'Rattle\.[a-z]+' | sed 's/Rattle\.//'
     } | LC_ALL=C sort -u | grep -vx "$1"
 }
 only_named() {
     local crate others status=0
     while IFS=: read -r crate others; do
-        if ! diff <(tr ' ' '\n' <<< "$others" | grep . | LC_ALL=C sort) <(names_in "$crate" | grep -xFf <(listed | sed 's/:.*//'; printf '%s\n' bytes io libc os) | LC_ALL=C sort); then
+        if ! diff <(tr ' ' '\n' <<< "$others" | grep . | LC_ALL=C sort) <(names_in "$crate" | grep -xFf <(listed | sed 's/:.*//') | LC_ALL=C sort); then
             echo "crates.txt: $crate names other crates than those that are listed"
             status=1
         fi

@@ -1,4 +1,4 @@
-//! Links the engine's static library, which `rt staticlib exports` writes. COREFUN_LIB names another folder that holds it.
+//! Links the engine's static library, which `make target/staticlib/libexports.a` writes. COREFUN_LIB names another folder that holds it.
 
 use std::path::{Path, PathBuf};
 

@@ -7,6 +7,7 @@ set -euo pipefail
 cd "$(dirname "$0")/../.."
 
 . tests/counting.sh
+. tests/building.sh
 corefun=$PWD/target/bin/corefun
 calls=$PWD/tests/calls/calls.txt
 answers=$PWD/tests/calls/answers.txt
@@ -337,9 +338,12 @@ full_output() {
 }
 
 status=0
-rt check corefun > "$scratch/built" 2>&1 || status=$?
-if [ "$status" -ne 0 ]; then tail -n 20 "$scratch/built" | cut -c1-400; fi
-verdict "the program is proved, and answers its own standard input" "$status"
+program || status=$?
+verdict "the program is proved" "$status"
+status=0
+"$corefun" $(cat crates/corefun/args) < crates/corefun/stdin > "$scratch/got" || status=$?
+verdict "the program ends on its own standard input" "$status"
+same "the program's answers to its own standard input" "$scratch/got" crates/corefun/stdout
 status=0
 cargo build --quiet --release --offline --manifest-path tests/second/Cargo.toml || status=$?
 verdict "the second evaluator" "$status"

@@ -4,7 +4,7 @@
 # weeks of a machine, in time (printed, and judged for checks of programs over large types) and in stack. With --long there are more of the
 # slow calls, with more fuel. The last line is 'N passed, M failed'; the exit status is 0 only if M is 0.
 set -euo pipefail
-cd "$(dirname "$0")"
+cd "$(dirname "$0")/../.."
 
 random_calls=100000
 steered_programs=25000
@@ -19,13 +19,15 @@ if [ "${1-}" = --long ]; then
     slow_work=100000000
 fi
 seed=$(date +%s)
-. ../counting.sh
+. tests/counting.sh
+. tests/building.sh
 
 calls() {
     target/release/harness lines < ../calls/calls.txt
 }
 
-part "static library" rt staticlib exports
+part "static library" library
+cd tests/engine
 part "harness" cargo build --quiet --release --offline
 part "the calls of tests/calls" calls
 part "random calls, seed $seed" target/release/harness random "$seed" "$random_calls"

@@ -5,16 +5,9 @@ set -euo pipefail
 cd "$(dirname "$0")/../.."
 
 . tests/counting.sh
+. tests/building.sh
 scratch=$(mktemp -d)
 trap 'rm -rf "$scratch"' EXIT
-
-# Written anew only where a source is younger, since it proves the crate again.
-library() {
-    local archive=target/staticlib/libexports.a
-    if [ ! -e "$archive" ] || [ -n "$(find crates crates.txt -newer "$archive" -print -quit)" ]; then
-        rt staticlib exports > "$scratch/library" 2>&1 || { tail -n 20 "$scratch/library"; return 1; }
-    fi
-}
 
 # tests NAME MANIFEST: the tests of a crate, each counted.
 tests() {

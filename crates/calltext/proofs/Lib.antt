@@ -5,6 +5,8 @@ pub mod Writing
 pub mod Digits
 -- decimal digits become numbers, and numbers digits
 pub mod Figures
+-- a byte found in a line
+pub mod Finding
 -- the words of a line, one after another
 pub mod Spaces
 -- what a line says

@@ -7,8 +7,7 @@ use mathlib.Core.List.{List}
 use lib.ListN.{length, take, drop, get_or, drop_of_length-le}
 use lib.Seq.{drop-cons, drop-drop, take-length}
 use lib.Dec.{eqb}
-use package.Rattle.bytes.specs.Bytes.{index_of, slice}
-use package.Rattle.calltext.specs.Words.{first, behind, from, word_at, is_space, spaces}
+use package.Rattle.calltext.specs.Words.{index_of, slice, first, behind, from, word_at, is_space, spaces}
 
 -- what is found is the end of the word
 pub found : (xs : List ℕ) (at end : ℕ) → end ≡ at + index_of 32 (slice at (length xs) xs) → end ≡ at + index_of 32 (drop at xs)

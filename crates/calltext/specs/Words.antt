@@ -1,6 +1,14 @@
 -- The words of a line: what stands between single spaces (32). Words count from 0.
 use Rattle.std.specs.Prelude.{ℕ, zero, suc, ◌+◌, cond, List, [], ◌∷◌, take, drop, eqb}
-use package.Rattle.bytes.specs.Bytes.{index_of}
+
+-- the first index at which a byte stands; the length where there is none
+unfoldable pub index_of : ℕ → List ℕ → ℕ
+index_of b [] = 0
+index_of b (x ∷ rest) = cond (eqb x b) 0 (suc (index_of b rest))
+
+-- the bytes from index `at` to `end`
+unfoldable pub slice : ℕ → ℕ → List ℕ → List ℕ
+slice at end xs = drop at (take end xs)
 
 -- the first word, and what is behind the space that ends it
 unfoldable pub first : List ℕ → List ℕ

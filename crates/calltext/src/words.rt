@@ -1,6 +1,22 @@
 // The words of a line: what stands between single spaces.
-ghost use Rattle.std.specs.Prelude.{◌≡◌, ◌≤◌, length, drop};
-ghost use Rattle.calltext.specs.Words.{behind, from, word_at, is_space, spaces};
+ghost use Rattle.std.specs.Prelude.{◌≡◌, ◌+◌, ◌≤◌, length, drop};
+ghost use Rattle.calltext.specs.Words.{index_of, slice, behind, from, word_at, is_space, spaces};
+
+// The first index from `at` on, and below `end`, at which the byte stands; `end` where there is none.
+pub fn find(text: &[u8], at: usize, end: usize, byte: u8) -> usize
+    requires in_bounds { (at ≤ end) × (end ≤ length text.now) }
+    ensures place { result ≡ at + index_of byte (slice at end text.now) }
+    ensures within { (at ≤ result) × (result ≤ end) }
+{
+    let mut i = at;
+    while i < end {
+        if text[i] == byte {
+            return i;
+        }
+        i += 1;
+    }
+    end
+}
 
 fn space(b: u8) -> usize
     ensures { result ≡ is_space b }
@@ -26,7 +42,7 @@ fn next(line: &[u8], at: usize) -> usize
     requires { at ≤ length line.now }
     ensures { (result ≤ length line.now) × (drop result line.now ≡ behind (drop at line.now)) }
 {
-    let end = bytes::scan::find(line, at, line.len(), 32);
+    let end = find(line, at, line.len(), 32);
     if end < line.len() {
         return end + 1;
     }
@@ -51,6 +67,6 @@ pub fn word(line: &[u8], k: u8) -> &[u8]
     ensures { result.now ≡ word_at k line.now }
 {
     let at = start(line, k);
-    let end = bytes::scan::find(line, at, line.len(), 32);
+    let end = find(line, at, line.len(), 32);
     &line[at..end]
 }

@@ -4,6 +4,7 @@ ghost use Rattle.corefun.specs.Bounds.{Fits};
 
 use crate::{OUTPUT, WORKSPACE, printing};
 use batch::LineAnswer;
+use std::io::{Input, Read};
 
 // The longest line that is answered, with the byte that ends it.
 pub(crate) const LINE: usize = 262144;
@@ -26,6 +27,8 @@ pub(crate) struct Window {
 
 // Answers a line: may there be another? (The buffers are long enough for every line that the input's buffer holds.)
 fn answer(
+    rt: &(impl Print + Alloc),
+    err: &impl Print,
     line: &[u8],
     program: &mut [u8; HALF],
     ancillae: &mut [u8; HALF],
@@ -38,39 +41,40 @@ fn answer(
 {
     let answered = batch::answer(line, program, ancillae, value, workspace, output, out);
     match answered {
-        LineAnswer::Ends(n) => printing::print(out, n),
+        LineAnswer::Ends(n) => printing::print(rt, err, out, n),
         LineAnswer::Short => false,
     }
 }
 
 // Reads behind the window.
-fn read_more(w: Window, line: &mut [u8]) -> Window
+fn read_more(rt: &(impl Input + Alloc), err: &impl Print, w: Window, line: &mut [u8]) -> Window
     requires { Fits w (length line.old) }
     ensures { Fits result (length line.new) }
 {
     let at = w.at;
     let end = w.end;
-    let got = libc::read(libc::STDIN_FILENO, &mut line[end..]);
-    if got < 0 {
-        os::fail(b"corefun: standard input");
-        return Window {
+    let mut input = rt.reader();
+    match input.read(&mut line[end..]) {
+        Ok(more) => Window {
             at,
-            end: at,
+            end: end + more,
             over: w.over,
-            open: false,
-        };
-    }
-    let more = io::count(got, &line[end..]);
-    Window {
-        at,
-        end: end + more,
-        over: w.over,
-        open: 0 < more,
+            open: 0 < more,
+        },
+        Err(error) => {
+            printing::fail(rt, err, b"corefun: standard input", error);
+            Window {
+                at,
+                end: at,
+                over: w.over,
+                open: false,
+            }
+        }
     }
 }
 
 // The buffer is full of a line that is too long, which is said once: the rest of it is passed over.
-fn pass_over(over: bool) -> Window
+fn pass_over(rt: &(impl Print + Alloc), err: &impl Print, over: bool) -> Window
     ensures { Fits result 0 }
 {
     if over {
@@ -81,7 +85,7 @@ fn pass_over(over: bool) -> Window
             open: true,
         };
     }
-    let open = printing::print(b"error the line is longer than 262143 bytes\n", 43);
+    let open = printing::print(rt, err, b"error the line is longer than 262143 bytes\n", 43);
     Window {
         at: 0,
         end: 0,
@@ -91,7 +95,7 @@ fn pass_over(over: bool) -> Window
 }
 
 // No line ends in the window: it is moved to the front of the buffer, or there is more to read, or the line is too long.
-fn refill(w: Window, line: &mut [u8]) -> Window
+fn refill(rt: &(impl Input + Print + Alloc), err: &impl Print, w: Window, line: &mut [u8]) -> Window
     requires { Fits w (length line.old) }
     ensures { Fits result (length line.new) }
 {
@@ -108,9 +112,9 @@ fn refill(w: Window, line: &mut [u8]) -> Window
         };
     }
     if end < line.len() {
-        return read_more(w, line);
+        return read_more(rt, err, w, line);
     }
-    pass_over(w.over)
+    pass_over(rt, err, w.over)
 }
 
 // The window behind a line that ends at `stop`.
@@ -136,6 +140,8 @@ fn behind(stop: usize, end: usize, open: bool) -> Window
 
 // Answers the line that the window starts with, or looks for its end.
 fn turn(
+    rt: &(impl Input + Print + Alloc),
+    err: &impl Print,
     w: Window,
     line: &mut [u8],
     program: &mut [u8; HALF],
@@ -150,14 +156,16 @@ fn turn(
 {
     let at = w.at;
     let end = w.end;
-    let stop = bytes::scan::find(line, at, end, 10);
+    let stop = calltext::words::find(line, at, end, 10);
     if end <= stop {
-        return refill(w, line);
+        return refill(rt, err, w, line);
     }
     if w.over {
         return behind(stop, end, true);
     }
     let open = answer(
+        rt,
+        err,
         &line[at..stop],
         program,
         ancillae,
@@ -171,6 +179,8 @@ fn turn(
 
 // The last line, if nothing ends it.
 fn finish(
+    rt: &(impl Print + Alloc),
+    err: &impl Print,
     w: Window,
     line: &[u8],
     program: &mut [u8; HALF],
@@ -189,6 +199,8 @@ fn finish(
     }
     if at < end {
         answer(
+            rt,
+            err,
             &line[at..end],
             program,
             ancillae,
@@ -203,6 +215,8 @@ fn finish(
 // Answers every line of standard input. A proved loop has to end, and nothing says that the input does: so it counts its turns down,
 // from a number that no input uses up.
 pub(crate) fn answer_all(
+    rt: &(impl Input + Print + Alloc),
+    err: &impl Print,
     line: &mut [u8],
     program: &mut [u8; HALF],
     ancillae: &mut [u8; HALF],
@@ -221,12 +235,16 @@ pub(crate) fn answer_all(
     };
     let mut turns = u64::MAX;
     while 0 < turns {
-        w = turn(w, line, program, ancillae, value, workspace, output, out);
+        w = turn(
+            rt, err, w, line, program, ancillae, value, workspace, output, out,
+        );
         if w.open {
             turns -= 1;
         } else {
             turns = 0;
         }
     }
-    finish(w, line, program, ancillae, value, workspace, output, out);
+    finish(
+        rt, err, w, line, program, ancillae, value, workspace, output, out,
+    );
 }

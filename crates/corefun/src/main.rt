@@ -11,6 +11,9 @@ mod reading;
 mod running;
 
 use input::{ANSWER, HALF, LINE};
+use std::env::FillError;
+use std::io::Input;
+use std::rt::{Env, Files};
 
 // What the largest fuel asks for (document 01, section 2).
 const WORKSPACE: usize = rules::WORKSPACE_BASE + rules::WORKSPACE_PER_FUEL * rules::MAX_FUEL;
@@ -30,25 +33,22 @@ enum Command {
     Unknown,
 }
 
-fn usage() {
-    io::write_all(libc::STDERR_FILENO, b"usage: corefun check FILE\n");
-    io::write_all(
-        libc::STDERR_FILENO,
+fn usage(err: &impl Print) {
+    printing::tell(err, b"usage: corefun check FILE\n");
+    printing::tell(
+        err,
         b"       corefun forward FILE FUNCTION FUEL ANCILLAE VALUE\n",
     );
-    io::write_all(
-        libc::STDERR_FILENO,
+    printing::tell(
+        err,
         b"       corefun backward FILE FUNCTION FUEL ANCILLAE VALUE\n",
     );
-    io::write_all(libc::STDERR_FILENO, b"       corefun batch < CALLS\n");
-    io::write_all(
-        libc::STDERR_FILENO,
-        b"       corefun replay PROGRAM SCRIPT\n",
-    );
-    io::write_all(libc::STDERR_FILENO, b"       corefun nurse JOURNAL\n");
-    io::write_all(libc::STDERR_FILENO, b"       corefun workshop JOURNAL\n");
-    io::write_all(
-        libc::STDERR_FILENO,
+    printing::tell(err, b"       corefun batch < CALLS\n");
+    printing::tell(err, b"       corefun replay PROGRAM SCRIPT\n");
+    printing::tell(err, b"       corefun nurse JOURNAL\n");
+    printing::tell(err, b"       corefun workshop JOURNAL\n");
+    printing::tell(
+        err,
         b"FILE and PROGRAM hold a program, SCRIPT a script of journal calls, JOURNAL a journal's bytes. FUNCTION and FUEL are decimal, ANCILLAE and VALUE hexadecimal, - for none.\n",
     );
 }
@@ -93,15 +93,30 @@ fn command_of(name: &[u8], given: usize) -> Command {
     Command::Unknown
 }
 
+// More arguments than a command takes: so many are counted, and no more.
+const MOST_GIVEN: usize = 8;
+
+// How many arguments were given, the program's name among them.
+fn count_given(rt: &impl Env, word: &mut [u8]) -> usize {
+    for n in 0..MOST_GIVEN {
+        if let Err(FillError::NotPresent) = rt.arg(n, word) {
+            return n;
+        }
+    }
+    MOST_GIVEN
+}
+
 // The command that the first argument names.
-fn asked(word: &mut [u8]) -> Command {
-    let given = os::arg_count();
-    let n = os::arg(1, word);
+fn asked(rt: &impl Env, word: &mut [u8]) -> Command {
+    let given = count_given(rt, word);
+    let n = arguments::word_of(rt, 1, word);
     command_of(&word[..n], given)
 }
 
 // Carries the command out, in buffers that serve all of them: `word` an argument or a line, `program`, `ancillae` and `value` bytes.
 fn carry_out(
+    rt: &(impl Env + Files + Input + Print + Alloc),
+    err: &impl Print,
     word: &mut [u8; LINE],
     program: &mut [u8; HALF],
     ancillae: &mut [u8; HALF],
@@ -110,19 +125,22 @@ fn carry_out(
     output: &mut [u8; OUTPUT],
     out: &mut [u8; ANSWER],
 ) {
-    match asked(word) {
-        Command::Check => running::check(word, program, workspace),
-        Command::Forward => running::run(false, word, program, ancillae, value, workspace),
-        Command::Backward => running::run(true, word, program, ancillae, value, workspace),
-        Command::Batch => input::answer_all(word, program, ancillae, value, workspace, output, out),
-        Command::Replay => playing::replay(word, program, ancillae, value, workspace, out),
-        Command::Nurse => reading::read(false, word, value, output, out),
-        Command::Workshop => reading::read(true, word, value, output, out),
-        Command::Unknown => usage(),
+    match asked(rt, word) {
+        Command::Check => running::check(rt, err, word, program, workspace),
+        Command::Forward => running::run(rt, err, false, word, program, ancillae, value, workspace),
+        Command::Backward => running::run(rt, err, true, word, program, ancillae, value, workspace),
+        Command::Batch => input::answer_all(
+            rt, err, word, program, ancillae, value, workspace, output, out,
+        ),
+        Command::Replay => playing::replay(rt, err, word, program, ancillae, value, workspace, out),
+        Command::Nurse => reading::read(rt, err, false, word, value, output, out),
+        Command::Workshop => reading::read(rt, err, true, word, value, output, out),
+        Command::Unknown => usage(err),
     }
 }
 
-fn main() {
+fn main(rt: HostRuntime) {
+    let err = rt.stderr();
     let mut word = [0u8; LINE];
     let mut program = [0u8; HALF];
     let mut ancillae = [0u8; HALF];
@@ -131,6 +149,8 @@ fn main() {
     let mut output = [0u8; OUTPUT];
     let mut out = [0u8; ANSWER];
     carry_out(
+        &rt,
+        &err,
         &mut word,
         &mut program,
         &mut ancillae,

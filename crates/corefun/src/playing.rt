@@ -5,6 +5,7 @@ use crate::files::Held;
 use crate::{files, printing};
 use command::plays;
 use replay::replies::ReplayAnswer;
+use std::rt::{Env, Files};
 
 // The longest journal, and the longest script.
 const JOURNAL: usize = 131072;
@@ -18,7 +19,7 @@ enum Said {
 }
 
 // The line that seven bytes answer a call with.
-fn say(line: &[u8]) -> Said
+fn say(rt: &(impl Print + Alloc), err: &impl Print, line: &[u8]) -> Said
     requires { 7 ≤ length line.now }
 {
     let mut out = [0u8; 64];
@@ -26,17 +27,17 @@ fn say(line: &[u8]) -> Said
     if n == 0 {
         return Said::Nothing;
     }
-    if printing::print(&out, n) {
+    if printing::print(rt, err, &out, n) {
         return Said::Line;
     }
     Said::Failed
 }
 
 // The lines of the calls that were answered: were they all written? Behind the last answer there are zeros.
-fn say_all(answers: &[u8]) -> bool {
+fn say_all(rt: &(impl Print + Alloc), err: &impl Print, answers: &[u8]) -> bool {
     let mut at: usize = 0;
     while 7 <= answers.len() - at {
-        let said = say(&answers[at..]);
+        let said = say(rt, err, &answers[at..]);
         match said {
             Said::Line => {
                 at += 7;
@@ -53,10 +54,10 @@ fn say_all(answers: &[u8]) -> bool {
 }
 
 // How the playing ended.
-fn report_end(answer: ReplayAnswer) {
+fn report_end(rt: &(impl Print + Alloc), err: &impl Print, answer: ReplayAnswer) {
     let mut out = [0u8; 512];
     let n = plays::ended_line(answer, &mut out);
-    printing::print(&out, n);
+    printing::print(rt, err, &out, n);
 }
 
 // Plays a script on the front of the journal's buffer.
@@ -74,6 +75,8 @@ fn play(
 
 // A script, played and reported.
 fn replay_given(
+    rt: &(impl Print + Alloc),
+    err: &impl Print,
     program: &[u8],
     script: &[u8],
     journal: &mut [u8],
@@ -84,12 +87,14 @@ fn replay_given(
 {
     octets::clear(answers);
     let answer = play(program, script, journal, workspace, answers);
-    if say_all(answers) {
-        report_end(answer);
+    if say_all(rt, err, answers) {
+        report_end(rt, err, answer);
     }
 }
 
 fn replay_loaded(
+    rt: &(impl Env + Files + Print + Alloc),
+    err: &impl Print,
     program: &[u8],
     word: &mut [u8],
     script: &mut [u8],
@@ -99,14 +104,16 @@ fn replay_loaded(
 )
     requires { 131072 ≤ length journal.old }
 {
-    let Held::Bytes(s) = files::load_all(3, b"SCRIPT", word, script) else {
+    let Held::Bytes(s) = files::load_all(rt, err, 3, b"SCRIPT", word, script) else {
         return;
     };
-    replay_given(program, &script[..s], journal, workspace, answers);
+    replay_given(rt, err, program, &script[..s], journal, workspace, answers);
 }
 
 // corefun replay PROGRAM SCRIPT
 pub(crate) fn replay(
+    rt: &(impl Env + Files + Print + Alloc),
+    err: &impl Print,
     word: &mut [u8],
     program: &mut [u8],
     script: &mut [u8],
@@ -116,8 +123,17 @@ pub(crate) fn replay(
 )
     requires { 131072 ≤ length journal.old }
 {
-    let Held::Bytes(p) = files::load(2, word, program) else {
+    let Held::Bytes(p) = files::load(rt, err, 2, word, program) else {
         return;
     };
-    replay_loaded(&program[..p], word, script, journal, workspace, answers);
+    replay_loaded(
+        rt,
+        err,
+        &program[..p],
+        word,
+        script,
+        journal,
+        workspace,
+        answers,
+    );
 }

@@ -1,4 +1,4 @@
-// The public calls for C and for Rust, as a static library (`rt staticlib exports`): a slice is a pointer and a length. What a call
+// The public calls for C and for Rust, as a static library (`rt lib`): a slice is a pointer and a length. What a call
 // answers is told in four numbers: the refusal's number, or 0 where it is accepted; its place; the length of the value, or of the bytes that
 // were written; the steps, or how many conversions stand.
 #![tactic(auto)]

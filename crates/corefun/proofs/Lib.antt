@@ -1,2 +1,0 @@
--- parts of a buffer within it
-pub mod Parts
