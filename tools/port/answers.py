@@ -324,13 +324,13 @@ def turn_body(fn, place, text, var="c"):
     return out, turn_text(fn, alias, text.strip()), alias
 
 
-INNER_TUPLE = re.compile(r"let\s+\(?([^()=]*?)\)?\s*=\s*((?:\S*-)?before-\S+)\s+(?:t\s+)?(\S+)\s+in\s+")
+INNER_TUPLE = re.compile(r"let\s+\(?([^()=]*?)\)?\s*=\s*((?:\S*-)?before[-_]\S+)\s+(?:t\s+)?\(?([^\s()]+)\)?\s+in\s+")
 INNER = re.compile(r"let\s+(" + WORD + r")\s*=\s*(" + WORD + r")((?:\.(?:«[\w-]+»|[\w'·₀-₉-]+))*)\s+in\s+")
 
 
 def turn_text(fn, alias, text):
     alias = dict(alias)
-    text = re.sub(r"\((?:\S*-)?before-\S+\s+(?:t\s+)?(" + WORD + r"(?:\.[\w'·₀-₉«»-]+)*)\)", lambda m: m.group(1), text)
+    text = re.sub(r"\((?:\S*-)?before[-_]\S+\s+(?:t\s+)?(" + WORD + r"(?:\.[\w'·₀-₉«»-]+)*)\)", lambda m: m.group(1), text)
     some = next(iter(alias.values()))[0]
     while True:
         tup = next((m for m in INNER_TUPLE.finditer(text) if m.group(3).split(".")[0] in alias), None)
@@ -685,7 +685,7 @@ def convert_cycle(crate, rel, folder, functions, old):
                 k += 1
             elif re.search(r"lts\.(invariant|decreases)|Measures ", sig):
                 invariants.append((comments, dname, sig, args, body, ali))
-            elif re.match(r"(\S*-)?before-", dname) or (re.search(r": Type 0$|: ℕ → Type 0$", sig) and re.search(r"\blts\.|-lts\.", body)):
+            elif re.match(r"(\S*-)?before[-_]", dname) or (re.search(r": Type 0$|: ℕ → Type 0$", sig) and re.search(r"\blts\.|-lts\.", body)):
                 continue
             elif re.search(r"-(at|below|uses)$|_(at|below|uses)$", dname) and re.search(r"In \d+ |Claims", sig) or "statement" in sig:
                 continue

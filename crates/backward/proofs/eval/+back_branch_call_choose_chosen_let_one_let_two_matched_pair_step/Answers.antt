@@ -1,7 +1,7 @@
 use Prim.Native.Nat.{ℕ, ◌+◌, ◌*◌, ◌<◌}
 use lib.ListN.{get_or}
 use Rattle.backward.proofs as own
-use own.LastPart.{Going, Going-start, going-spent, going_high, going_entered, going-node, Going-less, going-over, going_falls, Going-on, unpacked_run, leads-over, leads-on, leads-through, leaf-leads}
+use own.LastPart.{Going, going_start, going-spent, going_high, going_entered, going-node, going_less, going-over, going_falls, going_on, unpacked_run, leads-over, leads-on, leads-through, leaf-leads}
 use native.Mathlib.Omega.{arith}
 use mathlib.Core.Path.{refl, ◌∙◌, ap, ◌≡◌, sym}
 use native.Mathlib.Nat.{pos_of_ne-zero}
@@ -19,7 +19,7 @@ use own.Scoping.{case_that, let_widens, let_widened, let_ran, let_stopped, let_l
 use Rattle.valuegraph.specs.Nodes.{kind_at as nodeKind}
 use Rattle.backward.specs.Outcomes.{Refused}
 use Rattle.forward.proofs.Answers.{is_value_lem, is_refused}
-use own.Stops.{is_Carried, number-stuck}
+use own.Stops.{is_carried, number-stuck}
 use own.Chosen.{chosen-sum, chosen-few, chosen-stopped, chosen-stuck, chosen-room, chosen-node, left-part, left-prepared, left-gone, right-part, right-prepared, right-gone}
 use own.Leaving.{left_behind}
 use own.Opening.{marked}
@@ -30,77 +30,11 @@ use mathlib.Core.Logic.{inl as left, inr as right}
 use own.Arriving.{variable_meetable, variable-step, unit-step, no_kind}
 use Rattle.backward.proofs.eval.+back_branch_call_choose_chosen_let_one_let_two_matched_pair_step.Goals as goal
 
-abbrev before_back : Back → Right × Left × Second × First × Else1 × Kind × Start
-before_back c =
-    let at_right = c.before.before.before in
-    let (at_left, at_second, at_first, at-else1, at-kind, start) = before-right at_right in
-    (at_right, at_left, at_second, at_first, at-else1, at-kind, start)
-
-abbrev before_leave : Leave → Else1 × Unpacked × Back × Widen × Side × Branch × Yields × Second × First × Start
-before_leave c =
-    let at-else1 = c.before.before.before in
-    let (at-unpacked, at_back, at-widen, at_Side, at-branch, at-yields, at_second, at_first, start) = before-else1 at-else1 in
-    (at-else1, at-unpacked, at_back, at-widen, at_Side, at-branch, at-yields, at_second, at_first, start)
-
-abbrev before_back : Back → Widen × Side × Branch × Yields × Second × First × Start
-before_back c =
-    let at-widen = c.before.before.before in
-    let (at_Side, at-branch, at-yields, at_second, at_first, start) = before-widen at-widen in
-    (at-widen, at_Side, at-branch, at-yields, at_second, at_first, start)
-
-abbrev before_side : Side → Branch × Yields × Second × First × Start
-before_side c =
-    let at-branch = c.before in
-    let (at-yields, at_second, at_first, start) = before-branch at-branch in
-    (at-branch, at-yields, at_second, at_first, start)
-
-abbrev before_leave : Leave → Else1 × Unpacked × Back × Widen2 × Widen × Second × First × Start
-before_leave c =
-    let at-else1 = c.before.before.before in
-    let (at-unpacked, at_back, at-widen2, at-widen, at_second, at_first, start) = before-else1 at-else1 in
-    (at-else1, at-unpacked, at_back, at-widen2, at-widen, at_second, at_first, start)
-
-abbrev before_back : Back → Widen2 × Widen × Second × First × Start
-before_back c =
-    let at-widen2 = c.before.before.before in
-    let (at-widen, at_second, at_first, start) = before-widen2 at-widen2 in
-    (at-widen2, at-widen, at_second, at_first, start)
-
-abbrev before_leave : Leave → Else1 × Unpacked × Back × Widen × Second × First × Start
-before_leave c =
-    let at-else1 = c.before.before.before in
-    let (at-unpacked, at_back, at-widen, at_second, at_first, start) = before-else1 at-else1 in
-    (at-else1, at-unpacked, at_back, at-widen, at_second, at_first, start)
-
-abbrev before_back : Back → Widen × Second × First × Start
-before_back c =
-    let at-widen = c.before.before.before in
-    let (at_second, at_first, start) = before-widen at-widen in
-    (at-widen, at_second, at_first, start)
-
-abbrev before_leave : Leave → Else2 × Unpacked × Back × Widen × Scope × End × None × Body × First × Else1 × Gather × Wide × Third × Start
-before_leave c =
-    let at-else2 = c.before.before.before in
-    let (at-unpacked, at_back, at-widen, at-scope, at-end, at_none, at_body, at_first, at-else1, at-gather, at_wide, at-third, start) = before-else2 at-else2 in
-    (at-else2, at-unpacked, at_back, at-widen, at-scope, at-end, at_none, at_body, at_first, at-else1, at-gather, at_wide, at-third, start)
-
-abbrev before_back : Back → Widen × Scope × End × None × Body × First × Else1 × Gather × Wide × Third × Start
-before_back c =
-    let at-widen = c.before.before.before in
-    let (at-scope, at-end, at_none, at_body, at_first, at-else1, at-gather, at_wide, at-third, start) = before-widen at-widen in
-    (at-widen, at-scope, at-end, at_none, at_body, at_first, at-else1, at-gather, at_wide, at-third, start)
-
-abbrev before_back : Back → Wider × Entered × Start
-before_back c =
-    let at-wider = c.before.before.before in
-    let (at-entered, start) = before-wider at-wider in
-    (at-wider, at-entered, start)
-
 -- The functions of backward evaluation meet their contracts: the answers of Proof/, put together.
 
 pub back-loop-known-init : goal.back-loop-known-init
 back-loop-known-init t c =
-    Going-start c.requires.prepared_in c.requires.node_bound
+    going_start c.requires.prepared_in c.requires.node_bound
 
 pub back-shape_of-ws-then-height-eq0 : goal.back-shape_of-ws-then-height-eq0
 back-shape_of-ws-then-height-eq0 t c =
@@ -120,7 +54,7 @@ back-step-next-requires t c = (
   omega (
     arith,
     c.decreases,
-    Going-less c.loop-known.invariant c.fuel.ensures c.loop-known-test.true c.if-height-eq0.false
+    going_less c.loop-known.invariant c.fuel.ensures c.loop-known-test.true c.if-height-eq0.false
         c.spend.ensures,
   ),
   (
@@ -151,7 +85,7 @@ back-loop-known-smaller t c =
 
 pub back-loop-known-preserved : goal.back-loop-known-preserved
 back-loop-known-preserved t c =
-    Going-on c.loop-known.invariant c.fuel.ensures c.loop-known-test.true c.if-height-eq0.false c.spend.ensures c.step-next.ensures
+    going_on c.loop-known.invariant c.fuel.ensures c.loop-known-test.true c.if-height-eq0.false c.spend.ensures c.step-next.ensures
     c.step-next.auto.ws (not-false _ c.if-not-next.false)
 
 pub back-shape_of-ws : goal.back-shape_of-ws
@@ -295,9 +229,8 @@ call-leave-x-requires t c =
 
 pub call-argument_of-dynamic-requires : goal.call-argument_of-dynamic-requires
 call-argument_of-dynamic-requires t c =
-    let (_, _, _, _, _, _, _, _, _, _, _, at_wide, at-third, start) = before_leave c in
-    let calls = all_to_place start.pre.1.1.1 (at_wide.wide-index.ensures.0 ∙ at-third.third_of.ensures) in
-    argument-read (scope-ready start.pre.1.0.prepared) (all-arguments calls)
+    let calls = all_to_place c.requires.node_bound.1 (c.wide_index-k.ensures.0 ∙ c.third_of.ensures) in
+    argument-read (scope-ready c.requires.prepared_in.prepared) (all-arguments calls)
 
 pub call-shape_of-ws : goal.call-shape_of-ws
 call-shape_of-ws t c =
@@ -403,7 +336,7 @@ pub chosen-returns-then-s-ge-STOPPED : goal.chosen-returns-then-s-ge-STOPPED
 chosen-returns-then-s-ge-STOPPED t c =
     leads-over c.ended.ensures c.eval-s.ensures.lengths
     (chosen-stopped (c.requires.prepared_in, c.requires.node_bound) c.first_of-sum.ensures c.eval-s.ensures.ran
-    (is_refused c.if-s-ge-STOPPED.true) (is_Carried _ (is_refused c.if-s-ge-STOPPED.true)))
+    (is_refused c.if-s-ge-STOPPED.true) (is_carried _ (is_refused c.if-s-ge-STOPPED.true)))
 
 pub chosen-kind_of-kind-requires : goal.chosen-kind_of-kind-requires
 chosen-kind_of-kind-requires t c =
@@ -544,11 +477,10 @@ let_one-leave-x-requires t c =
 
 pub let_one-outer-c-requires : goal.let_one-outer-c-requires
 let_one-outer-c-requires t c =
-    let (at-else1, at-unpacked, at_back, at-widen, at_second, at_first, start) = before_leave FIXME_place_After-outer-arg2 in
-    let ran = let_ran start.pre.1.0 start.pre.1.1.0 at_first.first_of.ensures at_second.second-of.ensures start.pre.1.1.1
-    at-widen.widen.ensures (unpacked_run at-unpacked.unpacked.ensures at_back.back.ensures) in
-    let_cell start.pre.1.0.prepared start.pre.1.1.0 start.pre.1.1.1 at_first.first_of.ensures at_second.second-of.ensures
-    ran.gone at-else1.if1.left (ran.lengths ∙ start.pre.1.0.full) refl
+    let ran = let_ran c.requires.prepared_in c.requires.node_bound.0 c.first_of-bound.ensures c.second_of-body.ensures c.requires.node_bound.1
+    c.widen-wide.ensures (unpacked_run c.unpacked-r.ensures c.back.ensures) in
+    let_cell c.requires.prepared_in.prepared c.requires.node_bound.0 c.requires.node_bound.1 c.first_of-bound.ensures c.second_of-body.ensures
+    ran.gone c.if-r-ne0.false (ran.lengths ∙ c.requires.prepared_in.full) refl
 
 pub let_one-shape_of-ws : goal.let_one-shape_of-ws
 let_one-shape_of-ws t c =
@@ -626,11 +558,10 @@ let_two-leave-y-requires t c =
 
 pub let_two-leave-x-requires : goal.let_two-leave-x-requires
 let_two-leave-x-requires t c =
-    let (at-else1, at-unpacked, at_back, at-widen2, at-widen, at_second, at_first, start) = before_leave FIXME_place_After-leave in
-    let ran = letp_ran start.pre.1.0 start.pre.1.1.0 at_first.first_of.ensures at_second.second-of.ensures start.pre.1.1.1
-    at-widen.widen.ensures at-widen2.widen2.ensures (unpacked_run at-unpacked.unpacked.ensures at_back.back.ensures) in
-    letp_leaves_first start.pre.1.0.prepared start.pre.1.1.0 start.pre.1.1.1 at_first.first_of.ensures at_second.second-of.ensures
-    (marked at-widen.widen.ensures) at-widen.widen.ensures.scope_is ran.gone at-else1.if1.left
+    let ran = letp_ran c.requires.prepared_in c.requires.node_bound.0 c.first_of-bound.ensures c.second_of-body.ensures c.requires.node_bound.1
+    c.widen-one.ensures c.widen-both.ensures (unpacked_run c.unpacked-r.ensures c.back.ensures) in
+    letp_leaves_first c.requires.prepared_in.prepared c.requires.node_bound.0 c.requires.node_bound.1 c.first_of-bound.ensures c.second_of-body.ensures
+    (marked c.widen-one.ensures) c.widen-one.ensures.scope_is ran.gone c.if-r-ne0.false
 
 pub let_two-outer-c-requires : goal.let_two-outer-c-requires
 let_two-outer-c-requires t c =
@@ -699,15 +630,13 @@ matched-branch_of-branch-requires t c =
 
 pub matched-overflow_sub-h : goal.matched-overflow_sub-h
 matched-overflow_sub-h t c =
-    let (_, _, _, _, start) = before_side c in
-    omega (arith, start.pre.1.0.prepared.ready.tall)
+    omega (arith, c.requires.prepared_in.prepared.ready.tall)
 
 pub matched-widen-wide-requires : goal.matched-widen-wide-requires
 matched-widen-wide-requires t c =
-    let (at-branch, at-yields, at_second, at_first, start) = before_side FIXME_place_After-widen-arg in
-    let yields = view_yields at-yields.yields.ensures (few-ancillae start.pre.1.0.prepared) in
-    case_widens start.pre.1.0 start.pre.1.1.0 start.pre.1.1.1 at_second.second-of.ensures _ yields
-    at_first.first_of.ensures at-branch.branch-of.ensures c.side_of-side.ensures
+    let yields = view_yields c.yields-left.ensures (few-ancillae c.requires.prepared_in.prepared) in
+    case_widens c.requires.prepared_in c.requires.node_bound.0 c.requires.node_bound.1 c.second_of-first.ensures _ yields
+    c.first_of-sum.ensures c.branch_of-branch.ensures c.side_of-side.ensures
 
 pub matched-back-requires : goal.matched-back-requires
 matched-back-requires t c =
@@ -744,15 +673,14 @@ matched-leave-x-requires t c =
 
 pub matched-outer-c-requires : goal.matched-outer-c-requires
 matched-outer-c-requires t c =
-    let (at-else1, at-unpacked, at_back, at-widen, at_Side, at-branch, at-yields, at_second, at_first, start) = before_leave FIXME_place_After-outer-arg2 in
-    let yields = view_yields at-yields.yields.ensures (few-ancillae start.pre.1.0.prepared) in
-    let ran = case_ran start.pre.1.0 start.pre.1.1.0 start.pre.1.1.1 at_second.second-of.ensures _ yields
-    at_first.first_of.ensures at-branch.branch-of.ensures at_Side.side-of.ensures at-widen.widen.ensures
-    (unpacked_run at-unpacked.unpacked.ensures at_back.back.ensures) in
-    case_cell start.pre.1.0.prepared start.pre.1.1.0
-    start.pre.1.1.1.kind start.pre.1.1.1.chooses at_second.second-of.ensures _ yields
-    at_first.first_of.ensures at-branch.branch-of.ensures at_Side.side-of.ensures ran.gone at-else1.if1.left
-    (ran.lengths ∙ start.pre.1.0.full) refl
+    let yields = view_yields c.yields-left.ensures (few-ancillae c.requires.prepared_in.prepared) in
+    let ran = case_ran c.requires.prepared_in c.requires.node_bound.0 c.requires.node_bound.1 c.second_of-first.ensures _ yields
+    c.first_of-sum.ensures c.branch_of-branch.ensures c.side_of-side.ensures c.widen-wide.ensures
+    (unpacked_run c.unpacked-r.ensures c.back.ensures) in
+    case_cell c.requires.prepared_in.prepared c.requires.node_bound.0
+    c.requires.node_bound.1.kind c.requires.node_bound.1.chooses c.second_of-first.ensures _ yields
+    c.first_of-sum.ensures c.branch_of-branch.ensures c.side_of-side.ensures ran.gone c.if-r-ne0.false
+    (ran.lengths ∙ c.requires.prepared_in.full) refl
 
 pub matched-over-requires-clause-prepared_in : goal.matched-over-requires-clause-prepared_in
 matched-over-requires-clause-prepared_in t c =

@@ -1,7 +1,7 @@
 use Prim.Native.Nat.{ℕ, ◌+◌, ◌*◌, ◌<◌}
 use lib.ListN.{get_or}
 use Rattle.backward.proofs as own
-use own.LastPart.{Going, Going-start, going-spent, going_high, going_entered, going-node, Going-less, going-over, going_falls, Going-on, unpacked_run, leads-over, leads-on, leads-through, leaf-leads}
+use own.LastPart.{Going, going_start, going-spent, going_high, going_entered, going-node, going_less, going-over, going_falls, going_on, unpacked_run, leads-over, leads-on, leads-through, leaf-leads}
 use native.Mathlib.Omega.{arith}
 use mathlib.Core.Path.{refl, ◌∙◌, ap, ◌≡◌, sym}
 use native.Mathlib.Nat.{pos_of_ne-zero}
@@ -19,7 +19,7 @@ use own.Scoping.{case_that, let_widens, let_widened, let_ran, let_stopped, let_l
 use Rattle.valuegraph.specs.Nodes.{kind_at as nodeKind}
 use Rattle.backward.specs.Outcomes.{Refused}
 use Rattle.forward.proofs.Answers.{is_value_lem, is_refused}
-use own.Stops.{is_Carried, number-stuck}
+use own.Stops.{is_carried, number-stuck}
 use own.Chosen.{chosen-sum, chosen-few, chosen-stopped, chosen-stuck, chosen-room, chosen-node, left-part, left-prepared, left-gone, right-part, right-prepared, right-gone}
 use own.Leaving.{left_behind}
 use own.Opening.{marked}
