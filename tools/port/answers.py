@@ -286,6 +286,8 @@ def tuple_parts(text):
     last = text[start:-1].strip()
     if last:
         parts.append(last)
+    if len(parts) == 1 and not text[1:-1].rstrip().endswith(","):
+        return tuple_parts(parts[0])
     return parts if len(parts) > 1 else None
 
 

@@ -2,6 +2,7 @@
 // calls/specs/Load. The offsets of the entries' fields stand in buffers that the caller lends, so that a run finds them there, and the functions'
 // signatures in a table that it lends, so that admission asks it.
 #![tactic(auto)]
+
 ghost use Rattle.std.specs.Prelude.{◌≤◌, ◌≡◌, length};
 ghost use Rattle.rules.specs.Limits.{max_types};
 ghost use Rattle.entries.specs.Tested.{EntriesTested};

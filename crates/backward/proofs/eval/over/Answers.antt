@@ -13,9 +13,13 @@ pub single-made-requires-clause-heap : goal.single-made-requires-clause-heap
 single-made-requires-clause-heap c =
     rw c.top-top.ensures c.requires.prepared_in.prepared.ready.machine.graph.right
 
-pub FIXME_single-made-requires : goal.FIXME_single-made-requires
-FIXME_single-made-requires c =
-    rw c.top-top.ensures ((node-room c.requires.prepared_in.prepared.ready, c.requires.part_bound))
+pub single-made-requires-clause-room : goal.single-made-requires-clause-room
+single-made-requires-clause-room c =
+    rw c.top-top.ensures (node-room c.requires.prepared_in.prepared.ready)
+
+pub single-made-requires-clause-part_lt_top : goal.single-made-requires-clause-part_lt_top
+single-made-requires-clause-part_lt_top c =
+    rw c.top-top.ensures c.requires.part_bound
 
 pub grow-requires : goal.grow-requires
 grow-requires c =

@@ -13,9 +13,13 @@ pub pair-made-requires-clause-heap : goal.pair-made-requires-clause-heap
 pair-made-requires-clause-heap c =
     rw c.top-top.ensures c.requires.prepared_in.prepared.ready.machine.graph.right
 
-pub FIXME_pair-made-requires : goal.FIXME_pair-made-requires
-FIXME_pair-made-requires c =
-    rw c.top-top.ensures ((node-room c.requires.prepared_in.prepared.ready, c.requires.left_bound))
+pub pair-made-requires-clause-room : goal.pair-made-requires-clause-room
+pair-made-requires-clause-room c =
+    rw c.top-top.ensures (node-room c.requires.prepared_in.prepared.ready)
+
+pub pair-made-requires-clause-left_lt_top : goal.pair-made-requires-clause-left_lt_top
+pair-made-requires-clause-left_lt_top c =
+    rw c.top-top.ensures c.requires.left_bound
 
 pub grow-requires : goal.grow-requires
 grow-requires c =

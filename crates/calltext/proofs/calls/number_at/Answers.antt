@@ -1,0 +1,6 @@
+use borrow.Author.Rules.{rules}
+use Rattle.calltext.proofs.calls.number_at.Goals as goal
+
+pub returns : goal.returns
+returns c =
+    rw c.word.ensures at c.read_number.ensures

@@ -1,0 +1,77 @@
+use borrow.Author.Rules.{rules}
+use native.Mathlib.Omega.{arith}
+use mathlib.Core.Path.{ap}
+use lib.ListN.{length}
+use Rattle.calltext.proofs.Writing.{wrote-byte, wrote-both, wrote_as}
+use Rattle.calltext.proofs.Figures.{one-digit, more_digits, longer_by_one}
+use Prim.Native.Nat.{ℕ, ◌<◌}
+use Rattle.calltext.proofs.decimal.+put_number.Goals as goal
+
+put-number-returns :
+    (t : ℕ) →
+    put-number-lts.Need-returns
+    (put-number-below t, put-number.Post)
+    (put-number-at t)
+    put-number.Post
+put-number-returns t c =
+    let start = c.before.before in
+    wrote_as (wrote-byte _ _ _ (omega (arith, start.requires.1, ap length (one-digit _ c.if1.true)))) (one-digit _ c.if1.true)
+
+put-number-add-out :
+    (t : ℕ) →
+    put-number-lts.Need-overflow-add-out
+    (put-number-below t, put-number.Post)
+    (put-number-at t)
+    put-number.Post
+put-number-add-out t c = search rules
+
+put-number-cast-out :
+    (t : ℕ) →
+    put-number-lts.Need-overflow-cast-out
+    (put-number-below t, put-number.Post)
+    (put-number-at t)
+    put-number.Post
+put-number-cast-out t c = search rules
+
+pub bounds-out-at : goal.bounds-out-at
+bounds-out-at t c =
+    omega (arith, c.requires, ap length (one-digit _ c.if-n-lt10.true))
+
+pub overflow_add-result : goal.overflow_add-result
+overflow_add-result t c =
+    omega (arith, c.requires, ap length (one-digit _ c.if-n-lt10.true))
+
+pub put_number-end-requires : goal.put_number-end-requires
+put_number-end-requires t c =
+    (omega (arith, c.decreases), omega (arith, c.requires, longer_by_one _ c.if-n-lt10.false))
+
+pub bounds-out-end : goal.bounds-out-end
+bounds-out-end t c =
+    omega (
+      arith,
+      c.requires,
+      longer_by_one _ c.if-n-lt10.false,
+      c.put_number-end.ensures.ends,
+      c.put_number-end.ensures.kept,
+    )
+
+pub overflow_add-result-2 : goal.overflow_add-result-2
+overflow_add-result-2 t c =
+    omega (
+      arith,
+      c.requires,
+      longer_by_one _ c.if-n-lt10.false,
+      c.put_number-end.ensures.ends,
+      c.put_number-end.ensures.kept,
+    )
+
+pub returns : goal.returns
+returns t c =
+    wrote_as (wrote-both c.put_number-end.ensures
+    (wrote-byte _ _ _ (omega (
+      arith,
+      c.requires,
+      longer_by_one _ c.if-n-lt10.false,
+      c.put_number-end.ensures.ends,
+      c.put_number-end.ensures.kept,
+    )))) (more_digits _ c.if-n-lt10.false)

@@ -1,0 +1,16 @@
+use borrow.Author.Rules.{rules}
+use Prim.Native.Nat.{◌+◌, ◌-◌, ◌≤◌, ◌<◌, ◌*◌}
+use native.Mathlib.Omega.{arith}
+use mathlib.Core.Path.{◌≡◌}
+use lib.ListN.{length, take, length-set}
+use Rattle.calltext.specs.Wrote.{Wrote}
+use Rattle.calltext.specs.Hexadecimal.{digits_of}
+use Rattle.calltext.proofs.Writing.{wrote-byte, wrote_as}
+use Rattle.calltext.proofs.Digits.{encode-start, encode-more, no_bytes_lem, all-bytes}
+use Rattle.calltext.proofs.hexadecimal.encode.Given as goal
+
+abbrev pub invariant-loop-i : goal.invariant-loop-i
+invariant-loop-i l = (l.at + 2 * length l.bytes < length l.initial.out) × (length l.bytes ≡ 0 → ⊥) × (l.i ≤ length l.bytes) × (l.end ≡ l.at + 2 * l.i) × Wrote l.initial.out l.out l.at l.end (digits_of (take l.i l.bytes))
+
+abbrev pub decreases-loop-i : goal.decreases-loop-i
+decreases-loop-i l = length l.bytes - l.i

@@ -1,0 +1,14 @@
+use borrow.Author.Rules.{rules}
+use Prim.Native.Nat.{ℕ, ◌-◌, ◌≤◌, ◌*◌}
+use native.Mathlib.Omega.{arith}
+use mathlib.Core.Path.{◌≡◌, refl}
+use mathlib.Core.List.{List}
+use lib.ListN.{length, length-set}
+use Rattle.calltext.proofs.Digits.{Decoding, decoding, stops-odd, stops_high, stops-low, decodes-more, decoded}
+use Rattle.calltext.proofs.hexadecimal.pairs.Given as goal
+
+abbrev pub invariant-loop-i : goal.invariant-loop-i
+invariant-loop-i l = (length l.word ≤ 2 * length l.initial.out) × (length l.out ≡ length l.initial.out) × Decoding l.word l.initial.out l.out l.i l.n
+
+abbrev pub decreases-loop-i : goal.decreases-loop-i
+decreases-loop-i l = length l.word - l.i
