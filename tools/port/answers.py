@@ -650,7 +650,7 @@ def convert_cycle(crate, rel, folder, functions, old):
         new_text = read(paths[name])
         ali = {m.group(2): m.group(1) for m in re.finditer(r"^use \S+\.Lts-([\w-]+) as (\S+)$", new_text, re.M)}
         file_uses, blocks = declarations(new_text)
-        old_names = re.findall(r"^\s*(?:pub )?\S+ : (?:\(t : ℕ\) → )?\S+?\.Need-(\S+)", olds[name], re.M)
+        old_names = re.findall(r"^\s*(?:pub )?\S+\s+: (?:\(t : ℕ\)\s+→ )?[^\s()]+?\.Need-(\S+)", olds[name], re.M)
         uses += file_uses
         k = 0
         for b in blocks:
@@ -664,7 +664,7 @@ def convert_cycle(crate, rel, folder, functions, old):
             b = [l[pad:] if l[:pad].strip() == "" else l for l in b]
             comments = [l for l in b if l.startswith("--")]
             head = [l for l in b if not l.startswith("--")]
-            m = re.match(r"(?:pub )?(?:abbrev )?(?:pub )?(\S+) :(.*)", head[0])
+            m = re.match(r"(?:pub )?(?:abbrev )?(?:pub )?(\S+)\s+:(.*)", "\n".join(head))
             if not m:
                 others.append(b)
                 continue
@@ -681,7 +681,7 @@ def convert_cycle(crate, rel, folder, functions, old):
                 others.append(b)
                 continue
             args, body = eq.group(1).split(), text[eq.end():]
-            need = re.search(r"(\S+?)\.Need-(\S+)", head[0])
+            need = re.search(r"([^\s()]+?)\.Need-(\S+)", sig)
             if need:
                 parsed.append((comments, ali.get(need.group(1), need.group(1)), old_names[k] if k < len(old_names) else "?", unfolding, args, body))
                 k += 1

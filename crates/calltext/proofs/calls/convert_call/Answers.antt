@@ -53,7 +53,7 @@ returns-in_default-bytes_at-2 c =
 
 pub bytes_at-requires-3 : goal.bytes_at-requires-3
 bytes_at-requires-3 c =
-    omega (arith, (c.requires.line_len_bound_2, c.requires.line_len_bound_3))
+    omega (arith, c.requires.line_len_bound_2, c.requires.line_len_bound_3)
 
 pub returns-in_default-bytes_at-3 : goal.returns-in_default-bytes_at-3
 unfolding max_fuel

@@ -1,0 +1,64 @@
+use Prim.Native.Nat.{◌+◌}
+use native.Mathlib.Omega.{arith}
+use mathlib.Core.Path.{refl, ◌∙◌}
+use lib.Dec.{lit≤}
+use borrow.Author.Rules.{rules}
+use Rattle.rules.specs.Limits.{max_height, max_parameters}
+use Rattle.runs.proofs.Starts.{decode_asks, beginning, rows, in_rows, few-arguments}
+use Rattle.runs.proofs.Forward.{eval_ready, eval_told}
+use Rattle.runs.proofs.ahead.evaluate.Goals as goal
+
+pub decode-requires-clause-code_len : goal.decode-requires-clause-code_len
+decode-requires-clause-code_len c =
+    refl
+
+pub FIXME_decode-requires : goal.FIXME_decode-requires
+FIXME_decode-requires c =
+    decode_asks c.requires
+
+pub begin-start-requires-clause-st_len : goal.begin-start-requires-clause-st_len
+unfolding max_height max_parameters
+begin-start-requires-clause-st_len c =
+    refl
+
+pub begin-start-requires-clause-beginning : goal.begin-start-requires-clause-beginning
+unfolding max_height max_parameters
+begin-start-requires-clause-beginning c =
+    beginning c.requires c.decode.ensures (lit≤ tt)
+
+pub begin-requires : goal.begin-requires
+unfolding max_height max_parameters
+begin-requires c =
+    c.begin-start.ensures.lengths
+
+pub body_of-body-requires : goal.body_of-body-requires
+body_of-body-requires c =
+    omega (arith, in_rows c.requires c.decode.ensures, (rows c.requires c.decode.ensures).few_functions)
+
+pub overflow_add-count : goal.overflow_add-count
+unfolding max_height max_parameters
+overflow_add-count c =
+    let h = few-arguments c.requires c.decode.ensures c.begin-start.ensures.begun in
+    search rules
+
+pub scope-scope-requires : goal.scope-scope-requires
+unfolding max_height max_parameters
+scope-scope-requires c =
+    let h = few-arguments c.requires c.decode.ensures c.begin-start.ensures.begun in
+    (omega arith, omega arith, omega arith)
+
+pub eval-answer-requires : goal.eval-answer-requires
+unfolding max_height max_parameters
+eval-answer-requires c =
+    eval_ready c.requires c.decode.ensures c.begin-start.ensures c.wide32.ensures.0 c.wide32.ensures.1 c.begin.ensures refl
+    c.body_of-body.ensures _ c.scope-scope.ensures
+
+pub shape_of-ws : goal.shape_of-ws
+shape_of-ws c =
+    c.eval-answer.auto.ws ∙ c.begin-start.auto.ws
+
+pub returns : goal.returns
+unfolding max_height max_parameters
+returns c =
+    eval_told c.requires c.decode.ensures c.begin-start.ensures c.wide32.ensures.0 c.wide32.ensures.1 c.begin.ensures refl
+    c.body_of-body.ensures _ c.scope-scope.ensures c.eval-answer.ensures c.top.ensures c.fuel.ensures
