@@ -73,6 +73,10 @@ BY_HAND = {
             "fn clear(s: &mut [u8]) ensures { s.new ≡ s.old } { } // Is the program accepted? The workspace",
         ),
     ],
+    # the same with the test's name kept, which a proof file cites
+    "program/no_parameters": [
+        ("    if parameters < 1 {", "    if parameters < 1 { return true; } if parameters < 1 {"),
+    ],
     "program/reader_reads_the_start": [
         (
             "        ensures { found_of result self.entry.at ≡ field_at self.entry.program.now self.entry.at last }",
