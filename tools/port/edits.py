@@ -93,6 +93,10 @@ BY_HAND = {
             "σ₁ ← (λ f. elim (go a (none ∷ σ) b v f) [ ok s g ↦ ok s g | stop n j ↦ go a (none ∷ σ) b' v f | stuck ↦ stuck ])",
         ),
     ],
+    # the same with the test's name kept, which a proof file cites
+    "yields/glance_calls_equal_values_unequal": [
+        ("    if nodes::alike(ws, known, node) {", "    if nodes::alike(ws, known, node) { return NO; } if true {"),
+    ],
     "typing/let_pair_settles_no_naming": [
         (
             "p, types, ws, vars, r2, f.uses, sc, s.first, s.second, t, from, to,",
