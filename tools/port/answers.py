@@ -535,7 +535,10 @@ def clause_items(names, new, final):
                         path += ".1"
                     items = [(new, f"let p = {rest} in record {{ {'; '.join(fields)} }}")]
                 else:
-                    items.append((f"FIXME_{new}", rest))
+                    one = rest.strip() if re.fullmatch(WORD + r"(?:\.[\w'·₀-₉«»-]+)*", rest.strip()) else f"({rest.strip()})"
+                    for j, n2 in enumerate(names[i:]):
+                        last = j == len(names) - i - 1
+                        items.append((f"{new}-clause-{n2}", one + ".1" * j + ("" if last else ".0")))
                 break
             items.append((f"{new}-clause-{n}", parts[0]))
             rest = parts[1] if len(parts) == 2 else "(" + ", ".join(parts[1:]) + ")"

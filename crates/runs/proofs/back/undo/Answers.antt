@@ -11,9 +11,13 @@ pub decode-requires-clause-code_len : goal.decode-requires-clause-code_len
 decode-requires-clause-code_len c =
     refl
 
-pub FIXME_decode-requires : goal.FIXME_decode-requires
-FIXME_decode-requires c =
-    decode_asks c.requires
+pub decode-requires-clause-fields_of_terms : goal.decode-requires-clause-fields_of_terms
+decode-requires-clause-fields_of_terms c =
+    (decode_asks c.requires).0
+
+pub decode-requires-clause-fields_of_functions : goal.decode-requires-clause-fields_of_functions
+decode-requires-clause-fields_of_functions c =
+    (decode_asks c.requires).1
 
 pub begin-start-requires-clause-st_len : goal.begin-start-requires-clause-st_len
 unfolding max_height max_parameters
