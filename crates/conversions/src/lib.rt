@@ -2,6 +2,7 @@
 
 // open: the first record
 #![tactic(auto)]
+
 pub mod opening;
 // convert: one conversion more
 pub mod converting;
