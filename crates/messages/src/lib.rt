@@ -2,6 +2,7 @@
 
 // what each number means
 #![tactic(auto)]
+
 pub mod meanings;
 // answers as text
 pub mod replies;

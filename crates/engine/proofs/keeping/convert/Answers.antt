@@ -1,0 +1,22 @@
+use mathlib.Core.Path.{sym, ap, ◌∙◌}
+use lib.ListN.{replicate}
+use Rattle.conversions.specs.Turns.{convert_of}
+use Rattle.engine.proofs.Beginning.{enough-le}
+use Rattle.engine.proofs.Turns.{convert_whole, turn-enough, turn-short}
+use borrow.Author.Rules.{rules}
+use Rattle.engine.proofs.keeping.convert.Goals as goal
+
+pub convert-answer-requires : goal.convert-answer-requires
+convert-answer-requires c =
+    enough-le _ _ (sym c.enough.ensures ∙ c.if-enough.true)
+
+pub returns-then-enough : goal.returns-then-enough
+returns-then-enough c =
+    let p = turn-enough (λ P. convert_of P c.args.fuel c.args.function c.args.ancillae.now c.args.journal.now) c.args.fuel c.args.program.now
+    c.args.workspace.now c.args.journal.now (convert_whole _ _ _ _ _ _) (sym c.enough.ensures ∙ c.if-enough.true)
+    c.convert-answer.ensures (c.clear.ensures ∙ ap (λ n. replicate n 0) c.convert-answer.auto.workspace) in record { answer = p.0; keeps = p.1.0; clear = p.1.1 }
+
+pub returns : goal.returns
+returns c =
+    let p = turn-short (λ P. convert_of P c.args.fuel c.args.function c.args.ancillae.now c.args.journal.now) c.args.fuel c.args.program.now
+    c.args.workspace.now c.args.journal.now (convert_whole _ _ _ _ _ _) (sym c.enough.ensures ∙ c.if-enough.false) in record { answer = p.0; keeps = p.1.0; clear = p.1.1 }
