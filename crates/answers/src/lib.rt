@@ -1,11 +1,10 @@
 // What the calls answer (document 01, section 4). Loading, admission and runs answer these too, so that a refusal goes out as it was met.
 // Which number and place a refusal has, and what an answer is in the definitions' terms: specs/Answers.
+#![tactic(auto)]
 
 // A refusal by its kind, in the order of section 4's table, 1 to 20, with its place: the offset of a field's first byte (2 to 8), or a
 // term entry (12 to 16); the others have none.
-#![tactic(auto)]
-
-#[derive(Drop)]
+#[derive(Clone, Copy)]
 pub enum Refusal {
     Workspace,
     Field(usize),

@@ -1,8 +1,8 @@
 // A line of text answered by a line (tests/second/README.md has the form): the call that it says is made, and its answer is put into
 // words.
+#![tactic(auto)]
 
 // the calls, made in the lengths that a line names
-#![tactic(auto)]
 mod making;
 // the calls on a journal
 mod keeping;

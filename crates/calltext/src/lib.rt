@@ -1,8 +1,7 @@
 // Calls and answers as text (tests/second/README.md has the form): what is pure of the command line, so that the program above it is thin.
-
-// bytes as hexadecimal digits
 #![tactic(auto)]
 
+// bytes as hexadecimal digits
 pub mod hexadecimal;
 // numbers as decimal digits
 pub mod decimal;

@@ -1,7 +1,7 @@
 // The commands that make one call and report its answer in words: what is pure of them, so that the program above is thin.
+#![tactic(auto)]
 
 // what each call answered, as text
-#![tactic(auto)]
 pub mod reports;
 // the calls, made and reported
 pub mod single;

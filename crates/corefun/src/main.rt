@@ -2,6 +2,7 @@
 // below; here are arguments, files and the buffers that are lent. Answers go to standard output; where no call is made, standard output
 // stays empty and standard error says why (docs/DECISIONS.md, "Command line").
 #![tactic(auto)]
+
 mod arguments;
 mod files;
 mod input;

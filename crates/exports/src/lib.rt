@@ -2,6 +2,7 @@
 // answers is told in four numbers: the refusal's number, or 0 where it is accepted; its place; the length of the value, or of the bytes that
 // were written; the steps, or how many conversions stand.
 #![tactic(auto)]
+
 ghost use Rattle.std.specs.Prelude.{◌≡◌, length};
 ghost use Rattle.calls.specs.Answer.{cleared, overwritten};
 ghost use Rattle.calls.specs.Runs.{check_call, forward_call, backward_call, written};

@@ -1,8 +1,7 @@
 // A refusal in numbers and in words, and answers as text (document 01, section 4).
-
-// what each number means
 #![tactic(auto)]
 
+// what each number means
 pub mod meanings;
 // answers as text
 pub mod replies;

@@ -1,7 +1,5 @@
 // A thin reader of a program's fields: it holds the program and a position (document 01, section 1: a field is a one-byte tag, a
-// two-byte length and a body). The tests are left to `field_at`, on a slice and a number. The prover covers no function that
-// handles a struct with a reference inside, so `new`, `field` and `read_field` are proved by hand, each by a walk of its code;
-// `read_field` has plain parameters, so that its caller, the pass over the fields, is covered again.
+// two-byte length and a body). The tests are left to `field_at`, on a slice and a number; `read_field` has plain parameters.
 ghost use Rattle.std.specs.Prelude.{◌≡◌, ◌≤◌, length};
 ghost use Rattle.program.specs.Found.{found_of, field_at};
 

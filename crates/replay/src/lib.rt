@@ -1,8 +1,8 @@
 // A script of journal calls (document 01, section 5), played on one program, one workspace and one journal's buffer, so that demand 3
 // is a promise of one call.
+#![tactic(auto)]
 
 // reading a script
-#![tactic(auto)]
 pub mod scripts;
 // the lines that answer its calls
 pub mod told;

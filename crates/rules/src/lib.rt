@@ -1,8 +1,8 @@
 // The limits of document 01 for code, named once: the numbers of specs/Limits.
+#![tactic(auto)]
 
 // Programs (section 1).
 
-#![tactic(auto)]
 pub const MAX_TYPES: usize = 256;
 
 pub const MAX_TERMS: usize = 1024;

@@ -1,9 +1,8 @@
 // Values from bytes (document 01, section 1): where a value ends, how many values there are, the parts of a pair, and whether a value
 // is of a type. Nothing here copies a value: a part of one is a part of the caller's slice.
-
-// where values end, and the parts of a pair
 #![tactic(auto)]
 
+// where values end, and the parts of a pair
 pub mod scan;
 // whether a value is of a type
 pub mod typed;
