@@ -161,14 +161,12 @@ class Function:
         if kind in ("ensures", "requires") and callee:
             return self.clause_path(self.clauses(callee, 1 if kind == "ensures" else 0), more, kind, base)
         params = self.d["params"].get(callee, []) if callee else []
-        if kind == "new" and more and more[0].isdigit() and int(more[0]) < len(params):
-            return ".".join([base, "new", params[int(more[0])]] + more[1:])
-        if kind == "auto" and callee and more:
+        if kind in ("auto", "new") and callee and more:
             k, more = 0, list(more)
             while more and more[0] == "1":
                 k, more = k + 1, more[1:]
             if more and more[0] == "0" and k < len(params):
-                return ".".join([base, "auto", params[k]] + more[1:])
+                return ".".join([base, kind, params[k]] + more[1:])
             return "FIXME_" + ".".join([base] + rest)
         return ".".join([base] + rest)
 
