@@ -1,0 +1,20 @@
+use lib.ListN.{length}
+use Rattle.calls.specs.Conversions.{convert_call}
+use Rattle.calltext.proofs.Writing.{wrote_as}
+use Rattle.batch.proofs.Telling.{tells-turn}
+use borrow.Author.Rules.{rules}
+use Rattle.batch.proofs.keeping.convert_lent.Goals as goal
+
+pub returns-clause-answer : goal.returns-clause-answer
+returns-clause-answer c =
+    wrote_as c.held_line.ensures (tells-turn c.convert-answer.result
+    (convert_call c.args.program.now c.args.function c.args.ancillae.now c.args.fuel (length c.args.workspace.now) c.args.journal.now) c.args.journal.now
+    c.convert-answer.ensures.answer c.convert-answer.ensures.keeps)
+
+pub returns-clause-keeps : goal.returns-clause-keeps
+returns-clause-keeps c =
+    c.convert-answer.ensures.keeps
+
+pub returns-clause-clear : goal.returns-clause-clear
+returns-clause-clear c =
+    c.convert-answer.ensures.clear
