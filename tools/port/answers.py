@@ -768,7 +768,8 @@ def invariants_of_cycle(functions, invariants):
                 return ".".join(["l", params[k]] + segs)
 
             body = re.sub(r"(?<![\w'.])" + re.escape(args[-1]) + r"((?:\.[\w'-]+)+)", turn, body)
-            lines += [""] + comments + [f"abbrev pub decreases-{f} : goal.decreases-{f}", f"decreases-{f} l = {body}"]
+            name = f.replace("-", "::")
+            lines += [""] + comments + [f"abbrev pub decreases-{name} : goal.decreases-{name}", f"decreases-{name} l = {body}"]
             continue
         m = re.search(r"(\S+?)\.(invariant|decreases)-(\S+)", sig)
         f = ali.get(m.group(1), m.group(1))

@@ -162,7 +162,9 @@ def turn_rt(text, new):
 
 
 def main(argv):
-    new = table()
+    # the names once found, so that each commit gets the same: what a name may be made of depends on the others
+    kept = os.path.join(os.path.dirname(os.path.realpath(__file__)), "names.txt")
+    new = dict(l.split() for l in open(kept, encoding="utf-8")) if os.path.exists(kept) else table()
     if argv == ["--map"]:
         for a, b in sorted(new.items()):
             print(a, b)

@@ -1,6 +1,5 @@
 -- What a call gives a run: a function of the program, and the values that its bytes are.
 use Rattle.std.specs.Prelude.{ℕ, List, get_or}
-use package.Rattle.calls.specs.Values.{value, ancillae}
 use package.Rattle.calls.specs.Runs.{Given}
 use package.Rattle.program.specs.Programs.{function_in}
 use package.Rattle.valuebytes.specs.Ends.{values_in, value_in}

@@ -1,5 +1,5 @@
 -- A term is entered, in code: a unit of fuel is taken, a node is made; and the kinds without parts, a variable and the unit.
-use Prim.Native.Nat.{ℕ, ◌+◌, ◌*◌, ◌-◌, ◌≤◌, ◌<◌}
+use Prim.Native.Nat.{ℕ, ◌+◌, ◌-◌, ◌≤◌, ◌<◌}
 use native.Mathlib.Omega.{arith}
 use native.Mathlib.Nat.{pos_of_ne-zero}
 use mathlib.Core.Path.{◌≡◌, refl, sym, ap, ◌∙◌}

@@ -6,12 +6,12 @@ use mathlib.Core.Bool.{Bool, true, false, ◌&&◌}
 use mathlib.Core.List.{List, [], ◌∷◌, ◌++◌, append_assoc, append-nil}
 use lib.ListN.{length, get_or, length-append}
 use lib.Seq.{get_or-append_seam, get_or-append-add}
-use lib.Dec.{leb, eqb}
+use lib.Dec.{leb}
 use borrow.Author.Tests.{le-leb, lt-leb, eq-eqb, ne_eqb}
 use package.Rattle.octets.specs.Numbers.{get16, bytes16}
-use package.Rattle.rules.specs.Limits.{max_types, max_terms, max_functions, max_program_bytes, workspace_base, workspace_per_fuel}
-use package.Rattle.calls.specs.Answer.{Answer, accepted, refused, ◌>>=◌, require}
-use package.Rattle.calls.specs.Fields.{tag_at, length_at, next_at, kind_at, term_lengths, type_length, term_length, function_length, body_fits, well_formed, Layout, with_field, within_counts, read_fields, no_fields, layout}
+use package.Rattle.rules.specs.Limits.{max_terms, max_program_bytes, workspace_base, workspace_per_fuel}
+use package.Rattle.calls.specs.Answer.{accepted, refused}
+use package.Rattle.calls.specs.Fields.{tag_at, length_at, next_at, kind_at, term_lengths, type_length, term_length, body_fits, well_formed, Layout, with_field, within_counts, read_fields, no_fields, layout}
 use package.Rattle.calls.specs.Load.{load}
 use package.Rattle.calls.specs.Runs.{workspace_for, prepared, check_call}
 use package.Rattle.calls.specs.Journal.{field}

@@ -7,7 +7,7 @@ use mathlib.Core.Bool.{Bool, true, false, ◌&&◌, ◌||◌, false≢true}
 use mathlib.Core.Option.{Option, none, some}
 use mathlib.Core.List.{List, [], ◌∷◌}
 use lib.Dec.{eqb}
-use package.Rattle.rules.proofs.Basics.{given, and_both, eqb-sound, eqb_yes, or_elim, or_right}
+use package.Rattle.rules.proofs.Basics.{given, and_both, eqb-sound, eqb_yes, or_elim}
 use package.Rattle.calls.specs.Answer.{Answer, accepted, refused, ◌>>=◌, require, present}
 use package.Rattle.calls.specs.Named.{below, member}
 use package.Rattle.calls.proofs.Entries.{below-head}

@@ -1,6 +1,6 @@
 -- The plain book (section 5): what demand 3 is measured by. It is fed the arguments of each open, convert and rollback call, of the
 -- workspace and the journal's buffer the length alone, and nothing that the engine stores or answers.
-use Rattle.std.specs.Prelude.{ℕ, ◌+◌, ◌-◌, List, [], ◌∷◌, ◌++◌, length, take, replicate}
+use Rattle.std.specs.Prelude.{ℕ, ◌-◌, List, [], ◌∷◌, ◌++◌, length, take, replicate}
 use Rattle.std.proofs.Math.Option.{Option, none, some}
 use package.Rattle.rules.specs.Limits.{fits, max_height, max_fuel}
 use package.Rattle.rules.specs.Val.{Val, unit, size}

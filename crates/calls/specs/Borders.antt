@@ -1,17 +1,17 @@
 -- Border cases, computed: each limit at its edge and one past it, what buffers hold after each outcome, and a list of calls on the journal and
 -- in the book. A limit moved by one, or another `cleared` or `written`, is refused here. (Programs of as many entries as may be take long to
 -- compute with, and stand in a crate of their own, borders.)
-use Rattle.std.specs.Prelude.{ℕ, zero, suc, ◌+◌, ◌*◌, ◌≡◌, true, false, List, [], ◌∷◌, ◌++◌, replicate}
+use Rattle.std.specs.Prelude.{ℕ, zero, suc, ◌+◌, ◌*◌, ◌≡◌, List, [], ◌∷◌, ◌++◌, replicate}
 use package.Rattle.rules.specs.Val.{unit, inl, inr, encode}
 use package.Rattle.rules.specs.Cases.{num}
 use package.Rattle.rules.specs.Cases as trees
 use package.Rattle.calls.specs.Answer.{accepted, refused, cleared}
-use package.Rattle.calls.specs.Runs.{Ran, check_call, forward_call, backward_call, written}
+use package.Rattle.calls.specs.Runs.{check_call, forward_call, written}
 use package.Rattle.calls.specs.Journal.{field, held_tag, entry_tag}
 use package.Rattle.calls.specs.Conversions.{open_call, convert_call, rollback_call}
 use package.Rattle.calls.specs.Book.{Call, opens, converts, rolls_back, Told, is_open, holds, refuses, book_run, call_run}
 use package.Rattle.calls.specs.Claims.{begun}
-use package.Rattle.calls.specs.Cases.{type_field, term_field, var_field, function_field, nat_types, number_terms, number_functions, numbers, collapse, ample, plus_of, value, opened, converted, held}
+use package.Rattle.calls.specs.Cases.{type_field, term_field, var_field, function_field, nat_types, number_terms, number_functions, numbers, collapse, ample, plus_of, value, opened, converted}
 
 ----------------------------------------------------------------
 -- Programs at an edge

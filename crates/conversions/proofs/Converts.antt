@@ -11,7 +11,6 @@ use lib.Dec.{ltb, leb}
 use package.Rattle.rules.specs.Limits.{max_value_bytes, max_conversions}
 use package.Rattle.rules.specs.Val.{encode}
 use package.Rattle.rules.specs.Term.{Program}
-use package.Rattle.rules.proofs.Basics.{given}
 use package.Rattle.calls.specs.Values.{value, ancillae}
 use package.Rattle.calls.specs.Journal.{fields, read_journal, write_out}
 use package.Rattle.calls.specs.Conversions.{turned}

@@ -17,7 +17,7 @@ use package.Rattle.calls.specs.Answer.{Answer, accepted, refused, ◌>>=◌}
 use package.Rattle.calls.specs.Values.{value, ancillae, encode_all}
 use package.Rattle.calls.specs.Runs.{admit, Ran, returns}
 use package.Rattle.calls.specs.Journal.{Journal, fields, write_out}
-use package.Rattle.calls.specs.Conversions.{Turned, turned, newest}
+use package.Rattle.calls.specs.Conversions.{Turned, turned}
 use package.Rattle.calls.proofs.Answer.{via, stops, unbind, require_yes, require-no, present_some, present_none}
 use package.Rattle.calls.proofs.Values.{value-encode, ancillae-encode}
 use package.Rattle.calls.proofs.Journal.Fields.{WritableEntry}

@@ -8,7 +8,7 @@ use mathlib.Core.List.{List}
 use lib.ListN.{length, get_or, set, length-set}
 use lib.Seq.{get_or-set_same, get_or-set_other}
 use package.Rattle.octets.specs.Numbers.{get16}
-use package.Rattle.decoded.specs.Rows.{row_numbers, code_numbers, kind_in, first_in, second_in, third_in, argument_in}
+use package.Rattle.decoded.specs.Rows.{row_numbers, kind_in, first_in, second_in, third_in, argument_in}
 use package.Rattle.decoded.specs.Decoding.{Heads, Listed}
 
 ----------------------------------------------------------------

@@ -13,7 +13,6 @@ use package.Rattle.rules.specs.Term.{Term, Fun, nth, scope}
 use package.Rattle.rules.specs.Run.{Res, Run}
 use package.Rattle.rules.specs.Machine.{run_forward, on_some, forward_step, forward}
 use package.Rattle.calls.specs.Entries.{TypeEntry}
-use package.Rattle.program.specs.Parts.{body}
 use package.Rattle.valuegraph.specs.Nodes.{value_at}
 use package.Rattle.scopes.specs.Slots.{unknown, Machine, Scope, Slot}
 use package.Rattle.yields.specs.Yields.{Ancillae}

@@ -1,6 +1,6 @@
 -- The numbers that a run is lent: what evaluation asks and ensures, said of them. A machine that has moved, a slot that was written, a scope that
 -- is wider.
-use Prim.Native.Nat.{ℕ, suc, ◌+◌, ◌-◌, ◌≤◌, ◌<◌}
+use Prim.Native.Nat.{ℕ, suc, ◌+◌, ◌-◌, ◌<◌}
 use native.Mathlib.Omega.{arith}
 use mathlib.Core.Path.{◌≡◌, refl, sym, subst, ap, ◌∙◌}
 use mathlib.Core.List.{List, ◌∷◌}
@@ -14,8 +14,8 @@ use package.Rattle.rules.specs.Machine.{forward}
 use package.Rattle.calls.specs.Entries.{TypeEntry}
 use package.Rattle.valuegraph.specs.Nodes.{value_at}
 use package.Rattle.decoded.specs.Rows.{kind_in, first_in, tree_in, program_in}
-use package.Rattle.scopes.specs.Slots.{unknown, slot_count, state_count, Machine, Scope, machine_of, slots_of, scope_in, slot_at, Moved, Written}
-use package.Rattle.forward.specs.Outcomes.{Out, stopped, status_of, out_of, Finds}
+use package.Rattle.scopes.specs.Slots.{slot_count, state_count, Machine, Scope, machine_of, slots_of, scope_in, slot_at, Moved, Written}
+use package.Rattle.forward.specs.Outcomes.{Out, status_of, out_of, Finds}
 use package.Rattle.forward.specs.Ready.{Ready, RanForward, run_of, step_of, under_of, ancillae_of, state_of, Places, ReadyIn, end_of, Evaluates, EvaluatesUnder, Steps, MakeReady, MakesIn, CheckReady}
 use package.Rattle.forward.proofs.Answers.{below-mark}
 use package.Rattle.forward.proofs.Runs.{later, ancillae-held}

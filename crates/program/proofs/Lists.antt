@@ -13,7 +13,7 @@ use package.Rattle.calls.specs.Fields.{call_kind, kind_at, length_at, parameters
 use package.Rattle.calls.specs.Entries.{type_at, term_at, term_trees, function_at, references, call_ancillae}
 use package.Rattle.calls.specs.Named.{types_of_type, types_of_term, terms_of_term, functions_of_term, types_of_function, below}
 use package.Rattle.calls.proofs.Entries.{below-head}
-use package.Rattle.program.specs.Parts.{first, second, third, listed, result_of, body, TypeField, TermField, FunctionField}
+use package.Rattle.program.specs.Parts.{first, second, third, listed, result_of, TypeField, TermField, FunctionField}
 use package.Rattle.program.specs.Lists.{type_types, term_types, term_functions, term_terms, types_in_type, types_in_term, functions_in_term, terms_from, terms_in_term}
 use package.Rattle.program.proofs.Shapes.{type-unit, type-prod, type-sum, type-mu, type-var, term-var, term-unit, term_inl, term_inr, term-pair, term_let, term_letp, term_case, term-call, term-roll, term_unroll, function-ancillae, function-dynamic}
 use package.Rattle.program.proofs.Rooms.{type-kind, type-kind-room, prod-room, sum_room, mu-room, term-kind, term-kind-room, two-room, case_room, call-room}

@@ -21,7 +21,7 @@ use package.Rattle.calls.proofs.Book.Rows.{standing-journal}
 use package.Rattle.calls.proofs.Book.Turn.{Keeps}
 use package.Rattle.replay.specs.Scripts.{pick, open_tag, convert_tag, step_at, given_of, call_of, Placed, Script, calls_of, parse}
 use package.Rattle.replay.specs.Lines.{lines}
-use package.Rattle.replay.specs.Playing.{Reply, played, too_wide, short_answers, cut, reply_of, hindrance, Split, split, reply_to}
+use package.Rattle.replay.specs.Playing.{Reply, too_wide, short_answers, reply_of, hindrance, Split, split, reply_to}
 use package.Rattle.replay.specs.Playing.{Result, ends, opened, starts_with, plays_unless, replayed, ReplayMeans}
 use package.Rattle.replay.specs.Inner.Steps.{hinders}
 use package.Rattle.replay.specs.Booked.{CutAt, ByTheBook, Untouched, Booked}

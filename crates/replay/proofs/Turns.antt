@@ -11,7 +11,6 @@ use package.Rattle.octets.specs.Runs.{pasted}
 use package.Rattle.calls.specs.Book.{Call}
 use package.Rattle.calls.specs.Claims.{last_field}
 use package.Rattle.replay.specs.Scripts.{pick, step_at, call_of}
-use package.Rattle.replay.specs.Lines.{line}
 use package.Rattle.replay.specs.Playing.{Reply, too_wide, short_answers, cut, reply_of, ReplayMeans}
 use package.Rattle.replay.specs.Inner.Steps.{Next, halts, on, room_for, tested, makes, turn_of, play, Made, Ahead, PlayMeans}
 use package.Rattle.replay.specs.declared.scripts.Part.{Part}

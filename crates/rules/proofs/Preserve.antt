@@ -6,11 +6,10 @@ use mathlib.Core.Option.{Option, some}
 use mathlib.Core.List.{List, [], ◌∷◌}
 use lib.ListN.{length}
 use lib.Dec.{eqb}
-use package.Rattle.rules.specs.Val.{Val, unit, inl, inr, pair, roll, same}
+use package.Rattle.rules.specs.Val.{Val, unit, inl, inr, pair, roll}
 use package.Rattle.rules.specs.Ty.{Ty, prod, sum, unfold_ty, HasTys}
 use package.Rattle.rules.specs.Term.{Term, Terms, Fun, Program, look, scope}
 use package.Rattle.rules.specs.Rules.{Judgement, All, e_end, e_more, Rule, e_var, e_unit, e_inl, e_inr, e_prod, e_let, e_letp, e_casel, e_caser, e_app, e_roll, e_unroll, Ev}
-use package.Rattle.rules.specs.Typing.{dynamic}
 use package.Rattle.rules.proofs.OfType.{OfType, OfTypes, of-types_iff}
 use package.Rattle.rules.proofs.Basics.{given, none≢some, some_inj}
 use package.Rattle.rules.proofs.Directed.{lend, nothing, Typed, TypedAll, TypedProgram}

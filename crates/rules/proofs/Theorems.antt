@@ -10,7 +10,7 @@ use lib.ListN.{length}
 use package.Rattle.rules.specs.Val.{Val}
 use package.Rattle.rules.specs.Term.{Fun, Program, scope, look, used_in}
 use package.Rattle.rules.specs.Ty.{Ty}
-use package.Rattle.rules.specs.Typing.{dynamic, barred, ∅, bar, mark, t_var3}
+use package.Rattle.rules.specs.Typing.{barred, ∅, bar, mark, t_var3}
 use package.Rattle.rules.specs.Check.{term, visible, infer}
 use package.Rattle.rules.specs.Run.{Res, ok, stop, Run, give}
 use package.Rattle.rules.specs.Machine.{backward, run_forward, run_backward}

@@ -3,9 +3,9 @@ use Prim.Native.Nat.{ℕ, ◌+◌, ◌*◌, ◌/◌, ◌%◌, ◌≤◌, ◌<◌
 use native.Mathlib.Omega.{arith}
 use mathlib.Core.Path.{◌≡◌, refl, sym, ap, ap₂, ◌∙◌}
 use mathlib.Core.List.{List}
-use lib.ListN.{length, get_or, set, drop, length-set}
+use lib.ListN.{length, get_or, set, length-set}
 use lib.Seq.{get_or-set_same, get_or-set_other, get_or-drop, drop-set-lt, drop-set-add}
-use package.Rattle.scopes.specs.Slots.{Machine, Scope, machine_of, slots_of, scope_in, Moved, Written}
+use package.Rattle.scopes.specs.Slots.{slots_of, scope_in, Moved, Written}
 
 ----------------------------------------------------------------
 -- The machine

@@ -10,7 +10,7 @@ use lib.ListN.{length, get_or, set}
 use lib.Seq.{get_or-set_same, get_or-set_other}
 use lib.Dec.{eqb}
 use borrow.Author.Tests.{eqb-true, eqb-false, lt-ltb, le-ltb}
-use package.Rattle.valuegraph.specs.Nodes.{left_at, Heap, Agree}
+use package.Rattle.valuegraph.specs.Nodes.{Heap, Agree}
 use package.Rattle.valuegraph.proofs.Places.{agree_left}
 use package.Rattle.scopes.specs.Slots.{unknown, found, meaning, Scope, Slot}
 use package.Rattle.scopes.specs.Cells.{cell_at, number_in, state_with}

@@ -1,18 +1,18 @@
 -- Hints at products: what is kept where one is put, what a hint that is held to its parts tells, and the product of two types by what is found.
-use Prim.Native.Nat.{ℕ, ◌+◌, ◌*◌, ◌<◌, ◌≤◌, min}
+use Prim.Native.Nat.{ℕ, ◌+◌, ◌<◌, ◌≤◌, min}
 use native.Mathlib.Omega.{arith}
 use mathlib.Core.Path.{◌≡◌, refl, sym, ap, ap₂, ◌∙◌}
 use mathlib.Core.Bool.{true, false, false≢true}
-use mathlib.Core.List.{List, map}
+use mathlib.Core.List.{List}
 use lib.ListN.{length, get_or}
 use borrow.Author.Tests.{le-leb, lt-leb}
 use package.Rattle.rules.specs.Limits.{max_types, max_terms, max_nodes}
 use package.Rattle.rules.specs.Ty.{Ty, prod, nodes}
-use package.Rattle.calls.specs.Entries.{TypeEntry, type_at}
+use package.Rattle.calls.specs.Entries.{TypeEntry}
 use package.Rattle.calls.specs.Figures.{ceiling}
 use package.Rattle.program.specs.Kinds.{product_kind}
 use package.Rattle.types.specs.declared.codes.Code.{Code}
-use package.Rattle.types.specs.Layout.{hints_from, hint_bytes, typing_bytes}
+use package.Rattle.types.specs.Layout.{hints_from}
 use package.Rattle.types.specs.Figures.{Figured}
 use package.Rattle.types.specs.Codes.{unit_form, entry_form, under_form, product_form, Room, unit_code, product_code, tree_in, Known, Sources}
 use package.Rattle.types.specs.Shapes.{of_kind, shape_tree, plain_shape, Settled}

@@ -1,8 +1,8 @@
 -- Looking for aliases: what each step asks, and that what it leaves are figures still.
-use Prim.Native.Nat.{ℕ, zero, suc, ◌+◌, ◌≤◌, ◌<◌}
+use Prim.Native.Nat.{ℕ, ◌+◌, ◌≤◌, ◌<◌}
 use native.Mathlib.Omega.{arith}
 use native.Mathlib.Decide.{dec_lt}
-use mathlib.Core.Path.{◌≡◌, refl, sym, ap, ap₂, subst, ◌∙◌}
+use mathlib.Core.Path.{◌≡◌, refl, sym, ap, subst, ◌∙◌}
 use mathlib.Core.Bool.{Bool, true, false, cond}
 use mathlib.Core.List.{List, map}
 use lib.ListN.{length, get_or}
@@ -23,7 +23,7 @@ use package.Rattle.types.specs.Numbering.{slots, slot_of, put_alias, put_further
 use package.Rattle.types.proofs.Figuring.{alias-more}
 use package.Rattle.types.proofs.Recalling.{further-more}
 use package.Rattle.types.proofs.Trees.{tree-entry, tree-under}
-use package.Rattle.types.proofs.Outer.{few-at, kind-there, mu-there, two-there, first-lower, second-lower, entry_known, under-known}
+use package.Rattle.types.proofs.Outer.{few-at, mu-there, two-there, first-lower, second-lower, entry_known, under-known}
 use package.Rattle.types.proofs.Beginning.{no-products}
 
 pub found_below : {keys : List ℕ} {n key k : ℕ} → Finds keys n key k → ¬ (k ≡ n) → k < n

@@ -1,5 +1,5 @@
 -- Whether a type is unit, by the kind of the node that its code names, settled or not.
-use Prim.Native.Nat.{ℕ, zero, suc, ◌<◌, ◌≤◌}
+use Prim.Native.Nat.{ℕ, zero, suc, ◌<◌}
 use native.Mathlib.Omega.{arith}
 use native.Mathlib.Decide.{dec_lt}
 use mathlib.Core.Path.{◌≡◌, refl, sym, ap, ◌∙◌}
@@ -15,9 +15,8 @@ use package.Rattle.program.specs.Parts.{variable}
 use package.Rattle.program.specs.Kinds.{type_variable_kind}
 use package.Rattle.program.proofs.Shapes.{type-var}
 use package.Rattle.types.specs.declared.codes.Code.{Code}
-use package.Rattle.types.specs.declared.shapes.Shape.{Shape}
 use package.Rattle.types.specs.Figures.{closed_by, free_at}
-use package.Rattle.types.specs.Codes.{entry_form, under_form, product_form, entry_code, tree_in, Known, Sources}
+use package.Rattle.types.specs.Codes.{under_form, product_form, entry_code, tree_in, Known, Sources}
 use package.Rattle.types.specs.Shapes.{plain_shape, Shaped}
 use package.Rattle.types.proofs.Closing.{closed_itself, closed-variable}
 use package.Rattle.types.proofs.Trees.{tree-entry, tree-under}

@@ -1,5 +1,5 @@
 -- Products: new nodes, and hints at those that have a code already. Laws: proofs/Growing, Hinting.
-use Rattle.std.specs.Prelude.{ℕ, ◌+◌, ◌*◌, ◌<◌, ◌≤◌, ◌≡◌, Bool, true, false, List, length, get_or, leb}
+use Rattle.std.specs.Prelude.{ℕ, ◌+◌, ◌*◌, ◌<◌, ◌≤◌, ◌≡◌, true, false, List, length, get_or, leb}
 use package.Rattle.octets.specs.Numbers.{put16}
 use package.Rattle.rules.specs.Limits.{max_nodes}
 use package.Rattle.rules.specs.Ty.{Ty, prod, nodes}

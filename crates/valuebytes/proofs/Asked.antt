@@ -5,14 +5,14 @@ use native.Mathlib.Omega.{arith}
 use mathlib.Core.Path.{◌≡◌, refl, sym, ap, ap₂, subst, ◌∙◌}
 use mathlib.Core.Bool.{Bool, true, false, ◌&&◌}
 use mathlib.Core.List.{List}
-use lib.ListN.{length, get_or, set, replicate, length-map, length-set, length-replicate}
+use lib.ListN.{length, get_or, set, replicate, length-set, length-replicate}
 use package.Rattle.rules.specs.Val.{size}
 use package.Rattle.rules.specs.Ty.{Ty}
 use package.Rattle.rules.proofs.Basics.{given}
 use package.Rattle.rules.specs.Limits.{max_value_bytes}
 use package.Rattle.calls.specs.Answer.{accepted}
 use package.Rattle.calls.specs.Fields.{Layout, layout}
-use package.Rattle.calls.specs.Entries.{type_at, type_of}
+use package.Rattle.calls.specs.Entries.{type_of}
 use package.Rattle.calls.specs.Named.{plain, test_types}
 use package.Rattle.calls.specs.Values.{value, has_ty}
 use package.Rattle.calls.proofs.Entries.{lower, plain_iff}

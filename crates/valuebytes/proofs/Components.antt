@@ -5,13 +5,13 @@ use mathlib.Core.Path.{◌≡◌, refl, sym, ap, ap₂, subst, ◌∙◌}
 use mathlib.Core.Bool.{Bool, true, false, ◌&&◌}
 use mathlib.Core.Option.{some}
 use mathlib.Core.List.{List}
-use lib.ListN.{length, get_or, length-map}
+use lib.ListN.{length, get_or}
 use package.Rattle.rules.specs.Val.{Val, unit, inl, inr, pair, roll, size, encode}
 use package.Rattle.rules.specs.Ty.{Ty, prod, nodes}
 use package.Rattle.rules.proofs.Basics.{given, and_both}
 use package.Rattle.rules.proofs.Val.{length-encode}
 use package.Rattle.calls.specs.Fields.{kind_at}
-use package.Rattle.calls.specs.Entries.{type_at, type_of}
+use package.Rattle.calls.specs.Entries.{type_of}
 use package.Rattle.calls.specs.Named.{plain}
 use package.Rattle.calls.specs.Tested.{closed}
 use package.Rattle.calls.specs.Values.{value, has_ty}

@@ -7,7 +7,7 @@ use package.Rattle.rules.specs.Ty.{Ty}
 use package.Rattle.calls.specs.Fields.{kind_at}
 use package.Rattle.calls.specs.Entries.{TypeEntry, y_unit, type_at, type_of}
 use package.Rattle.calls.specs.Named.{types_of_type, below}
-use package.Rattle.calls.specs.Values.{Read, got, malformed, value, has_ty}
+use package.Rattle.calls.specs.Values.{Read, got, malformed, has_ty}
 use package.Rattle.calls.specs.Tested.{closed}
 use package.Rattle.program.specs.Parts.{TypeField}
 use package.Rattle.program.specs.Kinds.{type_variable_kind, recursive_kind}

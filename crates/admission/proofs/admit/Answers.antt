@@ -1,7 +1,6 @@
 use native.Mathlib.Omega.{arith}
 use mathlib.Core.Path.{sym, ◌∙◌}
 use Rattle.admission.proofs.Answers.{index-there, index-beyond, callable-at, row-there, row_at, no-function, bad-values, wrong_type, all_given}
-use borrow.Author.Rules.{rules}
 use Rattle.admission.proofs.admit.Goals as goal
 
 pub returns-then-functions-g : goal.returns-then-functions-g

@@ -1,7 +1,5 @@
-use Prim.Native.Nat.{◌-◌}
-use lib.ListN.{length}
 use borrow.Author.Rules.{rules}
-use Rattle.admission.proofs.Typed.{Walking, walked_done, walking_start, walking_index, walking_asked, walking_other, walking_behind, walking_next}
+use Rattle.admission.proofs.Typed.{walked_done, walking_start, walking_index, walking_asked, walking_other, walking_behind, walking_next}
 use Rattle.admission.proofs.ancillae_typed.Goals as goal
 
 pub loop-next-init : goal.loop-next-init

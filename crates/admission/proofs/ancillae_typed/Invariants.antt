@@ -1,7 +1,6 @@
 use Prim.Native.Nat.{◌-◌}
 use lib.ListN.{length}
-use borrow.Author.Rules.{rules}
-use Rattle.admission.proofs.Typed.{Walking, walked_done, walking_start, walking_index, walking_asked, walking_other, walking_behind, walking_next}
+use Rattle.admission.proofs.Typed.{Walking}
 use Rattle.admission.proofs.ancillae_typed.Given as goal
 
 abbrev pub invariant-loop-next : goal.invariant-loop-next

@@ -3,7 +3,6 @@ use native.Mathlib.Omega.{arith}
 use mathlib.Core.Path.{sym, ap, ◌∙◌}
 use Rattle.admission.proofs.Parameters.{parameters-room}
 use Rattle.admission.proofs.Right.{right_none, right_not, right-number}
-use borrow.Author.Rules.{rules}
 use package.Rattle.program.proofs.Lists.{ancillae-count}
 use Rattle.admission.proofs.values_right.Goals as goal
 

@@ -1,7 +1,6 @@
 use mathlib.Core.Path.{refl, sym, ◌∙◌}
 use lib.ListN.{length}
 use Rattle.batch.proofs.Lending.{enough-all, short-line, answered-line}
-use borrow.Author.Rules.{rules}
 use Rattle.batch.proofs.answer.Goals as goal
 
 pub answer_within-requires : goal.answer_within-requires

@@ -1,7 +1,6 @@
 use native.Mathlib.Omega.{arith}
 use Rattle.calltext.specs.Left.{program_left, ancillae_left, value_left}
 use Rattle.batch.proofs.Lending.{replies_as}
-use borrow.Author.Rules.{rules}
 use Rattle.batch.proofs.answer_within.Goals as goal
 
 pub reply-requires-clause-within : goal.reply-requires-clause-within

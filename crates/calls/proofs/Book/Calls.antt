@@ -8,7 +8,7 @@ use mathlib.Core.List.{List, [], ◌∷◌, ◌++◌}
 use lib.ListN.{length}
 use lib.Dec.{eqb, ltb, leb, leb→le, ltb→lt, le→leb}
 use package.Rattle.rules.specs.Limits.{fits, max_height, max_conversions}
-use package.Rattle.rules.specs.Val.{Val, size, same}
+use package.Rattle.rules.specs.Val.{Val, size}
 use package.Rattle.rules.specs.Term.{Program}
 use package.Rattle.rules.specs.Run.{Res, ok, stop, stuck}
 use package.Rattle.rules.specs.Machine.{run_forward, run_backward}
@@ -21,7 +21,6 @@ use package.Rattle.calls.specs.Values.{value, ancillae}
 use package.Rattle.calls.proofs.Answer.{refused≢accepted, accepted_inj, via, unbind, require_yes, required, present_some, presented}
 use package.Rattle.calls.proofs.Runs.Parts.{Admits, admit_iff}
 use package.Rattle.rules.proofs.Basics.{given, some_inj, T_true, eqb_yes, eqb-sound}
-use package.Rattle.rules.proofs.Outcome.{steps}
 
 ----------------------------------------------------------------
 -- Workspace, program and run

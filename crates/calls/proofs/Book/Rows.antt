@@ -17,9 +17,7 @@ use package.Rattle.calls.specs.Conversions.{behind, newest}
 use package.Rattle.calls.specs.Journal.{Entry, Journal, fields, write_out}
 use package.Rattle.calls.specs.Runs.{Ran, ran}
 use package.Rattle.calls.specs.Values.{encode_all}
-use package.Rattle.calls.proofs.Answer.{first}
 use package.Rattle.calls.proofs.Journal.Entries.{WritableEntries, no_entries, entries_snoc}
-use package.Rattle.rules.proofs.Outcome.{steps, short}
 use package.Rattle.rules.proofs.Theorems.{tree-forward_iff_rules}
 
 ----------------------------------------------------------------

@@ -7,7 +7,7 @@ use mathlib.Core.Option.{Option, none, some}
 use mathlib.Core.List.{List, [], ◌∷◌, ◌++◌}
 use lib.ListN.{length, length-append}
 use package.Rattle.rules.specs.Limits.{max_variables, max_nodes, max_ancilla_bytes, fits, max_height, max_fuel, max_conversions}
-use package.Rattle.rules.specs.Val.{Val, size, same}
+use package.Rattle.rules.specs.Val.{Val, size}
 use package.Rattle.rules.specs.Ty.{HasTy, HasTys}
 use package.Rattle.rules.specs.Term.{Fun, Program, nth}
 use package.Rattle.rules.specs.Typing.{WellTyped}

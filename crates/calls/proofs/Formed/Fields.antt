@@ -1,8 +1,8 @@
 -- Reading the fields accepts exactly a program whose fields stand in order, within the counts; and its layout has the places by tag.
 use Prim.Native.Nat.{ℕ, zero, suc, ◌+◌, ◌≤◌}
 use native.Mathlib.Omega.{arith}
-use mathlib.Core.Path.{◌≡◌, refl, sym, ap, ap₂, subst, ◌∙◌}
-use mathlib.Core.Bool.{Bool, true, false, ◌&&◌, ◌||◌, cond, false≢true}
+use mathlib.Core.Path.{◌≡◌, refl, sym, ap, subst, ◌∙◌}
+use mathlib.Core.Bool.{Bool, true, false, ◌&&◌, cond, false≢true}
 use mathlib.Core.List.{List, [], ◌∷◌, ◌++◌, append_assoc, append-nil}
 use mathlib.Core.Logic.{◌↔◌, ◌⊎◌, inl as left, inr as right, ⊎_elim}
 use lib.ListN.{length, length-append}
@@ -10,8 +10,8 @@ use lib.Dec.{eqb, leb}
 use package.Rattle.rules.specs.Limits.{max_types, max_terms, max_functions, max_parameters, max_program_bytes}
 use package.Rattle.rules.proofs.Basics.{given, and_both, eqb-sound, eqb_yes, eqb-differs, or_elim}
 use package.Rattle.rules.proofs.Typing.Tests.{leb_yes, leb-sound}
-use package.Rattle.calls.specs.Answer.{Answer, accepted, ◌>>=◌, require}
-use package.Rattle.calls.specs.Fields.{function_tag, tag_at, length_at, next_at, parameters_at, body_fits, well_formed, Layout, no_fields, with_field, within_counts, read_fields, layout}
+use package.Rattle.calls.specs.Answer.{accepted, require}
+use package.Rattle.calls.specs.Fields.{function_tag, tag_at, next_at, parameters_at, body_fits, well_formed, Layout, no_fields, with_field, within_counts, read_fields, layout}
 use package.Rattle.calls.specs.Named.{member}
 use package.Rattle.calls.specs.Formed.{FieldsAt, no_more, one_more, tagged, by_tag, Few}
 use package.Rattle.calls.proofs.Answer.{accepted_inj, via, unbind, require_yes, required}

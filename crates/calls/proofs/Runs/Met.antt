@@ -1,9 +1,8 @@
 -- Which numbers each call is refused with, exactly: each is met by a call that is written out here, computed, and no other is met.
 use Prim.Native.Nat.{ℕ}
 use mathlib.Core.Path.{◌≡◌, refl, sym, subst}
-use mathlib.Core.Bool.{Bool, true, false≢true}
+use mathlib.Core.Bool.{true, false≢true}
 use mathlib.Core.List.{List, [], ◌∷◌, ◌++◌}
-use mathlib.Core.Logic.{◌↔◌}
 use lib.ListN.{replicate}
 use lib.Dec.{eqb}
 use package.Rattle.octets.specs.Numbers.{bytes16}

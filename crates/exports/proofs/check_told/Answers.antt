@@ -2,7 +2,6 @@ use mathlib.Core.Path.{sym, ap, ◌∙◌}
 use Rattle.answers.specs.Answers.{check_answer}
 use Rattle.exports.specs.Told.{check_told}
 use Rattle.exports.proofs.Numbers.{refused-told}
-use borrow.Author.Rules.{rules}
 use Rattle.exports.proofs.check_told.Goals as goal
 
 pub returns-in-Accepted : goal.returns-in-Accepted

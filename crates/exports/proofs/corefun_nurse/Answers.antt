@@ -1,6 +1,5 @@
 use mathlib.Core.Path.{ap, ◌∙◌}
 use Rattle.exports.specs.Told.{run_told}
-use borrow.Author.Rules.{rules}
 use Rattle.exports.proofs.corefun_nurse.Goals as goal
 
 pub returns-clause-answer : goal.returns-clause-answer

@@ -1,6 +1,5 @@
 use mathlib.Core.Path.{ap, ◌∙◌}
 use Rattle.exports.specs.Told.{check_told}
-use borrow.Author.Rules.{rules}
 use Rattle.exports.proofs.corefun_open.Goals as goal
 
 pub returns-clause-answer : goal.returns-clause-answer

@@ -1,7 +1,6 @@
 use mathlib.Core.Path.{ap, ◌∙◌}
 use Rattle.exports.specs.Told.{replay_told}
 use Rattle.exports.proofs.Scripts.{booked_as}
-use borrow.Author.Rules.{rules}
 use Rattle.exports.proofs.corefun_replay.Goals as goal
 
 pub returns-clause-answer : goal.returns-clause-answer

@@ -2,7 +2,6 @@ use mathlib.Core.Path.{sym, ap, ◌∙◌}
 use Rattle.replay.specs.Playing.{reply_of}
 use Rattle.exports.specs.Told.{replay_told}
 use Rattle.exports.proofs.Numbers.{unopened-told}
-use borrow.Author.Rules.{rules}
 use Rattle.exports.proofs.replay_told.Goals as goal
 
 pub returns-in-Played : goal.returns-in-Played

@@ -2,7 +2,6 @@ use mathlib.Core.Path.{sym, ap, ◌∙◌}
 use Rattle.answers.specs.Answers.{run_answer}
 use Rattle.exports.specs.Told.{run_told}
 use Rattle.exports.proofs.Numbers.{refused-told}
-use borrow.Author.Rules.{rules}
 use Rattle.exports.proofs.run_told.Goals as goal
 
 pub returns-in-Ran : goal.returns-in-Ran

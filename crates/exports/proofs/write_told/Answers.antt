@@ -2,7 +2,6 @@ use mathlib.Core.Path.{sym, ap, ◌∙◌}
 use Rattle.answers.specs.Answers.{write_answer}
 use Rattle.exports.specs.Told.{length_told}
 use Rattle.exports.proofs.Numbers.{refused-told}
-use borrow.Author.Rules.{rules}
 use Rattle.exports.proofs.write_told.Goals as goal
 
 pub returns-in-Wrote : goal.returns-in-Wrote

@@ -1,5 +1,4 @@
 use Rattle.loading.proofs.Tallies.{tally-counted}
-use borrow.Author.Rules.{rules}
 use Rattle.loading.proofs.examine.Goals as goal
 
 pub judge-loaded-requires-clause-placed : goal.judge-loaded-requires-clause-placed

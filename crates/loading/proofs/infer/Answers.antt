@@ -2,7 +2,6 @@ use native.Mathlib.Omega.{arith}
 use mathlib.Core.Path.{ap}
 use Rattle.typing.specs.Checked.{verdict_of}
 use Rattle.loading.proofs.Loading.{infer-typed, infer-refused}
-use borrow.Author.Rules.{rules}
 use Rattle.loading.proofs.infer.Goals as goal
 
 pub returns-in-Typed : goal.returns-in-Typed

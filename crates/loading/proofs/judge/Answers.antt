@@ -2,7 +2,6 @@ use native.Mathlib.Omega.{arith}
 use mathlib.Core.Path.{ap}
 use Rattle.entries.specs.Tested.{verdict_of}
 use Rattle.loading.proofs.Loading.{judge_sound, judge_refused}
-use borrow.Author.Rules.{rules}
 use Rattle.loading.proofs.judge.Goals as goal
 
 pub infer-requires-clause-typeable : goal.infer-requires-clause-typeable

@@ -2,7 +2,6 @@ use mathlib.Core.Path.{sym}
 use lib.Seq.{length-take-le}
 use Rattle.loading.proofs.Loading.{fields-placed, types-inside, terms-inside, functions-inside, load_read}
 use Rattle.loading.proofs.Tallies.{malformed-tallied, over-tallied}
-use borrow.Author.Rules.{rules}
 use Rattle.loading.proofs.load_tallied.Goals as goal
 
 pub layout-v-requires-clause-buffers : goal.layout-v-requires-clause-buffers

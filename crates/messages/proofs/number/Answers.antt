@@ -1,6 +1,5 @@
 use mathlib.Core.Path.{sym, ap}
 use Rattle.answers.specs.Answers.{number_of}
-use borrow.Author.Rules.{rules}
 use Rattle.messages.proofs.number.Goals as goal
 
 pub returns-in-Workspace : goal.returns-in-Workspace

@@ -1,6 +1,5 @@
 use mathlib.Core.Path.{sym, ap}
 use Rattle.answers.specs.Answers.{place_of}
-use borrow.Author.Rules.{rules}
 use Rattle.messages.proofs.place.Goals as goal
 
 pub returns-in-Workspace : goal.returns-in-Workspace

@@ -1,9 +1,8 @@
-use Prim.Native.Nat.{◌+◌, ◌-◌, ◌≤◌}
+use Prim.Native.Nat.{◌+◌}
 use native.Mathlib.Omega.{arith}
-use mathlib.Core.Path.{◌≡◌, ◌∙◌}
+use mathlib.Core.Path.{◌∙◌}
 use lib.ListN.{length}
-use borrow.Author.Rules.{rules}
-use Rattle.octets.proofs.Runs.{zeroed, zeroed-all}
+use Rattle.octets.proofs.Runs.{zeroed-all}
 use Rattle.octets.proofs.Zeros.{zeroed-part, part_length}
 use Rattle.octets.proofs.clear.Goals as goal
 

@@ -1,10 +1,7 @@
-use Prim.Native.Nat.{◌+◌, ◌-◌, ◌≤◌}
-use native.Mathlib.Omega.{arith}
-use mathlib.Core.Path.{◌≡◌, ◌∙◌}
+use Prim.Native.Nat.{◌-◌, ◌≤◌}
+use mathlib.Core.Path.{◌≡◌}
 use lib.ListN.{length}
-use borrow.Author.Rules.{rules}
-use Rattle.octets.proofs.Runs.{zeroed, zeroed-all}
-use Rattle.octets.proofs.Zeros.{zeroed-part, part_length}
+use Rattle.octets.proofs.Runs.{zeroed}
 use Rattle.octets.proofs.clear.Given as goal
 
 abbrev pub invariant-loop-s : goal.invariant-loop-s

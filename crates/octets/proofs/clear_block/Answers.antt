@@ -1,4 +1,3 @@
-use borrow.Author.Rules.{rules}
 use Rattle.octets.proofs.Zeros.{provided_true}
 use Rattle.octets.proofs.clear_block.Goals as goal
 

@@ -1,5 +1,4 @@
 use Rattle.octets.specs.Numbers.{get32}
-use borrow.Author.Rules.{rules}
 use Rattle.octets.proofs.read32.Goals as goal
 
 pub returns : goal.returns

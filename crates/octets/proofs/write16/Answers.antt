@@ -2,7 +2,6 @@ use lib.ListN.{length-set}
 use native.Mathlib.Omega.{arith}
 use mathlib.Core.Path.{refl}
 use Rattle.octets.specs.Numbers.{put16}
-use borrow.Author.Rules.{rules}
 use Rattle.octets.proofs.write16.Goals as goal
 
 pub bounds-s-at-2 : goal.bounds-s-at-2

@@ -1,5 +1,4 @@
 use Rattle.octets.specs.Numbers.{put32}
-use borrow.Author.Rules.{rules}
 use Rattle.octets.proofs.write32.Goals as goal
 
 pub returns : goal.returns

@@ -1,9 +1,8 @@
-use Prim.Native.Nat.{◌-◌, ◌≤◌}
 use native.Mathlib.Omega.{arith}
-use mathlib.Core.Path.{◌≡◌, ◌∙◌}
-use lib.ListN.{length, length-set}
+use mathlib.Core.Path.{◌∙◌}
+use lib.ListN.{length-set}
 use borrow.Author.Rules.{rules}
-use Rattle.octets.proofs.Runs.{zeroed, zeroed-suc, zeroed-all}
+use Rattle.octets.proofs.Runs.{zeroed-suc, zeroed-all}
 use Rattle.octets.proofs.write_zeros.Goals as goal
 
 pub loop-i-smaller : goal.loop-i-smaller

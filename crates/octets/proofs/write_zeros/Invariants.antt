@@ -1,9 +1,7 @@
 use Prim.Native.Nat.{◌-◌, ◌≤◌}
-use native.Mathlib.Omega.{arith}
-use mathlib.Core.Path.{◌≡◌, ◌∙◌}
-use lib.ListN.{length, length-set}
-use borrow.Author.Rules.{rules}
-use Rattle.octets.proofs.Runs.{zeroed, zeroed-suc, zeroed-all}
+use mathlib.Core.Path.{◌≡◌}
+use lib.ListN.{length}
+use Rattle.octets.proofs.Runs.{zeroed}
 use Rattle.octets.proofs.write_zeros.Given as goal
 
 abbrev pub invariant-loop-i : goal.invariant-loop-i

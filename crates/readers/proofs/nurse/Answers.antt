@@ -1,4 +1,3 @@
-use borrow.Author.Rules.{rules}
 use Rattle.journal.proofs.Stands.{surveyed_as}
 use Rattle.readers.proofs.Reading.{nurse_malformed}
 use Rattle.readers.proofs.nurse.Goals as goal

@@ -1,4 +1,3 @@
-use borrow.Author.Rules.{rules}
 use Rattle.readers.proofs.Reading.{workshop_short, workshop-listed}
 use Rattle.readers.proofs.show_fields.Goals as goal
 

@@ -1,4 +1,3 @@
-use borrow.Author.Rules.{rules}
 use native.Mathlib.Omega.{arith}
 use Rattle.readers.proofs.Reading.{nurse_short, nurse-shown, length-narrow, count-narrow}
 use Rattle.readers.proofs.show_held.Goals as goal

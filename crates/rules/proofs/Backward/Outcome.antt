@@ -13,7 +13,6 @@ use package.Rattle.rules.specs.Ty.{Ty, prod, sum, unfold_ty}
 use package.Rattle.rules.specs.Term.{Term, tcase, entry, Fun, Program, scope, by_ancilla}
 use package.Rattle.rules.specs.Yield.{may_yield, first_match}
 use package.Rattle.rules.specs.Rules.{Judgement, Rule, e_var, e_unit, e_inl, e_inr, e_prod, e_let, e_letp, e_casel, e_caser, e_app, e_roll, e_unroll, Ev}
-use package.Rattle.rules.specs.Typing.{dynamic}
 use package.Rattle.rules.specs.Run.{Run, after, enter, test}
 use package.Rattle.rules.specs.Machine.{on_sum, on_pair, on_roll, on_unit, State, leave, filled, forward, branch_back, case_back, backward_step, backward}
 use package.Rattle.rules.proofs.OfType.{OfType}

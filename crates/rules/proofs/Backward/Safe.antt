@@ -12,7 +12,6 @@ use package.Rattle.rules.specs.Ty.{Ty, prod, sum, unfold_ty}
 use package.Rattle.rules.specs.Term.{Term, var, tunit, tinl, tinr, tpair, tlet, tletp, tcase, tcall, troll, tunroll, entry, Fun, Program}
 use package.Rattle.rules.specs.Term.{scope, inside, by_ancilla}
 use package.Rattle.rules.specs.Yield.{may_yield}
-use package.Rattle.rules.specs.Typing.{dynamic}
 use package.Rattle.rules.specs.Run.{Run, after, refuse}
 use package.Rattle.rules.specs.Machine.{State, leave, filled, forward, branch_back, case_back, backward_step, backward}
 use package.Rattle.rules.proofs.OfType.{OfType, OfTypes}

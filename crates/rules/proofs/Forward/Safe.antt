@@ -8,7 +8,6 @@ use lib.ListN.{length}
 use package.Rattle.rules.specs.Val.{Val, unit, inl, inr, pair, roll}
 use package.Rattle.rules.specs.Ty.{Ty, prod, sum, unfold_ty}
 use package.Rattle.rules.specs.Term.{Term, var, tunit, tinl, tinr, tpair, tlet, tletp, tcase, tcall, troll, tunroll, Terms, end, more, entry, Program, scope}
-use package.Rattle.rules.specs.Typing.{dynamic}
 use package.Rattle.rules.specs.Run.{Run, give, refuse}
 use package.Rattle.rules.specs.Machine.{State, each, made, forward_step, forward}
 use package.Rattle.rules.proofs.OfType.{OfType, OfTypes}

@@ -1,8 +1,7 @@
-use Prim.Native.Nat.{ℕ, ◌+◌, ◌-◌, ◌*◌, ◌<◌}
+use Prim.Native.Nat.{◌-◌}
 use Rattle.typing.proofs as own
 use native.Mathlib.Omega.{arith}
 use mathlib.Core.Path.{◌∙◌, ap, refl, sym}
-use borrow.Author.Rules.{rules}
 use own.Passing.{args_end, args-left, args_read, args-ready, args-part, args-refused, args_later, args-next, args_want, args_differ, args_done, args_row, args_parameter, call-function, call_differ, call-calls, call-few, call-read, call-barred, call-refused, call-ready, call-part, call_want, call_done, call-row, call_parameter, call-parts}
 use own.Asking.{ready_for, ready-arguments, ready_branches, one-waits, ready_at, ready-unary}
 use own.Answers.{told, ready-opened, known_later}

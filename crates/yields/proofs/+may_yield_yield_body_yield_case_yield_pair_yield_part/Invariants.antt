@@ -1,9 +1,4 @@
-use Prim.Native.Nat.{◌+◌, ◌*◌, ℕ, ◌<◌}
-use native.Mathlib.Omega.{arith}
-use mathlib.Core.Path.{refl, sym, ◌∙◌}
-use mathlib.Core.Logic.{inl as left, inr as right}
-use borrow.Author.Rules.{rules}
-use Rattle.yields.proofs.Forms as forms
+use Prim.Native.Nat.{◌+◌, ◌*◌}
 use Rattle.yields.proofs.+may_yield_yield_body_yield_case_yield_pair_yield_part.Given as goal
 
 abbrev pub decreases-may_yield : goal.decreases-may_yield

@@ -1,6 +1,5 @@
 use native.Mathlib.Omega.{arith}
-use mathlib.Core.Path.{refl, sym, ◌∙◌}
-use borrow.Author.Rules.{rules}
+use mathlib.Core.Path.{sym, ◌∙◌}
 use Rattle.valuegraph.proofs.Equal.{alike_false}
 use Rattle.yields.proofs.Judging.{judged, judged-no, glanced}
 use Rattle.yields.proofs.agree.Goals as goal

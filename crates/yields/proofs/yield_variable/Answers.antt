@@ -2,7 +2,6 @@ use Prim.Native.Nat.{◌+◌}
 use native.Mathlib.Omega.{arith}
 use mathlib.Core.Path.{ap₂, ◌∙◌}
 use lib.ListN.{get_or}
-use borrow.Author.Rules.{rules}
 use Rattle.valuegraph.specs.Nodes.{value_at}
 use Rattle.scopes.specs.Slots.{slots_of, scope_in}
 use Rattle.yields.proofs.Ancillae.{yields_own, yields-any}

@@ -1,4 +1,3 @@
-use borrow.Author.Rules.{rules}
 use Rattle.yields.proofs.Forms.{glance_tells, exact-tells}
 use Rattle.yields.proofs.yields.Goals as goal
 

@@ -1,7 +1,6 @@
-use Prim.Native.Nat.{◌+◌, ◌-◌, ℕ, ◌<◌}
+use Prim.Native.Nat.{◌+◌}
 use native.Mathlib.Omega.{arith}
 use mathlib.Core.Path.{refl, ap, ◌∙◌}
-use borrow.Author.Rules.{rules}
 use Rattle.rules.specs.Limits.{max_height, max_parameters}
 use Rattle.forward.proofs.Answers.{is_value_lem, is_refused}
 use Rattle.forward.proofs.Bounds.{argument-read}

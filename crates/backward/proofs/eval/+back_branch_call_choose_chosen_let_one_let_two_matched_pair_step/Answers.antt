@@ -1,11 +1,8 @@
-use Prim.Native.Nat.{ℕ, ◌+◌, ◌*◌, ◌<◌}
-use lib.ListN.{get_or}
 use Rattle.backward.proofs as own
-use own.LastPart.{Going, going_start, going-spent, going_high, going_entered, going-node, going_less, going-over, going_falls, going_on, unpacked_run, leads-over, leads-on, leads-through, leaf-leads}
+use own.LastPart.{going_start, going-spent, going_high, going_entered, going-node, going_less, going-over, going_falls, going_on, unpacked_run, leads-over, leads-on, leads-through, leaf-leads}
 use native.Mathlib.Omega.{arith}
 use mathlib.Core.Path.{refl, ◌∙◌, ap, ◌≡◌, sym}
 use native.Mathlib.Nat.{pos_of_ne-zero}
-use borrow.Author.Rules.{rules}
 use borrow.Author.Tests.{not-true, not-false}
 use Rattle.scopes.specs.Slots.{Machine}
 use own.Bound.{entered_cell, entered_there, entered_prepared, entered_node, entered_stopped, entered_leaves, entered_left}

@@ -1,6 +1,5 @@
 use native.Mathlib.Omega.{arith}
 use mathlib.Core.Path.{refl, ap, ◌∙◌}
-use borrow.Author.Rules.{rules}
 use Rattle.scopes.specs.Slots.{Machine}
 use Rattle.backward.proofs.Entering.{node-room, next-node}
 use Rattle.backward.proofs.Arriving.{made-prepared, made-node, made_done, made-long}

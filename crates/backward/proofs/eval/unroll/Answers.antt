@@ -1,6 +1,5 @@
 use native.Mathlib.Omega.{arith}
 use mathlib.Core.Path.{refl}
-use borrow.Author.Rules.{rules}
 use Rattle.backward.proofs.Frames.{row-there}
 use Rattle.backward.proofs.Steps.{roll-single}
 use Rattle.backward.proofs.Stepping.{unrolled_prepared, unrolled_gone}

@@ -1,6 +1,5 @@
 use native.Mathlib.Omega.{arith}
 use mathlib.Core.Path.{refl}
-use borrow.Author.Rules.{rules}
 use Rattle.backward.proofs.Frames.{row-there}
 use Rattle.backward.proofs.Steps.{node-there}
 use Rattle.backward.proofs.Stepping.{wrapped-node, wrapped-prepared, wrapped-gone, wrapped-differs}

@@ -1,5 +1,4 @@
 use Rattle.backward.proofs.Leaves.{choice_left, choice_right}
-use borrow.Author.Rules.{rules}
 use Rattle.backward.proofs.outcomes.branch_of.Goals as goal
 
 pub returns-then-left : goal.returns-then-left

@@ -1,6 +1,5 @@
 use mathlib.Core.Path.{sym, ap}
 use Rattle.backward.specs.Outcomes.{carried}
-use borrow.Author.Rules.{rules}
 use Rattle.backward.proofs.outcomes.carry.Goals as goal
 
 pub returns-in-Fuel : goal.returns-in-Fuel

@@ -2,7 +2,6 @@ use mathlib.Core.Path.{ap, ◌∙◌}
 use Rattle.backward.specs.Outcomes.{Refused}
 use Rattle.backward.proofs.Stops.{number-stuck}
 use Rattle.backward.proofs.Leaves.{against-other, against_none}
-use borrow.Author.Rules.{rules}
 use Rattle.backward.proofs.outcomes.clash.Goals as goal
 
 pub returns-then-found-other : goal.returns-then-found-other

@@ -2,7 +2,6 @@ use mathlib.Core.Path.{ap, ◌∙◌}
 use Rattle.backward.specs.Outcomes.{Refused}
 use Rattle.backward.proofs.Stops.{number-stuck}
 use Rattle.backward.proofs.Leaves.{mismatch-left, mismatch-right, mismatch_none}
-use borrow.Author.Rules.{rules}
 use Rattle.backward.proofs.outcomes.differ.Goals as goal
 
 pub returns-then-kind-eq-INL : goal.returns-then-kind-eq-INL

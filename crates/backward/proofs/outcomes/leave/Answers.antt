@@ -1,6 +1,5 @@
 use mathlib.Core.Path.{ap, ◌∙◌}
 use lib.ListN.{get_or}
-use borrow.Author.Rules.{rules}
 use Rattle.scopes.specs.Slots.{slots_of, node_or}
 use Rattle.scopes.specs.Bindings.{seen}
 use Rattle.backward.proofs.outcomes.leave.Goals as goal

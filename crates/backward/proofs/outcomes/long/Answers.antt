@@ -2,7 +2,6 @@ use mathlib.Core.Path.{ap, ◌∙◌}
 use Rattle.backward.specs.Outcomes.{Refused}
 use Rattle.backward.proofs.Stops.{number-fuel, number-height, number-long}
 use Rattle.backward.proofs.Leaves.{long-fuel, long-height, long-value}
-use borrow.Author.Rules.{rules}
 use Rattle.backward.proofs.outcomes.long.Goals as goal
 
 pub returns-then-fuel-eq0 : goal.returns-then-fuel-eq0

@@ -1,7 +1,6 @@
 use Prim.Native.Nat.{◌+◌}
 use mathlib.Core.Path.{ap}
 use Rattle.backward.proofs.Stops.{stops-there}
-use borrow.Author.Rules.{rules}
 use Rattle.backward.proofs.outcomes.no_input.Goals as goal
 
 pub returns : goal.returns

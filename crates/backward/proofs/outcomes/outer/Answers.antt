@@ -1,5 +1,4 @@
 use native.Mathlib.Omega.{arith}
-use borrow.Author.Rules.{rules}
 use Rattle.backward.proofs.outcomes.outer.Goals as goal
 
 pub overflow_cast-n : goal.overflow_cast-n

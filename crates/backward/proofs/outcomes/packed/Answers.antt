@@ -1,5 +1,4 @@
 use native.Mathlib.Omega.{arith}
-use borrow.Author.Rules.{rules}
 use Rattle.backward.proofs.Stops.{packed-out}
 use Rattle.backward.proofs.outcomes.packed.Goals as goal
 

@@ -1,6 +1,5 @@
 use mathlib.Core.Path.{refl}
 use Rattle.backward.proofs.Stops.{is_carried}
-use borrow.Author.Rules.{rules}
 use Rattle.backward.proofs.outcomes.refuse.Goals as goal
 
 pub returns : goal.returns

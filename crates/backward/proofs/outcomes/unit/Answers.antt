@@ -2,7 +2,6 @@ use mathlib.Core.Path.{sym, ap, ◌∙◌}
 use Rattle.backward.specs.Outcomes.{Refused}
 use Rattle.backward.proofs.Stops.{number-stuck}
 use Rattle.backward.proofs.Leaves.{unit_there, unit_missing}
-use borrow.Author.Rules.{rules}
 use Rattle.backward.proofs.outcomes.unit.Goals as goal
 
 pub returns-then-kind-eq-UNIT : goal.returns-then-kind-eq-UNIT

@@ -1,5 +1,4 @@
 use mathlib.Core.Path.{refl}
-use borrow.Author.Rules.{rules}
 use Rattle.backward.specs.Outcomes.{out_in}
 use Rattle.backward.proofs.outcomes.unpacked.Goals as goal
 

@@ -1,5 +1,4 @@
 use mathlib.Core.Path.{sym, ap, ◌∙◌}
-use borrow.Author.Rules.{rules}
 use Rattle.backward.specs.Outcomes.{status_of}
 use Rattle.backward.specs.declared.outcomes.Out.{Out}
 use Rattle.backward.proofs.Leaves.{agrees-out, differs-out, meetable_same}

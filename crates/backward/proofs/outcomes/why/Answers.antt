@@ -1,6 +1,5 @@
 use mathlib.Core.Path.{◌∙◌}
 use Rattle.backward.proofs.Stops.{why_here, why_forward}
-use borrow.Author.Rules.{rules}
 use Rattle.backward.proofs.outcomes.why.Goals as goal
 
 pub returns-then-stop-lt-STOPPED : goal.returns-then-stop-lt-STOPPED

@@ -1,6 +1,5 @@
 use mathlib.Core.Path.{ap, ◌∙◌}
 use lib.ListN.{set}
-use borrow.Author.Rules.{rules}
 use Rattle.scopes.specs.Slots.{unknown, slots_of}
 use Rattle.backward.proofs.outcomes.widen.Goals as goal
 

@@ -1,6 +1,5 @@
 use native.Mathlib.Omega.{arith}
 use mathlib.Core.Path.{sym}
-use borrow.Author.Rules.{rules}
 use Rattle.backward.proofs.Starting.{start-reads, begin_space, begin_few, begin_inner, begin_leaves, input_there, input_missing}
 use Rattle.backward.proofs.Opening.{widen-ready, widened, widened-node, ran-under}
 use Rattle.backward.proofs.LastPart.{unpacked_run}

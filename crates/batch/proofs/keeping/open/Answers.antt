@@ -9,7 +9,6 @@ use Rattle.batch.specs.Capped.{most_workspace}
 use Rattle.batch.specs.Answering.{open_text}
 use Rattle.batch.proofs.Capping.{lent-within, open_lent}
 use Rattle.batch.proofs.Lending.{on-front}
-use borrow.Author.Rules.{rules}
 use Rattle.batch.proofs.keeping.open.Goals as goal
 
 pub slice_bounds-open_lent-end : goal.slice_bounds-open_lent-end

@@ -2,7 +2,6 @@ use lib.ListN.{length}
 use Rattle.calls.specs.Conversions.{open_call}
 use Rattle.calltext.proofs.Writing.{wrote_as}
 use Rattle.batch.proofs.Telling.{tells_open}
-use borrow.Author.Rules.{rules}
 use Rattle.batch.proofs.keeping.open_lent.Goals as goal
 
 pub returns-clause-answer : goal.returns-clause-answer

@@ -2,7 +2,6 @@ use lib.ListN.{length}
 use Rattle.calls.specs.Conversions.{rollback_call}
 use Rattle.calltext.proofs.Writing.{wrote_as}
 use Rattle.batch.proofs.Telling.{tells-turn}
-use borrow.Author.Rules.{rules}
 use Rattle.batch.proofs.keeping.rollback_lent.Goals as goal
 
 pub returns-clause-answer : goal.returns-clause-answer

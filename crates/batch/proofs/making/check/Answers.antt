@@ -7,7 +7,6 @@ use Rattle.messages.specs.Replies.{check_text}
 use Rattle.batch.specs.Capped.{most_workspace}
 use Rattle.batch.proofs.Capping.{lent-within, check-lent}
 use Rattle.batch.proofs.Lending.{on-front}
-use borrow.Author.Rules.{rules}
 use Rattle.batch.proofs.making.check.Goals as goal
 
 pub slice_bounds-check-end : goal.slice_bounds-check-end

@@ -2,7 +2,6 @@ use mathlib.Core.Path.{sym, ap}
 use lib.ListN.{length}
 use Rattle.engine.specs.Runs.{run_call}
 use Rattle.batch.proofs.Telling.{means_as}
-use borrow.Author.Rules.{rules}
 use Rattle.batch.proofs.making.run_either.Goals as goal
 
 pub returns-then-backward : goal.returns-then-backward

@@ -4,7 +4,6 @@ use Rattle.engine.specs.Runs.{run_call}
 use Rattle.calltext.proofs.Writing.{wrote_as}
 use Rattle.batch.proofs.Capping.{run-within}
 use Rattle.batch.proofs.Telling.{tells-run, length-within}
-use borrow.Author.Rules.{rules}
 use Rattle.batch.proofs.making.run_lent.Goals as goal
 
 pub run_line-requires-clause-answer_in_bounds : goal.run_line-requires-clause-answer_in_bounds

@@ -8,7 +8,6 @@ use Rattle.journal.proofs.Ends.{are_bytes}
 use Rattle.batch.specs.Capped.{most_output}
 use Rattle.batch.proofs.Capping.{capped-most, lent-within, lent_length, text-lent, bytes-lent}
 use Rattle.batch.proofs.Lending.{on-front}
-use borrow.Author.Rules.{rules}
 use Rattle.batch.proofs.reading.read.Goals as goal
 
 pub slice_bounds-read_lent-end : goal.slice_bounds-read_lent-end

@@ -4,7 +4,6 @@ use Rattle.calltext.proofs.Writing.{wrote_as}
 use Rattle.batch.specs.Answering.{read_text, read_bytes}
 use Rattle.messages.proofs.Outputs.{seen-within, written-within}
 use Rattle.batch.proofs.Telling.{tells-nurse, tells_write, read_as}
-use borrow.Author.Rules.{rules}
 use Rattle.batch.proofs.reading.read_lent.Goals as goal
 
 pub write_line-requires-clause-answer_in_bounds : goal.write_line-requires-clause-answer_in_bounds

@@ -1,13 +1,9 @@
 use native.Mathlib.Omega.{arith}
-use Prim.Native.Nat.{ℕ}
-use mathlib.Core.Path.{◌≡◌, refl, sym, ap, subst}
-use mathlib.Core.List.{List}
+use mathlib.Core.Path.{refl, sym, ap, subst}
 use Rattle.calltext.specs.Parsed.{line_of, Within}
-use Rattle.calltext.specs.declared.calls.Parsed.{Parsed}
 use Rattle.batch.specs.Answering.{answer_to}
-use Rattle.batch.specs.Lent.{workspace_after, output_after, journal_after, Replies}
+use Rattle.batch.specs.Lent.{workspace_after, output_after, journal_after}
 use Rattle.batch.proofs.Lending.{replies_as}
-use borrow.Author.Rules.{rules}
 use Rattle.batch.proofs.replying.reply.Goals as goal
 
 pub check-requires-clause-program_in_bounds : goal.check-requires-clause-program_in_bounds

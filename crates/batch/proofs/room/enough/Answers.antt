@@ -2,7 +2,6 @@ use mathlib.Core.Path.{sym, ◌∙◌}
 use borrow.Author.Tests.{not-true, not-false}
 use Rattle.batch.specs.Capped.{most_workspace, most_output}
 use Rattle.batch.proofs.Lending.{short-program, short-ancillae, short-value, short-workspace, short-output, last-test}
-use borrow.Author.Rules.{rules}
 use Rattle.batch.proofs.room.enough.Goals as goal
 
 pub returns-then-not-fits_digits : goal.returns-then-not-fits_digits

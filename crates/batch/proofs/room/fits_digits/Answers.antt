@@ -3,7 +3,6 @@ use native.Mathlib.Omega.{arith}
 use mathlib.Core.Path.{sym}
 use borrow.Author.Tests.{le-leb, lt-leb}
 use Rattle.batch.specs.Lent.{digits_fit}
-use borrow.Author.Rules.{rules}
 use Rattle.batch.proofs.room.fits_digits.Goals as goal
 
 pub returns-then-len-digits : goal.returns-then-len-digits

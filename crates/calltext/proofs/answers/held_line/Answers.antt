@@ -2,7 +2,6 @@ use native.Mathlib.Omega.{arith}
 use Rattle.calltext.specs.Answers.{held_line}
 use Rattle.calltext.proofs.Writing.{wrote-both}
 use Rattle.calltext.proofs.Digits.{hex_length}
-use borrow.Author.Rules.{rules}
 use Rattle.calltext.proofs.answers.held_line.Goals as goal
 
 pub put-requires : goal.put-requires

@@ -3,7 +3,6 @@ use mathlib.Core.Path.{sym, subst}
 use lib.ListN.{length}
 use Rattle.calltext.specs.Wrote.{Wrote}
 use Rattle.calltext.proofs.Writing.{wrote_copy}
-use borrow.Author.Rules.{rules}
 use Rattle.calltext.proofs.answers.put.Goals as goal
 
 pub returns : goal.returns

@@ -2,7 +2,6 @@ use native.Mathlib.Omega.{arith}
 use mathlib.Core.Path.{ap}
 use lib.ListN.{length}
 use Rattle.calltext.proofs.Saying.{word_shorter}
-use borrow.Author.Rules.{rules}
 use Rattle.calltext.proofs.calls.bytes_at.Goals as goal
 
 pub decode-requires : goal.decode-requires

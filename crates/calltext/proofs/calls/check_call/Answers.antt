@@ -2,7 +2,6 @@ use mathlib.Core.Path.{refl, sym, ◌∙◌}
 use Rattle.calltext.specs.Calls.{read_check}
 use Rattle.calltext.proofs.Saying.{told-number, told-no-number, told-bytes, told-no-bytes, bytes-within, counted, miscounted, parses, unread}
 use Rattle.calltext.proofs.Arguments.{pair_1, pair_2, pair-all}
-use borrow.Author.Rules.{rules}
 use Rattle.calltext.proofs.calls.check_call.Goals as goal
 
 pub returns-then-count-ne2 : goal.returns-then-count-ne2

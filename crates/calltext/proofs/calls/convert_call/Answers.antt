@@ -3,7 +3,6 @@ use mathlib.Core.Path.{refl, sym, ◌∙◌}
 use Rattle.rules.specs.Limits.{max_fuel}
 use Rattle.calltext.proofs.Saying.{told-number, told-no-number, told-bytes, told-no-bytes, number-within, bytes-within, counted, miscounted, parses, unread}
 use Rattle.calltext.proofs.Arguments.{convert_1, convert_2, convert_3, convert_4, convert_5, convert_6, convert_all}
-use borrow.Author.Rules.{rules}
 use Rattle.calltext.proofs.calls.convert_call.Goals as goal
 
 pub returns-then-count-ne6 : goal.returns-then-count-ne6

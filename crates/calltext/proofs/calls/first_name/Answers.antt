@@ -1,6 +1,5 @@
 use mathlib.Core.Path.{ap, ◌∙◌}
 use Rattle.calltext.specs.Calls.{name_of}
-use borrow.Author.Rules.{rules}
 use Rattle.calltext.proofs.calls.first_name.Goals as goal
 
 pub returns : goal.returns

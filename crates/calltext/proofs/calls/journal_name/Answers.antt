@@ -1,6 +1,5 @@
 use mathlib.Core.Path.{◌∙◌}
 use Rattle.calltext.proofs.Saying.{same_if, name_open, name_convert, name_rollback, name_nurse, name_workshop, name_other}
-use borrow.Author.Rules.{rules}
 use Rattle.calltext.proofs.calls.journal_name.Goals as goal
 
 pub returns-then-equal : goal.returns-then-equal

@@ -1,6 +1,5 @@
 use mathlib.Core.Path.{◌∙◌}
 use Rattle.calltext.proofs.Saying.{same_if, name_check, name_forward, name_backward, name_journal}
-use borrow.Author.Rules.{rules}
 use Rattle.calltext.proofs.calls.name_of.Goals as goal
 
 pub returns-then-equal : goal.returns-then-equal

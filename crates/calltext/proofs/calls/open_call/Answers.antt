@@ -1,7 +1,6 @@
 use mathlib.Core.Path.{refl, sym, ◌∙◌}
 use Rattle.calltext.proofs.Saying.{told-number, told-no-number, told-bytes, told-no-bytes, bytes-within, counted, miscounted, parses, unread}
 use Rattle.calltext.proofs.Arguments.{open_1, open_2, open_3, open_4, open_all}
-use borrow.Author.Rules.{rules}
 use Rattle.calltext.proofs.calls.open_call.Goals as goal
 
 pub returns-then-count-ne4 : goal.returns-then-count-ne4

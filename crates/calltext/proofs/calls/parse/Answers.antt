@@ -1,7 +1,6 @@
 use mathlib.Core.Path.{refl, sym, ◌∙◌}
 use Rattle.calltext.specs.Calls.{read_named}
 use Rattle.calltext.proofs.Saying.{parses, unread, parses_named}
-use borrow.Author.Rules.{rules}
 use Rattle.calltext.proofs.calls.parse.Goals as goal
 
 pub returns-in-Check : goal.returns-in-Check

@@ -3,7 +3,6 @@ use mathlib.Core.Path.{refl, sym, ◌∙◌}
 use Rattle.rules.specs.Limits.{max_fuel}
 use Rattle.calltext.proofs.Saying.{told-number, told-no-number, told-bytes, told-no-bytes, number-within, bytes-within, counted, miscounted, parses, unread}
 use Rattle.calltext.proofs.Arguments.{rollback_1, rollback_2, rollback_3, rollback_4, rollback_all}
-use borrow.Author.Rules.{rules}
 use Rattle.calltext.proofs.calls.rollback_call.Goals as goal
 
 pub returns-then-count-ne4 : goal.returns-then-count-ne4

@@ -3,7 +3,6 @@ use mathlib.Core.Path.{refl, sym, ◌∙◌}
 use Rattle.rules.specs.Limits.{max_fuel}
 use Rattle.calltext.proofs.Saying.{told-number, told-no-number, told-bytes, told-no-bytes, number-within, bytes-within, counted, miscounted, parses, unread}
 use Rattle.calltext.proofs.Arguments.{run_1, run_2, run_3, run_4, run_5, run_6, run_7, run-all}
-use borrow.Author.Rules.{rules}
 use Rattle.calltext.proofs.calls.run_call.Goals as goal
 
 pub returns-then-count-ne7 : goal.returns-then-count-ne7

@@ -1,5 +1,4 @@
 -- A number of one digit is written at once; any other behind the digits of its tenth, which is smaller, so that it ends.
-use borrow.Author.Rules.{rules}
 use native.Mathlib.Omega.{arith}
 use mathlib.Core.Path.{ap}
 use lib.ListN.{length}

@@ -1,8 +1,4 @@
 use borrow.Author.Rules.{rules}
-use Prim.Native.Nat.{◌-◌, ◌≤◌, ◌<◌}
-use mathlib.Core.Path.{◌≡◌}
-use lib.ListN.{length, drop}
-use Rattle.calltext.specs.Decimal.{carried, number_in}
 use Rattle.calltext.proofs.Figures.{no_digits, some_digits, stops-low, stops_high, stops_large, carries, carried-all}
 use Rattle.calltext.proofs.decimal.read_number.Goals as goal
 

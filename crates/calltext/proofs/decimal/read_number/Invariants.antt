@@ -1,9 +1,7 @@
-use borrow.Author.Rules.{rules}
 use Prim.Native.Nat.{◌-◌, ◌≤◌, ◌<◌}
 use mathlib.Core.Path.{◌≡◌}
 use lib.ListN.{length, drop}
 use Rattle.calltext.specs.Decimal.{carried, number_in}
-use Rattle.calltext.proofs.Figures.{no_digits, some_digits, stops-low, stops_high, stops_large, carries, carried-all}
 use Rattle.calltext.proofs.decimal.read_number.Given as goal
 
 abbrev pub invariant-loop-i : goal.invariant-loop-i

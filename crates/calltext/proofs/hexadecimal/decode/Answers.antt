@@ -1,6 +1,5 @@
 use Rattle.calltext.proofs.Digits.{empty_word, sign_word, single_word, longer_word}
 use mathlib.Core.Path.{◌∙◌}
-use borrow.Author.Rules.{rules}
 use Rattle.calltext.proofs.hexadecimal.decode.Goals as goal
 
 pub returns-then-word-eq0 : goal.returns-then-word-eq0

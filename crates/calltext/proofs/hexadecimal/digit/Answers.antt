@@ -1,6 +1,5 @@
 use borrow.Author.Tests.{lt-ltb, le-ltb, le-leb, lt-leb}
 use Rattle.calltext.specs.Hexadecimal.{digit_of}
-use borrow.Author.Rules.{rules}
 use Rattle.calltext.proofs.hexadecimal.digit.Goals as goal
 
 pub returns-then-b-lt48 : goal.returns-then-b-lt48

@@ -1,10 +1,6 @@
 use borrow.Author.Rules.{rules}
-use Prim.Native.Nat.{◌+◌, ◌-◌, ◌≤◌, ◌<◌, ◌*◌}
 use native.Mathlib.Omega.{arith}
-use mathlib.Core.Path.{◌≡◌}
-use lib.ListN.{length, take, length-set}
-use Rattle.calltext.specs.Wrote.{Wrote}
-use Rattle.calltext.specs.Hexadecimal.{digits_of}
+use lib.ListN.{length-set}
 use Rattle.calltext.proofs.Writing.{wrote-byte, wrote_as}
 use Rattle.calltext.proofs.Digits.{encode-start, encode-more, no_bytes_lem, all-bytes}
 use Rattle.calltext.proofs.hexadecimal.encode.Goals as goal

@@ -1,12 +1,8 @@
-use borrow.Author.Rules.{rules}
 use Prim.Native.Nat.{◌+◌, ◌-◌, ◌≤◌, ◌<◌, ◌*◌}
-use native.Mathlib.Omega.{arith}
 use mathlib.Core.Path.{◌≡◌}
-use lib.ListN.{length, take, length-set}
+use lib.ListN.{length, take}
 use Rattle.calltext.specs.Wrote.{Wrote}
 use Rattle.calltext.specs.Hexadecimal.{digits_of}
-use Rattle.calltext.proofs.Writing.{wrote-byte, wrote_as}
-use Rattle.calltext.proofs.Digits.{encode-start, encode-more, no_bytes_lem, all-bytes}
 use Rattle.calltext.proofs.hexadecimal.encode.Given as goal
 
 abbrev pub invariant-loop-i : goal.invariant-loop-i

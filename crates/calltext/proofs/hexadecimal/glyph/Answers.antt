@@ -1,6 +1,5 @@
 use borrow.Author.Tests.{lt-ltb, le-ltb}
 use Rattle.calltext.specs.Hexadecimal.{glyph_of}
-use borrow.Author.Rules.{rules}
 use Rattle.calltext.proofs.hexadecimal.glyph.Goals as goal
 
 pub returns-then-d-lt10 : goal.returns-then-d-lt10

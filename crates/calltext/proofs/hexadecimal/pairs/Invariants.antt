@@ -1,10 +1,7 @@
-use borrow.Author.Rules.{rules}
-use Prim.Native.Nat.{ℕ, ◌-◌, ◌≤◌, ◌*◌}
-use native.Mathlib.Omega.{arith}
-use mathlib.Core.Path.{◌≡◌, refl}
-use mathlib.Core.List.{List}
-use lib.ListN.{length, length-set}
-use Rattle.calltext.proofs.Digits.{Decoding, decoding, stops-odd, stops_high, stops-low, decodes-more, decoded}
+use Prim.Native.Nat.{◌-◌, ◌≤◌, ◌*◌}
+use mathlib.Core.Path.{◌≡◌}
+use lib.ListN.{length}
+use Rattle.calltext.proofs.Digits.{Decoding}
 use Rattle.calltext.proofs.hexadecimal.pairs.Given as goal
 
 abbrev pub invariant-loop-i : goal.invariant-loop-i

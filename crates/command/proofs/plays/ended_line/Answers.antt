@@ -2,7 +2,6 @@ use mathlib.Core.Path.{sym, ap}
 use Rattle.calltext.proofs.Writing.{wrote_as}
 use Rattle.replay.specs.Playing.{reply_of}
 use Rattle.command.specs.Plays.{ended_text}
-use borrow.Author.Rules.{rules}
 use Rattle.command.proofs.plays.ended_line.Goals as goal
 
 pub returns-in-Played : goal.returns-in-Played

@@ -1,5 +1,4 @@
 use Rattle.calltext.proofs.Writing.{wrote-both}
-use borrow.Author.Rules.{rules}
 use Rattle.command.proofs.plays.put_between.Goals as goal
 
 pub returns : goal.returns

@@ -1,6 +1,5 @@
 use Rattle.calltext.proofs.Writing.{wrote_as}
 use Rattle.command.proofs.Telling.{told_open, told-held, told-refused, told_none}
-use borrow.Author.Rules.{rules}
 use Rattle.command.proofs.plays.told_line.Goals as goal
 
 pub returns-then-kind-eq-OPENED : goal.returns-then-kind-eq-OPENED

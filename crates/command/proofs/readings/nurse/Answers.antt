@@ -2,7 +2,6 @@ use native.Mathlib.Omega.{arith}
 use Rattle.calltext.proofs.Writing.{wrote_as}
 use Rattle.messages.proofs.Outputs.{seen-within}
 use Rattle.command.proofs.ReadBack.{nurse_reported}
-use borrow.Author.Rules.{rules}
 use Rattle.command.proofs.readings.nurse.Goals as goal
 
 pub nurse_report-requires-clause-answer_in_bounds : goal.nurse_report-requires-clause-answer_in_bounds

@@ -2,7 +2,6 @@ use native.Mathlib.Omega.{arith}
 use Rattle.calltext.proofs.Writing.{wrote_as}
 use Rattle.messages.proofs.Outputs.{written-within}
 use Rattle.command.proofs.ReadBack.{workshop_reported}
-use borrow.Author.Rules.{rules}
 use Rattle.command.proofs.readings.workshop.Goals as goal
 
 pub write_report-requires-clause-answer_in_bounds : goal.write_report-requires-clause-answer_in_bounds

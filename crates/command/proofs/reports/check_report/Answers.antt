@@ -2,7 +2,6 @@ use mathlib.Core.Path.{sym, ap}
 use Rattle.answers.specs.Answers.{check_answer}
 use Rattle.calltext.proofs.Writing.{wrote_as}
 use Rattle.command.specs.Reports.{check_report}
-use borrow.Author.Rules.{rules}
 use Rattle.command.proofs.reports.check_report.Goals as goal
 
 pub returns-in-Accepted : goal.returns-in-Accepted

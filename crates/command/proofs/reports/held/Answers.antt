@@ -1,6 +1,5 @@
 use Rattle.calltext.proofs.Writing.{wrote-five}
 use Rattle.command.specs.Reports.{held_text}
-use borrow.Author.Rules.{rules}
 use Rattle.command.proofs.reports.held.Goals as goal
 
 pub returns : goal.returns

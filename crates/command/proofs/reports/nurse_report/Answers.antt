@@ -4,7 +4,6 @@ use Rattle.answers.specs.Answers.{nurse_answer}
 use Rattle.calltext.proofs.Writing.{wrote_as}
 use Rattle.messages.specs.Replies.{nurse_text, seen_length}
 use Rattle.command.specs.Reports.{shown_report}
-use borrow.Author.Rules.{rules}
 use Rattle.command.proofs.reports.nurse_report.Goals as goal
 
 pub nurse_line-requires-clause-answer_in_bounds : goal.nurse_line-requires-clause-answer_in_bounds

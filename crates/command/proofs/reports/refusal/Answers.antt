@@ -1,6 +1,5 @@
 use Rattle.calltext.proofs.Writing.{wrote_as}
 use Rattle.command.proofs.Reporting.{refusal_reported}
-use borrow.Author.Rules.{rules}
 use Rattle.command.proofs.reports.refusal.Goals as goal
 
 pub returns : goal.returns

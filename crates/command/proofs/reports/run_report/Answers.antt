@@ -4,7 +4,6 @@ use Rattle.answers.specs.Answers.{run_answer}
 use Rattle.calltext.proofs.Writing.{wrote_as}
 use Rattle.messages.specs.Replies.{run_text, length_of}
 use Rattle.command.specs.Reports.{filled_report}
-use borrow.Author.Rules.{rules}
 use Rattle.command.proofs.reports.run_report.Goals as goal
 
 pub run_line-requires-clause-answer_in_bounds : goal.run_line-requires-clause-answer_in_bounds

@@ -4,7 +4,6 @@ use Rattle.answers.specs.Answers.{write_answer}
 use Rattle.calltext.proofs.Writing.{wrote_as}
 use Rattle.messages.specs.Replies.{write_text, written_length}
 use Rattle.command.specs.Reports.{wrote_report}
-use borrow.Author.Rules.{rules}
 use Rattle.command.proofs.reports.write_report.Goals as goal
 
 pub write_line-requires-clause-answer_in_bounds : goal.write_line-requires-clause-answer_in_bounds

@@ -2,7 +2,6 @@ use native.Mathlib.Omega.{arith}
 use Rattle.rules.specs.Limits.{max_value_bytes}
 use Rattle.calltext.proofs.Writing.{wrote_as}
 use Rattle.command.proofs.Reporting.{within, run_reported}
-use borrow.Author.Rules.{rules}
 use Rattle.command.proofs.single.backward.Goals as goal
 
 pub run_report-requires-clause-answer_in_bounds : goal.run_report-requires-clause-answer_in_bounds

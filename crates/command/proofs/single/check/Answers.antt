@@ -1,7 +1,6 @@
 use mathlib.Core.Path.{ap}
 use Rattle.calltext.proofs.Writing.{wrote_as}
 use Rattle.command.specs.Reports.{check_report}
-use borrow.Author.Rules.{rules}
 use Rattle.command.proofs.single.check.Goals as goal
 
 pub returns-clause-report : goal.returns-clause-report

@@ -2,7 +2,6 @@ use mathlib.Core.Path.{refl}
 use Rattle.rules.specs.Limits.{max_value_bytes, max_conversions}
 use Rattle.journal.proofs.Stands.{surveyed_as}
 use Rattle.conversions.proofs.Converts.{convert_malformed, convert_many}
-use borrow.Author.Rules.{rules}
 use Rattle.conversions.proofs.converting.convert.Goals as goal
 
 pub returns-in_default : goal.returns-in_default

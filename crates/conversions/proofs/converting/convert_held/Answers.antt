@@ -1,5 +1,4 @@
 use Rattle.conversions.proofs.Converts.{convert_keeps, convert_ran, convert_refused}
-use borrow.Author.Rules.{rules}
 use Rattle.conversions.proofs.converting.convert_held.Goals as goal
 
 pub keep_front-requires-clause-stands : goal.keep_front-requires-clause-stands

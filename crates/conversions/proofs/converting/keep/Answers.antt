@@ -1,5 +1,4 @@
 use Rattle.conversions.proofs.Converts.{convert_room, convert_kept, convert_unfit}
-use borrow.Author.Rules.{rules}
 use Rattle.conversions.proofs.converting.keep.Goals as goal
 
 pub write_convert-requires-clause-stands : goal.write_convert-requires-clause-stands

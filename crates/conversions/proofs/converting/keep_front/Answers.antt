@@ -1,6 +1,5 @@
 use mathlib.Core.Path.{sym}
 use lib.Seq.{length-take-le}
-use borrow.Author.Rules.{rules}
 use Rattle.conversions.proofs.converting.keep_front.Goals as goal
 
 pub slice_bounds-keep-end : goal.slice_bounds-keep-end

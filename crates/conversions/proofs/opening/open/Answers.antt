@@ -1,6 +1,5 @@
 use mathlib.Core.Path.{sym, ◌∙◌}
 use Rattle.conversions.proofs.Opens.{no_record, open_fits, open_full, open_done}
-use borrow.Author.Rules.{rules}
 use Rattle.conversions.proofs.opening.open.Goals as goal
 
 pub fits_open-fit-requires : goal.fits_open-fit-requires

@@ -1,7 +1,6 @@
 use mathlib.Core.Path.{sym}
 use lib.Seq.{length-take-le}
 use Rattle.requests.proofs.Rows.{types-inside, terms-inside, functions-inside}
-use borrow.Author.Rules.{rules}
 use Rattle.conversions.proofs.programs.convert_fronts.Goals as goal
 
 pub slice_bounds-convert-end : goal.slice_bounds-convert-end

@@ -1,5 +1,4 @@
 use Rattle.conversions.proofs.Loads.{open_ready, open_refused}
-use borrow.Author.Rules.{rules}
 use Rattle.conversions.proofs.programs.open.Goals as goal
 
 pub returns-in-Accepted : goal.returns-in-Accepted

@@ -5,7 +5,6 @@ use Rattle.requests.proofs.Beginning.{enough-types}
 use Rattle.requests.proofs.Rows.{fronts, kept-enough}
 use Rattle.conversions.specs.Turns.{rollback_of}
 use Rattle.conversions.proofs.Loads.{turn-ready, turn-refused}
-use borrow.Author.Rules.{rules}
 use Rattle.conversions.proofs.programs.rollback.Goals as goal
 
 pub load-loaded-requires-clause-buffers : goal.load-loaded-requires-clause-buffers

@@ -1,7 +1,6 @@
 use mathlib.Core.Path.{sym}
 use lib.Seq.{length-take-le}
 use Rattle.conversions.proofs.Rollbacks.{inside, front-one, front_long, taken, not_taken}
-use borrow.Author.Rules.{rules}
 use Rattle.conversions.proofs.returning.roll_newest.Goals as goal
 
 pub slice_bounds-strike-end : goal.slice_bounds-strike-end

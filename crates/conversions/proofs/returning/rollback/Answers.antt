@@ -1,7 +1,6 @@
 use native.Mathlib.Omega.{arith}
 use Rattle.rules.specs.Limits.{max_value_bytes}
 use Rattle.conversions.proofs.Rollbacks.{unread, stands, none_stands, some_count}
-use borrow.Author.Rules.{rules}
 use Rattle.conversions.proofs.returning.rollback.Goals as goal
 
 pub returns-in_default : goal.returns-in_default

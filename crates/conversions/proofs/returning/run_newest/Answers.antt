@@ -1,5 +1,4 @@
 use Rattle.conversions.proofs.Rollbacks.{taken_back_lem}
-use borrow.Author.Rules.{rules}
 use Rattle.conversions.proofs.returning.run_newest.Goals as goal
 
 pub returns : goal.returns

@@ -1,5 +1,4 @@
 use Rattle.conversions.proofs.Rollbacks.{other-steps, room, no_room, rolled}
-use borrow.Author.Rules.{rules}
 use Rattle.conversions.proofs.returning.strike.Goals as goal
 
 pub write_rollback-requires-clause-stands : goal.write_rollback-requires-clause-stands

@@ -1,5 +1,4 @@
 use mathlib.Core.Path.{◌∙◌}
-use borrow.Author.Rules.{rules}
 use Rattle.decoded.proofs.Decoding.{rows-asked, rows-kept, names-kept, decodes}
 use Rattle.decoded.proofs.decode.decode.Goals as goal
 

@@ -1,9 +1,5 @@
-use Prim.Native.Nat.{◌-◌, ◌≤◌, ◌<◌}
 use native.Mathlib.Omega.{arith}
-use mathlib.Core.Path.{◌≡◌, refl, sym, subst, ◌∙◌}
-use lib.ListN.{length, get_or}
-use borrow.Author.Rules.{rules}
-use Rattle.decoded.specs.Decoding.{FunctionRows}
+use mathlib.Core.Path.{◌∙◌}
 use Rattle.decoded.proofs.Decoding.{no-functions, functions_more, functions_whole, function-asked}
 use Rattle.decoded.proofs.decode.put_functions.Goals as goal
 

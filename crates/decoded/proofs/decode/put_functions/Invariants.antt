@@ -1,10 +1,6 @@
-use Prim.Native.Nat.{◌-◌, ◌≤◌, ◌<◌}
-use native.Mathlib.Omega.{arith}
-use mathlib.Core.Path.{◌≡◌, refl, sym, subst, ◌∙◌}
-use lib.ListN.{length, get_or}
-use borrow.Author.Rules.{rules}
+use Prim.Native.Nat.{◌-◌, ◌≤◌}
+use lib.ListN.{length}
 use Rattle.decoded.specs.Decoding.{FunctionRows}
-use Rattle.decoded.proofs.Decoding.{no-functions, functions_more, functions_whole, function-asked}
 use Rattle.decoded.proofs.decode.put_functions.Given as goal
 
 abbrev pub invariant-loop-g : goal.invariant-loop-g

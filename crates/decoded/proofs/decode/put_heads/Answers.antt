@@ -1,5 +1,4 @@
 use native.Mathlib.Omega.{arith}
-use borrow.Author.Rules.{rules}
 use Rattle.decoded.proofs.Puts.{heads}
 use Rattle.decoded.proofs.decode.put_heads.Goals as goal
 

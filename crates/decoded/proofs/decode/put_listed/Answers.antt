@@ -1,9 +1,6 @@
-use Prim.Native.Nat.{◌-◌, ◌≤◌}
 use native.Mathlib.Omega.{arith}
-use mathlib.Core.Path.{◌≡◌, refl, sym}
-use lib.ListN.{length, length-set}
-use borrow.Author.Rules.{rules}
-use Rattle.decoded.specs.Decoding.{Listed}
+use mathlib.Core.Path.{refl}
+use lib.ListN.{length-set}
 use Rattle.decoded.proofs.Puts.{none_listed, listed_whole, listed_more}
 use Rattle.decoded.proofs.decode.put_listed.Goals as goal
 

@@ -1,10 +1,7 @@
 use Prim.Native.Nat.{◌-◌, ◌≤◌}
-use native.Mathlib.Omega.{arith}
-use mathlib.Core.Path.{◌≡◌, refl, sym}
-use lib.ListN.{length, length-set}
-use borrow.Author.Rules.{rules}
+use mathlib.Core.Path.{◌≡◌}
+use lib.ListN.{length}
 use Rattle.decoded.specs.Decoding.{Listed}
-use Rattle.decoded.proofs.Puts.{none_listed, listed_whole, listed_more}
 use Rattle.decoded.proofs.decode.put_listed.Given as goal
 
 abbrev pub invariant-loop-k : goal.invariant-loop-k

@@ -1,6 +1,5 @@
 use native.Mathlib.Omega.{arith}
 use mathlib.Core.Path.{sym, subst, ◌∙◌}
-use borrow.Author.Rules.{rules}
 use Rattle.program.proofs.Rooms.{term-kind, term-kind-room, var-room, case_room}
 use Rattle.decoded.proofs.Trees.{Two}
 use Rattle.decoded.proofs.Decoding as law

@@ -1,9 +1,5 @@
-use Prim.Native.Nat.{◌-◌, ◌≤◌, ◌<◌}
 use native.Mathlib.Omega.{arith}
-use mathlib.Core.Path.{◌≡◌, refl, sym, subst, ◌∙◌}
-use lib.ListN.{length, get_or}
-use borrow.Author.Rules.{rules}
-use Rattle.decoded.specs.Decoding.{TermRows}
+use mathlib.Core.Path.{◌∙◌}
 use Rattle.decoded.proofs.Decoding.{no_rows, rows_more, rows_whole, term-asked}
 use Rattle.decoded.proofs.decode.put_terms.Goals as goal
 

@@ -1,10 +1,6 @@
-use Prim.Native.Nat.{◌-◌, ◌≤◌, ◌<◌}
-use native.Mathlib.Omega.{arith}
-use mathlib.Core.Path.{◌≡◌, refl, sym, subst, ◌∙◌}
-use lib.ListN.{length, get_or}
-use borrow.Author.Rules.{rules}
+use Prim.Native.Nat.{◌-◌, ◌≤◌}
+use lib.ListN.{length}
 use Rattle.decoded.specs.Decoding.{TermRows}
-use Rattle.decoded.proofs.Decoding.{no_rows, rows_more, rows_whole, term-asked}
 use Rattle.decoded.proofs.decode.put_terms.Given as goal
 
 abbrev pub invariant-loop-t : goal.invariant-loop-t

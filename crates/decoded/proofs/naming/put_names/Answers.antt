@@ -1,9 +1,7 @@
-use Prim.Native.Nat.{◌-◌, ◌≤◌}
 use native.Mathlib.Omega.{arith}
 use mathlib.Core.Path.{refl, subst, ◌∙◌}
-use borrow.Author.Rules.{rules}
 use Rattle.decoded.specs.Naming.{RowsNamed}
-use Rattle.decoded.proofs.Sets.{SetsOf, no_sets, none_named, asked-now, sets_more, named_more}
+use Rattle.decoded.proofs.Sets.{no_sets, none_named, asked-now, sets_more, named_more}
 use Rattle.decoded.proofs.naming.put_names.Goals as goal
 
 pub loop-t-init : goal.loop-t-init

@@ -1,6 +1,5 @@
 use native.Mathlib.Omega.{arith}
 use mathlib.Core.Path.{sym, ap, ◌∙◌}
-use borrow.Author.Rules.{rules}
 use Rattle.decoded.specs.Naming.{set_in}
 use Rattle.decoded.proofs.Sets.{scrutinee-number, part-there, no-scrutinee, scrutinee-put}
 use Rattle.decoded.proofs.naming.put_scrutinee.Goals as goal

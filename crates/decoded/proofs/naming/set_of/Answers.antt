@@ -1,5 +1,4 @@
 use mathlib.Core.Path.{ap}
-use borrow.Author.Rules.{rules}
 use Rattle.decoded.specs.Naming.{set_in}
 use Rattle.decoded.proofs.naming.set_of.Goals as goal
 

@@ -1,8 +1,5 @@
 use Prim.Native.Nat.{◌-◌, ◌≤◌}
-use native.Mathlib.Omega.{arith}
-use mathlib.Core.Path.{subst}
-use borrow.Author.Rules.{rules}
-use Rattle.decoded.proofs.Sets.{United, united_none, united-more, number-below}
+use Rattle.decoded.proofs.Sets.{United}
 use Rattle.decoded.proofs.naming.union_of.Given as goal
 
 abbrev pub invariant-loop-k : goal.invariant-loop-k

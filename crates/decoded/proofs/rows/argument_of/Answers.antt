@@ -1,4 +1,3 @@
-use borrow.Author.Rules.{rules}
 use package.Rattle.decoded.specs.Rows.{argument_in}
 use Rattle.decoded.proofs.rows.argument_of.Goals as goal
 

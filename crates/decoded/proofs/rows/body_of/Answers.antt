@@ -1,4 +1,3 @@
-use borrow.Author.Rules.{rules}
 use package.Rattle.decoded.specs.Rows.{body_in, first_in}
 use Rattle.decoded.proofs.rows.body_of.Goals as goal
 

@@ -1,6 +1,5 @@
 use native.Mathlib.Omega.{arith}
 use mathlib.Core.Path.{ap₂, ◌∙◌}
-use borrow.Author.Rules.{rules}
 use Rattle.varsets.specs.Sets.{of_halves}
 use Rattle.decoded.specs.Rows.{names_in}
 use Rattle.decoded.proofs.Chosen.{chosen}

@@ -1,4 +1,3 @@
-use borrow.Author.Rules.{rules}
 use package.Rattle.decoded.specs.Rows.{first_in}
 use Rattle.decoded.proofs.rows.first_of.Goals as goal
 

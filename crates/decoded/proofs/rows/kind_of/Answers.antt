@@ -1,4 +1,3 @@
-use borrow.Author.Rules.{rules}
 use package.Rattle.decoded.specs.Rows.{kind_in}
 use Rattle.decoded.proofs.rows.kind_of.Goals as goal
 

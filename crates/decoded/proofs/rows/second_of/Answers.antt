@@ -1,4 +1,3 @@
-use borrow.Author.Rules.{rules}
 use package.Rattle.decoded.specs.Rows.{second_in}
 use Rattle.decoded.proofs.rows.second_of.Goals as goal
 

@@ -1,4 +1,3 @@
-use borrow.Author.Rules.{rules}
 use package.Rattle.decoded.specs.Rows.{third_in}
 use Rattle.decoded.proofs.rows.third_of.Goals as goal
 

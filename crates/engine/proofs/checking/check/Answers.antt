@@ -2,7 +2,6 @@ use mathlib.Core.Path.{sym, ap, ◌∙◌}
 use lib.ListN.{replicate}
 use Rattle.engine.proofs.Beginning.{enough-room}
 use Rattle.engine.proofs.Checks.{check-enough, check_clears, check-short, check-keeps}
-use borrow.Author.Rules.{rules}
 use Rattle.engine.proofs.checking.check.Goals as goal
 
 pub check_program-answer-requires : goal.check_program-answer-requires

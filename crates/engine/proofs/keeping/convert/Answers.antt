@@ -3,7 +3,6 @@ use lib.ListN.{replicate}
 use Rattle.conversions.specs.Turns.{convert_of}
 use Rattle.engine.proofs.Beginning.{enough-le}
 use Rattle.engine.proofs.Turns.{convert_whole, turn-enough, turn-short}
-use borrow.Author.Rules.{rules}
 use Rattle.engine.proofs.keeping.convert.Goals as goal
 
 pub convert-answer-requires : goal.convert-answer-requires

@@ -2,7 +2,6 @@ use mathlib.Core.Path.{sym, ap, ◌∙◌}
 use lib.ListN.{replicate}
 use Rattle.engine.proofs.Beginning.{enough-room}
 use Rattle.engine.proofs.Turns.{open_enough, open_short}
-use borrow.Author.Rules.{rules}
 use Rattle.engine.proofs.keeping.open.Goals as goal
 
 pub open-answer-requires : goal.open-answer-requires

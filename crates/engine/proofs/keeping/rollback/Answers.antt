@@ -3,7 +3,6 @@ use lib.ListN.{replicate}
 use Rattle.conversions.specs.Turns.{rollback_of}
 use Rattle.engine.proofs.Beginning.{enough-le}
 use Rattle.engine.proofs.Turns.{rollback_whole, turn-enough, turn-short}
-use borrow.Author.Rules.{rules}
 use Rattle.engine.proofs.keeping.rollback.Goals as goal
 
 pub rollback-answer-requires : goal.rollback-answer-requires

@@ -2,7 +2,6 @@ use mathlib.Core.Path.{sym, ap, ◌∙◌}
 use lib.ListN.{replicate}
 use Rattle.engine.proofs.Beginning.{enough-le}
 use Rattle.engine.proofs.Directions.{call-means, call-short}
-use borrow.Author.Rules.{rules}
 use Rattle.engine.proofs.running.call.Goals as goal
 
 pub run_program-answer-requires : goal.run_program-answer-requires

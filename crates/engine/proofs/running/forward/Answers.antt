@@ -1,5 +1,4 @@
 use Rattle.engine.specs.Runs.{run_call}
-use borrow.Author.Rules.{rules}
 use Rattle.engine.proofs.running.forward.Goals as goal
 
 pub returns-clause-answer : goal.returns-clause-answer

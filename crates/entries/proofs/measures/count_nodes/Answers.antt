@@ -1,5 +1,4 @@
 use Rattle.entries.proofs.Tallies.{tally-room, count-made}
-use borrow.Author.Rules.{rules}
 use Rattle.entries.proofs.measures.count_nodes.Goals as goal
 
 pub raised-requires : goal.raised-requires

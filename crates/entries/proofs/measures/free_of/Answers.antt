@@ -1,6 +1,5 @@
 use native.Mathlib.Omega.{arith}
 use mathlib.Core.Path.{sym, ◌∙◌}
-use borrow.Author.Rules.{rules}
 use Rattle.program.proofs.Rooms.{type-kind, type-kind-room, mu-room}
 use Rattle.entries.proofs.Figures.{pair-room, variable-room, pair-below, one_below, free-unit, free-pair, free_one, free-variable}
 use Rattle.entries.proofs.measures.free_of.Goals as goal

@@ -1,6 +1,5 @@
 use native.Mathlib.Omega.{arith}
 use Rattle.calls.specs.Figures.{ceiling}
-use borrow.Author.Rules.{rules}
 use Rattle.entries.proofs.measures.joined.Goals as goal
 
 pub returns-then-n-lt-WIDE_CEILING : goal.returns-then-n-lt-WIDE_CEILING

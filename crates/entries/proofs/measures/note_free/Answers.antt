@@ -1,6 +1,5 @@
 use mathlib.Core.Path.{ap}
 use lib.ListN.{set}
-use borrow.Author.Rules.{rules}
 use Rattle.entries.proofs.measures.note_free.Goals as goal
 
 pub returns : goal.returns

@@ -1,11 +1,6 @@
-use Prim.Native.Nat.{◌-◌, ◌≤◌}
 use native.Mathlib.Omega.{arith}
-use mathlib.Core.Path.{◌≡◌, ◌∙◌}
-use mathlib.Core.Bool.{true}
-use Rattle.calls.specs.Entries.{references}
-use Rattle.calls.specs.Named.{below}
+use mathlib.Core.Path.{◌∙◌}
 use Rattle.entries.proofs.Turns.{below_none, below_more, below_all, below-stops}
-use borrow.Author.Rules.{rules}
 use Rattle.entries.proofs.testing.all_below.Goals as goal
 
 pub loop-i-init : goal.loop-i-init

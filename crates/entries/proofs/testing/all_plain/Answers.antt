@@ -1,11 +1,6 @@
-use Prim.Native.Nat.{◌-◌, ◌≤◌}
 use native.Mathlib.Omega.{arith}
-use mathlib.Core.Path.{◌≡◌, ◌∙◌}
-use mathlib.Core.Bool.{true}
-use Rattle.calls.specs.Entries.{references}
-use Rattle.entries.specs.Marks.{all_plain_in}
+use mathlib.Core.Path.{◌∙◌}
 use Rattle.entries.proofs.Turns.{below_at, plain_none, plain_yes, plain_open, plain_large, plain_more, plain-all, plain-stops}
-use borrow.Author.Rules.{rules}
 use Rattle.entries.proofs.testing.all_plain.Goals as goal
 
 pub loop-i-init : goal.loop-i-init

@@ -1,11 +1,8 @@
 use Prim.Native.Nat.{◌-◌, ◌≤◌}
-use native.Mathlib.Omega.{arith}
-use mathlib.Core.Path.{◌≡◌, ◌∙◌}
+use mathlib.Core.Path.{◌≡◌}
 use mathlib.Core.Bool.{true}
 use Rattle.calls.specs.Entries.{references}
 use Rattle.entries.specs.Marks.{all_plain_in}
-use Rattle.entries.proofs.Turns.{below_at, plain_none, plain_yes, plain_open, plain_large, plain_more, plain-all, plain-stops}
-use borrow.Author.Rules.{rules}
 use Rattle.entries.proofs.testing.all_plain.Given as goal
 
 abbrev pub invariant-loop-i : goal.invariant-loop-i

@@ -1,5 +1,4 @@
 use Rattle.entries.proofs.Whole.{ends-sound, ends-bad_reference, ends-bad-type}
-use borrow.Author.Rules.{rules}
 use Rattle.entries.proofs.testing.test_bodies.Goals as goal
 
 pub returns-in-Sound : goal.returns-in-Sound

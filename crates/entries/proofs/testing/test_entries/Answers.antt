@@ -1,7 +1,6 @@
 use native.Mathlib.Omega.{arith}
 use Rattle.entries.proofs.Tallies.{no-counts-sized}
 use Rattle.entries.proofs.Whole.{placed-formed, types-few, types-sound, entries-sound, entries-bad_reference, entries-bad-type}
-use borrow.Author.Rules.{rules}
 use Rattle.entries.proofs.testing.test_entries.Goals as goal
 
 pub test_types-t-requires-clause-by_index : goal.test_types-t-requires-clause-by_index

@@ -4,7 +4,6 @@ use borrow.Author.Tests.{not-true, not-false}
 use Rattle.program.proofs.Rooms.{function-room}
 use Rattle.calls.proofs.Entries.{below_wider}
 use Rattle.entries.proofs.Functions.{body-decided, body-noted, type-absent, body-absent, used-before, type_not_plain, function-sound}
-use borrow.Author.Rules.{rules}
 use Rattle.entries.proofs.testing.test_function.Goals as goal
 
 pub overflow_add-from : goal.overflow_add-from

@@ -5,7 +5,6 @@ use Rattle.program.proofs.Rooms.{term-kind-room}
 use Rattle.program.proofs.Lists.{types_in_term_lem, functions_in-term, terms_in-term}
 use Rattle.calls.proofs.Entries.{below_wider}
 use Rattle.entries.proofs.Terms.{types-decided, functions-decided, plain-decided, terms-decided, terms-noted, type-absent, term_not_lower, function-absent, used-before, type_not_plain, term-sound}
-use borrow.Author.Rules.{rules}
 use Rattle.entries.proofs.testing.test_term.Goals as goal
 
 pub overflow_add-at : goal.overflow_add-at

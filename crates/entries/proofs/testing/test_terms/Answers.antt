@@ -1,11 +1,9 @@
-use Prim.Native.Nat.{◌+◌, ◌-◌, ◌≤◌}
+use Prim.Native.Nat.{◌+◌}
 use native.Mathlib.Omega.{arith}
-use mathlib.Core.Path.{◌≡◌, refl, subst, sym, ◌∙◌}
-use lib.ListN.{length}
+use mathlib.Core.Path.{refl, subst, sym, ◌∙◌}
 use Rattle.program.specs.Parts.{TermField}
-use Rattle.entries.proofs.Verdicts.{Going, going_start, going_more, going-bad_reference, going-bad-type, going_end, measured-room}
+use Rattle.entries.proofs.Verdicts.{going_start, going_more, going-bad_reference, going-bad-type, going_end, measured-room}
 use Rattle.entries.proofs.Terms.{terms_from_entry, terms-step, terms-over}
-use borrow.Author.Rules.{rules}
 use Rattle.entries.proofs.testing.test_terms.Goals as goal
 
 pub loop-k-init : goal.loop-k-init

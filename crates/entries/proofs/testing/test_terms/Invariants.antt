@@ -1,11 +1,8 @@
-use Prim.Native.Nat.{◌+◌, ◌-◌, ◌≤◌}
-use native.Mathlib.Omega.{arith}
-use mathlib.Core.Path.{◌≡◌, refl, subst, sym, ◌∙◌}
+use Prim.Native.Nat.{◌-◌, ◌≤◌}
+use mathlib.Core.Path.{◌≡◌}
 use lib.ListN.{length}
-use Rattle.program.specs.Parts.{TermField}
-use Rattle.entries.proofs.Verdicts.{Going, going_start, going_more, going-bad_reference, going-bad-type, going_end, measured-room}
-use Rattle.entries.proofs.Terms.{terms_from_entry, terms-step, terms-over}
-use borrow.Author.Rules.{rules}
+use Rattle.entries.proofs.Verdicts.{Going}
+use Rattle.entries.proofs.Terms.{terms_from_entry}
 use Rattle.entries.proofs.testing.test_terms.Given as goal
 
 abbrev pub invariant-loop-k : goal.invariant-loop-k

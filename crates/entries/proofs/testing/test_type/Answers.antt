@@ -2,7 +2,6 @@ use native.Mathlib.Omega.{arith}
 use Rattle.program.proofs.Rooms.{type-kind-room}
 use Rattle.program.proofs.Lists.{types_in_type_lem}
 use Rattle.entries.proofs.Types.{type-answer}
-use borrow.Author.Rules.{rules}
 use Rattle.entries.proofs.testing.test_type.Goals as goal
 
 pub overflow_add-at : goal.overflow_add-at

@@ -1,13 +1,10 @@
-use Prim.Native.Nat.{◌-◌, ◌≤◌}
 use native.Mathlib.Omega.{arith}
-use mathlib.Core.Path.{◌≡◌, refl, subst, sym, ◌∙◌}
-use lib.ListN.{length}
+use mathlib.Core.Path.{refl, subst, sym, ◌∙◌}
 use borrow.Author.Tests.{not-true, not-false}
 use Rattle.program.specs.Parts.{TypeField}
 use Rattle.entries.proofs.Tallies.{counts-next}
 use Rattle.calls.proofs.Entries.{below_wider}
-use Rattle.entries.proofs.Types.{TypesSo, types-start, types_more, types_stop, types-end}
-use borrow.Author.Rules.{rules}
+use Rattle.entries.proofs.Types.{types-start, types_more, types_stop, types-end}
 use Rattle.entries.proofs.testing.test_types.Goals as goal
 
 pub loop-i-init : goal.loop-i-init

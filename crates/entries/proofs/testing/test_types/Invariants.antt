@@ -1,13 +1,7 @@
 use Prim.Native.Nat.{◌-◌, ◌≤◌}
-use native.Mathlib.Omega.{arith}
-use mathlib.Core.Path.{◌≡◌, refl, subst, sym, ◌∙◌}
+use mathlib.Core.Path.{◌≡◌}
 use lib.ListN.{length}
-use borrow.Author.Tests.{not-true, not-false}
-use Rattle.program.specs.Parts.{TypeField}
-use Rattle.entries.proofs.Tallies.{counts-next}
-use Rattle.calls.proofs.Entries.{below_wider}
-use Rattle.entries.proofs.Types.{TypesSo, types-start, types_more, types_stop, types-end}
-use borrow.Author.Rules.{rules}
+use Rattle.entries.proofs.Types.{TypesSo}
 use Rattle.entries.proofs.testing.test_types.Given as goal
 
 abbrev pub invariant-loop-i : goal.invariant-loop-i

@@ -1,8 +1,5 @@
-use Prim.Native.Nat.{◌-◌, ◌≤◌}
 use native.Mathlib.Omega.{arith}
-use lib.ListN.{length}
-use Rattle.entries.proofs.Unused.{UsedSo, used_start, used-more, used_stop, used-end}
-use borrow.Author.Rules.{rules}
+use Rattle.entries.proofs.Unused.{used_start, used-more, used_stop, used-end}
 use Rattle.entries.proofs.testing.test_used.Goals as goal
 
 pub loop-k-init : goal.loop-k-init

@@ -1,8 +1,6 @@
 use Prim.Native.Nat.{◌-◌, ◌≤◌}
-use native.Mathlib.Omega.{arith}
 use lib.ListN.{length}
-use Rattle.entries.proofs.Unused.{UsedSo, used_start, used-more, used_stop, used-end}
-use borrow.Author.Rules.{rules}
+use Rattle.entries.proofs.Unused.{UsedSo}
 use Rattle.entries.proofs.testing.test_used.Given as goal
 
 abbrev pub invariant-loop-k : goal.invariant-loop-k

@@ -2,7 +2,6 @@ use native.Mathlib.Omega.{arith}
 use mathlib.Core.List.{[]}
 use Rattle.rules.specs.Limits.{max_terms}
 use Rattle.entries.proofs.Whole.{ends-sound, ends-bad_reference, ends-bad-type, marks_none, uses-ready}
-use borrow.Author.Rules.{rules}
 use Rattle.entries.proofs.testing.test_uses.Goals as goal
 
 pub test_terms-v-requires : goal.test_terms-v-requires

@@ -1,10 +1,7 @@
-use Prim.Native.Nat.{◌-◌, ◌≤◌}
 use native.Mathlib.Omega.{arith}
-use mathlib.Core.Path.{◌≡◌, refl, ◌∙◌}
-use lib.ListN.{length, length-set}
-use Rattle.calls.specs.Entries.{references}
-use Rattle.entries.proofs.Turns.{Using, below_at, using_none, using_more, using_stops, using_all}
-use borrow.Author.Rules.{rules}
+use mathlib.Core.Path.{refl, ◌∙◌}
+use lib.ListN.{length-set}
+use Rattle.entries.proofs.Turns.{below_at, using_none, using_more, using_stops, using_all}
 use Rattle.entries.proofs.testing.use_terms.Goals as goal
 
 pub loop-i-init : goal.loop-i-init

@@ -1,10 +1,8 @@
 use Prim.Native.Nat.{◌-◌, ◌≤◌}
-use native.Mathlib.Omega.{arith}
-use mathlib.Core.Path.{◌≡◌, refl, ◌∙◌}
-use lib.ListN.{length, length-set}
+use mathlib.Core.Path.{◌≡◌}
+use lib.ListN.{length}
 use Rattle.calls.specs.Entries.{references}
-use Rattle.entries.proofs.Turns.{Using, below_at, using_none, using_more, using_stops, using_all}
-use borrow.Author.Rules.{rules}
+use Rattle.entries.proofs.Turns.{Using}
 use Rattle.entries.proofs.testing.use_terms.Given as goal
 
 abbrev pub invariant-loop-i : goal.invariant-loop-i

@@ -1,10 +1,8 @@
-use Prim.Native.Nat.{◌+◌, ◌*◌, ◌-◌, ℕ, ◌<◌}
-use lib.ListN.{get_or}
+use Prim.Native.Nat.{◌+◌}
 use Rattle.forward.proofs as own
 use native.Mathlib.Omega.{arith}
 use mathlib.Core.Path.{ap, ◌∙◌, refl, sym}
 use mathlib.Core.Logic.{inl as left, inr as right}
-use borrow.Author.Rules.{rules}
 use own.Answers.{is_value_lem, is_refused, is_stuck, is_fuel, is_height}
 use own.Bounds.{row_read, scope-there, body-read, lower-part, find_ready, lt_le, argument-read}
 use own.Placing.{few-count, all_to_place, place-room, place-less, place-next, place-ready, place-refused, place-last, place-more}

@@ -1,7 +1,6 @@
 use Prim.Native.Nat.{◌+◌}
-use borrow.Author.Rules.{rules}
 use native.Mathlib.Omega.{arith}
-use mathlib.Core.Path.{refl, ap, sym, ◌∙◌}
+use mathlib.Core.Path.{refl, ap, ◌∙◌}
 use Rattle.scopes.specs.Slots.{machine_of}
 use Rattle.forward.specs.Outcomes.{status_of}
 use Rattle.forward.proofs.Making.{finish_new, finish_old}

@@ -1,4 +1,3 @@
-use borrow.Author.Rules.{rules}
 use Rattle.forward.proofs.Answers.{is_value_lem, is_refused, is_first_match}
 use Rattle.forward.proofs.Leaves.{check-row, check-asks, check-refused, check-chooses, check-chosen, check-passes, check-yields}
 use Rattle.forward.proofs.outcomes.first_match.Goals as goal

@@ -1,7 +1,4 @@
-use borrow.Author.Rules.{rules}
-use mathlib.Core.Path.{◌∙◌}
-use Rattle.calls.proofs.Runs.Calls.{unit-fits}
-use Rattle.forward.proofs.Making.{makes_as, makes-new_as}
+use Rattle.forward.proofs.Making.{makes_as}
 use Rattle.forward.proofs.outcomes.make_single.Goals as goal
 
 pub single-made-requires-clause-heap : goal.single-made-requires-clause-heap

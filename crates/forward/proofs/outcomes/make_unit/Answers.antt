@@ -1,7 +1,5 @@
-use borrow.Author.Rules.{rules}
-use mathlib.Core.Path.{◌∙◌}
 use Rattle.calls.proofs.Runs.Calls.{unit-fits}
-use Rattle.forward.proofs.Making.{makes_as, makes-new_as}
+use Rattle.forward.proofs.Making.{makes-new_as}
 use Rattle.forward.proofs.outcomes.make_unit.Goals as goal
 
 pub unit-requires-clause-heap : goal.unit-requires-clause-heap

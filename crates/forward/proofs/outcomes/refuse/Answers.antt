@@ -1,4 +1,3 @@
-use borrow.Author.Rules.{rules}
 use native.Mathlib.Omega.{arith}
 use Rattle.forward.proofs.Answers.{stops}
 use Rattle.forward.proofs.outcomes.refuse.Goals as goal

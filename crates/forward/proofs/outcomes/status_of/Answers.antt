@@ -1,4 +1,3 @@
-use borrow.Author.Rules.{rules}
 use mathlib.Core.Path.{sym, ap, ◌∙◌}
 use Rattle.forward.proofs.Answers.{is_value_lem, is_refused}
 use Rattle.forward.specs.declared.outcomes.Status.TheVariants.{Refused}

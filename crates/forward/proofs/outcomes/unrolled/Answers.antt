@@ -1,4 +1,3 @@
-use borrow.Author.Rules.{rules}
 use mathlib.Core.Path.{sym, ◌∙◌}
 use Rattle.forward.proofs.Leaves.{roll-held, roll_missing}
 use Rattle.forward.proofs.Answers.{is_stuck}

@@ -1,6 +1,4 @@
-use borrow.Author.Rules.{rules}
-use native.Mathlib.Omega.{arith}
-use mathlib.Core.Path.{◌≡◌, sym, ◌∙◌}
+use mathlib.Core.Path.{sym, ◌∙◌}
 use Rattle.forward.proofs.Leaves.{finds_node, finds_none}
 use Rattle.forward.proofs.Answers.{is_stuck}
 use Rattle.forward.proofs.outcomes.variable.Goals as goal

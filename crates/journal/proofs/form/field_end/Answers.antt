@@ -1,10 +1,8 @@
 use Prim.Native.Nat.{◌+◌}
 use mathlib.Core.Path.{ap, ◌∙◌}
-use borrow.Author.Rules.{rules}
 use Rattle.calls.specs.Fields.{field_head}
 use Rattle.journal.specs.declared.places.Field.TheVariants.{To}
 use Rattle.journal.proofs.Ends.{end_short, end-other, end-cut, end_whole}
-use borrow.Author.Rules.{rules}
 use Rattle.journal.proofs.form.field_end.Goals as goal
 
 pub returns-then-journal-at-lt-FIELD_HEAD : goal.returns-then-journal-at-lt-FIELD_HEAD

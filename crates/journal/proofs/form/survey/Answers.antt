@@ -1,12 +1,8 @@
-use Prim.Native.Nat.{◌-◌}
 use native.Mathlib.Omega.{arith}
 use mathlib.Core.Path.{sym, ◌∙◌}
-use lib.ListN.{length}
-use borrow.Author.Rules.{rules}
 use Rattle.rules.specs.Limits.{max_conversions}
 use Rattle.journal.proofs.Ends.{are_bytes, is_further}
-use Rattle.journal.proofs.Walks.{Walk, walk_none, walk_starts, walk_ends, walk_zeros, walk_dirty, walk_stops, walk_full, walk_more}
-use borrow.Author.Rules.{rules}
+use Rattle.journal.proofs.Walks.{walk_none, walk_starts, walk_ends, walk_zeros, walk_dirty, walk_stops, walk_full, walk_more}
 use Rattle.journal.proofs.form.survey.Goals as goal
 
 pub held_end-head-requires : goal.held_end-head-requires

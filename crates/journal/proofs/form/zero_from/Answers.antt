@@ -1,10 +1,5 @@
-use Prim.Native.Nat.{◌-◌}
-use mathlib.Core.Path.{◌≡◌, refl, sym, ◌∙◌}
-use lib.ListN.{length, drop}
-use borrow.Author.Rules.{rules}
-use Rattle.calls.specs.Journal.{all_zero}
+use mathlib.Core.Path.{refl, sym, ◌∙◌}
 use Rattle.journal.proofs.Zeros.{zero-stops, zero_more, zero-ends}
-use borrow.Author.Rules.{rules}
 use Rattle.journal.proofs.form.zero_from.Goals as goal
 
 pub loop-i-init : goal.loop-i-init

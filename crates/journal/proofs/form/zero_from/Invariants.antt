@@ -1,10 +1,7 @@
 use Prim.Native.Nat.{◌-◌}
-use mathlib.Core.Path.{◌≡◌, refl, sym, ◌∙◌}
+use mathlib.Core.Path.{◌≡◌}
 use lib.ListN.{length, drop}
-use borrow.Author.Rules.{rules}
 use Rattle.calls.specs.Journal.{all_zero}
-use Rattle.journal.proofs.Zeros.{zero-stops, zero_more, zero-ends}
-use borrow.Author.Rules.{rules}
 use Rattle.journal.proofs.form.zero_from.Given as goal
 
 abbrev pub invariant-loop-i : goal.invariant-loop-i

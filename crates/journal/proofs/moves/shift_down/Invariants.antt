@@ -1,10 +1,8 @@
 use Prim.Native.Nat.{◌-◌, ◌≤◌}
-use native.Mathlib.Omega.{arith}
-use mathlib.Core.Path.{◌≡◌, refl, ◌∙◌}
-use lib.ListN.{length, length-set}
-use lib.Seq.{paste, paste-zero}
-use borrow.Author.Rules.{rules}
-use Rattle.journal.proofs.Pastes.{run, down-more, down_done}
+use mathlib.Core.Path.{◌≡◌}
+use lib.ListN.{length}
+use lib.Seq.{paste}
+use Rattle.journal.proofs.Pastes.{run}
 use Rattle.journal.proofs.moves.shift_down.Given as goal
 
 abbrev pub invariant-loop-i : goal.invariant-loop-i

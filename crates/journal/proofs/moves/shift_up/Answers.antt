@@ -1,10 +1,8 @@
-use Prim.Native.Nat.{◌+◌, ◌-◌, ◌≤◌}
 use native.Mathlib.Omega.{arith}
-use mathlib.Core.Path.{◌≡◌, refl, ◌∙◌}
-use lib.ListN.{length, drop, length-set}
+use mathlib.Core.Path.{refl, ◌∙◌}
+use lib.ListN.{length-set}
 use borrow.Author.Rules.{rules}
-use Rattle.octets.specs.Runs.{pasted}
-use Rattle.journal.proofs.Pastes.{run, up_start, up_more, up_done}
+use Rattle.journal.proofs.Pastes.{up_start, up_more, up_done}
 use Rattle.journal.proofs.moves.shift_up.Goals as goal
 
 pub loop-i-init : goal.loop-i-init

@@ -1,10 +1,8 @@
-use Prim.Native.Nat.{◌+◌, ◌-◌, ◌≤◌}
-use native.Mathlib.Omega.{arith}
-use mathlib.Core.Path.{◌≡◌, refl, ◌∙◌}
-use lib.ListN.{length, drop, length-set}
-use borrow.Author.Rules.{rules}
+use Prim.Native.Nat.{◌+◌, ◌≤◌}
+use mathlib.Core.Path.{◌≡◌}
+use lib.ListN.{length, drop}
 use Rattle.octets.specs.Runs.{pasted}
-use Rattle.journal.proofs.Pastes.{run, up_start, up_more, up_done}
+use Rattle.journal.proofs.Pastes.{run}
 use Rattle.journal.proofs.moves.shift_up.Given as goal
 
 abbrev pub invariant-loop-i : goal.invariant-loop-i

@@ -1,12 +1,10 @@
 use Prim.Native.Nat.{◌+◌}
 use mathlib.Core.Path.{ap, ◌∙◌}
-use borrow.Author.Rules.{rules}
 use Rattle.octets.specs.Numbers.{put16, put32}
 use Rattle.octets.specs.Runs.{pasted}
 use Rattle.calls.specs.Journal.{entry_bytes, entry_tag}
 use Rattle.calls.specs.Fields.{field_head}
 use Rattle.journal.proofs.Writes.{put-entry}
-use borrow.Author.Rules.{rules}
 use Rattle.journal.proofs.writing.add_entry.Goals as goal
 
 pub returns : goal.returns

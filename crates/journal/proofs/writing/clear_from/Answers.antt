@@ -1,6 +1,4 @@
-use borrow.Author.Rules.{rules}
 use Rattle.journal.proofs.Writes.{cleared_from}
-use borrow.Author.Rules.{rules}
 use Rattle.journal.proofs.writing.clear_from.Goals as goal
 
 pub returns : goal.returns

@@ -1,9 +1,7 @@
 use mathlib.Core.Path.{sym, ap}
 use lib.ListN.{length}
 use lib.Dec.{leb}
-use borrow.Author.Rules.{rules}
 use Rattle.journal.proofs.Turns.{open_length}
-use borrow.Author.Rules.{rules}
 use Rattle.journal.proofs.writing.fits_open.Goals as goal
 
 pub returns : goal.returns

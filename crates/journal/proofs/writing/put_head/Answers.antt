@@ -1,9 +1,7 @@
 use native.Mathlib.Omega.{arith}
 use mathlib.Core.Path.{◌∙◌}
 use lib.ListN.{length-set}
-use borrow.Author.Rules.{rules}
 use Rattle.journal.proofs.Writes.{put-head}
-use borrow.Author.Rules.{rules}
 use Rattle.journal.proofs.writing.put_head.Goals as goal
 
 pub write16-requires : goal.write16-requires

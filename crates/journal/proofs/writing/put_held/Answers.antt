@@ -1,11 +1,9 @@
 use native.Mathlib.Omega.{arith}
 use mathlib.Core.Path.{ap, ◌∙◌}
-use borrow.Author.Rules.{rules}
 use Rattle.octets.specs.Runs.{pasted}
 use Rattle.calls.specs.Journal.{held_tag}
 use Rattle.calls.specs.Fields.{field_head}
 use Rattle.journal.proofs.Writes.{put-body}
-use borrow.Author.Rules.{rules}
 use Rattle.journal.proofs.writing.put_held.Goals as goal
 
 pub returns : goal.returns

@@ -1,12 +1,10 @@
 use Prim.Native.Nat.{◌-◌}
 use native.Mathlib.Omega.{arith}
 use mathlib.Core.Path.{ap, ◌∙◌}
-use borrow.Author.Rules.{rules}
 use Rattle.octets.specs.Runs.{pasted}
 use Rattle.journal.proofs.Pastes.{run, length_run}
 use Rattle.calls.specs.Journal.{field, held_tag}
 use Rattle.journal.proofs.Writes.{put-before}
-use borrow.Author.Rules.{rules}
 use Rattle.journal.proofs.writing.set_held.Goals as goal
 
 pub returns : goal.returns

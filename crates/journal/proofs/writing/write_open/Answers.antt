@@ -1,7 +1,5 @@
 use native.Mathlib.Omega.{arith}
-use borrow.Author.Rules.{rules}
 use Rattle.journal.proofs.Turns.{is_value_lem, open_length, open_written}
-use borrow.Author.Rules.{rules}
 use Rattle.journal.proofs.writing.write_open.Goals as goal
 
 pub put_held-requires : goal.put_held-requires

@@ -2,7 +2,6 @@ use mathlib.Core.Path.{sym, ap}
 use Rattle.calltext.proofs.Writing.{wrote_as}
 use Rattle.messages.specs.Meanings.{call_meaning}
 use Rattle.messages.proofs.Short.{call-last}
-use borrow.Author.Rules.{rules}
 use Rattle.messages.proofs.meanings.put_call.Goals as goal
 
 pub returns-then-n-eq9 : goal.returns-then-n-eq9

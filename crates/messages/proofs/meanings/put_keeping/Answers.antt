@@ -2,7 +2,6 @@ use mathlib.Core.Path.{sym, ap}
 use Rattle.calltext.proofs.Writing.{wrote_as}
 use Rattle.messages.specs.Meanings.{keeping_meaning}
 use Rattle.messages.proofs.Short.{keeping_last}
-use borrow.Author.Rules.{rules}
 use Rattle.messages.proofs.meanings.put_keeping.Goals as goal
 
 pub returns-then-n-eq17 : goal.returns-then-n-eq17

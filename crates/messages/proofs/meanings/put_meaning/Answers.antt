@@ -1,7 +1,6 @@
 use native.Mathlib.Omega.{arith}
 use Rattle.calltext.proofs.Writing.{wrote_as}
 use Rattle.messages.proofs.Short.{in_reading, in_typing, in_call, in_run, in_keeping}
-use borrow.Author.Rules.{rules}
 use Rattle.messages.proofs.meanings.put_meaning.Goals as goal
 
 pub returns-then-n-lt6 : goal.returns-then-n-lt6

@@ -2,7 +2,6 @@ use mathlib.Core.Path.{sym, ap}
 use Rattle.calltext.proofs.Writing.{wrote_as}
 use Rattle.messages.specs.Meanings.{run_meaning}
 use Rattle.messages.proofs.Short.{run-last}
-use borrow.Author.Rules.{rules}
 use Rattle.messages.proofs.meanings.put_run.Goals as goal
 
 pub returns-then-n-eq12 : goal.returns-then-n-eq12

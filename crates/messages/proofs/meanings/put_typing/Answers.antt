@@ -2,7 +2,6 @@ use mathlib.Core.Path.{sym, ap}
 use Rattle.calltext.proofs.Writing.{wrote_as}
 use Rattle.messages.specs.Meanings.{typing_meaning}
 use Rattle.messages.proofs.Short.{typing_last}
-use borrow.Author.Rules.{rules}
 use Rattle.messages.proofs.meanings.put_typing.Goals as goal
 
 pub returns-then-n-eq6 : goal.returns-then-n-eq6

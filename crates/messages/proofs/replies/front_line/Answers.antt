@@ -4,7 +4,6 @@ use lib.ListN.{take, length-take}
 use lib.Seq.{length-take-le}
 use Rattle.calltext.specs.Answers.{numbered_line}
 use Rattle.calltext.proofs.Writing.{wrote_as}
-use borrow.Author.Rules.{rules}
 use Rattle.messages.proofs.replies.front_line.Goals as goal
 
 pub slice_bounds-numbered_line-end : goal.slice_bounds-numbered_line-end

@@ -2,7 +2,6 @@ use mathlib.Core.Path.{sym, ap}
 use Rattle.answers.specs.Answers.{run_answer}
 use Rattle.calltext.proofs.Writing.{wrote_as}
 use Rattle.messages.specs.Replies.{held_text}
-use borrow.Author.Rules.{rules}
 use Rattle.messages.proofs.replies.held_line.Goals as goal
 
 pub returns-in-Ran : goal.returns-in-Ran

@@ -3,7 +3,6 @@ use mathlib.Core.Path.{sym, ap}
 use Rattle.answers.specs.Answers.{nurse_answer}
 use Rattle.calltext.proofs.Writing.{wrote_as}
 use Rattle.messages.specs.Replies.{nurse_text, seen_length}
-use borrow.Author.Rules.{rules}
 use Rattle.messages.proofs.replies.nurse_line.Goals as goal
 
 pub front_line-requires-clause-len_in_bounds : goal.front_line-requires-clause-len_in_bounds

@@ -2,7 +2,6 @@ use mathlib.Core.Path.{sym, ap}
 use Rattle.answers.specs.Answers.{check_answer}
 use Rattle.calltext.proofs.Writing.{wrote_as}
 use Rattle.messages.specs.Replies.{opened_text}
-use borrow.Author.Rules.{rules}
 use Rattle.messages.proofs.replies.opened_line.Goals as goal
 
 pub returns-in-Accepted : goal.returns-in-Accepted

@@ -3,7 +3,6 @@ use mathlib.Core.Path.{ap₂}
 use Rattle.calltext.specs.Text.{text}
 use Rattle.calltext.specs.Answers.{two_numbers}
 use Rattle.calltext.proofs.Writing.{wrote_as}
-use borrow.Author.Rules.{rules}
 use Rattle.messages.proofs.replies.put_refusal.Goals as goal
 
 pub returns-clause-tells : goal.returns-clause-tells

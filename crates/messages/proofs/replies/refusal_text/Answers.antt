@@ -4,7 +4,6 @@ use Rattle.calltext.proofs.Writing.{wrote_as, wrote-both}
 use Rattle.messages.specs.Meanings.{meaning_of}
 use Rattle.messages.specs.Replies.{refusal_text}
 use Rattle.messages.proofs.Short.{meaning-short}
-use borrow.Author.Rules.{rules}
 use Rattle.messages.proofs.replies.refusal_text.Goals as goal
 
 pub put-requires : goal.put-requires

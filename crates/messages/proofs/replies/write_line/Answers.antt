@@ -1,11 +1,9 @@
 use native.Mathlib.Omega.{arith}
 use mathlib.Core.Path.{sym, ap}
 use lib.ListN.{length-take}
-use lib.Seq.{length-take-le}
 use Rattle.answers.specs.Answers.{write_answer}
 use Rattle.calltext.proofs.Writing.{wrote_as}
-use Rattle.messages.specs.Replies.{write_text, written_length}
-use borrow.Author.Rules.{rules}
+use Rattle.messages.specs.Replies.{write_text}
 use Rattle.messages.proofs.replies.write_line.Goals as goal
 
 pub word_line-requires : goal.word_line-requires

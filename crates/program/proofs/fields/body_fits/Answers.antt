@@ -1,5 +1,4 @@
 use mathlib.Core.Path.{ap₂, ◌∙◌}
-use borrow.Author.Rules.{rules}
 use Rattle.calls.specs.Fields.{type_length, term_length, function_length}
 use Rattle.program.proofs.Formed.{fits-type, fits-term, fits-function, fits_nothing}
 use Rattle.program.proofs.fields.body_fits.Goals as goal

@@ -1,4 +1,3 @@
-use borrow.Author.Rules.{rules}
 use Rattle.calls.specs.Fields.{function_length}
 use Rattle.program.proofs.fields.function_length.Goals as goal
 

@@ -1,4 +1,3 @@
-use borrow.Author.Rules.{rules}
 use Rattle.calls.specs.Fields.{kind_at}
 use Rattle.program.proofs.fields.kind_at.Goals as goal
 

@@ -1,12 +1,10 @@
-use Prim.Native.Nat.{◌-◌}
 use native.Mathlib.Omega.{arith}
-use mathlib.Core.Path.{◌≡◌, refl, ◌∙◌}
-use lib.ListN.{length, take}
+use mathlib.Core.Path.{refl, ◌∙◌}
 use Rattle.rules.specs.Limits.{max_program_bytes}
 use Rattle.program.proofs.Found.{none_formed, whole_formed, whole_tag, whole_next}
 use Rattle.program.proofs.Placing.{buffers-kept}
-use Rattle.program.proofs.Reading.{next-after, next-inside, Reading, layout-over, reading_starts, reading_ends, reading_malformed, reading_over, reading_placeable, reading_more}
-use Rattle.program.proofs.Signing.{Signing, signing-starts, signing-ends, signable, signing-more}
+use Rattle.program.proofs.Reading.{next-after, next-inside, layout-over, reading_starts, reading_ends, reading_malformed, reading_over, reading_placeable, reading_more}
+use Rattle.program.proofs.Signing.{signing-starts, signing-ends, signable, signing-more}
 use Rattle.program.proofs.fields.layout.Goals as goal
 
 pub returns-then-p-gt-MAX_PROGRAM_BYTES-clause-fields : goal.returns-then-p-gt-MAX_PROGRAM_BYTES-clause-fields

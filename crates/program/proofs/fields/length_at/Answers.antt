@@ -1,4 +1,3 @@
-use borrow.Author.Rules.{rules}
 use Rattle.calls.specs.Fields.{length_at}
 use Rattle.program.proofs.fields.length_at.Goals as goal
 

@@ -1,4 +1,3 @@
-use borrow.Author.Rules.{rules}
 use Rattle.calls.specs.Fields.{next_at}
 use Rattle.program.proofs.fields.next_at.Goals as goal
 

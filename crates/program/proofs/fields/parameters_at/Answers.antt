@@ -1,4 +1,3 @@
-use borrow.Author.Rules.{rules}
 use Rattle.calls.specs.Fields.{parameters_at}
 use Rattle.program.proofs.fields.parameters_at.Goals as goal
 

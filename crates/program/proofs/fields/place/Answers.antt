@@ -1,6 +1,5 @@
 use native.Mathlib.Omega.{arith}
 use mathlib.Core.Path.{◌∙◌, sym, ap}
-use borrow.Author.Rules.{rules}
 use Rattle.rules.specs.Limits.{max_program_bytes}
 use Rattle.program.specs.Places.{parameters_within}
 use Rattle.program.proofs.Formed.{denied, not_denied}

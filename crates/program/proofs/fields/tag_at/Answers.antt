@@ -1,4 +1,3 @@
-use borrow.Author.Rules.{rules}
 use Rattle.calls.specs.Fields.{tag_at}
 use Rattle.program.proofs.fields.tag_at.Goals as goal
 

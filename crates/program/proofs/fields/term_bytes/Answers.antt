@@ -1,5 +1,4 @@
 use native.Mathlib.Omega.{arith}
-use borrow.Author.Rules.{rules}
 use Rattle.calls.specs.Fields.{term_lengths}
 use Rattle.program.proofs.Formed.{term-beyond}
 use Rattle.program.proofs.fields.term_bytes.Goals as goal

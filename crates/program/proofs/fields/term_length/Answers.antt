@@ -1,6 +1,5 @@
 use native.Mathlib.Omega.{arith}
 use mathlib.Core.Path.{◌∙◌}
-use borrow.Author.Rules.{rules}
 use Rattle.program.proofs.Formed.{term-empty, term-call, term_by_kind}
 use Rattle.program.proofs.fields.term_length.Goals as goal
 

@@ -1,5 +1,4 @@
 use native.Mathlib.Omega.{arith}
-use borrow.Author.Rules.{rules}
 use Rattle.calls.specs.Fields.{type_lengths}
 use Rattle.program.proofs.Formed.{type-beyond}
 use Rattle.program.proofs.fields.type_bytes.Goals as goal

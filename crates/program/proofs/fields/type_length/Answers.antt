@@ -1,5 +1,4 @@
 use native.Mathlib.Omega.{arith}
-use borrow.Author.Rules.{rules}
 use Rattle.program.proofs.Formed.{type-empty, type_by_kind}
 use Rattle.program.proofs.fields.type_length.Goals as goal
 

@@ -1,6 +1,5 @@
 use native.Mathlib.Omega.{arith}
 use mathlib.Core.Path.{◌∙◌}
-use borrow.Author.Rules.{rules}
 use Rattle.program.proofs.Formed.{formed-short, formed-low, formed-long, formed-body}
 use Rattle.program.proofs.fields.well_formed.Goals as goal
 

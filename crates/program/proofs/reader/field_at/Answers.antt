@@ -1,5 +1,4 @@
 use mathlib.Core.Path.{sym, ◌∙◌}
-use borrow.Author.Rules.{rules}
 use Rattle.program.proofs.Found.{found_none, found_whole}
 use Rattle.program.proofs.Reading.{field-inside}
 use Rattle.program.proofs.reader.field_at.Goals as goal

@@ -1,9 +1,8 @@
-use Prim.Native.Nat.{◌≤◌, ◌-◌}
 use native.Mathlib.Omega.{arith}
 use mathlib.Core.Path.{◌≡◌, ◌∙◌}
 use Rattle.rules.specs.Limits.{max_parameters}
 use Rattle.program.proofs.Rooms.{function-room}
-use Rattle.program.proofs.Rows.{Filled, none_filled, one-filled, all-filled}
+use Rattle.program.proofs.Rows.{none_filled, one-filled, all-filled}
 use Rattle.program.proofs.signatures.signature.Goals as goal
 
 pub function_parameters-n-requires : goal.function_parameters-n-requires

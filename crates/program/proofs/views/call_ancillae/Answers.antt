@@ -3,7 +3,6 @@ use native.Mathlib.Omega.{arith}
 use mathlib.Core.Path.{◌∙◌, ap}
 use package.Rattle.calls.specs.Fields.{length_at}
 use package.Rattle.calls.specs.Entries.{call_ancillae}
-use borrow.Author.Rules.{rules}
 use Rattle.program.proofs.views.call_ancillae.Goals as goal
 
 pub overflow_sub-result : goal.overflow_sub-result

@@ -1,4 +1,3 @@
-use borrow.Author.Rules.{rules}
 use Rattle.program.proofs.views.function_body.Goals as goal
 
 pub returns : goal.returns

@@ -1,7 +1,6 @@
 use mathlib.Core.Path.{◌∙◌}
 use native.Mathlib.Omega.{arith}
 use package.Rattle.calls.specs.Fields.{parameters_at}
-use borrow.Author.Rules.{rules}
 use Rattle.program.proofs.views.function_parameters.Goals as goal
 
 pub returns : goal.returns

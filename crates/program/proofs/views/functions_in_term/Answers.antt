@@ -1,7 +1,6 @@
 use mathlib.Core.Path.{ap, ◌∙◌}
 use lib.ListN.{get_or}
 use Rattle.program.specs.Lists.{term_functions}
-use borrow.Author.Rules.{rules}
 use Rattle.program.proofs.views.functions_in_term.Goals as goal
 
 pub returns : goal.returns

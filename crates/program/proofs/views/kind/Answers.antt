@@ -1,6 +1,5 @@
 use mathlib.Core.Path.{refl}
 use package.Rattle.calls.specs.Fields.{kind_at}
-use borrow.Author.Rules.{rules}
 use Rattle.program.proofs.views.kind.Goals as goal
 
 pub returns : goal.returns

@@ -1,7 +1,6 @@
 use native.Mathlib.Omega.{arith}
 use mathlib.Core.Path.{◌∙◌}
 use Rattle.program.proofs.Rooms.{term-kind, term-kind-room}
-use borrow.Author.Rules.{rules}
 use Rattle.program.proofs.views.term_kind.Goals as goal
 
 pub kind-requires : goal.kind-requires

@@ -4,7 +4,6 @@ use Prim.Native.Nat.{◌+◌, ◌*◌}
 use Rattle.program.specs.Lists.{terms_from}
 use Rattle.program.proofs.Rooms.{term-kind-room}
 use Rattle.program.proofs.Lists.{terms_in-term}
-use borrow.Author.Rules.{rules}
 use Rattle.program.proofs.views.terms_from.Goals as goal
 
 pub overflow_add-result : goal.overflow_add-result

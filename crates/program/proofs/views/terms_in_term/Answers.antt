@@ -5,7 +5,6 @@ use Prim.Native.Nat.{◌+◌}
 use Rattle.program.specs.Lists.{term_terms}
 use Rattle.program.proofs.Rooms.{term-kind-room, call-sized, call-room}
 use Rattle.program.proofs.Lists.{terms_in-call, terms_by_kind}
-use borrow.Author.Rules.{rules}
 use Rattle.program.proofs.views.terms_in_term.Goals as goal
 
 pub call_ancillae-requires : goal.call_ancillae-requires

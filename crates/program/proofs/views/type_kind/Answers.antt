@@ -1,7 +1,6 @@
 use native.Mathlib.Omega.{arith}
 use mathlib.Core.Path.{◌∙◌}
 use Rattle.program.proofs.Rooms.{type-kind, type-kind-room}
-use borrow.Author.Rules.{rules}
 use Rattle.program.proofs.views.type_kind.Goals as goal
 
 pub kind-requires : goal.kind-requires

@@ -1,7 +1,6 @@
 use mathlib.Core.Path.{ap}
 use lib.ListN.{get_or}
 use Rattle.program.specs.Lists.{type_types}
-use borrow.Author.Rules.{rules}
 use Rattle.program.proofs.views.types_in_type.Goals as goal
 
 pub returns : goal.returns

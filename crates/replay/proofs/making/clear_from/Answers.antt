@@ -1,5 +1,4 @@
 use Rattle.journal.proofs.Writes.{cleared_from}
-use borrow.Author.Rules.{rules}
 use Rattle.replay.proofs.making.clear_from.Goals as goal
 
 pub returns : goal.returns

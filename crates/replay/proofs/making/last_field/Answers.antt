@@ -1,6 +1,5 @@
 use mathlib.Core.Path.{sym, ◌∙◌}
 use Rattle.replay.proofs.Fronts.{last_missing, last-there}
-use borrow.Author.Rules.{rules}
 use Rattle.replay.proofs.making.last_field.Goals as goal
 
 pub returns-in-Malformed : goal.returns-in-Malformed

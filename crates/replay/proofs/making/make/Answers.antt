@@ -1,6 +1,5 @@
 use borrow.Author.Tests.{eq-eqb, ne_eqb}
 use Rattle.replay.specs.Scripts.{call_of}
-use borrow.Author.Rules.{rules}
 use Rattle.replay.proofs.making.make.Goals as goal
 
 pub returns-then-kind-eq-OPEN : goal.returns-then-kind-eq-OPEN

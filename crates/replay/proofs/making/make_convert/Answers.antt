@@ -1,7 +1,6 @@
 use mathlib.Core.Path.{sym}
 use lib.Seq.{length-take-le}
 use Rattle.replay.proofs.Fronts.{convert_made}
-use borrow.Author.Rules.{rules}
 use Rattle.replay.proofs.making.make_convert.Goals as goal
 
 pub slice_bounds-convert-end-2 : goal.slice_bounds-convert-end-2

@@ -3,7 +3,6 @@ use Rattle.replay.proofs.Beginnings.{front-ahead, opened-begins}
 use borrow.Author.Tests.{eq-eqb, ne_eqb}
 use lib.Seq.{length-take-le}
 use Rattle.replay.specs.Inner.Steps.{begins}
-use borrow.Author.Rules.{rules}
 use Rattle.replay.proofs.playing.begin.Goals as goal
 
 pub returns-then-kind-ne-OPEN : goal.returns-then-kind-ne-OPEN

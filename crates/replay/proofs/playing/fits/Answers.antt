@@ -2,7 +2,6 @@ use borrow.Author.Tests.{lt-ltb, le-ltb}
 use native.Mathlib.Omega.{arith}
 use Prim.Native.Nat.{◌+◌, ◌*◌, ◌<◌, ◌≤◌}
 use Rattle.replay.specs.Inner.Steps.{room_for}
-use borrow.Author.Rules.{rules}
 use Rattle.replay.proofs.playing.fits.Goals as goal
 
 pub returns-then-width-n : goal.returns-then-width-n

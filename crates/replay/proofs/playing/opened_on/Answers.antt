@@ -1,7 +1,6 @@
 use Rattle.replay.proofs.Beginnings.{follow_refused, follow_accepted}
 use Rattle.replay.proofs.Parsed.{ahead_as}
 use native.Mathlib.Omega.{arith}
-use borrow.Author.Rules.{rules}
 use Rattle.replay.proofs.playing.opened_on.Goals as goal
 
 pub copy-requires : goal.copy-requires

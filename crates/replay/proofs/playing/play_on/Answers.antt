@@ -1,9 +1,6 @@
 use mathlib.Core.Path.{◌∙◌}
-use Rattle.replay.proofs.Turns.{Going, going-starts, going-stops, going-ends, going-further, going-ahead, going-goes}
+use Rattle.replay.proofs.Turns.{going-starts, going-stops, going-ends, going-further, going-ahead, going-goes}
 use native.Mathlib.Omega.{arith}
-use Prim.Native.Nat.{◌-◌}
-use lib.ListN.{length}
-use borrow.Author.Rules.{rules}
 use Rattle.replay.proofs.playing.play_on.Goals as goal
 
 pub loop-at-init : goal.loop-at-init

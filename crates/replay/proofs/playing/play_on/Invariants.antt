@@ -1,9 +1,6 @@
-use mathlib.Core.Path.{◌∙◌}
-use Rattle.replay.proofs.Turns.{Going, going-starts, going-stops, going-ends, going-further, going-ahead, going-goes}
-use native.Mathlib.Omega.{arith}
+use Rattle.replay.proofs.Turns.{Going}
 use Prim.Native.Nat.{◌-◌}
 use lib.ListN.{length}
-use borrow.Author.Rules.{rules}
 use Rattle.replay.proofs.playing.play_on.Given as goal
 
 abbrev pub invariant-loop-at : goal.invariant-loop-at

@@ -1,10 +1,7 @@
 use mathlib.Core.Path.{sym, ap, ◌∙◌}
 use Rattle.replay.specs.Inner.Steps.{next_of}
-use Rattle.replay.proofs.Scans.{Reading, reading_starts, reading_ends, reading_over, reading_breaks, reading_stops, reading_further, reading_inside, reading_goes}
+use Rattle.replay.proofs.Scans.{reading_starts, reading_ends, reading_over, reading_breaks, reading_stops, reading_further, reading_inside, reading_goes}
 use native.Mathlib.Omega.{arith}
-use Prim.Native.Nat.{◌-◌}
-use lib.ListN.{length}
-use borrow.Author.Rules.{rules}
 use Rattle.replay.proofs.playing.read_all.Goals as goal
 
 pub loop-at-init : goal.loop-at-init

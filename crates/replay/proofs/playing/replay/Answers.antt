@@ -4,7 +4,6 @@ use Rattle.replay.proofs.Played.{replay_stops, replay_goes}
 use Rattle.replay.proofs.Demand.{replay_booked}
 use Rattle.replay.specs.Inner.Steps.{stop_of}
 use Rattle.journal.proofs.Ends.{are_bytes}
-use borrow.Author.Rules.{rules}
 use Rattle.replay.proofs.playing.replay.Goals as goal
 
 pub start-requires : goal.start-requires

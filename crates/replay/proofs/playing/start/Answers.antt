@@ -2,7 +2,6 @@ use mathlib.Core.Path.{sym, ◌∙◌}
 use Rattle.replay.proofs.Beginnings.{begins-end, begins-malformed, begins-play}
 use Rattle.replay.proofs.Parts.{within}
 use Rattle.replay.proofs.Parsed.{ahead-narrow, ahead-goes}
-use borrow.Author.Rules.{rules}
 use Rattle.replay.proofs.playing.start.Goals as goal
 
 pub begin-requires-clause-from_le_next : goal.begin-requires-clause-from_le_next

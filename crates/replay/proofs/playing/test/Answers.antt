@@ -1,5 +1,4 @@
 use Rattle.replay.proofs.Turns.{test-cuts, test-goes}
-use borrow.Author.Rules.{rules}
 use Rattle.replay.proofs.playing.test.Goals as goal
 
 pub returns-then-n-end : goal.returns-then-n-end

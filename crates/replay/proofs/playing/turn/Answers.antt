@@ -2,7 +2,6 @@ use mathlib.Core.Path.{sym, ap, ◌∙◌}
 use Rattle.replay.proofs.Turns.{call-stops, call-goes}
 use Rattle.replay.specs.Inner.Steps.{next_of}
 use native.Mathlib.Omega.{arith}
-use borrow.Author.Rules.{rules}
 use Rattle.replay.proofs.playing.turn.Goals as goal
 
 pub make-line-requires-clause-from_le_next : goal.make-line-requires-clause-from_le_next

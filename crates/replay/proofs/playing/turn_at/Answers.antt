@@ -2,7 +2,6 @@ use mathlib.Core.Path.{sym, ◌∙◌}
 use Rattle.replay.proofs.Turns.{turn-ends, turn_breaks, turn-plays}
 use Rattle.replay.proofs.Parts.{within}
 use Rattle.replay.proofs.Parsed.{ahead-narrow, ahead-line}
-use borrow.Author.Rules.{rules}
 use Rattle.replay.proofs.playing.turn_at.Goals as goal
 
 pub step_at-step-requires : goal.step_at-step-requires

@@ -1,7 +1,6 @@
 use borrow.Author.Tests.{lt-ltb, le-ltb}
 use mathlib.Core.Path.{◌∙◌}
 use Rattle.replay.specs.Scripts.{given_at}
-use borrow.Author.Rules.{rules}
 use Rattle.replay.proofs.scripts.given_at.Goals as goal
 
 pub returns-then-script-from : goal.returns-then-script-from

@@ -1,7 +1,6 @@
 use borrow.Author.Tests.{lt-ltb, le-ltb}
 use mathlib.Core.Path.{◌∙◌}
 use Rattle.replay.specs.Scripts.{open_at}
-use borrow.Author.Rules.{rules}
 use Rattle.replay.proofs.scripts.open_at.Goals as goal
 
 pub returns-then-script-at-lt-OPEN_BYTES : goal.returns-then-script-at-lt-OPEN_BYTES

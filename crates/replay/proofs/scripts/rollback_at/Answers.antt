@@ -1,6 +1,5 @@
 use borrow.Author.Tests.{lt-ltb, le-ltb}
 use Rattle.replay.specs.Scripts.{rollback_at}
-use borrow.Author.Rules.{rules}
 use Rattle.replay.proofs.scripts.rollback_at.Goals as goal
 
 pub returns-then-script-at-lt-ROLLBACK_BYTES : goal.returns-then-script-at-lt-ROLLBACK_BYTES

@@ -1,7 +1,6 @@
 use borrow.Author.Tests.{eq-eqb, ne_eqb}
 use mathlib.Core.Path.{◌∙◌}
 use Rattle.replay.specs.Scripts.{step_at}
-use borrow.Author.Rules.{rules}
 use Rattle.replay.proofs.scripts.step_at.Goals as goal
 
 pub returns-then-script-at-eq0 : goal.returns-then-script-at-eq0

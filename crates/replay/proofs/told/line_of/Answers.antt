@@ -1,7 +1,6 @@
 use mathlib.Core.Path.{refl}
 use Rattle.octets.specs.Numbers.{bytes16, bytes32}
 use Rattle.replay.specs.Lines.{line_of}
-use borrow.Author.Rules.{rules}
 use Rattle.replay.proofs.told.line_of.Goals as goal
 
 pub returns : goal.returns

@@ -3,7 +3,6 @@ use Rattle.answers.specs.Answers.{check_answer}
 use Rattle.replay.specs.Lines.{line}
 use Rattle.replay.specs.Inner.Told.{check_line}
 use Rattle.replay.proofs.Lines.{refused-line}
-use borrow.Author.Rules.{rules}
 use Rattle.replay.proofs.told.open_line.Goals as goal
 
 pub returns-in-Accepted : goal.returns-in-Accepted

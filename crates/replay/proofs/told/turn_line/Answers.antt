@@ -3,7 +3,6 @@ use Rattle.answers.specs.Answers.{run_answer}
 use Rattle.replay.specs.Lines.{line}
 use Rattle.replay.specs.Inner.Told.{run_line}
 use Rattle.replay.proofs.Lines.{refused-line}
-use borrow.Author.Rules.{rules}
 use Rattle.replay.proofs.told.turn_line.Goals as goal
 
 pub returns-in-Ran : goal.returns-in-Ran

@@ -2,7 +2,6 @@ use mathlib.Core.Path.{refl}
 use native.Mathlib.Omega.{arith}
 use Rattle.rules.specs.Limits.{max_parameters}
 use Rattle.requests.proofs.Checks.{check-ready, check-refused}
-use borrow.Author.Rules.{rules}
 use Rattle.requests.proofs.checking.check_program.Goals as goal
 
 pub load-loaded-requires-clause-buffers : goal.load-loaded-requires-clause-buffers

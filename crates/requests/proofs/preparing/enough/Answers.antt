@@ -2,7 +2,6 @@ use mathlib.Core.Path.{ap}
 use lib.Dec.{leb}
 use Rattle.rules.specs.Limits.{workspace_base, workspace_per_fuel}
 use Rattle.calls.specs.Runs.{workspace_for}
-use borrow.Author.Rules.{rules}
 use Rattle.requests.proofs.preparing.enough.Goals as goal
 
 pub returns : goal.returns

@@ -1,5 +1,4 @@
 use Rattle.requests.proofs.Rows.{askable, allowed, not_called, ran_as}
-use borrow.Author.Rules.{rules}
 use Rattle.requests.proofs.running.run.Goals as goal
 
 pub admit-admitted-requires : goal.admit-admitted-requires

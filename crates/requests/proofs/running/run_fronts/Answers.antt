@@ -1,7 +1,6 @@
 use mathlib.Core.Path.{sym}
 use lib.Seq.{length-take-le}
 use Rattle.requests.proofs.Rows.{types-inside, terms-inside, functions-inside}
-use borrow.Author.Rules.{rules}
 use Rattle.requests.proofs.running.run_fronts.Goals as goal
 
 pub slice_bounds-run-end : goal.slice_bounds-run-end

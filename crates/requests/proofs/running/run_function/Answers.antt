@@ -1,5 +1,4 @@
 use Rattle.requests.proofs.Rows.{allowed-back, allowed-ahead, ends-back, ends-ahead}
-use borrow.Author.Rules.{rules}
 use Rattle.requests.proofs.running.run_function.Goals as goal
 
 pub run-requires : goal.run-requires

@@ -3,7 +3,6 @@ use native.Mathlib.Omega.{arith}
 use Rattle.rules.specs.Limits.{max_parameters}
 use Rattle.requests.proofs.Beginning.{enough-types}
 use Rattle.requests.proofs.Rows.{fronts, loaded-run, loaded-refused, kept-enough}
-use borrow.Author.Rules.{rules}
 use Rattle.requests.proofs.running.run_program.Goals as goal
 
 pub load-loaded-requires-clause-buffers : goal.load-loaded-requires-clause-buffers

@@ -1,4 +1,3 @@
-use borrow.Author.Rules.{rules}
 use mathlib.Core.Path.{sym, ◌∙◌}
 use Rattle.runs.proofs.Forward.{gives, shaped, goes-value, goes-refused}
 use Rattle.runs.proofs.ahead.run.Goals as goal

@@ -3,7 +3,6 @@ use mathlib.Core.Path.{sym, ap, ◌∙◌}
 use Rattle.backward.specs.Outcomes.{Refused}
 use Rattle.backward.proofs.Stops.{is_done, is_stopped}
 use Rattle.runs.proofs.Backward.{gives, shaped, returns_value, returns_refused}
-use borrow.Author.Rules.{rules}
 use Rattle.runs.proofs.back.run.Goals as goal
 
 pub give-requires : goal.give-requires

@@ -1,7 +1,5 @@
-use native.Mathlib.Omega.{arith}
 use mathlib.Core.Path.{refl, ◌∙◌}
 use lib.Dec.{lit≤}
-use borrow.Author.Rules.{rules}
 use Rattle.rules.specs.Limits.{max_height, max_parameters}
 use Rattle.runs.proofs.Starts.{decode_asks, beginning}
 use Rattle.runs.proofs.Backward.{value-slot, undo_ready, undo_told}

@@ -1,5 +1,4 @@
 use mathlib.Core.Path.{◌∙◌}
-use borrow.Author.Rules.{rules}
 use Rattle.runs.proofs.Loads.{begun-ready, begun}
 use Rattle.runs.proofs.begin.begin.Goals as goal
 

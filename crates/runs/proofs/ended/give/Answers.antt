@@ -1,7 +1,6 @@
 use mathlib.Core.Path.{ap}
 use Prim.Native.Nat.{◌-◌}
 use Rattle.runs.proofs.Ends.{node-room, give-short, store_ready, give_done}
-use borrow.Author.Rules.{rules}
 use Rattle.runs.proofs.ended.give.Goals as goal
 
 pub length_of-len-requires : goal.length_of-len-requires

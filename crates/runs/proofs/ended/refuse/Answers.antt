@@ -1,7 +1,6 @@
 use mathlib.Core.Path.{subst}
 use Rattle.runs.specs.Ended.{Shaped}
 use Rattle.runs.proofs.Ends.{refused-fuel, refused-height, refused-long, refused_match, refused_input}
-use borrow.Author.Rules.{rules}
 use Rattle.runs.proofs.ended.refuse.Goals as goal
 
 pub returns-in-Fuel : goal.returns-in-Fuel

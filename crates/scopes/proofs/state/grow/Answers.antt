@@ -1,6 +1,4 @@
 use native.Mathlib.Omega.{arith}
-use mathlib.Core.Path.{refl, sym, ◌∙◌}
-use borrow.Author.Rules.{rules}
 use Rattle.scopes.proofs.Lent.{top_set}
 use Rattle.scopes.proofs.state.grow.Goals as goal
 

@@ -1,6 +1,4 @@
 use native.Mathlib.Omega.{arith}
-use mathlib.Core.Path.{refl, sym, ◌∙◌}
-use borrow.Author.Rules.{rules}
 use Rattle.scopes.proofs.Lent.{fuel-set}
 use Rattle.scopes.proofs.state.spend.Goals as goal
 

@@ -1,7 +1,5 @@
 use Prim.Native.Nat.{◌+◌, ◌/◌, ◌%◌}
 use native.Mathlib.Omega.{arith}
-use mathlib.Core.Path.{refl, sym, ◌∙◌}
-use borrow.Author.Rules.{rules}
 use Rattle.scopes.proofs.Lent.{scope-packed}
 use Rattle.scopes.proofs.state.wider.Goals as goal
 

@@ -5,7 +5,6 @@ use native.Mathlib.Omega.{arith}
 use borrow.Author.Rules.{rules}
 use Rattle.types.proofs.Outer.{kind-there}
 use Rattle.types.proofs.Tracing.{still, figures-asked, own-there, kind-small, part-asked, first-there, first_falls, both-there, second_falls}
-use Prim.Native.Nat.{ℕ, ◌<◌}
 use Rattle.types.proofs.aliases.+trace.Goals as goal
 
 pub number_of-i-requires : goal.number_of-i-requires

@@ -1,6 +1,5 @@
 use Rattle.types.proofs.Hinting.{noted-figured}
 use Rattle.types.proofs.Tracing.{still, sources-then}
-use borrow.Author.Rules.{rules}
 use Rattle.types.proofs.aliases.join.Goals as goal
 
 pub offer-requires : goal.offer-requires

@@ -1,6 +1,5 @@
 use mathlib.Core.Path.{refl}
 use Rattle.types.proofs.Tracing.{find_asked, sources-then, codes_known, found_below, number-there, number-own, alias-figured}
-use borrow.Author.Rules.{rules}
 use Rattle.types.proofs.aliases.keep.Goals as goal
 
 pub find-k-requires : goal.find-k-requires

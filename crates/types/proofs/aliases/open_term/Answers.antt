@@ -3,7 +3,6 @@ use mathlib.Core.Path.{sym}
 use Rattle.program.proofs.Rooms.{term-kind-room}
 use Rattle.types.proofs.Outer.{kind-there, mu-there}
 use Rattle.types.proofs.Tracing.{number-there, rolls_room, body-asked}
-use borrow.Author.Rules.{rules}
 use Rattle.types.proofs.aliases.open_term.Goals as goal
 
 pub kind-kind-requires : goal.kind-kind-requires

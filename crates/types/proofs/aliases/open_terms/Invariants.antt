@@ -1,14 +1,10 @@
 use Prim.Native.Nat.{◌-◌, ◌≤◌}
-use native.Mathlib.Omega.{arith}
-use mathlib.Core.Path.{◌≡◌, refl, sym, subst, ◌∙◌}
+use mathlib.Core.Path.{◌≡◌}
 use mathlib.Core.List.{map}
 use lib.ListN.{length}
-use borrow.Author.Rules.{rules}
 use Rattle.rules.specs.Limits.{max_types}
 use Rattle.calls.specs.Entries.{type_at}
-use Rattle.program.specs.Parts.{TermField}
 use Rattle.types.specs.Figures.{Figured}
-use Rattle.types.proofs.Tracing.{still}
 use Rattle.types.proofs.aliases.open_terms.Given as goal
 
 abbrev pub invariant-loop-t : goal.invariant-loop-t

@@ -1,5 +1,4 @@
 use Rattle.types.proofs.Recalling.{first_with, further_with}
-use borrow.Author.Rules.{rules}
 use Rattle.types.proofs.aliases.put.Goals as goal
 
 pub returns-then-stand_of-eq0 : goal.returns-then-stand_of-eq0

@@ -1,5 +1,4 @@
 use Rattle.types.proofs.Trees.{by_form}
-use borrow.Author.Rules.{rules}
 use Rattle.types.proofs.codes.are_entries.Goals as goal
 
 pub returns : goal.returns

@@ -3,10 +3,6 @@ use Rattle.types.proofs.Alike.{one_code, other-numbers, parted, twice-parted, fe
 use Rattle.types.proofs.Alike.{known-second, other_kinds, units, variables, recursives, firsts_differ, seconds}
 use native.Mathlib.Omega.{arith}
 use mathlib.Core.Path.{sym, ◌∙◌}
-use borrow.Author.Rules.{rules}
-use Rattle.rules.specs.Ty.{nodes}
-use Rattle.types.specs.Codes.{tree_in}
-use Prim.Native.Nat.{ℕ, ◌<◌}
 use Rattle.types.proofs.compare.+same_nodes.Goals as goal
 
 pub settled-v-requires-clause-sources : goal.settled-v-requires-clause-sources

@@ -3,7 +3,6 @@ use mathlib.Core.Path.{sym, subst}
 use Rattle.types.specs.Codes.{Known}
 use Rattle.types.proofs.Outer.{entry_known}
 use Rattle.types.proofs.Units.{other-unit, stands_unit, variable-unit}
-use borrow.Author.Rules.{rules}
 use Rattle.types.proofs.compare.is_unit.Goals as goal
 
 pub returns-then-kind-ne-TYPE_VARIABLE : goal.returns-then-kind-ne-TYPE_VARIABLE

@@ -1,6 +1,5 @@
 use Rattle.types.proofs.Trees.{decided}
 use Rattle.types.proofs.Alike.{same_code}
-use borrow.Author.Rules.{rules}
 use Rattle.types.proofs.compare.same.Goals as goal
 
 pub returns-then-identical : goal.returns-then-identical

@@ -1,5 +1,4 @@
 use Rattle.types.proofs.Counts.{stops, goes_on}
-use borrow.Author.Rules.{rules}
 use Rattle.types.proofs.counting.capped.Goals as goal
 
 pub returns-then-n-gt-WIDE_MOST : goal.returns-then-n-gt-WIDE_MOST

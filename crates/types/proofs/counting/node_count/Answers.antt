@@ -1,6 +1,5 @@
 use Rattle.types.proofs.Outer.{product-there, product-form}
 use Rattle.types.proofs.Counts.{unit-counted, entry-held, entry-counted, under-figures, under-own, under-each, under-counted, product-counted}
-use borrow.Author.Rules.{rules}
 use Rattle.types.proofs.counting.node_count.Goals as goal
 
 pub returns-then-form-eq-UNIT : goal.returns-then-form-eq-UNIT

@@ -2,7 +2,6 @@ use Rattle.types.proofs.Counts.{sum_fits, sum_is}
 use native.Mathlib.Omega.{arith}
 use mathlib.Core.Path.{ap, ◌∙◌}
 use lib.ListN.{get_or}
-use borrow.Author.Rules.{rules}
 use Rattle.types.proofs.counting.under_count.Goals as goal
 
 pub overflow_sub-each : goal.overflow_sub-each

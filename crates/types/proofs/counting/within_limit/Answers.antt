@@ -1,5 +1,4 @@
 use Rattle.types.proofs.Counts.{limit-decided}
-use borrow.Author.Rules.{rules}
 use Rattle.types.proofs.counting.within_limit.Goals as goal
 
 pub returns : goal.returns

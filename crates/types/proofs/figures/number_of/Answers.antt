@@ -1,7 +1,6 @@
 use mathlib.Core.Path.{ap, ◌∙◌}
 use Rattle.octets.specs.Numbers.{get16}
 use Rattle.types.specs.Figures.{number_at}
-use borrow.Author.Rules.{rules}
 use Rattle.types.proofs.figures.number_of.Goals as goal
 
 pub returns : goal.returns

@@ -2,7 +2,6 @@ use Prim.Native.Nat.{◌+◌}
 use mathlib.Core.Path.{ap, ◌∙◌}
 use Rattle.octets.specs.Numbers.{get16}
 use Rattle.types.specs.Figures.{outer_at}
-use borrow.Author.Rules.{rules}
 use Rattle.types.proofs.figures.outer_of.Goals as goal
 
 pub returns : goal.returns

@@ -1,5 +1,4 @@
 use Rattle.types.specs.Numbering.{put_figures}
-use borrow.Author.Rules.{rules}
 use Rattle.types.proofs.figures.put.Goals as goal
 
 pub returns : goal.returns

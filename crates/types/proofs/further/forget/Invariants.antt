@@ -1,10 +1,7 @@
 use Prim.Native.Nat.{◌-◌, ◌≤◌}
-use native.Mathlib.Omega.{arith}
-use mathlib.Core.Path.{◌≡◌, refl, ap, ◌∙◌}
-use lib.ListN.{length}
+use mathlib.Core.Path.{◌≡◌}
 use Rattle.types.specs.Layout.{further_slots}
 use Rattle.types.specs.Numbering.{forgotten}
-use Rattle.types.proofs.Recalling.{length-forgotten, forgotten-more}
 use Rattle.types.proofs.further.forget.Given as goal
 
 abbrev pub invariant-loop-s : goal.invariant-loop-s

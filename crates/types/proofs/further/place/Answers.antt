@@ -1,5 +1,4 @@
 use Rattle.types.proofs.Recalling.{slot-place}
-use borrow.Author.Rules.{rules}
 use Rattle.types.proofs.further.place.Goals as goal
 
 pub returns : goal.returns

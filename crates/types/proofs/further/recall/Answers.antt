@@ -1,5 +1,4 @@
 use Rattle.types.proofs.Recalling.{recalled_there, recalled_none}
-use borrow.Author.Rules.{rules}
 use Rattle.types.proofs.further.recall.Goals as goal
 
 pub returns-then-read16-pair : goal.returns-then-read16-pair

@@ -1,5 +1,4 @@
 use Rattle.types.proofs.Hinting.{hint_right, hint_none}
-use borrow.Author.Rules.{rules}
 use Rattle.types.proofs.hints.hinted.Goals as goal
 
 pub is_pair-requires-clause-sources : goal.is_pair-requires-clause-sources

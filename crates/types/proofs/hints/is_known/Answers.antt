@@ -1,9 +1,7 @@
 use native.Mathlib.Omega.{arith}
 use borrow.Author.Tests.{ltb-true}
 use mathlib.Core.Bool.{false≢true}
-use mathlib.Core.Path.{sym, ◌∙◌}
 use Rattle.types.proofs.Hinting.{known-product, known-entry, known_under}
-use borrow.Author.Rules.{rules}
 use Rattle.types.proofs.hints.is_known.Goals as goal
 
 pub returns-then-form-eq-PRODUCT : goal.returns-then-form-eq-PRODUCT

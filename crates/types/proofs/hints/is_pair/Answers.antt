@@ -1,10 +1,8 @@
 use mathlib.Core.Bool.{false≢true}
-use mathlib.Core.Path.{◌≡◌, sym, ◌∙◌}
 use native.Mathlib.Omega.{arith}
 use Rattle.types.proofs.Trees.{decided}
 use Rattle.types.proofs.Alike.{known-first, known-second}
 use Rattle.types.proofs.Hinting.{pair-tree}
-use borrow.Author.Rules.{rules}
 use Rattle.types.proofs.hints.is_pair.Goals as goal
 
 pub kind_of-kind-requires-clause-sources : goal.kind_of-kind-requires-clause-sources

@@ -1,5 +1,4 @@
 use Rattle.types.proofs.Hinting.{noted-put}
-use borrow.Author.Rules.{rules}
 use Rattle.types.proofs.hints.put.Goals as goal
 
 pub returns : goal.returns

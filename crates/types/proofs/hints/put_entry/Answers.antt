@@ -3,7 +3,6 @@ use mathlib.Core.Path.{refl}
 use Rattle.program.proofs.Rooms.{type-kind-room}
 use Rattle.types.proofs.Entries.{pair-room, two-asked}
 use Rattle.types.proofs.Hinting.{noted_none}
-use borrow.Author.Rules.{rules}
 use Rattle.types.proofs.hints.put_entry.Goals as goal
 
 pub kind-kind-requires : goal.kind-kind-requires

@@ -1,6 +1,5 @@
 use Rattle.types.specs.Codes.{code_at}
 use Rattle.types.proofs.Trees.{same_numbers}
-use borrow.Author.Rules.{rules}
 use Rattle.types.proofs.nodes.code_at.Goals as goal
 
 pub returns : goal.returns

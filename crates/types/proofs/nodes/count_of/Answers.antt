@@ -2,7 +2,6 @@ use mathlib.Core.Path.{ap, ◌∙◌}
 use Prim.Native.Nat.{◌+◌, ◌*◌}
 use Rattle.octets.specs.Numbers.{get16}
 use Rattle.types.specs.Codes.{count_at}
-use borrow.Author.Rules.{rules}
 use Rattle.types.proofs.nodes.count_of.Goals as goal
 
 pub returns : goal.returns

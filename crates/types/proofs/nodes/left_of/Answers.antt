@@ -1,7 +1,6 @@
 use mathlib.Core.Path.{ap, ◌∙◌}
 use Prim.Native.Nat.{◌*◌}
 use Rattle.types.specs.Codes.{code_at, left_at}
-use borrow.Author.Rules.{rules}
 use Rattle.types.proofs.nodes.left_of.Goals as goal
 
 pub returns : goal.returns

@@ -1,5 +1,4 @@
 use Rattle.types.specs.Growth.{put_node}
-use borrow.Author.Rules.{rules}
 use Rattle.types.proofs.nodes.put_node.Goals as goal
 
 pub returns : goal.returns

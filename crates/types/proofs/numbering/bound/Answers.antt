@@ -1,5 +1,4 @@
 use Rattle.types.proofs.Entries.{bound_is}
-use borrow.Author.Rules.{rules}
 use Rattle.types.proofs.numbering.bound.Goals as goal
 
 pub returns : goal.returns

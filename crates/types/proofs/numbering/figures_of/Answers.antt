@@ -2,7 +2,6 @@ use native.Mathlib.Omega.{arith}
 use mathlib.Core.Path.{sym, ◌∙◌}
 use Rattle.program.proofs.Rooms.{type-kind-room, mu-room, tyvar-room}
 use Rattle.types.proofs.Entries.{unit_figure, pair-room, two-asked, two_figure, recursive-asked, recursive_figure, variable-kind, bound_figure}
-use borrow.Author.Rules.{rules}
 use Rattle.types.proofs.numbering.figures_of.Goals as goal
 
 pub kind-kind-requires : goal.kind-kind-requires

@@ -2,7 +2,6 @@ use lib.ListN.{get_or}
 use native.Mathlib.Omega.{arith}
 use mathlib.Core.Path.{sym, ◌∙◌}
 use Rattle.types.proofs.Entries.{slot-empty}
-use borrow.Author.Rules.{rules}
 use Rattle.types.proofs.numbering.find.Goals as goal
 
 pub returns-then-newest-eq0 : goal.returns-then-newest-eq0

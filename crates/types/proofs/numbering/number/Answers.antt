@@ -1,6 +1,5 @@
 use mathlib.Core.Path.{◌∙◌}
 use Rattle.types.proofs.Entries.{number_lower, number-own}
-use borrow.Author.Rules.{rules}
 use Rattle.types.proofs.numbering.number.Goals as goal
 
 pub returns-then-lower-i : goal.returns-then-lower-i

@@ -1,7 +1,5 @@
-use Prim.Native.Nat.{◌-◌, ◌≤◌}
 use native.Mathlib.Omega.{arith}
 use mathlib.Core.Path.{◌≡◌, refl, subst, ◌∙◌}
-use lib.ListN.{length}
 use Rattle.types.specs.Numbering.{Numbered}
 use Rattle.types.proofs.Entering.{none_numbered}
 use Rattle.types.proofs.Recalling.{none_further}

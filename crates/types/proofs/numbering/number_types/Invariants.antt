@@ -1,10 +1,7 @@
 use Prim.Native.Nat.{◌-◌, ◌≤◌}
-use native.Mathlib.Omega.{arith}
-use mathlib.Core.Path.{◌≡◌, refl, subst, ◌∙◌}
+use mathlib.Core.Path.{◌≡◌}
 use lib.ListN.{length}
 use Rattle.types.specs.Numbering.{Numbered}
-use Rattle.types.proofs.Entering.{none_numbered}
-use Rattle.types.proofs.Recalling.{none_further}
 use Rattle.types.proofs.numbering.number_types.Given as goal
 
 abbrev pub invariant-loop-i : goal.invariant-loop-i

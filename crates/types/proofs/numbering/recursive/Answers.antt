@@ -1,6 +1,5 @@
 use native.Mathlib.Omega.{arith}
 use Rattle.types.proofs.Entries.{recursive-shut, recursive_open}
-use borrow.Author.Rules.{rules}
 use Rattle.types.proofs.numbering.recursive.Goals as goal
 
 pub returns-then-free-lt2 : goal.returns-then-free-lt2

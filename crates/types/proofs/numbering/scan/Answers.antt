@@ -1,9 +1,5 @@
-use Prim.Native.Nat.{ℕ, ◌-◌, ◌≤◌, ◌<◌}
 use native.Mathlib.Omega.{arith}
-use mathlib.Core.Path.{◌≡◌}
-use lib.ListN.{get_or}
 use Rattle.types.proofs.Entries.{scan_more}
-use borrow.Author.Rules.{rules}
 use Rattle.types.proofs.numbering.scan.Goals as goal
 
 pub loop-k-init : goal.loop-k-init

@@ -1,9 +1,6 @@
 use Prim.Native.Nat.{ℕ, ◌-◌, ◌≤◌, ◌<◌}
-use native.Mathlib.Omega.{arith}
 use mathlib.Core.Path.{◌≡◌}
 use lib.ListN.{get_or}
-use Rattle.types.proofs.Entries.{scan_more}
-use borrow.Author.Rules.{rules}
 use Rattle.types.proofs.numbering.scan.Given as goal
 
 abbrev pub invariant-loop-k : goal.invariant-loop-k

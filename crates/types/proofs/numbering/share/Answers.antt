@@ -1,7 +1,6 @@
 use native.Mathlib.Omega.{arith}
 use mathlib.Core.Path.{sym, ◌∙◌}
 use Rattle.types.proofs.Entries.{share-here, share_none}
-use borrow.Author.Rules.{rules}
 use Rattle.types.proofs.numbering.share.Goals as goal
 
 pub returns-then-free_of-free : goal.returns-then-free_of-free

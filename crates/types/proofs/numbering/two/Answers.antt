@@ -1,5 +1,4 @@
 use Rattle.types.proofs.Entries.{two_is}
-use borrow.Author.Rules.{rules}
 use Rattle.types.proofs.numbering.two.Goals as goal
 
 pub returns : goal.returns

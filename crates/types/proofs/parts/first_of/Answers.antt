@@ -4,7 +4,6 @@ use mathlib.Core.Path.{refl, sym, subst}
 use Rattle.rules.specs.Limits.{max_types}
 use Rattle.types.proofs.Outer.{product-there}
 use Rattle.types.proofs.Plain.{no-unit-form, no-product-form, first-product, offset-there, first_field, first-inside, part-asked, first-mu, first_two}
-use borrow.Author.Rules.{rules}
 use Rattle.types.proofs.parts.first_of.Goals as goal
 
 pub left_of-requires : goal.left_of-requires

@@ -1,7 +1,6 @@
 use Rattle.types.proofs.Plain.{kind-unit, kind-product, no-product-form, offset-there, kind-field, kind-read}
 use mathlib.Core.Path.{refl}
 use native.Mathlib.Omega.{arith}
-use borrow.Author.Rules.{rules}
 use Rattle.types.proofs.parts.kind_of.Goals as goal
 
 pub returns-then-form-eq-UNIT : goal.returns-then-form-eq-UNIT

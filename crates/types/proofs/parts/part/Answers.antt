@@ -1,6 +1,5 @@
 use mathlib.Core.Path.{◌∙◌}
 use Rattle.types.proofs.Outer.{part_open, part-closed, part-plain}
-use borrow.Author.Rules.{rules}
 use Rattle.types.proofs.parts.part.Goals as goal
 
 pub free_of-requires-then-form-eq-UNDER : goal.free_of-requires-then-form-eq-UNDER

@@ -4,7 +4,6 @@ use mathlib.Core.Path.{refl, sym, subst}
 use Rattle.rules.specs.Limits.{max_types}
 use Rattle.types.proofs.Outer.{product-there}
 use Rattle.types.proofs.Plain.{no-unit-form, no-product-form, second-product, offset-there, second-field, second-inside, part-asked, second-two}
-use borrow.Author.Rules.{rules}
 use Rattle.types.proofs.parts.second_of.Goals as goal
 
 pub right_of-requires : goal.right_of-requires

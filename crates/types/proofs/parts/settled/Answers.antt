@@ -1,7 +1,6 @@
 use native.Mathlib.Omega.{arith}
 use Rattle.types.proofs.Outer.{entry-there}
 use Rattle.types.proofs.Plain.{entry-numbered, other-settled}
-use borrow.Author.Rules.{rules}
 use Rattle.types.proofs.parts.settled.Goals as goal
 
 pub returns-then-form-eq-UNIT : goal.returns-then-form-eq-UNIT

@@ -2,7 +2,6 @@ use native.Mathlib.Omega.{arith}
 use mathlib.Core.Path.{sym, ◌∙◌}
 use Rattle.types.proofs.Outer.{kind-there}
 use Rattle.types.proofs.Plain.{under-there, stands-there, closed-settled, alias-settled, variable-settled, under-settled, recalled_settled}
-use borrow.Author.Rules.{rules}
 use Rattle.types.proofs.parts.settled_under.Goals as goal
 
 pub free_of-requires : goal.free_of-requires

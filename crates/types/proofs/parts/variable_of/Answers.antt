@@ -1,6 +1,5 @@
 use Rattle.types.proofs.Plain.{variable-form, offset-there, variable-field, variable-read}
 use mathlib.Core.Path.{refl}
-use borrow.Author.Rules.{rules}
 use Rattle.types.proofs.parts.variable_of.Goals as goal
 
 pub bounds-types-i : goal.bounds-types-i

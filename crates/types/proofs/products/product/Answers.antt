@@ -2,7 +2,6 @@ use native.Mathlib.Omega.{arith}
 use mathlib.Core.Path.{refl}
 use Rattle.calls.specs.Figures.{ceiling}
 use Rattle.types.proofs.Hinting.{made_large, made_found, made-new}
-use borrow.Author.Rules.{rules}
 use Rattle.types.proofs.products.product.Goals as goal
 
 pub overflow_add-count : goal.overflow_add-count

@@ -1,5 +1,4 @@
 use Rattle.types.proofs.Outer.{same-node}
-use borrow.Author.Rules.{rules}
 use Rattle.types.proofs.shapes.leaf.Goals as goal
 
 pub returns : goal.returns

@@ -1,6 +1,5 @@
 use mathlib.Core.Path.{sym, ◌∙◌}
 use Rattle.types.proofs.Alike.{parted, twice-parted, unit-node-of, variable-node-of, recursive-node-of, two-node-of}
-use borrow.Author.Rules.{rules}
 use Rattle.types.proofs.shapes.shape_of.Goals as goal
 
 pub kind_of-kind-requires-clause-sources : goal.kind_of-kind-requires-clause-sources

@@ -1,7 +1,6 @@
 use native.Mathlib.Omega.{arith}
 use Rattle.types.proofs.Outer.{kind-there, mu-there, first-lower}
 use Rattle.types.proofs.Unfold.{no_body, a_body}
-use borrow.Author.Rules.{rules}
 use Rattle.types.proofs.unfolding.unfolded.Goals as goal
 
 pub kind-kind-requires : goal.kind-kind-requires

@@ -1,8 +1,5 @@
 use native.Mathlib.Omega.{arith}
-use Prim.Native.Nat.{◌-◌, ◌≤◌}
 use mathlib.Core.Path.{◌≡◌, refl, sym, subst, ◌∙◌}
-use lib.ListN.{length}
-use borrow.Author.Rules.{rules}
 use Rattle.rules.specs.Limits.{max_parameters}
 use Rattle.typing.specs.Checked.{Bound}
 use Rattle.typing.proofs.Starts.{none_bound, one-bound, ancillae-scoped}

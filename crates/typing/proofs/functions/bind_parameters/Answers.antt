@@ -4,7 +4,6 @@ use Rattle.rules.specs.Limits.{max_parameters}
 use Rattle.program.proofs.Rooms.{function-room}
 use Rattle.typing.proofs.Starts.{ancillae-scoped, all-bound}
 use Rattle.typing.proofs.Ending.{parameter_known}
-use borrow.Author.Rules.{rules}
 use Rattle.typing.proofs.functions.bind_parameters.Goals as goal
 
 pub function_parameters-last-requires : goal.function_parameters-last-requires

@@ -1,14 +1,7 @@
 use native.Mathlib.Omega.{arith}
-use Prim.Native.Nat.{◌-◌, ◌≤◌}
-use mathlib.Core.Path.{◌≡◌, refl, sym, ap, ◌∙◌}
-use mathlib.Core.List.{map}
-use lib.ListN.{length}
-use borrow.Author.Rules.{rules}
-use Rattle.calls.specs.Entries.{type_at}
-use Rattle.types.specs.Figures.{Figured}
-use Rattle.typing.specs.Waiting.{scope_bytes}
-use Rattle.typing.specs.Checked.{verdict_of, typing_answer}
-use Rattle.typing.proofs.Turns.{from_function, from_first, from_last, no_more, function-typed, function-refused, typeable_kept}
+use mathlib.Core.Path.{refl, sym, ap, ◌∙◌}
+use Rattle.typing.specs.Checked.{verdict_of}
+use Rattle.typing.proofs.Turns.{from_first, from_last, no_more, function-typed, function-refused, typeable_kept}
 use Rattle.typing.proofs.functions.check_all.Goals as goal
 
 pub loop-g-init : goal.loop-g-init

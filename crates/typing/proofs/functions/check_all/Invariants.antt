@@ -1,14 +1,12 @@
-use native.Mathlib.Omega.{arith}
 use Prim.Native.Nat.{◌-◌, ◌≤◌}
-use mathlib.Core.Path.{◌≡◌, refl, sym, ap, ◌∙◌}
+use mathlib.Core.Path.{◌≡◌}
 use mathlib.Core.List.{map}
 use lib.ListN.{length}
-use borrow.Author.Rules.{rules}
 use Rattle.calls.specs.Entries.{type_at}
 use Rattle.types.specs.Figures.{Figured}
 use Rattle.typing.specs.Waiting.{scope_bytes}
-use Rattle.typing.specs.Checked.{verdict_of, typing_answer}
-use Rattle.typing.proofs.Turns.{from_function, from_first, from_last, no_more, function-typed, function-refused, typeable_kept}
+use Rattle.typing.specs.Checked.{typing_answer}
+use Rattle.typing.proofs.Turns.{from_function}
 use Rattle.typing.proofs.functions.check_all.Given as goal
 
 abbrev pub invariant-loop-g : goal.invariant-loop-g

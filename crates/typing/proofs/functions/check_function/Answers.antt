@@ -1,10 +1,8 @@
-use mathlib.Core.Path.{◌∙◌}
 use native.Mathlib.Omega.{arith}
 use Rattle.program.proofs.Rooms.{function-room}
 use Rattle.program.proofs.Rows.{function-fields}
 use Rattle.typing.proofs.Asking.{ready_for}
 use Rattle.typing.proofs.Checks.{sources, field, signed, body_there, ready, typed-answer, refused-answer}
-use borrow.Author.Rules.{rules}
 use Rattle.typing.proofs.functions.check_function.Goals as goal
 
 pub offset_bounds-table-g : goal.offset_bounds-table-g

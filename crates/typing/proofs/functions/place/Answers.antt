@@ -1,7 +1,6 @@
 use native.Mathlib.Omega.{arith}
 use mathlib.Core.Path.{sym}
 use lib.ListN.{get_or-eq_default}
-use borrow.Author.Rules.{rules}
 use Rattle.typing.proofs.functions.place.Goals as goal
 
 pub returns-then-k-terms : goal.returns-then-k-terms

@@ -1,7 +1,6 @@
 use mathlib.Core.Path.{sym, ap, ◌∙◌}
 use Rattle.calls.specs.Answer.{refused}
 use Rattle.typing.specs.Checked.{fault_answer}
-use borrow.Author.Rules.{rules}
 use Rattle.typing.proofs.functions.refusal.Goals as goal
 
 pub returns-in-Differ : goal.returns-in-Differ

@@ -1,4 +1,3 @@
-use borrow.Author.Rules.{rules}
 use Rattle.typing.proofs.leaves.offset.Goals as goal
 
 pub returns : goal.returns

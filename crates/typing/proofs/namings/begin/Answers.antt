@@ -4,7 +4,6 @@ use Rattle.octets.specs.Numbers.{get16}
 use lib.ListN.{length}
 use Rattle.octets.proofs.Puts.{get16-put16, length-put16}
 use Rattle.typing.specs.Waiting.{count_at}
-use borrow.Author.Rules.{rules}
 use Rattle.typing.proofs.namings.begin.Goals as goal
 
 pub returns : goal.returns

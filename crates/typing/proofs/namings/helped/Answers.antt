@@ -1,7 +1,6 @@
 use native.Mathlib.Omega.{arith}
 use Rattle.typing.proofs.Settling.{out-of-scope, ancilla_helped, barred_helped, dynamic_helped}
 use mathlib.Core.Path.{◌∙◌}
-use borrow.Author.Rules.{rules}
 use Rattle.typing.proofs.namings.helped.Goals as goal
 
 pub returns-then-wide16-variable : goal.returns-then-wide16-variable

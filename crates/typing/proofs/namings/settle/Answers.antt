@@ -1,9 +1,5 @@
 use native.Mathlib.Omega.{arith}
-use Prim.Native.Nat.{◌-◌, ◌≤◌}
 use mathlib.Core.Path.{◌≡◌, refl, sym, ◌∙◌}
-use lib.ListN.{length}
-use borrow.Author.Rules.{rules}
-use Rattle.typing.specs.Waiting.{Settles}
 use Rattle.typing.proofs.Settling.{settles_none, settles_to, settles-then}
 use Rattle.typing.proofs.namings.settle.Goals as goal
 

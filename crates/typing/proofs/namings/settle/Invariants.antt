@@ -1,10 +1,7 @@
-use native.Mathlib.Omega.{arith}
 use Prim.Native.Nat.{◌-◌, ◌≤◌}
-use mathlib.Core.Path.{◌≡◌, refl, sym, ◌∙◌}
+use mathlib.Core.Path.{◌≡◌}
 use lib.ListN.{length}
-use borrow.Author.Rules.{rules}
 use Rattle.typing.specs.Waiting.{Settles}
-use Rattle.typing.proofs.Settling.{settles_none, settles_to, settles-then}
 use Rattle.typing.proofs.namings.settle.Given as goal
 
 abbrev pub invariant-loop-j : goal.invariant-loop-j

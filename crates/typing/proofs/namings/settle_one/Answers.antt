@@ -1,6 +1,5 @@
 use native.Mathlib.Omega.{arith}
 use Rattle.typing.proofs.Settling.{read_dead, read_helped, read-waits, read-refused}
-use borrow.Author.Rules.{rules}
 use Rattle.typing.proofs.namings.settle_one.Goals as goal
 
 pub returns-then-variable : goal.returns-then-variable

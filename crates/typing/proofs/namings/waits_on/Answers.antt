@@ -1,7 +1,6 @@
 use native.Mathlib.Omega.{arith}
 use Rattle.typing.proofs.Settling.{outside-marked, ancilla-marked, scope-marked}
 use mathlib.Core.Path.{◌∙◌}
-use borrow.Author.Rules.{rules}
 use Rattle.typing.proofs.namings.waits_on.Goals as goal
 
 pub returns-then-wide16-variable : goal.returns-then-wide16-variable

@@ -1,7 +1,6 @@
 use mathlib.Core.Path.{ap, ◌∙◌}
 use Rattle.typing.specs.declared.outcomes.Fault.TheVariants.{Differ}
 use Rattle.typing.specs.declared.outcomes.Status.TheVariants.{Refused}
-use borrow.Author.Rules.{rules}
 use Rattle.typing.proofs.outcomes.differ.Goals as goal
 
 pub returns : goal.returns

@@ -1,5 +1,4 @@
 use Rattle.typing.proofs.Deciding.{closes-refused, closes-typed}
-use borrow.Author.Rules.{rules}
 use Rattle.typing.proofs.tests.close.Goals as goal
 
 pub returns-then-low : goal.returns-then-low

@@ -1,6 +1,5 @@
 use mathlib.Core.Path.{refl}
 use Rattle.typing.proofs.Deciding.{closes_by, body_typed, body_refused}
-use borrow.Author.Rules.{rules}
 use Rattle.typing.proofs.tests.close_two.Goals as goal
 
 pub returns-in-Typed : goal.returns-in-Typed

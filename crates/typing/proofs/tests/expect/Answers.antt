@@ -1,6 +1,5 @@
 use mathlib.Core.Path.{refl, sym, ◌∙◌}
 use Rattle.typing.proofs.Deciding.{after-typed, after-refused, picks_yes, picks_no}
-use borrow.Author.Rules.{rules}
 use Rattle.typing.proofs.tests.expect.Goals as goal
 
 pub same-requires-clause-sources : goal.same-requires-clause-sources

@@ -1,6 +1,5 @@
 use mathlib.Core.Path.{refl}
 use Rattle.typing.proofs.Deciding.{joins}
-use borrow.Author.Rules.{rules}
 use Rattle.typing.proofs.tests.join.Goals as goal
 
 pub returns : goal.returns

@@ -1,6 +1,5 @@
 use mathlib.Core.Path.{refl}
 use Rattle.typing.proofs.Deciding.{after-typed, after-refused, meets_both, meets_apart, meets_unused, meets_differ}
-use borrow.Author.Rules.{rules}
 use Rattle.typing.proofs.tests.meet.Goals as goal
 
 pub same-requires-clause-sources : goal.same-requires-clause-sources

@@ -1,7 +1,6 @@
 use native.Mathlib.Omega.{arith}
 use mathlib.Core.Path.{refl}
 use Rattle.typing.proofs.Deciding.{pairs_made, pairs_large, pairs_refused}
-use borrow.Author.Rules.{rules}
 use Rattle.typing.proofs.tests.pair_up.Goals as goal
 
 pub product-made-requires-clause-sources : goal.product-made-requires-clause-sources

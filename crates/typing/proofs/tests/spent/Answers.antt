@@ -1,5 +1,4 @@
 use Rattle.typing.proofs.Deciding.{spent-unit, spent-used}
-use borrow.Author.Rules.{rules}
 use Rattle.typing.proofs.tests.spent.Goals as goal
 
 pub returns-then-is_unit : goal.returns-then-is_unit

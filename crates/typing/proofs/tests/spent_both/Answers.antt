@@ -1,5 +1,4 @@
 use Rattle.typing.proofs.Deciding.{both_first, both-second}
-use borrow.Author.Rules.{rules}
 use Rattle.typing.proofs.tests.spent_both.Goals as goal
 
 pub returns-then-spent : goal.returns-then-spent

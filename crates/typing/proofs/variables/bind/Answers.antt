@@ -1,6 +1,5 @@
 use native.Mathlib.Omega.{arith}
 use Rattle.typing.proofs.Naming.{opened-unit, opened-used}
-use borrow.Author.Rules.{rules}
 use Rattle.typing.proofs.variables.bind.Goals as goal
 
 pub returns-then-is_unit : goal.returns-then-is_unit

@@ -1,6 +1,5 @@
 use mathlib.Core.Path.{◌∙◌, ap}
 use Rattle.types.specs.Codes.{code_at}
-use borrow.Author.Rules.{rules}
 use Rattle.typing.proofs.variables.code_of.Goals as goal
 
 pub returns : goal.returns

@@ -1,5 +1,4 @@
 use Rattle.typing.proofs.Naming.{marked-scope}
-use borrow.Author.Rules.{rules}
 use Rattle.typing.proofs.variables.marked.Goals as goal
 
 pub returns : goal.returns

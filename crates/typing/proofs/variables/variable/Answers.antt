@@ -1,6 +1,5 @@
 use mathlib.Core.Path.{sym, ◌∙◌}
 use Rattle.typing.proofs.Naming.{seen-outside, seen-static, seen-barred, seen-waits, seen-dynamic}
-use borrow.Author.Rules.{rules}
 use Rattle.typing.proofs.variables.variable.Goals as goal
 
 pub returns-then-sc-i : goal.returns-then-sc-i

@@ -1,5 +1,4 @@
 use Rattle.typing.proofs.Wanting.{body-known, no_folding, roll_wants, unroll_wants}
-use borrow.Author.Rules.{rules}
 use Rattle.typing.proofs.wants.folding.Goals as goal
 
 pub unfolded-body-requires-clause-readable : goal.unfolded-body-requires-clause-readable

@@ -1,5 +1,4 @@
 use Rattle.typing.proofs.Wanting.{whole_known, no_injection, left_injection, right_injection}
-use borrow.Author.Rules.{rules}
 use Rattle.typing.proofs.wants.injection.Goals as goal
 
 pub shape_of-s-requires-clause-sources : goal.shape_of-s-requires-clause-sources

@@ -1,6 +1,5 @@
 use native.Mathlib.Omega.{arith}
 use Rattle.typing.proofs.Wanting.{below-roll, from_roll}
-use borrow.Author.Rules.{rules}
 use Rattle.typing.proofs.wants.on_entering.Goals as goal
 
 pub injection-requires-clause-sources : goal.injection-requires-clause-sources

@@ -1,6 +1,5 @@
 use mathlib.Core.Bool.{false}
 use mathlib.Core.Path.{ap}
-use borrow.Author.Rules.{rules}
 use Rattle.typing.proofs.wants.unmet.Goals as goal
 
 pub returns : goal.returns

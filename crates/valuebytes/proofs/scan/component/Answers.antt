@@ -1,5 +1,3 @@
-use Prim.Native.Nat.{◌≤◌}
-use lib.ListN.{length}
 use mathlib.Core.Path.{sym, ◌∙◌}
 use Rattle.valuebytes.proofs.Whole.{pair-unended, pair-within, part-first, part-second}
 use borrow.Author.Rules.{rules}

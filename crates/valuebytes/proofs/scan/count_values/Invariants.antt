@@ -1,10 +1,7 @@
 use Prim.Native.Nat.{◌-◌, ◌≤◌}
-use mathlib.Core.Path.{sym, ◌∙◌}
 use lib.ListN.{length, drop}
-use borrow.Author.Rules.{rules}
-use Rattle.rules.specs.Limits.{max_value_bytes, max_ancilla_bytes}
-use Rattle.valuebytes.proofs.Whole.{ended, end-within}
-use Rattle.valuebytes.proofs.Many.{Counting, count-start, count_long, count-more, count-stops, count_done}
+use Rattle.rules.specs.Limits.{max_ancilla_bytes}
+use Rattle.valuebytes.proofs.Many.{Counting}
 use Rattle.valuebytes.proofs.scan.count_values.Given as goal
 
 abbrev pub invariant-loop-at : goal.invariant-loop-at

@@ -1,6 +1,5 @@
 use native.Mathlib.Omega.{arith}
 use Rattle.valuebytes.proofs.Pending.{pending-unit, pending-pair, pending-same}
-use borrow.Author.Rules.{rules}
 use Rattle.valuebytes.proofs.scan.next_pending.Goals as goal
 
 pub returns-in-0 : goal.returns-in-0

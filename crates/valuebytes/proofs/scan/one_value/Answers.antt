@@ -1,6 +1,5 @@
 use mathlib.Core.Path.{sym, ◌∙◌}
 use Rattle.valuebytes.proofs.Whole.{value-at, value_not}
-use borrow.Author.Rules.{rules}
 use Rattle.valuebytes.proofs.scan.one_value.Goals as goal
 
 pub returns-in-At : goal.returns-in-At

@@ -1,10 +1,10 @@
-use Prim.Native.Nat.{◌+◌, ◌-◌, ◌≤◌}
+use Prim.Native.Nat.{◌-◌}
 use native.Mathlib.Omega.{arith}
-use lib.ListN.{length, get_or, drop}
+use lib.ListN.{get_or}
 use borrow.Author.Rules.{rules}
 use Rattle.rules.specs.Limits.{max_value_bytes}
 use Rattle.valuebytes.proofs.Pending.{pending-most}
-use Rattle.valuebytes.proofs.Ends.{Scanned, scan_start, scan_turn, end_short, end-long, end-over, end_done}
+use Rattle.valuebytes.proofs.Ends.{scan_start, scan_turn, end_short, end-long, end-over, end_done}
 use Rattle.valuebytes.proofs.scan.value_end.Goals as goal
 
 pub loop-count-init : goal.loop-count-init

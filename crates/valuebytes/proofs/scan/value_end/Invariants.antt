@@ -1,10 +1,7 @@
 use Prim.Native.Nat.{◌+◌, ◌-◌, ◌≤◌}
-use native.Mathlib.Omega.{arith}
-use lib.ListN.{length, get_or, drop}
-use borrow.Author.Rules.{rules}
+use lib.ListN.{length, drop}
 use Rattle.rules.specs.Limits.{max_value_bytes}
-use Rattle.valuebytes.proofs.Pending.{pending-most}
-use Rattle.valuebytes.proofs.Ends.{Scanned, scan_start, scan_turn, end_short, end-long, end-over, end_done}
+use Rattle.valuebytes.proofs.Ends.{Scanned}
 use Rattle.valuebytes.proofs.scan.value_end.Given as goal
 
 abbrev pub invariant-loop-count : goal.invariant-loop-count

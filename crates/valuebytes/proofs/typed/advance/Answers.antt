@@ -1,11 +1,6 @@
 use native.Mathlib.Omega.{arith}
-use mathlib.Core.Path.{◌≡◌}
-use lib.ListN.{get_or}
 use borrow.Author.Rules.{rules}
 use Rattle.rules.specs.Limits.{max_value_bytes}
-use Rattle.calls.specs.Entries.{type_at}
-use Rattle.valuebytes.specs.declared.typed.Parts.{Parts}
-use Rattle.valuebytes.specs.Stack.{parts_of}
 use Rattle.valuebytes.proofs.Advancing.{last-bound, last_cells, field-there, found, turned-wrong, turned_nothing, turned-one, turned_two, turned-body}
 use Rattle.valuebytes.proofs.typed.advance.Goals as goal
 

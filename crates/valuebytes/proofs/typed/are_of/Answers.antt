@@ -1,8 +1,8 @@
-use Prim.Native.Nat.{ℕ, ◌<◌}
+use Prim.Native.Nat.{◌<◌}
 use native.Mathlib.Omega.{arith}
 use mathlib.Core.Path.{◌≡◌, sym, ap, subst, ◌∙◌}
 use mathlib.Core.Bool.{true}
-use lib.ListN.{length, get_or}
+use lib.ListN.{length}
 use Rattle.calls.specs.Named.{plain}
 use Rattle.program.specs.Parts.{first, second}
 use Rattle.program.proofs.Rooms.{prod-room}

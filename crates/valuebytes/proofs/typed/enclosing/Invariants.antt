@@ -1,10 +1,6 @@
 use Prim.Native.Nat.{◌-◌, ◌≤◌}
-use native.Mathlib.Omega.{arith}
-use mathlib.Core.Path.{◌≡◌, ap, ◌∙◌}
-use borrow.Author.Rules.{rules}
-use Rattle.rules.specs.Limits.{max_value_bytes}
+use mathlib.Core.Path.{◌≡◌}
 use Rattle.valuebytes.specs.Scopes.{outward}
-use Rattle.valuebytes.proofs.Cells.{outward-start, outward-turn}
 use Rattle.valuebytes.proofs.typed.enclosing.Given as goal
 
 abbrev pub invariant-loop-n : goal.invariant-loop-n

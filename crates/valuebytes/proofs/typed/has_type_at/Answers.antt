@@ -1,7 +1,6 @@
 use Prim.Native.Nat.{ℕ}
 use mathlib.Core.Path.{ap, ◌∙◌}
 use lib.ListN.{drop, length-replicate}
-use borrow.Author.Rules.{rules}
 use Rattle.rules.specs.Limits.{max_value_bytes}
 use Rattle.valuebytes.specs.Ends.{first_of}
 use Rattle.valuebytes.specs.Typing.{room, next_of}

@@ -1,5 +1,4 @@
 use mathlib.Core.Path.{sym, ◌∙◌}
-use borrow.Author.Rules.{rules}
 use Rattle.valuebytes.proofs.Asked.{all_yes, all-no}
 use Rattle.valuebytes.proofs.typed.is_of.Goals as goal
 

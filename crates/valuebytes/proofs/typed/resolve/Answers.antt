@@ -1,4 +1,4 @@
-use Prim.Native.Nat.{ℕ, ◌≤◌}
+use Prim.Native.Nat.{◌≤◌}
 use native.Mathlib.Omega.{arith}
 use mathlib.Core.Path.{◌≡◌, ap, ◌∙◌}
 use lib.ListN.{get_or}
@@ -8,7 +8,6 @@ use Rattle.program.specs.Parts.{variable}
 use Rattle.program.proofs.Rooms.{type-kind, type-kind-room, tyvar-room}
 use Rattle.valuebytes.specs.Scopes.{outward}
 use Rattle.valuebytes.proofs.Cells.{variable-within, resolved-shown, resolved}
-use borrow.Author.Rules.{rules}
 use Rattle.valuebytes.proofs.typed.resolve.Goals as goal
 
 pub field-at-requires : goal.field-at-requires

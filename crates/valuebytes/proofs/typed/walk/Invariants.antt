@@ -1,12 +1,8 @@
 use Prim.Native.Nat.{◌-◌}
-use native.Mathlib.Omega.{arith}
 use lib.ListN.{length, get_or}
-use borrow.Author.Rules.{rules}
-use Rattle.rules.specs.Limits.{max_value_bytes}
 use Rattle.valuebytes.specs.Scopes.{type_under}
 use Rattle.valuebytes.specs.Typing.{entries_of}
-use Rattle.valuebytes.proofs.Advancing.{turned_on, turned-off}
-use Rattle.valuebytes.proofs.Walking.{Walking, walking_start, stack⁺, walking_short, walking_long, walking_off, walking_on, walking_done}
+use Rattle.valuebytes.proofs.Walking.{Walking}
 use Rattle.valuebytes.proofs.typed.walk.Given as goal
 
 abbrev pub invariant-loop-n : goal.invariant-loop-n

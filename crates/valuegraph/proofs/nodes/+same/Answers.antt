@@ -1,8 +1,7 @@
-use Prim.Native.Nat.{ℕ, ◌<◌}
 use native.Mathlib.Omega.{arith}
 use mathlib.Core.Path.{sym, ◌∙◌}
 use borrow.Author.Tests.{not-true, not-false}
-use Rattle.valuegraph.proofs.Equal.{Comparing, Alike, PartRead, compare_start, compare_rooms, compare_done, compare_apart, both-units}
+use Rattle.valuegraph.proofs.Equal.{Alike, PartRead, compare_start, compare_rooms, compare_done, compare_apart, both-units}
 use Rattle.valuegraph.proofs.Equal.{compare_one, parts_rooms, part-below, part-differs, compare_other}
 use Rattle.valuegraph.proofs.nodes.+same.Goals as goal
 

@@ -1,9 +1,4 @@
-use Prim.Native.Nat.{ℕ, ◌<◌}
-use native.Mathlib.Omega.{arith}
-use mathlib.Core.Path.{sym, ◌∙◌}
-use borrow.Author.Tests.{not-true, not-false}
-use Rattle.valuegraph.proofs.Equal.{Comparing, Alike, PartRead, compare_start, compare_rooms, compare_done, compare_apart, both-units}
-use Rattle.valuegraph.proofs.Equal.{compare_one, parts_rooms, part-below, part-differs, compare_other}
+use Rattle.valuegraph.proofs.Equal.{Comparing}
 use Rattle.valuegraph.proofs.nodes.+same.Given as goal
 
 abbrev pub decreases-same : goal.decreases-same

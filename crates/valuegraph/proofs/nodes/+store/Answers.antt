@@ -1,9 +1,8 @@
-use Prim.Native.Nat.{ℕ, ◌+◌, ◌<◌}
+use Prim.Native.Nat.{◌+◌}
 use native.Mathlib.Omega.{arith}
 use mathlib.Core.Path.{ap, ◌∙◌}
 use lib.ListN.{length-set}
-use borrow.Author.Rules.{rules}
-use Rattle.valuegraph.proofs.Storing.{Storing, KindRead, PairRead, length-read, store_start, node-room, here, store_unit, parts_rooms, store_one}
+use Rattle.valuegraph.proofs.Storing.{KindRead, PairRead, length-read, store_start, node-room, here, store_unit, parts_rooms, store_one}
 use Rattle.valuegraph.proofs.Storing.{behind-inside, lower-parts, left-ready, right-ready, then-right, then-left}
 use Rattle.valuegraph.proofs.nodes.+store.Goals as goal
 

@@ -1,7 +1,6 @@
 use mathlib.Core.Path.{ap₂}
 use lib.Dec.{eqb}
 use Rattle.valuegraph.specs.Nodes.{alike_at}
-use borrow.Author.Rules.{rules}
 use Rattle.valuegraph.proofs.nodes.alike.Goals as goal
 
 pub returns : goal.returns

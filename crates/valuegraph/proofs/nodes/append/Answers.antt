@@ -1,5 +1,4 @@
 use native.Mathlib.Omega.{arith}
-use borrow.Author.Rules.{rules}
 use Rattle.valuegraph.proofs.Heaps.{grown}
 use Rattle.valuegraph.proofs.nodes.append.Goals as goal
 

@@ -1,5 +1,4 @@
 use native.Mathlib.Omega.{arith}
-use borrow.Author.Rules.{rules}
 use Rattle.rules.specs.Limits.{max_value_bytes}
 use Rattle.valuegraph.proofs.Making.{fits_true}
 use Rattle.valuegraph.proofs.Making.{made-new, made-old}

@@ -1,5 +1,4 @@
 use native.Mathlib.Omega.{arith}
-use borrow.Author.Rules.{rules}
 use Rattle.valuegraph.specs.Nodes.{unit_print, of_kind}
 use Rattle.valuegraph.proofs.Heaps.{grown}
 use Rattle.valuegraph.proofs.Making.{unit-fits, unit-ready}

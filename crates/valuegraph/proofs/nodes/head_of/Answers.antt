@@ -1,5 +1,4 @@
 use Rattle.valuegraph.specs.Nodes.{head_at}
-use borrow.Author.Rules.{rules}
 use Rattle.valuegraph.proofs.nodes.head_of.Goals as goal
 
 pub returns : goal.returns

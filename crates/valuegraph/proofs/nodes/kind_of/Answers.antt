@@ -1,5 +1,4 @@
 use mathlib.Core.Path.{refl}
-use borrow.Author.Rules.{rules}
 use Rattle.valuegraph.specs.Nodes.{kind_at}
 use Rattle.valuegraph.proofs.nodes.kind_of.Goals as goal
 

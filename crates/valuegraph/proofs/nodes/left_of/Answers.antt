@@ -1,4 +1,3 @@
-use borrow.Author.Rules.{rules}
 use Rattle.valuegraph.specs.Nodes.{left_at}
 use Rattle.valuegraph.proofs.nodes.left_of.Goals as goal
 

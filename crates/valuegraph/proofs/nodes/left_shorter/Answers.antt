@@ -1,7 +1,6 @@
 use mathlib.Core.Path.{ap, ap₂, ◌∙◌}
 use lib.Dec.{ltb}
 use Rattle.valuegraph.specs.Nodes.{length_at, left_shorter}
-use borrow.Author.Rules.{rules}
 use Rattle.valuegraph.proofs.nodes.left_shorter.Goals as goal
 
 pub returns : goal.returns

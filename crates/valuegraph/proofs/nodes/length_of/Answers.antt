@@ -1,4 +1,3 @@
-use borrow.Author.Rules.{rules}
 use Rattle.valuegraph.specs.Nodes.{length_at}
 use Rattle.valuegraph.proofs.nodes.length_of.Goals as goal
 

@@ -1,7 +1,5 @@
 use native.Mathlib.Omega.{arith}
 use mathlib.Core.Path.{sym}
-use borrow.Author.Rules.{rules}
-use Rattle.valuegraph.specs.Loads.{LoadedFrom}
 use Rattle.valuegraph.proofs.Loading.{load_start, turn, turn-ready, turn_small, turn-next, load_done}
 use Rattle.valuegraph.proofs.nodes.load.Goals as goal
 

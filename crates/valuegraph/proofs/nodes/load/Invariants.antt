@@ -1,8 +1,4 @@
-use native.Mathlib.Omega.{arith}
-use mathlib.Core.Path.{sym}
-use borrow.Author.Rules.{rules}
 use Rattle.valuegraph.specs.Loads.{LoadedFrom}
-use Rattle.valuegraph.proofs.Loading.{load_start, turn, turn-ready, turn_small, turn-next, load_done}
 use Rattle.valuegraph.proofs.nodes.load.Given as goal
 
 abbrev pub invariant-loop-i : goal.invariant-loop-i

@@ -1,5 +1,4 @@
 use Rattle.valuegraph.specs.Nodes.{kind_factor, left_factor, right_factor, mixed}
-use borrow.Author.Rules.{rules}
 use Rattle.valuegraph.proofs.nodes.mix.Goals as goal
 
 pub returns : goal.returns

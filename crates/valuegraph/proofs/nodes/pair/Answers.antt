@@ -1,7 +1,6 @@
 use mathlib.Core.Path.{◌∙◌}
 use Rattle.valuegraph.specs.Nodes.{of_kind}
 use Rattle.valuegraph.proofs.Making.{pair-ready}
-use borrow.Author.Rules.{rules}
 use Rattle.valuegraph.proofs.nodes.pair.Goals as goal
 
 pub append_short-requires : goal.append_short-requires

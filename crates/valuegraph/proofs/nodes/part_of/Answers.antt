@@ -1,6 +1,5 @@
 use mathlib.Core.Path.{sym, ap, ◌∙◌}
 use Rattle.valuegraph.specs.Nodes.{part_at}
-use borrow.Author.Rules.{rules}
 use Rattle.valuegraph.proofs.nodes.part_of.Goals as goal
 
 pub returns-then-left : goal.returns-then-left

@@ -2,7 +2,6 @@ use native.Mathlib.Omega.{arith}
 use mathlib.Core.Path.{◌∙◌}
 use Rattle.valuegraph.proofs.Shapes.{kind-single}
 use Rattle.valuegraph.proofs.Loading.{place-unit, place-pair, place-single}
-use borrow.Author.Rules.{rules}
 use Rattle.valuegraph.proofs.nodes.place.Goals as goal
 
 pub returns-then-kind-eq-UNIT : goal.returns-then-kind-eq-UNIT

@@ -1,6 +1,5 @@
 use mathlib.Core.Path.{refl}
 use Rattle.valuegraph.specs.Nodes.{print_at}
-use borrow.Author.Rules.{rules}
 use Rattle.valuegraph.proofs.nodes.print_of.Goals as goal
 
 pub returns : goal.returns

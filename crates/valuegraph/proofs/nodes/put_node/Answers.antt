@@ -4,7 +4,6 @@ use mathlib.Core.Path.{ap, ◌∙◌}
 use lib.ListN.{set, length-set}
 use Rattle.octets.specs.Numbers.{put16, put32}
 use Rattle.valuegraph.specs.Nodes.{node_bytes, put_node}
-use borrow.Author.Rules.{rules}
 use Rattle.valuegraph.proofs.nodes.put_node.Goals as goal
 
 pub bounds-ws-i-2 : goal.bounds-ws-i-2

@@ -1,4 +1,3 @@
-use borrow.Author.Rules.{rules}
 use Rattle.valuegraph.specs.Nodes.{right_at}
 use Rattle.valuegraph.proofs.nodes.right_of.Goals as goal
 

@@ -1,7 +1,6 @@
 use mathlib.Core.Path.{◌∙◌}
 use Rattle.valuegraph.proofs.Shapes.{single-kind}
 use Rattle.valuegraph.proofs.Making.{single-ready}
-use borrow.Author.Rules.{rules}
 use Rattle.valuegraph.proofs.nodes.single.Goals as goal
 
 pub mix-print-requires : goal.mix-print-requires

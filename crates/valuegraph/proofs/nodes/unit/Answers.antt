@@ -1,4 +1,3 @@
-use borrow.Author.Rules.{rules}
 use Rattle.valuegraph.specs.Nodes.{unit_print, of_kind}
 use Rattle.valuegraph.proofs.Making.{unit-fits}
 use Rattle.valuegraph.proofs.Making.{unit-ready}

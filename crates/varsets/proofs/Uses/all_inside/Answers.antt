@@ -1,5 +1,4 @@
 use native.Mathlib.Omega.{arith}
-use borrow.Author.Rules.{rules}
 use Rattle.varsets.proofs.Inside.{all-ancillae, inside-decides}
 use Rattle.varsets.proofs.Uses.all_inside.Goals as goal
 

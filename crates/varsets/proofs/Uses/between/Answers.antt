@@ -1,6 +1,5 @@
 use native.Mathlib.Omega.{arith}
 use Rattle.varsets.proofs.Sets.{power_some, holds-between}
-use borrow.Author.Rules.{rules}
 use Rattle.varsets.proofs.Uses.between.Goals as goal
 
 pub overflow_sub-result : goal.overflow_sub-result

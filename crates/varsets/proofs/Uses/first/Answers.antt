@@ -1,6 +1,5 @@
 use native.Mathlib.Omega.{arith}
 use Rattle.varsets.proofs.Sets.{power_some, holds-first}
-use borrow.Author.Rules.{rules}
 use Rattle.varsets.proofs.Uses.first.Goals as goal
 
 pub overflow_sub-result : goal.overflow_sub-result

@@ -1,5 +1,4 @@
 use mathlib.Core.Path.{ap₂}
-use borrow.Author.Rules.{rules}
 use Rattle.varsets.specs.Sets.{of_halves}
 use Rattle.varsets.proofs.Uses.of_halves.Goals as goal
 

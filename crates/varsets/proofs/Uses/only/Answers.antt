@@ -1,6 +1,5 @@
 use native.Mathlib.Omega.{arith}
 use Rattle.varsets.proofs.Sets.{holds-only}
-use borrow.Author.Rules.{rules}
 use Rattle.varsets.proofs.Uses.only.Goals as goal
 
 pub returns : goal.returns

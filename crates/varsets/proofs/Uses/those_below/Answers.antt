@@ -1,5 +1,4 @@
 use native.Mathlib.Omega.{arith}
-use borrow.Author.Rules.{rules}
 use Rattle.varsets.proofs.Inside.{all-below}
 use Rattle.varsets.proofs.Uses.those_below.Goals as goal
 

@@ -1,4 +1,3 @@
-use borrow.Author.Rules.{rules}
 use Rattle.scopes.specs.Slots.{unknown, scope_in}
 use Rattle.scopes.proofs.Meeting.{entered_it}
 use Rattle.scopes.proofs.bindings.Bindings.entered.Goals as goal

@@ -1,4 +1,3 @@
-use borrow.Author.Rules.{rules}
 use Rattle.scopes.specs.Slots.{unknown}
 use Rattle.scopes.proofs.bindings.Bindings.left.Goals as goal
 

@@ -1,4 +1,3 @@
-use borrow.Author.Rules.{rules}
 use Rattle.scopes.specs.Slots.{unknown, scope_in}
 use Rattle.scopes.proofs.Meeting.{looks, old-low, met_compared, met-bound}
 use Rattle.scopes.proofs.bindings.Bindings.meet.Goals as goal

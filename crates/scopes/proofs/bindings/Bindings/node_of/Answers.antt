@@ -1,5 +1,4 @@
 use mathlib.Core.Path.{sym, ap, ◌∙◌}
-use borrow.Author.Rules.{rules}
 use Rattle.scopes.specs.Slots.{node_or}
 use Rattle.scopes.specs.Bindings.{seen}
 use Rattle.scopes.proofs.Marks.{node_or_lem, node_none}

@@ -1,4 +1,3 @@
-use borrow.Author.Rules.{rules}
 use Rattle.scopes.proofs.Cells.{linked}
 use Rattle.scopes.proofs.bindings.Bindings.with_cell.Goals as goal
 
